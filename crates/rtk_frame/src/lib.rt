@@ -4,6 +4,7 @@
 mod checksum;
 mod checksum_tables;
 mod frame;
+pub mod laws;
 mod scanner;
 mod search;
 
