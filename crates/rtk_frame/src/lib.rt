@@ -5,8 +5,12 @@ mod checksum;
 mod checksum_tables;
 mod frame;
 pub mod laws;
+#[cfg(test)]
+mod plain;
 mod scanner;
 mod search;
+#[cfg(test)]
+mod tests;
 
 pub use checksum::crc24q;
 pub use frame::{encode_frame, FrameFault};
