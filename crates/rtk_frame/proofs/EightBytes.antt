@@ -5,12 +5,11 @@ use Rattle.std.proofs.lemmas.Nat.{xor_of_8, xor_comm}
 use Rattle.std.specs.Int.Bits.{xor_zero_r}
 use Rattle.std.proofs.lemmas.Bool.Decides.{nat_tests}
 use Rattle.rtk_bits.specs.Bits.{bits_of, bits, unsigned}
-use Rattle.rtk_frame.specs.Checksum.{zeros, flip, generator, divide}
+use Rattle.rtk_frame.specs.Checksum.{zeros, flip, generator, divide, remainder}
 use Rattle.rtk_frame.specs.declared.checksum_tables.TheConstants.{TABLE0, TABLE1, TABLE2, TABLE3, TABLE4, TABLE5, TABLE6, TABLE7}
 use Rattle.rtk_frame.proofs.Division.{length_bits, length_zeros, length_flip, flip_flip, flip_bits, flip_halves, flip_none, flip_onto, flip_pad, bits_cat, divide_add, divide_flip, byte_step, IsEntry}
 use Rattle.rtk_frame.proofs.ByteTable.{table_entry}
-use Rattle.rtk_frame.proofs.Remainder.{remainder, next}
-use Rattle.rtk_frame.specs.Tables.{next_eight}
+use Rattle.rtk_frame.proofs.Remainder.{next}
 
 -- ---- the division of a sum is the sum of the divisions
 swap_bit : (x y z : Bool) → cond x (not (cond y (not z) z)) (cond y (not z) z) ≡ cond y (not (cond x (not z) z)) (cond x (not z) z)
@@ -229,6 +228,10 @@ heads s a b c d xs h =
     ∙ ap (λ w. bits_of 8 (bit_xor s1 a) ++ w) (head_byte s2 b (bits_of 8 s3 ++ (bits_of 8 s4 ++ [])) (bits_of 8 c ++ (bits_of 8 d ++ xs))
     ∙ ap (λ w. bits_of 8 (bit_xor s2 b) ++ w) (head_byte s3 c (bits_of 8 s4 ++ []) (bits_of 8 d ++ xs)
     ∙ ap (λ w. bits_of 8 (bit_xor s3 c) ++ w) (head_byte s4 d [] xs)))
+
+-- the state after eight bytes
+abbrev pub next_eight : ℕ → ℕ → ℕ → ℕ → ℕ → ℕ → ℕ → ℕ → ℕ → ℕ
+next_eight s a b c d e f g h = bit_xor (bit_xor (bit_xor (bit_xor (bit_xor (bit_xor (bit_xor (get_or TABLE7 (bit_xor (s / 2 ^ 24) a) 0) (get_or TABLE6 (bit_xor (s / 2 ^ 16 % 256) b) 0)) (get_or TABLE5 (bit_xor (s / 2 ^ 8 % 256) c) 0)) (get_or TABLE4 (bit_xor (s % 256) d) 0)) (get_or TABLE3 e 0)) (get_or TABLE2 f 0)) (get_or TABLE1 g 0)) (get_or TABLE0 h 0)
 
 eight_steps : (s a b c d e f g h : ℕ) (xs : List Bool) → s < 2 ^ 32 → a < 256 → b < 256 → c < 256 → d < 256 → e < 256 → f < 256 → g < 256 → h < 256 → 24 ≤ length xs → divide 64 (flip (bits_of 32 s) (bits_of 8 a ++ (bits_of 8 b ++ (bits_of 8 c ++ (bits_of 8 d ++ (bits_of 8 e ++ (bits_of 8 f ++ (bits_of 8 g ++ (bits_of 8 h ++ xs))))))))) ≡ flip (bits_of 32 (next_eight s a b c d e f g h)) xs
 unfolding divide

@@ -6,14 +6,10 @@ use Rattle.std.proofs.lemmas.Nat.{mod-pow-add, xor_of_8}
 use Rattle.std.proofs.lemmas.Nat.Bits.{bit_at-lt}
 use Rattle.std.proofs.lemmas.Bool.Decides.{nat_tests}
 use Rattle.rtk_bits.specs.Bits.{bit, bits_of, bits, unsigned}
-use Rattle.rtk_frame.specs.Checksum.{zeros, flip, generator, divide, crc}
+use Rattle.rtk_frame.specs.Checksum.{zeros, flip, generator, divide, crc, remainder}
 use Rattle.rtk_frame.specs.declared.checksum_tables.TheConstants.{TABLE0 as TABLE}
 use Rattle.rtk_frame.proofs.Division.{length_bits, flip_none, flip_halves, bits_cat, divide_add, byte_step, flip_pad}
 use Rattle.rtk_frame.proofs.ByteTable.{table_entry}
-
--- what remains of the bytes, where the first bits are flipped by the state
-unfoldable pub remainder : ℕ → List ℕ → List Bool
-remainder s bytes = divide (8 * length bytes) (flip (bits_of 32 s) (bits bytes ++ zeros 24))
 
 -- the state after a byte
 abbrev pub next : ℕ → ℕ → ℕ

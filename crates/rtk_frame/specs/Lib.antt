@@ -4,4 +4,3 @@ pub mod Frames
 pub mod Scanner
 pub mod ScannerState
 pub mod Scanning
-pub mod Tables
