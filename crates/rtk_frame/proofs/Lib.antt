@@ -1,0 +1,10 @@
+mod ByteTable
+mod Division
+mod EightBytes
+mod FirstFrame
+mod FramesLaw
+mod Fronts
+mod NextFrame
+mod Passing
+mod Pieces
+mod Remainder

@@ -1,0 +1,7 @@
+pub mod Checksum
+pub mod Frame
+pub mod Frames
+pub mod Scanner
+pub mod ScannerState
+pub mod Scanning
+pub mod Tables
