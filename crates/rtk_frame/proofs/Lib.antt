@@ -8,3 +8,4 @@ mod NextFrame
 mod Passing
 mod Pieces
 mod Remainder
+pub mod StreamLemmas

@@ -5,3 +5,5 @@ pub mod Scanner
 pub mod ScannerState
 pub mod Scanning
 pub mod Tables
+pub mod Memory
+pub mod Stream
