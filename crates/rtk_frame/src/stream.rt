@@ -1,4 +1,4 @@
-//! Where bytes come from and where they go: the two traits, their fault, and the calls that share them.
+//! Where bytes come from and where they go: the two traits, their fault, and two calls over them.
 ghost use Rattle.std.specs.Prelude.{◌≡◌, ◌≤◌, ◌<◌, List, ℕ, Option, length, take, is_err, OnOk, OnErr};
 ghost use Rattle.rtk_frame.specs.Stream.{moved_count, with_more, count_after, failures_after, is_failed_write, Rises, TakesPart, ReadsOne};
 
@@ -25,8 +25,12 @@ pub trait Source {
     /// A failed call gives nothing. What stands in the buffer behind the bytes given is not said.
     fn read(&mut self, buf: &mut [u8]) -> Result<usize, StreamFault>
         ensures bound { moved_count result ≤ length buf.new }
-        ensures given { given self.new ≡ with_more (given self.old) (take (moved_count result) buf.new) }
-        ensures failures { failures self.new ≡ failures_after (failures self.old) (is_err result) }
+        ensures given {
+            given self.new ≡ with_more (given self.old) (take (moved_count result) buf.new)
+        }
+        ensures failures {
+            failures self.new ≡ failures_after (failures self.old) (is_err result)
+        }
         ensures calls { calls self.new ≡ count_after (calls self.old) };
 }
 
@@ -43,8 +47,13 @@ pub trait Sink {
     /// A failed call takes nothing, and one that takes none of some bytes has failed.
     fn write(&mut self, bytes: &[u8]) -> Result<usize, StreamFault>
         ensures bound { moved_count result ≤ length bytes.now }
-        ensures taken { taken self.new ≡ with_more (taken self.old) (take (moved_count result) bytes.now) }
-        ensures failures { failures self.new ≡ failures_after (failures self.old) (is_failed_write result bytes.now) };
+        ensures taken {
+            taken self.new ≡ with_more (taken self.old) (take (moved_count result) bytes.now)
+        }
+        ensures failures {
+            failures self.new
+                ≡ failures_after (failures self.old) (is_failed_write result bytes.now)
+        };
 }
 
 /// Writes all the bytes, however few each call takes, up to the first call that fails.
@@ -73,7 +82,9 @@ pub fn read_one<R: Source>(
 ) -> Result<usize, StreamFault>
     requires link { link < length sources.old }
     ensures bound { moved_count result ≤ length buf.new }
-    ensures read { ReadsOne R.given R.failures R.calls sources.old sources.new link result buf.new }
+    ensures read {
+        ReadsOne R.given R.failures R.calls sources.old sources.new link result buf.new
+    }
 {
     sources[link].read(buf)
 }
