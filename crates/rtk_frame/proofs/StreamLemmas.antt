@@ -61,10 +61,10 @@ pub sources-ReadsOne : {R E : Type 0} (given : R → Option (List ℕ)) (failure
 sources-ReadsOne given failures calls before after link result buf none within read =
     let one = slice_index_or after link none in
     ext_get_or none after (slice_set before link one) (read.as_many ∙ sym (length-set before link one)) (
-      λ k _. elim (cases_eq k link) [
-        | inl same ↦ ap (λ i. slice_index_or after i none) same ∙ sym (get_or-set_at before link k one none same within)
-        | inr other ↦ read.others k none other ∙ sym (get_or-set_other before link k one none other)
-      ]
+    λ k _. elim (cases_eq k link) [
+      | inl same ↦ ap (λ i. slice_index_or after i none) same ∙ sym (get_or-set_at before link k one none same within)
+      | inr other ↦ read.others k none other ∙ sym (get_or-set_other before link k one none other)
+    ]
     )
 
 -- then the calls of all sources together rose as the one count did
@@ -74,7 +74,7 @@ pub sum_calls-ReadsOne : {R E : Type 0} (given : R → Option (List ℕ)) (failu
 sum_calls-ReadsOne given failures calls before after link result buf none within read =
     let one = slice_index_or after link none in
     ap (λ sources. sum_by calls sources + calls (slice_index_or before link none)) (sources-ReadsOne given failures calls before after link result buf none within read)
-        ∙ sum_by-set calls before link one none within ∙ ap (λ count. sum_by calls before + count) (read.called none)
+    ∙ sum_by-set calls before link one none within ∙ ap (λ count. sum_by calls before + count) (read.called none)
 
 -- so they rose by one at most, and by one where that count was not at its greatest value
 pub sum_calls-at_most : {R E : Type 0} (given : R → Option (List ℕ)) (failures calls : R → ℕ) (before after : List R) (link : ℕ) (result : Result ℕ E) (buf : List ℕ) (none : R)

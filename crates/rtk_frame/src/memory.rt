@@ -37,17 +37,15 @@ impl Model for MemSource {
     ghost Value = { SourceState };
 
     ghost view = { λ s. record {
-        given = take s.at s.bytes.items ++ replicate s.zeros 0;
-        left = drop s.at s.bytes.items;
-        after = s.after;
-        per_read = s.per_read;
-        failures = s.failed_reads;
-        calls = s.calls;
+      given = take s.at s.bytes.items ++ replicate s.zeros 0;
+      left = drop s.at s.bytes.items;
+      after = s.after;
+      per_read = s.per_read;
+      failures = s.failed_reads;
+      calls = s.calls;
     } };
 
-    ghost invariant = {
-        λ s. (s.at ≤ vec_len s.bytes) × (0 < s.zeros → s.at ≡ vec_len s.bytes)
-    };
+    ghost invariant = { λ s. (s.at ≤ vec_len s.bytes) × (0 < s.zeros → s.at ≡ vec_len s.bytes) };
 }
 
 impl MemSource {
@@ -93,21 +91,15 @@ impl Source for MemSource {
         ensures calls { self.new.calls ≡ count_after self.old.calls }
 
         // What it answers, and the bytes.
-        ensures bytes {
-            0 < length self.old.left
-                → result ≡ Ok (min (room_of self.old buf.old) (length self.old.left))
-        }
+        ensures bytes { 0 < length self.old.left
+            → result ≡ Ok (min (room_of self.old buf.old) (length self.old.left)) }
         ensures end { IsSpent self.old End → result ≡ Ok 0 }
         ensures failure { IsSpent self.old Failure → IsErr result }
-        ensures zeros {
-            IsSpent self.old Zeros
-                → length self.old.given + length buf.old < 2 ^ 128
-                → result ≡ Ok (room_of self.old buf.old)
-        }
-        ensures next {
-            let count = moved_count result in
-            take count buf.new ≡ take count (self.old.left ++ replicate count 0)
-        }
+        ensures zeros { IsSpent self.old Zeros
+            → length self.old.given + length buf.old < 2 ^ 128
+            → result ≡ Ok (room_of self.old buf.old) }
+        ensures next { let count = moved_count result in
+            take count buf.new ≡ take count (self.old.left ++ replicate count 0) }
         ensures rest { IsReadOn self.old self.new (moved_count result) }
     {
         self.calls = self.calls.saturating_add(1);
@@ -151,10 +143,10 @@ impl Model for MemSink {
     ghost Value = { SinkState };
 
     ghost view = { λ s. record {
-        taken = take s.len s.bytes.items;
-        room = vec_len s.bytes - s.len;
-        per_write = s.per_write;
-        failures = s.failed_writes;
+      taken = take s.len s.bytes.items;
+      room = vec_len s.bytes - s.len;
+      per_write = s.per_write;
+      failures = s.failed_writes;
     } };
 
     ghost invariant = { λ s. (s.len ≤ vec_len s.bytes) × (1 ≤ s.per_write) };
@@ -193,16 +185,12 @@ impl Sink for MemSink {
     fn write(&mut self, bytes: &[u8]) -> Result<usize, StreamFault>
         ensures bound { moved_count result ≤ length bytes.now }
         ensures taken { self.new.taken ≡ self.old.taken ++ take (moved_count result) bytes.now }
-        ensures failures {
-            self.new.failures
-                ≡ failures_after self.old.failures (is_failed_write result bytes.now)
-        }
+        ensures failures { self.new.failures
+            ≡ failures_after self.old.failures (is_failed_write result bytes.now) }
 
         // How many it takes, and when none.
-        ensures count {
-            let most = min self.old.per_write self.old.room in
-            IfOk result (λ count. count ≡ min (length bytes.now) most)
-        }
+        ensures count { let most = min self.old.per_write self.old.room in
+            IfOk result (λ count. count ≡ min (length bytes.now) most) }
         ensures full { IsErr result ↔ ((0 < length bytes.now) × (self.old.room ≡ 0)) }
         ensures room { self.new.room ≡ self.old.room - moved_count result }
         ensures per_write { self.new.per_write ≡ self.old.per_write }

@@ -25,12 +25,8 @@ pub trait Source {
     /// A failed call gives nothing. What stands in the buffer behind the bytes given is not said.
     fn read(&mut self, buf: &mut [u8]) -> Result<usize, StreamFault>
         ensures bound { moved_count result ≤ length buf.new }
-        ensures given {
-            given self.new ≡ with_more (given self.old) (take (moved_count result) buf.new)
-        }
-        ensures failures {
-            failures self.new ≡ failures_after (failures self.old) (is_err result)
-        }
+        ensures given { given self.new ≡ with_more (given self.old) (take (moved_count result) buf.new) }
+        ensures failures { failures self.new ≡ failures_after (failures self.old) (is_err result) }
         ensures calls { calls self.new ≡ count_after (calls self.old) };
 }
 
@@ -47,13 +43,9 @@ pub trait Sink {
     /// A failed call takes nothing, and one that takes none of some bytes has failed.
     fn write(&mut self, bytes: &[u8]) -> Result<usize, StreamFault>
         ensures bound { moved_count result ≤ length bytes.now }
-        ensures taken {
-            taken self.new ≡ with_more (taken self.old) (take (moved_count result) bytes.now)
-        }
-        ensures failures {
-            failures self.new
-                ≡ failures_after (failures self.old) (is_failed_write result bytes.now)
-        };
+        ensures taken { taken self.new ≡ with_more (taken self.old) (take (moved_count result) bytes.now) }
+        ensures failures { failures self.new
+            ≡ failures_after (failures self.old) (is_failed_write result bytes.now) };
 }
 
 /// Writes all the bytes, however few each call takes, up to the first call that fails.
@@ -82,9 +74,7 @@ pub fn read_one<R: Source>(
 ) -> Result<usize, StreamFault>
     requires link { link < length sources.old }
     ensures bound { moved_count result ≤ length buf.new }
-    ensures read {
-        ReadsOne R.given R.failures R.calls sources.old sources.new link result buf.new
-    }
+    ensures read { ReadsOne R.given R.failures R.calls sources.old sources.new link result buf.new }
 {
     sources[link].read(buf)
 }
