@@ -9,3 +9,4 @@ mod NextFrame
 mod Passing
 mod Pieces
 mod Remainder
+pub mod StreamLemmas
