@@ -4,7 +4,7 @@ ghost use Rattle.circular_buffer.specs.Buffer.{buffer};
 ghost use Rattle.rtk_frame.specs.Frame.{begins_frame, begins_partial, payload_length, payload_of};
 ghost use Rattle.rtk_frame.specs.Scanning.{Scanned, Searched};
 
-use crate::frame::{before_preamble, front_of, FrameFault, Front};
+use crate::frame::{FrameFault, Front, before_preamble, front_of};
 use circular_buffer::HeapCircularBuffer;
 use std::alloc::Global;
 use std::marker::Model;
@@ -77,7 +77,9 @@ impl Scanner {
     pub fn feed(&mut self, piece: &[u8]) -> Fed<'_>
         requires { self.old.ended ≡ false }
         ensures used { result.used ≤ length piece.now }
-        ensures* after { sem 𝓛 (Leaves self.entry (λ now. (now.ended ≡ false) × (length now.pending ≤ 1029) × FedAnswer self.old.pending piece.now result.used result.answer now)) }
+        ensures* after { sem 𝓛 (Leaves self.entry (λ now.
+            (now.ended ≡ false) × (length now.pending ≤ 1029)
+            × FedAnswer self.old.pending piece.now result.used result.answer now)) }
     {
         let (used, found) = advance(&mut self.ring, piece);
         match found {
@@ -99,7 +101,9 @@ impl Scanner {
     ///
     /// The payload is borrowed from the scanner until its next call. After None it is always None.
     pub fn rest(&mut self) -> Option<&[u8]>
-        ensures* after { sem 𝓛 (Leaves self.entry (λ now. (now.ended ≡ true) × (length now.pending ≤ 1029) × RestAnswer self.old.pending result now)) }
+        ensures* after { sem 𝓛 (Leaves self.entry (λ now.
+            (now.ended ≡ true) × (length now.pending ≤ 1029)
+            × RestAnswer self.old.pending result now)) }
     {
         self.ended = true;
         match advance_ended(&mut self.ring) {
@@ -127,8 +131,10 @@ fn advance(ring: &mut HeapCircularBuffer<u8>, piece: &[u8]) -> (usize, Option<us
     ensures used { result.0 ≤ length piece.now }
     ensures scanned { Scanned (ring.old.items ++ take result.0 piece.now) ring.new.items }
     ensures found { MatchOption result.1
-        ((result.0 ≡ length piece.now) × ((begins_partial ring.new.items ≡ true) ⊎ (ring.new.items ≡ [])))
-        (λ n. (begins_frame ring.new.items ≡ true) × (n ≡ payload_length ring.new.items) × (n ≤ 1023)) }
+        ((result.0 ≡ length piece.now)
+        × ((begins_partial ring.new.items ≡ true) ⊎ (ring.new.items ≡ [])))
+        (λ n. (begins_frame ring.new.items ≡ true)
+        × (n ≡ payload_length ring.new.items) × (n ≤ 1023)) }
 {
     let mut used = 0;
     let _length = ring.len();
@@ -159,7 +165,8 @@ fn advance_ended(ring: &mut HeapCircularBuffer<u8>) -> Option<usize>
     ensures searched { Searched ring.old.items ring.new.items }
     ensures found { MatchOption result
         (ring.new.items ≡ [])
-        (λ n. (begins_frame ring.new.items ≡ true) × (n ≡ payload_length ring.new.items) × (n ≤ 1023)) }
+        (λ n. (begins_frame ring.new.items ≡ true)
+        × (n ≡ payload_length ring.new.items) × (n ≤ 1023)) }
 {
     let _length = ring.len();
     'search: loop {
@@ -181,7 +188,8 @@ fn advance_ended(ring: &mut HeapCircularBuffer<u8>) -> Option<usize>
 /// Passes the bytes at the front of the ring that are no preamble.
 fn pass_junk(ring: &mut HeapCircularBuffer<u8>)
     requires { (ring.old.capacity ≡ 1029) × (length ring.old.items ≤ 1029) }
-    ensures capacity { (ring.new.capacity ≡ 1029) × (length ring.new.items ≤ length ring.old.items) }
+    ensures capacity { ring.new.capacity ≡ 1029 }
+    ensures shorter { length ring.new.items ≤ length ring.old.items }
     ensures scanned { (text : List ℕ) → Scanned text ring.old.items → Scanned text ring.new.items }
 {
     let junk = before_preamble(ring.make_contiguous());
@@ -192,7 +200,8 @@ fn pass_junk(ring: &mut HeapCircularBuffer<u8>)
 /// How many bytes of the piece need not enter the ring, since it is empty and they are no preamble.
 fn junk_of_piece(ring: &HeapCircularBuffer<u8>, piece: &[u8]) -> usize
     ensures within { result ≤ length piece.now }
-    ensures scanned { (text : List ℕ) → Scanned text ring.now.items → Scanned (text ++ take result piece.now) ring.now.items }
+    ensures scanned { (text : List ℕ) → Scanned text ring.now.items
+        → Scanned (text ++ take result piece.now) ring.now.items }
 {
     if ring.is_empty() {
         before_preamble(piece)
@@ -203,7 +212,8 @@ fn junk_of_piece(ring: &HeapCircularBuffer<u8>, piece: &[u8]) -> usize
 
 /// Moves the frame at the front out of the ring, and its payload to the front of `area`.
 fn take_frame(ring: &mut HeapCircularBuffer<u8>, area: &mut [u8], payload: usize)
-    requires frame { (payload ≡ payload_length ring.old.items) × (payload + 6 ≤ length ring.old.items) }
+    requires stated { payload ≡ payload_length ring.old.items }
+    requires whole { payload + 6 ≤ length ring.old.items }
     requires room { payload ≤ length area.old }
     ensures rest { ring.new ≡ buffer (drop (payload + 6) ring.old.items) ring.old.capacity }
     ensures payload { take payload area.new ≡ payload_of ring.old.items }

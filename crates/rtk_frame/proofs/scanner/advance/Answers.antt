@@ -16,8 +16,8 @@ scan-preserved-in-Other c =
     let items : c.pop_front-passed.new.self.items ≡ drop 1 c.scan.ring.items = ap (λ b. b.items) popped ∙ ap (drop 1) back in
     let scanned = subst (λ (z : List ℕ). Scanned (c.args.ring.now.items ++ take c.scan.used c.args.piece.now) z) (sym items) (scanned_next _ c.scan.ring.items here.0 here.1 here.2 c.scan.invariant.scanned) in
     record {
-      capacity = c.pass_junk.ensures.capacity.0;
-      within = omega (arith, c.pass_junk.ensures.capacity.1, ap length items, length-drop 1 c.scan.ring.items);
+      capacity = c.pass_junk.ensures.capacity;
+      within = omega (arith, c.pass_junk.ensures.shorter, ap length items, length-drop 1 c.scan.ring.items);
       used = c.scan.invariant.used;
       scanned = c.pass_junk.ensures.scanned _ scanned;
     }
