@@ -126,7 +126,7 @@ impl Scanner {
 /// Scans the ring and what of the piece it has to take, up to the next frame or to the end.
 /// Gives how many bytes were used, and the length of the payload of a frame at the ring's front.
 fn advance(ring: &mut HeapCircularBuffer<u8>, piece: &[u8]) -> (usize, Option<usize>)
-    requires { ring.old.capacity ≡ 1029 }
+    requires { (ring.old.capacity ≡ 1029) × (length ring.old.items ≤ 1029) }
     ensures capacity { (ring.new.capacity ≡ 1029) × (length ring.new.items ≤ 1029) }
     ensures used { result.0 ≤ length piece.now }
     ensures scanned { Scanned (ring.old.items ++ take result.0 piece.now) ring.new.items }
@@ -137,12 +137,11 @@ fn advance(ring: &mut HeapCircularBuffer<u8>, piece: &[u8]) -> (usize, Option<us
         × (n ≡ payload_length ring.new.items) × (n ≤ 1023)) }
 {
     let mut used = 0;
-    let _length = ring.len();
     'scan: loop {
         match front_of(ring.make_contiguous()) {
             Front::Whole(payload) => return (used, Some(payload)),
             Front::Other => {
-                let _passed = ring.pop_front();
+                ring.pop_front();
                 pass_junk(ring);
             }
             Front::Partial(wanted) => {
@@ -151,7 +150,7 @@ fn advance(ring: &mut HeapCircularBuffer<u8>, piece: &[u8]) -> (usize, Option<us
                     return (used, None);
                 }
                 let more = wanted.min(piece.len() - used);
-                let _count = ring.fill_from_slice(&piece[used..used + more]);
+                ring.fill_from_slice(&piece[used..used + more]);
                 used += more;
             }
         }
@@ -160,7 +159,7 @@ fn advance(ring: &mut HeapCircularBuffer<u8>, piece: &[u8]) -> (usize, Option<us
 
 /// Searches the ring for the next frame, as if no byte followed.
 fn advance_ended(ring: &mut HeapCircularBuffer<u8>) -> Option<usize>
-    requires { ring.old.capacity ≡ 1029 }
+    requires { (ring.old.capacity ≡ 1029) × (length ring.old.items ≤ 1029) }
     ensures capacity { (ring.new.capacity ≡ 1029) × (length ring.new.items ≤ 1029) }
     ensures searched { Searched ring.old.items ring.new.items }
     ensures found { MatchOption result
@@ -168,21 +167,13 @@ fn advance_ended(ring: &mut HeapCircularBuffer<u8>) -> Option<usize>
         (λ n. (begins_frame ring.new.items ≡ true)
         × (n ≡ payload_length ring.new.items) × (n ≤ 1023)) }
 {
-    let _length = ring.len();
-    'search: loop {
-        match front_of(ring.make_contiguous()) {
-            Front::Whole(payload) => return Some(payload),
-            Front::Other => {
-                let _left = ring.pop_front();
-            }
-            Front::Partial(_) => {
-                if ring.is_empty() {
-                    return None;
-                }
-                let _dropped = ring.pop_front();
-            }
+    while !ring.is_empty() {
+        if let Front::Whole(payload) = front_of(ring.make_contiguous()) {
+            return Some(payload);
         }
+        ring.pop_front();
     }
+    None
 }
 
 /// Passes the bytes at the front of the ring that are no preamble.
