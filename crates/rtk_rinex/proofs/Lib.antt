@@ -2,3 +2,4 @@ pub mod ColumnsLemmas
 pub mod ReadingLemmas
 pub mod HeaderLemmas
 pub mod RecordLemmas
+pub mod TableLemmas

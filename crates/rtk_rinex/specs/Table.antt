@@ -1,9 +1,10 @@
 -- Well-formed tables of observations, and their text: what a file of this project can be.
-use Rattle.std.specs.Prelude.{◌≡◌, ◌≢◌, ◌≤◌, ◌<◌, ℕ, List, [], ◌∷◌, ◌++◌, length, flat_map, All, AllPairs, ℤ, Option, Some, None, Bool, false, IsTrue}
+use Rattle.std.specs.Prelude.{◌≡◌, ◌≢◌, ◌≤◌, ◌<◌, ℕ, List, [], ◌∷◌, ◌++◌, length, flat_map, map, All, AllPairs, ℤ, Option, Some, None, Bool, false, ◌&&◌, if◌then◌else◌, IsTrue}
 use Rattle.std.specs.Int.{IsInRange}
+use Rattle.std.specs.List.{filter}
 use Rattle.rtk_rinex.specs.Reading.{IsMoment}
 use Rattle.rtk_rinex.specs.Header.{Heading, Site, IsHeading, IsSite, header_text}
-use Rattle.rtk_rinex.specs.Record.{Epoch, IsStrength, is_written, has_line, record_text}
+use Rattle.rtk_rinex.specs.Record.{Epoch, IsEpoch, IsStrength, HasWidth, is_written, is_value, has_line, record_text}
 use Rattle.rtk_rinex.specs.declared.epoch_table.Observed.{Observed}
 use Rattle.rtk_rinex.specs.declared.epoch_table.SatelliteRow.{SatelliteRow}
 
@@ -62,3 +63,36 @@ pub record IsTable (t : Table) : Type 0 where
 -- the text of a table: its header, then a record for each epoch
 abbrev pub table_text : Table → List ℕ
 table_text t = header_text t.head t.site t.first ++ flat_map record_text t.epochs
+
+-- a value as the file shows it: none where none is written
+abbrev pub shown_value : Option ℤ → Option ℤ
+shown_value None = None
+shown_value (Some v) = if is_written v then Some v else None
+
+-- an observation as the file shows it
+abbrev pub shown : Observed → Observed
+shown o =
+    record {
+      range_mm = shown_value o.range_mm;
+      phase_millicycles = shown_value o.phase_millicycles;
+      strength_millidbhz = o.strength_millidbhz;
+      slip = o.slip && is_value o.phase_millicycles;
+      half = o.half && is_value o.phase_millicycles;
+    }
+
+abbrev pub shown_row : SatelliteRow → SatelliteRow
+shown_row r = record { satellite = r.satellite; observed = record { items = map shown r.observed.items } }
+
+-- an epoch as the file shows it: the satellites that have a line, with what is written of them
+abbrev pub shown_epoch : Epoch → Epoch
+shown_epoch e = record { time = e.time; rows = map shown_row (filter has_line e.rows) }
+
+-- the record of an epoch is that of the epoch as the file shows it, which is one of a well-formed table, unless it has no line
+pub record IsShownByRecord (n : ℕ) (e : Epoch) : Type 0 where
+  pub text : record_text (shown_epoch e) ≡ record_text e
+  pub well_formed : (shown_epoch e).rows ≢ [] → IsTableEpoch n (shown_epoch e)
+  pub empty : (shown_epoch e).rows ≡ [] → record_text e ≡ []
+
+-- so it is for each epoch of good rows, with as many observations as codes
+abbrev pub RecordsAreOfTables : Type 0
+RecordsAreOfTables = (n : ℕ) (e : Epoch) → IsEpoch e → HasWidth n e.rows → IsShownByRecord n e

@@ -5,12 +5,14 @@ mod columns;
 mod epoch_table;
 mod head;
 mod header_text;
+mod laws;
 mod reading;
 mod record_text;
 
 pub use epoch_table::{EpochTable, Observed, SatelliteRow};
 pub use head::{Head, HeadFault};
 pub use header_text::header;
+pub use laws::records_are_of_tables;
 pub use record_text::record;
 
 #[cfg(test)]
