@@ -64,7 +64,7 @@ const PREAMBLE: u8 = 0xD3;
 pub(crate) enum Front {
     /// A frame, with so many bytes of payload.
     Whole(usize),
-    /// Nothing, or a frame of which so many bytes at least are still to come.
+    /// The start of a frame, or no byte at all: at least so many bytes are missing.
     Partial(usize),
     /// Neither.
     Other,

@@ -1,9 +1,18 @@
 //! Laws of frames: what the frames of a text are, and that its cut into pieces doesn't matter.
 //!
 //! Each function here does nothing: its contract is the law, and a caller that calls it may cite it.
-ghost use Rattle.std.specs.Prelude.{◌≡◌, ℕ, ◌+◌, ◌-◌, List, ◌∷◌, ◌++◌, map, take, drop, length};
+ghost use Rattle.std.specs.Prelude.{◌≡◌, ℕ, ◌+◌, ◌-◌, ◌≤◌, List, ◌∷◌, ◌++◌, map, take, drop, length};
+ghost use Rattle.rtk_frame.specs.Frame.{IsFrameAt, payload_of, framed};
 ghost use Rattle.rtk_frame.specs.Frames.{Frame, end_of, payloads, IsFramesFrom, AreFinal, IsPending};
 ghost use Rattle.rtk_frame.specs.Frames.{frames, final_frames, pending, later, IsFirst};
+
+/// The bytes of a frame are a frame with this payload: what `encode_frame` writes, `next_frame`
+/// finds at its place.
+pub fn frame_of_a_payload()
+    ensures is { (payload : List ℕ) → length payload ≤ 1023 → IsFrameAt (framed payload) 0 }
+    ensures payload { (payload : List ℕ) → length payload ≤ 1023 → payload_of (framed payload) ≡ payload }
+    ensures length { (payload : List ℕ) → length (framed payload) ≡ length payload + 6 }
+{}
 
 /// The frames of a text: one is at each place of theirs, none overlaps the one before, and at no
 /// other place that is free of them is there one. No other list is of this kind.

@@ -36,7 +36,7 @@ impl Model for Scanner {
 /// What `feed` took of the piece, and what it found there.
 #[derive(Clone, Copy)]
 pub struct Fed<'a> {
-    /// How many bytes of the piece were used. After `Found` the rest of it is to be fed again.
+    /// How many bytes of the piece were used. After `Found` the next call is fed the others.
     pub used: usize,
     /// What was found.
     pub answer: Answer<'a>,
@@ -71,7 +71,8 @@ impl Scanner {
         })
     }
 
-    /// Takes the piece up to the end of its next frame, or whole.
+    /// Takes bytes of the piece until a frame is found, or all of them. Bytes behind the frame may
+    /// be among those taken: they are pending.
     ///
     /// The payload is borrowed from the scanner until its next call.
     pub fn feed(&mut self, piece: &[u8]) -> Fed<'_>
@@ -97,7 +98,7 @@ impl Scanner {
         }
     }
 
-    /// Ends the stream, and gives the next frame of the bytes that wait for more: none come.
+    /// Ends the stream, and gives the next frame of the pending bytes, since no more will come.
     ///
     /// The payload is borrowed from the scanner until its next call. After None it is always None.
     pub fn rest(&mut self) -> Option<&[u8]>

@@ -9,7 +9,8 @@ use crate::scanner::{Answer, Scanner};
 use crate::search::next_frame;
 use std::alloc::{AllocError, Global};
 
-/// A message 1005 of station 2003, as a receiver sent it: a frame with 19 bytes of payload.
+/// The frame that RTCM 10403.3 gives as its example: a message 1005 of station 2003, with 19 bytes
+/// of payload.
 const FRAME: [u8; 25] = [
     0xD3, 0x00, 0x13, 0x3E, 0xD7, 0xD3, 0x02, 0x02, 0x98, 0x0E, 0xDE, 0xEF, 0x34, 0xB4, 0xBD, 0x62,
     0xAC, 0x09, 0x41, 0x98, 0x6F, 0x33, 0x36, 0x0B, 0x98,
@@ -152,6 +153,9 @@ fn the_next_frame_of_a_text(rt: HostRuntime) {
     assert!(rt; next_frame(&SPOILT, 0).is_none());
     let empty = next_frame(&[0xD3, 0, 0, 0x47, 0xEA, 0x4B], 0);
     assert!(rt; matches!(empty, Some(found) if found.place == 0 && found.payload.is_empty()));
+    // the reserved bits may be set
+    let reserved = next_frame(&[0xD3, 0xFC, 0, 0x32, 0xC2, 0x4F], 0);
+    assert!(rt; matches!(reserved, Some(found) if found.place == 0 && found.payload.is_empty()));
 }
 
 #[test]
