@@ -1,0 +1,15 @@
+use Rattle.std.proofs.Common.{◌≡◌, ◌++◌, Some, take, drop, replicate, arith, ap}
+use Rattle.std.proofs.lemmas.Grind.{common_steps}
+use Rattle.rtk_frame.proofs.StreamLemmas.{given-bytes, given-zeros, take-front, take-zeros}
+use Rattle.rtk_frame.proofs.memory.MemSourceSource.read.Goals as goal
+
+pub returns-then-left-gt0-clause-given : goal.returns-then-left-gt0-clause-given
+returns-then-left-gt0-clause-given c =
+    let none : c.self.inside.zeros ≡ 0 = grind (arith, c.self.invariant.1, c.if-left-gt0.true) in
+    let copied : take c.min-count.result (c.copy_from_slice.new.self ++ drop c.min-count.result c.args.buf.now) ≡ take c.min-count.result (drop c.self.inside.at c.self.inside.bytes.items) = grind (arith, common_steps, take-front) in
+    rw (← ap (λ s. s.given) c.self.view_is, copied) (ap Some (given-bytes _ _ _ _ none))
+
+pub returns-in-Some-clause-given : goal.returns-in-Some-clause-given
+returns-in-Some-clause-given c =
+    let filled : take c.min-room.result (c.fill.new.self ++ drop c.min-room.result c.args.buf.now) ≡ replicate c.min-room.result 0 = rw (c.fill.ensures.after (λ y e. e)) (take-zeros _ _ _ (grind (arith, c.min-room.ensures))) in
+    rw (← ap (λ s. s.given) c.self.view_is, filled, c.in-Some.ensures.1) (ap Some (given-zeros _ _ _))
