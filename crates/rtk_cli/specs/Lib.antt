@@ -1,2 +1,3 @@
-pub mod Words
 pub mod Hex
+pub mod Input
+pub mod Words

@@ -3,6 +3,7 @@
 
 mod command_line;
 mod hex_input;
+mod input;
 mod words;
 
 pub use command_line::job;
