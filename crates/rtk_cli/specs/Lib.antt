@@ -1,3 +1,4 @@
 pub mod Hex
 pub mod Input
+pub mod Shown
 pub mod Words

@@ -4,9 +4,11 @@
 mod command_line;
 mod hex_input;
 mod input;
+mod payload_line;
 mod words;
 
 pub use command_line::job;
+pub use payload_line::show_line;
 pub use words::{Job, ToolFault, WordsFault};
 
 #[cfg(test)]

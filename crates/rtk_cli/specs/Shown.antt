@@ -1,0 +1,57 @@
+-- The line that is shown of a payload. The forms of the lines are this project's rule; the fields are
+-- those of RTCM 10403.3.
+use Rattle.std.specs.Prelude.{◌≡◌, ℕ, ◌+◌, ◌/◌, ◌%◌, ℤ, pos, List, [], ◌∷◌, ◌++◌, length, codes, decimal, count_ones, Result, Ok, Err}
+use Rattle.std.specs.Fmt.{sign_text}
+use Rattle.std.specs.Int.{is_negative, unsigned_abs}
+use Rattle.rtk_bits.specs.Bits.{bits}
+use Rattle.rtk_message.specs.declared.message.Message.{Message}
+use Rattle.rtk_message.specs.declared.message.Message.TheVariants.{Obs1004, Arp1005, Arp1006, Msm1074}
+use Rattle.rtk_message.specs.declared.fault.DecodeFault.{DecodeFault}
+use Rattle.rtk_message.specs.declared.fault.DecodeFault.TheVariants.{NoNumber, Other, Short, EpochRange, TooManyCells}
+use Rattle.rtk_message.specs.Decoded.{Decodes}
+use Rattle.rtk_message.specs.Msm1074.{satellites, signals, cells}
+
+-- a point and four digits: the part of a whole metre, of a number of 0.0001 m
+abbrev pub decimals : ℕ → List ℕ
+decimals n = 46 ∷ 48 + n / 1000 % 10 ∷ 48 + n / 100 % 10 ∷ 48 + n / 10 % 10 ∷ 48 + n % 10 ∷ []
+
+-- a length in 0.0001 m, written in metres: a minus sign where it is negative, the whole metres without
+-- padding, four decimals
+abbrev pub metres : ℤ → List ℕ
+metres v = sign_text (is_negative v) ++ decimal (unsigned_abs v / 10000) ++ decimals (unsigned_abs v)
+
+-- the antenna reference point (DF025, DF026, DF027)
+abbrev pub point : ℤ → ℤ → ℤ → List ℕ
+point x y z = codes " x " ++ metres x ++ codes " y " ++ metres y ++ codes " z " ++ metres z
+
+-- a message: its number, its station (DF003), and then the time of week (DF004) and the numbers of
+-- satellites, signals and cells, or the antenna reference point and its height (DF028)
+abbrev pub message_text : Message → List ℕ
+message_text (Obs1004 m) =
+    codes "1004 station " ++ decimal m.station ++ codes " tow " ++ decimal m.tow
+    ++ codes " satellites " ++ decimal (length m.satellites)
+message_text (Arp1005 m) = codes "1005 station " ++ decimal m.station ++ point m.x m.y m.z
+message_text (Arp1006 m) =
+    codes "1006 station " ++ decimal m.station ++ point m.x m.y m.z ++ codes " height " ++ metres (pos m.height)
+message_text (Msm1074 m) =
+    codes "1074 station " ++ decimal m.header.station ++ codes " tow " ++ decimal m.header.tow
+    ++ codes " satellites " ++ decimal (satellites m.header) ++ codes " signals " ++ decimal (signals m.header)
+    ++ codes " cells " ++ decimal (cells m)
+
+-- a payload that is no message: the number of another message, or the fault's number and that of the
+-- message, where there is one
+abbrev pub fault_text : DecodeFault → List ℕ
+fault_text NoNumber = codes "refused M1 -"
+fault_text (Other number) = decimal number ++ codes " other"
+fault_text (Short number) = codes "refused M3 " ++ decimal number
+fault_text (EpochRange number) = codes "refused M4 " ++ decimal number
+fault_text TooManyCells = codes "refused M5 1074"
+
+-- either is ended by a line feed
+abbrev pub line_of : Result Message DecodeFault → List ℕ
+line_of (Ok m) = message_text m ++ 10 ∷ []
+line_of (Err fault) = fault_text fault ++ 10 ∷ []
+
+-- the line of a payload is that of what it decodes to
+abbrev pub IsLineOf : List ℕ → List ℕ → Type 0
+IsLineOf payload line = (reading : Result Message DecodeFault) × Decodes (bits payload) reading × (line ≡ line_of reading)

@@ -1,0 +1,129 @@
+//! The line that is shown of a payload.
+ghost use Rattle.std.specs.Prelude.{◌≡◌, ◌++◌, ◌∷◌, [], List, ℕ, decimal, IfOk, OnOk};
+ghost use Rattle.rtk_message.specs.Decoded.{IsValid};
+ghost use Rattle.rtk_message.specs.declared.message.Message.TheVariants.{Obs1004 as AnObs1004, Msm1074 as AnMsm1074};
+ghost use Rattle.rtk_cli.specs.Shown.{decimals, metres, point, message_text, fault_text, IsLineOf};
+
+use itoa::Buffer;
+use rtk_message::{DecodeFault, Message, Msm1074, Obs1004, decode};
+use std::alloc::{AllocError, Global};
+
+fn put_number(line: &mut Vec<u8>, number: u64) -> Result<(), AllocError>
+    ensures { OnOk result (line.new.items ≡ line.old.items ++ decimal number) }
+{
+    line.extend_from_slice(Buffer::new().format(number).as_bytes())
+}
+
+// A word and the number that it names.
+fn put_named(line: &mut Vec<u8>, name: &[u8], number: u64) -> Result<(), AllocError>
+    ensures { OnOk result (line.new.items ≡ line.old.items ++ name.now ++ decimal number) }
+{
+    line.extend_from_slice(name)?;
+    put_number(line, number)
+}
+
+fn decimals_of(magnitude: u64) -> [u8; 5]
+    ensures { result ≡ decimals magnitude }
+{
+    let digit = |place: u64| b'0' + (magnitude / place % 10) as u8;
+    [b'.', digit(1000), digit(100), digit(10), digit(1)]
+}
+
+// A length in 0.0001 m, in metres.
+fn put_metres(line: &mut Vec<u8>, length: i64) -> Result<(), AllocError>
+    ensures { OnOk result (line.new.items ≡ line.old.items ++ metres length) }
+{
+    if length < 0 {
+        line.push(b'-')?;
+    }
+    let magnitude = length.unsigned_abs();
+    put_number(line, magnitude / 10_000)?;
+    line.extend_from_slice(&decimals_of(magnitude))
+}
+
+fn put_point(line: &mut Vec<u8>, x: i64, y: i64, z: i64) -> Result<(), AllocError>
+    ensures { OnOk result (line.new.items ≡ line.old.items ++ point x y z) }
+{
+    line.extend_from_slice(b" x ")?;
+    put_metres(line, x)?;
+    line.extend_from_slice(b" y ")?;
+    put_metres(line, y)?;
+    line.extend_from_slice(b" z ")?;
+    put_metres(line, z)
+}
+
+fn put_1004(line: &mut Vec<u8>, message: &Obs1004) -> Result<(), AllocError>
+    ensures { OnOk result (line.new.items ≡ line.old.items ++ message_text (AnObs1004 message.now)) }
+{
+    put_named(line, b"1004 station ", message.station.into())?;
+    put_named(line, b" tow ", message.tow.into())?;
+    put_named(line, b" satellites ", message.satellites.len() as u64)
+}
+
+fn put_1074(line: &mut Vec<u8>, message: &Msm1074) -> Result<(), AllocError>
+    requires { IsValid (AnMsm1074 message.now) }
+    ensures { OnOk result (line.new.items ≡ line.old.items ++ message_text (AnMsm1074 message.now)) }
+{
+    let header = message.header;
+    put_named(line, b"1074 station ", header.station.into())?;
+    put_named(line, b" tow ", header.tow.into())?;
+    put_named(line, b" satellites ", header.satellites() as u64)?;
+    put_named(line, b" signals ", header.signals() as u64)?;
+    put_named(line, b" cells ", message.cnr.len() as u64)
+}
+
+fn put_message(line: &mut Vec<u8>, message: &Message) -> Result<(), AllocError>
+    requires { IsValid message.now }
+    ensures { OnOk result (line.new.items ≡ line.old.items ++ message_text message.now) }
+{
+    match message {
+        Message::Obs1004(message) => put_1004(line, message),
+        Message::Arp1005(message) => {
+            put_named(line, b"1005 station ", message.station.into())?;
+            put_point(line, message.x, message.y, message.z)
+        }
+        Message::Arp1006(message) => {
+            put_named(line, b"1006 station ", message.station.into())?;
+            put_point(line, message.x, message.y, message.z)?;
+            line.extend_from_slice(b" height ")?;
+            put_metres(line, message.height.into())
+        }
+        Message::Msm1074(message) => put_1074(line, message),
+    }
+}
+
+fn put_fault(line: &mut Vec<u8>, fault: DecodeFault) -> Result<(), AllocError>
+    ensures { OnOk result (line.new.items ≡ line.old.items ++ fault_text fault) }
+{
+    match fault {
+        DecodeFault::NoNumber => line.extend_from_slice(b"refused M1 -"),
+        DecodeFault::Other { number } => {
+            put_number(line, number.into())?;
+            line.extend_from_slice(b" other")
+        }
+        DecodeFault::Short { number } => put_named(line, b"refused M3 ", number.into()),
+        DecodeFault::EpochRange { number } => put_named(line, b"refused M4 ", number.into()),
+        DecodeFault::TooManyCells => line.extend_from_slice(b"refused M5 1074"),
+    }
+}
+
+/// Appends the line of a payload, with its line feed. After a refusal a part of it may stand there.
+pub fn put_line(lines: &mut Vec<u8>, payload: &[u8]) -> Result<(), AllocError>
+    ensures { OnOk result ((line : List ℕ) × IsLineOf payload.now line × (lines.new.items ≡ lines.old.items ++ line)) }
+{
+    match decode(payload) {
+        Ok(message) => put_message(lines, &message)?,
+        Err(fault) => put_fault(lines, fault)?,
+    }
+    lines.push(b'\n')?;
+    Ok(())
+}
+
+/// The line of a payload, with its line feed: what it says as a message, or why it is none.
+pub fn show_line(alloc: Global, payload: &[u8]) -> Result<Vec<u8>, AllocError>
+    ensures { IfOk result (λ line. IsLineOf payload.now line.items) }
+{
+    let mut line = Vec::new(alloc);
+    put_line(&mut line, payload)?;
+    Ok(line)
+}
