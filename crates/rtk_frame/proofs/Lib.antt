@@ -1,1 +1,11 @@
+mod ByteTable
+mod Division
+mod EightBytes
+mod FirstFrame
+mod FramesLaw
+mod Fronts
+mod NextFrame
+mod Passing
+mod Pieces
+mod Remainder
 pub mod StreamLemmas

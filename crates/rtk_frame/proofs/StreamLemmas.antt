@@ -1,9 +1,9 @@
 -- Laws of the bytes that passed and of the counts, and the bytes of a source over memory.
-use Rattle.std.proofs.Common.{◌≡◌, ◌≢◌, ℕ, zero, suc, ◌+◌, ◌<◌, ◌≤◌, ◌⊎◌, inl, inr, Bool, true, false, ◌==◌, ◌&&◌, List, [], ◌∷◌, ◌++◌, length, take, drop, replicate, Option, None, Some, refl, ap, append_assoc, sym, ◌∙◌, arith, zero-add, suc-add}
+use Rattle.std.proofs.Common.{◌≡◌, ◌≢◌, ℕ, zero, suc, ◌+◌, ◌≤◌, inl, inr, Bool, false, ◌==◌, ◌&&◌, List, [], ◌∷◌, ◌++◌, length, take, drop, replicate, Option, None, Some, refl, ap, append_assoc, sym, arith, zero-add, suc-add}
 use Rattle.std.proofs.lemmas.List.{append-nil, replicate-append-replicate, length-replicate}
 use Rattle.std.proofs.Math.Seq.{take-nil, take-append_seam}
 use Rattle.std.proofs.lemmas.Grind.{common_steps}
-use Rattle.rtk_frame.specs.Stream.{greatest_count, count_after, failures_after, with_more, Rises}
+use Rattle.rtk_frame.specs.Stream.{count_after, failures_after, with_more, Rises}
 
 -- nothing more is no change
 pub with_more-nil : (known : Option (List ℕ)) → with_more known [] ≡ known

@@ -25,7 +25,7 @@ pub struct MemSource {
     zeros: u128,
     per_read: usize,
     after: After,
-    failures: u64,
+    failed_reads: u64,
     calls: u64,
 }
 
@@ -41,7 +41,7 @@ impl Model for MemSource {
         left = drop s.at s.bytes.items;
         after = s.after;
         per_read = s.per_read;
-        failures = s.failures;
+        failures = s.failed_reads;
         calls = s.calls;
     } };
 
@@ -67,7 +67,7 @@ impl MemSource {
             zeros: 0,
             per_read,
             after,
-            failures: 0,
+            failed_reads: 0,
             calls: 0,
         })
     }
@@ -107,24 +107,18 @@ impl Source for MemSource {
             self.at += count;
             return Ok(count);
         }
-        match self.after {
-            After::End => Ok(0),
-            After::Failure => {
-                self.failures = self.failures.saturating_add(1);
-                Err(StreamFault)
-            }
-            After::Zeros => match self.zeros.checked_add(room as u128) {
-                Some(zeros) => {
-                    buf[..room].fill(0);
-                    self.zeros = zeros;
-                    Ok(room)
-                }
-                None => {
-                    self.failures = self.failures.saturating_add(1);
-                    Err(StreamFault)
-                }
-            },
-        }
+        let zeros = match self.after {
+            After::End => return Ok(0),
+            After::Failure => None,
+            After::Zeros => self.zeros.checked_add(room as u128),
+        };
+        let Some(zeros) = zeros else {
+            self.failed_reads = self.failed_reads.saturating_add(1);
+            return Err(StreamFault);
+        };
+        buf[..room].fill(0);
+        self.zeros = zeros;
+        Ok(room)
     }
 }
 
@@ -134,7 +128,7 @@ pub struct MemSink {
     bytes: Vec<u8>,
     len: usize,
     per_write: usize,
-    failures: u64,
+    failed_writes: u64,
 }
 
 // Clauses see what was taken and how much room is left.
@@ -148,7 +142,7 @@ impl Model for MemSink {
         taken = take s.len s.bytes.items;
         room = vec_len s.bytes - s.len;
         per_write = s.per_write;
-        failures = s.failures;
+        failures = s.failed_writes;
     } };
 
     ghost invariant = { λ s. (s.len ≤ vec_len s.bytes) × (1 ≤ s.per_write) };
@@ -166,7 +160,7 @@ impl MemSink {
             bytes: vec![in alloc; 0u8; room]?,
             len: 0,
             per_write,
-            failures: 0,
+            failed_writes: 0,
         })
     }
 
@@ -196,7 +190,7 @@ impl Sink for MemSink {
         let room = self.bytes.len() - self.len;
         let count = bytes.len().min(self.per_write).min(room);
         if count == 0 && !bytes.is_empty() {
-            self.failures = self.failures.saturating_add(1);
+            self.failed_writes = self.failed_writes.saturating_add(1);
             return Err(StreamFault);
         }
         let end = self.len + count;

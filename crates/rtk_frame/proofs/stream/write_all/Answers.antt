@@ -9,5 +9,5 @@ loop-at-preserved g c =
     record {
       within = grind (arith, common_steps, c.in_ok-count.ensures.bound);
       taken = rw (c.in_ok-count.ensures.taken, c.loop-at.invariant.taken, rest) (with_more-take _ _ _ _);
-      failures = rw (c.in_ok-count.ensures.failures, c.loop-at.invariant.failures) (failures_after-some _ c.in_ok-count.count _ (grind (arith, c.if-count-eq0.false)));
+      failures = rw (c.in_ok-count.ensures.failures, c.loop-at.invariant.failures) (failures_after-some (g.W.Sink.failures c.args.sink.now) c.in_ok-count.count _ (grind (arith, c.if-count-eq0.false)));
     }

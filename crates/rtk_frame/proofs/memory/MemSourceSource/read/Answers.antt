@@ -1,7 +1,8 @@
-use Rattle.std.proofs.Common.{◌≡◌, ◌++◌, Some, take, drop, replicate, arith, ap}
+use Rattle.std.proofs.Common.{◌≡◌, ◌+◌, ◌++◌, None, Some, take, drop, replicate, arith, ap, sym, ◌∙◌}
 use Rattle.std.proofs.lemmas.Grind.{common_steps}
 use Rattle.rtk_frame.proofs.StreamLemmas.{given-bytes, given-zeros, take-front, take-zeros}
 use Rattle.rtk_frame.proofs.memory.MemSourceSource.read.Goals as goal
+use Rattle.rtk_frame.proofs.memory.MemSourceSource.read.Goals.{in-Failure, in-Zeros}
 
 pub returns-then-left-gt0-clause-given : goal.returns-then-left-gt0-clause-given
 returns-then-left-gt0-clause-given c =
@@ -9,7 +10,11 @@ returns-then-left-gt0-clause-given c =
     let copied : take c.min-count.result (c.copy_from_slice.new.self ++ drop c.min-count.result c.args.buf.now) ≡ take c.min-count.result (drop c.self.inside.at c.self.inside.bytes.items) = grind (arith, common_steps, take-front) in
     rw (← ap (λ s. s.given) c.self.view_is, copied) (ap Some (given-bytes _ _ _ _ none))
 
-pub returns-in-Some-clause-given : goal.returns-in-Some-clause-given
-returns-in-Some-clause-given c =
+pub returns-clause-given : goal.returns-clause-given
+returns-clause-given c =
     let filled : take c.min-room.result (c.fill.new.self ++ drop c.min-room.result c.args.buf.now) ≡ replicate c.min-room.result 0 = rw (c.fill.ensures.after (λ y e. e)) (take-zeros _ _ _ (grind (arith, c.min-room.ensures))) in
-    rw (← ap (λ s. s.given) c.self.view_is, filled, c.in-Some.ensures.1) (ap Some (given-zeros _ _ _))
+    let more : c.in-Some.zeros ≡ c.self.inside.zeros + c.min-room.result = elim c.match-self.branch [
+      | in-Failure w ↦ let no : None ≡ Some c.in-Some.zeros = sym w.zeros-is ∙ c.in-Some.is in absurd cc
+      | in-Zeros w ↦ (rw (sym w.zeros-is ∙ c.in-Some.is) at w.checked_add-zeros.ensures).1
+    ] in
+    rw (← ap (λ s. s.given) c.self.view_is, filled, more) (ap Some (given-zeros _ _ _))

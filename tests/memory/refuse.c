@@ -1,0 +1,27 @@
+// Preloaded under a program: refuses the growth of memory whose number REFUSED_GROWTH says, counted from 1.
+// It needs no header, so that the toolchain's own compiler builds it.
+
+typedef unsigned long size_t;
+void *__libc_malloc(size_t size);
+void *__libc_realloc(void *old, size_t size);
+char *getenv(const char *name);
+long strtol(const char *text, char **end, int base);
+
+static long growths;
+
+static int is_refused(void) {
+    static long refused;
+    if (refused == 0) {
+        const char *text = getenv("REFUSED_GROWTH");
+        refused = text ? strtol(text, 0, 10) : -1;
+    }
+    return ++growths == refused;
+}
+
+void *malloc(size_t size) {
+    return is_refused() ? 0 : __libc_malloc(size);
+}
+
+void *realloc(void *old, size_t size) {
+    return is_refused() ? 0 : __libc_realloc(old, size);
+}
