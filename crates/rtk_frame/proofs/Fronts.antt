@@ -121,6 +121,10 @@ pub nothing_begins : begins_frame [] ≡ false
 unfolding begins_frame
 nothing_begins = refl
 
+pub nothing_partial : begins_partial [] ≡ false
+unfolding begins_partial
+nothing_partial = refl
+
 cut_by : (b : List ℕ) (p from n : ℕ) → ((q : ℕ) → from ≤ q → q < n → begins_frame (drop q b) ≡ false) → from ≤ p → length b ≤ n → (t : Bool) → nat_lt p n ≡ t → begins_frame (drop p b) ≡ false
 cut_by b p from n none h l true e = none p h (grind (arith, nat_tests))
 cut_by b p from n none h l false e =

@@ -1,6 +1,7 @@
 mod ByteTable
 mod Division
 mod EightBytes
+mod FinalLaw
 mod FirstFrame
 mod FramesLaw
 mod Fronts

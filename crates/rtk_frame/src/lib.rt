@@ -4,12 +4,17 @@
 mod checksum;
 mod checksum_tables;
 mod frame;
+pub mod laws;
 mod memory;
+#[cfg(test)]
+mod plain;
 mod scanner;
 mod search;
 mod stream;
 #[cfg(test)]
 mod stream_tests;
+#[cfg(test)]
+mod tests;
 
 pub use checksum::crc24q;
 pub use frame::{encode_frame, FrameFault};
