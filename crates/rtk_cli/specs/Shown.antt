@@ -1,11 +1,17 @@
--- The line that is shown of a payload. The forms of the lines are this project's rule; the fields are
--- those of RTCM 10403.3.
-use Rattle.std.specs.Prelude.{◌≡◌, ℕ, ◌+◌, ◌/◌, ◌%◌, ℤ, pos, List, [], ◌∷◌, ◌++◌, length, codes, decimal, count_ones, Result, Ok, Err}
+-- The line that is shown of a payload, and the lines of a capture. The forms of the lines are this
+-- project's rule; the fields are those of RTCM 10403.3.
+use Rattle.std.specs.Prelude.{◌≡◌, ℕ, ◌+◌, ◌/◌, ◌%◌, ℤ, pos, List, [], ◌∷◌, ◌++◌, length, take, codes, decimal, unsigned_abs, Option, Result, Ok, Err}
 use Rattle.std.specs.Fmt.{sign_text}
-use Rattle.std.specs.Int.{is_negative, unsigned_abs}
+use Rattle.std.specs.Int.{is_negative}
 use Rattle.rtk_bits.specs.Bits.{bits}
+use Rattle.rtk_frame.specs.Frames.{Frame, frames}
+use Rattle.rtk_frame.specs.Stream.{with_more, TakesPart}
 use Rattle.rtk_message.specs.declared.message.Message.{Message}
-use Rattle.rtk_message.specs.declared.message.Message.TheVariants.{Obs1004, Arp1005, Arp1006, Msm1074}
+use Rattle.rtk_message.specs.declared.message.Message.TheVariants.{Obs1004 as Of1004, Arp1005 as Of1005, Arp1006 as Of1006, Msm1074 as Of1074}
+use Rattle.rtk_message.specs.declared.obs1004.Obs1004.{Obs1004}
+use Rattle.rtk_message.specs.declared.arp1005.Arp1005.{Arp1005}
+use Rattle.rtk_message.specs.declared.arp1006.Arp1006.{Arp1006}
+use Rattle.rtk_message.specs.declared.msm1074.Msm1074.{Msm1074}
 use Rattle.rtk_message.specs.declared.fault.DecodeFault.{DecodeFault}
 use Rattle.rtk_message.specs.declared.fault.DecodeFault.TheVariants.{NoNumber, Other, Short, EpochRange, TooManyCells}
 use Rattle.rtk_message.specs.Decoded.{Decodes}
@@ -13,30 +19,42 @@ use Rattle.rtk_message.specs.Msm1074.{satellites, signals, cells}
 
 -- a point and four digits: the part of a whole metre, of a number of 0.0001 m
 abbrev pub decimals : ℕ → List ℕ
-decimals n = 46 ∷ 48 + n / 1000 % 10 ∷ 48 + n / 100 % 10 ∷ 48 + n / 10 % 10 ∷ 48 + n % 10 ∷ []
+decimals n = 46 ∷ (48 + n / 1000 % 10) ∷ (48 + n / 100 % 10) ∷ (48 + n / 10 % 10) ∷ (48 + n % 10) ∷ []
 
 -- a length in 0.0001 m, written in metres: a minus sign where it is negative, the whole metres without
 -- padding, four decimals
-abbrev pub metres : ℤ → List ℕ
+unfoldable pub metres : ℤ → List ℕ
 metres v = sign_text (is_negative v) ++ decimal (unsigned_abs v / 10000) ++ decimals (unsigned_abs v)
 
 -- the antenna reference point (DF025, DF026, DF027)
-abbrev pub point : ℤ → ℤ → ℤ → List ℕ
+unfoldable pub point : ℤ → ℤ → ℤ → List ℕ
 point x y z = codes " x " ++ metres x ++ codes " y " ++ metres y ++ codes " z " ++ metres z
 
 -- a message: its number, its station (DF003), and then the time of week (DF004) and the numbers of
 -- satellites, signals and cells, or the antenna reference point and its height (DF028)
-abbrev pub message_text : Message → List ℕ
-message_text (Obs1004 m) =
+abbrev pub text_1004 : Obs1004 → List ℕ
+text_1004 m =
     codes "1004 station " ++ decimal m.station ++ codes " tow " ++ decimal m.tow
     ++ codes " satellites " ++ decimal (length m.satellites)
-message_text (Arp1005 m) = codes "1005 station " ++ decimal m.station ++ point m.x m.y m.z
-message_text (Arp1006 m) =
+
+abbrev pub text_1005 : Arp1005 → List ℕ
+text_1005 m = codes "1005 station " ++ decimal m.station ++ point m.x m.y m.z
+
+abbrev pub text_1006 : Arp1006 → List ℕ
+text_1006 m =
     codes "1006 station " ++ decimal m.station ++ point m.x m.y m.z ++ codes " height " ++ metres (pos m.height)
-message_text (Msm1074 m) =
+
+abbrev pub text_1074 : Msm1074 → List ℕ
+text_1074 m =
     codes "1074 station " ++ decimal m.header.station ++ codes " tow " ++ decimal m.header.tow
     ++ codes " satellites " ++ decimal (satellites m.header) ++ codes " signals " ++ decimal (signals m.header)
     ++ codes " cells " ++ decimal (cells m)
+
+abbrev pub message_text : Message → List ℕ
+message_text (Of1004 m) = text_1004 m
+message_text (Of1005 m) = text_1005 m
+message_text (Of1006 m) = text_1006 m
+message_text (Of1074 m) = text_1074 m
 
 -- a payload that is no message: the number of another message, or the fault's number and that of the
 -- message, where there is one
@@ -55,3 +73,17 @@ line_of (Err fault) = fault_text fault ++ 10 ∷ []
 -- the line of a payload is that of what it decodes to
 abbrev pub IsLineOf : List ℕ → List ℕ → Type 0
 IsLineOf payload line = (reading : Result Message DecodeFault) × Decodes (bits payload) reading × (line ≡ line_of reading)
+
+-- these are the lines of the frames' payloads, in the order of the frames
+abbrev pub AreLinesOf : List Frame → List ℕ → Type 0
+AreLinesOf [] text = text ≡ []
+AreLinesOf (frame ∷ rest) text =
+    (line : List ℕ) × (others : List ℕ) × IsLineOf frame.payload line × AreLinesOf rest others × (text ≡ line ++ others)
+
+-- the lines of all frames of the capture were taken
+abbrev pub Shows : List ℕ → Option (List ℕ) → Option (List ℕ) → Type 0
+Shows capture before after = (text : List ℕ) × AreLinesOf (frames capture) text × (after ≡ with_more before text)
+
+-- of the lines of the capture's first frames a first part was taken, perhaps none or all of it
+abbrev pub ShowsPart : List ℕ → Option (List ℕ) → Option (List ℕ) → Type 0
+ShowsPart capture before after = (n : ℕ) × (text : List ℕ) × AreLinesOf (take n (frames capture)) text × TakesPart before after text

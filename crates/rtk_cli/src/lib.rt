@@ -2,13 +2,19 @@
 #![tactic(auto)]
 
 mod command_line;
+mod files;
 mod hex_input;
 mod input;
 mod payload_line;
+mod running;
+mod showing;
 mod words;
 
 pub use command_line::job;
+pub use files::{Reads, Writes};
 pub use payload_line::show_line;
+pub use running::run;
+pub use showing::{SHOW_LIMIT, show};
 pub use words::{Job, ToolFault, WordsFault};
 
 #[cfg(test)]

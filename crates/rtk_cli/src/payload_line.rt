@@ -1,11 +1,11 @@
 //! The line that is shown of a payload.
 ghost use Rattle.std.specs.Prelude.{◌≡◌, ◌++◌, ◌∷◌, [], List, ℕ, decimal, IfOk, OnOk};
 ghost use Rattle.rtk_message.specs.Decoded.{IsValid};
-ghost use Rattle.rtk_message.specs.declared.message.Message.TheVariants.{Obs1004 as AnObs1004, Msm1074 as AnMsm1074};
-ghost use Rattle.rtk_cli.specs.Shown.{decimals, metres, point, message_text, fault_text, IsLineOf};
+ghost use Rattle.rtk_message.specs.Msm1074.{HasLengths};
+ghost use Rattle.rtk_cli.specs.Shown.{decimals, metres, point, text_1004, text_1005, text_1006, text_1074, message_text, fault_text, IsLineOf};
 
 use itoa::Buffer;
-use rtk_message::{DecodeFault, Message, Msm1074, Obs1004, decode};
+use rtk_message::{Arp1005, Arp1006, DecodeFault, Message, Msm1074, Obs1004, decode};
 use std::alloc::{AllocError, Global};
 
 fn put_number(line: &mut Vec<u8>, number: u64) -> Result<(), AllocError>
@@ -30,6 +30,7 @@ fn decimals_of(magnitude: u64) -> [u8; 5]
 }
 
 // A length in 0.0001 m, in metres.
+#[tactic(auto, unfolding(crate::specs::Shown::metres))]
 fn put_metres(line: &mut Vec<u8>, length: i64) -> Result<(), AllocError>
     ensures { OnOk result (line.new.items ≡ line.old.items ++ metres length) }
 {
@@ -49,27 +50,48 @@ fn put_point(line: &mut Vec<u8>, x: i64, y: i64, z: i64) -> Result<(), AllocErro
     line.extend_from_slice(b" y ")?;
     put_metres(line, y)?;
     line.extend_from_slice(b" z ")?;
-    put_metres(line, z)
+    put_metres(line, z)?;
+    Ok(())
 }
 
 fn put_1004(line: &mut Vec<u8>, message: &Obs1004) -> Result<(), AllocError>
-    ensures { OnOk result (line.new.items ≡ line.old.items ++ message_text (AnObs1004 message.now)) }
+    ensures { OnOk result (line.new.items ≡ line.old.items ++ text_1004 message.now) }
 {
-    put_named(line, b"1004 station ", message.station.into())?;
-    put_named(line, b" tow ", message.tow.into())?;
-    put_named(line, b" satellites ", message.satellites.len() as u64)
+    put_named(line, b"1004 station ", message.station as u64)?;
+    put_named(line, b" tow ", message.tow as u64)?;
+    put_named(line, b" satellites ", message.satellites.len() as u64)?;
+    Ok(())
+}
+
+fn put_1005(line: &mut Vec<u8>, message: &Arp1005) -> Result<(), AllocError>
+    ensures { OnOk result (line.new.items ≡ line.old.items ++ text_1005 message.now) }
+{
+    put_named(line, b"1005 station ", message.station as u64)?;
+    put_point(line, message.x, message.y, message.z)?;
+    Ok(())
+}
+
+fn put_1006(line: &mut Vec<u8>, message: &Arp1006) -> Result<(), AllocError>
+    ensures { OnOk result (line.new.items ≡ line.old.items ++ text_1006 message.now) }
+{
+    put_named(line, b"1006 station ", message.station as u64)?;
+    put_point(line, message.x, message.y, message.z)?;
+    line.extend_from_slice(b" height ")?;
+    put_metres(line, message.height as i64)?;
+    Ok(())
 }
 
 fn put_1074(line: &mut Vec<u8>, message: &Msm1074) -> Result<(), AllocError>
-    requires { IsValid (AnMsm1074 message.now) }
-    ensures { OnOk result (line.new.items ≡ line.old.items ++ message_text (AnMsm1074 message.now)) }
+    requires { HasLengths message.now }
+    ensures { OnOk result (line.new.items ≡ line.old.items ++ text_1074 message.now) }
 {
     let header = message.header;
-    put_named(line, b"1074 station ", header.station.into())?;
-    put_named(line, b" tow ", header.tow.into())?;
+    put_named(line, b"1074 station ", header.station as u64)?;
+    put_named(line, b" tow ", header.tow as u64)?;
     put_named(line, b" satellites ", header.satellites() as u64)?;
     put_named(line, b" signals ", header.signals() as u64)?;
-    put_named(line, b" cells ", message.cnr.len() as u64)
+    put_named(line, b" cells ", message.cnr.len() as u64)?;
+    Ok(())
 }
 
 fn put_message(line: &mut Vec<u8>, message: &Message) -> Result<(), AllocError>
@@ -78,16 +100,8 @@ fn put_message(line: &mut Vec<u8>, message: &Message) -> Result<(), AllocError>
 {
     match message {
         Message::Obs1004(message) => put_1004(line, message),
-        Message::Arp1005(message) => {
-            put_named(line, b"1005 station ", message.station.into())?;
-            put_point(line, message.x, message.y, message.z)
-        }
-        Message::Arp1006(message) => {
-            put_named(line, b"1006 station ", message.station.into())?;
-            put_point(line, message.x, message.y, message.z)?;
-            line.extend_from_slice(b" height ")?;
-            put_metres(line, message.height.into())
-        }
+        Message::Arp1005(message) => put_1005(line, message),
+        Message::Arp1006(message) => put_1006(line, message),
         Message::Msm1074(message) => put_1074(line, message),
     }
 }
@@ -98,11 +112,11 @@ fn put_fault(line: &mut Vec<u8>, fault: DecodeFault) -> Result<(), AllocError>
     match fault {
         DecodeFault::NoNumber => line.extend_from_slice(b"refused M1 -"),
         DecodeFault::Other { number } => {
-            put_number(line, number.into())?;
+            put_number(line, number as u64)?;
             line.extend_from_slice(b" other")
         }
-        DecodeFault::Short { number } => put_named(line, b"refused M3 ", number.into()),
-        DecodeFault::EpochRange { number } => put_named(line, b"refused M4 ", number.into()),
+        DecodeFault::Short { number } => put_named(line, b"refused M3 ", number as u64),
+        DecodeFault::EpochRange { number } => put_named(line, b"refused M4 ", number as u64),
         DecodeFault::TooManyCells => line.extend_from_slice(b"refused M5 1074"),
     }
 }
