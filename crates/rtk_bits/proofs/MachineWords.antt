@@ -33,10 +33,16 @@ unsigned-bits-push bs b h = rw (bits-append bs (b ∷ []), unsigned-append (bits
 pub word_8 : (bs : List ℕ) → 8 ≤ length bs → IsBytes bs → from_be_bytes w64 (take 8 bs) ≡ unsigned (bits (take 8 bs))
 unfolding bits unsigned
 word_8 (a ∷ b ∷ c ∷ d ∷ e ∷ f ∷ g ∷ h ∷ bs) len fits =
-    rw (unsigned-bits-cons a (b ∷ c ∷ d ∷ e ∷ f ∷ g ∷ h ∷ []) (fits 0), unsigned-bits-cons b (c ∷ d ∷ e ∷ f ∷ g ∷ h ∷ []) (fits 1),
-        unsigned-bits-cons c (d ∷ e ∷ f ∷ g ∷ h ∷ []) (fits 2), unsigned-bits-cons d (e ∷ f ∷ g ∷ h ∷ []) (fits 3),
-        unsigned-bits-cons e (f ∷ g ∷ h ∷ []) (fits 4), unsigned-bits-cons f (g ∷ h ∷ []) (fits 5),
-        unsigned-bits-cons g (h ∷ []) (fits 6), unsigned-bits-cons h [] (fits 7)) (omega arith)
+    rw (
+      unsigned-bits-cons a (b ∷ c ∷ d ∷ e ∷ f ∷ g ∷ h ∷ []) (fits 0),
+      unsigned-bits-cons b (c ∷ d ∷ e ∷ f ∷ g ∷ h ∷ []) (fits 1),
+      unsigned-bits-cons c (d ∷ e ∷ f ∷ g ∷ h ∷ []) (fits 2),
+      unsigned-bits-cons d (e ∷ f ∷ g ∷ h ∷ []) (fits 3),
+      unsigned-bits-cons e (f ∷ g ∷ h ∷ []) (fits 4),
+      unsigned-bits-cons f (g ∷ h ∷ []) (fits 5),
+      unsigned-bits-cons g (h ∷ []) (fits 6),
+      unsigned-bits-cons h [] (fits 7),
+    ) (omega arith)
 word_8 bs len fits = absurd (omega arith)
 
 -- a step of the fold over bytes: one more behind the first i

@@ -7,9 +7,8 @@ use Rattle.std.proofs.lemmas.Nat.{pow-add, shr_high, mod_low, mod-pow-add}
 use Rattle.std.proofs.lemmas.Nat.Bits.{bit_at-lt}
 use Rattle.std.proofs.Math.Numerals.{one-add}
 use Rattle.std.proofs.Math.Nat.{pow-succ'}
-use Rattle.rtk_bits.specs.Bits.{bit, bits_of, bits, unsigned}
+use Rattle.rtk_bits.specs.Bits.{bit, bits_of, unsigned}
 use Rattle.rtk_bits.proofs.BitsLemmas.{bits_of-above}
-
 pub use Rattle.rtk_bits.proofs.BitsLemmas.{length-bits_of, length-bits, bits-append}
 
 pub pow_more : (k : ℕ) → 2 ^ suc k ≡ 2 * 2 ^ k
@@ -57,8 +56,8 @@ unsigned-field xs s w h =
     let len_behind : length behind ≡ length xs - (s + w) = omega (arith, length-drop w (drop s xs), length-drop s xs) in
     let whole : xs ≡ before ++ (field ++ behind) = sym (ap (λ (t : List Bool). before ++ t) (take-append-drop w (drop s xs)) ∙ take-append-drop s xs) in
     let parts : unsigned (before ++ (field ++ behind)) ≡ (unsigned before * 2 ^ length field + unsigned field) * 2 ^ length behind + unsigned behind =
-        rw (unsigned-append before (field ++ behind), unsigned-append field behind, length-append field behind, pow-add 2 (length field) (length behind)) (omega arith) in
+    rw (unsigned-append before (field ++ behind), unsigned-append field behind, length-append field behind, pow-add 2 (length field) (length behind)) (omega arith) in
     let high : unsigned xs / 2 ^ length behind ≡ unsigned before * 2 ^ length field + unsigned field =
-        rw (ap unsigned whole, parts) (shr_high (unsigned before * 2 ^ length field + unsigned field) (length behind) (unsigned behind) (unsigned_lt behind)) in
+    rw (ap unsigned whole, parts) (shr_high (unsigned before * 2 ^ length field + unsigned field) (length behind) (unsigned behind) (unsigned_lt behind)) in
     let low : (unsigned before * 2 ^ length field + unsigned field) % 2 ^ length field ≡ unsigned field = mod_low (unsigned before) (length field) (unsigned field) (unsigned_lt field) in
     sym (subst (λ (k : ℕ). unsigned xs / 2 ^ k % 2 ^ w ≡ unsigned field) len_behind (subst (λ (k : ℕ). unsigned xs / 2 ^ length behind % 2 ^ k ≡ unsigned field) len_field (rw high low)))

@@ -1,5 +1,5 @@
 -- What the reader computes: a field of a word of bytes, the bits behind it, and the sign that two shifts spread.
-use Rattle.std.proofs.Common.{◌≡◌, ℕ, suc, ◌+◌, ◌-◌, ◌*◌, ◌/◌, ◌%◌, ◌^◌, ◌<◌, ◌≤◌, ℤ, to_z, of_z, w64, Bool, true, false, List, [], ◌∷◌, length, take, drop, ltb, refl, sym, ap, subst, ◌∙◌, arith}
+use Rattle.std.proofs.Common.{◌≡◌, ℕ, suc, ◌+◌, ◌-◌, ◌*◌, ◌/◌, ◌%◌, ◌^◌, ◌<◌, ◌≤◌, ℤ, to_z, of_z, w64, Bool, true, false, List, [], ◌∷◌, length, take, drop, ltb, sym, ap, subst, ◌∙◌, arith}
 use lib.Signed.{shr_z, mag, mag_shr}
 use mir.Val.{SFits}
 use Rattle.std.proofs.lemmas.Int.{ints, to_z_pos, to_z-of_z}
@@ -26,8 +26,8 @@ unsigned-field-bytes bs n s w within h =
     let s_fits : s ≤ length front = omega arith in
     let w_fits : w ≤ length (drop s front) = omega (arith, length-drop s front) in
     let same : take w (drop s (bits bs)) ≡ take w (drop s front) =
-        ap (λ (t : List Bool). take w (drop s t)) (bits-take-drop n bs) ∙
-        ap (λ (t : List Bool). take w t) (drop-append-le s front (bits (drop n bs)) s_fits) ∙ take-append-le w (drop s front) (bits (drop n bs)) w_fits in
+    ap (λ (t : List Bool). take w (drop s t)) (bits-take-drop n bs) ∙
+    ap (λ (t : List Bool). take w t) (drop-append-le s front (bits (drop n bs)) s_fits) ∙ take-append-le w (drop s front) (bits (drop n bs)) w_fits in
     ap unsigned same ∙ subst (λ (k : ℕ). unsigned (take w (drop s front)) ≡ unsigned front / 2 ^ (k - (s + w)) % 2 ^ w) len (unsigned-field front s w (omega arith))
 
 -- ---- the sign

@@ -1,7 +1,7 @@
 -- Laws on lists of bits and their two's complement numbers, which other crates may use: each comes from the other.
-use Rattle.std.proofs.Common.{◌≡◌, ℕ, zero, suc, ◌+◌, ◌-◌, ◌*◌, ◌^◌, ◌<◌, ◌≤◌, ℤ, pos, negsuc, ◌-ℤ◌, Bool, true, false, List, [], ◌∷◌, length, refl, arith}
+use Rattle.std.proofs.Common.{◌≡◌, ℕ, suc, ◌+◌, ◌-◌, ◌*◌, ◌^◌, ◌<◌, ◌≤◌, pos, negsuc, ◌-ℤ◌, Bool, true, false, List, [], ◌∷◌, length, refl, arith}
 use Rattle.std.proofs.lemmas.Int.{ints}
-use Rattle.rtk_bits.specs.Bits.{unsigned, signed, bits_of, signed_bits_of, FitsSigned}
+use Rattle.rtk_bits.specs.Bits.{unsigned, signed, signed_bits_of, FitsSigned}
 use Rattle.rtk_bits.proofs.Numbers.{unsigned_lt, bits_of-unsigned, pow_more}
 
 negative : (n k : ℕ) → n < k → pos n -ℤ pos (1 * k) ≡ negsuc (k - suc n)

@@ -14,6 +14,7 @@ taken_u xs w n h e =
 pub taken_i : (xs : List Bool) (w : ℕ) (z : ℤ) → 1 ≤ w → w ≤ length xs → z ≡ signed (take w xs) → FitsSigned w z × (xs ≡ signed_bits_of w z ++ drop w xs)
 taken_i xs w z few h e =
     let len : length (take w xs) ≡ w = omega (arith, length-take w xs) in
-    let some : 1 ≤ length (take w xs) = omega arith in
-    (rw e (subst (λ (k : ℕ). FitsSigned k (signed (take w xs))) len (signed_fits (take w xs) some)),
-     rw (e, subst (λ (k : ℕ). signed_bits_of k (signed (take w xs)) ≡ take w xs) len (signed_bits_of-signed (take w xs) some)) (sym (take-append-drop w xs)))
+    let some : 1 ≤ length (take w xs) = omega arith in (
+      rw e (subst (λ (k : ℕ). FitsSigned k (signed (take w xs))) len (signed_fits (take w xs) some)),
+      rw (e, subst (λ (k : ℕ). signed_bits_of k (signed (take w xs)) ≡ take w xs) len (signed_bits_of-signed (take w xs) some)) (sym (take-append-drop w xs)),
+    )

@@ -39,10 +39,10 @@ module _ (tail_width tail width value : ℕ) (few : tail_width < 8) (fits_tail :
       let r = (tail_width + width) % 8 in
       let e : 8 * k + r ≡ tail_width + width = omega arith in
       let left : bits (bytes ++ drop (8 - k) (to_be_bytes w64 (all / 2 ^ r))) ++ bits_of r (all % 2 ^ r) ≡ bits bytes ++ bits_of (tail_width + width) all =
-          rw (low_bytes k (all / 2 ^ r) (omega arith), bits-append bytes (bytes_high_first k (all / 2 ^ r)), bits-bytes_high_first k (all / 2 ^ r), bits_of-mod r all)
-          (append_assoc (bits bytes) (bits_of (8 * k) (all / 2 ^ r)) (bits_of r all) ∙ ap (λ (t : List Bool). bits bytes ++ t) (sym (bits_of-split (8 * k) r all) ∙ ap (λ (m : ℕ). bits_of m all) e)) in
+      rw (low_bytes k (all / 2 ^ r) (omega arith), bits-append bytes (bytes_high_first k (all / 2 ^ r)), bits-bytes_high_first k (all / 2 ^ r), bits_of-mod r all)
+      (append_assoc (bits bytes) (bits_of (8 * k) (all / 2 ^ r)) (bits_of r all) ∙ ap (λ (t : List Bool). bits bytes ++ t) (sym (bits_of-split (8 * k) r all) ∙ ap (λ (m : ℕ). bits_of m all) e)) in
       let right : bits_of (tail_width + width) all ≡ bits_of tail_width tail ++ bits_of width value =
-          bits_of-split tail_width width all ∙ rw (shr_high tail width value fits, bits_of-above width width tail value (omega arith)) refl in
+      bits_of-split tail_width width all ∙ rw (shr_high tail width value fits, bits_of-above width width tail value (omega arith)) refl in
       rw (tail_is, all_is) (left ∙ ap (λ (t : List Bool). bits bytes ++ t) right ∙ sym (append_assoc (bits bytes) (bits_of tail_width tail) (bits_of width value)))
 
 -- the last bytes of a word's eight, as `&bytes[i..]` has them
@@ -55,12 +55,12 @@ pub padded_tail : (bytes : List ℕ) (tail_width tail : ℕ) → 0 < tail_width 
     → bits (bytes ++ (tail * 2 ^ (8 - tail_width) % 256) ∷ []) ≡ (bits bytes ++ bits_of tail_width tail) ++ padding (length (bits bytes ++ bits_of tail_width tail))
 padded_tail bytes tail_width tail some few fits =
     let len : (8 - length (bits bytes ++ bits_of tail_width tail) % 8) % 8 ≡ 8 - tail_width =
-        rw (length-append (bits bytes) (bits_of tail_width tail), length-bits bytes, length-bits_of tail_width tail) (omega arith) in
+    rw (length-append (bits bytes) (bits_of tail_width tail), length-bits bytes, length-bits_of tail_width tail) (omega arith) in
     let small : tail * 2 ^ (8 - tail_width) % 256 ≡ tail * 2 ^ (8 - tail_width) + 0 = rw (shl_whole tail tail_width (8 - tail_width) 8 fits (omega arith)) (omega arith) in
     let e : tail_width + (8 - tail_width) ≡ 8 = omega arith in
     let last : bits_of 8 (tail * 2 ^ (8 - tail_width) + 0) ≡ bits_of tail_width tail ++ replicate (8 - tail_width) false =
-        ap (λ (m : ℕ). bits_of m (tail * 2 ^ (8 - tail_width) + 0)) (sym e) ∙ bits_of-split tail_width (8 - tail_width) (tail * 2 ^ (8 - tail_width) + 0) ∙
-        rw (shr_high tail (8 - tail_width) 0 (pow_pos (8 - tail_width)), bits_of-above (8 - tail_width) (8 - tail_width) tail 0 (omega arith), bits_of-zero (8 - tail_width)) refl in
+    ap (λ (m : ℕ). bits_of m (tail * 2 ^ (8 - tail_width) + 0)) (sym e) ∙ bits_of-split tail_width (8 - tail_width) (tail * 2 ^ (8 - tail_width) + 0) ∙
+    rw (shr_high tail (8 - tail_width) 0 (pow_pos (8 - tail_width)), bits_of-above (8 - tail_width) (8 - tail_width) tail 0 (omega arith), bits_of-zero (8 - tail_width)) refl in
     rw (len, small, bits-append bytes ((tail * 2 ^ (8 - tail_width) + 0) ∷ []), bits-one (tail * 2 ^ (8 - tail_width) + 0), last)
     (sym (append_assoc (bits bytes) (bits_of tail_width tail) (replicate (8 - tail_width) false)))
 

@@ -1,8 +1,7 @@
 //! Values from outside: the example message of the standard, and tables of two's complement.
 
-use std::test::Fail;
-
 use crate::{BitReader, BitWriter};
+use std::test::Fail;
 
 // The payload of the message 1005 that RTCM 10403.3 gives as its example.
 const EXAMPLE_1005: [u8; 19] = [
@@ -60,12 +59,24 @@ fn twos_complement_is_read(rt: HostRuntime) {
         (22, [0x80, 0x00, 0x00, 0, 0, 0, 0, 0], -2_097_152), // DF401, no fine phase
         (32, [0x7f, 0xff, 0xff, 0xff, 0, 0, 0, 0], 2_147_483_647),
         (32, [0x80, 0x00, 0x00, 0x00, 0, 0, 0, 0], -2_147_483_648),
-        (64, [0x7f, 0xff, 0xff, 0xff, 0xff, 0xff, 0xff, 0xff], 9_223_372_036_854_775_807),
-        (64, [0x80, 0x00, 0x00, 0x00, 0x00, 0x00, 0x00, 0x00], -9_223_372_036_854_775_808),
+        (
+            64,
+            [0x7f, 0xff, 0xff, 0xff, 0xff, 0xff, 0xff, 0xff],
+            9_223_372_036_854_775_807,
+        ),
+        (
+            64,
+            [0x80, 0x00, 0x00, 0x00, 0x00, 0x00, 0x00, 0x00],
+            -9_223_372_036_854_775_808,
+        ),
     ];
     for (width, bytes, number) in rows {
         assert!(rt; 1 <= width && width <= 64);
-        assert_eq!(rt; BitReader::new(&bytes).take_i(width), Some(number), "{width} bits");
+        assert_eq!(rt;
+            BitReader::new(&bytes).take_i(width),
+            Some(number),
+            "{width} bits"
+        );
     }
 }
 
@@ -81,7 +92,10 @@ fn twos_complement_is_written(rt: HostRuntime) -> Result<(), Fail> {
     writer.put_i(4, -8)?;
     writer.put_i(64, -9_223_372_036_854_775_808)?;
     writer.put_i(4, 7)?;
-    assert_eq!(rt; writer.finish().as_slice(), [0xbf, 0x88, 0, 0, 0, 0, 0, 0, 0, 0x07].as_slice());
+    assert_eq!(rt;
+        writer.finish().as_slice(),
+        [0xbf, 0x88, 0, 0, 0, 0, 0, 0, 0, 0x07].as_slice()
+    );
     Ok(())
 }
 

@@ -61,7 +61,8 @@ impl BitWriter {
         let end = self.tail_width + width;
         let left = end % 8;
         let whole = (all >> left) as u64;
-        self.bytes.extend_from_slice(&whole.to_be_bytes()[8 - end / 8..])?;
+        self.bytes
+            .extend_from_slice(&whole.to_be_bytes()[8 - end / 8..])?;
         self.tail = (all & ((1 << left) - 1)) as u8;
         self.tail_width = left;
         Ok(())
@@ -85,7 +86,11 @@ impl BitWriter {
     pub fn finish(self) -> Vec<u8>
         ensures { bits result.items ≡ self ++ padding (length self) }
     {
-        let BitWriter { mut bytes, tail, tail_width } = self;
+        let BitWriter {
+            mut bytes,
+            tail,
+            tail_width,
+        } = self;
         if tail_width > 0 {
             match bytes.push(tail << (8 - tail_width)) {
                 Ok(()) => {}

@@ -1,9 +1,12 @@
 -- Laws of the bytes that passed and of the counts, and the bytes of a source over memory.
-use Rattle.std.proofs.Common.{◌≡◌, ◌≢◌, ℕ, zero, suc, ◌+◌, ◌≤◌, inl, inr, Bool, false, ◌==◌, ◌&&◌, List, [], ◌∷◌, ◌++◌, length, take, drop, replicate, Option, None, Some, refl, ap, append_assoc, sym, arith, zero-add, suc-add}
-use Rattle.std.proofs.lemmas.List.{append-nil, replicate-append-replicate, length-replicate}
+use Rattle.std.proofs.Common.{◌≡◌, ◌≢◌, ℕ, zero, suc, ◌+◌, ◌≤◌, inl, inr, Bool, false, ◌==◌, ◌&&◌, List, [], ◌∷◌, ◌++◌, length, take, drop, replicate, Option, None, Some, refl, ap, append_assoc, sym, ◌∙◌, arith, zero-add, suc-add}
+use Rattle.std.proofs.lemmas.List.{append-nil, replicate-append-replicate, length-replicate, ext_get_or, length-set, get_or-set_other}
+use Rattle.std.proofs.lemmas.List.Sums.{sum_by-set}
 use Rattle.std.proofs.Math.Seq.{take-nil, take-append_seam}
-use Rattle.std.proofs.lemmas.Grind.{common_steps}
-use Rattle.rtk_frame.specs.Stream.{count_after, failures_after, with_more, Rises}
+use Rattle.std.proofs.lemmas.Grind.{common_steps, get_or-set_at}
+use Rattle.std.proofs.lemmas.Bool.{cases_eq}
+use Rattle.std.specs.Prelude.{slice_set, slice_index_or, sum_by, ◌<◌, Result}
+use Rattle.rtk_frame.specs.Stream.{greatest_count, count_after, failures_after, with_more, Rises, ReadsOne}
 
 -- nothing more is no change
 pub with_more-nil : (known : Option (List ℕ)) → with_more known [] ≡ known
@@ -50,3 +53,38 @@ take-front n front rest e = rw (← e) (take-append_seam front rest)
 
 pub take-zeros : (n : ℕ) (buf rest : List ℕ) → n ≤ length buf → take n (replicate (length (take n buf)) 0 ++ rest) ≡ replicate n 0
 take-zeros n buf rest h = let e : length (take n buf) ≡ n = grind (arith, common_steps) in rw e (take-front n (replicate n 0) rest (length-replicate n 0))
+
+-- after one read of one of many sources, they are those before with the one that was read in its place
+pub sources-ReadsOne : {R E : Type 0} (given : R → Option (List ℕ)) (failures calls : R → ℕ) (before after : List R) (link : ℕ) (result : Result ℕ E) (buf : List ℕ) (none : R)
+    → link < length before → ReadsOne given failures calls before after link result buf
+    → after ≡ slice_set before link (slice_index_or after link none)
+sources-ReadsOne given failures calls before after link result buf none within read =
+    let one = slice_index_or after link none in
+    ext_get_or none after (slice_set before link one) (read.as_many ∙ sym (length-set before link one)) (
+    λ k _. elim (cases_eq k link) [
+      | inl same ↦ ap (λ i. slice_index_or after i none) same ∙ sym (get_or-set_at before link k one none same within)
+      | inr other ↦ read.others k none other ∙ sym (get_or-set_other before link k one none other)
+    ]
+    )
+
+-- then the calls of all sources together rose as the one count did
+pub sum_calls-ReadsOne : {R E : Type 0} (given : R → Option (List ℕ)) (failures calls : R → ℕ) (before after : List R) (link : ℕ) (result : Result ℕ E) (buf : List ℕ) (none : R)
+    → link < length before → ReadsOne given failures calls before after link result buf
+    → sum_by calls after + calls (slice_index_or before link none) ≡ sum_by calls before + count_after (calls (slice_index_or before link none))
+sum_calls-ReadsOne given failures calls before after link result buf none within read =
+    let one = slice_index_or after link none in
+    ap (λ sources. sum_by calls sources + calls (slice_index_or before link none)) (sources-ReadsOne given failures calls before after link result buf none within read)
+    ∙ sum_by-set calls before link one none within ∙ ap (λ count. sum_by calls before + count) (read.called none)
+
+-- so they rose by one at most, and by one where that count was not at its greatest value
+pub sum_calls-at_most : {R E : Type 0} (given : R → Option (List ℕ)) (failures calls : R → ℕ) (before after : List R) (link : ℕ) (result : Result ℕ E) (buf : List ℕ) (none : R)
+    → link < length before → ReadsOne given failures calls before after link result buf
+    → sum_by calls after ≤ sum_by calls before + 1
+sum_calls-at_most given failures calls before after link result buf none within read =
+    let e = sum_calls-ReadsOne given failures calls before after link result buf none within read in omega (arith, e)
+
+pub sum_calls-one : {R E : Type 0} (given : R → Option (List ℕ)) (failures calls : R → ℕ) (before after : List R) (link : ℕ) (result : Result ℕ E) (buf : List ℕ) (none : R)
+    → link < length before → ReadsOne given failures calls before after link result buf
+    → calls (slice_index_or before link none) < greatest_count → sum_by calls after ≡ sum_by calls before + 1
+sum_calls-one given failures calls before after link result buf none within read below =
+    let e = sum_calls-ReadsOne given failures calls before after link result buf none within read in omega (arith, e, below)

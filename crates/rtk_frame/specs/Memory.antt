@@ -43,4 +43,5 @@ IsSpent source after = (source.left ≡ []) × (source.after ≡ after)
 
 -- this many of the bytes that were left are no longer left; nothing else of the source's making changed
 abbrev pub IsReadOn : SourceState → SourceState → ℕ → Type 0
-IsReadOn before after count = (after.left ≡ drop count before.left) × (after.after ≡ before.after) × (after.per_read ≡ before.per_read)
+IsReadOn before after count = (after.left ≡ drop count before.left)
+    × (after.after ≡ before.after) × (after.per_read ≡ before.per_read)

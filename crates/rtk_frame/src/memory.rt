@@ -1,6 +1,6 @@
 //! A source and a sink over memory, whose answers their contracts tell in full.
 ghost use Rattle.std.specs.Prelude.{◌≡◌, ◌+◌, ◌-◌, ◌^◌, ◌≤◌, ◌<◌, ◌++◌, ◌↔◌, Some, Ok, length, min, take, drop, replicate, is_err, IfOk, IsErr};
-ghost use Rattle.rtk_frame.specs.Stream.{moved_count, with_more, count_after, failures_after, is_failed_write};
+ghost use Rattle.rtk_frame.specs.Stream.{moved_count, count_after, failures_after, is_failed_write};
 
 use crate::{Sink, Source, StreamFault};
 use std::alloc::{AllocError, Global};
@@ -37,12 +37,12 @@ impl Model for MemSource {
     ghost Value = { SourceState };
 
     ghost view = { λ s. record {
-        given = take s.at s.bytes.items ++ replicate s.zeros 0;
-        left = drop s.at s.bytes.items;
-        after = s.after;
-        per_read = s.per_read;
-        failures = s.failed_reads;
-        calls = s.calls;
+      given = take s.at s.bytes.items ++ replicate s.zeros 0;
+      left = drop s.at s.bytes.items;
+      after = s.after;
+      per_read = s.per_read;
+      failures = s.failed_reads;
+      calls = s.calls;
     } };
 
     ghost invariant = { λ s. (s.at ≤ vec_len s.bytes) × (0 < s.zeros → s.at ≡ vec_len s.bytes) };
@@ -86,16 +86,20 @@ impl Source for MemSource {
     /// Gives the next bytes, as many as fit; behind the last of them does what `After` says.
     fn read(&mut self, buf: &mut [u8]) -> Result<usize, StreamFault>
         ensures bound { moved_count result ≤ length buf.new }
-        ensures given { Some self.new.given ≡ with_more (Some self.old.given) (take (moved_count result) buf.new) }
+        ensures given { self.new.given ≡ self.old.given ++ take (moved_count result) buf.new }
         ensures failures { self.new.failures ≡ failures_after self.old.failures (is_err result) }
         ensures calls { self.new.calls ≡ count_after self.old.calls }
 
         // What it answers, and the bytes.
-        ensures bytes { 0 < length self.old.left → result ≡ Ok (min (room_of self.old buf.old) (length self.old.left)) }
+        ensures bytes { 0 < length self.old.left
+            → result ≡ Ok (min (room_of self.old buf.old) (length self.old.left)) }
         ensures end { IsSpent self.old End → result ≡ Ok 0 }
         ensures failure { IsSpent self.old Failure → IsErr result }
-        ensures zeros { IsSpent self.old Zeros → length self.old.given + length buf.old < 2 ^ 128 → result ≡ Ok (room_of self.old buf.old) }
-        ensures next { take (moved_count result) buf.new ≡ take (moved_count result) (self.old.left ++ replicate (moved_count result) 0) }
+        ensures zeros { IsSpent self.old Zeros
+            → length self.old.given + length buf.old < 2 ^ 128
+            → result ≡ Ok (room_of self.old buf.old) }
+        ensures next { let count = moved_count result in
+            take count buf.new ≡ take count (self.old.left ++ replicate count 0) }
         ensures rest { IsReadOn self.old self.new (moved_count result) }
     {
         self.calls = self.calls.saturating_add(1);
@@ -139,10 +143,10 @@ impl Model for MemSink {
     ghost Value = { SinkState };
 
     ghost view = { λ s. record {
-        taken = take s.len s.bytes.items;
-        room = vec_len s.bytes - s.len;
-        per_write = s.per_write;
-        failures = s.failed_writes;
+      taken = take s.len s.bytes.items;
+      room = vec_len s.bytes - s.len;
+      per_write = s.per_write;
+      failures = s.failed_writes;
     } };
 
     ghost invariant = { λ s. (s.len ≤ vec_len s.bytes) × (1 ≤ s.per_write) };
@@ -180,15 +184,19 @@ impl Sink for MemSink {
     /// Takes as many bytes as one write may and as there is room for; fails where there is none.
     fn write(&mut self, bytes: &[u8]) -> Result<usize, StreamFault>
         ensures bound { moved_count result ≤ length bytes.now }
-        ensures taken { Some self.new.taken ≡ with_more (Some self.old.taken) (take (moved_count result) bytes.now) }
-        ensures failures { self.new.failures ≡ failures_after self.old.failures (is_failed_write result bytes.now) }
-        ensures count { IfOk result (λ count. count ≡ min (min (length bytes.now) self.old.per_write) self.old.room) }
+        ensures taken { self.new.taken ≡ self.old.taken ++ take (moved_count result) bytes.now }
+        ensures failures { self.new.failures
+            ≡ failures_after self.old.failures (is_failed_write result bytes.now) }
+
+        // How many it takes, and when none.
+        ensures count { let most = min self.old.per_write self.old.room in
+            IfOk result (λ count. count ≡ min (length bytes.now) most) }
         ensures full { IsErr result ↔ ((0 < length bytes.now) × (self.old.room ≡ 0)) }
         ensures room { self.new.room ≡ self.old.room - moved_count result }
         ensures per_write { self.new.per_write ≡ self.old.per_write }
     {
         let room = self.bytes.len() - self.len;
-        let count = bytes.len().min(self.per_write).min(room);
+        let count = bytes.len().min(self.per_write.min(room));
         if count == 0 && !bytes.is_empty() {
             self.failed_writes = self.failed_writes.saturating_add(1);
             return Err(StreamFault);

@@ -1,4 +1,4 @@
-//! Where bytes come from and where they go: the two traits, their fault, and the calls that share them.
+//! Where bytes come from and where they go: the two traits, their fault, and two calls over them.
 ghost use Rattle.std.specs.Prelude.{◌≡◌, ◌≤◌, ◌<◌, List, ℕ, Option, length, take, is_err, OnOk, OnErr};
 ghost use Rattle.rtk_frame.specs.Stream.{moved_count, with_more, count_after, failures_after, is_failed_write, Rises, TakesPart, ReadsOne};
 
@@ -44,7 +44,8 @@ pub trait Sink {
     fn write(&mut self, bytes: &[u8]) -> Result<usize, StreamFault>
         ensures bound { moved_count result ≤ length bytes.now }
         ensures taken { taken self.new ≡ with_more (taken self.old) (take (moved_count result) bytes.now) }
-        ensures failures { failures self.new ≡ failures_after (failures self.old) (is_failed_write result bytes.now) };
+        ensures failures { failures self.new
+            ≡ failures_after (failures self.old) (is_failed_write result bytes.now) };
 }
 
 /// Writes all the bytes, however few each call takes, up to the first call that fails.

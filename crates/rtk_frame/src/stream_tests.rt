@@ -80,7 +80,9 @@ fn read_one_reads_the_source_named_and_no_other(rt: HostRuntime) -> Result<(), F
         (0, Ok(0), [1, 2, 3, 9]),
     ];
     for (link, count, bytes) in rows {
-        assert_eq!(rt; read_one(sources.as_mut_slice(), link, &mut buf), count, "link {link}");
+        let sources = sources.as_mut_slice();
+        assert!(rt; link < sources.len());
+        assert_eq!(rt; read_one(sources, link, &mut buf), count, "link {link}");
         assert_eq!(rt; buf, bytes, "link {link}");
     }
     Ok(())

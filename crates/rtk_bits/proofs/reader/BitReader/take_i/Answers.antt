@@ -7,8 +7,8 @@ use Rattle.rtk_bits.proofs.reader.BitReader.take_i.Goals as goal
 pub returns-clause-number : goal.returns-clause-number
 returns-clause-number c =
     signed_of_unsigned (take c.args.width c.args.self.now) c.args.width c.in_ok-number.number c.cast_signed.result
-        (omega (arith, length-take c.args.width c.args.self.now, c.in_ok-number.ensures.enough.0 refl))
-        c.in_ok-number.ensures.number c.requires.0 c.requires.1 c.cast_signed.type_inv c.cast_signed.ensures
+    (omega (arith, length-take c.args.width c.args.self.now, c.in_ok-number.ensures.enough.0 refl))
+    c.in_ok-number.ensures.number c.requires.0 c.requires.1 c.cast_signed.type_inv c.cast_signed.ensures
 
 pub returns-clause-bound : goal.returns-clause-bound
 returns-clause-bound c =

@@ -20,10 +20,10 @@ returns-clause-rest c =
 pub returns-clause-bound : goal.returns-clause-bound
 returns-clause-bound c =
     (taken_u (drop c.self.inside.skip (bits c.self.inside.rest.now)) c.args.width c.field_at-number.result
-     (omega (arith, length-left c.self.inside.rest.now c.self.inside.skip)) c.field_at-number.ensures).0
+    (omega (arith, length-left c.self.inside.rest.now c.self.inside.skip)) c.field_at-number.ensures).0
 
 pub returns-clause-field : goal.returns-clause-field
 returns-clause-field c =
     rw (← c.self.view_is, take_rest, left-rest c.self.inside.rest.now c.self.inside.skip c.args.width (omega arith))
     ((taken_u (drop c.self.inside.skip (bits c.self.inside.rest.now)) c.args.width c.field_at-number.result
-     (omega (arith, length-left c.self.inside.rest.now c.self.inside.skip)) c.field_at-number.ensures).1)
+    (omega (arith, length-left c.self.inside.rest.now c.self.inside.skip)) c.field_at-number.ensures).1)

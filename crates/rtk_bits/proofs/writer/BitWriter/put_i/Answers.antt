@@ -13,6 +13,8 @@ put_u-requires-clause-value c =
 
 pub returns-clause-put : goal.returns-clause-put
 returns-clause-put c =
-    rw (← bits_of-masked c.args.width c.args.value c.requires.width.0 c.requires.width.1 c.requires.value,
-        ← bits_are c.args.value c.cast_unsigned.result c.ranges.value c.cast_unsigned.ensures)
+    rw (
+      ← bits_of-masked c.args.width c.args.value c.requires.width.0 c.requires.width.1 c.requires.value,
+      ← bits_are c.args.value c.cast_unsigned.result c.ranges.value c.cast_unsigned.ensures,
+    )
     c.put_u.ensures.put

@@ -8,7 +8,7 @@ pub returns-then-left-gt0-clause-given : goal.returns-then-left-gt0-clause-given
 returns-then-left-gt0-clause-given c =
     let none : c.self.inside.zeros ≡ 0 = grind (arith, c.self.invariant.1, c.if-left-gt0.true) in
     let copied : take c.min-count.result (c.copy_from_slice.new.self ++ drop c.min-count.result c.args.buf.now) ≡ take c.min-count.result (drop c.self.inside.at c.self.inside.bytes.items) = grind (arith, common_steps, take-front) in
-    rw (← ap (λ s. s.given) c.self.view_is, copied) (ap Some (given-bytes _ _ _ _ none))
+    rw (← ap (λ s. s.given) c.self.view_is, copied) (given-bytes _ _ _ _ none)
 
 pub returns-clause-given : goal.returns-clause-given
 returns-clause-given c =
@@ -17,4 +17,4 @@ returns-clause-given c =
       | in-Failure w ↦ let no : None ≡ Some c.in-Some.zeros = sym w.zeros-is ∙ c.in-Some.is in absurd cc
       | in-Zeros w ↦ (rw (sym w.zeros-is ∙ c.in-Some.is) at w.checked_add-zeros.ensures).1
     ] in
-    rw (← ap (λ s. s.given) c.self.view_is, filled, more) (ap Some (given-zeros _ _ _))
+    rw (← ap (λ s. s.given) c.self.view_is, filled, more) (given-zeros _ _ _)
