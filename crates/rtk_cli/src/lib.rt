@@ -5,6 +5,7 @@ mod command_line;
 mod files;
 mod hex_input;
 mod input;
+pub mod laws;
 mod payload_line;
 mod running;
 mod showing;
