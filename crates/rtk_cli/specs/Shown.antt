@@ -1,6 +1,6 @@
 -- The line that is shown of a payload, and the lines of a capture. The forms of the lines are this
 -- project's rule; the fields are those of RTCM 10403.3.
-use Rattle.std.specs.Prelude.{◌≡◌, ℕ, ◌+◌, ◌/◌, ◌%◌, ℤ, pos, List, [], ◌∷◌, ◌++◌, length, take, codes, decimal, unsigned_abs, Option, Result, Ok, Err}
+use Rattle.std.specs.Prelude.{◌≡◌, ℕ, ◌+◌, ◌/◌, ◌%◌, ℤ, List, [], ◌∷◌, ◌++◌, length, take, codes, decimal, unsigned_abs, Option, Result, Ok, Err}
 use Rattle.std.specs.Fmt.{sign_text}
 use Rattle.std.specs.Int.{is_negative}
 use Rattle.rtk_bits.specs.Bits.{bits}
@@ -21,14 +21,17 @@ use Rattle.rtk_message.specs.Msm1074.{satellites, signals, cells}
 abbrev pub decimals : ℕ → List ℕ
 decimals n = 46 ∷ (48 + n / 1000 % 10) ∷ (48 + n / 100 % 10) ∷ (48 + n / 10 % 10) ∷ (48 + n % 10) ∷ []
 
--- a length in 0.0001 m, written in metres: a minus sign where it is negative, the whole metres without
--- padding, four decimals
-unfoldable pub metres : ℤ → List ℕ
-metres v = sign_text (is_negative v) ++ decimal (unsigned_abs v / 10000) ++ decimals (unsigned_abs v)
+-- a length in 0.0001 m, written in metres: the whole metres without padding, and four decimals
+unfoldable pub metres : ℕ → List ℕ
+metres n = decimal (n / 10000) ++ decimals n
+
+-- a coordinate in 0.0001 m: a minus sign where it is negative, and its length
+unfoldable pub coordinate : ℤ → List ℕ
+coordinate v = sign_text (is_negative v) ++ metres (unsigned_abs v)
 
 -- the antenna reference point (DF025, DF026, DF027)
 unfoldable pub point : ℤ → ℤ → ℤ → List ℕ
-point x y z = codes " x " ++ metres x ++ codes " y " ++ metres y ++ codes " z " ++ metres z
+point x y z = codes " x " ++ coordinate x ++ codes " y " ++ coordinate y ++ codes " z " ++ coordinate z
 
 -- a message: its number, its station (DF003), and then the time of week (DF004) and the numbers of
 -- satellites, signals and cells, or the antenna reference point and its height (DF028)
@@ -42,7 +45,7 @@ text_1005 m = codes "1005 station " ++ decimal m.station ++ point m.x m.y m.z
 
 abbrev pub text_1006 : Arp1006 → List ℕ
 text_1006 m =
-    codes "1006 station " ++ decimal m.station ++ point m.x m.y m.z ++ codes " height " ++ metres (pos m.height)
+    codes "1006 station " ++ decimal m.station ++ point m.x m.y m.z ++ codes " height " ++ metres m.height
 
 abbrev pub text_1074 : Msm1074 → List ℕ
 text_1074 m =

@@ -2,7 +2,7 @@
 ghost use Rattle.std.specs.Prelude.{◌≡◌, ◌++◌, ◌∷◌, [], List, ℕ, decimal, IfOk, OnOk};
 ghost use Rattle.rtk_message.specs.Decoded.{IsValid};
 ghost use Rattle.rtk_message.specs.Msm1074.{HasLengths};
-ghost use Rattle.rtk_cli.specs.Shown.{decimals, metres, point, text_1004, text_1005, text_1006, text_1074, message_text, fault_text, IsLineOf};
+ghost use Rattle.rtk_cli.specs.Shown.{decimals, metres, coordinate, point, text_1004, text_1005, text_1006, text_1074, message_text, fault_text, IsLineOf};
 
 use itoa::Buffer;
 use rtk_message::{Arp1005, Arp1006, DecodeFault, Message, Msm1074, Obs1004, decode};
@@ -31,26 +31,32 @@ fn decimals_of(magnitude: u64) -> [u8; 5]
 
 // A length in 0.0001 m, in metres.
 #[tactic(auto, unfolding(crate::specs::Shown::metres))]
-fn put_metres(line: &mut Vec<u8>, length: i64) -> Result<(), AllocError>
+fn put_metres(line: &mut Vec<u8>, length: u64) -> Result<(), AllocError>
     ensures { OnOk result (line.new.items ≡ line.old.items ++ metres length) }
 {
-    if length < 0 {
-        line.push(b'-')?;
-    }
-    let magnitude = length.unsigned_abs();
-    put_number(line, magnitude / 10_000)?;
-    line.extend_from_slice(&decimals_of(magnitude))
+    put_number(line, length / 10_000)?;
+    line.extend_from_slice(&decimals_of(length))
 }
 
-fn put_point(line: &mut Vec<u8>, x: i64, y: i64, z: i64) -> Result<(), AllocError>
-    ensures { OnOk result (line.new.items ≡ line.old.items ++ point x y z) }
+#[tactic(auto, unfolding(crate::specs::Shown::coordinate))]
+fn put_coordinate(line: &mut Vec<u8>, value: &i64) -> Result<(), AllocError>
+    ensures { OnOk result (line.new.items ≡ line.old.items ++ coordinate value.now) }
+{
+    if *value < 0 {
+        line.push(b'-')?;
+    }
+    put_metres(line, value.unsigned_abs())
+}
+
+fn put_point(line: &mut Vec<u8>, x: &i64, y: &i64, z: &i64) -> Result<(), AllocError>
+    ensures { OnOk result (line.new.items ≡ line.old.items ++ point x.now y.now z.now) }
 {
     line.extend_from_slice(b" x ")?;
-    put_metres(line, x)?;
+    put_coordinate(line, x)?;
     line.extend_from_slice(b" y ")?;
-    put_metres(line, y)?;
+    put_coordinate(line, y)?;
     line.extend_from_slice(b" z ")?;
-    put_metres(line, z)?;
+    put_coordinate(line, z)?;
     Ok(())
 }
 
@@ -67,7 +73,7 @@ fn put_1005(line: &mut Vec<u8>, message: &Arp1005) -> Result<(), AllocError>
     ensures { OnOk result (line.new.items ≡ line.old.items ++ text_1005 message.now) }
 {
     put_named(line, b"1005 station ", message.station as u64)?;
-    put_point(line, message.x, message.y, message.z)?;
+    put_point(line, &message.x, &message.y, &message.z)?;
     Ok(())
 }
 
@@ -75,9 +81,9 @@ fn put_1006(line: &mut Vec<u8>, message: &Arp1006) -> Result<(), AllocError>
     ensures { OnOk result (line.new.items ≡ line.old.items ++ text_1006 message.now) }
 {
     put_named(line, b"1006 station ", message.station as u64)?;
-    put_point(line, message.x, message.y, message.z)?;
+    put_point(line, &message.x, &message.y, &message.z)?;
     line.extend_from_slice(b" height ")?;
-    put_metres(line, message.height as i64)?;
+    put_metres(line, message.height as u64)?;
     Ok(())
 }
 
