@@ -92,7 +92,7 @@ step capture from place count payload pending line before now so_far le frame e 
       all = so_far.all ∙ ap (λ fs. so_far.found ++ fs) n.splits ∙ sym (append_assoc so_far.found (n.frame ∷ []) n.others);
       are_ahead = n.behind;
       are_lines = subst (AreLinesOf (so_far.found ++ n.frame ∷ [])) (append_assoc so_far.taken pending line)
-        (lines-snoc so_far.found n.frame (so_far.taken ++ pending) line so_far.are_lines (subst (λ p. IsLineOf p line) (sym n.is_payload) one));
+          (lines-snoc so_far.found n.frame (so_far.taken ++ pending) line so_far.are_lines (subst (λ p. IsLineOf p line) (sym n.is_payload) one));
       were_taken = so_far.were_taken;
       counted = let k : length (so_far.found ++ n.frame ∷ []) ≡ length so_far.found + 1 = length-append so_far.found (n.frame ∷ []) in so_far_count count so_far.counted k;
     }
@@ -109,7 +109,7 @@ IsNext capture from place payload =
 pub stepped : (capture : List ℕ) (from place count : ℕ) (payload pending lines : List ℕ) (before now : Option (List ℕ)) → Progress capture from before now pending count → IsNext capture from place payload → (line : List ℕ) × IsLineOf payload line × (lines ≡ pending ++ line) → Progress capture (place + length payload + 6) before now lines (count + 1)
 stepped capture from place count payload pending lines before now so_far (le, frame, e, none) (line, one, put) =
     subst (λ (ls : List ℕ). Progress capture (place + length payload + 6) before now ls (count + 1)) (sym put)
-      (step capture from place count payload pending line before now so_far le frame e none one)
+    (step capture from place count payload pending line before now so_far le frame e none one)
 
 -- all pending lines were taken
 pub flushed : (capture : List ℕ) (from count : ℕ) (pending : List ℕ) (before now after : Option (List ℕ)) → Progress capture from before now pending count → after ≡ with_more now pending → Progress capture from before after [] count
@@ -132,7 +132,7 @@ part_of_joined before now after taken pending e (n, le, more) = (
   length taken + n,
   omega (arith, length-append taken pending),
   more ∙ ap (λ known. with_more known (take n pending)) e ∙ with_more-with_more before taken (take n pending)
-    ∙ ap (with_more before) (sym (take-joined taken pending n)),
+      ∙ ap (with_more before) (sym (take-joined taken pending n)),
 )
   where
     take-joined : (xs ys : List ℕ) (n : ℕ) → take (length xs + n) (xs ++ ys) ≡ xs ++ take n ys
@@ -166,7 +166,7 @@ pub all_shown : (capture : List ℕ) (from count : ℕ) (before now : Option (Li
 all_shown capture from count before now so_far none = (
   so_far.taken,
   subst (λ fs. AreLinesOf fs so_far.taken) (sym (found_all capture from count [] before now so_far none))
-    (subst (AreLinesOf so_far.found) (append-nil so_far.taken) so_far.are_lines),
+      (subst (AreLinesOf so_far.found) (append-nil so_far.taken) so_far.are_lines),
   so_far.were_taken,
 )
 

@@ -21,8 +21,7 @@ pub fn decode_hex(alloc: Global, text: &[u8]) -> Result<Vec<u8>, ToolFault>
     ensures not_hex { IsErrOf result NotHex → IsNone (bytes_of_hex text.now) }
     ensures else_memory { IfErr result (λ fault. fault ≢ NotHex → fault ≡ OutOfMemory) }
 {
-    let mut digits =
-        Vec::with_capacity(alloc, text.len()).map_err(|_| ToolFault::OutOfMemory)?;
+    let mut digits = Vec::with_capacity(alloc, text.len()).map_err(|_| ToolFault::OutOfMemory)?;
     for byte in text {
         if !is_blank_byte(*byte) && digits.push(*byte).is_err() {
             return Err(ToolFault::OutOfMemory);

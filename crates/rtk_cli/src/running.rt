@@ -6,10 +6,9 @@ use crate::files::{Reads, Writes};
 use crate::showing::show;
 use crate::words::{Job, ToolFault, WordsFault};
 use std::env::Env;
-use std::fs;
 use std::fs::Files;
-use std::io;
 use std::io::ErrorKind;
+use std::{fs, io};
 
 /// The word that names standard input.
 const STDIN: &str = "stdin";

@@ -56,35 +56,17 @@ const LINES: [(&str, &str); 17] = [
         "1074 station 2003 tow 475200000 satellites 3 signals 2 cells 4\n",
     ),
     // Another number.
-    (
-        "3FB0",
-        "1019 other\n",
-    ),
+    ("3FB0", "1019 other\n"),
     // No bits.
-    (
-        "",
-        "refused M1 -\n",
-    ),
+    ("", "refused M1 -\n"),
     // Eight bits.
-    (
-        "3E",
-        "refused M1 -\n",
-    ),
+    ("3E", "refused M1 -\n"),
     // A 1005 without its last two bytes.
-    (
-        "3ED7D30202980EDEEF34B4BD62AC094198",
-        "refused M3 1005\n",
-    ),
+    ("3ED7D30202980EDEEF34B4BD62AC094198", "refused M3 1005\n"),
     // A 1004 that has one satellite by its header and none behind it.
-    (
-        "3EC7D3714BE80010",
-        "refused M3 1004\n",
-    ),
+    ("3EC7D3714BE80010", "refused M3 1004\n"),
     // That one with a time behind the week.
-    (
-        "3EC7D39032100010",
-        "refused M4 1004\n",
-    ),
+    ("3EC7D39032100010", "refused M4 1004\n"),
     // A 1074 of 13 satellites and 5 signals.
     (
         "4327D3714BE80000007FFC00000000000038C0000023",
@@ -95,7 +77,7 @@ const LINES: [(&str, &str); 17] = [
 #[test]
 fn line_of_each_payload(rt: HostRuntime) -> Result<(), Fail> {
     for (payload, want) in LINES {
-        let payload = hex::decode(rt.alloc(), payload).unwrap();
+        let payload = hex::decode(rt.alloc(), payload).expect(&rt, "hex");
         let line = show_line(rt.alloc(), payload.as_slice())?;
         assert_eq!(rt; line.as_slice(), want.as_bytes());
     }

@@ -1,7 +1,9 @@
 //! `show` over whole captures, as bytes and as hex text.
+ghost use Rattle.std.specs.Prelude.{◌≤◌};
 
-use crate::show;
+use crate::{ToolFault, show};
 use rtk_frame::{After, MemSink, MemSource};
+use std::alloc::{AllocError, Global};
 use std::test::Fail;
 
 const ARP: &str = "1005 station 2003 x 1114104.5999 y -4850729.7108 z 3975521.4643\n";
@@ -50,12 +52,19 @@ const CAPTURES: [(&str, &[&str]); 12] = [
     (" \t\r\n", &[]),
 ];
 
-// What is shown of an input that a source gives in such pieces, and how many lines.
-fn shown(rt: &HostRuntime, input: &[u8], per_read: usize, hex: bool) -> Result<(Vec<u8>, u64), Fail> {
-    let mut reader = MemSource::new(rt.alloc(), input, per_read, After::End)?;
-    let mut out = MemSink::new(rt.alloc(), 1000, 7)?;
-    let lines = show(rt.alloc(), &mut reader, &mut out, hex).unwrap();
-    Ok((Vec::from_slice(rt.alloc(), out.bytes())?, lines))
+// What is shown of an input that a source gives in such pieces, and the answer.
+fn shown(
+    alloc: Global,
+    input: &[u8],
+    per_read: usize,
+    hex: bool,
+) -> Result<(MemSink, Result<u64, ToolFault>), AllocError>
+    requires { 1 ≤ per_read }
+{
+    let mut reader = MemSource::new(alloc, input, per_read, After::End)?;
+    let mut out = MemSink::new(alloc, 1000, 7)?;
+    let answer = show(alloc, &mut reader, &mut out, hex);
+    Ok((out, answer))
 }
 
 #[test]
@@ -71,14 +80,14 @@ fn captures_as_hex_and_as_bytes(rt: HostRuntime) -> Result<(), Fail> {
                 digits.push(*byte)?;
             }
         }
-        let bytes = hex::decode(rt.alloc(), digits.as_slice()).unwrap();
-        for per_read in [1, 5, 100_000] {
-            let (out, lines) = shown(&rt, text.as_bytes(), per_read, true)?;
-            assert_eq!(rt; out.as_slice(), all.as_slice());
-            assert_eq!(rt; lines, want.len() as u64);
-            let (out, lines) = shown(&rt, bytes.as_slice(), per_read, false)?;
-            assert_eq!(rt; out.as_slice(), all.as_slice());
-            assert_eq!(rt; lines, want.len() as u64);
+        let bytes = hex::decode(rt.alloc(), digits.as_slice()).expect(&rt, "hex");
+        for per_read in [1usize, 5, 100_000] {
+            let (out, answer) = shown(rt.alloc(), text.as_bytes(), per_read, true)?;
+            assert_eq!(rt; answer, Ok(want.len() as u64));
+            assert_eq!(rt; out.bytes(), all.as_slice());
+            let (out, answer) = shown(rt.alloc(), bytes.as_slice(), per_read, false)?;
+            assert_eq!(rt; answer, Ok(want.len() as u64));
+            assert_eq!(rt; out.bytes(), all.as_slice());
         }
     }
     Ok(())
@@ -87,7 +96,7 @@ fn captures_as_hex_and_as_bytes(rt: HostRuntime) -> Result<(), Fail> {
 // More lines than are written at once.
 #[test]
 fn more_lines_than_a_write(rt: HostRuntime) -> Result<(), Fail> {
-    let frame = hex::decode(rt.alloc(), "D300023FB0D71D73").unwrap();
+    let frame = hex::decode(rt.alloc(), "D300023FB0D71D73").expect(&rt, "hex");
     let mut capture = Vec::new(rt.alloc());
     for _ in 0..8_000 {
         capture.extend_from_slice(frame.as_slice())?;

@@ -11,6 +11,6 @@ returns-then-is_err-clause-within g c =
     let few : length (c.loop-piece.bytes.items ++ more) ≤ c.args.limit + 1 = grind (arith, common_steps) in (
       c.loop-piece.bytes.items ++ more,
       c.in-Ok.ensures.given ∙ ap (λ known. with_more known more) c.loop-piece.invariant.given
-        ∙ with_more-with_more (g.R.Source.given c.args.reader.now) c.loop-piece.bytes.items more,
+          ∙ with_more-with_more (g.R.Source.given c.args.reader.now) c.loop-piece.bytes.items more,
       few,
     )

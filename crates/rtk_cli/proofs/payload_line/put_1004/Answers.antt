@@ -3,7 +3,9 @@ use Rattle.rtk_cli.proofs.payload_line.put_1004.Goals as goal
 
 -- piece by piece
 pub returns : goal.returns
-returns c = rw (c.in_ok-put_named-3.ensures,
-    c.in_ok-put_named-2.ensures,
-    c.in_ok-put_named.ensures,
-    c.len.ensures.value) (simp append_assoc)
+returns c = rw (
+  c.in_ok-put_named-3.ensures,
+  c.in_ok-put_named-2.ensures,
+  c.in_ok-put_named.ensures,
+  c.len.ensures.value,
+) (simp append_assoc)

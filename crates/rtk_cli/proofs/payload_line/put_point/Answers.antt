@@ -6,6 +6,11 @@ use Rattle.rtk_cli.proofs.payload_line.put_point.Goals as goal
 pub returns : goal.returns
 unfolding point
 returns c =
-    rw (c.in_ok-put_coordinate-3.ensures, c.in_ok-extend_from_slice-3.ensures.items,
-      c.in_ok-put_coordinate-2.ensures, c.in_ok-extend_from_slice-2.ensures.items,
-      c.in_ok-put_coordinate.ensures, c.in_ok-extend_from_slice.ensures.items) (simp append_assoc)
+    rw (
+      c.in_ok-put_coordinate-3.ensures,
+      c.in_ok-extend_from_slice-3.ensures.items,
+      c.in_ok-put_coordinate-2.ensures,
+      c.in_ok-extend_from_slice-2.ensures.items,
+      c.in_ok-put_coordinate.ensures,
+      c.in_ok-extend_from_slice.ensures.items,
+    ) (simp append_assoc)

@@ -9,7 +9,7 @@ loop-found-init g c =
       within = omega arith;
       few = omega arith;
       shown = subst (λ (lines : List ℕ). Progress c.args.capture.now 0 before before lines 0) (sym c.new-lines.ensures.items)
-        (start c.args.capture.now before (c.frames_of_a_text.ensures.are c.args.capture.now));
+          (start c.args.capture.now before (c.frames_of_a_text.ensures.are c.args.capture.now));
       failures = refl;
     }
 
@@ -17,7 +17,7 @@ loop-found-init g c =
 pub returns-in_default-put_line-clause-part : goal.returns-in_default-put_line-clause-part
 returns-in_default-put_line-clause-part g c =
     part_now c.args.capture.now c.loop-found.from c.loop-found.count c.loop-found.lines.items (g.W.Sink.taken c.args.out.now)
-      (g.W.Sink.taken c.loop-found.out) c.loop-found.invariant.shown
+    (g.W.Sink.taken c.loop-found.out) c.loop-found.invariant.shown
 
 -- one line more is pending
 pub loop-found-preserved : goal.loop-found-preserved
@@ -25,8 +25,8 @@ loop-found-preserved g c = record {
   within = omega (arith, c.in-Some.ensures.within);
   few = omega (arith, c.in-Some.ensures.least.0);
   shown = stepped c.args.capture.now c.loop-found.from c.in-Some.found.place c.loop-found.count c.in-Some.found.payload.now
-    c.loop-found.lines.items c.put_line.new.lines.items (g.W.Sink.taken c.args.out.now) (g.W.Sink.taken c.loop-found.out)
-    c.loop-found.invariant.shown c.in-Some.ensures.least c.in-Ok.ensures;
+      c.loop-found.lines.items c.put_line.new.lines.items (g.W.Sink.taken c.args.out.now) (g.W.Sink.taken c.loop-found.out)
+      c.loop-found.invariant.shown c.in-Some.ensures.least c.in-Ok.ensures;
   failures = c.loop-found.invariant.failures;
 }
 
@@ -36,13 +36,13 @@ loop-found-preserved-in-Continue-1 g c =
     let before : Option (List ℕ) = g.W.Sink.taken c.args.out.now in
     let behind : ℕ = c.in-Some.found.place + length c.in-Some.found.payload.now + 6 in
     let more = stepped c.args.capture.now c.loop-found.from c.in-Some.found.place c.loop-found.count c.in-Some.found.payload.now
-          c.loop-found.lines.items c.put_line.new.lines.items before (g.W.Sink.taken c.loop-found.out)
-          c.loop-found.invariant.shown c.in-Some.ensures.least c.in-Ok.ensures in
+    c.loop-found.lines.items c.put_line.new.lines.items before (g.W.Sink.taken c.loop-found.out)
+    c.loop-found.invariant.shown c.in-Some.ensures.least c.in-Ok.ensures in
     record {
       within = omega (arith, c.in-Some.ensures.within);
       few = omega (arith, c.in-Some.ensures.least.0);
       shown = subst (λ (lines : List ℕ). Progress c.args.capture.now behind before (g.W.Sink.taken c.flush.new.out) lines (c.loop-found.count + 1)) (sym c.in_ok-flush.ensures.none)
-        (flushed c.args.capture.now behind (c.loop-found.count + 1) c.put_line.new.lines.items before (g.W.Sink.taken c.loop-found.out) (g.W.Sink.taken c.flush.new.out) more c.in_ok-flush.ensures.taken);
+          (flushed c.args.capture.now behind (c.loop-found.count + 1) c.put_line.new.lines.items before (g.W.Sink.taken c.loop-found.out) (g.W.Sink.taken c.flush.new.out) more c.in_ok-flush.ensures.taken);
       failures = c.in_ok-flush.ensures.no_fault ∙ c.loop-found.invariant.failures;
     }
 
@@ -51,33 +51,33 @@ pub returns-in_err-flush-clause-part : goal.returns-in_err-flush-clause-part
 returns-in_err-flush-clause-part g c =
     let before : Option (List ℕ) = g.W.Sink.taken c.args.out.now in
     let more = stepped c.args.capture.now c.loop-found.from c.in-Some.found.place c.loop-found.count c.in-Some.found.payload.now
-          c.loop-found.lines.items c.put_line.new.lines.items before (g.W.Sink.taken c.loop-found.out)
-          c.loop-found.invariant.shown c.in-Some.ensures.least c.in-Ok.ensures in
+    c.loop-found.lines.items c.put_line.new.lines.items before (g.W.Sink.taken c.loop-found.out)
+    c.loop-found.invariant.shown c.in-Some.ensures.least c.in-Ok.ensures in
     part_then c.args.capture.now (c.in-Some.found.place + length c.in-Some.found.payload.now + 6) (c.loop-found.count + 1)
-      c.put_line.new.lines.items before (g.W.Sink.taken c.loop-found.out) (g.W.Sink.taken c.flush.new.out) more c.in_err-flush.ensures.part
+    c.put_line.new.lines.items before (g.W.Sink.taken c.loop-found.out) (g.W.Sink.taken c.flush.new.out) more c.in_err-flush.ensures.part
 
 -- of the last lines some are written
 pub returns-in_err-flush-2-clause-part : goal.returns-in_err-flush-2-clause-part
 returns-in_err-flush-2-clause-part g c =
     part_then c.args.capture.now c.loop-found.from c.loop-found.count c.loop-found.lines.items (g.W.Sink.taken c.args.out.now)
-      (g.W.Sink.taken c.loop-found.out) (g.W.Sink.taken c.flush-2.new.out) c.loop-found.invariant.shown c.in_err-flush-2.ensures.part
+    (g.W.Sink.taken c.loop-found.out) (g.W.Sink.taken c.flush-2.new.out) c.loop-found.invariant.shown c.in_err-flush-2.ensures.part
 
 -- or all
 pub returns-clause-shown : goal.returns-clause-shown
 returns-clause-shown g c =
     let before : Option (List ℕ) = g.W.Sink.taken c.args.out.now in
     all_shown c.args.capture.now c.loop-found.from c.loop-found.count before (g.W.Sink.taken c.flush-2.new.out)
-      (flushed c.args.capture.now c.loop-found.from c.loop-found.count c.loop-found.lines.items before (g.W.Sink.taken c.loop-found.out)
-        (g.W.Sink.taken c.flush-2.new.out) c.loop-found.invariant.shown c.in_ok-flush-2.ensures.taken) c.in_default.ensures.least
+    (flushed c.args.capture.now c.loop-found.from c.loop-found.count c.loop-found.lines.items before (g.W.Sink.taken c.loop-found.out)
+    (g.W.Sink.taken c.flush-2.new.out) c.loop-found.invariant.shown c.in_ok-flush-2.ensures.taken) c.in_default.ensures.least
 
 pub returns-clause-count : goal.returns-clause-count
 returns-clause-count g c =
     all_counted c.args.capture.now c.loop-found.from c.loop-found.count c.loop-found.lines.items (g.W.Sink.taken c.args.out.now)
-      (g.W.Sink.taken c.loop-found.out) c.loop-found.invariant.shown c.in_default.ensures.least
+    (g.W.Sink.taken c.loop-found.out) c.loop-found.invariant.shown c.in_default.ensures.least
 
 pub returns-clause-part : goal.returns-clause-part
 returns-clause-part g c =
     let before : Option (List ℕ) = g.W.Sink.taken c.args.out.now in
     part_now c.args.capture.now c.loop-found.from c.loop-found.count [] before (g.W.Sink.taken c.flush-2.new.out)
-      (flushed c.args.capture.now c.loop-found.from c.loop-found.count c.loop-found.lines.items before (g.W.Sink.taken c.loop-found.out)
-        (g.W.Sink.taken c.flush-2.new.out) c.loop-found.invariant.shown c.in_ok-flush-2.ensures.taken)
+    (flushed c.args.capture.now c.loop-found.from c.loop-found.count c.loop-found.lines.items before (g.W.Sink.taken c.loop-found.out)
+    (g.W.Sink.taken c.flush-2.new.out) c.loop-found.invariant.shown c.in_ok-flush-2.ensures.taken)
