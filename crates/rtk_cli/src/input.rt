@@ -19,11 +19,14 @@ pub fn read_whole<R: Source>(
     limit: usize,
 ) -> Result<Vec<u8>, ToolFault>
     requires { limit < 2 ^ 62 }
-    ensures whole { IfOk result (λ bytes. GivesText (R.given reader.old) (R.given reader.new) (λ text. (text ≡ bytes.items) × (length text ≤ limit))) }
+    ensures whole { IfOk result (λ bytes. GivesText (R.given reader.old) (R.given reader.new) (λ text.
+        (text ≡ bytes.items) × (length text ≤ limit))) }
     ensures no_fault { OnOk result (R.failures reader.new ≡ R.failures reader.old) }
     ensures input { IsErrOf result Input → Rises (R.failures reader.old) (R.failures reader.new) }
-    ensures too_long { IsErrOf result TooLong → GivesText (R.given reader.old) (R.given reader.new) (λ text. length text ≡ limit + 1) }
-    ensures within { GivesText (R.given reader.old) (R.given reader.new) (λ text. length text ≤ limit + 1) }
+    ensures too_long { IsErrOf result TooLong
+        → GivesText (R.given reader.old) (R.given reader.new) (λ text. length text ≡ limit + 1) }
+    ensures within { GivesText (R.given reader.old) (R.given reader.new) (λ text.
+        length text ≤ limit + 1) }
     ensures not_hex { IsErrOf result NotHex → ⊥ }
     ensures not_output { IsErrOf result Output → ⊥ }
 {

@@ -7,10 +7,12 @@ ghost use Rattle.rtk_cli.specs.Shown.{IsLineOf, AreLinesOf};
 
 /// A payload has one line.
 pub fn one_line_of_a_payload()
-    ensures { (payload line other : List ℕ) → IsLineOf payload line → IsLineOf payload other → line ≡ other }
+    ensures { (payload line other : List ℕ)
+        → IsLineOf payload line → IsLineOf payload other → line ≡ other }
 {}
 
 /// The lines of frames are one text.
 pub fn one_text_of_frames()
-    ensures { (frames : List Frame) (text other : List ℕ) → AreLinesOf frames text → AreLinesOf frames other → text ≡ other }
+    ensures { (frames : List Frame) (text other : List ℕ)
+        → AreLinesOf frames text → AreLinesOf frames other → text ≡ other }
 {}

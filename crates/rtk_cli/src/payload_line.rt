@@ -129,7 +129,8 @@ fn put_fault(line: &mut Vec<u8>, fault: DecodeFault) -> Result<(), AllocError>
 
 /// Appends the line of a payload, with its line feed. After a refusal a part of it may stand there.
 pub fn put_line(lines: &mut Vec<u8>, payload: &[u8]) -> Result<(), AllocError>
-    ensures { OnOk result ((line : List ℕ) × IsLineOf payload.now line × (lines.new.items ≡ lines.old.items ++ line)) }
+    ensures { OnOk result ((line : List ℕ) × IsLineOf payload.now line
+        × (lines.new.items ≡ lines.old.items ++ line)) }
 {
     match decode(payload) {
         Ok(message) => put_message(lines, &message)?,

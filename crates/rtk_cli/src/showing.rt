@@ -88,22 +88,31 @@ pub fn show<R: Source, W: Sink>(
     out: &mut W,
     hex: bool,
 ) -> Result<u64, ToolFault>
-    ensures shown { IfOk result (λ count. GivesText (R.given reader.old) (R.given reader.new) (λ text. (length text ≤ SHOW_LIMIT)
-        × IsSomeAnd (capture_of hex text) (λ capture. Shows capture (W.taken out.old) (W.taken out.new) × (count ≡ length (frames capture))))) }
+    ensures shown { IfOk result (λ count. GivesText (R.given reader.old) (R.given reader.new) (λ text.
+        (length text ≤ SHOW_LIMIT) × IsSomeAnd (capture_of hex text) (λ capture.
+        Shows capture (W.taken out.old) (W.taken out.new) × (count ≡ length (frames capture))))) }
     ensures no_failed_read { OnOk result (R.failures reader.new ≡ R.failures reader.old) }
     ensures no_failed_write { OnOk result (W.failures out.new ≡ W.failures out.old) }
 
     // Each fault only where its cause is.
     ensures input { IsErrOf result Input → Rises (R.failures reader.old) (R.failures reader.new) }
-    ensures too_long { IsErrOf result TooLong → GivesText (R.given reader.old) (R.given reader.new) (λ text. length text ≡ SHOW_LIMIT + 1) }
-    ensures not_hex { IsErrOf result NotHex → GivesText (R.given reader.old) (R.given reader.new) (λ text. (length text ≤ SHOW_LIMIT) × IsNone (capture_of hex text)) }
+    ensures too_long { IsErrOf result TooLong
+        → GivesText (R.given reader.old) (R.given reader.new) (λ text. length text ≡ SHOW_LIMIT + 1) }
+    ensures not_hex { IsErrOf result NotHex
+        → GivesText (R.given reader.old) (R.given reader.new) (λ text.
+        (length text ≤ SHOW_LIMIT) × IsNone (capture_of hex text)) }
     ensures output { IsErrOf result Output → Rises (W.failures out.old) (W.failures out.new) }
-    ensures output_of_capture { IsErrOf result Output → GivesText (R.given reader.old) (R.given reader.new) (λ text. (length text ≤ SHOW_LIMIT) × IsSome (capture_of hex text)) }
+    ensures output_of_capture { IsErrOf result Output
+        → GivesText (R.given reader.old) (R.given reader.new) (λ text.
+        (length text ≤ SHOW_LIMIT) × IsSome (capture_of hex text)) }
 
     // Whatever the answer, so much was read at most, and so much is out.
-    ensures within { GivesText (R.given reader.old) (R.given reader.new) (λ text. length text ≤ SHOW_LIMIT + 1) }
-    ensures part { GivesText (R.given reader.old) (R.given reader.new) (λ text. ShowsPartOf (capture_of hex text) (W.taken out.old) (W.taken out.new)) }
-    ensures nothing { IfErr result (λ fault. IsBeforeOutput fault → W.taken out.new ≡ W.taken out.old) }
+    ensures within { GivesText (R.given reader.old) (R.given reader.new) (λ text.
+        length text ≤ SHOW_LIMIT + 1) }
+    ensures part { GivesText (R.given reader.old) (R.given reader.new) (λ text.
+        ShowsPartOf (capture_of hex text) (W.taken out.old) (W.taken out.new)) }
+    ensures nothing { IfErr result (λ fault.
+        IsBeforeOutput fault → W.taken out.new ≡ W.taken out.old) }
 {
     let text = read_whole(alloc, reader, SHOW_LIMIT)?;
     let capture = captured(alloc, text, hex)?;
