@@ -1,5 +1,5 @@
 -- The cells of a 1004: one entry more, the widths of the fields, and the ranges of the values.
-use Rattle.std.proofs.Common.{◌≡◌, ℕ, zero, suc, ◌+◌, ◌*◌, ◌%◌, ◌<◌, ◌≤◌, [], ◌∷◌, ◌++◌, List, Option, Some, None, refl, sym, ◌∙◌, ap, arith, true, false, Bool, nat_eq, not, ◌||◌, ◌&&◌, cond, append_assoc, inl, inr}
+use Rattle.std.proofs.Common.{◌≡◌, ℕ, ◌*◌, ◌<◌, [], ◌∷◌, ◌++◌, List, Some, None, refl, sym, ◌∙◌, ap, arith, true, false, Bool, nat_eq, not, ◌||◌, ◌&&◌, cond, append_assoc}
 use Rattle.std.specs.Prelude.{filter, IfSome}
 use Rattle.std.specs.List.{list_any, flat_map, All, AllByRecursion}
 use Rattle.std.proofs.lemmas.List.{append-nil}

@@ -1,11 +1,11 @@
 -- The cells of a 1074: how many there are, the widths of their fields, and the ranges of their values.
-use Rattle.std.proofs.Common.{◌≡◌, ℕ, zero, suc, ◌+◌, ◌-◌, ◌*◌, ◌%◌, ◌^◌, ◌<◌, ◌≤◌, [], ◌∷◌, ◌++◌, List, length, take, get_or, map, Option, Some, None, refl, sym, ◌∙◌, ap, subst, arith, nat_eq, true, false, Bool, cond, sum_by, count_ones}
+use Rattle.std.proofs.Common.{◌≡◌, ℕ, zero, suc, ◌+◌, ◌*◌, ◌^◌, ◌<◌, ◌≤◌, [], ◌∷◌, ◌++◌, List, length, take, get_or, map, Option, Some, None, refl, sym, ◌∙◌, subst, arith, nat_eq, true, false, Bool, cond, count_ones}
 use Rattle.std.specs.Prelude.{IfSome, option_to_list}
 use Rattle.std.specs.List.{All, AllByRecursion}
 use Rattle.std.proofs.lemmas.List.{length-map}
 use Rattle.std.proofs.lemmas.List.Elements.{All-from_recursion, All-get_or}
 use Rattle.std.proofs.lemmas.Bool.Decides.{nat_tests}
-use Rattle.rtk_message.specs.Fields.{Field, FieldFits, FieldsFit}
+use Rattle.rtk_message.specs.Fields.{Field, FieldsFit}
 use Rattle.rtk_message.specs.Columns.{numbers, integers, flags}
 use Rattle.rtk_message.specs.Msm1074.{IsValid, satellites, signals, cells, mask_table, columns}
 use Rattle.rtk_message.specs.declared.msm1074.Msm1074.{Msm1074}
