@@ -84,7 +84,7 @@ fn texts_of_clap(rt: HostRuntime) -> Result<(), Fail> {
                 assert_eq!(rt; text.as_str(), want);
                 assert_eq!(rt; status, want_status);
             }
-            _ => assert!(rt; false, "{want}"),
+            _ => assert!(rt; false),
         }
     }
     Ok(())
