@@ -6,7 +6,6 @@ use Rattle.std.proofs.lemmas.List.{take_at, drop_at}
 use Rattle.std.proofs.Math.Nat.{mod-eq_of_lt}
 use Rattle.rtk_bits.specs.Bits.{unsigned, bits_of}
 use Rattle.rtk_bits.proofs.Numbers.{length-bits_of, unsigned-bits_of}
-use Rattle.rtk_bits.proofs.Taken.{taken_u}
 use Rattle.rtk_message.specs.declared.message.Message.{Message}
 use Rattle.rtk_message.specs.declared.message.Message.TheVariants.{Obs1004, Arp1005, Arp1006, Msm1074}
 use Rattle.rtk_message.specs.declared.fault.DecodeFault.{DecodeFault}
@@ -34,11 +33,9 @@ begins_with bs k fs rest small e =
     }
 
 -- fields taken behind a number
-pub encoded : (bs left after : List Bool) (n k : ℕ) (fs : List Field) → 12 ≤ length bs → n ≡ unsigned (take 12 bs) → left ≡ drop 12 bs → n ≡ k → TakesAll fs left after
-    → (rest : List Bool) × (bs ≡ bits_of_fields (u 12 k ∷ fs) ++ rest)
-encoded bs left after n k fs long number behind is taken =
-    (after,
-     (taken_u bs 12 n long number).1 ∙ rw (← behind, is, taken.is) (sym (append_assoc (bits_of 12 k) (bits_of_fields fs) after)))
+pub encoded : {bs left after : List Bool} (n k : ℕ) (fs : List Field) → bs ≡ bits_of 12 n ++ left → n ≡ k → TakesAll fs left after → (rest : List Bool) × (bs ≡ bits_of_fields (u 12 k ∷ fs) ++ rest)
+encoded {after = after} n k fs number is taken =
+    (after, rw (← is) (number ∙ ap (λ (t : List Bool). bits_of 12 n ++ t) taken.is ∙ sym (append_assoc (bits_of 12 n) (bits_of_fields fs) after)))
 
 number_fits : (m : Message) → number_of m < 2 ^ 12
 number_fits (Obs1004 m) = omega arith

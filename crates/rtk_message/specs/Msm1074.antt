@@ -50,6 +50,17 @@ pub record HasLengths (m : Msm1074) : Type 0 where
   pub half_cycle : length m.half_cycle ≡ cells m
   pub cnr : length m.cnr ≡ cells m
 
+-- no column has an entry
+pub record HasNoCells (m : Msm1074) : Type 0 where
+  pub cell_mask : m.cell_mask ≡ []
+  pub rough_ms : m.rough_ms ≡ []
+  pub rough_fraction : m.rough_fraction ≡ []
+  pub fine_range : m.fine_range ≡ []
+  pub fine_phase : m.fine_phase ≡ []
+  pub lock_indicator : m.lock_indicator ≡ []
+  pub half_cycle : m.half_cycle ≡ []
+  pub cnr : m.cnr ≡ []
+
 -- each value fits its width, in the columns where it may not
 pub record EachFits (m : Msm1074) : Type 0 where
   pub cell_mask : FieldsFit (numbers (signals m.header) m.cell_mask)

@@ -13,7 +13,7 @@ use std::alloc::AllocError;
 /// The antenna reference point (ARP) of a station, earth-centred and earth-fixed: 152 bits.
 ///
 /// Source: RTCM 10403.3, message 1005.
-#[derive(Clone, Copy, Debug, PartialEq, Eq)]
+#[derive(Clone, Copy, Debug, Default, PartialEq, Eq)]
 pub struct Arp1005 {
     /// Reference station ID (DF003), 0 to 4095.
     pub station: u16,
@@ -42,6 +42,7 @@ pub struct Arp1005 {
 }
 
 impl Layout for Arp1005 {
+    ghost use Rattle.std.specs.Prelude.{⊤};
     ghost use Rattle.rtk_message.specs.Arp1005.{table, first_fault, IsValid};
     ghost use Rattle.rtk_message.specs.Arp1005Laws.{is_accepted, is_unique};
 
@@ -54,14 +55,20 @@ impl Layout for Arp1005 {
 
     ghost first_fault = { first_fault };
 
-    fn read(reader: &mut BitReader<'_>) -> Result<Arp1005, DecodeFault> {
+    ghost IsEmpty = { λ m. ⊤ };
+
+    fn empty() -> Arp1005 {
+        Arp1005::default()
+    }
+
+    fn read(&mut self, reader: &mut BitReader<'_>) -> Result<(), DecodeFault> {
         if reader.remaining() < 140 {
             return Err(DecodeFault::Short { number: 1005 });
         }
         let mut first = next_word(reader, 60);
         let mut second = next_word(reader, 42);
         let mut third = next_word(reader, 38);
-        Ok(Arp1005 {
+        *self = Arp1005 {
             station: first.next_u16(12),
             realization_year: first.next_u8(6),
             gps: first.next_flag(),
@@ -74,7 +81,8 @@ impl Layout for Arp1005 {
             y: second.next_i64(38),
             quarter_cycle: second.next_u8(2),
             z: third.next_i64(38),
-        })
+        };
+        Ok(())
     }
 
     fn write(&self, writer: &mut BitWriter) -> Result<(), AllocError> {

@@ -13,7 +13,7 @@ use std::alloc::AllocError;
 /// The antenna reference point (ARP) of a station, earth-centred and earth-fixed, and the height of its antenna: 168 bits.
 ///
 /// Source: RTCM 10403.3, message 1006.
-#[derive(Clone, Copy, Debug, PartialEq, Eq)]
+#[derive(Clone, Copy, Debug, Default, PartialEq, Eq)]
 pub struct Arp1006 {
     /// Reference station ID (DF003), 0 to 4095.
     pub station: u16,
@@ -44,6 +44,7 @@ pub struct Arp1006 {
 }
 
 impl Layout for Arp1006 {
+    ghost use Rattle.std.specs.Prelude.{⊤};
     ghost use Rattle.rtk_message.specs.Arp1006.{table, first_fault, IsValid};
     ghost use Rattle.rtk_message.specs.Arp1006Laws.{is_accepted, is_unique};
 
@@ -56,14 +57,20 @@ impl Layout for Arp1006 {
 
     ghost first_fault = { first_fault };
 
-    fn read(reader: &mut BitReader<'_>) -> Result<Arp1006, DecodeFault> {
+    ghost IsEmpty = { λ m. ⊤ };
+
+    fn empty() -> Arp1006 {
+        Arp1006::default()
+    }
+
+    fn read(&mut self, reader: &mut BitReader<'_>) -> Result<(), DecodeFault> {
         if reader.remaining() < 156 {
             return Err(DecodeFault::Short { number: 1006 });
         }
         let mut first = next_word(reader, 60);
         let mut second = next_word(reader, 42);
         let mut third = next_word(reader, 54);
-        Ok(Arp1006 {
+        *self = Arp1006 {
             station: first.next_u16(12),
             realization_year: first.next_u8(6),
             gps: first.next_flag(),
@@ -77,7 +84,8 @@ impl Layout for Arp1006 {
             quarter_cycle: second.next_u8(2),
             z: third.next_i64(38),
             height: third.next_u16(16),
-        })
+        };
+        Ok(())
     }
 
     fn write(&self, writer: &mut BitWriter) -> Result<(), AllocError> {

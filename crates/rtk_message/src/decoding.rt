@@ -1,7 +1,6 @@
 //! From the bytes of a payload to its message.
 ghost use Rattle.std.specs.Prelude.{◌≡◌, Some, Option, IfOk, IfErr};
 ghost use Rattle.rtk_bits.specs.Bits.{bits};
-ghost use Rattle.rtk_message.specs.Fields.{TakesAll};
 ghost use Rattle.rtk_message.specs.declared.message.Message.{Message};
 ghost use Rattle.rtk_message.specs.Decoded.{Decodes, Encodes, first_fault};
 
@@ -35,18 +34,26 @@ fn first_message(payload: &[u8]) -> Result<Message, DecodeFault>
     };
     let number = number as u16;
     match number {
-        Obs1004::NUMBER => Ok(Message::Obs1004(read_as::<Obs1004>(&mut reader)?)),
-        Arp1005::NUMBER => Ok(Message::Arp1005(read_as::<Arp1005>(&mut reader)?)),
-        Arp1006::NUMBER => Ok(Message::Arp1006(read_as::<Arp1006>(&mut reader)?)),
-        Msm1074::NUMBER => Ok(Message::Msm1074(read_as::<Msm1074>(&mut reader)?)),
+        Obs1004::NUMBER => {
+            let mut message = Obs1004::empty();
+            message.read(&mut reader)?;
+            Ok(Message::Obs1004(message))
+        }
+        Arp1005::NUMBER => {
+            let mut message = Arp1005::empty();
+            message.read(&mut reader)?;
+            Ok(Message::Arp1005(message))
+        }
+        Arp1006::NUMBER => {
+            let mut message = Arp1006::empty();
+            message.read(&mut reader)?;
+            Ok(Message::Arp1006(message))
+        }
+        Msm1074::NUMBER => {
+            let mut message = Msm1074::empty();
+            message.read(&mut reader)?;
+            Ok(Message::Msm1074(message))
+        }
         _ => Err(DecodeFault::Other { number }),
     }
-}
-
-// A message of one type behind its number, by the clauses of `Layout` alone.
-fn read_as<T: Layout>(reader: &mut BitReader<'_>) -> Result<T, DecodeFault>
-    ensures fields { IfOk result (λ m. T.IsValid m × TakesAll (T.table m) reader.old reader.new) }
-    ensures fault { IfErr result (λ f. T.first_fault reader.old ≡ Some f) }
-{
-    T::read(reader)
 }

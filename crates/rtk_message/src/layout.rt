@@ -1,5 +1,5 @@
 //! What each message type keeps: its bits are the fields of its table, and nothing else is used.
-ghost use Rattle.std.specs.Prelude.{◌≡◌, ℕ, ◌++◌, Bool, List, Option, Some, None, IfOk, IfErr, OnOk, IsTrue, ◌↔◌};
+ghost use Rattle.std.specs.Prelude.{◌≡◌, ℕ, ◌++◌, Bool, List, Option, Some, None, IfErr, OnOk, IsTrue, ◌↔◌};
 ghost use Rattle.rtk_message.specs.Fields.{Field, bits_of_fields, TakesAll};
 ghost use Rattle.rtk_message.specs.declared.fault.DecodeFault.{DecodeFault};
 
@@ -24,9 +24,20 @@ pub trait Layout: Sized {
     /// The first cause for which bits behind the number begin with no such message.
     ghost first_fault: { List Bool → Option DecodeFault };
 
-    /// Reads the fields behind the number. After an `Err` the reader stands somewhere in them.
-    fn read(reader: &mut BitReader<'_>) -> Result<Self, DecodeFault>
-        ensures fields { IfOk result (λ m. IsValid m × TakesAll (table m) reader.old reader.new) }
+    /// Which values have no satellites and no cells.
+    ghost IsEmpty: { Self → Type 0 };
+
+    /// A message to read into: all fields 0, no satellites, no cells.
+    fn empty() -> Self
+        ensures { IsEmpty result };
+
+    /// Reads the fields behind the number into an empty message.
+    ///
+    /// In place, since a message of a thousand bytes is slow to move. After an `Err` nothing is said
+    /// of the message, and the reader stands somewhere in the fields.
+    fn read(&mut self, reader: &mut BitReader<'_>) -> Result<(), DecodeFault>
+        requires { IsEmpty self.old }
+        ensures fields { OnOk result (IsValid self.new × TakesAll (table self.new) reader.old reader.new) }
         ensures fault { IfErr result (λ f. first_fault reader.old ≡ Some f) };
 
     /// Puts the fields behind the number. An `Err` is want of memory, after some of them.

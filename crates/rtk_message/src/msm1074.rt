@@ -16,7 +16,7 @@ use std::alloc::AllocError;
 /// The fields of a 1074 before its cell mask: 169 bits with the number.
 ///
 /// The first bit of a mask is its most significant one and stands for identifier 1.
-#[derive(Clone, Copy, Debug, PartialEq, Eq)]
+#[derive(Clone, Copy, Debug, Default, PartialEq, Eq)]
 pub struct MsmHeader {
     /// Reference station ID (DF003), 0 to 4095.
     pub station: u16,
@@ -150,7 +150,7 @@ fn has_too_many_cells(satellites: usize, signals: usize) -> bool
 }
 
 impl Layout for Msm1074 {
-    ghost use Rattle.rtk_message.specs.Msm1074.{table, first_fault, IsValid};
+    ghost use Rattle.rtk_message.specs.Msm1074.{table, first_fault, HasNoCells, IsValid};
     ghost use Rattle.rtk_message.specs.Msm1074Laws.{is_accepted, is_unique};
 
     ghost NUMBER = { 1074 };
@@ -162,37 +162,52 @@ impl Layout for Msm1074 {
 
     ghost first_fault = { first_fault };
 
-    fn read(reader: &mut BitReader<'_>) -> Result<Msm1074, DecodeFault> {
+    ghost IsEmpty = { HasNoCells };
+
+    fn empty() -> Msm1074 {
+        Msm1074 {
+            header: MsmHeader::default(),
+            cell_mask: Column::new(),
+            rough_ms: Column::new(),
+            rough_fraction: Column::new(),
+            fine_range: Column::new(),
+            fine_phase: Column::new(),
+            lock_indicator: Column::new(),
+            half_cycle: Column::new(),
+            cnr: Column::new(),
+        }
+    }
+
+    fn read(&mut self, reader: &mut BitReader<'_>) -> Result<(), DecodeFault> {
         if reader.remaining() < 157 {
             return Err(DecodeFault::Short { number: 1074 });
         }
-        let header = next_header(reader);
-        if header.tow >= WEEK_MS {
+        self.header = next_header(reader);
+        if self.header.tow >= WEEK_MS {
             return Err(DecodeFault::EpochRange { number: 1074 });
         }
-        let satellites = header.satellites();
-        let signals = header.signals();
+        let satellites = self.header.satellites();
+        let signals = self.header.signals();
         if has_too_many_cells(satellites, signals) {
             return Err(DecodeFault::TooManyCells);
         }
         if reader.remaining() < (satellites * signals) as u128 {
             return Err(DecodeFault::Short { number: 1074 });
         }
-        let mut message = Msm1074::without_cells(header);
-        read_mask(&mut message.cell_mask, reader, satellites, signals);
-        let cells = ones(&message.cell_mask) as usize;
+        read_mask(&mut self.cell_mask, reader, satellites, signals);
+        let cells = ones(&self.cell_mask) as usize;
         prove!(cells <= 64);
         if reader.remaining() < (18 * satellites + 48 * cells) as u128 {
             return Err(DecodeFault::Short { number: 1074 });
         }
-        read_column(&mut message.rough_ms, reader, satellites, 8);
-        read_column(&mut message.rough_fraction, reader, satellites, 10);
-        read_column(&mut message.fine_range, reader, cells, 15);
-        read_column(&mut message.fine_phase, reader, cells, 22);
-        read_column(&mut message.lock_indicator, reader, cells, 4);
-        read_column(&mut message.half_cycle, reader, cells, 1);
-        read_column(&mut message.cnr, reader, cells, 6);
-        Ok(message)
+        read_column(&mut self.rough_ms, reader, satellites, 8);
+        read_column(&mut self.rough_fraction, reader, satellites, 10);
+        read_column(&mut self.fine_range, reader, cells, 15);
+        read_column(&mut self.fine_phase, reader, cells, 22);
+        read_column(&mut self.lock_indicator, reader, cells, 4);
+        read_column(&mut self.half_cycle, reader, cells, 1);
+        read_column(&mut self.cnr, reader, cells, 6);
+        Ok(())
     }
 
     fn write(&self, writer: &mut BitWriter) -> Result<(), AllocError> {
@@ -224,23 +239,6 @@ impl Layout for Msm1074 {
 }
 
 impl Msm1074 {
-    // The columns are filled in place, since a message of a thousand bytes is slow to move.
-    fn without_cells(header: MsmHeader) -> Msm1074
-        ensures { result ≡ record { header = header; cell_mask = []; rough_ms = []; rough_fraction = []; fine_range = []; fine_phase = []; lock_indicator = []; half_cycle = []; cnr = [] } }
-    {
-        Msm1074 {
-            header,
-            cell_mask: Column::new(),
-            rough_ms: Column::new(),
-            rough_fraction: Column::new(),
-            fine_range: Column::new(),
-            fine_phase: Column::new(),
-            lock_indicator: Column::new(),
-            half_cycle: Column::new(),
-            cnr: Column::new(),
-        }
-    }
-
     // Whether each column has as many entries as the masks have satellites or cells.
     fn has_lengths(&self) -> bool
         ensures { IsTrue result ↔ HasLengths self.now }

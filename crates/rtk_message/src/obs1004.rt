@@ -33,6 +33,7 @@ pub struct Obs1004 {
 }
 
 impl Layout for Obs1004 {
+    ghost use Rattle.std.specs.Prelude.{◌≡◌, []};
     ghost use Rattle.rtk_message.specs.Obs1004.{table, first_fault, IsValid};
     ghost use Rattle.rtk_message.specs.Obs1004Laws.{is_accepted, is_unique};
 
@@ -45,33 +46,38 @@ impl Layout for Obs1004 {
 
     ghost first_fault = { first_fault };
 
-    fn read(reader: &mut BitReader<'_>) -> Result<Obs1004, DecodeFault> {
+    ghost IsEmpty = { λ m. m.satellites ≡ [] };
+
+    fn empty() -> Obs1004 {
+        Obs1004 {
+            station: 0,
+            tow: 0,
+            synchronous: false,
+            smoothing: false,
+            smoothing_interval: 0,
+            satellites: Satellites::new(),
+        }
+    }
+
+    fn read(&mut self, reader: &mut BitReader<'_>) -> Result<(), DecodeFault> {
         if reader.remaining() < 52 {
             return Err(DecodeFault::Short { number: 1004 });
         }
         let mut header = next_word(reader, 52);
-        let station = header.next_u16(12);
-        let tow = header.next_u32(30);
-        let synchronous = header.next_flag();
+        self.station = header.next_u16(12);
+        self.tow = header.next_u32(30);
+        self.synchronous = header.next_flag();
         let count = header.next_u8(5);
-        let smoothing = header.next_flag();
-        let smoothing_interval = header.next_u8(3);
-        if tow >= WEEK_MS {
+        self.smoothing = header.next_flag();
+        self.smoothing_interval = header.next_u8(3);
+        if self.tow >= WEEK_MS {
             return Err(DecodeFault::EpochRange { number: 1004 });
         }
         if reader.remaining() < 125 * count as u128 {
             return Err(DecodeFault::Short { number: 1004 });
         }
-        let mut message = Obs1004 {
-            station,
-            tow,
-            synchronous,
-            smoothing,
-            smoothing_interval,
-            satellites: Satellites::new(),
-        };
-        read_satellites(&mut message.satellites, reader, count);
-        Ok(message)
+        read_satellites(&mut self.satellites, reader, count);
+        Ok(())
     }
 
     fn write(&self, writer: &mut BitWriter) -> Result<(), AllocError> {
@@ -97,7 +103,6 @@ impl Layout for Obs1004 {
     ghost unique = { is_unique };
 }
 
-// In place, since a list of a thousand bytes is slow to move.
 fn read_satellites(satellites: &mut Satellites, reader: &mut BitReader<'_>, count: u8)
     requires empty { satellites.old ≡ [] }
     requires few { count ≤ 31 }

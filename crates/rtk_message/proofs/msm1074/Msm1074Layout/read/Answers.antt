@@ -7,28 +7,28 @@ use Rattle.rtk_message.specs.Msm1074Laws.{is_late, is_many, is_cut_mask, is_cut_
 use Rattle.rtk_message.specs.Msm1074.{satellites, signals}
 use Rattle.rtk_message.proofs.msm1074.Msm1074Layout.read.Goals as goal
 
-pub returns-then-header-ge-WEEK_MS-clause-fault : goal.returns-then-header-ge-WEEK_MS-clause-fault
-returns-then-header-ge-WEEK_MS-clause-fault c = is_late c.next_header-header.ensures.fields (omega (arith, c.if-header-ge-WEEK_MS.true))
+pub returns-then-self-ge-WEEK_MS-clause-fault : goal.returns-then-self-ge-WEEK_MS-clause-fault
+returns-then-self-ge-WEEK_MS-clause-fault c = is_late c.next_header-self.ensures.fields (omega (arith, c.if-self-ge-WEEK_MS.true))
 
 pub returns-then-has_too_many_cells-clause-fault : goal.returns-then-has_too_many_cells-clause-fault
 returns-then-has_too_many_cells-clause-fault c =
     let many : 64 < c.satellites-satellites.result * c.signals-signals.result = c.has_too_many_cells.ensures.0 (search rules) in
-    is_many c.next_header-header.ensures.fields (omega (arith, c.if-header-ge-WEEK_MS.false)) (rw (← c.satellites-satellites.ensures.value, ← c.signals-signals.ensures.value) many)
+    is_many c.next_header-self.ensures.fields (omega (arith, c.if-self-ge-WEEK_MS.false)) (rw (← c.satellites-satellites.ensures.value, ← c.signals-signals.ensures.value) many)
 
 pub returns-then-remaining-satellites-clause-fault : goal.returns-then-remaining-satellites-clause-fault
 returns-then-remaining-satellites-clause-fault c =
     let few : c.satellites-satellites.result * c.signals-signals.result ≤ 64 = few_of c.has_too_many_cells.ensures c.if-has_too_many_cells.false in
-    is_cut_mask c.next_header-header.ensures.fields (omega (arith, c.if-header-ge-WEEK_MS.false))
+    is_cut_mask c.next_header-self.ensures.fields (omega (arith, c.if-self-ge-WEEK_MS.false))
     (rw (← c.satellites-satellites.ensures.value, ← c.signals-signals.ensures.value) few)
     (rw (← c.satellites-satellites.ensures.value, ← c.signals-signals.ensures.value, ← c.remaining-2.ensures) c.if-remaining-satellites.true)
 
 pub returns-then-remaining-satellites-2-clause-fault : goal.returns-then-remaining-satellites-2-clause-fault
 returns-then-remaining-satellites-2-clause-fault c =
-    let h = c.next_header-header.result in
+    let h = c.next_header-self.result in
     let ns = c.read_mask.new.mask in
     let few : c.satellites-satellites.result * c.signals-signals.result ≤ 64 = few_of c.has_too_many_cells.ensures c.if-has_too_many_cells.false in
-    let mask : TakesAll (numbers (signals h) ns) c.next_header-header.new.reader c.read_mask.new.reader = rw (← c.signals-signals.ensures.value) c.read_mask.ensures.fields in
-    is_cut_rest ns c.next_header-header.ensures.fields mask (c.read_mask.ensures.count ∙ c.satellites-satellites.ensures.value) (omega (arith, c.if-header-ge-WEEK_MS.false))
+    let mask : TakesAll (numbers (signals h) ns) c.next_header-self.new.reader c.read_mask.new.reader = rw (← c.signals-signals.ensures.value) c.read_mask.ensures.fields in
+    is_cut_rest ns c.next_header-self.ensures.fields mask (c.read_mask.ensures.count ∙ c.satellites-satellites.ensures.value) (omega (arith, c.if-self-ge-WEEK_MS.false))
     (rw (← c.satellites-satellites.ensures.value, ← c.signals-signals.ensures.value) few)
     (rw (← c.satellites-satellites.ensures.value, ← c.signals-signals.ensures.value) c.read_mask.ensures.left)
     (omega (arith, c.if-remaining-satellites-2.true, c.remaining-3.ensures, c.satellites-satellites.ensures.value, c.ones-cells.ensures))
@@ -44,17 +44,17 @@ prove-unreachable-requires c =
 
 pub returns-clause-fields : goal.returns-clause-fields
 returns-clause-fields c =
-    let h = c.next_header-header.result in
+    let h = c.next_header-self.result in
     let ns = c.read_mask.new.mask in
     let few : c.satellites-satellites.result * c.signals-signals.result ≤ 64 = few_of c.has_too_many_cells.ensures c.if-has_too_many_cells.false in
-    let mask : TakesAll (numbers (signals h) ns) c.next_header-header.new.reader c.read_mask.new.reader = rw (← c.signals-signals.ensures.value) c.read_mask.ensures.fields in
-    let t = took_both c.next_header-header.ensures.fields (took_both mask (took_both c.read_column.ensures.fields (took_both c.read_column-2.ensures.fields (took_both c.read_column-3.ensures.fields
+    let mask : TakesAll (numbers (signals h) ns) c.next_header-self.new.reader c.read_mask.new.reader = rw (← c.signals-signals.ensures.value) c.read_mask.ensures.fields in
+    let t = took_both c.next_header-self.ensures.fields (took_both mask (took_both c.read_column.ensures.fields (took_both c.read_column-2.ensures.fields (took_both c.read_column-3.ensures.fields
         (took_both c.read_column-4.ensures.fields (took_both c.read_column-5.ensures.fields (took_both c.read_column-6.ensures.fields c.read_column-7.ensures.fields))))))) in
     let sats = c.satellites-satellites.ensures.value in
     let cells = c.ones-cells.ensures in
-    rw c.without_cells-message.ensures (record {
+    (record {
       fields_fit = t.fit;
-      time_in_week = c.if-header-ge-WEEK_MS.false;
+      time_in_week = c.if-self-ge-WEEK_MS.false;
       mask_bits = rw (← c.satellites-satellites.ensures.value, ← c.signals-signals.ensures.value) few;
       lengths = record {
         cell_mask = c.read_mask.ensures.count ∙ sats;
