@@ -23,7 +23,7 @@ word_field left width bits enough most =
     let high = bits / 2 ^ (left - width) in
     let all : width + (left - width) ≡ left = omega arith in
     let parts : bits_of left bits ≡ bits_of width high ++ bits_of (left - width) bits =
-        subst (λ (k : ℕ). bits_of k bits ≡ bits_of width high ++ bits_of (left - width) bits) all (bits_of-split width (left - width) bits) in
+    subst (λ (k : ℕ). bits_of k bits ≡ bits_of width high ++ bits_of (left - width) bits) all (bits_of-split width (left - width) bits) in
     rw (low_bits high width most) (record {
       fits = mod-lt high (pow_pos width);
       is = parts ∙ ap (λ (t : List Bool). t ++ bits_of (left - width) bits) (sym (bits_of-mod width high));

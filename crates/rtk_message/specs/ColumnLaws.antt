@@ -13,7 +13,6 @@ use Rattle.rtk_message.specs.FieldLaws.{bits_of_fields-append, fit-append, fit-l
 use Rattle.rtk_message.specs.Columns.{numbers, integers, flags}
 
 module _ {X : Type 0} (f : X → Field) where
-
   -- ---- steps of loops
 
   pub took_more : (xs : List X) (x : X) (a b c : List Bool) → TakesAll (map f xs) a b → Takes (f x) b c → TakesAll (map f (xs ++ x ∷ [])) a c
@@ -73,7 +72,7 @@ total-flags (b ∷ bs) = rw (total-flags bs) (omega arith)
 
 -- ---- bits that are set
 
--- the bits of the table have as many as the table together
+-- as many bits are set in the concatenated rows as in all rows together
 pub ones-numbers : (w : ℕ) (ns : List ℕ) → FieldsFit (numbers w ns) → count_ones (unsigned (bits_of_fields (numbers w ns))) ≡ sum_by count_ones ns
 unfolding unsigned lib.Count.ones
 ones-numbers w [] fit = refl
@@ -104,7 +103,7 @@ peel hs ks fs gs a b form p q e =
     let fp = fit-left hs fs p in
     let fq = fit-left ks gs q in
     let one = one_list hs ks (bits_of_fields fs ++ a) (bits_of_fields gs ++ b) form fp.0 fq.0
-        (sym (ap (λ (t : List Bool). t ++ a) (bits_of_fields-append hs fs) ∙ append_assoc (bits_of_fields hs) (bits_of_fields fs) a) ∙ e ∙ (ap (λ (t : List Bool). t ++ b) (bits_of_fields-append ks gs) ∙ append_assoc (bits_of_fields ks) (bits_of_fields gs) b)) in
+    (sym (ap (λ (t : List Bool). t ++ a) (bits_of_fields-append hs fs) ∙ append_assoc (bits_of_fields hs) (bits_of_fields fs) a) ∙ e ∙ (ap (λ (t : List Bool). t ++ b) (bits_of_fields-append ks gs) ∙ append_assoc (bits_of_fields ks) (bits_of_fields gs) b)) in
     record { here = one.0; left = fp.1; right = fq.1; behind = one.1 }
 
 form-numbers : (w v : ℕ) (ms ns : List ℕ) → w ≡ v → length ms ≡ length ns → SameForm (numbers w ms) (numbers v ns)

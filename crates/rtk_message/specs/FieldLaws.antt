@@ -64,11 +64,11 @@ pub fit-left : (fs gs : List Field) → FieldsFit (fs ++ gs) → FieldsFit fs ×
 fit-left [] gs p = (tt, p)
 fit-left (f ∷ fs) gs p = let r = fit-left fs gs p.1 in ((p.0, r.0), r.1)
 
--- bits_of_fields put behind fields
+-- fields put after fields
 pub put_both : {fs gs : List Field} {a b c : List Bool} → PutsAll fs a b → PutsAll gs b c → PutsAll (fs ++ gs) a c
 put_both {fs = fs} {gs = gs} {a = a} p q = record { is = q.is ∙ ap (λ (t : List Bool). t ++ bits_of_fields gs) p.is ∙ append_assoc a (bits_of_fields fs) (bits_of_fields gs) ∙ ap (λ (t : List Bool). a ++ t) (sym (bits_of_fields-append fs gs)) }
 
--- bits_of_fields behind fields
+-- fields taken after fields
 pub took_both : {fs gs : List Field} {a b c : List Bool} → TakesAll fs a b → TakesAll gs b c → TakesAll (fs ++ gs) a c
 took_both {fs = fs} {gs = gs} {c = c} p q = record {
   fit = fit-append fs gs p.fit q.fit;
@@ -79,7 +79,7 @@ took_both {fs = fs} {gs = gs} {c = c} p q = record {
 pub number_at : (before : List Field) (w n : ℕ) (fs : List Field) (bs rest : List Bool) (k : ℕ) → total before ≡ k → n < 2 ^ w → bs ≡ bits_of_fields (before ++ u w n ∷ fs) ++ rest → unsigned (take w (drop k bs)) ≡ n
 number_at before w n fs bs rest k at small e =
     let parts : bs ≡ bits_of_fields before ++ (bits_of w n ++ (bits_of_fields fs ++ rest)) =
-        e ∙ ap (λ (t : List Bool). t ++ rest) (bits_of_fields-append before (u w n ∷ fs)) ∙ append_assoc (bits_of_fields before) (bits_of w n ++ bits_of_fields fs) rest ∙ ap (λ (t : List Bool). bits_of_fields before ++ t) (append_assoc (bits_of w n) (bits_of_fields fs) rest) in
+    e ∙ ap (λ (t : List Bool). t ++ rest) (bits_of_fields-append before (u w n ∷ fs)) ∙ append_assoc (bits_of_fields before) (bits_of w n ++ bits_of_fields fs) rest ∙ ap (λ (t : List Bool). bits_of_fields before ++ t) (append_assoc (bits_of w n) (bits_of_fields fs) rest) in
     rw (parts, drop_at (bits_of_fields before) (bits_of w n ++ (bits_of_fields fs ++ rest)) k (length-bits_of_fields before ∙ at), take_at (bits_of w n) (bits_of_fields fs ++ rest) w (length-bits_of w n)) (unsigned-bits_of w n ∙ mod-eq_of_lt small)
 
 -- where nothing is left before the rest
@@ -95,9 +95,10 @@ took_word {fs = fs} {left = left} {rest = rest} p none e =
 -- ---- one reading
 
 split_same : (p q x y : List Bool) → length p ≡ length q → p ++ x ≡ q ++ y → (p ≡ q) × (x ≡ y)
-split_same p q x y len e =
-    (sym (take_at p x (length p) refl) ∙ ap (take (length p)) e ∙ take_at q y (length p) (sym len),
-     sym (drop_at p x (length p) refl) ∙ ap (drop (length p)) e ∙ drop_at q y (length p) (sym len))
+split_same p q x y len e = (
+  sym (take_at p x (length p) refl) ∙ ap (take (length p)) e ∙ take_at q y (length p) (sym len),
+  sym (drop_at p x (length p) refl) ∙ ap (drop (length p)) e ∙ drop_at q y (length p) (sym len),
+)
 
 bits_same : (w m n : ℕ) → m < 2 ^ w → n < 2 ^ w → bits_of w m ≡ bits_of w n → m ≡ n
 bits_same w m n p q e = sym (mod-eq_of_lt p) ∙ sym (unsigned-bits_of w m) ∙ ap unsigned e ∙ unsigned-bits_of w n ∙ mod-eq_of_lt q
@@ -165,7 +166,7 @@ pub flag_bit : (b : Bool) → bits_of 1 (bit b) ≡ b ∷ []
 flag_bit true = one_bit 1 (omega arith)
 flag_bit false = one_bit 0 (omega arith)
 
--- what so many bits hold, 64 do
+-- a number that fits at most 64 bits of two's complement fits an i64
 mag_below : (z : ℤ) (a b : ℕ) → neg_ℤ (pos a) ≤ℤ z → z <ℤ pos a → a ≤ b → mag z < b
 mag_below (pos n) a b lo hi h = omega (arith, ints)
 mag_below (negsuc n) a b lo hi h = omega (arith, ints)

@@ -1,4 +1,4 @@
--- One reading of a 1074, and none where there is a fault.
+-- One message 1074 of bits, and no fault where there is one.
 use Rattle.std.proofs.Common.{◌≡◌, ℕ, ℤ, Bool, true, false, List, [], ◌∷◌, ◌++◌, length, take, drop, Some, None, refl, sym, ap, ◌∙◌, ◌+◌, ◌*◌, ◌<◌, ◌≤◌, ltb, arith, append_assoc, length-append, sum_by, count_ones, ◌↔◌}
 use Rattle.std.proofs.lemmas.Bool.{le-ltb, lt-ltb, ltb-false, ltb_from_iff}
 use Rattle.std.proofs.lemmas.List.{take_at, drop_at}
@@ -25,11 +25,11 @@ pub header_says : {h : MsmHeader} {bs rest : List Bool} → TakesAll (header_tab
 header_says {h = h} {bs = bs} {rest = rest} took =
     let f = took.fit in
     let sat : satellites_of bs ≡ satellites h =
-        ap count_ones (number_at (u 12 h.station ∷ u 30 h.tow ∷ flag h.multiple_message ∷ u 3 h.issue_of_data_station ∷ u 7 h.reserved ∷ u 2 h.clock_steering ∷ u 2 h.external_clock ∷ flag h.smoothing ∷ u 3 h.smoothing_interval ∷ [])
-        64 h.satellite_mask (u 32 h.signal_mask ∷ []) bs rest 61 refl f.1.1.1.1.1.1.1.1.1.0 took.is) in
+    ap count_ones (number_at (u 12 h.station ∷ u 30 h.tow ∷ flag h.multiple_message ∷ u 3 h.issue_of_data_station ∷ u 7 h.reserved ∷ u 2 h.clock_steering ∷ u 2 h.external_clock ∷ flag h.smoothing ∷ u 3 h.smoothing_interval ∷ [])
+    64 h.satellite_mask (u 32 h.signal_mask ∷ []) bs rest 61 refl f.1.1.1.1.1.1.1.1.1.0 took.is) in
     let sig : count_ones (unsigned (take 32 (drop 125 bs))) ≡ signals h =
-        ap count_ones (number_at (u 12 h.station ∷ u 30 h.tow ∷ flag h.multiple_message ∷ u 3 h.issue_of_data_station ∷ u 7 h.reserved ∷ u 2 h.clock_steering ∷ u 2 h.external_clock ∷ flag h.smoothing ∷ u 3 h.smoothing_interval ∷ u 64 h.satellite_mask ∷ [])
-        32 h.signal_mask [] bs rest 125 refl f.1.1.1.1.1.1.1.1.1.1.0 took.is) in
+    ap count_ones (number_at (u 12 h.station ∷ u 30 h.tow ∷ flag h.multiple_message ∷ u 3 h.issue_of_data_station ∷ u 7 h.reserved ∷ u 2 h.clock_steering ∷ u 2 h.external_clock ∷ flag h.smoothing ∷ u 3 h.smoothing_interval ∷ u 64 h.satellite_mask ∷ [])
+    32 h.signal_mask [] bs rest 125 refl f.1.1.1.1.1.1.1.1.1.1.0 took.is) in
     record {
       tow_is = number_at (u 12 h.station ∷ []) 30 h.tow (flag h.multiple_message ∷ u 3 h.issue_of_data_station ∷ u 7 h.reserved ∷ u 2 h.clock_steering ∷ u 2 h.external_clock ∷ flag h.smoothing ∷ u 3 h.smoothing_interval ∷ u 64 h.satellite_mask ∷ u 32 h.signal_mask ∷ []) bs rest 12 refl f.1.0 took.is;
       satellites_is = sat;
@@ -101,10 +101,31 @@ length-columns m l =
     let s3 = integers 15 m.fine_range ++ s4 in
     let s2 = numbers 10 m.rough_fraction ++ s3 in
     let part : (fs gs : List Field) → length (bits_of_fields (fs ++ gs)) ≡ total fs + length (bits_of_fields gs) =
-        λ fs gs. ap length (bits_of_fields-append fs gs) ∙ length-append (bits_of_fields fs) (bits_of_fields gs) ∙ ap (λ (k : ℕ). k + length (bits_of_fields gs)) (length-bits_of_fields fs) in
-    omega (arith, part (numbers 8 m.rough_ms) s2, part (numbers 10 m.rough_fraction) s3, part (integers 15 m.fine_range) s4, part (integers 22 m.fine_phase) s5, part (numbers 4 m.lock_indicator) s6, part (flags m.half_cycle) (numbers 6 m.cnr),
-        length-bits_of_fields (numbers 6 m.cnr), total-numbers 8 m.rough_ms, total-numbers 10 m.rough_fraction, total-integers 15 m.fine_range, total-integers 22 m.fine_phase, total-numbers 4 m.lock_indicator, total-flags m.half_cycle, total-numbers 6 m.cnr,
-        l.rough_ms, l.rough_fraction, l.fine_range, l.fine_phase, l.lock_indicator, l.half_cycle, l.cnr)
+    λ fs gs. ap length (bits_of_fields-append fs gs) ∙ length-append (bits_of_fields fs) (bits_of_fields gs) ∙ ap (λ (k : ℕ). k + length (bits_of_fields gs)) (length-bits_of_fields fs) in
+    omega (
+      arith,
+      part (numbers 8 m.rough_ms) s2,
+      part (numbers 10 m.rough_fraction) s3,
+      part (integers 15 m.fine_range) s4,
+      part (integers 22 m.fine_phase) s5,
+      part (numbers 4 m.lock_indicator) s6,
+      part (flags m.half_cycle) (numbers 6 m.cnr),
+      length-bits_of_fields (numbers 6 m.cnr),
+      total-numbers 8 m.rough_ms,
+      total-numbers 10 m.rough_fraction,
+      total-integers 15 m.fine_range,
+      total-integers 22 m.fine_phase,
+      total-numbers 4 m.lock_indicator,
+      total-flags m.half_cycle,
+      total-numbers 6 m.cnr,
+      l.rough_ms,
+      l.rough_fraction,
+      l.fine_range,
+      l.fine_phase,
+      l.lock_indicator,
+      l.half_cycle,
+      l.cnr,
+    )
 
 -- the parts of a table
 pub split : (fs gs : List Field) (bs rest : List Bool) → FieldsFit (fs ++ gs) → bs ≡ bits_of_fields (fs ++ gs) ++ rest → TakesAll fs bs (bits_of_fields gs ++ rest)
@@ -124,7 +145,7 @@ is_accepted m rest valid =
     let time : h.tow < 604800000 = valid.time_in_week in
     let count = cells_says m.cell_mask head mask valid.lengths.cell_mask in
     let l1 : length (bits_of_fields behind ++ rest) ≡ signals h * satellites h + length (bits_of_fields (columns m) ++ rest) =
-        ap length mask.is ∙ length-append (bits_of_fields (mask_table m)) (bits_of_fields (columns m) ++ rest) ∙ ap (λ (k : ℕ). k + length (bits_of_fields (columns m) ++ rest)) (length-bits_of_fields (mask_table m) ∙ total-numbers (signals h) m.cell_mask ∙ ap (λ (k : ℕ). signals h * k) valid.lengths.cell_mask) in
+    ap length mask.is ∙ length-append (bits_of_fields (mask_table m)) (bits_of_fields (columns m) ++ rest) ∙ ap (λ (k : ℕ). k + length (bits_of_fields (columns m) ++ rest)) (length-bits_of_fields (mask_table m) ∙ total-numbers (signals h) m.cell_mask ∙ ap (λ (k : ℕ). signals h * k) valid.lengths.cell_mask) in
     is_whole head (omega (arith, time)) valid.mask_bits (omega (arith, says.len, says.mask_bits_is, says.satellites_is, count, l1, length-append (bits_of_fields (columns m)) rest, length-columns m valid.lengths))
 
 make_header : ℕ → ℕ → Bool → ℕ → ℕ → ℕ → ℕ → Bool → ℕ → ℕ → ℕ → MsmHeader
@@ -167,7 +188,7 @@ is_unique m n a b p q e =
     let all : make m.header m.cell_mask m.rough_ms m.rough_fraction m.fine_range m.fine_phase m.lock_indicator m.half_cycle m.cnr ≡ make n.header n.cell_mask n.rough_ms n.rough_fraction n.fine_range n.fine_phase n.lock_indicator n.half_cycle n.cnr = cc in
     sym (made m) ∙ all ∙ made n
 
--- ---- parts of what has a spelling
+-- ---- the columns of a valid message
 
 pub each_fits : (m : Msm1074) → FieldsFit (table m) → EachFits m
 each_fits m p =
@@ -198,6 +219,6 @@ all_fit m h p =
 pub is_valid : (m : Msm1074) → FieldsFit (header_table m.header) → m.header.tow < 604800000 → satellites m.header * signals m.header ≤ 64 → HasLengths m → EachFits m → IsValid m
 is_valid m head time few lengths each = record { fields_fit = all_fit m head each; time_in_week = time; mask_bits = few; lengths = lengths }
 
--- not more than 64, by a test of more
+-- at most 64, where a test of more than 64 says no
 pub few_of : {b : Bool} {k : ℕ} → ((b ≡ true) ↔ (64 < k)) → b ≡ false → k ≤ 64
 few_of {k = k} test none = ltb-false 64 k (sym (ltb_from_iff test) ∙ none)

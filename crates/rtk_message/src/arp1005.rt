@@ -47,6 +47,7 @@ impl Layout for Arp1005 {
     ghost use Rattle.rtk_message.specs.Arp1005Laws.{is_accepted, is_unique};
 
     ghost NUMBER = { 1005 };
+
     const NUMBER: u16 = 1005;
 
     ghost table = { table };
@@ -116,7 +117,10 @@ impl Arp1005 {
     fn fields_fit(self) -> bool
         ensures { IsTrue result ↔ FieldsFit (table self) }
     {
-        if self.station >= 1 << 12 || self.realization_year >= 1 << 6 || self.quarter_cycle >= 1 << 2 {
+        if self.station >= 1 << 12
+            || self.realization_year >= 1 << 6
+            || self.quarter_cycle >= 1 << 2
+        {
             return false;
         }
         fits_i38(self.x) && fits_i38(self.y) && fits_i38(self.z)

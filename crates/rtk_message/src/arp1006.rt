@@ -49,6 +49,7 @@ impl Layout for Arp1006 {
     ghost use Rattle.rtk_message.specs.Arp1006Laws.{is_accepted, is_unique};
 
     ghost NUMBER = { 1006 };
+
     const NUMBER: u16 = 1006;
 
     ghost table = { table };
@@ -120,7 +121,10 @@ impl Arp1006 {
     fn fields_fit(self) -> bool
         ensures { IsTrue result ↔ FieldsFit (table self) }
     {
-        if self.station >= 1 << 12 || self.realization_year >= 1 << 6 || self.quarter_cycle >= 1 << 2 {
+        if self.station >= 1 << 12
+            || self.realization_year >= 1 << 6
+            || self.quarter_cycle >= 1 << 2
+        {
             return false;
         }
         fits_i38(self.x) && fits_i38(self.y) && fits_i38(self.z)

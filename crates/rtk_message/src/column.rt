@@ -3,7 +3,7 @@ ghost use Rattle.std.specs.Prelude.{◌≡◌, ◌<◌, ◌≤◌, ◌*◌, ◌+
 ghost use Rattle.rtk_message.specs.Fields.{TakesAll, PutsAll, FieldsFit};
 
 use crate::value::FieldValue;
-use crate::word::{next_word, Word};
+use crate::word::{Word, next_word};
 use arrayvec::ArrayVec;
 use rtk_bits::{BitReader, BitWriter};
 use std::alloc::AllocError;
@@ -80,7 +80,12 @@ impl<T: Eq> Eq for Column<T> {
 }
 
 /// Reads so many fields of one width into an empty column, as many at once as 64 bits hold.
-pub fn read_column<T: FieldValue>(column: &mut Column<T>, reader: &mut BitReader<'_>, count: usize, width: usize)
+pub fn read_column<T: FieldValue>(
+    column: &mut Column<T>,
+    reader: &mut BitReader<'_>,
+    count: usize,
+    width: usize,
+)
     requires empty { column.old ≡ [] }
     requires few { count ≤ 64 }
     requires width { T.IsWidth width }
@@ -115,7 +120,11 @@ fn push_fields<T: FieldValue>(column: &mut Column<T>, word: &mut Word, fields: u
 }
 
 /// Puts a field of one width for each value.
-pub fn put_column<T: FieldValue>(writer: &mut BitWriter, column: &Column<T>, width: usize) -> Result<(), AllocError>
+pub fn put_column<T: FieldValue>(
+    writer: &mut BitWriter,
+    column: &Column<T>,
+    width: usize,
+) -> Result<(), AllocError>
     requires width { T.IsWidth width }
     requires some { 1 ≤ width }
     requires fit { FieldsFit (map (T.field width) column.now) }

@@ -41,5 +41,4 @@ fn write_as<T: Layout>(writer: &mut BitWriter, message: &T) -> Result<(), AllocE
 /// A law: what `encode` gives of a message, `decode` reads as this message.
 pub fn decode_of_encode()
     ensures { (m : Message) (payload : List ℕ) (r : Result Message DecodeFault) → IsValid m → IsPayloadOf m payload → Decodes (bits payload) r → r ≡ Ok m }
-{
-}
+{}

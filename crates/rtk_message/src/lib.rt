@@ -1,21 +1,21 @@
 //! Messages of a base station: 1004, 1005, 1006 and 1074 of RTCM 10403.3, by their tables of fields.
 #![tactic(auto)]
 
-mod fault;
-mod field;
-mod word;
-mod layout;
-mod satellites;
-mod obs1004;
 mod arp1005;
 mod arp1006;
-mod value;
 mod column;
-mod mask;
-mod msm1074;
-mod message;
 mod decoding;
 mod encoding;
+mod fault;
+mod field;
+mod layout;
+mod mask;
+mod message;
+mod msm1074;
+mod obs1004;
+mod satellites;
+mod value;
+mod word;
 
 pub use arp1005::Arp1005;
 pub use arp1006::Arp1006;
@@ -28,7 +28,6 @@ pub use message::Message;
 pub use msm1074::{Msm1074, MsmHeader};
 pub use obs1004::Obs1004;
 pub use satellites::{Satellite, Satellites};
-
 
 #[cfg(test)]
 mod tests;

@@ -3,14 +3,19 @@ ghost use Rattle.std.specs.Prelude.{◌≡◌, ◌≤◌, ◌*◌, ◌+◌, [], 
 ghost use Rattle.rtk_message.specs.Fields.{TakesAll, PutsAll, FieldsFit};
 ghost use Rattle.rtk_message.specs.Columns.{numbers};
 
-use crate::column::{put_column, read_column, Column};
+use crate::column::{Column, put_column, read_column};
 use rtk_bits::{BitReader, BitWriter};
 use std::alloc::AllocError;
 
 /// Reads a row of `signals` bits for each satellite, satellite by satellite, into an empty mask.
 ///
 /// Where there is no signal the rows have no bits, and each is 0.
-pub fn read_mask(mask: &mut Column<u32>, reader: &mut BitReader<'_>, satellites: usize, signals: usize)
+pub fn read_mask(
+    mask: &mut Column<u32>,
+    reader: &mut BitReader<'_>,
+    satellites: usize,
+    signals: usize,
+)
     requires empty { mask.old ≡ [] }
     requires few { (satellites ≤ 64) × (signals ≤ 32) }
     requires enough { signals * satellites ≤ length reader.old }
@@ -28,7 +33,11 @@ pub fn read_mask(mask: &mut Column<u32>, reader: &mut BitReader<'_>, satellites:
 }
 
 /// Puts the rows.
-pub fn put_mask(writer: &mut BitWriter, mask: &Column<u32>, signals: usize) -> Result<(), AllocError>
+pub fn put_mask(
+    writer: &mut BitWriter,
+    mask: &Column<u32>,
+    signals: usize,
+) -> Result<(), AllocError>
     requires few { signals ≤ 32 }
     requires fit { FieldsFit (numbers signals mask.now) }
     ensures { OnOk result (PutsAll (numbers signals mask.now) writer.old writer.new) }

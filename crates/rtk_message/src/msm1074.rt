@@ -4,9 +4,9 @@ ghost use Rattle.rtk_message.specs.Fields.{TakesAll, PutsAll, FieldsFit};
 ghost use Rattle.rtk_message.specs.Columns.{numbers};
 ghost use Rattle.rtk_message.specs.Msm1074.{header_table, EachFits, HasLengths};
 
-use crate::column::{column_fits, put_column, read_column, Column};
+use crate::column::{Column, column_fits, put_column, read_column};
 use crate::fault::DecodeFault;
-use crate::field::{put_flag, put_u, WEEK_MS};
+use crate::field::{WEEK_MS, put_flag, put_u};
 use crate::layout::Layout;
 use crate::mask::{ones, put_mask, read_mask};
 use crate::word::next_word;
@@ -154,6 +154,7 @@ impl Layout for Msm1074 {
     ghost use Rattle.rtk_message.specs.Msm1074Laws.{is_accepted, is_unique};
 
     ghost NUMBER = { 1074 };
+
     const NUMBER: u16 = 1074;
 
     ghost table = { table };
@@ -244,11 +245,17 @@ impl Msm1074 {
         ensures { IsTrue result ↔ HasLengths self.now }
     {
         let satellites = self.header.satellites();
-        if self.cell_mask.len() != satellites || self.rough_ms.len() != satellites || self.rough_fraction.len() != satellites {
+        if self.cell_mask.len() != satellites
+            || self.rough_ms.len() != satellites
+            || self.rough_fraction.len() != satellites
+        {
             return false;
         }
         let cells = ones(&self.cell_mask) as usize;
-        if self.fine_range.len() != cells || self.fine_phase.len() != cells || self.lock_indicator.len() != cells {
+        if self.fine_range.len() != cells
+            || self.fine_phase.len() != cells
+            || self.lock_indicator.len() != cells
+        {
             return false;
         }
         self.half_cycle.len() == cells && self.cnr.len() == cells

@@ -6,7 +6,7 @@ ghost use Rattle.rtk_message.specs.Fields.{TakesAll, PutsAll, FieldsFit};
 ghost use Rattle.rtk_message.specs.Obs1004.{satellite_table};
 
 use crate::fault::DecodeFault;
-use crate::field::{put_flag, put_i16, put_i32, put_u, WEEK_MS};
+use crate::field::{WEEK_MS, put_flag, put_i16, put_i32, put_u};
 use crate::layout::Layout;
 use crate::satellites::{Satellite, Satellites};
 use crate::word::next_word;
@@ -38,6 +38,7 @@ impl Layout for Obs1004 {
     ghost use Rattle.rtk_message.specs.Obs1004Laws.{is_accepted, is_unique};
 
     ghost NUMBER = { 1004 };
+
     const NUMBER: u16 = 1004;
 
     ghost table = { table };
@@ -183,7 +184,10 @@ impl Satellite {
     fn fits(self) -> bool
         ensures { IsTrue result ↔ FieldsFit (satellite_table self) }
     {
-        if self.satellite >= 1 << 6 || self.l1_range >= 1 << 24 || self.l1_lock_indicator >= 1 << 7 {
+        if self.satellite >= 1 << 6
+            || self.l1_range >= 1 << 24
+            || self.l1_lock_indicator >= 1 << 7
+        {
             return false;
         }
         if self.l2_code >= 1 << 2 || self.l2_lock_indicator >= 1 << 7 {

@@ -131,5 +131,9 @@ fn signed_of(bits: u64, width: usize) -> i64
     ensures bits { signed_bits_of width result ≡ bits_of width bits }
 {
     let sign = 1 << (width - 1);
-    if bits < sign { bits as i64 } else { -((2 * sign - bits) as i64) }
+    if bits < sign {
+        bits as i64
+    } else {
+        -((2 * sign - bits) as i64)
+    }
 }

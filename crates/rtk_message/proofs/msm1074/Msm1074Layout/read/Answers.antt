@@ -39,7 +39,7 @@ prove-unreachable-requires c =
     let ns = c.read_mask.new.mask in
     let few : c.satellites-satellites.result * c.signals-signals.result ≤ 64 = few_of c.has_too_many_cells.ensures c.if-has_too_many_cells.false in
     let cells : sum_by count_ones ns ≤ c.signals-signals.result * c.satellites-satellites.result =
-        rw (← c.read_mask.ensures.count) (ones-few c.signals-signals.result ns c.read_mask.ensures.fields.fit) in
+    rw (← c.read_mask.ensures.count) (ones-few c.signals-signals.result ns c.read_mask.ensures.fields.fit) in
     absurd (omega (arith, few, cells, c.ones-cells.ensures, c.if-prove.true))
 
 pub returns-clause-fields : goal.returns-clause-fields
@@ -49,21 +49,23 @@ returns-clause-fields c =
     let few : c.satellites-satellites.result * c.signals-signals.result ≤ 64 = few_of c.has_too_many_cells.ensures c.if-has_too_many_cells.false in
     let mask : TakesAll (numbers (signals h) ns) c.next_header-self.new.reader c.read_mask.new.reader = rw (← c.signals-signals.ensures.value) c.read_mask.ensures.fields in
     let t = took_both c.next_header-self.ensures.fields (took_both mask (took_both c.read_column.ensures.fields (took_both c.read_column-2.ensures.fields (took_both c.read_column-3.ensures.fields
-        (took_both c.read_column-4.ensures.fields (took_both c.read_column-5.ensures.fields (took_both c.read_column-6.ensures.fields c.read_column-7.ensures.fields))))))) in
+    (took_both c.read_column-4.ensures.fields (took_both c.read_column-5.ensures.fields (took_both c.read_column-6.ensures.fields c.read_column-7.ensures.fields))))))) in
     let sats = c.satellites-satellites.ensures.value in
-    let cells = c.ones-cells.ensures in
-    (record {
-      fields_fit = t.fit;
-      time_in_week = c.if-self-ge-WEEK_MS.false;
-      mask_bits = rw (← c.satellites-satellites.ensures.value, ← c.signals-signals.ensures.value) few;
-      lengths = record {
-        cell_mask = c.read_mask.ensures.count ∙ sats;
-        rough_ms = c.read_column.ensures.count ∙ sats;
-        rough_fraction = c.read_column-2.ensures.count ∙ sats;
-        fine_range = c.read_column-3.ensures.count ∙ cells;
-        fine_phase = c.read_column-4.ensures.count ∙ cells;
-        lock_indicator = c.read_column-5.ensures.count ∙ cells;
-        half_cycle = c.read_column-6.ensures.count ∙ cells;
-        cnr = c.read_column-7.ensures.count ∙ cells;
-      };
-    }, t)
+    let cells = c.ones-cells.ensures in (
+      record {
+        fields_fit = t.fit;
+        time_in_week = c.if-self-ge-WEEK_MS.false;
+        mask_bits = rw (← c.satellites-satellites.ensures.value, ← c.signals-signals.ensures.value) few;
+        lengths = record {
+          cell_mask = c.read_mask.ensures.count ∙ sats;
+          rough_ms = c.read_column.ensures.count ∙ sats;
+          rough_fraction = c.read_column-2.ensures.count ∙ sats;
+          fine_range = c.read_column-3.ensures.count ∙ cells;
+          fine_phase = c.read_column-4.ensures.count ∙ cells;
+          lock_indicator = c.read_column-5.ensures.count ∙ cells;
+          half_cycle = c.read_column-6.ensures.count ∙ cells;
+          cnr = c.read_column-7.ensures.count ∙ cells;
+        };
+      },
+      t,
+    )

@@ -13,6 +13,7 @@ returns c =
     let b : FitsSigned 14 s.l2_range_difference = c.fits_i14.ensures.0 (search rules) in
     let modulus_ambiguity : s.modulus_ambiguity < 256 = search rules in
     let l1_cnr : s.l1_cnr < 256 = search rules in
-    let l2_cnr : s.l2_cnr < 256 = search rules in
-    (λ h. (omega arith, (tt, (omega arith, (a, (omega arith, (modulus_ambiguity, (l1_cnr, (omega arith, (b, (c.fits_i20-2.ensures.0 h, (omega arith, (l2_cnr, tt)))))))))))),
-     λ p. c.fits_i20-2.ensures.1 p.1.1.1.1.1.1.1.1.1.0)
+    let l2_cnr : s.l2_cnr < 256 = search rules in (
+      λ h. (omega arith, (tt, (omega arith, (a, (omega arith, (modulus_ambiguity, (l1_cnr, (omega arith, (b, (c.fits_i20-2.ensures.0 h, (omega arith, (l2_cnr, tt)))))))))))),
+      λ p. c.fits_i20-2.ensures.1 p.1.1.1.1.1.1.1.1.1.0,
+    )
