@@ -165,13 +165,3 @@ one_bit (suc (suc n)) h = absurd (omega arith)
 pub flag_bit : (b : Bool) → bits_of 1 (bit b) ≡ b ∷ []
 flag_bit true = one_bit 1 (omega arith)
 flag_bit false = one_bit 0 (omega arith)
-
--- a number that fits at most 64 bits of two's complement fits an i64
-mag_below : (z : ℤ) (a b : ℕ) → neg_ℤ (pos a) ≤ℤ z → z <ℤ pos a → a ≤ b → mag z < b
-mag_below (pos n) a b lo hi h = omega (arith, ints)
-mag_below (negsuc n) a b lo hi h = omega (arith, ints)
-
-pub int_fits : (w : ℕ) (z : ℤ) → 1 ≤ w → w ≤ 64 → FitsSigned w z → SFits w64 z
-int_fits w z few h fits =
-    let k : 2 ^ (w - 1) ≤ 2 ^ 63 = (let e : w - 1 ≤ 63 = omega arith in pow_mono e) in
-    record { sfits = mag_below z (2 ^ (w - 1)) (2 ^ 63) fits.0 fits.1 k }

@@ -202,9 +202,6 @@ each_fits m p =
     let h = fit-left (flags m.half_cycle) _ g.1 in
     record { cell_mask = b.0; rough_ms = c.0; rough_fraction = d.0; fine_range = e.0; fine_phase = f.0; lock_indicator = g.0; cnr = h.1 }
 
-pub header_fits : (m : Msm1074) → FieldsFit (table m) → FieldsFit (header_table m.header)
-header_fits m p = (fit-left (header_table m.header) (mask_table m ++ columns m) p).0
-
 pub all_fit : (m : Msm1074) → FieldsFit (header_table m.header) → EachFits m → FieldsFit (table m)
 all_fit m h p =
     fit-append (header_table m.header) (mask_table m ++ columns m) h
