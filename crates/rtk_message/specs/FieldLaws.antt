@@ -64,11 +64,11 @@ pub fit-left : (fs gs : List Field) → FieldsFit (fs ++ gs) → FieldsFit fs ×
 fit-left [] gs p = (tt, p)
 fit-left (f ∷ fs) gs p = let r = fit-left fs gs p.1 in ((p.0, r.0), r.1)
 
--- fields put after fields
+-- bits_of_fields put behind fields
 pub put_both : {fs gs : List Field} {a b c : List Bool} → PutsAll fs a b → PutsAll gs b c → PutsAll (fs ++ gs) a c
 put_both {fs = fs} {gs = gs} {a = a} p q = record { is = q.is ∙ ap (λ (t : List Bool). t ++ bits_of_fields gs) p.is ∙ append_assoc a (bits_of_fields fs) (bits_of_fields gs) ∙ ap (λ (t : List Bool). a ++ t) (sym (bits_of_fields-append fs gs)) }
 
--- fields taken after fields
+-- bits_of_fields behind fields
 pub took_both : {fs gs : List Field} {a b c : List Bool} → TakesAll fs a b → TakesAll gs b c → TakesAll (fs ++ gs) a c
 took_both {fs = fs} {gs = gs} {c = c} p q = record {
   fit = fit-append fs gs p.fit q.fit;

@@ -61,7 +61,7 @@ pub record HasNoCells (m : Msm1074) : Type 0 where
   pub half_cycle : m.half_cycle ≡ []
   pub cnr : m.cnr ≡ []
 
--- each value of the columns fits its width; those of DF420 are single bits and always do
+-- each value fits its width, in the columns where it may not
 pub record EachFits (m : Msm1074) : Type 0 where
   pub cell_mask : FieldsFit (numbers (signals m.header) m.cell_mask)
   pub rough_ms : FieldsFit (numbers 8 m.rough_ms)

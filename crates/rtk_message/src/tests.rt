@@ -334,7 +334,10 @@ fn the_longest_messages_have_their_lengths(rt: HostRuntime) -> Result<(), Fail> 
     let mut satellites = Satellites::new();
     for satellite in 0..31 {
         if satellites.len() < 31 {
-            satellites.push(Satellite { satellite, ..Satellite::default() });
+            satellites.push(Satellite {
+                satellite,
+                ..Satellite::default()
+            });
         }
     }
     let observations = Message::Obs1004(Obs1004 {
