@@ -1,5 +1,5 @@
 -- `==` on cells is equality of all their fields.
-use Rattle.std.proofs.Common.{rules, ◌≡◌, ℕ, ℤ, Option, Some, None, Bool, true, false, ◌&&◌, nat_eq, int_eq, refl, sym, ◌∙◌, ap, subst}
+use Rattle.std.proofs.Common.{rules, ◌≡◌, ℕ, ℤ, Option, Some, None, Bool, true, false, ◌&&◌, nat_eq, int_eq, refl, ◌∙◌, ap, subst}
 use Rattle.std.specs.Bool.{Decides, beq}
 use Rattle.std.specs.Option.{option_eq}
 use Rattle.std.proofs.lemmas.Bool.Decides.{Decides-int_eq, Decides-eqb}

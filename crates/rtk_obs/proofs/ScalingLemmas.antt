@@ -1,9 +1,9 @@
 -- Values of lengths and times that the code computed.
-use Rattle.std.proofs.Common.{◌≡◌, ℤ, pos, ◌+ℤ◌, ◌*ℤ◌, Option, Some, refl}
+use Rattle.std.proofs.Common.{◌≡◌, ℤ, ◌+ℤ◌, Option, Some, refl}
 use Rattle.rtk_obs.specs.declared.code.Band.{Band}
-use Rattle.rtk_obs.specs.Scaling.{range_of_length, phase_of_length, range_of_time, phase_of_time, l2_length, range_time}
-use Rattle.rtk_obs.specs.LegacyCells.{l2_range_of, legacy_phase_of}
-use Rattle.rtk_obs.specs.MsmCells.{fine_range_of, fine_phase_of}
+use Rattle.rtk_obs.specs.Scaling.{phase_of_length, phase_of_time}
+use Rattle.rtk_obs.specs.LegacyCells.{legacy_phase_of}
+use Rattle.rtk_obs.specs.MsmCells.{fine_phase_of}
 
 pub legacy_phase-some : (band : Band) (length offset sum result shown : ℤ) (o : Option ℤ) → o ≡ Some offset → result ≡ phase_of_length band sum → sum ≡ length +ℤ offset → shown ≡ result → Some shown ≡ legacy_phase_of band length o
 legacy_phase-some band length offset sum result shown o e f g h = rw (e, h, f, g) refl

@@ -1,5 +1,5 @@
 -- What the fields of a satellite of a 1004 keep by their widths.
-use Rattle.std.specs.Prelude.{ℕ, ◌<◌}
+use Rattle.std.specs.Prelude.{◌<◌}
 use Rattle.rtk_message.specs.declared.satellites.Satellite.{Satellite}
 
 -- the widths of DF013, DF019 (7 bits) and DF015, DF020 (8 bits)

@@ -1,4 +1,4 @@
-use Rattle.std.proofs.Common.{◌≡◌, refl, arith}
+use Rattle.std.proofs.Common.{arith}
 use Rattle.std.proofs.lemmas.Grind.{common_steps}
 use Rattle.rtk_obs.specs.LegacyCells.{first_entries}
 use Rattle.rtk_obs.proofs.LegacyLemmas.{cells-used, cells-unused}
