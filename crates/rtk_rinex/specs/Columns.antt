@@ -1,4 +1,4 @@
--- Numbers and texts in columns (RINEX 3.05, section 6.1: Fortran formats Fw.d, Iw and Aw).
+-- Numbers and texts in columns, by the formats that RINEX 3.05 names in Tables A2 and A3: Fw.d, Iw, Aw.
 use Rattle.std.specs.Prelude.{ℕ, zero, suc, ◌+◌, ◌-◌, ◌/◌, ◌%◌, ◌^◌, List, [], ◌∷◌, ◌++◌, length, replicate, ℤ, pos, negsuc, unsigned_abs, Bool, true, false, decimal}
 use Rattle.std.specs.Fmt.{sign_text}
 

@@ -108,16 +108,15 @@ impl Head {
         if made.ms() % 1000 != 0 {
             return Err(HeadFault::Made);
         }
-        let mut kept = ArrayVec::new();
-        let Ok(()) = kept.try_extend_from_slice(marker) else {
-            return Err(HeadFault::Marker);
-        };
+        let mut name = ArrayVec::new();
         let mut listed = ArrayVec::new();
-        let Ok(()) = listed.try_extend_from_slice(codes) else {
-            return Err(HeadFault::Codes);
-        };
+        if name.try_extend_from_slice(marker).is_err()
+            || listed.try_extend_from_slice(codes).is_err()
+        {
+            unreachable!();
+        }
         Ok(Head {
-            marker: kept,
+            marker: name,
             listed,
             made,
         })
