@@ -1,12 +1,18 @@
-ghost use Rattle.std.specs.Prelude.{◌≡◌, ◌+◌, ◌-◌, ◌*◌, ◌/◌, ◌^◌, ◌<◌, ◌≤◌, ◌↔◌, length, take, drop, IsSome, IfSome, IfNone, OnSome};
-ghost use Rattle.rtk_bits.specs.Bits.{bits, unsigned, signed};
+//! A reader of bit fields, which contracts see as the list of the bits that are left.
+
+ghost use Rattle.std.specs.Prelude.{◌≡◌, ◌+◌, ◌*◌, ◌^◌, ◌<◌, ◌≤◌, ◌↔◌, ◌++◌, length, take, drop, IsSome, IfSome, IfNone, OnSome};
+ghost use Rattle.rtk_bits.specs.Bits.{bits, bits_of, unsigned, signed, signed_bits_of, FitsSigned};
 
 use std::marker::Model;
 
-/// Reads fields of bits from bytes. A contract sees the bits that are left.
+/// Reads fields of 1 to 64 bits from bytes, the most significant bit first.
+///
+/// A contract sees the bits that are left. Reading takes no memory.
 #[derive(Drop)]
 pub struct BitReader<'a> {
+    // The bytes from the first one that has a bit left.
     rest: &'a [u8],
+    // How many bits of its first byte are taken, 0 to 7.
     skip: usize,
 }
 
@@ -22,7 +28,7 @@ impl<'a> Model for BitReader<'a> {
 }
 
 impl<'a> BitReader<'a> {
-    /// A reader of all bits of the bytes.
+    /// A reader at the first bit of the bytes.
     pub fn new(bytes: &'a [u8]) -> BitReader<'a>
         ensures { result ≡ bits bytes.now }
     {
@@ -32,20 +38,24 @@ impl<'a> BitReader<'a> {
         }
     }
 
-    /// How many bits are left.
+    /// How many bits are left. A slice may have more bits than a `usize` counts.
     pub fn remaining(&self) -> u128
         ensures { result ≡ length self.now }
     {
         self.rest.len() as u128 * 8 - self.skip as u128
     }
 
-    /// The unsigned number of the next bits. Where fewer are left nothing is taken.
+    /// Takes the next `width` bits, 1 to 64, as an unsigned number (RTCM 10403.3, data types
+    /// `uint` and `bit`).
+    ///
+    /// Where fewer bits are left it answers `None` and takes nothing.
     pub fn take_u(&mut self, width: usize) -> Option<u64>
         requires { (1 ≤ width) × (width ≤ 64) }
         ensures enough { IsSome result ↔ (width ≤ length self.old) }
         ensures number { IfSome result (λ n. n ≡ unsigned (take width self.old)) }
         ensures bound { IfSome result (λ n. n < 2 ^ width) }
         ensures rest { OnSome result (self.new ≡ drop width self.old) }
+        ensures field { IfSome result (λ n. self.old ≡ bits_of width n ++ self.new) }
         ensures short { IfNone result (self.new ≡ self.old) }
     {
         let end = self.skip + width;
@@ -58,12 +68,17 @@ impl<'a> BitReader<'a> {
         Some(number)
     }
 
-    /// The two's complement number of the next bits. Where fewer are left nothing is taken.
+    /// Takes the next `width` bits, 1 to 64, as a two's complement number (RTCM 10403.3, data
+    /// type `int`).
+    ///
+    /// Where fewer bits are left it answers `None` and takes nothing.
     pub fn take_i(&mut self, width: usize) -> Option<i64>
         requires { (1 ≤ width) × (width ≤ 64) }
         ensures enough { IsSome result ↔ (width ≤ length self.old) }
         ensures number { IfSome result (λ z. z ≡ signed (take width self.old)) }
+        ensures bound { IfSome result (λ z. FitsSigned width z) }
         ensures rest { OnSome result (self.new ≡ drop width self.old) }
+        ensures field { IfSome result (λ z. self.old ≡ signed_bits_of width z ++ self.new) }
         ensures short { IfNone result (self.new ≡ self.old) }
     {
         let number = self.take_u(width)?;
@@ -72,7 +87,8 @@ impl<'a> BitReader<'a> {
     }
 }
 
-// The number of the width bits behind the first skip bits.
+// The number of the `width` bits behind the first `skip` bits: from one load of eight bytes, or,
+// near the end of the bytes and where the field ends in a ninth byte, from the bytes up to its end.
 fn field_at(bytes: &[u8], skip: usize, width: usize) -> u64
     requires low { (skip < 8) × (1 ≤ width) × (width ≤ 64) }
     requires within { skip + width ≤ 8 * length bytes.now }
@@ -80,18 +96,17 @@ fn field_at(bytes: &[u8], skip: usize, width: usize) -> u64
 {
     let end = skip + width;
     let mask = u64::MAX >> (64 - width);
-    if end <= 64 && bytes.len() >= 8 {
-        let word = u64::from_be_bytes([
-            bytes[0], bytes[1], bytes[2], bytes[3], bytes[4], bytes[5], bytes[6], bytes[7],
-        ]);
-        (word >> (64 - end)) & mask
-    } else {
-        let count = (end + 7) / 8;
-        let word = big_endian(&bytes[..count]);
-        ((word >> (8 * count - end)) & mask as u128) as u64
+    match bytes.first_chunk::<8>() {
+        Some(chunk) if end <= 64 => (u64::from_be_bytes(*chunk) >> (64 - end)) & mask,
+        _ => {
+            let count = (end + 7) / 8;
+            let word = big_endian(&bytes[..count]);
+            ((word >> (8 * count - end)) & mask as u128) as u64
+        }
     }
 }
 
+// The number that at most sixteen bytes write.
 fn big_endian(bytes: &[u8]) -> u128
     requires { length bytes.now ≤ 16 }
     ensures { result ≡ unsigned (bits bytes.now) }

@@ -1,15 +1,22 @@
-ghost use Rattle.std.specs.Prelude.{◌≡◌, ◌+◌, ◌-◌, ◌*◌, ◌/◌, ◌%◌, ◌^◌, ◌<◌, ◌≤◌, [], ◌++◌, length, replicate, false, OnOk, OnErr};
+//! A writer of bit fields, which contracts see as the list of the bits put so far.
+
+ghost use Rattle.std.specs.Prelude.{◌≡◌, ◌^◌, ◌<◌, ◌≤◌, [], ◌++◌, length, OnOk, OnErr};
 ghost use Rattle.rtk_bits.specs.Bits.{bits, bits_of, signed_bits_of, FitsSigned, padding};
 
 use std::alloc::{AllocError, Global};
 use std::marker::Model;
 
-/// Writes fields of bits. A contract sees the bits put so far.
+/// Writes fields of 1 to 64 bits, the most significant bit first.
+///
+/// A contract sees the bits that were put.
 #[derive(Drop)]
 pub struct BitWriter {
-    done: Vec<u8>,
+    // The whole bytes.
+    bytes: Vec<u8>,
+    // The number of the bits behind them.
     tail: u8,
-    held: usize,
+    // How many these are, 0 to 7.
+    tail_width: usize,
 }
 
 impl Model for BitWriter {
@@ -18,40 +25,54 @@ impl Model for BitWriter {
 
     ghost Value = { List Bool };
 
-    ghost view = { λ w. bits w.done.items ++ bits_of w.held w.tail };
+    ghost view = { λ w. bits w.bytes.items ++ bits_of w.tail_width w.tail };
 
-    ghost invariant = { λ w. (w.held < 8) × (w.tail < 2 ^ w.held) × (0 < w.held → vec_len w.done < vec_capacity w.done) };
+    // With a tail there is room for the byte that `finish` makes of it.
+    ghost invariant = { λ w. (w.tail_width < 8) × (w.tail < 2 ^ w.tail_width) × (0 < w.tail_width → vec_len w.bytes < vec_capacity w.bytes) };
 }
 
 impl BitWriter {
+    /// A writer with no bits. It takes no memory before the first field is put.
     pub fn new(alloc: Global) -> BitWriter
         ensures { result ≡ [] }
     {
         BitWriter {
-            done: Vec::new(alloc),
+            bytes: Vec::new(alloc),
             tail: 0,
-            held: 0,
+            tail_width: 0,
         }
     }
 
-    /// Puts the width bits of a number. After an `Err` the writer is unchanged.
+    /// Puts an unsigned number in `width` bits, 1 to 64 (RTCM 10403.3, data types `uint` and
+    /// `bit`).
+    ///
+    /// # Errors
+    ///
+    /// Where memory is refused; the writer is then unchanged.
     pub fn put_u(&mut self, width: usize, value: u64) -> Result<(), AllocError>
-        requires { (1 ≤ width) × (width ≤ 64) × (value < 2 ^ width) }
+        requires width { (1 ≤ width) × (width ≤ 64) }
+        requires value { value < 2 ^ width }
         ensures put { OnOk result (self.new ≡ self.old ++ bits_of width value) }
         ensures err { OnErr result (self.new ≡ self.old) }
     {
-        self.done.reserve(9)?;
+        // Room for eight whole bytes, and for the one that `finish` makes of a tail.
+        self.bytes.reserve(9)?;
         let all = (self.tail as u128) << width | value as u128;
-        let held = self.held + width;
-        let rest = held % 8;
-        let whole = (all >> rest) as u64;
-        self.done.extend_from_slice(&whole.to_be_bytes()[8 - held / 8..])?;
-        self.tail = (all & ((1 << rest) - 1)) as u8;
-        self.held = rest;
+        let end = self.tail_width + width;
+        let left = end % 8;
+        let whole = (all >> left) as u64;
+        self.bytes
+            .extend_from_slice(&whole.to_be_bytes()[8 - end / 8..])?;
+        self.tail = (all & ((1 << left) - 1)) as u8;
+        self.tail_width = left;
         Ok(())
     }
 
-    /// Puts the width bits of a two's complement number. After an `Err` the writer is unchanged.
+    /// Puts a two's complement number in `width` bits, 1 to 64 (RTCM 10403.3, data type `int`).
+    ///
+    /// # Errors
+    ///
+    /// Where memory is refused; the writer is then unchanged.
     pub fn put_i(&mut self, width: usize, value: i64) -> Result<(), AllocError>
         requires width { (1 ≤ width) × (width ≤ 64) }
         requires value { FitsSigned width value }
@@ -61,14 +82,17 @@ impl BitWriter {
         self.put_u(width, value.cast_unsigned() & (u64::MAX >> (64 - width)))
     }
 
-    /// The bits, with zero bits up to a whole byte.
+    /// The bytes of the bits that were put, with zero bits up to a whole byte. It takes no memory.
     pub fn finish(self) -> Vec<u8>
         ensures { bits result.items ≡ self ++ padding (length self) }
     {
-        let BitWriter { done, tail, held } = self;
-        let mut bytes = done;
-        if held > 0 {
-            match bytes.push(tail << (8 - held)) {
+        let BitWriter {
+            mut bytes,
+            tail,
+            tail_width,
+        } = self;
+        if tail_width > 0 {
+            match bytes.push(tail << (8 - tail_width)) {
                 Ok(()) => {}
                 Err(_) => unreachable!(),
             }

@@ -1,6 +1,6 @@
-use Rattle.std.proofs.Common.{arith, refl, ap, subst, ◌≡◌, ℕ, bit_or, get_or, take, ◌%◌, ◌*◌, ◌^◌, ◌+◌}
+use Rattle.std.proofs.Common.{arith, refl}
 use Rattle.rtk_bits.specs.Bits.{bits, unsigned}
-use Rattle.rtk_bits.proofs.Numbers.{push_byte}
+use Rattle.rtk_bits.proofs.MachineWords.{push_byte}
 use Rattle.rtk_bits.proofs.reader.big_endian.Goals as goal
 
 pub loop-byte-init : goal.loop-byte-init

@@ -1,0 +1,13 @@
+use Rattle.std.proofs.Common.{◌≡◌, ℕ, ◌<◌, ◌≤◌, ◌-◌, length, drop, false}
+use Rattle.rtk_frame.specs.Frame.{begins_frame}
+use Rattle.rtk_frame.proofs.search.next_frame.Given as goal
+
+abbrev pub invariant-loop-place : goal.invariant-loop-place
+invariant-loop-place l = record {
+  from : l.from ≤ l.place;
+  within : l.place ≤ length l.bytes;
+  none : (p : ℕ) → l.from ≤ p → p < l.place → begins_frame (drop p l.bytes) ≡ false;
+}
+
+abbrev pub decreases-loop-place : goal.decreases-loop-place
+decreases-loop-place l = length l.bytes - l.place

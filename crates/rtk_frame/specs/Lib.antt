@@ -1,0 +1,9 @@
+pub mod Checksum
+pub mod Frame
+pub mod Frames
+pub mod Scanner
+pub mod ScannerState
+pub mod Scanning
+pub mod Tables
+pub mod Memory
+pub mod Stream

@@ -1,0 +1,115 @@
+//! A frame at the front of a text, and the bytes of a frame.
+ghost use Rattle.std.specs.Prelude.{◌≡◌, ◌≢◌, ◌↔◌, ℕ, ◌+◌, ◌<◌, ◌≤◌, length, drop, take, slice_index, IfOk, IsErrOf, ◌==◌};
+ghost use Rattle.rtk_frame.specs.Checksum.{crc};
+ghost use Rattle.rtk_frame.specs.Frame.{three_bytes, framed};
+ghost use Rattle.rtk_frame.specs.Scanning.{IsFront};
+ghost use Rattle.rtk_frame.specs.declared.frame.FrameFault.TheVariants.{TooLong};
+
+use crate::checksum::crc24q;
+use std::alloc::{AllocError, Global};
+use thiserror::Error;
+
+/// Why a frame is not made, or a scanner: the first cause that holds, in this order.
+#[derive(Clone, Copy, Debug, PartialEq, Eq, Error)]
+pub enum FrameFault {
+    /// The payload has more than 1,023 bytes, which the ten bits of the length can't say.
+    #[error("F1 payload of more than 1023 bytes")]
+    TooLong,
+    /// Memory was refused.
+    #[error("F2 out of memory")]
+    OutOfMemory,
+}
+
+impl From<AllocError> for FrameFault {
+    ghost use Rattle.std.specs.Prelude.{◌≡◌};
+    ghost use Rattle.rtk_frame.specs.declared.frame.FrameFault.TheVariants.{OutOfMemory};
+
+    ghost from_gives = { λ _ e. e ≡ OutOfMemory };
+
+    fn from(_refused: AllocError) -> Self {
+        FrameFault::OutOfMemory
+    }
+}
+
+/// The frame with this payload: the preamble D3, six reserved bits that are zero, the length in ten
+/// bits, the payload of at most 1,023 bytes, and the checksum of all that.
+///
+/// Source: RTCM 10403.3, transport layer.
+pub fn encode_frame(alloc: Global, payload: &[u8]) -> Result<Vec<u8>, FrameFault>
+    ensures frame { IfOk result (λ frame. (length payload.now ≤ 1023) × (frame.items ≡ framed payload.now)) }
+    ensures too_long { IsErrOf result TooLong ↔ (1023 < length payload.now) }
+{
+    let len = payload.len();
+    if len > 1023 {
+        return Err(FrameFault::TooLong);
+    }
+    let mut frame = Vec::with_capacity(alloc, len + 6)?;
+    frame.extend_from_slice(&[PREAMBLE, (len / 256) as u8, (len % 256) as u8])?;
+    frame.extend_from_slice(payload)?;
+    let checksum = crc24q(frame.as_slice());
+    frame.extend_from_slice(&[
+        (checksum / 0x10000) as u8,
+        (checksum / 0x100 % 256) as u8,
+        (checksum % 256) as u8,
+    ])?;
+    Ok(frame)
+}
+
+/// The first byte of each frame.
+const PREAMBLE: u8 = 0xD3;
+
+/// What is at the front of a text.
+#[derive(Clone, Copy)]
+pub(crate) enum Front {
+    /// A frame, with so many bytes of payload.
+    Whole(usize),
+    /// Nothing, or a frame of which so many bytes at least are still to come.
+    Partial(usize),
+    /// Neither.
+    Other,
+}
+
+/// What is at the front of the bytes.
+pub(crate) fn front_of(bytes: &[u8]) -> Front
+    ensures { IsFront bytes.now result }
+{
+    let [first, ..] = bytes else {
+        return Front::Partial(3);
+    };
+    if *first != PREAMBLE {
+        return Front::Other;
+    }
+    if bytes.len() < 3 {
+        return Front::Partial(3 - bytes.len());
+    }
+    let payload = bytes[1] as usize % 4 * 256 + bytes[2] as usize;
+    if bytes.len() < payload + 6 {
+        Front::Partial(payload + 6 - bytes.len())
+    } else if has_checksum(bytes, payload + 3) {
+        Front::Whole(payload)
+    } else {
+        Front::Other
+    }
+}
+
+/// Whether the three bytes behind the first `covered` bytes are their checksum.
+fn has_checksum(bytes: &[u8], covered: usize) -> bool
+    requires { covered + 3 ≤ length bytes.now }
+    ensures { result ≡ (crc (take covered bytes.now) == three_bytes (drop covered bytes.now)) }
+{
+    let stored = bytes[covered] as u32 * 0x10000
+        + bytes[covered + 1] as u32 * 0x100
+        + bytes[covered + 2] as u32;
+    crc24q(&bytes[..covered]) == stored
+}
+
+/// How many bytes stand before the first preamble: all, where there is none.
+pub(crate) fn before_preamble(bytes: &[u8]) -> usize
+    ensures within { result ≤ length bytes.now }
+    ensures none { (i : ℕ) → i < result → slice_index bytes.now i ≢ 0xD3 }
+{
+    match bytes.iter().position(|byte| *byte == PREAMBLE) {
+        Some(place) => place,
+        None => bytes.len(),
+    }
+}

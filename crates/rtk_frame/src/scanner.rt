@@ -1,0 +1,228 @@
+//! A scanner gives the frames of a stream of bytes that comes in pieces.
+ghost use Rattle.std.specs.Prelude.{◌≡◌, ◌⊎◌, ℕ, ◌+◌, ◌≤◌, List, [], ◌++◌, length, drop, take, true, MatchOption};
+ghost use Rattle.circular_buffer.specs.Buffer.{buffer};
+ghost use Rattle.rtk_frame.specs.Frame.{begins_frame, begins_partial, payload_length, payload_of};
+ghost use Rattle.rtk_frame.specs.Scanning.{Scanned, Searched};
+
+use crate::frame::{before_preamble, front_of, FrameFault, Front};
+use circular_buffer::HeapCircularBuffer;
+use std::alloc::Global;
+use std::marker::Model;
+
+/// The frames of a stream, however its bytes are cut into pieces.
+///
+/// It keeps the bytes that wait for more, at most 1,029, and the last payload that it gave.
+#[derive(Drop)]
+pub struct Scanner {
+    ring: HeapCircularBuffer<u8>,
+    payload: [u8; 1023],
+    ended: bool,
+}
+
+// Clauses see the bytes that wait for more, and whether the stream has ended.
+impl Model for Scanner {
+    ghost use Rattle.std.specs.Prelude.{◌≡◌, ◌≤◌, length};
+    ghost use Rattle.rtk_frame.specs.ScannerState.{Scan, scan, scan_code};
+
+    ghost Value = { Scan };
+
+    ghost coded = { scan_code };
+
+    ghost view = { λ s. scan s.ring.items s.ended };
+
+    ghost invariant = { λ s. (s.ring.capacity ≡ 1029) × (length s.ring.items ≤ 1029) };
+}
+
+/// What `feed` took of the piece, and what it found there.
+#[derive(Clone, Copy)]
+pub struct Fed<'a> {
+    /// How many bytes of the piece were used. After `Found` the rest of it is to be fed again.
+    pub used: usize,
+    /// What was found.
+    pub answer: Answer<'a>,
+}
+
+/// What `feed` found.
+#[derive(Clone, Copy)]
+pub enum Answer<'a> {
+    /// The next frame, by its payload.
+    Found(&'a [u8]),
+    /// No frame: the whole piece was used, and more bytes are wanted.
+    Hungry,
+}
+
+impl Scanner {
+    ghost use Rattle.std.specs.Prelude.{◌≡◌, ◌≤◌, ◌+◌, length, false, true, [], IfOk, IfErr};
+    ghost use Rattle.std.specs.Borrow.{sem};
+    ghost use Rattle.rtk_frame.specs.ScannerState.{scan};
+    ghost use Rattle.rtk_frame.specs.Scanner.{Leaves, FedAnswer, RestAnswer};
+    ghost use Rattle.rtk_frame.specs.declared.frame.FrameFault.TheVariants.{OutOfMemory};
+
+    /// A scanner at the start of a stream. All the memory that it ever has is taken here.
+    pub fn new(alloc: Global) -> Result<Scanner, FrameFault>
+        ensures start { IfOk result (λ scanner. scanner ≡ scan [] false) }
+        ensures fault { IfErr result (λ fault. fault ≡ OutOfMemory) }
+    {
+        let ring = HeapCircularBuffer::with_capacity(alloc, 1029)?;
+        Ok(Scanner {
+            ring,
+            payload: [0; 1023],
+            ended: false,
+        })
+    }
+
+    /// Takes the piece up to the end of its next frame, or whole.
+    ///
+    /// The payload is borrowed from the scanner until its next call.
+    pub fn feed(&mut self, piece: &[u8]) -> Fed<'_>
+        requires { self.old.ended ≡ false }
+        ensures used { result.used ≤ length piece.now }
+        ensures* after { sem 𝓛 (Leaves self.entry (λ now. (now.ended ≡ false) × (length now.pending ≤ 1029) × FedAnswer self.old.pending piece.now result.used result.answer now)) }
+    {
+        let (used, found) = advance(&mut self.ring, piece);
+        match found {
+            None => Fed {
+                used,
+                answer: Answer::Hungry,
+            },
+            Some(payload) => {
+                take_frame(&mut self.ring, &mut self.payload, payload);
+                Fed {
+                    used,
+                    answer: Answer::Found(&self.payload[..payload]),
+                }
+            }
+        }
+    }
+
+    /// Ends the stream, and gives the next frame of the bytes that wait for more: none come.
+    ///
+    /// The payload is borrowed from the scanner until its next call. After None it is always None.
+    pub fn rest(&mut self) -> Option<&[u8]>
+        ensures* after { sem 𝓛 (Leaves self.entry (λ now. (now.ended ≡ true) × (length now.pending ≤ 1029) × RestAnswer self.old.pending result now)) }
+    {
+        self.ended = true;
+        match advance_ended(&mut self.ring) {
+            None => None,
+            Some(payload) => {
+                take_frame(&mut self.ring, &mut self.payload, payload);
+                Some(&self.payload[..payload])
+            }
+        }
+    }
+
+    /// Whether `rest` was called.
+    pub fn ended(&self) -> bool
+        ensures { result ≡ self.now.ended }
+    {
+        self.ended
+    }
+}
+
+/// Scans the ring and what of the piece it has to take, up to the next frame or to the end.
+/// Gives how many bytes were used, and the length of the payload of a frame at the ring's front.
+fn advance(ring: &mut HeapCircularBuffer<u8>, piece: &[u8]) -> (usize, Option<usize>)
+    requires { ring.old.capacity ≡ 1029 }
+    ensures capacity { (ring.new.capacity ≡ 1029) × (length ring.new.items ≤ 1029) }
+    ensures used { result.0 ≤ length piece.now }
+    ensures scanned { Scanned (ring.old.items ++ take result.0 piece.now) ring.new.items }
+    ensures found { MatchOption result.1
+        ((result.0 ≡ length piece.now) × ((begins_partial ring.new.items ≡ true) ⊎ (ring.new.items ≡ [])))
+        (λ n. (begins_frame ring.new.items ≡ true) × (n ≡ payload_length ring.new.items) × (n ≤ 1023)) }
+{
+    let mut used = 0;
+    let _length = ring.len();
+    'scan: loop {
+        match front_of(ring.make_contiguous()) {
+            Front::Whole(payload) => return (used, Some(payload)),
+            Front::Other => {
+                let _passed = ring.pop_front();
+                pass_junk(ring);
+            }
+            Front::Partial(wanted) => {
+                used += junk_of_piece(ring, &piece[used..]);
+                if used == piece.len() {
+                    return (used, None);
+                }
+                let more = wanted.min(piece.len() - used);
+                let _count = ring.fill_from_slice(&piece[used..used + more]);
+                used += more;
+            }
+        }
+    }
+}
+
+/// Searches the ring for the next frame, as if no byte followed.
+fn advance_ended(ring: &mut HeapCircularBuffer<u8>) -> Option<usize>
+    requires { ring.old.capacity ≡ 1029 }
+    ensures capacity { (ring.new.capacity ≡ 1029) × (length ring.new.items ≤ 1029) }
+    ensures searched { Searched ring.old.items ring.new.items }
+    ensures found { MatchOption result
+        (ring.new.items ≡ [])
+        (λ n. (begins_frame ring.new.items ≡ true) × (n ≡ payload_length ring.new.items) × (n ≤ 1023)) }
+{
+    let _length = ring.len();
+    'search: loop {
+        match front_of(ring.make_contiguous()) {
+            Front::Whole(payload) => return Some(payload),
+            Front::Other => {
+                let _left = ring.pop_front();
+            }
+            Front::Partial(_) => {
+                if ring.is_empty() {
+                    return None;
+                }
+                let _dropped = ring.pop_front();
+            }
+        }
+    }
+}
+
+/// Passes the bytes at the front of the ring that are no preamble.
+fn pass_junk(ring: &mut HeapCircularBuffer<u8>)
+    requires { (ring.old.capacity ≡ 1029) × (length ring.old.items ≤ 1029) }
+    ensures capacity { (ring.new.capacity ≡ 1029) × (length ring.new.items ≤ length ring.old.items) }
+    ensures scanned { (text : List ℕ) → Scanned text ring.old.items → Scanned text ring.new.items }
+{
+    let junk = before_preamble(ring.make_contiguous());
+    let rest = ring.len() - junk;
+    ring.truncate_front(rest);
+}
+
+/// How many bytes of the piece need not enter the ring, since it is empty and they are no preamble.
+fn junk_of_piece(ring: &HeapCircularBuffer<u8>, piece: &[u8]) -> usize
+    ensures within { result ≤ length piece.now }
+    ensures scanned { (text : List ℕ) → Scanned text ring.now.items → Scanned (text ++ take result piece.now) ring.now.items }
+{
+    if ring.is_empty() {
+        before_preamble(piece)
+    } else {
+        0
+    }
+}
+
+/// Moves the frame at the front out of the ring, and its payload to the front of `area`.
+fn take_frame(ring: &mut HeapCircularBuffer<u8>, area: &mut [u8], payload: usize)
+    requires frame { (payload ≡ payload_length ring.old.items) × (payload + 6 ≤ length ring.old.items) }
+    requires room { payload ≤ length area.old }
+    ensures rest { ring.new ≡ buffer (drop (payload + 6) ring.old.items) ring.old.capacity }
+    ensures payload { take payload area.new ≡ payload_of ring.old.items }
+{
+    copy_payload(ring.make_contiguous(), area, payload);
+    let rest = ring.len() - (payload + 6);
+    // An empty ring begins at its start again, so that the next frame lies in one piece.
+    if rest == 0 {
+        ring.clear();
+    } else {
+        ring.truncate_front(rest);
+    }
+}
+
+/// Copies the payload of the frame at the front of the bytes.
+fn copy_payload(bytes: &[u8], area: &mut [u8], payload: usize)
+    requires frame { payload + 6 ≤ length bytes.now }
+    requires room { payload ≤ length area.old }
+    ensures { take payload area.new ≡ take payload (drop 3 bytes.now) }
+{
+    area[..payload].copy_from_slice(&bytes[3..payload + 3]);
+}
