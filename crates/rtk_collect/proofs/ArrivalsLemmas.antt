@@ -239,14 +239,14 @@ drop-with_arrival (suc n) e cs (x ∷ xs) h = elim (cases_order x.epoch e) [
 
 -- the epochs that are greater than one, from what is held
 
-pub leading-held : (n e : ℕ) (held : List EpochCells) (arrivals : List Arrival) → held ≡ take n (kept n arrivals) → leading e held ≡ min n (leadingN e (epochs arrivals))
-leading-held n e held arrivals h = rw (h, ← leadingN-keys e (take n (kept n arrivals)), keys-take, same_greatest n arrivals) (leadingN-take n e (epochs arrivals))
+pub leading-sets : (n e : ℕ) (sets : List EpochCells) (arrivals : List Arrival) → sets ≡ take n (kept n arrivals) → leading e sets ≡ min n (leadingN e (epochs arrivals))
+leading-sets n e sets arrivals h = rw (h, ← leadingN-keys e (take n (kept n arrivals)), keys-take, same_greatest n arrivals) (leadingN-take n e (epochs arrivals))
 
-pub held-late : (n e : ℕ) (held : List EpochCells) (before : List Arrival) → held ≡ take n (kept n before) → n ≤ leading e held → n ≤ leadingN e (epochs before)
-held-late n e held before h l = grind (arith, leading-held n e held before h)
+pub sets-late : (n e : ℕ) (sets : List EpochCells) (before : List Arrival) → sets ≡ take n (kept n before) → n ≤ leading e sets → n ≤ leadingN e (epochs before)
+sets-late n e sets before h l = grind (arith, leading-sets n e sets before h)
 
-pub held-open : (n e : ℕ) (held : List EpochCells) (before : List Arrival) → held ≡ take n (kept n before) → leading e held < n → leadingN e (epochs before) < n
-held-open n e held before h l = grind (arith, leading-held n e held before h)
+pub sets-open : (n e : ℕ) (sets : List EpochCells) (before : List Arrival) → sets ≡ take n (kept n before) → leading e sets < n → leadingN e (epochs before) < n
+sets-open n e sets before h l = grind (arith, leading-sets n e sets before h)
 
 -- where an epoch stands
 
@@ -385,7 +385,7 @@ whole n all h = (grind (arith, common_steps), grind (arith, common_steps))
 pub leading-kept : (n e : ℕ) (before : List Arrival) → leadingN e (epochs before) < n → leading e (kept n before) < n
 leading-kept n e before h =
     let q : min n (leading e (kept n before)) ≡ min n (leadingN e (epochs before)) =
-    sym (leading-take n e (kept n before)) ∙ leading-held n e (take n (kept n before)) before refl in
+    sym (leading-take n e (kept n before)) ∙ leading-sets n e (take n (kept n before)) before refl in
     grind arith
 
 -- an observation that is not late, from what is held
@@ -394,10 +394,10 @@ pub record Joins (n e : ℕ) (m : Message) (before : List Arrival) (new : List E
   pub holds : new ≡ take n (kept n (At (Some e) m ∷ before))
   pub closing : closed n (At (Some e) m ∷ before) ≡ option_to_list closes ++ closed n before
 
-pub offer-joins : (n e : ℕ) (m : Message) (held items new : List EpochCells) (before : List Arrival) (closes : Option EpochCells) → held ≡ take n (kept n before) → leading e held < n
-    → items ≡ with_arrival e (cells_of m) held → take n items ≡ new → drop n items ≡ option_to_list closes → Joins n e m before new closes
-offer-joins n e m held items new before closes h l put front back =
-    let fresh : leadingN e (epochs before) < n = held-open n e held before h l in
+pub offer-joins : (n e : ℕ) (m : Message) (sets items new : List EpochCells) (before : List Arrival) (closes : Option EpochCells) → sets ≡ take n (kept n before) → leading e sets < n
+    → items ≡ with_arrival e (cells_of m) sets → take n items ≡ new → drop n items ≡ option_to_list closes → Joins n e m before new closes
+offer-joins n e m sets items new before closes h l put front back =
+    let fresh : leadingN e (epochs before) < n = sets-open n e sets before h l in
     let K : List EpochCells = kept n before in
     let same : leading e K < n = leading-kept n e before fresh in
     let d : EpochCells = no_cells 0 in
@@ -410,18 +410,18 @@ offer-joins n e m held items new before closes h l put front back =
           ∙ ap (λ t. t ++ drop n K) back ∙ ap (λ t. option_to_list closes ++ t) (sym (closed-drop n d before));
     }
 
-pub offer-late : (n e : ℕ) (m : Message) (held : List EpochCells) (before : List Arrival) → held ≡ take n (kept n before) → leading e held ≡ n
-    → (late n (At (Some e) m) before ≡ true) × (held ≡ take n (kept n (At (Some e) m ∷ before)))
-offer-late n e m held before h l =
-    let over : n ≤ leadingN e (epochs before) = held-late n e held before h (omega arith) in
+pub offer-late : (n e : ℕ) (m : Message) (sets : List EpochCells) (before : List Arrival) → sets ≡ take n (kept n before) → leading e sets ≡ n
+    → (late n (At (Some e) m) before ≡ true) × (sets ≡ take n (kept n (At (Some e) m ∷ before)))
+offer-late n e m sets before h l =
+    let over : n ≤ leadingN e (epochs before) = sets-late n e sets before h (omega arith) in
     (late-true n e m before over, h ∙ ap (take n) (sym (is-late n e m before over)))
 
 -- what is held of an epoch is what is kept of it
-pub kept-found : (n e : ℕ) (b : List CellEntry) (held : List EpochCells) (before : List Arrival) → held ≡ take n (kept n before) → cells_at e held ≡ Some b → cells_at e (kept n before) ≡ Some b
-kept-found n e b held before h f = cells_at-take n e b (kept n before) (rw h at f)
+pub kept-found : (n e : ℕ) (b : List CellEntry) (sets : List EpochCells) (before : List Arrival) → sets ≡ take n (kept n before) → cells_at e sets ≡ Some b → cells_at e (kept n before) ≡ Some b
+kept-found n e b sets before h f = cells_at-take n e b (kept n before) (rw h at f)
 
-pub kept-none : (n e : ℕ) (held : List EpochCells) (before : List Arrival) → held ≡ take n (kept n before) → leading e held < n → cells_at e held ≡ None → cells_at e (kept n before) ≡ None
-kept-none n e held before h l f = cells_at-none n e (kept n before) (kept-falls n before) (leading-kept n e before (held-open n e held before h l)) (rw h at f)
+pub kept-none : (n e : ℕ) (sets : List EpochCells) (before : List Arrival) → sets ≡ take n (kept n before) → leading e sets < n → cells_at e sets ≡ None → cells_at e (kept n before) ≡ None
+kept-none n e sets before h l f = cells_at-none n e (kept n before) (kept-falls n before) (leading-kept n e before (sets-open n e sets before h l)) (rw h at f)
 
 -- the search for a place by halves
 

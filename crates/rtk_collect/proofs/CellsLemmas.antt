@@ -127,13 +127,13 @@ absent-here k i d xs f at other =
 pub absent-past : (k i : ℕ) (xs : List CellEntry) → Rises xs → i ≡ lower k xs → length xs ≤ i → cell_under k xs ≡ None
 absent-past k i xs f at l = absent-cell k (any_cell) xs f (λ m. absurd (omega arith))
 
-pub with_cell-held : (c x : CellEntry) (xs : List CellEntry) → Rises xs → cell_under (key c) xs ≡ Some x → with_cell c xs ≡ xs
-with_cell-held c x [] f h = cc
-with_cell-held c x (y ∷ ys) f h = elim (cases_order (key c) (key y)) [
+pub with_cell-sets : (c x : CellEntry) (xs : List CellEntry) → Rises xs → cell_under (key c) xs ≡ Some x → with_cell c xs ≡ xs
+with_cell-sets c x [] f h = cc
+with_cell-sets c x (y ∷ ys) f h = elim (cases_order (key c) (key y)) [
   | inl same ↦ with_cell-same c y ys same
   | inr more ↦ elim more [
     | inl less ↦ let q = above-none (key c) y ys f less in cc
-    | inr past ↦ rw (with_cell-past c y ys past) (ap (λ t. y ∷ t) (with_cell-held c x ys f.1 (rw (ne_eqb (key c) (key y) (λ q. omega arith)) at h)))
+    | inr past ↦ rw (with_cell-past c y ys past) (ap (λ t. y ∷ t) (with_cell-sets c x ys f.1 (rw (ne_eqb (key c) (key y) (λ q. omega arith)) at h)))
   ]
 ]
 
@@ -190,13 +190,13 @@ room-step c None more kept f h =
     let l : fresh more (with_cell c kept) ≤ fresh more kept = fresh-less c more kept f in
     let n : length (with_cell c kept) ≡ suc (length kept) = ap length (with_cell-absent c kept h) ∙ length-insert c (lower (key c) kept) kept (lower-length (key c) kept) in
     omega arith
-room-step c (Some x) more kept f h = rw (with_cell-held c x kept f h) (omega arith)
+room-step c (Some x) more kept f h = rw (with_cell-sets c x kept f h) (omega arith)
 
 -- no new cell, no change
 none-step : (c : CellEntry) (o : Option CellEntry) (more kept : List CellEntry) → Rises kept → cell_under (key c) kept ≡ o → one_more o (fresh more kept) ≡ 0
     → (fresh more kept ≡ 0 → with_cells more kept ≡ kept) → with_cells more (with_cell c kept) ≡ kept
 none-step c None more kept f e h rest = absurd (omega arith)
-none-step c (Some x) more kept f e h rest = rw (with_cell-held c x kept f e) (rest h)
+none-step c (Some x) more kept f e h rest = rw (with_cell-sets c x kept f e) (rest h)
 
 pub with_cells-none : (cells kept : List CellEntry) → Rises kept → fresh cells kept ≡ 0 → with_cells cells kept ≡ kept
 with_cells-none [] kept f h = refl

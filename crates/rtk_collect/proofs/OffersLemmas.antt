@@ -26,28 +26,28 @@ length-insert v (suc i) [] l = grind arith
 length-insert v (suc i) (x ∷ xs) l = ap suc (length-insert v i xs (omega arith))
 
 -- an epoch that is held, after the cells of a message
-pub record OpenStep (n e : ℕ) (cs : List CellEntry) (held new : List EpochCells) (b : List CellEntry) : Type 0 where
-  pub put : new ≡ with_arrival e cs held
+pub record OpenStep (n e : ℕ) (cs : List CellEntry) (sets new : List EpochCells) (b : List CellEntry) : Type 0 where
+  pub put : new ≡ with_arrival e cs sets
   pub falls : Falls new
   pub len : length new ≤ n
-  pub same_len : length new ≡ length held
-  pub less : leading e held < n
-  pub cells : cells_at e held ≡ Some b
+  pub same_len : length new ≡ length sets
+  pub less : leading e sets < n
+  pub cells : cells_at e sets ≡ Some b
 
-pub open-step : (n e at : ℕ) (cs : List CellEntry) (d : EpochCells) (held new : List EpochCells) → Falls held → length held ≤ n → at ≡ leading e held → at < length held
-    → (get_or held at d).epoch ≡ e → new ≡ set held at (joined cs (get_or held at d)) → OpenStep n e cs held new (get_or held at d).cells
-open-step n e at cs d held new f small place l same is =
-    let l' : leading e held < length held = omega arith in
-    let there : get_or held at d ≡ get_or held (leading e held) d = ap (λ t. get_or held t d) place in
-    let same' : (get_or held (leading e held) d).epoch ≡ e = ap (λ (t : EpochCells). t.epoch) (sym there) ∙ same in
-    let put : new ≡ with_arrival e cs held = is ∙ ap (λ t. set held t (joined cs (get_or held t d))) place ∙ sym (with_arrival-found e cs d held l' same') in
+pub open-step : (n e at : ℕ) (cs : List CellEntry) (d : EpochCells) (sets new : List EpochCells) → Falls sets → length sets ≤ n → at ≡ leading e sets → at < length sets
+    → (get_or sets at d).epoch ≡ e → new ≡ set sets at (joined cs (get_or sets at d)) → OpenStep n e cs sets new (get_or sets at d).cells
+open-step n e at cs d sets new f small place l same is =
+    let l' : leading e sets < length sets = omega arith in
+    let there : get_or sets at d ≡ get_or sets (leading e sets) d = ap (λ t. get_or sets t d) place in
+    let same' : (get_or sets (leading e sets) d).epoch ≡ e = ap (λ (t : EpochCells). t.epoch) (sym there) ∙ same in
+    let put : new ≡ with_arrival e cs sets = is ∙ ap (λ t. set sets t (joined cs (get_or sets t d))) place ∙ sym (with_arrival-found e cs d sets l' same') in
     record {
       put = put;
-      falls = rw put (with_arrival-falls e cs held f);
+      falls = rw put (with_arrival-falls e cs sets f);
       len = rw (is, length-set) small;
       same_len = rw (is, length-set) refl;
       less = omega arith;
-      cells = found-cells e d held l' same' ∙ ap (λ (t : EpochCells). Some t.cells) (sym there);
+      cells = found-cells e d sets l' same' ∙ ap (λ (t : EpochCells). Some t.cells) (sym there);
     }
 
 pub class-taken : (n e : ℕ) (m : Message) (before : List Arrival) → late n (At (Some e) m) before ≡ false → class_in_time n (At (Some e) m) before ≡ TakenClass → class_of n (At (Some e) m) before ≡ TakenClass
@@ -80,10 +80,10 @@ pub record OpenParts (n e : ℕ) (m : Message) (before : List Arrival) (new : Li
   pub class : (c : Class) → class_of_cells (cells_of m) (Some b) ≡ c → class_of n (At (Some e) m) before ≡ c
   pub same : conflicts (cells_of m) b ≡ conflicts_of n (At (Some e) m) before
 
-pub open-parts : (n e : ℕ) (m : Message) (held new : List EpochCells) (b : List CellEntry) (before : List Arrival) → OpenStep n e (cells_of m) held new b → held ≡ take n (kept n before) → OpenParts n e m before new b
-open-parts n e m held new b before s h =
-    let k : cells_at e (kept n before) ≡ Some b = kept-found n e b held before h s.cells in
-    let j : Joins n e m before new None = offer-joins n e m held new new before None h s.less s.put (whole n new s.len).0 (whole n new s.len).1 in
+pub open-parts : (n e : ℕ) (m : Message) (sets new : List EpochCells) (b : List CellEntry) (before : List Arrival) → OpenStep n e (cells_of m) sets new b → sets ≡ take n (kept n before) → OpenParts n e m before new b
+open-parts n e m sets new b before s h =
+    let k : cells_at e (kept n before) ≡ Some b = kept-found n e b sets before h s.cells in
+    let j : Joins n e m before new None = offer-joins n e m sets new new before None h s.less s.put (whole n new s.len).0 (whole n new s.len).1 in
     record {
       joins = j;
       class = λ c p. class-is n e m before c j.not_late (ap (class_of_cells (cells_of m)) k ∙ p);
@@ -91,21 +91,21 @@ open-parts n e m held new b before s h =
     }
 
 -- an epoch that is not held yet
-pub record NewStep (n e : ℕ) (cs : List CellEntry) (held items : List EpochCells) : Type 0 where
-  pub put : items ≡ with_arrival e cs held
+pub record NewStep (n e : ℕ) (cs : List CellEntry) (sets items : List EpochCells) : Type 0 where
+  pub put : items ≡ with_arrival e cs sets
   pub falls : Falls items
-  pub less : leading e held < n
-  pub none : cells_at e held ≡ None
+  pub less : leading e sets < n
+  pub none : cells_at e sets ≡ None
 
-pub new-step : (n e at : ℕ) (cs : List CellEntry) (d : EpochCells) (held items : List EpochCells) → Falls held → length held ≤ n → at ≡ leading e held → at ≢ n
-    → (at < length held → (get_or held at d).epoch ≢ e) → items ≡ insert held at (opened e cs) → NewStep n e cs held items
-new-step n e at cs d held items f small place other absent is =
-    let none : cells_at e held ≡ None = absent-cells e d held f (λ l q. absent (omega arith) (ap (λ t. (get_or held t d).epoch) place ∙ q)) in
-    let put : items ≡ with_arrival e cs held = is ∙ ap (λ t. insert held t (opened e cs)) place ∙ sym (with_arrival-absent e cs held none) in
-    let l : leading e held ≤ length held = leading-length e held in
+pub new-step : (n e at : ℕ) (cs : List CellEntry) (d : EpochCells) (sets items : List EpochCells) → Falls sets → length sets ≤ n → at ≡ leading e sets → at ≢ n
+    → (at < length sets → (get_or sets at d).epoch ≢ e) → items ≡ insert sets at (opened e cs) → NewStep n e cs sets items
+new-step n e at cs d sets items f small place other absent is =
+    let none : cells_at e sets ≡ None = absent-cells e d sets f (λ l q. absent (omega arith) (ap (λ t. (get_or sets t d).epoch) place ∙ q)) in
+    let put : items ≡ with_arrival e cs sets = is ∙ ap (λ t. insert sets t (opened e cs)) place ∙ sym (with_arrival-absent e cs sets none) in
+    let l : leading e sets ≤ length sets = leading-length e sets in
     record {
       put = put;
-      falls = rw put (with_arrival-falls e cs held f);
+      falls = rw put (with_arrival-falls e cs sets f);
       less = omega arith;
       none = none;
     }
@@ -115,11 +115,11 @@ pub record NewParts (n e : ℕ) (m : Message) (before : List Arrival) (new : Lis
   pub class : class_of n (At (Some e) m) before ≡ TakenClass
   pub same : conflicts (cells_of m) [] ≡ conflicts_of n (At (Some e) m) before
 
-pub new-parts : (n e : ℕ) (m : Message) (held items new : List EpochCells) (before : List Arrival) (closes : Option EpochCells) → NewStep n e (cells_of m) held items → held ≡ take n (kept n before)
+pub new-parts : (n e : ℕ) (m : Message) (sets items new : List EpochCells) (before : List Arrival) (closes : Option EpochCells) → NewStep n e (cells_of m) sets items → sets ≡ take n (kept n before)
     → take n items ≡ new → drop n items ≡ option_to_list closes → NewParts n e m before new closes
-new-parts n e m held items new before closes s h front back =
-    let k : cells_at e (kept n before) ≡ None = kept-none n e held before h s.less s.none in
-    let j : Joins n e m before new closes = offer-joins n e m held items new before closes h s.less s.put front back in
+new-parts n e m sets items new before closes s h front back =
+    let k : cells_at e (kept n before) ≡ None = kept-none n e sets before h s.less s.none in
+    let j : Joins n e m before new closes = offer-joins n e m sets items new before closes h s.less s.put front back in
     record {
       joins = j;
       class = class-is n e m before TakenClass j.not_late (ap (class_of_cells (cells_of m)) k);

@@ -22,14 +22,14 @@ length-keys [] = refl
 length-keys (x ∷ xs) = ap suc (length-keys xs)
 
 -- whether n epochs have come, from what is held
-pub full-is : (n : ℕ) (held : List EpochCells) (before : List Arrival) → held ≡ take n (kept n before) → eqb (length held) n ≡ nat_le n (length (epochs before))
-full-is n held before h =
-    let a : length held ≡ min n (length (kept n before)) = ap length h ∙ length-take n (kept n before) in
+pub full-is : (n : ℕ) (sets : List EpochCells) (before : List Arrival) → sets ≡ take n (kept n before) → eqb (length sets) n ≡ nat_le n (length (epochs before))
+full-is n sets before h =
+    let a : length sets ≡ min n (length (kept n before)) = ap length h ∙ length-take n (kept n before) in
     let b : min n (length (keys (kept n before))) ≡ min n (length (epochs before)) = sym (length-take n (keys (kept n before))) ∙ ap length (same_greatest n before) ∙ length-take n (epochs before) in
     let k : length (keys (kept n before)) ≡ length (kept n before) = length-keys (kept n before) in
     elim (cases_lt (length (epochs before)) n) [
-      | inl less ↦ ne_eqb (length held) n (λ e. omega arith) ∙ sym (lt-leb n (length (epochs before)) less)
-      | inr full ↦ eq-eqb (length held) n (omega arith) ∙ sym (le-leb n (length (epochs before)) full)
+      | inl less ↦ ne_eqb (length sets) n (λ e. omega arith) ∙ sym (lt-leb n (length (epochs before)) less)
+      | inr full ↦ eq-eqb (length sets) n (omega arith) ∙ sym (le-leb n (length (epochs before)) full)
     ]
 
 pub and-none : (a : Bool) → (a && false) ≡ false
@@ -153,7 +153,7 @@ module _ {T : Type 0} (wrap : T → Message) (eq : T → T → Bool) (same_eq : 
 
   pub record StationStep (n k : ℕ) (m : T) (before : List Arrival) (offer : Offer) (slot : Option T) : Type 0 where
     pub answers : Answers n (At None (wrap m)) before offer
-    pub held : option_map wrap slot ≡ station n k (At None (wrap m) ∷ before)
+    pub after : option_map wrap slot ≡ station n k (At None (wrap m) ∷ before)
 
   pub slot-parts : (n k : ℕ) (m : T) (slot new : Option T) (full : Bool) (offer : Offer) (before : List Arrival) → number_of (wrap m) ≡ k → option_map wrap slot ≡ station n k before
       → full ≡ nat_le n (length (epochs before)) → SlotMeets eq slot m full offer new → StationStep n k m before offer new
@@ -169,7 +169,7 @@ module _ {T : Type 0} (wrap : T → Message) (eq : T → T → Bool) (same_eq : 
       ∙ ap (λ b. if not b then first (station n k before) (wrap m) else station n k before) over ∙ ap (λ o. if not (full && not (is_first eq slot m)) then first o (wrap m) else o) (sym s) in
       record {
         answers = answers-from n m before offer (subst (ClassOf offer) (sym class) p.0);
-        held = p.1 ∙ sym kept_is;
+        after = p.1 ∙ sym kept_is;
       }
 
 -- a message with another number leaves the kept one

@@ -80,13 +80,13 @@ split-parts n all front back e l = elim (cases_lt (length all) n) [
     no-length (x ∷ xs) h = absurd (omega arith)
 
 -- what an observation leaves, and the right answer whatever came before
-pub record Branch (n e : ℕ) (cs : List CellEntry) (held new : List EpochCells) (offer : Offer) : Type 0 where
+pub record Branch (n e : ℕ) (cs : List CellEntry) (sets new : List EpochCells) (offer : Offer) : Type 0 where
   pub len : length new ≤ n
   pub falls : Falls new
-  pub answer : (m : Message) → cells_of m ≡ cs → (before : List Arrival) → held ≡ take n (kept n before)
+  pub answer : (m : Message) → cells_of m ≡ cs → (before : List Arrival) → sets ≡ take n (kept n before)
       → Answers n (At (Some e) m) before offer × (new ≡ take n (kept n (At (Some e) m ∷ before)))
   pub below : ClosesBelow offer new
-  pub least : length held ≡ n → (length new ≡ n) × ((x : ℕ) → All (λ (s : EpochCells). x ≤ s.epoch) held → All (λ (s : EpochCells). x ≤ s.epoch) new)
+  pub least : length sets ≡ n → (length new ≡ n) × ((x : ℕ) → All (λ (s : EpochCells). x ≤ s.epoch) sets → All (λ (s : EpochCells). x ≤ s.epoch) new)
 
 open-below : (count : ℕ) (found : List SatelliteCode) (offer : Offer) (new : List EpochCells) → IsAnswerOf count found offer → ClosesBelow offer new
 open-below count found Late new a = absurd a
@@ -105,53 +105,53 @@ open-answers n e m before new b count found (Conflict listed) p c f a =
 open-answers n e m before new b count found Repeat p c f a =
     p.class RepeatClass (cells-stale (cells_of m) b count c (omega (arith, a.0)) ∙ by-none (conflicts (cells_of m) b) (sym f ∙ a.1))
 
-pub open-branch : (n e at : ℕ) (cs : List CellEntry) (d : EpochCells) (held new : List EpochCells) (count : ℕ) (found : List SatelliteCode) (offer : Offer) → Falls held → length held ≤ n
-    → at ≡ leading e held → at < length held → (get_or held at d).epoch ≡ e → new ≡ set held at (joined cs (get_or held at d))
-    → count ≡ fresh cs (get_or held at d).cells → found ≡ conflicts cs (get_or held at d).cells → IsAnswerOf count found offer → Branch n e cs held new offer
-open-branch n e at cs d held new count found offer f small place l same is c g a =
-    let s : OpenStep n e cs held new (get_or held at d).cells = open-step n e at cs d held new f small place l same is in
+pub open-branch : (n e at : ℕ) (cs : List CellEntry) (d : EpochCells) (sets new : List EpochCells) (count : ℕ) (found : List SatelliteCode) (offer : Offer) → Falls sets → length sets ≤ n
+    → at ≡ leading e sets → at < length sets → (get_or sets at d).epoch ≡ e → new ≡ set sets at (joined cs (get_or sets at d))
+    → count ≡ fresh cs (get_or sets at d).cells → found ≡ conflicts cs (get_or sets at d).cells → IsAnswerOf count found offer → Branch n e cs sets new offer
+open-branch n e at cs d sets new count found offer f small place l same is c g a =
+    let s : OpenStep n e cs sets new (get_or sets at d).cells = open-step n e at cs d sets new f small place l same is in
     record {
       len = s.len;
       falls = s.falls;
       answer = λ m k before h.
-          let s' : OpenStep n e (cells_of m) held new (get_or held at d).cells = subst (λ (t : List CellEntry). OpenStep n e t held new (get_or held at d).cells) (sym k) s in
-          let p : OpenParts n e m before new (get_or held at d).cells = open-parts n e m held new (get_or held at d).cells before s' h in
-          (open-answers n e m before new (get_or held at d).cells count found offer p (c ∙ ap (λ t. fresh t (get_or held at d).cells) (sym k)) (g ∙ ap (λ t. conflicts t (get_or held at d).cells) (sym k)) a, p.joins.holds);
+          let s' : OpenStep n e (cells_of m) sets new (get_or sets at d).cells = subst (λ (t : List CellEntry). OpenStep n e t sets new (get_or sets at d).cells) (sym k) s in
+          let p : OpenParts n e m before new (get_or sets at d).cells = open-parts n e m sets new (get_or sets at d).cells before s' h in
+          (open-answers n e m before new (get_or sets at d).cells count found offer p (c ∙ ap (λ t. fresh t (get_or sets at d).cells) (sym k)) (g ∙ ap (λ t. conflicts t (get_or sets at d).cells) (sym k)) a, p.joins.holds);
       below = open-below count found offer new a;
       least = λ full. (s.same_len ∙ full, λ x h.
-          let r : AtLeast x held = recursion_from_All (λ (t : EpochCells). x ≤ t.epoch) held h in
-          let w : AtLeast x (with_arrival e cs held) = least-with x e cs held (least-of x e held (omega arith) r) r in
+          let r : AtLeast x sets = recursion_from_All (λ (t : EpochCells). x ≤ t.epoch) sets h in
+          let w : AtLeast x (with_arrival e cs sets) = least-with x e cs sets (least-of x e sets (omega arith) r) r in
           All-from_recursion (λ (t : EpochCells). x ≤ t.epoch) new (subst (AtLeast x) (sym s.put) w));
     }
 
-pub late-branch : (n e at : ℕ) (cs : List CellEntry) (held : List EpochCells) → Falls held → length held ≤ n → at ≡ leading e held → at ≡ n → Branch n e cs held held Late
-late-branch n e at cs held f small place full =
+pub late-branch : (n e at : ℕ) (cs : List CellEntry) (sets : List EpochCells) → Falls sets → length sets ≤ n → at ≡ leading e sets → at ≡ n → Branch n e cs sets sets Late
+late-branch n e at cs sets f small place full =
     record {
       len = small;
       falls = f;
-      answer = λ m k before h. let l = offer-late n e m held before h (sym place ∙ full) in (class-late n e m before l.0, l.1);
+      answer = λ m k before h. let l = offer-late n e m sets before h (sym place ∙ full) in (class-late n e m before l.0, l.1);
       below = tt;
       least = λ all. (all, λ x h. h);
     }
 
-pub new-branch : (n e at : ℕ) (cs : List CellEntry) (d : EpochCells) (held items new : List EpochCells) (closes : Option EpochCells) (found : List SatelliteCode) → Falls held → length held ≤ n
-    → at ≡ leading e held → at ≢ n → (at < length held → (get_or held at d).epoch ≢ e) → items ≡ insert held at (opened e cs) → length items ≡ suc (length held)
-    → items ≡ new ++ option_to_list closes → length new ≡ min n (length items) → found ≡ conflicts cs [] → Branch n e cs held new (Taken closes found)
-new-branch n e at cs d held items new closes found f small place other absent is grew split len g =
-    let s : NewStep n e cs held items = new-step n e at cs d held items f small place other absent is in
+pub new-branch : (n e at : ℕ) (cs : List CellEntry) (d : EpochCells) (sets items new : List EpochCells) (closes : Option EpochCells) (found : List SatelliteCode) → Falls sets → length sets ≤ n
+    → at ≡ leading e sets → at ≢ n → (at < length sets → (get_or sets at d).epoch ≢ e) → items ≡ insert sets at (opened e cs) → length items ≡ suc (length sets)
+    → items ≡ new ++ option_to_list closes → length new ≡ min n (length items) → found ≡ conflicts cs [] → Branch n e cs sets new (Taken closes found)
+new-branch n e at cs d sets items new closes found f small place other absent is grew split len g =
+    let s : NewStep n e cs sets items = new-step n e at cs d sets items f small place other absent is in
     let fall : Falls (new ++ option_to_list closes) = subst Falls split s.falls in
     let both : (take n items ≡ new) × (drop n items ≡ option_to_list closes) = split-parts n items new (option_to_list closes) split len in
     record {
       len = omega arith;
       falls = falls-front new (option_to_list closes) fall;
       answer = λ m k before h.
-          let s' : NewStep n e (cells_of m) held items = subst (λ (t : List CellEntry). NewStep n e t held items) (sym k) s in
-          let p : NewParts n e m before new closes = new-parts n e m held items new before closes s' h both.0 both.1 in
+          let s' : NewStep n e (cells_of m) sets items = subst (λ (t : List CellEntry). NewStep n e t sets items) (sym k) s in
+          let p : NewParts n e m before new closes = new-parts n e m sets items new before closes s' h both.0 both.1 in
           ((p.class, g ∙ ap (λ t. conflicts t []) (sym k) ∙ p.same, p.joins.closing), p.joins.holds);
       below = closes-below new closes found fall;
       least = λ full. (omega arith, λ x h.
-          let r : AtLeast x held = recursion_from_All (λ (t : EpochCells). x ≤ t.epoch) held h in
-          let l : leading e held < n = s.less in
-          let w : AtLeast x (with_arrival e cs held) = least-with x e cs held (least-of x e held (omega arith) r) r in
+          let r : AtLeast x sets = recursion_from_All (λ (t : EpochCells). x ≤ t.epoch) sets h in
+          let l : leading e sets < n = s.less in
+          let w : AtLeast x (with_arrival e cs sets) = least-with x e cs sets (least-of x e sets (omega arith) r) r in
           All-from_recursion (λ (t : EpochCells). x ≤ t.epoch) new (least-front x new (option_to_list closes) (subst (AtLeast x) split (subst (AtLeast x) (sym s.put) w))));
     }

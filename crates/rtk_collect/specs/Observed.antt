@@ -13,7 +13,7 @@ use Rattle.rtk_collect.specs.Offered.{Meets}
 abbrev pub Observes : Window → ℕ → List CellEntry → Offer → Window → Type 0
 Observes old epoch cells offer new = (m : Message) → cells_of m ≡ cells → Meets old (At (Some epoch) m) offer new
 
--- the answer to cells that joined a held epoch, by how many were new and which conflict
+-- the answer to cells that joined an epoch of the window, by how many were new and which conflict
 abbrev pub IsAnswerOf : ℕ → List SatelliteCode → Offer → Type 0
 IsAnswerOf count found Late = ⊥
 IsAnswerOf count found (Taken done listed) = (0 < count) × (done ≡ None) × (listed ≡ found)

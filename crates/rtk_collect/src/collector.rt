@@ -16,7 +16,7 @@ use crate::epoch_set::{EpochSet, Joined};
 use crate::left::Left;
 use crate::offers::Offer;
 use crate::stations::{Stations, offer_station, position};
-use crate::window::{close_least, is_open, join_at, open_at, place};
+use crate::window::{close_least, has_epoch, join_at, open_at, place};
 use rtk_message::{Arp1005, Arp1006, Message};
 use rtk_obs::{CellEntry, GpsMs, Position, cells_1004, cells_1074};
 use std::alloc::{AllocError, Global};
@@ -31,19 +31,19 @@ use std::marker::Model;
 pub struct Collector {
     alloc: Global,
     window: usize,
-    held: VecDeque<EpochSet>,
+    sets: VecDeque<EpochSet>,
     stations: Stations,
 }
 
-// Clauses see the window: its places, the epochs held from the greatest on, the 1005 and the 1006.
+// Clauses see the window: its places, its epochs from the greatest on, the 1005 and the 1006.
 impl Model for Collector {
     ghost use Rattle.rtk_collect.specs.Collector.{Window, IsWindow};
 
     ghost Value = { Window };
 
-    ghost view = { λ c. record { size = c.window; held = c.held.items; arp1005 = c.stations.arp1005; arp1006 = c.stations.arp1006 } };
+    ghost view = { λ c. record { size = c.window; sets = c.sets.items; arp1005 = c.stations.arp1005; arp1006 = c.stations.arp1006 } };
 
-    ghost invariant = { λ c. IsWindow (record { size = c.window; held = c.held.items; arp1005 = c.stations.arp1005; arp1006 = c.stations.arp1006 }) };
+    ghost invariant = { λ c. IsWindow (record { size = c.window; sets = c.sets.items; arp1005 = c.stations.arp1005; arp1006 = c.stations.arp1006 }) };
 }
 
 impl Collector {
@@ -51,12 +51,12 @@ impl Collector {
     pub fn new(alloc: Global, window: usize) -> Collector
         requires low { 2 ≤ window }
         requires high { window ≤ 4096 }
-        ensures { result ≡ record { size = window; held = []; arp1005 = None; arp1006 = None } }
+        ensures { result ≡ record { size = window; sets = []; arp1005 = None; arp1006 = None } }
     {
         Collector {
             alloc,
             window,
-            held: VecDeque::new(alloc),
+            sets: VecDeque::new(alloc),
             stations: Stations {
                 arp1005: None,
                 arp1006: None,
@@ -69,9 +69,9 @@ impl Collector {
     /// Only a message that is taken takes memory. On refusal the collector is unchanged.
     pub fn offer(&mut self, dated: Dated) -> Result<Offer, AllocError>
         ensures size { self.new.size ≡ self.old.size }
-        ensures bound { length self.new.held ≤ self.new.size }
+        ensures bound { length self.new.sets ≤ self.new.size }
         ensures answer { IfOk result (λ offer. Meets self.old dated offer self.new) }
-        ensures closed { IfOk result (λ offer. ClosesBelow offer self.new.held) }
+        ensures closed { IfOk result (λ offer. ClosesBelow offer self.new.sets) }
         ensures least { LeastNeverFalls self.old self.new }
         ensures err { OnErr result (self.new ≡ self.old) }
     {
@@ -94,12 +94,12 @@ impl Collector {
     fn offer_1005(&mut self, message: Arp1005) -> Offer
         requires { arp1005_spec.IsValid message }
         ensures size { self.new.size ≡ self.old.size }
-        ensures bound { length self.new.held ≤ self.new.size }
-        ensures held { self.new.held ≡ self.old.held }
+        ensures bound { length self.new.sets ≤ self.new.size }
+        ensures sets { self.new.sets ≡ self.old.sets }
         ensures answer { Meets self.old (At None (MessageArp1005 message)) result self.new }
-        ensures closed { ClosesBelow result self.new.held }
+        ensures closed { ClosesBelow result self.new.sets }
     {
-        let full = self.held.len() == self.window;
+        let full = self.sets.len() == self.window;
         offer_station(&mut self.stations.arp1005, message, full)
     }
 
@@ -107,12 +107,12 @@ impl Collector {
     fn offer_1006(&mut self, message: Arp1006) -> Offer
         requires { arp1006_spec.IsValid message }
         ensures size { self.new.size ≡ self.old.size }
-        ensures bound { length self.new.held ≤ self.new.size }
-        ensures held { self.new.held ≡ self.old.held }
+        ensures bound { length self.new.sets ≤ self.new.size }
+        ensures sets { self.new.sets ≡ self.old.sets }
         ensures answer { Meets self.old (At None (MessageArp1006 message)) result self.new }
-        ensures closed { ClosesBelow result self.new.held }
+        ensures closed { ClosesBelow result self.new.sets }
     {
-        let full = self.held.len() == self.window;
+        let full = self.sets.len() == self.window;
         offer_station(&mut self.stations.arp1006, message, full)
     }
 
@@ -121,15 +121,15 @@ impl Collector {
         requires few { length cells.now ≤ 64 }
         requires range { All IsInRange cells.now }
         ensures size { self.new.size ≡ self.old.size }
-        ensures bound { length self.new.held ≤ self.new.size }
+        ensures bound { length self.new.sets ≤ self.new.size }
         ensures answer { IfOk result (λ offer. Observes self.old epoch cells.now offer self.new) }
-        ensures closed { IfOk result (λ offer. ClosesBelow offer self.new.held) }
+        ensures closed { IfOk result (λ offer. ClosesBelow offer self.new.sets) }
         ensures least { LeastNeverFalls self.old self.new }
         ensures err { OnErr result (self.new ≡ self.old) }
     {
-        let at = place(&self.held, epoch);
-        if is_open(&self.held, at, epoch) {
-            let Ok(joined) = join_at(&mut self.held, at, cells) else {
+        let at = place(&self.sets, epoch);
+        if has_epoch(&self.sets, at, epoch) {
+            let Ok(joined) = join_at(&mut self.sets, at, cells) else {
                 return Err(AllocError);
             };
             return Ok(answer_of(joined));
@@ -137,10 +137,10 @@ impl Collector {
         if at == self.window {
             return Ok(Offer::Late);
         }
-        let Ok(conflicts) = open_at(&mut self.held, at, self.alloc, epoch, cells) else {
+        let Ok(conflicts) = open_at(&mut self.sets, at, self.alloc, epoch, cells) else {
             return Err(AllocError);
         };
-        let closed = close_least(&mut self.held, self.window);
+        let closed = close_least(&mut self.sets, self.window);
         Ok(Offer::Taken { closed, conflicts })
     }
 
@@ -153,17 +153,17 @@ impl Collector {
         position(self.stations)
     }
 
-    /// Ends the collection: the epochs held are left.
+    /// Ends the collection: the epochs of the window are left.
     pub fn close(self) -> Left
-        ensures held { result.held ≡ self.held }
+        ensures sets { result.sets ≡ self.sets }
         ensures arp1005 { result.arp1005 ≡ self.arp1005 }
         ensures arp1006 { result.arp1006 ≡ self.arp1006 }
     {
-        Left::new(self.held, self.stations)
+        Left::new(self.sets, self.stations)
     }
 }
 
-// What became of cells that joined an epoch that was held.
+// What became of cells that joined an epoch of the window.
 fn answer_of(joined: Joined) -> Offer
     ensures { IsAnswerOf joined.fresh joined.conflicts result }
 {

@@ -1,4 +1,4 @@
-//! What a collector held at its end.
+//! What is left of a window at its end.
 
 ghost use Rattle.std.specs.Prelude.{◌≡◌, ◌<◌, [], ◌∷◌, ◌++◌, IfSome, IfNone, All};
 ghost use Rattle.rtk_collect.specs.Collector.{IsRemainder};
@@ -10,10 +10,10 @@ use rtk_obs::Position;
 use std::collections::VecDeque;
 use std::marker::Model;
 
-/// The epochs that a collector held, with the first 1005 and 1006.
+/// The epochs that a window had at its end, with the first 1005 and 1006.
 #[derive(Drop)]
 pub struct Left {
-    held: VecDeque<EpochSet>,
+    sets: VecDeque<EpochSet>,
     stations: Stations,
 }
 
@@ -23,29 +23,29 @@ impl Model for Left {
 
     ghost Value = { Remainder };
 
-    ghost view = { λ l. record { held = l.held.items; arp1005 = l.stations.arp1005; arp1006 = l.stations.arp1006 } };
+    ghost view = { λ l. record { sets = l.sets.items; arp1005 = l.stations.arp1005; arp1006 = l.stations.arp1006 } };
 
-    ghost invariant = { λ l. IsRemainder (record { held = l.held.items; arp1005 = l.stations.arp1005; arp1006 = l.stations.arp1006 }) };
+    ghost invariant = { λ l. IsRemainder (record { sets = l.sets.items; arp1005 = l.stations.arp1005; arp1006 = l.stations.arp1006 }) };
 }
 
 impl Left {
-    pub(crate) fn new(held: VecDeque<EpochSet>, stations: Stations) -> Left
-        requires { IsRemainder (record { held = held.items; arp1005 = stations.arp1005; arp1006 = stations.arp1006 }) }
-        ensures { result ≡ record { held = held.items; arp1005 = stations.arp1005; arp1006 = stations.arp1006 } }
+    pub(crate) fn new(sets: VecDeque<EpochSet>, stations: Stations) -> Left
+        requires { IsRemainder (record { sets = sets.items; arp1005 = stations.arp1005; arp1006 = stations.arp1006 }) }
+        ensures { result ≡ record { sets = sets.items; arp1005 = stations.arp1005; arp1006 = stations.arp1006 } }
     {
-        Left { held, stations }
+        Left { sets, stations }
     }
 
     /// The least epoch that is left, with its kept cells. `None` exactly where none is left.
     pub fn next_left(&mut self) -> Option<EpochSet>
-        ensures next { IfSome result (λ set. self.old.held ≡ self.new.held ++ set ∷ []) }
-        ensures least { IfSome result (λ set. All (λ x. set.epoch < x.epoch) self.new.held) }
-        ensures none { IfNone result (self.old.held ≡ []) }
+        ensures next { IfSome result (λ set. self.old.sets ≡ self.new.sets ++ set ∷ []) }
+        ensures least { IfSome result (λ set. All (λ x. set.epoch < x.epoch) self.new.sets) }
+        ensures none { IfNone result (self.old.sets ≡ []) }
         ensures stays { IfNone result (self.new ≡ self.old) }
         ensures arp1005 { self.new.arp1005 ≡ self.old.arp1005 }
         ensures arp1006 { self.new.arp1006 ≡ self.old.arp1006 }
     {
-        self.held.pop_back()
+        self.sets.pop_back()
     }
 
     /// The position of the first 1006, else of the first 1005, else zeros, with the height of the

@@ -19,3 +19,8 @@ pub use epoch_set::EpochSet;
 pub use laws::{closed_epochs_only_grow, equality_decides, late_arrivals_change_nothing, set_decides, stations_are_final};
 pub use left::Left;
 pub use offers::Offer;
+
+#[cfg(test)]
+mod plain;
+#[cfg(test)]
+mod tests;

@@ -13,16 +13,16 @@ use rtk_obs::{CellEntry, GpsMs};
 use std::alloc::{AllocError, Global};
 use std::collections::VecDeque;
 
-/// How many of the held epochs are greater.
-pub(crate) fn place(held: &VecDeque<EpochSet>, epoch: GpsMs) -> usize
-    requires { Falls held.now.items }
-    ensures { result ≡ leading epoch held.now.items }
+/// How many epochs of the window are greater.
+pub(crate) fn place(sets: &VecDeque<EpochSet>, epoch: GpsMs) -> usize
+    requires { Falls sets.now.items }
+    ensures { result ≡ leading epoch sets.now.items }
 {
     let mut low = 0;
-    let mut high = held.len();
+    let mut high = sets.len();
     while low < high {
         let middle = low + (high - low) / 2;
-        if held[middle].epoch() > epoch {
+        if sets[middle].epoch() > epoch {
             low = middle + 1;
         } else {
             high = middle;
@@ -31,57 +31,57 @@ pub(crate) fn place(held: &VecDeque<EpochSet>, epoch: GpsMs) -> usize
     low
 }
 
-/// Whether an epoch is held, from its place.
-pub(crate) fn is_open(held: &VecDeque<EpochSet>, at: usize, epoch: GpsMs) -> bool
-    requires place { at ≡ leading epoch held.now.items }
-    ensures found { IsTrue result → (at < length held.now.items) × ((d : EpochCells) → (slice_index_or held.now.items at d).epoch ≡ epoch) }
-    ensures absent { IsTrue (not result) → (at < length held.now.items) → ((d : EpochCells) → (slice_index_or held.now.items at d).epoch ≢ epoch) }
+/// Whether the window has an epoch, from its place.
+pub(crate) fn has_epoch(sets: &VecDeque<EpochSet>, at: usize, epoch: GpsMs) -> bool
+    requires place { at ≡ leading epoch sets.now.items }
+    ensures found { IsTrue result → (at < length sets.now.items) × ((d : EpochCells) → (slice_index_or sets.now.items at d).epoch ≡ epoch) }
+    ensures absent { IsTrue (not result) → (at < length sets.now.items) → ((d : EpochCells) → (slice_index_or sets.now.items at d).epoch ≢ epoch) }
 {
-    at < held.len() && held[at].epoch() == epoch
+    at < sets.len() && sets[at].epoch() == epoch
 }
 
 /// Joins cells to the epoch at a place. On refusal nothing changes.
-pub(crate) fn join_at(held: &mut VecDeque<EpochSet>, at: usize, cells: &[CellEntry]) -> Result<Joined, AllocError>
-    requires within { at < length held.old.items }
+pub(crate) fn join_at(sets: &mut VecDeque<EpochSet>, at: usize, cells: &[CellEntry]) -> Result<Joined, AllocError>
+    requires within { at < length sets.old.items }
     requires few { length cells.now ≤ 64 }
     requires range { All IsInRange cells.now }
-    ensures items { (d : EpochCells) → IfOk result (λ _. held.new.items ≡ slice_set held.old.items at (joined cells.now (slice_index_or held.old.items at d))) }
-    ensures fresh { (d : EpochCells) → IfOk result (λ j. j.fresh ≡ fresh cells.now (slice_index_or held.old.items at d).cells) }
-    ensures conflicts { (d : EpochCells) → IfOk result (λ j. j.conflicts ≡ conflicts cells.now (slice_index_or held.old.items at d).cells) }
-    ensures err { OnErr result (held.new.items ≡ held.old.items) }
+    ensures items { (d : EpochCells) → IfOk result (λ _. sets.new.items ≡ slice_set sets.old.items at (joined cells.now (slice_index_or sets.old.items at d))) }
+    ensures fresh { (d : EpochCells) → IfOk result (λ j. j.fresh ≡ fresh cells.now (slice_index_or sets.old.items at d).cells) }
+    ensures conflicts { (d : EpochCells) → IfOk result (λ j. j.conflicts ≡ conflicts cells.now (slice_index_or sets.old.items at d).cells) }
+    ensures err { OnErr result (sets.new.items ≡ sets.old.items) }
 {
-    let set = &mut held[at];
+    let set = &mut sets[at];
     set.join(cells)
 }
 
 /// Opens an epoch with cells at its place, and says which of them conflict with one another. All
 /// memory is taken before anything changes.
-pub(crate) fn open_at(held: &mut VecDeque<EpochSet>, at: usize, alloc: Global, epoch: GpsMs, cells: &[CellEntry]) -> Result<Conflicts, AllocError>
-    requires within { at ≤ length held.old.items }
+pub(crate) fn open_at(sets: &mut VecDeque<EpochSet>, at: usize, alloc: Global, epoch: GpsMs, cells: &[CellEntry]) -> Result<Conflicts, AllocError>
+    requires within { at ≤ length sets.old.items }
     requires few { length cells.now ≤ 64 }
     requires range { All IsInRange cells.now }
-    ensures items { OnOk result (held.new.items ≡ insert held.old.items at (joined cells.now (no_cells epoch))) }
+    ensures items { OnOk result (sets.new.items ≡ insert sets.old.items at (joined cells.now (no_cells epoch))) }
     ensures conflicts { IfOk result (λ found. found ≡ conflicts cells.now []) }
-    ensures err { OnErr result (held.new.items ≡ held.old.items) }
+    ensures err { OnErr result (sets.new.items ≡ sets.old.items) }
 {
     let mut set = EpochSet::new(alloc, epoch);
     let Ok(joined) = set.join(cells) else {
         return Err(AllocError);
     };
-    if let Err(_) = held.insert(at, set) {
+    if let Err(_) = sets.insert(at, set) {
         return Err(AllocError);
     }
     Ok(joined.conflicts)
 }
 
 /// Takes out the least epoch, where there are more than the window has places.
-pub(crate) fn close_least(held: &mut VecDeque<EpochSet>, window: usize) -> Option<EpochSet>
-    requires { length held.old.items ≤ window + 1 }
-    ensures items { held.old.items ≡ held.new.items ++ option_to_list result }
-    ensures few { length held.new.items ≡ min window (length held.old.items) }
+pub(crate) fn close_least(sets: &mut VecDeque<EpochSet>, window: usize) -> Option<EpochSet>
+    requires { length sets.old.items ≤ window + 1 }
+    ensures items { sets.old.items ≡ sets.new.items ++ option_to_list result }
+    ensures few { length sets.new.items ≡ min window (length sets.old.items) }
 {
-    if held.len() > window {
-        held.pop_back()
+    if sets.len() > window {
+        sets.pop_back()
     } else {
         None
     }

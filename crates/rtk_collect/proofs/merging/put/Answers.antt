@@ -3,12 +3,12 @@ use Rattle.std.proofs.lemmas.Grind.{common_steps}
 use Rattle.std.specs.List.{insert}
 use Rattle.rtk_collect.specs.Key.{key}
 use Rattle.rtk_collect.specs.EpochCells.{cell_under}
-use Rattle.rtk_collect.proofs.CellsLemmas.{conflict-is, with_cell-held, with_cell-absent, lower-length}
+use Rattle.rtk_collect.proofs.CellsLemmas.{conflict-is, with_cell-sets, with_cell-absent, lower-length}
 use Rattle.rtk_collect.proofs.EqualityLemmas.{sources-same}
 use Rattle.rtk_collect.proofs.merging.put.Goals as goal
 
 pub returns-in-Some-clause-items : goal.returns-in-Some-clause-items
-returns-in-Some-clause-items c = sym (with_cell-held c.args.entry c.in-Some.first c.args.kept.now.items c.requires.rises (sym (rw (c.key_of.ensures, c.deref.ensures.value) at c.in-Some.ensures)))
+returns-in-Some-clause-items c = sym (with_cell-sets c.args.entry c.in-Some.first c.args.kept.now.items c.requires.rises (sym (rw (c.key_of.ensures, c.deref.ensures.value) at c.in-Some.ensures)))
 
 pub insert-requires : goal.insert-requires
 insert-requires c = let h = lower-length (key c.args.entry) c.args.kept.now.items in grind (arith, common_steps, c.requires.place)

@@ -5,9 +5,9 @@ use Rattle.rtk_collect.proofs.window.place.Given as goal
 -- the place is between the two
 abbrev pub invariant-loop-low : goal.invariant-loop-low
 invariant-loop-low l = record {
-  low : l.low ≤ leading l.epoch l.held.items;
-  high : leading l.epoch l.held.items ≤ l.high;
-  within : l.high ≤ length l.held.items;
+  low : l.low ≤ leading l.epoch l.sets.items;
+  high : leading l.epoch l.sets.items ≤ l.high;
+  within : l.high ≤ length l.sets.items;
 }
 
 abbrev pub decreases-loop-low : goal.decreases-loop-low

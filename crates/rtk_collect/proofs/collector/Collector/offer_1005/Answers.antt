@@ -20,7 +20,7 @@ invariant_of-self c = record {
 
 pub returns-clause-answer : goal.returns-clause-answer
 returns-clause-answer c =
-    subst (λ (w : Window). Meets w (At None (Arp1005 c.args.message)) c.offer_station.result (record { size = c.self.inside.window; held = c.self.inside.held.items; arp1005 = c.offer_station.new.slot; arp1006 = c.self.inside.stations.arp1006 })) c.self.view_is (λ before h.
+    subst (λ (w : Window). Meets w (At None (Arp1005 c.args.message)) c.offer_station.result (record { size = c.self.inside.window; sets = c.self.inside.sets.items; arp1005 = c.offer_station.new.slot; arp1006 = c.self.inside.stations.arp1006 })) c.self.view_is (λ before h.
     let p = slot-parts Arp1005 equal_1005 (λ a b. refl) c.self.inside.window 1005 c.args.message c.self.inside.stations.arp1005 c.offer_station.new.slot _ c.offer_station.result before refl h.arp1005
-    (ap (λ t. eqb t c.self.inside.window) (c.len.ensures ∙ c.self.inside.held.ok.0) ∙ full-is c.self.inside.window c.self.inside.held.items before h.held) c.offer_station.ensures in
-    (p.answers, record { held = h.held; arp1005 = p.held; arp1006 = h.arp1006 ∙ sym (other-stays c.self.inside.window 1006 (Arp1005 c.args.message) before (λ e. omega arith)) }))
+    (ap (λ t. eqb t c.self.inside.window) (c.len.ensures ∙ c.self.inside.sets.ok.0) ∙ full-is c.self.inside.window c.self.inside.sets.items before h.sets) c.offer_station.ensures in
+    (p.answers, record { sets = h.sets; arp1005 = p.after; arp1006 = h.arp1006 ∙ sym (other-stays c.self.inside.window 1006 (Arp1005 c.args.message) before (λ e. omega arith)) }))
