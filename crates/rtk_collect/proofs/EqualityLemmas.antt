@@ -81,10 +81,11 @@ parts-one s s' p p' r r' a b c d h = (omega arith, omega arith, omega arith)
 
 pub keys-are-distinct : KeysAreDistinct
 unfolding key
-keys-are-distinct c d =
-    (λ h. let p = parts-one c.satellite d.satellite (place_of c.code) (place_of d.code) (rank_of c.cell.source) (rank_of d.cell.source) (place-less c.code) (place-less d.code) (rank-less c.cell.source) (rank-less d.cell.source) h in
-        (p.0, place-one c.code d.code p.1, rank-one c.cell.source d.cell.source p.2),
-      λ h. ap (λ s. (s * 16 + place_of c.code) * 2 + rank_of c.cell.source) h.0 ∙ ap (λ k. (d.satellite * 16 + place_of k) * 2 + rank_of c.cell.source) h.1 ∙ ap (λ t. (d.satellite * 16 + place_of d.code) * 2 + rank_of t) h.2)
+keys-are-distinct c d = (
+  λ h. let p = parts-one c.satellite d.satellite (place_of c.code) (place_of d.code) (rank_of c.cell.source) (rank_of d.cell.source) (place-less c.code) (place-less d.code) (rank-less c.cell.source) (rank-less d.cell.source) h in
+      (p.0, place-one c.code d.code p.1, rank-one c.cell.source d.cell.source p.2),
+  λ h. ap (λ s. (s * 16 + place_of c.code) * 2 + rank_of c.cell.source) h.0 ∙ ap (λ k. (d.satellite * 16 + place_of k) * 2 + rank_of c.cell.source) h.1 ∙ ap (λ t. (d.satellite * 16 + place_of d.code) * 2 + rank_of t) h.2,
+)
 
 -- bodies
 
@@ -109,39 +110,126 @@ numbers a b = options-decide ◌==◌ Decides-eqb a b
 pub cells-decide : (a b : Cell) → Decides (equal_cells a b) (a ≡ b)
 cells-decide a b = Decides-like (equal_cells a b)
     (λ h i. record { range_mm = h.0 i; phase_millicycles = h.1.0 i; strength_millidbhz = h.1.1.0 i; lock_time_ms = h.1.1.1.0 i; half = h.1.1.1.1.0 i; source = h.1.1.1.1.1.0 i; offset = h.1.1.1.1.1.1 i })
-    (λ e. (ap (λ (c : Cell). c.range_mm) e, (ap (λ (c : Cell). c.phase_millicycles) e, (ap (λ (c : Cell). c.strength_millidbhz) e, (ap (λ (c : Cell). c.lock_time_ms) e,
-        (ap (λ (c : Cell). c.half) e, (ap (λ (c : Cell). c.source) e, ap (λ (c : Cell). c.offset) e)))))))
+    (λ e. (
+      ap (λ (c : Cell). c.range_mm) e,
+      (
+        ap (λ (c : Cell). c.phase_millicycles) e,
+        (
+          ap (λ (c : Cell). c.strength_millidbhz) e,
+          (
+            ap (λ (c : Cell). c.lock_time_ms) e,
+            (ap (λ (c : Cell). c.half) e, (ap (λ (c : Cell). c.source) e, ap (λ (c : Cell). c.offset) e)),
+          ),
+        ),
+      ),
+    ))
     (Decides-and _ _ (ints a.range_mm b.range_mm) (Decides-and _ _ (ints a.phase_millicycles b.phase_millicycles) (Decides-and _ _ (numbers a.strength_millidbhz b.strength_millidbhz)
-      (Decides-and _ _ (Decides-eqb a.lock_time_ms b.lock_time_ms) (Decides-and _ _ (booleans_Decides a.half b.half) (Decides-and _ _ (sources-decide a.source b.source) (ints a.offset b.offset)))))))
+    (Decides-and _ _ (Decides-eqb a.lock_time_ms b.lock_time_ms) (Decides-and _ _ (booleans_Decides a.half b.half) (Decides-and _ _ (sources-decide a.source b.source) (ints a.offset b.offset)))))))
 
 pub decides-1005 : (a b : Arp1005) → Decides (equal_1005 a b) (a ≡ b)
 decides-1005 a b = Decides-like (equal_1005 a b)
     (λ h i. record {
-      station = h.0 i; realization_year = h.1.0 i; gps = h.1.1.0 i; glonass = h.1.1.1.0 i; galileo = h.1.1.1.1.0 i; reference_station = h.1.1.1.1.1.0 i; x = h.1.1.1.1.1.1.0 i;
-      single_oscillator = h.1.1.1.1.1.1.1.0 i; reserved = h.1.1.1.1.1.1.1.1.0 i; y = h.1.1.1.1.1.1.1.1.1.0 i; quarter_cycle = h.1.1.1.1.1.1.1.1.1.1.0 i; z = h.1.1.1.1.1.1.1.1.1.1.1 i;
+      station = h.0 i;
+      realization_year = h.1.0 i;
+      gps = h.1.1.0 i;
+      glonass = h.1.1.1.0 i;
+      galileo = h.1.1.1.1.0 i;
+      reference_station = h.1.1.1.1.1.0 i;
+      x = h.1.1.1.1.1.1.0 i;
+      single_oscillator = h.1.1.1.1.1.1.1.0 i;
+      reserved = h.1.1.1.1.1.1.1.1.0 i;
+      y = h.1.1.1.1.1.1.1.1.1.0 i;
+      quarter_cycle = h.1.1.1.1.1.1.1.1.1.1.0 i;
+      z = h.1.1.1.1.1.1.1.1.1.1.1 i;
     })
-    (λ e. (ap (λ (c : Arp1005). c.station) e, (ap (λ (c : Arp1005). c.realization_year) e, (ap (λ (c : Arp1005). c.gps) e, (ap (λ (c : Arp1005). c.glonass) e, (ap (λ (c : Arp1005). c.galileo) e,
-        (ap (λ (c : Arp1005). c.reference_station) e, (ap (λ (c : Arp1005). c.x) e, (ap (λ (c : Arp1005). c.single_oscillator) e, (ap (λ (c : Arp1005). c.reserved) e, (ap (λ (c : Arp1005). c.y) e,
-        (ap (λ (c : Arp1005). c.quarter_cycle) e, ap (λ (c : Arp1005). c.z) e))))))))))))
+    (λ e. (
+      ap (λ (c : Arp1005). c.station) e,
+      (
+        ap (λ (c : Arp1005). c.realization_year) e,
+        (
+          ap (λ (c : Arp1005). c.gps) e,
+          (
+            ap (λ (c : Arp1005). c.glonass) e,
+            (
+              ap (λ (c : Arp1005). c.galileo) e,
+              (
+                ap (λ (c : Arp1005). c.reference_station) e,
+                (
+                  ap (λ (c : Arp1005). c.x) e,
+                  (
+                    ap (λ (c : Arp1005). c.single_oscillator) e,
+                    (
+                      ap (λ (c : Arp1005). c.reserved) e,
+                      (
+                        ap (λ (c : Arp1005). c.y) e,
+                        (ap (λ (c : Arp1005). c.quarter_cycle) e, ap (λ (c : Arp1005). c.z) e),
+                      ),
+                    ),
+                  ),
+                ),
+              ),
+            ),
+          ),
+        ),
+      ),
+    ))
     (Decides-and _ _ (Decides-eqb a.station b.station) (Decides-and _ _ (Decides-eqb a.realization_year b.realization_year) (Decides-and _ _ (booleans_Decides a.gps b.gps)
-      (Decides-and _ _ (booleans_Decides a.glonass b.glonass) (Decides-and _ _ (booleans_Decides a.galileo b.galileo) (Decides-and _ _ (booleans_Decides a.reference_station b.reference_station)
-      (Decides-and _ _ (Decides-int_eq a.x b.x) (Decides-and _ _ (booleans_Decides a.single_oscillator b.single_oscillator) (Decides-and _ _ (booleans_Decides a.reserved b.reserved)
-      (Decides-and _ _ (Decides-int_eq a.y b.y) (Decides-and _ _ (Decides-eqb a.quarter_cycle b.quarter_cycle) (Decides-int_eq a.z b.z))))))))))))
+    (Decides-and _ _ (booleans_Decides a.glonass b.glonass) (Decides-and _ _ (booleans_Decides a.galileo b.galileo) (Decides-and _ _ (booleans_Decides a.reference_station b.reference_station)
+    (Decides-and _ _ (Decides-int_eq a.x b.x) (Decides-and _ _ (booleans_Decides a.single_oscillator b.single_oscillator) (Decides-and _ _ (booleans_Decides a.reserved b.reserved)
+    (Decides-and _ _ (Decides-int_eq a.y b.y) (Decides-and _ _ (Decides-eqb a.quarter_cycle b.quarter_cycle) (Decides-int_eq a.z b.z))))))))))))
 
 pub decides-1006 : (a b : Arp1006) → Decides (equal_1006 a b) (a ≡ b)
 decides-1006 a b = Decides-like (equal_1006 a b)
     (λ h i. record {
-      station = h.0 i; realization_year = h.1.0 i; gps = h.1.1.0 i; glonass = h.1.1.1.0 i; galileo = h.1.1.1.1.0 i; reference_station = h.1.1.1.1.1.0 i; x = h.1.1.1.1.1.1.0 i;
-      single_oscillator = h.1.1.1.1.1.1.1.0 i; reserved = h.1.1.1.1.1.1.1.1.0 i; y = h.1.1.1.1.1.1.1.1.1.0 i; quarter_cycle = h.1.1.1.1.1.1.1.1.1.1.0 i; z = h.1.1.1.1.1.1.1.1.1.1.1.0 i;
+      station = h.0 i;
+      realization_year = h.1.0 i;
+      gps = h.1.1.0 i;
+      glonass = h.1.1.1.0 i;
+      galileo = h.1.1.1.1.0 i;
+      reference_station = h.1.1.1.1.1.0 i;
+      x = h.1.1.1.1.1.1.0 i;
+      single_oscillator = h.1.1.1.1.1.1.1.0 i;
+      reserved = h.1.1.1.1.1.1.1.1.0 i;
+      y = h.1.1.1.1.1.1.1.1.1.0 i;
+      quarter_cycle = h.1.1.1.1.1.1.1.1.1.1.0 i;
+      z = h.1.1.1.1.1.1.1.1.1.1.1.0 i;
       height = h.1.1.1.1.1.1.1.1.1.1.1.1 i;
     })
-    (λ e. (ap (λ (c : Arp1006). c.station) e, (ap (λ (c : Arp1006). c.realization_year) e, (ap (λ (c : Arp1006). c.gps) e, (ap (λ (c : Arp1006). c.glonass) e, (ap (λ (c : Arp1006). c.galileo) e,
-        (ap (λ (c : Arp1006). c.reference_station) e, (ap (λ (c : Arp1006). c.x) e, (ap (λ (c : Arp1006). c.single_oscillator) e, (ap (λ (c : Arp1006). c.reserved) e, (ap (λ (c : Arp1006). c.y) e,
-        (ap (λ (c : Arp1006). c.quarter_cycle) e, (ap (λ (c : Arp1006). c.z) e, ap (λ (c : Arp1006). c.height) e)))))))))))))
+    (λ e. (
+      ap (λ (c : Arp1006). c.station) e,
+      (
+        ap (λ (c : Arp1006). c.realization_year) e,
+        (
+          ap (λ (c : Arp1006). c.gps) e,
+          (
+            ap (λ (c : Arp1006). c.glonass) e,
+            (
+              ap (λ (c : Arp1006). c.galileo) e,
+              (
+                ap (λ (c : Arp1006). c.reference_station) e,
+                (
+                  ap (λ (c : Arp1006). c.x) e,
+                  (
+                    ap (λ (c : Arp1006). c.single_oscillator) e,
+                    (
+                      ap (λ (c : Arp1006). c.reserved) e,
+                      (
+                        ap (λ (c : Arp1006). c.y) e,
+                        (ap (λ (c : Arp1006). c.quarter_cycle) e, (ap (λ (c : Arp1006). c.z) e, ap (λ (c : Arp1006). c.height) e)),
+                      ),
+                    ),
+                  ),
+                ),
+              ),
+            ),
+          ),
+        ),
+      ),
+    ))
     (Decides-and _ _ (Decides-eqb a.station b.station) (Decides-and _ _ (Decides-eqb a.realization_year b.realization_year) (Decides-and _ _ (booleans_Decides a.gps b.gps)
-      (Decides-and _ _ (booleans_Decides a.glonass b.glonass) (Decides-and _ _ (booleans_Decides a.galileo b.galileo) (Decides-and _ _ (booleans_Decides a.reference_station b.reference_station)
-      (Decides-and _ _ (Decides-int_eq a.x b.x) (Decides-and _ _ (booleans_Decides a.single_oscillator b.single_oscillator) (Decides-and _ _ (booleans_Decides a.reserved b.reserved)
-      (Decides-and _ _ (Decides-int_eq a.y b.y) (Decides-and _ _ (Decides-eqb a.quarter_cycle b.quarter_cycle) (Decides-and _ _ (Decides-int_eq a.z b.z) (Decides-eqb a.height b.height)))))))))))))
+    (Decides-and _ _ (booleans_Decides a.glonass b.glonass) (Decides-and _ _ (booleans_Decides a.galileo b.galileo) (Decides-and _ _ (booleans_Decides a.reference_station b.reference_station)
+    (Decides-and _ _ (Decides-int_eq a.x b.x) (Decides-and _ _ (booleans_Decides a.single_oscillator b.single_oscillator) (Decides-and _ _ (booleans_Decides a.reserved b.reserved)
+    (Decides-and _ _ (Decides-int_eq a.y b.y) (Decides-and _ _ (Decides-eqb a.quarter_cycle b.quarter_cycle) (Decides-and _ _ (Decides-int_eq a.z b.z) (Decides-eqb a.height b.height)))))))))))))
 
 pub equality-decides : EqualityDecides
 equality-decides = (cells-decide, decides-1005, decides-1006)

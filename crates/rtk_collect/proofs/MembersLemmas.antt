@@ -73,7 +73,7 @@ without-station n k (At None m ∷ before) = elim (cases_Bool (late n (At None m
   | inl over ↦ ap (station n k) (without-head n (At None m) before over) ∙ without-station n k before ∙ sym (station-late n k m before over)
   | inr fresh ↦ ap (station n k) (without-stays n (At None m) before fresh)
       ∙ ap (λ b. if (number_of m == k) && not b then first (station n k (without_late n before)) m else station n k (without_late n before))
-          (same-station n m (without_late n before) before (without-station n (number_of m) before) (without-count n before))
+      (same-station n m (without_late n before) before (without-station n (number_of m) before) (without-count n before))
       ∙ ap (λ o. if (number_of m == k) && not (late n (At None m) before) then first o m else o) (without-station n k before)
 ]
 
@@ -107,10 +107,14 @@ without-taken n a [] = (λ h. h, λ h. h)
 without-taken n a (x ∷ before) =
     let w = without-taken n a before in
     elim (cases_Bool (late n x before)) [
-      | inl over ↦ (λ h. inr (w.0 (subst (IsTaken n a) (without-head n x before over) h)),
-          λ h. subst (IsTaken n a) (sym (without-head n x before over)) (elim h [ inl now ↦ absurd (both_ways (late n x before) now.0 over) | inr r ↦ w.1 r ]))
-      | inr fresh ↦ (λ h. elim (subst (IsTaken n a) (without-stays n x before fresh) h) [ inl now ↦ inl (fresh, now.1) | inr r ↦ inr (w.0 r) ],
-          λ h. subst (IsTaken n a) (sym (without-stays n x before fresh)) (elim h [ inl now ↦ inl (without-late n x before ∙ fresh, now.1) | inr r ↦ inr (w.1 r) ]))
+      | inl over ↦ (
+        λ h. inr (w.0 (subst (IsTaken n a) (without-head n x before over) h)),
+        λ h. subst (IsTaken n a) (sym (without-head n x before over)) (elim h [ inl now ↦ absurd (both_ways (late n x before) now.0 over) | inr r ↦ w.1 r ]),
+      )
+      | inr fresh ↦ (
+        λ h. elim (subst (IsTaken n a) (without-stays n x before fresh) h) [ inl now ↦ inl (fresh, now.1) | inr r ↦ inr (w.0 r) ],
+        λ h. subst (IsTaken n a) (sym (without-stays n x before fresh)) (elim h [ inl now ↦ inl (without-late n x before ∙ fresh, now.1) | inr r ↦ inr (w.1 r) ]),
+      )
     ]
 
 pub late-change-nothing : LateChangeNothing
@@ -123,9 +127,11 @@ one-grows n (At None m) before = ([], refl)
 one-grows n (At (Some e) m) before =
     let d : EpochCells = no_cells 0 in
     elim (cases_lt (leadingN e (epochs before)) n) [
-      | inl fresh ↦ (drop n (with_arrival e (cells_of m) (take n (kept n before))),
-          closed-drop n d (At (Some e) m ∷ before) ∙ ap (drop n) (is-open n e m before fresh) ∙ drop-with_arrival n e (cells_of m) (kept n before) (leading-kept n e before fresh)
-          ∙ ap (λ t. drop n (with_arrival e (cells_of m) (take n (kept n before))) ++ t) (sym (closed-drop n d before)))
+      | inl fresh ↦ (
+        drop n (with_arrival e (cells_of m) (take n (kept n before))),
+        closed-drop n d (At (Some e) m ∷ before) ∙ ap (drop n) (is-open n e m before fresh) ∙ drop-with_arrival n e (cells_of m) (kept n before) (leading-kept n e before fresh)
+            ∙ ap (λ t. drop n (with_arrival e (cells_of m) (take n (kept n before))) ++ t) (sym (closed-drop n d before)),
+      )
       | inr over ↦ ([], closed-drop n d (At (Some e) m ∷ before) ∙ ap (drop n) (is-late n e m before over) ∙ sym (closed-drop n d before))
     ]
 
@@ -398,7 +404,6 @@ opened-has n e m (At (Some f) o ∷ before) t = elim (cases_Bool (late n (At (So
       (arrival-has e f (cells_of o) (kept n before) (elim t [ inl now ↦ inl (ap (λ x. or_zero (moment_at x)) now.1) | inr r ↦ inr (opened-has n e m before r) ]))
 ]
 
-
 -- the station messages
 
 abbrev StationsAgree : ℕ → List Arrival → Type 0
@@ -461,8 +466,9 @@ agree-cells : (n : ℕ) (arrivals : List Arrival) → IsConsistent n arrivals �
 agree-cells n arrivals h e c d t u k = h.cells e c d (cell-taken n e c arrivals t) (cell-taken n e d arrivals u) k
 
 pub kept-are-taken : KeptAreTaken
-kept-are-taken n arrivals =
-    ((λ e. (has-opened n e arrivals, λ o. opened-has n e o.0 arrivals o.1)),
-      (λ e c m. cell-taken n e c arrivals (kept-taken n e c arrivals m)),
-      (λ m k h. station-taken n k m arrivals h),
-      (λ h. ((λ e c t. taken-kept n e c arrivals (agree-cells n arrivals h) (taken-cell n e c t.0 arrivals t.1 t.2)), (λ m t. taken-station n m arrivals h.stations t))))
+kept-are-taken n arrivals = (
+  (λ e. (has-opened n e arrivals, λ o. opened-has n e o.0 arrivals o.1)),
+  (λ e c m. cell-taken n e c arrivals (kept-taken n e c arrivals m)),
+  (λ m k h. station-taken n k m arrivals h),
+  (λ h. ((λ e c t. taken-kept n e c arrivals (agree-cells n arrivals h) (taken-cell n e c t.0 arrivals t.1 t.2)), (λ m t. taken-station n m arrivals h.stations t))),
+)

@@ -140,8 +140,9 @@ stations-same (Some m) y f g = sym (f m refl)
 stations-same None (Some m) f g = g m refl
 
 pub set-decides : SetDecides
-set-decides n first second p q same =
-    (kept-same (kept n first) (kept n second) (kept-falls n first) (kept-falls n second) (kept-rise n first) (kept-rise n second)
-        (epochs-move n first second (λ a. (same a).0)) (epochs-move n second first (λ a. (same a).1))
-        (kept-move n first second q (λ a. (same a).0)) (kept-move n second first p (λ a. (same a).1)),
-      (λ k. stations-same (station n k first) (station n k second) (λ m. station-move n k m first second q (λ a. (same a).0)) (λ m. station-move n k m second first p (λ a. (same a).1))))
+set-decides n first second p q same = (
+  kept-same (kept n first) (kept n second) (kept-falls n first) (kept-falls n second) (kept-rise n first) (kept-rise n second)
+      (epochs-move n first second (λ a. (same a).0)) (epochs-move n second first (λ a. (same a).1))
+      (kept-move n first second q (λ a. (same a).0)) (kept-move n second first p (λ a. (same a).1)),
+  (λ k. stations-same (station n k first) (station n k second) (λ m. station-move n k m first second q (λ a. (same a).0)) (λ m. station-move n k m second first p (λ a. (same a).1))),
+)

@@ -118,10 +118,13 @@ open-branch n e at cs d sets new count found offer f small place l same is c g a
           let p : OpenParts n e m before new (get_or sets at d).cells = open-parts n e m sets new (get_or sets at d).cells before s' h in
           (open-answers n e m before new (get_or sets at d).cells count found offer p (c ∙ ap (λ t. fresh t (get_or sets at d).cells) (sym k)) (g ∙ ap (λ t. conflicts t (get_or sets at d).cells) (sym k)) a, p.joins.holds);
       below = open-below count found offer new a;
-      least = λ full. (s.same_len ∙ full, λ x h.
-          let r : AtLeast x sets = recursion_from_All (λ (t : EpochCells). x ≤ t.epoch) sets h in
-          let w : AtLeast x (with_arrival e cs sets) = least-with x e cs sets (least-of x e sets (omega arith) r) r in
-          All-from_recursion (λ (t : EpochCells). x ≤ t.epoch) new (subst (AtLeast x) (sym s.put) w));
+      least = λ full. (
+        s.same_len ∙ full,
+        λ x h.
+            let r : AtLeast x sets = recursion_from_All (λ (t : EpochCells). x ≤ t.epoch) sets h in
+            let w : AtLeast x (with_arrival e cs sets) = least-with x e cs sets (least-of x e sets (omega arith) r) r in
+            All-from_recursion (λ (t : EpochCells). x ≤ t.epoch) new (subst (AtLeast x) (sym s.put) w),
+      );
     }
 
 pub late-branch : (n e at : ℕ) (cs : List CellEntry) (sets : List EpochCells) → Falls sets → length sets ≤ n → at ≡ leading e sets → at ≡ n → Branch n e cs sets sets Late
@@ -149,9 +152,12 @@ new-branch n e at cs d sets items new closes found f small place other absent is
           let p : NewParts n e m before new closes = new-parts n e m sets items new before closes s' h both.0 both.1 in
           ((p.class, g ∙ ap (λ t. conflicts t []) (sym k) ∙ p.same, p.joins.closing), p.joins.holds);
       below = closes-below new closes found fall;
-      least = λ full. (omega arith, λ x h.
-          let r : AtLeast x sets = recursion_from_All (λ (t : EpochCells). x ≤ t.epoch) sets h in
-          let l : leading e sets < n = s.less in
-          let w : AtLeast x (with_arrival e cs sets) = least-with x e cs sets (least-of x e sets (omega arith) r) r in
-          All-from_recursion (λ (t : EpochCells). x ≤ t.epoch) new (least-front x new (option_to_list closes) (subst (AtLeast x) split (subst (AtLeast x) (sym s.put) w))));
+      least = λ full. (
+        omega arith,
+        λ x h.
+            let r : AtLeast x sets = recursion_from_All (λ (t : EpochCells). x ≤ t.epoch) sets h in
+            let l : leading e sets < n = s.less in
+            let w : AtLeast x (with_arrival e cs sets) = least-with x e cs sets (least-of x e sets (omega arith) r) r in
+            All-from_recursion (λ (t : EpochCells). x ≤ t.epoch) new (least-front x new (option_to_list closes) (subst (AtLeast x) split (subst (AtLeast x) (sym s.put) w))),
+      );
     }

@@ -73,7 +73,7 @@ KeptAreTaken = (n : ℕ) (arrivals : List Arrival) →
     × ((e : ℕ) (c : CellEntry) → IsKept e c (kept n arrivals) → IsTakenCell n e c arrivals)
     × ((m : Message) (k : ℕ) → station n k arrivals ≡ Some m → IsTaken n (At None m) arrivals × (number_of m ≡ k))
     × (IsConsistent n arrivals → ((e : ℕ) (c : CellEntry) → IsTakenCell n e c arrivals → IsKept e c (kept n arrivals))
-        × ((m : Message) → IsTaken n (At None m) arrivals → station n (number_of m) arrivals ≡ Some m))
+    × ((m : Message) → IsTaken n (At None m) arrivals → station n (number_of m) arrivals ≡ Some m))
 
 -- what is kept of consistent arrivals depends on the set of those that were not late alone: not on their order or number
 abbrev pub SetDecides : Type 0

@@ -5,8 +5,8 @@ mod collector;
 mod conflicts;
 mod dated;
 mod epoch_set;
-mod left;
 mod laws;
+mod left;
 mod merging;
 mod offers;
 mod stations;
@@ -16,7 +16,10 @@ pub use collector::Collector;
 pub use conflicts::{Conflicts, SatelliteCode};
 pub use dated::Dated;
 pub use epoch_set::EpochSet;
-pub use laws::{closed_epochs_only_grow, equality_decides, late_arrivals_change_nothing, set_decides, stations_are_final};
+pub use laws::{
+    closed_epochs_only_grow, equality_decides, late_arrivals_change_nothing, set_decides,
+    stations_are_final,
+};
 pub use left::Left;
 pub use offers::Offer;
 

@@ -33,7 +33,11 @@ impl Plain {
     }
 
     /// What becomes of an observation: late by the distinct epochs that came, else by the keys of its cells.
-    pub(crate) fn offer(&mut self, epoch: GpsMs, cells: &[CellEntry]) -> Result<Answer, AllocError> {
+    pub(crate) fn offer(
+        &mut self,
+        epoch: GpsMs,
+        cells: &[CellEntry],
+    ) -> Result<Answer, AllocError> {
         let late = self.greater(epoch) >= self.window;
         if !self.came.contains(&epoch) {
             self.came.push(epoch)?;
@@ -59,13 +63,21 @@ impl Plain {
         if is_new {
             return Ok(Answer::Taken);
         }
-        Ok(if conflicts { Answer::Conflict } else { Answer::Repeat })
+        Ok(if conflicts {
+            Answer::Conflict
+        } else {
+            Answer::Repeat
+        })
     }
 
     /// The kept cell of an epoch with the satellite, code and kind of message of another.
     pub(crate) fn find(&self, epoch: GpsMs, entry: &CellEntry) -> Option<Cell> {
         for (moment, kept) in &self.kept {
-            if *moment == epoch && kept.satellite == entry.satellite && kept.code == entry.code && kept.cell.source == entry.cell.source {
+            if *moment == epoch
+                && kept.satellite == entry.satellite
+                && kept.code == entry.code
+                && kept.cell.source == entry.cell.source
+            {
                 return Some(kept.cell);
             }
         }

@@ -8,8 +8,8 @@ ghost use Rattle.rtk_obs.specs.PositionFields.{HasFields};
 ghost use Rattle.rtk_collect.specs.Position.{IsPosition};
 ghost use Rattle.rtk_collect.specs.Slot.{SlotMeets};
 
-use crate::offers::Offer;
 use crate::conflicts::Conflicts;
+use crate::offers::Offer;
 use rtk_message::{Arp1005, Arp1006};
 use rtk_obs::Position;
 
@@ -21,7 +21,11 @@ pub(crate) struct Stations {
 }
 
 /// Keeps the first station message of its number, if the window isn't full, and says what became of it.
-pub(crate) fn offer_station<T: PartialEq + Copy>(slot: &mut Option<T>, message: T, full: bool) -> Offer
+pub(crate) fn offer_station<T: PartialEq + Copy>(
+    slot: &mut Option<T>,
+    message: T,
+    full: bool,
+) -> Offer
     ensures { SlotMeets T.eq slot.old message full result slot.new }
 {
     if let Some(first) = *slot {

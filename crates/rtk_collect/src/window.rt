@@ -41,7 +41,11 @@ pub(crate) fn has_epoch(sets: &VecDeque<EpochSet>, at: usize, epoch: GpsMs) -> b
 }
 
 /// Joins cells to the epoch at a place. On refusal nothing changes.
-pub(crate) fn join_at(sets: &mut VecDeque<EpochSet>, at: usize, cells: &[CellEntry]) -> Result<Joined, AllocError>
+pub(crate) fn join_at(
+    sets: &mut VecDeque<EpochSet>,
+    at: usize,
+    cells: &[CellEntry],
+) -> Result<Joined, AllocError>
     requires within { at < length sets.old.items }
     requires few { length cells.now ≤ 64 }
     requires range { All IsInRange cells.now }
@@ -56,7 +60,13 @@ pub(crate) fn join_at(sets: &mut VecDeque<EpochSet>, at: usize, cells: &[CellEnt
 
 /// Opens an epoch with cells at its place, and says which of them conflict with one another. All
 /// memory is taken before anything changes.
-pub(crate) fn open_at(sets: &mut VecDeque<EpochSet>, at: usize, alloc: Global, epoch: GpsMs, cells: &[CellEntry]) -> Result<Conflicts, AllocError>
+pub(crate) fn open_at(
+    sets: &mut VecDeque<EpochSet>,
+    at: usize,
+    alloc: Global,
+    epoch: GpsMs,
+    cells: &[CellEntry],
+) -> Result<Conflicts, AllocError>
     requires within { at ≤ length sets.old.items }
     requires few { length cells.now ≤ 64 }
     requires range { All IsInRange cells.now }
