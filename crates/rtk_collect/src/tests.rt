@@ -478,15 +478,18 @@ fn a_collector_answers_as_the_slow_one_that_keeps_every_epoch(
     let mut seed = 2003;
     for i in 0..400u64 {
         seed = next(seed);
-        let seconds = (seed >> 40) % 9 + i / 40;
+        let seconds = ((seed >> 40) % 9).wrapping_add(i / 40);
         let satellite = Satellite {
             satellite: 1 + ((seed >> 50) % 3) as u8,
             l1_cnr: 180 + ((seed >> 60) % 2) as u8,
             ..Q
         };
-        let epoch = GpsMs::new(NOON + 1000 * seconds).expect(&rt, "a moment");
+        let epoch = GpsMs::new(NOON.wrapping_add(seconds.wrapping_mul(1000))).expect(
+            &rt, "a moment",
+        );
         let message = legacy(satellite, 0);
         assert!(&rt; message.fits());
+        assert!(&rt; message.tow().is_some());
         let want = match &message {
             Message::Obs1004(message) => plain.offer(epoch, cells_1004(message).as_slice())?,
             _ => Answer::Late,
