@@ -2,16 +2,12 @@
 use Rattle.std.proofs.Common.{◌≡◌, ℕ, zero, suc, ◌+◌, ◌*◌, ◌/◌, ◌%◌, ◌^◌, ◌-◌, ◌<◌, ◌≤◌, Bool, true, false, not, cond, List, [], ◌∷◌, ◌++◌, length, refl, sym, ◌∙◌, ap, subst, arith, append_assoc, length-append, ◌==◌, ◌&&◌}
 use Rattle.std.specs.Prelude.{bit_xor}
 use Rattle.std.specs.Int.{bit_at}
-use Rattle.std.proofs.lemmas.Nat.Bits.{bit_at_xor, bit_at-lt, bit_at_cat_low, bit_at_cat_high}
+use Rattle.std.proofs.lemmas.Nat.Bits.{bit_at_xor, bit_at-lt, bit_at_cat_high}
 use Rattle.std.proofs.lemmas.Bool.Decides.{nat_tests}
 use Rattle.std.proofs.lemmas.Nat.{xor_comm}
-use Rattle.rtk_bits.specs.Bits.{bits_of, unsigned}
+use Rattle.rtk_bits.specs.Bits.{bits_of}
+use Rattle.rtk_bits.proofs.BitsLemmas.{length-bits_of, bits_of-above}
 use Rattle.rtk_frame.specs.Checksum.{zeros, flip, generator, divide}
-
-pub length_bits : (n a : ℕ) → length (bits_of n a) ≡ n
-unfolding bits_of
-length_bits zero a = refl
-length_bits (suc n) a = omega (arith, length_bits n a)
 
 pub length_zeros : (n : ℕ) → length (zeros n) ≡ n
 length_zeros zero = refl
@@ -65,7 +61,7 @@ unfolding divide
 divide_flip zero zs xs h = refl
 divide_flip (suc n) [] xs h = absurd (omega arith)
 divide_flip (suc n) (true ∷ zs) xs h =
-    ap (divide n) (sym (flip_flip generator zs (zeros n ++ xs) (omega (arith, length_bits 24 0x864CFB)))) ∙ divide_flip n (flip generator zs) xs (omega (arith, length_flip generator zs))
+    ap (divide n) (sym (flip_flip generator zs (zeros n ++ xs) (omega (arith, length-bits_of 24 0x864CFB)))) ∙ divide_flip n (flip generator zs) xs (omega (arith, length_flip generator zs))
 divide_flip (suc n) (false ∷ zs) xs h = divide_flip n zs xs (omega arith)
 
 divide_nothing : (n : ℕ) → divide n [] ≡ []
@@ -83,14 +79,9 @@ divide_add (suc m) n (x ∷ xs) = let e : suc m + n ≡ suc (m + n) = omega arit
 xor_test : (a b c : ℕ) → a < 2 → b < 2 → c ≡ (a + b) % 2 → cond (a == 1) (not (b == 1)) (b == 1) ≡ (c == 1)
 xor_test a b c ha hb e = grind (arith, nat_tests)
 
-bits_low : (j k a b : ℕ) → j ≤ k → bits_of j (a * 2 ^ k + b) ≡ bits_of j b
-unfolding bits_of
-bits_low zero k a b h = refl
-bits_low (suc j) k a b h = rw (bit_at_cat_low a k b j (omega arith), bits_low j k a b (omega arith)) refl
-
 pub bits_cat : (n k a b : ℕ) → b < 2 ^ k → bits_of (n + k) (a * 2 ^ k + b) ≡ bits_of n a ++ bits_of k b
 unfolding bits_of
-bits_cat zero k a b h = let e : 0 + k ≡ k = omega arith in ap (λ m. bits_of m (a * 2 ^ k + b)) e ∙ bits_low k k a b (omega arith)
+bits_cat zero k a b h = let e : 0 + k ≡ k = omega arith in ap (λ m. bits_of m (a * 2 ^ k + b)) e ∙ bits_of-above k k a b (omega arith)
 bits_cat (suc n) k a b h =
     let e : suc n + k ≡ suc (n + k) = omega arith in
     let d : n + k - k ≡ n = omega arith in
@@ -130,13 +121,13 @@ byte_step s y t xs h entry =
     let hi : ℕ = bit_xor (s / 2 ^ 24) y in
     let low : List Bool = bits_of 24 (s % 2 ^ 24) in
     let shifted : List Bool = bits_of 32 (s * 2 ^ 8 % 2 ^ 32) in
-    let lens : length (bits_of 8 (s / 2 ^ 24)) ≡ length (bits_of 8 y) = length_bits 8 (s / 2 ^ 24) ∙ sym (length_bits 8 y) in
-    let whole : 8 + 24 ≤ length (bits_of 8 hi ++ zeros 24) = omega (arith, length-append (bits_of 8 hi) (zeros 24), length_bits 8 hi, length_zeros 24) in
-    let enough : length (bits_of 32 t) ≤ length shifted = omega (arith, length_bits 32 (s * 2 ^ 8 % 2 ^ 32), length_bits 32 t) in
+    let lens : length (bits_of 8 (s / 2 ^ 24)) ≡ length (bits_of 8 y) = length-bits_of 8 (s / 2 ^ 24) ∙ sym (length-bits_of 8 y) in
+    let whole : 8 + 24 ≤ length (bits_of 8 hi ++ zeros 24) = omega (arith, length-append (bits_of 8 hi) (zeros 24), length-bits_of 8 hi, length_zeros 24) in
+    let enough : length (bits_of 32 t) ≤ length shifted = omega (arith, length-bits_of 32 (s * 2 ^ 8 % 2 ^ 32), length-bits_of 32 t) in
     ap (λ z. divide 8 (flip z (bits_of 8 y ++ xs))) (state_parts s h)
     ∙ ap (divide 8) (flip_halves (bits_of 8 (s / 2 ^ 24)) low (bits_of 8 y) xs lens)
     ∙ ap (λ z. divide 8 (z ++ flip low xs)) (flip_bits 8 (s / 2 ^ 24) y)
-    ∙ ap (divide 8) (sym (flip_onto (bits_of 8 hi) 24 (flip low xs)) ∙ ap (λ n. flip (bits_of 8 hi ++ zeros 24) (zeros n ++ flip low xs)) (length_bits 8 hi))
+    ∙ ap (divide 8) (sym (flip_onto (bits_of 8 hi) 24 (flip low xs)) ∙ ap (λ n. flip (bits_of 8 hi ++ zeros 24) (zeros n ++ flip low xs)) (length-bits_of 8 hi))
     ∙ divide_flip 8 (bits_of 8 hi ++ zeros 24) (flip low xs) whole
     ∙ sym (flip_pad (divide 8 (bits_of 8 hi ++ zeros 24)) 8 (flip low xs))
     ∙ ap (λ z. flip z (flip low xs)) (sym entry)

@@ -5,12 +5,12 @@ use Rattle.std.proofs.lemmas.Nat.{xor_of_8, xor_comm}
 use Rattle.std.specs.Int.Bits.{xor_zero_r}
 use Rattle.std.proofs.lemmas.Bool.Decides.{nat_tests}
 use Rattle.rtk_bits.specs.Bits.{bits_of, bits, unsigned}
-use Rattle.rtk_frame.specs.Checksum.{zeros, flip, generator, divide}
+use Rattle.rtk_bits.proofs.BitsLemmas.{length-bits_of}
+use Rattle.rtk_frame.specs.Checksum.{zeros, flip, generator, divide, remainder}
 use Rattle.rtk_frame.specs.declared.checksum_tables.TheConstants.{TABLE0, TABLE1, TABLE2, TABLE3, TABLE4, TABLE5, TABLE6, TABLE7}
-use Rattle.rtk_frame.proofs.Division.{length_bits, length_zeros, length_flip, flip_flip, flip_bits, flip_halves, flip_none, flip_onto, flip_pad, bits_cat, divide_add, divide_flip, byte_step, IsEntry}
+use Rattle.rtk_frame.proofs.Division.{length_zeros, length_flip, flip_flip, flip_bits, flip_halves, flip_none, flip_onto, flip_pad, bits_cat, divide_add, divide_flip, byte_step, IsEntry}
 use Rattle.rtk_frame.proofs.ByteTable.{table_entry}
-use Rattle.rtk_frame.proofs.Remainder.{remainder, next}
-use Rattle.rtk_frame.specs.Tables.{next_eight}
+use Rattle.rtk_frame.proofs.Remainder.{next}
 
 -- ---- the division of a sum is the sum of the divisions
 swap_bit : (x y z : Bool) → cond x (not (cond y (not z) z)) (cond y (not z) z) ≡ cond y (not (cond x (not z) z)) (cond x (not z) z)
@@ -36,7 +36,7 @@ flip_twice (x ∷ a) [] = refl
 flip_twice (x ∷ a) (z ∷ c) = rw (twice_bit x z, flip_twice a c) refl
 
 generator_length : (n : ℕ) (a : List Bool) → suc n + 24 ≤ suc (length a) → length generator ≤ length a
-generator_length n a h = omega (arith, length_bits 24 0x864CFB)
+generator_length n a h = omega (arith, length-bits_of 24 0x864CFB)
 
 divide_sum : (n : ℕ) (a b : List Bool) → length a ≡ length b → n + 24 ≤ length a → divide n (flip a b) ≡ flip (divide n a) (divide n b)
 unfolding divide
@@ -89,9 +89,9 @@ peel : (m z t : ℕ) (rest : List Bool) → IsColumn m z t → m + 24 ≤ length
 peel m z t rest col l =
     let k : ℕ = length rest - m in
     let n : length rest ≡ m + k = omega arith in
-    let da : length (bits_of 8 z ++ zeros (length rest)) ≡ 8 + length rest = omega (arith, length-append (bits_of 8 z) (zeros (length rest)), length_bits 8 z, length_zeros (length rest)) in
+    let da : length (bits_of 8 z ++ zeros (length rest)) ≡ 8 + length rest = omega (arith, length-append (bits_of 8 z) (zeros (length rest)), length-bits_of 8 z, length_zeros (length rest)) in
     let db : length (zeros 8 ++ rest) ≡ 8 + length rest = omega (arith, length-append (zeros 8) rest) in
-    ap (divide (8 + m)) (sym (ap (λ j. flip (bits_of 8 z ++ zeros (length rest)) (zeros j ++ rest)) (sym (length_bits 8 z)) ∙ flip_onto (bits_of 8 z) (length rest) rest))
+    ap (divide (8 + m)) (sym (ap (λ j. flip (bits_of 8 z ++ zeros (length rest)) (zeros j ++ rest)) (sym (length-bits_of 8 z)) ∙ flip_onto (bits_of 8 z) (length rest) rest))
     ∙ divide_sum (8 + m) (bits_of 8 z ++ zeros (length rest)) (zeros 8 ++ rest) (da ∙ sym db) (omega (arith, da))
     ∙ ap (λ w. flip (divide (8 + m) (bits_of 8 z ++ zeros (length rest))) w) (divide_add 8 m (zeros 8 ++ rest) ∙ ap (divide m) (divide_zeros rest))
     ∙ ap (λ w. flip w (divide m rest)) (ap (λ j. divide (8 + m) (bits_of 8 z ++ j)) (ap zeros n ∙ zeros_add m k) ∙ col (zeros k))
@@ -193,13 +193,13 @@ column7 z h = column_more 48 TABLE6 TABLE7 z test7 h (column6 z h)
 
 -- ---- eight bytes
 merge : (a b : ℕ) (xs : List Bool) → flip (bits_of 32 a) (flip (bits_of 32 b) xs) ≡ flip (bits_of 32 (bit_xor a b)) xs
-merge a b xs = sym (flip_flip (bits_of 32 a) (bits_of 32 b) xs (omega (arith, length_bits 32 a, length_bits 32 b))) ∙ ap (λ w. flip w xs) (flip_bits 32 a b)
+merge a b xs = sym (flip_flip (bits_of 32 a) (bits_of 32 b) xs (omega (arith, length-bits_of 32 a, length-bits_of 32 b))) ∙ ap (λ w. flip w xs) (flip_bits 32 a b)
 
 peel_more : (u m z t : ℕ) (rest : List Bool) → IsColumn m z t → m + 24 ≤ length rest → flip (bits_of 32 u) (divide (8 + m) (bits_of 8 z ++ rest)) ≡ flip (bits_of 32 (bit_xor u t)) (divide m rest)
 peel_more u m z t rest col l = ap (flip (bits_of 32 u)) (peel m z t rest col l) ∙ merge u t (divide m rest)
 
 byte_longer : (n z : ℕ) (xs : List Bool) → n ≤ length xs → 8 + n ≤ length (bits_of 8 z ++ xs)
-byte_longer n z xs h = omega (arith, length-append (bits_of 8 z) xs, length_bits 8 z)
+byte_longer n z xs h = omega (arith, length-append (bits_of 8 z) xs, length-bits_of 8 z)
 
 append_nothing : (xs : List Bool) → xs ++ [] ≡ xs
 append_nothing [] = refl
@@ -216,7 +216,7 @@ state_bytes s h =
     ∙ ap (λ w. bits_of 8 (s / 2 ^ 8 % 256) ++ w) (sym (append_nothing (bits_of 8 (s % 256))))))
 
 head_byte : (u a : ℕ) (w xs : List Bool) → flip (bits_of 8 u ++ w) (bits_of 8 a ++ xs) ≡ bits_of 8 (bit_xor u a) ++ flip w xs
-head_byte u a w xs = flip_halves (bits_of 8 u) w (bits_of 8 a) xs (length_bits 8 u ∙ sym (length_bits 8 a)) ∙ ap (λ v. v ++ flip w xs) (flip_bits 8 u a)
+head_byte u a w xs = flip_halves (bits_of 8 u) w (bits_of 8 a) xs (length-bits_of 8 u ∙ sym (length-bits_of 8 a)) ∙ ap (λ v. v ++ flip w xs) (flip_bits 8 u a)
 
 heads : (s a b c d : ℕ) (xs : List Bool) → s < 2 ^ 32 → flip (bits_of 32 s) (bits_of 8 a ++ (bits_of 8 b ++ (bits_of 8 c ++ (bits_of 8 d ++ xs)))) ≡ (bits_of 8 (bit_xor (s / 2 ^ 24) a) ++ (bits_of 8 (bit_xor (s / 2 ^ 16 % 256) b) ++ (bits_of 8 (bit_xor (s / 2 ^ 8 % 256) c) ++ (bits_of 8 (bit_xor (s % 256) d) ++ xs))))
 heads s a b c d xs h =
@@ -229,6 +229,10 @@ heads s a b c d xs h =
     ∙ ap (λ w. bits_of 8 (bit_xor s1 a) ++ w) (head_byte s2 b (bits_of 8 s3 ++ (bits_of 8 s4 ++ [])) (bits_of 8 c ++ (bits_of 8 d ++ xs))
     ∙ ap (λ w. bits_of 8 (bit_xor s2 b) ++ w) (head_byte s3 c (bits_of 8 s4 ++ []) (bits_of 8 d ++ xs)
     ∙ ap (λ w. bits_of 8 (bit_xor s3 c) ++ w) (head_byte s4 d [] xs)))
+
+-- the state after eight bytes
+abbrev pub next_eight : ℕ → ℕ → ℕ → ℕ → ℕ → ℕ → ℕ → ℕ → ℕ → ℕ
+next_eight s a b c d e f g h = bit_xor (bit_xor (bit_xor (bit_xor (bit_xor (bit_xor (bit_xor (get_or TABLE7 (bit_xor (s / 2 ^ 24) a) 0) (get_or TABLE6 (bit_xor (s / 2 ^ 16 % 256) b) 0)) (get_or TABLE5 (bit_xor (s / 2 ^ 8 % 256) c) 0)) (get_or TABLE4 (bit_xor (s % 256) d) 0)) (get_or TABLE3 e 0)) (get_or TABLE2 f 0)) (get_or TABLE1 g 0)) (get_or TABLE0 h 0)
 
 eight_steps : (s a b c d e f g h : ℕ) (xs : List Bool) → s < 2 ^ 32 → a < 256 → b < 256 → c < 256 → d < 256 → e < 256 → f < 256 → g < 256 → h < 256 → 24 ≤ length xs → divide 64 (flip (bits_of 32 s) (bits_of 8 a ++ (bits_of 8 b ++ (bits_of 8 c ++ (bits_of 8 d ++ (bits_of 8 e ++ (bits_of 8 f ++ (bits_of 8 g ++ (bits_of 8 h ++ xs))))))))) ≡ flip (bits_of 32 (next_eight s a b c d e f g h)) xs
 unfolding divide

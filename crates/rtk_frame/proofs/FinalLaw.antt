@@ -140,7 +140,7 @@ pub are_final : (b : List ℕ) → AreFinal b (frames b) (final_frames b)
 unfolding FinalsOf
 are_final b =
     those_same (FinalFrom b (frames b) (0 + 0)) (λ f. (q : ℕ) → q < f.place → Waits b (frames b) q → ⊥) (frames b) (final_frames b)
-      (λ f h q m w. h q (omega arith) m w) (λ f h q l m w. h q m w) (finals_of b b 0 0 refl (omega arith))
+    (λ f h q m w. h q (omega arith) m w) (λ f h q l m w. h q m w) (finals_of b b 0 0 refl (omega arith))
 
 pub final_unique : (b : List ℕ) (gs : List Frame) → AreFinal b (frames b) gs → gs ≡ final_frames b
 final_unique b gs h = those_unique (λ f. (q : ℕ) → q < f.place → Waits b (frames b) q → ⊥) (frames b) gs (final_frames b) h (are_final b)

@@ -4,6 +4,7 @@ mod EightBytes
 mod FinalLaw
 mod FirstFrame
 mod FramesLaw
+mod Framed
 mod Fronts
 mod NextFrame
 mod Passing

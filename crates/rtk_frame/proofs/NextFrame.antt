@@ -39,7 +39,7 @@ next_by b from n none here p false t l m = let e : n ≡ p = grind (arith, nat_t
 pub none_next : (b : List ℕ) (from n : ℕ) → NoneFrom b from n → begins_frame (drop n b) ≡ false → NoneFrom b from (n + 1)
 none_next b from n none here p l m = next_by b from n none here p (nat_lt p n) refl l m
 
-front_by : (s : List ℕ) (f : Front) → 0 < length s → IsFront s f → ((n : ℕ) → f ≡ Whole n → ⊥) → begins_frame s ≡ false
+pub front_by : (s : List ℕ) (f : Front) → 0 < length s → IsFront s f → ((n : ℕ) → f ≡ Whole n → ⊥) → begins_frame s ≡ false
 front_by s (Whole n) l h other = absurd (other n refl)
 front_by s (Partial n) l h other = partial_or_empty s l h.2
 front_by s Other l h other = h.1

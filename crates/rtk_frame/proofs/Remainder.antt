@@ -5,15 +5,13 @@ use Rattle.std.specs.Int.{bit_at}
 use Rattle.std.proofs.lemmas.Nat.{mod-pow-add, xor_of_8}
 use Rattle.std.proofs.lemmas.Nat.Bits.{bit_at-lt}
 use Rattle.std.proofs.lemmas.Bool.Decides.{nat_tests}
-use Rattle.rtk_bits.specs.Bits.{bit, bits_of, bits, unsigned}
-use Rattle.rtk_frame.specs.Checksum.{zeros, flip, generator, divide, crc}
+use Rattle.rtk_bits.specs.Bits.{bits_of, bits, unsigned}
+use Rattle.rtk_bits.proofs.BitsLemmas.{length-bits_of}
+use Rattle.rtk_bits.proofs.Numbers.{unsigned-bits_of}
+use Rattle.rtk_frame.specs.Checksum.{zeros, flip, generator, divide, crc, remainder}
 use Rattle.rtk_frame.specs.declared.checksum_tables.TheConstants.{TABLE0 as TABLE}
-use Rattle.rtk_frame.proofs.Division.{length_bits, flip_none, flip_halves, bits_cat, divide_add, byte_step, flip_pad}
+use Rattle.rtk_frame.proofs.Division.{flip_none, flip_halves, bits_cat, divide_add, byte_step, flip_pad}
 use Rattle.rtk_frame.proofs.ByteTable.{table_entry}
-
--- what remains of the bytes, where the first bits are flipped by the state
-unfoldable pub remainder : ℕ → List ℕ → List Bool
-remainder s bytes = divide (8 * length bytes) (flip (bits_of 32 s) (bits bytes ++ zeros 24))
 
 -- the state after a byte
 abbrev pub next : ℕ → ℕ → ℕ
@@ -27,20 +25,6 @@ remainder_next s y ys h b =
     ∙ divide_add 8 (8 * length ys) (flip (bits_of 32 s) ((bits_of 8 y ++ bits ys) ++ zeros 24))
     ∙ ap (λ z. divide (8 * length ys) (divide 8 (flip (bits_of 32 s) z))) (append_assoc (bits_of 8 y) (bits ys) (zeros 24))
     ∙ ap (divide (8 * length ys)) (byte_step s y (get_or TABLE (bit_xor (s / 2 ^ 24) y) 0) (bits ys ++ zeros 24) h (table_entry (bit_xor (s / 2 ^ 24) y) (xor_of_8 (s / 2 ^ 24) y (omega arith) b)))
-
-bit_test : (b : ℕ) → b < 2 → bit (b == 1) ≡ b
-bit_test zero h = refl
-bit_test (suc zero) h = refl
-bit_test (suc (suc b)) h = absurd (omega arith)
-
-pub number_of_bits : (n a : ℕ) → unsigned (bits_of n a) ≡ a % 2 ^ n
-unfolding unsigned bits_of
-number_of_bits zero a = omega arith
-number_of_bits (suc n) a =
-    let e : 1 + n ≡ suc n = omega arith in
-    let l : length (bits_of n a) ≡ n = length_bits n a in
-    let t : bit (bit_at a n == 1) * 2 ^ length (bits_of n a) ≡ bit_at a n * 2 ^ n = ap (λ k. bit (bit_at a n == 1) * 2 ^ k) l ∙ ap (λ v. v * 2 ^ n) (bit_test (bit_at a n) (bit_at-lt a n)) in
-    ap (λ z. z + unsigned (bits_of n a)) t ∙ ap (λ z. bit_at a n * 2 ^ n + z) (number_of_bits n a) ∙ sym (mod-pow-add a 1 n) ∙ ap (λ k. a % 2 ^ k) e
 
 -- at the end
 flip_zero : (y : Bool) → cond y (not false) false ≡ y
@@ -59,7 +43,7 @@ unfolding remainder divide bits
 remainder_end s h =
     let e : s ≡ s / 2 ^ 8 * 2 ^ 8 + s % 2 ^ 8 = omega arith in
     let parts : bits_of 32 s ≡ bits_of 24 (s / 2 ^ 8) ++ bits_of 8 (s % 2 ^ 8) = ap (bits_of 32) e ∙ bits_cat 24 8 (s / 2 ^ 8) (s % 2 ^ 8) (omega arith) in
-    ap (λ z. flip z (zeros 24)) parts ∙ flip_end (bits_of 24 (s / 2 ^ 8)) (bits_of 8 (s % 2 ^ 8)) 24 (length_bits 24 (s / 2 ^ 8))
+    ap (λ z. flip z (zeros 24)) parts ∙ flip_end (bits_of 24 (s / 2 ^ 8)) (bits_of 8 (s % 2 ^ 8)) 24 (length-bits_of 24 (s / 2 ^ 8))
 
 -- at the start
 pub crc_remainder : (bytes : List ℕ) → crc bytes ≡ unsigned (remainder 0 bytes)
@@ -69,4 +53,4 @@ crc_remainder bytes = ap (λ z. unsigned (divide (8 * length bytes) z)) (sym (fl
 pub crc_end : (s : ℕ) (bytes : List ℕ) → s < 2 ^ 32 → remainder s [] ≡ remainder 0 bytes → s / 2 ^ 8 ≡ crc bytes
 crc_end s bytes h e =
     let small : s / 2 ^ 8 % 2 ^ 24 ≡ s / 2 ^ 8 = omega arith in
-    sym (crc_remainder bytes ∙ ap unsigned (sym e ∙ remainder_end s h) ∙ number_of_bits 24 (s / 2 ^ 8) ∙ small)
+    sym (crc_remainder bytes ∙ ap unsigned (sym e ∙ remainder_end s h) ∙ unsigned-bits_of 24 (s / 2 ^ 8) ∙ small)

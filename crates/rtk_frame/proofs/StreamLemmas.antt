@@ -1,8 +1,8 @@
 -- Laws of the bytes that passed and of the counts, and the bytes of a source over memory.
-use Rattle.std.proofs.Common.{◌≡◌, ◌≢◌, ℕ, zero, suc, ◌+◌, ◌≤◌, inl, inr, Bool, false, ◌==◌, ◌&&◌, List, [], ◌∷◌, ◌++◌, length, take, drop, replicate, Option, None, Some, refl, ap, append_assoc, sym, ◌∙◌, arith, zero-add, suc-add}
+use Rattle.std.proofs.Common.{◌≡◌, ◌≢◌, ℕ, ◌+◌, ◌≤◌, inl, inr, Bool, false, ◌==◌, ◌&&◌, List, [], ◌∷◌, ◌++◌, length, take, drop, replicate, Option, None, Some, refl, ap, append_assoc, sym, ◌∙◌, arith}
 use Rattle.std.proofs.lemmas.List.{append-nil, replicate-append-replicate, length-replicate, ext_get_or, length-set, get_or-set_other}
 use Rattle.std.proofs.lemmas.List.Sums.{sum_by-set}
-use Rattle.std.proofs.Math.Seq.{take-nil, take-append_seam}
+use Rattle.std.proofs.Math.Seq.{take-add, take-append_seam}
 use Rattle.std.proofs.lemmas.Grind.{common_steps, get_or-set_at}
 use Rattle.std.proofs.lemmas.Bool.{cases_eq}
 use Rattle.std.specs.Prelude.{slice_set, slice_index_or, sum_by, ◌<◌, Result}
@@ -26,11 +26,6 @@ count_after-rises count = grind arith
 pub rises-on : (first second third : ℕ) → Rises first second → second ≤ third → Rises first third
 rises-on first second third (inl below) h = inl (omega (arith, below, h))
 rises-on first second third (inr full) h = inr (omega (arith, full, h))
-
-pub take-add : {X : Type 0} (i n : ℕ) (xs : List X) → take (i + n) xs ≡ take i xs ++ take n (drop i xs)
-take-add zero n xs = rw zero-add
-take-add (suc i) n [] = rw suc-add (sym (take-nil n))
-take-add (suc i) n (x ∷ xs) = rw suc-add (ap (λ t. x ∷ t) (take-add i n xs))
 
 -- the first bytes were taken, and then some of those behind them
 pub with_more-take : (known : Option (List ℕ)) (i n : ℕ) (bytes : List ℕ) → with_more (with_more known (take i bytes)) (take n (drop i bytes)) ≡ with_more known (take (i + n) bytes)

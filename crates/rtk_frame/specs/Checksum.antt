@@ -26,3 +26,7 @@ divide (suc n) (x ∷ xs) = divide n (cond x (flip generator xs) xs)
 -- CRC-24Q: what remains of the bits of the bytes with 24 zeros after them, once each bit of the bytes is dropped
 unfoldable pub crc : List ℕ → ℕ
 crc bytes = unsigned (divide (8 * length bytes) (bits bytes ++ zeros 24))
+
+-- what remains of the bytes, where their first bits are flipped by those of a state of 32 bits
+unfoldable pub remainder : ℕ → List ℕ → List Bool
+remainder state bytes = divide (8 * length bytes) (flip (bits_of 32 state) (bits bytes ++ zeros 24))

@@ -1,9 +1,8 @@
 pub mod Checksum
 pub mod Frame
 pub mod Frames
+pub mod Memory
 pub mod Scanner
 pub mod ScannerState
 pub mod Scanning
-pub mod Tables
-pub mod Memory
 pub mod Stream

@@ -1,7 +1,6 @@
 //! The checksum CRC-24Q, eight bytes a step.
-ghost use Rattle.std.specs.Prelude.{◌≡◌, ◌<◌, ◌^◌, slice_index};
-ghost use Rattle.rtk_frame.specs.Checksum.{crc};
-ghost use Rattle.rtk_frame.specs.Tables.{next_eight};
+ghost use Rattle.std.specs.Prelude.{◌≡◌, ◌<◌, ◌^◌, ℕ, List, ◌∷◌, slice_index};
+ghost use Rattle.rtk_frame.specs.Checksum.{crc, remainder};
 
 use crate::checksum_tables::{TABLE0, TABLE1, TABLE2, TABLE3, TABLE4, TABLE5, TABLE6, TABLE7};
 
@@ -25,9 +24,11 @@ pub fn crc24q(bytes: &[u8]) -> u32
     state >> 8
 }
 
-// The state after eight bytes more. Its upper 24 bits are the remainder so far, the others zero.
+/// The state after eight bytes more. Its upper 24 bits are the remainder so far, the others zero.
 fn after_eight(state: u32, bytes: [u8; 8]) -> u32
-    ensures { result ≡ next_eight state (slice_index bytes 0) (slice_index bytes 1) (slice_index bytes 2) (slice_index bytes 3) (slice_index bytes 4) (slice_index bytes 5) (slice_index bytes 6) (slice_index bytes 7) }
+    ensures { (rest : List ℕ) → remainder result rest ≡ remainder state
+        (slice_index bytes 0 ∷ slice_index bytes 1 ∷ slice_index bytes 2 ∷ slice_index bytes 3
+        ∷ slice_index bytes 4 ∷ slice_index bytes 5 ∷ slice_index bytes 6 ∷ slice_index bytes 7 ∷ rest) }
 {
     let [a, b, c, d, e, f, g, h] = bytes;
     TABLE7[(state >> 24 ^ a as u32) as usize]

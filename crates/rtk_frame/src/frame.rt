@@ -36,7 +36,8 @@ impl From<AllocError> for FrameFault {
 ///
 /// Source: RTCM 10403.3, transport layer.
 pub fn encode_frame(alloc: Global, payload: &[u8]) -> Result<Vec<u8>, FrameFault>
-    ensures frame { IfOk result (λ frame. (length payload.now ≤ 1023) × (frame.items ≡ framed payload.now)) }
+    ensures frame { IfOk result (λ frame.
+        (length payload.now ≤ 1023) × (frame.items ≡ framed payload.now)) }
     ensures too_long { IsErrOf result TooLong ↔ (1023 < length payload.now) }
 {
     let len = payload.len();
@@ -63,7 +64,7 @@ const PREAMBLE: u8 = 0xD3;
 pub(crate) enum Front {
     /// A frame, with so many bytes of payload.
     Whole(usize),
-    /// Nothing, or a frame of which so many bytes at least are still to come.
+    /// The start of a frame, or no byte at all: at least so many bytes are missing.
     Partial(usize),
     /// Neither.
     Other,
@@ -107,6 +108,7 @@ fn has_checksum(bytes: &[u8], covered: usize) -> bool
 pub(crate) fn before_preamble(bytes: &[u8]) -> usize
     ensures within { result ≤ length bytes.now }
     ensures none { (i : ℕ) → i < result → slice_index bytes.now i ≢ 0xD3 }
+    ensures next { result < length bytes.now → slice_index bytes.now result ≡ 0xD3 }
 {
     match bytes.iter().position(|byte| *byte == PREAMBLE) {
         Some(place) => place,

@@ -1,4 +1,4 @@
-//! Bytes of a link: sources and sinks, frames of RTCM 3 with their checksum, and a scanner for a stream.
+//! Bytes of a link: sources and sinks, frames of RTCM 3 and their checksum, and a scanner.
 #![tactic(auto)]
 
 mod checksum;
@@ -17,8 +17,8 @@ mod stream_tests;
 mod tests;
 
 pub use checksum::crc24q;
-pub use frame::{encode_frame, FrameFault};
+pub use frame::{FrameFault, encode_frame};
 pub use memory::{After, MemSink, MemSource};
 pub use scanner::{Answer, Fed, Scanner};
-pub use search::{next_frame, Placed};
-pub use stream::{read_one, write_all, Sink, Source, StreamFault};
+pub use search::{Placed, next_frame};
+pub use stream::{Sink, Source, StreamFault, read_one, write_all};

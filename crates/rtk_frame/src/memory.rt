@@ -45,7 +45,7 @@ impl Model for MemSource {
       calls = s.calls;
     } };
 
-    ghost invariant = { λ s. (s.at ≤ vec_len s.bytes) × (0 < s.zeros → s.at ≡ vec_len s.bytes) };
+    ghost invariant = { λ s. (s.at ≤ vec_len s.bytes) × (0 < s.zeros → s.at ≡ vec_len s.bytes) × (1 ≤ s.per_read) };
 }
 
 impl MemSource {
@@ -94,6 +94,7 @@ impl Source for MemSource {
         ensures bytes { 0 < length self.old.left
             → result ≡ Ok (min (room_of self.old buf.old) (length self.old.left)) }
         ensures end { IsSpent self.old End → result ≡ Ok 0 }
+        ensures only_end { 0 < length buf.old → result ≡ Ok 0 → IsSpent self.old End }
         ensures failure { IsSpent self.old Failure → IsErr result }
         ensures zeros { IsSpent self.old Zeros
             → length self.old.given + length buf.old < 2 ^ 128

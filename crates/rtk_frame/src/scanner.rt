@@ -4,7 +4,7 @@ ghost use Rattle.circular_buffer.specs.Buffer.{buffer};
 ghost use Rattle.rtk_frame.specs.Frame.{begins_frame, begins_partial, payload_length, payload_of};
 ghost use Rattle.rtk_frame.specs.Scanning.{Scanned, Searched};
 
-use crate::frame::{before_preamble, front_of, FrameFault, Front};
+use crate::frame::{FrameFault, Front, before_preamble, front_of};
 use circular_buffer::HeapCircularBuffer;
 use std::alloc::Global;
 use std::marker::Model;
@@ -36,7 +36,7 @@ impl Model for Scanner {
 /// What `feed` took of the piece, and what it found there.
 #[derive(Clone, Copy)]
 pub struct Fed<'a> {
-    /// How many bytes of the piece were used. After `Found` the rest of it is to be fed again.
+    /// How many bytes of the piece were used. After `Found` the next call is fed the others.
     pub used: usize,
     /// What was found.
     pub answer: Answer<'a>,
@@ -71,13 +71,16 @@ impl Scanner {
         })
     }
 
-    /// Takes the piece up to the end of its next frame, or whole.
+    /// Takes bytes of the piece until a frame is found, or all of them. Bytes behind the frame may
+    /// be among those taken: they are pending.
     ///
     /// The payload is borrowed from the scanner until its next call.
     pub fn feed(&mut self, piece: &[u8]) -> Fed<'_>
         requires { self.old.ended ≡ false }
         ensures used { result.used ≤ length piece.now }
-        ensures* after { sem 𝓛 (Leaves self.entry (λ now. (now.ended ≡ false) × (length now.pending ≤ 1029) × FedAnswer self.old.pending piece.now result.used result.answer now)) }
+        ensures* after { sem 𝓛 (Leaves self.entry (λ now.
+            (now.ended ≡ false) × (length now.pending ≤ 1029)
+            × FedAnswer self.old.pending piece.now result.used result.answer now)) }
     {
         let (used, found) = advance(&mut self.ring, piece);
         match found {
@@ -95,11 +98,13 @@ impl Scanner {
         }
     }
 
-    /// Ends the stream, and gives the next frame of the bytes that wait for more: none come.
+    /// Ends the stream, and gives the next frame of the pending bytes, since no more will come.
     ///
     /// The payload is borrowed from the scanner until its next call. After None it is always None.
     pub fn rest(&mut self) -> Option<&[u8]>
-        ensures* after { sem 𝓛 (Leaves self.entry (λ now. (now.ended ≡ true) × (length now.pending ≤ 1029) × RestAnswer self.old.pending result now)) }
+        ensures* after { sem 𝓛 (Leaves self.entry (λ now.
+            (now.ended ≡ true) × (length now.pending ≤ 1029)
+            × RestAnswer self.old.pending result now)) }
     {
         self.ended = true;
         match advance_ended(&mut self.ring) {
@@ -122,21 +127,22 @@ impl Scanner {
 /// Scans the ring and what of the piece it has to take, up to the next frame or to the end.
 /// Gives how many bytes were used, and the length of the payload of a frame at the ring's front.
 fn advance(ring: &mut HeapCircularBuffer<u8>, piece: &[u8]) -> (usize, Option<usize>)
-    requires { ring.old.capacity ≡ 1029 }
+    requires { (ring.old.capacity ≡ 1029) × (length ring.old.items ≤ 1029) }
     ensures capacity { (ring.new.capacity ≡ 1029) × (length ring.new.items ≤ 1029) }
     ensures used { result.0 ≤ length piece.now }
     ensures scanned { Scanned (ring.old.items ++ take result.0 piece.now) ring.new.items }
     ensures found { MatchOption result.1
-        ((result.0 ≡ length piece.now) × ((begins_partial ring.new.items ≡ true) ⊎ (ring.new.items ≡ [])))
-        (λ n. (begins_frame ring.new.items ≡ true) × (n ≡ payload_length ring.new.items) × (n ≤ 1023)) }
+        ((result.0 ≡ length piece.now)
+        × ((begins_partial ring.new.items ≡ true) ⊎ (ring.new.items ≡ [])))
+        (λ n. (begins_frame ring.new.items ≡ true)
+        × (n ≡ payload_length ring.new.items) × (n ≤ 1023)) }
 {
     let mut used = 0;
-    let _length = ring.len();
     'scan: loop {
         match front_of(ring.make_contiguous()) {
             Front::Whole(payload) => return (used, Some(payload)),
             Front::Other => {
-                let _passed = ring.pop_front();
+                ring.pop_front();
                 pass_junk(ring);
             }
             Front::Partial(wanted) => {
@@ -145,7 +151,7 @@ fn advance(ring: &mut HeapCircularBuffer<u8>, piece: &[u8]) -> (usize, Option<us
                     return (used, None);
                 }
                 let more = wanted.min(piece.len() - used);
-                let _count = ring.fill_from_slice(&piece[used..used + more]);
+                ring.fill_from_slice(&piece[used..used + more]);
                 used += more;
             }
         }
@@ -154,34 +160,28 @@ fn advance(ring: &mut HeapCircularBuffer<u8>, piece: &[u8]) -> (usize, Option<us
 
 /// Searches the ring for the next frame, as if no byte followed.
 fn advance_ended(ring: &mut HeapCircularBuffer<u8>) -> Option<usize>
-    requires { ring.old.capacity ≡ 1029 }
+    requires { (ring.old.capacity ≡ 1029) × (length ring.old.items ≤ 1029) }
     ensures capacity { (ring.new.capacity ≡ 1029) × (length ring.new.items ≤ 1029) }
     ensures searched { Searched ring.old.items ring.new.items }
     ensures found { MatchOption result
         (ring.new.items ≡ [])
-        (λ n. (begins_frame ring.new.items ≡ true) × (n ≡ payload_length ring.new.items) × (n ≤ 1023)) }
+        (λ n. (begins_frame ring.new.items ≡ true)
+        × (n ≡ payload_length ring.new.items) × (n ≤ 1023)) }
 {
-    let _length = ring.len();
-    'search: loop {
-        match front_of(ring.make_contiguous()) {
-            Front::Whole(payload) => return Some(payload),
-            Front::Other => {
-                let _left = ring.pop_front();
-            }
-            Front::Partial(_) => {
-                if ring.is_empty() {
-                    return None;
-                }
-                let _dropped = ring.pop_front();
-            }
+    while !ring.is_empty() {
+        if let Front::Whole(payload) = front_of(ring.make_contiguous()) {
+            return Some(payload);
         }
+        ring.pop_front();
     }
+    None
 }
 
 /// Passes the bytes at the front of the ring that are no preamble.
 fn pass_junk(ring: &mut HeapCircularBuffer<u8>)
     requires { (ring.old.capacity ≡ 1029) × (length ring.old.items ≤ 1029) }
-    ensures capacity { (ring.new.capacity ≡ 1029) × (length ring.new.items ≤ length ring.old.items) }
+    ensures capacity { ring.new.capacity ≡ 1029 }
+    ensures shorter { length ring.new.items ≤ length ring.old.items }
     ensures scanned { (text : List ℕ) → Scanned text ring.old.items → Scanned text ring.new.items }
 {
     let junk = before_preamble(ring.make_contiguous());
@@ -192,7 +192,8 @@ fn pass_junk(ring: &mut HeapCircularBuffer<u8>)
 /// How many bytes of the piece need not enter the ring, since it is empty and they are no preamble.
 fn junk_of_piece(ring: &HeapCircularBuffer<u8>, piece: &[u8]) -> usize
     ensures within { result ≤ length piece.now }
-    ensures scanned { (text : List ℕ) → Scanned text ring.now.items → Scanned (text ++ take result piece.now) ring.now.items }
+    ensures scanned { (text : List ℕ) → Scanned text ring.now.items
+        → Scanned (text ++ take result piece.now) ring.now.items }
 {
     if ring.is_empty() {
         before_preamble(piece)
@@ -203,7 +204,8 @@ fn junk_of_piece(ring: &HeapCircularBuffer<u8>, piece: &[u8]) -> usize
 
 /// Moves the frame at the front out of the ring, and its payload to the front of `area`.
 fn take_frame(ring: &mut HeapCircularBuffer<u8>, area: &mut [u8], payload: usize)
-    requires frame { (payload ≡ payload_length ring.old.items) × (payload + 6 ≤ length ring.old.items) }
+    requires stated { payload ≡ payload_length ring.old.items }
+    requires whole { payload + 6 ≤ length ring.old.items }
     requires room { payload ≤ length area.old }
     ensures rest { ring.new ≡ buffer (drop (payload + 6) ring.old.items) ring.old.capacity }
     ensures payload { take payload area.new ≡ payload_of ring.old.items }

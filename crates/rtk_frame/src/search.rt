@@ -2,7 +2,7 @@
 ghost use Rattle.std.specs.Prelude.{◌≡◌, ℕ, ◌<◌, ◌≤◌, length, drop, MatchOption, IfSome, ◌+◌};
 ghost use Rattle.rtk_frame.specs.Frame.{IsFrameAt, payload_of};
 
-use crate::frame::{before_preamble, front_of, Front};
+use crate::frame::{Front, before_preamble, front_of};
 
 /// A frame at a place of a text: where it begins, and its payload.
 #[derive(Clone, Copy)]
@@ -23,7 +23,8 @@ pub fn next_frame(bytes: &[u8], from: usize) -> Option<Placed<'_>>
         (λ found. (from ≤ found.place) × IsFrameAt bytes.now found.place
         × (found.payload.now ≡ payload_of (drop found.place bytes.now))
         × ((p : ℕ) → from ≤ p → p < found.place → IsFrameAt bytes.now p → ⊥)) }
-    ensures within { IfSome result (λ found. found.place + (length found.payload.now + 6) ≤ length bytes.now) }
+    ensures within { IfSome result (λ found.
+        found.place + (length found.payload.now + 6) ≤ length bytes.now) }
 {
     let mut place = from + before_preamble(&bytes[from..]);
     while place < bytes.len() {

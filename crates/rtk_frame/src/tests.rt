@@ -3,13 +3,14 @@
 ghost use Rattle.std.specs.Prelude.{◌≡◌, ◌<◌, false};
 
 use crate::checksum::crc24q;
-use crate::frame::{encode_frame, FrameFault};
+use crate::frame::{FrameFault, encode_frame};
 use crate::plain::{checksum_bit_by_bit, frames_of};
 use crate::scanner::{Answer, Scanner};
 use crate::search::next_frame;
 use std::alloc::{AllocError, Global};
 
-/// A message 1005 of station 2003, as a receiver sent it: a frame with 19 bytes of payload.
+/// The frame that RTCM 10403.3 gives as its example: a message 1005 of station 2003, with 19 bytes
+/// of payload.
 const FRAME: [u8; 25] = [
     0xD3, 0x00, 0x13, 0x3E, 0xD7, 0xD3, 0x02, 0x02, 0x98, 0x0E, 0xDE, 0xEF, 0x34, 0xB4, 0xBD, 0x62,
     0xAC, 0x09, 0x41, 0x98, 0x6F, 0x33, 0x36, 0x0B, 0x98,
@@ -33,17 +34,47 @@ struct Text {
 
 const TEXTS: [Text; 6] = [
     // nothing before it
-    Text { head: &[], times: 0, place: 0, fed: true },
+    Text {
+        head: &[],
+        times: 0,
+        place: 0,
+        fed: true,
+    },
     // a preamble that asks for 1,023 bytes of payload
-    Text { head: &[0xD3, 0x03, 0xFF], times: 1, place: 3, fed: false },
+    Text {
+        head: &[0xD3, 0x03, 0xFF],
+        times: 1,
+        place: 3,
+        fed: false,
+    },
     // a bad checksum; a preamble inside the payload asks for 520 bytes
-    Text { head: &SPOILT, times: 1, place: 25, fed: false },
+    Text {
+        head: &SPOILT,
+        times: 1,
+        place: 25,
+        fed: false,
+    },
     // a candidate of 28 bytes with a bad checksum hides the frame
-    Text { head: &[0xD3, 0x00, 0x16], times: 1, place: 3, fed: true },
+    Text {
+        head: &[0xD3, 0x00, 0x16],
+        times: 1,
+        place: 3,
+        fed: true,
+    },
     // candidates of six bytes with a bad checksum
-    Text { head: &[0xD3, 0, 0, 0, 0, 0], times: 1000, place: 6000, fed: true },
+    Text {
+        head: &[0xD3, 0, 0, 0, 0, 0],
+        times: 1000,
+        place: 6000,
+        fed: true,
+    },
     // preambles of which the first candidate is whole, and bad, and later ones are not
-    Text { head: &[0xD3, 0x03, 0xFF], times: 300, place: 900, fed: false },
+    Text {
+        head: &[0xD3, 0x03, 0xFF],
+        times: 300,
+        place: 900,
+        fed: false,
+    },
 ];
 
 fn bytes_of(alloc: Global, text: &Text) -> Result<Vec<u8>, AllocError> {
@@ -122,6 +153,9 @@ fn the_next_frame_of_a_text(rt: HostRuntime) {
     assert!(rt; next_frame(&SPOILT, 0).is_none());
     let empty = next_frame(&[0xD3, 0, 0, 0x47, 0xEA, 0x4B], 0);
     assert!(rt; matches!(empty, Some(found) if found.place == 0 && found.payload.is_empty()));
+    // the reserved bits may be set
+    let reserved = next_frame(&[0xD3, 0xFC, 0, 0x32, 0xC2, 0x4F], 0);
+    assert!(rt; matches!(reserved, Some(found) if found.place == 0 && found.payload.is_empty()));
 }
 
 #[test]
@@ -130,9 +164,14 @@ fn the_same_frame_in_pieces(rt: HostRuntime) {
         let bytes = bytes_of(rt.alloc(), text).expect(&rt, "memory");
         for size in [1usize, 7, 512, 10000] {
             let mut scanner = Scanner::new(rt.alloc()).expect(&rt, "memory");
-            let (fed, count) = feed_in_pieces(rt.alloc(), &mut scanner, bytes.as_slice(), size)
-                .expect(&rt, "memory");
-            assert_eq!(rt; count, if text.fed { 1 } else { 0 }, "place {}, pieces of {size}", text.place);
+            let (fed, count) = feed_in_pieces(
+                rt.alloc(),
+                &mut scanner,
+                bytes.as_slice(),
+                size,
+            ).expect(&rt, "memory");
+            let want = if text.fed { 1usize } else { 0 };
+            assert_eq!(rt; count, want, "place {}, pieces of {size}", text.place);
             assert!(rt; !scanner.ended());
             if text.fed {
                 assert!(rt; fed.as_slice() == &FRAME[3..22]);
@@ -205,7 +244,9 @@ fn the_plain_program_does_the_same(rt: HostRuntime) {
     let mut bytes = Vec::new(rt.alloc());
     for text in &TEXTS {
         let more = bytes_of(rt.alloc(), text).expect(&rt, "memory");
-        bytes.extend_from_slice(more.as_slice()).expect(&rt, "memory");
+        bytes
+            .extend_from_slice(more.as_slice())
+            .expect(&rt, "memory");
     }
     let text = bytes.as_slice();
     for size in [1usize, 7, 8, 9, 70, 1000] {
@@ -217,8 +258,9 @@ fn the_plain_program_does_the_same(rt: HostRuntime) {
     assert!(rt; frames == frames_of(rt.alloc(), text).expect(&rt, "memory"));
     for size in [1usize, 5, 512] {
         let mut scanner = Scanner::new(rt.alloc()).expect(&rt, "memory");
-        let (mut found, _) =
-            feed_in_pieces(rt.alloc(), &mut scanner, text, size).expect(&rt, "memory");
+        let (mut found, _) = feed_in_pieces(rt.alloc(), &mut scanner, text, size).expect(
+            &rt, "memory",
+        );
         for _ in 0..10 {
             if let Some(payload) = scanner.rest() {
                 found.extend_from_slice(payload).expect(&rt, "memory");

@@ -43,8 +43,11 @@ entries-snoc (x ∷ xs) s = rw (entries-snoc xs s, filter-append (λ (t : Satell
 cells-snoc : (ss : List Satellite) (s : Satellite)
     → cells_of_1004 (ss ++ s ∷ []) ≡ cells_of_1004 ss ++ flat_map satellite_entries (filter (λ (t : Satellite). is_satellite t.satellite) (fresh ss s))
 cells-snoc ss s =
-    rw (entries-snoc ss s, filter-append (λ (t : Satellite). is_satellite t.satellite) (first_entries ss) (fresh ss s),
-        flat_map-append satellite_entries (filter (λ (t : Satellite). is_satellite t.satellite) (first_entries ss)) (filter (λ (t : Satellite). is_satellite t.satellite) (fresh ss s)))
+    rw (
+      entries-snoc ss s,
+      filter-append (λ (t : Satellite). is_satellite t.satellite) (first_entries ss) (fresh ss s),
+      flat_map-append satellite_entries (filter (λ (t : Satellite). is_satellite t.satellite) (first_entries ss)) (filter (λ (t : Satellite). is_satellite t.satellite) (fresh ss s)),
+    )
     refl
 
 chosen : (s : Satellite) (a b : Bool) → is_satellite s.satellite ≡ a → (a && not b) ≡ true
@@ -77,14 +80,15 @@ cells-unused ss s h =
 
 fields_by_recursion : (ss : List Satellite) → FieldsFit (flat_map satellite_table ss) → AllByRecursion HasFields ss
 fields_by_recursion [] h = tt
-fields_by_recursion (s ∷ ss) h =
-    (record {
-        l1_lock_indicator = h.1.1.1.1.0;
-        l2_lock_indicator = h.1.1.1.1.1.1.1.1.1.1.0;
-        l1_cnr = h.1.1.1.1.1.1.0;
-        l2_cnr = h.1.1.1.1.1.1.1.1.1.1.1.0;
-     },
-     fields_by_recursion ss h.1.1.1.1.1.1.1.1.1.1.1.1)
+fields_by_recursion (s ∷ ss) h = (
+  record {
+    l1_lock_indicator = h.1.1.1.1.0;
+    l2_lock_indicator = h.1.1.1.1.1.1.1.1.1.1.0;
+    l1_cnr = h.1.1.1.1.1.1.0;
+    l2_cnr = h.1.1.1.1.1.1.1.1.1.1.1.0;
+  },
+  fields_by_recursion ss h.1.1.1.1.1.1.1.1.1.1.1.1,
+)
 
 pub fields_of_valid : (m : Obs1004) → IsValid m → All HasFields m.satellites
 fields_of_valid m h = All-from_recursion HasFields m.satellites (fields_by_recursion m.satellites h.fields_fit.1.1.1.1.1.1)
@@ -104,9 +108,10 @@ satellite_in_range n h = grind (arith, nat_tests)
 in_range_if : (b : Bool) (s : Satellite) (rest : List Satellite) → is_satellite s.satellite ≡ b → HasFields s
     → AllByRecursion IsInRange (flat_map satellite_entries rest)
     → AllByRecursion IsInRange (flat_map satellite_entries (cond b (s ∷ rest) rest))
-in_range_if true s rest e h a =
-    (record { satellite = satellite_in_range s.satellite e; strength = strength_in_range s.l1_cnr h.l1_cnr },
-     (record { satellite = satellite_in_range s.satellite e; strength = strength_in_range s.l2_cnr h.l2_cnr }, a))
+in_range_if true s rest e h a = (
+  record { satellite = satellite_in_range s.satellite e; strength = strength_in_range s.l1_cnr h.l1_cnr },
+  (record { satellite = satellite_in_range s.satellite e; strength = strength_in_range s.l2_cnr h.l2_cnr }, a),
+)
 in_range_if false s rest e h a = a
 
 used_in_range : (ss : List Satellite) → AllByRecursion HasFields ss → AllByRecursion IsInRange (flat_map satellite_entries (filter (λ (t : Satellite). is_satellite t.satellite) ss))

@@ -80,7 +80,7 @@ count-slots m h =
 pub few_slots : (m : Msm1074) → IsValid m → length (slots_of m) ≤ 64
 few_slots m h =
     let most = join_from-length (row_slots (signals_of m)) (length (signals_of m))
-        (λ k bits. rw (length-row_slots (signals_of m) k bits) (set_bits_from-length 1 (length (signals_of m)) bits)) 0 m.cell_mask in
+    (λ k bits. rw (length-row_slots (signals_of m) k bits) (set_bits_from-length 1 (length (signals_of m)) bits)) 0 m.cell_mask in
     let rows = h.lengths.cell_mask in
     let signals_are = count-signals m h in
     let all : length (slots_of m) ≤ satellites m.header * signals m.header = rw rows at (rw signals_are at most) in
@@ -140,7 +140,7 @@ cells_in_range m h =
     All-from_recursion IsInRange (cells_of_1074 m)
     (all-join_from (slot_entry m) IsInRange 0 (length (slots_of m)) (slots_of m) (omega arith)
     (λ k s below. in_range_if (is_satellite (get_or (satellites_of m) s.row 0)) (get_or (satellites_of m) s.row 0) (coded_entry m k s.row (get_or (satellites_of m) s.row 0) (code_of_signal s.signal)) refl
-        (λ is. coded_in_range m k s.row (get_or (satellites_of m) s.row 0) (code_of_signal s.signal) is (cnr_fits m h))))
+    (λ is. coded_in_range m k s.row (get_or (satellites_of m) s.row 0) (code_of_signal s.signal) is (cnr_fits m h))))
 
 pub at_most_one : (o : Option CellEntry) → length (option_to_list o) ≤ 1
 at_most_one None = omega arith

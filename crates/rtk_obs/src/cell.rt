@@ -54,5 +54,4 @@ pub(crate) fn is_gps(satellite: u8) -> bool
 /// `==` on cells is equality of all their fields.
 pub fn cell_laws()
     ensures equality { (a b : Cell) → IsTrue (⟦<Cell as PartialEq>⟧.eq a b) ↔ (a ≡ b) }
-{
-}
+{}

@@ -144,5 +144,4 @@ impl Code {
 /// No two codes have one name. So `Code::from_name` of a code's `name` is the code.
 pub fn code_laws()
     ensures names { (c d : Code) → name_of c ≡ name_of d → c ≡ d }
-{
-}
+{}

@@ -175,7 +175,10 @@ fn msm_cell(message: &Msm1074, cell: usize, row: usize, band: Band) -> Cell
     requires row { row < satellites message.now.header }
     ensures { result ≡ msm_cell_of message.now cell row band }
 {
-    let rough = rough(message.rough_ms.as_slice()[row], message.rough_fraction.as_slice()[row]);
+    let rough = rough(
+        message.rough_ms.as_slice()[row],
+        message.rough_fraction.as_slice()[row],
+    );
     Cell {
         range_mm: range(rough, message.fine_range.as_slice()[cell]),
         phase_millicycles: phase(band, rough, message.fine_phase.as_slice()[cell]),

@@ -1,9 +1,9 @@
 use Rattle.std.proofs.Common.{◌≡◌, ℕ, List, ◌∷◌, [], ◌<◌, ◌+◌, ◌^◌, get_or, drop, length, refl, sym, ◌∙◌, ap, arith, drop-cons, add-one, get_or-drop, ◌≤◌, ◌-◌, take, length-drop}
 use Rattle.std.proofs.lemmas.List.{take_all}
-use Rattle.rtk_frame.specs.Tables.{next_eight}
 use Rattle.std.proofs.Math.ListN.{drop_of_length-le}
-use Rattle.rtk_frame.proofs.Remainder.{remainder, remainder_next, crc_end}
-use Rattle.rtk_frame.proofs.EightBytes.{remainder_eight, eight_front}
+use Rattle.rtk_frame.specs.Checksum.{remainder}
+use Rattle.rtk_frame.proofs.Remainder.{remainder_next, crc_end}
+use Rattle.rtk_frame.proofs.EightBytes.{eight_front}
 use Rattle.rtk_frame.proofs.checksum.crc24q.Goals as goal
 
 pub loop-byte-preserved : goal.loop-byte-preserved
@@ -25,13 +25,9 @@ pub loop-rest-preserved : goal.loop-rest-preserved
 loop-rest-preserved c =
     let r : List ℕ = c.loop-rest.rest.now in
     let long : 8 ≤ length r = c.in-len8-up.len_at_least in
-    let bytes = c.loop-rest.invariant.bytes in
-    let s : ℕ = c.loop-rest.state in
     let tail : take (length r - 8) (drop 8 r) ≡ drop 8 r = take_all (length r - 8) (drop 8 r) (omega (arith, length-drop 8 r)) in
-    let e : c.after_eight-state.result ≡ next_eight s (get_or r 0 0) (get_or r 1 0) (get_or r 2 0) (get_or r 3 0) (get_or r 4 0) (get_or r 5 0) (get_or r 6 0) (get_or r 7 0) = c.after_eight-state.ensures in
     record {
-      same = ap (λ z. remainder z (take (length r - 8) (drop 8 r))) e ∙ ap (remainder (next_eight s (get_or r 0 0) (get_or r 1 0) (get_or r 2 0) (get_or r 3 0) (get_or r 4 0) (get_or r 5 0) (get_or r 6 0) (get_or r 7 0))) tail
-          ∙ sym (remainder_eight s (get_or r 0 0) (get_or r 1 0) (get_or r 2 0) (get_or r 3 0) (get_or r 4 0) (get_or r 5 0) (get_or r 6 0) (get_or r 7 0) (drop 8 r) (omega arith) (bytes 0) (bytes 1) (bytes 2) (bytes 3) (bytes 4) (bytes 5) (bytes 6) (bytes 7))
-          ∙ ap (remainder s) (sym (eight_front r long)) ∙ c.loop-rest.invariant.same;
-      bytes = λ i. omega (arith, ap (λ (z : List ℕ). get_or z i 0) tail, get_or-drop 8 r i 0, bytes (8 + i));
+      same = c.after_eight-state.ensures (take (length r - 8) (drop 8 r)) ∙ ap (λ (z : List ℕ). remainder c.loop-rest.state (get_or r 0 0 ∷ get_or r 1 0 ∷ get_or r 2 0 ∷ get_or r 3 0 ∷ get_or r 4 0 ∷ get_or r 5 0 ∷ get_or r 6 0 ∷ get_or r 7 0 ∷ z)) tail
+          ∙ ap (remainder c.loop-rest.state) (sym (eight_front r long)) ∙ c.loop-rest.invariant.same;
+      bytes = λ i. omega (arith, ap (λ (z : List ℕ). get_or z i 0) tail, get_or-drop 8 r i 0, c.loop-rest.invariant.bytes (8 + i));
     }

@@ -9,15 +9,15 @@ use Rattle.rtk_frame.proofs.scanner.advance.Goals as goal
 
 pub scan-preserved-in-Other : goal.scan-preserved-in-Other
 scan-preserved-in-Other c =
-    let popped = c.pop_front-passed.ensures.items in
+    let popped = c.pop_front.ensures.items in
     let same = c.make_contiguous.ensures.value in
     let here = rw same at c.in-Other.ensures in
     let back : refill (length c.scan.ring.items) c.scan.ring.items c.make_contiguous.result.now ≡ c.scan.ring.items = c.make_contiguous.ensures.same_len c.make_contiguous.result.now (ap length same) ∙ same in
-    let items : c.pop_front-passed.new.self.items ≡ drop 1 c.scan.ring.items = ap (λ b. b.items) popped ∙ ap (drop 1) back in
+    let items : c.pop_front.new.self.items ≡ drop 1 c.scan.ring.items = ap (λ b. b.items) popped ∙ ap (drop 1) back in
     let scanned = subst (λ (z : List ℕ). Scanned (c.args.ring.now.items ++ take c.scan.used c.args.piece.now) z) (sym items) (scanned_next _ c.scan.ring.items here.0 here.1 here.2 c.scan.invariant.scanned) in
     record {
-      capacity = c.pass_junk.ensures.capacity.0;
-      within = omega (arith, c.pass_junk.ensures.capacity.1, ap length items, length-drop 1 c.scan.ring.items);
+      capacity = c.pass_junk.ensures.capacity;
+      within = omega (arith, c.pass_junk.ensures.shorter, ap length items, length-drop 1 c.scan.ring.items);
       used = c.scan.invariant.used;
       scanned = c.pass_junk.ensures.scanned _ scanned;
     }
@@ -46,10 +46,10 @@ scan-preserved c =
     let least = c.min-more.ensures in
     let m : v + more - v ≡ more = omega arith in
     let part : List ℕ = take more (drop v piece) in
-    let filled = rw (back, m) at c.fill_from_slice-count.ensures.items in
-    let count = rw (back, m) at c.fill_from_slice-count.ensures.count in
-    let room : length part ≤ c.fill_from_slice-count.result = omega (arith, count, length-take more (drop v piece)) in
-    let now : c.fill_from_slice-count.new.self.items ≡ items ++ part = ap (λ b. b.items) filled ∙ ap (λ z. items ++ z) (take_all c.fill_from_slice-count.result part room) in
+    let filled = rw (back, m) at c.fill_from_slice.ensures.items in
+    let count = rw (back, m) at c.fill_from_slice.ensures.count in
+    let room : length part ≤ c.fill_from_slice.result = omega (arith, count, length-take more (drop v piece)) in
+    let now : c.fill_from_slice.new.self.items ≡ items ++ part = ap (λ b. b.items) filled ∙ ap (λ z. items ++ z) (take_all c.fill_from_slice.result part room) in
     record {
       capacity = ap (λ b. b.capacity) filled ∙ c.scan.invariant.capacity;
       within = omega (arith, ap length now, length-append items part, length-take more (drop v piece));

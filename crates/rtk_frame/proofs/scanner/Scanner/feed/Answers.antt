@@ -36,7 +36,9 @@ returns-in-Some c =
     omega (arith, ap length left, gone, whole, scanned_length _ _ scanned, length-append c.args.self.now.pending (take c.advance-used.result.0 c.args.piece.now), length-take c.advance-used.result.0 c.args.piece.now, c.advance-used.ensures.used) in
     ((refl, λ _. tt, (ap (λ (s : Scan). s.ended) view ∙ c.requires, within, ((first.0, first.1, first.2, first.3 ∙ sym taken, left ∙ first.4), less))), record { used = c.advance-used.ensures.used; after = tt })
 
-pub take_frame-requires-clause-frame : goal.take_frame-requires-clause-frame
-take_frame-requires-clause-frame c =
-    let found = rw c.in-Some.is at c.advance-used.ensures.found in
-    (found.1, omega (arith, found.1, frame_is_whole c.advance-used.new.ring.items found.0))
+pub take_frame-requires-clause-stated : goal.take_frame-requires-clause-stated
+take_frame-requires-clause-stated c = let found = rw c.in-Some.is at c.advance-used.ensures.found in found.1
+
+pub take_frame-requires-clause-whole : goal.take_frame-requires-clause-whole
+take_frame-requires-clause-whole c =
+    let found = rw c.in-Some.is at c.advance-used.ensures.found in omega (arith, found.1, frame_is_whole c.advance-used.new.ring.items found.0)

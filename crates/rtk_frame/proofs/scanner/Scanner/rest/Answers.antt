@@ -29,7 +29,9 @@ returns-in-Some c =
     let less : length c.take_frame.new.ring.items + 6 ≤ length c.args.self.now.pending = omega (arith, ap length left, gone, whole, searched_length _ _ searched) in
     ((refl, λ _. tt, (refl, within, ((first.0, first.1, first.2, first.3 ∙ sym taken, left ∙ first.4), less))), record { after = tt })
 
-pub take_frame-requires-clause-frame : goal.take_frame-requires-clause-frame
-take_frame-requires-clause-frame c =
-    let found = rw c.in-Some.is at c.advance_ended.ensures.found in
-    (found.1, omega (arith, found.1, frame_is_whole c.advance_ended.new.ring.items found.0))
+pub take_frame-requires-clause-stated : goal.take_frame-requires-clause-stated
+take_frame-requires-clause-stated c = let found = rw c.in-Some.is at c.advance_ended.ensures.found in found.1
+
+pub take_frame-requires-clause-whole : goal.take_frame-requires-clause-whole
+take_frame-requires-clause-whole c =
+    let found = rw c.in-Some.is at c.advance_ended.ensures.found in omega (arith, found.1, frame_is_whole c.advance_ended.new.ring.items found.0)

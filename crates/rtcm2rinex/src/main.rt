@@ -1,0 +1,8 @@
+//! The program `rtcm2rinex`; what it does stands in `rtk_cli`.
+#![tactic(auto)]
+
+use std::process::ExitCode;
+
+fn main(rt: HostRuntime) -> ExitCode {
+    ExitCode::from(rtk_cli::run(&rt))
+}

@@ -1,0 +1,6 @@
+use Rattle.std.proofs.Common.{append_assoc}
+use Rattle.rtk_cli.proofs.payload_line.put_1005.Goals as goal
+
+-- piece by piece
+pub returns : goal.returns
+returns c = rw (c.in_ok-put_point.ensures, c.in_ok-put_named.ensures) (simp append_assoc)

@@ -1,0 +1,5 @@
+pub mod Hex
+pub mod Input
+pub mod Show
+pub mod Shown
+pub mod Words

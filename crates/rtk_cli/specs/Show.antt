@@ -1,0 +1,19 @@
+-- The command `show`.
+use Rattle.std.specs.Prelude.{◌≡◌, ℕ, Bool, List, Option, Some, None}
+use Rattle.rtk_cli.specs.declared.words.ToolFault.{ToolFault}
+use Rattle.rtk_cli.specs.declared.words.ToolFault.TheVariants.{Input, TooLong, NotHex, OutOfMemory, Output}
+use Rattle.rtk_cli.specs.Shown.{ShowsPart}
+
+-- of a capture a first part of its lines was taken; of an input that is none nothing was
+-- (this project's rule)
+abbrev pub ShowsPartOf : Option (List ℕ) → Option (List ℕ) → Option (List ℕ) → Type 0
+ShowsPartOf None before after = after ≡ before
+ShowsPartOf (Some capture) before after = ShowsPart capture before after
+
+-- the faults that come before anything is written
+abbrev pub IsBeforeOutput : ToolFault → Type 0
+IsBeforeOutput Input = Unit {0}
+IsBeforeOutput TooLong = Unit {0}
+IsBeforeOutput NotHex = Unit {0}
+IsBeforeOutput OutOfMemory = ⊥
+IsBeforeOutput Output = ⊥

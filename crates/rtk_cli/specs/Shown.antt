@@ -1,0 +1,92 @@
+-- The line that is shown of a payload, and the lines of a capture. The forms of the lines are this
+-- project's rule; the fields are those of RTCM 10403.3.
+use Rattle.std.specs.Prelude.{◌≡◌, ℕ, ◌+◌, ◌/◌, ◌%◌, ℤ, List, [], ◌∷◌, ◌++◌, length, take, codes, decimal, unsigned_abs, Option, Result, Ok, Err}
+use Rattle.std.specs.Fmt.{sign_text}
+use Rattle.std.specs.Int.{is_negative}
+use Rattle.rtk_bits.specs.Bits.{bits}
+use Rattle.rtk_frame.specs.Frames.{Frame, frames}
+use Rattle.rtk_frame.specs.Stream.{with_more, TakesPart}
+use Rattle.rtk_message.specs.declared.message.Message.{Message}
+use Rattle.rtk_message.specs.declared.message.Message.TheVariants.{Obs1004 as Of1004, Arp1005 as Of1005, Arp1006 as Of1006, Msm1074 as Of1074}
+use Rattle.rtk_message.specs.declared.obs1004.Obs1004.{Obs1004}
+use Rattle.rtk_message.specs.declared.arp1005.Arp1005.{Arp1005}
+use Rattle.rtk_message.specs.declared.arp1006.Arp1006.{Arp1006}
+use Rattle.rtk_message.specs.declared.msm1074.Msm1074.{Msm1074}
+use Rattle.rtk_message.specs.declared.fault.DecodeFault.{DecodeFault}
+use Rattle.rtk_message.specs.declared.fault.DecodeFault.TheVariants.{NoNumber, Other, Short, EpochRange, TooManyCells}
+use Rattle.rtk_message.specs.Decoded.{Decodes}
+use Rattle.rtk_message.specs.Msm1074.{satellites, signals, cells}
+
+-- a point and four digits: the part of a whole metre, of a number of 0.0001 m
+abbrev pub decimals : ℕ → List ℕ
+decimals n = 46 ∷ (48 + n / 1000 % 10) ∷ (48 + n / 100 % 10) ∷ (48 + n / 10 % 10) ∷ (48 + n % 10) ∷ []
+
+-- a length in 0.0001 m, written in metres: the whole metres without padding, and four decimals
+unfoldable pub metres : ℕ → List ℕ
+metres n = decimal (n / 10000) ++ decimals n
+
+-- a coordinate in 0.0001 m: a minus sign where it is negative, and its length
+unfoldable pub coordinate : ℤ → List ℕ
+coordinate v = sign_text (is_negative v) ++ metres (unsigned_abs v)
+
+-- the antenna reference point (DF025, DF026, DF027)
+unfoldable pub point : ℤ → ℤ → ℤ → List ℕ
+point x y z = codes " x " ++ coordinate x ++ codes " y " ++ coordinate y ++ codes " z " ++ coordinate z
+
+-- a message: its number, its station (DF003), and then the time of week (DF004) and the numbers of
+-- satellites, signals and cells, or the antenna reference point and its height (DF028)
+abbrev pub text_1004 : Obs1004 → List ℕ
+text_1004 m =
+    codes "1004 station " ++ decimal m.station ++ codes " tow " ++ decimal m.tow
+    ++ codes " satellites " ++ decimal (length m.satellites)
+
+abbrev pub text_1005 : Arp1005 → List ℕ
+text_1005 m = codes "1005 station " ++ decimal m.station ++ point m.x m.y m.z
+
+abbrev pub text_1006 : Arp1006 → List ℕ
+text_1006 m =
+    codes "1006 station " ++ decimal m.station ++ point m.x m.y m.z ++ codes " height " ++ metres m.height
+
+abbrev pub text_1074 : Msm1074 → List ℕ
+text_1074 m =
+    codes "1074 station " ++ decimal m.header.station ++ codes " tow " ++ decimal m.header.tow
+    ++ codes " satellites " ++ decimal (satellites m.header) ++ codes " signals " ++ decimal (signals m.header)
+    ++ codes " cells " ++ decimal (cells m)
+
+abbrev pub message_text : Message → List ℕ
+message_text (Of1004 m) = text_1004 m
+message_text (Of1005 m) = text_1005 m
+message_text (Of1006 m) = text_1006 m
+message_text (Of1074 m) = text_1074 m
+
+-- a payload that is no message: the number of another message, or the fault's number and that of the
+-- message, where there is one
+abbrev pub fault_text : DecodeFault → List ℕ
+fault_text NoNumber = codes "refused M1 -"
+fault_text (Other number) = decimal number ++ codes " other"
+fault_text (Short number) = codes "refused M3 " ++ decimal number
+fault_text (EpochRange number) = codes "refused M4 " ++ decimal number
+fault_text TooManyCells = codes "refused M5 1074"
+
+-- either is ended by a line feed
+abbrev pub line_of : Result Message DecodeFault → List ℕ
+line_of (Ok m) = message_text m ++ 10 ∷ []
+line_of (Err fault) = fault_text fault ++ 10 ∷ []
+
+-- the line of a payload is that of what it decodes to
+abbrev pub IsLineOf : List ℕ → List ℕ → Type 0
+IsLineOf payload line = (reading : Result Message DecodeFault) × Decodes (bits payload) reading × (line ≡ line_of reading)
+
+-- these are the lines of the frames' payloads, in the order of the frames
+abbrev pub AreLinesOf : List Frame → List ℕ → Type 0
+AreLinesOf [] text = text ≡ []
+AreLinesOf (frame ∷ rest) text =
+    (line : List ℕ) × (others : List ℕ) × IsLineOf frame.payload line × AreLinesOf rest others × (text ≡ line ++ others)
+
+-- the lines of all frames of the capture were taken
+abbrev pub Shows : List ℕ → Option (List ℕ) → Option (List ℕ) → Type 0
+Shows capture before after = (text : List ℕ) × AreLinesOf (frames capture) text × (after ≡ with_more before text)
+
+-- of the lines of the capture's first frames a first part was taken, perhaps none or all of it
+abbrev pub ShowsPart : List ℕ → Option (List ℕ) → Option (List ℕ) → Type 0
+ShowsPart capture before after = (n : ℕ) × (text : List ℕ) × AreLinesOf (take n (frames capture)) text × TakesPart before after text

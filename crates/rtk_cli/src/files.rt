@@ -1,0 +1,77 @@
+//! Files and standard streams as sources and sinks: nothing is known of what they gave and took.
+ghost use Rattle.std.specs.Prelude.{None};
+
+use rtk_frame::{Sink, Source, StreamFault};
+use std::io::{Read, Write};
+
+/// A reader of std's as a source. Nothing is known of its bytes; its calls are counted.
+#[derive(Drop)]
+pub struct Reads<R: Read> {
+    inner: R,
+    failed: u64,
+    made: u64,
+}
+
+impl<R: Read> Reads<R> {
+    /// A source over a reader, before its first call.
+    pub fn new(inner: R) -> Reads<R> {
+        Reads {
+            inner,
+            failed: 0,
+            made: 0,
+        }
+    }
+}
+
+impl<R: Read> Source for Reads<R> {
+    ghost given = { λ _. None };
+
+    ghost failures = { λ source. source.failed };
+
+    ghost calls = { λ source. source.made };
+
+    fn read(&mut self, buf: &mut [u8]) -> Result<usize, StreamFault> {
+        self.made = self.made.saturating_add(1);
+        match self.inner.read(buf) {
+            Ok(count) => Ok(count),
+            Err(_) => {
+                self.failed = self.failed.saturating_add(1);
+                Err(StreamFault)
+            }
+        }
+    }
+}
+
+/// A writer of std's as a sink. Nothing is known of its bytes; its failed calls are counted.
+#[derive(Drop)]
+pub struct Writes<W: Write> {
+    inner: W,
+    failed: u64,
+}
+
+impl<W: Write> Writes<W> {
+    /// A sink over a writer, before its first call.
+    pub fn new(inner: W) -> Writes<W> {
+        Writes { inner, failed: 0 }
+    }
+}
+
+impl<W: Write> Sink for Writes<W> {
+    ghost taken = { λ _. None };
+
+    ghost failures = { λ sink. sink.failed };
+
+    fn write(&mut self, bytes: &[u8]) -> Result<usize, StreamFault> {
+        match self.inner.write(bytes) {
+            Ok(0) if !bytes.is_empty() => {
+                self.failed = self.failed.saturating_add(1);
+                Ok(0)
+            }
+            Ok(count) => Ok(count),
+            Err(_) => {
+                self.failed = self.failed.saturating_add(1);
+                Err(StreamFault)
+            }
+        }
+    }
+}

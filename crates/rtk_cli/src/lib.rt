@@ -1,0 +1,22 @@
+//! The commands of the program: the words of a command line, and the work that each asks for.
+#![tactic(auto)]
+
+mod command_line;
+mod files;
+mod hex_input;
+mod input;
+pub mod laws;
+mod payload_line;
+mod running;
+mod showing;
+mod words;
+
+pub use command_line::job;
+pub use files::{Reads, Writes};
+pub use payload_line::show_line;
+pub use running::run;
+pub use showing::{SHOW_LIMIT, show};
+pub use words::{Job, ToolFault, WordsFault};
+
+#[cfg(test)]
+mod tests;

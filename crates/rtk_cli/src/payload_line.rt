@@ -1,0 +1,150 @@
+//! The line that is shown of a payload.
+ghost use Rattle.std.specs.Prelude.{◌≡◌, ◌++◌, ◌∷◌, [], List, ℕ, decimal, IfOk, OnOk};
+ghost use Rattle.rtk_message.specs.Decoded.{IsValid};
+ghost use Rattle.rtk_message.specs.Msm1074.{HasLengths};
+ghost use Rattle.rtk_cli.specs.Shown.{decimals, metres, coordinate, point, text_1004, text_1005, text_1006, text_1074, message_text, fault_text, IsLineOf};
+
+use itoa::Buffer;
+use rtk_message::{Arp1005, Arp1006, DecodeFault, Message, Msm1074, Obs1004, decode};
+use std::alloc::{AllocError, Global};
+
+fn put_number(line: &mut Vec<u8>, number: u64) -> Result<(), AllocError>
+    ensures { OnOk result (line.new.items ≡ line.old.items ++ decimal number) }
+{
+    line.extend_from_slice(Buffer::new().format(number).as_bytes())
+}
+
+// A word and the number that it names.
+fn put_named(line: &mut Vec<u8>, name: &[u8], number: u64) -> Result<(), AllocError>
+    ensures { OnOk result (line.new.items ≡ line.old.items ++ name.now ++ decimal number) }
+{
+    line.extend_from_slice(name)?;
+    put_number(line, number)
+}
+
+fn decimals_of(magnitude: u64) -> [u8; 5]
+    ensures { result ≡ decimals magnitude }
+{
+    let digit = |place: u64| b'0' + (magnitude / place % 10) as u8;
+    [b'.', digit(1000), digit(100), digit(10), digit(1)]
+}
+
+// A length in 0.0001 m, in metres.
+#[tactic(auto, unfolding(crate::specs::Shown::metres))]
+fn put_metres(line: &mut Vec<u8>, length: u64) -> Result<(), AllocError>
+    ensures { OnOk result (line.new.items ≡ line.old.items ++ metres length) }
+{
+    put_number(line, length / 10_000)?;
+    line.extend_from_slice(&decimals_of(length))
+}
+
+#[tactic(auto, unfolding(crate::specs::Shown::coordinate))]
+fn put_coordinate(line: &mut Vec<u8>, value: &i64) -> Result<(), AllocError>
+    ensures { OnOk result (line.new.items ≡ line.old.items ++ coordinate value.now) }
+{
+    if *value < 0 {
+        line.push(b'-')?;
+    }
+    put_metres(line, value.unsigned_abs())
+}
+
+fn put_point(line: &mut Vec<u8>, x: &i64, y: &i64, z: &i64) -> Result<(), AllocError>
+    ensures { OnOk result (line.new.items ≡ line.old.items ++ point x.now y.now z.now) }
+{
+    line.extend_from_slice(b" x ")?;
+    put_coordinate(line, x)?;
+    line.extend_from_slice(b" y ")?;
+    put_coordinate(line, y)?;
+    line.extend_from_slice(b" z ")?;
+    put_coordinate(line, z)?;
+    Ok(())
+}
+
+fn put_1004(line: &mut Vec<u8>, message: &Obs1004) -> Result<(), AllocError>
+    ensures { OnOk result (line.new.items ≡ line.old.items ++ text_1004 message.now) }
+{
+    put_named(line, b"1004 station ", message.station as u64)?;
+    put_named(line, b" tow ", message.tow as u64)?;
+    put_named(line, b" satellites ", message.satellites.len() as u64)?;
+    Ok(())
+}
+
+fn put_1005(line: &mut Vec<u8>, message: &Arp1005) -> Result<(), AllocError>
+    ensures { OnOk result (line.new.items ≡ line.old.items ++ text_1005 message.now) }
+{
+    put_named(line, b"1005 station ", message.station as u64)?;
+    put_point(line, &message.x, &message.y, &message.z)?;
+    Ok(())
+}
+
+fn put_1006(line: &mut Vec<u8>, message: &Arp1006) -> Result<(), AllocError>
+    ensures { OnOk result (line.new.items ≡ line.old.items ++ text_1006 message.now) }
+{
+    put_named(line, b"1006 station ", message.station as u64)?;
+    put_point(line, &message.x, &message.y, &message.z)?;
+    line.extend_from_slice(b" height ")?;
+    put_metres(line, message.height as u64)?;
+    Ok(())
+}
+
+fn put_1074(line: &mut Vec<u8>, message: &Msm1074) -> Result<(), AllocError>
+    requires { HasLengths message.now }
+    ensures { OnOk result (line.new.items ≡ line.old.items ++ text_1074 message.now) }
+{
+    let header = message.header;
+    put_named(line, b"1074 station ", header.station as u64)?;
+    put_named(line, b" tow ", header.tow as u64)?;
+    put_named(line, b" satellites ", header.satellites() as u64)?;
+    put_named(line, b" signals ", header.signals() as u64)?;
+    put_named(line, b" cells ", message.cnr.len() as u64)?;
+    Ok(())
+}
+
+fn put_message(line: &mut Vec<u8>, message: &Message) -> Result<(), AllocError>
+    requires { IsValid message.now }
+    ensures { OnOk result (line.new.items ≡ line.old.items ++ message_text message.now) }
+{
+    match message {
+        Message::Obs1004(message) => put_1004(line, message),
+        Message::Arp1005(message) => put_1005(line, message),
+        Message::Arp1006(message) => put_1006(line, message),
+        Message::Msm1074(message) => put_1074(line, message),
+    }
+}
+
+fn put_fault(line: &mut Vec<u8>, fault: DecodeFault) -> Result<(), AllocError>
+    ensures { OnOk result (line.new.items ≡ line.old.items ++ fault_text fault) }
+{
+    match fault {
+        DecodeFault::NoNumber => line.extend_from_slice(b"refused M1 -"),
+        DecodeFault::Other { number } => {
+            put_number(line, number as u64)?;
+            line.extend_from_slice(b" other")
+        }
+        DecodeFault::Short { number } => put_named(line, b"refused M3 ", number as u64),
+        DecodeFault::EpochRange { number } => put_named(line, b"refused M4 ", number as u64),
+        DecodeFault::TooManyCells => line.extend_from_slice(b"refused M5 1074"),
+    }
+}
+
+/// Appends the line of a payload, with its line feed. After a refusal a part of it may stand there.
+pub fn put_line(lines: &mut Vec<u8>, payload: &[u8]) -> Result<(), AllocError>
+    ensures { OnOk result ((line : List ℕ) × IsLineOf payload.now line
+        × (lines.new.items ≡ lines.old.items ++ line)) }
+{
+    match decode(payload) {
+        Ok(message) => put_message(lines, &message)?,
+        Err(fault) => put_fault(lines, fault)?,
+    }
+    lines.push(b'\n')?;
+    Ok(())
+}
+
+/// The line of a payload, with its line feed: what it says as a message, or why it is none.
+pub fn show_line(alloc: Global, payload: &[u8]) -> Result<Vec<u8>, AllocError>
+    ensures { IfOk result (λ line. IsLineOf payload.now line.items) }
+{
+    let mut line = Vec::new(alloc);
+    put_line(&mut line, payload)?;
+    Ok(line)
+}

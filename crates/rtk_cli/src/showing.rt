@@ -1,0 +1,120 @@
+//! The command `show`: a line for each frame of a capture.
+ghost use Rattle.std.specs.Prelude.{◌≡◌, ◌≢◌, ◌+◌, ◌≤◌, ◌++◌, ℕ, Some, [], length, IfOk, OnOk, IfErr, IsErrOf, IsNone, IsSome, IsSomeAnd};
+ghost use Rattle.rtk_frame.specs.Frames.{frames};
+ghost use Rattle.rtk_frame.specs.Stream.{Rises, with_more, TakesPart};
+ghost use Rattle.rtk_cli.specs.Input.{GivesText, capture_of};
+ghost use Rattle.rtk_cli.specs.Show.{ShowsPartOf, IsBeforeOutput};
+ghost use Rattle.rtk_cli.specs.Shown.{Shows, ShowsPart};
+ghost use Rattle.rtk_cli.specs.declared.words.ToolFault.TheVariants.{Input, TooLong, NotHex, OutOfMemory, Output};
+
+use crate::hex_input::decode_hex;
+use crate::input::read_whole;
+use crate::payload_line::put_line;
+use crate::words::ToolFault;
+use rtk_frame::laws::frames_of_a_text;
+use rtk_frame::{Sink, Source, next_frame, write_all};
+use std::alloc::Global;
+
+/// The most bytes of an input of `show`, which holds it whole.
+pub const SHOW_LIMIT: usize = 16_777_216;
+
+/// So many bytes of lines are written at once.
+const FULL: usize = 65_536;
+
+// The capture that the input is.
+fn captured(alloc: Global, text: Vec<u8>, hex: bool) -> Result<Vec<u8>, ToolFault>
+    ensures bytes { IfOk result (λ bytes. capture_of hex text.items ≡ Some bytes.items) }
+    ensures not_hex { IsErrOf result NotHex → IsNone (capture_of hex text.items) }
+    ensures else_memory { IfErr result (λ fault. fault ≢ NotHex → fault ≡ OutOfMemory) }
+{
+    if hex {
+        decode_hex(alloc, text.as_slice())
+    } else {
+        Ok(text)
+    }
+}
+
+// Writes the lines, and keeps none of them.
+fn flush<W: Sink>(out: &mut W, lines: &mut Vec<u8>) -> Result<(), ToolFault>
+    ensures taken { OnOk result (W.taken out.new ≡ with_more (W.taken out.old) lines.old.items) }
+    ensures none { OnOk result (lines.new.items ≡ []) }
+    ensures no_fault { OnOk result (W.failures out.new ≡ W.failures out.old) }
+    ensures part { TakesPart (W.taken out.old) (W.taken out.new) lines.old.items }
+    ensures output { IfErr result (λ fault. fault ≡ Output) }
+    ensures failed { IsErrOf result Output → Rises (W.failures out.old) (W.failures out.new) }
+{
+    if write_all(out, lines.as_slice()).is_err() {
+        return Err(ToolFault::Output);
+    }
+    lines.clear();
+    Ok(())
+}
+
+// Writes the line of each frame and answers how many there are.
+fn show_capture<W: Sink>(alloc: Global, capture: &[u8], out: &mut W) -> Result<u64, ToolFault>
+    ensures shown { OnOk result (Shows capture.now (W.taken out.old) (W.taken out.new)) }
+    ensures count { IfOk result (λ count. count ≡ length (frames capture.now)) }
+    ensures no_fault { OnOk result (W.failures out.new ≡ W.failures out.old) }
+    ensures part { ShowsPart capture.now (W.taken out.old) (W.taken out.new) }
+    ensures output { IsErrOf result Output → Rises (W.failures out.old) (W.failures out.new) }
+    ensures else_memory { IfErr result (λ fault. fault ≢ Output → fault ≡ OutOfMemory) }
+{
+    frames_of_a_text();
+    let mut lines = Vec::new(alloc);
+    let mut from = 0;
+    let mut count = 0u64;
+    while let Some(found) = next_frame(capture, from) {
+        let Ok(()) = put_line(&mut lines, found.payload) else {
+            return Err(ToolFault::OutOfMemory);
+        };
+        from = found.place + found.payload.len() + 6;
+        count += 1;
+        if lines.len() >= FULL {
+            flush(out, &mut lines)?;
+        }
+    }
+    flush(out, &mut lines)?;
+    Ok(count)
+}
+
+/// Reads an input whole, as bytes or as hex text, and writes a line for each frame of the capture that
+/// it is. Answers how many lines.
+///
+/// The faults are looked for in the order of `ToolFault`, but for memory and a failed write, which
+/// come where they come.
+pub fn show<R: Source, W: Sink>(
+    alloc: Global,
+    reader: &mut R,
+    out: &mut W,
+    hex: bool,
+) -> Result<u64, ToolFault>
+    ensures shown { IfOk result (λ count. GivesText (R.given reader.old) (R.given reader.new) (λ text.
+        (length text ≤ SHOW_LIMIT) × IsSomeAnd (capture_of hex text) (λ capture.
+        Shows capture (W.taken out.old) (W.taken out.new) × (count ≡ length (frames capture))))) }
+    ensures no_failed_read { OnOk result (R.failures reader.new ≡ R.failures reader.old) }
+    ensures no_failed_write { OnOk result (W.failures out.new ≡ W.failures out.old) }
+
+    // Each fault only where its cause is.
+    ensures input { IsErrOf result Input → Rises (R.failures reader.old) (R.failures reader.new) }
+    ensures too_long { IsErrOf result TooLong
+        → GivesText (R.given reader.old) (R.given reader.new) (λ text. length text ≡ SHOW_LIMIT + 1) }
+    ensures not_hex { IsErrOf result NotHex
+        → GivesText (R.given reader.old) (R.given reader.new) (λ text.
+        (length text ≤ SHOW_LIMIT) × IsNone (capture_of hex text)) }
+    ensures output { IsErrOf result Output → Rises (W.failures out.old) (W.failures out.new) }
+    ensures output_of_capture { IsErrOf result Output
+        → GivesText (R.given reader.old) (R.given reader.new) (λ text.
+        (length text ≤ SHOW_LIMIT) × IsSome (capture_of hex text)) }
+
+    // Whatever the answer, so much was read at most, and so much is out.
+    ensures within { GivesText (R.given reader.old) (R.given reader.new) (λ text.
+        length text ≤ SHOW_LIMIT + 1) }
+    ensures part { GivesText (R.given reader.old) (R.given reader.new) (λ text.
+        ShowsPartOf (capture_of hex text) (W.taken out.old) (W.taken out.new)) }
+    ensures nothing { IfErr result (λ fault.
+        IsBeforeOutput fault → W.taken out.new ≡ W.taken out.old) }
+{
+    let text = read_whole(alloc, reader, SHOW_LIMIT)?;
+    let capture = captured(alloc, text, hex)?;
+    show_capture(alloc, capture.as_slice(), out)
+}

@@ -1,0 +1,6 @@
+//! Tests of the commands, by values from outside.
+
+mod faults;
+mod lines;
+mod rows;
+mod words;

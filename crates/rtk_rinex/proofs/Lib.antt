@@ -1,0 +1,5 @@
+pub mod ColumnsLemmas
+pub mod ReadingLemmas
+pub mod HeaderLemmas
+pub mod RecordLemmas
+pub mod TableLemmas

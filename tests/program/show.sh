@@ -1,0 +1,97 @@
+#!/bin/sh
+# Runs the program as a user does, and looks at standard output, standard error and the exit status.
+# The program is $1. Prints `ok NAME` or `FAILED NAME` for each test, and last `PASSED FAILED`, two counts.
+set -u
+program=$(readlink -f "$1")
+work=$(mktemp -d)
+trap 'rm -rf "$work"' EXIT
+cd "$work" || exit 1
+
+passed=0
+failed=0
+arp='1005 station 2003 x 1114104.5999 y -4850729.7108 z 3975521.4643'
+hex='D3 00 13 3E D7 D3 02 02 98 0E DE EF 34 B4 BD 62 AC 09 41 98 6F 33 36 0B 98'
+
+# expect NAME STATUS STDOUT STDERR: what the last run left (each text without its last line end)
+expect() {
+    if [ "$status" = "$2" ] && [ "$(cat out)" = "$3" ] && [ "$(cat err)" = "$4" ]; then
+        echo "ok $1"
+        passed=$((passed + 1))
+    else
+        echo "FAILED $1: status $status, standard output '$(cat out)', standard error '$(cat err)'"
+        failed=$((failed + 1))
+    fi
+}
+
+# run WORD..: standard input as it is
+run() {
+    "$program" "$@" >out 2>err
+    status=$?
+}
+
+help='RTCM 3 observation streams to RINEX 3.05
+
+Usage: rtcm2rinex <COMMAND>
+
+Commands:
+  show  Shows the messages of a capture, a line for each frame
+  help  Print this message or the help of the given subcommand(s)
+
+Options:
+  -h, --help     Print help
+  -V, --version  Print version'
+
+no_file='error: the following required arguments were not provided:
+  <FILE>
+
+Usage: rtcm2rinex show <FILE>
+
+For more information, try '"'--help'"'.'
+
+printf '%s\n' "$hex" >arp.hex
+printf '\323\000\023\076\327\323\002\002\230\016\336\357\064\264\275\142\254\011\101\230\157\063\066\013\230' >arp.rtcm
+mkdir folder
+: >empty
+head -c 16777217 /dev/zero >long
+head -c 16777216 /dev/zero >longest
+
+run show --hex stdin <arp.hex;            expect hex_from_stdin 0 "$arp" ''
+run show --hex arp.hex </dev/null;        expect hex_from_file 0 "$arp" ''
+run show arp.rtcm </dev/null;             expect bytes_from_file 0 "$arp" ''
+cat arp.rtcm | "$program" show stdin >out 2>err; status=$?
+expect bytes_from_pipe 0 "$arp" ''
+run show ./stdin </dev/null;              expect no_file_of_the_name_stdin 1 '' 'rtcm2rinex: cannot open ./stdin'
+cp arp.rtcm stdin
+run show ./stdin </dev/null;              expect file_of_the_name_stdin 0 "$arp" ''
+run show empty </dev/null;                expect empty_input 0 '' ''
+run show stdin </dev/null;                expect empty_standard_input 0 '' ''
+run show longest </dev/null;              expect longest_input 0 '' ''
+run show long </dev/null;                 expect input_too_long 1 '' 'rtcm2rinex: input too long'
+run show --hex long </dev/null;           expect hex_too_long 1 '' 'rtcm2rinex: input too long'
+run show --hex arp.rtcm </dev/null;       expect bytes_as_hex 1 '' 'rtcm2rinex: input is not hex'
+printf 'D3 0' | "$program" show --hex stdin >out 2>err; status=$?
+expect odd_digits 1 '' 'rtcm2rinex: input is not hex'
+run show nowhere </dev/null;              expect missing_file 1 '' 'rtcm2rinex: cannot open nowhere'
+run show 'no where' </dev/null;           expect missing_file_with_a_blank 1 '' 'rtcm2rinex: cannot open no where'
+run show '' </dev/null;                   expect empty_name 1 '' 'rtcm2rinex: cannot open '
+run show folder </dev/null;               expect a_directory 1 '' 'rtcm2rinex: read failed'
+run show stdin <folder;                   expect a_directory_as_standard_input 1 '' 'rtcm2rinex: read failed'
+"$program" show stdin <&- >out 2>err; status=$?
+expect closed_standard_input 1 '' 'rtcm2rinex: read failed'
+run show "$(printf '\377')" </dev/null;   expect a_word_that_is_no_text 1 '' 'rtcm2rinex: read failed'
+run "$(printf '\377')" show </dev/null;   expect a_first_word_that_is_no_text 1 '' 'rtcm2rinex: read failed'
+if [ -w /dev/full ]; then
+    "$program" show arp.rtcm >/dev/full 2>err; status=$?; : >out
+    expect full_output 1 '' 'rtcm2rinex: write failed'
+    "$program" --help >/dev/full 2>err; status=$?; : >out
+    expect help_into_full_output 1 '' 'rtcm2rinex: write failed'
+fi
+"$program" show arp.rtcm >&- 2>err; status=$?; : >out
+expect closed_output 1 '' 'rtcm2rinex: write failed'
+"$program" show nowhere >out 2>&-; status=$?; : >err
+expect closed_standard_error 1 '' ''
+run --help </dev/null;                    expect help 0 "$help" ''
+run --version </dev/null;                 expect version 0 'rtcm2rinex 0.1.0' ''
+run show </dev/null;                      expect no_file 2 '' "$no_file"
+
+echo "$passed $failed"
