@@ -2,3 +2,13 @@
 #![tactic(auto)]
 
 mod columns;
+mod epoch_table;
+mod head;
+mod header_text;
+mod reading;
+mod record_text;
+
+pub use epoch_table::{EpochTable, Observed, SatelliteRow};
+pub use head::{Head, HeadFault};
+pub use header_text::header;
+pub use record_text::record;
