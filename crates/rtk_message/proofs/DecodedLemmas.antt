@@ -1,0 +1,89 @@
+-- Bits begin with at most one message, and where they begin with one there is no fault.
+use Rattle.std.proofs.Common.{◌≡◌, ℕ, ◌+◌, ◌%◌, ◌^◌, ◌<◌, ◌≤◌, Bool, true, false, List, [], ◌∷◌, ◌++◌, length, take, drop, Option, Some, None, Result, Ok, Err, refl, sym, ap, ◌∙◌, append_assoc, arith, length-append, ltb}
+use Rattle.std.specs.Prelude.{IfOk, IfErr}
+use Rattle.std.proofs.lemmas.Bool.{le-ltb}
+use Rattle.std.proofs.lemmas.List.{take_at, drop_at}
+use Rattle.std.proofs.Math.Nat.{mod-eq_of_lt}
+use Rattle.rtk_bits.specs.Bits.{unsigned, bits_of}
+use Rattle.rtk_bits.proofs.Numbers.{length-bits_of, unsigned-bits_of}
+use Rattle.rtk_bits.proofs.Taken.{taken_u}
+use Rattle.rtk_message.specs.declared.message.Message.{Message}
+use Rattle.rtk_message.specs.declared.message.Message.TheVariants.{Obs1004, Arp1005, Arp1006, Msm1074}
+use Rattle.rtk_message.specs.declared.fault.DecodeFault.{DecodeFault}
+use Rattle.rtk_message.specs.Fields.{Field, u, bits_of_fields, TakesAll}
+use Rattle.rtk_message.specs.Decoded.{number_of, fields_behind, table, IsValid, Encodes, first_fault, fault_behind}
+use Rattle.rtk_message.specs.Obs1004Laws as obs1004
+use Rattle.rtk_message.specs.Arp1005Laws as arp1005
+use Rattle.rtk_message.specs.Arp1006Laws as arp1006
+use Rattle.rtk_message.specs.Msm1074Laws as msm1074
+
+-- the number of bits, and what is behind it
+record Begins (bs : List Bool) (k : ℕ) (fs : List Field) (rest : List Bool) : Type 0 where
+  pub long : ltb (length bs) 12 ≡ false
+  pub number : unsigned (take 12 bs) ≡ k
+  pub behind : drop 12 bs ≡ bits_of_fields fs ++ rest
+
+begins_with : (bs : List Bool) (k : ℕ) (fs : List Field) (rest : List Bool) → k < 2 ^ 12 → bs ≡ bits_of_fields (u 12 k ∷ fs) ++ rest → Begins bs k fs rest
+begins_with bs k fs rest small e =
+    let g : bs ≡ bits_of 12 k ++ (bits_of_fields fs ++ rest) = e ∙ append_assoc (bits_of 12 k) (bits_of_fields fs) rest in
+    let len = length-bits_of 12 k in
+    record {
+      long = le-ltb (length bs) 12 (rw g (omega (arith, length-append (bits_of 12 k) (bits_of_fields fs ++ rest))));
+      number = rw (g, take_at (bits_of 12 k) (bits_of_fields fs ++ rest) 12 len) (unsigned-bits_of 12 k ∙ mod-eq_of_lt small);
+      behind = rw g (drop_at (bits_of 12 k) (bits_of_fields fs ++ rest) 12 len);
+    }
+
+-- fields taken behind a number
+pub encoded : (bs left after : List Bool) (n k : ℕ) (fs : List Field) → 12 ≤ length bs → n ≡ unsigned (take 12 bs) → left ≡ drop 12 bs → n ≡ k → TakesAll fs left after
+    → (rest : List Bool) × (bs ≡ bits_of_fields (u 12 k ∷ fs) ++ rest)
+encoded bs left after n k fs long number behind is taken =
+    (after,
+     (taken_u bs 12 n long number).1 ∙ rw (← behind, is, taken.is) (sym (append_assoc (bits_of 12 k) (bits_of_fields fs) after)))
+
+number_fits : (m : Message) → number_of m < 2 ^ 12
+number_fits (Obs1004 m) = omega arith
+number_fits (Arp1005 m) = omega arith
+number_fits (Arp1006 m) = omega arith
+number_fits (Msm1074 m) = omega arith
+
+starts : {bs : List Bool} (m : Message) (s : Encodes bs m) → Begins bs (number_of m) (fields_behind m) s.begins.0
+starts {bs = bs} m s = begins_with bs (number_of m) (fields_behind m) s.begins.0 (number_fits m) s.begins.1
+
+-- ---- by the law `accepted` of each type
+
+no_fault : (bs : List Bool) (m : Message) → Encodes bs m → first_fault bs ≡ None
+no_fault bs (Obs1004 m) s = let b = starts (Obs1004 m) s in rw (b.long, b.number, b.behind, obs1004.is_accepted m s.begins.0 s.valid) refl
+no_fault bs (Arp1005 m) s = let b = starts (Arp1005 m) s in rw (b.long, b.number, b.behind, arp1005.is_accepted m s.begins.0 s.valid) refl
+no_fault bs (Arp1006 m) s = let b = starts (Arp1006 m) s in rw (b.long, b.number, b.behind, arp1006.is_accepted m s.begins.0 s.valid) refl
+no_fault bs (Msm1074 m) s = let b = starts (Msm1074 m) s in rw (b.long, b.number, b.behind, msm1074.is_accepted m s.begins.0 s.valid) refl
+
+-- ---- by the law `unique` of each type
+
+same_number : (bs : List Bool) (m n : Message) → Encodes bs m → Encodes bs n → number_of m ≡ number_of n
+same_number bs m n s t = sym (starts m s).number ∙ (starts n t).number
+
+same_bits : (bs : List Bool) (m n : Message) (s : Encodes bs m) (t : Encodes bs n) → bits_of_fields (fields_behind m) ++ s.begins.0 ≡ bits_of_fields (fields_behind n) ++ t.begins.0
+same_bits bs m n s t = sym (starts m s).behind ∙ (starts n t).behind
+
+one : (bs : List Bool) (m n : Message) → Encodes bs m → Encodes bs n → m ≡ n
+one bs (Obs1004 m) (Obs1004 n) s t = ap Obs1004 (obs1004.is_unique m n s.begins.0 t.begins.0 s.valid t.valid (same_bits bs (Obs1004 m) (Obs1004 n) s t))
+one bs (Arp1005 m) (Arp1005 n) s t = ap Arp1005 (arp1005.is_unique m n s.begins.0 t.begins.0 s.valid t.valid (same_bits bs (Arp1005 m) (Arp1005 n) s t))
+one bs (Arp1006 m) (Arp1006 n) s t = ap Arp1006 (arp1006.is_unique m n s.begins.0 t.begins.0 s.valid t.valid (same_bits bs (Arp1006 m) (Arp1006 n) s t))
+one bs (Msm1074 m) (Msm1074 n) s t = ap Msm1074 (msm1074.is_unique m n s.begins.0 t.begins.0 s.valid t.valid (same_bits bs (Msm1074 m) (Msm1074 n) s t))
+one bs (Obs1004 m) (Arp1005 n) s t = absurd (omega (arith, same_number bs (Obs1004 m) (Arp1005 n) s t))
+one bs (Obs1004 m) (Arp1006 n) s t = absurd (omega (arith, same_number bs (Obs1004 m) (Arp1006 n) s t))
+one bs (Obs1004 m) (Msm1074 n) s t = absurd (omega (arith, same_number bs (Obs1004 m) (Msm1074 n) s t))
+one bs (Arp1005 m) (Obs1004 n) s t = absurd (omega (arith, same_number bs (Arp1005 m) (Obs1004 n) s t))
+one bs (Arp1005 m) (Arp1006 n) s t = absurd (omega (arith, same_number bs (Arp1005 m) (Arp1006 n) s t))
+one bs (Arp1005 m) (Msm1074 n) s t = absurd (omega (arith, same_number bs (Arp1005 m) (Msm1074 n) s t))
+one bs (Arp1006 m) (Obs1004 n) s t = absurd (omega (arith, same_number bs (Arp1006 m) (Obs1004 n) s t))
+one bs (Arp1006 m) (Arp1005 n) s t = absurd (omega (arith, same_number bs (Arp1006 m) (Arp1005 n) s t))
+one bs (Arp1006 m) (Msm1074 n) s t = absurd (omega (arith, same_number bs (Arp1006 m) (Msm1074 n) s t))
+one bs (Msm1074 m) (Obs1004 n) s t = absurd (omega (arith, same_number bs (Msm1074 m) (Obs1004 n) s t))
+one bs (Msm1074 m) (Arp1005 n) s t = absurd (omega (arith, same_number bs (Msm1074 m) (Arp1005 n) s t))
+one bs (Msm1074 m) (Arp1006 n) s t = absurd (omega (arith, same_number bs (Msm1074 m) (Arp1006 n) s t))
+
+-- the message that the bits begin with is the answer
+pub only : (bs : List Bool) (r : Result Message DecodeFault) → IfOk r (λ m. Encodes bs m) → IfErr r (λ f. first_fault bs ≡ Some f) → (m : Message) → Encodes bs m → r ≡ Ok m
+only bs (Ok n) ok err m s = ap Ok (one bs n m ok s)
+only bs (Err f) ok err m s = let none = no_fault bs m s in absurd (cc (none, err))

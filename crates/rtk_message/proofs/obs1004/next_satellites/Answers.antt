@@ -1,0 +1,18 @@
+use Rattle.std.proofs.Common.{rules, ◌≡◌, ◌↔◌, IsTrue, ℕ, ◌+◌, ◌-◌, ◌*◌, ◌^◌, ◌<◌, ◌≤◌, length, ◌/◌, ◌%◌, Bool, true, false, List, [], ◌∷◌, ◌++◌, refl, sym, ap, ◌∙◌, arith, ℤ, to_z, of_z, w64}
+use Rattle.std.proofs.lemmas.Int.{to_z-of_z}
+use mir.Val.{SFits}
+use Rattle.rtk_message.specs.Fields.{u, i, flag, Takes, TakesAll, FieldsFit}
+use Rattle.rtk_message.specs.FieldLaws.{took, took_none, put, put_none}
+use Rattle.std.proofs.lemmas.List.{length_push}
+use Rattle.rtk_message.specs.Obs1004Laws.{took_push}
+use Rattle.rtk_message.proofs.obs1004.next_satellites.Goals as goal
+
+pub loop-preserved : goal.loop-preserved
+loop-preserved c =
+    let before = c.loop.invariant in
+    let lt = c.loop-test.true in
+    rw c.push.ensures (record {
+      taken = took_push c.loop.satellites c.next_satellite.result c.args.reader.now c.loop.reader c.next_satellite.new.reader before.taken c.next_satellite.ensures.taken;
+      left = omega (arith, before.left, c.next_satellite.ensures.left);
+      so_far = omega (arith, length_push c.loop.satellites c.next_satellite.result, before.so_far);
+    })

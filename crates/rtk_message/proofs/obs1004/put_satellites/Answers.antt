@@ -1,0 +1,13 @@
+use Rattle.std.proofs.Common.{rules, ◌≡◌, ◌↔◌, IsTrue, ℕ, ◌+◌, ◌-◌, ◌*◌, ◌^◌, ◌<◌, ◌≤◌, length, ◌/◌, ◌%◌, Bool, true, false, List, [], ◌∷◌, ◌++◌, refl, sym, ap, ◌∙◌, arith, ℤ, to_z, of_z, w64}
+use Rattle.std.proofs.lemmas.Int.{to_z-of_z}
+use mir.Val.{SFits}
+use Rattle.rtk_message.specs.Fields.{u, i, flag, Takes, TakesAll, FieldsFit}
+use Rattle.rtk_message.specs.FieldLaws.{took, took_none, put, put_none}
+use Rattle.rtk_message.specs.Obs1004Laws.{fit_at, put_push}
+use Rattle.rtk_message.proofs.obs1004.put_satellites.Goals as goal
+
+pub put-requires : goal.put-requires
+put-requires c = fit_at c.args.satellites.now c.loop-satellite.satellite-index _ c.loop-satellite-test.true c.requires
+
+pub loop-satellite-preserved : goal.loop-satellite-preserved
+loop-satellite-preserved c = put_push c.args.satellites.now c.loop-satellite.satellite-index _ c.args.writer.now c.loop-satellite.writer _ c.loop-satellite-test.true c.loop-satellite.invariant c.in_ok-put.ensures

@@ -1,0 +1,13 @@
+use Rattle.std.proofs.Common.{rules, ◌≡◌, ◌↔◌, IsTrue, ℕ, ◌+◌, ◌-◌, ◌*◌, ◌^◌, ◌<◌, ◌≤◌, length, ◌/◌, ◌%◌, Bool, true, false, List, [], ◌∷◌, ◌++◌, refl, sym, ap, ◌∙◌, arith, ℤ, to_z, of_z, w64}
+use Rattle.std.proofs.lemmas.Int.{to_z-of_z}
+use mir.Val.{SFits}
+use Rattle.rtk_message.specs.Fields.{u, i, flag, Takes, TakesAll, FieldsFit}
+use Rattle.rtk_message.specs.FieldLaws.{took, took_none, put, put_none}
+use Rattle.rtk_message.specs.Obs1004Laws.{fit_at, fit_push}
+use Rattle.rtk_message.proofs.obs1004.satellites_fit.Goals as goal
+
+pub returns-then-not-fits : goal.returns-then-not-fits
+returns-then-not-fits c =
+    (λ h. absurd (search rules), λ p.
+     let one = fit_at c.args.satellites.now c.loop-satellite.satellite-index _ c.loop-satellite-test.true p in
+     rw (← c.if-not-fits.true) (c.fits.ensures.1 one))

@@ -1,0 +1,9 @@
+use Rattle.std.proofs.Common.{rules, ◌≡◌, ◌↔◌, IsTrue, ℕ, ◌+◌, ◌-◌, ◌*◌, ◌^◌, ◌<◌, ◌≤◌, length, ◌/◌, ◌%◌, Bool, true, false, List, [], ◌∷◌, ◌++◌, refl, sym, ap, ◌∙◌, arith, ℤ, to_z, of_z, w64}
+use Rattle.std.proofs.lemmas.Int.{to_z-of_z}
+use mir.Val.{SFits}
+use Rattle.rtk_message.specs.Fields.{u, i, flag, Takes, TakesAll, FieldsFit}
+use Rattle.rtk_message.specs.FieldLaws.{took, took_none, put, put_none}
+use Rattle.rtk_message.proofs.satellites.Satellite.put.Goals as goal
+
+pub returns : goal.returns
+returns c = put c.in_ok-put_u.ensures (put c.in_ok-put_flag.ensures (put c.in_ok-put_u-2.ensures (put c.in_ok-put_i32.ensures (put c.in_ok-put_u-3.ensures (put c.in_ok-put_u-4.ensures (put c.in_ok-put_u-5.ensures (put c.in_ok-put_u-6.ensures (put c.in_ok-put_i16.ensures (put c.in_ok-put_i32-2.ensures (put c.in_ok-put_u-7.ensures (put c.in_ok-put_u-8.ensures (put_none))))))))))))

@@ -1,0 +1,49 @@
+-- Fields, and the bits of a list of fields.
+use Rattle.std.specs.Prelude.{◌≡◌, ℕ, ℤ, ◌<◌, ◌^◌, Bool, List, [], ◌∷◌, ◌++◌}
+use Rattle.std.specs.List.{AllByRecursion}
+use Rattle.rtk_bits.specs.Bits.{bits_of, signed_bits_of, FitsSigned}
+
+-- a field: a width with an unsigned or a two's complement value, or one bit
+pub data Field : Type 0 where
+  u : ℕ → ℕ → Field
+  i : ℕ → ℤ → Field
+  flag : Bool → Field
+
+-- the bits of a field, the most significant first
+abbrev pub field_bits : Field → List Bool
+field_bits (u w n) = bits_of w n
+field_bits (i w z) = signed_bits_of w z
+field_bits (flag b) = b ∷ []
+
+-- the value fits the width
+abbrev pub FieldFits : Field → Type 0
+FieldFits (u w n) = n < 2 ^ w
+FieldFits (i w z) = FitsSigned w z
+FieldFits (flag b) = Unit {0}
+
+-- the concatenated fields
+abbrev pub bits_of_fields : List Field → List Bool
+bits_of_fields [] = []
+bits_of_fields (f ∷ fs) = field_bits f ++ bits_of_fields fs
+
+-- each value fits its width
+abbrev pub FieldsFit : List Field → Type 0
+FieldsFit fs = AllByRecursion FieldFits fs
+
+-- the bits begin with a field that fits, and these are left behind it
+pub record Takes (f : Field) (from left : List Bool) : Type 0 where
+  pub fits : FieldFits f
+  pub is : from ≡ field_bits f ++ left
+
+-- the same of a list of fields
+pub record TakesAll (fs : List Field) (from left : List Bool) : Type 0 where
+  pub fit : FieldsFit fs
+  pub is : from ≡ bits_of_fields fs ++ left
+
+-- a field was put behind bits
+pub record Puts (f : Field) (before after : List Bool) : Type 0 where
+  pub is : after ≡ before ++ field_bits f
+
+-- the same of a list of fields
+pub record PutsAll (fs : List Field) (before after : List Bool) : Type 0 where
+  pub is : after ≡ before ++ bits_of_fields fs

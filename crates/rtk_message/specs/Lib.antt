@@ -1,0 +1,13 @@
+pub mod Fields
+pub mod FieldLaws
+pub mod Obs1004
+pub mod Obs1004Laws
+pub mod Arp1005
+pub mod Arp1005Laws
+pub mod Arp1006
+pub mod Arp1006Laws
+pub mod Columns
+pub mod ColumnLaws
+pub mod Msm1074
+pub mod Msm1074Laws
+pub mod Decoded

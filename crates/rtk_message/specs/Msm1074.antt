@@ -1,0 +1,94 @@
+-- Message 1074 behind its number (RTCM 10403.3, message 1074, GPS MSM4): a header of 157 bits, the cell mask, the columns.
+use Rattle.std.specs.Prelude.{◌≡◌, ℕ, ◌+◌, ◌*◌, ◌≤◌, ◌<◌, Bool, List, [], ◌∷◌, ◌++◌, length, sum_by, count_ones, take, drop, Option, Some, None, nat_lt, if◌then◌else◌}
+use Rattle.rtk_bits.specs.Bits.{unsigned}
+use Rattle.rtk_message.specs.Fields.{Field, u, flag, FieldsFit}
+use Rattle.rtk_message.specs.Columns.{numbers, integers, flags}
+use Rattle.rtk_message.specs.declared.fault.DecodeFault.{DecodeFault}
+use Rattle.rtk_message.specs.declared.fault.DecodeFault.TheVariants.{Short, EpochRange, TooManyCells}
+use Rattle.rtk_message.specs.declared.msm1074.MsmHeader.{MsmHeader}
+use Rattle.rtk_message.specs.declared.msm1074.Msm1074.{Msm1074}
+
+-- the header: DF003, DF004, DF393, DF409, DF001, DF411, DF412, DF417, DF418, DF394, DF395
+abbrev pub header_table : MsmHeader → List Field
+header_table h =
+    u 12 h.station ∷ u 30 h.tow ∷ flag h.multiple_message ∷ u 3 h.issue_of_data_station ∷ u 7 h.reserved ∷
+    u 2 h.clock_steering ∷ u 2 h.external_clock ∷ flag h.smoothing ∷ u 3 h.smoothing_interval ∷
+    u 64 h.satellite_mask ∷ u 32 h.signal_mask ∷ []
+
+-- the satellites and the signals of the message: the bits set in their masks
+abbrev pub satellites : MsmHeader → ℕ
+satellites h = count_ones h.satellite_mask
+
+abbrev pub signals : MsmHeader → ℕ
+signals h = count_ones h.signal_mask
+
+-- the cell mask (DF396), satellite by satellite: a row of one bit for each signal, the signals rising
+abbrev pub mask_table : Msm1074 → List Field
+mask_table m = numbers (signals m.header) m.cell_mask
+
+-- each field for all before the next: DF397 and DF398 of the satellites, DF400, DF401, DF402, DF420 and DF403 of the cells
+abbrev pub columns : Msm1074 → List Field
+columns m =
+    numbers 8 m.rough_ms ++ (numbers 10 m.rough_fraction ++
+    (integers 15 m.fine_range ++ (integers 22 m.fine_phase ++ (numbers 4 m.lock_indicator ++ (flags m.half_cycle ++ numbers 6 m.cnr)))))
+
+abbrev pub table : Msm1074 → List Field
+table m = header_table m.header ++ (mask_table m ++ columns m)
+
+-- the cells of the message: the bits set in the cell mask
+abbrev pub cells : Msm1074 → ℕ
+cells m = sum_by count_ones m.cell_mask
+
+-- each column has an entry for each satellite, or for each cell
+pub record HasLengths (m : Msm1074) : Type 0 where
+  pub cell_mask : length m.cell_mask ≡ satellites m.header
+  pub rough_ms : length m.rough_ms ≡ satellites m.header
+  pub rough_fraction : length m.rough_fraction ≡ satellites m.header
+  pub fine_range : length m.fine_range ≡ cells m
+  pub fine_phase : length m.fine_phase ≡ cells m
+  pub lock_indicator : length m.lock_indicator ≡ cells m
+  pub half_cycle : length m.half_cycle ≡ cells m
+  pub cnr : length m.cnr ≡ cells m
+
+-- each value fits its width, in the columns where it may not
+pub record EachFits (m : Msm1074) : Type 0 where
+  pub cell_mask : FieldsFit (numbers (signals m.header) m.cell_mask)
+  pub rough_ms : FieldsFit (numbers 8 m.rough_ms)
+  pub rough_fraction : FieldsFit (numbers 10 m.rough_fraction)
+  pub fine_range : FieldsFit (integers 15 m.fine_range)
+  pub fine_phase : FieldsFit (integers 22 m.fine_phase)
+  pub lock_indicator : FieldsFit (numbers 4 m.lock_indicator)
+  pub cnr : FieldsFit (numbers 6 m.cnr)
+
+-- each field fits, the time lies in a week, the cell mask has at most 64 bits, the columns have their lengths
+pub record IsValid (m : Msm1074) : Type 0 where
+  pub fields_fit : FieldsFit (table m)
+  pub time_in_week : m.header.tow < 604800000
+  pub mask_bits : satellites m.header * signals m.header ≤ 64
+  pub lengths : HasLengths m
+
+-- ---- the first fault of bits behind the number
+
+-- DF004 in the bits
+abbrev pub tow_of : List Bool → ℕ
+tow_of bs = unsigned (take 30 (drop 12 bs))
+
+-- the satellites, by DF394
+abbrev pub satellites_of : List Bool → ℕ
+satellites_of bs = count_ones (unsigned (take 64 (drop 61 bs)))
+
+-- the bits of the cell mask: satellites times signals, by DF394 and DF395
+abbrev pub mask_bits_of : List Bool → ℕ
+mask_bits_of bs = satellites_of bs * count_ones (unsigned (take 32 (drop 125 bs)))
+
+-- the cells, by DF396
+abbrev pub cells_of : List Bool → ℕ
+cells_of bs = count_ones (unsigned (take (mask_bits_of bs) (drop 157 bs)))
+
+-- a satellite takes 18 bits behind the cell mask, a cell 48
+abbrev pub first_fault : List Bool → Option DecodeFault
+first_fault bs =
+    if nat_lt (length bs) 157 then Some (Short 1074) else
+    if nat_lt 604799999 (tow_of bs) then Some (EpochRange 1074) else
+    if nat_lt 64 (mask_bits_of bs) then Some TooManyCells else
+    if nat_lt (length bs) (157 + mask_bits_of bs + 18 * satellites_of bs + 48 * cells_of bs) then Some (Short 1074) else None

@@ -1,0 +1,116 @@
+//! Message 1006: the antenna reference point of a station with the height of its antenna.
+ghost use Rattle.std.specs.Prelude.{◌↔◌, IsTrue};
+ghost use Rattle.rtk_message.specs.Fields.{FieldsFit};
+ghost use Rattle.rtk_message.specs.Arp1006.{table};
+
+use crate::fault::DecodeFault;
+use crate::field::{fits_i38, next_flag, next_i64, next_u16, next_u8, put_flag, put_i64, put_u};
+use crate::layout::Layout;
+use rtk_bits::{BitReader, BitWriter};
+use std::alloc::AllocError;
+
+/// The antenna reference point (ARP) of a station, earth-centred and earth-fixed, and the height of its antenna: 168 bits.
+///
+/// Source: RTCM 10403.3, message 1006.
+#[derive(Clone, Copy, Debug, PartialEq, Eq)]
+pub struct Arp1006 {
+    /// Reference station ID (DF003), 0 to 4095.
+    pub station: u16,
+    /// ITRF realization year (DF021), 0 to 63.
+    pub realization_year: u8,
+    /// GPS indicator (DF022).
+    pub gps: bool,
+    /// GLONASS indicator (DF023).
+    pub glonass: bool,
+    /// Galileo indicator (DF024).
+    pub galileo: bool,
+    /// Reference-station indicator (DF141).
+    pub reference_station: bool,
+    /// X (DF025), in 0.0001 m, 38 bits signed.
+    pub x: i64,
+    /// Single receiver oscillator indicator (DF142).
+    pub single_oscillator: bool,
+    /// Reserved bit (DF001).
+    pub reserved: bool,
+    /// Y (DF026), in 0.0001 m, 38 bits signed.
+    pub y: i64,
+    /// Quarter cycle indicator (DF364), 0 to 3.
+    pub quarter_cycle: u8,
+    /// Z (DF027), in 0.0001 m, 38 bits signed.
+    pub z: i64,
+    /// Antenna height (DF028), in 0.0001 m.
+    pub height: u16,
+}
+
+impl Layout for Arp1006 {
+    ghost use Rattle.rtk_message.specs.Arp1006.{table, first_fault, IsValid};
+    ghost use Rattle.rtk_message.specs.Arp1006Laws.{is_accepted, is_unique};
+
+    ghost NUMBER = { 1006 };
+    const NUMBER: u16 = 1006;
+
+    ghost table = { table };
+
+    ghost IsValid = { IsValid };
+
+    ghost first_fault = { first_fault };
+
+    fn read(reader: &mut BitReader<'_>) -> Result<Arp1006, DecodeFault> {
+        if reader.remaining() < 156 {
+            return Err(DecodeFault::Short { number: 1006 });
+        }
+        Ok(Arp1006 {
+            station: next_u16(reader, 12),
+            realization_year: next_u8(reader, 6),
+            gps: next_flag(reader),
+            glonass: next_flag(reader),
+            galileo: next_flag(reader),
+            reference_station: next_flag(reader),
+            x: next_i64(reader, 38),
+            single_oscillator: next_flag(reader),
+            reserved: next_flag(reader),
+            y: next_i64(reader, 38),
+            quarter_cycle: next_u8(reader, 2),
+            z: next_i64(reader, 38),
+            height: next_u16(reader, 16),
+        })
+    }
+
+    fn write(&self, writer: &mut BitWriter) -> Result<(), AllocError> {
+        put_u(writer, 12, self.station as u64)?;
+        put_u(writer, 6, self.realization_year as u64)?;
+        put_flag(writer, self.gps)?;
+        put_flag(writer, self.glonass)?;
+        put_flag(writer, self.galileo)?;
+        put_flag(writer, self.reference_station)?;
+        put_i64(writer, 38, &self.x)?;
+        put_flag(writer, self.single_oscillator)?;
+        put_flag(writer, self.reserved)?;
+        put_i64(writer, 38, &self.y)?;
+        put_u(writer, 2, self.quarter_cycle as u64)?;
+        put_i64(writer, 38, &self.z)?;
+        put_u(writer, 16, self.height as u64)?;
+        Ok(())
+    }
+
+    fn fits(&self) -> bool {
+        let message = *self;
+        message.fields_fit()
+    }
+
+    ghost accepted = { is_accepted };
+
+    ghost unique = { is_unique };
+}
+
+impl Arp1006 {
+    // By value, so that the range of each field's type is known.
+    fn fields_fit(self) -> bool
+        ensures { IsTrue result ↔ FieldsFit (table self) }
+    {
+        if self.station >= 1 << 12 || self.realization_year >= 1 << 6 || self.quarter_cycle >= 1 << 2 {
+            return false;
+        }
+        fits_i38(self.x) && fits_i38(self.y) && fits_i38(self.z)
+    }
+}

@@ -1,0 +1,45 @@
+//! From a message to the bytes of its payload, and back again.
+ghost use Rattle.std.specs.Prelude.{◌≡◌, ◌<◌, ◌∷◌, ◌++◌, OnOk, IfOk, Ok, List, ℕ, Result};
+ghost use Rattle.rtk_bits.specs.Bits.{bits};
+ghost use Rattle.rtk_message.specs.Fields.{u, bits_of_fields};
+ghost use Rattle.rtk_message.specs.declared.message.Message.{Message};
+ghost use Rattle.rtk_message.specs.declared.fault.DecodeFault.{DecodeFault};
+ghost use Rattle.rtk_message.specs.Decoded.{IsValid, IsPayloadOf, Decodes};
+
+use crate::fault::DecodeFault;
+use crate::layout::Layout;
+use crate::message::Message;
+use rtk_bits::BitWriter;
+use std::alloc::{AllocError, Global};
+
+/// The message's fields, with zero bits up to a whole byte. An `Err` is want of memory.
+pub fn encode(alloc: Global, message: &Message) -> Result<Vec<u8>, AllocError>
+    requires { IsValid message.now }
+    ensures { IfOk result (λ payload. IsPayloadOf message.now payload.items) }
+{
+    let mut writer = BitWriter::new(alloc);
+    match message {
+        Message::Obs1004(message) => write_as(&mut writer, message)?,
+        Message::Arp1005(message) => write_as(&mut writer, message)?,
+        Message::Arp1006(message) => write_as(&mut writer, message)?,
+        Message::Msm1074(message) => write_as(&mut writer, message)?,
+    }
+    Ok(writer.finish())
+}
+
+// The number and the fields behind it, by the clauses of `Layout` alone.
+fn write_as<T: Layout>(writer: &mut BitWriter, message: &T) -> Result<(), AllocError>
+    requires number { T.NUMBER < 4096 }
+    requires valid { T.IsValid message.now }
+    ensures { OnOk result (writer.new ≡ writer.old ++ bits_of_fields (u 12 T.NUMBER ∷ T.table message.now)) }
+{
+    writer.put_u(12, T::NUMBER as u64)?;
+    message.write(writer)?;
+    Ok(())
+}
+
+/// A law: what `encode` gives of a message, `decode` reads as this message.
+pub fn decode_of_encode()
+    ensures { (m : Message) (payload : List ℕ) (r : Result Message DecodeFault) → IsValid m → IsPayloadOf m payload → Decodes (bits payload) r → r ≡ Ok m }
+{
+}

@@ -1,0 +1,28 @@
+//! Why a payload is not read as a message.
+
+use thiserror::Error;
+
+/// Why a payload is not read as a message: the first cause that holds, in this order, but that the
+/// end of the payload is looked for twice: behind the fixed part before the time of week, and behind
+/// the rest after the cell mask.
+///
+/// The fixed part is the header of a 1004 (64 bits) or of a 1074 (169 bits), and the whole of a 1005
+/// (152 bits) or a 1006 (168 bits). Source: RTCM 10403.3, data fields DF002, DF004 and DF394 to DF396.
+#[derive(Clone, Copy, Debug, PartialEq, Eq, Error)]
+pub enum DecodeFault {
+    /// The payload has fewer than 12 bits, so there is no message number (DF002).
+    #[error("M1 no message number")]
+    NoNumber,
+    /// The message number (DF002, 0 to 4095) is none that this decoder reads.
+    #[error("M2 message {number} is not read")]
+    Other { number: u16 },
+    /// The payload ends before the last field of the message's table.
+    #[error("M3 message {number} is cut short")]
+    Short { number: u16 },
+    /// The time of week (DF004) is 604,800,000 ms or more.
+    #[error("M4 message {number} has a time outside the week")]
+    EpochRange { number: u16 },
+    /// The cell mask of a 1074 (DF396) would have more than 64 bits.
+    #[error("M5 message 1074 has more than 64 cell mask bits")]
+    TooManyCells,
+}

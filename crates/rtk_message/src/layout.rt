@@ -1,0 +1,46 @@
+//! What each message type keeps: its bits are the fields of its table, and nothing else is used.
+ghost use Rattle.std.specs.Prelude.{◌≡◌, ℕ, ◌++◌, Bool, List, Option, Some, None, IfOk, IfErr, OnOk, IsTrue, ◌↔◌};
+ghost use Rattle.rtk_message.specs.Fields.{Field, bits_of_fields, TakesAll};
+ghost use Rattle.rtk_message.specs.declared.fault.DecodeFault.{DecodeFault};
+
+use crate::fault::DecodeFault;
+use rtk_bits::{BitReader, BitWriter};
+use std::alloc::AllocError;
+
+/// A message type. The bits that it reads and writes, behind the message number, are the
+/// concatenated fields of its table.
+pub trait Layout: Sized {
+    ghost NUMBER: { ℕ };
+    /// The message number (DF002).
+    const NUMBER: u16;
+
+    /// The fields behind the number, in the order of the standard.
+    ghost table: { Self → List Field };
+
+    /// Which values have bits: each field fits its width, and the lists have the lengths that the
+    /// counts and masks give.
+    ghost IsValid: { Self → Type 0 };
+
+    /// The first cause for which bits behind the number begin with no such message.
+    ghost first_fault: { List Bool → Option DecodeFault };
+
+    /// Reads the fields behind the number. After an `Err` the reader stands somewhere in them.
+    fn read(reader: &mut BitReader<'_>) -> Result<Self, DecodeFault>
+        ensures fields { IfOk result (λ m. IsValid m × TakesAll (table m) reader.old reader.new) }
+        ensures fault { IfErr result (λ f. first_fault reader.old ≡ Some f) };
+
+    /// Puts the fields behind the number. An `Err` is want of memory, after some of them.
+    fn write(&self, writer: &mut BitWriter) -> Result<(), AllocError>
+        requires { IsValid self.now }
+        ensures { OnOk result (writer.new ≡ writer.old ++ bits_of_fields (table self.now)) };
+
+    /// Whether the value has bits.
+    fn fits(&self) -> bool
+        ensures { IsTrue result ↔ IsValid self.now };
+
+    /// Bits that begin with a message have no fault.
+    ghost accepted: { (m : Self) (rest : List Bool) → IsValid m → first_fault (bits_of_fields (table m) ++ rest) ≡ None };
+
+    /// No bits begin with two messages.
+    ghost unique: { (m n : Self) (a b : List Bool) → IsValid m → IsValid n → bits_of_fields (table m) ++ a ≡ bits_of_fields (table n) ++ b → m ≡ n };
+}

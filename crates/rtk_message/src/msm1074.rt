@@ -1,0 +1,250 @@
+//! Message 1074: GPS observations of any signals (MSM4), column by column.
+ghost use Rattle.std.specs.Prelude.{◌≡◌, ◌≤◌, ◌<◌, ◌+◌, ◌*◌, length, OnOk, IsTrue, ◌↔◌, count_ones, sum_by};
+ghost use Rattle.rtk_message.specs.Fields.{TakesAll, PutsAll, FieldsFit};
+ghost use Rattle.rtk_message.specs.Columns.{numbers};
+ghost use Rattle.rtk_message.specs.Msm1074.{header_table, EachFits, HasLengths};
+
+use crate::column::{column_fits, next_column, put_column, Column};
+use crate::fault::DecodeFault;
+use crate::field::{next_flag, next_u16, next_u32, next_u64, next_u8, put_flag, put_u, WEEK_MS};
+use crate::layout::Layout;
+use crate::mask::{mask_fits, next_mask, ones, put_mask};
+use rtk_bits::{BitReader, BitWriter};
+use std::alloc::AllocError;
+
+/// The fields of a 1074 before its cell mask: 169 bits with the number.
+///
+/// The first bit of a mask is its most significant one and stands for identifier 1.
+#[derive(Clone, Copy, Debug, PartialEq, Eq)]
+pub struct MsmHeader {
+    /// Reference station ID (DF003), 0 to 4095.
+    pub station: u16,
+    /// GPS time of week (DF004), in ms, less than 604,800,000.
+    pub tow: u32,
+    /// Multiple message bit (DF393): more messages of this epoch follow.
+    pub multiple_message: bool,
+    /// Issue of data station (DF409), 0 to 7.
+    pub issue_of_data_station: u8,
+    /// Reserved (DF001), 7 bits.
+    pub reserved: u8,
+    /// Clock steering indicator (DF411), 0 to 3.
+    pub clock_steering: u8,
+    /// External clock indicator (DF412), 0 to 3.
+    pub external_clock: u8,
+    /// Divergence-free smoothing (DF417).
+    pub smoothing: bool,
+    /// Smoothing interval (DF418), 0 to 7.
+    pub smoothing_interval: u8,
+    /// Satellite mask (DF394).
+    pub satellite_mask: u64,
+    /// Signal mask (DF395).
+    pub signal_mask: u32,
+}
+
+/// Multiple signal message 4 of GPS: each field for all satellites, or for all cells, before the
+/// next field.
+///
+/// Satellites and signals rise, as their masks do. Cells go satellite by satellite, the signals
+/// rising within each. Source: RTCM 10403.3, message 1074.
+#[derive(Drop, PartialEq, Eq)]
+pub struct Msm1074 {
+    /// The fields before the cell mask.
+    pub header: MsmHeader,
+    /// Cell mask (DF396): for each satellite of the mask a row of one bit for each signal of the
+    /// mask, the first signal in the most significant of these bits.
+    pub cell_mask: Column<u32>,
+    /// For each satellite whole milliseconds of the rough range (DF397); 255 is invalid.
+    pub rough_ms: Column<u8>,
+    /// For each satellite the rest of the rough range (DF398), in 2^-10 ms, 10 bits.
+    pub rough_fraction: Column<u16>,
+    /// For each cell the fine pseudorange (DF400), in 2^-24 ms, 15 bits signed; -16384 is invalid.
+    pub fine_range: Column<i16>,
+    /// For each cell the fine phase range (DF401), in 2^-29 ms, 22 bits signed; -2097152 is invalid.
+    pub fine_phase: Column<i32>,
+    /// For each cell the lock time indicator (DF402), 0 to 15.
+    pub lock_indicator: Column<u8>,
+    /// For each cell whether there is a half-cycle ambiguity (DF420).
+    pub half_cycle: Column<bool>,
+    /// For each cell the carrier-to-noise ratio (DF403), in dB-Hz, 0 to 63; 0 is not given.
+    pub cnr: Column<u8>,
+}
+
+impl MsmHeader {
+    /// How many satellites the satellite mask has.
+    pub fn satellites(self) -> usize
+        ensures value { result ≡ count_ones self.satellite_mask }
+        ensures few { result ≤ 64 }
+    {
+        self.satellite_mask.count_ones() as usize
+    }
+
+    /// How many signals the signal mask has.
+    pub fn signals(self) -> usize
+        ensures value { result ≡ count_ones self.signal_mask }
+        ensures few { result ≤ 32 }
+    {
+        self.signal_mask.count_ones() as usize
+    }
+
+    fn put(self, writer: &mut BitWriter) -> Result<(), AllocError>
+        requires { FieldsFit (header_table self) }
+        ensures { OnOk result (PutsAll (header_table self) writer.old writer.new) }
+    {
+        put_u(writer, 12, self.station as u64)?;
+        put_u(writer, 30, self.tow as u64)?;
+        put_flag(writer, self.multiple_message)?;
+        put_u(writer, 3, self.issue_of_data_station as u64)?;
+        put_u(writer, 7, self.reserved as u64)?;
+        put_u(writer, 2, self.clock_steering as u64)?;
+        put_u(writer, 2, self.external_clock as u64)?;
+        put_flag(writer, self.smoothing)?;
+        put_u(writer, 3, self.smoothing_interval as u64)?;
+        put_u(writer, 64, self.satellite_mask)?;
+        put_u(writer, 32, self.signal_mask as u64)?;
+        Ok(())
+    }
+
+    fn fits(self) -> bool
+        ensures { IsTrue result ↔ FieldsFit (header_table self) }
+    {
+        if self.station >= 1 << 12 || self.tow >= 1 << 30 || self.issue_of_data_station >= 1 << 3 {
+            return false;
+        }
+        if self.reserved >= 1 << 7 || self.clock_steering >= 1 << 2 {
+            return false;
+        }
+        self.external_clock < 1 << 2 && self.smoothing_interval < 1 << 3
+    }
+}
+
+fn next_header(reader: &mut BitReader<'_>) -> MsmHeader
+    requires { 157 ≤ length reader.old }
+    ensures fields { TakesAll (header_table result) reader.old reader.new }
+    ensures left { length reader.old ≡ 157 + length reader.new }
+{
+    MsmHeader {
+        station: next_u16(reader, 12),
+        tow: next_u32(reader, 30),
+        multiple_message: next_flag(reader),
+        issue_of_data_station: next_u8(reader, 3),
+        reserved: next_u8(reader, 7),
+        clock_steering: next_u8(reader, 2),
+        external_clock: next_u8(reader, 2),
+        smoothing: next_flag(reader),
+        smoothing_interval: next_u8(reader, 3),
+        satellite_mask: next_u64(reader, 64),
+        signal_mask: next_u32(reader, 32),
+    }
+}
+
+// Whether the cell mask of so many satellites and signals would have more than 64 bits.
+fn has_too_many_cells(satellites: usize, signals: usize) -> bool
+    requires few { (satellites ≤ 64) × (signals ≤ 32) }
+    ensures { IsTrue result ↔ (64 < satellites * signals) }
+{
+    satellites * signals > 64
+}
+
+impl Layout for Msm1074 {
+    ghost use Rattle.rtk_message.specs.Msm1074.{table, first_fault, IsValid};
+    ghost use Rattle.rtk_message.specs.Msm1074Laws.{is_accepted, is_unique};
+
+    ghost NUMBER = { 1074 };
+    const NUMBER: u16 = 1074;
+
+    ghost table = { table };
+
+    ghost IsValid = { IsValid };
+
+    ghost first_fault = { first_fault };
+
+    fn read(reader: &mut BitReader<'_>) -> Result<Msm1074, DecodeFault> {
+        if reader.remaining() < 157 {
+            return Err(DecodeFault::Short { number: 1074 });
+        }
+        let header = next_header(reader);
+        if header.tow >= WEEK_MS {
+            return Err(DecodeFault::EpochRange { number: 1074 });
+        }
+        let satellites = header.satellites();
+        let signals = header.signals();
+        if has_too_many_cells(satellites, signals) {
+            return Err(DecodeFault::TooManyCells);
+        }
+        if reader.remaining() < (satellites * signals) as u128 {
+            return Err(DecodeFault::Short { number: 1074 });
+        }
+        let cell_mask = next_mask(reader, satellites, signals);
+        let cells = ones(&cell_mask) as usize;
+        if reader.remaining() < (18 * satellites + 48 * cells) as u128 {
+            return Err(DecodeFault::Short { number: 1074 });
+        }
+        Ok(Msm1074 {
+            header,
+            cell_mask,
+            rough_ms: next_column(reader, satellites, 8),
+            rough_fraction: next_column(reader, satellites, 10),
+            fine_range: next_column(reader, cells, 15),
+            fine_phase: next_column(reader, cells, 22),
+            lock_indicator: next_column(reader, cells, 4),
+            half_cycle: next_column(reader, cells, 1),
+            cnr: next_column(reader, cells, 6),
+        })
+    }
+
+    fn write(&self, writer: &mut BitWriter) -> Result<(), AllocError> {
+        self.header.put(writer)?;
+        put_mask(writer, &self.cell_mask, self.header.signals())?;
+        put_column(writer, &self.rough_ms, 8)?;
+        put_column(writer, &self.rough_fraction, 10)?;
+        put_column(writer, &self.fine_range, 15)?;
+        put_column(writer, &self.fine_phase, 22)?;
+        put_column(writer, &self.lock_indicator, 4)?;
+        put_column(writer, &self.half_cycle, 1)?;
+        put_column(writer, &self.cnr, 6)?;
+        Ok(())
+    }
+
+    fn fits(&self) -> bool {
+        if self.header.tow >= WEEK_MS || !self.header.fits() {
+            return false;
+        }
+        if has_too_many_cells(self.header.satellites(), self.header.signals()) {
+            return false;
+        }
+        self.has_lengths() && self.columns_fit()
+    }
+
+    ghost accepted = { is_accepted };
+
+    ghost unique = { is_unique };
+}
+
+impl Msm1074 {
+    // Whether each column has as many entries as the masks have satellites or cells.
+    fn has_lengths(&self) -> bool
+        ensures { IsTrue result ↔ HasLengths self.now }
+    {
+        let satellites = self.header.satellites();
+        if self.cell_mask.len() != satellites || self.rough_ms.len() != satellites || self.rough_fraction.len() != satellites {
+            return false;
+        }
+        let cells = ones(&self.cell_mask) as usize;
+        if self.fine_range.len() != cells || self.fine_phase.len() != cells || self.lock_indicator.len() != cells {
+            return false;
+        }
+        self.half_cycle.len() == cells && self.cnr.len() == cells
+    }
+
+    fn columns_fit(&self) -> bool
+        ensures { IsTrue result ↔ EachFits self.now }
+    {
+        if !mask_fits(&self.cell_mask, self.header.signals()) || !column_fits(&self.rough_fraction, 10) {
+            return false;
+        }
+        if !column_fits(&self.fine_range, 15) || !column_fits(&self.fine_phase, 22) {
+            return false;
+        }
+        column_fits(&self.lock_indicator, 4) && column_fits(&self.cnr, 6)
+    }
+}

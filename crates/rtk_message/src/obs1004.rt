@@ -1,0 +1,198 @@
+//! Message 1004: GPS observations on L1 and L2.
+ghost use Rattle.std.specs.Prelude.{◌≡◌, ◌≤◌, ◌+◌, ◌*◌, length, OnOk, IsTrue, ◌↔◌};
+ghost use Rattle.std.specs.List.{flat_map};
+ghost use Rattle.rtk_bits.specs.Bits.{FitsSigned};
+ghost use Rattle.rtk_message.specs.Fields.{TakesAll, PutsAll, FieldsFit};
+ghost use Rattle.rtk_message.specs.Obs1004.{satellite_table};
+
+use crate::fault::DecodeFault;
+use crate::field::{next_flag, next_i16, next_i32, next_u16, next_u32, next_u8, put_flag, put_i16, put_i32, put_u, WEEK_MS};
+use crate::layout::Layout;
+use crate::satellites::{Satellite, Satellites};
+use rtk_bits::{BitReader, BitWriter};
+use std::alloc::AllocError;
+
+/// Extended L1 and L2 GPS observations of one epoch: 64 bits and 125 for each satellite.
+///
+/// The count of satellites (DF006) is the length of the list. Source: RTCM 10403.3, message 1004.
+#[derive(Drop, PartialEq, Eq)]
+pub struct Obs1004 {
+    /// Reference station ID (DF003), 0 to 4095.
+    pub station: u16,
+    /// GPS time of week (DF004), in ms, less than 604,800,000.
+    pub tow: u32,
+    /// Synchronous GNSS flag (DF005): more messages of this epoch follow.
+    pub synchronous: bool,
+    /// Divergence-free smoothing (DF007).
+    pub smoothing: bool,
+    /// Smoothing interval indicator (DF008), 0 to 7.
+    pub smoothing_interval: u8,
+    /// The satellites in the order of the message.
+    pub satellites: Satellites,
+}
+
+impl Layout for Obs1004 {
+    ghost use Rattle.rtk_message.specs.Obs1004.{table, first_fault, IsValid};
+    ghost use Rattle.rtk_message.specs.Obs1004Laws.{is_accepted, is_unique};
+
+    ghost NUMBER = { 1004 };
+    const NUMBER: u16 = 1004;
+
+    ghost table = { table };
+
+    ghost IsValid = { IsValid };
+
+    ghost first_fault = { first_fault };
+
+    fn read(reader: &mut BitReader<'_>) -> Result<Obs1004, DecodeFault> {
+        if reader.remaining() < 52 {
+            return Err(DecodeFault::Short { number: 1004 });
+        }
+        let station = next_u16(reader, 12);
+        let tow = next_u32(reader, 30);
+        let synchronous = next_flag(reader);
+        let count = next_u8(reader, 5);
+        let smoothing = next_flag(reader);
+        let smoothing_interval = next_u8(reader, 3);
+        if tow >= WEEK_MS {
+            return Err(DecodeFault::EpochRange { number: 1004 });
+        }
+        if reader.remaining() < 125 * count as u128 {
+            return Err(DecodeFault::Short { number: 1004 });
+        }
+        let satellites = next_satellites(reader, count);
+        Ok(Obs1004 {
+            station,
+            tow,
+            synchronous,
+            smoothing,
+            smoothing_interval,
+            satellites,
+        })
+    }
+
+    fn write(&self, writer: &mut BitWriter) -> Result<(), AllocError> {
+        put_u(writer, 12, self.station as u64)?;
+        put_u(writer, 30, self.tow as u64)?;
+        put_flag(writer, self.synchronous)?;
+        put_u(writer, 5, self.satellites.len() as u64)?;
+        put_flag(writer, self.smoothing)?;
+        put_u(writer, 3, self.smoothing_interval as u64)?;
+        put_satellites(writer, self.satellites.as_slice())?;
+        Ok(())
+    }
+
+    fn fits(&self) -> bool {
+        if self.station >= 1 << 12 || self.tow >= WEEK_MS || self.smoothing_interval >= 1 << 3 {
+            return false;
+        }
+        satellites_fit(self.satellites.as_slice())
+    }
+
+    ghost accepted = { is_accepted };
+
+    ghost unique = { is_unique };
+}
+
+fn next_satellites(reader: &mut BitReader<'_>, count: u8) -> Satellites
+    requires few { count ≤ 31 }
+    requires enough { 125 * count ≤ length reader.old }
+    ensures fields { TakesAll (flat_map satellite_table result) reader.old reader.new }
+    ensures count { length result ≡ count }
+{
+    let mut satellites = Satellites::new();
+    for _ in 0..count {
+        satellites.push(next_satellite(reader));
+    }
+    satellites
+}
+
+fn next_satellite(reader: &mut BitReader<'_>) -> Satellite
+    requires { 125 ≤ length reader.old }
+    ensures fields { TakesAll (satellite_table result) reader.old reader.new }
+    ensures left { length reader.old ≡ 125 + length reader.new }
+{
+    Satellite {
+        satellite: next_u8(reader, 6),
+        l1_code: next_flag(reader),
+        l1_range: next_u32(reader, 24),
+        l1_phase_difference: next_i32(reader, 20),
+        l1_lock_indicator: next_u8(reader, 7),
+        modulus_ambiguity: next_u8(reader, 8),
+        l1_cnr: next_u8(reader, 8),
+        l2_code: next_u8(reader, 2),
+        l2_range_difference: next_i16(reader, 14),
+        l2_phase_difference: next_i32(reader, 20),
+        l2_lock_indicator: next_u8(reader, 7),
+        l2_cnr: next_u8(reader, 8),
+    }
+}
+
+fn put_satellites(writer: &mut BitWriter, satellites: &[Satellite]) -> Result<(), AllocError>
+    requires { FieldsFit (flat_map satellite_table satellites.now) }
+    ensures { OnOk result (PutsAll (flat_map satellite_table satellites.now) writer.old writer.new) }
+{
+    for satellite in satellites {
+        satellite.put(writer)?;
+    }
+    Ok(())
+}
+
+fn satellites_fit(satellites: &[Satellite]) -> bool
+    ensures { IsTrue result ↔ FieldsFit (flat_map satellite_table satellites.now) }
+{
+    for satellite in satellites {
+        if !satellite.fits() {
+            return false;
+        }
+    }
+    true
+}
+
+impl Satellite {
+    fn put(&self, writer: &mut BitWriter) -> Result<(), AllocError>
+        requires { FieldsFit (satellite_table self.now) }
+        ensures { OnOk result (PutsAll (satellite_table self.now) writer.old writer.new) }
+    {
+        put_u(writer, 6, self.satellite as u64)?;
+        put_flag(writer, self.l1_code)?;
+        put_u(writer, 24, self.l1_range as u64)?;
+        put_i32(writer, 20, &self.l1_phase_difference)?;
+        put_u(writer, 7, self.l1_lock_indicator as u64)?;
+        put_u(writer, 8, self.modulus_ambiguity as u64)?;
+        put_u(writer, 8, self.l1_cnr as u64)?;
+        put_u(writer, 2, self.l2_code as u64)?;
+        put_i16(writer, 14, &self.l2_range_difference)?;
+        put_i32(writer, 20, &self.l2_phase_difference)?;
+        put_u(writer, 7, self.l2_lock_indicator as u64)?;
+        put_u(writer, 8, self.l2_cnr as u64)?;
+        Ok(())
+    }
+
+    fn fits(self) -> bool
+        ensures { IsTrue result ↔ FieldsFit (satellite_table self) }
+    {
+        if self.satellite >= 1 << 6 || self.l1_range >= 1 << 24 || self.l1_lock_indicator >= 1 << 7 {
+            return false;
+        }
+        if self.l2_code >= 1 << 2 || self.l2_lock_indicator >= 1 << 7 {
+            return false;
+        }
+        if !fits_i20(&self.l1_phase_difference) || !fits_i14(&self.l2_range_difference) {
+            return false;
+        }
+        fits_i20(&self.l2_phase_difference)
+    }
+}
+
+fn fits_i20(value: &i32) -> bool
+    ensures { IsTrue result ↔ FitsSigned 20 value.now }
+{
+    -(1 << 19) <= *value && *value < 1 << 19
+}
+
+fn fits_i14(value: &i16) -> bool
+    ensures { IsTrue result ↔ FitsSigned 14 value.now }
+{
+    -(1 << 13) <= *value && *value < 1 << 13
+}

@@ -1,0 +1,40 @@
+-- The years that a moment can have.
+use Rattle.std.proofs.Common.{◌≡◌, ℕ, ◌+◌, ◌≤◌, ◌<◌, arith, refl, ℤ, pos, negsuc, ◌+ℤ◌, ◌<ℤ◌, ◌≤ℤ◌, unsigned_abs}
+use Rattle.std.proofs.lemmas.Int.{by_lt_z}
+use Rattle.jiff_core.specs.declared.civil.date.Date.{Date}
+use Rattle.jiff_core.specs.Calendar.{day_count, days_from_civil, IsCivilDate}
+use Rattle.jiff_core.specs.Date.{epoch_day}
+use Rattle.jiff_core.proofs.SignedLemmas.{signed_arith}
+use Rattle.jiff_core.proofs.DateLemmas.{civil}
+use Rattle.jiff_core.proofs.MarchLemmas.{day_count-early, day_count-late}
+use Rattle.jiff_core.proofs.CalendarLemmas.{days_from_civil-day_count, day_count-lt_year}
+
+count_1980 : day_count (pos 1980) 1 1 ≡ 4_375_605
+count_1980 = day_count-early (pos 1980) 11979 1 1 refl (omega arith) (omega arith) (omega arith)
+
+count_2100 : day_count (pos 2100) 12 31 ≡ 4_419_799
+count_2100 = day_count-late (pos 2100) 12100 12 31 refl (omega arith) (omega arith) (omega arith)
+
+is_civil_2100 : IsCivilDate (pos 2100) 12 31
+is_civil_2100 = ((omega (arith, signed_arith), omega (arith, signed_arith)), (omega arith, omega arith), (omega arith, omega arith))
+
+-- a day on or after 1980-01-06 is of 1980 or later
+from_1980 : (d : Date) → pos 3657 ≤ℤ epoch_day d → pos 1980 ≤ℤ d.year
+from_1980 d h =
+    by_lt_z d.year (pos 1980)
+    (λ lt. absurd (omega (arith, signed_arith, days_from_civil-day_count d.year d.month d.day, count_1980, day_count-lt_year _ _ _ (pos 1980) 1 1 (civil d) (omega arith) lt)))
+    (λ ge. ge)
+
+-- a day on or before 2100-12-31 is of 2100 or earlier
+to_2100 : (d : Date) → epoch_day d ≤ℤ pos 47_846 → d.year ≤ℤ pos 2100
+to_2100 d h =
+    by_lt_z (pos 2100) d.year
+    (λ lt. absurd (omega (arith, signed_arith, days_from_civil-day_count d.year d.month d.day, count_2100, day_count-lt_year (pos 2100) 12 31 d.year d.month d.day is_civil_2100 (civil d).2.0 lt)))
+    (λ ge. ge)
+
+-- the year of the day k days after 1980-01-06
+pub year_bounds : (d : Date) (k : ℕ) → epoch_day d +ℤ pos 4_371_587 ≡ pos (4_375_244 + k) → k ≤ 44_189 → (pos 1980 ≤ℤ d.year) × (d.year ≤ℤ pos 2100)
+year_bounds d k e h = (from_1980 d (omega (arith, signed_arith)), to_2100 d (omega (arith, signed_arith)))
+
+pub within : (n : ℕ) (y : ℤ) → pos n ≡ y → (pos 1980 ≤ℤ y) × (y ≤ℤ pos 2100) → (1980 ≤ n) × (n ≤ 2100)
+within n y e h = (omega (arith, signed_arith), omega (arith, signed_arith))

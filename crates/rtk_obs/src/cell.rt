@@ -1,0 +1,41 @@
+//! What a message gives for a satellite and a code at its epoch.
+
+use crate::code::Code;
+
+/// The kind of message that a cell came in.
+#[derive(Clone, Copy, Debug, Default, PartialEq, Eq, Hash)]
+pub enum CellSource {
+    /// A legacy message, 1004.
+    #[default]
+    Legacy,
+    /// A multiple signal message, 1074.
+    Msm,
+}
+
+/// The values of a satellite and code at an epoch. Two cells are equal where all fields are.
+#[derive(Clone, Copy, Debug, Default, PartialEq, Eq, Hash)]
+pub struct Cell {
+    /// The pseudorange in mm.
+    pub range_mm: Option<i64>,
+    /// The carrier phase in thousandths of a cycle, rolls of 1500 cycles not undone.
+    pub phase_millicycles: Option<i64>,
+    /// The signal strength in thousandths of a dB-Hz.
+    pub strength_millidbhz: Option<u32>,
+    /// The least time of continuous lock in ms.
+    pub lock_time_ms: u32,
+    /// The half-cycle ambiguity is open; never of a 1004.
+    pub half: bool,
+    /// The kind of message.
+    pub source: CellSource,
+    /// The phase less the pseudorange of L1, in 0.0005 m (DF012, DF018): of a phase of a 1004.
+    pub offset: Option<i32>,
+}
+
+/// A cell with its satellite and code.
+#[derive(Clone, Copy, Debug, Default, PartialEq, Eq, Hash)]
+pub struct CellEntry {
+    /// The satellite, 1 to 32.
+    pub satellite: u8,
+    pub code: Code,
+    pub cell: Cell,
+}

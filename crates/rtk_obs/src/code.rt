@@ -1,0 +1,141 @@
+//! Observation codes and the bands of their carriers.
+
+ghost use Rattle.std.specs.Prelude.{◌≡◌, ◌≢◌, ◌<◌, ◌≤◌, MatchOption};
+
+/// The carrier of a signal of GPS.
+#[derive(Clone, Copy, Debug, Default, PartialEq, Eq, Hash)]
+pub enum Band {
+    /// 1,575.42 MHz.
+    #[default]
+    L1,
+    /// 1,227.60 MHz.
+    L2,
+    /// 1,176.45 MHz.
+    L5,
+}
+
+impl Band {
+    ghost use Rattle.rtk_obs.specs.Code.{frequency_of};
+
+    /// The frequency of the carrier, in Hz.
+    pub fn frequency(self) -> u32
+        ensures { result ≡ frequency_of self }
+    {
+        match self {
+            Band::L1 => 1_575_420_000,
+            Band::L2 => 1_227_600_000,
+            Band::L5 => 1_176_450_000,
+        }
+    }
+}
+
+/// An observation code of GPS: band and attribute (RINEX 3.05, Table 4).
+#[derive(Clone, Copy, Debug, Default, PartialEq, Eq, Hash)]
+pub enum Code {
+    /// C/A, on L1.
+    #[default]
+    C1C,
+    /// P, on L1.
+    C1P,
+    /// P, by Z-tracking, on L1.
+    C1W,
+    /// L1C (D), on L1.
+    C1S,
+    /// L1C (P), on L1.
+    C1L,
+    /// L1C (D+P), on L1.
+    C1X,
+    /// C/A, on L2.
+    C2C,
+    /// L1 C/A and the difference of P2 and P1, semi-codeless, on L2.
+    C2D,
+    /// P, on L2.
+    C2P,
+    /// P, by Z-tracking, on L2.
+    C2W,
+    /// L2C (M), on L2.
+    C2S,
+    /// L2C (L), on L2.
+    C2L,
+    /// L2C (M+L), on L2.
+    C2X,
+    /// I, on L5.
+    C5I,
+    /// Q, on L5.
+    C5Q,
+    /// I+Q, on L5.
+    C5X,
+}
+
+impl Code {
+    ghost use Rattle.rtk_obs.specs.Code.{name_of, band_of, place_of};
+    ghost use Rattle.rtk_obs.specs.declared.code.Code.{Code};
+
+    /// The two characters of the code in RINEX: the band, then the attribute.
+    pub fn name(self) -> [u8; 2]
+        ensures { result ≡ name_of self }
+    {
+        match self {
+            Code::C1C => *b"1C",
+            Code::C1P => *b"1P",
+            Code::C1W => *b"1W",
+            Code::C1S => *b"1S",
+            Code::C1L => *b"1L",
+            Code::C1X => *b"1X",
+            Code::C2C => *b"2C",
+            Code::C2D => *b"2D",
+            Code::C2P => *b"2P",
+            Code::C2W => *b"2W",
+            Code::C2S => *b"2S",
+            Code::C2L => *b"2L",
+            Code::C2X => *b"2X",
+            Code::C5I => *b"5I",
+            Code::C5Q => *b"5Q",
+            Code::C5X => *b"5X",
+        }
+    }
+
+    /// The code of this name; `None` exactly where the name is none of the sixteen.
+    pub fn from_name(name: &[u8]) -> Option<Code>
+        ensures { MatchOption result ((c : Code) → name.now ≢ name_of c) (λ c. name.now ≡ name_of c) }
+    {
+        match name {
+            b"1C" => Some(Code::C1C),
+            b"1P" => Some(Code::C1P),
+            b"1W" => Some(Code::C1W),
+            b"1S" => Some(Code::C1S),
+            b"1L" => Some(Code::C1L),
+            b"1X" => Some(Code::C1X),
+            b"2C" => Some(Code::C2C),
+            b"2D" => Some(Code::C2D),
+            b"2P" => Some(Code::C2P),
+            b"2W" => Some(Code::C2W),
+            b"2S" => Some(Code::C2S),
+            b"2L" => Some(Code::C2L),
+            b"2X" => Some(Code::C2X),
+            b"5I" => Some(Code::C5I),
+            b"5Q" => Some(Code::C5Q),
+            b"5X" => Some(Code::C5X),
+            _ => None,
+        }
+    }
+
+    /// The band, which is the first character of the name.
+    pub fn band(self) -> Band
+        ensures { result ≡ band_of self }
+    {
+        match self {
+            Code::C1C | Code::C1P | Code::C1W | Code::C1S | Code::C1L | Code::C1X => Band::L1,
+            Code::C5I | Code::C5Q | Code::C5X => Band::L5,
+            _ => Band::L2,
+        }
+    }
+
+    /// The place of the code in the list of all sixteen, from 0.
+    pub fn place(self) -> usize
+        ensures value { result ≡ place_of self }
+        ensures bound { result < 16 }
+    {
+        self as usize
+    }
+}

@@ -1,0 +1,29 @@
+//! The date of a time of week.
+
+ghost use Rattle.std.specs.Prelude.{◌≡◌, ℕ, ◌<◌};
+ghost use Rattle.rtk_obs.specs.Dating.{IsReference, IsDated};
+
+use crate::time::GpsMs;
+
+/// A week of GPS time, in ms.
+pub const WEEK_MS: u64 = 604_800_000;
+
+/// Half a week of GPS time, in ms.
+pub const HALF_WEEK_MS: u64 = 302_400_000;
+
+/// The moment with this time of week (DF004, in ms) that lies nearest to a reference. Of two
+/// moments half a week away it is the one before the reference.
+pub fn date(near: GpsMs, tow: u32) -> GpsMs
+    requires reference { IsReference near }
+    requires in_week { tow < WEEK_MS }
+    ensures { IsDated near tow result }
+{
+    let first = near.ms() - HALF_WEEK_MS;
+    let ahead = (u64::from(tow) + WEEK_MS - first % WEEK_MS) % WEEK_MS;
+    GpsMs::at(first + ahead)
+}
+
+/// A time of week has one date near a reference.
+pub fn date_is_unique()
+    ensures { (near tow s t : ℕ) → IsDated near tow s → IsDated near tow t → s ≡ t }
+{}

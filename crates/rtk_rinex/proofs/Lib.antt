@@ -1,0 +1,4 @@
+pub mod ColumnsLemmas
+pub mod ReadingLemmas
+pub mod HeaderLemmas
+pub mod RecordLemmas

@@ -1,0 +1,44 @@
+use Rattle.std.proofs.Common.{◌≡◌, ◌+◌, ◌-◌, ◌≤◌, ◌<◌, List, ℕ, take, sym, ap, ◌∙◌, arith, append_assoc, take-take, refl, drop, decimal, ◌∷◌, length}
+use Rattle.std.proofs.lemmas.Fmt.{decimal_step, decimal_digit}
+use Rattle.std.proofs.lemmas.List.{drop-set, take-set, take-append-drop}
+use Rattle.rtk_rinex.proofs.ColumnsLemmas.{length-decimal-more, length-decimal-one}
+use Rattle.std.proofs.lemmas.Grind.{common_steps}
+use Rattle.rtk_rinex.proofs.columns.put_decimal.Goals as goal
+
+pub overflow_sub-at : goal.overflow_sub-at
+overflow_sub-at c = omega (arith, length-decimal-more c.loop-rest.rest)
+
+pub bounds-field-at : goal.bounds-field-at
+bounds-field-at c = omega (arith, length-decimal-more c.loop-rest.rest)
+
+pub overflow_sub-at-2 : goal.overflow_sub-at-2
+overflow_sub-at-2 c = omega (arith, length-decimal-one c.loop-rest.rest)
+
+pub bounds-field-at-2 : goal.bounds-field-at-2
+bounds-field-at-2 c = omega (arith, length-decimal-one c.loop-rest.rest)
+
+pub returns-clause-start : goal.returns-clause-start
+returns-clause-start c = omega (arith, length-decimal-one c.loop-rest.rest)
+
+pub loop-rest-preserved : goal.loop-rest-preserved
+loop-rest-preserved c =
+    let l = c.loop-rest in
+    let fewer = length-decimal-more l.rest c.loop-rest-test.true l.auto.rest-fits.fits in
+    let back : l.at - 1 + 1 ≡ l.at = omega arith in
+    let inside : l.at - 1 < length l.field = omega arith in record {
+      room = omega arith;
+      within = grind (arith, common_steps);
+      before = take-set l.field (l.at - 1) _ ∙ sym (take-take (l.at - 1) l.at l.field (omega arith)) ∙ ap (take (l.at - 1)) l.invariant.before ∙ take-take (l.at - 1) l.at _ (omega arith);
+      start = grind (arith, common_steps);
+      written = rw (drop-set l.field (l.at - 1) _ inside, back) (rw (decimal_step l.rest c.loop-rest-test.true l.auto.rest-fits.fits, append_assoc) at l.invariant.written);
+    }
+
+pub returns-clause-written : goal.returns-clause-written
+returns-clause-written c =
+    let l = c.loop-rest in
+    let long = length-decimal-one l.rest c.loop-rest-test.false in
+    let back : l.at - 1 + 1 ≡ l.at = omega arith in
+    let inside : l.at - 1 < length l.field = omega arith in
+    let front : take (l.at - 1) l.field ≡ take (l.at - 1) c.args.field.now = sym (take-take (l.at - 1) l.at l.field (omega arith)) ∙ ap (take (l.at - 1)) l.invariant.before ∙ take-take (l.at - 1) l.at _ (omega arith) in
+    let rest : (48 + l.rest) ∷ drop l.at l.field ≡ decimal c.args.number = rw (decimal_digit l.rest c.loop-rest-test.false) at l.invariant.written in
+    sym (take-append-drop (l.at - 1) _) ∙ rw (take-set l.field (l.at - 1) _, drop-set l.field (l.at - 1) _ inside, back, front, rest) refl

@@ -1,0 +1,103 @@
+-- The header of an observation file (RINEX 3.05, Table A2); the order of the lines and their fixed
+-- entries are this project's.
+use Rattle.std.specs.Prelude.{◌≡◌, ◌≢◌, ◌≤◌, ℕ, ◌+◌, ◌-◌, ◌*◌, ◌/◌, ◌%◌, List, [], ◌∷◌, ◌==◌, if◌then◌else◌, ◌++◌, take, drop, length, flat_map, codes, decimal, ℤ, pos, false, All, AllPairs, slice_get, Some}
+use Rattle.std.specs.Int.{IsInRange}
+use Rattle.rtk_obs.specs.declared.code.Code.{Code}
+use Rattle.rtk_obs.specs.Code.{name_of}
+use Rattle.rtk_obs.specs.declared.position.Position.{Position}
+use Rattle.rtk_obs.specs.declared.time.Civil.{Civil}
+use Rattle.rtk_rinex.specs.Columns.{left, right, last_digits, decimals, fixed}
+use Rattle.rtk_rinex.specs.Reading.{reading_of, seconds_of}
+
+-- what is known of a file before its observations: the marker's name, the listed codes, and the moment at which it is made
+pub record Heading : Type 0 where
+  pub marker : List ℕ
+  pub listed : List Code
+  pub made : ℕ
+
+-- 1 to 60 characters from blank to tilde, the first and the last no blank (this project's rule)
+abbrev pub IsMarker : List ℕ → Type 0
+IsMarker m =
+    IsInRange 1 60 (length m) × All (λ x. IsInRange 32 126 x) m
+    × (slice_get m 0 ≢ Some 32) × (slice_get m (length m - 1) ≢ Some 32)
+
+-- 1 to 16 codes, no two alike
+abbrev pub IsCodeList : List Code → Type 0
+IsCodeList listed = IsInRange 1 16 (length listed) × AllPairs (λ a b. a ≢ b) listed
+
+-- a good marker, good codes and a whole second
+abbrev pub IsHeading : Heading → Type 0
+IsHeading h =
+    IsMarker h.marker × IsCodeList h.listed × (h.made ≤ 3_818_015_999_999) × (h.made % 1000 ≡ 0)
+
+-- a line: 60 columns, 20 columns of label, and LF
+unfoldable pub header_line : List ℕ → List ℕ → List ℕ
+header_line content label = left 60 content ++ left 20 label ++ 10 ∷ []
+
+-- the day and the time of day at which the file is made, as 20240517 130000 UTC
+abbrev pub made_text : Civil → List ℕ
+made_text c =
+    last_digits 4 c.year ++ last_digits 2 c.month ++ last_digits 2 c.day ++ codes " "
+    ++ last_digits 2 c.hour ++ last_digits 2 c.minute ++ last_digits 2 c.second ++ codes " UTC "
+
+-- the lines up to the antenna's type, of a marker and the time at which the file is made
+abbrev pub first_lines : List ℕ → Civil → List ℕ
+first_lines marker made =
+    header_line (codes "     3.05           OBSERVATION DATA    G") (codes "RINEX VERSION / TYPE")
+    ++ header_line (codes "rtcm2rinex                              " ++ made_text made) (codes "PGM / RUN BY / DATE")
+    ++ header_line marker (codes "MARKER NAME")
+    ++ header_line (codes "GEODETIC") (codes "MARKER TYPE")
+    ++ header_line [] (codes "OBSERVER / AGENCY")
+    ++ header_line [] (codes "REC # / TYPE / VERS")
+    ++ header_line [] (codes "ANT # / TYPE")
+
+-- the lines of the position (3F14.4, in m) and of the antenna's height (F14.4, in m; east and north are 0)
+abbrev pub position_lines : Position → List ℕ
+position_lines p =
+    header_line (fixed 4 14 p.x ++ fixed 4 14 p.y ++ fixed 4 14 p.z) (codes "APPROX POSITION XYZ")
+    ++ header_line (fixed 4 14 (pos p.height) ++ codes "        0.0000        0.0000") (codes "ANTENNA: DELTA H/E/N")
+
+-- the three observation types of a code, each behind a blank: pseudorange, carrier phase and signal strength
+abbrev pub types_of : Code → List ℕ
+types_of c = codes " C" ++ name_of c ++ codes " L" ++ name_of c ++ codes " S" ++ name_of c
+
+-- the observation types of all codes, four columns each
+abbrev pub types : List Code → List ℕ
+types = flat_map types_of
+
+-- a further line of observation types, where any are left; thirteen fill its 52 columns
+abbrev pub continuation_line : List ℕ → List ℕ
+continuation_line text =
+    if length text == 0 then []
+    else header_line (codes "      " ++ take 52 text) (codes "SYS / # / OBS TYPES")
+
+-- the lines of the observation types: their number, then thirteen on a line; of 16 codes there are 48 on four lines
+abbrev pub types_lines : List Code → List ℕ
+types_lines listed =
+    header_line (codes "G  " ++ right 3 (decimal (3 * length listed)) ++ take 52 (types listed)) (codes "SYS / # / OBS TYPES")
+    ++ continuation_line (drop 52 (types listed))
+    ++ continuation_line (drop 104 (types listed))
+    ++ continuation_line (drop 156 (types listed))
+
+-- the time of the first observation: 5I6, F13.7, 5X, A3
+abbrev pub first_text : Civil → List ℕ
+first_text c =
+    right 6 (decimal c.year) ++ right 6 (decimal c.month) ++ right 6 (decimal c.day)
+    ++ right 6 (decimal c.hour) ++ right 6 (decimal c.minute)
+    ++ right 13 (decimals 7 false (seconds_of c)) ++ codes "     GPS"
+
+-- the lines behind the observation types, of the time of the first observation
+abbrev pub last_lines : Civil → List ℕ
+last_lines first =
+    header_line (codes "DBHZ") (codes "SIGNAL STRENGTH UNIT")
+    ++ header_line (first_text first) (codes "TIME OF FIRST OBS")
+    ++ header_line (codes "G") (codes "SYS / PHASE SHIFT")
+    ++ header_line [] (codes "END OF HEADER")
+
+-- the header of a heading, a position and the moment of the first observation
+unfoldable pub header_text : Heading → Position → ℕ → List ℕ
+header_text h p first =
+    first_lines h.marker (reading_of h.made)
+    ++ position_lines p
+    ++ types_lines h.listed
+    ++ last_lines (reading_of first)

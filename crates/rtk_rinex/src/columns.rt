@@ -1,0 +1,127 @@
+//! Numbers in columns of text, as the formats of RINEX 3.05 name them (F14.3, I6 ..).
+
+ghost use Rattle.std.specs.Prelude.{◌≡◌, ℕ, ◌+◌, ◌^◌, ◌<◌, ◌≤◌, ◌++◌, length, take, decimal, if◌then◌else◌, false, pos, negsuc, ◌≤ℤ◌};
+ghost use Rattle.rtk_rinex.specs.Columns.{last_digits, right, decimals, fixed};
+
+/// Writes the last digits of a number over the whole of `field`.
+pub fn put_last_digits(field: &mut [u8], number: u64)
+    ensures { field.new ≡ last_digits (length field.old) number }
+{
+    let mut rest = number;
+    let mut at = field.len();
+    while at > 0 {
+        at -= 1;
+        field[at] = b'0' + (rest % 10) as u8;
+        rest /= 10;
+    }
+}
+
+/// Writes a number at the right end of `field`, and returns the column where it begins.
+pub fn put_decimal(field: &mut [u8], number: u64) -> usize
+    requires { length (decimal number) ≤ length field.old }
+    ensures start { result + length (decimal number) ≡ length field.old }
+    ensures written { field.new ≡ take result field.old ++ decimal number }
+{
+    let mut rest = number;
+    let mut at = field.len();
+    while rest >= 10 {
+        at -= 1;
+        field[at] = b'0' + (rest % 10) as u8;
+        rest /= 10;
+    }
+    at -= 1;
+    field[at] = b'0' + rest as u8;
+    at
+}
+
+// F14.3 of a sign and a magnitude in thousandths.
+fn signed_14_3(negative: bool, magnitude: u64) -> [u8; 14]
+    requires { magnitude < (if negative then 10 ^ 12 else 10 ^ 13) }
+    ensures { result ≡ right 14 (decimals 3 negative magnitude) }
+{
+    let mut field = [b' '; 14];
+    put_last_digits(&mut field[11..], magnitude);
+    field[10] = b'.';
+    let start = put_decimal(&mut field[..10], magnitude / 1000);
+    if negative {
+        field[start - 1] = b'-';
+    }
+    field
+}
+
+/// F14.3 of a number of thousandths.
+pub fn fixed_14_3(value: i64) -> [u8; 14]
+    requires low { negsuc 999_999_999_998 ≤ℤ value }
+    requires high { value ≤ℤ pos 9_999_999_999_999 }
+    ensures { result ≡ fixed 3 14 value }
+{
+    signed_14_3(value < 0, value.unsigned_abs())
+}
+
+// F14.4 of a sign and a magnitude in ten-thousandths.
+fn signed_14_4(negative: bool, magnitude: u64) -> [u8; 14]
+    requires { magnitude < 10 ^ 12 }
+    ensures { result ≡ right 14 (decimals 4 negative magnitude) }
+{
+    let mut field = [b' '; 14];
+    put_last_digits(&mut field[10..], magnitude);
+    field[9] = b'.';
+    let start = put_decimal(&mut field[..9], magnitude / 10_000);
+    if negative {
+        field[start - 1] = b'-';
+    }
+    field
+}
+
+/// F14.4 of a number of ten-thousandths.
+pub fn fixed_14_4(value: i64) -> [u8; 14]
+    requires low { negsuc 999_999_999_998 ≤ℤ value }
+    requires high { value ≤ℤ pos 999_999_999_999 }
+    ensures { result ≡ fixed 4 14 value }
+{
+    signed_14_4(value < 0, value.unsigned_abs())
+}
+
+/// F13.7 of a number of ten-millionths.
+pub fn unsigned_13_7(magnitude: u64) -> [u8; 13]
+    requires { magnitude < 10 ^ 12 }
+    ensures { result ≡ right 13 (decimals 7 false magnitude) }
+{
+    let mut field = [b' '; 13];
+    put_last_digits(&mut field[6..], magnitude);
+    field[5] = b'.';
+    put_decimal(&mut field[..5], magnitude / 10_000_000);
+    field
+}
+
+/// F11.7 of a number of ten-millionths.
+pub fn unsigned_11_7(magnitude: u64) -> [u8; 11]
+    requires { magnitude < 10 ^ 10 }
+    ensures { result ≡ right 11 (decimals 7 false magnitude) }
+{
+    let mut field = [b' '; 11];
+    put_last_digits(&mut field[4..], magnitude);
+    field[3] = b'.';
+    put_decimal(&mut field[..3], magnitude / 10_000_000);
+    field
+}
+
+/// I6.
+pub fn integer_6(number: u64) -> [u8; 6]
+    requires { number < 10 ^ 6 }
+    ensures { result ≡ right 6 (decimal number) }
+{
+    let mut field = [b' '; 6];
+    put_decimal(&mut field, number);
+    field
+}
+
+/// I3.
+pub fn integer_3(number: u64) -> [u8; 3]
+    requires { number < 10 ^ 3 }
+    ensures { result ≡ right 3 (decimal number) }
+{
+    let mut field = [b' '; 3];
+    put_decimal(&mut field, number);
+    field
+}

@@ -1,0 +1,260 @@
+//! The text of a header, a function for each line that has more than fixed entries.
+
+ghost use Rattle.std.specs.Prelude.{◌≡◌, ℕ, ◌+◌, ◌*◌, ◌≤◌, ◌<◌, [], ◌∷◌, ◌++◌, take, drop, length, OnOk, IfOk, codes, decimal, pos};
+ghost use Rattle.rtk_obs.specs.Position.{IsCoordinate};
+ghost use Rattle.rtk_rinex.specs.Columns.{left, right, fixed};
+ghost use Rattle.rtk_rinex.specs.Header.{header_line, made_text, first_lines, position_lines, types_of, types, continuation_line, types_lines, first_text, last_lines, header_text};
+
+use crate::columns::{fixed_14_4, integer_3, integer_6, put_last_digits, unsigned_13_7};
+use crate::head::Head;
+use crate::reading::{reading, seconds};
+use arrayvec::ArrayVec;
+use rtk_obs::{Civil, Code, GpsMs, Position};
+use std::alloc::{AllocError, Global};
+
+const TYPES: &[u8] = b"SYS / # / OBS TYPES";
+
+/// The longest header: 17 lines, of which four have observation types, of 81 bytes.
+const LONGEST: usize = 1377;
+
+// Appends a text at the left end of that many columns.
+fn put_left(out: &mut Vec<u8>, text: &[u8], width: usize) -> Result<(), AllocError>
+    requires room { length text.now ≤ width }
+    requires small { width ≤ 80 }
+    ensures { OnOk result (out.new.items ≡ out.old.items ++ left width text.now) }
+{
+    out.extend_from_slice(text)?;
+    let blanks = [b' '; 80];
+    out.extend_from_slice(&blanks[..width - text.len()])?;
+    Ok(())
+}
+
+// Appends a line: what stands in its first 60 columns, and its label.
+fn put_line(out: &mut Vec<u8>, content: &[u8], label: &[u8]) -> Result<(), AllocError>
+    requires content { length content.now ≤ 60 }
+    requires label { length label.now ≤ 20 }
+    ensures { OnOk result (out.new.items ≡ out.old.items ++ header_line content.now label.now) }
+{
+    put_left(out, content, 60)?;
+    put_left(out, label, 20)?;
+    out.push(b'\n')?;
+    Ok(())
+}
+
+// Appends to what is to stand in the first 60 columns of a line.
+fn add(content: &mut ArrayVec<u8, 60>, text: &[u8])
+    requires { length content.old.items + length text.now ≤ 60 }
+    ensures items { content.new.items ≡ content.old.items ++ text.now }
+    ensures len { length content.new.items ≡ length content.old.items + length text.now }
+{
+    if content.try_extend_from_slice(text).is_err() {
+        unreachable!();
+    }
+}
+
+fn made_field(made: Civil) -> [u8; 20]
+    ensures { result ≡ made_text made }
+{
+    let mut field = *b"yyyymmdd hhmmss UTC ";
+    put_last_digits(&mut field[0..4], u64::from(made.year));
+    put_last_digits(&mut field[4..6], u64::from(made.month));
+    put_last_digits(&mut field[6..8], u64::from(made.day));
+    put_last_digits(&mut field[9..11], u64::from(made.hour));
+    put_last_digits(&mut field[11..13], u64::from(made.minute));
+    put_last_digits(&mut field[13..15], u64::from(made.second));
+    field
+}
+
+fn made_content(made: Civil) -> ArrayVec<u8, 60>
+    ensures value { result.items ≡ codes "rtcm2rinex                              " ++ made_text made }
+    ensures len { length result.items ≤ 60 }
+{
+    let mut content = ArrayVec::new();
+    add(&mut content, b"rtcm2rinex                              ");
+    add(&mut content, &made_field(made));
+    content
+}
+
+fn put_first_lines(out: &mut Vec<u8>, marker: &[u8], made: Civil) -> Result<(), AllocError>
+    requires { length marker.now ≤ 60 }
+    ensures { OnOk result (out.new.items ≡ out.old.items ++ first_lines marker.now made) }
+{
+    put_line(out, b"     3.05           OBSERVATION DATA    G", b"RINEX VERSION / TYPE")?;
+    put_line(out, made_content(made).as_slice(), b"PGM / RUN BY / DATE")?;
+    put_line(out, marker, b"MARKER NAME")?;
+    put_line(out, b"GEODETIC", b"MARKER TYPE")?;
+    put_line(out, b"", b"OBSERVER / AGENCY")?;
+    put_line(out, b"", b"REC # / TYPE / VERS")?;
+    put_line(out, b"", b"ANT # / TYPE")?;
+    Ok(())
+}
+
+fn position_content(position: &Position) -> ArrayVec<u8, 60>
+    ensures value { result.items ≡ fixed 4 14 position.now.x ++ fixed 4 14 position.now.y ++ fixed 4 14 position.now.z }
+    ensures len { length result.items ≤ 60 }
+{
+    let mut content = ArrayVec::new();
+    add(&mut content, &fixed_14_4(position.x));
+    add(&mut content, &fixed_14_4(position.y));
+    add(&mut content, &fixed_14_4(position.z));
+    content
+}
+
+fn height_content(height: u16) -> ArrayVec<u8, 60>
+    ensures value { result.items ≡ fixed 4 14 (pos height) ++ codes "        0.0000        0.0000" }
+    ensures len { length result.items ≤ 60 }
+{
+    let mut content = ArrayVec::new();
+    add(&mut content, &fixed_14_4(i64::from(height)));
+    add(&mut content, b"        0.0000        0.0000");
+    content
+}
+
+fn put_position_lines(out: &mut Vec<u8>, position: &Position) -> Result<(), AllocError>
+    ensures { OnOk result (out.new.items ≡ out.old.items ++ position_lines position.now) }
+{
+    put_line(out, position_content(position).as_slice(), b"APPROX POSITION XYZ")?;
+    put_line(out, height_content(position.height).as_slice(), b"ANTENNA: DELTA H/E/N")?;
+    Ok(())
+}
+
+fn types_of_code(code: Code) -> [u8; 12]
+    ensures { result ≡ types_of code }
+{
+    let [band, attribute] = code.name();
+    [
+        b' ', b'C', band, attribute, b' ', b'L', band, attribute, b' ', b'S', band, attribute,
+    ]
+}
+
+fn add_types(text: &mut ArrayVec<u8, 192>, code: Code)
+    requires { length text.old.items + 12 ≤ 192 }
+    ensures items { text.new.items ≡ text.old.items ++ types_of code }
+    ensures len { length text.new.items ≡ length text.old.items + 12 }
+{
+    if text.try_extend_from_slice(&types_of_code(code)).is_err() {
+        unreachable!();
+    }
+}
+
+// The observation types of the codes, four columns each.
+fn types_of_codes(listed: &[Code]) -> ArrayVec<u8, 192>
+    requires { length listed.now ≤ 16 }
+    ensures value { result.items ≡ types listed.now }
+    ensures len { length result.items ≡ 12 * length listed.now }
+{
+    let mut text = ArrayVec::new();
+    for code in listed {
+        add_types(&mut text, *code);
+    }
+    text
+}
+
+// The thirteen types that fill a line.
+fn front(text: &[u8]) -> &[u8]
+    ensures value { result.now ≡ take 52 text.now }
+    ensures len { length result.now ≤ 52 }
+{
+    if text.len() <= 52 {
+        return text;
+    }
+    text.split_at(52).0
+}
+
+// The types from a column on.
+fn behind(text: &[u8], from: usize) -> &[u8]
+    ensures { result.now ≡ drop from text.now }
+{
+    text.split_at(text.len().min(from)).1
+}
+
+fn types_content(count: usize, shown: &[u8]) -> ArrayVec<u8, 60>
+    requires count { count ≤ 48 }
+    requires shown { length shown.now ≤ 52 }
+    ensures value { result.items ≡ codes "G  " ++ right 3 (decimal count) ++ shown.now }
+    ensures len { length result.items ≤ 60 }
+{
+    let mut content = ArrayVec::new();
+    add(&mut content, b"G  ");
+    add(&mut content, &integer_3(count as u64));
+    add(&mut content, shown);
+    content
+}
+
+fn continuation_content(text: &[u8]) -> ArrayVec<u8, 60>
+    ensures value { result.items ≡ codes "      " ++ take 52 text.now }
+    ensures len { length result.items ≤ 60 }
+{
+    let mut content = ArrayVec::new();
+    add(&mut content, b"      ");
+    add(&mut content, front(text));
+    content
+}
+
+// A further line of types, where any are left.
+fn put_continuation_line(out: &mut Vec<u8>, text: &[u8]) -> Result<(), AllocError>
+    ensures { OnOk result (out.new.items ≡ out.old.items ++ continuation_line text.now) }
+{
+    if text.len() == 0 {
+        return Ok(());
+    }
+    put_line(out, continuation_content(text).as_slice(), TYPES)?;
+    Ok(())
+}
+
+fn put_types_lines(out: &mut Vec<u8>, listed: &[Code]) -> Result<(), AllocError>
+    requires { length listed.now ≤ 16 }
+    ensures { OnOk result (out.new.items ≡ out.old.items ++ types_lines listed.now) }
+{
+    let types = types_of_codes(listed);
+    let text = types.as_slice();
+    put_line(out, types_content(3 * listed.len(), front(text)).as_slice(), TYPES)?;
+    put_continuation_line(out, behind(text, 52))?;
+    put_continuation_line(out, behind(text, 104))?;
+    put_continuation_line(out, behind(text, 156))?;
+    Ok(())
+}
+
+fn first_content(first: Civil) -> ArrayVec<u8, 60>
+    requires second { first.second < 60 }
+    requires millisecond { first.millisecond < 1000 }
+    ensures value { result.items ≡ first_text first }
+    ensures len { length result.items ≤ 60 }
+{
+    let mut content = ArrayVec::new();
+    add(&mut content, &integer_6(u64::from(first.year)));
+    add(&mut content, &integer_6(u64::from(first.month)));
+    add(&mut content, &integer_6(u64::from(first.day)));
+    add(&mut content, &integer_6(u64::from(first.hour)));
+    add(&mut content, &integer_6(u64::from(first.minute)));
+    add(&mut content, &unsigned_13_7(seconds(first)));
+    add(&mut content, b"     GPS");
+    content
+}
+
+fn put_last_lines(out: &mut Vec<u8>, first: Civil) -> Result<(), AllocError>
+    requires second { first.second < 60 }
+    requires millisecond { first.millisecond < 1000 }
+    ensures { OnOk result (out.new.items ≡ out.old.items ++ last_lines first) }
+{
+    put_line(out, b"DBHZ", b"SIGNAL STRENGTH UNIT")?;
+    put_line(out, first_content(first).as_slice(), b"TIME OF FIRST OBS")?;
+    put_line(out, b"G", b"SYS / PHASE SHIFT")?;
+    put_line(out, b"", b"END OF HEADER")?;
+    Ok(())
+}
+
+/// The header of a file of this head, whose first observation is at `first`.
+///
+/// The position is that of the antenna reference point, and its height that of the antenna. Memory
+/// is taken once. Source: RINEX 3.05, Table A2.
+pub fn header(alloc: Global, head: &Head, position: &Position, first: GpsMs) -> Result<Vec<u8>, AllocError>
+    ensures { IfOk result (λ text. text.items ≡ header_text head.now position.now first) }
+{
+    let mut out = Vec::with_capacity(alloc, LONGEST)?;
+    put_first_lines(&mut out, head.marker(), reading(head.made()))?;
+    put_position_lines(&mut out, position)?;
+    put_types_lines(&mut out, head.codes())?;
+    put_last_lines(&mut out, reading(first))?;
+    Ok(out)
+}

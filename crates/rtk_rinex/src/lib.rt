@@ -1,0 +1,14 @@
+//! RINEX 3.05 observation files of GPS: the header and the records, as text.
+#![tactic(auto)]
+
+mod columns;
+mod epoch_table;
+mod head;
+mod header_text;
+mod reading;
+mod record_text;
+
+pub use epoch_table::{EpochTable, Observed, SatelliteRow};
+pub use head::{Head, HeadFault};
+pub use header_text::header;
+pub use record_text::record;

@@ -1,0 +1,207 @@
+//! The text of a record: the epoch line, and a line for each satellite that shows something.
+
+ghost use Rattle.std.specs.Prelude.{◌≡◌, ℕ, ◌+◌, ◌*◌, ◌<◌, ◌≤◌, ◌^◌, [], ◌∷◌, ◌++◌, length, take, flat_map, OnOk, IfOk, codes, decimal};
+ghost use Rattle.std.specs.List.{filter, list_any};
+ghost use Rattle.rtk_rinex.specs.Record.{HasWidth, is_written, is_value, observation, observations, strength_digit, strength_value, lli_digit, has_observation, has_line, trim_end, satellite_line, epoch_date_text, epoch_line, record_text};
+
+use crate::columns::{fixed_14_3, integer_3, put_last_digits, unsigned_11_7};
+use crate::epoch_table::{EpochTable, Observed, SatelliteRow};
+use crate::head::Head;
+use crate::reading::{reading, seconds};
+use rtk_obs::Civil;
+use std::alloc::{AllocError, Global};
+
+/// The least value that F14.3 has room for, in thousandths.
+const LEAST: i64 = -999_999_999_999;
+
+/// The greatest one.
+const GREATEST: i64 = 9_999_999_999_999;
+
+fn is_written_value(value: i64) -> bool
+    ensures { result ≡ is_written value }
+{
+    value != 0 && value >= LEAST && value <= GREATEST
+}
+
+// F14.3 and two digits, or blanks.
+fn observation_field(value: Option<i64>, first: u8, second: u8) -> [u8; 16]
+    ensures { result ≡ observation value first second }
+{
+    match value {
+        Some(value) if is_written_value(value) => {
+            let mut field = [b' '; 16];
+            field[..14].copy_from_slice(&fixed_14_3(value));
+            field[14] = first;
+            field[15] = second;
+            field
+        }
+        _ => [b' '; 16],
+    }
+}
+
+fn digit_of_strength(strength: Option<u32>) -> u8
+    ensures { result ≡ strength_digit strength }
+{
+    match strength {
+        Some(strength) => b'0' + (strength / 6000).max(1).min(9) as u8,
+        None => b' ',
+    }
+}
+
+fn digit_of_lock(slip: bool, half: bool) -> u8
+    ensures { result ≡ lli_digit slip half }
+{
+    if slip || half {
+        b'0' + u8::from(slip) + 2 * u8::from(half)
+    } else {
+        b' '
+    }
+}
+
+fn value_of_strength(strength: Option<u32>) -> Option<i64>
+    ensures { result ≡ strength_value strength }
+{
+    match strength {
+        Some(strength) => Some(i64::from(strength)),
+        None => None,
+    }
+}
+
+fn put_observations(out: &mut Vec<u8>, observed: &Observed) -> Result<(), AllocError>
+    ensures { OnOk result (out.new.items ≡ out.old.items ++ observations observed.now) }
+{
+    let digit = digit_of_strength(observed.strength_millidbhz);
+    let lock = digit_of_lock(observed.slip, observed.half);
+    let strength = value_of_strength(observed.strength_millidbhz);
+    out.extend_from_slice(&observation_field(observed.range_mm, b' ', digit))?;
+    out.extend_from_slice(&observation_field(observed.phase_millicycles, lock, digit))?;
+    out.extend_from_slice(&observation_field(strength, b' ', b' '))
+}
+
+// How many bytes are left without the blanks at the end.
+fn trimmed_len(bytes: &[u8]) -> usize
+    ensures within { result ≤ length bytes.now }
+    ensures value { take result bytes.now ≡ trim_end bytes.now }
+{
+    let mut end = bytes.len();
+    while end > 0 && bytes[end - 1] == b' ' {
+        end -= 1;
+    }
+    end
+}
+
+// Appends the line of a satellite.
+fn put_satellite_line(out: &mut Vec<u8>, row: &SatelliteRow) -> Result<(), AllocError>
+    ensures { OnOk result (out.new.items ≡ out.old.items ++ satellite_line row.now) }
+{
+    out.push(b'G')?;
+    out.push(b'0' + row.satellite / 10 % 10)?;
+    out.push(b'0' + row.satellite % 10)?;
+    for observed in row.observed.as_slice() {
+        put_observations(out, observed)?;
+    }
+    let end = trimmed_len(out);
+    out.truncate(end);
+    out.push(b'\n')?;
+    Ok(())
+}
+
+fn is_present(value: Option<i64>) -> bool
+    ensures { result ≡ is_value value }
+{
+    match value {
+        Some(value) => is_written_value(value),
+        None => false,
+    }
+}
+
+fn shows(observed: &Observed) -> bool
+    ensures { result ≡ has_observation observed.now }
+{
+    is_present(observed.range_mm)
+        || is_present(observed.phase_millicycles)
+        || observed.strength_millidbhz.is_some()
+}
+
+fn is_shown(row: &SatelliteRow) -> bool
+    ensures { result ≡ has_line row.now }
+{
+    for observed in row.observed.as_slice() {
+        if shows(observed) {
+            return true;
+        }
+    }
+    false
+}
+
+fn line_count(rows: &[SatelliteRow]) -> usize
+    ensures value { result ≡ length (filter has_line rows.now) }
+    ensures bound { result ≤ length rows.now }
+{
+    let mut count = 0;
+    for row in rows {
+        if is_shown(row) {
+            count += 1;
+        }
+    }
+    count
+}
+
+// The columns of the epoch line up to the minute.
+fn epoch_date(time: Civil) -> [u8; 18]
+    ensures { result ≡ epoch_date_text time }
+{
+    let mut field = *b"> yyyy mm dd hh mm";
+    put_last_digits(&mut field[2..6], u64::from(time.year));
+    put_last_digits(&mut field[7..9], u64::from(time.month));
+    put_last_digits(&mut field[10..12], u64::from(time.day));
+    put_last_digits(&mut field[13..15], u64::from(time.hour));
+    put_last_digits(&mut field[16..18], u64::from(time.minute));
+    field
+}
+
+// Appends the epoch line.
+fn put_epoch_line(out: &mut Vec<u8>, time: Civil, count: usize) -> Result<(), AllocError>
+    requires second { time.second < 60 }
+    requires millisecond { time.millisecond < 1000 }
+    requires count { count < 1000 }
+    ensures { OnOk result (out.new.items ≡ out.old.items ++ epoch_line time count) }
+{
+    out.extend_from_slice(&epoch_date(time))?;
+    out.extend_from_slice(&unsigned_11_7(seconds(time)))?;
+    out.extend_from_slice(b"  0")?;
+    out.extend_from_slice(&integer_3(count as u64))?;
+    out.push(b'\n')?;
+    Ok(())
+}
+
+// Appends the lines of the satellites that have one.
+fn put_satellite_lines(out: &mut Vec<u8>, rows: &[SatelliteRow]) -> Result<(), AllocError>
+    ensures { OnOk result (out.new.items ≡ out.old.items ++ flat_map satellite_line (filter has_line rows.now)) }
+{
+    for row in rows {
+        if is_shown(row) {
+            put_satellite_line(out, row)?;
+        }
+    }
+    Ok(())
+}
+
+/// The record of an epoch, in a file of this head; no bytes where no observation is written.
+///
+/// The satellites without a written observation are left out, also of the count on the epoch line.
+/// Memory is taken at most once. Source: RINEX 3.05, Table A3.
+pub fn record(alloc: Global, head: &Head, table: &EpochTable) -> Result<Vec<u8>, AllocError>
+    requires { HasWidth (length head.now.listed) table.now.rows }
+    ensures { IfOk result (λ text. text.items ≡ record_text table.now) }
+{
+    let rows = table.rows();
+    let count = line_count(rows);
+    if count == 0 {
+        return Ok(Vec::new(alloc));
+    }
+    let mut out = Vec::with_capacity(alloc, 36 + count * (4 + 48 * head.codes().len()))?;
+    put_epoch_line(&mut out, reading(table.time()), count)?;
+    put_satellite_lines(&mut out, rows)?;
+    Ok(out)
+}
