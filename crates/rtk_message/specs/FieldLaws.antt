@@ -44,10 +44,6 @@ took {f = f} {fs = fs} {c = c} first rest = record {
 pub took_none : {a : List Bool} → TakesAll [] a a
 took_none = record { fit = tt; is = refl }
 
--- fields were put behind bits
-pub record PutsAll (fs : List Field) (before after : List Bool) : Type 0 where
-  pub is : after ≡ before ++ bits_of_fields fs
-
 pub put : {f : Field} {fs : List Field} {a b c : List Bool} → Puts f a b → PutsAll fs b c → PutsAll (f ∷ fs) a c
 put {f = f} {fs = fs} {a = a} first rest = record { is = rest.is ∙ ap (λ (t : List Bool). t ++ bits_of_fields fs) first.is ∙ append_assoc a (field_bits f) (bits_of_fields fs) }
 

@@ -1,6 +1,6 @@
 -- One reading of a 1074, and none where there is a fault.
-use Rattle.std.proofs.Common.{◌≡◌, ℕ, ℤ, Bool, true, false, List, [], ◌∷◌, ◌++◌, length, take, drop, Some, None, refl, sym, ap, ◌∙◌, ◌+◌, ◌*◌, ◌<◌, ◌≤◌, ltb, arith, append_assoc, length-append, sum_by, count_ones}
-use Rattle.std.proofs.lemmas.Bool.{le-ltb, lt-ltb}
+use Rattle.std.proofs.Common.{◌≡◌, ℕ, ℤ, Bool, true, false, List, [], ◌∷◌, ◌++◌, length, take, drop, Some, None, refl, sym, ap, ◌∙◌, ◌+◌, ◌*◌, ◌<◌, ◌≤◌, ltb, arith, append_assoc, length-append, sum_by, count_ones, ◌↔◌}
+use Rattle.std.proofs.lemmas.Bool.{le-ltb, lt-ltb, ltb-false, ltb_from_iff}
 use Rattle.std.proofs.lemmas.List.{take_at, drop_at}
 use Rattle.rtk_message.specs.declared.fault.DecodeFault.TheVariants.{Short, EpochRange, TooManyCells}
 use Rattle.rtk_bits.specs.Bits.{unsigned}
@@ -197,3 +197,7 @@ all_fit m h p =
 
 pub is_valid : (m : Msm1074) → FieldsFit (header_table m.header) → m.header.tow < 604800000 → satellites m.header * signals m.header ≤ 64 → HasLengths m → EachFits m → IsValid m
 is_valid m head time few lengths each = record { fields_fit = all_fit m head each; time_in_week = time; mask_bits = few; lengths = lengths }
+
+-- not more than 64, by a test of more
+pub few_of : {b : Bool} {k : ℕ} → ((b ≡ true) ↔ (64 < k)) → b ≡ false → k ≤ 64
+few_of {k = k} test none = ltb-false 64 k (sym (ltb_from_iff test) ∙ none)

@@ -239,7 +239,10 @@ impl Msm1074 {
     fn columns_fit(&self) -> bool
         ensures { IsTrue result ↔ EachFits self.now }
     {
-        if !mask_fits(&self.cell_mask, self.header.signals()) || !column_fits(&self.rough_fraction, 10) {
+        if !mask_fits(&self.cell_mask, self.header.signals()) {
+            return false;
+        }
+        if !column_fits(&self.rough_ms, 8) || !column_fits(&self.rough_fraction, 10) {
             return false;
         }
         if !column_fits(&self.fine_range, 15) || !column_fits(&self.fine_phase, 22) {

@@ -1,1 +1,5 @@
 pub mod YearLemmas
+pub mod RoundingLemmas
+pub mod RolloverLemmas
+pub mod TracksLemmas
+pub mod MaskLemmas

@@ -1,5 +1,15 @@
 pub mod Dating
 pub mod Calendar
+pub mod Rounding
+pub mod LockTime
+pub mod Code
 pub mod Position
 pub mod PositionFields
-pub mod Code
+pub mod Scaling
+pub mod Mask
+pub mod Cell
+pub mod Slip
+pub mod Rollover
+pub mod Steps
+pub mod Tracks
+pub mod TracksLaws

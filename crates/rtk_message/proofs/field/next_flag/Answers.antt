@@ -9,5 +9,5 @@ use Rattle.rtk_message.proofs.field.next_flag.Goals as goal
 
 pub returns-clause-taken : goal.returns-clause-taken
 returns-clause-taken c =
-    let t = c.next_u.ensures.taken in
-    record { fits = tt; is = t.is ∙ ap (λ (b : List Bool). b ++ c.next_u.new.reader) (one_bit c.next_u.result t.fits) }
+    let t = c.next_u64.ensures.taken in
+    record { fits = tt; is = t.is ∙ ap (λ (b : List Bool). b ++ c.next_u64.new.reader) (one_bit c.next_u64.result t.fits) }

@@ -12,7 +12,7 @@ loop-preserved c =
     let before = c.loop.invariant in
     let lt = c.loop-test.true in
     rw c.push.ensures (record {
-      taken = took_push c.loop.satellites c.next_satellite.result c.args.reader.now c.loop.reader c.next_satellite.new.reader before.taken c.next_satellite.ensures.taken;
+      taken = took_push c.loop.satellites c.next_satellite.result c.args.reader.now c.loop.reader c.next_satellite.new.reader before.taken c.next_satellite.ensures.fields;
       left = omega (arith, before.left, c.next_satellite.ensures.left);
       so_far = omega (arith, length_push c.loop.satellites c.next_satellite.result, before.so_far);
     })

@@ -6,12 +6,12 @@ use Rattle.rtk_message.specs.FieldLaws.{took, took_none, put, put_none}
 use Rattle.rtk_message.specs.Obs1004Laws.{is_late, is_cut, read_all}
 use Rattle.rtk_message.proofs.obs1004.Obs1004Layout.read.Goals as goal
 
-pub returns-then-tow-gt604799999-clause-refused : goal.returns-then-tow-gt604799999-clause-refused
-returns-then-tow-gt604799999-clause-refused c =
+pub returns-then-tow-ge-WEEK_MS-clause-fault : goal.returns-then-tow-ge-WEEK_MS-clause-fault
+returns-then-tow-ge-WEEK_MS-clause-fault c =
     let head = took c.next_u16-station.ensures.taken (took c.next_u32-tow.ensures.taken (took c.next_flag-synchronous.ensures.taken (took c.next_u8-count.ensures.taken (took c.next_flag-smoothing.ensures.taken (took c.next_u8-smoothing_interval.ensures.taken took_none))))) in
-    is_late head c.if-tow-gt604799999.true
+    is_late head c.if-tow-ge-WEEK_MS.true
 
-pub returns-then-remaining-count-clause-refused : goal.returns-then-remaining-count-clause-refused
-returns-then-remaining-count-clause-refused c =
+pub returns-then-remaining-count-clause-fault : goal.returns-then-remaining-count-clause-fault
+returns-then-remaining-count-clause-fault c =
     let head = took c.next_u16-station.ensures.taken (took c.next_u32-tow.ensures.taken (took c.next_flag-synchronous.ensures.taken (took c.next_u8-count.ensures.taken (took c.next_flag-smoothing.ensures.taken (took c.next_u8-smoothing_interval.ensures.taken took_none))))) in
-    is_cut head c.if-tow-gt604799999.false (omega (arith, c.if-remaining-count.true, c.remaining-2.ensures))
+    is_cut head (omega (arith, c.if-tow-ge-WEEK_MS.false)) (omega (arith, c.if-remaining-count.true, c.remaining-2.ensures))

@@ -1,0 +1,11 @@
+use Rattle.std.proofs.Common.{◌≡◌, ◌+◌, ◌*◌, length}
+use Rattle.rtk_message.specs.Fields.{TakesAll}
+use Rattle.rtk_message.specs.Columns.{numbers}
+use Rattle.rtk_message.proofs.mask.next_mask.Given as goal
+
+abbrev pub invariant-loop : goal.invariant-loop
+invariant-loop l = record {
+  taken : TakesAll (numbers l.signals l.mask) l.fn.reader l.reader;
+  left : length l.fn.reader ≡ l.signals * l.counter + length l.reader;
+  so_far : length l.mask ≡ l.counter;
+}

@@ -1,0 +1,228 @@
+-- The last phase of a list of epochs, and the places of a Tracks after a step.
+use Rattle.std.proofs.Common.{get_or-set_same, get_or-set_other, ◌≡◌, ◌≢◌, ℕ, zero, suc, length, set, replicate, ◌+◌, ◌-◌, ◌*◌, ◌<◌, ◌≤◌, [], ◌∷◌, List, refl, sym, ap, subst, ◌∙◌, arith, get_or, Some, None, Option, true, false, Bool, nat_eq, ◌&&◌, cond, inl, inr}
+use Rattle.std.specs.Prelude.{filter, MatchOption}
+use Rattle.std.specs.List.{AllByRecursion}
+use Rattle.std.proofs.lemmas.Bool.Decides.{nat_tests}
+use Rattle.std.proofs.lemmas.Bool.{cases_order}
+use Rattle.rtk_obs.specs.declared.code.Band.{Band}
+use Rattle.rtk_obs.specs.declared.code.Code.{Code}
+use Rattle.rtk_obs.specs.declared.code.Code.TheVariants.{C1C, C1P, C1W, C1S, C1L, C1X, C2C, C2D, C2P, C2W, C2S, C2L, C2X, C5I, C5Q, C5X}
+use Rattle.rtk_obs.specs.declared.track.Track.{Track}
+use Rattle.rtk_obs.specs.Code.{place_of, band_of}
+use Rattle.rtk_obs.specs.Slip.{EpochCell, has_phase}
+use Rattle.rtk_obs.specs.Cell.{IsSatellite}
+use Rattle.rtk_obs.specs.Rollover.{last_after, last_phase, track_of}
+use Rattle.rtk_obs.specs.Steps.{Step, epochs_of, IsFalling, PhasesFall}
+use Rattle.rtk_obs.specs.Tracks.{IsLater, track_at, place_of_signal, Represents}
+use Rattle.rtk_obs.specs.TracksLaws.{IsGreatest, LastIsGreatest, LaterThanSteps}
+
+pub get_or-replicate : {X : Type 0} (n i : ℕ) (y : X) → get_or (replicate n y) i y ≡ y
+get_or-replicate zero i y = refl
+get_or-replicate (suc n) zero y = refl
+get_or-replicate (suc n) (suc i) y = get_or-replicate n i y
+
+by_eq : {P : Type 0} (m n : ℕ) → (m ≡ n → P) → (m ≢ n → P) → P
+by_eq m n same other =
+    elim (cases_order m n) [
+      | inl e ↦ same e
+      | inr (inl lt) ↦ other (λ e. omega arith)
+      | inr (inr gt) ↦ other (λ e. omega arith)
+    ]
+
+-- ---- places
+
+pub place_bound : (c : Code) → place_of c < 16
+place_bound C1C = omega arith
+place_bound C1P = omega arith
+place_bound C1W = omega arith
+place_bound C1S = omega arith
+place_bound C1L = omega arith
+place_bound C1X = omega arith
+place_bound C2C = omega arith
+place_bound C2D = omega arith
+place_bound C2P = omega arith
+place_bound C2W = omega arith
+place_bound C2S = omega arith
+place_bound C2L = omega arith
+place_bound C2X = omega arith
+place_bound C5I = omega arith
+place_bound C5Q = omega arith
+place_bound C5X = omega arith
+
+-- the code at a place
+code_at : ℕ → Code
+code_at zero = C1C
+code_at (suc zero) = C1P
+code_at (suc (suc zero)) = C1W
+code_at (suc (suc (suc zero))) = C1S
+code_at (suc (suc (suc (suc zero)))) = C1L
+code_at (suc (suc (suc (suc (suc zero))))) = C1X
+code_at (suc (suc (suc (suc (suc (suc zero)))))) = C2C
+code_at (suc (suc (suc (suc (suc (suc (suc zero))))))) = C2D
+code_at (suc (suc (suc (suc (suc (suc (suc (suc zero)))))))) = C2P
+code_at (suc (suc (suc (suc (suc (suc (suc (suc (suc zero))))))))) = C2W
+code_at (suc (suc (suc (suc (suc (suc (suc (suc (suc (suc zero)))))))))) = C2S
+code_at (suc (suc (suc (suc (suc (suc (suc (suc (suc (suc (suc zero))))))))))) = C2L
+code_at (suc (suc (suc (suc (suc (suc (suc (suc (suc (suc (suc (suc zero)))))))))))) = C2X
+code_at (suc (suc (suc (suc (suc (suc (suc (suc (suc (suc (suc (suc (suc zero))))))))))))) = C5I
+code_at (suc (suc (suc (suc (suc (suc (suc (suc (suc (suc (suc (suc (suc (suc zero)))))))))))))) = C5Q
+code_at (suc (suc (suc (suc (suc (suc (suc (suc (suc (suc (suc (suc (suc (suc (suc n))))))))))))))) = C5X
+
+code_at-place_of : (c : Code) → code_at (place_of c) ≡ c
+unfolding code_at
+code_at-place_of C1C = refl
+code_at-place_of C1P = refl
+code_at-place_of C1W = refl
+code_at-place_of C1S = refl
+code_at-place_of C1L = refl
+code_at-place_of C1X = refl
+code_at-place_of C2C = refl
+code_at-place_of C2D = refl
+code_at-place_of C2P = refl
+code_at-place_of C2W = refl
+code_at-place_of C2S = refl
+code_at-place_of C2L = refl
+code_at-place_of C2X = refl
+code_at-place_of C5I = refl
+code_at-place_of C5Q = refl
+code_at-place_of C5X = refl
+
+same_code : (c d : Code) → place_of c ≡ place_of d → c ≡ d
+same_code c d e = sym (code_at-place_of c) ∙ (ap code_at e ∙ code_at-place_of d)
+
+same_place : (a b c d : ℕ) → 1 ≤ a → 1 ≤ c → b < 16 → d < 16 → (a - 1) * 16 + b ≡ (c - 1) * 16 + d → (a ≡ c) × (b ≡ d)
+same_place a b c d ha hc hb hd e = omega arith
+
+same_test : (a b c d : ℕ) → a ≡ c → b ≡ d → (nat_eq a c && nat_eq b d) ≡ true
+same_test a b c d e f = grind (arith, nat_tests)
+
+other_test : (a b c d : ℕ) → b < 16 → d < 16 → (a - 1) * 16 + b ≢ (c - 1) * 16 + d → (nat_eq a c && nat_eq b d) ≡ false
+other_test a b c d h k ne = grind (arith, nat_tests)
+
+-- ---- falling epochs
+
+all_more : (es : List EpochCell) (x y : ℕ) → x < y → AllByRecursion (λ e. e.epoch < x) es → AllByRecursion (λ e. e.epoch < y) es
+all_more [] x y h a = tt
+all_more (e ∷ es) x y h a = (omega arith, all_more es x y h a.1)
+
+all_at_most : (es : List EpochCell) (x : ℕ) → AllByRecursion (λ e. e.epoch < x) es → AllByRecursion (λ e. e.epoch ≤ x) es
+all_at_most [] x a = tt
+all_at_most (e ∷ es) x a = (omega arith, all_at_most es x a.1)
+
+below_if : (b : Bool) (e : EpochCell) (rest : List EpochCell) (t : Track) (last : Option Track) (x : ℕ) → t.epoch ≡ e.epoch
+    → IsFalling (cond b (e ∷ rest) rest) → IsLater (cond b (Some t) last) x
+    → (IsFalling rest → IsLater last x → AllByRecursion (λ c. c.epoch < x) rest)
+    → AllByRecursion (λ c. c.epoch < x) (cond b (e ∷ rest) rest)
+below_if true e rest t last x same falls later more = (omega arith, all_more rest e.epoch x (omega arith) falls.0)
+below_if false e rest t last x same falls later more = more falls later
+
+-- an epoch after the last phase is after each of them
+all_below : (band : Band) (es : List EpochCell) (x : ℕ) → PhasesFall es → IsLater (last_phase band es) x → AllByRecursion (λ e. e.epoch < x) (filter has_phase es)
+all_below band [] x falls later = tt
+all_below band (e ∷ es) x falls later =
+    below_if (has_phase e) e (filter has_phase es) (track_of band (last_phase band es) e) (last_phase band es) x refl falls later (all_below band es x)
+
+falls_if : (b : Bool) (e : EpochCell) (rest : List EpochCell) → AllByRecursion (λ c. c.epoch < e.epoch) rest → IsFalling rest → IsFalling (cond b (e ∷ rest) rest)
+falls_if true e rest a falls = (a, falls)
+falls_if false e rest a falls = falls
+
+pub falls_more : (band : Band) (e : EpochCell) (es : List EpochCell) → PhasesFall es → IsLater (last_phase band es) e.epoch → PhasesFall (e ∷ es)
+falls_more band e es falls later = falls_if (has_phase e) e (filter has_phase es) (all_below band es e.epoch falls later) falls
+
+later_if : (b : Bool) (e : EpochCell) (rest : List EpochCell) (t : Track) (last : Option Track) (x : ℕ) → t.epoch ≡ e.epoch
+    → AllByRecursion (λ c. c.epoch < x) (cond b (e ∷ rest) rest) → (AllByRecursion (λ c. c.epoch < x) rest → IsLater last x)
+    → IsLater (cond b (Some t) last) x
+later_if true e rest t last x same a more = let h = a.0 in omega arith
+later_if false e rest t last x same a more = more a
+
+later_than : (band : Band) (es : List EpochCell) (x : ℕ) → AllByRecursion (λ e. e.epoch < x) (filter has_phase es) → IsLater (last_phase band es) x
+later_than band [] x a = tt
+later_than band (e ∷ es) x a =
+    later_if (has_phase e) e (filter has_phase es) (track_of band (last_phase band es) e) (last_phase band es) x refl a (later_than band es x)
+
+pub later_than_steps : LaterThanSteps
+later_than_steps tracks steps satellite code epoch represents is_satellite a =
+    subst (λ (o : Option Track). IsLater o epoch) (sym (represents.last satellite code is_satellite)) (later_than (band_of code) (epochs_of satellite code steps) epoch a)
+
+-- ---- the greatest epoch
+
+first_greatest : (b : Bool) (band : Band) (last : Option Track) (e : EpochCell) (rest : List EpochCell) → has_phase e ≡ b
+    → IsFalling (cond b (e ∷ filter has_phase rest) (filter has_phase rest))
+    → (IsFalling (filter has_phase rest) → MatchOption last (filter has_phase rest ≡ []) (λ t. IsGreatest rest t))
+    → MatchOption (cond b (Some (track_of band last e)) last) (cond b (e ∷ filter has_phase rest) (filter has_phase rest) ≡ []) (λ t. IsGreatest (e ∷ rest) t)
+first_greatest true band last e rest is falls more = record {
+  seen = e;
+  above = [];
+  below = rest;
+  among = refl;
+  with_phase = is;
+  epoch = refl;
+  lock_time_ms = refl;
+  source = refl;
+  offset = refl;
+  greatest = rw is (omega arith, all_at_most (filter has_phase rest) e.epoch falls.0);
+}
+first_greatest false band None e rest is falls more = more falls
+first_greatest false band (Some t) e rest is falls more =
+    let g : IsGreatest rest t = more falls in
+    record {
+      seen = g.seen;
+      above = e ∷ g.above;
+      below = g.below;
+      among = ap (λ (es : List EpochCell). e ∷ es) g.among;
+      with_phase = g.with_phase;
+      epoch = g.epoch;
+      lock_time_ms = g.lock_time_ms;
+      source = g.source;
+      offset = g.offset;
+      greatest = rw is g.greatest;
+    }
+
+pub last_is_greatest : LastIsGreatest
+last_is_greatest band [] falls = refl
+last_is_greatest band (e ∷ es) falls = first_greatest (has_phase e) band (last_phase band es) e es refl falls (last_is_greatest band es)
+
+-- ---- a step
+
+pub represents_more : (old new : List (Option Track)) (steps : List Step) (a : ℕ) (b : Code) (e : EpochCell) → IsSatellite a
+    → IsLater (track_at old a b) e.epoch
+    → track_at new a b ≡ last_after (band_of b) (track_at old a b) e
+    → ((s : ℕ) (c : Code) → place_of_signal s c ≢ place_of_signal a b → track_at new s c ≡ track_at old s c)
+    → Represents old steps → Represents new (record { satellite = a; code = b; seen = e } ∷ steps)
+represents_more old new steps a b e ha later same others r = record {
+  rising = λ s c hs. by_eq (place_of_signal a b) (place_of_signal s c)
+      (λ p. let q = same_place a (place_of b) s (place_of c) ha.0 hs.0 (place_bound b) (place_bound c) p in
+      rw (same_test a (place_of b) s (place_of c) q.0 q.1)
+      (falls_more (band_of c) e (epochs_of s c steps) (r.rising s c hs)
+      (subst (λ (o : Option Track). IsLater o e.epoch) (r.last s c hs)
+      (subst (λ (x : ℕ). IsLater (track_at old x c) e.epoch) q.0 (subst (λ (y : Code). IsLater (track_at old a y) e.epoch) (same_code b c q.1) later)))))
+      (λ ne. rw (other_test a (place_of b) s (place_of c) (place_bound b) (place_bound c) ne) (r.rising s c hs));
+  last = λ s c hs. by_eq (place_of_signal a b) (place_of_signal s c)
+      (λ p. let q = same_place a (place_of b) s (place_of c) ha.0 hs.0 (place_bound b) (place_bound c) p in
+      rw (same_test a (place_of b) s (place_of c) q.0 q.1)
+      (subst (λ (x : ℕ). track_at new x c ≡ last_after (band_of c) (track_at old x c) e) q.0
+      (subst (λ (y : Code). track_at new a y ≡ last_after (band_of y) (track_at old a y) e) (same_code b c q.1) same)
+      ∙ ap (λ (o : Option Track). last_after (band_of c) o e) (r.last s c hs)))
+      (λ ne. rw (other_test a (place_of b) s (place_of c) (place_bound b) (place_bound c) ne)
+      (others s c (λ p. ne (sym p)) ∙ r.last s c hs));
+}
+
+-- the same of one place that was written
+pub represents_set : (places : List (Option Track)) (steps : List Step) (a : ℕ) (b : Code) (e : EpochCell) (t : Option Track) → IsSatellite a
+    → length places ≡ 512 → IsLater (track_at places a b) e.epoch → t ≡ last_after (band_of b) (track_at places a b) e
+    → Represents places steps → Represents (set places (place_of_signal a b) t) (record { satellite = a; code = b; seen = e } ∷ steps)
+represents_set places steps a b e t ha len later is r =
+    let inside : place_of_signal a b < length places = let h = place_bound b in omega (arith, ha.1) in
+    represents_more places (set places (place_of_signal a b) t) steps a b e ha later
+    (get_or-set_same places (place_of_signal a b) t None inside ∙ is)
+    (λ s c ne. get_or-set_other places (place_of_signal a b) (place_of_signal s c) t None ne)
+    r
+
+-- the same by what the code computed
+pub represents_step : (places now : List (Option Track)) (steps : List Step) (a : ℕ) (b : Code) (e : EpochCell) (t : Option Track) (k : ℕ) → IsSatellite a
+    → length places ≡ 512 → places ≡ now → k ≡ place_of_signal a b → IsLater (track_at now a b) e.epoch
+    → t ≡ last_after (band_of b) (get_or places k None) e
+    → Represents now steps → Represents (set places k t) (record { satellite = a; code = b; seen = e } ∷ steps)
+represents_step places now steps a b e t k ha len same place later is r =
+    rw place (represents_set places steps a b e t ha len (rw same later)
+    (is ∙ ap (λ (j : ℕ). last_after (band_of b) (get_or places j None) e) place) (rw same r))

@@ -1,0 +1,26 @@
+-- A cell with its satellite and code, and the ranges that the cells of a message keep.
+use Rattle.std.specs.Prelude.{◌≡◌, ℕ, ◌≤◌, ◌%◌, Bool, ◌&&◌, nat_le, IfSome}
+use Rattle.rtk_obs.specs.declared.code.Code.{Code}
+use Rattle.rtk_obs.specs.declared.cell.Cell.{Cell}
+use Rattle.rtk_obs.specs.declared.cell.CellEntry.{CellEntry}
+
+abbrev pub entry_of : ℕ → Code → Cell → CellEntry
+entry_of satellite code cell = record { satellite = satellite; code = code; cell = cell }
+
+-- a satellite of GPS that RINEX has: 1 to 32 (RINEX 3.05, section 3.5; others give no cell)
+abbrev pub is_satellite : ℕ → Bool
+is_satellite s = nat_le 1 s && nat_le s 32
+
+abbrev pub IsSatellite : ℕ → Type 0
+IsSatellite s = (1 ≤ s) × (s ≤ 32)
+
+-- 250 to 63,750 thousandths of a dB-Hz, in steps of 250
+pub record IsStrength (s : ℕ) : Type 0 where
+  pub least : 250 ≤ s
+  pub greatest : s ≤ 63_750
+  pub step : s % 250 ≡ 0
+
+-- a satellite from 1 to 32, and no strength or one that messages give
+pub record IsInRange (e : CellEntry) : Type 0 where
+  pub satellite : IsSatellite e.satellite
+  pub strength : IfSome e.cell.strength_millidbhz IsStrength

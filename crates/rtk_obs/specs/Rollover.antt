@@ -1,0 +1,61 @@
+-- Rolls of 1500 cycles of the phases of 1004, and the last phase of a satellite and code.
+use Rattle.std.specs.Prelude.{false, ◌&&◌, List, [], ◌∷◌, Option, Some, None, ℤ, pos, negsuc, ◌+ℤ◌, ◌-ℤ◌, ◌*ℤ◌, int_lt, int_le, if◌then◌else◌}
+use Rattle.rtk_obs.specs.declared.code.Band.{Band}
+use Rattle.rtk_obs.specs.declared.track.Track.{Track}
+use Rattle.rtk_obs.specs.declared.track.Digits.{Digits}
+use Rattle.rtk_obs.specs.Code.{frequency_of}
+use Rattle.rtk_obs.specs.Slip.{EpochCell, has_phase, has_slipped, slip_since}
+
+-- An offset d, in 0.0005 m, is d * f / (2 * c) millicycles (c is 299,792,458 m/s). DF012 and DF018
+-- roll over by 1500 cycles to stay in range, so a change of more than 750 cycles is a roll: one
+-- less where the offset rose by more, one more where it fell by more.
+abbrev pub roll_of : Band → ℤ → ℤ
+roll_of band d =
+    if int_lt (pos 449_688_687_000_000) (d *ℤ pos (frequency_of band)) then negsuc 0
+    else if int_lt (d *ℤ pos (frequency_of band)) (negsuc 449_688_686_999_999) then pos 1
+    else pos 0
+
+-- the roll from one offset to the next; none where one of the phases is of a 1074 and has no offset
+abbrev pub rolls_between : Band → ℤ → Option ℤ → Option ℤ → ℤ
+rolls_between band rolls (Some a) (Some b) = rolls +ℤ roll_of band (b -ℤ a)
+rolls_between band rolls _ _ = pos 0
+
+-- the roll count behind the last phase: 0 at a slip
+abbrev pub rolls_behind : Band → Track → EpochCell → ℤ
+rolls_behind band last e =
+    if has_slipped last e then pos 0 else rolls_between band last.rolls last.offset e.cell.offset
+
+-- and 0 where there is no earlier phase
+abbrev pub rolls_since : Band → Option Track → EpochCell → ℤ
+rolls_since band None e = pos 0
+rolls_since band (Some last) e = rolls_behind band last e
+
+-- what is remembered of a phase, with its roll count
+abbrev pub track_of : Band → Option Track → EpochCell → Track
+track_of band last e =
+    record { epoch = e.epoch; lock_time_ms = e.cell.lock_time_ms; source = e.cell.source; offset = e.cell.offset; rolls = rolls_since band last e }
+
+-- the last phase after an epoch: that of the epoch's cell, if it has one
+abbrev pub last_after : Band → Option Track → EpochCell → Option Track
+last_after band last e = if has_phase e then Some (track_of band last e) else last
+
+-- the last phase of a satellite and code, its epochs falling, with its roll count
+abbrev pub last_phase : Band → List EpochCell → Option Track
+last_phase band [] = None
+last_phase band (e ∷ below) = last_after band (last_phase band below) e
+
+-- The digits of a cell: the slip, the half-cycle mark and the roll count of its phase. A cell
+-- without a phase has none of them.
+abbrev pub digits_since : Band → Option Track → EpochCell → Digits
+digits_since band last e =
+    if has_phase e then record { slip = slip_since last e; half = e.cell.half; rolls = rolls_since band last e }
+    else record { slip = false; half = false; rolls = pos 0 }
+
+-- a value within the limits of a RINEX observation with three decimals in 14 columns, in thousandths
+abbrev pub within_limits : ℤ → Option ℤ
+within_limits v =
+    if int_le (negsuc 999_999_999_998) v && int_le v (pos 9_999_999_999_999) then Some v else None
+
+-- the phase with 1500 cycles added for each roll, or none outside the limits
+abbrev pub rolled_phase : ℤ → ℤ → Option ℤ
+rolled_phase phase rolls = within_limits (phase +ℤ pos 1_500_000 *ℤ rolls)

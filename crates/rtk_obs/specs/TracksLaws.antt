@@ -1,0 +1,38 @@
+-- Laws on the last phase of a list of epochs and on what a Tracks represents.
+use Rattle.std.specs.Prelude.{◌≡◌, ℕ, ◌<◌, ◌≤◌, true, List, [], ◌∷◌, ◌++◌, Option, filter, MatchOption}
+use Rattle.std.specs.List.{AllByRecursion}
+use Rattle.rtk_obs.specs.declared.code.Band.{Band}
+use Rattle.rtk_obs.specs.declared.code.Code.{Code}
+use Rattle.rtk_obs.specs.declared.track.Track.{Track}
+use Rattle.rtk_obs.specs.Slip.{EpochCell, has_phase}
+use Rattle.rtk_obs.specs.Cell.{IsSatellite}
+use Rattle.rtk_obs.specs.Rollover.{last_phase}
+use Rattle.rtk_obs.specs.Steps.{Step, epochs_of, PhasesFall}
+use Rattle.rtk_obs.specs.Tracks.{IsLater, track_at, Represents}
+
+-- the track is of the phase at the greatest of these epochs at which there is one
+pub record IsGreatest (epochs : List EpochCell) (t : Track) : Type 0 where
+  pub seen : EpochCell
+  pub above : List EpochCell
+  pub below : List EpochCell
+  pub among : epochs ≡ above ++ seen ∷ below
+  pub with_phase : has_phase seen ≡ true
+  pub epoch : t.epoch ≡ seen.epoch
+  pub lock_time_ms : t.lock_time_ms ≡ seen.cell.lock_time_ms
+  pub source : t.source ≡ seen.cell.source
+  pub offset : t.offset ≡ seen.cell.offset
+  pub greatest : AllByRecursion (λ e. e.epoch ≤ t.epoch) (filter has_phase epochs)
+
+-- where the phases fall, the last one is that of the greatest epoch, and there is none only where no epoch has one
+abbrev pub LastIsGreatest : Type 0
+LastIsGreatest =
+    (band : Band) (epochs : List EpochCell) → PhasesFall epochs
+    → MatchOption (last_phase band epochs) (filter has_phase epochs ≡ []) (λ t. IsGreatest epochs t)
+
+-- an epoch after each earlier phase of a satellite and code is one that a step may have
+abbrev pub LaterThanSteps : Type 0
+LaterThanSteps =
+    (tracks : List (Option Track)) (steps : List Step) (satellite : ℕ) (code : Code) (epoch : ℕ)
+    → Represents tracks steps → IsSatellite satellite
+    → AllByRecursion (λ e. e.epoch < epoch) (filter has_phase (epochs_of satellite code steps))
+    → IsLater (track_at tracks satellite code) epoch

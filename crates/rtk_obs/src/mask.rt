@@ -1,0 +1,25 @@
+//! The set bits of a mask.
+
+ghost use Rattle.std.specs.Prelude.{◌≡◌, ◌^◌, ◌<◌, ◌≤◌, length};
+ghost use Rattle.std.specs.List.{All};
+ghost use Rattle.rtk_obs.specs.Mask.{set_bits};
+
+use arrayvec::ArrayVec;
+
+/// The places of the set bits of a mask of so many bits, rising; the first bit is the most
+/// significant one and has place 1.
+pub(crate) fn places_of_bits(mask: u64, width: u32) -> ArrayVec<u8, 64>
+    requires width { width ≤ 64 }
+    requires fits { mask < 2 ^ width }
+    ensures places { result.items ≡ set_bits width mask }
+    ensures bounds { All (λ p. (1 ≤ p) × (p ≤ width)) result.items }
+{
+    let mut places = ArrayVec::new();
+    let mut rest = mask;
+    while rest != 0 {
+        let top = 63 - rest.leading_zeros();
+        places.push((width - top) as u8);
+        rest -= 1 << top;
+    }
+    places
+}

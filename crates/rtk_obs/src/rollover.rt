@@ -1,0 +1,79 @@
+//! Rolls of 1500 cycles of the phases of 1004.
+
+ghost use Rattle.std.specs.Prelude.{◌≡◌, ◌+◌, ◌≤◌, ◌<◌, pos, negsuc, ◌≤ℤ◌, ◌*ℤ◌, unsigned_abs};
+ghost use Rattle.rtk_obs.specs.Slip.{epoch_cell};
+ghost use Rattle.rtk_obs.specs.Code.{frequency_of};
+ghost use Rattle.rtk_obs.specs.Rollover.{roll_of, rolls_between, rolls_behind, within_limits, rolled_phase};
+ghost use Rattle.rtk_obs.specs.declared.time.TheConstants.{LAST_MS};
+
+use crate::cell::Cell;
+use crate::code::Band;
+use crate::slip::slipped;
+use crate::track::Track;
+
+/// 750 cycles in the unit of an offset times Hz: 1,500,000 times 299,792,458.
+const HALF_ROLL: i64 = 449_688_687_000_000;
+
+// The roll where the offset changed by so much: -1, 0 or 1.
+fn roll(band: Band, change: i64) -> i64
+    requires low { negsuc 4_294_967_295 ≤ℤ change }
+    requires high { change ≤ℤ pos 4_294_967_295 }
+    ensures value { result ≡ roll_of band change }
+    ensures bound { unsigned_abs result ≤ 1 }
+{
+    let turned = change * i64::from(band.frequency());
+    if turned > HALF_ROLL {
+        -1
+    } else if turned < -HALF_ROLL {
+        1
+    } else {
+        0
+    }
+}
+
+// The roll count from one offset to the next.
+fn rolls_from(band: Band, rolls: i64, last: Option<i32>, offset: Option<i32>) -> i64
+    requires { unsigned_abs rolls ≤ LAST_MS }
+    ensures value { result ≡ rolls_between band rolls last offset }
+    ensures bound { unsigned_abs result ≤ unsigned_abs rolls + 1 }
+{
+    match (last, offset) {
+        (Some(last), Some(offset)) => rolls + roll(band, i64::from(offset) - i64::from(last)),
+        _ => 0,
+    }
+}
+
+// The roll count of a phase behind the last one.
+pub(crate) fn rolls_after(band: Band, last: Track, epoch: u64, cell: &Cell) -> i64
+    requires later { last.epoch < epoch }
+    requires range { epoch ≤ LAST_MS }
+    requires bounded { unsigned_abs last.rolls ≤ last.epoch }
+    ensures value { result ≡ rolls_behind band last (epoch_cell epoch cell.now) }
+    ensures bound { unsigned_abs result ≤ epoch }
+{
+    if slipped(last, epoch, cell) {
+        return 0;
+    }
+    rolls_from(band, last.rolls, last.offset, cell.offset)
+}
+
+// A value within the limits.
+fn limited(value: i128) -> Option<i64>
+    ensures { result ≡ within_limits value }
+{
+    if value < -999_999_999_999 {
+        return None;
+    }
+    if value > 9_999_999_999_999 {
+        return None;
+    }
+    Some(value as i64)
+}
+
+/// A phase in millicycles with 1500 cycles added for each roll; `None` exactly where that is
+/// outside the limits of an observation, -999,999,999,999 to 9,999,999,999,999.
+pub fn rolled(phase: i64, rolls: i64) -> Option<i64>
+    ensures { result ≡ rolled_phase phase rolls }
+{
+    limited(i128::from(phase) + 1_500_000 * i128::from(rolls))
+}

@@ -1,0 +1,36 @@
+//! Rounding to the nearest whole number, ties away from zero.
+
+ghost use Rattle.std.specs.Prelude.{◌≡◌, ℕ, ℤ, ◌^◌, ◌<◌, ◌≤◌, ◌↔◌, ◌<ℤ◌, pos, unsigned_abs};
+ghost use Rattle.rtk_obs.specs.Rounding.{IsRounded, rounded_magnitude, rounded};
+
+// The nearest whole number to n / d; of two, the greater one.
+fn round_magnitude(n: u128, d: u128) -> u128
+    requires positive { 0 < d }
+    requires small { n ≤ 2 ^ 127 }
+    ensures value { result ≡ rounded_magnitude n d }
+    ensures bound { result ≤ n }
+{
+    let whole = n / d;
+    let rest = n % d;
+    if rest >= d - rest { whole + 1 } else { whole }
+}
+
+/// The whole number nearest to `n / d`; of two equally near, the one further from 0.
+pub fn round_div(n: i128, d: i128) -> i128
+    requires { pos 0 <ℤ d }
+    ensures { result ≡ rounded n (unsigned_abs d) }
+{
+    let magnitude = round_magnitude(n.unsigned_abs(), d.unsigned_abs());
+    if n >= 0 {
+        magnitude as i128
+    } else if magnitude == 0 {
+        0
+    } else {
+        -1 - (magnitude - 1) as i128
+    }
+}
+
+/// The rounded value is the one whole number that is nearest, and at a tie further from 0.
+pub fn rounded_is_unique()
+    ensures { (n : ℤ) (d : ℕ) (v : ℤ) → 0 < d → IsRounded n d v ↔ (v ≡ rounded n d) }
+{}

@@ -1,0 +1,90 @@
+//! Values of fields from exact fractions, each rounded once.
+
+ghost use Rattle.std.specs.Prelude.{◌≡◌, ◌+◌, ◌*◌, ◌^◌, ◌<◌, ◌≤◌, pos, ◌*ℤ◌, ◌≤ℤ◌, negsuc, unsigned_abs};
+ghost use Rattle.rtk_obs.specs.Rounding.{rounded, rounded_magnitude};
+ghost use Rattle.rtk_obs.specs.Scaling.{range_of_length, phase_of_length, range_of_time, phase_of_time, strength_of, unless_invalid};
+
+use crate::code::Band;
+
+/// The speed of light, in m/s.
+const LIGHT: u32 = 299_792_458;
+
+/// Twice the speed of light: 0.0005 m in a millicycle's unit.
+const TWICE_LIGHT: u32 = 599_584_916;
+
+/// 2^29, the units of time of a 1074 in a ms.
+const MS: u32 = 536_870_912;
+
+// The whole number nearest to n * factor / divisor, a tie going up, in 64 bits.
+fn scaled_magnitude(n: u64, factor: u32, divisor: u32) -> u64
+    requires positive { 0 < divisor }
+    requires fits { rounded_magnitude (n * factor) divisor < 2 ^ 63 }
+    ensures { result ≡ rounded_magnitude (n * factor) divisor }
+{
+    let factor = u64::from(factor);
+    let divisor = u64::from(divisor);
+    let whole = n / divisor * factor;
+    let rest = n % divisor * factor;
+    whole + (rest + divisor / 2) / divisor
+}
+
+// The whole number nearest to value * factor / divisor, a tie going away from 0.
+fn scaled(value: i64, factor: u32, divisor: u32) -> i64
+    requires factor { 0 < factor }
+    requires divisor { 0 < divisor }
+    requires fits { rounded_magnitude (unsigned_abs value * factor) divisor < 2 ^ 63 }
+    ensures { result ≡ rounded (value *ℤ pos factor) divisor }
+{
+    let magnitude = scaled_magnitude(value.unsigned_abs(), factor, divisor) as i64;
+    if value < 0 { -magnitude } else { magnitude }
+}
+
+// A length in 0.0005 m as a range in mm.
+pub(crate) fn range_from_length(length: i64) -> i64
+    requires { unsigned_abs length ≤ 2 ^ 40 }
+    ensures { result ≡ range_of_length length }
+{
+    scaled(length, 1, 2)
+}
+
+// A length in 0.0005 m as a phase in millicycles.
+pub(crate) fn phase_from_length(band: Band, length: i64) -> i64
+    requires { unsigned_abs length ≤ 2 ^ 40 }
+    ensures { result ≡ phase_of_length band length }
+{
+    scaled(length, band.frequency(), TWICE_LIGHT)
+}
+
+// The time of light, in 2^-29 ms, as a range in mm.
+pub(crate) fn range_from_time(time: i64) -> i64
+    requires { unsigned_abs time ≤ 2 ^ 40 }
+    ensures { result ≡ range_of_time time }
+{
+    scaled(time, LIGHT, MS)
+}
+
+// The time of light, in 2^-29 ms, as a phase in millicycles.
+pub(crate) fn phase_from_time(band: Band, time: i64) -> i64
+    requires { unsigned_abs time ≤ 2 ^ 40 }
+    ensures { result ≡ phase_of_time band time }
+{
+    scaled(time, band.frequency(), MS)
+}
+
+// A signal strength of so many steps, in thousandths of a dB-Hz; 0 is not given.
+pub(crate) fn strength(step: u32, steps: u8) -> Option<u32>
+    requires { step ≤ 1000 }
+    ensures { result ≡ strength_of step steps }
+{
+    match steps {
+        0 => None,
+        _ => Some(step * u32::from(steps)),
+    }
+}
+
+// A field, or none where it has its invalid mark.
+pub(crate) fn unless_mark(field: i32, mark: i32) -> Option<i32>
+    ensures { result ≡ unless_invalid mark field }
+{
+    if field == mark { None } else { Some(field) }
+}

@@ -1,0 +1,16 @@
+//! Loss of lock since the last phase.
+
+ghost use Rattle.std.specs.Prelude.{◌≡◌, ◌≤◌};
+ghost use Rattle.rtk_obs.specs.Slip.{has_slipped, epoch_cell};
+
+use crate::cell::Cell;
+use crate::track::Track;
+
+// Is the lock time shorter than the time since the last phase, or than that of the same source?
+pub(crate) fn slipped(last: Track, epoch: u64, cell: &Cell) -> bool
+    requires { last.epoch ≤ epoch }
+    ensures { result ≡ has_slipped last (epoch_cell epoch cell.now) }
+{
+    u64::from(cell.lock_time_ms) < epoch - last.epoch
+        || (cell.source == last.source && cell.lock_time_ms < last.lock_time_ms)
+}
