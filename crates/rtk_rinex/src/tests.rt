@@ -109,34 +109,75 @@ fn heights_and_coordinates_fill_their_columns(rt: HostRuntime) -> Result<(), Fai
     Ok(())
 }
 
-/// The lines of the observation types: thirteen on a line.
 #[test]
-fn observation_types_continue_on_further_lines(rt: HostRuntime) -> Result<(), Fail> {
-    let first = "C1C L1C S1C C2W L2W S2W C2X L2X S2X C5X L5X S5X C1P  SYS / # / OBS TYPES ";
-    let second = "       L1P S1P C1W L1W S1W C2C L2C S2C C2P L2P S2P C2S L2S  SYS / # / OBS TYPES ";
-    let third = "       S2S C2L L2L S2L C5I L5I S5I C5Q L5Q S5Q C1S L1S S1S  SYS / # / OBS TYPES ";
-    let rows = [
-        (1, "G    3 ", "C1C L1C S1C                                          SYS / # / OBS TYPES ", "", "", ""),
-        (4, "G   12 ", "C1C L1C S1C C2W L2W S2W C2X L2X S2X C5X L5X S5X      SYS / # / OBS TYPES ", "", "", ""),
-        (5, "G   15 ", first, "       L1P S1P                                              SYS / # / OBS TYPES ", "", ""),
-        (8, "G   24 ", first, "       L1P S1P C1W L1W S1W C2C L2C S2C C2P L2P S2P          SYS / # / OBS TYPES ", "", ""),
-        (9, "G   27 ", first, second, "       S2S                                                  SYS / # / OBS TYPES ", ""),
-        (13, "G   39 ", first, second, third, ""),
-        (16, "G   48 ", first, second, third, "       C1L L1L S1L C1X L1X S1X C2D L2D S2D                  SYS / # / OBS TYPES "),
+fn thirteen_observation_types_stand_on_a_line(rt: HostRuntime) -> Result<(), Fail> {
+    let rows: [(usize, u8, &str); 7] = [
+        (
+            1,
+            1,
+            concat!(
+                "G    3 C1C L1C S1C                                          SYS / # / OBS TYPES \n",
+            ),
+        ),
+        (
+            4,
+            1,
+            concat!(
+                "G   12 C1C L1C S1C C2W L2W S2W C2X L2X S2X C5X L5X S5X      SYS / # / OBS TYPES \n",
+            ),
+        ),
+        (
+            5,
+            2,
+            concat!(
+                "G   15 C1C L1C S1C C2W L2W S2W C2X L2X S2X C5X L5X S5X C1P  SYS / # / OBS TYPES \n",
+                "       L1P S1P                                              SYS / # / OBS TYPES \n",
+            ),
+        ),
+        (
+            8,
+            2,
+            concat!(
+                "G   24 C1C L1C S1C C2W L2W S2W C2X L2X S2X C5X L5X S5X C1P  SYS / # / OBS TYPES \n",
+                "       L1P S1P C1W L1W S1W C2C L2C S2C C2P L2P S2P          SYS / # / OBS TYPES \n",
+            ),
+        ),
+        (
+            9,
+            3,
+            concat!(
+                "G   27 C1C L1C S1C C2W L2W S2W C2X L2X S2X C5X L5X S5X C1P  SYS / # / OBS TYPES \n",
+                "       L1P S1P C1W L1W S1W C2C L2C S2C C2P L2P S2P C2S L2S  SYS / # / OBS TYPES \n",
+                "       S2S                                                  SYS / # / OBS TYPES \n",
+            ),
+        ),
+        (
+            13,
+            3,
+            concat!(
+                "G   39 C1C L1C S1C C2W L2W S2W C2X L2X S2X C5X L5X S5X C1P  SYS / # / OBS TYPES \n",
+                "       L1P S1P C1W L1W S1W C2C L2C S2C C2P L2P S2P C2S L2S  SYS / # / OBS TYPES \n",
+                "       S2S C2L L2L S2L C5I L5I S5I C5Q L5Q S5Q C1S L1S S1S  SYS / # / OBS TYPES \n",
+            ),
+        ),
+        (
+            16,
+            4,
+            concat!(
+                "G   48 C1C L1C S1C C2W L2W S2W C2X L2X S2X C5X L5X S5X C1P  SYS / # / OBS TYPES \n",
+                "       L1P S1P C1W L1W S1W C2C L2C S2C C2P L2P S2P C2S L2S  SYS / # / OBS TYPES \n",
+                "       S2S C2L L2L S2L C5I L5I S5I C5Q L5Q S5Q C1S L1S S1S  SYS / # / OBS TYPES \n",
+                "       C1L L1L S1L C1X L1X S1X C2D L2D S2D                  SYS / # / OBS TYPES \n",
+            ),
+        ),
     ];
     let place = position(0, 0, 0, 0)?;
-    for (count, number, line, two, three, four) in rows {
-        let text = header_of(b"BASE", CODES.as_slice().get(..count).ok_or("codes")?, &place, rt.alloc())?;
-        let shown = std::str::from_utf8(text.as_slice())?;
-        assert!(rt; shown.contains(format!(in rt.alloc(); "H/E/N\n{number}{line}\n{two}")?.as_str()), "{count} codes");
-        let mut lines = 14;
-        for more in [two, three, four] {
-            if !more.is_empty() {
-                assert!(rt; shown.contains(format!(in rt.alloc(); "\n{more}\n")?.as_str()), "{count} codes: {more}");
-                lines += 1;
-            }
-        }
-        assert_eq!(rt; text.len(), lines * 81, "{count} codes");
+    for (count, lines, want) in rows {
+        let codes = CODES.as_slice().get(..count).ok_or("codes")?;
+        let text = header_of(b"BASE", codes, &place, rt.alloc())?;
+        let end = 9 * 81 + usize::from(lines) * 81;
+        assert_eq!(rt; text.len(), end + 4 * 81, "{count} codes");
+        assert_eq!(rt; std::str::from_utf8(&text[9 * 81..end])?, want);
     }
     Ok(())
 }
@@ -227,8 +268,8 @@ fn the_example_record_is_written(rt: HostRuntime) -> Result<(), Fail> {
 fn observations_are_written_in_their_limits(rt: HostRuntime) -> Result<(), Fail> {
     let none = None;
     let rows: [(Option<i64>, Option<i64>, Option<u32>, bool, bool, &str); 16] = [
-        (Some(9_999_999_999_999), none, None, false, false, "G07 9999999999.999"),
-        (Some(-999_999_999_999), none, None, false, false, "G07 -999999999.999"),
+        (Some(9_999_999_999_999), none, None, false, false, "G079999999999.999"),
+        (Some(-999_999_999_999), none, None, false, false, "G07-999999999.999"),
         (Some(1), Some(-1), None, false, false, "G07         0.001          -0.001"),
         (Some(10_000_000_000_000), Some(1_000), None, false, false, "G07                         1.000"),
         (Some(-1_000_000_000_000), Some(1_000), None, false, false, "G07                         1.000"),
