@@ -14,7 +14,7 @@ abbrev pub next_date : CivilDate → CivilDate
 next_date d =
     if nat_lt d.day (days_in_month (pos d.year) d.month) then record d { day = d.day + 1 }
     else (if nat_lt d.month 12 then record { year = d.year; month = d.month + 1; day = 1 }
-        else record { year = d.year + 1; month = 1; day = 1 })
+    else record { year = d.year + 1; month = 1; day = 1 })
 
 -- the date so many days after 1980-01-06
 unfoldable pub date_after : ℕ → CivilDate

@@ -14,6 +14,7 @@ use std::alloc::Global;
 use std::test::Fail;
 
 const NOON: u64 = 1_399_982_400_000; // 2024-05-17 12:00:00.000
+
 const MADE: u64 = 1_399_986_000_000; // 2024-05-17 13:00:00.000
 
 /// The header of an example file: station BASE, codes 1C and 2W.
@@ -75,7 +76,12 @@ fn head_of(marker: &[u8], codes: &[Code]) -> Result<Head, Fail> {
     Ok(Head::new(marker, codes, moment(MADE)?)?)
 }
 
-fn header_of(marker: &[u8], codes: &[Code], position: &Position, alloc: Global) -> Result<Vec<u8>, Fail> {
+fn header_of(
+    marker: &[u8],
+    codes: &[Code],
+    position: &Position,
+    alloc: Global,
+) -> Result<Vec<u8>, Fail> {
     Ok(header(alloc, &head_of(marker, codes)?, position, moment(NOON)?)?)
 }
 
@@ -96,14 +102,43 @@ fn heights_and_coordinates_fill_their_columns(rt: HostRuntime) -> Result<(), Fai
     let least = -(1i64 << 37);
     let greatest = (1i64 << 37) - 1;
     let rows = [
-        (0, 0, 0, 15_000, "        0.0000        0.0000        0.0000", "        1.5000"),
-        (least, least, least, 65_535, "-13743895.3472-13743895.3472-13743895.3472", "        6.5535"),
-        (greatest, -1, 1, 1, " 13743895.3471       -0.0001        0.0001", "        0.0001"),
+        (
+            0,
+            0,
+            0,
+            15_000,
+            "        0.0000        0.0000        0.0000",
+            "        1.5000",
+        ),
+        (
+            least,
+            least,
+            least,
+            65_535,
+            "-13743895.3472-13743895.3472-13743895.3472",
+            "        6.5535",
+        ),
+        (
+            greatest,
+            -1,
+            1,
+            1,
+            " 13743895.3471       -0.0001        0.0001",
+            "        0.0001",
+        ),
     ];
     for (x, y, z, height, coordinates, shown) in rows {
-        let text = header_of(b"BASE", &CODES[..2], &position(x, y, z, height)?, rt.alloc())?;
+        let text = header_of(
+            b"BASE",
+            &CODES[..2],
+            &position(x, y, z, height)?,
+            rt.alloc(),
+        )?;
         assert_eq!(rt; text.len(), 14 * 81);
-        assert_eq!(rt; std::str::from_utf8(&text[7 * 81..7 * 81 + 42])?, coordinates);
+        assert_eq!(rt;
+            std::str::from_utf8(&text[7 * 81..7 * 81 + 42])?,
+            coordinates
+        );
         assert_eq!(rt; std::str::from_utf8(&text[8 * 81..8 * 81 + 14])?, shown);
     }
     Ok(())
@@ -268,22 +303,134 @@ fn the_example_record_is_written(rt: HostRuntime) -> Result<(), Fail> {
 fn observations_are_written_in_their_limits(rt: HostRuntime) -> Result<(), Fail> {
     let none = None;
     let rows: [(Option<i64>, Option<i64>, Option<u32>, bool, bool, &str); 16] = [
-        (Some(9_999_999_999_999), none, None, false, false, "G079999999999.999"),
-        (Some(-999_999_999_999), none, None, false, false, "G07-999999999.999"),
-        (Some(1), Some(-1), None, false, false, "G07         0.001          -0.001"),
-        (Some(10_000_000_000_000), Some(1_000), None, false, false, "G07                         1.000"),
-        (Some(-1_000_000_000_000), Some(1_000), None, false, false, "G07                         1.000"),
-        (Some(0), Some(1_000), None, false, false, "G07                         1.000"),
-        (none, Some(-1_234), None, true, false, "G07                        -1.2341"),
-        (none, Some(1_234), None, false, true, "G07                         1.2342"),
-        (none, Some(1_234), None, true, true, "G07                         1.2343"),
-        (none, Some(1_234), Some(45_000), true, true, "G07                         1.23437        45.000"),
-        (none, Some(0), Some(45_000), true, true, "G07                                        45.000"),
-        (Some(1_000), none, Some(250), true, true, "G07         1.000 1                         0.250"),
-        (Some(1_000), none, Some(5_000), false, false, "G07         1.000 1                         5.000"),
-        (Some(1_000), none, Some(53_750), false, false, "G07         1.000 8                        53.750"),
-        (Some(1_000), none, Some(54_000), false, false, "G07         1.000 9                        54.000"),
-        (Some(1_000), none, Some(63_750), false, false, "G07         1.000 9                        63.750"),
+        (
+            Some(9_999_999_999_999),
+            none,
+            None,
+            false,
+            false,
+            "G079999999999.999",
+        ),
+        (
+            Some(-999_999_999_999),
+            none,
+            None,
+            false,
+            false,
+            "G07-999999999.999",
+        ),
+        (
+            Some(1),
+            Some(-1),
+            None,
+            false,
+            false,
+            "G07         0.001          -0.001",
+        ),
+        (
+            Some(10_000_000_000_000),
+            Some(1_000),
+            None,
+            false,
+            false,
+            "G07                         1.000",
+        ),
+        (
+            Some(-1_000_000_000_000),
+            Some(1_000),
+            None,
+            false,
+            false,
+            "G07                         1.000",
+        ),
+        (
+            Some(0),
+            Some(1_000),
+            None,
+            false,
+            false,
+            "G07                         1.000",
+        ),
+        (
+            none,
+            Some(-1_234),
+            None,
+            true,
+            false,
+            "G07                        -1.2341",
+        ),
+        (
+            none,
+            Some(1_234),
+            None,
+            false,
+            true,
+            "G07                         1.2342",
+        ),
+        (
+            none,
+            Some(1_234),
+            None,
+            true,
+            true,
+            "G07                         1.2343",
+        ),
+        (
+            none,
+            Some(1_234),
+            Some(45_000),
+            true,
+            true,
+            "G07                         1.23437        45.000",
+        ),
+        (
+            none,
+            Some(0),
+            Some(45_000),
+            true,
+            true,
+            "G07                                        45.000",
+        ),
+        (
+            Some(1_000),
+            none,
+            Some(250),
+            true,
+            true,
+            "G07         1.000 1                         0.250",
+        ),
+        (
+            Some(1_000),
+            none,
+            Some(5_000),
+            false,
+            false,
+            "G07         1.000 1                         5.000",
+        ),
+        (
+            Some(1_000),
+            none,
+            Some(53_750),
+            false,
+            false,
+            "G07         1.000 8                        53.750",
+        ),
+        (
+            Some(1_000),
+            none,
+            Some(54_000),
+            false,
+            false,
+            "G07         1.000 9                        54.000",
+        ),
+        (
+            Some(1_000),
+            none,
+            Some(63_750),
+            false,
+            false,
+            "G07         1.000 9                        63.750",
+        ),
     ];
     let head = Head::new(b"BASE", &CODES[..1], moment(MADE)?)?;
     for (range_mm, phase_millicycles, strength_millidbhz, slip, half, line) in rows {
@@ -292,7 +439,16 @@ fn observations_are_written_in_their_limits(rt: HostRuntime) -> Result<(), Fail>
             assert!(rt; false, "a strength of {strength}");
         }
         let mut table = EpochTable::new(moment(NOON)?);
-        table.push(row(7, Observed { range_mm, phase_millicycles, strength_millidbhz, slip, half }));
+        table.push(row(
+            7,
+            Observed {
+                range_mm,
+                phase_millicycles,
+                strength_millidbhz,
+                slip,
+                half,
+            },
+        ));
         let text = record(rt.alloc(), &head, &table)?;
         let want = format!(in rt.alloc(); "> 2024 05 17 12 00  0.0000000  0  1\n{line}\n")?;
         assert_eq!(rt; std::str::from_utf8(text.as_slice())?, want.as_str());
@@ -305,9 +461,20 @@ fn satellites_without_an_observation_are_left_out(rt: HostRuntime) -> Result<(),
     let head = Head::new(b"BASE", &CODES[..1], moment(MADE)?)?;
     let mut table = EpochTable::new(moment(NOON)?);
     assert_eq!(rt; record(rt.alloc(), &head, &table)?.len(), 0);
-    let range = Observed { range_mm: Some(20_000_000_000), ..BLANK };
-    let strength = Observed { strength_millidbhz: Some(30_000), ..BLANK };
-    let outside = Observed { range_mm: Some(0), phase_millicycles: Some(10_000_000_000_000), slip: true, ..BLANK };
+    let range = Observed {
+        range_mm: Some(20_000_000_000),
+        ..BLANK
+    };
+    let strength = Observed {
+        strength_millidbhz: Some(30_000),
+        ..BLANK
+    };
+    let outside = Observed {
+        range_mm: Some(0),
+        phase_millicycles: Some(10_000_000_000_000),
+        slip: true,
+        ..BLANK
+    };
     table.push(row(3, outside));
     assert_eq!(rt; record(rt.alloc(), &head, &table)?.len(), 0);
     // 2024-12-31 23:59:59.999
