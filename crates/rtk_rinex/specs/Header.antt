@@ -8,7 +8,7 @@ use Rattle.rtk_obs.specs.declared.position.Position.{Position}
 use Rattle.rtk_obs.specs.Position.{IsCoordinate}
 use Rattle.rtk_obs.specs.declared.time.Civil.{Civil}
 use Rattle.rtk_rinex.specs.Columns.{left, right, last_digits, decimals, fixed}
-use Rattle.rtk_rinex.specs.Reading.{reading_of, seconds_of}
+use Rattle.rtk_rinex.specs.Reading.{IsMoment, reading_of, seconds_of}
 
 -- what is known of a file before its observations: the marker's name, the listed codes, and the moment at which it is made
 pub record Heading : Type 0 where
@@ -29,7 +29,7 @@ IsCodeList listed = IsInRange 1 16 (length listed) × AllPairs (λ a b. a ≢ b)
 -- a good marker, good codes and a whole second
 abbrev pub IsHeading : Heading → Type 0
 IsHeading h =
-    IsMarker h.marker × IsCodeList h.listed × (h.made ≤ 3_818_015_999_999) × (h.made % 1000 ≡ 0)
+    IsMarker h.marker × IsCodeList h.listed × IsMoment h.made × (h.made % 1000 ≡ 0)
 
 -- a line: 60 columns, 20 columns of label, and LF
 unfoldable pub header_line : List ℕ → List ℕ → List ℕ

@@ -1,6 +1,7 @@
 -- Well-formed tables of observations, and their text: what a file of this project can be.
 use Rattle.std.specs.Prelude.{◌≡◌, ◌≢◌, ◌≤◌, ◌<◌, ℕ, List, [], ◌∷◌, ◌++◌, length, flat_map, All, AllPairs, ℤ, Option, Some, None, Bool, false, IsTrue}
 use Rattle.std.specs.Int.{IsInRange}
+use Rattle.rtk_rinex.specs.Reading.{IsMoment}
 use Rattle.rtk_rinex.specs.Header.{Heading, Site, IsHeading, IsSite, header_text}
 use Rattle.rtk_rinex.specs.Record.{Epoch, IsStrength, is_written, has_line, record_text}
 use Rattle.rtk_rinex.specs.declared.epoch_table.Observed.{Observed}
@@ -39,7 +40,7 @@ pub record IsTableRow (n : ℕ) (r : SatelliteRow) : Type 0 where
 
 -- an epoch of a file of n codes: its satellites rise, so there are 1 to 32
 pub record IsTableEpoch (n : ℕ) (e : Epoch) : Type 0 where
-  pub time : e.time ≤ 3_818_015_999_999
+  pub time : IsMoment e.time
   pub some : e.rows ≢ []
   pub rows : All (IsTableRow n) e.rows
   pub rise : AllPairs (λ a b. a.satellite < b.satellite) e.rows
@@ -53,7 +54,7 @@ StartsAt first (e ∷ epochs) = e.time ≡ first
 pub record IsTable (t : Table) : Type 0 where
   pub head : IsHeading t.head
   pub site : IsSite t.site
-  pub first : t.first ≤ 3_818_015_999_999
+  pub first : IsMoment t.first
   pub starts : StartsAt t.first t.epochs
   pub epochs : All (IsTableEpoch (length t.head.listed)) t.epochs
   pub rise : AllPairs (λ a b. a.time < b.time) t.epochs
