@@ -1,5 +1,5 @@
 -- Codes that are unlike each other.
-use Rattle.std.proofs.Common.{◌≡◌, ◌≢◌, ◌⊎◌, ⊎_elim, inl, inr, ℕ, ◌+◌, ◌<◌, ◌≤◌, List, ◌++◌, append_assoc, slice_index_or, arith, sym, ◌∙◌, ap}
+use Rattle.std.proofs.Common.{◌≡◌, ◌≢◌, ◌⊎◌, ⊎_elim, inl, inr, ℕ, ◌+◌, ◌<◌, List, ◌++◌, append_assoc, slice_index_or, arith, ◌∙◌, ap}
 use Rattle.std.proofs.lemmas.Bool.Decides.{leb_tells}
 use Rattle.rtk_obs.specs.declared.code.Code.{Code}
 

@@ -1,15 +1,15 @@
 -- A moment has one reading.
-use Rattle.std.proofs.Common.{◌≡◌, ℕ, zero, suc, ◌+◌, ◌*◌, ◌/◌, ◌%◌, ◌<◌, ◌≤◌, Bool, true, false, nat_lt, if◌then◌else◌, arith, refl, sym, ◌∙◌, ap, ℤ, pos, neg_ℤ, ◌≤ℤ◌, ◌<ℤ◌, ◌⊎◌, inl, inr}
+use Rattle.std.proofs.Common.{◌≡◌, ℕ, zero, suc, ◌+◌, ◌/◌, ◌<◌, ◌≤◌, Bool, true, false, nat_lt, if◌then◌else◌, arith, refl, sym, ◌∙◌, pos, neg_ℤ, ◌≤ℤ◌, ◌<ℤ◌, inl, inr}
 use Rattle.std.specs.Int.{IsInRange}
 use Rattle.std.proofs.lemmas.Bool.{cases_order}
 use Rattle.std.proofs.lemmas.Bool.Decides.{nat_tests}
-use Rattle.jiff_core.specs.Calendar.{day_count, days_from_civil, days_in_month, IsCivilDate, IsYear}
+use Rattle.jiff_core.specs.Calendar.{day_count, days_in_month, IsCivilDate, IsYear}
 use Rattle.jiff_core.proofs.SignedLemmas.{signed_arith}
 use Rattle.jiff_core.proofs.MarchLemmas.{day_count-early}
 use Rattle.jiff_core.proofs.CalendarLemmas.{days_from_civil-day_count, days_in_month_bounds, day_count-lt_year, day_count-lt_month, day_count-day, day_count-next_month, day_count-next_year, day_count-last_of_year}
 use Rattle.rtk_obs.specs.declared.time.Civil.{Civil}
-use Rattle.rtk_obs.specs.Calendar.{Reads, IsOnDay}
-use Rattle.rtk_rinex.specs.Reading.{CivilDate, next_date, date_after, reading_of}
+use Rattle.rtk_obs.specs.Calendar.{Reads}
+use Rattle.rtk_rinex.specs.Reading.{CivilDate, date_after, reading_of}
 
 abbrev IsGood : CivilDate → Type 0
 IsGood d = (1980 ≤ d.year) × IsInRange 1 12 d.month × IsInRange 1 (days_in_month (pos d.year) d.month) d.day
@@ -31,17 +31,19 @@ next_is d true c e f h =
 next_is d false true e f h =
     let last : days_in_month (pos d.year) d.month ≤ d.day = grind (arith, nat_tests) in
     let month : d.month < 12 = grind (arith, nat_tests) in
-    let long = days_in_month_bounds (pos d.year) (d.month + 1) in
-    ((h.0, (omega arith, omega arith), (omega arith, omega arith)),
-     omega (arith, day_count-next_month (pos d.year) d.month h.1.0, day_count-day (pos d.year) d.month d.day 1 h.2.0 (omega arith)))
+    let long = days_in_month_bounds (pos d.year) (d.month + 1) in (
+      (h.0, (omega arith, omega arith), (omega arith, omega arith)),
+      omega (arith, day_count-next_month (pos d.year) d.month h.1.0, day_count-day (pos d.year) d.month d.day 1 h.2.0 (omega arith)),
+    )
 next_is d false false e f h =
     let last : days_in_month (pos d.year) d.month ≤ d.day = grind (arith, nat_tests) in
     let month : d.month ≡ 12 = grind (arith, nat_tests) in
     let long = days_in_month_bounds (pos (d.year + 1)) 1 in
     let low : neg_ℤ (pos 10000) ≤ℤ pos d.year = omega (arith, signed_arith) in
-    let day : d.day ≡ 31 = let whole = rw month at last in let most = rw month at h.2.1 in omega arith in
-    ((omega arith, (omega arith, omega arith), (omega arith, omega arith)),
-     rw (month, day) (omega (arith, day_count-next_year (pos d.year) (pos (d.year + 1)) low refl, day_count-last_of_year (pos d.year))))
+    let day : d.day ≡ 31 = let whole = rw month at last in let most = rw month at h.2.1 in omega arith in (
+      (omega arith, (omega arith, omega arith), (omega arith, omega arith)),
+      rw (month, day) (omega (arith, day_count-next_year (pos d.year) (pos (d.year + 1)) low refl, day_count-last_of_year (pos d.year))),
+    )
 
 date_after-is : (k : ℕ) → IsGood (date_after k) × (count (date_after k) ≡ 4_375_610 + k)
 unfolding date_after next_if
@@ -75,6 +77,7 @@ same_day y m d y₂ m₂ d₂ h low month day e =
           omega (arith, day_count-lt_year (pos y₂) m₂ d₂ (pos y) m d (year, month, day) h.2.0 years))
       | inl year ↦ same_year y m d y₂ m₂ d₂ h year month day e
     ]
+
 abbrev civil_with : ℕ → ℕ → ℕ → ℕ → ℕ → ℕ → ℕ → Civil
 civil_with y m d h i s f = record { year = y; month = m; day = d; hour = h; minute = i; second = s; millisecond = f }
 
@@ -86,7 +89,7 @@ same_civil : (c d : Civil) → c.year ≡ d.year → c.month ≡ d.month → c.d
     → c.second ≡ d.second → c.millisecond ≡ d.millisecond → c ≡ d
 same_civil c d year month day hour minute second millisecond =
     same_parts c.year c.month c.day c.hour c.minute c.second c.millisecond d.year d.month d.day d.hour d.minute d.second d.millisecond
-        year month day hour minute second millisecond
+    year month day hour minute second millisecond
 
 -- what reads a moment is its reading
 pub reading_is : (t : ℕ) (c : Civil) → Reads t c → c ≡ reading_of t

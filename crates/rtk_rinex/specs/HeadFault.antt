@@ -1,6 +1,5 @@
 -- Why there is no head of these parts: the first cause that holds.
-use Rattle.std.specs.Prelude.{◌≢◌, ℕ, ◌%◌, List}
-use Rattle.rtk_obs.specs.declared.code.Code.{Code}
+use Rattle.std.specs.Prelude.{◌≢◌, ◌%◌}
 use Rattle.rtk_rinex.specs.Header.{Heading, IsMarker, IsCodeList}
 use Rattle.rtk_rinex.specs.declared.head.HeadFault.{HeadFault}
 use Rattle.rtk_rinex.specs.declared.head.HeadFault.TheVariants.{Marker, Codes, Made}

@@ -1,13 +1,14 @@
 -- The header of an observation file (RINEX 3.05, Table A2); the order of the lines and their fixed
 -- entries are this project's.
-use Rattle.std.specs.Prelude.{◌≡◌, ◌≢◌, ◌≤◌, ℕ, ◌+◌, ◌-◌, ◌*◌, ◌/◌, ◌%◌, List, [], ◌∷◌, ◌==◌, if◌then◌else◌, ◌++◌, take, drop, length, flat_map, codes, decimal, ℤ, pos, false, All, AllPairs, slice_get, Some}
+use Rattle.std.specs.Prelude.{◌≡◌, ◌≢◌, ◌≤◌, ◌<◌, ℕ, ◌-◌, ◌*◌, ◌%◌, List, [], ◌∷◌, ◌==◌, if◌then◌else◌, ◌++◌, take, drop, length, flat_map, codes, decimal, ℤ, pos, false, All, AllPairs, slice_get, Some}
 use Rattle.std.specs.Int.{IsInRange}
 use Rattle.rtk_obs.specs.declared.code.Code.{Code}
 use Rattle.rtk_obs.specs.Code.{name_of}
 use Rattle.rtk_obs.specs.declared.position.Position.{Position}
+use Rattle.rtk_obs.specs.Position.{IsCoordinate}
 use Rattle.rtk_obs.specs.declared.time.Civil.{Civil}
 use Rattle.rtk_rinex.specs.Columns.{left, right, last_digits, decimals, fixed}
-use Rattle.rtk_rinex.specs.Reading.{reading_of, seconds_of}
+use Rattle.rtk_rinex.specs.Reading.{IsMoment, reading_of, seconds_of}
 
 -- what is known of a file before its observations: the marker's name, the listed codes, and the moment at which it is made
 pub record Heading : Type 0 where
@@ -28,7 +29,7 @@ IsCodeList listed = IsInRange 1 16 (length listed) × AllPairs (λ a b. a ≢ b)
 -- a good marker, good codes and a whole second
 abbrev pub IsHeading : Heading → Type 0
 IsHeading h =
-    IsMarker h.marker × IsCodeList h.listed × (h.made ≤ 3_818_015_999_999) × (h.made % 1000 ≡ 0)
+    IsMarker h.marker × IsCodeList h.listed × IsMoment h.made × (h.made % 1000 ≡ 0)
 
 -- a line: 60 columns, 20 columns of label, and LF
 unfoldable pub header_line : List ℕ → List ℕ → List ℕ
@@ -51,11 +52,25 @@ first_lines marker made =
     ++ header_line [] (codes "REC # / TYPE / VERS")
     ++ header_line [] (codes "ANT # / TYPE")
 
+-- the antenna reference point (ECEF) and the antenna's height above it, in 0.0001 m
+pub record Site : Type 0 where
+  pub x : ℤ
+  pub y : ℤ
+  pub z : ℤ
+  pub height : ℕ
+
+abbrev pub site_of : Position → Site
+site_of p = record { x = p.x; y = p.y; z = p.z; height = p.height }
+
+-- coordinates of 38 bits with a sign, and a height of 16 bits
+abbrev pub IsSite : Site → Type 0
+IsSite s = IsCoordinate s.x × IsCoordinate s.y × IsCoordinate s.z × (s.height < 65_536)
+
 -- the lines of the position (3F14.4, in m) and of the antenna's height (F14.4, in m; east and north are 0)
-abbrev pub position_lines : Position → List ℕ
-position_lines p =
-    header_line (fixed 4 14 p.x ++ fixed 4 14 p.y ++ fixed 4 14 p.z) (codes "APPROX POSITION XYZ")
-    ++ header_line (fixed 4 14 (pos p.height) ++ codes "        0.0000        0.0000") (codes "ANTENNA: DELTA H/E/N")
+abbrev pub position_lines : Site → List ℕ
+position_lines s =
+    header_line (fixed 4 14 s.x ++ fixed 4 14 s.y ++ fixed 4 14 s.z) (codes "APPROX POSITION XYZ")
+    ++ header_line (fixed 4 14 (pos s.height) ++ codes "        0.0000        0.0000") (codes "ANTENNA: DELTA H/E/N")
 
 -- the three observation types of a code, each behind a blank: pseudorange, carrier phase and signal strength
 abbrev pub types_of : Code → List ℕ
@@ -94,10 +109,10 @@ last_lines first =
     ++ header_line (codes "G") (codes "SYS / PHASE SHIFT")
     ++ header_line [] (codes "END OF HEADER")
 
--- the header of a heading, a position and the moment of the first observation
-unfoldable pub header_text : Heading → Position → ℕ → List ℕ
-header_text h p first =
+-- the header of a heading, a site and the moment of the first observation
+unfoldable pub header_text : Heading → Site → ℕ → List ℕ
+header_text h s first =
     first_lines h.marker (reading_of h.made)
-    ++ position_lines p
+    ++ position_lines s
     ++ types_lines h.listed
     ++ last_lines (reading_of first)

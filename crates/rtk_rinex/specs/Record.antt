@@ -1,11 +1,11 @@
 -- The record of an epoch (RINEX 3.05, Table A3).
-use Rattle.std.specs.Prelude.{◌≡◌, ◌≤◌, ◌<◌, ℕ, zero, suc, ◌+◌, ◌*◌, ◌/◌, ◌%◌, List, [], ◌∷◌, ◌++◌, length, map, replicate, codes, decimal, ℤ, pos, negsuc, int_le, Bool, true, false, ◌==◌, not, ◌&&◌, ◌||◌, if◌then◌else◌, Option, Some, None, is_some, min, max, All, AllPairs}
+use Rattle.std.specs.Prelude.{◌≡◌, ◌≤◌, ◌<◌, ℕ, ◌+◌, ◌/◌, ◌%◌, List, [], ◌∷◌, ◌++◌, length, replicate, codes, decimal, ℤ, pos, negsuc, int_le, Bool, false, ◌==◌, not, ◌&&◌, ◌||◌, if◌then◌else◌, Option, Some, None, is_some, min, max, All, AllPairs}
 use Rattle.std.specs.Int.{IsInRange}
 use Rattle.std.specs.List.{flat_map, filter, list_any}
 use Rattle.std.specs.Ordering.{int_eq}
 use Rattle.rtk_obs.specs.declared.time.Civil.{Civil}
 use Rattle.rtk_rinex.specs.Columns.{right, fixed, decimals, last_digits}
-use Rattle.rtk_rinex.specs.Reading.{reading_of, seconds_of}
+use Rattle.rtk_rinex.specs.Reading.{IsMoment, reading_of, seconds_of}
 use Rattle.rtk_rinex.specs.declared.epoch_table.Observed.{Observed}
 use Rattle.rtk_rinex.specs.declared.epoch_table.SatelliteRow.{SatelliteRow}
 
@@ -26,7 +26,7 @@ pub record IsRow (r : SatelliteRow) : Type 0 where
 
 -- an epoch: good rows, and the satellites rise
 pub record IsEpoch (e : Epoch) : Type 0 where
-  pub time : e.time ≤ 3_818_015_999_999
+  pub time : IsMoment e.time
   pub rows : All IsRow e.rows
   pub rise : AllPairs (λ a b. a.satellite < b.satellite) e.rows
 

@@ -3,7 +3,7 @@
 ghost use Rattle.std.specs.Prelude.{◌≡◌, ℕ, ◌+◌, ◌*◌, ◌≤◌, ◌<◌, [], ◌∷◌, ◌++◌, take, drop, length, OnOk, IfOk, codes, decimal, pos};
 ghost use Rattle.rtk_obs.specs.Position.{IsCoordinate};
 ghost use Rattle.rtk_rinex.specs.Columns.{left, right, fixed};
-ghost use Rattle.rtk_rinex.specs.Header.{header_line, made_text, first_lines, position_lines, types_of, types, continuation_line, types_lines, first_text, last_lines, header_text};
+ghost use Rattle.rtk_rinex.specs.Header.{header_line, made_text, first_lines, site_of, position_lines, types_of, types, continuation_line, types_lines, first_text, last_lines, header_text};
 
 use crate::columns::{fixed_14_4, integer_3, integer_6, put_last_digits, unsigned_13_7};
 use crate::head::Head;
@@ -79,7 +79,11 @@ fn put_first_lines(out: &mut Vec<u8>, marker: &[u8], made: Civil) -> Result<(), 
     requires { length marker.now ≤ 60 }
     ensures { OnOk result (out.new.items ≡ out.old.items ++ first_lines marker.now made) }
 {
-    put_line(out, b"     3.05           OBSERVATION DATA    G", b"RINEX VERSION / TYPE")?;
+    put_line(
+        out,
+        b"     3.05           OBSERVATION DATA    G",
+        b"RINEX VERSION / TYPE",
+    )?;
     put_line(out, made_content(made).as_slice(), b"PGM / RUN BY / DATE")?;
     put_line(out, marker, b"MARKER NAME")?;
     put_line(out, b"GEODETIC", b"MARKER TYPE")?;
@@ -111,10 +115,18 @@ fn height_content(height: u16) -> ArrayVec<u8, 60>
 }
 
 fn put_position_lines(out: &mut Vec<u8>, position: &Position) -> Result<(), AllocError>
-    ensures { OnOk result (out.new.items ≡ out.old.items ++ position_lines position.now) }
+    ensures { OnOk result (out.new.items ≡ out.old.items ++ position_lines (site_of position.now)) }
 {
-    put_line(out, position_content(position).as_slice(), b"APPROX POSITION XYZ")?;
-    put_line(out, height_content(position.height).as_slice(), b"ANTENNA: DELTA H/E/N")?;
+    put_line(
+        out,
+        position_content(position).as_slice(),
+        b"APPROX POSITION XYZ",
+    )?;
+    put_line(
+        out,
+        height_content(position.height).as_slice(),
+        b"ANTENNA: DELTA H/E/N",
+    )?;
     Ok(())
 }
 
@@ -208,7 +220,11 @@ fn put_types_lines(out: &mut Vec<u8>, listed: &[Code]) -> Result<(), AllocError>
 {
     let types = types_of_codes(listed);
     let text = types.as_slice();
-    put_line(out, types_content(3 * listed.len(), front(text)).as_slice(), TYPES)?;
+    put_line(
+        out,
+        types_content(3 * listed.len(), front(text)).as_slice(),
+        TYPES,
+    )?;
     put_continuation_line(out, behind(text, 52))?;
     put_continuation_line(out, behind(text, 104))?;
     put_continuation_line(out, behind(text, 156))?;
@@ -248,8 +264,13 @@ fn put_last_lines(out: &mut Vec<u8>, first: Civil) -> Result<(), AllocError>
 ///
 /// The position is that of the antenna reference point, and its height that of the antenna. Memory
 /// is taken once. Source: RINEX 3.05, Table A2.
-pub fn header(alloc: Global, head: &Head, position: &Position, first: GpsMs) -> Result<Vec<u8>, AllocError>
-    ensures { IfOk result (λ text. text.items ≡ header_text head.now position.now first) }
+pub fn header(
+    alloc: Global,
+    head: &Head,
+    position: &Position,
+    first: GpsMs,
+) -> Result<Vec<u8>, AllocError>
+    ensures { IfOk result (λ text. text.items ≡ header_text head.now (site_of position.now) first) }
 {
     let mut out = Vec::with_capacity(alloc, LONGEST)?;
     put_first_lines(&mut out, head.marker(), reading(head.made()))?;

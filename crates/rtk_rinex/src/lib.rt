@@ -12,3 +12,6 @@ pub use epoch_table::{EpochTable, Observed, SatelliteRow};
 pub use head::{Head, HeadFault};
 pub use header_text::header;
 pub use record_text::record;
+
+#[cfg(test)]
+mod tests;

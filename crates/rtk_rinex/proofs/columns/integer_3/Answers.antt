@@ -1,4 +1,4 @@
-use Rattle.std.proofs.Common.{◌≡◌, ◌+◌, ◌-◌, ◌/◌, ◌^◌, ◌≤◌, ◌<◌, List, ℕ, arith, refl, decimal, [], ◌∷◌, ◌++◌, length, true, false, cond, sym}
+use Rattle.std.proofs.Common.{arith, decimal}
 use Rattle.std.proofs.lemmas.Fmt.{length-decimal-le}
 use Rattle.rtk_rinex.proofs.ColumnsLemmas.{right-digits}
 use Rattle.rtk_rinex.proofs.columns.integer_3.Goals as goal

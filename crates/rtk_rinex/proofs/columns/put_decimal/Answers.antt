@@ -1,4 +1,4 @@
-use Rattle.std.proofs.Common.{◌≡◌, ◌+◌, ◌-◌, ◌≤◌, ◌<◌, List, ℕ, take, sym, ap, ◌∙◌, arith, append_assoc, take-take, refl, drop, decimal, ◌∷◌, length}
+use Rattle.std.proofs.Common.{◌≡◌, ◌+◌, ◌-◌, ◌<◌, take, sym, ap, ◌∙◌, arith, append_assoc, take-take, refl, drop, decimal, ◌∷◌, length}
 use Rattle.std.proofs.lemmas.Fmt.{decimal_step, decimal_digit}
 use Rattle.std.proofs.lemmas.List.{drop-set, take-set, take-append-drop}
 use Rattle.rtk_rinex.proofs.ColumnsLemmas.{length-decimal-more, length-decimal-one}

@@ -1,6 +1,6 @@
-use Rattle.std.proofs.Common.{◌≡◌, ◌+◌, ◌-◌, ◌/◌, ◌^◌, ◌≤◌, ◌<◌, List, ℕ, arith, refl, decimal, [], ◌∷◌, ◌++◌, length, true, false, cond, sym}
+use Rattle.std.proofs.Common.{◌≡◌, ◌+◌, ◌-◌, ◌/◌, ◌^◌, ◌<◌, arith, refl, decimal}
 use Rattle.std.proofs.lemmas.Fmt.{length-decimal-le}
-use Rattle.rtk_rinex.specs.Columns.{right, last_digits}
+use Rattle.rtk_rinex.specs.Columns.{last_digits}
 use Rattle.rtk_rinex.proofs.ColumnsLemmas.{right-plain, right-minus}
 use Rattle.rtk_rinex.proofs.columns.signed_14_3.Goals as goal
 

@@ -1,4 +1,4 @@
-use Rattle.std.proofs.Common.{◌≡◌, rules}
+use Rattle.std.proofs.Common.{rules}
 use Rattle.rtk_rinex.proofs.HeaderLemmas.{unlike-more}
 use Rattle.rtk_rinex.proofs.head.is_code_list.Goals as goal
 

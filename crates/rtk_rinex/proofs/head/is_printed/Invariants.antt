@@ -1,4 +1,4 @@
-use Rattle.std.proofs.Common.{◌≡◌, ℕ, ◌<◌, slice_index_or}
+use Rattle.std.proofs.Common.{ℕ, ◌<◌, slice_index_or}
 use Rattle.std.specs.Int.{IsInRange}
 use Rattle.rtk_rinex.proofs.head.is_printed.Given as goal
 

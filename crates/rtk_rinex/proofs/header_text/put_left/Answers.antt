@@ -1,4 +1,4 @@
-use Rattle.std.proofs.Common.{◌≡◌, ◌≤◌, ◌∙◌, ◌-◌, ◌++◌, ℕ, List, length, ap, refl, arith, append_assoc, take, replicate}
+use Rattle.std.proofs.Common.{◌≡◌, ◌≤◌, ◌∙◌, ◌-◌, ◌++◌, ℕ, List, length, ap, arith, append_assoc, take, replicate}
 use Rattle.std.proofs.lemmas.List.{take-replicate}
 use Rattle.rtk_rinex.specs.Columns.{left}
 use Rattle.rtk_rinex.proofs.header_text.put_left.Goals as goal

@@ -1,4 +1,4 @@
-use Rattle.std.proofs.Common.{◌≡◌, ◌≤◌, length, take, ◌∙◌, sym, arith, refl, ap}
+use Rattle.std.proofs.Common.{◌≡◌, ◌∙◌, sym, arith}
 use Rattle.rtk_rinex.specs.Record.{trim_end}
 use Rattle.rtk_rinex.proofs.RecordLemmas.{trim_end-step, trim_end-done}
 use Rattle.rtk_rinex.proofs.record_text.trimmed_len.Goals as goal

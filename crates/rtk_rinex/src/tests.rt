@@ -14,6 +14,7 @@ use std::alloc::Global;
 use std::test::Fail;
 
 const NOON: u64 = 1_399_982_400_000; // 2024-05-17 12:00:00.000
+
 const MADE: u64 = 1_399_986_000_000; // 2024-05-17 13:00:00.000
 
 /// The header of an example file: station BASE, codes 1C and 2W.
@@ -75,7 +76,12 @@ fn head_of(marker: &[u8], codes: &[Code]) -> Result<Head, Fail> {
     Ok(Head::new(marker, codes, moment(MADE)?)?)
 }
 
-fn header_of(marker: &[u8], codes: &[Code], position: &Position, alloc: Global) -> Result<Vec<u8>, Fail> {
+fn header_of(
+    marker: &[u8],
+    codes: &[Code],
+    position: &Position,
+    alloc: Global,
+) -> Result<Vec<u8>, Fail> {
     Ok(header(alloc, &head_of(marker, codes)?, position, moment(NOON)?)?)
 }
 
@@ -96,47 +102,117 @@ fn heights_and_coordinates_fill_their_columns(rt: HostRuntime) -> Result<(), Fai
     let least = -(1i64 << 37);
     let greatest = (1i64 << 37) - 1;
     let rows = [
-        (0, 0, 0, 15_000, "        0.0000        0.0000        0.0000", "        1.5000"),
-        (least, least, least, 65_535, "-13743895.3472-13743895.3472-13743895.3472", "        6.5535"),
-        (greatest, -1, 1, 1, " 13743895.3471       -0.0001        0.0001", "        0.0001"),
+        (
+            0,
+            0,
+            0,
+            15_000,
+            "        0.0000        0.0000        0.0000",
+            "        1.5000",
+        ),
+        (
+            least,
+            least,
+            least,
+            65_535,
+            "-13743895.3472-13743895.3472-13743895.3472",
+            "        6.5535",
+        ),
+        (
+            greatest,
+            -1,
+            1,
+            1,
+            " 13743895.3471       -0.0001        0.0001",
+            "        0.0001",
+        ),
     ];
     for (x, y, z, height, coordinates, shown) in rows {
-        let text = header_of(b"BASE", &CODES[..2], &position(x, y, z, height)?, rt.alloc())?;
+        let text = header_of(
+            b"BASE",
+            &CODES[..2],
+            &position(x, y, z, height)?,
+            rt.alloc(),
+        )?;
         assert_eq!(rt; text.len(), 14 * 81);
-        assert_eq!(rt; std::str::from_utf8(&text[7 * 81..7 * 81 + 42])?, coordinates);
+        assert_eq!(rt;
+            std::str::from_utf8(&text[7 * 81..7 * 81 + 42])?,
+            coordinates
+        );
         assert_eq!(rt; std::str::from_utf8(&text[8 * 81..8 * 81 + 14])?, shown);
     }
     Ok(())
 }
 
-/// The lines of the observation types: thirteen on a line.
 #[test]
-fn observation_types_continue_on_further_lines(rt: HostRuntime) -> Result<(), Fail> {
-    let first = "C1C L1C S1C C2W L2W S2W C2X L2X S2X C5X L5X S5X C1P  SYS / # / OBS TYPES ";
-    let second = "       L1P S1P C1W L1W S1W C2C L2C S2C C2P L2P S2P C2S L2S  SYS / # / OBS TYPES ";
-    let third = "       S2S C2L L2L S2L C5I L5I S5I C5Q L5Q S5Q C1S L1S S1S  SYS / # / OBS TYPES ";
-    let rows = [
-        (1, "G    3 ", "C1C L1C S1C                                          SYS / # / OBS TYPES ", "", "", ""),
-        (4, "G   12 ", "C1C L1C S1C C2W L2W S2W C2X L2X S2X C5X L5X S5X      SYS / # / OBS TYPES ", "", "", ""),
-        (5, "G   15 ", first, "       L1P S1P                                              SYS / # / OBS TYPES ", "", ""),
-        (8, "G   24 ", first, "       L1P S1P C1W L1W S1W C2C L2C S2C C2P L2P S2P          SYS / # / OBS TYPES ", "", ""),
-        (9, "G   27 ", first, second, "       S2S                                                  SYS / # / OBS TYPES ", ""),
-        (13, "G   39 ", first, second, third, ""),
-        (16, "G   48 ", first, second, third, "       C1L L1L S1L C1X L1X S1X C2D L2D S2D                  SYS / # / OBS TYPES "),
+fn thirteen_observation_types_stand_on_a_line(rt: HostRuntime) -> Result<(), Fail> {
+    let rows: [(usize, u8, &str); 7] = [
+        (
+            1,
+            1,
+            concat!(
+                "G    3 C1C L1C S1C                                          SYS / # / OBS TYPES \n",
+            ),
+        ),
+        (
+            4,
+            1,
+            concat!(
+                "G   12 C1C L1C S1C C2W L2W S2W C2X L2X S2X C5X L5X S5X      SYS / # / OBS TYPES \n",
+            ),
+        ),
+        (
+            5,
+            2,
+            concat!(
+                "G   15 C1C L1C S1C C2W L2W S2W C2X L2X S2X C5X L5X S5X C1P  SYS / # / OBS TYPES \n",
+                "       L1P S1P                                              SYS / # / OBS TYPES \n",
+            ),
+        ),
+        (
+            8,
+            2,
+            concat!(
+                "G   24 C1C L1C S1C C2W L2W S2W C2X L2X S2X C5X L5X S5X C1P  SYS / # / OBS TYPES \n",
+                "       L1P S1P C1W L1W S1W C2C L2C S2C C2P L2P S2P          SYS / # / OBS TYPES \n",
+            ),
+        ),
+        (
+            9,
+            3,
+            concat!(
+                "G   27 C1C L1C S1C C2W L2W S2W C2X L2X S2X C5X L5X S5X C1P  SYS / # / OBS TYPES \n",
+                "       L1P S1P C1W L1W S1W C2C L2C S2C C2P L2P S2P C2S L2S  SYS / # / OBS TYPES \n",
+                "       S2S                                                  SYS / # / OBS TYPES \n",
+            ),
+        ),
+        (
+            13,
+            3,
+            concat!(
+                "G   39 C1C L1C S1C C2W L2W S2W C2X L2X S2X C5X L5X S5X C1P  SYS / # / OBS TYPES \n",
+                "       L1P S1P C1W L1W S1W C2C L2C S2C C2P L2P S2P C2S L2S  SYS / # / OBS TYPES \n",
+                "       S2S C2L L2L S2L C5I L5I S5I C5Q L5Q S5Q C1S L1S S1S  SYS / # / OBS TYPES \n",
+            ),
+        ),
+        (
+            16,
+            4,
+            concat!(
+                "G   48 C1C L1C S1C C2W L2W S2W C2X L2X S2X C5X L5X S5X C1P  SYS / # / OBS TYPES \n",
+                "       L1P S1P C1W L1W S1W C2C L2C S2C C2P L2P S2P C2S L2S  SYS / # / OBS TYPES \n",
+                "       S2S C2L L2L S2L C5I L5I S5I C5Q L5Q S5Q C1S L1S S1S  SYS / # / OBS TYPES \n",
+                "       C1L L1L S1L C1X L1X S1X C2D L2D S2D                  SYS / # / OBS TYPES \n",
+            ),
+        ),
     ];
     let place = position(0, 0, 0, 0)?;
-    for (count, number, line, two, three, four) in rows {
-        let text = header_of(b"BASE", CODES.as_slice().get(..count).ok_or("codes")?, &place, rt.alloc())?;
-        let shown = std::str::from_utf8(text.as_slice())?;
-        assert!(rt; shown.contains(format!(in rt.alloc(); "H/E/N\n{number}{line}\n{two}")?.as_str()), "{count} codes");
-        let mut lines = 14;
-        for more in [two, three, four] {
-            if !more.is_empty() {
-                assert!(rt; shown.contains(format!(in rt.alloc(); "\n{more}\n")?.as_str()), "{count} codes: {more}");
-                lines += 1;
-            }
-        }
-        assert_eq!(rt; text.len(), lines * 81, "{count} codes");
+    for (count, lines, want) in rows {
+        let codes = CODES.as_slice().get(..count).ok_or("codes")?;
+        let text = header_of(b"BASE", codes, &place, rt.alloc())?;
+        let end = 9 * 81 + usize::from(lines) * 81;
+        assert_eq!(rt; text.len(), end + 4 * 81, "{count} codes");
+        assert_eq!(rt; std::str::from_utf8(&text[9 * 81..end])?, want);
     }
     Ok(())
 }
@@ -227,22 +303,134 @@ fn the_example_record_is_written(rt: HostRuntime) -> Result<(), Fail> {
 fn observations_are_written_in_their_limits(rt: HostRuntime) -> Result<(), Fail> {
     let none = None;
     let rows: [(Option<i64>, Option<i64>, Option<u32>, bool, bool, &str); 16] = [
-        (Some(9_999_999_999_999), none, None, false, false, "G07 9999999999.999"),
-        (Some(-999_999_999_999), none, None, false, false, "G07 -999999999.999"),
-        (Some(1), Some(-1), None, false, false, "G07         0.001          -0.001"),
-        (Some(10_000_000_000_000), Some(1_000), None, false, false, "G07                         1.000"),
-        (Some(-1_000_000_000_000), Some(1_000), None, false, false, "G07                         1.000"),
-        (Some(0), Some(1_000), None, false, false, "G07                         1.000"),
-        (none, Some(-1_234), None, true, false, "G07                        -1.2341"),
-        (none, Some(1_234), None, false, true, "G07                         1.2342"),
-        (none, Some(1_234), None, true, true, "G07                         1.2343"),
-        (none, Some(1_234), Some(45_000), true, true, "G07                         1.23437        45.000"),
-        (none, Some(0), Some(45_000), true, true, "G07                                        45.000"),
-        (Some(1_000), none, Some(250), true, true, "G07         1.000 1                         0.250"),
-        (Some(1_000), none, Some(5_000), false, false, "G07         1.000 1                         5.000"),
-        (Some(1_000), none, Some(53_750), false, false, "G07         1.000 8                        53.750"),
-        (Some(1_000), none, Some(54_000), false, false, "G07         1.000 9                        54.000"),
-        (Some(1_000), none, Some(63_750), false, false, "G07         1.000 9                        63.750"),
+        (
+            Some(9_999_999_999_999),
+            none,
+            None,
+            false,
+            false,
+            "G079999999999.999",
+        ),
+        (
+            Some(-999_999_999_999),
+            none,
+            None,
+            false,
+            false,
+            "G07-999999999.999",
+        ),
+        (
+            Some(1),
+            Some(-1),
+            None,
+            false,
+            false,
+            "G07         0.001          -0.001",
+        ),
+        (
+            Some(10_000_000_000_000),
+            Some(1_000),
+            None,
+            false,
+            false,
+            "G07                         1.000",
+        ),
+        (
+            Some(-1_000_000_000_000),
+            Some(1_000),
+            None,
+            false,
+            false,
+            "G07                         1.000",
+        ),
+        (
+            Some(0),
+            Some(1_000),
+            None,
+            false,
+            false,
+            "G07                         1.000",
+        ),
+        (
+            none,
+            Some(-1_234),
+            None,
+            true,
+            false,
+            "G07                        -1.2341",
+        ),
+        (
+            none,
+            Some(1_234),
+            None,
+            false,
+            true,
+            "G07                         1.2342",
+        ),
+        (
+            none,
+            Some(1_234),
+            None,
+            true,
+            true,
+            "G07                         1.2343",
+        ),
+        (
+            none,
+            Some(1_234),
+            Some(45_000),
+            true,
+            true,
+            "G07                         1.23437        45.000",
+        ),
+        (
+            none,
+            Some(0),
+            Some(45_000),
+            true,
+            true,
+            "G07                                        45.000",
+        ),
+        (
+            Some(1_000),
+            none,
+            Some(250),
+            true,
+            true,
+            "G07         1.000 1                         0.250",
+        ),
+        (
+            Some(1_000),
+            none,
+            Some(5_000),
+            false,
+            false,
+            "G07         1.000 1                         5.000",
+        ),
+        (
+            Some(1_000),
+            none,
+            Some(53_750),
+            false,
+            false,
+            "G07         1.000 8                        53.750",
+        ),
+        (
+            Some(1_000),
+            none,
+            Some(54_000),
+            false,
+            false,
+            "G07         1.000 9                        54.000",
+        ),
+        (
+            Some(1_000),
+            none,
+            Some(63_750),
+            false,
+            false,
+            "G07         1.000 9                        63.750",
+        ),
     ];
     let head = Head::new(b"BASE", &CODES[..1], moment(MADE)?)?;
     for (range_mm, phase_millicycles, strength_millidbhz, slip, half, line) in rows {
@@ -251,7 +439,16 @@ fn observations_are_written_in_their_limits(rt: HostRuntime) -> Result<(), Fail>
             assert!(rt; false, "a strength of {strength}");
         }
         let mut table = EpochTable::new(moment(NOON)?);
-        table.push(row(7, Observed { range_mm, phase_millicycles, strength_millidbhz, slip, half }));
+        table.push(row(
+            7,
+            Observed {
+                range_mm,
+                phase_millicycles,
+                strength_millidbhz,
+                slip,
+                half,
+            },
+        ));
         let text = record(rt.alloc(), &head, &table)?;
         let want = format!(in rt.alloc(); "> 2024 05 17 12 00  0.0000000  0  1\n{line}\n")?;
         assert_eq!(rt; std::str::from_utf8(text.as_slice())?, want.as_str());
@@ -264,9 +461,20 @@ fn satellites_without_an_observation_are_left_out(rt: HostRuntime) -> Result<(),
     let head = Head::new(b"BASE", &CODES[..1], moment(MADE)?)?;
     let mut table = EpochTable::new(moment(NOON)?);
     assert_eq!(rt; record(rt.alloc(), &head, &table)?.len(), 0);
-    let range = Observed { range_mm: Some(20_000_000_000), ..BLANK };
-    let strength = Observed { strength_millidbhz: Some(30_000), ..BLANK };
-    let outside = Observed { range_mm: Some(0), phase_millicycles: Some(10_000_000_000_000), slip: true, ..BLANK };
+    let range = Observed {
+        range_mm: Some(20_000_000_000),
+        ..BLANK
+    };
+    let strength = Observed {
+        strength_millidbhz: Some(30_000),
+        ..BLANK
+    };
+    let outside = Observed {
+        range_mm: Some(0),
+        phase_millicycles: Some(10_000_000_000_000),
+        slip: true,
+        ..BLANK
+    };
     table.push(row(3, outside));
     assert_eq!(rt; record(rt.alloc(), &head, &table)?.len(), 0);
     // 2024-12-31 23:59:59.999

@@ -1,0 +1,64 @@
+-- Well-formed tables of observations, and their text: what a file of this project can be.
+use Rattle.std.specs.Prelude.{◌≡◌, ◌≢◌, ◌≤◌, ◌<◌, ℕ, List, [], ◌∷◌, ◌++◌, length, flat_map, All, AllPairs, ℤ, Option, Some, None, Bool, false, IsTrue}
+use Rattle.std.specs.Int.{IsInRange}
+use Rattle.rtk_rinex.specs.Reading.{IsMoment}
+use Rattle.rtk_rinex.specs.Header.{Heading, Site, IsHeading, IsSite, header_text}
+use Rattle.rtk_rinex.specs.Record.{Epoch, IsStrength, is_written, has_line, record_text}
+use Rattle.rtk_rinex.specs.declared.epoch_table.Observed.{Observed}
+use Rattle.rtk_rinex.specs.declared.epoch_table.SatelliteRow.{SatelliteRow}
+
+-- a file: its head, its site, the moment of its first observation, and its epochs
+pub record Table : Type 0 where
+  pub head : Heading
+  pub site : Site
+  pub first : ℕ
+  pub epochs : List Epoch
+
+-- no value, or one that is written
+abbrev pub IsValue : Option ℤ → Type 0
+IsValue None = Unit {0}
+IsValue (Some v) = IsTrue (is_written v)
+
+-- a phase that isn't there has no loss-of-lock indicator
+abbrev pub IsLock : Option ℤ → Bool → Bool → Type 0
+IsLock None slip half = (slip ≡ false) × (half ≡ false)
+IsLock (Some v) slip half = Unit {0}
+
+-- what a code of a file can show
+pub record IsObserved (o : Observed) : Type 0 where
+  pub range : IsValue o.range_mm
+  pub phase : IsValue o.phase_millicycles
+  pub strength : IsStrength o.strength_millidbhz
+  pub lock : IsLock o.phase_millicycles o.slip o.half
+
+-- a satellite of a file of n codes: it has a line
+pub record IsTableRow (n : ℕ) (r : SatelliteRow) : Type 0 where
+  pub satellite : IsInRange 1 32 r.satellite
+  pub width : length r.observed.items ≡ n
+  pub observed : All IsObserved r.observed.items
+  pub line : IsTrue (has_line r)
+
+-- an epoch of a file of n codes: its satellites rise, so there are 1 to 32
+pub record IsTableEpoch (n : ℕ) (e : Epoch) : Type 0 where
+  pub time : IsMoment e.time
+  pub some : e.rows ≢ []
+  pub rows : All (IsTableRow n) e.rows
+  pub rise : AllPairs (λ a b. a.satellite < b.satellite) e.rows
+
+-- the first epoch, where there is one, is at the first time
+abbrev pub StartsAt : ℕ → List Epoch → Type 0
+StartsAt first [] = Unit {0}
+StartsAt first (e ∷ epochs) = e.time ≡ first
+
+-- a well-formed table
+pub record IsTable (t : Table) : Type 0 where
+  pub head : IsHeading t.head
+  pub site : IsSite t.site
+  pub first : IsMoment t.first
+  pub starts : StartsAt t.first t.epochs
+  pub epochs : All (IsTableEpoch (length t.head.listed)) t.epochs
+  pub rise : AllPairs (λ a b. a.time < b.time) t.epochs
+
+-- the text of a table: its header, then a record for each epoch
+abbrev pub table_text : Table → List ℕ
+table_text t = header_text t.head t.site t.first ++ flat_map record_text t.epochs
