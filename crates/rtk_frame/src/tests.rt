@@ -173,14 +173,31 @@ fn hungry_only_where_all_is_used(rt: HostRuntime) {
 fn the_longest_frame_byte_by_byte(rt: HostRuntime) {
     let frame = encode_frame(rt.alloc(), &[0; 1023]).expect(&rt, "memory");
     let mut scanner = Scanner::new(rt.alloc()).expect(&rt, "memory");
-    let mut hungry = 0;
-    for byte in frame.as_slice() {
-        match scanner.feed(&[*byte]).answer {
-            Answer::Hungry => hungry += 1,
-            Answer::Found(payload) => assert!(rt; payload == &[0; 1023][..]),
-        }
+    let [first @ .., last] = frame.as_slice() else {
+        panic!(rt; "no bytes")
+    };
+    assert_eq!(rt; first.len(), 1028);
+    let (_, count) = feed_in_pieces(rt.alloc(), &mut scanner, first, 1).expect(&rt, "memory");
+    assert_eq!(rt; count, 0);
+    let fed = scanner.feed(&[*last]);
+    assert!(rt; matches!(fed.answer, Answer::Found(payload) if payload == &[0; 1023][..]));
+}
+
+/// The place and the length of the payload of each frame of a text, and the payloads, one behind
+/// another.
+fn frames_by_search(
+    alloc: Global,
+    text: &[u8],
+) -> Result<(Vec<(usize, usize)>, Vec<u8>), AllocError> {
+    let mut frames = Vec::new(alloc);
+    let mut payloads = Vec::new(alloc);
+    let mut from = 0usize;
+    while let Some(found) = next_frame(text, from) {
+        frames.push((found.place, found.payload.len()))?;
+        payloads.extend_from_slice(found.payload)?;
+        from = found.place + (found.payload.len() + 6);
     }
-    assert_eq!(rt; hungry, 1028);
+    Ok((frames, payloads))
 }
 
 #[test]
@@ -191,23 +208,13 @@ fn the_plain_program_does_the_same(rt: HostRuntime) {
         bytes.extend_from_slice(more.as_slice()).expect(&rt, "memory");
     }
     let text = bytes.as_slice();
-    for length in 0..70usize {
-        assert_eq!(rt; crc24q(&text[..length]), checksum_bit_by_bit(&text[..length]));
-    }
-    let frames = frames_of(rt.alloc(), text).expect(&rt, "memory");
-    let mut payloads = Vec::new(rt.alloc());
-    let mut from = 0usize;
-    for (place, payload) in frames.as_slice() {
-        match next_frame(text, from) {
-            Some(found) => {
-                assert_eq!(rt; (found.place, found.payload.len()), (*place, *payload));
-                payloads.extend_from_slice(found.payload).expect(&rt, "memory");
-                from = found.place + (found.payload.len() + 6);
-            }
-            None => assert!(rt; false, "no frame from {from} on"),
+    for size in [1usize, 7, 8, 9, 70, 1000] {
+        for part in text.chunks(size) {
+            assert_eq!(rt; crc24q(part), checksum_bit_by_bit(part));
         }
     }
-    assert!(rt; next_frame(text, from).is_none());
+    let (frames, payloads) = frames_by_search(rt.alloc(), text).expect(&rt, "memory");
+    assert!(rt; frames == frames_of(rt.alloc(), text).expect(&rt, "memory"));
     for size in [1usize, 5, 512] {
         let mut scanner = Scanner::new(rt.alloc()).expect(&rt, "memory");
         let (mut found, _) =
@@ -217,6 +224,6 @@ fn the_plain_program_does_the_same(rt: HostRuntime) {
                 found.extend_from_slice(payload).expect(&rt, "memory");
             }
         }
-        assert!(rt; found.as_slice() == payloads.as_slice(), "pieces of {size}");
+        assert!(rt; found == payloads, "pieces of {size}");
     }
 }

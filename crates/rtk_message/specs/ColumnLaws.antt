@@ -6,7 +6,7 @@ use Rattle.std.proofs.lemmas.Nat.{ones-le, ones_cat}
 use lib.Count.{ones}
 use Rattle.std.proofs.Math.Nat.{mod-eq_of_lt}
 use Rattle.rtk_bits.specs.Bits.{unsigned, bits_of}
-use Rattle.rtk_bits.proofs.Numbers.{unsigned-append, num_lt, unsigned-bits_of}
+use Rattle.rtk_bits.proofs.Numbers.{unsigned-append, unsigned_lt, unsigned-bits_of}
 use Rattle.rtk_message.specs.Fields.{Field, u, bits_of_fields, FieldFits, FieldsFit, TakesAll, Takes, Puts, PutsAll}
 use Rattle.rtk_message.specs.FieldLaws.{took, took_none, put, put_none, SameForm, one_list, total}
 use Rattle.rtk_message.specs.FieldLaws.{bits_of_fields-append, fit-append, fit-left, took_both, put_both}
@@ -71,7 +71,7 @@ ones-numbers w [] fit = refl
 ones-numbers w (n ∷ ns) fit =
     let rest = bits_of_fields (numbers w ns) in
     rw (unsigned-append (bits_of w n) rest, unsigned-bits_of w n, mod-eq_of_lt fit.0, sum_by-cons count_ones n ns)
-    (ones_cat (length rest) n (unsigned rest) (num_lt rest) ∙ ap (λ (k : ℕ). count_ones n + k) (ones-numbers w ns fit.1))
+    (ones_cat (length rest) n (unsigned rest) (unsigned_lt rest) ∙ ap (λ (k : ℕ). count_ones n + k) (ones-numbers w ns fit.1))
 
 -- and a row has no more than its width
 pub ones-few : (w : ℕ) (ns : List ℕ) → FieldsFit (numbers w ns) → sum_by count_ones ns ≤ w * length ns

@@ -248,11 +248,11 @@ fn observations_have_their_fields(rt: HostRuntime) -> Result<(), Fail> {
     let Ok(Message::Obs1004(read)) = decode(&Q) else {
         return Err("no 1004".into());
     };
-    assert_eq!(rt; read.satellites.as_slice(), &[first]);
+    assert_eq!(rt; read.satellites.as_slice(), [first].as_slice());
     let Ok(Message::Obs1004(read)) = decode(&MARKS) else {
         return Err("no 1004".into());
     };
-    assert_eq!(rt; read.satellites.as_slice(), &[invalid, second]);
+    assert_eq!(rt; read.satellites.as_slice(), [invalid, second].as_slice());
     Ok(())
 }
 
@@ -264,14 +264,14 @@ fn columns_go_satellite_by_satellite(rt: HostRuntime) -> Result<(), Fail> {
     // The first bit of a mask stands for identifier 1, the first of a row for the first signal.
     assert_eq!(rt; read.header.satellite_mask, 1 << 59 | 1 << 57);
     assert_eq!(rt; read.header.signal_mask, 1 << 30 | 1 << 22);
-    assert_eq!(rt; read.cell_mask.as_slice(), &[0b10, 0b01]);
-    assert_eq!(rt; read.rough_ms.as_slice(), &[70, 71]);
-    assert_eq!(rt; read.rough_fraction.as_slice(), &[512, 513]);
-    assert_eq!(rt; read.fine_range.as_slice(), &[100, -100]);
-    assert_eq!(rt; read.fine_phase.as_slice(), &[1000, -1000]);
-    assert_eq!(rt; read.lock_indicator.as_slice(), &[9, 10]);
-    assert_eq!(rt; read.half_cycle.as_slice(), &[true, false]);
-    assert_eq!(rt; read.cnr.as_slice(), &[40, 41]);
+    assert_eq!(rt; read.cell_mask.as_slice(), [0b10, 0b01].as_slice());
+    assert_eq!(rt; read.rough_ms.as_slice(), [70, 71].as_slice());
+    assert_eq!(rt; read.rough_fraction.as_slice(), [512, 513].as_slice());
+    assert_eq!(rt; read.fine_range.as_slice(), [100, -100].as_slice());
+    assert_eq!(rt; read.fine_phase.as_slice(), [1000, -1000].as_slice());
+    assert_eq!(rt; read.lock_indicator.as_slice(), [9, 10].as_slice());
+    assert_eq!(rt; read.half_cycle.as_slice(), [true, false].as_slice());
+    assert_eq!(rt; read.cnr.as_slice(), [40, 41].as_slice());
     Ok(())
 }
 
