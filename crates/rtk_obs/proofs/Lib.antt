@@ -1,5 +1,10 @@
 pub mod YearLemmas
+pub mod CodeLemmas
+pub mod CellLemmas
 pub mod RoundingLemmas
 pub mod RolloverLemmas
 pub mod TracksLemmas
+pub mod ScalingLemmas
 pub mod MaskLemmas
+pub mod LegacyLemmas
+pub mod MsmLemmas

@@ -2,7 +2,7 @@
 use Rattle.std.proofs.Common.{◌≡◌, ◌≢◌, ℕ, zero, suc, ◌+◌, ◌-◌, ◌*◌, ◌^◌, ◌<◌, ◌≤◌, [], ◌∷◌, ◌++◌, List, length, take, get_or, refl, sym, ◌∙◌, ap, subst, arith, true, false, Bool, cond, append_assoc, length-append, inl, inr, sum_by}
 use Rattle.std.specs.Prelude.{nat_le}
 use Rattle.std.specs.List.{All, AllByRecursion}
-use Rattle.std.proofs.lemmas.List.{append-nil}
+use Rattle.std.proofs.lemmas.List.{append-nil, take_more, length-take-le}
 use Rattle.std.proofs.lemmas.List.Elements.{All-from_recursion}
 use Rattle.std.proofs.lemmas.List.Sums.{sum_by-cons}
 use Rattle.std.proofs.lemmas.Bool.{cases_order}
@@ -206,3 +206,16 @@ module _ {X Y : Type 0} (f : ℕ → X → List Y) where
   unfolding join_from
   all-join_from P k n [] h each = tt
   all-join_from P k n (x ∷ xs) h each = all_joined P (f k x) (join_from f (suc k) xs) (each k x (omega arith)) (all-join_from P (suc k) n xs (omega arith) each)
+
+  -- one element more, as a loop over them adds it
+  pub join_from-more : (xs : List X) (i : ℕ) (d : X) (found new : List Y) → i < length xs → found ≡ join_from f 0 (take i xs) → new ≡ found ++ f i (get_or xs i d)
+      → new ≡ join_from f 0 (take (i + 1) xs)
+  join_from-more xs i d found new h so_far added =
+      let n : 0 + length (take i xs) ≡ i = omega (arith, length-take-le i xs (omega arith)) in
+      let next = join_from-snoc 0 (take i xs) (get_or xs i d) in
+      added ∙ (ap (λ (ys : List Y). ys ++ f i (get_or xs i d)) so_far
+      ∙ (sym (next ∙ ap (λ (k : ℕ). join_from f 0 (take i xs) ++ f k (get_or xs i d)) n) ∙ ap (λ (zs : List X). join_from f 0 zs) (sym (take_more xs i d h))))
+
+  pub join_from-none : (xs : List X) (found : List Y) → found ≡ [] → found ≡ join_from f 0 (take 0 xs)
+  unfolding join_from
+  join_from-none xs found e = e

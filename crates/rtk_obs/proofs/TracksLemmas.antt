@@ -14,7 +14,7 @@ use Rattle.rtk_obs.specs.Cell.{IsSatellite}
 use Rattle.rtk_obs.specs.Rollover.{last_after, last_phase, track_of}
 use Rattle.rtk_obs.specs.Steps.{Step, epochs_of, IsFalling, PhasesFall}
 use Rattle.rtk_obs.specs.Tracks.{IsLater, track_at, place_of_signal, Represents}
-use Rattle.rtk_obs.specs.TracksLaws.{IsGreatest, LastIsGreatest, LaterThanSteps}
+use Rattle.rtk_obs.specs.TracksLaws.{IsGreatest, LastIsGreatest, LaterThanSteps, LaterAfterStep}
 
 pub get_or-replicate : {X : Type 0} (n i : ℕ) (y : X) → get_or (replicate n y) i y ≡ y
 get_or-replicate zero i y = refl
@@ -143,6 +143,13 @@ later_than band (e ∷ es) x a =
 pub later_than_steps : LaterThanSteps
 later_than_steps tracks steps satellite code epoch represents is_satellite a =
     subst (λ (o : Option Track). IsLater o epoch) (sym (represents.last satellite code is_satellite)) (later_than (band_of code) (epochs_of satellite code steps) epoch a)
+
+chosen_later : (b : Bool) (t : Track) (last : Option Track) (x : ℕ) → IsLater last x → t.epoch < x → IsLater (cond b (Some t) last) x
+chosen_later true t last x later h = h
+chosen_later false t last x later h = later
+
+pub later_after_step : LaterAfterStep
+later_after_step band last e epoch later h = chosen_later (has_phase e) (track_of band last e) last epoch later h
 
 -- ---- the greatest epoch
 

@@ -8,6 +8,9 @@ pub mod PositionFields
 pub mod Scaling
 pub mod Mask
 pub mod Cell
+pub mod LegacyCells
+pub mod LegacyFields
+pub mod MsmCells
 pub mod Slip
 pub mod Rollover
 pub mod Steps

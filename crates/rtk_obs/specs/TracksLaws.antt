@@ -6,7 +6,7 @@ use Rattle.rtk_obs.specs.declared.code.Code.{Code}
 use Rattle.rtk_obs.specs.declared.track.Track.{Track}
 use Rattle.rtk_obs.specs.Slip.{EpochCell, has_phase}
 use Rattle.rtk_obs.specs.Cell.{IsSatellite}
-use Rattle.rtk_obs.specs.Rollover.{last_phase}
+use Rattle.rtk_obs.specs.Rollover.{last_after, last_phase}
 use Rattle.rtk_obs.specs.Steps.{Step, epochs_of, PhasesFall}
 use Rattle.rtk_obs.specs.Tracks.{IsLater, track_at, Represents}
 
@@ -36,3 +36,8 @@ LaterThanSteps =
     → Represents tracks steps → IsSatellite satellite
     → AllByRecursion (λ e. e.epoch < epoch) (filter has_phase (epochs_of satellite code steps))
     → IsLater (track_at tracks satellite code) epoch
+
+-- and an epoch after a step is one that the next step may have
+abbrev pub LaterAfterStep : Type 0
+LaterAfterStep =
+    (band : Band) (last : Option Track) (e : EpochCell) (epoch : ℕ) → IsLater last epoch → e.epoch < epoch → IsLater (last_after band last e) epoch

@@ -1,5 +1,9 @@
 //! What a message gives for a satellite and a code at its epoch.
 
+ghost use Rattle.std.specs.Prelude.{◌≡◌, ◌↔◌, IsTrue};
+ghost use Rattle.rtk_obs.specs.declared.cell.Cell.{Cell};
+ghost use Rattle.rtk_obs.specs.Cell.{is_satellite};
+
 use crate::code::Code;
 
 /// The kind of message that a cell came in.
@@ -38,4 +42,17 @@ pub struct CellEntry {
     pub satellite: u8,
     pub code: Code,
     pub cell: Cell,
+}
+
+// Is this a satellite of GPS that RINEX has?
+pub(crate) fn is_gps(satellite: u8) -> bool
+    ensures { result ≡ is_satellite satellite }
+{
+    1 <= satellite && satellite <= 32
+}
+
+/// `==` on cells is equality of all their fields.
+pub fn cell_laws()
+    ensures equality { (a b : Cell) → IsTrue (⟦<Cell as PartialEq>⟧.eq a b) ↔ (a ≡ b) }
+{
 }

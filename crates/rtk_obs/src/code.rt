@@ -1,6 +1,8 @@
 //! Observation codes and the bands of their carriers.
 
 ghost use Rattle.std.specs.Prelude.{◌≡◌, ◌≢◌, ◌<◌, ◌≤◌, MatchOption};
+ghost use Rattle.rtk_obs.specs.Code.{name_of};
+ghost use Rattle.rtk_obs.specs.declared.code.Code.{Code};
 
 /// The carrier of a signal of GPS.
 #[derive(Clone, Copy, Debug, Default, PartialEq, Eq, Hash)]
@@ -68,8 +70,7 @@ pub enum Code {
 }
 
 impl Code {
-    ghost use Rattle.rtk_obs.specs.Code.{name_of, band_of, place_of};
-    ghost use Rattle.rtk_obs.specs.declared.code.Code.{Code};
+    ghost use Rattle.rtk_obs.specs.Code.{band_of, place_of};
 
     /// The two characters of the code in RINEX: the band, then the attribute.
     pub fn name(self) -> [u8; 2]
@@ -138,4 +139,10 @@ impl Code {
     {
         self as usize
     }
+}
+
+/// No two codes have one name. So `Code::from_name` of a code's `name` is the code.
+pub fn code_laws()
+    ensures names { (c d : Code) → name_of c ≡ name_of d → c ≡ d }
+{
 }

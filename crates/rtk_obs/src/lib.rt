@@ -5,8 +5,10 @@ mod calendar;
 mod cell;
 mod code;
 mod dating;
+mod legacy_cells;
 mod lock_time;
 mod mask;
+mod msm_cells;
 mod position;
 mod rollover;
 mod rounding;
@@ -17,13 +19,18 @@ mod track;
 mod tracks;
 
 pub use calendar::{civil, civil_laws, of_civil};
-pub use cell::{Cell, CellEntry, CellSource};
-pub use code::{Band, Code};
+pub use cell::{Cell, CellEntry, CellSource, cell_laws};
+pub use code::{Band, Code, code_laws};
 pub use dating::{HALF_WEEK_MS, WEEK_MS, date, date_is_unique};
+pub use legacy_cells::cells_1004;
 pub use lock_time::{least_lock_legacy, least_lock_msm};
+pub use msm_cells::cells_1074;
 pub use position::Position;
 pub use rollover::rolled;
 pub use rounding::{round_div, rounded_is_unique};
 pub use time::{Civil, GpsMs, LAST_MS};
 pub use track::{Digits, Track};
 pub use tracks::{Tracks, tracks_laws};
+
+#[cfg(test)]
+mod tests;

@@ -1,6 +1,6 @@
 //! The last phase of each satellite and code, and one step over a cell.
 
-ghost use Rattle.std.specs.Prelude.{◌≡◌, ◌≢◌, ℕ, ◌≤◌, List, [], ◌∷◌, Option, unsigned_abs};
+ghost use Rattle.std.specs.Prelude.{◌≡◌, ◌≢◌, ℕ, ◌≤◌, List, [], ◌∷◌, Option, None, unsigned_abs};
 ghost use Rattle.rtk_obs.specs.declared.code.Band.{Band};
 ghost use Rattle.rtk_obs.specs.declared.code.Code.{Code};
 ghost use Rattle.rtk_obs.specs.declared.track.Track.{Track};
@@ -10,7 +10,7 @@ ghost use Rattle.rtk_obs.specs.Cell.{IsSatellite};
 ghost use Rattle.rtk_obs.specs.Slip.{epoch_cell};
 ghost use Rattle.rtk_obs.specs.Rollover.{last_after, last_phase, digits_since};
 ghost use Rattle.rtk_obs.specs.Steps.{Step, step_of, epochs_of};
-ghost use Rattle.rtk_obs.specs.TracksLaws.{LastIsGreatest, LaterThanSteps};
+ghost use Rattle.rtk_obs.specs.TracksLaws.{LastIsGreatest, LaterThanSteps, LaterAfterStep};
 ghost use Rattle.rtk_obs.specs.Tracks.{IsBounded, IsLater, track_at, place_of_signal, Represents};
 
 use crate::cell::Cell;
@@ -94,7 +94,8 @@ fn track_behind(last: Option<Track>, digits: Digits, epoch: u64, cell: &Cell) ->
 impl Tracks {
     /// No phase came yet.
     pub fn new() -> Tracks
-        ensures { Represents result [] }
+        ensures represents { Represents result [] }
+        ensures empty { (satellite : ℕ) (code : Code) → track_at result satellite code ≡ None }
     {
         Tracks {
             last: [None; PLACES],
@@ -127,4 +128,5 @@ impl Tracks {
 pub fn tracks_laws()
     ensures greatest { LastIsGreatest }
     ensures later { LaterThanSteps }
+    ensures after { LaterAfterStep }
 {}

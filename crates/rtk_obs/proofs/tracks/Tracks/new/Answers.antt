@@ -12,6 +12,9 @@ invariant_of-result c = record {
 
 pub returns : goal.returns
 returns c = record {
-  rising = λ s k h. tt;
-  last = λ s k h. get_or-replicate 512 (place_of_signal s k) None;
+  represents = record {
+    rising = λ s k h. tt;
+    last = λ s k h. get_or-replicate 512 (place_of_signal s k) None;
+  };
+  empty = λ s k. get_or-replicate 512 (place_of_signal s k) None;
 }

@@ -1,0 +1,147 @@
+-- The cells of a 1074: how many there are, the widths of their fields, and the ranges of their values.
+use Rattle.std.proofs.Common.{◌≡◌, ℕ, zero, suc, ◌+◌, ◌*◌, ◌^◌, ◌<◌, ◌≤◌, [], ◌∷◌, ◌++◌, List, length, take, get_or, map, Option, Some, None, refl, sym, ◌∙◌, subst, arith, nat_eq, true, false, Bool, cond, count_ones}
+use Rattle.std.specs.Prelude.{IfSome, option_to_list}
+use Rattle.std.specs.List.{All, AllByRecursion}
+use Rattle.std.proofs.lemmas.List.{length-map}
+use Rattle.std.proofs.lemmas.List.Elements.{All-from_recursion, All-get_or}
+use Rattle.std.proofs.lemmas.Bool.Decides.{nat_tests}
+use Rattle.rtk_message.specs.Fields.{Field, FieldsFit}
+use Rattle.rtk_message.specs.Columns.{numbers, integers, flags}
+use Rattle.rtk_message.specs.Msm1074.{IsValid, satellites, signals, cells, mask_table, columns}
+use Rattle.rtk_message.specs.declared.msm1074.Msm1074.{Msm1074}
+use Rattle.rtk_obs.specs.declared.code.Code.{Code}
+use Rattle.rtk_obs.specs.declared.cell.CellEntry.{CellEntry}
+use Rattle.rtk_obs.specs.declared.msm_cells.Slot.{Slot}
+use Rattle.rtk_obs.specs.Cell.{is_satellite, IsSatellite, IsStrength, IsInRange}
+use Rattle.rtk_obs.specs.Mask.{set_bits, join_from}
+use Rattle.rtk_obs.specs.Scaling.{strength_of}
+use Rattle.rtk_obs.specs.MsmCells.{satellites_of, signals_of, row_slots, slots_of, coded_entry, slot_entry, code_of_signal, cells_of_1074}
+use Rattle.rtk_obs.proofs.MaskLemmas.{set_bits_from-length, count-set_bits_from, length-join_from, join_from-length, join_from-room, all-join_from}
+
+-- ---- widths
+
+fits_right : (fs gs : List Field) → FieldsFit (fs ++ gs) → FieldsFit gs
+fits_right [] gs h = h
+fits_right (f ∷ fs) gs h = fits_right fs gs h.1
+
+fits_left : (fs gs : List Field) → FieldsFit (fs ++ gs) → FieldsFit fs
+fits_left [] gs h = tt
+fits_left (f ∷ fs) gs h = (h.0, fits_left fs gs h.1)
+
+numbers_fit : (w : ℕ) (ns : List ℕ) → FieldsFit (numbers w ns) → AllByRecursion (λ n. n < 2 ^ w) ns
+numbers_fit w [] h = tt
+numbers_fit w (n ∷ ns) h = (h.0, numbers_fit w ns h.1)
+
+behind_header : (m : Msm1074) → IsValid m → FieldsFit (mask_table m ++ columns m)
+behind_header m h = h.fields_fit.1.1.1.1.1.1.1.1.1.1.1
+
+columns_fit : (m : Msm1074) → IsValid m → FieldsFit (columns m)
+columns_fit m h = fits_right (mask_table m) (columns m) (behind_header m h)
+
+locks_on : (m : Msm1074) → IsValid m → FieldsFit (numbers 4 m.lock_indicator ++ (flags m.half_cycle ++ numbers 6 m.cnr))
+locks_on m h =
+    fits_right (integers 22 m.fine_phase) (numbers 4 m.lock_indicator ++ (flags m.half_cycle ++ numbers 6 m.cnr))
+    (fits_right (integers 15 m.fine_range) (integers 22 m.fine_phase ++ (numbers 4 m.lock_indicator ++ (flags m.half_cycle ++ numbers 6 m.cnr)))
+    (fits_right (numbers 10 m.rough_fraction) (integers 15 m.fine_range ++ (integers 22 m.fine_phase ++ (numbers 4 m.lock_indicator ++ (flags m.half_cycle ++ numbers 6 m.cnr))))
+    (fits_right (numbers 8 m.rough_ms) (numbers 10 m.rough_fraction ++ (integers 15 m.fine_range ++ (integers 22 m.fine_phase ++ (numbers 4 m.lock_indicator ++ (flags m.half_cycle ++ numbers 6 m.cnr)))))
+    (columns_fit m h))))
+
+pub locks_fit : (m : Msm1074) → IsValid m → All (λ n. n < 16) m.lock_indicator
+locks_fit m h = All-from_recursion (λ (n : ℕ). n < 16) m.lock_indicator (numbers_fit 4 m.lock_indicator (fits_left (numbers 4 m.lock_indicator) (flags m.half_cycle ++ numbers 6 m.cnr) (locks_on m h)))
+
+cnr_fits : (m : Msm1074) → IsValid m → AllByRecursion (λ n. n < 64) m.cnr
+cnr_fits m h = numbers_fit 6 m.cnr (fits_right (flags m.half_cycle) (numbers 6 m.cnr) (fits_right (numbers 4 m.lock_indicator) (flags m.half_cycle ++ numbers 6 m.cnr) (locks_on m h)))
+
+-- ---- counts
+
+pub count-satellites : (m : Msm1074) → IsValid m → length (satellites_of m) ≡ satellites m.header
+count-satellites m h = count-set_bits_from 1 64 m.header.satellite_mask h.fields_fit.1.1.1.1.1.1.1.1.1.0
+
+pub count-signals : (m : Msm1074) → IsValid m → length (signals_of m) ≡ signals m.header
+count-signals m h = count-set_bits_from 1 32 m.header.signal_mask h.fields_fit.1.1.1.1.1.1.1.1.1.1.0
+
+pub few_signals : (m : Msm1074) → length (signals_of m) ≤ 32
+few_signals m = set_bits_from-length 1 32 m.header.signal_mask
+
+rows_fit : (m : Msm1074) → IsValid m → AllByRecursion (λ b. b < 2 ^ length (signals_of m)) m.cell_mask
+rows_fit m h =
+    subst (λ (n : ℕ). AllByRecursion (λ b. b < 2 ^ n) m.cell_mask) (sym (count-signals m h))
+    (numbers_fit (signals m.header) m.cell_mask (fits_left (mask_table m) (columns m) (behind_header m h)))
+
+length-row_slots : (ss : List ℕ) (row bits : ℕ) → length (row_slots ss row bits) ≡ length (set_bits (length ss) bits)
+length-row_slots ss row bits = length-map (set_bits (length ss) bits) _
+
+pub count-slots : (m : Msm1074) → IsValid m → length (slots_of m) ≡ cells m
+count-slots m h =
+    length-join_from (row_slots (signals_of m)) count_ones (λ b. b < 2 ^ length (signals_of m))
+    (λ k bits below. length-row_slots (signals_of m) k bits ∙ count-set_bits_from 1 (length (signals_of m)) bits below)
+    0 m.cell_mask (rows_fit m h)
+
+pub few_slots : (m : Msm1074) → IsValid m → length (slots_of m) ≤ 64
+few_slots m h =
+    let most = join_from-length (row_slots (signals_of m)) (length (signals_of m))
+        (λ k bits. rw (length-row_slots (signals_of m) k bits) (set_bits_from-length 1 (length (signals_of m)) bits)) 0 m.cell_mask in
+    let rows = h.lengths.cell_mask in
+    let signals_are = count-signals m h in
+    let all : length (slots_of m) ≤ satellites m.header * signals m.header = rw rows at (rw signals_are at most) in
+    omega (arith, all, h.mask_bits)
+
+pub room_at : (m : Msm1074) → IsValid m → (i d : ℕ) → i < length m.cell_mask
+    → length (join_from (row_slots (signals_of m)) 0 (take i m.cell_mask)) + length (row_slots (signals_of m) i (get_or m.cell_mask i d)) ≤ 64
+room_at m h i d inside =
+    let e : 0 + i ≡ i = omega arith in
+    let r = rw e at (join_from-room (row_slots (signals_of m)) 0 m.cell_mask i d inside) in
+    omega (arith, r, few_slots m h)
+
+pub fits_at : (m : Msm1074) → IsValid m → (i d : ℕ) → i < length m.cell_mask → get_or m.cell_mask i d < 2 ^ length (signals_of m)
+fits_at m h i d inside =
+    All-get_or (λ (b : ℕ). b < 2 ^ length (signals_of m)) m.cell_mask i d inside (All-from_recursion (λ (b : ℕ). b < 2 ^ length (signals_of m)) m.cell_mask (rows_fit m h))
+
+-- ---- rows
+
+of_row : (ss : List ℕ) (row n : ℕ) (f : ℕ → ℕ) (ps : List ℕ) → row < n → AllByRecursion (λ s. s.row < n) (map (λ p. let s : Slot = record { row = row; signal = f p } in s) ps)
+of_row ss row n f [] h = tt
+of_row ss row n f (p ∷ ps) h = (h, of_row ss row n f ps h)
+
+pub slots_below : (m : Msm1074) → IsValid m → All (λ s. s.row < satellites m.header) (slots_of m)
+slots_below m h =
+    All-from_recursion (λ (s : Slot). s.row < satellites m.header) (slots_of m)
+    (all-join_from (row_slots (signals_of m)) (λ s. s.row < satellites m.header) 0 (satellites m.header) m.cell_mask
+    (omega (arith, h.lengths.cell_mask))
+    (λ j bits below. of_row (signals_of m) j (satellites m.header) _ (set_bits (length (signals_of m)) bits) below))
+
+-- ---- ranges
+
+strength_if : (b : Bool) (n : ℕ) → nat_eq n 0 ≡ b → n < 64 → IfSome (cond b None (Some (1000 * n))) IsStrength
+strength_if true n e h = tt
+strength_if false n e h = record { least = grind (arith, nat_tests); greatest = omega arith; step = omega arith }
+
+strength_in_range : (n : ℕ) → n < 64 → IfSome (strength_of 1000 n) IsStrength
+strength_in_range n h = strength_if (nat_eq n 0) n refl h
+
+below_at : (ns : List ℕ) (k : ℕ) → AllByRecursion (λ n. n < 64) ns → get_or ns k 0 < 64
+below_at [] k a = omega arith
+below_at (n ∷ ns) zero a = a.0
+below_at (n ∷ ns) (suc k) a = below_at ns k a.1
+
+satellite_in_range : (n : ℕ) → is_satellite n ≡ true → IsSatellite n
+satellite_in_range n h = grind (arith, nat_tests)
+
+coded_in_range : (m : Msm1074) (k row satellite : ℕ) (code : Option Code) → IsSatellite satellite → AllByRecursion (λ n. n < 64) m.cnr → AllByRecursion IsInRange (coded_entry m k row satellite code)
+coded_in_range m k row satellite None s a = tt
+coded_in_range m k row satellite (Some code) s a = (record { satellite = s; strength = strength_in_range (get_or m.cnr k 0) (below_at m.cnr k a) }, tt)
+
+in_range_if : (b : Bool) (satellite : ℕ) (es : List CellEntry) → is_satellite satellite ≡ b → (IsSatellite satellite → AllByRecursion IsInRange es) → AllByRecursion IsInRange (cond b es [])
+in_range_if true satellite es e a = a (satellite_in_range satellite e)
+in_range_if false satellite es e a = tt
+
+pub cells_in_range : (m : Msm1074) → IsValid m → All IsInRange (cells_of_1074 m)
+cells_in_range m h =
+    All-from_recursion IsInRange (cells_of_1074 m)
+    (all-join_from (slot_entry m) IsInRange 0 (length (slots_of m)) (slots_of m) (omega arith)
+    (λ k s below. in_range_if (is_satellite (get_or (satellites_of m) s.row 0)) (get_or (satellites_of m) s.row 0) (coded_entry m k s.row (get_or (satellites_of m) s.row 0) (code_of_signal s.signal)) refl
+        (λ is. coded_in_range m k s.row (get_or (satellites_of m) s.row 0) (code_of_signal s.signal) is (cnr_fits m h))))
+
+pub at_most_one : (o : Option CellEntry) → length (option_to_list o) ≤ 1
+at_most_one None = omega arith
+at_most_one (Some e) = omega arith

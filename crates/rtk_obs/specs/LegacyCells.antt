@@ -1,0 +1,89 @@
+-- The cells of a 1004 (RTCM 10403.3, message 1004; its codes are this project's assignment).
+use Rattle.std.specs.Prelude.{ℕ, ◌==◌, ℤ, negsuc, ◌+ℤ◌, Bool, true, false, not, List, [], ◌∷◌, filter, Option, Some, None, if◌then◌else◌}
+use Rattle.std.specs.List.{flat_map}
+use Rattle.rtk_message.specs.declared.satellites.Satellite.{Satellite}
+use Rattle.rtk_obs.specs.declared.code.Band.{Band}
+use Rattle.rtk_obs.specs.declared.code.Band.TheVariants.{L1, L2}
+use Rattle.rtk_obs.specs.declared.code.Code.{Code}
+use Rattle.rtk_obs.specs.declared.code.Code.TheVariants.{C1C, C1P, C2X, C2P, C2D, C2W}
+use Rattle.rtk_obs.specs.declared.cell.CellSource.TheVariants.{Legacy}
+use Rattle.rtk_obs.specs.declared.cell.Cell.{Cell}
+use Rattle.rtk_obs.specs.declared.cell.CellEntry.{CellEntry}
+use Rattle.rtk_obs.specs.Cell.{is_satellite, entry_of}
+use Rattle.rtk_obs.specs.LockTime.{least_lock_of_legacy}
+use Rattle.rtk_obs.specs.Scaling.{unless_invalid, strength_of, l1_length, l2_length, range_of_length, phase_of_length}
+
+-- the code of L1, by DF010
+abbrev pub l1_code_of : Bool → Code
+l1_code_of false = C1C
+l1_code_of true = C1P
+
+-- the code of L2, by DF016, 0 to 3
+abbrev pub l2_code_of : ℕ → Code
+l2_code_of n = if n == 0 then C2X else if n == 1 then C2P else if n == 2 then C2D else C2W
+
+-- the invalid mark of DF012 and DF018, -524288, and that of DF017, -8192
+abbrev pub phase_difference : ℤ → Option ℤ
+phase_difference field = unless_invalid (negsuc 524_287) field
+
+abbrev pub range_difference : ℤ → Option ℤ
+range_difference field = unless_invalid (negsuc 8191) field
+
+-- the pseudorange of L1, which stands as long as DF012 is valid
+abbrev pub l1_range_of : ℤ → Option ℤ → Option ℤ
+l1_range_of length None = None
+l1_range_of length (Some offset) = Some (range_of_length length)
+
+-- the pseudorange of L2, which stands as long as DF017 is valid
+abbrev pub l2_range_of : ℤ → Option ℤ → Option ℤ
+l2_range_of length None = None
+l2_range_of length (Some difference) = Some (range_of_length (l2_length length difference))
+
+-- a phase behind the pseudorange of L1, which stands as long as DF012 or DF018 is valid
+abbrev pub legacy_phase_of : Band → ℤ → Option ℤ → Option ℤ
+legacy_phase_of band length None = None
+legacy_phase_of band length (Some offset) = Some (phase_of_length band (length +ℤ offset))
+
+-- the pseudorange of L1 of a satellite; L2 uses it also where DF012 is invalid
+abbrev pub length_of : Satellite → ℤ
+length_of s = l1_length s.l1_range s.modulus_ambiguity
+
+-- the cell of L1: DF011 to DF015
+abbrev pub l1_cell_of : Satellite → Cell
+l1_cell_of s = record {
+  range_mm = l1_range_of (length_of s) (phase_difference s.l1_phase_difference);
+  phase_millicycles = legacy_phase_of L1 (length_of s) (phase_difference s.l1_phase_difference);
+  strength_millidbhz = strength_of 250 s.l1_cnr;
+  lock_time_ms = least_lock_of_legacy s.l1_lock_indicator;
+  half = false;
+  source = Legacy;
+  offset = phase_difference s.l1_phase_difference;
+}
+
+-- the cell of L2: DF011, DF014 and DF017 to DF020
+abbrev pub l2_cell_of : Satellite → Cell
+l2_cell_of s = record {
+  range_mm = l2_range_of (length_of s) (range_difference s.l2_range_difference);
+  phase_millicycles = legacy_phase_of L2 (length_of s) (phase_difference s.l2_phase_difference);
+  strength_millidbhz = strength_of 250 s.l2_cnr;
+  lock_time_ms = least_lock_of_legacy s.l2_lock_indicator;
+  half = false;
+  source = Legacy;
+  offset = phase_difference s.l2_phase_difference;
+}
+
+abbrev pub satellite_entries : Satellite → List CellEntry
+satellite_entries s =
+    entry_of s.satellite (l1_code_of s.l1_code) (l1_cell_of s) ∷ entry_of s.satellite (l2_code_of s.l2_code) (l2_cell_of s) ∷ []
+
+abbrev pub has_number : ℕ → Satellite → Bool
+has_number n s = s.satellite == n
+
+-- of the entries of a satellite the first stands (this project's rule)
+unfoldable pub first_entries : List Satellite → List Satellite
+first_entries [] = []
+first_entries (s ∷ ss) = s ∷ filter (λ t. not (has_number s.satellite t)) (first_entries ss)
+
+-- two cells for each satellite from 1 to 32, in the order of the message
+abbrev pub cells_of_1004 : List Satellite → List CellEntry
+cells_of_1004 ss = flat_map satellite_entries (filter (λ s. is_satellite s.satellite) (first_entries ss))

@@ -1,0 +1,98 @@
+-- The cells of a 1074 (RTCM 10403.3, MSM4; its codes are this project's assignment of the signals of Table 3.5-91 to RINEX).
+use Rattle.std.specs.Prelude.{ℕ, ◌-◌, ◌==◌, ℤ, pos, negsuc, ◌+ℤ◌, false, List, [], ◌∷◌, length, map, slice_index, slice_index_or, Option, Some, None, if◌then◌else◌}
+use Rattle.rtk_message.specs.declared.msm1074.Msm1074.{Msm1074}
+use Rattle.rtk_obs.specs.declared.code.Band.{Band}
+use Rattle.rtk_obs.specs.declared.code.Code.{Code}
+use Rattle.rtk_obs.specs.declared.code.Code.TheVariants.{C1C, C1P, C1W, C1S, C1L, C1X, C2C, C2P, C2W, C2S, C2L, C2X, C5I, C5Q, C5X}
+use Rattle.rtk_obs.specs.declared.cell.CellSource.TheVariants.{Msm}
+use Rattle.rtk_obs.specs.declared.cell.Cell.{Cell}
+use Rattle.rtk_obs.specs.declared.cell.CellEntry.{CellEntry}
+use Rattle.rtk_obs.specs.declared.msm_cells.Slot.{Slot}
+use Rattle.rtk_obs.specs.Cell.{is_satellite, entry_of}
+use Rattle.rtk_obs.specs.Code.{band_of}
+use Rattle.rtk_obs.specs.LockTime.{least_lock_of_msm}
+use Rattle.rtk_obs.specs.Mask.{set_bits, join_from}
+use Rattle.rtk_obs.specs.Scaling.{unless_invalid, strength_of, rough_time, range_time, range_of_time, phase_of_time}
+
+-- the code of a signal identifier (DF395); others give no cell
+abbrev pub code_of_signal : ℕ → Option Code
+code_of_signal s =
+    if s == 2 then Some C1C else if s == 3 then Some C1P else if s == 4 then Some C1W
+    else if s == 8 then Some C2C else if s == 9 then Some C2P else if s == 10 then Some C2W
+    else if s == 15 then Some C2S else if s == 16 then Some C2L else if s == 17 then Some C2X
+    else if s == 22 then Some C5I else if s == 23 then Some C5Q else if s == 24 then Some C5X
+    else if s == 30 then Some C1S else if s == 31 then Some C1L else if s == 32 then Some C1X
+    else None
+
+-- ---- which cells
+
+-- the satellites of the message, by DF394
+abbrev pub satellites_of : Msm1074 → List ℕ
+satellites_of m = set_bits 64 m.header.satellite_mask
+
+-- its signals, by DF395
+abbrev pub signals_of : Msm1074 → List ℕ
+signals_of m = set_bits 32 m.header.signal_mask
+
+-- the cells of a row of the cell mask: its bit of place p is the p-th signal of the message
+abbrev pub row_slots : List ℕ → ℕ → ℕ → List Slot
+row_slots signals row bits = map (λ p. record { row = row; signal = slice_index signals (p - 1) }) (set_bits (length signals) bits)
+
+-- the cells of the message, satellite by satellite (DF396)
+abbrev pub slots_of : Msm1074 → List Slot
+slots_of m = join_from (row_slots (signals_of m)) 0 m.cell_mask
+
+-- ---- their values
+
+-- the rough range of a satellite, in 2^-29 ms; DF397 255 is invalid
+abbrev pub rough_of : ℕ → ℕ → Option ℤ
+rough_of ms fraction = if ms == 255 then None else Some (rough_time ms fraction)
+
+-- the pseudorange, where the rough range and DF400 (-16384 is invalid) are valid
+abbrev pub fine_range_of : ℤ → Option ℤ → Option ℤ
+fine_range_of rough None = None
+fine_range_of rough (Some fine) = Some (range_of_time (range_time rough fine))
+
+abbrev pub msm_range_of : Option ℤ → ℤ → Option ℤ
+msm_range_of None field = None
+msm_range_of (Some rough) field = fine_range_of rough (unless_invalid (negsuc 16_383) field)
+
+-- the phase, where the rough range and DF401 (-2097152 is invalid) are valid
+abbrev pub fine_phase_of : Band → ℤ → Option ℤ → Option ℤ
+fine_phase_of band rough None = None
+fine_phase_of band rough (Some fine) = Some (phase_of_time band (rough +ℤ fine))
+
+abbrev pub msm_phase_of : Band → Option ℤ → ℤ → Option ℤ
+msm_phase_of band None field = None
+msm_phase_of band (Some rough) field = fine_phase_of band rough (unless_invalid (negsuc 2_097_151) field)
+
+-- the rough range of the satellite of a row
+abbrev pub rough_at : Msm1074 → ℕ → Option ℤ
+rough_at m row = rough_of (slice_index m.rough_ms row) (slice_index m.rough_fraction row)
+
+-- the k-th cell, of the satellite of a row: DF397, DF398 and DF400 to DF403, DF420
+abbrev pub msm_cell_of : Msm1074 → ℕ → ℕ → Band → Cell
+msm_cell_of m k row band = record {
+  range_mm = msm_range_of (rough_at m row) (slice_index_or m.fine_range k (pos 0));
+  phase_millicycles = msm_phase_of band (rough_at m row) (slice_index_or m.fine_phase k (pos 0));
+  strength_millidbhz = strength_of 1000 (slice_index m.cnr k);
+  lock_time_ms = least_lock_of_msm (slice_index m.lock_indicator k);
+  half = slice_index_or m.half_cycle k false;
+  source = Msm;
+  offset = None;
+}
+
+-- the entry of a cell whose signal has a code
+abbrev pub coded_entry : Msm1074 → ℕ → ℕ → ℕ → Option Code → List CellEntry
+coded_entry m k row satellite None = []
+coded_entry m k row satellite (Some code) = entry_of satellite code (msm_cell_of m k row (band_of code)) ∷ []
+
+-- and whose satellite is one from 1 to 32
+abbrev pub slot_entry : Msm1074 → ℕ → Slot → List CellEntry
+slot_entry m k s =
+    if is_satellite (slice_index (satellites_of m) s.row) then coded_entry m k s.row (slice_index (satellites_of m) s.row) (code_of_signal s.signal)
+    else []
+
+-- the cells in the order of the message
+abbrev pub cells_of_1074 : Msm1074 → List CellEntry
+cells_of_1074 m = join_from (slot_entry m) 0 (slots_of m)

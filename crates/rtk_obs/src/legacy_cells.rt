@@ -1,0 +1,189 @@
+//! The cells of a 1004.
+
+ghost use Rattle.std.specs.Prelude.{◌≡◌, ◌^◌, ◌≤◌, ◌<◌, not, ◌&&◌, length, negsuc, unsigned_abs};
+ghost use Rattle.std.specs.List.{All, list_any};
+ghost use Rattle.rtk_message.specs.Obs1004.{IsValid};
+ghost use Rattle.rtk_obs.specs.Cell.{is_satellite, entry_of, IsInRange};
+ghost use Rattle.rtk_obs.specs.Scaling.{l2_length};
+ghost use Rattle.rtk_obs.specs.LegacyCells.{l1_code_of, l2_code_of, l1_range_of, l2_range_of, legacy_phase_of, length_of, l1_cell_of, l2_cell_of, has_number, cells_of_1004};
+ghost use Rattle.rtk_obs.specs.LegacyFields.{HasFields};
+
+use crate::cell::{Cell, CellEntry, CellSource, is_gps};
+use crate::code::{Band, Code};
+use crate::lock_time::least_lock_legacy;
+use crate::scaling::{phase_from_length, range_from_length, strength, unless_mark};
+use arrayvec::ArrayVec;
+use rtk_message::{Obs1004, Satellite};
+
+/// The invalid mark of DF012 and DF018.
+const NO_PHASE: i32 = -524_288;
+
+/// The invalid mark of DF017.
+const NO_RANGE: i32 = -8192;
+
+/// Thousandths of a dB-Hz in a step of DF015 and DF020.
+const STRENGTH_STEP: u32 = 250;
+
+fn l1_code(indicator: bool) -> Code
+    ensures { result ≡ l1_code_of indicator }
+{
+    if indicator { Code::C1P } else { Code::C1C }
+}
+
+fn l2_code(indicator: u8) -> Code
+    ensures { result ≡ l2_code_of indicator }
+{
+    match indicator {
+        0 => Code::C2X,
+        1 => Code::C2P,
+        2 => Code::C2D,
+        _ => Code::C2W,
+    }
+}
+
+// The pseudorange of L1, in 0.0005 m.
+fn l1_length(satellite: &Satellite) -> i64
+    ensures value { result ≡ length_of satellite.now }
+    ensures bound { unsigned_abs result ≤ 2 ^ 39 }
+{
+    40 * i64::from(satellite.l1_range) + 599_584_916 * i64::from(satellite.modulus_ambiguity)
+}
+
+// The range of L1, which needs the phase.
+fn l1_range(length: i64, offset: Option<i32>) -> Option<i64>
+    requires { unsigned_abs length ≤ 2 ^ 39 }
+    ensures { result ≡ l1_range_of length offset }
+{
+    match offset {
+        Some(_) => Some(range_from_length(length)),
+        None => None,
+    }
+}
+
+// The pseudorange of L2, in 0.0005 m.
+fn l2_length(length: i64, difference: i32) -> i64
+    requires { unsigned_abs length ≤ 2 ^ 39 }
+    ensures value { result ≡ l2_length length difference }
+    ensures bound { unsigned_abs result ≤ 2 ^ 40 }
+{
+    length + 40 * i64::from(difference)
+}
+
+fn l2_range(length: i64, difference: Option<i32>) -> Option<i64>
+    requires { unsigned_abs length ≤ 2 ^ 39 }
+    ensures { result ≡ l2_range_of length difference }
+{
+    match difference {
+        Some(difference) => Some(range_from_length(l2_length(length, difference))),
+        None => None,
+    }
+}
+
+fn phase(band: Band, length: i64, offset: Option<i32>) -> Option<i64>
+    requires { unsigned_abs length ≤ 2 ^ 39 }
+    ensures { result ≡ legacy_phase_of band length offset }
+{
+    match offset {
+        Some(offset) => Some(phase_from_length(band, length + i64::from(offset))),
+        None => None,
+    }
+}
+
+fn l1_cell(satellite: &Satellite) -> Cell
+    requires { satellite.now.l1_lock_indicator < 128 }
+    ensures { result ≡ l1_cell_of satellite.now }
+{
+    let length = l1_length(satellite);
+    let offset = unless_mark(satellite.l1_phase_difference, NO_PHASE);
+    Cell {
+        range_mm: l1_range(length, offset),
+        phase_millicycles: phase(Band::L1, length, offset),
+        strength_millidbhz: strength(STRENGTH_STEP, satellite.l1_cnr),
+        lock_time_ms: least_lock_legacy(satellite.l1_lock_indicator),
+        half: false,
+        source: CellSource::Legacy,
+        offset,
+    }
+}
+
+fn l2_cell(satellite: &Satellite) -> Cell
+    requires { satellite.now.l2_lock_indicator < 128 }
+    ensures { result ≡ l2_cell_of satellite.now }
+{
+    let length = l1_length(satellite);
+    let difference = unless_mark(i32::from(satellite.l2_range_difference), NO_RANGE);
+    let offset = unless_mark(satellite.l2_phase_difference, NO_PHASE);
+    Cell {
+        range_mm: l2_range(length, difference),
+        phase_millicycles: phase(Band::L2, length, offset),
+        strength_millidbhz: strength(STRENGTH_STEP, satellite.l2_cnr),
+        lock_time_ms: least_lock_legacy(satellite.l2_lock_indicator),
+        half: false,
+        source: CellSource::Legacy,
+        offset,
+    }
+}
+
+fn l1_entry(satellite: &Satellite) -> CellEntry
+    requires { satellite.now.l1_lock_indicator < 128 }
+    ensures { result ≡ entry_of satellite.now.satellite (l1_code_of satellite.now.l1_code) (l1_cell_of satellite.now) }
+{
+    CellEntry {
+        satellite: satellite.satellite,
+        code: l1_code(satellite.l1_code),
+        cell: l1_cell(satellite),
+    }
+}
+
+fn l2_entry(satellite: &Satellite) -> CellEntry
+    requires { satellite.now.l2_lock_indicator < 128 }
+    ensures { result ≡ entry_of satellite.now.satellite (l2_code_of satellite.now.l2_code) (l2_cell_of satellite.now) }
+{
+    CellEntry {
+        satellite: satellite.satellite,
+        code: l2_code(satellite.l2_code),
+        cell: l2_cell(satellite),
+    }
+}
+
+// Is there an entry of this satellite?
+fn has_entry(satellites: &[Satellite], number: u8) -> bool
+    ensures { result ≡ list_any (has_number number) satellites.now }
+{
+    satellites.iter().any(|s| s.satellite == number)
+}
+
+// Does an entry of this satellite give cells behind these others?
+fn is_used(others: &[Satellite], number: u8) -> bool
+    ensures { result ≡ (is_satellite number && not (list_any (has_number number) others.now)) }
+{
+    is_gps(number) && !has_entry(others, number)
+}
+
+// The cells of the satellites of a 1004.
+fn satellite_cells(satellites: &[Satellite]) -> ArrayVec<CellEntry, 62>
+    requires few { length satellites.now ≤ 31 }
+    requires fields { All HasFields satellites.now }
+    ensures cells { result.items ≡ cells_of_1004 satellites.now }
+    ensures few { length result.items ≤ 62 }
+{
+    let mut found = ArrayVec::new();
+    for (i, satellite) in satellites.iter().enumerate() {
+        if is_used(&satellites[..i], satellite.satellite) {
+            found.push(l1_entry(satellite));
+            found.push(l2_entry(satellite));
+        }
+    }
+    found
+}
+
+/// The cells of a 1004 in the order of the message: those of L1 and L2 of each satellite from 1 to
+/// 32, by its first entry.
+pub fn cells_1004(message: &Obs1004) -> ArrayVec<CellEntry, 62>
+    requires { IsValid message.now }
+    ensures cells { result.items ≡ cells_of_1004 message.now.satellites }
+    ensures ranges { All IsInRange result.items }
+    ensures few { length result.items ≤ 62 }
+{
+    satellite_cells(message.satellites.as_slice())
+}
