@@ -1,1 +1,3 @@
-pub mod DecodedLemmas
+mod ColumnLemmas
+mod DecodedLemmas
+mod WordLemmas

@@ -7,7 +7,7 @@ use lib.Count.{ones}
 use Rattle.std.proofs.Math.Nat.{mod-eq_of_lt}
 use Rattle.rtk_bits.specs.Bits.{unsigned, bits_of}
 use Rattle.rtk_bits.proofs.Numbers.{unsigned-append, unsigned_lt, unsigned-bits_of}
-use Rattle.rtk_message.specs.Fields.{Field, u, bits_of_fields, FieldFits, FieldsFit, TakesAll, Takes, Puts, PutsAll}
+use Rattle.rtk_message.specs.Fields.{Field, u, field_bits, bits_of_fields, FieldFits, FieldsFit, TakesAll, Takes, Puts, PutsAll}
 use Rattle.rtk_message.specs.FieldLaws.{took, took_none, put, put_none, SameForm, one_list, total}
 use Rattle.rtk_message.specs.FieldLaws.{bits_of_fields-append, fit-append, fit-left, took_both, put_both}
 use Rattle.rtk_message.specs.Columns.{numbers, integers, flags}
@@ -18,6 +18,11 @@ module _ {X : Type 0} (f : X → Field) where
 
   pub took_more : (xs : List X) (x : X) (a b c : List Bool) → TakesAll (map f xs) a b → Takes (f x) b c → TakesAll (map f (xs ++ x ∷ [])) a c
   took_more xs x a b c p q = rw (map_push f xs x) (took_both p (took q took_none))
+
+  -- behind the column's fields and before the rest
+  pub took_next : (xs : List X) (x : X) (from rest : List Bool) {b c : List Bool} → TakesAll (map f xs) from (b ++ rest) → Takes (f x) b c → TakesAll (map f (xs ++ x ∷ [])) from (c ++ rest)
+  took_next xs x from rest {b = b} {c = c} p q =
+      took_more xs x from (b ++ rest) (c ++ rest) p (record { fits = q.fits; is = ap (λ (t : List Bool). t ++ rest) q.is ∙ append_assoc (field_bits (f x)) c rest })
 
   pub put_more : (xs : List X) (k : ℕ) (d : X) (a b c : List Bool) → k < length xs → PutsAll (map f (take k xs)) a b → Puts (f (get_or xs k d)) b c → PutsAll (map f (take (k + 1) xs)) a c
   put_more xs k d a b c h p q = rw (take_more xs k d h, map_push f (take k xs) (get_or xs k d)) (put_both p (put q put_none))
@@ -36,10 +41,14 @@ unfolding bits_of
 takes_none zero a e = record { fits = omega arith; is = refl }
 takes_none (suc w) a e = absurd (omega arith)
 
-pub puts_none : (w n : ℕ) (a : List Bool) → w ≡ 0 → Puts (u w n) a a
+no_bits : (w : ℕ) (ns : List ℕ) → w ≡ 0 → bits_of_fields (numbers w ns) ≡ []
 unfolding bits_of
-puts_none zero n a e = record { is = sym (append-nil a) }
-puts_none (suc w) n a e = absurd (omega arith)
+no_bits w [] e = refl
+no_bits zero (n ∷ ns) e = no_bits zero ns e
+no_bits (suc w) (n ∷ ns) e = absurd (omega arith)
+
+pub puts_no_bits : (w : ℕ) (ns : List ℕ) (a : List Bool) → w ≡ 0 → PutsAll (numbers w ns) a a
+puts_no_bits w ns a e = record { is = sym (ap (λ (t : List Bool). a ++ t) (no_bits w ns e) ∙ append-nil a) }
 
 pub flags-fit : (bs : List Bool) → FieldsFit (flags bs)
 flags-fit [] = tt

@@ -82,6 +82,16 @@ number_at before w n fs bs rest k at small e =
         e ∙ ap (λ (t : List Bool). t ++ rest) (bits_of_fields-append before (u w n ∷ fs)) ∙ append_assoc (bits_of_fields before) (bits_of w n ++ bits_of_fields fs) rest ∙ ap (λ (t : List Bool). bits_of_fields before ++ t) (append_assoc (bits_of w n) (bits_of_fields fs) rest) in
     rw (parts, drop_at (bits_of_fields before) (bits_of w n ++ (bits_of_fields fs ++ rest)) k (length-bits_of_fields before ∙ at), take_at (bits_of w n) (bits_of_fields fs ++ rest) w (length-bits_of w n)) (unsigned-bits_of w n ∙ mod-eq_of_lt small)
 
+-- where nothing is left before the rest
+pub took_rest : {fs : List Field} {from rest : List Bool} (left : List Bool) → TakesAll fs from (left ++ rest) → length left ≡ 0 → TakesAll fs from rest
+took_rest [] p none = p
+took_rest (b ∷ bs) p none = absurd (omega arith)
+
+-- fields that use up the bits taken at once
+pub took_word : {fs : List Field} {word left from rest : List Bool} → TakesAll fs word left → length left ≡ 0 → from ≡ word ++ rest → TakesAll fs from rest
+took_word {fs = fs} {left = left} {rest = rest} p none e =
+    took_rest left (record { fit = p.fit; is = e ∙ ap (λ (t : List Bool). t ++ rest) p.is ∙ append_assoc (bits_of_fields fs) left rest }) none
+
 -- ---- one reading
 
 split_same : (p q x y : List Bool) → length p ≡ length q → p ++ x ≡ q ++ y → (p ≡ q) × (x ≡ y)

@@ -4,8 +4,9 @@ ghost use Rattle.rtk_message.specs.Fields.{FieldsFit};
 ghost use Rattle.rtk_message.specs.Arp1005.{table};
 
 use crate::fault::DecodeFault;
-use crate::field::{fits_i38, next_flag, next_i64, next_u16, next_u8, put_flag, put_i64, put_u};
+use crate::field::{fits_i38, put_flag, put_i64, put_u};
 use crate::layout::Layout;
+use crate::word::next_word;
 use rtk_bits::{BitReader, BitWriter};
 use std::alloc::AllocError;
 
@@ -57,19 +58,22 @@ impl Layout for Arp1005 {
         if reader.remaining() < 140 {
             return Err(DecodeFault::Short { number: 1005 });
         }
+        let mut first = next_word(reader, 60);
+        let mut second = next_word(reader, 42);
+        let mut third = next_word(reader, 38);
         Ok(Arp1005 {
-            station: next_u16(reader, 12),
-            realization_year: next_u8(reader, 6),
-            gps: next_flag(reader),
-            glonass: next_flag(reader),
-            galileo: next_flag(reader),
-            reference_station: next_flag(reader),
-            x: next_i64(reader, 38),
-            single_oscillator: next_flag(reader),
-            reserved: next_flag(reader),
-            y: next_i64(reader, 38),
-            quarter_cycle: next_u8(reader, 2),
-            z: next_i64(reader, 38),
+            station: first.next_u16(12),
+            realization_year: first.next_u8(6),
+            gps: first.next_flag(),
+            glonass: first.next_flag(),
+            galileo: first.next_flag(),
+            reference_station: first.next_flag(),
+            x: first.next_i64(38),
+            single_oscillator: second.next_flag(),
+            reserved: second.next_flag(),
+            y: second.next_i64(38),
+            quarter_cycle: second.next_u8(2),
+            z: third.next_i64(38),
         })
     }
 

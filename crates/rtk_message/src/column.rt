@@ -1,8 +1,9 @@
 //! One field of each satellite or of each cell: a list of at most 64.
-ghost use Rattle.std.specs.Prelude.{◌≡◌, ◌<◌, ◌≤◌, ◌*◌, ◌+◌, [], ◌∷◌, ◌++◌, length, map, OnOk, IsTrue, ◌↔◌};
+ghost use Rattle.std.specs.Prelude.{◌≡◌, ◌<◌, ◌≤◌, ◌*◌, ◌+◌, [], ◌∷◌, ◌++◌, length, map, List, Bool, OnOk, IsTrue, ◌↔◌};
 ghost use Rattle.rtk_message.specs.Fields.{TakesAll, PutsAll, FieldsFit};
 
 use crate::value::FieldValue;
+use crate::word::{next_word, Word};
 use arrayvec::ArrayVec;
 use rtk_bits::{BitReader, BitWriter};
 use std::alloc::AllocError;
@@ -78,25 +79,45 @@ impl<T: Eq> Eq for Column<T> {
     ghost laws = { lists_equiv T.Eq.laws };
 }
 
-/// Reads so many fields of one width.
-pub fn next_column<T: FieldValue>(reader: &mut BitReader<'_>, count: usize, width: usize) -> Column<T>
+/// Reads so many fields of one width into an empty column, as many at once as 64 bits hold.
+pub fn read_column<T: FieldValue>(column: &mut Column<T>, reader: &mut BitReader<'_>, count: usize, width: usize)
+    requires empty { column.old ≡ [] }
     requires few { count ≤ 64 }
     requires width { T.IsWidth width }
+    requires some { (1 ≤ width) × (width ≤ 64) }
     requires enough { width * count ≤ length reader.old }
-    ensures fields { TakesAll (map (T.field width) result) reader.old reader.new }
-    ensures count { length result ≡ count }
+    ensures fields { TakesAll (map (T.field width) column.new) reader.old reader.new }
+    ensures count { length column.new ≡ count }
     ensures left { length reader.old ≡ width * count + length reader.new }
 {
-    let mut column = Column::new();
-    for _ in 0..count {
-        column.push(T::next(reader, width));
+    let most = 64 / width;
+    while column.len() < count {
+        let fields = most.min(count - column.len());
+        let mut word = next_word(reader, fields * width);
+        push_fields(column, &mut word, fields, width);
     }
-    column
+}
+
+// Moves so many fields from a word to the end of a column: what has begun with the column's fields
+// and then the word still does.
+fn push_fields<T: FieldValue>(column: &mut Column<T>, word: &mut Word, fields: usize, width: usize)
+    requires room { length column.old + fields ≤ 64 }
+    requires width { T.IsWidth width }
+    requires some { 1 ≤ width }
+    requires enough { width * fields ≤ length word.old }
+    ensures fields { (from rest : List Bool) → TakesAll (map (T.field width) column.old) from (word.old ++ rest) → TakesAll (map (T.field width) column.new) from (word.new ++ rest) }
+    ensures count { length column.new ≡ length column.old + fields }
+    ensures left { length word.old ≡ width * fields + length word.new }
+{
+    for _ in 0..fields {
+        column.push(T::next(word, width));
+    }
 }
 
 /// Puts a field of one width for each value.
 pub fn put_column<T: FieldValue>(writer: &mut BitWriter, column: &Column<T>, width: usize) -> Result<(), AllocError>
     requires width { T.IsWidth width }
+    requires some { 1 ≤ width }
     requires fit { FieldsFit (map (T.field width) column.now) }
     ensures { OnOk result (PutsAll (map (T.field width) column.now) writer.old writer.new) }
 {

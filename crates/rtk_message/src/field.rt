@@ -1,98 +1,13 @@
-//! Fields of the types that messages have, read where enough bits are left, put and tested.
-ghost use Rattle.std.specs.Prelude.{OnOk, ◌≡◌, ◌+◌, ◌-◌, ◌^◌, ◌<◌, ◌≤◌, ◌++◌, length, IsTrue, ◌↔◌, ℕ};
-ghost use Rattle.rtk_message.specs.Fields.{Field, u, i, flag, FieldFits, Takes, Puts};
+//! Fields of the types that messages have, put and tested.
+ghost use Rattle.std.specs.Prelude.{OnOk, ◌-◌, ◌^◌, ◌<◌, ◌≤◌, IsTrue, ◌↔◌};
+ghost use Rattle.rtk_message.specs.Fields.{u, i, flag, Puts};
 ghost use Rattle.rtk_bits.specs.Bits.{FitsSigned};
 
-use rtk_bits::{BitReader, BitWriter};
+use rtk_bits::BitWriter;
 use std::alloc::AllocError;
 
 /// Milliseconds of a week: a time of week (DF004) is less.
 pub const WEEK_MS: u32 = 604_800_000;
-
-/// The next unsigned field.
-pub fn next_u64(reader: &mut BitReader<'_>, width: usize) -> u64
-    requires width { (1 ≤ width) × (width ≤ 64) }
-    requires enough { width ≤ length reader.old }
-    ensures taken { Takes (u width result) reader.old reader.new }
-    ensures left { length reader.old ≡ width + length reader.new }
-{
-    match reader.take_u(width) {
-        Some(number) => number,
-        None => unreachable!(),
-    }
-}
-
-/// The next two's complement field.
-pub fn next_i64(reader: &mut BitReader<'_>, width: usize) -> i64
-    requires width { (1 ≤ width) × (width ≤ 64) }
-    requires enough { width ≤ length reader.old }
-    ensures taken { Takes (i width result) reader.old reader.new }
-    ensures left { length reader.old ≡ width + length reader.new }
-{
-    match reader.take_i(width) {
-        Some(number) => number,
-        None => unreachable!(),
-    }
-}
-
-/// The next field of one bit.
-pub fn next_flag(reader: &mut BitReader<'_>) -> bool
-    requires { 1 ≤ length reader.old }
-    ensures taken { Takes (flag result) reader.old reader.new }
-    ensures left { length reader.old ≡ 1 + length reader.new }
-{
-    next_u64(reader, 1) == 1
-}
-
-/// The next unsigned field of at most 32 bits.
-pub fn next_u32(reader: &mut BitReader<'_>, width: usize) -> u32
-    requires width { (1 ≤ width) × (width ≤ 32) }
-    requires enough { width ≤ length reader.old }
-    ensures taken { Takes (u width result) reader.old reader.new }
-    ensures left { length reader.old ≡ width + length reader.new }
-{
-    next_u64(reader, width) as u32
-}
-
-/// The next unsigned field of at most 16 bits.
-pub fn next_u16(reader: &mut BitReader<'_>, width: usize) -> u16
-    requires width { (1 ≤ width) × (width ≤ 16) }
-    requires enough { width ≤ length reader.old }
-    ensures taken { Takes (u width result) reader.old reader.new }
-    ensures left { length reader.old ≡ width + length reader.new }
-{
-    next_u64(reader, width) as u16
-}
-
-/// The next unsigned field of at most 8 bits.
-pub fn next_u8(reader: &mut BitReader<'_>, width: usize) -> u8
-    requires width { (1 ≤ width) × (width ≤ 8) }
-    requires enough { width ≤ length reader.old }
-    ensures taken { Takes (u width result) reader.old reader.new }
-    ensures left { length reader.old ≡ width + length reader.new }
-{
-    next_u64(reader, width) as u8
-}
-
-/// The next two's complement field of at most 32 bits.
-pub fn next_i32(reader: &mut BitReader<'_>, width: usize) -> i32
-    requires width { (1 ≤ width) × (width ≤ 32) }
-    requires enough { width ≤ length reader.old }
-    ensures taken { Takes (i width result) reader.old reader.new }
-    ensures left { length reader.old ≡ width + length reader.new }
-{
-    next_i64(reader, width) as i32
-}
-
-/// The next two's complement field of at most 16 bits.
-pub fn next_i16(reader: &mut BitReader<'_>, width: usize) -> i16
-    requires width { (1 ≤ width) × (width ≤ 16) }
-    requires enough { width ≤ length reader.old }
-    ensures taken { Takes (i width result) reader.old reader.new }
-    ensures left { length reader.old ≡ width + length reader.new }
-{
-    next_i64(reader, width) as i16
-}
 
 /// Puts an unsigned field.
 pub fn put_u(writer: &mut BitWriter, width: usize, value: u64) -> Result<(), AllocError>

@@ -3,6 +3,7 @@
 
 mod fault;
 mod field;
+mod word;
 mod layout;
 mod satellites;
 mod obs1004;

@@ -1,14 +1,15 @@
 //! Message 1074: GPS observations of any signals (MSM4), column by column.
-ghost use Rattle.std.specs.Prelude.{◌≡◌, ◌≤◌, ◌<◌, ◌+◌, ◌*◌, length, OnOk, IsTrue, ◌↔◌, count_ones, sum_by};
+ghost use Rattle.std.specs.Prelude.{◌≡◌, ◌≤◌, ◌<◌, [], ◌+◌, ◌*◌, length, OnOk, IsTrue, ◌↔◌, count_ones, sum_by};
 ghost use Rattle.rtk_message.specs.Fields.{TakesAll, PutsAll, FieldsFit};
 ghost use Rattle.rtk_message.specs.Columns.{numbers};
 ghost use Rattle.rtk_message.specs.Msm1074.{header_table, EachFits, HasLengths};
 
-use crate::column::{column_fits, next_column, put_column, Column};
+use crate::column::{column_fits, put_column, read_column, Column};
 use crate::fault::DecodeFault;
-use crate::field::{next_flag, next_u16, next_u32, next_u64, next_u8, put_flag, put_u, WEEK_MS};
+use crate::field::{put_flag, put_u, WEEK_MS};
 use crate::layout::Layout;
-use crate::mask::{mask_fits, next_mask, ones, put_mask};
+use crate::mask::{ones, put_mask, read_mask};
+use crate::word::next_word;
 use rtk_bits::{BitReader, BitWriter};
 use std::alloc::AllocError;
 
@@ -122,18 +123,21 @@ fn next_header(reader: &mut BitReader<'_>) -> MsmHeader
     ensures fields { TakesAll (header_table result) reader.old reader.new }
     ensures left { length reader.old ≡ 157 + length reader.new }
 {
+    let mut before = next_word(reader, 61);
+    let mut satellites = next_word(reader, 64);
+    let mut signals = next_word(reader, 32);
     MsmHeader {
-        station: next_u16(reader, 12),
-        tow: next_u32(reader, 30),
-        multiple_message: next_flag(reader),
-        issue_of_data_station: next_u8(reader, 3),
-        reserved: next_u8(reader, 7),
-        clock_steering: next_u8(reader, 2),
-        external_clock: next_u8(reader, 2),
-        smoothing: next_flag(reader),
-        smoothing_interval: next_u8(reader, 3),
-        satellite_mask: next_u64(reader, 64),
-        signal_mask: next_u32(reader, 32),
+        station: before.next_u16(12),
+        tow: before.next_u32(30),
+        multiple_message: before.next_flag(),
+        issue_of_data_station: before.next_u8(3),
+        reserved: before.next_u8(7),
+        clock_steering: before.next_u8(2),
+        external_clock: before.next_u8(2),
+        smoothing: before.next_flag(),
+        smoothing_interval: before.next_u8(3),
+        satellite_mask: satellites.next_u64(64),
+        signal_mask: signals.next_u32(32),
     }
 }
 
@@ -174,22 +178,21 @@ impl Layout for Msm1074 {
         if reader.remaining() < (satellites * signals) as u128 {
             return Err(DecodeFault::Short { number: 1074 });
         }
-        let cell_mask = next_mask(reader, satellites, signals);
-        let cells = ones(&cell_mask) as usize;
+        let mut message = Msm1074::without_cells(header);
+        read_mask(&mut message.cell_mask, reader, satellites, signals);
+        let cells = ones(&message.cell_mask) as usize;
+        prove!(cells <= 64);
         if reader.remaining() < (18 * satellites + 48 * cells) as u128 {
             return Err(DecodeFault::Short { number: 1074 });
         }
-        Ok(Msm1074 {
-            header,
-            cell_mask,
-            rough_ms: next_column(reader, satellites, 8),
-            rough_fraction: next_column(reader, satellites, 10),
-            fine_range: next_column(reader, cells, 15),
-            fine_phase: next_column(reader, cells, 22),
-            lock_indicator: next_column(reader, cells, 4),
-            half_cycle: next_column(reader, cells, 1),
-            cnr: next_column(reader, cells, 6),
-        })
+        read_column(&mut message.rough_ms, reader, satellites, 8);
+        read_column(&mut message.rough_fraction, reader, satellites, 10);
+        read_column(&mut message.fine_range, reader, cells, 15);
+        read_column(&mut message.fine_phase, reader, cells, 22);
+        read_column(&mut message.lock_indicator, reader, cells, 4);
+        read_column(&mut message.half_cycle, reader, cells, 1);
+        read_column(&mut message.cnr, reader, cells, 6);
+        Ok(message)
     }
 
     fn write(&self, writer: &mut BitWriter) -> Result<(), AllocError> {
@@ -221,6 +224,23 @@ impl Layout for Msm1074 {
 }
 
 impl Msm1074 {
+    // The columns are filled in place, since a message of a thousand bytes is slow to move.
+    fn without_cells(header: MsmHeader) -> Msm1074
+        ensures { result ≡ record { header = header; cell_mask = []; rough_ms = []; rough_fraction = []; fine_range = []; fine_phase = []; lock_indicator = []; half_cycle = []; cnr = [] } }
+    {
+        Msm1074 {
+            header,
+            cell_mask: Column::new(),
+            rough_ms: Column::new(),
+            rough_fraction: Column::new(),
+            fine_range: Column::new(),
+            fine_phase: Column::new(),
+            lock_indicator: Column::new(),
+            half_cycle: Column::new(),
+            cnr: Column::new(),
+        }
+    }
+
     // Whether each column has as many entries as the masks have satellites or cells.
     fn has_lengths(&self) -> bool
         ensures { IsTrue result ↔ HasLengths self.now }
@@ -239,7 +259,7 @@ impl Msm1074 {
     fn columns_fit(&self) -> bool
         ensures { IsTrue result ↔ EachFits self.now }
     {
-        if !mask_fits(&self.cell_mask, self.header.signals()) {
+        if !column_fits(&self.cell_mask, self.header.signals()) {
             return false;
         }
         if !column_fits(&self.rough_ms, 8) || !column_fits(&self.rough_fraction, 10) {

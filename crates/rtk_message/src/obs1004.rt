@@ -1,14 +1,15 @@
 //! Message 1004: GPS observations on L1 and L2.
-ghost use Rattle.std.specs.Prelude.{◌≡◌, ◌≤◌, ◌+◌, ◌*◌, length, OnOk, IsTrue, ◌↔◌};
+ghost use Rattle.std.specs.Prelude.{◌≡◌, ◌≤◌, ◌+◌, ◌*◌, [], length, OnOk, IsTrue, ◌↔◌};
 ghost use Rattle.std.specs.List.{flat_map};
 ghost use Rattle.rtk_bits.specs.Bits.{FitsSigned};
 ghost use Rattle.rtk_message.specs.Fields.{TakesAll, PutsAll, FieldsFit};
 ghost use Rattle.rtk_message.specs.Obs1004.{satellite_table};
 
 use crate::fault::DecodeFault;
-use crate::field::{next_flag, next_i16, next_i32, next_u16, next_u32, next_u8, put_flag, put_i16, put_i32, put_u, WEEK_MS};
+use crate::field::{put_flag, put_i16, put_i32, put_u, WEEK_MS};
 use crate::layout::Layout;
 use crate::satellites::{Satellite, Satellites};
+use crate::word::next_word;
 use rtk_bits::{BitReader, BitWriter};
 use std::alloc::AllocError;
 
@@ -48,27 +49,29 @@ impl Layout for Obs1004 {
         if reader.remaining() < 52 {
             return Err(DecodeFault::Short { number: 1004 });
         }
-        let station = next_u16(reader, 12);
-        let tow = next_u32(reader, 30);
-        let synchronous = next_flag(reader);
-        let count = next_u8(reader, 5);
-        let smoothing = next_flag(reader);
-        let smoothing_interval = next_u8(reader, 3);
+        let mut header = next_word(reader, 52);
+        let station = header.next_u16(12);
+        let tow = header.next_u32(30);
+        let synchronous = header.next_flag();
+        let count = header.next_u8(5);
+        let smoothing = header.next_flag();
+        let smoothing_interval = header.next_u8(3);
         if tow >= WEEK_MS {
             return Err(DecodeFault::EpochRange { number: 1004 });
         }
         if reader.remaining() < 125 * count as u128 {
             return Err(DecodeFault::Short { number: 1004 });
         }
-        let satellites = next_satellites(reader, count);
-        Ok(Obs1004 {
+        let mut message = Obs1004 {
             station,
             tow,
             synchronous,
             smoothing,
             smoothing_interval,
-            satellites,
-        })
+            satellites: Satellites::new(),
+        };
+        read_satellites(&mut message.satellites, reader, count);
+        Ok(message)
     }
 
     fn write(&self, writer: &mut BitWriter) -> Result<(), AllocError> {
@@ -94,17 +97,17 @@ impl Layout for Obs1004 {
     ghost unique = { is_unique };
 }
 
-fn next_satellites(reader: &mut BitReader<'_>, count: u8) -> Satellites
+// In place, since a list of a thousand bytes is slow to move.
+fn read_satellites(satellites: &mut Satellites, reader: &mut BitReader<'_>, count: u8)
+    requires empty { satellites.old ≡ [] }
     requires few { count ≤ 31 }
     requires enough { 125 * count ≤ length reader.old }
-    ensures fields { TakesAll (flat_map satellite_table result) reader.old reader.new }
-    ensures count { length result ≡ count }
+    ensures fields { TakesAll (flat_map satellite_table satellites.new) reader.old reader.new }
+    ensures count { length satellites.new ≡ count }
 {
-    let mut satellites = Satellites::new();
     for _ in 0..count {
         satellites.push(next_satellite(reader));
     }
-    satellites
 }
 
 fn next_satellite(reader: &mut BitReader<'_>) -> Satellite
@@ -112,19 +115,22 @@ fn next_satellite(reader: &mut BitReader<'_>) -> Satellite
     ensures fields { TakesAll (satellite_table result) reader.old reader.new }
     ensures left { length reader.old ≡ 125 + length reader.new }
 {
+    let mut first = next_word(reader, 58);
+    let mut second = next_word(reader, 32);
+    let mut third = next_word(reader, 35);
     Satellite {
-        satellite: next_u8(reader, 6),
-        l1_code: next_flag(reader),
-        l1_range: next_u32(reader, 24),
-        l1_phase_difference: next_i32(reader, 20),
-        l1_lock_indicator: next_u8(reader, 7),
-        modulus_ambiguity: next_u8(reader, 8),
-        l1_cnr: next_u8(reader, 8),
-        l2_code: next_u8(reader, 2),
-        l2_range_difference: next_i16(reader, 14),
-        l2_phase_difference: next_i32(reader, 20),
-        l2_lock_indicator: next_u8(reader, 7),
-        l2_cnr: next_u8(reader, 8),
+        satellite: first.next_u8(6),
+        l1_code: first.next_flag(),
+        l1_range: first.next_u32(24),
+        l1_phase_difference: first.next_i32(20),
+        l1_lock_indicator: first.next_u8(7),
+        modulus_ambiguity: second.next_u8(8),
+        l1_cnr: second.next_u8(8),
+        l2_code: second.next_u8(2),
+        l2_range_difference: second.next_i16(14),
+        l2_phase_difference: third.next_i32(20),
+        l2_lock_indicator: third.next_u8(7),
+        l2_cnr: third.next_u8(8),
     }
 }
 

@@ -2,8 +2,9 @@
 ghost use Rattle.std.specs.Prelude.{OnOk, ◌≡◌, ◌+◌, ◌≤◌, length, IsTrue, ◌↔◌, ℕ};
 ghost use Rattle.rtk_message.specs.Fields.{Field, FieldFits, Takes, Puts};
 
-use crate::field::{fits_i, fits_u, next_flag, next_i16, next_i32, next_u16, next_u8, put_flag, put_i16, put_i32, put_u};
-use rtk_bits::{BitReader, BitWriter};
+use crate::field::{fits_i, fits_u, put_flag, put_i16, put_i32, put_u};
+use crate::word::Word;
+use rtk_bits::BitWriter;
 use std::alloc::AllocError;
 
 /// A type whose values are fields of a column.
@@ -15,15 +16,17 @@ pub trait FieldValue: Copy + Default {
     ghost IsWidth: { ℕ → Type 0 };
 
     /// The next field.
-    fn next(reader: &mut BitReader<'_>, width: usize) -> Self
+    fn next(word: &mut Word, width: usize) -> Self
         requires width { IsWidth width }
-        requires enough { width ≤ length reader.old }
-        ensures taken { Takes (field width result) reader.old reader.new }
-        ensures left { length reader.old ≡ width + length reader.new };
+        requires some { 1 ≤ width }
+        requires enough { width ≤ length word.old }
+        ensures taken { Takes (field width result) word.old word.new }
+        ensures left { length word.old ≡ width + length word.new };
 
     /// Puts the field.
     fn put(&self, writer: &mut BitWriter, width: usize) -> Result<(), AllocError>
         requires width { IsWidth width }
+        requires some { 1 ≤ width }
         requires fits { FieldFits (field width self.now) }
         ensures { OnOk result (Puts (field width self.now) writer.old writer.new) };
 
@@ -39,10 +42,10 @@ impl FieldValue for u8 {
 
     ghost field = { λ w x. u w x };
 
-    ghost IsWidth = { λ w. (1 ≤ w) × (w ≤ 8) };
+    ghost IsWidth = { λ w. w ≤ 8 };
 
-    fn next(reader: &mut BitReader<'_>, width: usize) -> u8 {
-        next_u8(reader, width)
+    fn next(word: &mut Word, width: usize) -> u8 {
+        word.next_u8(width)
     }
 
     fn put(&self, writer: &mut BitWriter, width: usize) -> Result<(), AllocError> {
@@ -60,10 +63,31 @@ impl FieldValue for u16 {
 
     ghost field = { λ w x. u w x };
 
-    ghost IsWidth = { λ w. (1 ≤ w) × (w ≤ 16) };
+    ghost IsWidth = { λ w. w ≤ 16 };
 
-    fn next(reader: &mut BitReader<'_>, width: usize) -> u16 {
-        next_u16(reader, width)
+    fn next(word: &mut Word, width: usize) -> u16 {
+        word.next_u16(width)
+    }
+
+    fn put(&self, writer: &mut BitWriter, width: usize) -> Result<(), AllocError> {
+        put_u(writer, width, *self as u64)
+    }
+
+    fn fits(&self, width: usize) -> bool {
+        fits_u(*self as u64, width)
+    }
+}
+
+impl FieldValue for u32 {
+    ghost use Rattle.std.specs.Prelude.{◌≤◌};
+    ghost use Rattle.rtk_message.specs.Fields.{u};
+
+    ghost field = { λ w x. u w x };
+
+    ghost IsWidth = { λ w. w ≤ 32 };
+
+    fn next(word: &mut Word, width: usize) -> u32 {
+        word.next_u32(width)
     }
 
     fn put(&self, writer: &mut BitWriter, width: usize) -> Result<(), AllocError> {
@@ -83,8 +107,8 @@ impl FieldValue for i16 {
 
     ghost IsWidth = { λ w. (1 ≤ w) × (w ≤ 16) };
 
-    fn next(reader: &mut BitReader<'_>, width: usize) -> i16 {
-        next_i16(reader, width)
+    fn next(word: &mut Word, width: usize) -> i16 {
+        word.next_i16(width)
     }
 
     fn put(&self, writer: &mut BitWriter, width: usize) -> Result<(), AllocError> {
@@ -104,8 +128,8 @@ impl FieldValue for i32 {
 
     ghost IsWidth = { λ w. (1 ≤ w) × (w ≤ 32) };
 
-    fn next(reader: &mut BitReader<'_>, width: usize) -> i32 {
-        next_i32(reader, width)
+    fn next(word: &mut Word, width: usize) -> i32 {
+        word.next_i32(width)
     }
 
     fn put(&self, writer: &mut BitWriter, width: usize) -> Result<(), AllocError> {
@@ -125,8 +149,8 @@ impl FieldValue for bool {
 
     ghost IsWidth = { λ w. w ≡ 1 };
 
-    fn next(reader: &mut BitReader<'_>, width: usize) -> bool {
-        next_flag(reader)
+    fn next(word: &mut Word, width: usize) -> bool {
+        word.next_flag()
     }
 
     fn put(&self, writer: &mut BitWriter, width: usize) -> Result<(), AllocError> {

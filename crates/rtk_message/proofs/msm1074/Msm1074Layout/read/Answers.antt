@@ -25,45 +25,45 @@ returns-then-remaining-satellites-clause-fault c =
 pub returns-then-remaining-satellites-2-clause-fault : goal.returns-then-remaining-satellites-2-clause-fault
 returns-then-remaining-satellites-2-clause-fault c =
     let h = c.next_header-header.result in
-    let ns = c.next_mask-cell_mask.result in
+    let ns = c.read_mask.new.mask in
     let few : c.satellites-satellites.result * c.signals-signals.result ≤ 64 = few_of c.has_too_many_cells.ensures c.if-has_too_many_cells.false in
-    let mask : TakesAll (numbers (signals h) ns) c.next_header-header.new.reader c.next_mask-cell_mask.new.reader = rw (← c.signals-signals.ensures.value) c.next_mask-cell_mask.ensures.fields in
-    is_cut_rest ns c.next_header-header.ensures.fields mask (c.next_mask-cell_mask.ensures.count ∙ c.satellites-satellites.ensures.value) (omega (arith, c.if-header-ge-WEEK_MS.false))
+    let mask : TakesAll (numbers (signals h) ns) c.next_header-header.new.reader c.read_mask.new.reader = rw (← c.signals-signals.ensures.value) c.read_mask.ensures.fields in
+    is_cut_rest ns c.next_header-header.ensures.fields mask (c.read_mask.ensures.count ∙ c.satellites-satellites.ensures.value) (omega (arith, c.if-header-ge-WEEK_MS.false))
     (rw (← c.satellites-satellites.ensures.value, ← c.signals-signals.ensures.value) few)
-    (rw (← c.satellites-satellites.ensures.value, ← c.signals-signals.ensures.value) c.next_mask-cell_mask.ensures.left)
+    (rw (← c.satellites-satellites.ensures.value, ← c.signals-signals.ensures.value) c.read_mask.ensures.left)
     (omega (arith, c.if-remaining-satellites-2.true, c.remaining-3.ensures, c.satellites-satellites.ensures.value, c.ones-cells.ensures))
 
 -- a cell mask of at most 64 bits has at most 64 cells
-pub next_column-requires-3 : goal.next_column-requires-3
-next_column-requires-3 c =
-    let ns = c.next_mask-cell_mask.result in
+pub prove-unreachable-requires : goal.prove-unreachable-requires
+prove-unreachable-requires c =
+    let ns = c.read_mask.new.mask in
     let few : c.satellites-satellites.result * c.signals-signals.result ≤ 64 = few_of c.has_too_many_cells.ensures c.if-has_too_many_cells.false in
     let cells : sum_by count_ones ns ≤ c.signals-signals.result * c.satellites-satellites.result =
-        rw (← c.next_mask-cell_mask.ensures.count) (ones-few c.signals-signals.result ns c.next_mask-cell_mask.ensures.fields.fit) in
-    (search rules, (omega (arith, few, cells, c.ones-cells.ensures), ((omega arith, omega arith), search rules)))
+        rw (← c.read_mask.ensures.count) (ones-few c.signals-signals.result ns c.read_mask.ensures.fields.fit) in
+    absurd (omega (arith, few, cells, c.ones-cells.ensures, c.if-prove.true))
 
 pub returns-clause-fields : goal.returns-clause-fields
 returns-clause-fields c =
     let h = c.next_header-header.result in
-    let ns = c.next_mask-cell_mask.result in
+    let ns = c.read_mask.new.mask in
     let few : c.satellites-satellites.result * c.signals-signals.result ≤ 64 = few_of c.has_too_many_cells.ensures c.if-has_too_many_cells.false in
-    let mask : TakesAll (numbers (signals h) ns) c.next_header-header.new.reader c.next_mask-cell_mask.new.reader = rw (← c.signals-signals.ensures.value) c.next_mask-cell_mask.ensures.fields in
-    let t = took_both c.next_header-header.ensures.fields (took_both mask (took_both c.next_column.ensures.fields (took_both c.next_column-2.ensures.fields (took_both c.next_column-3.ensures.fields
-        (took_both c.next_column-4.ensures.fields (took_both c.next_column-5.ensures.fields (took_both c.next_column-6.ensures.fields c.next_column-7.ensures.fields))))))) in
+    let mask : TakesAll (numbers (signals h) ns) c.next_header-header.new.reader c.read_mask.new.reader = rw (← c.signals-signals.ensures.value) c.read_mask.ensures.fields in
+    let t = took_both c.next_header-header.ensures.fields (took_both mask (took_both c.read_column.ensures.fields (took_both c.read_column-2.ensures.fields (took_both c.read_column-3.ensures.fields
+        (took_both c.read_column-4.ensures.fields (took_both c.read_column-5.ensures.fields (took_both c.read_column-6.ensures.fields c.read_column-7.ensures.fields))))))) in
     let sats = c.satellites-satellites.ensures.value in
     let cells = c.ones-cells.ensures in
-    (record {
+    rw c.without_cells-message.ensures (record {
       fields_fit = t.fit;
       time_in_week = c.if-header-ge-WEEK_MS.false;
       mask_bits = rw (← c.satellites-satellites.ensures.value, ← c.signals-signals.ensures.value) few;
       lengths = record {
-        cell_mask = c.next_mask-cell_mask.ensures.count ∙ sats;
-        rough_ms = c.next_column.ensures.count ∙ sats;
-        rough_fraction = c.next_column-2.ensures.count ∙ sats;
-        fine_range = c.next_column-3.ensures.count ∙ cells;
-        fine_phase = c.next_column-4.ensures.count ∙ cells;
-        lock_indicator = c.next_column-5.ensures.count ∙ cells;
-        half_cycle = c.next_column-6.ensures.count ∙ cells;
-        cnr = c.next_column-7.ensures.count ∙ cells;
+        cell_mask = c.read_mask.ensures.count ∙ sats;
+        rough_ms = c.read_column.ensures.count ∙ sats;
+        rough_fraction = c.read_column-2.ensures.count ∙ sats;
+        fine_range = c.read_column-3.ensures.count ∙ cells;
+        fine_phase = c.read_column-4.ensures.count ∙ cells;
+        lock_indicator = c.read_column-5.ensures.count ∙ cells;
+        half_cycle = c.read_column-6.ensures.count ∙ cells;
+        cnr = c.read_column-7.ensures.count ∙ cells;
       };
     }, t)

@@ -9,25 +9,25 @@ use Rattle.rtk_message.proofs.msm1074.Msm1074Layout.write.Goals as goal
 
 -- each column fits, and so do its width and the size of its type
 pub put_column-requires : goal.put_column-requires
-put_column-requires c = (search rules, ((omega arith, omega arith), (each_fits c.args.self.now c.requires.fields_fit).rough_ms))
+put_column-requires c = (search rules, (omega arith, (omega arith, (each_fits c.args.self.now c.requires.fields_fit).rough_ms)))
 
 pub put_column-requires-2 : goal.put_column-requires-2
-put_column-requires-2 c = (search rules, ((omega arith, omega arith), (each_fits c.args.self.now c.requires.fields_fit).rough_fraction))
+put_column-requires-2 c = (search rules, (omega arith, (omega arith, (each_fits c.args.self.now c.requires.fields_fit).rough_fraction)))
 
 pub put_column-requires-3 : goal.put_column-requires-3
-put_column-requires-3 c = (search rules, ((omega arith, omega arith), (each_fits c.args.self.now c.requires.fields_fit).fine_range))
+put_column-requires-3 c = (search rules, ((omega arith, omega arith), (omega arith, (each_fits c.args.self.now c.requires.fields_fit).fine_range)))
 
 pub put_column-requires-4 : goal.put_column-requires-4
-put_column-requires-4 c = (search rules, ((omega arith, omega arith), (each_fits c.args.self.now c.requires.fields_fit).fine_phase))
+put_column-requires-4 c = (search rules, ((omega arith, omega arith), (omega arith, (each_fits c.args.self.now c.requires.fields_fit).fine_phase)))
 
 pub put_column-requires-5 : goal.put_column-requires-5
-put_column-requires-5 c = (search rules, ((omega arith, omega arith), (each_fits c.args.self.now c.requires.fields_fit).lock_indicator))
+put_column-requires-5 c = (search rules, (omega arith, (omega arith, (each_fits c.args.self.now c.requires.fields_fit).lock_indicator)))
 
 pub put_column-requires-6 : goal.put_column-requires-6
-put_column-requires-6 c = (search rules, (refl, flags-fit c.args.self.now.half_cycle))
+put_column-requires-6 c = (search rules, (refl, (omega arith, flags-fit c.args.self.now.half_cycle)))
 
 pub put_column-requires-7 : goal.put_column-requires-7
-put_column-requires-7 c = (search rules, ((omega arith, omega arith), (each_fits c.args.self.now c.requires.fields_fit).cnr))
+put_column-requires-7 c = (search rules, (omega arith, (omega arith, (each_fits c.args.self.now c.requires.fields_fit).cnr)))
 
 pub returns : goal.returns
 returns c =

@@ -3,7 +3,7 @@ use Rattle.std.specs.List.{flat_map}
 use Rattle.rtk_message.specs.Fields.{TakesAll, FieldsFit}
 use Rattle.rtk_message.specs.Fields.{PutsAll}
 use Rattle.rtk_message.specs.Obs1004.{satellite_table}
-use Rattle.rtk_message.proofs.obs1004.next_satellites.Given as goal
+use Rattle.rtk_message.proofs.obs1004.read_satellites.Given as goal
 
 abbrev pub invariant-loop : goal.invariant-loop
 invariant-loop l = record {

@@ -5,7 +5,7 @@ use Rattle.rtk_message.specs.Fields.{u, i, flag, Takes, TakesAll, FieldsFit}
 use Rattle.rtk_message.specs.FieldLaws.{took, took_none, put, put_none}
 use Rattle.std.proofs.lemmas.List.{length_push}
 use Rattle.rtk_message.specs.Obs1004Laws.{took_push}
-use Rattle.rtk_message.proofs.obs1004.next_satellites.Goals as goal
+use Rattle.rtk_message.proofs.obs1004.read_satellites.Goals as goal
 
 pub loop-preserved : goal.loop-preserved
 loop-preserved c =

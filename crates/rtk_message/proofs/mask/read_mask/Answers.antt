@@ -1,0 +1,13 @@
+use Rattle.std.proofs.Common.{ℕ, arith}
+use Rattle.std.proofs.lemmas.List.{length_push}
+use Rattle.rtk_message.specs.Fields.{u}
+use Rattle.rtk_message.specs.ColumnLaws.{took_more, takes_none}
+use Rattle.rtk_message.proofs.mask.read_mask.Goals as goal
+
+pub loop-preserved : goal.loop-preserved
+loop-preserved c =
+    let before = c.loop.invariant in
+    rw c.push.ensures (record {
+      fields = took_more (λ (n : ℕ). u c.args.signals n) c.loop.mask 0 c.args.reader.now c.args.reader.now c.args.reader.now before.fields (takes_none c.args.signals c.args.reader.now (omega (arith, c.if-signals-gt0.false)));
+      so_far = omega (arith, length_push c.loop.mask 0, before.so_far);
+    })
