@@ -5,3 +5,8 @@ pub mod FileLemmas
 pub mod WrittenLemmas
 pub mod TableLemmas
 pub mod RecordsLemmas
+pub mod WritingLemmas
+pub mod SoFarLemmas
+pub mod AnswersLemmas
+pub mod ArriveLemmas
+pub mod FinishLemmas

@@ -1,8 +1,11 @@
 //! Links to a file: what the file of a set of messages is, and one arrival at a time.
 #![tactic(auto)]
 
+mod arrival;
+mod conversion;
 mod counts;
 mod fault;
+mod finish;
 mod laws;
 mod output;
 mod records;
