@@ -2,7 +2,6 @@
 -- fall: behind an epoch, with its cells, stand the lower ones.
 use Rattle.std.specs.Prelude.{ℕ, zero, suc, List, [], ◌∷◌, ◌++◌, Option, None, Some, unwrap_or}
 use Rattle.rtk_obs.specs.declared.code.Code.{Code}
-
 use Rattle.rtk_frame.specs.Stream.{count_after}
 use Rattle.rtk_collect.specs.EpochCells.{EpochCells}
 use Rattle.rtk_rinex.specs.Header.{Site, header_text}

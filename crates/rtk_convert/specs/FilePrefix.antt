@@ -1,6 +1,5 @@
 -- What of a file is out once some of its epochs are closed.
 use Rattle.std.specs.Prelude.{◌≡◌, ℕ, Bool, true, false, List, [], ◌∷◌, ◌++◌, Option, None, Some, is_some, if◌then◌else◌}
-
 use Rattle.rtk_collect.specs.EpochCells.{EpochCells}
 use Rattle.rtk_rinex.specs.Header.{Site, header_text}
 use Rattle.rtk_convert.specs.Rows.{table_of}
