@@ -135,12 +135,12 @@ later-below (x ∷ below) epoch s k b f =
     subst (λ (o : Option Track). IsLater o epoch) (track-below (signal_cell x.cells s k) x.epoch k (signal_cells below s k))
     (later-after (last_phase_of below s k) k x.epoch epoch (signal_cell x.cells s k) b (later-below below x.epoch s k f.0 f.1))
 
-pub closes-above : (s : Settings) (old new : Window) (c : Closed) (a : Arrival) (e : EpochCells) (found : List SatelliteCode) → old.size ≡ s.window → IsReached s old c
-    → Meets old a (Taken (Some e) found) new → AllBelow c.tracks e.epoch
-closes-above s old new c a e found size reached meets = λ sat k hs.
+pub closes-above : (s : Settings) (old new : Window) (c : Closed) (a : Arrival) (offer : Offer) (e : EpochCells) → old.size ≡ s.window → IsReached s old c → closed_by offer ≡ Some e
+    → Meets old a offer new → AllBelow c.tracks e.epoch
+closes-above s old new c a offer e size reached some meets = λ sat k hs.
     later-stable (track_at c.tracks sat k) e.epoch (λ never. reached (λ before holds follows. never (
-      let answer = meets before holds in
-      let closes : closed s.window (a ∷ before) ≡ e ∷ closed s.window before = subst (λ (n : ℕ). closed n (a ∷ before) ≡ e ∷ closed n before) size answer.0.2 in
+      let answer : Answers s.window a before offer = subst (λ (n : ℕ). Answers n a before offer) size (meets before holds).0 in
+      let closes : closed s.window (a ∷ before) ≡ e ∷ closed s.window before = answer-closed s.window a before offer answer ∙ ap (λ (d : Option EpochCells). option_to_list d ++ closed s.window before) some in
       let falls : Falls (e ∷ closed s.window before) = subst (λ (xs : List EpochCells). Falls xs) (sym (closed-drop s.window any_epoch (a ∷ before)) ∙ closes) (falls-drop s.window (kept s.window (a ∷ before)) (kept-falls s.window (a ∷ before))) in
       subst (λ (o : Option Track). IsLater o e.epoch) (sym (follows.phases sat k hs)) (later-below (closed s.window before) e.epoch sat k falls.0 falls.1))))
 

@@ -34,7 +34,7 @@ use Rattle.rtk_convert.specs.FileOfArrivals.{site_of_stations, site_of_kept, fil
 use Rattle.rtk_convert.specs.Finding.{ComesTo, Found, arrivals}
 use Rattle.rtk_convert.specs.Offering.{closed_by, IsAfter, TakesAs, TakesPartAs, Takes, TakesInPart}
 use Rattle.rtk_convert.specs.Records.{Closed, Follows}
-use Rattle.rtk_convert.specs.Report.{offer_lines, frame_lines, refused_line, lines, counted_as, counted_offer, one_frame_more}
+use Rattle.rtk_convert.specs.Report.{offer_lines, frame_lines, refused_line, lines, counted_as, counted_offer, one_frame_more, frame_counts}
 use Rattle.rtk_convert.specs.Settings.{Settings}
 use Rattle.rtk_convert.specs.State.{State, Represents, IsReached, ArrivesAs, BreaksOffAs, Arrives, BreaksOff}
 use Rattle.rtk_convert.specs.Writing.{Writes, WritesPart}
@@ -159,21 +159,22 @@ reached-new s w c holds follows = λ none. none [] holds follows
 
 -- ---- a frame
 
-pub arrives-arrived : (s : Settings) (w w' : Window) (c c' : Closed) (k k₁ k' : Counts) (b b₁ b' : Bool) (link : ℕ) (payload : List ℕ) (a : Arrival) (o o' l l' : Option (List ℕ))
-    → ComesTo s payload (Arrived a) → k₁ ≡ one_frame_more k → Takes (state s w c k₁ b₁) link a (state s w' c' k' b') o o' l l'
-    → Arrives (state s w c k b) link payload (state s w' c' k' b') o o' l l'
-arrives-arrived s w w' c c' k k₁ k' b b₁ b' link payload a o o' l l' comes frames takes = λ before rep.
-    let t = takes (arrivals before) (record { window = rep.window; closed = rep.closed }) in (
+pub arrives-arrived : (s : Settings) (w : Window) (c : Closed) (new : State) (k k₁ : Counts) (b b₁ : Bool) (link : ℕ) (payload : List ℕ) (a : Arrival) (o o' l l' : Option (List ℕ))
+    → ComesTo s payload (Arrived a) → k₁ ≡ one_frame_more k → new.settings ≡ s → Takes (state s w c k₁ b₁) link a new o o' l l'
+    → Arrives (state s w c k b) link payload new o o' l l'
+arrives-arrived s w c new k k₁ b b₁ link payload a o o' l l' comes frames settings takes = λ before rep.
+    let t = takes (arrivals before) (record { window = rep.window; closed = rep.closed }) in
+    let found : List Found = record { link = link; finding = Arrived a } ∷ before in (
       Arrived a,
       comes,
       record {
         represents = record {
           window = t.after.window;
           closed = t.after.closed;
-          counts = t.counts ∙ ap (counted_as (class_of s.window a (arrivals before))) (frames ∙ ap one_frame_more rep.counts);
+          counts = t.counts ∙ ap (counted_as (class_of s.window a (arrivals before))) (frames ∙ ap one_frame_more rep.counts) ∙ ap (λ (x : Settings). frame_counts x.window found) (sym settings);
         };
         out = t.out;
-        log = writes-text l l' (lines s.window before) (lines s.window (record { link = link; finding = Arrived a } ∷ before)) (frame_lines s.window link (Arrived a) (arrivals before)) refl t.log;
+        log = writes-text l l' (lines s.window before) (lines s.window found) (frame_lines s.window link (Arrived a) (arrivals before)) refl t.log;
       },
     )
 
@@ -248,3 +249,17 @@ holds-empty n = record { held = sym (take-nil n); arp1005 = refl; arp1006 = refl
 pub holds-new : (w : Window) (n : ℕ) → w ≡ record { size = n; held = []; arp1005 = None; arp1006 = None } → HoldsKept w []
 unfolding empty_window
 holds-new w n e = subst (λ (x : Window). HoldsKept x []) (sym e) (holds-empty n)
+
+-- whether it has stopped is no part of what it represents
+pub arrives-still : (s s' : Settings) (w w' : Window) (c c' : Closed) (k k' : Counts) (b b' d d' : Bool) (link : ℕ) (payload : List ℕ) (o o' l l' : Option (List ℕ))
+    → Arrives (state s w c k b) link payload (state s' w' c' k' b') o o' l l' → Arrives (state s w c k d) link payload (state s' w' c' k' d') o o' l l'
+arrives-still s s' w w' c c' k k' b b' d d' link payload o o' l l' arrives = λ before rep.
+    let t = arrives before (record { window = rep.window; closed = rep.closed; counts = rep.counts }) in (
+      t.0,
+      t.1,
+      record {
+        represents = record { window = t.2.represents.window; closed = t.2.represents.closed; counts = t.2.represents.counts };
+        out = t.2.out;
+        log = t.2.log;
+      },
+    )

@@ -10,6 +10,10 @@ pub on_ok-map : {T E : Type 0} (r : Result T E) {P Q : Type 0} → (P → Q) →
 on_ok-map (Ok x) f p = f p
 on_ok-map (Err e) f p = p
 
+pub on_err-map : {T E : Type 0} (r : Result T E) {P Q : Type 0} → (P → Q) → OnErr r P → OnErr r Q
+on_err-map (Ok x) f p = p
+on_err-map (Err e) f p = f p
+
 pub on_err-from : {T E : Type 0} (r : Result T E) {Q : Type 0} → Q → OnErr r Q
 on_err-from (Ok x) q = tt
 on_err-from (Err e) q = q

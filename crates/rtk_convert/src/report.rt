@@ -5,7 +5,7 @@ ghost use Rattle.rtk_collect.specs.declared.conflicts.SatelliteCode.{SatelliteCo
 ghost use Rattle.rtk_rinex.specs.Columns.{last_digits};
 ghost use Rattle.rtk_rinex.specs.Reading.{reading_of};
 ghost use Rattle.rtk_convert.specs.Report.{fault_text, refused_line, cell_lines, conflict_lines, offer_lines};
-ghost use Rattle.rtk_convert.specs.ReportText.{civil_text, epoch_text, link_text, message_text, late_line, conflict_line, cell_conflict_line, count_line, count_lines};
+ghost use Rattle.rtk_convert.specs.ReportText.{civil_text, epoch_text, link_text, message_text, signal_text, late_line, conflict_line, cell_conflict_line, count_line, count_lines};
 
 use crate::counts::Counts;
 use itoa::Buffer;
@@ -102,6 +102,17 @@ fn put_message(
     Ok(())
 }
 
+// The satellite and the code of a cell.
+fn put_signal(line: &mut Vec<u8>, cell: SatelliteCode) -> Result<(), AllocError>
+    ensures { OnOk result (line.new.items ≡ line.old.items ++ signal_text cell.satellite cell.code) }
+{
+    line.extend_from_slice(b" G")?;
+    line.extend_from_slice(&two_digits(cell.satellite))?;
+    line.push(b' ')?;
+    line.extend_from_slice(&cell.code.name())?;
+    Ok(())
+}
+
 // The line of a cell that differs from the one before.
 fn put_cell(
     lines: &mut Vec<u8>,
@@ -113,10 +124,7 @@ fn put_cell(
     ensures { OnOk result (lines.new.items ≡ lines.old.items ++ cell_conflict_line link number epoch cell.satellite cell.code) }
 {
     put_message(lines, link, b" conflict ", number, Some(epoch))?;
-    lines.extend_from_slice(b" G")?;
-    lines.extend_from_slice(&two_digits(cell.satellite))?;
-    lines.push(b' ')?;
-    lines.extend_from_slice(&cell.code.name())?;
+    put_signal(lines, cell)?;
     lines.push(b'\n')?;
     Ok(())
 }

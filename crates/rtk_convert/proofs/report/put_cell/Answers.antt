@@ -1,7 +1,0 @@
-use Rattle.std.proofs.Common.{append_assoc}
-use Rattle.rtk_convert.proofs.report.put_cell.Goals as goal
-
-pub returns : goal.returns
-returns c = rw (
-    c.in_ok-push-2.ensures.items, c.in_ok-extend_from_slice-3.ensures.items, c.in_ok-push.ensures.items, c.in_ok-extend_from_slice-2.ensures.items,
-    c.in_ok-extend_from_slice.ensures.items, c.in_ok-put_message.ensures, c.two_digits.ensures, c.name.ensures) (simp append_assoc)
