@@ -152,9 +152,10 @@ fn least_lock_times(rt: HostRuntime) {
     ];
     for (indicator, seconds) in legacy {
         assert!(rt; indicator <= 127);
+        let ms = least_lock_legacy(indicator);
         assert_eq!(rt;
-            least_lock_legacy(indicator),
-            1000 * seconds,
+            (ms / 1000, ms % 1000),
+            (seconds, 0),
             "indicator {indicator}"
         );
     }
