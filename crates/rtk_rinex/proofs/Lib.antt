@@ -3,3 +3,5 @@ pub mod ReadingLemmas
 pub mod HeaderLemmas
 pub mod RecordLemmas
 pub mod TableLemmas
+pub mod ValuesLemmas
+pub mod EpochLemmas

@@ -7,7 +7,9 @@ mod head;
 mod header_text;
 mod laws;
 mod reading;
+mod record_check;
 mod record_text;
+mod values;
 
 pub use epoch_table::{EpochTable, Observed, SatelliteRow};
 pub use head::{Head, HeadFault};

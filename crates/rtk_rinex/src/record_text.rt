@@ -17,14 +17,14 @@ const LEAST: i64 = -999_999_999_999;
 /// The greatest one.
 const GREATEST: i64 = 9_999_999_999_999;
 
-fn is_written_value(value: i64) -> bool
+pub fn is_written_value(value: i64) -> bool
     ensures { result ≡ is_written value }
 {
     value != 0 && value >= LEAST && value <= GREATEST
 }
 
 // F14.3 and two digits, or blanks.
-fn observation_field(value: Option<i64>, first: u8, second: u8) -> [u8; 16]
+pub fn observation_field(value: Option<i64>, first: u8, second: u8) -> [u8; 16]
     ensures { result ≡ observation value first second }
 {
     match value {
@@ -39,7 +39,7 @@ fn observation_field(value: Option<i64>, first: u8, second: u8) -> [u8; 16]
     }
 }
 
-fn digit_of_strength(strength: Option<u32>) -> u8
+pub fn digit_of_strength(strength: Option<u32>) -> u8
     ensures { result ≡ strength_digit strength }
 {
     match strength {
@@ -48,7 +48,7 @@ fn digit_of_strength(strength: Option<u32>) -> u8
     }
 }
 
-fn digit_of_lock(slip: bool, half: bool) -> u8
+pub fn digit_of_lock(slip: bool, half: bool) -> u8
     ensures { result ≡ lli_digit slip half }
 {
     if slip || half {
@@ -58,7 +58,7 @@ fn digit_of_lock(slip: bool, half: bool) -> u8
     }
 }
 
-fn value_of_strength(strength: Option<u32>) -> Option<i64>
+pub fn value_of_strength(strength: Option<u32>) -> Option<i64>
     ensures { result ≡ strength_value strength }
 {
     match strength {
@@ -148,7 +148,7 @@ fn line_count(rows: &[SatelliteRow]) -> usize
 }
 
 // The columns of the epoch line up to the minute.
-fn epoch_date(time: Civil) -> [u8; 18]
+pub fn epoch_date(time: Civil) -> [u8; 18]
     ensures { result ≡ epoch_date_text time }
 {
     let mut field = *b"> yyyy mm dd hh mm";

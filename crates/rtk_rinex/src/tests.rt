@@ -7,6 +7,8 @@ ghost use Rattle.rtk_rinex.specs.Record.{IsRow, IsStrength};
 use crate::epoch_table::{EpochTable, Observed, SatelliteRow};
 use crate::head::{Head, HeadFault};
 use crate::header_text::header;
+use crate::laws::records_are_of_tables;
+use crate::record_check::{read_epoch_line, read_observed};
 use crate::record_text::record;
 use arrayvec::ArrayVec;
 use rtk_obs::{Code, GpsMs, Position};
@@ -296,6 +298,7 @@ fn the_example_record_is_written(rt: HostRuntime) -> Result<(), Fail> {
     let head = Head::new(b"BASE", &CODES[..2], moment(MADE)?)?;
     let text = record(rt.alloc(), &head, &table)?;
     assert_eq!(rt; std::str::from_utf8(text.as_slice())?, RECORD);
+    records_are_of_tables();
     Ok(())
 }
 
@@ -490,5 +493,81 @@ fn satellites_without_an_observation_are_left_out(rt: HostRuntime) -> Result<(),
         "G32                                        30.000\n",
     );
     assert_eq!(rt; std::str::from_utf8(text.as_slice())?, want);
+    Ok(())
+}
+
+#[test]
+fn epoch_lines_are_read_back(rt: HostRuntime) -> Result<(), Fail> {
+    let rows: [(&[u8], Option<(u64, usize)>); 14] = [
+        (b"> 2024 05 17 12 00  0.0000000  0  1", Some((NOON, 1))),
+        (
+            b"> 2024 12 31 23 59 59.9990000  0 32",
+            Some((1_419_724_799_999, 32)),
+        ),
+        (b"> 2024 05 17 12 00  0.0000000  0  0", None),
+        (b"> 2024 05 17 12 00  0.0000000  0 33", None),
+        (b"> 2150 05 17 12 00  0.0000000  0  1", None),
+        (b"> 2024 02 30 12 00  0.0000000  0  1", None),
+        (b"> 2024 05 17 24 00  0.0000000  0  1", None),
+        (b"> 2024 05 17 12 00 60.0000000  0  1", None),
+        (b"> 2024 05 17 12 00  0.0000001  0  1", None),
+        (b"> 2024 05 17 12 00  0.0000000  1  1", None),
+        (b"> 2024 05 17 12 00 00.0000000  0  1", None),
+        (b"> 2024  5 17 12 00  0.0000000  0  1", None),
+        (b"> 2024 05 17 12 00  0.0000000  0  1 ", None),
+        (b"", None),
+    ];
+    for (line, want) in rows {
+        let found = match read_epoch_line(line) {
+            Some((time, count)) => Some((time.ms(), count)),
+            None => None,
+        };
+        assert_eq!(rt; found, want, "{line:?}");
+    }
+    Ok(())
+}
+
+#[test]
+fn observations_are_read_back(rt: HostRuntime) -> Result<(), Fail> {
+    let example = Observed {
+        range_mm: Some(21_085_472_060),
+        phase_millicycles: Some(110_804_903_547),
+        strength_millidbhz: Some(45_000),
+        slip: false,
+        half: false,
+    };
+    let both = Observed {
+        slip: true,
+        half: true,
+        ..example
+    };
+    let rows: [(&[u8], Option<Observed>); 13] = [
+        (
+            b"  21085472.060 7 110804903.547 7        45.000  ",
+            Some(example),
+        ),
+        (
+            b"  21085472.060 7 110804903.54737        45.000  ",
+            Some(both),
+        ),
+        (
+            b"                                                ",
+            Some(BLANK),
+        ),
+        (b"         0.000 7 110804903.547 7        45.000  ", None),
+        (b"  21085472.060 7 110804903.547 7        45.100  ", None),
+        (b"  21085472.060 6 110804903.547 7        45.000  ", None),
+        (b"  21085472.06017 110804903.547 7        45.000  ", None),
+        (b"  21085472.060 7 110804903.54747        45.000  ", None),
+        (b"  21085472.060 7              17        45.000  ", None),
+        (b"  21085472.060 7              1         45.000  ", None),
+        (b" 021085472.060 7 110804903.547 7        45.000  ", None),
+        (b"        -0.000 7 110804903.547 7        45.000  ", None),
+        (b"  21085472,060 7 110804903.547 7        45.000  ", None),
+    ];
+    for (columns, want) in rows {
+        assert_eq!(rt; columns.len(), 48);
+        assert_eq!(rt; read_observed(columns), want, "{columns:?}");
+    }
     Ok(())
 }
