@@ -1,15 +1,15 @@
 -- What an epoch line shows is its moment and its count.
-use Rattle.std.proofs.Common.{◌≡◌, ℕ, ◌+◌, ◌-◌, ◌*◌, ◌/◌, ◌%◌, ◌^◌, ◌<◌, ◌≤◌, List, [], ◌∷◌, ◌++◌, length, take, drop, decimal, codes, replicate, false, arith, refl, sym, ◌∙◌, ap, append_assoc, length-append, pos}
+use Rattle.std.proofs.Common.{◌≡◌, ℕ, ◌+◌, ◌/◌, ◌^◌, ◌<◌, List, ◌++◌, length, drop, decimal, codes, false, arith, refl, sym, ◌∙◌, append_assoc, length-append, pos}
 use Rattle.std.specs.Int.{IsInRange}
 use Rattle.std.proofs.lemmas.Fmt.{length-decimal-le}
 use Rattle.jiff_core.proofs.SignedLemmas.{signed_arith}
 use Rattle.jiff_core.proofs.CalendarLemmas.{days_in_month_bounds}
 use Rattle.rtk_obs.specs.declared.time.Civil.{Civil}
 use Rattle.rtk_obs.specs.Calendar.{Reads}
-use Rattle.rtk_rinex.specs.Columns.{right, decimals, last_digits}
+use Rattle.rtk_rinex.specs.Columns.{right, decimals}
 use Rattle.rtk_rinex.specs.Reading.{IsMoment, reading_of, seconds_of}
 use Rattle.rtk_rinex.specs.Record.{epoch_date_text, epoch_columns}
-use Rattle.rtk_rinex.specs.Values.{digits_from, seconds_in, civil_of, count_of}
+use Rattle.rtk_rinex.specs.Values.{seconds_in, civil_of, count_of}
 use Rattle.rtk_rinex.proofs.ReadingLemmas.{same_civil, reading-reads, year-bound}
 use Rattle.rtk_rinex.proofs.ValuesLemmas.{digits_from-last_2, digits_from-last_4, digits_from-seconds, digits_from-count, length-right, take-exact, drop-exact}
 

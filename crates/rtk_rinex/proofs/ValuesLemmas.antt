@@ -1,6 +1,5 @@
 -- What the text of a value shows is the value.
-use Rattle.std.proofs.Common.{◌≡◌, ◌≢◌, ℕ, zero, suc, ◌+◌, ◌-◌, ◌*◌, ◌/◌, ◌%◌, ◌^◌, ◌<◌, ◌≤◌, [], ◌∷◌, ◌++◌, List, length, replicate, decimal, take, drop, ap, arith, refl, sym, ◌∙◌, true, false, Bool, nat_le, nat_eq, ◌==◌, ◌&&◌, ◌||◌, cond, if◌then◌else◌, length-append, append_assoc, get_or, ℤ, pos, negsuc, neg_ℤ, unsigned_abs, ◌≤ℤ◌, Option, Some, None}
-use Rattle.std.specs.List.{list_any, list_all}
+use Rattle.std.proofs.Common.{◌≡◌, ℕ, zero, suc, ◌+◌, ◌-◌, ◌*◌, ◌/◌, ◌%◌, ◌^◌, ◌<◌, ◌≤◌, [], ◌∷◌, ◌++◌, List, length, replicate, decimal, take, drop, ap, arith, refl, sym, ◌∙◌, true, false, Bool, ◌==◌, ◌&&◌, ◌||◌, length-append, append_assoc, ℤ, pos, negsuc, unsigned_abs, ◌≤ℤ◌, Option, Some, None}
 use Rattle.std.specs.Fmt.{sign_text}
 use Rattle.std.proofs.lemmas.Fmt.{decimal_by_steps, length-decimal-le}
 use Rattle.std.proofs.lemmas.Nat.{pow-add}

@@ -1,4 +1,4 @@
-use Rattle.std.proofs.Common.{◌≡◌, ◌∙◌, true, false}
+use Rattle.std.proofs.Common.{◌≡◌, ◌∙◌}
 use Rattle.rtk_rinex.proofs.ValuesLemmas.{observed_of-observations, clash}
 use Rattle.rtk_rinex.proofs.record_check.read_observed.Goals as goal
 use Rattle.rtk_rinex.proofs.record_check.read_observed.Goals.{else-is_observed-via-then-is_observed+else-is_text, else-is_observed-via-else-is_observed}

@@ -1,6 +1,5 @@
-use Rattle.std.proofs.Common.{◌≡◌, ◌<◌, ◌≤◌, ◌+◌, ◌*◌, ◌^◌, arith, refl, sym, ap, ℕ, take, get_or, ◌∷◌, [], ◌∙◌, ◌++◌, length}
-use Rattle.std.proofs.lemmas.Grind.{take_at_read, common_steps}
-use Rattle.std.proofs.lemmas.List.{take_all}
+use Rattle.std.proofs.Common.{◌≡◌, arith, refl, take, length}
+use Rattle.std.proofs.lemmas.Grind.{take_at_read}
 use Rattle.rtk_rinex.specs.Values.{digits_from}
 use Rattle.rtk_rinex.proofs.ValuesLemmas.{digits_from-append, pow-18, pow-more}
 use Rattle.rtk_rinex.proofs.values.digits.Goals as goal
