@@ -73,7 +73,7 @@ total-flags (b ∷ bs) = rw (total-flags bs) (omega arith)
 
 -- ---- bits that are set
 
--- the bits of the table have as many as the table together
+-- as many bits are set in the concatenated rows as in all rows together
 pub ones-numbers : (w : ℕ) (ns : List ℕ) → FieldsFit (numbers w ns) → count_ones (unsigned (bits_of_fields (numbers w ns))) ≡ sum_by count_ones ns
 unfolding unsigned lib.Count.ones
 ones-numbers w [] fit = refl

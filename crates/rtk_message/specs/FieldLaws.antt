@@ -64,11 +64,11 @@ pub fit-left : (fs gs : List Field) → FieldsFit (fs ++ gs) → FieldsFit fs ×
 fit-left [] gs p = (tt, p)
 fit-left (f ∷ fs) gs p = let r = fit-left fs gs p.1 in ((p.0, r.0), r.1)
 
--- bits_of_fields put behind fields
+-- fields put after fields
 pub put_both : {fs gs : List Field} {a b c : List Bool} → PutsAll fs a b → PutsAll gs b c → PutsAll (fs ++ gs) a c
 put_both {fs = fs} {gs = gs} {a = a} p q = record { is = q.is ∙ ap (λ (t : List Bool). t ++ bits_of_fields gs) p.is ∙ append_assoc a (bits_of_fields fs) (bits_of_fields gs) ∙ ap (λ (t : List Bool). a ++ t) (sym (bits_of_fields-append fs gs)) }
 
--- bits_of_fields behind fields
+-- fields taken after fields
 pub took_both : {fs gs : List Field} {a b c : List Bool} → TakesAll fs a b → TakesAll gs b c → TakesAll (fs ++ gs) a c
 took_both {fs = fs} {gs = gs} {c = c} p q = record {
   fit = fit-append fs gs p.fit q.fit;
@@ -165,7 +165,7 @@ pub flag_bit : (b : Bool) → bits_of 1 (bit b) ≡ b ∷ []
 flag_bit true = one_bit 1 (omega arith)
 flag_bit false = one_bit 0 (omega arith)
 
--- what so many bits hold, 64 do
+-- a number that fits at most 64 bits of two's complement fits an i64
 mag_below : (z : ℤ) (a b : ℕ) → neg_ℤ (pos a) ≤ℤ z → z <ℤ pos a → a ≤ b → mag z < b
 mag_below (pos n) a b lo hi h = omega (arith, ints)
 mag_below (negsuc n) a b lo hi h = omega (arith, ints)

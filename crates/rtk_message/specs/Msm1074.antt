@@ -50,7 +50,7 @@ pub record HasLengths (m : Msm1074) : Type 0 where
   pub half_cycle : length m.half_cycle ≡ cells m
   pub cnr : length m.cnr ≡ cells m
 
--- each value fits its width, in the columns where it may not
+-- each value of the columns fits its width; those of DF420 are single bits and always do
 pub record EachFits (m : Msm1074) : Type 0 where
   pub cell_mask : FieldsFit (numbers (signals m.header) m.cell_mask)
   pub rough_ms : FieldsFit (numbers 8 m.rough_ms)

@@ -1,4 +1,4 @@
--- One reading of a 1074, and none where there is a fault.
+-- One message 1074 of bits, and no fault where there is one.
 use Rattle.std.proofs.Common.{◌≡◌, ℕ, ℤ, Bool, true, false, List, [], ◌∷◌, ◌++◌, length, take, drop, Some, None, refl, sym, ap, ◌∙◌, ◌+◌, ◌*◌, ◌<◌, ◌≤◌, ltb, arith, append_assoc, length-append, sum_by, count_ones, ◌↔◌}
 use Rattle.std.proofs.lemmas.Bool.{le-ltb, lt-ltb, ltb-false, ltb_from_iff}
 use Rattle.std.proofs.lemmas.List.{take_at, drop_at}
@@ -167,7 +167,7 @@ is_unique m n a b p q e =
     let all : make m.header m.cell_mask m.rough_ms m.rough_fraction m.fine_range m.fine_phase m.lock_indicator m.half_cycle m.cnr ≡ make n.header n.cell_mask n.rough_ms n.rough_fraction n.fine_range n.fine_phase n.lock_indicator n.half_cycle n.cnr = cc in
     sym (made m) ∙ all ∙ made n
 
--- ---- parts of what has a spelling
+-- ---- the columns of a valid message
 
 pub each_fits : (m : Msm1074) → FieldsFit (table m) → EachFits m
 each_fits m p =
@@ -198,6 +198,6 @@ all_fit m h p =
 pub is_valid : (m : Msm1074) → FieldsFit (header_table m.header) → m.header.tow < 604800000 → satellites m.header * signals m.header ≤ 64 → HasLengths m → EachFits m → IsValid m
 is_valid m head time few lengths each = record { fields_fit = all_fit m head each; time_in_week = time; mask_bits = few; lengths = lengths }
 
--- not more than 64, by a test of more
+-- at most 64, where a test of more than 64 says no
 pub few_of : {b : Bool} {k : ℕ} → ((b ≡ true) ↔ (64 < k)) → b ≡ false → k ≤ 64
 few_of {k = k} test none = ltb-false 64 k (sym (ltb_from_iff test) ∙ none)

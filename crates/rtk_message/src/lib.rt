@@ -29,6 +29,7 @@ pub use msm1074::{Msm1074, MsmHeader};
 pub use obs1004::Obs1004;
 pub use satellites::{Satellite, Satellites};
 
-
+#[cfg(test)]
+mod header_tests;
 #[cfg(test)]
 mod tests;

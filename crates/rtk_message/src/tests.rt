@@ -77,6 +77,12 @@ const MASK_OF_64: [u8; 22] = [
     0x00, 0x00, 0x78, 0x00, 0x00, 0x00, 0x00,
 ];
 
+// The same at 604,800,000 ms.
+const LATE_MASK_OF_64: [u8; 22] = [
+    0x43, 0x27, 0xd3, 0x90, 0x32, 0x10, 0x00, 0x00, 0x00, 0x7f, 0xff, 0x80, 0x00, 0x00, 0x00,
+    0x00, 0x00, 0x78, 0x00, 0x00, 0x00, 0x00,
+];
+
 // All fields that may be all ones are so, reserved ones included.
 const ONES_1004: [u8; 24] = [
     0x3e, 0xcf, 0xff, 0x90, 0x32, 0x0f, 0xfe, 0x1f, 0xff, 0xff, 0xff, 0xff, 0xff, 0xff, 0xff,
@@ -105,7 +111,7 @@ const ONES_1074: [u8; 30] = [
 fn faults_come_in_their_order(rt: HostRuntime) {
     let no_satellite_behind = [0x3e, 0xc7, 0xd3, 0x71, 0x4b, 0xe8, 0x00, 0x10];
     let late_and_no_satellite_behind = [0x3e, 0xc7, 0xd3, 0x90, 0x32, 0x10, 0x00, 0x10];
-    let rows: [(&[u8], DecodeFault); 20] = [
+    let rows: [(&[u8], DecodeFault); 21] = [
         (&[], DecodeFault::NoNumber),
         (&[0x43], DecodeFault::NoNumber),
         (&[0x3f, 0xb0], DecodeFault::Other { number: 1019 }),
@@ -127,6 +133,7 @@ fn faults_come_in_their_order(rt: HostRuntime) {
         (&MASK_OF_65, DecodeFault::TooManyCells),
         (&LATE_MASK_OF_65, DecodeFault::EpochRange { number: 1074 }),
         (&MASK_OF_64, DecodeFault::Short { number: 1074 }),
+        (&LATE_MASK_OF_64, DecodeFault::EpochRange { number: 1074 }),
         (&ONE_CELL[..22], DecodeFault::Short { number: 1074 }),
         (&ONE_CELL[..29], DecodeFault::Short { number: 1074 }),
     ];
