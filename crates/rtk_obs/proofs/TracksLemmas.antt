@@ -233,3 +233,18 @@ pub represents_step : (places now : List (Option Track)) (steps : List Step) (a 
 represents_step places now steps a b e t k ha len same place later is r =
     rw place (represents_set places steps a b e t ha len (rw same later)
     (is ∙ ap (λ (j : ℕ). last_after (band_of b) (get_or places j None) e) place) (rw same r))
+
+-- ---- steps one after another
+
+pub later_empty : (o : Option Track) (x : ℕ) → o ≡ None → IsLater o x
+later_empty o x e = subst (λ (p : Option Track). IsLater p x) (sym e) tt
+
+-- an epoch after all last phases and after a step is after all last phases behind the step
+pub all_later_step : (old new : List (Option Track)) (a : ℕ) (b : Code) (e : EpochCell) (x : ℕ)
+    → track_at new a b ≡ last_after (band_of b) (track_at old a b) e
+    → ((s : ℕ) (c : Code) → place_of_signal s c ≢ place_of_signal a b → track_at new s c ≡ track_at old s c)
+    → ((s : ℕ) (c : Code) → IsLater (track_at old s c) x) → e.epoch < x → (s : ℕ) (c : Code) → IsLater (track_at new s c) x
+all_later_step old new a b e x same others later h s c =
+    by_eq (place_of_signal s c) (place_of_signal a b)
+    (λ p. subst (λ (o : Option Track). IsLater o x) (sym (ap (λ (k : ℕ). get_or new k None) p ∙ same)) (later_after_step (band_of b) (track_at old a b) e x (later a b) h))
+    (λ ne. subst (λ (o : Option Track). IsLater o x) (sym (others s c ne)) (later s c))

@@ -1,5 +1,5 @@
 -- Rolls of 1500 cycles of the phases of 1004, and the last phase of a satellite and code.
-use Rattle.std.specs.Prelude.{false, ◌&&◌, List, [], ◌∷◌, Option, Some, None, ℤ, pos, negsuc, ◌+ℤ◌, ◌-ℤ◌, ◌*ℤ◌, int_lt, int_le, if◌then◌else◌}
+use Rattle.std.specs.Prelude.{false, ◌&&◌, List, [], ◌∷◌, Option, Some, None, ℕ, ◌*◌, ℤ, pos, negsuc, neg_ℤ, ◌+ℤ◌, ◌-ℤ◌, ◌*ℤ◌, int_lt, int_le, if◌then◌else◌}
 use Rattle.rtk_obs.specs.declared.code.Band.{Band}
 use Rattle.rtk_obs.specs.declared.track.Track.{Track}
 use Rattle.rtk_obs.specs.declared.track.Digits.{Digits}
@@ -9,10 +9,13 @@ use Rattle.rtk_obs.specs.Slip.{EpochCell, has_phase, has_slipped, slip_since}
 -- An offset d, in 0.0005 m, is d * f / (2 * c) millicycles (c is 299,792,458 m/s). DF012 and DF018
 -- roll over by 1500 cycles to stay in range, so a change of more than 750 cycles is a roll: one
 -- less where the offset rose by more, one more where it fell by more.
+abbrev pub half_roll : ℕ
+half_roll = 1_500_000 * 299_792_458
+
 abbrev pub roll_of : Band → ℤ → ℤ
 roll_of band d =
-    if int_lt (pos 449_688_687_000_000) (d *ℤ pos (frequency_of band)) then negsuc 0
-    else if int_lt (d *ℤ pos (frequency_of band)) (negsuc 449_688_686_999_999) then pos 1
+    if int_lt (pos half_roll) (d *ℤ pos (frequency_of band)) then negsuc 0
+    else if int_lt (d *ℤ pos (frequency_of band)) (neg_ℤ (pos half_roll)) then pos 1
     else pos 0
 
 -- the roll from one offset to the next; none where one of the phases is of a 1074 and has no offset

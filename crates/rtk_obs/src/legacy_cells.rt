@@ -6,7 +6,7 @@ ghost use Rattle.rtk_message.specs.Obs1004.{IsValid};
 ghost use Rattle.rtk_obs.specs.Cell.{is_satellite, entry_of, IsInRange};
 ghost use Rattle.rtk_obs.specs.Scaling.{l2_length};
 ghost use Rattle.rtk_obs.specs.LegacyCells.{l1_code_of, l2_code_of, l1_range_of, l2_range_of, legacy_phase_of, length_of, l1_cell_of, l2_cell_of, has_number, cells_of_1004};
-ghost use Rattle.rtk_obs.specs.LegacyFields.{HasFields};
+ghost use Rattle.rtk_obs.specs.LegacyFields.{HasWidths};
 
 use crate::cell::{Cell, CellEntry, CellSource, is_gps};
 use crate::code::{Band, Code};
@@ -163,7 +163,7 @@ fn is_used(others: &[Satellite], number: u8) -> bool
 // The cells of the satellites of a 1004.
 fn satellite_cells(satellites: &[Satellite]) -> ArrayVec<CellEntry, 62>
     requires few { length satellites.now ≤ 31 }
-    requires fields { All HasFields satellites.now }
+    requires fields { All HasWidths satellites.now }
     ensures cells { result.items ≡ cells_of_1004 satellites.now }
     ensures few { length result.items ≤ 62 }
 {
