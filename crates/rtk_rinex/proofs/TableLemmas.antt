@@ -1,16 +1,18 @@
 -- The record of an epoch is that of an epoch of a well-formed table.
 use Rattle.std.proofs.Common.{◌≡◌, ◌≢◌, ℕ, ◌+◌, ◌<◌, ◌≤◌, List, [], ◌∷◌, ◌++◌, length, map, Bool, true, false, ◌&&◌, ◌||◌, if◌then◌else◌, ℤ, Option, Some, None, arith, refl, sym, ◌∙◌, ap, get_or}
-use Rattle.std.specs.Prelude.{All, AllPairs, IsTrue, is_some}
+use Rattle.std.specs.Prelude.{All, AllPairs, IsTrue, is_some, nat_lt}
 use Rattle.std.specs.List.{flat_map, filter, list_any}
-use Rattle.std.proofs.lemmas.List.{length-map, get_or-map}
+use Rattle.std.proofs.lemmas.List.{length-map, get_or-map, nil_from_length}
 use Rattle.std.proofs.lemmas.List.Elements.{All-nil, All-cons, All-head, All-tail}
 use Rattle.std.proofs.lemmas.List.Kept.{AllPairs-filter}
+use Rattle.std.proofs.lemmas.Bool.Decides.{nat_tests}
 use Rattle.rtk_obs.specs.declared.time.Civil.{Civil}
 use Rattle.rtk_rinex.specs.declared.epoch_table.Observed.{Observed}
 use Rattle.rtk_rinex.specs.declared.epoch_table.SatelliteRow.{SatelliteRow}
-use Rattle.rtk_rinex.specs.Reading.{reading_of}
+use Rattle.rtk_rinex.specs.Reading.{IsMoment, reading_of}
+use Rattle.rtk_rinex.specs.Header.{Heading, Site, IsHeading, IsSite, header_text}
 use Rattle.rtk_rinex.specs.Record.{Epoch, IsEpoch, IsRow, IsStrength, HasWidth, is_written, is_value, observation, lli_digit, observations, has_observation, has_line, satellite_line, lines_of, record_text}
-use Rattle.rtk_rinex.specs.Table.{IsValue, IsLock, IsObserved, IsTableRow, IsTableEpoch, shown_value, shown, shown_row, shown_epoch, IsShownByRecord}
+use Rattle.rtk_rinex.specs.Table.{IsValue, IsLock, IsObserved, IsTableRow, IsTableEpoch, shown_value, shown, shown_row, shown_epoch, IsShownByRecord, StartsAt, IsTable, with_record, shown_table, IsShownByFile, FilesAreTables}
 
 -- a value: by whether it is written
 value_if : (v : ℤ) (a b : ℕ) (c : Bool) → is_written v ≡ c → observation (if c then Some v else None) a b ≡ observation (Some v) a b
@@ -159,12 +161,18 @@ rise-map rows h i j d low high =
     let second = get_or-map shown_row rows j d d below in
     rw (first, second) (h i j d low below)
 
+record-shown_epoch : (e : Epoch) → record_text (shown_epoch e) ≡ record_text e
+unfolding record_text
+record-shown_epoch e =
+    let rows = filter has_line e.rows in
+    rw (filter-shown_row rows (all_lines e.rows)) (lines_of-map (reading_of e.time) rows)
+
 pub record-is_shown : (n : ℕ) (e : Epoch) → IsEpoch e → HasWidth n e.rows → IsShownByRecord n e
 unfolding record_text
 record-is_shown n e h w =
     let rows = filter has_line e.rows in
     record {
-      text = rw (filter-shown_row rows (all_lines e.rows)) (lines_of-map (reading_of e.time) rows);
+      text = record-shown_epoch e;
       well_formed = λ some. record {
         time = h.time;
         some = some;
@@ -173,3 +181,63 @@ record-is_shown n e h w =
       };
       empty = λ none. sym (lines_of-map (reading_of e.time) rows) ∙ ap (lines_of (reading_of e.time)) none;
     }
+
+-- ---- the whole file
+
+abbrev has_record : Epoch → Bool
+has_record e = nat_lt 0 (length (record_text e))
+
+-- an epoch without a record adds nothing
+records_if : (e : Epoch) (epochs : List Epoch) → (c : Bool) → has_record e ≡ c
+    → flat_map record_text (map shown_epoch (if c then e ∷ epochs else epochs)) ≡ record_text e ++ flat_map record_text (map shown_epoch epochs)
+records_if e epochs true h = rw (record-shown_epoch e) refl
+records_if e epochs false h = let none : record_text e ≡ [] = nil_from_length (record_text e) (grind (arith, nat_tests)) in rw none refl
+
+records-shown : (epochs : List Epoch) → flat_map record_text epochs ≡ flat_map record_text (map shown_epoch (with_record epochs))
+records-shown [] = refl
+records-shown (e ∷ epochs) = ap (λ (t : List ℕ). record_text e ++ t) (records-shown epochs) ∙ sym (records_if e (with_record epochs) (has_record e) refl)
+
+abbrev IsGood : ℕ → Epoch → Type 0
+IsGood n e = IsEpoch e × HasWidth n e.rows
+
+table_epoch : (n : ℕ) (e : Epoch) → IsGood n e → has_record e ≡ true → IsTableEpoch n (shown_epoch e)
+table_epoch n e h some =
+    let is = record-is_shown n e h.0 h.1 in
+    is.well_formed (λ none. let no : record_text e ≡ [] = is.empty none in absurd (let long = rw no at some in cc))
+
+table_epochs_if : (n : ℕ) (e : Epoch) (epochs : List Epoch) → IsGood n e → All (IsTableEpoch n) (map shown_epoch epochs)
+    → (c : Bool) → has_record e ≡ c → All (IsTableEpoch n) (map shown_epoch (if c then e ∷ epochs else epochs))
+table_epochs_if n e epochs h rest true some = All-cons (IsTableEpoch n) (shown_epoch e) (map shown_epoch epochs) (table_epoch n e h some) rest
+table_epochs_if n e epochs h rest false some = rest
+
+table_epochs : (n : ℕ) (epochs : List Epoch) → All IsEpoch epochs → All (λ (e : Epoch). HasWidth n e.rows) epochs
+    → All (IsTableEpoch n) (map shown_epoch (with_record epochs))
+table_epochs n [] h w = All-nil (IsTableEpoch n)
+table_epochs n (e ∷ epochs) h w =
+    table_epochs_if n e (with_record epochs) (All-head IsEpoch e epochs h, All-head (λ (e : Epoch). HasWidth n e.rows) e epochs w)
+    (table_epochs n epochs (All-tail IsEpoch e epochs h) (All-tail (λ (e : Epoch). HasWidth n e.rows) e epochs w)) (has_record e) refl
+
+times-map : (epochs : List Epoch) → AllPairs (λ a b. a.time < b.time) epochs → AllPairs (λ a b. a.time < b.time) (map shown_epoch epochs)
+times-map epochs h i j d low high =
+    let long : length (map shown_epoch epochs) ≡ length epochs = length-map epochs shown_epoch in
+    let below : j < length epochs = omega arith in
+    let first = get_or-map shown_epoch epochs i d d (omega arith) in
+    let second = get_or-map shown_epoch epochs j d d below in
+    rw (first, second) (h i j d low below)
+
+starts-map : (first : ℕ) (epochs : List Epoch) → StartsAt first epochs → StartsAt first (map shown_epoch epochs)
+starts-map first [] h = tt
+starts-map first (e ∷ epochs) h = h
+
+pub file-is_shown : FilesAreTables
+file-is_shown h s first epochs head site moment good wide rise starts = record {
+  table = record {
+    head = head;
+    site = site;
+    first = moment;
+    starts = starts-map first (with_record epochs) starts;
+    epochs = table_epochs (length h.listed) epochs good wide;
+    rise = times-map (with_record epochs) (AllPairs-filter (λ a b. a.time < b.time) has_record epochs rise);
+  };
+  text = ap (λ (t : List ℕ). header_text h s first ++ t) (records-shown epochs);
+}

@@ -43,7 +43,7 @@ abbrev pub observation : Option ℤ → ℕ → ℕ → List ℕ
 observation None first second = replicate 16 32
 observation (Some v) first second = if is_written v then fixed 3 14 v ++ first ∷ second ∷ [] else replicate 16 32
 
--- the signal strength digit: a sixth of the strength in dB-Hz, at least 1 and at most 9 (RINEX 3.05, section 5.7); a blank without strength
+-- the signal strength digit: a sixth of the strength in dB-Hz, at least 1 and at most 9 (RINEX 3.05); a blank without strength
 abbrev pub strength_digit : Option ℕ → ℕ
 strength_digit None = 32
 strength_digit (Some s) = 48 + min (max (s / 6000) 1) 9

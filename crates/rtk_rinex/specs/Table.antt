@@ -1,5 +1,5 @@
 -- Well-formed tables of observations, and their text: what a file of this project can be.
-use Rattle.std.specs.Prelude.{◌≡◌, ◌≢◌, ◌≤◌, ◌<◌, ℕ, List, [], ◌∷◌, ◌++◌, length, flat_map, map, All, AllPairs, ℤ, Option, Some, None, Bool, false, ◌&&◌, if◌then◌else◌, IsTrue}
+use Rattle.std.specs.Prelude.{◌≡◌, ◌≢◌, ◌≤◌, ◌<◌, nat_lt, ℕ, List, [], ◌∷◌, ◌++◌, length, flat_map, map, All, AllPairs, ℤ, Option, Some, None, Bool, false, ◌&&◌, if◌then◌else◌, IsTrue}
 use Rattle.std.specs.Int.{IsInRange}
 use Rattle.std.specs.List.{filter}
 use Rattle.rtk_rinex.specs.Reading.{IsMoment}
@@ -96,3 +96,24 @@ pub record IsShownByRecord (n : ℕ) (e : Epoch) : Type 0 where
 -- so it is for each epoch of good rows, with as many observations as codes
 abbrev pub RecordsAreOfTables : Type 0
 RecordsAreOfTables = (n : ℕ) (e : Epoch) → IsEpoch e → HasWidth n e.rows → IsShownByRecord n e
+
+-- the epochs that have a record
+abbrev pub with_record : List Epoch → List Epoch
+with_record epochs = filter (λ e. nat_lt 0 (length (record_text e))) epochs
+
+-- the table of a header and of the epochs behind it: those that have a record, as the file shows them
+abbrev pub shown_table : Heading → Site → ℕ → List Epoch → Table
+shown_table h s first epochs = record { head = h; site = s; first = first; epochs = map shown_epoch (with_record epochs) }
+
+-- a header and the records behind it are the text of a well-formed table
+pub record IsShownByFile (h : Heading) (s : Site) (first : ℕ) (epochs : List Epoch) : Type 0 where
+  pub table : IsTable (shown_table h s first epochs)
+  pub text : header_text h s first ++ flat_map record_text epochs ≡ table_text (shown_table h s first epochs)
+
+-- so it is for all rising epochs of good rows, with as many observations as codes, where the header's first time is
+-- that of the first epoch with a record, if there is one
+abbrev pub FilesAreTables : Type 0
+FilesAreTables =
+    (h : Heading) (s : Site) (first : ℕ) (epochs : List Epoch) → IsHeading h → IsSite s → IsMoment first
+    → All IsEpoch epochs → All (λ e. HasWidth (length h.listed) e.rows) epochs → AllPairs (λ a b. a.time < b.time) epochs
+    → StartsAt first (with_record epochs) → IsShownByFile h s first epochs

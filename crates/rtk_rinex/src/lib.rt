@@ -12,7 +12,7 @@ mod record_text;
 pub use epoch_table::{EpochTable, Observed, SatelliteRow};
 pub use head::{Head, HeadFault};
 pub use header_text::header;
-pub use laws::records_are_of_tables;
+pub use laws::{files_are_tables, records_are_of_tables};
 pub use record_text::record;
 
 #[cfg(test)]

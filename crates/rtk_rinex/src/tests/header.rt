@@ -1,0 +1,245 @@
+//! Tests of heads and of the header.
+
+use super::{CODES, MADE, NOON, moment, part};
+use crate::head::{Head, HeadFault};
+use crate::header_text::header;
+use rtk_obs::{Code, Position};
+use std::alloc::Global;
+use std::fmt::Write;
+use std::test::Fail;
+
+/// The header of an example file: station BASE, codes 1C and 2W.
+const HEADER: &str = concat!(
+    "     3.05           OBSERVATION DATA    G                   RINEX VERSION / TYPE\n",
+    "rtcm2rinex                              20240517 130000 UTC PGM / RUN BY / DATE \n",
+    "BASE                                                        MARKER NAME         \n",
+    "GEODETIC                                                    MARKER TYPE         \n",
+    "                                                            OBSERVER / AGENCY   \n",
+    "                                                            REC # / TYPE / VERS \n",
+    "                                                            ANT # / TYPE        \n",
+    "  1114104.5999 -4850729.7108  3975521.4643                  APPROX POSITION XYZ \n",
+    "        0.0000        0.0000        0.0000                  ANTENNA: DELTA H/E/N\n",
+    "G    6 C1C L1C S1C C2W L2W S2W                              SYS / # / OBS TYPES \n",
+    "DBHZ                                                        SIGNAL STRENGTH UNIT\n",
+    "  2024     5    17    12     0    0.0000000     GPS         TIME OF FIRST OBS   \n",
+    "G                                                           SYS / PHASE SHIFT   \n",
+    "                                                            END OF HEADER       \n",
+);
+
+fn position(x: i64, y: i64, z: i64, height: u16) -> Result<Position, Fail> {
+    Ok(Position::new(x, y, z, height).ok_or("no position")?)
+}
+
+fn header_of(
+    marker: &[u8],
+    codes: &[Code],
+    position: &Position,
+    alloc: Global,
+) -> Result<Vec<u8>, Fail> {
+    let head = Head::new(marker, codes, moment(MADE)?)?;
+    Ok(header(alloc, &head, position, moment(NOON)?)?)
+}
+
+#[test]
+fn the_example_header_is_written(rt: HostRuntime) -> Result<(), Fail> {
+    let place = position(11_141_045_999, -48_507_297_108, 39_755_214_643, 0)?;
+    let text = header_of(b"BASE", &CODES[..2], &place, rt.alloc())?;
+    assert_eq!(rt; std::str::from_utf8(text.as_slice())?, HEADER);
+    Ok(())
+}
+
+#[test]
+fn markers_and_moments_fill_their_columns(rt: HostRuntime) -> Result<(), Fail> {
+    let markers = [
+        "B                                                           MARKER NAME         ",
+        "A marker of sixty bytes, from column 1 to column 60 -------|MARKER NAME         ",
+    ];
+    for (want, bytes) in markers.into_iter().zip([1, 60]) {
+        let marker = want.as_bytes().get(..bytes).ok_or("no marker")?;
+        // 2024-05-17 13:24:56.000
+        let head = Head::new(marker, &CODES[..2], moment(1_399_987_496_000)?)?;
+        // 2024-12-31 23:58:07.006
+        let first = moment(1_419_724_687_006)?;
+        let text = header(rt.alloc(), &head, &position(0, 0, 0, 0)?, first)?;
+        assert_eq!(rt; part(&text, 2 * 81, 2 * 81 + 80)?, want);
+        assert_eq!(rt; part(&text, 81 + 40, 81 + 60)?, "20240517 132456 UTC ");
+        assert_eq!(rt;
+            part(&text, 11 * 81, 11 * 81 + 60)?,
+            "  2024    12    31    23    58    7.0060000     GPS         "
+        );
+    }
+    Ok(())
+}
+
+#[test]
+fn heights_and_coordinates_fill_their_columns(rt: HostRuntime) -> Result<(), Fail> {
+    let least = -(1i64 << 37);
+    let greatest = (1i64 << 37) - 1;
+    let rows = [
+        (
+            11_141_045_999,
+            -48_507_297_108,
+            39_755_214_643,
+            15_000,
+            "  1114104.5999 -4850729.7108  3975521.4643",
+            "        1.5000",
+        ),
+        (
+            least,
+            least,
+            least,
+            65_535,
+            "-13743895.3472-13743895.3472-13743895.3472",
+            "        6.5535",
+        ),
+        (
+            greatest,
+            -1,
+            1,
+            1,
+            " 13743895.3471       -0.0001        0.0001",
+            "        0.0001",
+        ),
+    ];
+    for (x, y, z, height, coordinates, shown) in rows {
+        let text = header_of(
+            b"BASE",
+            &CODES[..2],
+            &position(x, y, z, height)?,
+            rt.alloc(),
+        )?;
+        assert_eq!(rt; part(&text, 7 * 81, 7 * 81 + 42)?, coordinates);
+        assert_eq!(rt; part(&text, 8 * 81, 8 * 81 + 14)?, shown);
+    }
+    Ok(())
+}
+
+#[test]
+fn thirteen_observation_types_stand_on_a_line(rt: HostRuntime) -> Result<(), Fail> {
+    let rows: [(usize, u8, &str); 7] = [
+        (
+            1,
+            1,
+            concat!(
+                "G    3 C1C L1C S1C                                          SYS / # / OBS TYPES \n",
+            ),
+        ),
+        (
+            4,
+            1,
+            concat!(
+                "G   12 C1C L1C S1C C2W L2W S2W C2X L2X S2X C5X L5X S5X      SYS / # / OBS TYPES \n",
+            ),
+        ),
+        (
+            5,
+            2,
+            concat!(
+                "G   15 C1C L1C S1C C2W L2W S2W C2X L2X S2X C5X L5X S5X C1P  SYS / # / OBS TYPES \n",
+                "       L1P S1P                                              SYS / # / OBS TYPES \n",
+            ),
+        ),
+        (
+            8,
+            2,
+            concat!(
+                "G   24 C1C L1C S1C C2W L2W S2W C2X L2X S2X C5X L5X S5X C1P  SYS / # / OBS TYPES \n",
+                "       L1P S1P C1W L1W S1W C2C L2C S2C C2P L2P S2P          SYS / # / OBS TYPES \n",
+            ),
+        ),
+        (
+            9,
+            3,
+            concat!(
+                "G   27 C1C L1C S1C C2W L2W S2W C2X L2X S2X C5X L5X S5X C1P  SYS / # / OBS TYPES \n",
+                "       L1P S1P C1W L1W S1W C2C L2C S2C C2P L2P S2P C2S L2S  SYS / # / OBS TYPES \n",
+                "       S2S                                                  SYS / # / OBS TYPES \n",
+            ),
+        ),
+        (
+            13,
+            3,
+            concat!(
+                "G   39 C1C L1C S1C C2W L2W S2W C2X L2X S2X C5X L5X S5X C1P  SYS / # / OBS TYPES \n",
+                "       L1P S1P C1W L1W S1W C2C L2C S2C C2P L2P S2P C2S L2S  SYS / # / OBS TYPES \n",
+                "       S2S C2L L2L S2L C5I L5I S5I C5Q L5Q S5Q C1S L1S S1S  SYS / # / OBS TYPES \n",
+            ),
+        ),
+        (
+            16,
+            4,
+            concat!(
+                "G   48 C1C L1C S1C C2W L2W S2W C2X L2X S2X C5X L5X S5X C1P  SYS / # / OBS TYPES \n",
+                "       L1P S1P C1W L1W S1W C2C L2C S2C C2P L2P S2P C2S L2S  SYS / # / OBS TYPES \n",
+                "       S2S C2L L2L S2L C5I L5I S5I C5Q L5Q S5Q C1S L1S S1S  SYS / # / OBS TYPES \n",
+                "       C1L L1L S1L C1X L1X S1X C2D L2D S2D                  SYS / # / OBS TYPES \n",
+            ),
+        ),
+    ];
+    let place = position(0, 0, 0, 0)?;
+    for (count, lines, want) in rows {
+        let codes = CODES.as_slice().get(..count).ok_or("codes")?;
+        let text = header_of(b"BASE", codes, &place, rt.alloc())?;
+        let end = 9 * 81 + usize::from(lines) * 81;
+        assert_eq!(rt; text.len(), end + 4 * 81);
+        assert_eq!(rt; part(&text, 9 * 81, end)?, want);
+        // 17 lines at most, of 80 columns and a line feed; taken at once
+        assert_eq!(rt; text.capacity(), 1377);
+    }
+    Ok(())
+}
+
+#[test]
+fn heads_are_refused_in_order(rt: HostRuntime) -> Result<(), Fail> {
+    let sixty = [b'x'; 60];
+    let longer = [b'x'; 61];
+    let good = &CODES[..2];
+    let twice: &[Code] = &[Code::C1C, Code::C1C];
+    let mut more = [Code::C1C; 17];
+    more[1..].copy_from_slice(CODES.as_slice());
+    let rows: [(&[u8], &[Code], u64, Result<(), HeadFault>); 18] = [
+        (b"B", good, MADE, Ok(())),
+        (sixty.as_slice(), good, MADE, Ok(())),
+        (b"two words ~!", good, MADE, Ok(())),
+        (b"BASE", CODES.as_slice(), MADE, Ok(())),
+        (b"", good, MADE, Err(HeadFault::Marker)),
+        (b" ", good, MADE, Err(HeadFault::Marker)),
+        (longer.as_slice(), good, MADE, Err(HeadFault::Marker)),
+        (b" X", good, MADE, Err(HeadFault::Marker)),
+        (b"X ", good, MADE, Err(HeadFault::Marker)),
+        (b"X\x1fY", good, MADE, Err(HeadFault::Marker)),
+        (b"X\x7fY", good, MADE, Err(HeadFault::Marker)),
+        (b" X", twice, MADE + 1, Err(HeadFault::Marker)),
+        (b"BASE", twice, MADE, Err(HeadFault::Codes)),
+        (b"BASE", &[], MADE, Err(HeadFault::Codes)),
+        (b"BASE", more.as_slice(), MADE, Err(HeadFault::Codes)),
+        (b"BASE", twice, MADE + 1, Err(HeadFault::Codes)),
+        (b"BASE", good, MADE + 1, Err(HeadFault::Made)),
+        (b"BASE", good, MADE + 999, Err(HeadFault::Made)),
+    ];
+    for (marker, codes, made, want) in rows {
+        match Head::new(marker, codes, moment(made)?) {
+            Ok(head) => {
+                assert_eq!(rt; want, Ok(()));
+                assert!(rt; head.marker() == marker);
+                assert!(rt; head.codes() == codes);
+                assert_eq!(rt; head.made().ms(), made);
+            }
+            Err(fault) => assert_eq!(rt; want, Err(fault)),
+        }
+    }
+    Ok(())
+}
+
+#[test]
+fn the_texts_of_the_faults_name_them(rt: HostRuntime) -> Result<(), Fail> {
+    let mut text = String::new(rt.alloc());
+    for fault in [HeadFault::Marker, HeadFault::Codes, HeadFault::Made] {
+        write!(text, "{fault};")?;
+    }
+    assert_eq!(rt;
+        text.as_str(),
+        "H1 bad marker;H2 bad codes;H3 bad time of making;"
+    );
+    Ok(())
+}
