@@ -76,7 +76,7 @@ rank-one Msm Msm h = refl
 place-one : (c d : Code) → place_of c ≡ place_of d → c ≡ d
 place-one c d h = sym (code_at-place c) ∙ ap code_at h ∙ code_at-place d
 
-parts-one : (s s' p p' r r' : ℕ) → p < 16 → p' < 16 → r < 2 → r' < 2 → (s * 16 + p) * 2 + r ≡ (s' * 16 + p') * 2 + r' → (s ≡ s') × (p ≡ p') × (r ≡ r')
+pub parts-one : (s s' p p' r r' : ℕ) → p < 16 → p' < 16 → r < 2 → r' < 2 → (s * 16 + p) * 2 + r ≡ (s' * 16 + p') * 2 + r' → (s ≡ s') × (p ≡ p') × (r ≡ r')
 parts-one s s' p p' r r' a b c d h = (omega arith, omega arith, omega arith)
 
 pub keys-are-distinct : KeysAreDistinct

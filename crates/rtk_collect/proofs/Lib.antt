@@ -6,5 +6,6 @@ pub mod WindowLemmas
 pub mod MembersLemmas
 pub mod SetsLemmas
 pub mod EqualityLemmas
+pub mod PreferredLemmas
 pub mod DatedLemmas
 pub mod PositionLemmas

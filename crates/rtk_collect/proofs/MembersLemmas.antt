@@ -1,5 +1,5 @@
 -- Late arrivals change nothing, and what is kept is what came in time.
-use Rattle.std.proofs.Common.{◌≡◌, ◌↔◌, ◌⊎◌, ℕ, ◌≤◌, Bool, true, false, List, [], ◌∷◌, ◌++◌, length, take, drop, Option, None, Some, refl, ap, sym, ◌∙◌, arith, inl, inr, subst}
+use Rattle.std.proofs.Common.{◌≡◌, ◌↔◌, ◌⊎◌, ℕ, zero, suc, ◌≤◌, Bool, true, false, List, [], ◌∷◌, ◌++◌, length, take, drop, Option, None, Some, refl, ap, sym, ◌∙◌, arith, inl, inr, subst}
 use Rattle.std.specs.Prelude.{nat_le, ◌==◌, ◌&&◌, not, if◌then◌else◌, min}
 use Rattle.std.specs.Option.{unwrap_or}
 use Rattle.std.proofs.Common.{append_assoc}
@@ -15,9 +15,10 @@ use Rattle.rtk_collect.specs.Arrival.{Arrival, At, cells_of}
 use Rattle.rtk_collect.specs.Late.{epochs, with_epoch, late}
 use Rattle.rtk_collect.specs.Accepted.{no_cells, station, first, kept, closed, with_arrival, IsTaken, AmongCells, IsTakenCell, IsConsistent}
 use Rattle.rtk_collect.specs.Slot.{is_first}
-use Rattle.rtk_collect.specs.Laws.{without_late, AreInTime, LateChangeNothing, ClosedOnlyGrow, ClosedAfter, ExcusedIsKept, StationsAreFinal, HasEpoch, IsKept, KeptAreTaken}
+use Rattle.rtk_collect.specs.Search.{Falls}
+use Rattle.rtk_collect.specs.Laws.{without_late, AreInTime, LateChangeNothing, ClosedOnlyGrow, ClosedFall, ClosedAfter, ExcusedIsKept, StationsAreFinal, HasEpoch, IsKept, KeptAreTaken}
 use Rattle.rtk_collect.proofs.CellsLemmas.{with_cell-new, with_cell-past, with_cell-same}
-use Rattle.rtk_collect.proofs.ArrivalsLemmas.{leadingN, leadingN-take, late-leading, is-late, is-open, take-with_epoch, take-with_epoch-late, same-le, keys, same_greatest, closed-drop, whole, with_arrival-new, with_arrival-below, with_arrival-same, leading-kept, drop-with_arrival}
+use Rattle.rtk_collect.proofs.ArrivalsLemmas.{leadingN, leadingN-take, late-leading, is-late, is-open, take-with_epoch, take-with_epoch-late, same-le, keys, same_greatest, closed-drop, kept-falls, whole, with_arrival-new, with_arrival-below, with_arrival-same, leading-kept, drop-with_arrival}
 use Rattle.rtk_collect.proofs.StationLemmas.{length-keys, and-none, excused-is, other-stays}
 
 late-above : (n e : ℕ) (m : Message) (before : List Arrival) → late n (At (Some e) m) before ≡ true → n ≤ leadingN e (epochs before)
@@ -141,6 +142,14 @@ closed-only-grow n (a ∷ later) before =
     let r = closed-only-grow n later before in
     let s = one-grows n a (later ++ before) in
     (s.0 ++ r.0, s.1 ∙ ap (λ t. s.0 ++ t) r.1 ∙ sym (append_assoc s.0 r.0 (closed n before)))
+
+falls-drop : (n : ℕ) (xs : List EpochCells) → Falls xs → Falls (drop n xs)
+falls-drop zero xs f = f
+falls-drop (suc n) [] f = tt
+falls-drop (suc n) (x ∷ xs) f = falls-drop n xs f.1
+
+pub closed-fall : ClosedFall
+closed-fall n arrivals = subst Falls (sym (closed-drop n (no_cells 0) arrivals)) (falls-drop n (kept n arrivals) (kept-falls n arrivals))
 
 pub closed-after : ClosedAfter
 closed-after n arrivals = elim (cases_lt (length (epochs arrivals)) n) [

@@ -1,5 +1,5 @@
 -- A field of 38 bits with a sign is a coordinate.
-use Rattle.std.proofs.Common.{◌≡◌, ℤ, pos, negsuc, arith, sym, subst}
+use Rattle.std.proofs.Common.{ℤ, pos, negsuc, arith, sym, subst}
 use Rattle.std.specs.Prelude.{◌≤ℤ◌, ◌<ℤ◌}
 use Rattle.std.proofs.lemmas.Int.{ints, to_z-of_z}
 use mir.Val.{SFits, to_z, of_z}

@@ -1,8 +1,11 @@
 -- The cells of an epoch: one for each satellite, code and kind of message, the first that came.
-use Rattle.std.specs.Prelude.{ℕ, suc, List, [], ◌∷◌, ◌++◌, ◌==◌, nat_lt, Option, None, Some, if◌then◌else◌}
+use Rattle.std.specs.Prelude.{ℕ, suc, List, [], ◌∷◌, ◌++◌, ◌==◌, ◌&&◌, nat_lt, Option, None, Some, if◌then◌else◌}
+use Rattle.rtk_obs.specs.Code.{place_of}
+use Rattle.rtk_obs.specs.declared.code.Code.{Code}
+use Rattle.rtk_obs.specs.declared.cell.CellSource.TheVariants.{Legacy, Msm}
 use Rattle.rtk_obs.specs.declared.cell.CellEntry.{CellEntry}
 use Rattle.rtk_collect.specs.declared.conflicts.SatelliteCode.{SatelliteCode}
-use Rattle.rtk_collect.specs.Key.{key}
+use Rattle.rtk_collect.specs.Key.{key, key_at}
 use Rattle.rtk_collect.specs.Equal.{equal_cells}
 
 -- an epoch in ms of GPS time with its cells, which rise by key
@@ -28,6 +31,19 @@ joined cells set = record { epoch = set.epoch; cells = with_cells cells set.cell
 abbrev pub cell_under : ℕ → List CellEntry → Option CellEntry
 cell_under k [] = None
 cell_under k (x ∷ xs) = if k == key x then Some x else cell_under k xs
+
+abbrev pub preferred : Option CellEntry → Option CellEntry → Option CellEntry
+preferred None legacy = legacy
+preferred (Some c) legacy = Some c
+
+-- the cell of a satellite and code: that of a 1074, else that of a 1004 (this project's rule)
+abbrev pub cell_of : ℕ → Code → List CellEntry → Option CellEntry
+cell_of satellite code cells = preferred (cell_under (key_at satellite code Msm) cells) (cell_under (key_at satellite code Legacy) cells)
+
+-- the first cell of a satellite and code
+abbrev pub first_cell : ℕ → Code → List CellEntry → Option CellEntry
+first_cell satellite code [] = None
+first_cell satellite code (x ∷ xs) = if (satellite == x.satellite) && (place_of code == place_of x.code) then Some x else first_cell satellite code xs
 
 abbrev pub one_more : Option CellEntry → ℕ → ℕ
 one_more None n = suc n

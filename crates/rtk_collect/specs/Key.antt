@@ -1,6 +1,7 @@
 -- The keys of the cells of an epoch, and their order.
 use Rattle.std.specs.Prelude.{ℕ, ◌+◌, ◌*◌, ◌<◌, List, [], ◌∷◌}
 use Rattle.rtk_obs.specs.Code.{place_of}
+use Rattle.rtk_obs.specs.declared.code.Code.{Code}
 use Rattle.rtk_obs.specs.declared.cell.CellSource.{CellSource}
 use Rattle.rtk_obs.specs.declared.cell.CellSource.TheVariants.{Legacy, Msm}
 use Rattle.rtk_obs.specs.declared.cell.CellEntry.{CellEntry}
@@ -10,7 +11,11 @@ abbrev pub rank_of : CellSource → ℕ
 rank_of Msm = 0
 rank_of Legacy = 1
 
--- the key of a cell in its epoch: satellite, code and kind of message, in this order of weight (this project's rule)
+-- the key of a satellite, code and kind of message in an epoch, in this order of weight (this project's rule)
+unfoldable pub key_at : ℕ → Code → CellSource → ℕ
+key_at satellite code source = (satellite * 16 + place_of code) * 2 + rank_of source
+
+-- the key of a cell in its epoch
 unfoldable pub key : CellEntry → ℕ
 key c = (c.satellite * 16 + place_of c.code) * 2 + rank_of c.cell.source
 

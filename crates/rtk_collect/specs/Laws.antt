@@ -7,9 +7,11 @@ use Rattle.rtk_message.specs.declared.message.Message.{Message}
 use Rattle.rtk_message.specs.Decoded.{number_of}
 use Rattle.rtk_obs.specs.declared.cell.Cell.{Cell}
 use Rattle.rtk_obs.specs.declared.cell.CellEntry.{CellEntry}
-use Rattle.rtk_collect.specs.Key.{key}
+use Rattle.rtk_obs.specs.declared.code.Code.{Code}
+use Rattle.rtk_collect.specs.Key.{key, Rises}
+use Rattle.rtk_collect.specs.Search.{Falls}
 use Rattle.rtk_collect.specs.Equal.{equal_cells, equal_1005, equal_1006, equal_stations}
-use Rattle.rtk_collect.specs.EpochCells.{EpochCells}
+use Rattle.rtk_collect.specs.EpochCells.{EpochCells, cell_of, first_cell}
 use Rattle.rtk_collect.specs.Slot.{is_first}
 use Rattle.rtk_collect.specs.Arrival.{Arrival, At}
 use Rattle.rtk_collect.specs.Late.{epochs, is_excused, late}
@@ -34,9 +36,13 @@ LateChangeNothing = (n : ℕ) (arrivals : List Arrival) → ((a : Arrival) → l
     × (kept n (without_late n arrivals) ≡ kept n arrivals)
     × ((k : ℕ) → station n k (without_late n arrivals) ≡ station n k arrivals)
 
--- further arrivals leave the closed epochs with their cells as they are, and add greater ones before them
+-- further arrivals leave the closed epochs with their cells as they are, and add others before them
 abbrev pub ClosedOnlyGrow : Type 0
 ClosedOnlyGrow = (n : ℕ) (later before : List Arrival) → (more : List EpochCells) × (closed n (later ++ before) ≡ more ++ closed n before)
+
+-- the closed epochs fall: each that closes is greater than those that were closed before
+abbrev pub ClosedFall : Type 0
+ClosedFall = (n : ℕ) (arrivals : List Arrival) → Falls (closed n arrivals)
 
 -- an epoch is closed only once n observation epochs have come
 abbrev pub ClosedAfter : Type 0
@@ -83,6 +89,10 @@ SetDecides = (n : ℕ) (first second : List Arrival) → IsConsistent n first �
 -- two cells have one key exactly where satellite, code and kind of message are the same
 abbrev pub KeysAreDistinct : Type 0
 KeysAreDistinct = (c d : CellEntry) → (key c ≡ key d) ↔ ((c.satellite ≡ d.satellite) × (c.code ≡ d.code) × (c.cell.source ≡ d.cell.source))
+
+-- where keys rise, the first cell of a satellite and code is that of a 1074, if there is one, else that of a 1004
+abbrev pub FirstIsPreferred : Type 0
+FirstIsPreferred = (satellite : ℕ) (code : Code) (cells : List CellEntry) → Rises cells → first_cell satellite code cells ≡ cell_of satellite code cells
 
 -- bodies are equal exactly where they are the same
 abbrev pub EqualityDecides : Type 0

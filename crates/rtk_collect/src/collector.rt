@@ -6,10 +6,10 @@ ghost use Rattle.rtk_message.specs.Arp1006 as arp1006_spec;
 ghost use Rattle.rtk_obs.specs.Cell.{IsInRange};
 ghost use Rattle.rtk_message.specs.declared.message.Message.TheVariants.{Arp1005 as MessageArp1005, Arp1006 as MessageArp1006};
 ghost use Rattle.rtk_collect.specs.Arrival.{Arrival, At};
-ghost use Rattle.rtk_collect.specs.Observed.{IsAnswerOf, Observes};
+ghost use Rattle.rtk_collect.specs.Observed.{IsAnswerOf, Observes, WouldTake};
 ghost use Rattle.rtk_collect.specs.Collector.{Window, Represents};
 ghost use Rattle.rtk_collect.specs.Position.{IsPosition, IsPositionOf};
-ghost use Rattle.rtk_collect.specs.Offered.{Meets, ClosesBelow, LeastNeverFalls};
+ghost use Rattle.rtk_collect.specs.Offered.{Meets, ClosesBelow, ClosesLeast, LeastNeverFalls, WouldBeTaken};
 
 use crate::dated::Dated;
 use crate::epoch_set::{EpochSet, Joined};
@@ -66,14 +66,17 @@ impl Collector {
 
     /// Takes what is new in a message, and says what became of it.
     ///
-    /// Only a message that is taken takes memory. On refusal the collector is unchanged.
+    /// Only a message that would be taken takes memory, all of it before anything changes. On refusal
+    /// the collector is unchanged.
     pub fn offer(&mut self, dated: Dated) -> Result<Offer, AllocError>
         ensures size { self.new.size ≡ self.old.size }
         ensures bound { length self.new.sets ≤ self.new.size }
         ensures answer { IfOk result (λ offer. Meets self.old dated offer self.new) }
         ensures closed { IfOk result (λ offer. ClosesBelow offer self.new.sets) }
+        ensures least_closes { IfOk result (λ offer. ClosesLeast self.old.size self.old.sets offer) }
         ensures least { LeastNeverFalls self.old self.new }
         ensures err { OnErr result (self.new ≡ self.old) }
+        ensures refused { OnErr result (WouldBeTaken self.old dated) }
     {
         let epoch = dated.epoch;
         match &dated.message {
@@ -98,6 +101,7 @@ impl Collector {
         ensures sets { self.new.sets ≡ self.old.sets }
         ensures answer { Meets self.old (At None (MessageArp1005 message)) result self.new }
         ensures closed { ClosesBelow result self.new.sets }
+        ensures least_closes { ClosesLeast self.old.size self.old.sets result }
     {
         let full = self.sets.len() == self.window;
         offer_station(&mut self.stations.arp1005, message, full)
@@ -111,6 +115,7 @@ impl Collector {
         ensures sets { self.new.sets ≡ self.old.sets }
         ensures answer { Meets self.old (At None (MessageArp1006 message)) result self.new }
         ensures closed { ClosesBelow result self.new.sets }
+        ensures least_closes { ClosesLeast self.old.size self.old.sets result }
     {
         let full = self.sets.len() == self.window;
         offer_station(&mut self.stations.arp1006, message, full)
@@ -124,8 +129,10 @@ impl Collector {
         ensures bound { length self.new.sets ≤ self.new.size }
         ensures answer { IfOk result (λ offer. Observes self.old epoch cells.now offer self.new) }
         ensures closed { IfOk result (λ offer. ClosesBelow offer self.new.sets) }
+        ensures least_closes { IfOk result (λ offer. ClosesLeast self.old.size self.old.sets offer) }
         ensures least { LeastNeverFalls self.old self.new }
         ensures err { OnErr result (self.new ≡ self.old) }
+        ensures refused { OnErr result (WouldTake self.old epoch cells.now) }
     {
         let at = place(&self.sets, epoch);
         if has_epoch(&self.sets, at, epoch) {

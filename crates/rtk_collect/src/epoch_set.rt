@@ -1,6 +1,6 @@
 //! An epoch with its cells.
 
-ghost use Rattle.std.specs.Prelude.{◌≡◌, ◌≤◌, [], length, IfOk, OnErr, All};
+ghost use Rattle.std.specs.Prelude.{◌≡◌, ◌<◌, ◌≤◌, [], length, IfOk, OnErr, All};
 ghost use Rattle.rtk_obs.specs.Cell.{IsInRange};
 ghost use Rattle.rtk_collect.specs.Key.{Rises};
 ghost use Rattle.rtk_collect.specs.EpochCells.{joined, fresh, conflicts};
@@ -70,7 +70,7 @@ impl EpochSet {
         &self.cells
     }
 
-    /// Takes the cells whose keys are new. Only these take memory.
+    /// Takes the cells whose keys are new. Only these take memory, before the first is added.
     pub(crate) fn join(&mut self, cells: &[CellEntry]) -> Result<Joined, AllocError>
         requires few { length cells.now ≤ 64 }
         requires range { All IsInRange cells.now }
@@ -78,6 +78,7 @@ impl EpochSet {
         ensures fresh { IfOk result (λ j. j.fresh ≡ fresh cells.now self.old.cells) }
         ensures conflicts { IfOk result (λ j. j.conflicts ≡ conflicts cells.now self.old.cells) }
         ensures err { OnErr result (self.new ≡ self.old) }
+        ensures refused { OnErr result (0 < fresh cells.now self.old.cells) }
     {
         let fresh = count_fresh(cells, &self.cells);
         if let Err(_) = self.cells.reserve(fresh) {

@@ -1,15 +1,16 @@
 //! Laws over the definitions: what late arrivals, repeats and the order of arrivals change.
 
-ghost use Rattle.rtk_collect.specs.Laws.{LateChangeNothing, ClosedOnlyGrow, ClosedAfter, ExcusedIsKept, StationsAreFinal, KeptAreTaken, SetDecides, KeysAreDistinct, EqualityDecides};
+ghost use Rattle.rtk_collect.specs.Laws.{LateChangeNothing, ClosedOnlyGrow, ClosedFall, ClosedAfter, FirstIsPreferred, ExcusedIsKept, StationsAreFinal, KeptAreTaken, SetDecides, KeysAreDistinct, EqualityDecides};
 
 /// With all late arrivals deleted each other one is late or not as before, and what is kept is the same.
 pub fn late_arrivals_change_nothing()
     ensures { LateChangeNothing }
 {}
 
-/// Closed epochs only grow in number, and none is closed before the window was full.
+/// Closed epochs only grow in number, each greater than those before, and none is closed before the window was full.
 pub fn closed_epochs_only_grow()
     ensures grow { ClosedOnlyGrow }
+    ensures fall { ClosedFall }
     ensures after { ClosedAfter }
 {}
 
@@ -24,6 +25,12 @@ pub fn stations_are_final()
 pub fn set_decides()
     ensures taken { KeptAreTaken }
     ensures same { SetDecides }
+{}
+
+/// In the order of an epoch's cells the first of a satellite and code is that of a 1074, if there is
+/// one, else that of a 1004.
+pub fn first_is_preferred()
+    ensures { FirstIsPreferred }
 {}
 
 /// Keys are equal exactly where satellite, code and kind of message are, and bodies where all fields are.

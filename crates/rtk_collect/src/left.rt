@@ -2,6 +2,7 @@
 
 ghost use Rattle.std.specs.Prelude.{◌≡◌, ◌<◌, [], ◌∷◌, ◌++◌, IfSome, IfNone, All};
 ghost use Rattle.rtk_collect.specs.Collector.{IsRemainder};
+ghost use Rattle.rtk_collect.specs.Offered.{NotBelow};
 ghost use Rattle.rtk_collect.specs.Position.{IsPosition};
 
 use crate::epoch_set::EpochSet;
@@ -40,6 +41,7 @@ impl Left {
     pub fn next_left(&mut self) -> Option<EpochSet>
         ensures next { IfSome result (λ set. self.old.sets ≡ self.new.sets ++ set ∷ []) }
         ensures least { IfSome result (λ set. All (λ x. set.epoch < x.epoch) self.new.sets) }
+        ensures not_below { IfSome result (λ set. NotBelow set self.old.sets) }
         ensures none { IfNone result (self.old.sets ≡ []) }
         ensures stays { IfNone result (self.new ≡ self.old) }
         ensures arp1005 { self.new.arp1005 ≡ self.old.arp1005 }

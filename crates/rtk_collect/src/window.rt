@@ -53,6 +53,7 @@ pub(crate) fn join_at(
     ensures fresh { (d : EpochCells) → IfOk result (λ j. j.fresh ≡ fresh cells.now (slice_index_or sets.old.items at d).cells) }
     ensures conflicts { (d : EpochCells) → IfOk result (λ j. j.conflicts ≡ conflicts cells.now (slice_index_or sets.old.items at d).cells) }
     ensures err { OnErr result (sets.new.items ≡ sets.old.items) }
+    ensures refused { (d : EpochCells) → OnErr result (0 < fresh cells.now (slice_index_or sets.old.items at d).cells) }
 {
     let set = &mut sets[at];
     set.join(cells)
