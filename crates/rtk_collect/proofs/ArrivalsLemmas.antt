@@ -1,0 +1,442 @@
+use Rattle.std.proofs.Common.{◌≡◌, ◌≢◌, ℕ, zero, suc, ◌+◌, ◌-◌, ◌<◌, ◌≤◌, Bool, true, false, cond, List, [], ◌∷◌, ◌++◌, length, get_or, set, take, drop, Option, None, Some, refl, ap, sym, ◌∙◌, arith, inl, inr}
+use Rattle.std.specs.Prelude.{nat_lt, nat_le, if◌then◌else◌, filter, option_to_list, min}
+use Rattle.std.proofs.lemmas.Bool.{lt-ltb, le-ltb, le-leb, lt-leb, cases_order, cases_lt, eq-eqb, ne_eqb, cases_eq}
+use Rattle.std.proofs.lemmas.Grind.{common_steps}
+use Rattle.std.proofs.lemmas.List.{append-nil}
+use Rattle.std.proofs.lemmas.List.Sums.{sum_by-cons}
+use Rattle.std.specs.List.{insert}
+use Rattle.std.proofs.Math.Seq.{drop-nil, take-append_seam, drop-append_seam}
+use Rattle.rtk_obs.specs.declared.cell.CellEntry.{CellEntry}
+use Rattle.std.specs.Prelude.{◌&&◌}
+use Rattle.rtk_message.specs.declared.message.Message.{Message}
+use Rattle.rtk_collect.specs.EpochCells.{EpochCells, joined}
+use Rattle.rtk_collect.specs.Arrival.{Arrival, At, cells_of}
+use Rattle.rtk_collect.specs.Late.{with_epoch, epochs, greater, late}
+use Rattle.rtk_collect.specs.Accepted.{no_cells, with_arrival, kept, cells_at, closed}
+use Rattle.rtk_collect.specs.Search.{Below, Falls, leading}
+
+-- an epoch with the cells of one message
+abbrev pub opened : ℕ → List CellEntry → EpochCells
+opened e cells = joined cells (no_cells e)
+
+abbrev pub keys : List EpochCells → List ℕ
+keys [] = []
+keys (x ∷ xs) = x.epoch ∷ keys xs
+
+abbrev pub BelowN : ℕ → List ℕ → Type 0
+BelowN e [] = Unit {0}
+BelowN e (x ∷ xs) = x < e
+
+abbrev pub FallsN : List ℕ → Type 0
+FallsN [] = Unit {0}
+FallsN (x ∷ xs) = BelowN x xs × FallsN xs
+
+abbrev pub leadingN : ℕ → List ℕ → ℕ
+leadingN e [] = 0
+leadingN e (x ∷ xs) = if nat_lt e x then suc (leadingN e xs) else 0
+
+-- with_epoch by its three cases
+pub with_epoch-new : (e x : ℕ) (xs : List ℕ) → x < e → with_epoch e (x ∷ xs) ≡ e ∷ x ∷ xs
+with_epoch-new e x xs h = rw (lt-ltb x e h) refl
+
+pub with_epoch-below : (e x : ℕ) (xs : List ℕ) → e < x → with_epoch e (x ∷ xs) ≡ x ∷ with_epoch e xs
+with_epoch-below e x xs h = grind (arith, lt-ltb, le-ltb)
+
+pub with_epoch-same : (e x : ℕ) (xs : List ℕ) → e ≡ x → with_epoch e (x ∷ xs) ≡ x ∷ xs
+with_epoch-same e x xs h = grind (arith, lt-ltb, le-ltb)
+
+pub with_epoch-under : (e x : ℕ) (xs : List ℕ) → e < x → BelowN x xs → BelowN x (with_epoch e xs)
+with_epoch-under e x [] h b = h
+with_epoch-under e x (y ∷ ys) h b = elim (cases_order y e) [
+  | inl same ↦ rw (with_epoch-same e y ys (sym same)) b
+  | inr more ↦ elim more [
+    | inl new ↦ rw (with_epoch-new e y ys new) h
+    | inr below ↦ rw (with_epoch-below e y ys below) b
+  ]
+]
+
+pub with_epoch-falls : (e : ℕ) (xs : List ℕ) → FallsN xs → FallsN (with_epoch e xs)
+with_epoch-falls e [] h = (tt, tt)
+with_epoch-falls e (x ∷ xs) h = elim (cases_order x e) [
+  | inl same ↦ rw (with_epoch-same e x xs (sym same)) h
+  | inr more ↦ elim more [
+    | inl new ↦ rw (with_epoch-new e x xs new) (new, h)
+    | inr below ↦ rw (with_epoch-below e x xs below) (with_epoch-under e x xs below h.0, with_epoch-falls e xs h.1)
+  ]
+]
+
+pub with_arrival-new : (e : ℕ) (cs : List CellEntry) (x : EpochCells) (xs : List EpochCells) → x.epoch < e → with_arrival e cs (x ∷ xs) ≡ opened e cs ∷ x ∷ xs
+with_arrival-new e cs x xs h = rw (lt-ltb x.epoch e h) refl
+
+pub with_arrival-below : (e : ℕ) (cs : List CellEntry) (x : EpochCells) (xs : List EpochCells) → e < x.epoch → with_arrival e cs (x ∷ xs) ≡ x ∷ with_arrival e cs xs
+with_arrival-below e cs x xs h = rw (le-ltb x.epoch e (omega arith), lt-ltb e x.epoch h) refl
+
+pub with_arrival-same : (e : ℕ) (cs : List CellEntry) (x : EpochCells) (xs : List EpochCells) → e ≡ x.epoch → with_arrival e cs (x ∷ xs) ≡ joined cs x ∷ xs
+with_arrival-same e cs x xs h = rw (le-ltb x.epoch e (omega arith), le-ltb e x.epoch (omega arith)) refl
+
+pub keys-with_arrival : (e : ℕ) (cs : List CellEntry) (xs : List EpochCells) → keys (with_arrival e cs xs) ≡ with_epoch e (keys xs)
+keys-with_arrival e cs [] = refl
+keys-with_arrival e cs (x ∷ xs) = elim (cases_order x.epoch e) [
+  | inl same ↦ rw (with_arrival-same e cs x xs (sym same), with_epoch-same e x.epoch (keys xs) (sym same)) refl
+  | inr more ↦ elim more [
+    | inl new ↦ rw (with_arrival-new e cs x xs new, with_epoch-new e x.epoch (keys xs) new) refl
+    | inr below ↦ rw (with_arrival-below e cs x xs below, with_epoch-below e x.epoch (keys xs) below) (ap (λ t. x.epoch ∷ t) (keys-with_arrival e cs xs))
+  ]
+]
+
+pub leadingN-take : (n e : ℕ) (xs : List ℕ) → leadingN e (take n xs) ≡ min n (leadingN e xs)
+leadingN-take zero e xs = grind arith
+leadingN-take (suc n) e [] = grind arith
+leadingN-take (suc n) e (x ∷ xs) = grind (arith, leadingN-take n e xs)
+
+pub leadingN-keys : (e : ℕ) (xs : List EpochCells) → leadingN e (keys xs) ≡ leading e xs
+leadingN-keys e [] = refl
+leadingN-keys e (x ∷ xs) = rw (leadingN-keys e xs) refl
+
+pub take-take-same : {X : Type 0} (n : ℕ) (xs : List X) → take n (take n xs) ≡ take n xs
+take-take-same zero xs = refl
+take-take-same (suc n) [] = refl
+take-take-same (suc n) (x ∷ xs) = ap (λ t. x ∷ t) (take-take-same n xs)
+
+pub drop-take-same : {X : Type 0} (n : ℕ) (xs : List X) → drop n (take n xs) ≡ []
+drop-take-same zero xs = refl
+drop-take-same (suc n) [] = refl
+drop-take-same (suc n) (x ∷ xs) = drop-take-same n xs
+
+pub drop-cons-take : {X : Type 0} (n : ℕ) (x : X) (xs : List X) → drop n (x ∷ xs) ≡ drop n (x ∷ take n xs) ++ drop n xs
+drop-cons-take zero x xs = refl
+drop-cons-take (suc n) x [] = sym (append-nil _)
+drop-cons-take (suc n) x (y ∷ ys) = drop-cons-take n y ys
+
+pub take-cons-take : {X : Type 0} (n : ℕ) (x : X) (xs : List X) → take n (x ∷ take n xs) ≡ take n (x ∷ xs)
+take-cons-take zero x xs = refl
+take-cons-take (suc n) x [] = refl
+take-cons-take (suc n) x (y ∷ ys) = ap (λ t. x ∷ t) (take-cons-take n y ys)
+
+pub take-with_epoch : (n e : ℕ) (xs : List ℕ) → take n (with_epoch e xs) ≡ take n (with_epoch e (take n xs))
+take-with_epoch zero e xs = refl
+take-with_epoch (suc n) e [] = refl
+take-with_epoch (suc n) e (x ∷ xs) = elim (cases_order x e) [
+  | inl same ↦ rw (with_epoch-same e x xs (sym same), with_epoch-same e x (take n xs) (sym same)) (ap (λ t. x ∷ t) (sym (take-take-same n xs)))
+  | inr more ↦ elim more [
+    | inl new ↦ rw (with_epoch-new e x xs new, with_epoch-new e x (take n xs) new) (ap (λ t. e ∷ t) (sym (take-cons-take n x xs)))
+    | inr below ↦ rw (with_epoch-below e x xs below, with_epoch-below e x (take n xs) below) (ap (λ t. x ∷ t) (take-with_epoch n e xs))
+  ]
+]
+
+pub keys-take : (n : ℕ) (xs : List EpochCells) → keys (take n xs) ≡ take n (keys xs)
+keys-take zero xs = refl
+keys-take (suc n) [] = refl
+keys-take (suc n) (x ∷ xs) = ap (λ t. x.epoch ∷ t) (keys-take n xs)
+
+-- a late epoch changes nothing among the greatest
+pub take-with_epoch-late : (n e : ℕ) (xs : List ℕ) → n ≤ leadingN e xs → take n (with_epoch e xs) ≡ take n xs
+take-with_epoch-late zero e xs h = refl
+take-with_epoch-late (suc n) e [] h = grind arith
+take-with_epoch-late (suc n) e (x ∷ xs) h = elim (cases_lt e x) [
+  | inl below ↦ rw (with_epoch-below e x xs below) (ap (λ t. x ∷ t) (take-with_epoch-late n e xs (grind arith)))
+  | inr not_below ↦ grind arith
+]
+
+pub epochs-fall : (arrivals : List Arrival) → FallsN (epochs arrivals)
+epochs-fall [] = tt
+epochs-fall (At None m ∷ before) = epochs-fall before
+epochs-fall (At (Some e) m ∷ before) = with_epoch-falls e (epochs before) (epochs-fall before)
+
+pub greater-one : (e x : ℕ) (xs : List ℕ) → e < x → greater (Some e) (x ∷ xs) ≡ suc (greater (Some e) xs)
+greater-one e x xs h = sum_by-cons (λ y. cond (nat_lt e y) 1 0) x xs ∙ rw (lt-ltb e x h) (omega arith)
+
+pub greater-none : (e x : ℕ) (xs : List ℕ) → FallsN (x ∷ xs) → x ≤ e → greater (Some e) (x ∷ xs) ≡ 0
+greater-none e x [] f h = grind arith
+greater-none e x (y ∷ ys) f h = grind (arith, greater-none e y ys f.1)
+
+-- in epochs that fall, the greater ones are the first
+pub greater-leading : (e : ℕ) (xs : List ℕ) → FallsN xs → greater (Some e) xs ≡ leadingN e xs
+greater-leading e [] f = refl
+greater-leading e (x ∷ xs) f = elim (cases_lt e x) [
+  | inl below ↦ greater-one e x xs below ∙ ap suc (greater-leading e xs f.1) ∙ rw (lt-ltb e x below) refl
+  | inr not_below ↦ rw (greater-none e x xs f not_below, le-ltb e x not_below) refl
+]
+
+pub and-true : (b : Bool) → (b && true) ≡ b
+and-true true = refl
+and-true false = refl
+
+-- whether an observation is late, from the greatest epochs alone
+pub late-leading : (n e : ℕ) (m : Message) (before : List Arrival) → late n (At (Some e) m) before ≡ nat_le n (leadingN e (epochs before))
+late-leading n e m before = and-true (nat_le n (greater (Some e) (epochs before))) ∙ ap (nat_le n) (greater-leading e (epochs before) (epochs-fall before))
+
+pub late-true : (n e : ℕ) (m : Message) (before : List Arrival) → n ≤ leadingN e (epochs before) → late n (At (Some e) m) before ≡ true
+late-true n e m before h = late-leading n e m before ∙ le-leb _ _ h
+
+pub late-false : (n e : ℕ) (m : Message) (before : List Arrival) → leadingN e (epochs before) < n → late n (At (Some e) m) before ≡ false
+late-false n e m before h = late-leading n e m before ∙ lt-leb _ _ h
+
+pub is-late : (n e : ℕ) (m : Message) (before : List Arrival) → n ≤ leadingN e (epochs before) → kept n (At (Some e) m ∷ before) ≡ kept n before
+is-late n e m before h = ap (λ (b : Bool). if b then kept n before else with_arrival e (cells_of m) (kept n before)) (late-true n e m before h)
+
+pub is-open : (n e : ℕ) (m : Message) (before : List Arrival) → leadingN e (epochs before) < n → kept n (At (Some e) m ∷ before) ≡ with_arrival e (cells_of m) (kept n before)
+is-open n e m before h = ap (λ (b : Bool). if b then kept n before else with_arrival e (cells_of m) (kept n before)) (late-false n e m before h)
+
+-- the greatest epochs of the arrivals are those that are kept
+pub same_greatest : (n : ℕ) (arrivals : List Arrival) → take n (keys (kept n arrivals)) ≡ take n (epochs arrivals)
+same_greatest n [] = refl
+same_greatest n (At None m ∷ before) = same_greatest n before
+same_greatest n (At (Some e) m ∷ before) = elim (cases_lt (leadingN e (epochs before)) n) [
+  | inl fresh ↦ rw (is-open n e m before fresh, keys-with_arrival, take-with_epoch n e (keys (kept n before)), same_greatest n before) (sym (take-with_epoch n e (epochs before)))
+  | inr over ↦ rw (is-late n e m before over) (same_greatest n before ∙ sym (take-with_epoch-late n e (epochs before) over))
+]
+
+pub with_arrival-under : (e : ℕ) (cs : List CellEntry) (x : EpochCells) (xs : List EpochCells) → e < x.epoch → Below x.epoch xs → Below x.epoch (with_arrival e cs xs)
+with_arrival-under e cs x [] h b = h
+with_arrival-under e cs x (y ∷ ys) h b = elim (cases_order y.epoch e) [
+  | inl same ↦ rw (with_arrival-same e cs y ys (sym same)) b
+  | inr more ↦ elim more [
+    | inl new ↦ rw (with_arrival-new e cs y ys new) h
+    | inr below ↦ rw (with_arrival-below e cs y ys below) b
+  ]
+]
+
+pub with_arrival-falls : (e : ℕ) (cs : List CellEntry) (xs : List EpochCells) → Falls xs → Falls (with_arrival e cs xs)
+with_arrival-falls e cs [] h = (tt, tt)
+with_arrival-falls e cs (x ∷ xs) h = elim (cases_order x.epoch e) [
+  | inl same ↦ rw (with_arrival-same e cs x xs (sym same)) h
+  | inr more ↦ elim more [
+    | inl new ↦ rw (with_arrival-new e cs x xs new) (new, h)
+    | inr below ↦ rw (with_arrival-below e cs x xs below) (with_arrival-under e cs x xs below h.0, with_arrival-falls e cs xs h.1)
+  ]
+]
+
+pub kept-falls : (n : ℕ) (arrivals : List Arrival) → Falls (kept n arrivals)
+kept-falls n [] = tt
+kept-falls n (At None m ∷ before) = kept-falls n before
+kept-falls n (At (Some e) m ∷ before) = elim (cases_lt (leadingN e (epochs before)) n) [
+  | inl fresh ↦ rw (is-open n e m before fresh) (with_arrival-falls e (cells_of m) (kept n before) (kept-falls n before))
+  | inr over ↦ rw (is-late n e m before over) (kept-falls n before)
+]
+
+pub take-with_arrival : (n e : ℕ) (cs : List CellEntry) (xs : List EpochCells) → take n (with_arrival e cs xs) ≡ take n (with_arrival e cs (take n xs))
+take-with_arrival zero e cs xs = refl
+take-with_arrival (suc n) e cs [] = refl
+take-with_arrival (suc n) e cs (x ∷ xs) = elim (cases_order x.epoch e) [
+  | inl same ↦ rw (with_arrival-same e cs x xs (sym same), with_arrival-same e cs x (take n xs) (sym same)) (ap (λ t. joined cs x ∷ t) (sym (take-take-same n xs)))
+  | inr more ↦ elim more [
+    | inl new ↦ rw (with_arrival-new e cs x xs new, with_arrival-new e cs x (take n xs) new) (ap (λ t. opened e cs ∷ t) (sym (take-cons-take n x xs)))
+    | inr below ↦ rw (with_arrival-below e cs x xs below, with_arrival-below e cs x (take n xs) below) (ap (λ t. x ∷ t) (take-with_arrival n e cs xs))
+  ]
+]
+
+pub drop-with_arrival : (n e : ℕ) (cs : List CellEntry) (xs : List EpochCells) → leading e xs < n → drop n (with_arrival e cs xs) ≡ drop n (with_arrival e cs (take n xs)) ++ drop n xs
+drop-with_arrival zero e cs xs h = grind arith
+drop-with_arrival (suc n) e cs [] h = sym (append-nil _)
+drop-with_arrival (suc n) e cs (x ∷ xs) h = elim (cases_order x.epoch e) [
+  | inl same ↦ rw (with_arrival-same e cs x xs (sym same), with_arrival-same e cs x (take n xs) (sym same)) (rw (drop-take-same n xs) refl)
+  | inr more ↦ elim more [
+    | inl new ↦ rw (with_arrival-new e cs x xs new, with_arrival-new e cs x (take n xs) new) (drop-cons-take n x xs)
+    | inr below ↦ rw (with_arrival-below e cs x xs below, with_arrival-below e cs x (take n xs) below) (drop-with_arrival n e cs xs (let q = rw (lt-ltb e x.epoch below) at h in omega arith))
+  ]
+]
+
+-- the epochs that are greater than one, from what is held
+
+pub leading-sets : (n e : ℕ) (sets : List EpochCells) (arrivals : List Arrival) → sets ≡ take n (kept n arrivals) → leading e sets ≡ min n (leadingN e (epochs arrivals))
+leading-sets n e sets arrivals h = rw (h, ← leadingN-keys e (take n (kept n arrivals)), keys-take, same_greatest n arrivals) (leadingN-take n e (epochs arrivals))
+
+pub sets-late : (n e : ℕ) (sets : List EpochCells) (before : List Arrival) → sets ≡ take n (kept n before) → n ≤ leading e sets → n ≤ leadingN e (epochs before)
+sets-late n e sets before h l = grind (arith, leading-sets n e sets before h)
+
+pub sets-open : (n e : ℕ) (sets : List EpochCells) (before : List Arrival) → sets ≡ take n (kept n before) → leading e sets < n → leadingN e (epochs before) < n
+sets-open n e sets before h l = grind (arith, leading-sets n e sets before h)
+
+-- where an epoch stands
+
+pub below-none : (e : ℕ) (x : EpochCells) (xs : List EpochCells) → Falls (x ∷ xs) → x.epoch < e → cells_at e (x ∷ xs) ≡ None
+below-none e x [] f h = rw (ne_eqb e x.epoch (λ q. omega arith)) refl
+below-none e x (y ∷ ys) f h = rw (ne_eqb e x.epoch (λ q. omega arith)) (below-none e y ys f.1 (omega (arith, f.0)))
+
+pub found-cells : (e : ℕ) (d : EpochCells) (xs : List EpochCells) → leading e xs < length xs → (get_or xs (leading e xs) d).epoch ≡ e → cells_at e xs ≡ Some (get_or xs (leading e xs) d).cells
+found-cells e d [] l h = grind arith
+found-cells e d (x ∷ xs) l h = elim (cases_lt e x.epoch) [
+  | inl below ↦ rw (lt-ltb e x.epoch below, ne_eqb e x.epoch (λ q. omega arith)) (found-cells e d xs (let q = rw (lt-ltb e x.epoch below) at l in omega arith) (rw (lt-ltb e x.epoch below) at h))
+  | inr over ↦ let q = rw (le-ltb e x.epoch over) at h in rw (le-ltb e x.epoch over, eq-eqb e x.epoch (sym q)) refl
+]
+
+pub absent-cells : (e : ℕ) (d : EpochCells) (xs : List EpochCells) → Falls xs → (leading e xs < length xs → (get_or xs (leading e xs) d).epoch ≢ e) → cells_at e xs ≡ None
+absent-cells e d [] f h = refl
+absent-cells e d (x ∷ xs) f h = elim (cases_order e x.epoch) [
+  | inl same ↦ absurd (rw (le-ltb e x.epoch (omega arith)) at h (omega arith) (sym same))
+  | inr more ↦ elim more [
+    | inl below ↦ rw (ne_eqb e x.epoch (λ q. omega arith)) (absent-cells e d xs f.1 (λ l. rw (lt-ltb e x.epoch below) at h (omega arith)))
+    | inr over ↦ below-none e x xs f over
+  ]
+]
+
+pub cells_at-take : (n e : ℕ) (b : List CellEntry) (xs : List EpochCells) → cells_at e (take n xs) ≡ Some b → cells_at e xs ≡ Some b
+cells_at-take zero e b xs h = cc
+cells_at-take (suc n) e b [] h = h
+cells_at-take (suc n) e b (x ∷ xs) h = elim (cases_eq e x.epoch) [
+  | inl same ↦ rw (eq-eqb e x.epoch same) (rw (eq-eqb e x.epoch same) at h)
+  | inr other ↦ rw (ne_eqb e x.epoch other) (cells_at-take n e b xs (rw (ne_eqb e x.epoch other) at h))
+]
+
+pub cells_at-none : (n e : ℕ) (xs : List EpochCells) → Falls xs → leading e xs < n → cells_at e (take n xs) ≡ None → cells_at e xs ≡ None
+cells_at-none zero e xs f l h = grind arith
+cells_at-none (suc n) e [] f l h = refl
+cells_at-none (suc n) e (x ∷ xs) f l h = elim (cases_order e x.epoch) [
+  | inl same ↦ let q = rw (eq-eqb e x.epoch same) at h in cc
+  | inr more ↦ elim more [
+    | inl below ↦ rw (ne_eqb e x.epoch (λ q. omega arith)) (cells_at-none n e xs f.1 (let q = rw (lt-ltb e x.epoch below) at l in omega arith) (rw (ne_eqb e x.epoch (λ q. omega arith)) at h))
+    | inr over ↦ below-none e x xs f over
+  ]
+]
+
+-- cells join the epoch that is there
+pub with_arrival-found : (e : ℕ) (cs : List CellEntry) (d : EpochCells) (xs : List EpochCells) → leading e xs < length xs → (get_or xs (leading e xs) d).epoch ≡ e
+    → with_arrival e cs xs ≡ set xs (leading e xs) (joined cs (get_or xs (leading e xs) d))
+with_arrival-found e cs d [] l h = grind arith
+with_arrival-found e cs d (x ∷ xs) l h = elim (cases_lt e x.epoch) [
+  | inl below ↦ rw (with_arrival-below e cs x xs below, lt-ltb e x.epoch below) (ap (λ t. x ∷ t) (with_arrival-found e cs d xs (let q = rw (lt-ltb e x.epoch below) at l in omega arith) (rw (lt-ltb e x.epoch below) at h)))
+  | inr over ↦ let q = rw (le-ltb e x.epoch over) at h in rw (with_arrival-same e cs x xs (sym q), le-ltb e x.epoch over) refl
+]
+
+pub with_arrival-absent : (e : ℕ) (cs : List CellEntry) (xs : List EpochCells) → cells_at e xs ≡ None → with_arrival e cs xs ≡ insert xs (leading e xs) (opened e cs)
+with_arrival-absent e cs [] h = refl
+with_arrival-absent e cs (x ∷ xs) h = elim (cases_order e x.epoch) [
+  | inl same ↦ let q = rw (eq-eqb e x.epoch same) at h in cc
+  | inr more ↦ elim more [
+    | inl below ↦ rw (with_arrival-below e cs x xs below, lt-ltb e x.epoch below) (ap (λ t. x ∷ t) (with_arrival-absent e cs xs (rw (ne_eqb e x.epoch (λ q. omega arith)) at h)))
+    | inr over ↦ rw (with_arrival-new e cs x xs over, le-ltb e x.epoch (omega arith)) refl
+  ]
+]
+
+-- no new cell: nothing changes
+pub set-same : (i : ℕ) (d : EpochCells) (xs : List EpochCells) → set xs i (get_or xs i d) ≡ xs
+set-same zero d [] = refl
+set-same (suc i) d [] = refl
+set-same zero d (x ∷ xs) = refl
+set-same (suc i) d (x ∷ xs) = ap (λ t. x ∷ t) (set-same i d xs)
+
+-- the closed epochs are those behind the n greatest
+
+pub under : (x : EpochCells) (xs : List EpochCells) → Falls (x ∷ xs) → (k : ℕ) (d : EpochCells) → k < length xs → (get_or xs k d).epoch < x.epoch
+under x [] f k d l = grind arith
+under x (y ∷ ys) f zero d l = f.0
+under x (y ∷ ys) f (suc k) d l = let h : (get_or ys k d).epoch < y.epoch = under y ys f.1 k d (omega arith) in omega (arith, f.0)
+
+pub leading-at : (k : ℕ) (d : EpochCells) (xs : List EpochCells) → Falls xs → k < length xs → leading (get_or xs k d).epoch xs ≡ k
+leading-at k d [] f l = grind arith
+leading-at zero d (x ∷ xs) f l = rw (le-ltb x.epoch x.epoch (omega arith)) refl
+leading-at (suc k) d (x ∷ xs) f l = rw (lt-ltb (get_or xs k d).epoch x.epoch (under x xs f k d (omega arith)), leading-at k d xs f.1 (omega arith)) refl
+
+pub filter-drop : (p : EpochCells → Bool) (n i : ℕ) (d : EpochCells) (xs : List EpochCells) → ((k : ℕ) → k < length xs → p (get_or xs k d) ≡ nat_le n (i + k)) → filter p xs ≡ drop (n - i) xs
+filter-drop p n i d [] h = sym (drop-nil (n - i))
+filter-drop p n i d (x ∷ xs) h =
+    let rest : filter p xs ≡ drop (n - suc i) xs = filter-drop p n (suc i) d xs (λ k l. h (suc k) (omega arith) ∙ ap (λ t. nat_le n t) (omega arith)) in
+    elim (cases_lt i n) [
+      | inl out ↦
+          let t : p x ≡ false = h zero (omega arith) ∙ lt-leb n (i + 0) (omega arith) in
+          let m : n - i ≡ suc (n - suc i) = omega arith in
+          rw (t, m) rest
+      | inr keep ↦
+          let t : p x ≡ true = h zero (omega arith) ∙ le-leb n (i + 0) (omega arith) in
+          let m : n - i ≡ 0 = omega arith in
+          let m' : n - suc i ≡ 0 = omega arith in
+          rw (t, m) (ap (λ t. x ∷ t) (rw m' at rest))
+    ]
+
+pub same-le : (n a b : ℕ) → min n a ≡ min n b → nat_le n a ≡ nat_le n b
+same-le n a b h = grind (arith, le-leb, lt-leb)
+
+pub closed-test : (n k : ℕ) (d : EpochCells) (arrivals : List Arrival) → k < length (kept n arrivals) → nat_le n (greater (Some (get_or (kept n arrivals) k d).epoch) (epochs arrivals)) ≡ nat_le n (0 + k)
+closed-test n k d arrivals h =
+    let e : ℕ = (get_or (kept n arrivals) k d).epoch in
+    let g : greater (Some e) (epochs arrivals) ≡ leadingN e (epochs arrivals) = greater-leading e (epochs arrivals) (epochs-fall arrivals) in
+    let t : min n (leadingN e (epochs arrivals)) ≡ min n k =
+    sym (leadingN-take n e (epochs arrivals)) ∙ ap (leadingN e) (sym (same_greatest n arrivals)) ∙ leadingN-take n e (keys (kept n arrivals))
+    ∙ ap (min n) (leadingN-keys e (kept n arrivals) ∙ leading-at k d (kept n arrivals) (kept-falls n arrivals) h) in
+    rw g (same-le n (leadingN e (epochs arrivals)) (0 + k) (t ∙ ap (min n) (omega arith)))
+
+pub closed-drop : (n : ℕ) (d : EpochCells) (arrivals : List Arrival) → closed n arrivals ≡ drop n (kept n arrivals)
+closed-drop n d arrivals = filter-drop (λ x. nat_le n (greater (Some x.epoch) (epochs arrivals))) n 0 d (kept n arrivals) (λ k h. closed-test n k d arrivals h) ∙ ap (λ t. drop t (kept n arrivals)) (omega arith)
+
+pub falls-take : (n : ℕ) (xs : List EpochCells) → Falls xs → Falls (take n xs)
+falls-take zero xs f = tt
+falls-take (suc n) [] f = tt
+falls-take (suc zero) (x ∷ xs) f = (tt, tt)
+falls-take (suc (suc n)) (x ∷ []) f = (tt, tt)
+falls-take (suc (suc n)) (x ∷ y ∷ ys) f = (f.0, falls-take (suc n) (y ∷ ys) f.1)
+
+pub leading-take : (n e : ℕ) (xs : List EpochCells) → leading e (take n xs) ≡ min n (leading e xs)
+leading-take n e xs = sym (leadingN-keys e (take n xs)) ∙ ap (leadingN e) (keys-take n xs) ∙ leadingN-take n e (keys xs) ∙ ap (min n) (leadingN-keys e xs)
+
+pub leading-length : (e : ℕ) (xs : List EpochCells) → leading e xs ≤ length xs
+leading-length e [] = omega arith
+leading-length e (x ∷ xs) = elim (cases_lt e x.epoch) [
+  | inl below ↦ rw (lt-ltb e x.epoch below) (let h : leading e xs ≤ length xs = leading-length e xs in omega arith)
+  | inr over ↦ rw (le-ltb e x.epoch over) (omega arith)
+]
+
+pub parts : {X : Type 0} (n : ℕ) (all front back : List X) → all ≡ front ++ back → length front ≡ n → (take n all ≡ front) × (drop n all ≡ back)
+parts n all front back e l = rw (e, ← l) (take-append_seam front back, drop-append_seam front back)
+
+pub whole : {X : Type 0} (n : ℕ) (all : List X) → length all ≤ n → (take n all ≡ all) × (drop n all ≡ [])
+whole n all h = (grind (arith, common_steps), grind (arith, common_steps))
+
+pub leading-kept : (n e : ℕ) (before : List Arrival) → leadingN e (epochs before) < n → leading e (kept n before) < n
+leading-kept n e before h =
+    let q : min n (leading e (kept n before)) ≡ min n (leadingN e (epochs before)) =
+    sym (leading-take n e (kept n before)) ∙ leading-sets n e (take n (kept n before)) before refl in
+    grind arith
+
+-- an observation that is not late, from what is held
+pub record Joins (n e : ℕ) (m : Message) (before : List Arrival) (new : List EpochCells) (closes : Option EpochCells) : Type 0 where
+  pub not_late : late n (At (Some e) m) before ≡ false
+  pub holds : new ≡ take n (kept n (At (Some e) m ∷ before))
+  pub closing : closed n (At (Some e) m ∷ before) ≡ option_to_list closes ++ closed n before
+
+pub offer-joins : (n e : ℕ) (m : Message) (sets items new : List EpochCells) (before : List Arrival) (closes : Option EpochCells) → sets ≡ take n (kept n before) → leading e sets < n
+    → items ≡ with_arrival e (cells_of m) sets → take n items ≡ new → drop n items ≡ option_to_list closes → Joins n e m before new closes
+offer-joins n e m sets items new before closes h l put front back =
+    let fresh : leadingN e (epochs before) < n = sets-open n e sets before h l in
+    let K : List EpochCells = kept n before in
+    let same : leading e K < n = leading-kept n e before fresh in
+    let d : EpochCells = no_cells 0 in
+    let now : kept n (At (Some e) m ∷ before) ≡ with_arrival e (cells_of m) K = is-open n e m before fresh in
+    record {
+      not_late = late-false n e m before fresh;
+      holds = sym (ap (take n) now ∙ take-with_arrival n e (cells_of m) K ∙ ap (λ t. take n (with_arrival e (cells_of m) t)) (sym h) ∙ ap (take n) (sym put) ∙ front);
+      closing = closed-drop n d (At (Some e) m ∷ before) ∙ ap (drop n) now ∙ drop-with_arrival n e (cells_of m) K same
+          ∙ ap (λ t. drop n (with_arrival e (cells_of m) t) ++ drop n K) (sym h) ∙ ap (λ t. drop n t ++ drop n K) (sym put)
+          ∙ ap (λ t. t ++ drop n K) back ∙ ap (λ t. option_to_list closes ++ t) (sym (closed-drop n d before));
+    }
+
+pub offer-late : (n e : ℕ) (m : Message) (sets : List EpochCells) (before : List Arrival) → sets ≡ take n (kept n before) → leading e sets ≡ n
+    → (late n (At (Some e) m) before ≡ true) × (sets ≡ take n (kept n (At (Some e) m ∷ before)))
+offer-late n e m sets before h l =
+    let over : n ≤ leadingN e (epochs before) = sets-late n e sets before h (omega arith) in
+    (late-true n e m before over, h ∙ ap (take n) (sym (is-late n e m before over)))
+
+-- what is held of an epoch is what is kept of it
+pub kept-found : (n e : ℕ) (b : List CellEntry) (sets : List EpochCells) (before : List Arrival) → sets ≡ take n (kept n before) → cells_at e sets ≡ Some b → cells_at e (kept n before) ≡ Some b
+kept-found n e b sets before h f = cells_at-take n e b (kept n before) (rw h at f)
+
+pub kept-none : (n e : ℕ) (sets : List EpochCells) (before : List Arrival) → sets ≡ take n (kept n before) → leading e sets < n → cells_at e sets ≡ None → cells_at e (kept n before) ≡ None
+kept-none n e sets before h l f = cells_at-none n e (kept n before) (kept-falls n before) (leading-kept n e before (sets-open n e sets before h l)) (rw h at f)
+
+-- the search for a place by halves
+
+pub leading-past : (e i : ℕ) (d : EpochCells) (xs : List EpochCells) → Falls xs → i < length xs → e < (get_or xs i d).epoch → i < leading e xs
+leading-past e i d [] f l h = grind arith
+leading-past e zero d (x ∷ xs) f l h = rw (lt-ltb e x.epoch h) (omega arith)
+leading-past e (suc i) d (x ∷ xs) f l h =
+    let a : (get_or xs i d).epoch < x.epoch = under x xs f i d (omega arith) in
+    let p : i < leading e xs = leading-past e i d xs f.1 (omega arith) h in
+    rw (lt-ltb e x.epoch (omega arith)) (omega arith)
+
+pub leading-stop : (e i : ℕ) (d : EpochCells) (xs : List EpochCells) → i < length xs → (get_or xs i d).epoch ≤ e → leading e xs ≤ i
+leading-stop e i d [] l h = grind arith
+leading-stop e zero d (x ∷ xs) l h = rw (le-ltb e x.epoch h) (omega arith)
+leading-stop e (suc i) d (x ∷ xs) l h = elim (cases_lt e x.epoch) [
+  | inl below ↦ rw (lt-ltb e x.epoch below) (let p : leading e xs ≤ i = leading-stop e i d xs (omega arith) h in omega arith)
+  | inr over ↦ rw (le-ltb e x.epoch over) (omega arith)
+]

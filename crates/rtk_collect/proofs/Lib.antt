@@ -1,0 +1,11 @@
+pub mod CellsLemmas
+pub mod ArrivalsLemmas
+pub mod OffersLemmas
+pub mod StationLemmas
+pub mod WindowLemmas
+pub mod MembersLemmas
+pub mod SetsLemmas
+pub mod EqualityLemmas
+pub mod PreferredLemmas
+pub mod DatedLemmas
+pub mod PositionLemmas

@@ -1,0 +1,483 @@
+-- Late arrivals change nothing, and what is kept is what came in time.
+use Rattle.std.proofs.Common.{◌≡◌, ◌↔◌, ◌⊎◌, ℕ, zero, suc, ◌≤◌, Bool, true, false, List, [], ◌∷◌, ◌++◌, length, take, drop, Option, None, Some, refl, ap, sym, ◌∙◌, arith, inl, inr, subst}
+use Rattle.std.specs.Prelude.{nat_le, ◌==◌, ◌&&◌, not, if◌then◌else◌, min}
+use Rattle.std.specs.Option.{unwrap_or}
+use Rattle.std.proofs.Common.{append_assoc}
+use Rattle.std.proofs.lemmas.Bool.{le-leb, leb-true, cases_lt, cases_order, cases_eq, eq-eqb, ne_eqb, cases_Bool, both_ways}
+use Rattle.std.proofs.lemmas.List.{length-take}
+use Rattle.rtk_message.specs.declared.message.Message.{Message}
+use Rattle.rtk_message.specs.Decoded.{number_of}
+use Rattle.rtk_obs.specs.declared.cell.CellEntry.{CellEntry}
+use Rattle.rtk_collect.specs.Key.{key}
+use Rattle.rtk_collect.specs.Equal.{equal_stations}
+use Rattle.rtk_collect.specs.EpochCells.{EpochCells, with_cell, with_cells}
+use Rattle.rtk_collect.specs.Arrival.{Arrival, At, cells_of}
+use Rattle.rtk_collect.specs.Late.{epochs, with_epoch, late}
+use Rattle.rtk_collect.specs.Accepted.{no_cells, station, first, kept, closed, with_arrival, IsTaken, AmongCells, IsTakenCell, IsConsistent}
+use Rattle.rtk_collect.specs.Slot.{is_first}
+use Rattle.rtk_collect.specs.Search.{Falls}
+use Rattle.rtk_collect.specs.Laws.{without_late, AreInTime, LateChangeNothing, ClosedOnlyGrow, ClosedFall, ClosedAfter, ExcusedIsKept, StationsAreFinal, HasEpoch, IsKept, KeptAreTaken}
+use Rattle.rtk_collect.proofs.CellsLemmas.{with_cell-new, with_cell-past, with_cell-same}
+use Rattle.rtk_collect.proofs.ArrivalsLemmas.{leadingN, leadingN-take, late-leading, is-late, is-open, take-with_epoch, take-with_epoch-late, same-le, keys, same_greatest, closed-drop, kept-falls, whole, with_arrival-new, with_arrival-below, with_arrival-same, leading-kept, drop-with_arrival}
+use Rattle.rtk_collect.proofs.StationLemmas.{length-keys, and-none, excused-is, other-stays}
+
+late-above : (n e : ℕ) (m : Message) (before : List Arrival) → late n (At (Some e) m) before ≡ true → n ≤ leadingN e (epochs before)
+late-above n e m before h = leb-true n _ (sym (late-leading n e m before) ∙ h)
+
+pub kept-late : (n e : ℕ) (m : Message) (before : List Arrival) → late n (At (Some e) m) before ≡ true → kept n (At (Some e) m ∷ before) ≡ kept n before
+kept-late n e m before h = ap (λ (b : Bool). if b then kept n before else with_arrival e (cells_of m) (kept n before)) h
+
+pub kept-new : (n e : ℕ) (m : Message) (before : List Arrival) → late n (At (Some e) m) before ≡ false → kept n (At (Some e) m ∷ before) ≡ with_arrival e (cells_of m) (kept n before)
+kept-new n e m before h = ap (λ (b : Bool). if b then kept n before else with_arrival e (cells_of m) (kept n before)) h
+
+without-head : (n : ℕ) (a : Arrival) (before : List Arrival) → late n a before ≡ true → without_late n (a ∷ before) ≡ without_late n before
+without-head n a before h = ap (λ (b : Bool). if b then without_late n before else a ∷ without_late n before) h
+
+without-stays : (n : ℕ) (a : Arrival) (before : List Arrival) → late n a before ≡ false → without_late n (a ∷ before) ≡ a ∷ without_late n before
+without-stays n a before h = ap (λ (b : Bool). if b then without_late n before else a ∷ without_late n before) h
+
+without-epochs : (n : ℕ) (arrivals : List Arrival) → take n (epochs (without_late n arrivals)) ≡ take n (epochs arrivals)
+without-epochs n [] = refl
+without-epochs n (At None m ∷ before) = elim (cases_Bool (late n (At None m) before)) [
+  | inl over ↦ ap (λ t. take n (epochs t)) (without-head n (At None m) before over) ∙ without-epochs n before
+  | inr fresh ↦ ap (λ t. take n (epochs t)) (without-stays n (At None m) before fresh) ∙ without-epochs n before
+]
+without-epochs n (At (Some e) m ∷ before) = elim (cases_Bool (late n (At (Some e) m) before)) [
+  | inl over ↦ ap (λ t. take n (epochs t)) (without-head n (At (Some e) m) before over) ∙ without-epochs n before ∙ sym (take-with_epoch-late n e (epochs before) (late-above n e m before over))
+  | inr fresh ↦ ap (λ t. take n (epochs t)) (without-stays n (At (Some e) m) before fresh) ∙ take-with_epoch n e (epochs (without_late n before))
+      ∙ ap (λ t. take n (with_epoch e t)) (without-epochs n before) ∙ sym (take-with_epoch n e (epochs before))
+]
+
+without-count : (n : ℕ) (arrivals : List Arrival) → min n (length (epochs (without_late n arrivals))) ≡ min n (length (epochs arrivals))
+without-count n arrivals = sym (length-take n (epochs (without_late n arrivals))) ∙ ap length (without-epochs n arrivals) ∙ length-take n (epochs arrivals)
+
+-- whether a station message is late, from the count of epochs and the kept one
+pub late-station : (n : ℕ) (m : Message) (before : List Arrival) → late n (At None m) before ≡ (nat_le n (length (epochs before)) && not (is_first equal_stations (station n (number_of m) before) m))
+late-station n m before = ap (λ b. nat_le n (length (epochs before)) && not b) (excused-is n m before)
+
+same-station : (n : ℕ) (m : Message) (x y : List Arrival) → station n (number_of m) x ≡ station n (number_of m) y → min n (length (epochs x)) ≡ min n (length (epochs y)) → late n (At None m) x ≡ late n (At None m) y
+same-station n m x y s c =
+    late-station n m x ∙ ap (λ o. nat_le n (length (epochs x)) && not (is_first equal_stations o m)) s
+    ∙ ap (λ b. b && not (is_first equal_stations (station n (number_of m) y) m)) (same-le n _ _ c) ∙ sym (late-station n m y)
+
+station-late : (n k : ℕ) (m : Message) (before : List Arrival) → late n (At None m) before ≡ true → station n k (At None m ∷ before) ≡ station n k before
+station-late n k m before h =
+    ap (λ b. if (number_of m == k) && not b then first (station n k before) m else station n k before) h ∙ ap (λ b. if b then first (station n k before) m else station n k before) (and-none (number_of m == k))
+
+without-station : (n k : ℕ) (arrivals : List Arrival) → station n k (without_late n arrivals) ≡ station n k arrivals
+without-station n k [] = refl
+without-station n k (At (Some e) m ∷ before) = elim (cases_Bool (late n (At (Some e) m) before)) [
+  | inl over ↦ ap (station n k) (without-head n (At (Some e) m) before over) ∙ without-station n k before
+  | inr fresh ↦ ap (station n k) (without-stays n (At (Some e) m) before fresh) ∙ without-station n k before
+]
+without-station n k (At None m ∷ before) = elim (cases_Bool (late n (At None m) before)) [
+  | inl over ↦ ap (station n k) (without-head n (At None m) before over) ∙ without-station n k before ∙ sym (station-late n k m before over)
+  | inr fresh ↦ ap (station n k) (without-stays n (At None m) before fresh)
+      ∙ ap (λ b. if (number_of m == k) && not b then first (station n k (without_late n before)) m else station n k (without_late n before))
+      (same-station n m (without_late n before) before (without-station n (number_of m) before) (without-count n before))
+      ∙ ap (λ o. if (number_of m == k) && not (late n (At None m) before) then first o m else o) (without-station n k before)
+]
+
+without-late : (n : ℕ) (a : Arrival) (arrivals : List Arrival) → late n a (without_late n arrivals) ≡ late n a arrivals
+without-late n (At None m) arrivals = same-station n m (without_late n arrivals) arrivals (without-station n (number_of m) arrivals) (without-count n arrivals)
+without-late n (At (Some e) m) arrivals = late-leading n e m (without_late n arrivals)
+    ∙ same-le n _ _ (sym (leadingN-take n e (epochs (without_late n arrivals))) ∙ ap (leadingN e) (without-epochs n arrivals) ∙ leadingN-take n e (epochs arrivals))
+    ∙ sym (late-leading n e m arrivals)
+
+without-kept : (n : ℕ) (arrivals : List Arrival) → kept n (without_late n arrivals) ≡ kept n arrivals
+without-kept n [] = refl
+without-kept n (At None m ∷ before) = elim (cases_Bool (late n (At None m) before)) [
+  | inl over ↦ ap (kept n) (without-head n (At None m) before over) ∙ without-kept n before
+  | inr fresh ↦ ap (kept n) (without-stays n (At None m) before fresh) ∙ without-kept n before
+]
+without-kept n (At (Some e) m ∷ before) = elim (cases_Bool (late n (At (Some e) m) before)) [
+  | inl over ↦ ap (kept n) (without-head n (At (Some e) m) before over) ∙ without-kept n before ∙ sym (kept-late n e m before over)
+  | inr fresh ↦ ap (kept n) (without-stays n (At (Some e) m) before fresh) ∙ kept-new n e m (without_late n before) (without-late n (At (Some e) m) before ∙ fresh)
+      ∙ ap (with_arrival e (cells_of m)) (without-kept n before) ∙ sym (kept-new n e m before fresh)
+]
+
+in-time : (n : ℕ) (arrivals : List Arrival) → AreInTime n (without_late n arrivals)
+in-time n [] = tt
+in-time n (a ∷ before) = elim (cases_Bool (late n a before)) [
+  | inl over ↦ subst (AreInTime n) (sym (without-head n a before over)) (in-time n before)
+  | inr fresh ↦ subst (AreInTime n) (sym (without-stays n a before fresh)) (without-late n a before ∙ fresh, in-time n before)
+]
+
+without-taken : (n : ℕ) (a : Arrival) (arrivals : List Arrival) → IsTaken n a (without_late n arrivals) ↔ IsTaken n a arrivals
+without-taken n a [] = (λ h. h, λ h. h)
+without-taken n a (x ∷ before) =
+    let w = without-taken n a before in
+    elim (cases_Bool (late n x before)) [
+      | inl over ↦ (
+        λ h. inr (w.0 (subst (IsTaken n a) (without-head n x before over) h)),
+        λ h. subst (IsTaken n a) (sym (without-head n x before over)) (elim h [ inl now ↦ absurd (both_ways (late n x before) now.0 over) | inr r ↦ w.1 r ]),
+      )
+      | inr fresh ↦ (
+        λ h. elim (subst (IsTaken n a) (without-stays n x before fresh) h) [ inl now ↦ inl (fresh, now.1) | inr r ↦ inr (w.0 r) ],
+        λ h. subst (IsTaken n a) (sym (without-stays n x before fresh)) (elim h [ inl now ↦ inl (without-late n x before ∙ fresh, now.1) | inr r ↦ inr (w.1 r) ]),
+      )
+    ]
+
+pub late-change-nothing : LateChangeNothing
+late-change-nothing n arrivals = ((λ a. without-late n a arrivals), in-time n arrivals, (λ a. without-taken n a arrivals), without-kept n arrivals, (λ k. without-station n k arrivals))
+
+-- closed epochs
+
+one-grows : (n : ℕ) (a : Arrival) (before : List Arrival) → (more : List EpochCells) × (closed n (a ∷ before) ≡ more ++ closed n before)
+one-grows n (At None m) before = ([], refl)
+one-grows n (At (Some e) m) before =
+    let d : EpochCells = no_cells 0 in
+    elim (cases_lt (leadingN e (epochs before)) n) [
+      | inl fresh ↦ (
+        drop n (with_arrival e (cells_of m) (take n (kept n before))),
+        closed-drop n d (At (Some e) m ∷ before) ∙ ap (drop n) (is-open n e m before fresh) ∙ drop-with_arrival n e (cells_of m) (kept n before) (leading-kept n e before fresh)
+            ∙ ap (λ t. drop n (with_arrival e (cells_of m) (take n (kept n before))) ++ t) (sym (closed-drop n d before)),
+      )
+      | inr over ↦ ([], closed-drop n d (At (Some e) m ∷ before) ∙ ap (drop n) (is-late n e m before over) ∙ sym (closed-drop n d before))
+    ]
+
+pub closed-only-grow : ClosedOnlyGrow
+closed-only-grow n [] before = ([], refl)
+closed-only-grow n (a ∷ later) before =
+    let r = closed-only-grow n later before in
+    let s = one-grows n a (later ++ before) in
+    (s.0 ++ r.0, s.1 ∙ ap (λ t. s.0 ++ t) r.1 ∙ sym (append_assoc s.0 r.0 (closed n before)))
+
+falls-drop : (n : ℕ) (xs : List EpochCells) → Falls xs → Falls (drop n xs)
+falls-drop zero xs f = f
+falls-drop (suc n) [] f = tt
+falls-drop (suc n) (x ∷ xs) f = falls-drop n xs f.1
+
+pub closed-fall : ClosedFall
+closed-fall n arrivals = subst Falls (sym (closed-drop n (no_cells 0) arrivals)) (falls-drop n (kept n arrivals) (kept-falls n arrivals))
+
+pub closed-after : ClosedAfter
+closed-after n arrivals = elim (cases_lt (length (epochs arrivals)) n) [
+  | inl less ↦
+      let a : min n (length (keys (kept n arrivals))) ≡ min n (length (epochs arrivals)) = sym (length-take n (keys (kept n arrivals))) ∙ ap length (same_greatest n arrivals) ∙ length-take n (epochs arrivals) in
+      let k : length (keys (kept n arrivals)) ≡ length (kept n arrivals) = length-keys (kept n arrivals) in
+      inl (closed-drop n (no_cells 0) arrivals ∙ (whole n (kept n arrivals) (omega arith)).1)
+  | inr over ↦ inr over
+]
+
+-- station messages
+
+pub excused-is-kept : ExcusedIsKept
+excused-is-kept n m before = excused-is n m before
+
+stays-full : (n k : ℕ) (m : Message) (before : List Arrival) (o : Option Message) → o ≡ station n k before → n ≤ length (epochs before) → station n k (At None m ∷ before) ≡ station n k before
+stays-full n k m before (Some x) e h = elim (cases_Bool ((number_of m == k) && not (late n (At None m) before))) [
+  | inl now ↦ ap (λ b. if b then first (station n k before) m else station n k before) now ∙ ap (λ o. first o m) (sym e) ∙ e
+  | inr not_now ↦ ap (λ b. if b then first (station n k before) m else station n k before) not_now
+]
+stays-full n k m before None e h = elim (cases_eq (number_of m) k) [
+  | inl same ↦
+      let s : station n (number_of m) before ≡ None = ap (λ t. station n t before) same ∙ sym e in
+      let over : late n (At None m) before ≡ true =
+      late-station n m before ∙ ap (λ o. nat_le n (length (epochs before)) && not (is_first equal_stations o m)) s ∙ ap (λ b. b && true) (le-leb n (length (epochs before)) h) in
+      station-late n k m before over
+  | inr other ↦ ap (λ b. if b && not (late n (At None m) before) then first (station n k before) m else station n k before) (ne_eqb (number_of m) k other)
+]
+
+final-stays : (n k : ℕ) (a : Arrival) (before : List Arrival) → n ≤ length (epochs before) → station n k (a ∷ before) ≡ station n k before
+final-stays n k (At (Some e) m) before h = refl
+final-stays n k (At None m) before h = stays-full n k m before (station n k before) refl h
+
+pub stations-are-final : StationsAreFinal
+stations-are-final n before h =
+    ((λ m. late-station n m before ∙ ap (λ b. b && not (is_first equal_stations (station n (number_of m) before) m)) (le-leb n (length (epochs before)) h)), (λ a k. final-stays n k a before h))
+
+-- members of a merge
+
+with_cell-among : (x c : CellEntry) (xs : List CellEntry) → AmongCells x (with_cell c xs) → (x ≡ c) ⊎ AmongCells x xs
+with_cell-among x c [] m = m
+with_cell-among x c (y ∷ ys) m = elim (cases_order (key c) (key y)) [
+  | inl same ↦ inr (subst (λ (t : List CellEntry). AmongCells x t) (with_cell-same c y ys same) m)
+  | inr more ↦ elim more [
+    | inl new ↦ subst (λ (t : List CellEntry). AmongCells x t) (with_cell-new c y ys new) m
+    | inr past ↦ elim (subst (λ (t : List CellEntry). AmongCells x t) (with_cell-past c y ys past) m) [
+      | inl e ↦ inr (inl e)
+      | inr r ↦ elim (with_cell-among x c ys r) [ inl e ↦ inl e | inr s ↦ inr (inr s) ]
+    ]
+  ]
+]
+
+among-with_cell : (x c : CellEntry) (xs : List CellEntry) → AmongCells x xs → AmongCells x (with_cell c xs)
+among-with_cell x c [] m = absurd m
+among-with_cell x c (y ∷ ys) m = elim (cases_order (key c) (key y)) [
+  | inl same ↦ subst (λ (t : List CellEntry). AmongCells x t) (sym (with_cell-same c y ys same)) m
+  | inr more ↦ elim more [
+    | inl new ↦ subst (λ (t : List CellEntry). AmongCells x t) (sym (with_cell-new c y ys new)) (inr m)
+    | inr past ↦ subst (λ (t : List CellEntry). AmongCells x t) (sym (with_cell-past c y ys past)) (elim m [ inl e ↦ inl e | inr r ↦ inr (among-with_cell x c ys r) ])
+  ]
+]
+
+cell-joined : (c : CellEntry) (xs : List CellEntry) → (d : CellEntry) × AmongCells d (with_cell c xs) × (key d ≡ key c) × ((d ≡ c) ⊎ AmongCells d xs)
+cell-joined c [] = (c, inl refl, refl, inl refl)
+cell-joined c (y ∷ ys) = elim (cases_order (key c) (key y)) [
+  | inl same ↦ (y, subst (λ (t : List CellEntry). AmongCells y t) (sym (with_cell-same c y ys same)) (inl refl), sym same, inr (inl refl))
+  | inr more ↦ elim more [
+    | inl new ↦ (c, subst (λ (t : List CellEntry). AmongCells c t) (sym (with_cell-new c y ys new)) (inl refl), refl, inl refl)
+    | inr past ↦
+        let j = cell-joined c ys in
+        (j.0, subst (λ (t : List CellEntry). AmongCells j.0 t) (sym (with_cell-past c y ys past)) (inr j.1), j.2, elim j.3 [ inl e ↦ inl e | inr r ↦ inr (inr r) ])
+  ]
+]
+
+with_cells-among : (x : CellEntry) (cs xs : List CellEntry) → AmongCells x (with_cells cs xs) → AmongCells x cs ⊎ AmongCells x xs
+with_cells-among x [] xs m = inr m
+with_cells-among x (c ∷ more) xs m = elim (with_cells-among x more (with_cell c xs) m) [
+  | inl a ↦ inl (inr a)
+  | inr r ↦ elim (with_cell-among x c xs r) [ inl e ↦ inl (inl e) | inr s ↦ inr s ]
+]
+
+among-with_cells : (x : CellEntry) (cs xs : List CellEntry) → AmongCells x xs → AmongCells x (with_cells cs xs)
+among-with_cells x [] xs m = m
+among-with_cells x (c ∷ more) xs m = among-with_cells x more (with_cell c xs) (among-with_cell x c xs m)
+
+cells-joined : (c : CellEntry) (cs xs : List CellEntry) → AmongCells c cs → (d : CellEntry) × AmongCells d (with_cells cs xs) × (key d ≡ key c)
+cells-joined c [] xs m = absurd m
+cells-joined c (y ∷ more) xs m = elim m [
+  | inl e ↦ let j = cell-joined y xs in (j.0, among-with_cells j.0 more (with_cell y xs) j.1, j.2 ∙ ap key (sym e))
+  | inr r ↦ cells-joined c more (with_cell y xs) r
+]
+
+-- members of the kept epochs
+
+with_arrival-kept : (e : ℕ) (x : CellEntry) (f : ℕ) (cs : List CellEntry) (xs : List EpochCells) → IsKept e x (with_arrival f cs xs) → ((f ≡ e) × AmongCells x cs) ⊎ IsKept e x xs
+with_arrival-kept e x f cs [] m = elim m [
+  | inl h ↦ elim (with_cells-among x cs [] h.1) [ inl a ↦ inl (h.0, a) | inr r ↦ absurd r ]
+  | inr r ↦ absurd r
+]
+with_arrival-kept e x f cs (y ∷ ys) m = elim (cases_order y.epoch f) [
+  | inl same ↦ elim (subst (λ (t : List EpochCells). IsKept e x t) (with_arrival-same f cs y ys (sym same)) m) [
+    | inl h ↦ elim (with_cells-among x cs y.cells h.1) [ inl a ↦ inl (sym same ∙ h.0, a) | inr r ↦ inr (inl (h.0, r)) ]
+    | inr r ↦ inr (inr r)
+  ]
+  | inr more ↦ elim more [
+    | inl new ↦ elim (subst (λ (t : List EpochCells). IsKept e x t) (with_arrival-new f cs y ys new) m) [
+      | inl h ↦ elim (with_cells-among x cs [] h.1) [ inl a ↦ inl (h.0, a) | inr r ↦ absurd r ]
+      | inr r ↦ inr r
+    ]
+    | inr below ↦ elim (subst (λ (t : List EpochCells). IsKept e x t) (with_arrival-below f cs y ys below) m) [
+      | inl h ↦ inr (inl h)
+      | inr r ↦ elim (with_arrival-kept e x f cs ys r) [ inl a ↦ inl a | inr s ↦ inr (inr s) ]
+    ]
+  ]
+]
+
+kept-with_arrival : (e : ℕ) (x : CellEntry) (f : ℕ) (cs : List CellEntry) (xs : List EpochCells) → IsKept e x xs → IsKept e x (with_arrival f cs xs)
+kept-with_arrival e x f cs [] m = absurd m
+kept-with_arrival e x f cs (y ∷ ys) m = elim (cases_order y.epoch f) [
+  | inl same ↦ subst (λ (t : List EpochCells). IsKept e x t) (sym (with_arrival-same f cs y ys (sym same))) (elim m [ inl h ↦ inl (h.0, among-with_cells x cs y.cells h.1) | inr r ↦ inr r ])
+  | inr more ↦ elim more [
+    | inl new ↦ subst (λ (t : List EpochCells). IsKept e x t) (sym (with_arrival-new f cs y ys new)) (inr m)
+    | inr below ↦ subst (λ (t : List EpochCells). IsKept e x t) (sym (with_arrival-below f cs y ys below)) (elim m [ inl h ↦ inl h | inr r ↦ inr (kept-with_arrival e x f cs ys r) ])
+  ]
+]
+
+arrival-joined : (c : CellEntry) (e : ℕ) (cs : List CellEntry) (xs : List EpochCells) → AmongCells c cs → (d : CellEntry) × IsKept e d (with_arrival e cs xs) × (key d ≡ key c)
+arrival-joined c e cs [] m = let j = cells-joined c cs [] m in (j.0, inl (refl, j.1), j.2)
+arrival-joined c e cs (y ∷ ys) m = elim (cases_order y.epoch e) [
+  | inl same ↦ let j = cells-joined c cs y.cells m in (j.0, subst (λ (t : List EpochCells). IsKept e j.0 t) (sym (with_arrival-same e cs y ys (sym same))) (inl (same, j.1)), j.2)
+  | inr more ↦ elim more [
+    | inl new ↦ let j = cells-joined c cs [] m in (j.0, subst (λ (t : List EpochCells). IsKept e j.0 t) (sym (with_arrival-new e cs y ys new)) (inl (refl, j.1)), j.2)
+    | inr below ↦ let j = arrival-joined c e cs ys m in (j.0, subst (λ (t : List EpochCells). IsKept e j.0 t) (sym (with_arrival-below e cs y ys below)) (inr j.1), j.2)
+  ]
+]
+
+-- a cell that came in time, by recursion
+abbrev pub TakenCell : ℕ → ℕ → CellEntry → List Arrival → Type 0
+TakenCell n e c [] = ⊥
+TakenCell n e c (At None m ∷ before) = TakenCell n e c before
+TakenCell n e c (At (Some f) m ∷ before) = ((late n (At (Some f) m) before ≡ false) × (f ≡ e) × AmongCells c (cells_of m)) ⊎ TakenCell n e c before
+
+cell-taken : (n e : ℕ) (c : CellEntry) (arrivals : List Arrival) → TakenCell n e c arrivals → IsTakenCell n e c arrivals
+cell-taken n e c [] t = absurd t
+cell-taken n e c (At None m ∷ before) t = let r = cell-taken n e c before t in (r.0, inr r.1, r.2)
+cell-taken n e c (At (Some f) m ∷ before) t = elim t [
+  | inl now ↦ (m, inl (now.0, ap (λ g. At (Some g) m) now.1), now.2)
+  | inr r ↦ let s = cell-taken n e c before r in (s.0, inr s.1, s.2)
+]
+
+abbrev message_at : Arrival → Message
+message_at (At e m) = m
+
+abbrev moment_at : Arrival → Option ℕ
+moment_at (At e m) = e
+
+abbrev or_zero : Option ℕ → ℕ
+or_zero None = 0
+or_zero (Some e) = e
+
+none-some : (e : ℕ) (m o : Message) → At None m ≡ At (Some e) o → ⊥
+none-some e m o h = let q : None ≡ Some e = ap moment_at h in cc
+
+taken-cell : (n e : ℕ) (c : CellEntry) (m : Message) (arrivals : List Arrival) → IsTaken n (At (Some e) m) arrivals → AmongCells c (cells_of m) → TakenCell n e c arrivals
+taken-cell n e c m [] t a = absurd t
+taken-cell n e c m (At None o ∷ before) t a = elim t [
+  | inl now ↦ absurd (none-some e o m now.1)
+  | inr r ↦ taken-cell n e c m before r a
+]
+taken-cell n e c m (At (Some f) o ∷ before) t a = elim t [
+  | inl now ↦ inl (now.0, ap (λ x. or_zero (moment_at x)) now.1, subst (λ x. AmongCells c (cells_of (message_at x))) (sym now.1) a)
+  | inr r ↦ inr (taken-cell n e c m before r a)
+]
+
+kept-taken : (n e : ℕ) (c : CellEntry) (arrivals : List Arrival) → IsKept e c (kept n arrivals) → TakenCell n e c arrivals
+kept-taken n e c [] m = absurd m
+kept-taken n e c (At None o ∷ before) m = kept-taken n e c before m
+kept-taken n e c (At (Some f) o ∷ before) m = elim (cases_Bool (late n (At (Some f) o) before)) [
+  | inl over ↦ inr (kept-taken n e c before (subst (IsKept e c) (kept-late n f o before over) m))
+  | inr fresh ↦ elim (with_arrival-kept e c f (cells_of o) (kept n before) (subst (IsKept e c) (kept-new n f o before fresh) m)) [
+    | inl now ↦ inl (fresh, now.0, now.1)
+    | inr r ↦ inr (kept-taken n e c before r)
+  ]
+]
+
+abbrev CellsAgree : ℕ → List Arrival → Type 0
+CellsAgree n arrivals = (e : ℕ) (c d : CellEntry) → TakenCell n e c arrivals → TakenCell n e d arrivals → key c ≡ key d → c ≡ d
+
+taken-kept : (n e : ℕ) (c : CellEntry) (arrivals : List Arrival) → CellsAgree n arrivals → TakenCell n e c arrivals → IsKept e c (kept n arrivals)
+taken-kept n e c [] agree t = absurd t
+taken-kept n e c (At None o ∷ before) agree t = taken-kept n e c before agree t
+taken-kept n e c (At (Some f) o ∷ before) agree t =
+    let older : CellsAgree n before = λ g p q u v w. agree g p q (inr u) (inr v) w in
+    elim (cases_Bool (late n (At (Some f) o) before)) [
+      | inl over ↦ subst (IsKept e c) (sym (kept-late n f o before over)) (elim t [
+        | inl now ↦ absurd (both_ways (late n (At (Some f) o) before) now.0 over)
+        | inr r ↦ taken-kept n e c before older r
+      ])
+      | inr fresh ↦ subst (IsKept e c) (sym (kept-new n f o before fresh)) (elim t [
+        | inl now ↦
+            let j = arrival-joined c f (cells_of o) (kept n before) now.2 in
+            let there : IsKept e j.0 (with_arrival f (cells_of o) (kept n before)) = subst (λ (g : ℕ). IsKept g j.0 (with_arrival f (cells_of o) (kept n before))) now.1 j.1 in
+            let came : TakenCell n e j.0 (At (Some f) o ∷ before) = kept-taken n e j.0 (At (Some f) o ∷ before) (subst (IsKept e j.0) (sym (kept-new n f o before fresh)) there) in
+            let same : j.0 ≡ c = agree e j.0 c came (inl now) j.2 in
+            subst (λ (z : CellEntry). IsKept e z (with_arrival f (cells_of o) (kept n before))) same there
+        | inr r ↦ kept-with_arrival e c f (cells_of o) (kept n before) (taken-kept n e c before older r)
+      ])
+    ]
+
+-- the epochs that were opened
+
+has-arrival : (e f : ℕ) (cs : List CellEntry) (xs : List EpochCells) → HasEpoch e (with_arrival f cs xs) → (f ≡ e) ⊎ HasEpoch e xs
+has-arrival e f cs [] m = m
+has-arrival e f cs (y ∷ ys) m = elim (cases_order y.epoch f) [
+  | inl same ↦ inr (subst (HasEpoch e) (with_arrival-same f cs y ys (sym same)) m)
+  | inr more ↦ elim more [
+    | inl new ↦ subst (HasEpoch e) (with_arrival-new f cs y ys new) m
+    | inr below ↦ elim (subst (HasEpoch e) (with_arrival-below f cs y ys below) m) [
+      | inl q ↦ inr (inl q)
+      | inr r ↦ elim (has-arrival e f cs ys r) [ inl a ↦ inl a | inr s ↦ inr (inr s) ]
+    ]
+  ]
+]
+
+arrival-has : (e f : ℕ) (cs : List CellEntry) (xs : List EpochCells) → (f ≡ e) ⊎ HasEpoch e xs → HasEpoch e (with_arrival f cs xs)
+arrival-has e f cs [] m = m
+arrival-has e f cs (y ∷ ys) m = elim (cases_order y.epoch f) [
+  | inl same ↦ subst (HasEpoch e) (sym (with_arrival-same f cs y ys (sym same))) (elim m [ inl a ↦ inl (same ∙ a) | inr r ↦ r ])
+  | inr more ↦ elim more [
+    | inl new ↦ subst (HasEpoch e) (sym (with_arrival-new f cs y ys new)) m
+    | inr below ↦ subst (HasEpoch e) (sym (with_arrival-below f cs y ys below)) (elim m [
+      | inl a ↦ inr (arrival-has e f cs ys (inl a))
+      | inr r ↦ elim r [ inl q ↦ inl q | inr s ↦ inr (arrival-has e f cs ys (inr s)) ]
+    ])
+  ]
+]
+
+abbrev OpenedBy : ℕ → ℕ → List Arrival → Type 0
+OpenedBy n e arrivals = (m : Message) × IsTaken n (At (Some e) m) arrivals
+
+pub has-opened : (n e : ℕ) (arrivals : List Arrival) → HasEpoch e (kept n arrivals) → OpenedBy n e arrivals
+has-opened n e [] m = absurd m
+has-opened n e (At None o ∷ before) m = let r = has-opened n e before m in (r.0, inr r.1)
+has-opened n e (At (Some f) o ∷ before) m = elim (cases_Bool (late n (At (Some f) o) before)) [
+  | inl over ↦ let r = has-opened n e before (subst (HasEpoch e) (kept-late n f o before over) m) in (r.0, inr r.1)
+  | inr fresh ↦ elim (has-arrival e f (cells_of o) (kept n before) (subst (HasEpoch e) (kept-new n f o before fresh) m)) [
+    | inl a ↦ (o, inl (fresh, ap (λ g. At (Some g) o) a))
+    | inr r ↦ let s = has-opened n e before r in (s.0, inr s.1)
+  ]
+]
+
+pub opened-has : (n e : ℕ) (m : Message) (arrivals : List Arrival) → IsTaken n (At (Some e) m) arrivals → HasEpoch e (kept n arrivals)
+opened-has n e m [] t = absurd t
+opened-has n e m (At None o ∷ before) t = elim t [
+  | inl now ↦ absurd (none-some e o m now.1)
+  | inr r ↦ opened-has n e m before r
+]
+opened-has n e m (At (Some f) o ∷ before) t = elim (cases_Bool (late n (At (Some f) o) before)) [
+  | inl over ↦ subst (HasEpoch e) (sym (kept-late n f o before over)) (elim t [ inl now ↦ absurd (both_ways (late n (At (Some f) o) before) now.0 over) | inr r ↦ opened-has n e m before r ])
+  | inr fresh ↦ subst (HasEpoch e) (sym (kept-new n f o before fresh))
+      (arrival-has e f (cells_of o) (kept n before) (elim t [ inl now ↦ inl (ap (λ x. or_zero (moment_at x)) now.1) | inr r ↦ inr (opened-has n e m before r) ]))
+]
+
+-- the station messages
+
+abbrev StationsAgree : ℕ → List Arrival → Type 0
+StationsAgree n arrivals = (m o : Message) → IsTaken n (At None m) arrivals → IsTaken n (At None o) arrivals → number_of m ≡ number_of o → m ≡ o
+
+some-some : (x y : Message) → Some x ≡ Some y → x ≡ y
+some-some x y h = ap (λ o. unwrap_or o x) h
+
+now-kept : (n k : ℕ) (m : Message) (before : List Arrival) → late n (At None m) before ≡ false → number_of m ≡ k → station n k (At None m ∷ before) ≡ first (station n k before) m
+now-kept n k m before h num =
+    ap (λ b. if b && not (late n (At None m) before) then first (station n k before) m else station n k before) (eq-eqb (number_of m) k num)
+    ∙ ap (λ b. if not b then first (station n k before) m else station n k before) h
+
+-- the kept one by its cases
+first-is : (o : Option Message) (m x : Message) → first o m ≡ Some x → (o ≡ Some x) ⊎ (m ≡ x)
+first-is None m x h = inr (some-some m x h)
+first-is (Some y) m x h = inl h
+
+pub station-taken : (n k : ℕ) (x : Message) (arrivals : List Arrival) → station n k arrivals ≡ Some x → IsTaken n (At None x) arrivals × (number_of x ≡ k)
+station-taken n k x [] h = cc
+station-taken n k x (At (Some e) m ∷ before) h = let r = station-taken n k x before h in (inr r.0, r.1)
+station-taken n k x (At None m ∷ before) h = elim (cases_eq (number_of m) k) [
+  | inl same ↦ elim (cases_Bool (late n (At None m) before)) [
+    | inl over ↦ let r = station-taken n k x before (sym (station-late n k m before over) ∙ h) in (inr r.0, r.1)
+    | inr fresh ↦ elim (first-is (station n k before) m x (sym (now-kept n k m before fresh same) ∙ h)) [
+      | inl old ↦ let r = station-taken n k x before old in (inr r.0, r.1)
+      | inr new ↦ (inl (fresh, ap (At None) new), ap number_of (sym new) ∙ same)
+    ]
+  ]
+  | inr other ↦ let r = station-taken n k x before (sym (other-stays n k m before other) ∙ h) in (inr r.0, r.1)
+]
+
+first-agrees : (o : Option Message) (m : Message) → ((x : Message) → o ≡ Some x → x ≡ m) → first o m ≡ Some m
+first-agrees None m h = refl
+first-agrees (Some y) m h = ap Some (h y refl)
+
+pub taken-station : (n : ℕ) (x : Message) (arrivals : List Arrival) → StationsAgree n arrivals → IsTaken n (At None x) arrivals → station n (number_of x) arrivals ≡ Some x
+taken-station n x [] agree t = absurd t
+taken-station n x (At (Some e) m ∷ before) agree t = elim t [
+  | inl now ↦ absurd (none-some e x m (sym now.1))
+  | inr r ↦ taken-station n x before (λ p q u v. agree p q (inr u) (inr v)) r
+]
+taken-station n x (At None m ∷ before) agree t =
+    let older : StationsAgree n before = λ p q u v. agree p q (inr u) (inr v) in
+    elim (cases_eq (number_of m) (number_of x)) [
+      | inl same ↦ elim (cases_Bool (late n (At None m) before)) [
+        | inl over ↦ station-late n (number_of x) m before over ∙ elim t [ inl now ↦ absurd (both_ways (late n (At None m) before) now.0 over) | inr r ↦ taken-station n x before older r ]
+        | inr fresh ↦
+            let is : m ≡ x = agree m x (inl (fresh, refl)) t same in
+            now-kept n (number_of x) m before fresh same ∙ ap (first (station n (number_of x) before)) is
+            ∙ first-agrees (station n (number_of x) before) x (λ y h. let r = station-taken n (number_of x) y before h in agree y x (inr r.0) t r.1)
+      ]
+      | inr other ↦ other-stays n (number_of x) m before other ∙ elim t [
+        | inl now ↦ absurd (other (ap (λ a. number_of (message_at a)) now.1))
+        | inr r ↦ taken-station n x before older r
+      ]
+    ]
+
+agree-cells : (n : ℕ) (arrivals : List Arrival) → IsConsistent n arrivals → CellsAgree n arrivals
+agree-cells n arrivals h e c d t u k = h.cells e c d (cell-taken n e c arrivals t) (cell-taken n e d arrivals u) k
+
+pub kept-are-taken : KeptAreTaken
+kept-are-taken n arrivals = (
+  (λ e. (has-opened n e arrivals, λ o. opened-has n e o.0 arrivals o.1)),
+  (λ e c m. cell-taken n e c arrivals (kept-taken n e c arrivals m)),
+  (λ m k h. station-taken n k m arrivals h),
+  (λ h. ((λ e c t. taken-kept n e c arrivals (agree-cells n arrivals h) (taken-cell n e c t.0 arrivals t.1 t.2)), (λ m t. taken-station n m arrivals h.stations t))),
+)

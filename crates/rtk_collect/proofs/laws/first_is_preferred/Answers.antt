@@ -1,0 +1,5 @@
+use Rattle.rtk_collect.proofs.PreferredLemmas.{first-is-preferred}
+use Rattle.rtk_collect.proofs.laws.first_is_preferred.Goals as goal
+
+pub returns : goal.returns
+returns c = first-is-preferred

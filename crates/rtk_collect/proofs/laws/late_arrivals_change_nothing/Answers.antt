@@ -1,0 +1,5 @@
+use Rattle.rtk_collect.proofs.MembersLemmas.{late-change-nothing}
+use Rattle.rtk_collect.proofs.laws.late_arrivals_change_nothing.Goals as goal
+
+pub returns : goal.returns
+returns c = late-change-nothing

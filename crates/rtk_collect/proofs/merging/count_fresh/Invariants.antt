@@ -1,0 +1,10 @@
+use Rattle.std.proofs.Common.{◌≡◌, ◌≤◌, ◌+◌, length, drop}
+use Rattle.rtk_collect.specs.EpochCells.{fresh}
+use Rattle.rtk_collect.proofs.merging.count_fresh.Given as goal
+
+abbrev pub invariant-loop-cell : goal.invariant-loop-cell
+invariant-loop-cell l = record {
+  at : l.at ≤ length l.kept;
+  bound : l.count ≤ l.cell-index;
+  count : l.count + fresh (drop l.cell-index l.cells) l.kept ≡ fresh l.cells l.kept;
+}

@@ -1,0 +1,21 @@
+use Rattle.std.proofs.Common.{◌∙◌, sym, ap, arith}
+use Rattle.std.proofs.lemmas.Grind.{common_steps}
+use Rattle.std.specs.List.{insert}
+use Rattle.rtk_collect.specs.Key.{key}
+use Rattle.rtk_collect.specs.EpochCells.{cell_under}
+use Rattle.rtk_collect.proofs.CellsLemmas.{conflict-is, with_cell-sets, with_cell-absent, lower-length}
+use Rattle.rtk_collect.proofs.EqualityLemmas.{sources-same}
+use Rattle.rtk_collect.proofs.merging.put.Goals as goal
+
+pub returns-in-Some-clause-items : goal.returns-in-Some-clause-items
+returns-in-Some-clause-items c = sym (with_cell-sets c.args.entry c.in-Some.first c.args.kept.now.items c.requires.rises (sym (rw (c.key_of.ensures, c.deref.ensures.value) at c.in-Some.ensures)))
+
+pub insert-requires : goal.insert-requires
+insert-requires c = let h = lower-length (key c.args.entry) c.args.kept.now.items in grind (arith, common_steps, c.requires.place)
+
+pub returns-clause-items : goal.returns-clause-items
+returns-clause-items c = c.in_default-insert.ensures.items ∙ ap (λ t. insert c.args.kept.now.items t c.args.entry) c.requires.place ∙ sym (with_cell-absent c.args.entry c.args.kept.now.items (sym (rw (c.key_of.ensures, c.deref.ensures.value) at c.in_default.ensures)))
+
+pub returns-in-Some-clause-conflict : goal.returns-in-Some-clause-conflict
+returns-in-Some-clause-conflict c = conflict-is c.args.entry c.in-Some.first (cell_under (key c.args.entry) c.args.kept.now.items) c.ne.result
+    (sym (rw (c.key_of.ensures, c.deref.ensures.value) at c.in-Some.ensures)) (rw (sources-same c.in-Some.first.cell.source c.args.entry.cell.source) at c.ne.ensures)

@@ -1,0 +1,60 @@
+-- What becomes of an arrival.
+use Rattle.std.specs.Prelude.{◌≡◌, ℕ, List, [], ◌∷◌, ◌++◌, nat_lt, Option, None, Some, option_to_list, if◌then◌else◌}
+use Rattle.rtk_message.specs.declared.message.Message.{Message}
+use Rattle.rtk_message.specs.Decoded.{number_of}
+use Rattle.rtk_obs.specs.declared.cell.CellEntry.{CellEntry}
+use Rattle.rtk_collect.specs.declared.conflicts.SatelliteCode.{SatelliteCode}
+use Rattle.rtk_collect.specs.declared.offers.Offer.{Offer}
+use Rattle.rtk_collect.specs.declared.offers.Offer.TheVariants.{Taken, Conflict, Repeat, Late}
+use Rattle.rtk_collect.specs.Arrival.{Arrival, At, cells_of}
+use Rattle.rtk_collect.specs.Equal.{equal_stations}
+use Rattle.rtk_collect.specs.EpochCells.{fresh, conflicts}
+use Rattle.rtk_collect.specs.Late.{late}
+use Rattle.rtk_collect.specs.Accepted.{station, kept, cells_at, closed}
+
+-- the class of an arrival
+pub data Class : Type 0 where
+  LateClass : Class
+  TakenClass : Class
+  RepeatClass : Class
+  ConflictClass : Class
+
+-- where no cell is new: a conflict, if there is one
+abbrev pub class_by : List SatelliteCode → Class
+class_by [] = RepeatClass
+class_by (c ∷ cs) = ConflictClass
+
+-- of cells that come in time, by what is kept of their epoch
+abbrev pub class_of_cells : List CellEntry → Option (List CellEntry) → Class
+class_of_cells cells None = TakenClass
+class_of_cells cells (Some sets) = if nat_lt 0 (fresh cells sets) then TakenClass else class_by (conflicts cells sets)
+
+-- of a station message that comes in time, by the kept one with its number
+abbrev pub class_of_station : Message → Option Message → Class
+class_of_station m None = TakenClass
+class_of_station m (Some x) = if equal_stations x m then RepeatClass else ConflictClass
+
+-- of an arrival that comes in time
+abbrev pub class_in_time : ℕ → Arrival → List Arrival → Class
+class_in_time n (At None m) before = class_of_station m (station n (number_of m) before)
+class_in_time n (At (Some e) m) before = class_of_cells (cells_of m) (cells_at e (kept n before))
+
+-- of an arrival after those before it (this project's rule)
+abbrev pub class_of : ℕ → Arrival → List Arrival → Class
+class_of n a before = if late n a before then LateClass else class_in_time n a before
+
+abbrev pub conflicts_with : List CellEntry → Option (List CellEntry) → List SatelliteCode
+conflicts_with cells None = conflicts cells []
+conflicts_with cells (Some sets) = conflicts cells sets
+
+-- satellites and codes of the cells of an arrival that conflict, in the order of its message
+abbrev pub conflicts_of : ℕ → Arrival → List Arrival → List SatelliteCode
+conflicts_of n (At None m) before = []
+conflicts_of n (At (Some e) m) before = conflicts_with (cells_of m) (cells_at e (kept n before))
+
+-- the right answer to an arrival after those before it
+abbrev pub Answers : ℕ → Arrival → List Arrival → Offer → Type 0
+Answers n a before Late = class_of n a before ≡ LateClass
+Answers n a before (Taken done found) = (class_of n a before ≡ TakenClass) × (found ≡ conflicts_of n a before) × (closed n (a ∷ before) ≡ option_to_list done ++ closed n before)
+Answers n a before (Conflict found) = (class_of n a before ≡ ConflictClass) × (found ≡ conflicts_of n a before)
+Answers n a before Repeat = class_of n a before ≡ RepeatClass

@@ -1,0 +1,44 @@
+-- Equal bodies: two values are equal where all their fields are.
+use Rattle.std.specs.Prelude.{Bool, true, false, ◌&&◌, ◌==◌}
+use Rattle.std.proofs.Math.Bool.{beq}
+use Rattle.std.specs.Ordering.{int_eq}
+use Rattle.std.specs.Option.{option_eq}
+use Rattle.rtk_obs.specs.declared.cell.CellSource.{CellSource}
+use Rattle.rtk_obs.specs.declared.cell.CellSource.TheVariants.{Legacy, Msm}
+use Rattle.rtk_obs.specs.declared.cell.Cell.{Cell}
+use Rattle.rtk_message.specs.declared.arp1005.Arp1005.{Arp1005 as Message1005}
+use Rattle.rtk_message.specs.declared.arp1006.Arp1006.{Arp1006 as Message1006}
+use Rattle.rtk_message.specs.declared.message.Message.{Message}
+use Rattle.rtk_message.specs.declared.message.Message.TheVariants.{Arp1005, Arp1006}
+
+abbrev pub equal_sources : CellSource → CellSource → Bool
+equal_sources Legacy Legacy = true
+equal_sources Legacy Msm = false
+equal_sources Msm Legacy = false
+equal_sources Msm Msm = true
+
+-- the values of a satellite and code
+abbrev pub equal_cells : Cell → Cell → Bool
+equal_cells a b =
+    option_eq int_eq a.range_mm b.range_mm && (option_eq int_eq a.phase_millicycles b.phase_millicycles && (option_eq ◌==◌ a.strength_millidbhz b.strength_millidbhz
+    && ((a.lock_time_ms == b.lock_time_ms) && (beq a.half b.half && (equal_sources a.source b.source && option_eq int_eq a.offset b.offset)))))
+
+-- the fields of a 1005 (RTCM 10403.3, message 1005)
+abbrev pub equal_1005 : Message1005 → Message1005 → Bool
+equal_1005 a b =
+    (a.station == b.station) && ((a.realization_year == b.realization_year) && (beq a.gps b.gps && (beq a.glonass b.glonass && (beq a.galileo b.galileo
+    && (beq a.reference_station b.reference_station && (int_eq a.x b.x && (beq a.single_oscillator b.single_oscillator && (beq a.reserved b.reserved
+    && (int_eq a.y b.y && ((a.quarter_cycle == b.quarter_cycle) && int_eq a.z b.z))))))))))
+
+-- the fields of a 1006 (RTCM 10403.3, message 1006)
+abbrev pub equal_1006 : Message1006 → Message1006 → Bool
+equal_1006 a b =
+    (a.station == b.station) && ((a.realization_year == b.realization_year) && (beq a.gps b.gps && (beq a.glonass b.glonass && (beq a.galileo b.galileo
+    && (beq a.reference_station b.reference_station && (int_eq a.x b.x && (beq a.single_oscillator b.single_oscillator && (beq a.reserved b.reserved
+    && (int_eq a.y b.y && ((a.quarter_cycle == b.quarter_cycle) && (int_eq a.z b.z && (a.height == b.height))))))))))))
+
+-- two station messages of one number
+abbrev pub equal_stations : Message → Message → Bool
+equal_stations (Arp1005 a) (Arp1005 b) = equal_1005 a b
+equal_stations (Arp1006 a) (Arp1006 b) = equal_1006 a b
+equal_stations _ _ = false

@@ -1,0 +1,30 @@
+-- The keys of the cells of an epoch, and their order.
+use Rattle.std.specs.Prelude.{ℕ, ◌+◌, ◌*◌, ◌<◌, List, [], ◌∷◌}
+use Rattle.rtk_obs.specs.Code.{place_of}
+use Rattle.rtk_obs.specs.declared.code.Code.{Code}
+use Rattle.rtk_obs.specs.declared.cell.CellSource.{CellSource}
+use Rattle.rtk_obs.specs.declared.cell.CellSource.TheVariants.{Legacy, Msm}
+use Rattle.rtk_obs.specs.declared.cell.CellEntry.{CellEntry}
+
+-- a cell of a 1074 stands before one of a 1004 (this project's rule)
+abbrev pub rank_of : CellSource → ℕ
+rank_of Msm = 0
+rank_of Legacy = 1
+
+-- the key of a satellite, code and kind of message in an epoch, in this order of weight (this project's rule)
+unfoldable pub key_at : ℕ → Code → CellSource → ℕ
+key_at satellite code source = (satellite * 16 + place_of code) * 2 + rank_of source
+
+-- the key of a cell in its epoch
+unfoldable pub key : CellEntry → ℕ
+key c = (c.satellite * 16 + place_of c.code) * 2 + rank_of c.cell.source
+
+-- the first of the cells, if there is one, has a greater key
+abbrev pub Above : ℕ → List CellEntry → Type 0
+Above k [] = Unit {0}
+Above k (x ∷ xs) = k < key x
+
+-- the keys rise
+abbrev pub Rises : List CellEntry → Type 0
+Rises [] = Unit {0}
+Rises (x ∷ xs) = Above (key x) xs × Rises xs

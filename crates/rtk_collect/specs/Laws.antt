@@ -1,0 +1,99 @@
+-- Laws of late arrivals, kept cells and closed epochs.
+use Rattle.std.specs.Prelude.{◌≡◌, ◌↔◌, ◌⊎◌, ℕ, ◌≤◌, Bool, false, not, List, [], ◌∷◌, ◌++◌, length, None, Some, if◌then◌else◌}
+use Rattle.std.specs.Bool.{Decides}
+use Rattle.rtk_message.specs.declared.arp1005.Arp1005.{Arp1005 as Message1005}
+use Rattle.rtk_message.specs.declared.arp1006.Arp1006.{Arp1006 as Message1006}
+use Rattle.rtk_message.specs.declared.message.Message.{Message}
+use Rattle.rtk_message.specs.Decoded.{number_of}
+use Rattle.rtk_obs.specs.declared.cell.Cell.{Cell}
+use Rattle.rtk_obs.specs.declared.cell.CellEntry.{CellEntry}
+use Rattle.rtk_obs.specs.declared.code.Code.{Code}
+use Rattle.rtk_collect.specs.Key.{key, Rises}
+use Rattle.rtk_collect.specs.Search.{Falls}
+use Rattle.rtk_collect.specs.Equal.{equal_cells, equal_1005, equal_1006, equal_stations}
+use Rattle.rtk_collect.specs.EpochCells.{EpochCells, cell_of, first_cell}
+use Rattle.rtk_collect.specs.Slot.{is_first}
+use Rattle.rtk_collect.specs.Arrival.{Arrival, At}
+use Rattle.rtk_collect.specs.Late.{epochs, is_excused, late}
+use Rattle.rtk_collect.specs.Accepted.{station, kept, closed, IsTaken, AmongCells, IsTakenCell, IsConsistent}
+
+-- the arrivals without those that are late
+abbrev pub without_late : ℕ → List Arrival → List Arrival
+without_late n [] = []
+without_late n (a ∷ before) = if late n a before then without_late n before else a ∷ without_late n before
+
+-- none of the arrivals is late
+abbrev pub AreInTime : ℕ → List Arrival → Type 0
+AreInTime n [] = Unit {0}
+AreInTime n (a ∷ before) = (late n a before ≡ false) × AreInTime n before
+
+-- with all late arrivals deleted each further one is late or not as before, none that stays is late,
+-- the set of those that were not late is the same, and so is what is kept
+abbrev pub LateChangeNothing : Type 0
+LateChangeNothing = (n : ℕ) (arrivals : List Arrival) → ((a : Arrival) → late n a (without_late n arrivals) ≡ late n a arrivals)
+    × AreInTime n (without_late n arrivals)
+    × ((a : Arrival) → IsTaken n a (without_late n arrivals) ↔ IsTaken n a arrivals)
+    × (kept n (without_late n arrivals) ≡ kept n arrivals)
+    × ((k : ℕ) → station n k (without_late n arrivals) ≡ station n k arrivals)
+
+-- further arrivals leave the closed epochs with their cells as they are, and add others before them
+abbrev pub ClosedOnlyGrow : Type 0
+ClosedOnlyGrow = (n : ℕ) (later before : List Arrival) → (more : List EpochCells) × (closed n (later ++ before) ≡ more ++ closed n before)
+
+-- the closed epochs fall: each that closes is greater than those that were closed before
+abbrev pub ClosedFall : Type 0
+ClosedFall = (n : ℕ) (arrivals : List Arrival) → Falls (closed n arrivals)
+
+-- an epoch is closed only once n observation epochs have come
+abbrev pub ClosedAfter : Type 0
+ClosedAfter = (n : ℕ) (arrivals : List Arrival) → (closed n arrivals ≡ []) ⊎ (n ≤ length (epochs arrivals))
+
+-- a message equals the kept station message with its number
+abbrev pub is_kept : ℕ → Message → List Arrival → Bool
+is_kept n m before = is_first equal_stations (station n (number_of m) before) m
+
+-- a station message is excused exactly where it equals the kept one with its number
+abbrev pub ExcusedIsKept : Type 0
+ExcusedIsKept = (n : ℕ) (m : Message) (before : List Arrival) → is_excused n (At None m) before ≡ is_kept n m before
+
+-- once n observation epochs have come, a station message is late unless it equals the kept one, and the kept ones stay
+abbrev pub StationsAreFinal : Type 0
+StationsAreFinal = (n : ℕ) (before : List Arrival) → n ≤ length (epochs before)
+    → ((m : Message) → late n (At None m) before ≡ not (is_kept n m before)) × ((a : Arrival) (k : ℕ) → station n k (a ∷ before) ≡ station n k before)
+
+-- a kept cell of an epoch
+abbrev pub IsKept : ℕ → CellEntry → List EpochCells → Type 0
+IsKept e c [] = ⊥
+IsKept e c (x ∷ xs) = ((x.epoch ≡ e) × AmongCells c x.cells) ⊎ IsKept e c xs
+
+-- an epoch stands among these
+abbrev pub HasEpoch : ℕ → List EpochCells → Type 0
+HasEpoch e [] = ⊥
+HasEpoch e (x ∷ xs) = (x.epoch ≡ e) ⊎ HasEpoch e xs
+
+-- the kept epochs are those of the observations that were not late; each kept cell and station message came in one
+-- that was not late; and where the arrivals are consistent, each that came so is kept: no part of a split epoch is dropped
+abbrev pub KeptAreTaken : Type 0
+KeptAreTaken = (n : ℕ) (arrivals : List Arrival) →
+    ((e : ℕ) → HasEpoch e (kept n arrivals) ↔ ((m : Message) × IsTaken n (At (Some e) m) arrivals))
+    × ((e : ℕ) (c : CellEntry) → IsKept e c (kept n arrivals) → IsTakenCell n e c arrivals)
+    × ((m : Message) (k : ℕ) → station n k arrivals ≡ Some m → IsTaken n (At None m) arrivals × (number_of m ≡ k))
+    × (IsConsistent n arrivals → ((e : ℕ) (c : CellEntry) → IsTakenCell n e c arrivals → IsKept e c (kept n arrivals))
+    × ((m : Message) → IsTaken n (At None m) arrivals → station n (number_of m) arrivals ≡ Some m))
+
+-- what is kept of consistent arrivals depends on the set of those that were not late alone: not on their order or number
+abbrev pub SetDecides : Type 0
+SetDecides = (n : ℕ) (first second : List Arrival) → IsConsistent n first → IsConsistent n second → ((a : Arrival) → IsTaken n a first ↔ IsTaken n a second)
+    → (kept n first ≡ kept n second) × ((k : ℕ) → station n k first ≡ station n k second)
+
+-- two cells have one key exactly where satellite, code and kind of message are the same
+abbrev pub KeysAreDistinct : Type 0
+KeysAreDistinct = (c d : CellEntry) → (key c ≡ key d) ↔ ((c.satellite ≡ d.satellite) × (c.code ≡ d.code) × (c.cell.source ≡ d.cell.source))
+
+-- where keys rise, the first cell of a satellite and code is that of a 1074, if there is one, else that of a 1004
+abbrev pub FirstIsPreferred : Type 0
+FirstIsPreferred = (satellite : ℕ) (code : Code) (cells : List CellEntry) → Rises cells → first_cell satellite code cells ≡ cell_of satellite code cells
+
+-- bodies are equal exactly where they are the same
+abbrev pub EqualityDecides : Type 0
+EqualityDecides = ((a b : Cell) → Decides (equal_cells a b) (a ≡ b)) × ((a b : Message1005) → Decides (equal_1005 a b) (a ≡ b)) × ((a b : Message1006) → Decides (equal_1006 a b) (a ≡ b))

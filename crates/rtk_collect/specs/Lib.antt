@@ -1,0 +1,14 @@
+pub mod Key
+pub mod Equal
+pub mod EpochCells
+pub mod Arrival
+pub mod Late
+pub mod Accepted
+pub mod Search
+pub mod Answer
+pub mod Collector
+pub mod Position
+pub mod Offered
+pub mod Observed
+pub mod Slot
+pub mod Laws

@@ -1,0 +1,90 @@
+//! An epoch with its cells.
+
+ghost use Rattle.std.specs.Prelude.{◌≡◌, ◌<◌, ◌≤◌, [], length, IfOk, OnErr, All};
+ghost use Rattle.rtk_obs.specs.Cell.{IsInRange};
+ghost use Rattle.rtk_collect.specs.Key.{Rises};
+ghost use Rattle.rtk_collect.specs.EpochCells.{joined, fresh, conflicts};
+
+use crate::conflicts::Conflicts;
+use crate::merging::{count_fresh, merge};
+use rtk_obs::{CellEntry, GpsMs};
+use std::alloc::{AllocError, Global};
+use std::marker::Model;
+
+/// An epoch with its cells: one for each satellite, code and kind of message, at most 1,024.
+///
+/// They rise by satellite and code, a cell of a 1074 before one of a 1004. The satellites are 1 to
+/// 32; a strength is none, or 250 to 63,750 thousandths of a dB-Hz in steps of 250.
+#[derive(Drop)]
+pub struct EpochSet {
+    epoch: GpsMs,
+    cells: Vec<CellEntry>,
+}
+
+// Clauses see the epoch in ms and the list of cells.
+impl Model for EpochSet {
+    ghost use Rattle.std.specs.Prelude.{List, All};
+    ghost use Rattle.rtk_collect.specs.EpochCells.{EpochCells};
+    ghost use Rattle.rtk_collect.specs.Key.{Rises};
+    ghost use Rattle.rtk_obs.specs.Cell.{IsInRange};
+
+    ghost Value = { EpochCells };
+
+    ghost view = { λ s. record { epoch = s.epoch; cells = s.cells.items } };
+
+    ghost invariant = { λ s. Rises s.cells.items × All IsInRange s.cells.items };
+}
+
+/// How many cells of a message were new, and which conflict.
+#[derive(Drop)]
+pub(crate) struct Joined {
+    pub(crate) fresh: usize,
+    pub(crate) conflicts: Conflicts,
+}
+
+impl EpochSet {
+    /// An epoch without cells. It takes no memory.
+    pub(crate) fn new(alloc: Global, epoch: GpsMs) -> EpochSet
+        ensures { result ≡ record { epoch = epoch; cells = [] } }
+    {
+        EpochSet {
+            epoch,
+            cells: Vec::new(alloc),
+        }
+    }
+
+    /// The epoch.
+    pub fn epoch(&self) -> GpsMs
+        ensures { result ≡ self.now.epoch }
+    {
+        self.epoch
+    }
+
+    /// The cells.
+    pub fn cells(&self) -> &[CellEntry]
+        ensures value { result.now ≡ self.now.cells }
+        ensures rises { Rises result.now }
+        ensures range { All IsInRange result.now }
+        ensures few { length result.now ≤ 1024 }
+    {
+        &self.cells
+    }
+
+    /// Takes the cells whose keys are new. Only these take memory, before the first is added.
+    pub(crate) fn join(&mut self, cells: &[CellEntry]) -> Result<Joined, AllocError>
+        requires few { length cells.now ≤ 64 }
+        requires range { All IsInRange cells.now }
+        ensures set { IfOk result (λ j. self.new ≡ joined cells.now self.old) }
+        ensures fresh { IfOk result (λ j. j.fresh ≡ fresh cells.now self.old.cells) }
+        ensures conflicts { IfOk result (λ j. j.conflicts ≡ conflicts cells.now self.old.cells) }
+        ensures err { OnErr result (self.new ≡ self.old) }
+        ensures refused { OnErr result (0 < fresh cells.now self.old.cells) }
+    {
+        let fresh = count_fresh(cells, &self.cells);
+        if let Err(_) = self.cells.reserve(fresh) {
+            return Err(AllocError);
+        }
+        let conflicts = merge(&mut self.cells, cells);
+        Ok(Joined { fresh, conflicts })
+    }
+}

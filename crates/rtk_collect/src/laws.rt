@@ -1,0 +1,40 @@
+//! Laws over the definitions: what late arrivals, repeats and the order of arrivals change.
+
+ghost use Rattle.rtk_collect.specs.Laws.{LateChangeNothing, ClosedOnlyGrow, ClosedFall, ClosedAfter, FirstIsPreferred, ExcusedIsKept, StationsAreFinal, KeptAreTaken, SetDecides, KeysAreDistinct, EqualityDecides};
+
+/// With all late arrivals deleted each other one is late or not as before, and what is kept is the same.
+pub fn late_arrivals_change_nothing()
+    ensures { LateChangeNothing }
+{}
+
+/// Closed epochs only grow in number, each greater than those before, and none is closed before the window was full.
+pub fn closed_epochs_only_grow()
+    ensures grow { ClosedOnlyGrow }
+    ensures fall { ClosedFall }
+    ensures after { ClosedAfter }
+{}
+
+/// A station message that comes after the window was full is late, unless it equals the kept one
+/// with its number; the kept ones stay.
+pub fn stations_are_final()
+    ensures excused { ExcusedIsKept }
+    ensures late { StationsAreFinal }
+{}
+
+/// What is kept of consistent arrivals is what came in time, and depends on that set alone.
+pub fn set_decides()
+    ensures taken { KeptAreTaken }
+    ensures same { SetDecides }
+{}
+
+/// In the order of an epoch's cells the first of a satellite and code is that of a 1074, if there is
+/// one, else that of a 1004.
+pub fn first_is_preferred()
+    ensures { FirstIsPreferred }
+{}
+
+/// Keys are equal exactly where satellite, code and kind of message are, and bodies where all fields are.
+pub fn equality_decides()
+    ensures keys { KeysAreDistinct }
+    ensures bodies { EqualityDecides }
+{}

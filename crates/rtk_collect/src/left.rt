@@ -1,0 +1,60 @@
+//! What is left of a window at its end.
+
+ghost use Rattle.std.specs.Prelude.{◌≡◌, ◌<◌, [], ◌∷◌, ◌++◌, IfSome, IfNone, All};
+ghost use Rattle.rtk_collect.specs.Collector.{IsRemainder};
+ghost use Rattle.rtk_collect.specs.Offered.{NotBelow};
+ghost use Rattle.rtk_collect.specs.Position.{IsPosition};
+
+use crate::epoch_set::EpochSet;
+use crate::stations::{Stations, position};
+use rtk_obs::Position;
+use std::collections::VecDeque;
+use std::marker::Model;
+
+/// The epochs that a window had at its end, with the first 1005 and 1006.
+#[derive(Drop)]
+pub struct Left {
+    sets: VecDeque<EpochSet>,
+    stations: Stations,
+}
+
+// Clauses see the epochs that are left, from the greatest on, the 1005 and the 1006.
+impl Model for Left {
+    ghost use Rattle.rtk_collect.specs.Collector.{Remainder, IsRemainder};
+
+    ghost Value = { Remainder };
+
+    ghost view = { λ l. record { sets = l.sets.items; arp1005 = l.stations.arp1005; arp1006 = l.stations.arp1006 } };
+
+    ghost invariant = { λ l. IsRemainder (record { sets = l.sets.items; arp1005 = l.stations.arp1005; arp1006 = l.stations.arp1006 }) };
+}
+
+impl Left {
+    pub(crate) fn new(sets: VecDeque<EpochSet>, stations: Stations) -> Left
+        requires { IsRemainder (record { sets = sets.items; arp1005 = stations.arp1005; arp1006 = stations.arp1006 }) }
+        ensures { result ≡ record { sets = sets.items; arp1005 = stations.arp1005; arp1006 = stations.arp1006 } }
+    {
+        Left { sets, stations }
+    }
+
+    /// The least epoch that is left, with its kept cells. `None` exactly where none is left.
+    pub fn next_left(&mut self) -> Option<EpochSet>
+        ensures next { IfSome result (λ set. self.old.sets ≡ self.new.sets ++ set ∷ []) }
+        ensures least { IfSome result (λ set. All (λ x. set.epoch < x.epoch) self.new.sets) }
+        ensures not_below { IfSome result (λ set. NotBelow set self.old.sets) }
+        ensures none { IfNone result (self.old.sets ≡ []) }
+        ensures stays { IfNone result (self.new ≡ self.old) }
+        ensures arp1005 { self.new.arp1005 ≡ self.old.arp1005 }
+        ensures arp1006 { self.new.arp1006 ≡ self.old.arp1006 }
+    {
+        self.sets.pop_back()
+    }
+
+    /// The position of the first 1006, else of the first 1005, else zeros, with the height of the
+    /// 1006, else zero.
+    pub fn station(&self) -> Position
+        ensures { IsPosition self.now.arp1005 self.now.arp1006 result }
+    {
+        position(self.stations)
+    }
+}

@@ -1,0 +1,95 @@
+//! The first 1005 and 1006 of a station, and the position from them.
+
+ghost use Rattle.std.specs.Prelude.{◌≡◌};
+ghost use Rattle.std.specs.Option.{ForSome};
+ghost use Rattle.rtk_message.specs.Arp1005 as arp1005_spec;
+ghost use Rattle.rtk_message.specs.Arp1006 as arp1006_spec;
+ghost use Rattle.rtk_obs.specs.PositionFields.{HasFields};
+ghost use Rattle.rtk_collect.specs.Position.{IsPosition};
+ghost use Rattle.rtk_collect.specs.Slot.{SlotMeets};
+
+use crate::conflicts::Conflicts;
+use crate::offers::Offer;
+use rtk_message::{Arp1005, Arp1006};
+use rtk_obs::Position;
+
+/// The first 1005 and the first 1006.
+#[derive(Clone, Copy)]
+pub(crate) struct Stations {
+    pub(crate) arp1005: Option<Arp1005>,
+    pub(crate) arp1006: Option<Arp1006>,
+}
+
+/// Keeps the first station message of its number, if the window isn't full, and says what became of it.
+pub(crate) fn offer_station<T: PartialEq + Copy>(
+    slot: &mut Option<T>,
+    message: T,
+    full: bool,
+) -> Offer
+    ensures { SlotMeets T.eq slot.old message full result slot.new }
+{
+    if let Some(first) = *slot {
+        if first == message {
+            return Offer::Repeat;
+        }
+        if full {
+            return Offer::Late;
+        }
+        return Offer::Conflict {
+            conflicts: Conflicts::new(),
+        };
+    }
+    if full {
+        return Offer::Late;
+    }
+    *slot = Some(message);
+    Offer::Taken {
+        closed: None,
+        conflicts: Conflicts::new(),
+    }
+}
+
+/// The position of the 1006, else of the 1005, else zeros, with the height of the 1006, else zero.
+pub(crate) fn position(stations: Stations) -> Position
+    requires fits_1005 { ForSome stations.arp1005 arp1005_spec.IsValid }
+    requires fits_1006 { ForSome stations.arp1006 arp1006_spec.IsValid }
+    ensures { IsPosition stations.arp1005 stations.arp1006 result }
+{
+    if let Some(arp) = stations.arp1006 {
+        return position_of_1006(arp);
+    }
+    if let Some(arp) = stations.arp1005 {
+        return position_of_1005(arp);
+    }
+    Position {
+        x: 0,
+        y: 0,
+        z: 0,
+        height: 0,
+    }
+}
+
+// By value, so that the range of each field's type is known.
+fn position_of_1005(arp: Arp1005) -> Position
+    requires { arp1005_spec.IsValid arp }
+    ensures { HasFields arp.x arp.y arp.z 0 result }
+{
+    Position {
+        x: arp.x,
+        y: arp.y,
+        z: arp.z,
+        height: 0,
+    }
+}
+
+fn position_of_1006(arp: Arp1006) -> Position
+    requires { arp1006_spec.IsValid arp }
+    ensures { HasFields arp.x arp.y arp.z arp.height result }
+{
+    Position {
+        x: arp.x,
+        y: arp.y,
+        z: arp.z,
+        height: arp.height,
+    }
+}

@@ -1,0 +1,99 @@
+//! The epochs of a window, from the greatest to the least.
+
+ghost use Rattle.std.specs.Prelude.{◌≡◌, ◌≢◌, ◌<◌, ◌≤◌, ◌+◌, ◌++◌, [], not, min, IsTrue, length, IfOk, OnErr, OnOk, All, slice_index_or, slice_set, option_to_list};
+ghost use Rattle.std.specs.List.{insert};
+ghost use Rattle.rtk_obs.specs.Cell.{IsInRange};
+ghost use Rattle.rtk_collect.specs.EpochCells.{EpochCells, joined, fresh, conflicts};
+ghost use Rattle.rtk_collect.specs.Accepted.{no_cells};
+ghost use Rattle.rtk_collect.specs.Search.{leading, Falls};
+
+use crate::conflicts::Conflicts;
+use crate::epoch_set::{EpochSet, Joined};
+use rtk_obs::{CellEntry, GpsMs};
+use std::alloc::{AllocError, Global};
+use std::collections::VecDeque;
+
+/// How many epochs of the window are greater.
+pub(crate) fn place(sets: &VecDeque<EpochSet>, epoch: GpsMs) -> usize
+    requires { Falls sets.now.items }
+    ensures { result ≡ leading epoch sets.now.items }
+{
+    let mut low = 0;
+    let mut high = sets.len();
+    while low < high {
+        let middle = low + (high - low) / 2;
+        if sets[middle].epoch() > epoch {
+            low = middle + 1;
+        } else {
+            high = middle;
+        }
+    }
+    low
+}
+
+/// Whether the window has an epoch, from its place.
+pub(crate) fn has_epoch(sets: &VecDeque<EpochSet>, at: usize, epoch: GpsMs) -> bool
+    requires place { at ≡ leading epoch sets.now.items }
+    ensures found { IsTrue result → (at < length sets.now.items) × ((d : EpochCells) → (slice_index_or sets.now.items at d).epoch ≡ epoch) }
+    ensures absent { IsTrue (not result) → (at < length sets.now.items) → ((d : EpochCells) → (slice_index_or sets.now.items at d).epoch ≢ epoch) }
+{
+    at < sets.len() && sets[at].epoch() == epoch
+}
+
+/// Joins cells to the epoch at a place. On refusal nothing changes.
+pub(crate) fn join_at(
+    sets: &mut VecDeque<EpochSet>,
+    at: usize,
+    cells: &[CellEntry],
+) -> Result<Joined, AllocError>
+    requires within { at < length sets.old.items }
+    requires few { length cells.now ≤ 64 }
+    requires range { All IsInRange cells.now }
+    ensures items { (d : EpochCells) → IfOk result (λ _. sets.new.items ≡ slice_set sets.old.items at (joined cells.now (slice_index_or sets.old.items at d))) }
+    ensures fresh { (d : EpochCells) → IfOk result (λ j. j.fresh ≡ fresh cells.now (slice_index_or sets.old.items at d).cells) }
+    ensures conflicts { (d : EpochCells) → IfOk result (λ j. j.conflicts ≡ conflicts cells.now (slice_index_or sets.old.items at d).cells) }
+    ensures err { OnErr result (sets.new.items ≡ sets.old.items) }
+    ensures refused { (d : EpochCells) → OnErr result (0 < fresh cells.now (slice_index_or sets.old.items at d).cells) }
+{
+    let set = &mut sets[at];
+    set.join(cells)
+}
+
+/// Opens an epoch with cells at its place, and says which of them conflict with one another. All
+/// memory is taken before anything changes.
+pub(crate) fn open_at(
+    sets: &mut VecDeque<EpochSet>,
+    at: usize,
+    alloc: Global,
+    epoch: GpsMs,
+    cells: &[CellEntry],
+) -> Result<Conflicts, AllocError>
+    requires within { at ≤ length sets.old.items }
+    requires few { length cells.now ≤ 64 }
+    requires range { All IsInRange cells.now }
+    ensures items { OnOk result (sets.new.items ≡ insert sets.old.items at (joined cells.now (no_cells epoch))) }
+    ensures conflicts { IfOk result (λ found. found ≡ conflicts cells.now []) }
+    ensures err { OnErr result (sets.new.items ≡ sets.old.items) }
+{
+    let mut set = EpochSet::new(alloc, epoch);
+    let Ok(joined) = set.join(cells) else {
+        return Err(AllocError);
+    };
+    if let Err(_) = sets.insert(at, set) {
+        return Err(AllocError);
+    }
+    Ok(joined.conflicts)
+}
+
+/// Takes out the least epoch, where there are more than the window has places.
+pub(crate) fn close_least(sets: &mut VecDeque<EpochSet>, window: usize) -> Option<EpochSet>
+    requires { length sets.old.items ≤ window + 1 }
+    ensures items { sets.old.items ≡ sets.new.items ++ option_to_list result }
+    ensures few { length sets.new.items ≡ min window (length sets.old.items) }
+{
+    if sets.len() > window {
+        sets.pop_back()
+    } else {
+        None
+    }
+}
