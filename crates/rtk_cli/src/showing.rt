@@ -1,5 +1,5 @@
 //! The command `show`: a line for each frame of a capture.
-ghost use Rattle.std.specs.Prelude.{◌≡◌, ◌≢◌, ◌+◌, ◌≤◌, ◌++◌, ℕ, Some, [], length, IfOk, OnOk, IfErr, IsErrOf, IsNone, IsSome, IsSomeAnd};
+ghost use Rattle.std.specs.Prelude.{◌≡◌, ◌≢◌, ◌+◌, ◌≤◌, ◌++◌, ℕ, Some, Err, [], length, IfOk, OnOk, IfErr, IsErrOf, IsNone, IsSome, IsSomeAnd};
 ghost use Rattle.rtk_frame.specs.Frames.{frames};
 ghost use Rattle.rtk_frame.specs.Stream.{Rises, with_more, TakesPart};
 ghost use Rattle.rtk_cli.specs.Input.{GivesText, capture_of};
@@ -54,7 +54,7 @@ fn flush<W: Sink>(out: &mut W, lines: &mut Vec<u8>) -> Result<(), ToolFault>
 fn show_capture<W: Sink>(alloc: Global, capture: &[u8], out: &mut W) -> Result<u64, ToolFault>
     ensures shown { OnOk result (Shows capture.now (W.taken out.old) (W.taken out.new)) }
     ensures count { IfOk result (λ count. count ≡ length (frames capture.now)) }
-    ensures no_fault { OnOk result (W.failures out.new ≡ W.failures out.old) }
+    ensures no_fault { result ≢ Err Output → W.failures out.new ≡ W.failures out.old }
     ensures part { ShowsPart capture.now (W.taken out.old) (W.taken out.new) }
     ensures output { IsErrOf result Output → Rises (W.failures out.old) (W.failures out.new) }
     ensures else_memory { IfErr result (λ fault. fault ≢ Output → fault ≡ OutOfMemory) }
@@ -91,17 +91,17 @@ pub fn show<R: Source, W: Sink>(
     ensures shown { IfOk result (λ count. GivesText (R.given reader.old) (R.given reader.new) (λ text.
         (length text ≤ SHOW_LIMIT) × IsSomeAnd (capture_of hex text) (λ capture.
         Shows capture (W.taken out.old) (W.taken out.new) × (count ≡ length (frames capture))))) }
-    ensures no_failed_read { OnOk result (R.failures reader.new ≡ R.failures reader.old) }
-    ensures no_failed_write { OnOk result (W.failures out.new ≡ W.failures out.old) }
 
-    // Each fault only where its cause is.
+    // Each fault only where its cause is, and no call failed without its fault.
     ensures input { IsErrOf result Input → Rises (R.failures reader.old) (R.failures reader.new) }
+    ensures no_failed_read { result ≢ Err Input → R.failures reader.new ≡ R.failures reader.old }
     ensures too_long { IsErrOf result TooLong
         → GivesText (R.given reader.old) (R.given reader.new) (λ text. length text ≡ SHOW_LIMIT + 1) }
     ensures not_hex { IsErrOf result NotHex
         → GivesText (R.given reader.old) (R.given reader.new) (λ text.
         (length text ≤ SHOW_LIMIT) × IsNone (capture_of hex text)) }
     ensures output { IsErrOf result Output → Rises (W.failures out.old) (W.failures out.new) }
+    ensures no_failed_write { result ≢ Err Output → W.failures out.new ≡ W.failures out.old }
     ensures output_of_capture { IsErrOf result Output
         → GivesText (R.given reader.old) (R.given reader.new) (λ text.
         (length text ≤ SHOW_LIMIT) × IsSome (capture_of hex text)) }
