@@ -10,7 +10,7 @@ use Rattle.rtk_message.specs.declared.message.Message.{Message}
 use Rattle.rtk_message.specs.declared.message.Message.TheVariants.{Obs1004, Arp1005, Arp1006, Msm1074}
 use Rattle.rtk_message.specs.declared.fault.DecodeFault.{DecodeFault}
 use Rattle.rtk_message.specs.Fields.{Field, u, bits_of_fields, TakesAll}
-use Rattle.rtk_message.specs.Decoded.{number_of, fields_behind, table, IsValid, Encodes, first_fault, fault_behind}
+use Rattle.rtk_message.specs.Decoded.{number_of, fields_behind, table, IsValid, Encodes, Follows, first_fault, fault_behind}
 use Rattle.rtk_message.specs.Obs1004Laws as obs1004
 use Rattle.rtk_message.specs.Arp1005Laws as arp1005
 use Rattle.rtk_message.specs.Arp1006Laws as arp1006
@@ -32,10 +32,13 @@ begins_with bs k fs rest small e =
       behind = rw g (drop_at (bits_of 12 k) (bits_of_fields fs ++ rest) 12 len);
     }
 
--- fields taken behind a number
-pub encoded : {bs left after : List Bool} (n k : ℕ) (fs : List Field) → bs ≡ bits_of 12 n ++ left → n ≡ k → TakesAll fs left after → (rest : List Bool) × (bs ≡ bits_of_fields (u 12 k ∷ fs) ++ rest)
-encoded {after = after} n k fs number is taken =
-    (after, rw (← is) (number ∙ ap (λ (t : List Bool). bits_of 12 n ++ t) taken.is ∙ sym (append_assoc (bits_of 12 n) (bits_of_fields fs) after)))
+-- the bits behind a number, with the number
+pub message_of : (bs left : List Bool) (n k : ℕ) (r : Result Message DecodeFault) → bs ≡ bits_of 12 n ++ left → n ≡ k → IfOk r (λ m. Follows k left m) → IfOk r (λ m. Encodes bs m)
+message_of bs left n k (Ok m) is number f = record {
+  valid = f.valid;
+  begins = (f.begins.0, is ∙ rw (number, f.has_number, f.begins.1) (sym (append_assoc (bits_of 12 k) (bits_of_fields (fields_behind m)) f.begins.0)));
+}
+message_of bs left n k (Err e) is number f = tt
 
 number_fits : (m : Message) → number_of m < 2 ^ 12
 number_fits (Obs1004 m) = omega arith

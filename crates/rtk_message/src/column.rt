@@ -79,7 +79,10 @@ impl<T: Eq> Eq for Column<T> {
     ghost laws = { lists_equiv T.Eq.laws };
 }
 
-/// Reads so many fields of one width into an empty column, as many at once as 64 bits hold.
+/// The most bits that are taken at once: with the bits of the first byte that are taken already, at most 7, they lie in eight bytes.
+const AT_ONCE: usize = 57;
+
+/// Reads so many fields of one width into an empty column, as many at once as 57 bits hold.
 pub fn read_column<T: FieldValue>(
     column: &mut Column<T>,
     reader: &mut BitReader<'_>,
@@ -89,18 +92,40 @@ pub fn read_column<T: FieldValue>(
     requires empty { column.old ≡ [] }
     requires few { count ≤ 64 }
     requires width { T.IsWidth width }
-    requires some { (1 ≤ width) × (width ≤ 64) }
+    requires some { (1 ≤ width) × (width ≤ 57) }
     requires enough { width * count ≤ length reader.old }
     ensures fields { TakesAll (map (T.field width) column.new) reader.old reader.new }
     ensures count { length column.new ≡ count }
     ensures left { length reader.old ≡ width * count + length reader.new }
 {
-    let most = 64 / width;
-    while column.len() < count {
-        let fields = most.min(count - column.len());
-        let mut word = next_word(reader, fields * width);
-        push_fields(column, &mut word, fields, width);
+    let most = AT_ONCE / width;
+    while count - column.len() >= most {
+        read_fields(column, reader, most, width);
     }
+    let rest = count - column.len();
+    if rest > 0 {
+        read_fields(column, reader, rest, width);
+    }
+}
+
+// Reads so many fields at once to the end of a column: what began with the column's fields and then
+// the reader's bits still does.
+fn read_fields<T: FieldValue>(
+    column: &mut Column<T>,
+    reader: &mut BitReader<'_>,
+    fields: usize,
+    width: usize,
+)
+    requires room { length column.old + fields ≤ 64 }
+    requires width { T.IsWidth width }
+    requires some { (1 ≤ width) × (1 ≤ fields) × (fields * width ≤ 64) }
+    requires enough { fields * width ≤ length reader.old }
+    ensures fields { (from : List Bool) → TakesAll (map (T.field width) column.old) from reader.old → TakesAll (map (T.field width) column.new) from reader.new }
+    ensures count { length column.new ≡ length column.old + fields }
+    ensures left { length reader.old ≡ width * fields + length reader.new }
+{
+    let mut word = next_word(reader, fields * width);
+    push_fields(column, &mut word, fields, width);
 }
 
 // Moves so many fields from a word to the end of a column: what has begun with the column's fields

@@ -2,7 +2,7 @@
 ghost use Rattle.std.specs.Prelude.{◌≡◌, Some, Option, IfOk, IfErr};
 ghost use Rattle.rtk_bits.specs.Bits.{bits};
 ghost use Rattle.rtk_message.specs.declared.message.Message.{Message};
-ghost use Rattle.rtk_message.specs.Decoded.{Decodes, Encodes, first_fault};
+ghost use Rattle.rtk_message.specs.Decoded.{Decodes, Encodes, Follows, first_fault, fault_behind};
 
 use crate::arp1005::Arp1005;
 use crate::arp1006::Arp1006;
@@ -15,7 +15,8 @@ use rtk_bits::BitReader;
 
 /// The message that the payload begins with, or the first fault in the order of `DecodeFault`.
 ///
-/// Bits behind the last field are no part of the message. Nothing is allocated.
+/// Bits after the last field are no part of the message. Nothing is allocated.
+#[inline(never)]
 pub fn decode(payload: &[u8]) -> Result<Message, DecodeFault>
     ensures { Decodes (bits payload.now) result }
 {
@@ -24,6 +25,7 @@ pub fn decode(payload: &[u8]) -> Result<Message, DecodeFault>
 
 // Without the claim that a fault comes only where there is no message: that follows from the laws of
 // `Layout`.
+#[inline(never)]
 fn first_message(payload: &[u8]) -> Result<Message, DecodeFault>
     ensures message { IfOk result (λ m. Encodes (bits payload.now) m) }
     ensures fault { IfErr result (λ f. first_fault (bits payload.now) ≡ Some f) }
@@ -34,26 +36,53 @@ fn first_message(payload: &[u8]) -> Result<Message, DecodeFault>
     };
     let number = number as u16;
     match number {
-        Obs1004::NUMBER => {
-            let mut message = Obs1004::empty();
-            message.read(&mut reader)?;
-            Ok(Message::Obs1004(message))
-        }
-        Arp1005::NUMBER => {
-            let mut message = Arp1005::empty();
-            message.read(&mut reader)?;
-            Ok(Message::Arp1005(message))
-        }
-        Arp1006::NUMBER => {
-            let mut message = Arp1006::empty();
-            message.read(&mut reader)?;
-            Ok(Message::Arp1006(message))
-        }
-        Msm1074::NUMBER => {
-            let mut message = Msm1074::empty();
-            message.read(&mut reader)?;
-            Ok(Message::Msm1074(message))
-        }
+        Obs1004::NUMBER => read_1004(reader),
+        Arp1005::NUMBER => read_1005(reader),
+        Arp1006::NUMBER => read_1006(reader),
+        Msm1074::NUMBER => read_1074(reader),
         _ => Err(DecodeFault::Other { number }),
     }
+}
+
+// Each type has a function of its own. None of these functions is inlined: a function clears the room
+// of its locals when it is called, here that of one message, and a function that is not inlined writes
+// its result where its caller wants it, which saves moves of a thousand bytes.
+#[inline(never)]
+fn read_1004(mut reader: BitReader<'_>) -> Result<Message, DecodeFault>
+    ensures message { IfOk result (λ m. Follows 1004 reader.entry m) }
+    ensures fault { IfErr result (λ f. fault_behind 1004 reader.entry ≡ Some f) }
+{
+    let mut message = Obs1004::empty();
+    message.read(&mut reader)?;
+    Ok(Message::Obs1004(message))
+}
+
+#[inline(never)]
+fn read_1005(mut reader: BitReader<'_>) -> Result<Message, DecodeFault>
+    ensures message { IfOk result (λ m. Follows 1005 reader.entry m) }
+    ensures fault { IfErr result (λ f. fault_behind 1005 reader.entry ≡ Some f) }
+{
+    let mut message = Arp1005::empty();
+    message.read(&mut reader)?;
+    Ok(Message::Arp1005(message))
+}
+
+#[inline(never)]
+fn read_1006(mut reader: BitReader<'_>) -> Result<Message, DecodeFault>
+    ensures message { IfOk result (λ m. Follows 1006 reader.entry m) }
+    ensures fault { IfErr result (λ f. fault_behind 1006 reader.entry ≡ Some f) }
+{
+    let mut message = Arp1006::empty();
+    message.read(&mut reader)?;
+    Ok(Message::Arp1006(message))
+}
+
+#[inline(never)]
+fn read_1074(mut reader: BitReader<'_>) -> Result<Message, DecodeFault>
+    ensures message { IfOk result (λ m. Follows 1074 reader.entry m) }
+    ensures fault { IfErr result (λ f. fault_behind 1074 reader.entry ≡ Some f) }
+{
+    let mut message = Msm1074::empty();
+    message.read(&mut reader)?;
+    Ok(Message::Msm1074(message))
 }

@@ -123,19 +123,20 @@ fn next_header(reader: &mut BitReader<'_>) -> MsmHeader
     ensures fields { TakesAll (header_table result) reader.old reader.new }
     ensures left { length reader.old ≡ 157 + length reader.new }
 {
-    let mut before = next_word(reader, 61);
+    let mut first = next_word(reader, 46);
+    let mut second = next_word(reader, 15);
     let mut satellites = next_word(reader, 64);
     let mut signals = next_word(reader, 32);
     MsmHeader {
-        station: before.next_u16(12),
-        tow: before.next_u32(30),
-        multiple_message: before.next_flag(),
-        issue_of_data_station: before.next_u8(3),
-        reserved: before.next_u8(7),
-        clock_steering: before.next_u8(2),
-        external_clock: before.next_u8(2),
-        smoothing: before.next_flag(),
-        smoothing_interval: before.next_u8(3),
+        station: first.next_u16(12),
+        tow: first.next_u32(30),
+        multiple_message: first.next_flag(),
+        issue_of_data_station: first.next_u8(3),
+        reserved: second.next_u8(7),
+        clock_steering: second.next_u8(2),
+        external_clock: second.next_u8(2),
+        smoothing: second.next_flag(),
+        smoothing_interval: second.next_u8(3),
         satellite_mask: satellites.next_u64(64),
         signal_mask: signals.next_u32(32),
     }

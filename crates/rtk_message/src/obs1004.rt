@@ -121,15 +121,15 @@ fn next_satellite(reader: &mut BitReader<'_>) -> Satellite
     ensures fields { TakesAll (satellite_table result) reader.old reader.new }
     ensures left { length reader.old ≡ 125 + length reader.new }
 {
-    let mut first = next_word(reader, 58);
-    let mut second = next_word(reader, 32);
+    let mut first = next_word(reader, 51);
+    let mut second = next_word(reader, 39);
     let mut third = next_word(reader, 35);
     Satellite {
         satellite: first.next_u8(6),
         l1_code: first.next_flag(),
         l1_range: first.next_u32(24),
         l1_phase_difference: first.next_i32(20),
-        l1_lock_indicator: first.next_u8(7),
+        l1_lock_indicator: second.next_u8(7),
         modulus_ambiguity: second.next_u8(8),
         l1_cnr: second.next_u8(8),
         l2_code: second.next_u8(2),

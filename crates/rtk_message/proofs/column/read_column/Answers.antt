@@ -1,33 +1,50 @@
-use Rattle.std.proofs.Common.{◌≤◌, ◌-◌, ◌+◌, ◌*◌, arith}
-use Rattle.rtk_message.specs.FieldLaws.{took_rest}
-use Rattle.rtk_message.proofs.ColumnLemmas.{at_once, enough_left}
+use Rattle.std.proofs.Common.{◌≡◌, ◌≤◌, ◌-◌, ◌+◌, ◌*◌, ◌/◌, length, arith, rules}
+use Rattle.std.proofs.Math.Nat.{le_refl}
+use Rattle.rtk_message.proofs.ColumnLemmas.{at_once, some_at_once, room_left, fewer_left, rest_is, enough_left, left_after}
 use Rattle.rtk_message.proofs.column.read_column.Goals as goal
 
-pub next_word-word-requires-clause-width : goal.next_word-word-requires-clause-width
-next_word-word-requires-clause-width g c =
-    let wanted = c.args.count - c.len-in-loop-column.result in
-    let once = at_once c.args.width wanted c.requires.some.0 c.requires.some.1 (omega (arith, c.loop-column-test.true, c.len.ensures.value, c.len-in-loop-column.ensures.value)) in
-    rw c.min-fields.ensures (once.bits, once.most)
-
-pub next_word-word-requires-clause-enough : goal.next_word-word-requires-clause-enough
-next_word-word-requires-clause-enough g c =
-    let wanted = c.args.count - c.len-in-loop-column.result in
-    let some : 1 ≤ wanted = omega (arith, c.loop-column-test.true, c.len.ensures.value, c.len-in-loop-column.ensures.value) in
-    let once = at_once c.args.width wanted c.requires.some.0 c.requires.some.1 some in
-    let few : c.min-fields.result ≤ wanted = rw c.min-fields.ensures once.few in
-    enough_left c.args.width c.len-in-loop-column.result c.min-fields.result c.args.count _ _ (omega (arith, few, some)) c.requires.enough (rw c.len-in-loop-column.ensures.value c.loop-column.invariant.left)
+pub read_fields-requires : goal.read_fields-requires
+read_fields-requires g c =
+    let width = c.args.width in
+    let most = 57 / width in
+    let so_far = length c.loop-column.column in
+    let some = some_at_once width c.requires.some.0 c.requires.some.1 in
+    let bits : most * width ≤ 57 = at_once width most (le_refl most) in
+    let room : so_far + most ≤ c.args.count = room_left most c.len.result so_far c.args.count c.loop-column-test.true c.len.ensures.value c.loop-column.invariant.some in
+    let enough = enough_left width so_far most c.args.count _ _ room c.requires.enough c.loop-column.invariant.left in
+    (search rules, (omega (arith, room, c.requires.few), (c.requires.width, ((c.requires.some.0, some, omega (arith, bits)), enough))))
 
 pub loop-column-preserved : goal.loop-column-preserved
 loop-column-preserved g c =
     let before = c.loop-column.invariant in
-    let wanted = c.args.count - c.len-in-loop-column.result in
-    let some : 1 ≤ wanted = omega (arith, c.loop-column-test.true, c.len.ensures.value, c.len-in-loop-column.ensures.value) in
-    let once = at_once c.args.width wanted c.requires.some.0 c.requires.some.1 some in
-    let few : c.min-fields.result ≤ wanted = rw c.min-fields.ensures once.few in
-    let pushed = c.push_fields.ensures in
-    let word = c.next_word-word.ensures in
+    let so_far = length c.loop-column.column in
+    let read = c.read_fields.ensures in
+    let room : so_far + 57 / c.args.width ≤ c.args.count = room_left (57 / c.args.width) c.len.result so_far c.args.count c.loop-column-test.true c.len.ensures.value before.some in
     record {
-      fields = took_rest c.push_fields.new.word (pushed.fields c.args.reader.now c.next_word-word.new.reader (rw (← word.bits) before.fields)) (omega (arith, pushed.left, word.width));
-      left = rw pushed.count (omega (arith, before.left, word.left));
-      some = omega (arith, pushed.count, few, some, c.len-in-loop-column.ensures.value);
+      fields = read.fields c.args.reader.now before.fields;
+      left = left_after c.args.width so_far (57 / c.args.width) _ _ _ _ before.left read.left read.count;
+      some = rw read.count room;
     }
+
+pub read_fields-requires-then-rest-gt0 : goal.read_fields-requires-then-rest-gt0
+read_fields-requires-then-rest-gt0 g c =
+    let width = c.args.width in
+    let rest = c.args.count - c.len-2.result in
+    let so_far = length c.loop-column.column in
+    let before = c.loop-column.invariant in
+    let few : rest ≤ 57 / width = fewer_left (57 / width) c.len.result c.len-2.result so_far c.args.count c.loop-column-test.false c.len.ensures.value c.len-2.ensures.value in
+    let bits : rest * width ≤ 57 = at_once width rest few in
+    let all : c.args.count ≡ so_far + rest = rest_is c.len-2.result so_far c.args.count c.len-2.ensures.value before.some in
+    let room : so_far + rest ≤ c.args.count = omega (arith, all) in
+    let enough = enough_left width so_far rest c.args.count _ _ room c.requires.enough before.left in
+    (search rules, (omega (arith, room, c.requires.few), (c.requires.width, ((c.requires.some.0, c.if-rest-gt0.true, omega (arith, bits)), enough))))
+
+pub returns-then-rest-gt0-clause-fields : goal.returns-then-rest-gt0-clause-fields
+returns-then-rest-gt0-clause-fields g c = c.read_fields-then-rest-gt0.ensures.fields c.args.reader.now c.loop-column.invariant.fields
+
+pub returns-then-rest-gt0-clause-left : goal.returns-then-rest-gt0-clause-left
+returns-then-rest-gt0-clause-left g c =
+    let before = c.loop-column.invariant in
+    let so_far = length c.loop-column.column in
+    let all : c.args.count ≡ so_far + (c.args.count - c.len-2.result) = rest_is c.len-2.result so_far c.args.count c.len-2.ensures.value before.some in
+    left_after c.args.width so_far (c.args.count - c.len-2.result) c.args.count _ _ _ before.left c.read_fields-then-rest-gt0.ensures.left all

@@ -1,24 +1,18 @@
-use Rattle.rtk_message.specs.Decoded.{fields_behind}
-use Rattle.rtk_message.specs.declared.message.Message.TheVariants.{Obs1004, Arp1005, Arp1006, Msm1074}
-use Rattle.rtk_message.proofs.DecodedLemmas.{encoded}
+use Rattle.rtk_message.proofs.DecodedLemmas.{message_of}
 use Rattle.rtk_message.proofs.decoding.first_message.Goals as goal
 
-pub returns-in_ok-read-in-1004-clause-message : goal.returns-in_ok-read-in-1004-clause-message
-returns-in_ok-read-in-1004-clause-message c =
-    let read = c.in_ok-read-in-1004.ensures.fields in
-    rw (← c.new-reader.ensures) (record { valid = read.0; begins = encoded c.in-Some.number 1004 (fields_behind (Obs1004 c.read.new.self)) c.in-Some.ensures.field c.in-1004.is read.1 })
+pub returns-in-1004-clause-message : goal.returns-in-1004-clause-message
+returns-in-1004-clause-message c =
+    rw (← c.new-reader.ensures) (message_of c.new-reader.result c.take_u.new.self c.in-Some.number 1004 c.read_1004.result c.in-Some.ensures.field c.in-1004.is c.read_1004.ensures.message)
 
-pub returns-in_ok-read-in-1005-clause-message : goal.returns-in_ok-read-in-1005-clause-message
-returns-in_ok-read-in-1005-clause-message c =
-    let read = c.in_ok-read-in-1005.ensures.fields in
-    rw (← c.new-reader.ensures) (record { valid = read.0; begins = encoded c.in-Some.number 1005 (fields_behind (Arp1005 c.read-in-1005.new.self)) c.in-Some.ensures.field c.in-1005.is read.1 })
+pub returns-in-1005-clause-message : goal.returns-in-1005-clause-message
+returns-in-1005-clause-message c =
+    rw (← c.new-reader.ensures) (message_of c.new-reader.result c.take_u.new.self c.in-Some.number 1005 c.read_1005.result c.in-Some.ensures.field c.in-1005.is c.read_1005.ensures.message)
 
-pub returns-in_ok-read-in-1006-clause-message : goal.returns-in_ok-read-in-1006-clause-message
-returns-in_ok-read-in-1006-clause-message c =
-    let read = c.in_ok-read-in-1006.ensures.fields in
-    rw (← c.new-reader.ensures) (record { valid = read.0; begins = encoded c.in-Some.number 1006 (fields_behind (Arp1006 c.read-in-1006.new.self)) c.in-Some.ensures.field c.in-1006.is read.1 })
+pub returns-in-1006-clause-message : goal.returns-in-1006-clause-message
+returns-in-1006-clause-message c =
+    rw (← c.new-reader.ensures) (message_of c.new-reader.result c.take_u.new.self c.in-Some.number 1006 c.read_1006.result c.in-Some.ensures.field c.in-1006.is c.read_1006.ensures.message)
 
-pub returns-in_ok-read-in-1074-clause-message : goal.returns-in_ok-read-in-1074-clause-message
-returns-in_ok-read-in-1074-clause-message c =
-    let read = c.in_ok-read-in-1074.ensures.fields in
-    rw (← c.new-reader.ensures) (record { valid = read.0; begins = encoded c.in-Some.number 1074 (fields_behind (Msm1074 c.read-in-1074.new.self)) c.in-Some.ensures.field c.in-1074.is read.1 })
+pub returns-in-1074-clause-message : goal.returns-in-1074-clause-message
+returns-in-1074-clause-message c =
+    rw (← c.new-reader.ensures) (message_of c.new-reader.result c.take_u.new.self c.in-Some.number 1074 c.read_1074.result c.in-Some.ensures.field c.in-1074.is c.read_1074.ensures.message)

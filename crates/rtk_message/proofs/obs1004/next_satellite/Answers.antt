@@ -6,10 +6,10 @@ use Rattle.rtk_message.proofs.obs1004.next_satellite.Goals as goal
 
 pub returns-clause-fields : goal.returns-clause-fields
 returns-clause-fields c =
-    let first = took_word (took c.next_u8.ensures.taken (took c.next_flag.ensures.taken (took c.next_u32.ensures.taken (took c.next_i32.ensures.taken (took c.next_u8-2.ensures.taken took_none)))))
-    (omega (arith, c.next_word-first.ensures.width, c.next_u8.ensures.left, c.next_flag.ensures.left, c.next_u32.ensures.left, c.next_i32.ensures.left, c.next_u8-2.ensures.left)) c.next_word-first.ensures.bits in
-    let second = took_word (took c.next_u8-3.ensures.taken (took c.next_u8-4.ensures.taken (took c.next_u8-5.ensures.taken (took c.next_i16.ensures.taken took_none))))
-    (omega (arith, c.next_word-second.ensures.width, c.next_u8-3.ensures.left, c.next_u8-4.ensures.left, c.next_u8-5.ensures.left, c.next_i16.ensures.left)) c.next_word-second.ensures.bits in
+    let first = took_word (took c.next_u8.ensures.taken (took c.next_flag.ensures.taken (took c.next_u32.ensures.taken (took c.next_i32.ensures.taken took_none))))
+    (omega (arith, c.next_word-first.ensures.width, c.next_u8.ensures.left, c.next_flag.ensures.left, c.next_u32.ensures.left, c.next_i32.ensures.left)) c.next_word-first.ensures.bits in
+    let second = took_word (took c.next_u8-2.ensures.taken (took c.next_u8-3.ensures.taken (took c.next_u8-4.ensures.taken (took c.next_u8-5.ensures.taken (took c.next_i16.ensures.taken took_none)))))
+    (omega (arith, c.next_word-second.ensures.width, c.next_u8-2.ensures.left, c.next_u8-3.ensures.left, c.next_u8-4.ensures.left, c.next_u8-5.ensures.left, c.next_i16.ensures.left)) c.next_word-second.ensures.bits in
     let third = took_word (took c.next_i32-2.ensures.taken (took c.next_u8-6.ensures.taken (took c.next_u8-7.ensures.taken took_none)))
     (omega (arith, c.next_word-third.ensures.width, c.next_i32-2.ensures.left, c.next_u8-6.ensures.left, c.next_u8-7.ensures.left)) c.next_word-third.ensures.bits in
     let all = took_both first (took_both second third) in
