@@ -1,6 +1,6 @@
 -- The record of an epoch is that of an epoch of a well-formed table.
-use Rattle.std.proofs.Common.{◌≡◌, ◌≢◌, ℕ, ◌+◌, ◌<◌, ◌≤◌, List, [], ◌∷◌, ◌++◌, length, map, Bool, true, false, ◌&&◌, ◌||◌, if◌then◌else◌, ℤ, Option, Some, None, arith, refl, sym, ◌∙◌, ap, get_or}
-use Rattle.std.specs.Prelude.{All, AllPairs, IsTrue, is_some, nat_lt}
+use Rattle.std.proofs.Common.{◌≡◌, ℕ, ◌<◌, List, [], ◌∷◌, ◌++◌, length, map, Bool, true, false, ◌&&◌, if◌then◌else◌, ℤ, Option, Some, None, arith, refl, sym, ◌∙◌, ap}
+use Rattle.std.specs.Prelude.{All, AllPairs, IsTrue, nat_lt}
 use Rattle.std.specs.List.{flat_map, filter, list_any}
 use Rattle.std.proofs.lemmas.List.{length-map, get_or-map, nil_from_length}
 use Rattle.std.proofs.lemmas.List.Elements.{All-nil, All-cons, All-head, All-tail}
@@ -9,10 +9,10 @@ use Rattle.std.proofs.lemmas.Bool.Decides.{nat_tests}
 use Rattle.rtk_obs.specs.declared.time.Civil.{Civil}
 use Rattle.rtk_rinex.specs.declared.epoch_table.Observed.{Observed}
 use Rattle.rtk_rinex.specs.declared.epoch_table.SatelliteRow.{SatelliteRow}
-use Rattle.rtk_rinex.specs.Reading.{IsMoment, reading_of}
-use Rattle.rtk_rinex.specs.Header.{Heading, Site, IsHeading, IsSite, header_text}
+use Rattle.rtk_rinex.specs.Reading.{reading_of}
+use Rattle.rtk_rinex.specs.Header.{header_text}
 use Rattle.rtk_rinex.specs.Record.{Epoch, IsEpoch, IsRow, IsStrength, HasWidth, is_written, is_value, observation, lli_digit, observations, has_observation, has_line, satellite_line, lines_of, record_text}
-use Rattle.rtk_rinex.specs.Table.{IsValue, IsLock, IsObserved, IsTableRow, IsTableEpoch, shown_value, shown, shown_row, shown_epoch, IsShownByRecord, StartsAt, IsTable, with_record, shown_table, IsShownByFile, FilesAreTables}
+use Rattle.rtk_rinex.specs.Table.{IsValue, IsLock, IsObserved, IsTableRow, IsTableEpoch, shown_value, shown, shown_row, shown_epoch, IsShownByRecord, StartsAt, with_record, FilesAreTables}
 
 -- a value: by whether it is written
 value_if : (v : ℤ) (a b : ℕ) (c : Bool) → is_written v ≡ c → observation (if c then Some v else None) a b ≡ observation (Some v) a b

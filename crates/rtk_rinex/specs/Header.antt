@@ -1,6 +1,6 @@
 -- The header of an observation file (RINEX 3.05, Table A2); the order of the lines and their fixed
 -- entries are this project's.
-use Rattle.std.specs.Prelude.{◌≡◌, ◌≢◌, ◌≤◌, ◌<◌, ℕ, ◌-◌, ◌*◌, ◌%◌, List, [], ◌∷◌, ◌==◌, if◌then◌else◌, ◌++◌, take, drop, length, flat_map, codes, decimal, ℤ, pos, false, All, AllPairs, slice_get, Some}
+use Rattle.std.specs.Prelude.{◌≡◌, ◌≢◌, ◌<◌, ℕ, ◌-◌, ◌*◌, ◌%◌, List, [], ◌∷◌, ◌==◌, if◌then◌else◌, ◌++◌, take, drop, length, flat_map, codes, decimal, ℤ, pos, false, All, AllPairs, slice_get, Some}
 use Rattle.std.specs.Int.{IsInRange}
 use Rattle.rtk_obs.specs.declared.code.Code.{Code}
 use Rattle.rtk_obs.specs.Code.{name_of}
