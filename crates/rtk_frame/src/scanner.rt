@@ -37,7 +37,7 @@ impl Model for Scanner {
 }
 
 /// What `feed` took of the piece, and what it found there.
-#[derive(Clone, Copy)]
+#[derive(Clone, Copy, Debug)]
 pub struct Fed<'a> {
     /// How many bytes of the piece were used. After `Found` the next call is fed the others.
     pub used: usize,
@@ -46,7 +46,7 @@ pub struct Fed<'a> {
 }
 
 /// What `feed` found.
-#[derive(Clone, Copy)]
+#[derive(Clone, Copy, Debug)]
 pub enum Answer<'a> {
     /// The next frame, by its payload.
     Found(&'a [u8]),
@@ -152,10 +152,10 @@ fn advance(ring: &mut HeapCircularBuffer<u8>, piece: &[u8]) -> (usize, Option<us
             Front::Whole(payload) => return (used, Some(payload)),
             Front::Other => {
                 ring.pop_front();
-                pass_junk(ring);
+                pass_to_preamble(ring);
             }
             Front::Partial(wanted) => {
-                used += junk_of_piece(ring, &piece[used..]);
+                used += bytes_to_pass(ring, &piece[used..]);
                 if used == piece.len() {
                     return (used, None);
                 }
@@ -187,19 +187,19 @@ fn advance_ended(ring: &mut HeapCircularBuffer<u8>) -> Option<usize>
 }
 
 /// Passes the bytes at the front of the ring that are no preamble.
-fn pass_junk(ring: &mut HeapCircularBuffer<u8>)
+fn pass_to_preamble(ring: &mut HeapCircularBuffer<u8>)
     requires { (ring.old.capacity ≡ 1029) × (length ring.old.items ≤ 1029) }
     ensures capacity { ring.new.capacity ≡ 1029 }
     ensures shorter { length ring.new.items ≤ length ring.old.items }
     ensures scanned { (text : List ℕ) → Scanned text ring.old.items → Scanned text ring.new.items }
 {
-    let junk = before_preamble(ring.make_contiguous());
-    let rest = ring.len() - junk;
+    let count = before_preamble(ring.make_contiguous());
+    let rest = ring.len() - count;
     ring.truncate_front(rest);
 }
 
 /// How many bytes of the piece need not enter the ring, since it is empty and they are no preamble.
-fn junk_of_piece(ring: &HeapCircularBuffer<u8>, piece: &[u8]) -> usize
+fn bytes_to_pass(ring: &HeapCircularBuffer<u8>, piece: &[u8]) -> usize
     ensures within { result ≤ length piece.now }
     ensures scanned { (text : List ℕ) → Scanned text ring.now.items
         → Scanned (text ++ take result piece.now) ring.now.items }

@@ -3,17 +3,17 @@ use Rattle.std.specs.List.{refill}
 use Rattle.circular_buffer.specs.Buffer.{Buffer, buffer, keep_last}
 use Rattle.rtk_frame.specs.Scanning.{Scanned}
 use Rattle.rtk_frame.proofs.Passing.{scanned_over}
-use Rattle.rtk_frame.proofs.scanner.pass_junk.Goals as goal
+use Rattle.rtk_frame.proofs.scanner.pass_to_preamble.Goals as goal
 
 pub returns-clause-scanned : goal.returns-clause-scanned
 returns-clause-scanned c = λ text h.
     let all : List ℕ = c.args.ring.now.items in
-    let junk : ℕ = c.before_preamble-junk.result in
+    let front : ℕ = c.before_preamble-count.result in
     let same = c.make_contiguous.ensures.value in
     let back : refill (length all) all c.make_contiguous.result.now ≡ all = c.make_contiguous.ensures.same_len c.make_contiguous.result.now (ap length same) ∙ same in
-    let e : c.truncate_front.new.self ≡ buffer (keep_last (c.len.result - junk) all) c.args.ring.now.capacity = rw back at c.truncate_front.ensures in
+    let e : c.truncate_front.new.self ≡ buffer (keep_last (c.len.result - front) all) c.args.ring.now.capacity = rw back at c.truncate_front.ensures in
     let l : c.len.result ≡ length all = rw back at c.len.ensures.len in
-    let w : junk ≤ length all = omega (arith, c.before_preamble-junk.ensures.within, ap length same) in
-    let n : length all - (c.len.result - junk) ≡ junk = omega arith in
-    let items : c.truncate_front.new.self.items ≡ drop junk all = ap (λ b. b.items) e ∙ ap (λ (k : ℕ). drop k all) n in
-    subst (λ (z : List ℕ). Scanned text z) (sym items) (scanned_over text all junk w (rw same at c.before_preamble-junk.ensures.none) h)
+    let w : front ≤ length all = omega (arith, c.before_preamble-count.ensures.within, ap length same) in
+    let n : length all - (c.len.result - front) ≡ front = omega arith in
+    let items : c.truncate_front.new.self.items ≡ drop front all = ap (λ b. b.items) e ∙ ap (λ (k : ℕ). drop k all) n in
+    subst (λ (z : List ℕ). Scanned text z) (sym items) (scanned_over text all front w (rw same at c.before_preamble-count.ensures.none) h)

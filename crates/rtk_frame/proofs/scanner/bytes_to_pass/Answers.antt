@@ -2,7 +2,7 @@ use Rattle.std.proofs.Common.{◌≡◌, ◌≤◌, ◌+◌, ◌++◌, ℕ, List
 use Rattle.std.proofs.lemmas.Bool.Decides.{nat_tests}
 use Rattle.rtk_frame.specs.Scanning.{Scanned}
 use Rattle.rtk_frame.proofs.Passing.{scanned_skip, scanned_none}
-use Rattle.rtk_frame.proofs.scanner.junk_of_piece.Goals as goal
+use Rattle.rtk_frame.proofs.scanner.bytes_to_pass.Goals as goal
 
 pub returns-then-is_empty-clause-scanned : goal.returns-then-is_empty-clause-scanned
 returns-then-is_empty-clause-scanned c = λ text h.
