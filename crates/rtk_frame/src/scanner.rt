@@ -193,8 +193,8 @@ fn pass_to_preamble(ring: &mut HeapCircularBuffer<u8>)
     ensures shorter { length ring.new.items ≤ length ring.old.items }
     ensures scanned { (text : List ℕ) → Scanned text ring.old.items → Scanned text ring.new.items }
 {
-    let count = before_preamble(ring.make_contiguous());
-    let rest = ring.len() - count;
+    let passed = before_preamble(ring.make_contiguous());
+    let rest = ring.len() - passed;
     ring.truncate_front(rest);
 }
 
