@@ -41,7 +41,7 @@ flip_pad [] k xs = flip_none k xs
 flip_pad (b ∷ a) k [] = refl
 flip_pad (b ∷ a) k (x ∷ xs) = ap (λ z. cond b (not x) x ∷ z) (flip_pad a k xs)
 
-flip_zero : (y : Bool) → cond y (not false) false ≡ y
+pub flip_zero : (y : Bool) → cond y (not false) false ≡ y
 flip_zero true = refl
 flip_zero false = refl
 
