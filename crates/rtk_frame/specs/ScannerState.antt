@@ -1,5 +1,5 @@
 -- A scanner as its contracts see it.
-use Rattle.std.specs.Prelude.{◌≡◌, ℕ, Bool, List, refl}
+use Rattle.std.specs.Prelude.{ℕ, Bool, List, refl}
 use Rattle.std.specs.Coded.{Coded, code_by, coded×, coded_list, coded_ℕ, coded_bool}
 
 -- the bytes that wait for more, and whether the stream has ended

@@ -1,5 +1,5 @@
 -- `all_bytes` shares what `all_bytes_mut` lends, for as long as the ring was lent: the slice ends at the bytes that it shows, and so the ring as it was.
-use mathlib.Core.Path.{◌≡◌, refl, sym, ap, ◌∙◌}
+use mathlib.Core.Path.{◌≡◌, refl, ap}
 use mathlib.Core.List.{List, [], ◌∷◌}
 use mathlib.Core.Option.{none}
 use Prim.Native.Nat.{ℕ, ◌*◌, ◌^◌}
@@ -9,7 +9,7 @@ use mir.Val.{Val}
 use base.Logic.{id⊢, ent, emp}
 use seplogic.Ra.Ura.{Ura}
 use types.Logic.{Logic, sem}
-use base.Fml.{GName, Share, ftrue, fsep, flft, fres}
+use base.Fml.{ftrue, flft, fres}
 use types.Kit.{‵, raw, ◌⊛◌, some, later, ◌$◌, ◌∵◌, !, qed, by, done, move, keep, drop, use0, use1, use2, split, join, fsplit, fjoin, fpack, feq_l, feq_i, flt_l, flt_i, pick, await, rewrite}
 use types.Run.{enter, addr, stop, fld, hop, from, no_more, and_then, returns}
 use types.Part.{whole, sub, agg}
@@ -22,11 +22,11 @@ use denote.Exit.{no}
 use denote.Array.{Array}
 use denote.Follow.{follows, such_by, follows_by}
 use denote.FollowSlice.{followed_slice}
-use denote.Slice.{MutSlice, ShrSlice, mut_slice_vals, slice_val, finally, heres}
+use denote.Slice.{MutSlice, slice_val, finally}
 use denote.Ref.{Bor, MutBor, mut_vals, mut_Tells}
 use denote.Signature.{plain, mut_ref_to}
 use denote.Steps.{nothing, heard, only}
-use denote.Shares.{Shares, Shares-less}
+use denote.Shares.{Shares-less}
 use denote.Param.Shared.{copy_shared, Sharable}
 use denote.Struct.Field.{u8-field}
 use denote.Struct.Laws.{u8-copy}
@@ -39,7 +39,7 @@ use borrow.Rule.Slice.Handed.{sl_Share}
 use borrow.Table.Owned as owned
 use Rattle.std.proofs.raw_atomic.Walks.{proved, leaves}
 use Rattle.circular_buffer.specs.Buffer.{Buffer}
-use Rattle.rtk_frame.specs.Ring.{ring_row, with_bytes, EndsAs, LendsBytes}
+use Rattle.rtk_frame.specs.Ring.{ring_row, with_bytes, EndsAs}
 use Rattle.rtk_frame.specs.contracts.lending.all_bytes as f
 use Rattle.rtk_frame.proofs.lending.all_bytes.Statement.{statement}
 use Rattle.rtk_frame.proofs.lending.all_bytes.Code as code

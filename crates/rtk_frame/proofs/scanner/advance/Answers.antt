@@ -1,8 +1,6 @@
-use Rattle.std.proofs.Common.{◌≡◌, ℕ, ◌<◌, ◌≤◌, ◌+◌, ◌-◌, ◌++◌, List, length, take, drop, true, false, arith, sym, ◌∙◌, ap, subst, min, append_assoc, length-take, length-drop, length-append}
-use Rattle.std.proofs.Math.Seq.{take-add}
+use Rattle.std.proofs.Common.{◌≡◌, ℕ, ◌≤◌, ◌+◌, ◌-◌, ◌++◌, List, length, take, drop, arith, sym, ◌∙◌, ap, subst, length-take, length-drop, length-append}
 use Rattle.std.proofs.lemmas.List.{take_all}
 use Rattle.std.specs.List.{refill}
-use Rattle.rtk_frame.specs.Frame.{begins_frame, begins_partial}
 use Rattle.rtk_frame.specs.Scanning.{Scanned}
 use Rattle.rtk_frame.proofs.Passing.{scanned_next, scanned_front, scanned_fill}
 use Rattle.rtk_frame.proofs.scanner.advance.Goals as goal

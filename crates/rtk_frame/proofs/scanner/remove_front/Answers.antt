@@ -1,5 +1,5 @@
-use Rattle.std.proofs.Common.{◌≡◌, ◌+◌, ◌-◌, ℕ, List, length, drop, ap, ◌∙◌, arith}
-use Rattle.circular_buffer.specs.Buffer.{Buffer, buffer, keep_last}
+use Rattle.std.proofs.Common.{◌≡◌, ◌-◌, ℕ, length, drop, ap, ◌∙◌, arith}
+use Rattle.circular_buffer.specs.Buffer.{buffer}
 use Rattle.rtk_frame.proofs.scanner.remove_front.Goals as goal
 
 pub returns-else-rest-eq0 : goal.returns-else-rest-eq0

@@ -1,6 +1,4 @@
-use Rattle.std.proofs.Common.{◌≡◌, ℕ, ◌+◌, ◌≤◌, List, length, take, drop, arith, ap, ◌∙◌, sym, subst}
-use Rattle.rtk_frame.specs.Frame.{IsFrameAt}
-use Rattle.rtk_frame.specs.Scanning.{IsFront}
+use Rattle.std.proofs.Common.{◌≡◌, ℕ, ◌+◌, List, length, arith, ap}
 use Rattle.rtk_frame.proofs.NextFrame.{rest_of, none_before_preamble, none_next, none_at_front, frame_within, payload_at, length_payload_at, no_frame, none_before}
 use Rattle.rtk_frame.proofs.search.next_frame.Goals as goal
 

@@ -1,10 +1,7 @@
-use Rattle.std.proofs.Common.{◌≡◌, ◌≤◌, ◌+◌, ℕ, List, ◌++◌, length, take, drop, arith, length-append, length-take, length-drop, ◌-◌, refl, sym, ◌∙◌, ap, subst, true}
+use Rattle.std.proofs.Common.{◌≡◌, ◌≤◌, ◌+◌, ℕ, List, ◌++◌, length, take, drop, arith, length-append, length-take, length-drop, ◌-◌, refl, sym, ◌∙◌, ap}
 use Rattle.std.proofs.lemmas.List.{take_all}
-use Rattle.rtk_frame.specs.Frames.{final_frames, pending}
-use Rattle.rtk_frame.specs.Frame.{payload_of, payload_length, begins_frame}
-use Rattle.rtk_frame.specs.ScannerState.{Scan, scan}
-use Rattle.rtk_frame.specs.Scanning.{Scanned}
-use Rattle.rtk_frame.specs.Frames.{IsFirst}
+use Rattle.rtk_frame.specs.Frame.{payload_of, payload_length}
+use Rattle.rtk_frame.specs.ScannerState.{Scan}
 use Rattle.rtk_frame.proofs.Fronts.{frame_is_whole}
 use Rattle.rtk_frame.proofs.Passing.{scanned_waits, scanned_found, scanned_length}
 use Rattle.rtk_frame.proofs.scanner.Scanner.feed.Goals as goal

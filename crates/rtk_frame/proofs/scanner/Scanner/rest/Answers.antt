@@ -1,9 +1,6 @@
-use Rattle.std.proofs.Common.{◌≡◌, ◌≤◌, ◌+◌, ◌-◌, ℕ, List, [], ◌++◌, length, take, drop, arith, length-drop, refl, sym, ◌∙◌, ap, subst, true}
-use Rattle.rtk_frame.specs.Frames.{frames}
-use Rattle.rtk_frame.specs.Frame.{payload_of, payload_length, begins_frame}
-use Rattle.rtk_frame.specs.ScannerState.{Scan, scan}
-use Rattle.rtk_frame.specs.Scanning.{Searched}
-use Rattle.rtk_frame.specs.Frames.{IsFirst}
+use Rattle.std.proofs.Common.{◌≡◌, ◌≤◌, ◌+◌, ◌-◌, ℕ, List, length, take, drop, arith, length-drop, refl, sym, ◌∙◌, ap}
+use Rattle.rtk_frame.specs.Frame.{payload_of, payload_length}
+use Rattle.rtk_frame.specs.ScannerState.{Scan}
 use Rattle.rtk_frame.proofs.Fronts.{frame_is_whole}
 use Rattle.rtk_frame.proofs.Passing.{searched_all, searched_found, searched_length}
 use Rattle.rtk_frame.proofs.scanner.Scanner.rest.Goals as goal
