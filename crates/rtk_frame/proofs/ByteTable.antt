@@ -1,8 +1,7 @@
 -- The table holds what its words say, by a test of each entry.
-use Rattle.std.proofs.Common.{◌≡◌, ℕ, zero, suc, ◌+◌, ◌<◌, ◌*◌, Bool, true, false, not, cond, List, [], ◌∷◌, ◌++◌, length, get_or, refl, sym, ◌∙◌, ap, arith, ◌&&◌}
-use Rattle.std.proofs.lemmas.Bool.Decides.{nat_tests}
+use Rattle.std.proofs.Common.{◌≡◌, ℕ, zero, suc, ◌+◌, ◌<◌, Bool, true, false, not, cond, List, [], ◌∷◌, ◌++◌, length, get_or, refl, ◌∙◌, ap, arith, ◌&&◌}
 use Rattle.rtk_bits.specs.Bits.{bits_of}
-use Rattle.rtk_frame.specs.Checksum.{zeros, flip, generator, divide}
+use Rattle.rtk_frame.specs.Checksum.{zeros, divide}
 use Rattle.rtk_frame.specs.declared.checksum_tables.TheConstants.{TABLE0 as TABLE}
 use Rattle.rtk_frame.proofs.Division.{IsEntry}
 

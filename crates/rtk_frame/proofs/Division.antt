@@ -1,5 +1,5 @@
 -- The division of bits is linear.
-use Rattle.std.proofs.Common.{◌≡◌, ℕ, zero, suc, ◌+◌, ◌*◌, ◌/◌, ◌%◌, ◌^◌, ◌-◌, ◌<◌, ◌≤◌, Bool, true, false, not, cond, List, [], ◌∷◌, ◌++◌, length, refl, sym, ◌∙◌, ap, subst, arith, append_assoc, length-append, ◌==◌, ◌&&◌}
+use Rattle.std.proofs.Common.{◌≡◌, ℕ, zero, suc, ◌+◌, ◌*◌, ◌/◌, ◌%◌, ◌^◌, ◌-◌, ◌<◌, ◌≤◌, Bool, true, false, not, cond, List, [], ◌∷◌, ◌++◌, length, refl, sym, ◌∙◌, ap, arith, length-append, ◌==◌}
 use Rattle.std.specs.Prelude.{bit_xor}
 use Rattle.std.specs.Int.{bit_at}
 use Rattle.std.proofs.lemmas.Nat.Bits.{bit_at_xor, bit_at-lt, bit_at_cat_high}
@@ -41,7 +41,7 @@ flip_pad [] k xs = flip_none k xs
 flip_pad (b ∷ a) k [] = refl
 flip_pad (b ∷ a) k (x ∷ xs) = ap (λ z. cond b (not x) x ∷ z) (flip_pad a k xs)
 
-flip_zero : (y : Bool) → cond y (not false) false ≡ y
+pub flip_zero : (y : Bool) → cond y (not false) false ≡ y
 flip_zero true = refl
 flip_zero false = refl
 

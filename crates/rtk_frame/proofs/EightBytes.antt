@@ -1,14 +1,13 @@
 -- The checksum eight bytes at a time.
 use Rattle.std.proofs.Common.{◌≡◌, ℕ, zero, suc, ◌+◌, ◌-◌, ◌*◌, ◌/◌, ◌%◌, ◌^◌, ◌<◌, ◌≤◌, Bool, true, false, not, cond, List, [], ◌∷◌, ◌++◌, length, get_or, drop, refl, sym, ◌∙◌, ap, subst, nat_lt, lit<, arith, append_assoc, length-append, ◌==◌, ◌&&◌}
 use Rattle.std.specs.Prelude.{bit_xor}
-use Rattle.std.proofs.lemmas.Nat.{xor_of_8, xor_comm}
-use Rattle.std.specs.Int.Bits.{xor_zero_r}
+use Rattle.std.proofs.lemmas.Nat.{xor_of_8}
 use Rattle.std.proofs.lemmas.Bool.Decides.{nat_tests}
-use Rattle.rtk_bits.specs.Bits.{bits_of, bits, unsigned}
+use Rattle.rtk_bits.specs.Bits.{bits_of, bits}
 use Rattle.rtk_bits.proofs.BitsLemmas.{length-bits_of}
 use Rattle.rtk_frame.specs.Checksum.{zeros, flip, generator, divide, remainder}
 use Rattle.rtk_frame.specs.declared.checksum_tables.TheConstants.{TABLE0, TABLE1, TABLE2, TABLE3, TABLE4, TABLE5, TABLE6, TABLE7}
-use Rattle.rtk_frame.proofs.Division.{length_zeros, length_flip, flip_flip, flip_bits, flip_halves, flip_none, flip_onto, flip_pad, bits_cat, divide_add, divide_flip, byte_step, IsEntry}
+use Rattle.rtk_frame.proofs.Division.{length_zeros, length_flip, flip_flip, flip_bits, flip_halves, flip_none, flip_onto, bits_cat, divide_add, byte_step}
 use Rattle.rtk_frame.proofs.ByteTable.{table_entry}
 use Rattle.rtk_frame.proofs.Remainder.{next}
 

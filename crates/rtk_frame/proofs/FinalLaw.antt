@@ -1,10 +1,10 @@
 -- The final frames and the pending bytes of a text are the only ones that have the stated properties.
-use Rattle.std.proofs.Common.{◌≡◌, ◌⊎◌, inl, inr, ℕ, zero, suc, ◌+◌, ◌-◌, ◌<◌, ◌≤◌, Bool, true, false, List, [], ◌∷◌, length, drop, refl, sym, ◌∙◌, ap, subst, arith, length-take, length-drop}
+use Rattle.std.proofs.Common.{◌≡◌, ◌⊎◌, inl, inr, ℕ, zero, suc, ◌+◌, ◌<◌, ◌≤◌, Bool, true, false, List, [], ◌∷◌, length, drop, refl, sym, ◌∙◌, ap, subst, arith, length-take, length-drop}
 use Rattle.std.proofs.Math.ListN.{drop_of_length-le}
 use Rattle.std.proofs.Math.Nat.{eq-or-lt_of_le}
 use Rattle.std.proofs.lemmas.Bool.{cases_order}
 use Rattle.std.proofs.lemmas.List.{drop-drop}
-use Rattle.rtk_frame.specs.Frame.{payload_length, payload_of, begins_frame, begins_partial, IsPartialFrameAt}
+use Rattle.rtk_frame.specs.Frame.{payload_length, begins_frame, begins_partial, IsPartialFrameAt}
 use Rattle.rtk_frame.specs.Frames.{Frame, end_of, frame_at, frames_from, final_from, pending_from, frames, final_frames, pending, IsFree, Waits, AreThose, AreFinal, IsPending}
 use Rattle.rtk_frame.proofs.Fronts.{frame_is_whole, nothing_partial}
 use Rattle.rtk_frame.proofs.Pieces.{frames_frame, frames_not, final_frame, final_partial, final_not, pending_frame, pending_partial, pending_not}

@@ -1,5 +1,5 @@
 -- What follows the first frame of a text has the others.
-use Rattle.std.proofs.Common.{◌≡◌, ℕ, zero, suc, ◌+◌, ◌-◌, ◌<◌, ◌≤◌, Bool, true, false, List, [], ◌∷◌, ◌++◌, map, length, take, drop, refl, sym, ◌∙◌, ap, subst, arith, append_assoc, add-zero, length-take, length-drop}
+use Rattle.std.proofs.Common.{◌≡◌, ℕ, zero, suc, ◌+◌, ◌-◌, ◌≤◌, Bool, true, false, List, [], ◌∷◌, ◌++◌, map, length, take, drop, refl, sym, ◌∙◌, ap, arith, append_assoc, add-zero, length-take, length-drop}
 use Rattle.std.proofs.lemmas.List.{take-append-drop}
 use mathlib.Core.List.{map-append}
 use Rattle.rtk_frame.specs.Frame.{payload_length, payload_of, begins_frame, begins_partial}

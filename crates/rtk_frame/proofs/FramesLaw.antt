@@ -1,10 +1,10 @@
 -- The frames of a text are the only list of frames that has the stated properties.
-use Rattle.std.proofs.Common.{◌≡◌, ◌⊎◌, inl, inr, ℕ, zero, suc, ◌+◌, ◌-◌, ◌*◌, ◌%◌, ◌<◌, ◌≤◌, Bool, true, false, cond, List, [], ◌∷◌, length, get_or, take, drop, refl, sym, ◌∙◌, ap, subst, arith, length-take, length-drop}
+use Rattle.std.proofs.Common.{◌≡◌, ◌⊎◌, inl, inr, ℕ, zero, suc, ◌+◌, ◌<◌, ◌≤◌, Bool, true, false, List, [], ◌∷◌, length, drop, refl, sym, ◌∙◌, ap, subst, arith, length-take, length-drop}
 use Rattle.std.proofs.Math.ListN.{drop_of_length-le}
 use Rattle.std.proofs.Math.Nat.{eq-or-lt_of_le}
 use Rattle.std.proofs.lemmas.Bool.{cases_order}
 use Rattle.std.proofs.lemmas.List.{drop-drop}
-use Rattle.rtk_frame.specs.Frames.{Frame, frame_at, frames_from, frames, IsFramesFrom}
+use Rattle.rtk_frame.specs.Frames.{Frame, frames_from, frames, IsFramesFrom}
 use Rattle.rtk_frame.specs.Frame.{payload_length, payload_of, begins_frame, IsFrameAt}
 use Rattle.rtk_frame.proofs.Fronts.{frame_is_whole, nothing_begins}
 use Rattle.rtk_frame.proofs.Pieces.{frames_frame, frames_not}

@@ -16,20 +16,20 @@ NoneFrom b from n = (p : ℕ) → from ≤ p → p < n → begins_frame (drop p 
 pub rest_of : (b : List ℕ) (n : ℕ) → take (length b - n) (drop n b) ≡ drop n b
 rest_of b n = take_all (length b - n) (drop n b) (omega (arith, length-drop n b))
 
-junk_at : (b : List ℕ) (n j p : ℕ) → ((i : ℕ) → i < j → get_or (drop n b) i 0 ≢ 0xD3) → n ≤ p → p < n + j → begins_frame (drop p b) ≡ false
-junk_at b n j p junk l m =
+no_frame_before : (b : List ℕ) (n j p : ℕ) → ((i : ℕ) → i < j → get_or (drop n b) i 0 ≢ 0xD3) → n ≤ p → p < n + j → begins_frame (drop p b) ≡ false
+no_frame_before b n j p front l m =
     let i : ℕ = p - n in
     let here : get_or (drop p b) 0 0 ≡ get_or (drop n b) i 0 =
     get_or-drop p b 0 0 ∙ ap (λ k. get_or b k 0) (let e : p + 0 ≡ n + i = omega arith in e) ∙ sym (get_or-drop n b i 0) in
-    (not_preamble (drop p b) (λ e. junk i (omega arith) (sym here ∙ e))).0
+    (not_preamble (drop p b) (λ e. front i (omega arith) (sym here ∙ e))).0
 
 none_by : (b : List ℕ) (from n j : ℕ) → NoneFrom b from n → ((i : ℕ) → i < j → get_or (drop n b) i 0 ≢ 0xD3) → (p : ℕ) (t : Bool) → nat_lt p n ≡ t → from ≤ p → p < n + j → begins_frame (drop p b) ≡ false
-none_by b from n j none junk p true t l m = none p l (grind (arith, nat_tests))
-none_by b from n j none junk p false t l m = junk_at b n j p junk (grind (arith, nat_tests)) m
+none_by b from n j none front p true t l m = none p l (grind (arith, nat_tests))
+none_by b from n j none front p false t l m = no_frame_before b n j p front (grind (arith, nat_tests)) m
 
 -- nor at the bytes behind that are no preamble
-pub none_in_junk : (b : List ℕ) (from n j : ℕ) → NoneFrom b from n → ((i : ℕ) → i < j → get_or (take (length b - n) (drop n b)) i 0 ≢ 0xD3) → NoneFrom b from (n + j)
-none_in_junk b from n j none junk p l m = none_by b from n j none (λ i k. rw (rest_of b n) at (junk i k)) p (nat_lt p n) refl l m
+pub none_before_preamble : (b : List ℕ) (from n j : ℕ) → NoneFrom b from n → ((i : ℕ) → i < j → get_or (take (length b - n) (drop n b)) i 0 ≢ 0xD3) → NoneFrom b from (n + j)
+none_before_preamble b from n j none front p l m = none_by b from n j none (λ i k. rw (rest_of b n) at (front i k)) p (nat_lt p n) refl l m
 
 next_by : (b : List ℕ) (from n : ℕ) → NoneFrom b from n → begins_frame (drop n b) ≡ false → (p : ℕ) (t : Bool) → nat_lt p n ≡ t → from ≤ p → p < n + 1 → begins_frame (drop p b) ≡ false
 next_by b from n none here p true t l m = none p l (grind (arith, nat_tests))

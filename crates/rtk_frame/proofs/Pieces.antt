@@ -1,7 +1,7 @@
 -- The laws of scanning a text in pieces.
-use Rattle.std.proofs.Common.{◌≡◌, ℕ, zero, suc, ◌+◌, ◌-◌, ◌*◌, ◌%◌, ◌<◌, ◌≤◌, Bool, true, false, cond, List, [], ◌∷◌, ◌++◌, map, length, get_or, take, drop, refl, sym, ◌∙◌, ap, arith, add_assoc, add-zero, length-append}
+use Rattle.std.proofs.Common.{◌≡◌, ℕ, zero, suc, ◌+◌, ◌-◌, ◌≤◌, Bool, true, false, List, [], ◌∷◌, ◌++◌, map, length, refl, sym, ◌∙◌, ap, arith, add_assoc, add-zero}
 use Rattle.rtk_frame.specs.Frames.{Frame, frame_at, frames_from, final_from, pending_from, later, final_frames, frames, pending}
-use Rattle.rtk_frame.specs.Frame.{payload_length, payload_of, begins_frame, begins_partial}
+use Rattle.rtk_frame.specs.Frame.{payload_length, begins_frame, begins_partial}
 use Rattle.rtk_frame.proofs.Fronts.{Same, same_when_whole, frame_is_whole, neither_stays}
 
 -- one place at a time

@@ -1,16 +1,13 @@
 -- The checksum byte by byte.
-use Rattle.std.proofs.Common.{◌≡◌, ℕ, zero, suc, ◌+◌, ◌*◌, ◌/◌, ◌%◌, ◌^◌, ◌<◌, ◌≤◌, Bool, true, false, not, cond, List, [], ◌∷◌, ◌++◌, length, get_or, drop, refl, sym, ◌∙◌, ap, arith, append_assoc, length-append, ◌==◌}
-use Rattle.std.specs.Prelude.{bit_xor, flat_map}
-use Rattle.std.specs.Int.{bit_at}
-use Rattle.std.proofs.lemmas.Nat.{mod-pow-add, xor_of_8}
-use Rattle.std.proofs.lemmas.Nat.Bits.{bit_at-lt}
-use Rattle.std.proofs.lemmas.Bool.Decides.{nat_tests}
+use Rattle.std.proofs.Common.{◌≡◌, ℕ, zero, suc, ◌+◌, ◌*◌, ◌/◌, ◌%◌, ◌^◌, ◌<◌, Bool, List, [], ◌∷◌, ◌++◌, length, get_or, refl, sym, ◌∙◌, ap, arith, append_assoc}
+use Rattle.std.specs.Prelude.{bit_xor}
+use Rattle.std.proofs.lemmas.Nat.{xor_of_8}
 use Rattle.rtk_bits.specs.Bits.{bits_of, bits, unsigned}
 use Rattle.rtk_bits.proofs.BitsLemmas.{length-bits_of}
 use Rattle.rtk_bits.proofs.Numbers.{unsigned-bits_of}
-use Rattle.rtk_frame.specs.Checksum.{zeros, flip, generator, divide, crc, remainder}
+use Rattle.rtk_frame.specs.Checksum.{zeros, flip, divide, crc, remainder}
 use Rattle.rtk_frame.specs.declared.checksum_tables.TheConstants.{TABLE0 as TABLE}
-use Rattle.rtk_frame.proofs.Division.{flip_none, flip_halves, bits_cat, divide_add, byte_step, flip_pad}
+use Rattle.rtk_frame.proofs.Division.{flip_none, bits_cat, divide_add, byte_step, flip_zero}
 use Rattle.rtk_frame.proofs.ByteTable.{table_entry}
 
 -- the state after a byte
@@ -27,10 +24,6 @@ remainder_next s y ys h b =
     ∙ ap (divide (8 * length ys)) (byte_step s y (get_or TABLE (bit_xor (s / 2 ^ 24) y) 0) (bits ys ++ zeros 24) h (table_entry (bit_xor (s / 2 ^ 24) y) (xor_of_8 (s / 2 ^ 24) y (omega arith) b)))
 
 -- at the end
-flip_zero : (y : Bool) → cond y (not false) false ≡ y
-flip_zero true = refl
-flip_zero false = refl
-
 flip_end : (a b : List Bool) (n : ℕ) → length a ≡ n → flip (a ++ b) (zeros n) ≡ a
 flip_end [] [] zero h = refl
 flip_end [] (y ∷ b) zero h = refl

@@ -1,5 +1,5 @@
 -- Laws of the bytes that passed and of the counts, and the bytes of a source over memory.
-use Rattle.std.proofs.Common.{◌≡◌, ◌≢◌, ℕ, ◌+◌, ◌≤◌, inl, inr, Bool, false, ◌==◌, ◌&&◌, List, [], ◌∷◌, ◌++◌, length, take, drop, replicate, Option, None, Some, refl, ap, append_assoc, sym, ◌∙◌, arith}
+use Rattle.std.proofs.Common.{◌≡◌, ◌≢◌, ℕ, ◌+◌, ◌≤◌, inl, inr, Bool, false, ◌==◌, ◌&&◌, List, [], ◌++◌, length, take, drop, replicate, Option, None, Some, refl, ap, append_assoc, sym, ◌∙◌, arith}
 use Rattle.std.proofs.lemmas.List.{append-nil, replicate-append-replicate, length-replicate, ext_get_or, length-set, get_or-set_other}
 use Rattle.std.proofs.lemmas.List.Sums.{sum_by-set}
 use Rattle.std.proofs.Math.Seq.{take-add, take-append_seam}

@@ -11,6 +11,7 @@ pub record Frame : Type 0 where
 abbrev pub end_of : Frame → ℕ
 end_of f = f.place + (length f.payload + 6)
 
+-- the payloads of some frames, in their order
 abbrev pub payloads : List Frame → List (List ℕ)
 payloads fs = map (λ f. f.payload) fs
 
@@ -45,6 +46,7 @@ IsPending text fs suffix = (((p : ℕ) → Waits text fs p → ⊥) × (suffix �
 
 -- ---- the same, computed from left to right
 
+-- the frame at a place, where the text from there on is given
 abbrev pub frame_at : ℕ → List ℕ → Frame
 frame_at place text = record { place = place; payload = payload_of text }
 
@@ -70,7 +72,7 @@ pending_from zero (x ∷ xs) = cond (begins_frame (x ∷ xs)) (pending_from (pay
 abbrev pub frames : List ℕ → List Frame
 frames text = frames_from 0 0 text
 
--- the frames that stay whatever bytes follow the text
+-- the frames before the first waiting place; no later byte changes them
 abbrev pub final_frames : List ℕ → List Frame
 final_frames text = final_from 0 0 text
 

@@ -1,7 +1,6 @@
 -- What a contract sees of a scanner, and what its calls answer.
-use Rattle.std.specs.Prelude.{◌≡◌, ⊤, ℕ, ◌+◌, ◌-◌, ◌≤◌, Bool, List, [], ◌++◌, length, take, Option, Some, None, refl}
+use Rattle.std.specs.Prelude.{◌≡◌, ⊤, ℕ, ◌+◌, ◌-◌, ◌≤◌, List, [], ◌++◌, length, take, Option, Some, None}
 use Rattle.std.specs.Borrow.{follows_so, MutBor, Bor, Fml}
-use Rattle.std.specs.Coded.{Coded, code_by, coded×, coded_list, coded_ℕ, coded_bool}
 use mathlib.Core.Option.{none}
 use Rattle.rtk_frame.specs.Frames.{frames, final_frames, pending, IsFirst}
 use Rattle.rtk_frame.specs.declared.scanner.Answer.{Answer}

@@ -10,24 +10,24 @@ IsFront text (Whole n) = (begins_frame text ≡ true) × (n ≡ payload_length t
 IsFront text (Partial n) = (0 < n) × (length text + n ≤ 1029) × ((begins_partial text ≡ true) ⊎ (text ≡ []))
 IsFront text Other = (0 < length text) × (begins_frame text ≡ false) × (begins_partial text ≡ false)
 
--- at no place of the junk before the text is there a frame or a partial one
+-- at no place of the front before the text is there a frame or a partial one
 abbrev pub Passed : List ℕ → List ℕ → Type 0
 Passed [] text = Unit {0}
-Passed (x ∷ junk) text = (begins_frame (x ∷ (junk ++ text)) ≡ false) × (begins_partial (x ∷ (junk ++ text)) ≡ false) × Passed junk text
+Passed (x ∷ front) text = (begins_frame (x ∷ (front ++ text)) ≡ false) × (begins_partial (x ∷ (front ++ text)) ≡ false) × Passed front text
 
 -- the text was passed up to a suffix
 pub record Scanned (text suffix : List ℕ) : Type 0 where
-  pub junk : List ℕ
-  pub is : text ≡ junk ++ suffix
-  pub passed : Passed junk suffix
+  pub front : List ℕ
+  pub is : text ≡ front ++ suffix
+  pub passed : Passed front suffix
 
--- at no place of the junk before the text is there a frame
+-- at no place of the front before the text is there a frame
 abbrev pub FrameFree : List ℕ → List ℕ → Type 0
 FrameFree [] text = Unit {0}
-FrameFree (x ∷ junk) text = (begins_frame (x ∷ (junk ++ text)) ≡ false) × FrameFree junk text
+FrameFree (x ∷ front) text = (begins_frame (x ∷ (front ++ text)) ≡ false) × FrameFree front text
 
 -- the text was searched for frames up to a suffix
 pub record Searched (text suffix : List ℕ) : Type 0 where
-  pub junk : List ℕ
-  pub is : text ≡ junk ++ suffix
-  pub none : FrameFree junk suffix
+  pub front : List ℕ
+  pub is : text ≡ front ++ suffix
+  pub none : FrameFree front suffix

@@ -9,6 +9,9 @@ use crate::checksum::crc24q;
 use std::alloc::{AllocError, Global};
 use thiserror::Error;
 
+/// The first byte of each frame.
+const PREAMBLE: u8 = 0xD3;
+
 /// Why a frame is not made, or a scanner: the first cause that holds, in this order.
 #[derive(Clone, Copy, Debug, PartialEq, Eq, Error)]
 pub enum FrameFault {
@@ -55,9 +58,6 @@ pub fn encode_frame(alloc: Global, payload: &[u8]) -> Result<Vec<u8>, FrameFault
     ])?;
     Ok(frame)
 }
-
-/// The first byte of each frame.
-const PREAMBLE: u8 = 0xD3;
 
 /// What is at the front of a text.
 #[derive(Clone, Copy)]

@@ -5,6 +5,7 @@ mod checksum;
 mod checksum_tables;
 mod frame;
 pub mod laws;
+mod lending;
 mod memory;
 #[cfg(test)]
 mod plain;

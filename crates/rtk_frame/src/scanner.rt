@@ -1,40 +1,43 @@
 //! A scanner gives the frames of a stream of bytes that comes in pieces.
 ghost use Rattle.std.specs.Prelude.{◌≡◌, ◌⊎◌, ℕ, ◌+◌, ◌≤◌, List, [], ◌++◌, length, drop, take, true, MatchOption};
 ghost use Rattle.circular_buffer.specs.Buffer.{buffer};
-ghost use Rattle.rtk_frame.specs.Frame.{begins_frame, begins_partial, payload_length, payload_of};
+ghost use Rattle.rtk_frame.specs.Frame.{begins_frame, begins_partial, payload_length};
 ghost use Rattle.rtk_frame.specs.Scanning.{Scanned, Searched};
 
 use crate::frame::{FrameFault, Front, before_preamble, front_of};
+use crate::lending::all_bytes;
 use circular_buffer::HeapCircularBuffer;
 use std::alloc::Global;
 use std::marker::Model;
 
 /// The frames of a stream, however its bytes are cut into pieces.
 ///
-/// It keeps the bytes that wait for more, at most 1,029, and the last payload that it gave.
+/// It keeps at most 1,029 bytes: the last frame that it gave, and those that wait for more.
 #[derive(Drop)]
 pub struct Scanner {
     ring: HeapCircularBuffer<u8>,
-    payload: [u8; 1023],
+    // How many bytes at the ring's front were given; the next call takes them out.
+    given: usize,
     ended: bool,
 }
 
 // Clauses see the bytes that wait for more, and whether the stream has ended.
 impl Model for Scanner {
-    ghost use Rattle.std.specs.Prelude.{◌≡◌, ◌≤◌, length};
+    ghost use Rattle.std.specs.Prelude.{◌≡◌, ◌≤◌, length, drop};
     ghost use Rattle.rtk_frame.specs.ScannerState.{Scan, scan, scan_code};
 
     ghost Value = { Scan };
 
     ghost coded = { scan_code };
 
-    ghost view = { λ s. scan s.ring.items s.ended };
+    ghost view = { λ s. scan (drop s.given s.ring.items) s.ended };
 
-    ghost invariant = { λ s. (s.ring.capacity ≡ 1029) × (length s.ring.items ≤ 1029) };
+    ghost invariant = { λ s. (s.ring.capacity ≡ 1029) × (length s.ring.items ≤ 1029)
+        × (s.given ≤ length s.ring.items) };
 }
 
 /// What `feed` took of the piece, and what it found there.
-#[derive(Clone, Copy)]
+#[derive(Clone, Copy, Debug)]
 pub struct Fed<'a> {
     /// How many bytes of the piece were used. After `Found` the next call is fed the others.
     pub used: usize,
@@ -43,7 +46,7 @@ pub struct Fed<'a> {
 }
 
 /// What `feed` found.
-#[derive(Clone, Copy)]
+#[derive(Clone, Copy, Debug)]
 pub enum Answer<'a> {
     /// The next frame, by its payload.
     Found(&'a [u8]),
@@ -66,7 +69,7 @@ impl Scanner {
         let ring = HeapCircularBuffer::with_capacity(alloc, 1029)?;
         Ok(Scanner {
             ring,
-            payload: [0; 1023],
+            given: 0,
             ended: false,
         })
     }
@@ -82,6 +85,8 @@ impl Scanner {
             (now.ended ≡ false) × (length now.pending ≤ 1029)
             × FedAnswer self.old.pending piece.now result.used result.answer now)) }
     {
+        remove_front(&mut self.ring, self.given);
+        self.given = 0;
         let (used, found) = advance(&mut self.ring, piece);
         match found {
             None => Fed {
@@ -89,10 +94,11 @@ impl Scanner {
                 answer: Answer::Hungry,
             },
             Some(payload) => {
-                take_frame(&mut self.ring, &mut self.payload, payload);
+                self.given = payload + 6;
+                let bytes = all_bytes(&mut self.ring);
                 Fed {
                     used,
-                    answer: Answer::Found(&self.payload[..payload]),
+                    answer: Answer::Found(&bytes[3..payload + 3]),
                 }
             }
         }
@@ -106,12 +112,15 @@ impl Scanner {
             (now.ended ≡ true) × (length now.pending ≤ 1029)
             × RestAnswer self.old.pending result now)) }
     {
+        remove_front(&mut self.ring, self.given);
+        self.given = 0;
         self.ended = true;
         match advance_ended(&mut self.ring) {
             None => None,
             Some(payload) => {
-                take_frame(&mut self.ring, &mut self.payload, payload);
-                Some(&self.payload[..payload])
+                self.given = payload + 6;
+                let bytes = all_bytes(&mut self.ring);
+                Some(&bytes[3..payload + 3])
             }
         }
     }
@@ -143,10 +152,10 @@ fn advance(ring: &mut HeapCircularBuffer<u8>, piece: &[u8]) -> (usize, Option<us
             Front::Whole(payload) => return (used, Some(payload)),
             Front::Other => {
                 ring.pop_front();
-                pass_junk(ring);
+                pass_to_preamble(ring);
             }
             Front::Partial(wanted) => {
-                used += junk_of_piece(ring, &piece[used..]);
+                used += bytes_to_pass(ring, &piece[used..]);
                 if used == piece.len() {
                     return (used, None);
                 }
@@ -178,19 +187,19 @@ fn advance_ended(ring: &mut HeapCircularBuffer<u8>) -> Option<usize>
 }
 
 /// Passes the bytes at the front of the ring that are no preamble.
-fn pass_junk(ring: &mut HeapCircularBuffer<u8>)
+fn pass_to_preamble(ring: &mut HeapCircularBuffer<u8>)
     requires { (ring.old.capacity ≡ 1029) × (length ring.old.items ≤ 1029) }
     ensures capacity { ring.new.capacity ≡ 1029 }
     ensures shorter { length ring.new.items ≤ length ring.old.items }
     ensures scanned { (text : List ℕ) → Scanned text ring.old.items → Scanned text ring.new.items }
 {
-    let junk = before_preamble(ring.make_contiguous());
-    let rest = ring.len() - junk;
+    let passed = before_preamble(ring.make_contiguous());
+    let rest = ring.len() - passed;
     ring.truncate_front(rest);
 }
 
 /// How many bytes of the piece need not enter the ring, since it is empty and they are no preamble.
-fn junk_of_piece(ring: &HeapCircularBuffer<u8>, piece: &[u8]) -> usize
+fn bytes_to_pass(ring: &HeapCircularBuffer<u8>, piece: &[u8]) -> usize
     ensures within { result ≤ length piece.now }
     ensures scanned { (text : List ℕ) → Scanned text ring.now.items
         → Scanned (text ++ take result piece.now) ring.now.items }
@@ -202,29 +211,16 @@ fn junk_of_piece(ring: &HeapCircularBuffer<u8>, piece: &[u8]) -> usize
     }
 }
 
-/// Moves the frame at the front out of the ring, and its payload to the front of `area`.
-fn take_frame(ring: &mut HeapCircularBuffer<u8>, area: &mut [u8], payload: usize)
-    requires stated { payload ≡ payload_length ring.old.items }
-    requires whole { payload + 6 ≤ length ring.old.items }
-    requires room { payload ≤ length area.old }
-    ensures rest { ring.new ≡ buffer (drop (payload + 6) ring.old.items) ring.old.capacity }
-    ensures payload { take payload area.new ≡ payload_of ring.old.items }
+/// Takes the first bytes out of the ring.
+fn remove_front(ring: &mut HeapCircularBuffer<u8>, count: usize)
+    requires { count ≤ length ring.old.items }
+    ensures { ring.new ≡ buffer (drop count ring.old.items) ring.old.capacity }
 {
-    copy_payload(ring.make_contiguous(), area, payload);
-    let rest = ring.len() - (payload + 6);
+    let rest = ring.len() - count;
     // An empty ring begins at its start again, so that the next frame lies in one piece.
     if rest == 0 {
         ring.clear();
     } else {
         ring.truncate_front(rest);
     }
-}
-
-/// Copies the payload of the frame at the front of the bytes.
-fn copy_payload(bytes: &[u8], area: &mut [u8], payload: usize)
-    requires frame { payload + 6 ≤ length bytes.now }
-    requires room { payload ≤ length area.old }
-    ensures { take payload area.new ≡ take payload (drop 3 bytes.now) }
-{
-    area[..payload].copy_from_slice(&bytes[3..payload + 3]);
 }

@@ -5,7 +5,7 @@ ghost use Rattle.rtk_frame.specs.Frame.{IsFrameAt, payload_of};
 use crate::frame::{Front, before_preamble, front_of};
 
 /// A frame at a place of a text: where it begins, and its payload.
-#[derive(Clone, Copy)]
+#[derive(Clone, Copy, Debug)]
 pub struct Placed<'a> {
     /// The place of its preamble, counted from the text's first byte as 0.
     pub place: usize,

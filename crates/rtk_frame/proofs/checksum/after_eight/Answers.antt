@@ -1,4 +1,4 @@
-use Rattle.std.proofs.Common.{◌<◌, ℕ, List, get_or, sym, arith}
+use Rattle.std.proofs.Common.{ℕ, List, get_or, sym, arith}
 use Rattle.rtk_frame.proofs.EightBytes.{remainder_eight}
 use Rattle.rtk_frame.proofs.checksum.after_eight.Goals as goal
 

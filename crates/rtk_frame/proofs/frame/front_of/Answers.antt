@@ -1,5 +1,4 @@
-use Rattle.std.proofs.Common.{◌≡◌, ◌≢◌, ℕ, ◌<◌, ◌≤◌, ◌+◌, ◌*◌, ◌%◌, get_or, length, arith, inl, refl, sym, ◌∙◌, true, false}
-use Rattle.rtk_frame.specs.Frame.{payload_length}
+use Rattle.std.proofs.Common.{arith, inl, refl, sym, ◌∙◌, true, false}
 use Rattle.rtk_frame.proofs.Fronts.{not_preamble, preamble_partial, preamble_whole, whole_not_partial}
 use Rattle.rtk_frame.proofs.frame.front_of.Goals as goal
 

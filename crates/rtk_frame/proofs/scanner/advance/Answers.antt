@@ -1,10 +1,8 @@
-use Rattle.std.proofs.Common.{◌≡◌, ℕ, ◌<◌, ◌≤◌, ◌+◌, ◌-◌, ◌++◌, List, length, take, drop, true, false, arith, sym, ◌∙◌, ap, subst, min, append_assoc, length-take, length-drop, length-append}
-use Rattle.std.proofs.Math.Seq.{take-add}
+use Rattle.std.proofs.Common.{◌≡◌, ℕ, ◌≤◌, ◌+◌, ◌-◌, ◌++◌, List, length, take, drop, arith, sym, ◌∙◌, ap, subst, length-take, length-drop, length-append}
 use Rattle.std.proofs.lemmas.List.{take_all}
 use Rattle.std.specs.List.{refill}
-use Rattle.rtk_frame.specs.Frame.{begins_frame, begins_partial}
 use Rattle.rtk_frame.specs.Scanning.{Scanned}
-use Rattle.rtk_frame.proofs.Passing.{scanned_next, scanned_junk, scanned_fill}
+use Rattle.rtk_frame.proofs.Passing.{scanned_next, scanned_front, scanned_fill}
 use Rattle.rtk_frame.proofs.scanner.advance.Goals as goal
 
 pub scan-preserved-in-Other : goal.scan-preserved-in-Other
@@ -16,10 +14,10 @@ scan-preserved-in-Other c =
     let items : c.pop_front.new.self.items ≡ drop 1 c.scan.ring.items = ap (λ b. b.items) popped ∙ ap (drop 1) back in
     let scanned = subst (λ (z : List ℕ). Scanned (c.args.ring.now.items ++ take c.scan.used c.args.piece.now) z) (sym items) (scanned_next _ c.scan.ring.items here.0 here.1 here.2 c.scan.invariant.scanned) in
     record {
-      capacity = c.pass_junk.ensures.capacity;
-      within = omega (arith, c.pass_junk.ensures.shorter, ap length items, length-drop 1 c.scan.ring.items);
+      capacity = c.pass_to_preamble.ensures.capacity;
+      within = omega (arith, c.pass_to_preamble.ensures.shorter, ap length items, length-drop 1 c.scan.ring.items);
       used = c.scan.invariant.used;
-      scanned = c.pass_junk.ensures.scanned _ scanned;
+      scanned = c.pass_to_preamble.ensures.scanned _ scanned;
     }
 
 pub returns-then-used-piece-clause-scanned : goal.returns-then-used-piece-clause-scanned
@@ -28,8 +26,8 @@ returns-then-used-piece-clause-scanned c =
     let piece : List ℕ = c.args.piece.now in
     let same = c.make_contiguous.ensures.value in
     let back : refill (length items) items c.make_contiguous.result.now ≡ items = c.make_contiguous.ensures.same_len c.make_contiguous.result.now (ap length same) ∙ same in
-    let j = rw back at c.junk_of_piece-used.ensures.scanned in
-    let passed : Scanned (c.args.ring.now.items ++ take (c.scan.used + c.junk_of_piece-used.result) piece) items = scanned_junk c.args.ring.now.items piece items c.scan.used c.junk_of_piece-used.result j c.scan.invariant.scanned in
+    let j = rw back at c.bytes_to_pass-used.ensures.scanned in
+    let passed : Scanned (c.args.ring.now.items ++ take (c.scan.used + c.bytes_to_pass-used.result) piece) items = scanned_front c.args.ring.now.items piece items c.scan.used c.bytes_to_pass-used.result j c.scan.invariant.scanned in
     rw back passed
 
 pub scan-preserved : goal.scan-preserved
@@ -38,9 +36,9 @@ scan-preserved c =
     let piece : List ℕ = c.args.piece.now in
     let same = c.make_contiguous.ensures.value in
     let back : refill (length items) items c.make_contiguous.result.now ≡ items = c.make_contiguous.ensures.same_len c.make_contiguous.result.now (ap length same) ∙ same in
-    let j = rw back at c.junk_of_piece-used.ensures.scanned in
-    let passed : Scanned (c.args.ring.now.items ++ take (c.scan.used + c.junk_of_piece-used.result) piece) items = scanned_junk c.args.ring.now.items piece items c.scan.used c.junk_of_piece-used.result j c.scan.invariant.scanned in
-    let v : ℕ = c.scan.used + c.junk_of_piece-used.result in
+    let j = rw back at c.bytes_to_pass-used.ensures.scanned in
+    let passed : Scanned (c.args.ring.now.items ++ take (c.scan.used + c.bytes_to_pass-used.result) piece) items = scanned_front c.args.ring.now.items piece items c.scan.used c.bytes_to_pass-used.result j c.scan.invariant.scanned in
+    let v : ℕ = c.scan.used + c.bytes_to_pass-used.result in
     let more : ℕ = c.min-more.result in
     let wanted = rw same at c.in-Partial.ensures in
     let least = c.min-more.ensures in

@@ -1,4 +1,4 @@
-use Rattle.std.proofs.Common.{◌≡◌, ℕ, ◌<◌, ◌≤◌, List, [], length, drop, false, arith, sym, ◌∙◌, ap, length-drop, ◌==◌}
+use Rattle.std.proofs.Common.{◌≡◌, ℕ, ◌<◌, List, length, drop, arith, ◌∙◌, ap, length-drop}
 use Rattle.std.proofs.lemmas.Bool.Decides.{nat_tests}
 use Rattle.std.specs.List.{refill}
 use Rattle.rtk_frame.proofs.NextFrame.{front_by}

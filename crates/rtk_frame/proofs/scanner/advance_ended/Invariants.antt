@@ -1,4 +1,4 @@
-use Rattle.std.proofs.Common.{◌≡◌, ℕ, ◌≤◌, length}
+use Rattle.std.proofs.Common.{◌≡◌, ◌≤◌, length}
 use Rattle.rtk_frame.specs.Scanning.{Searched}
 use Rattle.rtk_frame.proofs.scanner.advance_ended.Given as goal
 

@@ -1,7 +1,5 @@
-use Rattle.std.proofs.Common.{◌≡◌, ℕ, ◌+◌, ◌≤◌, List, length, take, drop, arith, ap, ◌∙◌, sym, subst}
-use Rattle.rtk_frame.specs.Frame.{IsFrameAt}
-use Rattle.rtk_frame.specs.Scanning.{IsFront}
-use Rattle.rtk_frame.proofs.NextFrame.{rest_of, none_in_junk, none_next, none_at_front, frame_within, payload_at, length_payload_at, no_frame, none_before}
+use Rattle.std.proofs.Common.{◌≡◌, ℕ, ◌+◌, List, length, arith, ap}
+use Rattle.rtk_frame.proofs.NextFrame.{rest_of, none_before_preamble, none_next, none_at_front, frame_within, payload_at, length_payload_at, no_frame, none_before}
 use Rattle.rtk_frame.proofs.search.next_frame.Goals as goal
 
 pub loop-place-init : goal.loop-place-init
@@ -10,7 +8,7 @@ loop-place-init c =
     record {
       from = omega arith;
       within = omega (arith, c.before_preamble.ensures.within, ap length (rest_of b c.args.from));
-      none = none_in_junk b c.args.from c.args.from c.before_preamble.result (λ p l m. absurd (omega arith)) c.before_preamble.ensures.none;
+      none = none_before_preamble b c.args.from c.args.from c.before_preamble.result (λ p l m. absurd (omega arith)) c.before_preamble.ensures.none;
     }
 
 pub slice_bounds-payload-end : goal.slice_bounds-payload-end
@@ -37,12 +35,12 @@ loop-place-preserved c =
     let b : List ℕ = c.args.bytes.now in
     let n : ℕ = c.loop-place.place in
     let here = none_at_front b n c.front_of.result c.loop-place-test.true c.front_of.ensures c.in_default.not-Whole in
-    let junk = c.before_preamble-in-loop-place.ensures.none in
+    let front = c.before_preamble-in-loop-place.ensures.none in
     let place : n + 1 + c.before_preamble-in-loop-place.result ≡ n + (1 + c.before_preamble-in-loop-place.result) = omega arith in
     record {
       from = omega arith;
       within = omega (arith, c.before_preamble-in-loop-place.ensures.within, ap length (rest_of b (n + 1)));
-      none = rw place at (none_in_junk b c.args.from (n + 1) c.before_preamble-in-loop-place.result (none_next b c.args.from n c.loop-place.invariant.none here) junk);
+      none = rw place at (none_before_preamble b c.args.from (n + 1) c.before_preamble-in-loop-place.result (none_next b c.args.from n c.loop-place.invariant.none here) front);
     }
 
 pub returns-clause-least : goal.returns-clause-least

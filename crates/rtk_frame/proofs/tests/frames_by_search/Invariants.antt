@@ -1,4 +1,4 @@
-use Rattle.std.proofs.Common.{◌≡◌, ◌≤◌, ◌-◌, length}
+use Rattle.std.proofs.Common.{◌≤◌, ◌-◌, length}
 use Rattle.rtk_frame.proofs.tests.frames_by_search.Given as goal
 
 abbrev pub invariant-loop-found : goal.invariant-loop-found

@@ -1,8 +1,7 @@
-use Rattle.std.proofs.Common.{◌≡◌, ◌≤◌, ◌+◌, ◌++◌, ℕ, List, [], length, take, drop, ap, ◌∙◌, sym, arith, subst, true, ◌==◌}
+use Rattle.std.proofs.Common.{◌≡◌, length, ◌∙◌, sym, arith, true, ◌==◌}
 use Rattle.std.proofs.lemmas.Bool.Decides.{nat_tests}
-use Rattle.rtk_frame.specs.Scanning.{Scanned}
 use Rattle.rtk_frame.proofs.Passing.{scanned_skip, scanned_none}
-use Rattle.rtk_frame.proofs.scanner.junk_of_piece.Goals as goal
+use Rattle.rtk_frame.proofs.scanner.bytes_to_pass.Goals as goal
 
 pub returns-then-is_empty-clause-scanned : goal.returns-then-is_empty-clause-scanned
 returns-then-is_empty-clause-scanned c = λ text h.

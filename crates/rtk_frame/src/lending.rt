@@ -1,0 +1,26 @@
+//! The bytes of a ring as one slice, lent and given back as they were.
+ghost use Rattle.std.specs.Prelude.{◌≡◌};
+ghost use Rattle.std.specs.Borrow.{sem};
+ghost use Rattle.rtk_frame.specs.Ring.{EndsAs, LendsBytes, with_bytes};
+
+use circular_buffer::HeapCircularBuffer;
+
+/// All bytes of the ring, in one slice to write to.
+fn all_bytes_mut(ring: &mut HeapCircularBuffer<u8>) -> &mut [u8]
+    ensures* writes_back { sem 𝓛 (LendsBytes ring.entry result) }
+    ensures value { result.now ≡ ring.old.items }
+    ensures same { with_bytes ring.old result.now ≡ ring.old }
+{
+    ring.make_contiguous()
+}
+
+/// All bytes of the ring, in one slice. The ring stays as it is.
+///
+/// No rule of the borrow checker says what a `&mut` becomes that is shared on to the caller, so the
+/// proof is by hand.
+pub(crate) fn all_bytes(ring: &mut HeapCircularBuffer<u8>) -> &[u8]
+    ensures* after { sem 𝓛 (EndsAs ring.entry ring.old) }
+    ensures value { result.now ≡ ring.old.items }
+{
+    all_bytes_mut(ring)
+}
