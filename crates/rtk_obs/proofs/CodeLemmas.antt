@@ -1,5 +1,6 @@
 -- No two codes have one name.
-use Rattle.std.proofs.Common.{◌≡◌, ℕ, List, ◌∷◌, refl, sym, ◌∙◌, ap, nat_eq, cond}
+use Rattle.std.proofs.Common.{◌≡◌, ℕ, List, ◌∷◌, refl, sym, ◌∙◌, ap, nat_eq, cond, ◌≢◌, Option, Some, None}
+use Rattle.std.specs.Prelude.{MatchOption}
 use Rattle.rtk_obs.specs.declared.code.Code.{Code}
 use Rattle.rtk_obs.specs.declared.code.Code.TheVariants.{C1C, C1P, C1W, C1S, C1L, C1X, C2C, C2D, C2P, C2W, C2S, C2L, C2X, C5I, C5Q, C5X}
 use Rattle.rtk_obs.specs.Code.{name_of}
@@ -37,3 +38,8 @@ named-name_of C5X = refl
 
 pub same_code : (c d : Code) → name_of c ≡ name_of d → c ≡ d
 same_code c d e = sym (named-name_of c) ∙ (ap named e ∙ named-name_of d)
+
+-- the answer to the name of a code is the code
+pub reads_back : (c : Code) (answer : Option Code) → MatchOption answer ((d : Code) → name_of c ≢ name_of d) (λ d. name_of c ≡ name_of d) → answer ≡ Some c
+reads_back c None m = absurd (m c refl)
+reads_back c (Some d) m = ap (λ (e : Code). Some e) (sym (same_code c d m))

@@ -8,3 +8,4 @@ pub mod ScalingLemmas
 pub mod MaskLemmas
 pub mod LegacyLemmas
 pub mod MsmLemmas
+pub mod DistinctLemmas

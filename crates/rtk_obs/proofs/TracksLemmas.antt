@@ -11,7 +11,7 @@ use Rattle.rtk_obs.specs.declared.track.Track.{Track}
 use Rattle.rtk_obs.specs.Code.{place_of, band_of}
 use Rattle.rtk_obs.specs.Slip.{EpochCell, has_phase}
 use Rattle.rtk_obs.specs.Cell.{IsSatellite}
-use Rattle.rtk_obs.specs.Rollover.{last_after, last_phase, track_of}
+use Rattle.rtk_obs.specs.Rollover.{last_after, last_phase, track_of, rolls_since}
 use Rattle.rtk_obs.specs.Steps.{Step, epochs_of, IsFalling, PhasesFall}
 use Rattle.rtk_obs.specs.Tracks.{IsLater, track_at, place_of_signal, Represents}
 use Rattle.rtk_obs.specs.TracksLaws.{IsGreatest, LastIsGreatest, LaterThanSteps, LaterAfterStep}
@@ -153,11 +153,11 @@ later_after_step band last e epoch later h = chosen_later (has_phase e) (track_o
 
 -- ---- the greatest epoch
 
-first_greatest : (b : Bool) (band : Band) (last : Option Track) (e : EpochCell) (rest : List EpochCell) → has_phase e ≡ b
+first_greatest : (b : Bool) (band : Band) (last : Option Track) (e : EpochCell) (rest : List EpochCell) → has_phase e ≡ b → last ≡ last_phase band rest
     → IsFalling (cond b (e ∷ filter has_phase rest) (filter has_phase rest))
-    → (IsFalling (filter has_phase rest) → MatchOption last (filter has_phase rest ≡ []) (λ t. IsGreatest rest t))
-    → MatchOption (cond b (Some (track_of band last e)) last) (cond b (e ∷ filter has_phase rest) (filter has_phase rest) ≡ []) (λ t. IsGreatest (e ∷ rest) t)
-first_greatest true band last e rest is falls more = record {
+    → (IsFalling (filter has_phase rest) → MatchOption last (filter has_phase rest ≡ []) (λ t. IsGreatest band rest t))
+    → MatchOption (cond b (Some (track_of band last e)) last) (cond b (e ∷ filter has_phase rest) (filter has_phase rest) ≡ []) (λ t. IsGreatest band (e ∷ rest) t)
+first_greatest true band last e rest is held falls more = record {
   seen = e;
   above = [];
   below = rest;
@@ -167,11 +167,12 @@ first_greatest true band last e rest is falls more = record {
   lock_time_ms = refl;
   source = refl;
   offset = refl;
+  rolls = ap (λ (o : Option Track). rolls_since band o e) held;
   greatest = rw is (omega arith, all_at_most (filter has_phase rest) e.epoch falls.0);
 }
-first_greatest false band None e rest is falls more = more falls
-first_greatest false band (Some t) e rest is falls more =
-    let g : IsGreatest rest t = more falls in
+first_greatest false band None e rest is held falls more = more falls
+first_greatest false band (Some t) e rest is held falls more =
+    let g : IsGreatest band rest t = more falls in
     record {
       seen = g.seen;
       above = e ∷ g.above;
@@ -182,12 +183,13 @@ first_greatest false band (Some t) e rest is falls more =
       lock_time_ms = g.lock_time_ms;
       source = g.source;
       offset = g.offset;
+      rolls = g.rolls;
       greatest = rw is g.greatest;
     }
 
 pub last_is_greatest : LastIsGreatest
 last_is_greatest band [] falls = refl
-last_is_greatest band (e ∷ es) falls = first_greatest (has_phase e) band (last_phase band es) e es refl falls (last_is_greatest band es)
+last_is_greatest band (e ∷ es) falls = first_greatest (has_phase e) band (last_phase band es) e es refl refl falls (last_is_greatest band es)
 
 -- ---- a step
 

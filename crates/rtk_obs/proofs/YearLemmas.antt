@@ -1,5 +1,9 @@
--- The years that a moment can have.
-use Rattle.std.proofs.Common.{◌≡◌, ℕ, ◌+◌, ◌≤◌, arith, refl, ℤ, pos, ◌+ℤ◌, ◌≤ℤ◌}
+-- The years that a moment can have, and the moment of a reading.
+use Rattle.std.proofs.Common.{◌≡◌, ℕ, ◌+◌, ◌≤◌, arith, refl, ap, Option, Some, None, ℤ, pos, ◌+ℤ◌, ◌≤ℤ◌}
+use Rattle.std.specs.Prelude.{MatchOption}
+use Rattle.rtk_obs.specs.declared.time.Civil.{Civil}
+use Rattle.rtk_obs.specs.declared.time.TheConstants.{LAST_MS}
+use Rattle.rtk_obs.specs.Calendar.{Reads}
 use Rattle.std.proofs.lemmas.Int.{by_lt_z}
 use Rattle.jiff_core.specs.declared.civil.date.Date.{Date}
 use Rattle.jiff_core.specs.Calendar.{day_count, IsCivilDate}
@@ -38,3 +42,13 @@ year_bounds d k e h = (from_1980 d (omega (arith, signed_arith)), to_2100 d (ome
 
 pub within : (n : ℕ) (y : ℤ) → pos n ≡ y → (pos 1980 ≤ℤ y) × (y ≤ℤ pos 2100) → (1980 ≤ n) × (n ≤ 2100)
 within n y e h = (omega (arith, signed_arith), omega (arith, signed_arith))
+
+-- ---- the moment of a reading
+
+pub one_moment : (s t : ℕ) (c : Civil) → Reads s c → Reads t c → s ≡ t
+one_moment s t c p q = omega (arith, signed_arith, p, q)
+
+-- the answer to the reading of a moment is the moment
+pub reads_back : (t : ℕ) (c : Civil) (answer : Option ℕ) → t ≤ LAST_MS → Reads t c → MatchOption answer ((s : ℕ) → s ≤ LAST_MS → ¬ (Reads s c)) (λ s. Reads s c) → answer ≡ Some t
+reads_back t c None before is m = absurd (m t before is)
+reads_back t c (Some s) before is m = ap (λ (n : ℕ). Some n) (one_moment s t c m is)

@@ -1,5 +1,6 @@
 -- A cell with its satellite and code, and the ranges that the cells of a message keep.
-use Rattle.std.specs.Prelude.{◌≡◌, ℕ, ◌≤◌, ◌%◌, Bool, ◌&&◌, nat_le, IfSome}
+use Rattle.std.specs.Prelude.{◌≡◌, ◌≢◌, ℕ, ◌≤◌, ◌%◌, Bool, ◌&&◌, nat_le, List, IfSome}
+use Rattle.std.specs.List.{AllPairs}
 use Rattle.rtk_obs.specs.declared.code.Code.{Code}
 use Rattle.rtk_obs.specs.declared.cell.Cell.{Cell}
 use Rattle.rtk_obs.specs.declared.cell.CellEntry.{CellEntry}
@@ -24,3 +25,11 @@ pub record IsStrength (s : ℕ) : Type 0 where
 pub record IsInRange (e : CellEntry) : Type 0 where
   pub satellite : IsSatellite e.satellite
   pub strength : IfSome e.cell.strength_millidbhz IsStrength
+
+-- of different satellites, or of one satellite and different codes
+abbrev pub AreDifferentSignals : CellEntry → CellEntry → Type 0
+AreDifferentSignals a b = a.satellite ≡ b.satellite → a.code ≢ b.code
+
+-- no two of the cells are of one satellite and code
+abbrev pub AreDistinct : List CellEntry → Type 0
+AreDistinct cells = AllPairs AreDifferentSignals cells

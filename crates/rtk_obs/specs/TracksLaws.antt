@@ -6,12 +6,12 @@ use Rattle.rtk_obs.specs.declared.code.Code.{Code}
 use Rattle.rtk_obs.specs.declared.track.Track.{Track}
 use Rattle.rtk_obs.specs.Slip.{EpochCell, has_phase}
 use Rattle.rtk_obs.specs.Cell.{IsSatellite}
-use Rattle.rtk_obs.specs.Rollover.{last_after, last_phase}
+use Rattle.rtk_obs.specs.Rollover.{rolls_since, last_after, last_phase}
 use Rattle.rtk_obs.specs.Steps.{Step, epochs_of, PhasesFall}
 use Rattle.rtk_obs.specs.Tracks.{IsLater, track_at, Represents}
 
--- the track is of the phase at the greatest of these epochs at which there is one
-pub record IsGreatest (epochs : List EpochCell) (t : Track) : Type 0 where
+-- the track is of the phase at the greatest of these epochs at which there is one, with the roll count behind the last phase below
+pub record IsGreatest (band : Band) (epochs : List EpochCell) (t : Track) : Type 0 where
   pub seen : EpochCell
   pub above : List EpochCell
   pub below : List EpochCell
@@ -21,13 +21,14 @@ pub record IsGreatest (epochs : List EpochCell) (t : Track) : Type 0 where
   pub lock_time_ms : t.lock_time_ms ≡ seen.cell.lock_time_ms
   pub source : t.source ≡ seen.cell.source
   pub offset : t.offset ≡ seen.cell.offset
+  pub rolls : t.rolls ≡ rolls_since band (last_phase band below) seen
   pub greatest : AllByRecursion (λ e. e.epoch ≤ t.epoch) (filter has_phase epochs)
 
 -- where the phases fall, the last one is that of the greatest epoch, and there is none only where no epoch has one
 abbrev pub LastIsGreatest : Type 0
 LastIsGreatest =
     (band : Band) (epochs : List EpochCell) → PhasesFall epochs
-    → MatchOption (last_phase band epochs) (filter has_phase epochs ≡ []) (λ t. IsGreatest epochs t)
+    → MatchOption (last_phase band epochs) (filter has_phase epochs ≡ []) (λ t. IsGreatest band epochs t)
 
 -- an epoch after each earlier phase of a satellite and code is one that a step may have
 abbrev pub LaterThanSteps : Type 0

@@ -1,6 +1,6 @@
 //! The civil reading of a moment, and the moment of a reading, by `jiff`'s calendar.
 
-ghost use Rattle.std.specs.Prelude.{◌≡◌, ℕ, ◌≤◌, pos, ◌≤ℤ◌, MatchOption};
+ghost use Rattle.std.specs.Prelude.{◌≡◌, ℕ, ◌≤◌, pos, ◌≤ℤ◌, Option, Some, MatchOption};
 ghost use Rattle.std.specs.Option.{SomeIff};
 ghost use Rattle.rtk_obs.specs.declared.time.TheConstants.{LAST_MS};
 ghost use Rattle.rtk_obs.specs.Calendar.{IsOnDay, IsTimeOfDay, Reads, IsInYears, ms_of_day};
@@ -86,7 +86,8 @@ pub fn of_civil(reading: Civil) -> Option<GpsMs>
     GpsMs::new(u64::from(day) * DAY_MS + u64::from(rest))
 }
 
-/// A reading belongs to one moment. So `of_civil(civil(t))` is `t`.
+/// A reading belongs to one moment, and what `of_civil` answers to the reading of a moment is that moment.
 pub fn civil_laws()
     ensures one_moment { (s t : ℕ) (c : Civil) → Reads s c → Reads t c → s ≡ t }
+    ensures reads_back { (t : ℕ) (c : Civil) (answer : Option ℕ) → t ≤ LAST_MS → Reads t c → MatchOption answer ((s : ℕ) → s ≤ LAST_MS → ¬ (Reads s c)) (λ s. Reads s c) → answer ≡ Some t }
 {}

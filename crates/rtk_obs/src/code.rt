@@ -1,6 +1,6 @@
 //! Observation codes and the bands of their carriers.
 
-ghost use Rattle.std.specs.Prelude.{◌≡◌, ◌≢◌, ◌<◌, ◌≤◌, MatchOption};
+ghost use Rattle.std.specs.Prelude.{◌≡◌, ◌≢◌, ◌<◌, ◌≤◌, Option, Some, MatchOption};
 ghost use Rattle.rtk_obs.specs.Code.{name_of};
 ghost use Rattle.rtk_obs.specs.declared.code.Code.{Code};
 
@@ -141,7 +141,8 @@ impl Code {
     }
 }
 
-/// No two codes have one name. So `Code::from_name` of a code's `name` is the code.
+/// No two codes have one name, and what `Code::from_name` answers to a code's `name` is the code.
 pub fn code_laws()
     ensures names { (c d : Code) → name_of c ≡ name_of d → c ≡ d }
+    ensures reads_back { (c : Code) (answer : Option Code) → MatchOption answer ((d : Code) → name_of c ≢ name_of d) (λ d. name_of c ≡ name_of d) → answer ≡ Some c }
 {}

@@ -3,7 +3,7 @@
 ghost use Rattle.std.specs.Prelude.{◌≡◌, ◌^◌, ◌≤◌, ◌<◌, not, ◌&&◌, length, negsuc, unsigned_abs};
 ghost use Rattle.std.specs.List.{All, list_any};
 ghost use Rattle.rtk_message.specs.Obs1004.{IsValid};
-ghost use Rattle.rtk_obs.specs.Cell.{is_satellite, entry_of, IsInRange};
+ghost use Rattle.rtk_obs.specs.Cell.{is_satellite, entry_of, IsInRange, AreDistinct};
 ghost use Rattle.rtk_obs.specs.Scaling.{l2_length};
 ghost use Rattle.rtk_obs.specs.LegacyCells.{l1_code_of, l2_code_of, l1_range_of, l2_range_of, legacy_phase_of, length_of, l1_cell_of, l2_cell_of, has_number, cells_of_1004};
 ghost use Rattle.rtk_obs.specs.LegacyFields.{HasWidths};
@@ -183,6 +183,7 @@ pub fn cells_1004(message: &Obs1004) -> ArrayVec<CellEntry, 62>
     requires { IsValid message.now }
     ensures cells { result.items ≡ cells_of_1004 message.now.satellites }
     ensures ranges { All IsInRange result.items }
+    ensures distinct { AreDistinct result.items }
     ensures few { length result.items ≤ 62 }
 {
     satellite_cells(message.satellites.as_slice())

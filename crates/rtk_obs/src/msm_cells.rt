@@ -3,7 +3,7 @@
 ghost use Rattle.std.specs.Prelude.{◌≡◌, ◌+◌, ◌^◌, ◌≤◌, ◌<◌, ◌++◌, length, slice_index, option_to_list, IfSome, negsuc, unsigned_abs};
 ghost use Rattle.std.specs.List.{All};
 ghost use Rattle.rtk_message.specs.Msm1074.{IsValid, satellites, cells};
-ghost use Rattle.rtk_obs.specs.Cell.{IsInRange};
+ghost use Rattle.rtk_obs.specs.Cell.{IsInRange, AreDistinct};
 ghost use Rattle.rtk_obs.specs.LockTime.{least_lock_of_msm};
 ghost use Rattle.rtk_obs.specs.Scaling.{range_time};
 ghost use Rattle.rtk_obs.specs.MsmCells.{code_of_signal, satellites_of, signals_of, row_slots, slots_of, rough_of, fine_range_of, fine_phase_of, msm_range_of, msm_phase_of, msm_cell_of, slot_entry, cells_of_1074};
@@ -245,6 +245,7 @@ pub fn cells_1074(message: &Msm1074) -> ArrayVec<CellEntry, 64>
     requires { IsValid message.now }
     ensures cells { result.items ≡ cells_of_1074 message.now }
     ensures ranges { All IsInRange result.items }
+    ensures distinct { AreDistinct result.items }
     ensures few { length result.items ≤ 64 }
 {
     coded_cells(message)

@@ -1,5 +1,5 @@
-use Rattle.rtk_obs.proofs.CodeLemmas.{same_code}
+use Rattle.rtk_obs.proofs.CodeLemmas.{same_code, reads_back}
 use Rattle.rtk_obs.proofs.code.code_laws.Goals as goal
 
 pub returns : goal.returns
-returns c = record { names = same_code }
+returns c = record { names = same_code; reads_back = reads_back }
