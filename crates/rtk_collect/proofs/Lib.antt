@@ -6,6 +6,7 @@ pub mod WindowLemmas
 pub mod MembersLemmas
 pub mod SetsLemmas
 pub mod EqualityLemmas
+pub mod RisingLemmas
 pub mod PreferredLemmas
 pub mod DatedLemmas
 pub mod PositionLemmas
