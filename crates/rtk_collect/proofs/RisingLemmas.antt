@@ -7,7 +7,7 @@ use Rattle.rtk_obs.specs.declared.cell.CellEntry.{CellEntry}
 use Rattle.rtk_collect.specs.Key.{key, Rises}
 use Rattle.rtk_collect.specs.EpochCells.{with_cell, with_cells, cell_under, fresh, conflict, conflicts}
 use Rattle.rtk_collect.proofs.CellsLemmas.{with_cell-past}
-use Rattle.rtk_collect.proofs.ArrivalsLemmas.{whole}
+use Rattle.rtk_collect.proofs.JoinsLemmas.{whole}
 
 -- the search for two neighbours that do not rise
 
