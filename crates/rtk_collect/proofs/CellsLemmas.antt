@@ -14,7 +14,7 @@ use Rattle.rtk_collect.specs.declared.conflicts.SatelliteCode.{SatelliteCode}
 use Rattle.std.specs.Prelude.{◌*◌, not}
 use Rattle.rtk_obs.specs.Code.{place_of}
 use Rattle.rtk_collect.specs.Equal.{equal_cells}
-use Rattle.rtk_collect.specs.Key.{key, rank_of, Above, Rises}
+use Rattle.rtk_collect.specs.Key.{key, key_at, rank_of, Above, Rises}
 use Rattle.rtk_collect.proofs.EqualityLemmas.{place-less, rank-less}
 use Rattle.rtk_collect.specs.EpochCells.{with_cell, with_cells, cell_under, one_more, fresh, conflict, conflicts}
 use Rattle.rtk_collect.specs.Search.{lower}
@@ -327,11 +327,11 @@ keys-fit low top (x ∷ xs) l r f h =
     omega (arith, f)
 
 key-low : (c : CellEntry) → 1 ≤ c.satellite → 32 ≤ key c
-unfolding key
+unfolding key key_at
 key-low c h = omega arith
 
 key-high : (c : CellEntry) → c.satellite ≤ 32 → key c < 1056
-unfolding key
+unfolding key key_at
 key-high c h = let p = place-less c.code in let r = rank-less c.cell.source in omega arith
 
 low-from : (xs : List CellEntry) → AllByRecursion IsInRange xs → From 32 xs
@@ -351,7 +351,7 @@ cells-few xs r h =
 
 -- the parts of a key
 pub key-from : (c : CellEntry) (s p r : ℕ) → s ≡ c.satellite → p ≡ place_of c.code → r ≡ rank_of c.cell.source → (s * 16 + p) * 2 + r ≡ key c
-unfolding key
+unfolding key key_at
 key-from c s p r a b d = rw (a, b, d) refl
 
 pub push-few : (xs : List SatelliteCode) (x : SatelliteCode) (i : ℕ) → length xs ≤ i → length (xs ++ x ∷ []) ≤ i + 1

@@ -16,7 +16,7 @@ use Rattle.rtk_obs.specs.declared.code.Code.TheVariants.{C1C, C1P, C1W, C1S, C1L
 use Rattle.rtk_obs.specs.declared.cell.CellSource.{CellSource}
 use Rattle.rtk_obs.specs.declared.cell.CellSource.TheVariants.{Legacy, Msm}
 use Rattle.rtk_obs.specs.declared.cell.Cell.{Cell}
-use Rattle.rtk_collect.specs.Key.{key, rank_of}
+use Rattle.rtk_collect.specs.Key.{key, key_at, rank_of}
 use Rattle.rtk_collect.specs.Equal.{equal_sources, equal_cells, equal_1005, equal_1006}
 use Rattle.rtk_collect.specs.Laws.{KeysAreDistinct, EqualityDecides}
 
@@ -80,7 +80,7 @@ pub parts-one : (s s' p p' r r' : ℕ) → p < 16 → p' < 16 → r < 2 → r' <
 parts-one s s' p p' r r' a b c d h = (omega arith, omega arith, omega arith)
 
 pub keys-are-distinct : KeysAreDistinct
-unfolding key
+unfolding key key_at
 keys-are-distinct c d = (
   λ h. let p = parts-one c.satellite d.satellite (place_of c.code) (place_of d.code) (rank_of c.cell.source) (rank_of d.cell.source) (place-less c.code) (place-less d.code) (rank-less c.cell.source) (rank-less d.cell.source) h in
       (p.0, place-one c.code d.code p.1, rank-one c.cell.source d.cell.source p.2),

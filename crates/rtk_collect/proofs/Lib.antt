@@ -1,11 +1,14 @@
 pub mod CellsLemmas
 pub mod ArrivalsLemmas
+pub mod JoinsLemmas
 pub mod OffersLemmas
 pub mod StationLemmas
 pub mod WindowLemmas
+pub mod LateLemmas
 pub mod MembersLemmas
 pub mod SetsLemmas
 pub mod EqualityLemmas
+pub mod RisingLemmas
 pub mod PreferredLemmas
 pub mod DatedLemmas
 pub mod PositionLemmas

@@ -12,7 +12,8 @@ use Rattle.rtk_collect.specs.Late.{late}
 use Rattle.rtk_collect.specs.Accepted.{with_arrival, kept, cells_at}
 use Rattle.rtk_collect.specs.Search.{Falls, leading}
 use Rattle.rtk_collect.specs.Answer.{Class, LateClass, TakenClass, RepeatClass, ConflictClass, class_by, class_of_cells, class_in_time, class_of, conflicts_with, conflicts_of}
-use Rattle.rtk_collect.proofs.ArrivalsLemmas.{opened, with_arrival-found, with_arrival-absent, with_arrival-falls, found-cells, absent-cells, leading-length, Joins, offer-joins, whole, kept-found, kept-none}
+use Rattle.rtk_collect.proofs.ArrivalsLemmas.{opened, with_arrival-found, with_arrival-absent, with_arrival-falls, found-cells, absent-cells}
+use Rattle.rtk_collect.proofs.JoinsLemmas.{leading-length, Joins, offer-joins, whole, kept-found, kept-none}
 
 pub length-set : (i : ℕ) (v : EpochCells) (xs : List EpochCells) → length (set xs i v) ≡ length xs
 length-set zero v [] = refl

@@ -12,7 +12,8 @@ use Rattle.rtk_collect.specs.Search.{Falls}
 use Rattle.rtk_collect.specs.Laws.{HasEpoch, IsKept, SetDecides}
 use Rattle.rtk_collect.proofs.CellsLemmas.{with_cells-rises}
 use Rattle.rtk_collect.proofs.ArrivalsLemmas.{kept-falls, with_arrival-new, with_arrival-below, with_arrival-same}
-use Rattle.rtk_collect.proofs.MembersLemmas.{kept-late, kept-new, kept-are-taken}
+use Rattle.rtk_collect.proofs.MembersLemmas.{kept-are-taken}
+use Rattle.rtk_collect.proofs.LateLemmas.{kept-late, kept-new}
 
 among-above : (c x : CellEntry) (xs : List CellEntry) → Rises (x ∷ xs) → AmongCells c xs → key x < key c
 among-above c x [] f m = absurd m

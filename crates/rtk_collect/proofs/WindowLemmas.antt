@@ -18,7 +18,8 @@ use Rattle.rtk_collect.specs.Search.{Falls, leading}
 use Rattle.rtk_collect.specs.Answer.{Answers, TakenClass, RepeatClass, ConflictClass, class_of_cells, class_of}
 use Rattle.rtk_collect.specs.Observed.{IsAnswerOf}
 use Rattle.rtk_collect.specs.Offered.{ClosesBelow, ClosesLeast, NotBelow}
-use Rattle.rtk_collect.proofs.ArrivalsLemmas.{leadingN, late-false, sets-open, found-cells, absent-cells, leading-length, kept-found, kept-none, opened, with_arrival-new, with_arrival-below, with_arrival-same, offer-late, parts, whole}
+use Rattle.rtk_collect.proofs.ArrivalsLemmas.{leadingN, late-false, sets-open, found-cells, absent-cells, opened, with_arrival-new, with_arrival-below, with_arrival-same}
+use Rattle.rtk_collect.proofs.JoinsLemmas.{leading-length, kept-found, kept-none, offer-late, parts, whole}
 use Rattle.rtk_collect.proofs.OffersLemmas.{length-insert, class-is, OpenStep, open-step, OpenParts, open-parts, NewStep, new-step, NewParts, new-parts, class-late, cells-taken, cells-stale, by-none, by-some}
 
 -- each epoch is at least so great

@@ -17,7 +17,7 @@ key_at satellite code source = (satellite * 16 + place_of code) * 2 + rank_of so
 
 -- the key of a cell in its epoch
 unfoldable pub key : CellEntry → ℕ
-key c = (c.satellite * 16 + place_of c.code) * 2 + rank_of c.cell.source
+key c = key_at c.satellite c.code c.cell.source
 
 -- the first of the cells, if there is one, has a greater key
 abbrev pub Above : ℕ → List CellEntry → Type 0

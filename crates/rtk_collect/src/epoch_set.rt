@@ -6,7 +6,7 @@ ghost use Rattle.rtk_collect.specs.Key.{Rises};
 ghost use Rattle.rtk_collect.specs.EpochCells.{joined, fresh, conflicts};
 
 use crate::conflicts::Conflicts;
-use crate::merging::{count_fresh, merge};
+use crate::merging::{count_fresh, merge, rises};
 use rtk_obs::{CellEntry, GpsMs};
 use std::alloc::{AllocError, Global};
 use std::marker::Model;
@@ -80,6 +80,16 @@ impl EpochSet {
         ensures err { OnErr result (self.new ≡ self.old) }
         ensures refused { OnErr result (0 < fresh cells.now self.old.cells) }
     {
+        if self.cells.is_empty() && rises(cells) {
+            // The common case: the cells of the epoch as they stand.
+            if let Err(_) = self.cells.extend_from_slice(cells) {
+                return Err(AllocError);
+            }
+            return Ok(Joined {
+                fresh: cells.len(),
+                conflicts: Conflicts::new(),
+            });
+        }
         let fresh = count_fresh(cells, &self.cells);
         if let Err(_) = self.cells.reserve(fresh) {
             return Err(AllocError);

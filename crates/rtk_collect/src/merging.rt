@@ -1,6 +1,6 @@
 //! The cells of a message join those of their epoch.
 
-ghost use Rattle.std.specs.Prelude.{◌≡◌, ◌≤◌, ◌+◌, [], ◌∷◌, length, vec_len, vec_capacity, if◌then◌else◌};
+ghost use Rattle.std.specs.Prelude.{◌≡◌, ◌≤◌, ◌+◌, [], ◌∷◌, length, vec_len, vec_capacity, IsTrue, if◌then◌else◌};
 ghost use Rattle.rtk_collect.specs.Key.{key, Rises};
 ghost use Rattle.rtk_collect.specs.EpochCells.{with_cell, with_cells, cell_under, fresh, conflict, conflicts};
 ghost use Rattle.rtk_collect.specs.Search.{lower};
@@ -17,6 +17,20 @@ fn key_of(entry: &CellEntry) -> usize
         CellSource::Legacy => 1,
     };
     (usize::from(entry.satellite) * 16 + entry.code.place()) * 2 + rank
+}
+
+/// Whether the keys of the cells rise.
+pub(crate) fn rises(cells: &[CellEntry]) -> bool
+    ensures { IsTrue result → Rises cells.now }
+{
+    let mut at = 1;
+    while at < cells.len() {
+        if key_of(&cells[at - 1]) >= key_of(&cells[at]) {
+            return false;
+        }
+        at += 1;
+    }
+    true
 }
 
 /// How many of the cells have a key under which none is kept.

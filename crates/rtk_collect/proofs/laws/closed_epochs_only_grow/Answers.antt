@@ -1,4 +1,4 @@
-use Rattle.rtk_collect.proofs.MembersLemmas.{closed-only-grow, closed-fall, closed-after}
+use Rattle.rtk_collect.proofs.LateLemmas.{closed-only-grow, closed-fall, closed-after}
 use Rattle.rtk_collect.proofs.laws.closed_epochs_only_grow.Goals as goal
 
 pub returns-clause-grow : goal.returns-clause-grow

@@ -1,4 +1,4 @@
-use Rattle.rtk_collect.proofs.MembersLemmas.{excused-is-kept, stations-are-final}
+use Rattle.rtk_collect.proofs.LateLemmas.{excused-is-kept, stations-are-final}
 use Rattle.rtk_collect.proofs.laws.stations_are_final.Goals as goal
 
 pub returns-clause-excused : goal.returns-clause-excused

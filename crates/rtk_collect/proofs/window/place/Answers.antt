@@ -1,7 +1,7 @@
 use Rattle.std.proofs.Common.{◌≡◌, ◌≤◌, ◌<◌, ◌+◌, ◌-◌, ◌/◌, ℕ, true, false, ap, arith, sym, ◌∙◌, is_gt, nat_cmp}
 use Rattle.std.proofs.lemmas.Bool.Decides.{nat_tests}
 use Rattle.rtk_collect.specs.EpochCells.{EpochCells}
-use Rattle.rtk_collect.proofs.ArrivalsLemmas.{leading-length, leading-past, leading-stop}
+use Rattle.rtk_collect.proofs.JoinsLemmas.{leading-length, leading-past, leading-stop}
 use Rattle.rtk_collect.proofs.window.place.Goals as goal
 
 gt-true : (a b : ℕ) → is_gt (nat_cmp a b) ≡ true → b < a

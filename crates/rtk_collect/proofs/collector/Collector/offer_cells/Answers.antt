@@ -4,7 +4,7 @@ use Rattle.rtk_collect.specs.Collector.{Window}
 use Rattle.rtk_collect.specs.Accepted.{no_cells}
 use Rattle.rtk_collect.specs.Observed.{Observes, WouldTake}
 use Rattle.rtk_collect.specs.Offered.{ClosesLeast, LeastNeverFalls}
-use Rattle.rtk_collect.proofs.ArrivalsLemmas.{leading-length}
+use Rattle.rtk_collect.proofs.JoinsLemmas.{leading-length}
 use Rattle.rtk_collect.proofs.OffersLemmas.{length-insert}
 use Rattle.rtk_collect.proofs.WindowLemmas.{Branch, open-branch, late-branch, new-branch, fresh-taken, new-taken}
 use Rattle.rtk_collect.proofs.collector.Collector.offer_cells.Goals as goal
