@@ -2,6 +2,7 @@
 # Runs the program as a user does, and looks at standard output, standard error and the exit status.
 # The program is $1. Prints `ok NAME` or `FAILED NAME` for each test, and last `PASSED FAILED`, two counts.
 set -u
+root=$(cd "$(dirname "$(readlink -f "$0")")/../.." && pwd)
 program=$(readlink -f "$1")
 work=$(mktemp -d)
 trap 'rm -rf "$work"' EXIT
@@ -10,11 +11,19 @@ cd "$work" || exit 1
 passed=0
 failed=0
 arp='1005 station 2003 x 1114104.5999 y -4850729.7108 z 3975521.4643'
+epoch='1004 station 2003 tow 475200000 satellites 1'
 hex='D3 00 13 3E D7 D3 02 02 98 0E DE EF 34 B4 BD 62 AC 09 41 98 6F 33 36 0B 98'
 
-# expect NAME STATUS STDOUT STDERR: what the last run left (each text without its last line end)
+# text TEXT: the text and a line feed; nothing where the text is empty
+text() {
+    if [ -n "$1" ]; then printf '%s\n' "$1"; fi
+}
+
+# expect NAME STATUS STDOUT STDERR: what the last run left, each text ended by one line feed, byte for byte
 expect() {
-    if [ "$status" = "$2" ] && [ "$(cat out)" = "$3" ] && [ "$(cat err)" = "$4" ]; then
+    text "$3" >want_out
+    text "$4" >want_err
+    if [ "$status" = "$2" ] && cmp -s out want_out && cmp -s err want_err; then
         echo "ok $1"
         passed=$((passed + 1))
     else
@@ -26,6 +35,12 @@ expect() {
 # run WORD..: standard input as it is
 run() {
     "$program" "$@" >out 2>err
+    status=$?
+}
+
+# start WORD..: the same by the command that builds the program where it must
+start() {
+    "$root/bin/rtcm2rinex" "$@" >out 2>err
     status=$?
 }
 
@@ -41,12 +56,40 @@ Options:
   -h, --help     Print help
   -V, --version  Print version'
 
-no_file='error: the following required arguments were not provided:
+show_help='Shows the messages of a capture, a line for each frame
+
+Usage: rtcm2rinex show [OPTIONS] <FILE>
+
+Arguments:
+  <FILE>  The capture, or stdin for standard input
+
+Options:
+      --hex   The capture is hex text
+  -h, --help  Print help'
+
+try="
+For more information, try '--help'."
+
+no_file="error: the following required arguments were not provided:
   <FILE>
 
 Usage: rtcm2rinex show <FILE>
+$try"
 
-For more information, try '"'--help'"'.'
+hex_twice="error: the argument '--hex' cannot be used multiple times
+
+Usage: rtcm2rinex show [OPTIONS] <FILE>
+$try"
+
+unknown_option="error: unexpected argument '--frob' found
+
+Usage: rtcm2rinex <COMMAND>
+$try"
+
+msm='1074 station 2003 tow 475200000 satellites 1 signals 1 cells 1
+1074 station 2003 tow 475201000 satellites 1 signals 1 cells 1
+1074 station 2003 tow 475202000 satellites 1 signals 1 cells 1
+1074 station 2003 tow 475203000 satellites 1 signals 1 cells 1'
 
 printf '%s\n' "$hex" >arp.hex
 printf '\323\000\023\076\327\323\002\002\230\016\336\357\064\264\275\142\254\011\101\230\157\063\066\013\230' >arp.rtcm
@@ -71,6 +114,8 @@ run show --hex long </dev/null;           expect hex_too_long 1 '' 'rtcm2rinex: 
 run show --hex arp.rtcm </dev/null;       expect bytes_as_hex 1 '' 'rtcm2rinex: input is not hex'
 printf 'D3 0' | "$program" show --hex stdin >out 2>err; status=$?
 expect odd_digits 1 '' 'rtcm2rinex: input is not hex'
+printf 'd3\t00\r\n0047eA4b\r\n' | "$program" show --hex stdin >out 2>err; status=$?
+expect tabs_line_ends_and_both_cases 0 'refused M1 -' ''
 run show nowhere </dev/null;              expect missing_file 1 '' 'rtcm2rinex: cannot open nowhere'
 run show 'no where' </dev/null;           expect missing_file_with_a_blank 1 '' 'rtcm2rinex: cannot open no where'
 run show '' </dev/null;                   expect empty_name 1 '' 'rtcm2rinex: cannot open '
@@ -90,8 +135,28 @@ fi
 expect closed_output 1 '' 'rtcm2rinex: write failed'
 "$program" show nowhere >out 2>&-; status=$?; : >err
 expect closed_standard_error 1 '' ''
-run --help </dev/null;                    expect help 0 "$help" ''
+
+for words in --help -h help; do
+    run $words </dev/null;                expect "$words" 0 "$help" ''
+done
+run show --help </dev/null;               expect show_help 0 "$show_help" ''
+run help show </dev/null;                 expect help_show 0 "$show_help" ''
 run --version </dev/null;                 expect version 0 'rtcm2rinex 0.1.0' ''
+run -V </dev/null;                        expect version_in_short 0 'rtcm2rinex 0.1.0' ''
 run show </dev/null;                      expect no_file 2 '' "$no_file"
+run show --hex --hex arp.hex </dev/null;  expect hex_twice 2 '' "$hex_twice"
+run --frob </dev/null;                    expect unknown_option 2 '' "$unknown_option"
+
+# The captures of examples/ by the command of the README, which passes words, streams and status on.
+start show "$root/examples/base.rtcm" </dev/null
+expect start_base 0 "$arp
+$epoch" ''
+start show stdin <"$root/examples/hidden.rtcm"
+expect start_hidden 0 "$arp
+$arp" ''
+start show "$root/examples/msm.rtcm" </dev/null;        expect start_msm 0 "$msm" ''
+start show --hex "$root/examples/arp1005.hex" </dev/null; expect start_hex 0 "$arp" ''
+start show nowhere </dev/null;            expect start_failed 1 '' 'rtcm2rinex: cannot open nowhere'
+start show </dev/null;                    expect start_refused 2 '' "$no_file"
 
 echo "$passed $failed"

@@ -1,5 +1,5 @@
 -- A payload has one line, and frames have one text.
-use Rattle.std.proofs.Common.{◌≡◌, ℕ, Bool, List, [], ◌∷◌, ◌++◌, Option, Some, Result, Ok, Err, sym, ◌∙◌, ap}
+use Rattle.std.proofs.Common.{◌≡◌, ℕ, Bool, List, [], ◌∷◌, Some, Result, Ok, Err, sym, ◌∙◌, ap}
 use Rattle.rtk_bits.specs.Bits.{bits}
 use Rattle.rtk_frame.specs.Frames.{Frame}
 use Rattle.rtk_message.specs.declared.message.Message.{Message}

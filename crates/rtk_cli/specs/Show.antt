@@ -1,5 +1,5 @@
 -- The command `show`.
-use Rattle.std.specs.Prelude.{◌≡◌, ℕ, Bool, List, Option, Some, None}
+use Rattle.std.specs.Prelude.{◌≡◌, ℕ, List, Option, Some, None}
 use Rattle.rtk_cli.specs.declared.words.ToolFault.{ToolFault}
 use Rattle.rtk_cli.specs.declared.words.ToolFault.TheVariants.{Input, TooLong, NotHex, OutOfMemory, Output}
 use Rattle.rtk_cli.specs.Shown.{ShowsPart}

@@ -1,5 +1,5 @@
 //! Files and standard streams as sources and sinks: nothing is known of what they gave and took.
-ghost use Rattle.std.specs.Prelude.{None};
+ghost use Rattle.std.specs.Prelude.{◌≡◌, None};
 
 use rtk_frame::{Sink, Source, StreamFault};
 use std::io::{Read, Write};
@@ -14,7 +14,9 @@ pub struct Reads<R: Read> {
 
 impl<R: Read> Reads<R> {
     /// A source over a reader, before its first call.
-    pub fn new(inner: R) -> Reads<R> {
+    pub fn new(inner: R) -> Reads<R>
+        ensures no_call { (result.made ≡ 0) × (result.failed ≡ 0) }
+    {
         Reads {
             inner,
             failed: 0,
@@ -51,7 +53,9 @@ pub struct Writes<W: Write> {
 
 impl<W: Write> Writes<W> {
     /// A sink over a writer, before its first call.
-    pub fn new(inner: W) -> Writes<W> {
+    pub fn new(inner: W) -> Writes<W>
+        ensures no_failed_call { result.failed ≡ 0 }
+    {
         Writes { inner, failed: 0 }
     }
 }

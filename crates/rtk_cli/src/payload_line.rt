@@ -132,9 +132,9 @@ pub fn put_line(lines: &mut Vec<u8>, payload: &[u8]) -> Result<(), AllocError>
     ensures { OnOk result ((line : List ℕ) × IsLineOf payload.now line
         × (lines.new.items ≡ lines.old.items ++ line)) }
 {
-    match &decode(payload) {
-        Ok(message) => put_message(lines, message)?,
-        Err(fault) => put_fault(lines, *fault)?,
+    match decode(payload) {
+        Ok(message) => put_message(lines, &message)?,
+        Err(fault) => put_fault(lines, fault)?,
     }
     lines.push(b'\n')?;
     Ok(())

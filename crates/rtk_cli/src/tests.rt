@@ -2,5 +2,6 @@
 
 mod faults;
 mod lines;
+mod long;
 mod rows;
 mod words;

@@ -77,8 +77,9 @@ fn texts_that_are_not_hex(rt: HostRuntime) -> Result<(), Fail> {
 // An endless source: one byte more than the limit is too long, whether or not it is hex.
 #[test]
 fn one_byte_over_the_limit(rt: HostRuntime) -> Result<(), Fail> {
+    assert_eq!(rt; SHOW_LIMIT, 16_777_216);
     for hex in [false, true] {
-        let mut reader = MemSource::new(rt.alloc(), b"", SHOW_LIMIT, After::Zeros)?;
+        let mut reader = MemSource::new(rt.alloc(), b"", 16_777_216, After::Zeros)?;
         let mut out = MemSink::new(rt.alloc(), 100, 100)?;
         let answer = show(rt.alloc(), &mut reader, &mut out, hex);
         assert_eq!(rt; answer, Err(ToolFault::TooLong));

@@ -66,16 +66,39 @@ Usage: rtcm2rinex <COMMAND>
 For more information, try '--help'.
 ";
 
+const HEX_TWICE: &str = "\
+error: the argument '--hex' cannot be used multiple times
+
+Usage: rtcm2rinex show [OPTIONS] <FILE>
+
+For more information, try '--help'.
+";
+
+const UNKNOWN_OPTION: &str = "\
+error: unexpected argument '--hax' found
+
+  tip: a similar argument exists: '--hex'
+
+Usage: rtcm2rinex show --hex <FILE>
+
+For more information, try '--help'.
+";
+
 #[test]
 fn texts_of_clap(rt: HostRuntime) -> Result<(), Fail> {
-    let rows: [(&[&str], u8, &str); 8] = [
+    let rows: [(&[&str], u8, &str); 13] = [
         (&["--help"], 0, HELP),
         (&["-h"], 0, HELP),
+        (&["help"], 0, HELP),
         (&["--version"], 0, "rtcm2rinex 0.1.0\n"),
+        (&["-V"], 0, "rtcm2rinex 0.1.0\n"),
         (&["show", "--help"], 0, SHOW_HELP),
+        (&["help", "show"], 0, SHOW_HELP),
         (&[], 2, NO_COMMAND),
         (&["show"], 2, NO_FILE),
         (&["show", "a", "b"], 2, TWO_FILES),
+        (&["show", "--hex", "--hex", "a"], 2, HEX_TWICE),
+        (&["show", "--hax", "a"], 2, UNKNOWN_OPTION),
         (&["shew", "a"], 2, NO_SUCH_COMMAND),
     ];
     for (words, want_status, want) in rows {

@@ -1,4 +1,4 @@
-use Rattle.std.proofs.Common.{◌≡◌, ◌++◌, ◌∙◌, ◌≤◌, ◌+◌, List, ℕ, ap, take, length, arith, length-append}
+use Rattle.std.proofs.Common.{◌++◌, ◌∙◌, ◌≤◌, ◌+◌, List, ℕ, ap, take, length, arith}
 use Rattle.std.proofs.lemmas.Grind.{common_steps}
 use Rattle.rtk_frame.specs.Stream.{with_more}
 use Rattle.rtk_frame.proofs.StreamLemmas.{with_more-with_more}

@@ -1,4 +1,4 @@
-use Rattle.std.proofs.Common.{◌≡◌, ◌++◌, ◌∷◌, [], ◌∙◌, List, ℕ, ap, refl, append_assoc}
+use Rattle.std.proofs.Common.{◌≡◌, ◌++◌, ◌∷◌, [], List, ℕ, ap, refl, append_assoc}
 use Rattle.rtk_cli.specs.Shown.{line_of, message_text, fault_text}
 use Rattle.rtk_cli.proofs.payload_line.put_line.Goals as goal
 use Rattle.rtk_cli.proofs.payload_line.put_line.Goals.{in-Ok+in_ok-put_message-in-Ok, in-Err+in_ok-put_fault-in-Err}

@@ -1,4 +1,4 @@
-use Rattle.std.proofs.Common.{◌≡◌, ◌+◌, ◌∙◌, ℕ, List, [], Option, refl, sym, subst, arith, length}
+use Rattle.std.proofs.Common.{◌+◌, ◌∙◌, ℕ, List, [], Option, refl, sym, subst, arith, length}
 use Rattle.rtk_cli.proofs.ShownLemmas.{Progress, start, stepped, flushed, part_now, part_then, all_shown, all_counted}
 use Rattle.rtk_cli.proofs.showing.show_capture.Goals as goal
 
