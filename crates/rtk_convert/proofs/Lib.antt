@@ -1,0 +1,7 @@
+pub mod PlacesLemmas
+pub mod ThroughLemmas
+pub mod RowsLemmas
+pub mod FileLemmas
+pub mod WrittenLemmas
+pub mod TableLemmas
+pub mod RecordsLemmas

@@ -1,0 +1,8 @@
+//! Laws on the file of a set of messages, whatever arrivals the set came from.
+
+ghost use Rattle.rtk_convert.specs.FileLaws.{FileIsTable};
+
+/// The file of every set is the text of a well-formed table, so the checker accepts it.
+pub fn file_laws()
+    ensures table { FileIsTable }
+{}
