@@ -2,6 +2,5 @@ pub mod PlacesLemmas
 pub mod ThroughLemmas
 pub mod RowsLemmas
 pub mod FileLemmas
-pub mod WrittenLemmas
 pub mod TableLemmas
 pub mod RecordsLemmas

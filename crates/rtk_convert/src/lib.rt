@@ -14,3 +14,6 @@ pub use counts::Counts;
 pub use fault::{ConvertFault, Stream};
 pub use laws::file_laws;
 pub use setup::{Setup, SetupFault};
+
+#[cfg(test)]
+mod tests;
