@@ -1,0 +1,6 @@
+pub mod PlacesLemmas
+pub mod ThroughLemmas
+pub mod RowsLemmas
+pub mod FileLemmas
+pub mod TableLemmas
+pub mod RecordsLemmas

@@ -1,0 +1,48 @@
+-- One more closed epoch.
+use Rattle.std.proofs.Common.{◌≡◌, ℕ, Bool, true, false, List, [], ◌∷◌, Option, None, Some, refl, ap, sym, ◌∙◌}
+use Rattle.std.specs.Prelude.{is_some}
+use Rattle.rtk_obs.specs.declared.code.Code.{Code}
+use Rattle.rtk_collect.specs.EpochCells.{EpochCells}
+use Rattle.rtk_frame.specs.Stream.{count_after}
+use Rattle.rtk_convert.specs.File.{record_of, first_or, first_time, one_more_if_any, record_count}
+use Rattle.rtk_convert.specs.FilePrefix.{is_any}
+use Rattle.rtk_convert.specs.LastPhases.{HasLastPhases}
+use Rattle.rtk_convert.specs.Records.{Closed, Follows}
+
+first-no : (o : Option ℕ) (e : ℕ) (text : List ℕ) → is_any text ≡ false → first_or o e text ≡ o
+first-no (Some t) e text h = refl
+first-no None e [] h = refl
+first-no None e (x ∷ text) h = cc
+
+first-yes : (o : Option ℕ) (e : ℕ) (text : List ℕ) → is_any text ≡ true → is_some (first_or o e text) ≡ true
+first-yes (Some t) e text h = refl
+first-yes None e [] h = cc
+first-yes None e (x ∷ text) h = refl
+
+count-no : (n : ℕ) (text : List ℕ) → is_any text ≡ false → one_more_if_any text n ≡ n
+count-no n [] h = refl
+count-no n (x ∷ text) h = cc
+
+count-yes : (n : ℕ) (text : List ℕ) → is_any text ≡ true → one_more_if_any text n ≡ count_after n
+count-yes n [] h = cc
+count-yes n (x ∷ text) h = refl
+
+-- an epoch without a record
+pub follows-no : (old new : Closed) (listed : List Code) (e : EpochCells) (below : List EpochCells) → HasLastPhases new.tracks (e ∷ below) → new.header_out ≡ old.header_out
+    → new.count ≡ old.count → is_any (record_of listed e below) ≡ false → Follows old listed below → Follows new listed (e ∷ below)
+unfolding first_time record_count
+follows-no old new listed e below phases out count none f = record {
+  phases = phases;
+  header_out = out ∙ f.header_out ∙ ap (λ (o : Option ℕ). is_some o) (sym (first-no (first_time listed below) e.epoch (record_of listed e below) none));
+  count = count ∙ f.count ∙ sym (count-no (record_count listed below) (record_of listed e below) none);
+}
+
+-- one with a record
+pub follows-yes : (old new : Closed) (listed : List Code) (e : EpochCells) (below : List EpochCells) → HasLastPhases new.tracks (e ∷ below) → new.header_out ≡ true
+    → new.count ≡ count_after old.count → is_any (record_of listed e below) ≡ true → Follows old listed below → Follows new listed (e ∷ below)
+unfolding first_time record_count
+follows-yes old new listed e below phases out count some f = record {
+  phases = phases;
+  header_out = out ∙ sym (first-yes (first_time listed below) e.epoch (record_of listed e below) some);
+  count = count ∙ ap count_after f.count ∙ sym (count-yes (record_count listed below) (record_of listed e below) some);
+}

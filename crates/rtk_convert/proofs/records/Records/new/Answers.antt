@@ -1,0 +1,12 @@
+use Rattle.std.proofs.Common.{Option, refl, sym, subst}
+use Rattle.rtk_obs.specs.declared.track.Track.{Track}
+use Rattle.rtk_obs.specs.Tracks.{IsLater}
+use Rattle.rtk_convert.specs.File.{first_time, record_count}
+use Rattle.rtk_convert.proofs.records.Records.new.Goals as goal
+
+pub returns-clause-follows : goal.returns-clause-follows
+unfolding first_time record_count
+returns-clause-follows c = λ listed. record { phases = c.new.ensures.represents.last; header_out = refl; count = refl }
+
+pub returns-clause-below : goal.returns-clause-below
+returns-clause-below c = λ epoch s k hs. subst (λ (o : Option Track). IsLater o epoch) (sym (c.new.ensures.represents.last s k hs)) tt

@@ -1,0 +1,56 @@
+use Rattle.std.proofs.Common.{◌≡◌, ℕ, ◌+◌, ◌<◌, ◌≤◌, List, [], ◌∷◌, ◌++◌, length, sym, ap, subst, ◌∙◌, arith, true, false}
+use Rattle.std.proofs.lemmas.List.{append-nil, length-append}
+use Rattle.std.proofs.lemmas.List.Elements.{All-nil, All-same, All-push, All-weaker}
+use Rattle.rtk_rinex.specs.declared.epoch_table.SatelliteRow.{SatelliteRow}
+use Rattle.rtk_rinex.specs.Record.{Epoch, IsRow}
+use Rattle.rtk_convert.specs.Rows.{row_with, row_if_any, rows_to}
+use Rattle.rtk_convert.specs.LastPhases.{shown_at}
+use Rattle.rtk_convert.proofs.RowsLemmas.{rows_to-zero, rows-step, row-yes, row-no, row-good}
+use Rattle.rtk_convert.proofs.rows.put_rows.Goals as goal
+use Rattle.rtk_convert.proofs.rows.put_rows.Goals.{then-has_listed, else-has_listed}
+
+pub loop-before-init : goal.loop-before-init
+loop-before-init c =
+    let rows = ap (λ (e : Epoch). e.rows) c.restart.ensures in
+    record {
+      time = ap (λ (e : Epoch). e.time) c.restart.ensures;
+      rows = rows ∙ sym (rows_to-zero (shown_at c.args.shown.now) c.args.listed.now);
+      rise = All-same (λ (r : SatelliteRow). r.satellite ≤ 0) c.restart.new.self.rows [] rows (All-nil (λ (r : SatelliteRow). r.satellite ≤ 0));
+      room = omega (arith, ap length rows);
+    }
+
+pub push-requires-clause-good : goal.push-requires-clause-good
+push-requires-clause-good c =
+    let inside = c.loop-before-test.true in
+    subst (λ (r : SatelliteRow). IsRow r) (sym c.row_of.ensures)
+    (row-good c.args.shown.now c.args.listed.now (c.loop-before.before + 1) (omega arith, omega arith) c.requires.strengths)
+
+pub loop-before-preserved : goal.loop-before-preserved
+loop-before-preserved c =
+    let n = c.loop-before.before in
+    let f = shown_at c.args.shown.now in
+    let before = c.loop-before.invariant in
+    elim c.if-has_listed.branch [
+      | then-has_listed w ↦
+          let table = w.table-is ∙ w.push.ensures in
+          let rows = ap (λ (e : Epoch). e.rows) table in
+          let satellite = ap (λ (r : SatelliteRow). r.satellite) w.row_of.ensures in record {
+            time = ap (λ (e : Epoch). e.time) table ∙ before.time;
+            rows = rows ∙ rows-step f c.args.listed.now n c.loop-before.table.rows (w.row_of.result ∷ []) before.rows
+                (ap (λ (r : SatelliteRow). r ∷ []) w.row_of.ensures ∙ sym (row-yes f c.args.listed.now (n + 1) (sym c.has_listed.ensures ∙ w.if-has_listed.true)));
+            rise = All-same (λ (r : SatelliteRow). r.satellite ≤ n + 1) c.if-has_listed.table.rows (c.loop-before.table.rows ++ w.row_of.result ∷ []) rows
+                (All-push (λ (r : SatelliteRow). r.satellite ≤ n + 1) c.loop-before.table.rows w.row_of.result
+                (All-weaker (λ (r : SatelliteRow). r.satellite ≤ n) (λ (r : SatelliteRow). r.satellite ≤ n + 1) (λ r h. omega arith) c.loop-before.table.rows before.rise)
+                (omega (arith, satellite)));
+            room = omega (arith, before.room, ap length rows ∙ length-append c.loop-before.table.rows (w.row_of.result ∷ []));
+          }
+      | else-has_listed w ↦
+          let rows = ap (λ (e : Epoch). e.rows) w.table-is in record {
+            time = ap (λ (e : Epoch). e.time) w.table-is ∙ before.time;
+            rows = rows ∙ sym (append-nil c.loop-before.table.rows) ∙ rows-step f c.args.listed.now n c.loop-before.table.rows [] before.rows
+                (sym (row-no f c.args.listed.now (n + 1) (sym c.has_listed.ensures ∙ w.if-has_listed.false)));
+            rise = All-same (λ (r : SatelliteRow). r.satellite ≤ n + 1) c.if-has_listed.table.rows c.loop-before.table.rows rows
+                (All-weaker (λ (r : SatelliteRow). r.satellite ≤ n) (λ (r : SatelliteRow). r.satellite ≤ n + 1) (λ r h. omega arith) c.loop-before.table.rows before.rise);
+            room = omega (arith, before.room, ap length rows);
+          }
+    ]

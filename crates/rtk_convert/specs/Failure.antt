@@ -1,0 +1,11 @@
+-- Why a call breaks off.
+use Rattle.rtk_convert.specs.declared.fault.ConvertFault.{ConvertFault}
+use Rattle.rtk_convert.specs.declared.fault.ConvertFault.TheVariants.{Setup, NoLink, LinkClosed, OutOfMemory, Write, Read, Endless, Stopped}
+use Rattle.rtk_convert.specs.declared.fault.Stream.{Stream}
+use Rattle.rtk_convert.specs.declared.fault.Stream.TheVariants.{Out, Log}
+
+-- memory was refused, or a write to the file failed
+abbrev pub IsOutFault : ConvertFault → Type 0
+IsOutFault OutOfMemory = Unit {0}
+IsOutFault (Write Out) = Unit {0}
+IsOutFault _ = ⊥

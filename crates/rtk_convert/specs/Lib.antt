@@ -1,0 +1,10 @@
+pub mod Settings
+pub mod SettingsFault
+pub mod Rows
+pub mod LastPhases
+pub mod File
+pub mod FilePrefix
+pub mod ReportText
+pub mod Failure
+pub mod FileLaws
+pub mod Records

@@ -1,0 +1,49 @@
+-- The lines of a report (this project's rule). Links are counted from 1; moments are read as GPS time.
+use Rattle.std.specs.Prelude.{ℕ, ◌+◌, List, [], ◌∷◌, ◌++◌, codes, decimal, Option, None, Some}
+use Rattle.rtk_obs.specs.declared.code.Code.{Code}
+use Rattle.rtk_obs.specs.declared.time.Civil.{Civil}
+use Rattle.rtk_obs.specs.Code.{name_of}
+use Rattle.rtk_rinex.specs.Columns.{last_digits}
+use Rattle.rtk_rinex.specs.Reading.{reading_of}
+use Rattle.rtk_convert.specs.declared.counts.Counts.{Counts}
+
+-- a reading, as 2024-05-17 12:00:00.000
+abbrev pub civil_text : Civil → List ℕ
+civil_text c =
+    last_digits 4 c.year ++ 45 ∷ last_digits 2 c.month ++ 45 ∷ last_digits 2 c.day
+    ++ 32 ∷ last_digits 2 c.hour ++ 58 ∷ last_digits 2 c.minute ++ 58 ∷ last_digits 2 c.second ++ 46 ∷ last_digits 3 c.millisecond
+
+-- the epoch of a message; a hyphen for a station message, which has none
+abbrev pub epoch_text : Option ℕ → List ℕ
+epoch_text None = codes "-"
+epoch_text (Some t) = civil_text (reading_of t)
+
+abbrev pub link_text : ℕ → List ℕ
+link_text link = codes "link " ++ decimal (link + 1)
+
+-- a link, a message number and an epoch, as in: link 2 late 1074 2024-05-17 12:00:00.000
+abbrev pub message_text : ℕ → List ℕ → ℕ → Option ℕ → List ℕ
+message_text link what number epoch = link_text link ++ what ++ decimal number ++ 32 ∷ epoch_text epoch
+
+-- a message that came too late
+abbrev pub late_line : ℕ → ℕ → Option ℕ → List ℕ
+late_line link number epoch = message_text link (codes " late ") number epoch ++ 10 ∷ []
+
+-- a station message that differs from the one before
+abbrev pub conflict_line : ℕ → ℕ → List ℕ
+conflict_line link number = message_text link (codes " conflict ") number None ++ 10 ∷ []
+
+-- a cell that differs from the one before, as in: link 1 conflict 1074 2024-05-17 12:00:00.000 G05 1C
+abbrev pub cell_conflict_line : ℕ → ℕ → ℕ → ℕ → Code → List ℕ
+cell_conflict_line link number epoch satellite code =
+    message_text link (codes " conflict ") number (Some epoch) ++ codes " G" ++ last_digits 2 satellite ++ 32 ∷ name_of code ++ 10 ∷ []
+
+abbrev pub count_line : List ℕ → ℕ → List ℕ
+count_line name count = name ++ decimal count ++ 10 ∷ []
+
+-- the nine counts at the end
+unfoldable pub count_lines : Counts → List ℕ
+count_lines c =
+    count_line (codes "frames ") c.frames ++ count_line (codes "other ") c.other ++ count_line (codes "refused ") c.refused
+    ++ count_line (codes "foreign ") c.foreign ++ count_line (codes "taken ") c.taken ++ count_line (codes "repeat ") c.repeat
+    ++ count_line (codes "conflict ") c.conflict ++ count_line (codes "late ") c.late ++ count_line (codes "epochs ") c.epochs

@@ -1,0 +1,101 @@
+-- The table of an epoch, given the epochs below it. Lists of epochs fall: behind an epoch stand the lower ones.
+use Rattle.std.specs.Prelude.{◌≡◌, ℕ, zero, suc, Bool, true, false, ◌&&◌, ◌==◌, List, [], ◌∷◌, ◌++◌, map, filter, Option, Some, None, is_some, if◌then◌else◌, ℤ, not}
+use Rattle.std.specs.List.{list_any}
+use Rattle.rtk_obs.specs.declared.cell.Cell.{Cell}
+use Rattle.rtk_obs.specs.declared.cell.CellEntry.{CellEntry}
+use Rattle.rtk_obs.specs.declared.cell.CellSource.{CellSource}
+use Rattle.rtk_obs.specs.declared.cell.CellSource.TheVariants.{Legacy, Msm}
+use Rattle.rtk_obs.specs.declared.code.Code.{Code}
+use Rattle.rtk_obs.specs.declared.track.Track.{Track}
+use Rattle.rtk_obs.specs.declared.track.Digits.{Digits}
+use Rattle.rtk_obs.specs.Code.{place_of, band_of}
+use Rattle.rtk_obs.specs.Slip.{EpochCell, epoch_cell, is_same_source}
+use Rattle.rtk_obs.specs.Rollover.{last_phase, digits_since, rolled_phase}
+use Rattle.rtk_collect.specs.EpochCells.{EpochCells}
+use Rattle.rtk_rinex.specs.declared.epoch_table.Observed.{Observed}
+use Rattle.rtk_rinex.specs.declared.epoch_table.SatelliteRow.{SatelliteRow}
+use Rattle.rtk_rinex.specs.Record.{Epoch}
+
+-- ---- the cell of a satellite and code (this project's rule)
+
+abbrev pub is_from : CellSource → CellEntry → Bool
+is_from source e = is_same_source e.cell.source source
+
+-- the cells of an epoch, those of a 1074 before those of a 1004
+abbrev pub in_turn : List CellEntry → List CellEntry
+in_turn cells = filter (is_from Msm) cells ++ filter (is_from Legacy) cells
+
+abbrev pub is_signal : ℕ → Code → CellEntry → Bool
+is_signal satellite code e = (e.satellite == satellite) && (place_of e.code == place_of code)
+
+-- the first of a satellite and code
+abbrev pub first_cell : List CellEntry → ℕ → Code → Option Cell
+first_cell [] satellite code = None
+first_cell (e ∷ cells) satellite code = if is_signal satellite code e then Some e.cell else first_cell cells satellite code
+
+-- the cell of a satellite and code at an epoch: that of a 1074, even one without any value, else that of a 1004
+abbrev pub cell_at : List CellEntry → ℕ → Code → Option Cell
+cell_at cells satellite code = first_cell (in_turn cells) satellite code
+
+abbrev pub and_below : ℕ → Option Cell → List EpochCell → List EpochCell
+and_below epoch None below = below
+and_below epoch (Some cell) below = epoch_cell epoch cell ∷ below
+
+-- the cells of a satellite and code at these epochs, be the code listed or not
+abbrev pub cells_of : List EpochCells → ℕ → Code → List EpochCell
+cells_of [] satellite code = []
+cells_of (e ∷ below) satellite code = and_below e.epoch (cell_at e.cells satellite code) (cells_of below satellite code)
+
+-- the last phase of a satellite and code at these epochs
+abbrev pub last_phase_of : List EpochCells → ℕ → Code → Option Track
+last_phase_of below satellite code = last_phase (band_of code) (cells_of below satellite code)
+
+-- ---- what is shown of it (RINEX 3.05, Table A3)
+
+abbrev pub rolled_or_none : Option ℤ → ℤ → Option ℤ
+rolled_or_none None rolls = None
+rolled_or_none (Some phase) rolls = rolled_phase phase rolls
+
+-- a cell with its digits: its phase has 1500 cycles added for each roll
+abbrev pub observed_with : Cell → Digits → Observed
+observed_with c d =
+    record { range_mm = c.range_mm; phase_millicycles = rolled_or_none c.phase_millicycles d.rolls; strength_millidbhz = c.strength_millidbhz; slip = d.slip; half = d.half }
+
+-- what the cell of a code shows at an epoch, behind the last phase
+abbrev pub observed_after : Option Track → Code → ℕ → Option Cell → Option Observed
+observed_after last code epoch None = None
+observed_after last code epoch (Some c) = Some (observed_with c (digits_since (band_of code) last (epoch_cell epoch c)))
+
+-- what a satellite and code show at an epoch, given the epochs below
+abbrev pub observed_at : EpochCells → List EpochCells → ℕ → Code → Option Observed
+observed_at e below satellite code = observed_after (last_phase_of below satellite code) code e.epoch (cell_at e.cells satellite code)
+
+-- ---- the table
+
+abbrev pub nothing_observed : Observed
+nothing_observed = record { range_mm = None; phase_millicycles = None; strength_millidbhz = None; slip = false; half = false }
+
+abbrev pub or_nothing : Option Observed → Observed
+or_nothing None = nothing_observed
+or_nothing (Some o) = o
+
+-- what the listed codes of a satellite show, in their order
+abbrev pub row_with : (ℕ → Code → Option Observed) → List Code → ℕ → SatelliteRow
+row_with shown listed satellite = record { satellite = satellite; observed = record { items = map (λ code. or_nothing (shown satellite code)) listed } }
+
+-- the row of a satellite, where it has a cell of a listed code
+abbrev pub row_if_any : (ℕ → Code → Option Observed) → List Code → ℕ → List SatelliteRow
+row_if_any shown listed satellite =
+    if list_any (λ code. is_some (shown satellite code)) listed then row_with shown listed satellite ∷ [] else []
+
+-- the rows of the satellites from 1 to n, rising
+unfoldable pub rows_to : (ℕ → Code → Option Observed) → List Code → ℕ → List SatelliteRow
+rows_to shown listed zero = []
+rows_to shown listed (suc n) = rows_to shown listed n ++ row_if_any shown listed (suc n)
+
+abbrev pub table_with : ℕ → (ℕ → Code → Option Observed) → List Code → Epoch
+table_with epoch shown listed = record { time = epoch; rows = rows_to shown listed 32 }
+
+-- the table of an epoch for the listed codes, given the epochs below it
+abbrev pub table_of : List Code → EpochCells → List EpochCells → Epoch
+table_of listed e below = table_with e.epoch (observed_at e below) listed

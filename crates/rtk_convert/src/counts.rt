@@ -1,0 +1,26 @@
+//! How many frames came to what, and how many records the file has.
+
+/// The nine counts at the end of a report. Each stays at its greatest value once there.
+///
+/// Each frame is in `frames` and in exactly one of the seven counts behind it.
+#[derive(Clone, Copy, Debug, Default, PartialEq, Eq)]
+pub struct Counts {
+    /// All frames found.
+    pub frames: u64,
+    /// Frames with another message than 1004, 1005, 1006 and 1074.
+    pub other: u64,
+    /// Frames that are cut short or hold what the standard rules out.
+    pub refused: u64,
+    /// Messages of another station.
+    pub foreign: u64,
+    /// Messages of which a part was new.
+    pub taken: u64,
+    /// Messages of which nothing was new, and nothing differed.
+    pub repeat: u64,
+    /// Messages of which nothing was new, and something differed.
+    pub conflict: u64,
+    /// Messages that came after their epoch was closed.
+    pub late: u64,
+    /// Records of the file.
+    pub epochs: u64,
+}

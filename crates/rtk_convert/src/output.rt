@@ -1,0 +1,105 @@
+//! What is written to the file: records, and the header before the first one or at the end.
+
+ghost use Rattle.std.specs.Prelude.{◌≡◌, ◌++◌, length, OnOk, OnErr, IfOk, IfErr, IsErrOf, false};
+ghost use Rattle.rtk_convert.specs.Failure.{IsOutFault};
+ghost use Rattle.rtk_frame.specs.Stream.{with_more, Rises, TakesPart};
+ghost use Rattle.rtk_rinex.specs.Header.{site_of};
+ghost use Rattle.rtk_rinex.specs.Record.{HasWidth, record_text};
+ghost use Rattle.rtk_convert.specs.FilePrefix.{closing_text, header_before, is_any};
+
+use crate::fault::{ConvertFault, Stream};
+use crate::setup::Setup;
+use rtk_frame::{Sink, write_all};
+use rtk_obs::{GpsMs, Position};
+use rtk_rinex::{EpochTable, header, record};
+use std::alloc::{AllocError, Global};
+
+// Writes a text to the file.
+fn put<O: Sink>(out: &mut O, text: &[u8]) -> Result<(), ConvertFault>
+    ensures all { OnOk result (O.taken out.new ≡ with_more (O.taken out.old) text.now) }
+    ensures part { TakesPart (O.taken out.old) (O.taken out.new) text.now }
+    ensures same { OnOk result (O.failures out.new ≡ O.failures out.old) }
+    ensures failed { OnErr result (Rises (O.failures out.old) (O.failures out.new)) }
+    ensures fault { IfErr result (λ f. f ≡ ConvertFault.Write Stream.Out) }
+{
+    match write_all(out, text) {
+        Ok(()) => Ok(()),
+        Err(_) => Err(ConvertFault::Write {
+            stream: Stream::Out,
+        }),
+    }
+}
+
+// The text of a record behind the header, whose first time is that of the record.
+fn with_header(
+    alloc: Global,
+    setup: &Setup,
+    position: &Position,
+    first: GpsMs,
+    text: &[u8],
+) -> Result<Vec<u8>, AllocError>
+    ensures { IfOk result (λ whole. whole.items ≡ header_before setup.now (site_of position.now) first false ++ text.now) }
+{
+    let mut whole = header(alloc, setup.head(), position, first)?;
+    whole.extend_from_slice(text)?;
+    Ok(whole)
+}
+
+/// Writes the record of a closed epoch, if it has one, and the header before the first one: one
+/// write, so that a header is never out without a record before the end. Answers whether there is
+/// a record.
+pub(crate) fn put_record<O: Sink>(
+    alloc: Global,
+    setup: &Setup,
+    position: &Position,
+    header_out: bool,
+    table: &EpochTable,
+    out: &mut O,
+) -> Result<bool, ConvertFault>
+    requires width { HasWidth (length setup.now.heading.listed) table.now.rows }
+    ensures any { IfOk result (λ any. any ≡ is_any (record_text table.now)) }
+    ensures all { OnOk result (O.taken out.new ≡ with_more (O.taken out.old) (closing_text setup.now (site_of position.now) table.now.time header_out (record_text table.now))) }
+    ensures part { TakesPart (O.taken out.old) (O.taken out.new) (closing_text setup.now (site_of position.now) table.now.time header_out (record_text table.now)) }
+    ensures same { OnOk result (O.failures out.new ≡ O.failures out.old) }
+    ensures failed { IsErrOf result (ConvertFault.Write Stream.Out) → Rises (O.failures out.old) (O.failures out.new) }
+    ensures fault { IfErr result IsOutFault }
+{
+    let Ok(text) = record(alloc, setup.head(), table) else {
+        return Err(ConvertFault::OutOfMemory);
+    };
+    if text.is_empty() {
+        return Ok(false);
+    }
+    if header_out {
+        put(out, &text)?;
+        return Ok(true);
+    }
+    let Ok(whole) = with_header(alloc, setup, position, table.time(), &text) else {
+        return Err(ConvertFault::OutOfMemory);
+    };
+    put(out, &whole)?;
+    Ok(true)
+}
+
+/// Writes the header of a file without records, if that is one.
+pub(crate) fn put_last_header<O: Sink>(
+    alloc: Global,
+    setup: &Setup,
+    position: &Position,
+    header_out: bool,
+    out: &mut O,
+) -> Result<(), ConvertFault>
+    ensures all { OnOk result (O.taken out.new ≡ with_more (O.taken out.old) (header_before setup.now (site_of position.now) setup.now.near header_out)) }
+    ensures part { TakesPart (O.taken out.old) (O.taken out.new) (header_before setup.now (site_of position.now) setup.now.near header_out) }
+    ensures same { OnOk result (O.failures out.new ≡ O.failures out.old) }
+    ensures failed { IsErrOf result (ConvertFault.Write Stream.Out) → Rises (O.failures out.old) (O.failures out.new) }
+    ensures fault { IfErr result IsOutFault }
+{
+    if header_out {
+        return Ok(());
+    }
+    let Ok(text) = header(alloc, setup.head(), position, setup.near()) else {
+        return Err(ConvertFault::OutOfMemory);
+    };
+    put(out, &text)
+}

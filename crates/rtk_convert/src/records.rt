@@ -1,0 +1,112 @@
+//! The records of the epochs that are closed, one after another.
+
+ghost use Rattle.std.specs.Prelude.{◌≡◌, ℕ, ◌<◌, [], ◌∷◌, List, All, false, is_some, OnOk, IfErr, IsErrOf};
+ghost use Rattle.rtk_obs.specs.Cell.{IsInRange};
+ghost use Rattle.rtk_obs.specs.declared.code.Code.{Code};
+ghost use Rattle.rtk_collect.specs.EpochCells.{EpochCells};
+ghost use Rattle.rtk_frame.specs.Stream.{with_more, Rises, TakesPart};
+ghost use Rattle.rtk_rinex.specs.Header.{site_of};
+ghost use Rattle.rtk_convert.specs.Failure.{IsOutFault};
+ghost use Rattle.rtk_convert.specs.File.{first_time, record_of};
+ghost use Rattle.rtk_convert.specs.FilePrefix.{closing_text};
+ghost use Rattle.rtk_convert.specs.LastPhases.{AllBelow};
+ghost use Rattle.rtk_convert.specs.Records.{Follows};
+
+use crate::fault::{ConvertFault, Stream};
+use crate::output::put_record;
+use crate::rows::fill_table;
+use crate::setup::Setup;
+use rtk_frame::Sink;
+use rtk_obs::{CellEntry, GpsMs, Position, Tracks};
+use rtk_rinex::EpochTable;
+use std::alloc::Global;
+use std::marker::Model;
+
+/// What is known of the closed epochs: the last phases, whether the header is out, and how many
+/// records are.
+///
+/// The table is kept from epoch to epoch, since it is large.
+#[derive(Drop)]
+pub(crate) struct Records {
+    tracks: Tracks,
+    table: EpochTable,
+    header_out: bool,
+    count: u64,
+}
+
+// Clauses see all but the table, which is filled anew for each epoch.
+impl Model for Records {
+    ghost use Rattle.rtk_convert.specs.Records.{Closed};
+
+    ghost Value = { Closed };
+
+    ghost view = { λ r. record { tracks = r.tracks; header_out = r.header_out; count = r.count } };
+}
+
+impl Records {
+    /// No epoch is closed. The moment is any.
+    pub(crate) fn new(any: GpsMs) -> Records
+        ensures follows { (listed : List Code) → Follows result listed [] }
+        ensures below { (epoch : ℕ) → AllBelow result.tracks epoch }
+    {
+        Records {
+            tracks: Tracks::new(),
+            table: EpochTable::new(any),
+            header_out: false,
+            count: 0,
+        }
+    }
+
+    /// Whether the header is out.
+    pub(crate) fn header_out(&self) -> bool
+        ensures { result ≡ self.now.header_out }
+    {
+        self.header_out
+    }
+
+    /// How many records are out.
+    pub(crate) fn count(&self) -> u64
+        ensures { result ≡ self.now.count }
+    {
+        self.count
+    }
+
+    /// Writes the record of an epoch that closes, if it has one, and the header before the first.
+    ///
+    /// After a fault nothing is said of the value.
+    pub(crate) fn close<O: Sink>(
+        &mut self,
+        alloc: Global,
+        setup: &Setup,
+        position: &Position,
+        epoch: GpsMs,
+        cells: &[CellEntry],
+        out: &mut O,
+    ) -> Result<(), ConvertFault>
+        requires ranges { All IsInRange cells.now }
+        requires later { AllBelow self.old.tracks epoch }
+        ensures follows { OnOk result ((below : List EpochCells) → Follows self.old setup.now.heading.listed below → Follows self.new setup.now.heading.listed (record { epoch = epoch; cells = cells.now } ∷ below)) }
+        ensures all { OnOk result ((below : List EpochCells) → Follows self.old setup.now.heading.listed below
+            → O.taken out.new ≡ with_more (O.taken out.old) (closing_text setup.now (site_of position.now) epoch (is_some (first_time setup.now.heading.listed below)) (record_of setup.now.heading.listed (record { epoch = epoch; cells = cells.now }) below))) }
+        ensures part { (below : List EpochCells) → Follows self.old setup.now.heading.listed below
+            → TakesPart (O.taken out.old) (O.taken out.new) (closing_text setup.now (site_of position.now) epoch (is_some (first_time setup.now.heading.listed below)) (record_of setup.now.heading.listed (record { epoch = epoch; cells = cells.now }) below)) }
+        ensures later { OnOk result ((later : ℕ) → epoch < later → AllBelow self.new.tracks later) }
+        ensures same { OnOk result (O.failures out.new ≡ O.failures out.old) }
+        ensures failed { IsErrOf result (ConvertFault.Write Stream.Out) → Rises (O.failures out.old) (O.failures out.new) }
+        ensures fault { IfErr result IsOutFault }
+    {
+        let listed = setup.head().codes();
+        fill_table(&mut self.tracks, epoch, cells, listed, &mut self.table);
+        let table = &self.table;
+        let has_record = match put_record(alloc, setup, position, self.header_out, table, out) {
+            Ok(has_record) => has_record,
+            Err(fault) => return Err(fault),
+        };
+        if !has_record {
+            return Ok(());
+        }
+        self.header_out = true;
+        self.count = self.count.saturating_add(1);
+        Ok(())
+    }
+}

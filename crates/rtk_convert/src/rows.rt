@@ -1,0 +1,173 @@
+//! From the cells of a closed epoch to the table of its record.
+
+ghost use Rattle.std.specs.Prelude.{◌≡◌, ℕ, ◌+◌, ◌<◌, ◌≤◌, List, [], ◌∷◌, ◌++◌, length, map, filter, Option, Some, None, All, IfSome, slice_index_or, is_some};
+ghost use Rattle.std.specs.List.{list_any};
+ghost use Rattle.rtk_obs.specs.declared.cell.CellEntry.{CellEntry};
+ghost use Rattle.rtk_obs.specs.declared.track.Track.{Track};
+ghost use Rattle.rtk_obs.specs.Cell.{IsInRange, IsSatellite};
+ghost use Rattle.rtk_collect.specs.EpochCells.{EpochCells};
+ghost use Rattle.rtk_rinex.specs.Record.{IsStrength, HasWidth};
+ghost use Rattle.rtk_convert.specs.Rows.{is_from, rolled_or_none, observed_with, or_nothing, row_with, rows_to, table_of};
+ghost use Rattle.rtk_convert.specs.LastPhases.{HasLastPhases, AllBelow, shown_at, IsThrough, MayShow, AreStrengths};
+
+use arrayvec::ArrayVec;
+use rtk_obs::{Cell, CellEntry, CellSource, Code, Digits, GpsMs, Tracks, rolled};
+use rtk_rinex::{EpochTable, Observed, SatelliteRow};
+
+/// Satellites times codes.
+const PLACES: usize = 512;
+
+fn rolled_or_none(phase: Option<i64>, rolls: i64) -> Option<i64>
+    ensures { result ≡ rolled_or_none phase rolls }
+{
+    match phase {
+        Some(phase) => rolled(phase, rolls),
+        None => None,
+    }
+}
+
+fn observed(cell: &Cell, digits: Digits) -> Observed
+    ensures { result ≡ observed_with cell.now digits }
+{
+    Observed {
+        range_mm: cell.range_mm,
+        phase_millicycles: rolled_or_none(cell.phase_millicycles, digits.rolls),
+        strength_millidbhz: cell.strength_millidbhz,
+        slip: digits.slip,
+        half: digits.half,
+    }
+}
+
+// Goes through a cell, unless one of its satellite and code came before it.
+fn take_entry(tracks: &mut Tracks, shown: &mut [Option<Observed>], epoch: GpsMs, entry: &CellEntry)
+    requires places { length shown.old ≡ PLACES }
+    requires range { IsInRange entry.now }
+    requires later { MayShow tracks.old shown.old epoch }
+    requires strengths { AreStrengths shown.old }
+    ensures through { (old : List (Option Track)) (before : List CellEntry) → IsThrough old epoch before tracks.old shown.old
+        → IsThrough old epoch (before ++ entry.now ∷ []) tracks.new shown.new }
+    ensures later { MayShow tracks.new shown.new epoch }
+    ensures strengths { AreStrengths shown.new }
+{
+    let place = usize::from(entry.satellite - 1) * 16 + entry.code.place();
+    if shown[place].is_some() {
+        return;
+    }
+    let digits = tracks.step(entry.satellite, entry.code, epoch, &entry.cell);
+    shown[place] = Some(observed(&entry.cell, digits));
+}
+
+// Goes through the cells that came in one kind of message.
+fn take_source(
+    tracks: &mut Tracks,
+    shown: &mut [Option<Observed>],
+    epoch: GpsMs,
+    entries: &[CellEntry],
+    source: CellSource,
+)
+    requires places { length shown.old ≡ PLACES }
+    requires ranges { All IsInRange entries.now }
+    requires later { MayShow tracks.old shown.old epoch }
+    requires strengths { AreStrengths shown.old }
+    ensures through { (old : List (Option Track)) (before : List CellEntry) → IsThrough old epoch before tracks.old shown.old
+        → IsThrough old epoch (before ++ filter (is_from source) entries.now) tracks.new shown.new }
+    ensures later { MayShow tracks.new shown.new epoch }
+    ensures strengths { AreStrengths shown.new }
+    ensures places { length shown.new ≡ PLACES }
+{
+    for entry in entries {
+        if entry.cell.source == source {
+            take_entry(tracks, shown, epoch, entry);
+        }
+    }
+}
+
+// What a satellite and code show.
+fn shown_by(shown: &[Option<Observed>], satellite: u8, code: Code) -> Observed
+    requires places { length shown.now ≡ PLACES }
+    requires satellite { IsSatellite satellite }
+    ensures { result ≡ or_nothing (shown_at shown.now satellite code) }
+{
+    match shown[usize::from(satellite - 1) * 16 + code.place()] {
+        Some(observed) => observed,
+        None => Observed {
+            range_mm: None,
+            phase_millicycles: None,
+            strength_millidbhz: None,
+            slip: false,
+            half: false,
+        },
+    }
+}
+
+// What the listed codes of a satellite show.
+fn row_of(shown: &[Option<Observed>], satellite: u8, listed: &[Code]) -> SatelliteRow
+    requires places { length shown.now ≡ PLACES }
+    requires satellite { IsSatellite satellite }
+    requires few { length listed.now ≤ 16 }
+    ensures { result ≡ row_with (shown_at shown.now) listed.now satellite }
+{
+    let mut observed = ArrayVec::new();
+    for code in listed {
+        observed.push(shown_by(shown, satellite, *code));
+    }
+    SatelliteRow {
+        satellite,
+        observed,
+    }
+}
+
+// Has a satellite a cell of a listed code?
+fn has_listed(shown: &[Option<Observed>], satellite: u8, listed: &[Code]) -> bool
+    requires places { length shown.now ≡ PLACES }
+    requires satellite { IsSatellite satellite }
+    ensures { result ≡ list_any (λ code. is_some (shown_at shown.now satellite code)) listed.now }
+{
+    for code in listed {
+        if shown[usize::from(satellite - 1) * 16 + code.place()].is_some() {
+            return true;
+        }
+    }
+    false
+}
+
+// Writes the rows of an epoch into the table.
+fn put_rows(shown: &[Option<Observed>], epoch: GpsMs, listed: &[Code], table: &mut EpochTable)
+    requires places { length shown.now ≡ PLACES }
+    requires strengths { AreStrengths shown.now }
+    requires few { length listed.now ≤ 16 }
+    ensures time { table.new.time ≡ epoch }
+    ensures rows { table.new.rows ≡ rows_to (shown_at shown.now) listed.now 32 }
+{
+    table.restart(epoch);
+    for before in 0..32u8 {
+        if has_listed(shown, before + 1, listed) {
+            table.push(row_of(shown, before + 1, listed));
+        }
+    }
+}
+
+/// Makes the table of a closed epoch from its cells; their phases are then the last ones.
+///
+/// All satellites and codes are gone through, listed or not, since a later phase is compared with
+/// the last one of its satellite and code, whenever that was.
+pub(crate) fn fill_table(
+    tracks: &mut Tracks,
+    epoch: GpsMs,
+    entries: &[CellEntry],
+    listed: &[Code],
+    table: &mut EpochTable,
+)
+    requires ranges { All IsInRange entries.now }
+    requires few { length listed.now ≤ 16 }
+    requires later { AllBelow tracks.old epoch }
+    ensures table { (below : List EpochCells) → HasLastPhases tracks.old below → table.new ≡ table_of listed.now (record { epoch = epoch; cells = entries.now }) below }
+    ensures phases { (below : List EpochCells) → HasLastPhases tracks.old below → HasLastPhases tracks.new (record { epoch = epoch; cells = entries.now } ∷ below) }
+    ensures later { (later : ℕ) → epoch < later → AllBelow tracks.new later }
+    ensures width { HasWidth (length listed.now) table.new.rows }
+{
+    let mut shown = [None; PLACES];
+    take_source(tracks, &mut shown, epoch, entries, CellSource::Msm);
+    take_source(tracks, &mut shown, epoch, entries, CellSource::Legacy);
+    put_rows(&shown, epoch, listed, table);
+}

@@ -1,0 +1,117 @@
+//! What a conversion is set up with.
+
+ghost use Rattle.std.specs.Prelude.{◌≡◌, IfOk, IfErr, Decides};
+ghost use Rattle.rtk_obs.specs.Dating.{IsReference};
+ghost use Rattle.rtk_rinex.specs.Header.{IsHeading};
+ghost use Rattle.rtk_convert.specs.Settings.{IsSettings, IsStation, IsWindow};
+
+use rtk_obs::GpsMs;
+use rtk_rinex::Head;
+use std::marker::Model;
+use thiserror::Error;
+
+/// Why there is no setup of these parts: the first cause that holds, in this order.
+#[derive(Clone, Copy, Debug, PartialEq, Eq, Error)]
+pub enum SetupFault {
+    /// The station is over 4095 (DF003 has 12 bits).
+    #[error("S1 bad station")]
+    Station,
+    /// The reference lies outside 1980-01-13 00:00:00.000 to 2099-12-31 23:59:59.999.
+    #[error("S2 bad reference")]
+    Near,
+    /// The window is not 2 to 4096 epochs.
+    #[error("S3 bad window")]
+    Window,
+}
+
+/// The station whose messages are converted, the reference near which their times of week are
+/// dated, what is known of the file before its observations, and how many epochs are kept open.
+#[derive(Drop)]
+pub struct Setup {
+    station: u16,
+    near: GpsMs,
+    head: Head,
+    window: usize,
+}
+
+impl Model for Setup {
+    ghost use Rattle.rtk_convert.specs.Settings.{Settings, IsSettings};
+
+    ghost Value = { Settings };
+
+    ghost view = { λ s. record { station = s.station; near = s.near; heading = s.head; window = s.window } };
+
+    ghost invariant = { λ s. IsSettings (record { station = s.station; near = s.near; heading = s.head; window = s.window }) };
+}
+
+impl Setup {
+    ghost use Rattle.rtk_convert.specs.SettingsFault.{IsSetupFault};
+
+    /// The setup of these parts, where they are good; else the first cause why there is none.
+    pub fn new(station: u16, near: GpsMs, head: Head, window: usize) -> Result<Setup, SetupFault>
+        ensures setup { IfOk result (λ s. s ≡ record { station = station; near = near; heading = head; window = window }) }
+        ensures good { IfOk result IsSettings }
+        ensures fault { IfErr result (IsSetupFault (record { station = station; near = near; heading = head; window = window })) }
+    {
+        if station > 4095 {
+            return Err(SetupFault::Station);
+        }
+        if !is_reference(near) {
+            return Err(SetupFault::Near);
+        }
+        if window < 2 || window > 4096 {
+            return Err(SetupFault::Window);
+        }
+        Ok(Setup {
+            station,
+            near,
+            head,
+            window,
+        })
+    }
+
+    /// The station whose messages are converted (DF003).
+    pub fn station(&self) -> u16
+        ensures value { result ≡ self.now.station }
+        ensures good { IsStation result }
+    {
+        self.station
+    }
+
+    /// The reference near which times of week are dated.
+    pub fn near(&self) -> GpsMs
+        ensures value { result ≡ self.now.near }
+        ensures good { IsReference result }
+    {
+        self.near
+    }
+
+    /// What is known of the file before its observations.
+    pub fn head(&self) -> &Head
+        ensures value { result.now ≡ self.now.heading }
+        ensures good { IsHeading result.now }
+    {
+        &self.head
+    }
+
+    /// How many epochs are kept open.
+    pub fn window(&self) -> usize
+        ensures value { result ≡ self.now.window }
+        ensures good { IsWindow result }
+    {
+        self.window
+    }
+}
+
+/// 1980-01-13 00:00:00.000, a week after the first moment.
+const FIRST_REFERENCE_MS: u64 = 604_800_000;
+
+/// 2099-12-31 23:59:59.999.
+const LAST_REFERENCE_MS: u64 = 3_786_479_999_999;
+
+// Can times of week be dated near this moment?
+fn is_reference(near: GpsMs) -> bool
+    ensures { Decides result (IsReference near) }
+{
+    FIRST_REFERENCE_MS <= near.ms() && near.ms() <= LAST_REFERENCE_MS
+}
