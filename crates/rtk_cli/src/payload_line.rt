@@ -94,8 +94,8 @@ fn put_1074(line: &mut Vec<u8>, message: &Msm1074) -> Result<(), AllocError>
     let header = message.header;
     put_named(line, b"1074 station ", header.station as u64)?;
     put_named(line, b" tow ", header.tow as u64)?;
-    put_named(line, b" satellites ", header.satellites() as u64)?;
-    put_named(line, b" signals ", header.signals() as u64)?;
+    put_named(line, b" satellites ", header.satellite_count() as u64)?;
+    put_named(line, b" signals ", header.signal_count() as u64)?;
     put_named(line, b" cells ", message.cnr.len() as u64)?;
     Ok(())
 }

@@ -1,7 +1,66 @@
--- How many fields of one width are taken at once.
-use Rattle.std.proofs.Common.{◌≡◌, ℕ, ◌+◌, ◌-◌, ◌*◌, ◌/◌, ◌<◌, ◌≤◌, arith}
-use Rattle.std.proofs.lemmas.Nat.{le-div, mul-le}
+-- Columns taken and put value by value, and how many values are taken at once.
+use Rattle.std.proofs.Common.{◌≡◌, ℕ, zero, suc, ◌+◌, ◌-◌, ◌*◌, ◌/◌, ◌<◌, ◌≤◌, Bool, List, [], ◌∷◌, ◌++◌, length, map, take, get_or, refl, sym, ap, ◌∙◌, arith, append_assoc, sum_by, count_ones}
+use Rattle.std.proofs.lemmas.List.{append-nil, take_more, map_push}
+use Rattle.std.proofs.lemmas.List.Sums.{sum_by-cons}
+use Rattle.std.proofs.lemmas.Nat.{ones-le, le-div, mul-le}
 use Rattle.std.proofs.Math.Nat.{mul-le-mul_left, mul-le-mul_right, div-mul-le_self, le_trans}
+use Rattle.rtk_bits.specs.Bits.{bits_of}
+use Rattle.rtk_message.specs.Fields.{Field, u, field_bits, bits_of_fields, FieldFits, FieldsFit, TakesAll, Takes, Puts, PutsAll}
+use Rattle.rtk_message.specs.FieldLaws.{fit-append}
+use Rattle.rtk_message.specs.Columns.{numbers, flags}
+use Rattle.rtk_message.proofs.FieldLemmas.{took, took_none, took_both, put, put_none, put_both}
+
+module _ {X : Type 0} (f : X → Field) where
+  pub took_more : (xs : List X) (x : X) (a b c : List Bool) → TakesAll (map f xs) a b → Takes (f x) b c → TakesAll (map f (xs ++ x ∷ [])) a c
+  took_more xs x a b c p q = rw (map_push f xs x) (took_both p (took q took_none))
+
+  -- after the column's fields and before the rest
+  pub took_next : (xs : List X) (x : X) (from rest : List Bool) {b c : List Bool} → TakesAll (map f xs) from (b ++ rest) → Takes (f x) b c → TakesAll (map f (xs ++ x ∷ [])) from (c ++ rest)
+  took_next xs x from rest {b = b} {c = c} p q =
+      took_more xs x from (b ++ rest) (c ++ rest) p (record { fits = q.fits; is = ap (λ (t : List Bool). t ++ rest) q.is ∙ append_assoc (field_bits (f x)) c rest })
+
+  pub put_more : (xs : List X) (k : ℕ) (d : X) (a b c : List Bool) → k < length xs → PutsAll (map f (take k xs)) a b → Puts (f (get_or xs k d)) b c → PutsAll (map f (take (k + 1) xs)) a c
+  put_more xs k d a b c h p q = rw (take_more xs k d h, map_push f (take k xs) (get_or xs k d)) (put_both p (put q put_none))
+
+  pub fit_one : (xs : List X) (k : ℕ) (d : X) → k < length xs → FieldsFit (map f xs) → FieldFits (f (get_or xs k d))
+  fit_one [] k d h p = absurd (omega arith)
+  fit_one (x ∷ xs) zero d h p = p.0
+  fit_one (x ∷ xs) (suc k) d h p = fit_one xs k d (omega arith) p.1
+
+  pub fit_more : (xs : List X) (k : ℕ) (d : X) → k < length xs → FieldsFit (map f (take k xs)) → FieldFits (f (get_or xs k d)) → FieldsFit (map f (take (k + 1) xs))
+  fit_more xs k d h p q = rw (take_more xs k d h, map_push f (take k xs) (get_or xs k d)) (fit-append (map f (take k xs)) (f (get_or xs k d) ∷ []) p (q, tt))
+
+-- no bits at all
+pub takes_none : (w : ℕ) (a : List Bool) → w ≡ 0 → Takes (u w 0) a a
+unfolding bits_of
+takes_none zero a e = record { fits = omega arith; is = refl }
+takes_none (suc w) a e = absurd (omega arith)
+
+no_bits : (w : ℕ) (ns : List ℕ) → w ≡ 0 → bits_of_fields (numbers w ns) ≡ []
+unfolding bits_of
+no_bits w [] e = refl
+no_bits zero (n ∷ ns) e = no_bits zero ns e
+no_bits (suc w) (n ∷ ns) e = absurd (omega arith)
+
+pub puts_no_bits : (w : ℕ) (ns : List ℕ) (a : List Bool) → w ≡ 0 → PutsAll (numbers w ns) a a
+puts_no_bits w ns a e = record { is = sym (ap (λ (t : List Bool). a ++ t) (no_bits w ns e) ∙ append-nil a) }
+
+pub flags-fit : (bs : List Bool) → FieldsFit (flags bs)
+flags-fit [] = tt
+flags-fit (b ∷ bs) = (tt, flags-fit bs)
+
+pub one_step : (w k : ℕ) → w * (k + 1) ≡ w * k + w
+one_step w k = omega arith
+
+-- and a row has no more than its width
+pub ones-few : (w : ℕ) (ns : List ℕ) → FieldsFit (numbers w ns) → sum_by count_ones ns ≤ w * length ns
+ones-few w [] fit = omega arith
+ones-few w (n ∷ ns) fit =
+    let head = ones-le w n fit.0 in
+    let tail = ones-few w ns fit.1 in
+    rw (sum_by-cons count_ones n ns) (omega (arith, head, tail))
+
+-- ---- values taken at once
 
 -- no more than as many as 57 bits hold
 pub at_once : (width fields : ℕ) → fields ≤ 57 / width → fields * width ≤ 57
@@ -28,6 +87,6 @@ enough_left width so_far fields count total left room enough e =
     let product : width * (so_far + fields) ≤ width * count = mul-le-mul_left width room in
     omega (arith, product)
 
--- the bits that are left behind them
+-- the bits that are left after them
 pub left_after : (width so_far fields now total before after : ℕ) → total ≡ width * so_far + before → before ≡ width * fields + after → now ≡ so_far + fields → total ≡ width * now + after
 left_after width so_far fields now total before after first second sum = rw sum (omega (arith, first, second))

@@ -10,17 +10,17 @@ use Rattle.rtk_message.specs.declared.message.Message.{Message}
 use Rattle.rtk_message.specs.declared.message.Message.TheVariants.{Obs1004, Arp1005, Arp1006, Msm1074}
 use Rattle.rtk_message.specs.declared.fault.DecodeFault.{DecodeFault}
 use Rattle.rtk_message.specs.Fields.{Field, u, bits_of_fields, TakesAll}
-use Rattle.rtk_message.specs.Decoded.{number_of, fields_behind, table, IsValid, Encodes, Follows, first_fault, fault_behind}
+use Rattle.rtk_message.specs.Decoded.{number_of, fields_after_number, table, IsValid, Encodes, Follows, Decodes, first_fault, fault_after_number}
 use Rattle.rtk_message.specs.Obs1004Laws as obs1004
 use Rattle.rtk_message.specs.Arp1005Laws as arp1005
 use Rattle.rtk_message.specs.Arp1006Laws as arp1006
 use Rattle.rtk_message.specs.Msm1074Laws as msm1074
 
--- the number of bits, and what is behind it
+-- the number of bits, and what is after it
 record Begins (bs : List Bool) (k : ℕ) (fs : List Field) (rest : List Bool) : Type 0 where
   pub long : ltb (length bs) 12 ≡ false
   pub number : unsigned (take 12 bs) ≡ k
-  pub behind : drop 12 bs ≡ bits_of_fields fs ++ rest
+  pub after : drop 12 bs ≡ bits_of_fields fs ++ rest
 
 begins_with : (bs : List Bool) (k : ℕ) (fs : List Field) (rest : List Bool) → k < 2 ^ 12 → bs ≡ bits_of_fields (u 12 k ∷ fs) ++ rest → Begins bs k fs rest
 begins_with bs k fs rest small e =
@@ -29,16 +29,8 @@ begins_with bs k fs rest small e =
     record {
       long = le-ltb (length bs) 12 (rw g (omega (arith, length-append (bits_of 12 k) (bits_of_fields fs ++ rest))));
       number = rw (g, take_at (bits_of 12 k) (bits_of_fields fs ++ rest) 12 len) (unsigned-bits_of 12 k ∙ mod-eq_of_lt small);
-      behind = rw g (drop_at (bits_of 12 k) (bits_of_fields fs ++ rest) 12 len);
+      after = rw g (drop_at (bits_of 12 k) (bits_of_fields fs ++ rest) 12 len);
     }
-
--- the bits behind a number, with the number
-pub message_of : (bs left : List Bool) (n k : ℕ) (r : Result Message DecodeFault) → bs ≡ bits_of 12 n ++ left → n ≡ k → IfOk r (λ m. Follows k left m) → IfOk r (λ m. Encodes bs m)
-message_of bs left n k (Ok m) is number f = record {
-  valid = f.valid;
-  begins = (f.begins.0, is ∙ rw (number, f.has_number, f.begins.1) (sym (append_assoc (bits_of 12 k) (bits_of_fields (fields_behind m)) f.begins.0)));
-}
-message_of bs left n k (Err e) is number f = tt
 
 number_fits : (m : Message) → number_of m < 2 ^ 12
 number_fits (Obs1004 m) = omega arith
@@ -46,24 +38,24 @@ number_fits (Arp1005 m) = omega arith
 number_fits (Arp1006 m) = omega arith
 number_fits (Msm1074 m) = omega arith
 
-starts : {bs : List Bool} (m : Message) (s : Encodes bs m) → Begins bs (number_of m) (fields_behind m) s.begins.0
-starts {bs = bs} m s = begins_with bs (number_of m) (fields_behind m) s.begins.0 (number_fits m) s.begins.1
+starts : {bs : List Bool} (m : Message) (s : Encodes bs m) → Begins bs (number_of m) (fields_after_number m) s.begins.0
+starts {bs = bs} m s = begins_with bs (number_of m) (fields_after_number m) s.begins.0 (number_fits m) s.begins.1
 
 -- ---- by the law `accepted` of each type
 
 no_fault : (bs : List Bool) (m : Message) → Encodes bs m → first_fault bs ≡ None
-no_fault bs (Obs1004 m) s = let b = starts (Obs1004 m) s in rw (b.long, b.number, b.behind, obs1004.is_accepted m s.begins.0 s.valid) refl
-no_fault bs (Arp1005 m) s = let b = starts (Arp1005 m) s in rw (b.long, b.number, b.behind, arp1005.is_accepted m s.begins.0 s.valid) refl
-no_fault bs (Arp1006 m) s = let b = starts (Arp1006 m) s in rw (b.long, b.number, b.behind, arp1006.is_accepted m s.begins.0 s.valid) refl
-no_fault bs (Msm1074 m) s = let b = starts (Msm1074 m) s in rw (b.long, b.number, b.behind, msm1074.is_accepted m s.begins.0 s.valid) refl
+no_fault bs (Obs1004 m) s = let b = starts (Obs1004 m) s in rw (b.long, b.number, b.after, obs1004.is_accepted m s.begins.0 s.valid) refl
+no_fault bs (Arp1005 m) s = let b = starts (Arp1005 m) s in rw (b.long, b.number, b.after, arp1005.is_accepted m s.begins.0 s.valid) refl
+no_fault bs (Arp1006 m) s = let b = starts (Arp1006 m) s in rw (b.long, b.number, b.after, arp1006.is_accepted m s.begins.0 s.valid) refl
+no_fault bs (Msm1074 m) s = let b = starts (Msm1074 m) s in rw (b.long, b.number, b.after, msm1074.is_accepted m s.begins.0 s.valid) refl
 
 -- ---- by the law `unique` of each type
 
 same_number : (bs : List Bool) (m n : Message) → Encodes bs m → Encodes bs n → number_of m ≡ number_of n
 same_number bs m n s t = sym (starts m s).number ∙ (starts n t).number
 
-same_bits : (bs : List Bool) (m n : Message) (s : Encodes bs m) (t : Encodes bs n) → bits_of_fields (fields_behind m) ++ s.begins.0 ≡ bits_of_fields (fields_behind n) ++ t.begins.0
-same_bits bs m n s t = sym (starts m s).behind ∙ (starts n t).behind
+same_bits : (bs : List Bool) (m n : Message) (s : Encodes bs m) (t : Encodes bs n) → bits_of_fields (fields_after_number m) ++ s.begins.0 ≡ bits_of_fields (fields_after_number n) ++ t.begins.0
+same_bits bs m n s t = sym (starts m s).after ∙ (starts n t).after
 
 one : (bs : List Bool) (m n : Message) → Encodes bs m → Encodes bs n → m ≡ n
 one bs (Obs1004 m) (Obs1004 n) s t = ap Obs1004 (obs1004.is_unique m n s.begins.0 t.begins.0 s.valid t.valid (same_bits bs (Obs1004 m) (Obs1004 n) s t))
@@ -84,6 +76,38 @@ one bs (Msm1074 m) (Arp1005 n) s t = absurd (omega (arith, same_number bs (Msm10
 one bs (Msm1074 m) (Arp1006 n) s t = absurd (omega (arith, same_number bs (Msm1074 m) (Arp1006 n) s t))
 
 -- the message that the bits begin with is the answer
-pub only : (bs : List Bool) (r : Result Message DecodeFault) → IfOk r (λ m. Encodes bs m) → IfErr r (λ f. first_fault bs ≡ Some f) → (m : Message) → Encodes bs m → r ≡ Ok m
+only : (bs : List Bool) (r : Result Message DecodeFault) → IfOk r (λ m. Encodes bs m) → IfErr r (λ f. first_fault bs ≡ Some f) → (m : Message) → Encodes bs m → r ≡ Ok m
 only bs (Ok n) ok err m s = ap Ok (one bs n m ok s)
 only bs (Err f) ok err m s = let none = no_fault bs m s in absurd (cc (none, err))
+
+-- ---- what follows the number decides
+
+first_is : (n : ℕ) (left : List Bool) → n < 2 ^ 12 → first_fault (bits_of 12 n ++ left) ≡ fault_after_number n left
+first_is n left small =
+    let len = length-bits_of 12 n in
+    let long : ltb (length (bits_of 12 n ++ left)) 12 ≡ false = le-ltb (length (bits_of 12 n ++ left)) 12 (omega (arith, length-append (bits_of 12 n) left, len)) in
+    let same : unsigned (bits_of 12 n) ≡ n = unsigned-bits_of 12 n ∙ mod-eq_of_lt small in
+    rw (long, take_at (bits_of 12 n) left 12 len, drop_at (bits_of 12 n) left 12 len, same) refl
+
+message_of : (bs left : List Bool) (k : ℕ) (r : Result Message DecodeFault) → bs ≡ bits_of 12 k ++ left → IfOk r (λ m. Follows k left m) → IfOk r (λ m. Encodes bs m)
+message_of bs left k (Ok m) is f = record {
+  valid = f.valid;
+  begins = (f.begins.0, is ∙ rw (f.has_number, f.begins.1) (sym (append_assoc (bits_of 12 k) (bits_of_fields (fields_after_number m)) f.begins.0)));
+}
+message_of bs left k (Err e) is f = tt
+
+fault_of : (bs left : List Bool) (k : ℕ) (r : Result Message DecodeFault) → k < 2 ^ 12 → bs ≡ bits_of 12 k ++ left → IfErr r (λ f. fault_after_number k left ≡ Some f) → IfErr r (λ f. first_fault bs ≡ Some f)
+fault_of bs left k (Ok m) small is f = tt
+fault_of bs left k (Err e) small is f = rw is (first_is k left small ∙ f)
+
+-- bits that begin with the number k
+pub decodes_after : (bs left : List Bool) (n k : ℕ) (r : Result Message DecodeFault) → k < 2 ^ 12 → bs ≡ bits_of 12 n ++ left → n ≡ k
+    → IfOk r (λ m. Follows k left m) → IfErr r (λ f. fault_after_number k left ≡ Some f) → Decodes bs r
+decodes_after bs left n k r small is number ok err =
+    let whole : bs ≡ bits_of 12 k ++ left = is ∙ ap (λ (m : ℕ). bits_of 12 m ++ left) number in
+    let message = message_of bs left k r whole ok in
+    let fault = fault_of bs left k r small whole err in
+    record { message = message; fault = fault; only = only bs r message fault }
+
+pub decodes_fault : (bs : List Bool) (f : DecodeFault) → first_fault bs ≡ Some f → Decodes bs (Err f)
+decodes_fault bs f first = record { message = tt; fault = first; only = only bs (Err f) tt first }

@@ -1,4 +1,4 @@
--- Message 1005 behind its number (RTCM 10403.3, message 1005): 140 bits.
+-- Message 1005 after its number (RTCM 10403.3, message 1005): 140 bits.
 use Rattle.std.specs.Prelude.{Bool, List, [], ◌∷◌, length, Option, Some, None, nat_lt, if◌then◌else◌}
 use Rattle.rtk_message.specs.Fields.{Field, u, i, flag, FieldsFit}
 use Rattle.rtk_message.specs.declared.arp1005.Arp1005.{Arp1005}

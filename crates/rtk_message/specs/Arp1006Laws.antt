@@ -9,10 +9,10 @@ use Rattle.rtk_message.specs.FieldLaws.{length-bits_of_fields, one_list}
 pub is_accepted : (m : Arp1006) (rest : List Bool) → IsValid m → first_fault (bits_of_fields (table m) ++ rest) ≡ None
 is_accepted m rest fits = rw (le-ltb (length (bits_of_fields (table m) ++ rest)) 156 (omega (arith, length-append (bits_of_fields (table m)) rest, length-bits_of_fields (table m)))) refl
 
-make : ℕ → ℕ → Bool → Bool → Bool → Bool → ℤ → Bool → Bool → ℤ → ℕ → ℤ → ℕ → Arp1006
+pub make : ℕ → ℕ → Bool → Bool → Bool → Bool → ℤ → Bool → Bool → ℤ → ℕ → ℤ → ℕ → Arp1006
 make station realization_year gps glonass galileo reference_station x single_oscillator reserved y quarter_cycle z height = record { station = station; realization_year = realization_year; gps = gps; glonass = glonass; galileo = galileo; reference_station = reference_station; x = x; single_oscillator = single_oscillator; reserved = reserved; y = y; quarter_cycle = quarter_cycle; z = z; height = height }
 
-made : (m : Arp1006) → make m.station m.realization_year m.gps m.glonass m.galileo m.reference_station m.x m.single_oscillator m.reserved m.y m.quarter_cycle m.z m.height ≡ m
+pub made : (m : Arp1006) → make m.station m.realization_year m.gps m.glonass m.galileo m.reference_station m.x m.single_oscillator m.reserved m.y m.quarter_cycle m.z m.height ≡ m
 unfolding make
 made m = refl
 

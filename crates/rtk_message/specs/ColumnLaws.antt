@@ -8,53 +8,9 @@ use Rattle.std.proofs.Math.Nat.{mod-eq_of_lt}
 use Rattle.rtk_bits.specs.Bits.{unsigned, bits_of}
 use Rattle.rtk_bits.proofs.Numbers.{unsigned-append, unsigned_lt, unsigned-bits_of}
 use Rattle.rtk_message.specs.Fields.{Field, u, field_bits, bits_of_fields, FieldFits, FieldsFit, TakesAll, Takes, Puts, PutsAll}
-use Rattle.rtk_message.specs.FieldLaws.{took, took_none, put, put_none, SameForm, one_list, total}
-use Rattle.rtk_message.specs.FieldLaws.{bits_of_fields-append, fit-append, fit-left, took_both, put_both}
+use Rattle.rtk_message.specs.FieldLaws.{SameForm, one_list, total}
+use Rattle.rtk_message.specs.FieldLaws.{bits_of_fields-append, fit-left}
 use Rattle.rtk_message.specs.Columns.{numbers, integers, flags}
-
-module _ {X : Type 0} (f : X → Field) where
-  -- ---- steps of loops
-
-  pub took_more : (xs : List X) (x : X) (a b c : List Bool) → TakesAll (map f xs) a b → Takes (f x) b c → TakesAll (map f (xs ++ x ∷ [])) a c
-  took_more xs x a b c p q = rw (map_push f xs x) (took_both p (took q took_none))
-
-  -- behind the column's fields and before the rest
-  pub took_next : (xs : List X) (x : X) (from rest : List Bool) {b c : List Bool} → TakesAll (map f xs) from (b ++ rest) → Takes (f x) b c → TakesAll (map f (xs ++ x ∷ [])) from (c ++ rest)
-  took_next xs x from rest {b = b} {c = c} p q =
-      took_more xs x from (b ++ rest) (c ++ rest) p (record { fits = q.fits; is = ap (λ (t : List Bool). t ++ rest) q.is ∙ append_assoc (field_bits (f x)) c rest })
-
-  pub put_more : (xs : List X) (k : ℕ) (d : X) (a b c : List Bool) → k < length xs → PutsAll (map f (take k xs)) a b → Puts (f (get_or xs k d)) b c → PutsAll (map f (take (k + 1) xs)) a c
-  put_more xs k d a b c h p q = rw (take_more xs k d h, map_push f (take k xs) (get_or xs k d)) (put_both p (put q put_none))
-
-  pub fit_one : (xs : List X) (k : ℕ) (d : X) → k < length xs → FieldsFit (map f xs) → FieldFits (f (get_or xs k d))
-  fit_one [] k d h p = absurd (omega arith)
-  fit_one (x ∷ xs) zero d h p = p.0
-  fit_one (x ∷ xs) (suc k) d h p = fit_one xs k d (omega arith) p.1
-
-  pub fit_more : (xs : List X) (k : ℕ) (d : X) → k < length xs → FieldsFit (map f (take k xs)) → FieldFits (f (get_or xs k d)) → FieldsFit (map f (take (k + 1) xs))
-  fit_more xs k d h p q = rw (take_more xs k d h, map_push f (take k xs) (get_or xs k d)) (fit-append (map f (take k xs)) (f (get_or xs k d) ∷ []) p (q, tt))
-
--- no bits at all
-pub takes_none : (w : ℕ) (a : List Bool) → w ≡ 0 → Takes (u w 0) a a
-unfolding bits_of
-takes_none zero a e = record { fits = omega arith; is = refl }
-takes_none (suc w) a e = absurd (omega arith)
-
-no_bits : (w : ℕ) (ns : List ℕ) → w ≡ 0 → bits_of_fields (numbers w ns) ≡ []
-unfolding bits_of
-no_bits w [] e = refl
-no_bits zero (n ∷ ns) e = no_bits zero ns e
-no_bits (suc w) (n ∷ ns) e = absurd (omega arith)
-
-pub puts_no_bits : (w : ℕ) (ns : List ℕ) (a : List Bool) → w ≡ 0 → PutsAll (numbers w ns) a a
-puts_no_bits w ns a e = record { is = sym (ap (λ (t : List Bool). a ++ t) (no_bits w ns e) ∙ append-nil a) }
-
-pub flags-fit : (bs : List Bool) → FieldsFit (flags bs)
-flags-fit [] = tt
-flags-fit (b ∷ bs) = (tt, flags-fit bs)
-
-pub one_step : (w k : ℕ) → w * (k + 1) ≡ w * k + w
-one_step w k = omega arith
 
 -- ---- lengths
 
@@ -72,7 +28,7 @@ total-flags (b ∷ bs) = rw (total-flags bs) (omega arith)
 
 -- ---- bits that are set
 
--- the bits of the table have as many as the table together
+-- as many bits are set in the concatenated rows as in all rows together
 pub ones-numbers : (w : ℕ) (ns : List ℕ) → FieldsFit (numbers w ns) → count_ones (unsigned (bits_of_fields (numbers w ns))) ≡ sum_by count_ones ns
 unfolding unsigned lib.Count.ones
 ones-numbers w [] fit = refl
@@ -81,14 +37,6 @@ ones-numbers w (n ∷ ns) fit =
     rw (unsigned-append (bits_of w n) rest, unsigned-bits_of w n, mod-eq_of_lt fit.0, sum_by-cons count_ones n ns)
     (ones_cat (length rest) n (unsigned rest) (unsigned_lt rest) ∙ ap (λ (k : ℕ). count_ones n + k) (ones-numbers w ns fit.1))
 
--- and a row has no more than its width
-pub ones-few : (w : ℕ) (ns : List ℕ) → FieldsFit (numbers w ns) → sum_by count_ones ns ≤ w * length ns
-ones-few w [] fit = omega arith
-ones-few w (n ∷ ns) fit =
-    let head = ones-le w n fit.0 in
-    let tail = ones-few w ns fit.1 in
-    rw (sum_by-cons count_ones n ns) (omega (arith, head, tail))
-
 -- ---- one reading
 
 -- what follows two columns that are one
@@ -96,7 +44,7 @@ pub record Same (X : Type 0) (xs ys : X) (fs gs : List Field) (a b : List Bool) 
   pub here : xs ≡ ys
   pub left : FieldsFit fs
   pub right : FieldsFit gs
-  pub behind : bits_of_fields fs ++ a ≡ bits_of_fields gs ++ b
+  pub after : bits_of_fields fs ++ a ≡ bits_of_fields gs ++ b
 
 pub peel : (hs ks fs gs : List Field) (a b : List Bool) → SameForm hs ks → FieldsFit (hs ++ fs) → FieldsFit (ks ++ gs) → bits_of_fields (hs ++ fs) ++ a ≡ bits_of_fields (ks ++ gs) ++ b → Same (List Field) hs ks fs gs a b
 peel hs ks fs gs a b form p q e =
@@ -104,7 +52,7 @@ peel hs ks fs gs a b form p q e =
     let fq = fit-left ks gs q in
     let one = one_list hs ks (bits_of_fields fs ++ a) (bits_of_fields gs ++ b) form fp.0 fq.0
     (sym (ap (λ (t : List Bool). t ++ a) (bits_of_fields-append hs fs) ∙ append_assoc (bits_of_fields hs) (bits_of_fields fs) a) ∙ e ∙ (ap (λ (t : List Bool). t ++ b) (bits_of_fields-append ks gs) ∙ append_assoc (bits_of_fields ks) (bits_of_fields gs) b)) in
-    record { here = one.0; left = fp.1; right = fq.1; behind = one.1 }
+    record { here = one.0; left = fp.1; right = fq.1; after = one.1 }
 
 form-numbers : (w v : ℕ) (ms ns : List ℕ) → w ≡ v → length ms ≡ length ns → SameForm (numbers w ms) (numbers v ns)
 form-numbers w v [] [] k e = tt
@@ -154,17 +102,17 @@ same-flags (m ∷ ms) [] e = absurd cc
 pub peel_numbers : (w v : ℕ) (ms ns : List ℕ) (fs gs : List Field) (a b : List Bool) → w ≡ v → length ms ≡ length ns → FieldsFit (numbers w ms ++ fs) → FieldsFit (numbers v ns ++ gs) → bits_of_fields (numbers w ms ++ fs) ++ a ≡ bits_of_fields (numbers v ns ++ gs) ++ b → Same (List ℕ) ms ns fs gs a b
 peel_numbers w v ms ns fs gs a b k len p q e =
     let s = peel (numbers w ms) (numbers v ns) fs gs a b (form-numbers w v ms ns k len) p q e in
-    record { here = same-numbers w v ms ns s.here; left = s.left; right = s.right; behind = s.behind }
+    record { here = same-numbers w v ms ns s.here; left = s.left; right = s.right; after = s.after }
 
 pub peel_integers : (w : ℕ) (ms ns : List ℤ) (fs gs : List Field) (a b : List Bool) → 1 ≤ w → length ms ≡ length ns → FieldsFit (integers w ms ++ fs) → FieldsFit (integers w ns ++ gs) → bits_of_fields (integers w ms ++ fs) ++ a ≡ bits_of_fields (integers w ns ++ gs) ++ b → Same (List ℤ) ms ns fs gs a b
 peel_integers w ms ns fs gs a b h len p q e =
     let s = peel (integers w ms) (integers w ns) fs gs a b (form-integers w ms ns h len) p q e in
-    record { here = same-integers w ms ns s.here; left = s.left; right = s.right; behind = s.behind }
+    record { here = same-integers w ms ns s.here; left = s.left; right = s.right; after = s.after }
 
 pub peel_flags : (ms ns : List Bool) (fs gs : List Field) (a b : List Bool) → length ms ≡ length ns → FieldsFit (flags ms ++ fs) → FieldsFit (flags ns ++ gs) → bits_of_fields (flags ms ++ fs) ++ a ≡ bits_of_fields (flags ns ++ gs) ++ b → Same (List Bool) ms ns fs gs a b
 peel_flags ms ns fs gs a b len p q e =
     let s = peel (flags ms) (flags ns) fs gs a b (form-flags ms ns len) p q e in
-    record { here = same-flags ms ns s.here; left = s.left; right = s.right; behind = s.behind }
+    record { here = same-flags ms ns s.here; left = s.left; right = s.right; after = s.after }
 
 pub last_numbers : (w : ℕ) (ms ns : List ℕ) (a b : List Bool) → length ms ≡ length ns → FieldsFit (numbers w ms) → FieldsFit (numbers w ns) → bits_of_fields (numbers w ms) ++ a ≡ bits_of_fields (numbers w ns) ++ b → ms ≡ ns
 last_numbers w ms ns a b len p q e = same-numbers w w ms ns (one_list (numbers w ms) (numbers w ns) a b (form-numbers w w ms ns refl len) p q e).0

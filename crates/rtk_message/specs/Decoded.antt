@@ -32,16 +32,16 @@ tow_of (Arp1005 m) = None
 tow_of (Arp1006 m) = None
 tow_of (Msm1074 m) = Some m.header.tow
 
--- the fields behind the number
-abbrev pub fields_behind : Message → List Field
-fields_behind (Obs1004 m) = obs1004.table m
-fields_behind (Arp1005 m) = arp1005.table m
-fields_behind (Arp1006 m) = arp1006.table m
-fields_behind (Msm1074 m) = msm1074.table m
+-- the fields after the number
+abbrev pub fields_after_number : Message → List Field
+fields_after_number (Obs1004 m) = obs1004.table m
+fields_after_number (Arp1005 m) = arp1005.table m
+fields_after_number (Arp1006 m) = arp1006.table m
+fields_after_number (Msm1074 m) = msm1074.table m
 
 -- all fields of a message, the number first
 abbrev pub table : Message → List Field
-table m = u 12 (number_of m) ∷ fields_behind m
+table m = u 12 (number_of m) ∷ fields_after_number m
 
 -- which messages have bits
 abbrev pub IsValid : Message → Type 0
@@ -55,11 +55,11 @@ pub record Encodes (bs : List Bool) (m : Message) : Type 0 where
   pub valid : IsValid m
   pub begins : (rest : List Bool) × (bs ≡ bits_of_fields (table m) ++ rest)
 
--- the bits behind this number begin with the fields of a valid message that has it
+-- the bits after this number begin with the fields of a valid message that has it
 pub record Follows (number : ℕ) (bs : List Bool) (m : Message) : Type 0 where
   pub has_number : number_of m ≡ number
   pub valid : IsValid m
-  pub begins : (rest : List Bool) × (bs ≡ bits_of_fields (fields_behind m) ++ rest)
+  pub begins : (rest : List Bool) × (bs ≡ bits_of_fields (fields_after_number m) ++ rest)
 
 -- the bytes are the fields of the message, with zero bits up to a whole byte
 abbrev pub IsPayloadOf : Message → List ℕ → Type 0
@@ -67,16 +67,16 @@ IsPayloadOf m payload = bits payload ≡ bits_of_fields (table m) ++ padding (le
 
 -- ---- the first fault, in the order in which causes are looked for
 
--- behind this number
-abbrev pub fault_behind : ℕ → List Bool → Option DecodeFault
-fault_behind n bs =
+-- after this number
+abbrev pub fault_after_number : ℕ → List Bool → Option DecodeFault
+fault_after_number n bs =
     if n == 1004 then obs1004.first_fault bs else
     if n == 1005 then arp1005.first_fault bs else
     if n == 1006 then arp1006.first_fault bs else
     if n == 1074 then msm1074.first_fault bs else Some (Other n)
 
 abbrev pub first_fault : List Bool → Option DecodeFault
-first_fault bs = if nat_lt (length bs) 12 then Some NoNumber else fault_behind (unsigned (take 12 bs)) (drop 12 bs)
+first_fault bs = if nat_lt (length bs) 12 then Some NoNumber else fault_after_number (unsigned (take 12 bs)) (drop 12 bs)
 
 -- what decoding answers
 pub record Decodes (bs : List Bool) (r : Result Message DecodeFault) : Type 0 where

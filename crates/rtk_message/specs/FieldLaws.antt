@@ -34,23 +34,7 @@ length-bits_of_fields (u w n ∷ fs) = rw (length-append (bits_of w n) (bits_of_
 length-bits_of_fields (i w z ∷ fs) = rw (length-append (signed_bits_of w z) (bits_of_fields fs), length-signed_bits_of w z, length-bits_of_fields fs) refl
 length-bits_of_fields (flag b ∷ fs) = rw (length-bits_of_fields fs) (omega arith)
 
--- one field more in front of what was taken
-pub took : {f : Field} {fs : List Field} {a b c : List Bool} → Takes f a b → TakesAll fs b c → TakesAll (f ∷ fs) a c
-took {f = f} {fs = fs} {c = c} first rest = record {
-  fit = (first.fits, rest.fit);
-  is = first.is ∙ ap (λ (t : List Bool). field_bits f ++ t) rest.is ∙ sym (append_assoc (field_bits f) (bits_of_fields fs) c);
-}
-
-pub took_none : {a : List Bool} → TakesAll [] a a
-took_none = record { fit = tt; is = refl }
-
-pub put : {f : Field} {fs : List Field} {a b c : List Bool} → Puts f a b → PutsAll fs b c → PutsAll (f ∷ fs) a c
-put {f = f} {fs = fs} {a = a} first rest = record { is = rest.is ∙ ap (λ (t : List Bool). t ++ bits_of_fields fs) first.is ∙ append_assoc a (field_bits f) (bits_of_fields fs) }
-
-pub put_none : {a : List Bool} → PutsAll [] a a
-put_none {a = a} = record { is = sym (append-nil a) }
-
--- ---- fields behind fields
+-- ---- fields after fields
 
 pub bits_of_fields-append : (fs gs : List Field) → bits_of_fields (fs ++ gs) ≡ bits_of_fields fs ++ bits_of_fields gs
 bits_of_fields-append [] gs = refl
@@ -64,33 +48,12 @@ pub fit-left : (fs gs : List Field) → FieldsFit (fs ++ gs) → FieldsFit fs ×
 fit-left [] gs p = (tt, p)
 fit-left (f ∷ fs) gs p = let r = fit-left fs gs p.1 in ((p.0, r.0), r.1)
 
--- bits_of_fields put behind fields
-pub put_both : {fs gs : List Field} {a b c : List Bool} → PutsAll fs a b → PutsAll gs b c → PutsAll (fs ++ gs) a c
-put_both {fs = fs} {gs = gs} {a = a} p q = record { is = q.is ∙ ap (λ (t : List Bool). t ++ bits_of_fields gs) p.is ∙ append_assoc a (bits_of_fields fs) (bits_of_fields gs) ∙ ap (λ (t : List Bool). a ++ t) (sym (bits_of_fields-append fs gs)) }
-
--- bits_of_fields behind fields
-pub took_both : {fs gs : List Field} {a b c : List Bool} → TakesAll fs a b → TakesAll gs b c → TakesAll (fs ++ gs) a c
-took_both {fs = fs} {gs = gs} {c = c} p q = record {
-  fit = fit-append fs gs p.fit q.fit;
-  is = p.is ∙ ap (λ (t : List Bool). bits_of_fields fs ++ t) q.is ∙ sym (append_assoc (bits_of_fields fs) (bits_of_fields gs) c) ∙ ap (λ (t : List Bool). t ++ c) (sym (bits_of_fields-append fs gs));
-}
-
 -- the number in a field with n bits before it
 pub number_at : (before : List Field) (w n : ℕ) (fs : List Field) (bs rest : List Bool) (k : ℕ) → total before ≡ k → n < 2 ^ w → bs ≡ bits_of_fields (before ++ u w n ∷ fs) ++ rest → unsigned (take w (drop k bs)) ≡ n
 number_at before w n fs bs rest k at small e =
     let parts : bs ≡ bits_of_fields before ++ (bits_of w n ++ (bits_of_fields fs ++ rest)) =
     e ∙ ap (λ (t : List Bool). t ++ rest) (bits_of_fields-append before (u w n ∷ fs)) ∙ append_assoc (bits_of_fields before) (bits_of w n ++ bits_of_fields fs) rest ∙ ap (λ (t : List Bool). bits_of_fields before ++ t) (append_assoc (bits_of w n) (bits_of_fields fs) rest) in
     rw (parts, drop_at (bits_of_fields before) (bits_of w n ++ (bits_of_fields fs ++ rest)) k (length-bits_of_fields before ∙ at), take_at (bits_of w n) (bits_of_fields fs ++ rest) w (length-bits_of w n)) (unsigned-bits_of w n ∙ mod-eq_of_lt small)
-
--- where nothing is left before the rest
-pub took_rest : {fs : List Field} {from rest : List Bool} (left : List Bool) → TakesAll fs from (left ++ rest) → length left ≡ 0 → TakesAll fs from rest
-took_rest [] p none = p
-took_rest (b ∷ bs) p none = absurd (omega arith)
-
--- fields that use up the bits taken at once
-pub took_word : {fs : List Field} {word left from rest : List Bool} → TakesAll fs word left → length left ≡ 0 → from ≡ word ++ rest → TakesAll fs from rest
-took_word {fs = fs} {left = left} {rest = rest} p none e =
-    took_rest left (record { fit = p.fit; is = e ∙ ap (λ (t : List Bool). t ++ rest) p.is ∙ append_assoc (bits_of_fields fs) left rest }) none
 
 -- ---- one reading
 
@@ -154,14 +117,3 @@ one_list (flag m ∷ fs) (flag n ∷ gs) a b form p q e =
     let same : m ≡ n = cc in
     (cc, r.1)
 one_list fs gs a b form p q e = absurd form
-
--- a number of one bit
-pub one_bit : (n : ℕ) → n < 2 → bits_of 1 n ≡ (n == 1) ∷ []
-unfolding bits_of
-one_bit zero h = refl
-one_bit (suc zero) h = refl
-one_bit (suc (suc n)) h = absurd (omega arith)
-
-pub flag_bit : (b : Bool) → bits_of 1 (bit b) ≡ b ∷ []
-flag_bit true = one_bit 1 (omega arith)
-flag_bit false = one_bit 0 (omega arith)

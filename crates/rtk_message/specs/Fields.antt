@@ -30,7 +30,7 @@ bits_of_fields (f ∷ fs) = field_bits f ++ bits_of_fields fs
 abbrev pub FieldsFit : List Field → Type 0
 FieldsFit fs = AllByRecursion FieldFits fs
 
--- the bits begin with a field that fits, and these are left behind it
+-- the bits begin with a field that fits, and these are left after it
 pub record Takes (f : Field) (from left : List Bool) : Type 0 where
   pub fits : FieldFits f
   pub is : from ≡ field_bits f ++ left
@@ -40,7 +40,7 @@ pub record TakesAll (fs : List Field) (from left : List Bool) : Type 0 where
   pub fit : FieldsFit fs
   pub is : from ≡ bits_of_fields fs ++ left
 
--- a field was put behind bits
+-- a field was put after bits
 pub record Puts (f : Field) (before after : List Bool) : Type 0 where
   pub is : after ≡ before ++ field_bits f
 

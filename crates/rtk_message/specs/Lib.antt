@@ -11,3 +11,4 @@ pub mod ColumnLaws
 pub mod Msm1074
 pub mod Msm1074Laws
 pub mod Decoded
+pub mod Equality

@@ -1,4 +1,4 @@
--- Message 1074 behind its number (RTCM 10403.3, message 1074, GPS MSM4): a header of 157 bits, the cell mask, the columns.
+-- Message 1074 after its number (RTCM 10403.3, message 1074, GPS MSM4): a header of 157 bits, the cell mask, the columns.
 use Rattle.std.specs.Prelude.{◌≡◌, ℕ, ◌+◌, ◌*◌, ◌≤◌, ◌<◌, Bool, List, [], ◌∷◌, ◌++◌, length, sum_by, count_ones, take, drop, Option, Some, None, nat_lt, if◌then◌else◌}
 use Rattle.rtk_bits.specs.Bits.{unsigned}
 use Rattle.rtk_message.specs.Fields.{Field, u, flag, FieldsFit}
@@ -61,7 +61,7 @@ pub record HasNoCells (m : Msm1074) : Type 0 where
   pub half_cycle : m.half_cycle ≡ []
   pub cnr : m.cnr ≡ []
 
--- each value fits its width, in the columns where it may not
+-- each value of the columns fits its width; those of DF420 are single bits and always do
 pub record EachFits (m : Msm1074) : Type 0 where
   pub cell_mask : FieldsFit (numbers (signals m.header) m.cell_mask)
   pub rough_ms : FieldsFit (numbers 8 m.rough_ms)
@@ -78,7 +78,7 @@ pub record IsValid (m : Msm1074) : Type 0 where
   pub mask_bits : satellites m.header * signals m.header ≤ 64
   pub lengths : HasLengths m
 
--- ---- the first fault of bits behind the number
+-- ---- the first fault of bits after the number
 
 -- DF004 in the bits
 abbrev pub tow_of : List Bool → ℕ
@@ -96,7 +96,7 @@ mask_bits_of bs = satellites_of bs * count_ones (unsigned (take 32 (drop 125 bs)
 abbrev pub cells_of : List Bool → ℕ
 cells_of bs = count_ones (unsigned (take (mask_bits_of bs) (drop 157 bs)))
 
--- a satellite takes 18 bits behind the cell mask, a cell 48
+-- a satellite takes 18 bits after the cell mask, a cell 48
 abbrev pub first_fault : List Bool → Option DecodeFault
 first_fault bs =
     if nat_lt (length bs) 157 then Some (Short 1074) else

@@ -1,4 +1,4 @@
--- One reading of a 1074, and none where there is a fault.
+-- One message 1074 of bits, and no fault where there is one.
 use Rattle.std.proofs.Common.{◌≡◌, ℕ, ℤ, Bool, true, false, List, [], ◌∷◌, ◌++◌, length, take, drop, Some, None, refl, sym, ap, ◌∙◌, ◌+◌, ◌*◌, ◌<◌, ◌≤◌, ltb, arith, append_assoc, length-append, sum_by, count_ones, ◌↔◌}
 use Rattle.std.proofs.lemmas.Bool.{le-ltb, lt-ltb, ltb-false, ltb_from_iff}
 use Rattle.std.proofs.lemmas.List.{take_at, drop_at}
@@ -8,7 +8,7 @@ use Rattle.rtk_message.specs.Fields.{Field, u, flag, bits_of_fields, FieldsFit, 
 use Rattle.rtk_message.specs.FieldLaws.{total, length-bits_of_fields}
 use Rattle.rtk_message.specs.FieldLaws.{bits_of_fields-append, fit-append, fit-left, number_at}
 use Rattle.rtk_message.specs.Columns.{numbers, integers, flags}
-use Rattle.rtk_message.specs.ColumnLaws.{flags-fit, total-numbers, total-integers, total-flags, ones-numbers, peel, peel_numbers, peel_integers, peel_flags, last_numbers}
+use Rattle.rtk_message.specs.ColumnLaws.{total-numbers, total-integers, total-flags, ones-numbers, peel, peel_numbers, peel_integers, peel_flags, last_numbers}
 use Rattle.rtk_message.specs.declared.msm1074.MsmHeader.{MsmHeader}
 use Rattle.rtk_message.specs.declared.msm1074.Msm1074.{Msm1074}
 use Rattle.rtk_message.specs.Msm1074.{header_table, satellites, signals, mask_table, columns, table, cells, HasLengths, EachFits, IsValid, first_fault, tow_of, satellites_of, mask_bits_of, cells_of}
@@ -18,7 +18,7 @@ pub record Says (h : MsmHeader) (bs rest : List Bool) : Type 0 where
   pub tow_is : tow_of bs ≡ h.tow
   pub satellites_is : satellites_of bs ≡ satellites h
   pub mask_bits_is : mask_bits_of bs ≡ satellites h * signals h
-  pub behind : drop 157 bs ≡ rest
+  pub after : drop 157 bs ≡ rest
   pub len : length bs ≡ 157 + length rest
 
 pub header_says : {h : MsmHeader} {bs rest : List Bool} → TakesAll (header_table h) bs rest → Says h bs rest
@@ -34,37 +34,13 @@ header_says {h = h} {bs = bs} {rest = rest} took =
       tow_is = number_at (u 12 h.station ∷ []) 30 h.tow (flag h.multiple_message ∷ u 3 h.issue_of_data_station ∷ u 7 h.reserved ∷ u 2 h.clock_steering ∷ u 2 h.external_clock ∷ flag h.smoothing ∷ u 3 h.smoothing_interval ∷ u 64 h.satellite_mask ∷ u 32 h.signal_mask ∷ []) bs rest 12 refl f.1.0 took.is;
       satellites_is = sat;
       mask_bits_is = rw (sat, sig) refl;
-      behind = rw took.is (drop_at (bits_of_fields (header_table h)) rest 157 (length-bits_of_fields (header_table h)));
+      after = rw took.is (drop_at (bits_of_fields (header_table h)) rest 157 (length-bits_of_fields (header_table h)));
       len = ap length took.is ∙ length-append (bits_of_fields (header_table h)) rest ∙ ap (λ (k : ℕ). k + length rest) (length-bits_of_fields (header_table h));
     }
-
-pub is_late : {h : MsmHeader} {bs rest : List Bool} → TakesAll (header_table h) bs rest → 604799999 < h.tow → first_fault bs ≡ Some (EpochRange 1074)
-is_late {h = h} {bs = bs} took late =
-    let says = header_says took in
-    let long : ltb (length bs) 157 ≡ false = le-ltb (length bs) 157 (omega (arith, says.len)) in
-    let when : ltb 604799999 (tow_of bs) ≡ true = lt-ltb 604799999 (tow_of bs) (omega (arith, says.tow_is, late)) in
-    rw (long, when) refl
-
-pub is_many : {h : MsmHeader} {bs rest : List Bool} → TakesAll (header_table h) bs rest → h.tow ≤ 604799999 → 64 < satellites h * signals h → first_fault bs ≡ Some TooManyCells
-is_many {h = h} {bs = bs} took time many =
-    let says = header_says took in
-    let long : ltb (length bs) 157 ≡ false = le-ltb (length bs) 157 (omega (arith, says.len)) in
-    let when : ltb 604799999 (tow_of bs) ≡ false = le-ltb 604799999 (tow_of bs) (omega (arith, says.tow_is, time)) in
-    let big : ltb 64 (mask_bits_of bs) ≡ true = lt-ltb 64 (mask_bits_of bs) (omega (arith, says.mask_bits_is, many)) in
-    rw (long, when, big) refl
 
 -- the bits that the rest is to have
 abbrev pub due : List Bool → ℕ
 due bs = 157 + mask_bits_of bs + 18 * satellites_of bs + 48 * cells_of bs
-
-pub is_cut : {h : MsmHeader} {bs rest : List Bool} → TakesAll (header_table h) bs rest → h.tow ≤ 604799999 → satellites h * signals h ≤ 64 → length bs < due bs → first_fault bs ≡ Some (Short 1074)
-is_cut {h = h} {bs = bs} took time few short =
-    let says = header_says took in
-    let long : ltb (length bs) 157 ≡ false = le-ltb (length bs) 157 (omega (arith, says.len)) in
-    let when : ltb 604799999 (tow_of bs) ≡ false = le-ltb 604799999 (tow_of bs) (omega (arith, says.tow_is, time)) in
-    let big : ltb 64 (mask_bits_of bs) ≡ false = le-ltb 64 (mask_bits_of bs) (omega (arith, says.mask_bits_is, few)) in
-    let cut : ltb (length bs) (due bs) ≡ true = lt-ltb (length bs) (due bs) short in
-    rw (long, when, big, cut) refl
 
 is_whole : {h : MsmHeader} {bs rest : List Bool} → TakesAll (header_table h) bs rest → h.tow ≤ 604799999 → satellites h * signals h ≤ 64 → due bs ≤ length bs → first_fault bs ≡ None
 is_whole {h = h} {bs = bs} took time few enough =
@@ -75,23 +51,13 @@ is_whole {h = h} {bs = bs} took time few enough =
     let enough_bits : ltb (length bs) (due bs) ≡ false = le-ltb (length bs) (due bs) enough in
     rw (long, when, big, enough_bits) refl
 
--- fewer bits than the cell mask
-pub is_cut_mask : {h : MsmHeader} {bs rest : List Bool} → TakesAll (header_table h) bs rest → h.tow ≤ 604799999 → satellites h * signals h ≤ 64 → length rest < satellites h * signals h → first_fault bs ≡ Some (Short 1074)
-is_cut_mask took time few short = let says = header_says took in is_cut took time few (omega (arith, says.len, says.mask_bits_is, short))
-
 -- the cells, as the bits say and as the table do
 pub cells_says : {h : MsmHeader} {bs rest after : List Bool} (ns : List ℕ) → TakesAll (header_table h) bs rest → TakesAll (numbers (signals h) ns) rest after → length ns ≡ satellites h → cells_of bs ≡ sum_by count_ones ns
 cells_says {h = h} {bs = bs} {rest = rest} {after = after} ns took mask len =
     let says = header_says took in
     let fs = bits_of_fields (numbers (signals h) ns) in
     let size : length fs ≡ satellites h * signals h = length-bits_of_fields (numbers (signals h) ns) ∙ total-numbers (signals h) ns ∙ rw len (omega arith) in
-    rw (says.mask_bits_is, says.behind, mask.is, take_at fs after (satellites h * signals h) size) (ones-numbers (signals h) ns mask.fit)
-
-pub is_cut_rest : {h : MsmHeader} {bs rest after : List Bool} (ns : List ℕ) → TakesAll (header_table h) bs rest → TakesAll (numbers (signals h) ns) rest after → length ns ≡ satellites h → h.tow ≤ 604799999 → satellites h * signals h ≤ 64
-    → length rest ≡ signals h * satellites h + length after → length after < 18 * satellites h + 48 * sum_by count_ones ns → first_fault bs ≡ Some (Short 1074)
-is_cut_rest {h = h} ns took mask len time few size short =
-    let says = header_says took in
-    is_cut took time few (omega (arith, says.len, says.mask_bits_is, says.satellites_is, cells_says ns took mask len, size, short))
+    rw (says.mask_bits_is, says.after, mask.is, take_at fs after (satellites h * signals h) size) (ones-numbers (signals h) ns mask.fit)
 
 length-columns : (m : Msm1074) → HasLengths m → length (bits_of_fields (columns m)) ≡ 18 * satellites m.header + 48 * cells m
 length-columns m l =
@@ -138,20 +104,20 @@ pub is_accepted : (m : Msm1074) (rest : List Bool) → IsValid m → first_fault
 is_accepted m rest valid =
     let h = m.header in
     let bs = bits_of_fields (table m) ++ rest in
-    let behind = mask_table m ++ columns m in
-    let head : TakesAll (header_table h) bs (bits_of_fields behind ++ rest) = split (header_table h) behind bs rest valid.fields_fit refl in
-    let mask : TakesAll (mask_table m) (bits_of_fields behind ++ rest) (bits_of_fields (columns m) ++ rest) = split (mask_table m) (columns m) (bits_of_fields behind ++ rest) rest (fit-left (header_table h) behind valid.fields_fit).1 refl in
+    let after_header = mask_table m ++ columns m in
+    let head : TakesAll (header_table h) bs (bits_of_fields after_header ++ rest) = split (header_table h) after_header bs rest valid.fields_fit refl in
+    let mask : TakesAll (mask_table m) (bits_of_fields after_header ++ rest) (bits_of_fields (columns m) ++ rest) = split (mask_table m) (columns m) (bits_of_fields after_header ++ rest) rest (fit-left (header_table h) after_header valid.fields_fit).1 refl in
     let says = header_says head in
     let time : h.tow < 604800000 = valid.time_in_week in
     let count = cells_says m.cell_mask head mask valid.lengths.cell_mask in
-    let l1 : length (bits_of_fields behind ++ rest) ≡ signals h * satellites h + length (bits_of_fields (columns m) ++ rest) =
+    let l1 : length (bits_of_fields after_header ++ rest) ≡ signals h * satellites h + length (bits_of_fields (columns m) ++ rest) =
     ap length mask.is ∙ length-append (bits_of_fields (mask_table m)) (bits_of_fields (columns m) ++ rest) ∙ ap (λ (k : ℕ). k + length (bits_of_fields (columns m) ++ rest)) (length-bits_of_fields (mask_table m) ∙ total-numbers (signals h) m.cell_mask ∙ ap (λ (k : ℕ). signals h * k) valid.lengths.cell_mask) in
     is_whole head (omega (arith, time)) valid.mask_bits (omega (arith, says.len, says.mask_bits_is, says.satellites_is, count, l1, length-append (bits_of_fields (columns m)) rest, length-columns m valid.lengths))
 
-make_header : ℕ → ℕ → Bool → ℕ → ℕ → ℕ → ℕ → Bool → ℕ → ℕ → ℕ → MsmHeader
+pub make_header : ℕ → ℕ → Bool → ℕ → ℕ → ℕ → ℕ → Bool → ℕ → ℕ → ℕ → MsmHeader
 make_header station tow multiple_message issue_of_data_station reserved clock_steering external_clock smoothing smoothing_interval satellite_mask signal_mask = record { station = station; tow = tow; multiple_message = multiple_message; issue_of_data_station = issue_of_data_station; reserved = reserved; clock_steering = clock_steering; external_clock = external_clock; smoothing = smoothing; smoothing_interval = smoothing_interval; satellite_mask = satellite_mask; signal_mask = signal_mask }
 
-made_header : (h : MsmHeader) → make_header h.station h.tow h.multiple_message h.issue_of_data_station h.reserved h.clock_steering h.external_clock h.smoothing h.smoothing_interval h.satellite_mask h.signal_mask ≡ h
+pub made_header : (h : MsmHeader) → make_header h.station h.tow h.multiple_message h.issue_of_data_station h.reserved h.clock_steering h.external_clock h.smoothing h.smoothing_interval h.satellite_mask h.signal_mask ≡ h
 unfolding make_header
 made_header h = refl
 
@@ -160,10 +126,10 @@ same_header h k e =
     let all : make_header h.station h.tow h.multiple_message h.issue_of_data_station h.reserved h.clock_steering h.external_clock h.smoothing h.smoothing_interval h.satellite_mask h.signal_mask ≡ make_header k.station k.tow k.multiple_message k.issue_of_data_station k.reserved k.clock_steering k.external_clock k.smoothing k.smoothing_interval k.satellite_mask k.signal_mask = cc in
     sym (made_header h) ∙ all ∙ made_header k
 
-make : MsmHeader → List ℕ → List ℕ → List ℕ → List ℤ → List ℤ → List ℕ → List Bool → List ℕ → Msm1074
+pub make : MsmHeader → List ℕ → List ℕ → List ℕ → List ℤ → List ℤ → List ℕ → List Bool → List ℕ → Msm1074
 make header cell_mask rough_ms rough_fraction fine_range fine_phase lock_indicator half_cycle cnr = record { header = header; cell_mask = cell_mask; rough_ms = rough_ms; rough_fraction = rough_fraction; fine_range = fine_range; fine_phase = fine_phase; lock_indicator = lock_indicator; half_cycle = half_cycle; cnr = cnr }
 
-made : (m : Msm1074) → make m.header m.cell_mask m.rough_ms m.rough_fraction m.fine_range m.fine_phase m.lock_indicator m.half_cycle m.cnr ≡ m
+pub made : (m : Msm1074) → make m.header m.cell_mask m.rough_ms m.rough_fraction m.fine_range m.fine_phase m.lock_indicator m.half_cycle m.cnr ≡ m
 unfolding make
 made m = refl
 
@@ -175,47 +141,17 @@ is_unique m n a b p q e =
     let header : m.header ≡ n.header = same_header m.header n.header s0.here in
     let sats : satellites m.header ≡ satellites n.header = ap satellites header in
     let sigs : signals m.header ≡ signals n.header = ap signals header in
-    let s1 = peel_numbers (signals m.header) (signals n.header) m.cell_mask n.cell_mask (columns m) (columns n) a b sigs (l.cell_mask ∙ sats ∙ sym k.cell_mask) s0.left s0.right s0.behind in
+    let s1 = peel_numbers (signals m.header) (signals n.header) m.cell_mask n.cell_mask (columns m) (columns n) a b sigs (l.cell_mask ∙ sats ∙ sym k.cell_mask) s0.left s0.right s0.after in
     let count : cells m ≡ cells n = ap (sum_by count_ones) s1.here in
-    let s2 = peel_numbers 8 8 m.rough_ms n.rough_ms _ _ a b refl (l.rough_ms ∙ sats ∙ sym k.rough_ms) s1.left s1.right s1.behind in
-    let s3 = peel_numbers 10 10 m.rough_fraction n.rough_fraction _ _ a b refl (l.rough_fraction ∙ sats ∙ sym k.rough_fraction) s2.left s2.right s2.behind in
-    let s4 = peel_integers 15 m.fine_range n.fine_range _ _ a b (omega arith) (l.fine_range ∙ count ∙ sym k.fine_range) s3.left s3.right s3.behind in
-    let s5 = peel_integers 22 m.fine_phase n.fine_phase _ _ a b (omega arith) (l.fine_phase ∙ count ∙ sym k.fine_phase) s4.left s4.right s4.behind in
-    let s6 = peel_numbers 4 4 m.lock_indicator n.lock_indicator _ _ a b refl (l.lock_indicator ∙ count ∙ sym k.lock_indicator) s5.left s5.right s5.behind in
-    let s7 = peel_flags m.half_cycle n.half_cycle _ _ a b (l.half_cycle ∙ count ∙ sym k.half_cycle) s6.left s6.right s6.behind in
-    let cnr = last_numbers 6 m.cnr n.cnr a b (l.cnr ∙ count ∙ sym k.cnr) s7.left s7.right s7.behind in
+    let s2 = peel_numbers 8 8 m.rough_ms n.rough_ms _ _ a b refl (l.rough_ms ∙ sats ∙ sym k.rough_ms) s1.left s1.right s1.after in
+    let s3 = peel_numbers 10 10 m.rough_fraction n.rough_fraction _ _ a b refl (l.rough_fraction ∙ sats ∙ sym k.rough_fraction) s2.left s2.right s2.after in
+    let s4 = peel_integers 15 m.fine_range n.fine_range _ _ a b (omega arith) (l.fine_range ∙ count ∙ sym k.fine_range) s3.left s3.right s3.after in
+    let s5 = peel_integers 22 m.fine_phase n.fine_phase _ _ a b (omega arith) (l.fine_phase ∙ count ∙ sym k.fine_phase) s4.left s4.right s4.after in
+    let s6 = peel_numbers 4 4 m.lock_indicator n.lock_indicator _ _ a b refl (l.lock_indicator ∙ count ∙ sym k.lock_indicator) s5.left s5.right s5.after in
+    let s7 = peel_flags m.half_cycle n.half_cycle _ _ a b (l.half_cycle ∙ count ∙ sym k.half_cycle) s6.left s6.right s6.after in
+    let cnr = last_numbers 6 m.cnr n.cnr a b (l.cnr ∙ count ∙ sym k.cnr) s7.left s7.right s7.after in
     let h1 = s1.here in let h2 = s2.here in let h3 = s3.here in let h4 = s4.here in let h5 = s5.here in let h6 = s6.here in let h7 = s7.here in
     let all : make m.header m.cell_mask m.rough_ms m.rough_fraction m.fine_range m.fine_phase m.lock_indicator m.half_cycle m.cnr ≡ make n.header n.cell_mask n.rough_ms n.rough_fraction n.fine_range n.fine_phase n.lock_indicator n.half_cycle n.cnr = cc in
     sym (made m) ∙ all ∙ made n
 
 -- ---- parts of what has a spelling
-
-pub each_fits : (m : Msm1074) → FieldsFit (table m) → EachFits m
-each_fits m p =
-    let a = fit-left (header_table m.header) (mask_table m ++ columns m) p in
-    let b = fit-left (mask_table m) (columns m) a.1 in
-    let c = fit-left (numbers 8 m.rough_ms) _ b.1 in
-    let d = fit-left (numbers 10 m.rough_fraction) _ c.1 in
-    let e = fit-left (integers 15 m.fine_range) _ d.1 in
-    let f = fit-left (integers 22 m.fine_phase) _ e.1 in
-    let g = fit-left (numbers 4 m.lock_indicator) _ f.1 in
-    let h = fit-left (flags m.half_cycle) _ g.1 in
-    record { cell_mask = b.0; rough_ms = c.0; rough_fraction = d.0; fine_range = e.0; fine_phase = f.0; lock_indicator = g.0; cnr = h.1 }
-
-pub all_fit : (m : Msm1074) → FieldsFit (header_table m.header) → EachFits m → FieldsFit (table m)
-all_fit m h p =
-    fit-append (header_table m.header) (mask_table m ++ columns m) h
-    (fit-append (mask_table m) (columns m) p.cell_mask
-    (fit-append (numbers 8 m.rough_ms) _ p.rough_ms
-    (fit-append (numbers 10 m.rough_fraction) _ p.rough_fraction
-    (fit-append (integers 15 m.fine_range) _ p.fine_range
-    (fit-append (integers 22 m.fine_phase) _ p.fine_phase
-    (fit-append (numbers 4 m.lock_indicator) _ p.lock_indicator
-    (fit-append (flags m.half_cycle) _ (flags-fit m.half_cycle) p.cnr)))))))
-
-pub is_valid : (m : Msm1074) → FieldsFit (header_table m.header) → m.header.tow < 604800000 → satellites m.header * signals m.header ≤ 64 → HasLengths m → EachFits m → IsValid m
-is_valid m head time few lengths each = record { fields_fit = all_fit m head each; time_in_week = time; mask_bits = few; lengths = lengths }
-
--- not more than 64, by a test of more
-pub few_of : {b : Bool} {k : ℕ} → ((b ≡ true) ↔ (64 < k)) → b ≡ false → k ≤ 64
-few_of {k = k} test none = ltb-false 64 k (sym (ltb_from_iff test) ∙ none)

@@ -1,4 +1,4 @@
--- Message 1004 behind its number (RTCM 10403.3, message 1004): 52 bits, and 125 for each satellite.
+-- Message 1004 after its number (RTCM 10403.3, message 1004): 52 bits, and 125 for each satellite.
 use Rattle.std.specs.Prelude.{ℕ, ◌+◌, ◌*◌, ◌<◌, Bool, List, [], ◌∷◌, ◌++◌, length, take, drop, Option, Some, None, nat_lt, if◌then◌else◌}
 use Rattle.std.specs.List.{flat_map}
 use Rattle.rtk_bits.specs.Bits.{unsigned}
@@ -32,7 +32,7 @@ pub record IsValid (m : Obs1004) : Type 0 where
   pub fields_fit : FieldsFit (table m)
   pub time_in_week : m.tow < 604800000
 
--- ---- the first fault of bits behind the number
+-- ---- the first fault of bits after the number
 
 -- DF004 in the bits
 abbrev pub tow_of : List Bool → ℕ

@@ -8,7 +8,7 @@ use Rattle.std.proofs.Math.Nat.{mod-eq_of_lt}
 use Rattle.rtk_bits.specs.Bits.{unsigned, bits_of}
 use Rattle.rtk_bits.proofs.Numbers.{length-bits_of, unsigned-bits_of}
 use Rattle.rtk_message.specs.Fields.{Field, u, i, flag, bits_of_fields, field_bits, FieldsFit, TakesAll, Takes, PutsAll}
-use Rattle.rtk_message.specs.FieldLaws.{total, length-bits_of_fields, SameForm, one_list, took, took_none, bits_of_fields-append, fit-append, fit-left, took_both, put_both, number_at}
+use Rattle.rtk_message.specs.FieldLaws.{total, length-bits_of_fields, SameForm, one_list, bits_of_fields-append, fit-append, fit-left, number_at}
 use Rattle.rtk_message.specs.declared.satellites.Satellite.{Satellite}
 use Rattle.rtk_message.specs.declared.obs1004.Obs1004.{Obs1004}
 use Rattle.rtk_message.specs.Obs1004.{satellite_table, header, header_table, table, IsValid, first_fault, tow_of, satellite_bits}
@@ -30,21 +30,6 @@ header_says {s = s} {t = t} {y = y} {n = n} {k = k} {v = v} {bs = bs} {rest = re
   count_is = ap (λ (m : ℕ). 125 * m) (number_at (u 12 s ∷ u 30 t ∷ flag y ∷ []) 5 n (flag k ∷ u 3 v ∷ []) bs rest 43 refl took.fit.1.1.1.0 took.is);
   len = ap length took.is ∙ length-append (bits_of_fields (header s t y n k v)) rest ∙ ap (λ (m : ℕ). m + length rest) (length-bits_of_fields (header s t y n k v));
 }
-
-pub is_late : {s t : ℕ} {y : Bool} {n : ℕ} {k : Bool} {v : ℕ} {bs rest : List Bool} → TakesAll (header s t y n k v) bs rest → 604799999 < t → first_fault bs ≡ Some (EpochRange 1004)
-is_late {t = t} {bs = bs} took h =
-    let says = header_says took in
-    let long : ltb (length bs) 52 ≡ false = le-ltb (length bs) 52 (omega (arith, says.len)) in
-    let late : ltb 604799999 (tow_of bs) ≡ true = lt-ltb 604799999 (tow_of bs) (omega (arith, says.tow_is)) in
-    rw (long, late) refl
-
-pub is_cut : {s t : ℕ} {y : Bool} {n : ℕ} {k : Bool} {v : ℕ} {bs rest : List Bool} → TakesAll (header s t y n k v) bs rest → t ≤ 604799999 → length rest < 125 * n → first_fault bs ≡ Some (Short 1004)
-is_cut {t = t} {bs = bs} took h short =
-    let says = header_says took in
-    let long : ltb (length bs) 52 ≡ false = le-ltb (length bs) 52 (omega (arith, says.len)) in
-    let early : ltb 604799999 (tow_of bs) ≡ false = le-ltb 604799999 (tow_of bs) (omega (arith, says.tow_is)) in
-    let cut : ltb (length bs) (52 + satellite_bits bs) ≡ true = lt-ltb (length bs) (52 + satellite_bits bs) (omega (arith, says.count_is, says.len)) in
-    rw (long, early, cut) refl
 
 is_whole : {s t : ℕ} {y : Bool} {n : ℕ} {k : Bool} {v : ℕ} {bs rest : List Bool} → TakesAll (header s t y n k v) bs rest → t ≤ 604799999 → 125 * n ≤ length rest → first_fault bs ≡ None
 is_whole {t = t} {bs = bs} took h enough =
@@ -73,10 +58,10 @@ same_form (x ∷ xs) (y ∷ ys) e = (refl, (refl, (omega arith, refl, (refl, (re
 same_form [] (y ∷ ys) e = absurd (omega arith)
 same_form (x ∷ xs) [] e = absurd (omega arith)
 
-make_satellite : ℕ → Bool → ℕ → ℤ → ℕ → ℕ → ℕ → ℕ → ℤ → ℤ → ℕ → ℕ → Satellite
+pub make_satellite : ℕ → Bool → ℕ → ℤ → ℕ → ℕ → ℕ → ℕ → ℤ → ℤ → ℕ → ℕ → Satellite
 make_satellite satellite l1_code l1_range l1_phase_difference l1_lock_indicator modulus_ambiguity l1_cnr l2_code l2_range_difference l2_phase_difference l2_lock_indicator l2_cnr = record { satellite = satellite; l1_code = l1_code; l1_range = l1_range; l1_phase_difference = l1_phase_difference; l1_lock_indicator = l1_lock_indicator; modulus_ambiguity = modulus_ambiguity; l1_cnr = l1_cnr; l2_code = l2_code; l2_range_difference = l2_range_difference; l2_phase_difference = l2_phase_difference; l2_lock_indicator = l2_lock_indicator; l2_cnr = l2_cnr }
 
-made_satellite : (s : Satellite) → make_satellite s.satellite s.l1_code s.l1_range s.l1_phase_difference s.l1_lock_indicator s.modulus_ambiguity s.l1_cnr s.l2_code s.l2_range_difference s.l2_phase_difference s.l2_lock_indicator s.l2_cnr ≡ s
+pub made_satellite : (s : Satellite) → make_satellite s.satellite s.l1_code s.l1_range s.l1_phase_difference s.l1_lock_indicator s.modulus_ambiguity s.l1_cnr s.l2_code s.l2_range_difference s.l2_phase_difference s.l2_lock_indicator s.l2_cnr ≡ s
 unfolding make_satellite
 made_satellite s = refl
 
@@ -91,10 +76,10 @@ same_satellites (x ∷ xs) (y ∷ ys) e =
 same_satellites [] (y ∷ ys) e = absurd cc
 same_satellites (x ∷ xs) [] e = absurd cc
 
-make : ℕ → ℕ → Bool → Bool → ℕ → List Satellite → Obs1004
+pub make : ℕ → ℕ → Bool → Bool → ℕ → List Satellite → Obs1004
 make station tow synchronous smoothing smoothing_interval satellites = record { station = station; tow = tow; synchronous = synchronous; smoothing = smoothing; smoothing_interval = smoothing_interval; satellites = satellites }
 
-made : (m : Obs1004) → make m.station m.tow m.synchronous m.smoothing m.smoothing_interval m.satellites ≡ m
+pub made : (m : Obs1004) → make m.station m.tow m.synchronous m.smoothing m.smoothing_interval m.satellites ≡ m
 unfolding make
 made m = refl
 
@@ -114,27 +99,4 @@ is_unique m n a b p q e =
     let all : make m.station m.tow m.synchronous m.smoothing m.smoothing_interval m.satellites ≡ make n.station n.tow n.synchronous n.smoothing n.smoothing_interval n.satellites = cc in
     sym (made m) ∙ all ∙ made n
 
--- what reading in parts comes to
-pub read_all : (m : Obs1004) (bs mid after : List Bool) → TakesAll (header_table m) bs mid → m.tow ≤ 604799999 → TakesAll (flat_map satellite_table m.satellites) mid after → IsValid m × TakesAll (table m) bs after
-read_all m bs mid after head time sats =
-    let all = took_both head sats in
-    (record { fields_fit = all.fit; time_in_week = omega arith }, all)
-
 -- ---- steps of loops over satellites
-
-pub fit_at : (xs : List Satellite) (k : ℕ) (d : Satellite) → k < length xs → FieldsFit (flat_map satellite_table xs) → FieldsFit (satellite_table (get_or xs k d))
-fit_at [] k d h p = absurd (omega arith)
-fit_at (x ∷ xs) zero d h p = (fit-left (satellite_table x) (flat_map satellite_table xs) p).0
-fit_at (x ∷ xs) (suc k) d h p = fit_at xs k d (omega arith) (fit-left (satellite_table x) (flat_map satellite_table xs) p).1
-
-pub rows_push : (xs : List Satellite) (x : Satellite) → flat_map satellite_table (xs ++ x ∷ []) ≡ flat_map satellite_table xs ++ satellite_table x
-rows_push xs x = sym (flat_map_more satellite_table [] xs x)
-
-pub took_push : (xs : List Satellite) (x : Satellite) (a b c : List Bool) → TakesAll (flat_map satellite_table xs) a b → TakesAll (satellite_table x) b c → TakesAll (flat_map satellite_table (xs ++ x ∷ [])) a c
-took_push xs x a b c p q = rw (rows_push xs x) (took_both p q)
-
-pub put_push : (xs : List Satellite) (k : ℕ) (d : Satellite) (a b c : List Bool) → k < length xs → PutsAll (flat_map satellite_table (take k xs)) a b → PutsAll (satellite_table (get_or xs k d)) b c → PutsAll (flat_map satellite_table (take (k + 1) xs)) a c
-put_push xs k d a b c h p q = rw (take_more xs k d h, rows_push (take k xs) (get_or xs k d)) (put_both p q)
-
-pub fit_push : (xs : List Satellite) (k : ℕ) (d : Satellite) → k < length xs → FieldsFit (flat_map satellite_table (take k xs)) → FieldsFit (satellite_table (get_or xs k d)) → FieldsFit (flat_map satellite_table (take (k + 1) xs))
-fit_push xs k d h p q = rw (take_more xs k d h, rows_push (take k xs) (get_or xs k d)) (fit-append (flat_map satellite_table (take k xs)) (satellite_table (get_or xs k d)) p q)

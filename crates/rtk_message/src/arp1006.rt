@@ -4,7 +4,7 @@ ghost use Rattle.rtk_message.specs.Fields.{FieldsFit};
 ghost use Rattle.rtk_message.specs.Arp1006.{table};
 
 use crate::fault::DecodeFault;
-use crate::field::{fits_i38, put_flag, put_i64, put_u};
+use crate::field::{fits_i, put_flag, put_i64, put_u};
 use crate::layout::Layout;
 use crate::word::next_word;
 use rtk_bits::{BitReader, BitWriter};
@@ -127,6 +127,6 @@ impl Arp1006 {
         {
             return false;
         }
-        fits_i38(self.x) && fits_i38(self.y) && fits_i38(self.z)
+        fits_i(self.x, 38) && fits_i(self.y, 38) && fits_i(self.z, 38)
     }
 }

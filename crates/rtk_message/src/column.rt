@@ -52,7 +52,7 @@ impl<T: Copy + Default> Column<T> {
         self.list.as_slice()
     }
 
-    /// Adds a value behind the others.
+    /// Adds a value after the others.
     pub fn push(&mut self, value: T)
         requires { length self.old < 64 }
         ensures { self.new ≡ self.old ++ value ∷ [] }
@@ -79,10 +79,14 @@ impl<T: Eq> Eq for Column<T> {
     ghost laws = { lists_equiv T.Eq.laws };
 }
 
-/// The most bits that are taken at once: with the bits of the first byte that are taken already, at most 7, they lie in eight bytes.
+// The most bits that are taken at once. With those of their first byte that are taken already, at most
+// 7, they lie in eight bytes, which a reader loads in one step.
 const AT_ONCE: usize = 57;
 
 /// Reads so many fields of one width into an empty column, as many at once as 57 bits hold.
+///
+/// Inlined, so that each column is read by code for its own width.
+#[inline(always)]
 pub fn read_column<T: FieldValue>(
     column: &mut Column<T>,
     reader: &mut BitReader<'_>,
@@ -110,6 +114,7 @@ pub fn read_column<T: FieldValue>(
 
 // Reads so many fields at once to the end of a column: what began with the column's fields and then
 // the reader's bits still does.
+#[inline(always)]
 fn read_fields<T: FieldValue>(
     column: &mut Column<T>,
     reader: &mut BitReader<'_>,
@@ -130,6 +135,7 @@ fn read_fields<T: FieldValue>(
 
 // Moves so many fields from a word to the end of a column: what has begun with the column's fields
 // and then the word still does.
+#[inline(always)]
 fn push_fields<T: FieldValue>(column: &mut Column<T>, word: &mut Word, fields: usize, width: usize)
     requires room { length column.old + fields ≤ 64 }
     requires width { T.IsWidth width }

@@ -2,7 +2,7 @@
 ghost use Rattle.std.specs.Prelude.{◌≡◌, Some, Option, IfOk, IfErr};
 ghost use Rattle.rtk_bits.specs.Bits.{bits};
 ghost use Rattle.rtk_message.specs.declared.message.Message.{Message};
-ghost use Rattle.rtk_message.specs.Decoded.{Decodes, Encodes, Follows, first_fault, fault_behind};
+ghost use Rattle.rtk_message.specs.Decoded.{Decodes, Follows, fault_after_number};
 
 use crate::arp1005::Arp1005;
 use crate::arp1006::Arp1006;
@@ -19,16 +19,6 @@ use rtk_bits::BitReader;
 #[inline(never)]
 pub fn decode(payload: &[u8]) -> Result<Message, DecodeFault>
     ensures { Decodes (bits payload.now) result }
-{
-    first_message(payload)
-}
-
-// Without the claim that a fault comes only where there is no message: that follows from the laws of
-// `Layout`.
-#[inline(never)]
-fn first_message(payload: &[u8]) -> Result<Message, DecodeFault>
-    ensures message { IfOk result (λ m. Encodes (bits payload.now) m) }
-    ensures fault { IfErr result (λ f. first_fault (bits payload.now) ≡ Some f) }
 {
     let mut reader = BitReader::new(payload);
     let Some(number) = reader.take_u(12) else {
@@ -50,7 +40,7 @@ fn first_message(payload: &[u8]) -> Result<Message, DecodeFault>
 #[inline(never)]
 fn read_1004(mut reader: BitReader<'_>) -> Result<Message, DecodeFault>
     ensures message { IfOk result (λ m. Follows 1004 reader.entry m) }
-    ensures fault { IfErr result (λ f. fault_behind 1004 reader.entry ≡ Some f) }
+    ensures fault { IfErr result (λ f. fault_after_number 1004 reader.entry ≡ Some f) }
 {
     let mut message = Obs1004::empty();
     message.read(&mut reader)?;
@@ -60,7 +50,7 @@ fn read_1004(mut reader: BitReader<'_>) -> Result<Message, DecodeFault>
 #[inline(never)]
 fn read_1005(mut reader: BitReader<'_>) -> Result<Message, DecodeFault>
     ensures message { IfOk result (λ m. Follows 1005 reader.entry m) }
-    ensures fault { IfErr result (λ f. fault_behind 1005 reader.entry ≡ Some f) }
+    ensures fault { IfErr result (λ f. fault_after_number 1005 reader.entry ≡ Some f) }
 {
     let mut message = Arp1005::empty();
     message.read(&mut reader)?;
@@ -70,7 +60,7 @@ fn read_1005(mut reader: BitReader<'_>) -> Result<Message, DecodeFault>
 #[inline(never)]
 fn read_1006(mut reader: BitReader<'_>) -> Result<Message, DecodeFault>
     ensures message { IfOk result (λ m. Follows 1006 reader.entry m) }
-    ensures fault { IfErr result (λ f. fault_behind 1006 reader.entry ≡ Some f) }
+    ensures fault { IfErr result (λ f. fault_after_number 1006 reader.entry ≡ Some f) }
 {
     let mut message = Arp1006::empty();
     message.read(&mut reader)?;
@@ -80,7 +70,7 @@ fn read_1006(mut reader: BitReader<'_>) -> Result<Message, DecodeFault>
 #[inline(never)]
 fn read_1074(mut reader: BitReader<'_>) -> Result<Message, DecodeFault>
     ensures message { IfOk result (λ m. Follows 1074 reader.entry m) }
-    ensures fault { IfErr result (λ f. fault_behind 1074 reader.entry ≡ Some f) }
+    ensures fault { IfErr result (λ f. fault_after_number 1074 reader.entry ≡ Some f) }
 {
     let mut message = Msm1074::empty();
     message.read(&mut reader)?;

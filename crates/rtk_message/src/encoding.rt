@@ -27,7 +27,7 @@ pub fn encode(alloc: Global, message: &Message) -> Result<Vec<u8>, AllocError>
     Ok(writer.finish())
 }
 
-// The number and the fields behind it, by the clauses of `Layout` alone.
+// The number and the fields after it, by the clauses of `Layout` alone.
 fn write_as<T: Layout>(writer: &mut BitWriter, message: &T) -> Result<(), AllocError>
     requires number { T.NUMBER < 4096 }
     requires valid { T.IsValid message.now }

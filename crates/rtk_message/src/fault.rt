@@ -3,7 +3,7 @@
 use thiserror::Error;
 
 /// Why a payload is not read as a message: the first cause that holds, in this order, but that the
-/// end of the payload is looked for twice: behind the fixed part before the time of week, and behind
+/// end of the payload is looked for twice: after the fixed part before the time of week, and after
 /// the rest after the cell mask.
 ///
 /// The fixed part is the header of a 1004 (64 bits) or of a 1074 (169 bits), and the whole of a 1005

@@ -67,13 +67,6 @@ pub fn fits_u(value: u64, width: usize) -> bool
     true
 }
 
-/// Whether a number fits 38 bits of two's complement.
-pub fn fits_i38(value: i64) -> bool
-    ensures { IsTrue result ↔ FitsSigned 38 value }
-{
-    -(1 << 37) <= value && value < 1 << 37
-}
-
 /// Whether a number fits so many bits of two's complement.
 pub fn fits_i(value: i64, width: usize) -> bool
     requires { (1 ≤ width) × (width ≤ 64) }

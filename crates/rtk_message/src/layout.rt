@@ -7,21 +7,21 @@ use crate::fault::DecodeFault;
 use rtk_bits::{BitReader, BitWriter};
 use std::alloc::AllocError;
 
-/// A message type. The bits that it reads and writes, behind the message number, are the
+/// A message type. The bits that it reads and writes, after the message number, are the
 /// concatenated fields of its table.
 pub trait Layout: Sized {
     ghost NUMBER: { ℕ };
     /// The message number (DF002).
     const NUMBER: u16;
 
-    /// The fields behind the number, in the order of the standard.
+    /// The fields after the number, in the order of the standard.
     ghost table: { Self → List Field };
 
     /// Which values have bits: each field fits its width, and the lists have the lengths that the
     /// counts and masks give.
     ghost IsValid: { Self → Type 0 };
 
-    /// The first cause for which bits behind the number begin with no such message.
+    /// The first cause for which bits after the number begin with no such message.
     ghost first_fault: { List Bool → Option DecodeFault };
 
     /// Which values have no satellites and no cells.
@@ -31,7 +31,7 @@ pub trait Layout: Sized {
     fn empty() -> Self
         ensures { IsEmpty result };
 
-    /// Reads the fields behind the number into an empty message.
+    /// Reads the fields after the number into an empty message.
     ///
     /// In place, since a message of a thousand bytes is slow to move. After an `Err` nothing is said
     /// of the message, and the reader stands somewhere in the fields.
@@ -40,7 +40,7 @@ pub trait Layout: Sized {
         ensures fields { OnOk result (IsValid self.new × TakesAll (table self.new) reader.old reader.new) }
         ensures fault { IfErr result (λ f. first_fault reader.old ≡ Some f) };
 
-    /// Puts the fields behind the number. An `Err` is want of memory, after some of them.
+    /// Puts the fields after the number. An `Err` is want of memory, after some of them.
     fn write(&self, writer: &mut BitWriter) -> Result<(), AllocError>
         requires { IsValid self.now }
         ensures { OnOk result (writer.new ≡ writer.old ++ bits_of_fields (table self.now)) };

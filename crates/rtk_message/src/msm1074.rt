@@ -72,7 +72,7 @@ pub struct Msm1074 {
 
 impl MsmHeader {
     /// How many satellites the satellite mask has.
-    pub fn satellites(self) -> usize
+    pub fn satellite_count(self) -> usize
         ensures value { result ≡ count_ones self.satellite_mask }
         ensures few { result ≤ 64 }
     {
@@ -80,7 +80,7 @@ impl MsmHeader {
     }
 
     /// How many signals the signal mask has.
-    pub fn signals(self) -> usize
+    pub fn signal_count(self) -> usize
         ensures value { result ≡ count_ones self.signal_mask }
         ensures few { result ≤ 32 }
     {
@@ -188,8 +188,8 @@ impl Layout for Msm1074 {
         if self.header.tow >= WEEK_MS {
             return Err(DecodeFault::EpochRange { number: 1074 });
         }
-        let satellites = self.header.satellites();
-        let signals = self.header.signals();
+        let satellites = self.header.satellite_count();
+        let signals = self.header.signal_count();
         if has_too_many_cells(satellites, signals) {
             return Err(DecodeFault::TooManyCells);
         }
@@ -214,7 +214,7 @@ impl Layout for Msm1074 {
 
     fn write(&self, writer: &mut BitWriter) -> Result<(), AllocError> {
         self.header.put(writer)?;
-        put_mask(writer, &self.cell_mask, self.header.signals())?;
+        put_mask(writer, &self.cell_mask, self.header.signal_count())?;
         put_column(writer, &self.rough_ms, 8)?;
         put_column(writer, &self.rough_fraction, 10)?;
         put_column(writer, &self.fine_range, 15)?;
@@ -229,7 +229,7 @@ impl Layout for Msm1074 {
         if self.header.tow >= WEEK_MS || !self.header.fits() {
             return false;
         }
-        if has_too_many_cells(self.header.satellites(), self.header.signals()) {
+        if has_too_many_cells(self.header.satellite_count(), self.header.signal_count()) {
             return false;
         }
         self.has_lengths() && self.columns_fit()
@@ -245,7 +245,7 @@ impl Msm1074 {
     fn has_lengths(&self) -> bool
         ensures { IsTrue result ↔ HasLengths self.now }
     {
-        let satellites = self.header.satellites();
+        let satellites = self.header.satellite_count();
         if self.cell_mask.len() != satellites
             || self.rough_ms.len() != satellites
             || self.rough_fraction.len() != satellites
@@ -265,7 +265,7 @@ impl Msm1074 {
     fn columns_fit(&self) -> bool
         ensures { IsTrue result ↔ EachFits self.now }
     {
-        if !column_fits(&self.cell_mask, self.header.signals()) {
+        if !column_fits(&self.cell_mask, self.header.signal_count()) {
             return false;
         }
         if !column_fits(&self.rough_ms, 8) || !column_fits(&self.rough_fraction, 10) {

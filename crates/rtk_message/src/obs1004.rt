@@ -1,7 +1,6 @@
 //! Message 1004: GPS observations on L1 and L2.
 ghost use Rattle.std.specs.Prelude.{◌≡◌, ◌≤◌, ◌+◌, ◌*◌, [], length, OnOk, IsTrue, ◌↔◌};
 ghost use Rattle.std.specs.List.{flat_map};
-ghost use Rattle.rtk_bits.specs.Bits.{FitsSigned};
 ghost use Rattle.rtk_message.specs.Fields.{TakesAll, PutsAll, FieldsFit};
 ghost use Rattle.rtk_message.specs.Obs1004.{satellite_table};
 
@@ -9,6 +8,7 @@ use crate::fault::DecodeFault;
 use crate::field::{WEEK_MS, put_flag, put_i16, put_i32, put_u};
 use crate::layout::Layout;
 use crate::satellites::{Satellite, Satellites};
+use crate::value::FieldValue;
 use crate::word::next_word;
 use rtk_bits::{BitReader, BitWriter};
 use std::alloc::AllocError;
@@ -193,21 +193,12 @@ impl Satellite {
         if self.l2_code >= 1 << 2 || self.l2_lock_indicator >= 1 << 7 {
             return false;
         }
-        if !fits_i20(&self.l1_phase_difference) || !fits_i14(&self.l2_range_difference) {
+        if !self.l1_phase_difference.fits(20) {
             return false;
         }
-        fits_i20(&self.l2_phase_difference)
+        if !self.l2_range_difference.fits(14) {
+            return false;
+        }
+        self.l2_phase_difference.fits(20)
     }
-}
-
-fn fits_i20(value: &i32) -> bool
-    ensures { IsTrue result ↔ FitsSigned 20 value.now }
-{
-    -(1 << 19) <= *value && *value < 1 << 19
-}
-
-fn fits_i14(value: &i16) -> bool
-    ensures { IsTrue result ↔ FitsSigned 14 value.now }
-{
-    -(1 << 13) <= *value && *value < 1 << 13
 }

@@ -77,7 +77,7 @@ impl Satellites {
         self.list.as_slice()
     }
 
-    /// Adds a satellite behind the others.
+    /// Adds a satellite after the others.
     pub fn push(&mut self, satellite: Satellite)
         requires { length self.old < 31 }
         ensures { self.new ≡ self.old ++ satellite ∷ [] }

@@ -5,7 +5,7 @@ use crate::*;
 use std::test::*;
 
 #[test]
-fn faults_of_a_number_and_of_the_legacy_messages_come_in_their_order(rt: HostRuntime) {
+fn faults_come_in_their_order(rt: HostRuntime) {
     let no_satellite_left = [0x3e, 0xc7, 0xd3, 0x71, 0x4b, 0xe8, 0x00, 0x10];
     let late_and_no_satellite_left = [0x3e, 0xc7, 0xd3, 0x90, 0x32, 0x10, 0x00, 0x10];
     let short = |number| DecodeFault::Short { number };

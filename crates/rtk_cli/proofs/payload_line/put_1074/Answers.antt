@@ -11,6 +11,6 @@ returns c = rw (
   c.in_ok-put_named.ensures,
   c.len.ensures.value,
   c.requires.cnr,
-  c.signals.ensures.value,
-  c.satellites.ensures.value,
+  c.signal_count.ensures.value,
+  c.satellite_count.ensures.value,
 ) (simp append_assoc)

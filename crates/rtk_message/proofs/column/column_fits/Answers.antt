@@ -1,5 +1,5 @@
 use Rattle.std.proofs.Common.{◌≡◌, length, get_or, ap, sym, arith, rules}
-use Rattle.rtk_message.specs.ColumnLaws.{fit_one, fit_more}
+use Rattle.rtk_message.proofs.ColumnLemmas.{fit_one, fit_more}
 use Rattle.rtk_message.proofs.column.column_fits.Goals as goal
 
 pub returns-then-not-fits : goal.returns-then-not-fits

@@ -1,5 +1,5 @@
 use Rattle.std.proofs.Common.{◌≡◌, length, get_or, ap, sym, arith, rules}
-use Rattle.rtk_message.specs.ColumnLaws.{put_more, fit_one}
+use Rattle.rtk_message.proofs.ColumnLemmas.{put_more, fit_one}
 use Rattle.rtk_message.proofs.column.put_column.Goals as goal
 
 pub put-requires-clause-fits : goal.put-requires-clause-fits

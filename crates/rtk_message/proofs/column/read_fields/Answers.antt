@@ -1,5 +1,5 @@
 use Rattle.std.proofs.Common.{arith}
-use Rattle.rtk_message.specs.FieldLaws.{took_rest}
+use Rattle.rtk_message.proofs.FieldLemmas.{took_rest}
 use Rattle.rtk_message.proofs.column.read_fields.Goals as goal
 
 pub returns-clause-fields : goal.returns-clause-fields

@@ -1,5 +1,5 @@
 use Rattle.std.proofs.Common.{arith}
-use Rattle.rtk_message.specs.ColumnLaws.{puts_no_bits}
+use Rattle.rtk_message.proofs.ColumnLemmas.{puts_no_bits}
 use Rattle.rtk_message.proofs.mask.put_mask.Goals as goal
 
 pub returns-else-signals-gt0 : goal.returns-else-signals-gt0

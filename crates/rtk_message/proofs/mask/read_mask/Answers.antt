@@ -1,7 +1,7 @@
 use Rattle.std.proofs.Common.{ℕ, arith}
 use Rattle.std.proofs.lemmas.List.{length_push}
 use Rattle.rtk_message.specs.Fields.{u}
-use Rattle.rtk_message.specs.ColumnLaws.{took_more, takes_none}
+use Rattle.rtk_message.proofs.ColumnLemmas.{took_more, takes_none}
 use Rattle.rtk_message.proofs.mask.read_mask.Goals as goal
 
 pub loop-preserved : goal.loop-preserved

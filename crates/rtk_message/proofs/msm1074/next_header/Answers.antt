@@ -1,5 +1,5 @@
 use Rattle.std.proofs.Common.{arith}
-use Rattle.rtk_message.specs.FieldLaws.{took, took_none, took_both, took_word}
+use Rattle.rtk_message.proofs.FieldLemmas.{took, took_none, took_both, took_word}
 use Rattle.rtk_message.proofs.msm1074.next_header.Goals as goal
 
 pub returns-clause-fields : goal.returns-clause-fields

@@ -1,7 +1,7 @@
 use Rattle.std.proofs.Common.{arith, w16, w32}
 use Rattle.std.proofs.lemmas.Int.{to_z-of_z}
 use mir.Val.{SFits}
-use Rattle.rtk_message.specs.FieldLaws.{took, took_none, took_both, took_word}
+use Rattle.rtk_message.proofs.FieldLemmas.{took, took_none, took_both, took_word}
 use Rattle.rtk_message.proofs.obs1004.next_satellite.Goals as goal
 
 pub returns-clause-fields : goal.returns-clause-fields

@@ -1,4 +1,4 @@
-use Rattle.rtk_message.specs.FieldLaws.{put, put_none}
+use Rattle.rtk_message.proofs.FieldLemmas.{put, put_none}
 use Rattle.rtk_message.proofs.arp1006.Arp1006Layout.write.Goals as goal
 
 pub returns : goal.returns

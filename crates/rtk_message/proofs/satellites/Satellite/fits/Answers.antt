@@ -2,18 +2,18 @@ use Rattle.std.proofs.Common.{rules, ◌≡◌, ◌↔◌, IsTrue, ℕ, ◌+◌,
 use Rattle.std.proofs.lemmas.Int.{to_z-of_z}
 use mir.Val.{SFits}
 use Rattle.rtk_message.specs.Fields.{u, i, flag, Takes, TakesAll, FieldsFit}
-use Rattle.rtk_message.specs.FieldLaws.{took, took_none, put, put_none}
+use Rattle.rtk_message.proofs.FieldLemmas.{took, took_none, put, put_none}
 use Rattle.rtk_bits.specs.Bits.{FitsSigned}
 use Rattle.rtk_message.proofs.satellites.Satellite.fits.Goals as goal
 
 pub returns : goal.returns
 returns c =
     let s = c.args.self in
-    let a : FitsSigned 20 s.l1_phase_difference = c.fits_i20.ensures.0 (search rules) in
-    let b : FitsSigned 14 s.l2_range_difference = c.fits_i14.ensures.0 (search rules) in
+    let a : FitsSigned 20 s.l1_phase_difference = c.fits.ensures.0 (search rules) in
+    let b : FitsSigned 14 s.l2_range_difference = c.fits-2.ensures.0 (search rules) in
     let modulus_ambiguity : s.modulus_ambiguity < 256 = search rules in
     let l1_cnr : s.l1_cnr < 256 = search rules in
     let l2_cnr : s.l2_cnr < 256 = search rules in (
-      λ h. (omega arith, (tt, (omega arith, (a, (omega arith, (modulus_ambiguity, (l1_cnr, (omega arith, (b, (c.fits_i20-2.ensures.0 h, (omega arith, (l2_cnr, tt)))))))))))),
-      λ p. c.fits_i20-2.ensures.1 p.1.1.1.1.1.1.1.1.1.0,
+      λ h. (omega arith, (tt, (omega arith, (a, (omega arith, (modulus_ambiguity, (l1_cnr, (omega arith, (b, (c.fits-3.ensures.0 h, (omega arith, (l2_cnr, tt)))))))))))),
+      λ p. c.fits-3.ensures.1 p.1.1.1.1.1.1.1.1.1.0,
     )

@@ -1,5 +1,5 @@
 use Rattle.std.proofs.Common.{Bool, List, ◌++◌, ◌∙◌, ap}
-use Rattle.rtk_message.specs.FieldLaws.{one_bit}
+use Rattle.rtk_message.proofs.FieldLemmas.{one_bit}
 use Rattle.rtk_message.proofs.word.Word.next_flag.Goals as goal
 
 pub returns-clause-taken : goal.returns-clause-taken

@@ -1,0 +1,41 @@
+-- The first fault of a 1004, and its satellites one by one.
+use Rattle.std.proofs.Common.{◌≡◌, ℕ, Bool, true, false, List, [], ◌∷◌, ◌++◌, length, zero, suc, get_or, take, Some, refl, sym, ◌+◌, ◌*◌, ◌<◌, ◌≤◌, ltb, arith}
+use Rattle.std.specs.List.{flat_map}
+use Rattle.std.proofs.lemmas.Bool.{le-ltb, lt-ltb}
+use Rattle.std.proofs.lemmas.List.{flat_map_more, take_more}
+use Rattle.rtk_message.specs.declared.fault.DecodeFault.TheVariants.{Short, EpochRange}
+use Rattle.rtk_message.specs.declared.satellites.Satellite.{Satellite}
+use Rattle.rtk_message.specs.Fields.{FieldsFit, TakesAll, PutsAll}
+use Rattle.rtk_message.specs.FieldLaws.{fit-left}
+use Rattle.rtk_message.specs.Obs1004.{satellite_table, header, first_fault, tow_of, satellite_bits}
+use Rattle.rtk_message.specs.Obs1004Laws.{header_says}
+use Rattle.rtk_message.proofs.FieldLemmas.{took_both, put_both}
+
+pub is_late : {s t : ℕ} {y : Bool} {n : ℕ} {k : Bool} {v : ℕ} {bs rest : List Bool} → TakesAll (header s t y n k v) bs rest → 604799999 < t → first_fault bs ≡ Some (EpochRange 1004)
+is_late {t = t} {bs = bs} took h =
+    let says = header_says took in
+    let long : ltb (length bs) 52 ≡ false = le-ltb (length bs) 52 (omega (arith, says.len)) in
+    let late : ltb 604799999 (tow_of bs) ≡ true = lt-ltb 604799999 (tow_of bs) (omega (arith, says.tow_is)) in
+    rw (long, late) refl
+
+pub is_cut : {s t : ℕ} {y : Bool} {n : ℕ} {k : Bool} {v : ℕ} {bs rest : List Bool} → TakesAll (header s t y n k v) bs rest → t ≤ 604799999 → length rest < 125 * n → first_fault bs ≡ Some (Short 1004)
+is_cut {t = t} {bs = bs} took h short =
+    let says = header_says took in
+    let long : ltb (length bs) 52 ≡ false = le-ltb (length bs) 52 (omega (arith, says.len)) in
+    let early : ltb 604799999 (tow_of bs) ≡ false = le-ltb 604799999 (tow_of bs) (omega (arith, says.tow_is)) in
+    let cut : ltb (length bs) (52 + satellite_bits bs) ≡ true = lt-ltb (length bs) (52 + satellite_bits bs) (omega (arith, says.count_is, says.len)) in
+    rw (long, early, cut) refl
+
+pub fit_at : (xs : List Satellite) (k : ℕ) (d : Satellite) → k < length xs → FieldsFit (flat_map satellite_table xs) → FieldsFit (satellite_table (get_or xs k d))
+fit_at [] k d h p = absurd (omega arith)
+fit_at (x ∷ xs) zero d h p = (fit-left (satellite_table x) (flat_map satellite_table xs) p).0
+fit_at (x ∷ xs) (suc k) d h p = fit_at xs k d (omega arith) (fit-left (satellite_table x) (flat_map satellite_table xs) p).1
+
+pub rows_push : (xs : List Satellite) (x : Satellite) → flat_map satellite_table (xs ++ x ∷ []) ≡ flat_map satellite_table xs ++ satellite_table x
+rows_push xs x = sym (flat_map_more satellite_table [] xs x)
+
+pub took_push : (xs : List Satellite) (x : Satellite) (a b c : List Bool) → TakesAll (flat_map satellite_table xs) a b → TakesAll (satellite_table x) b c → TakesAll (flat_map satellite_table (xs ++ x ∷ [])) a c
+took_push xs x a b c p q = rw (rows_push xs x) (took_both p q)
+
+pub put_push : (xs : List Satellite) (k : ℕ) (d : Satellite) (a b c : List Bool) → k < length xs → PutsAll (flat_map satellite_table (take k xs)) a b → PutsAll (satellite_table (get_or xs k d)) b c → PutsAll (flat_map satellite_table (take (k + 1) xs)) a c
+put_push xs k d a b c h p q = rw (take_more xs k d h, rows_push (take k xs) (get_or xs k d)) (put_both p q)
