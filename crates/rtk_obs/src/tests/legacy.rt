@@ -167,8 +167,16 @@ fn legacy_satellites(rt: HostRuntime) {
         let message = message_of(first, Satellite { satellite, ..again });
         assert!(rt; message.fits());
         let cells = cells_1004(&message);
-        assert_eq!(rt; cells.len(), count, "satellite {satellite}");
-        let want = l1(Some(21_085_472_060), Some(110_804_903_547), Some(0));
-        assert_eq!(rt; cells.as_slice().first().expect(&rt, "a cell").cell, want);
+        let cells = cells.as_slice();
+        assert!(rt; cells.len() == count && count >= 2, "satellite {satellite}");
+        let want = (
+            l1(Some(21_085_472_060), Some(110_804_903_547), Some(0)),
+            l2(Some(21_085_474_060), Some(86_341_483_283), Some(0)),
+        );
+        assert_eq!(rt;
+            (cells[0].cell, cells[1].cell),
+            want,
+            "satellite {satellite}"
+        );
     }
 }
