@@ -1,5 +1,5 @@
 -- The years that a moment can have, and the moment of a reading.
-use Rattle.std.proofs.Common.{◌≡◌, ℕ, ◌+◌, ◌≤◌, arith, refl, ap, Option, Some, None, ℤ, pos, ◌+ℤ◌, ◌≤ℤ◌}
+use Rattle.std.proofs.Common.{◌≡◌, ℕ, ◌+◌, ◌≤◌, arith, refl, ap, Option, Some, None, ℤ, pos, ◌+ℤ◌, ◌≤ℤ◌, ◌<ℤ◌}
 use Rattle.std.specs.Prelude.{MatchOption}
 use Rattle.rtk_obs.specs.declared.time.Civil.{Civil}
 use Rattle.rtk_obs.specs.declared.time.TheConstants.{LAST_MS}
@@ -42,6 +42,15 @@ year_bounds d k e h = (from_1980 d (omega (arith, signed_arith)), to_2100 d (ome
 
 pub within : (n : ℕ) (y : ℤ) → pos n ≡ y → (pos 1980 ≤ℤ y) × (y ≤ℤ pos 2100) → (1980 ≤ n) × (n ≤ 2100)
 within n y e h = (omega (arith, signed_arith), omega (arith, signed_arith))
+
+count_2101 : day_count (pos 2101) 1 1 ≡ 4_419_800
+count_2101 = day_count-early (pos 2101) 12100 1 1 refl (omega arith) (omega arith) (omega arith)
+
+-- a reading of a year up to 2100 is of a day before 2101-01-01
+pub up_to_2100 : (t : ℕ) (c : Civil) → Reads t c → c.year ≤ 2100 → t ≤ 3_818_015_999_999
+up_to_2100 t c r h =
+    let before : pos c.year <ℤ pos 2101 = omega (arith, signed_arith) in
+    omega (arith, signed_arith, r.0.1, days_from_civil-day_count (pos c.year) c.month c.day, count_2101, day_count-lt_year (pos c.year) c.month c.day (pos 2101) 1 1 r.0.0 (omega arith) before)
 
 -- ---- the moment of a reading
 

@@ -1,10 +1,10 @@
 -- Rolls of 1500 cycles of the phases of 1004, and the last phase of a satellite and code.
-use Rattle.std.specs.Prelude.{false, ◌&&◌, List, [], ◌∷◌, Option, Some, None, ℕ, ◌*◌, ℤ, pos, negsuc, neg_ℤ, ◌+ℤ◌, ◌-ℤ◌, ◌*ℤ◌, int_lt, int_le, if◌then◌else◌}
+use Rattle.std.specs.Prelude.{false, not, ◌||◌, ◌&&◌, List, [], ◌∷◌, Option, Some, None, ℕ, ◌*◌, ℤ, pos, negsuc, neg_ℤ, ◌+ℤ◌, ◌-ℤ◌, ◌*ℤ◌, int_lt, int_le, if◌then◌else◌}
 use Rattle.rtk_obs.specs.declared.code.Band.{Band}
 use Rattle.rtk_obs.specs.declared.track.Track.{Track}
 use Rattle.rtk_obs.specs.declared.track.Digits.{Digits}
 use Rattle.rtk_obs.specs.Code.{frequency_of}
-use Rattle.rtk_obs.specs.Slip.{EpochCell, has_phase, has_slipped, slip_since}
+use Rattle.rtk_obs.specs.Slip.{EpochCell, has_phase, is_legacy, has_slipped, slip_since}
 
 -- An offset d, in 0.0005 m, is d * f / (2 * c) millicycles (c is 299,792,458 m/s). DF012 and DF018
 -- roll over by 1500 cycles to stay in range, so a change of more than 750 cycles is a roll: one
@@ -18,15 +18,16 @@ roll_of band d =
     else if int_lt (d *ℤ pos (frequency_of band)) (neg_ℤ (pos half_roll)) then pos 1
     else pos 0
 
--- the roll from one offset to the next; none where one of the phases is of a 1074 and has no offset
+-- the roll count from one offset to the next; 0 where one of them is missing
 abbrev pub rolls_between : Band → ℤ → Option ℤ → Option ℤ → ℤ
 rolls_between band rolls (Some a) (Some b) = rolls +ℤ roll_of band (b -ℤ a)
 rolls_between band rolls _ _ = pos 0
 
--- the roll count behind the last phase: 0 at a slip
+-- the roll count behind the last phase: 0 at a slip, and where one of the two phases is of a 1074
 abbrev pub rolls_behind : Band → Track → EpochCell → ℤ
 rolls_behind band last e =
-    if has_slipped last e then pos 0 else rolls_between band last.rolls last.offset e.cell.offset
+    if has_slipped last e || not (is_legacy last.source && is_legacy e.cell.source) then pos 0
+    else rolls_between band last.rolls last.offset e.cell.offset
 
 -- and 0 where there is no earlier phase
 abbrev pub rolls_since : Band → Option Track → EpochCell → ℤ

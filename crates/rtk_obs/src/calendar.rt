@@ -89,5 +89,6 @@ pub fn of_civil(reading: Civil) -> Option<GpsMs>
 /// A reading belongs to one moment, and what `of_civil` answers to the reading of a moment is that moment.
 pub fn civil_laws()
     ensures one_moment { (s t : ℕ) (c : Civil) → Reads s c → Reads t c → s ≡ t }
+    ensures all_moments { (t : ℕ) (c : Civil) → Reads t c → c.year ≤ 2100 → t ≤ LAST_MS }
     ensures reads_back { (t : ℕ) (c : Civil) (answer : Option ℕ) → t ≤ LAST_MS → Reads t c → MatchOption answer ((s : ℕ) → s ≤ LAST_MS → ¬ (Reads s c)) (λ s. Reads s c) → answer ≡ Some t }
 {}

@@ -1,12 +1,12 @@
 //! Rolls of 1500 cycles of the phases of 1004.
 
-ghost use Rattle.std.specs.Prelude.{◌≡◌, ◌+◌, ◌≤◌, ◌<◌, pos, negsuc, ◌≤ℤ◌, ◌*ℤ◌, unsigned_abs};
-ghost use Rattle.rtk_obs.specs.Slip.{epoch_cell};
+ghost use Rattle.std.specs.Prelude.{◌≡◌, ◌&&◌, ◌+◌, ◌≤◌, ◌<◌, pos, negsuc, ◌≤ℤ◌, ◌*ℤ◌, unsigned_abs};
+ghost use Rattle.rtk_obs.specs.Slip.{epoch_cell, is_legacy};
 ghost use Rattle.rtk_obs.specs.Code.{frequency_of};
 ghost use Rattle.rtk_obs.specs.Rollover.{roll_of, rolls_between, rolls_behind, within_limits, rolled_phase};
 ghost use Rattle.rtk_obs.specs.declared.time.TheConstants.{LAST_MS};
 
-use crate::cell::Cell;
+use crate::cell::{Cell, CellSource};
 use crate::code::Band;
 use crate::slip::slipped;
 use crate::track::Track;
@@ -43,6 +43,13 @@ fn rolls_from(band: Band, rolls: i64, last: Option<i32>, offset: Option<i32>) ->
     }
 }
 
+// Do both phases come in a 1004?
+fn are_legacy(last: CellSource, source: CellSource) -> bool
+    ensures { result ≡ (is_legacy last && is_legacy source) }
+{
+    matches!((last, source), (CellSource::Legacy, CellSource::Legacy))
+}
+
 // The roll count of a phase behind the last one.
 pub(crate) fn rolls_after(band: Band, last: Track, epoch: u64, cell: &Cell) -> i64
     requires later { last.epoch < epoch }
@@ -51,7 +58,7 @@ pub(crate) fn rolls_after(band: Band, last: Track, epoch: u64, cell: &Cell) -> i
     ensures value { result ≡ rolls_behind band last (epoch_cell epoch cell.now) }
     ensures bound { unsigned_abs result ≤ epoch }
 {
-    if slipped(last, epoch, cell) {
+    if slipped(last, epoch, cell) || !are_legacy(last.source, cell.source) {
         return 0;
     }
     rolls_from(band, last.rolls, last.offset, cell.offset)

@@ -75,12 +75,16 @@ fn readings_of_no_moment(rt: HostRuntime) {
 #[test]
 fn times_of_week_are_dated_near_the_reference(rt: HostRuntime) {
     let rows = [
-        (475_200_000, 1_399_982_400_000), // the reference itself
-        (172_800_000, 1_399_680_000_000), // half a week before it: 2024-05-14 00:00:00.000
-        (172_799_999, 1_400_284_799_999), // 1 ms short of half a week after it: 2024-05-20
+        (NOON, 475_200_000, 1_399_982_400_000), // the reference itself
+        (NOON, 172_800_000, 1_399_680_000_000), // half a week before it: 2024-05-14 00:00:00.000
+        (NOON, 172_799_999, 1_400_284_799_999), // 1 ms short of half a week after it: 2024-05-20
+        (604_800_000, 302_400_000, 302_400_000), // the least reference, 1980-01-13, and half a week before it
+        (604_800_000, 302_399_999, 907_199_999),
+        (3_786_479_999_999, 431_999_999, 3_786_479_999_999), // the greatest, 2099-12-31 23:59:59.999
+        (3_786_479_999_999, 129_599_998, 3_786_782_399_998), // 2100-01-04 11:59:59.998
     ];
-    for (tow, want) in rows {
-        let near = GpsMs::new(NOON).unwrap();
+    for (near, tow, want) in rows {
+        let near = GpsMs::new(near).unwrap();
         assert_eq!(rt; date(near, tow).ms(), want, "time of week {tow}");
     }
 }

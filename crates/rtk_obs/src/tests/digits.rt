@@ -90,7 +90,7 @@ fn loss_of_lock(rt: HostRuntime) {
     }
 }
 
-// Half of 1500 cycles is 285,440.1 units of 0.0005 m on L1 and 366,315.2 on L2.
+// Half of 1500 cycles is 285,440.5 units of 0.0005 m on L1 and 366,315.3 on L2.
 #[test]
 fn rolls_of_offsets(rt: HostRuntime) {
     let rows = [
