@@ -58,15 +58,28 @@ fn markers_and_moments_fill_their_columns(rt: HostRuntime) -> Result<(), Fail> {
         let marker = want.as_bytes().get(..bytes).ok_or("no marker")?;
         // 2024-05-17 13:24:56.000
         let head = Head::new(marker, &CODES[..2], moment(1_399_987_496_000)?)?;
-        // 2024-12-31 23:58:07.006
-        let first = moment(1_419_724_687_006)?;
-        let text = header(rt.alloc(), &head, &position(0, 0, 0, 0)?, first)?;
+        let text = header(rt.alloc(), &head, &position(0, 0, 0, 0)?, moment(0)?)?;
         assert_eq!(rt; part(&text, 2 * 81, 2 * 81 + 80)?, want);
         assert_eq!(rt; part(&text, 81 + 40, 81 + 60)?, "20240517 132456 UTC ");
-        assert_eq!(rt;
-            part(&text, 11 * 81, 11 * 81 + 60)?,
-            "  2024    12    31    23    58    7.0060000     GPS         "
-        );
+    }
+    let moments = [
+        (
+            0,
+            "  1980     1     6     0     0    0.0000000     GPS         ",
+        ),
+        (
+            1_419_724_687_006,
+            "  2024    12    31    23    58    7.0060000     GPS         ",
+        ),
+        (
+            3_818_015_999_999,
+            "  2100    12    31    23    59   59.9990000     GPS         ",
+        ),
+    ];
+    let head = Head::new(b"BASE", &CODES[..2], moment(1_399_987_496_000)?)?;
+    for (first, want) in moments {
+        let text = header(rt.alloc(), &head, &position(0, 0, 0, 0)?, moment(first)?)?;
+        assert_eq!(rt; part(&text, 11 * 81, 11 * 81 + 60)?, want);
     }
     Ok(())
 }
@@ -197,7 +210,8 @@ fn heads_are_refused_in_order(rt: HostRuntime) -> Result<(), Fail> {
     let twice: &[Code] = &[Code::C1C, Code::C1C];
     let mut more = [Code::C1C; 17];
     more[1..].copy_from_slice(CODES.as_slice());
-    let rows: [(&[u8], &[Code], u64, Result<(), HeadFault>); 18] = [
+    let apart: &[Code] = &[Code::C1C, Code::C2W, Code::C1C];
+    let rows: [(&[u8], &[Code], u64, Result<(), HeadFault>); 19] = [
         (b"B", good, MADE, Ok(())),
         (sixty.as_slice(), good, MADE, Ok(())),
         (b"two words ~!", good, MADE, Ok(())),
@@ -211,6 +225,7 @@ fn heads_are_refused_in_order(rt: HostRuntime) -> Result<(), Fail> {
         (b"X\x7fY", good, MADE, Err(HeadFault::Marker)),
         (b" X", twice, MADE + 1, Err(HeadFault::Marker)),
         (b"BASE", twice, MADE, Err(HeadFault::Codes)),
+        (b"BASE", apart, MADE, Err(HeadFault::Codes)),
         (b"BASE", &[], MADE, Err(HeadFault::Codes)),
         (b"BASE", more.as_slice(), MADE, Err(HeadFault::Codes)),
         (b"BASE", twice, MADE + 1, Err(HeadFault::Codes)),
