@@ -1,5 +1,5 @@
 -- Bits begin with at most one message, and where they begin with one there is no fault.
-use Rattle.std.proofs.Common.{◌≡◌, ℕ, ◌+◌, ◌%◌, ◌^◌, ◌<◌, ◌≤◌, Bool, true, false, List, [], ◌∷◌, ◌++◌, length, take, drop, Option, Some, None, Result, Ok, Err, refl, sym, ap, ◌∙◌, append_assoc, arith, length-append, ltb}
+use Rattle.std.proofs.Common.{◌≡◌, ℕ, ◌^◌, ◌<◌, Bool, false, List, ◌∷◌, ◌++◌, length, take, drop, Some, None, Result, Ok, Err, refl, sym, ap, ◌∙◌, append_assoc, arith, length-append, ltb}
 use Rattle.std.specs.Prelude.{IfOk, IfErr}
 use Rattle.std.proofs.lemmas.Bool.{le-ltb}
 use Rattle.std.proofs.lemmas.List.{take_at, drop_at}
@@ -9,8 +9,8 @@ use Rattle.rtk_bits.proofs.Numbers.{length-bits_of, unsigned-bits_of}
 use Rattle.rtk_message.specs.declared.message.Message.{Message}
 use Rattle.rtk_message.specs.declared.message.Message.TheVariants.{Obs1004, Arp1005, Arp1006, Msm1074}
 use Rattle.rtk_message.specs.declared.fault.DecodeFault.{DecodeFault}
-use Rattle.rtk_message.specs.Fields.{Field, u, bits_of_fields, TakesAll}
-use Rattle.rtk_message.specs.Decoded.{number_of, fields_after_number, table, IsValid, Encodes, Follows, Decodes, first_fault, fault_after_number}
+use Rattle.rtk_message.specs.Fields.{Field, u, bits_of_fields}
+use Rattle.rtk_message.specs.Decoded.{number_of, fields_after_number, Encodes, Follows, Decodes, first_fault, fault_after_number}
 use Rattle.rtk_message.specs.Obs1004Laws as obs1004
 use Rattle.rtk_message.specs.Arp1005Laws as arp1005
 use Rattle.rtk_message.specs.Arp1006Laws as arp1006

@@ -1,6 +1,6 @@
 -- One message 1005 of bits, and no fault where there is one.
 use Rattle.std.proofs.lemmas.Bool.{le-ltb}
-use Rattle.std.proofs.Common.{◌≡◌, ℕ, ℤ, ◌+◌, sym, ◌∙◌, ◌≤◌, Bool, List, ◌++◌, length, None, refl, arith, length-append}
+use Rattle.std.proofs.Common.{◌≡◌, ℕ, ℤ, sym, ◌∙◌, Bool, List, ◌++◌, length, None, refl, arith, length-append}
 use Rattle.rtk_message.specs.Fields.{bits_of_fields, FieldsFit}
 use Rattle.rtk_message.specs.Arp1005.{table, first_fault, IsValid}
 use Rattle.rtk_message.specs.declared.arp1005.Arp1005.{Arp1005}

@@ -1,13 +1,12 @@
 -- A column as fields: taken and put element by element, its length, its one reading.
-use Rattle.std.proofs.Common.{◌≡◌, ℕ, ℤ, zero, suc, ◌+◌, ◌*◌, ◌<◌, ◌≤◌, Bool, List, [], ◌∷◌, ◌++◌, length, map, take, get_or, refl, sym, ap, ◌∙◌, arith, append_assoc, sum_by, count_ones}
-use Rattle.std.proofs.lemmas.List.{append-nil, take_more, map_push}
+use Rattle.std.proofs.Common.{◌≡◌, ℕ, ℤ, ◌+◌, ◌*◌, ◌≤◌, Bool, List, [], ◌∷◌, ◌++◌, length, refl, sym, ap, ◌∙◌, arith, append_assoc, sum_by, count_ones}
 use Rattle.std.proofs.lemmas.List.Sums.{sum_by-cons}
-use Rattle.std.proofs.lemmas.Nat.{ones-le, ones_cat}
+use Rattle.std.proofs.lemmas.Nat.{ones_cat}
 use lib.Count.{ones}
 use Rattle.std.proofs.Math.Nat.{mod-eq_of_lt}
 use Rattle.rtk_bits.specs.Bits.{unsigned, bits_of}
 use Rattle.rtk_bits.proofs.Numbers.{unsigned-append, unsigned_lt, unsigned-bits_of}
-use Rattle.rtk_message.specs.Fields.{Field, u, field_bits, bits_of_fields, FieldFits, FieldsFit, TakesAll, Takes, Puts, PutsAll}
+use Rattle.rtk_message.specs.Fields.{Field, bits_of_fields, FieldsFit}
 use Rattle.rtk_message.specs.FieldLaws.{SameForm, one_list, total}
 use Rattle.rtk_message.specs.FieldLaws.{bits_of_fields-append, fit-left}
 use Rattle.rtk_message.specs.Columns.{numbers, integers, flags}

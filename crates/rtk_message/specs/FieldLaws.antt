@@ -1,18 +1,12 @@
 -- Lists of fields as bits.
-use Rattle.std.proofs.Common.{◌≡◌, ℕ, zero, suc, ◌+◌, ◌-◌, ◌*◌, ◌%◌, ◌^◌, ◌<◌, ◌≤◌, ℤ, pos, negsuc, Bool, true, false, List, [], ◌∷◌, ◌++◌, length, Option, Some, None, refl, sym, ap, subst, take, drop, pow_mono, ◌∙◌, append_assoc, arith, length-append, ltb}
-use Rattle.std.proofs.lemmas.Bool.{le-ltb}
-use Rattle.std.proofs.lemmas.List.{append-nil, take_at, drop_at}
+use Rattle.std.proofs.Common.{◌≡◌, ℕ, suc, ◌+◌, ◌-◌, ◌*◌, ◌^◌, ◌<◌, ◌≤◌, ℤ, pos, negsuc, Bool, List, [], ◌∷◌, ◌++◌, length, refl, sym, ap, subst, take, drop, ◌∙◌, append_assoc, arith, length-append}
+use Rattle.std.proofs.lemmas.List.{take_at, drop_at}
 use Rattle.std.proofs.lemmas.Int.{ints}
 use Rattle.std.proofs.lemmas.Nat.{pow_pos}
 use Rattle.std.proofs.Math.Nat.{mod-eq_of_lt}
-use Rattle.std.specs.Prelude.{◌==◌, ◌≤ℤ◌, ◌<ℤ◌, neg_ℤ}
-use lib.Signed.{mag}
-use Rattle.std.specs.List.{AllByRecursion}
-use Rattle.rtk_bits.specs.Bits.{bit, unsigned, bits_of, signed_bits_of, FitsSigned}
-use Rattle.std.proofs.Common.{w64}
-use mir.Val.{SFits}
+use Rattle.rtk_bits.specs.Bits.{unsigned, bits_of, signed_bits_of, FitsSigned}
 use Rattle.rtk_bits.proofs.Numbers.{length-bits_of, unsigned-bits_of, pow_more}
-use Rattle.rtk_message.specs.Fields.{Field, u, i, flag, Puts, field_bits, FieldFits, bits_of_fields, FieldsFit, TakesAll, Takes, PutsAll}
+use Rattle.rtk_message.specs.Fields.{Field, u, i, flag, field_bits, bits_of_fields, FieldsFit}
 
 -- the bits of a field and of fields
 abbrev pub width : Field → ℕ

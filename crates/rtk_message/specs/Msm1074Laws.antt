@@ -1,17 +1,16 @@
 -- One message 1074 of bits, and no fault where there is one.
-use Rattle.std.proofs.Common.{◌≡◌, ℕ, ℤ, Bool, true, false, List, [], ◌∷◌, ◌++◌, length, take, drop, Some, None, refl, sym, ap, ◌∙◌, ◌+◌, ◌*◌, ◌<◌, ◌≤◌, ltb, arith, append_assoc, length-append, sum_by, count_ones, ◌↔◌}
-use Rattle.std.proofs.lemmas.Bool.{le-ltb, lt-ltb, ltb-false, ltb_from_iff}
+use Rattle.std.proofs.Common.{◌≡◌, ℕ, ℤ, Bool, false, List, [], ◌∷◌, ◌++◌, length, take, drop, None, refl, sym, ap, ◌∙◌, ◌+◌, ◌*◌, ◌<◌, ◌≤◌, ltb, arith, append_assoc, length-append, sum_by, count_ones}
+use Rattle.std.proofs.lemmas.Bool.{le-ltb}
 use Rattle.std.proofs.lemmas.List.{take_at, drop_at}
-use Rattle.rtk_message.specs.declared.fault.DecodeFault.TheVariants.{Short, EpochRange, TooManyCells}
 use Rattle.rtk_bits.specs.Bits.{unsigned}
 use Rattle.rtk_message.specs.Fields.{Field, u, flag, bits_of_fields, FieldsFit, TakesAll}
 use Rattle.rtk_message.specs.FieldLaws.{total, length-bits_of_fields}
-use Rattle.rtk_message.specs.FieldLaws.{bits_of_fields-append, fit-append, fit-left, number_at}
+use Rattle.rtk_message.specs.FieldLaws.{bits_of_fields-append, fit-left, number_at}
 use Rattle.rtk_message.specs.Columns.{numbers, integers, flags}
 use Rattle.rtk_message.specs.ColumnLaws.{total-numbers, total-integers, total-flags, ones-numbers, peel, peel_numbers, peel_integers, peel_flags, last_numbers}
 use Rattle.rtk_message.specs.declared.msm1074.MsmHeader.{MsmHeader}
 use Rattle.rtk_message.specs.declared.msm1074.Msm1074.{Msm1074}
-use Rattle.rtk_message.specs.Msm1074.{header_table, satellites, signals, mask_table, columns, table, cells, HasLengths, EachFits, IsValid, first_fault, tow_of, satellites_of, mask_bits_of, cells_of}
+use Rattle.rtk_message.specs.Msm1074.{header_table, satellites, signals, mask_table, columns, table, cells, HasLengths, IsValid, first_fault, tow_of, satellites_of, mask_bits_of, cells_of}
 
 -- what the header says of the bits
 pub record Says (h : MsmHeader) (bs rest : List Bool) : Type 0 where

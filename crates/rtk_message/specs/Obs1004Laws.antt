@@ -1,14 +1,9 @@
 -- One message 1004 of bits, and no fault where there is one.
-use Rattle.std.proofs.Common.{◌≡◌, ℕ, ℤ, Bool, true, false, List, [], ◌∷◌, ◌++◌, length, zero, suc, get_or, take, drop, Option, Some, None, refl, sym, ap, ◌∙◌, ◌+◌, ◌*◌, ◌^◌, ◌<◌, ◌≤◌, ltb, arith, append_assoc, length-append}
+use Rattle.std.proofs.Common.{◌≡◌, ℕ, ℤ, Bool, false, List, [], ◌∷◌, ◌++◌, length, None, refl, sym, ap, ◌∙◌, ◌+◌, ◌*◌, ◌<◌, ◌≤◌, ltb, arith, append_assoc, length-append}
 use Rattle.std.specs.List.{flat_map}
-use Rattle.std.proofs.lemmas.Bool.{le-ltb, lt-ltb}
-use Rattle.rtk_message.specs.declared.fault.DecodeFault.TheVariants.{Short, EpochRange}
-use Rattle.std.proofs.lemmas.List.{take_at, drop_at, flat_map_more, take_more}
-use Rattle.std.proofs.Math.Nat.{mod-eq_of_lt}
-use Rattle.rtk_bits.specs.Bits.{unsigned, bits_of}
-use Rattle.rtk_bits.proofs.Numbers.{length-bits_of, unsigned-bits_of}
-use Rattle.rtk_message.specs.Fields.{Field, u, i, flag, bits_of_fields, field_bits, FieldsFit, TakesAll, Takes, PutsAll}
-use Rattle.rtk_message.specs.FieldLaws.{total, length-bits_of_fields, SameForm, one_list, bits_of_fields-append, fit-append, fit-left, number_at}
+use Rattle.std.proofs.lemmas.Bool.{le-ltb}
+use Rattle.rtk_message.specs.Fields.{u, flag, bits_of_fields, FieldsFit, TakesAll}
+use Rattle.rtk_message.specs.FieldLaws.{length-bits_of_fields, SameForm, one_list, bits_of_fields-append, fit-left, number_at}
 use Rattle.rtk_message.specs.declared.satellites.Satellite.{Satellite}
 use Rattle.rtk_message.specs.declared.obs1004.Obs1004.{Obs1004}
 use Rattle.rtk_message.specs.Obs1004.{satellite_table, header, header_table, table, IsValid, first_fault, tow_of, satellite_bits}

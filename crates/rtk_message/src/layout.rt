@@ -17,8 +17,8 @@ pub trait Layout: Sized {
     /// The fields after the number, in the order of the standard.
     ghost table: { Self → List Field };
 
-    /// Which values have bits: each field fits its width, and the lists have the lengths that the
-    /// counts and masks give.
+    /// Which values have bits: each field fits its width, the time of week is less than 604,800,000
+    /// ms, a cell mask has at most 64 bits, and the lists have the lengths that counts and masks give.
     ghost IsValid: { Self → Type 0 };
 
     /// The first cause for which bits after the number begin with no such message.

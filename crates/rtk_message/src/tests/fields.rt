@@ -98,6 +98,13 @@ fn columns_go_satellite_by_satellite(rt: HostRuntime) -> Result<(), Fail> {
     assert_eq!(rt; read.lock_indicator.as_slice(), [9, 10].as_slice());
     assert_eq!(rt; read.half_cycle.as_slice(), [true, false].as_slice());
     assert_eq!(rt; read.cnr.as_slice(), [40, 41].as_slice());
+    // Both cells are satellite 5's: the mask is 11 00 in place of 10 01.
+    let mut one_row = TWO_CELLS;
+    one_row[21] = 0x62;
+    let Ok(Message::Msm1074(read)) = decode(&one_row) else {
+        return Err("no 1074".into());
+    };
+    assert_eq!(rt; read.cell_mask.as_slice(), [0b11, 0b00].as_slice());
     Ok(())
 }
 

@@ -44,6 +44,7 @@ fn payloads_are_read_and_written_again(rt: HostRuntime) -> Result<(), Fail> {
 fn bits_after_the_last_field_are_no_part_of_a_message(rt: HostRuntime) {
     let mut longer = [0xff; 20];
     longer[..19].copy_from_slice(&POINT_1005);
+    assert!(rt; decode(&longer).is_ok());
     assert!(rt; decode(&longer) == decode(&POINT_1005));
 }
 

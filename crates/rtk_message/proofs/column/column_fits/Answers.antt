@@ -1,4 +1,4 @@
-use Rattle.std.proofs.Common.{◌≡◌, length, get_or, ap, sym, arith, rules}
+use Rattle.std.proofs.Common.{length, ap, arith, rules}
 use Rattle.rtk_message.proofs.ColumnLemmas.{fit_one, fit_more}
 use Rattle.rtk_message.proofs.column.column_fits.Goals as goal
 

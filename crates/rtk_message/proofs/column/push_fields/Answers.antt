@@ -1,4 +1,4 @@
-use Rattle.std.proofs.Common.{arith, List, Bool}
+use Rattle.std.proofs.Common.{arith}
 use Rattle.std.proofs.lemmas.List.{length_push}
 use Rattle.rtk_message.proofs.ColumnLemmas.{took_next, one_step}
 use Rattle.rtk_message.proofs.column.push_fields.Goals as goal

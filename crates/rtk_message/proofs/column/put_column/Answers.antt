@@ -1,4 +1,4 @@
-use Rattle.std.proofs.Common.{◌≡◌, length, get_or, ap, sym, arith, rules}
+use Rattle.std.proofs.Common.{length, ap, arith}
 use Rattle.rtk_message.proofs.ColumnLemmas.{put_more, fit_one}
 use Rattle.rtk_message.proofs.column.put_column.Goals as goal
 

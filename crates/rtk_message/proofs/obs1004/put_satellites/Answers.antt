@@ -1,8 +1,3 @@
-use Rattle.std.proofs.Common.{rules, ◌≡◌, ◌↔◌, IsTrue, ℕ, ◌+◌, ◌-◌, ◌*◌, ◌^◌, ◌<◌, ◌≤◌, length, ◌/◌, ◌%◌, Bool, true, false, List, [], ◌∷◌, ◌++◌, refl, sym, ap, ◌∙◌, arith, ℤ, to_z, of_z, w64}
-use Rattle.std.proofs.lemmas.Int.{to_z-of_z}
-use mir.Val.{SFits}
-use Rattle.rtk_message.specs.Fields.{u, i, flag, Takes, TakesAll, FieldsFit}
-use Rattle.rtk_message.proofs.FieldLemmas.{took, took_none, put, put_none}
 use Rattle.rtk_message.proofs.Obs1004Lemmas.{fit_at, put_push}
 use Rattle.rtk_message.proofs.obs1004.put_satellites.Goals as goal
 

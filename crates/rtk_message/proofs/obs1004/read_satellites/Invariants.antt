@@ -1,7 +1,6 @@
-use Rattle.std.proofs.Common.{◌≡◌, ◌≤◌, ◌+◌, ◌*◌, ◌-◌, length, take}
+use Rattle.std.proofs.Common.{◌≡◌, ◌≤◌, ◌*◌, ◌-◌, length}
 use Rattle.std.specs.List.{flat_map}
-use Rattle.rtk_message.specs.Fields.{TakesAll, FieldsFit}
-use Rattle.rtk_message.specs.Fields.{PutsAll}
+use Rattle.rtk_message.specs.Fields.{TakesAll}
 use Rattle.rtk_message.specs.Obs1004.{satellite_table}
 use Rattle.rtk_message.proofs.obs1004.read_satellites.Given as goal
 

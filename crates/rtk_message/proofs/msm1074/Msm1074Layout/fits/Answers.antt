@@ -1,4 +1,4 @@
-use Rattle.std.proofs.Common.{◌≤◌, ◌*◌, arith, rules}
+use Rattle.std.proofs.Common.{◌≤◌, ◌*◌, rules}
 use Rattle.rtk_message.proofs.Msm1074Lemmas.{each_fits, is_valid, few_of}
 use Rattle.rtk_message.specs.Msm1074.{satellites, signals}
 use Rattle.rtk_message.proofs.msm1074.Msm1074Layout.fits.Goals as goal

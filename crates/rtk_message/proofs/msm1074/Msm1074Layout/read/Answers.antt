@@ -4,7 +4,7 @@ use Rattle.rtk_message.specs.Columns.{numbers}
 use Rattle.rtk_message.proofs.ColumnLemmas.{ones-few}
 use Rattle.rtk_message.proofs.FieldLemmas.{took_both}
 use Rattle.rtk_message.proofs.Msm1074Lemmas.{is_late, is_many, is_cut_mask, is_cut_rest, few_of}
-use Rattle.rtk_message.specs.Msm1074.{satellites, signals}
+use Rattle.rtk_message.specs.Msm1074.{signals}
 use Rattle.rtk_message.proofs.msm1074.Msm1074Layout.read.Goals as goal
 
 pub returns-then-self-ge-WEEK_MS-clause-fault : goal.returns-then-self-ge-WEEK_MS-clause-fault

@@ -1,7 +1,5 @@
-use Rattle.std.proofs.Common.{◌≡◌, arith, length}
-use Rattle.rtk_message.specs.Fields.{TakesAll}
-use Rattle.rtk_message.proofs.FieldLemmas.{took, took_none, took_both, took_word}
-use Rattle.rtk_message.specs.Obs1004.{header}
+use Rattle.std.proofs.Common.{arith}
+use Rattle.rtk_message.proofs.FieldLemmas.{took, took_none, took_word}
 use Rattle.rtk_message.proofs.Obs1004Lemmas.{is_late, is_cut}
 use Rattle.rtk_message.proofs.obs1004.Obs1004Layout.read.Goals as goal
 

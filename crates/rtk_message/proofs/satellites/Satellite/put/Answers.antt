@@ -1,8 +1,4 @@
-use Rattle.std.proofs.Common.{rules, ◌≡◌, ◌↔◌, IsTrue, ℕ, ◌+◌, ◌-◌, ◌*◌, ◌^◌, ◌<◌, ◌≤◌, length, ◌/◌, ◌%◌, Bool, true, false, List, [], ◌∷◌, ◌++◌, refl, sym, ap, ◌∙◌, arith, ℤ, to_z, of_z, w64}
-use Rattle.std.proofs.lemmas.Int.{to_z-of_z}
-use mir.Val.{SFits}
-use Rattle.rtk_message.specs.Fields.{u, i, flag, Takes, TakesAll, FieldsFit}
-use Rattle.rtk_message.proofs.FieldLemmas.{took, took_none, put, put_none}
+use Rattle.rtk_message.proofs.FieldLemmas.{put, put_none}
 use Rattle.rtk_message.proofs.satellites.Satellite.put.Goals as goal
 
 pub returns : goal.returns
