@@ -55,14 +55,13 @@ whole s before =
     let site = site_of_kept s.window before in
     let all : List EpochCells = kept s.window before in
     let split : take s.window all ++ closed s.window before ≡ all =
-        ap (λ (x : List EpochCells). take s.window all ++ x) (closed-drop s.window no_cells before) ∙ take-append-drop s.window all in
+    ap (λ (x : List EpochCells). take s.window all ++ x) (closed-drop s.window no_cells before) ∙ take-append-drop s.window all in
     let more = closed-grows s site (take s.window all) (closed s.window before) in
-    let last : List ℕ = header_before s site s.near (is_some (first_time s.heading.listed all)) in
-    (
+    let last : List ℕ = header_before s site s.near (is_some (first_time s.heading.listed all)) in (
       more.0 ++ last,
       file-closed s site all
-      ∙ ap (λ (x : List ℕ). x ++ last) (ap (closed_text s site) (sym split) ∙ more.1 ∙ ap (λ (x : List ℕ). x ++ more.0) (sym (so_far-is s before)))
-      ∙ append_assoc (file_so_far s before) more.0 last,
+          ∙ ap (λ (x : List ℕ). x ++ last) (ap (closed_text s site) (sym split) ∙ more.1 ∙ ap (λ (x : List ℕ). x ++ more.0) (sym (so_far-is s before)))
+          ∙ append_assoc (file_so_far s before) more.0 last,
     )
 
 pub so_far-begins : SoFarBegins
@@ -92,7 +91,7 @@ pub header-final : HeaderIsFinal
 header-final s a before t h =
     let g = closed-only-grow s.window (a ∷ []) before in
     let after : first_time s.heading.listed (closed s.window (a ∷ before)) ≡ Some t =
-        ap (first_time s.heading.listed) g.1 ∙ first_time-more s.heading.listed g.0 (closed s.window before) t h in
+    ap (first_time s.heading.listed) g.1 ∙ first_time-more s.heading.listed g.0 (closed s.window before) t h in
     let site : site_of_kept s.window (a ∷ before) ≡ site_of_kept s.window before = elim (closed-after s.window before) [
       | inl none ↦ absurd (none-closed s.heading.listed (closed s.window before) t h none)
       | inr full ↦ site-final s.window a before full

@@ -183,48 +183,48 @@ breaks-arrived s w c k k₁ b b₁ link payload a o o' l l' comes takes = λ bef
 pub arrives-other : (s : Settings) (w : Window) (c : Closed) (k k' : Counts) (b b' : Bool) (link : ℕ) (payload : List ℕ) (o l : Option (List ℕ)) → ComesTo s payload OtherMessage
     → k' ≡ record (one_frame_more k) { other = count_after k.other } → Arrives (state s w c k b) link payload (state s w c k' b') o o l l
 arrives-other s w c k k' b b' link payload o l comes counts = λ before rep. (
-    OtherMessage,
-    comes,
-    record {
-      represents = record { window = rep.window; closed = rep.closed; counts = counts ∙ ap (λ (x : Counts). record (one_frame_more x) { other = count_after x.other }) rep.counts };
-      out = writes-none o _ _ refl;
-      log = writes-text l l (lines s.window before) (lines s.window before ++ []) [] refl (sym (with_more-nil l));
-    },
+  OtherMessage,
+  comes,
+  record {
+    represents = record { window = rep.window; closed = rep.closed; counts = counts ∙ ap (λ (x : Counts). record (one_frame_more x) { other = count_after x.other }) rep.counts };
+    out = writes-none o _ _ refl;
+    log = writes-text l l (lines s.window before) (lines s.window before ++ []) [] refl (sym (with_more-nil l));
+  },
 )
 
 pub arrives-foreign : (s : Settings) (w : Window) (c : Closed) (k k' : Counts) (b b' : Bool) (link : ℕ) (payload : List ℕ) (o l : Option (List ℕ)) → ComesTo s payload Foreign
     → k' ≡ record (one_frame_more k) { foreign = count_after k.foreign } → Arrives (state s w c k b) link payload (state s w c k' b') o o l l
 arrives-foreign s w c k k' b b' link payload o l comes counts = λ before rep. (
-    Foreign,
-    comes,
-    record {
-      represents = record { window = rep.window; closed = rep.closed; counts = counts ∙ ap (λ (x : Counts). record (one_frame_more x) { foreign = count_after x.foreign }) rep.counts };
-      out = writes-none o _ _ refl;
-      log = writes-text l l (lines s.window before) (lines s.window before ++ []) [] refl (sym (with_more-nil l));
-    },
+  Foreign,
+  comes,
+  record {
+    represents = record { window = rep.window; closed = rep.closed; counts = counts ∙ ap (λ (x : Counts). record (one_frame_more x) { foreign = count_after x.foreign }) rep.counts };
+    out = writes-none o _ _ refl;
+    log = writes-text l l (lines s.window before) (lines s.window before ++ []) [] refl (sym (with_more-nil l));
+  },
 )
 
 pub arrives-refused : (s : Settings) (w : Window) (c : Closed) (k k' : Counts) (b b' : Bool) (link : ℕ) (payload : List ℕ) (fault : DecodeFault) (o l l' : Option (List ℕ)) → ComesTo s payload (Refused fault)
     → k' ≡ record (one_frame_more k) { refused = count_after k.refused } → l' ≡ with_more l (refused_line link fault) → Arrives (state s w c k b) link payload (state s w c k' b') o o l l'
 arrives-refused s w c k k' b b' link payload fault o l l' comes counts wrote = λ before rep. (
-    Refused fault,
-    comes,
-    record {
-      represents = record { window = rep.window; closed = rep.closed; counts = counts ∙ ap (λ (x : Counts). record (one_frame_more x) { refused = count_after x.refused }) rep.counts };
-      out = writes-none o _ _ refl;
-      log = writes-text l l' (lines s.window before) _ (refused_line link fault) refl wrote;
-    },
+  Refused fault,
+  comes,
+  record {
+    represents = record { window = rep.window; closed = rep.closed; counts = counts ∙ ap (λ (x : Counts). record (one_frame_more x) { refused = count_after x.refused }) rep.counts };
+    out = writes-none o _ _ refl;
+    log = writes-text l l' (lines s.window before) _ (refused_line link fault) refl wrote;
+  },
 )
 
 pub breaks-refused : (s : Settings) (w : Window) (c : Closed) (k : Counts) (b : Bool) (link : ℕ) (payload : List ℕ) (fault : DecodeFault) (o l l' : Option (List ℕ)) → ComesTo s payload (Refused fault)
     → TakesPart l l' (refused_line link fault) → BreaksOff (state s w c k b) link payload o o l l'
 breaks-refused s w c k b link payload fault o l l' comes part = λ before rep. (
-    Refused fault,
-    comes,
-    record {
-      out = part-all o o _ _ (writes-none o (file_so_far s (arrivals before)) (file_so_far s (arrivals before)) refl);
-      log = part-text l l' (lines s.window before) _ (refused_line link fault) refl part;
-    },
+  Refused fault,
+  comes,
+  record {
+    out = part-all o o _ _ (writes-none o (file_so_far s (arrivals before)) (file_so_far s (arrivals before)) refl);
+    log = part-text l l' (lines s.window before) _ (refused_line link fault) refl part;
+  },
 )
 
 -- ---- a new conversion

@@ -74,7 +74,7 @@ some-part s site held now next e first last o o' o'' l cut part = λ below f.
     let rest : List EpochCells = l.gone ++ below in
     let g = closed-grows s site next (e ∷ rest) in
     let all : held ++ below ≡ next ++ (e ∷ rest) =
-        ap (λ t. t ++ below) (l.split ∙ ap (λ t. t ++ l.gone) cut) ∙ append_assoc (next ++ e ∷ []) l.gone below ∙ append_assoc next (e ∷ []) rest in
+    ap (λ t. t ++ below) (l.split ∙ ap (λ t. t ++ l.gone) cut) ∙ append_assoc (next ++ e ∷ []) l.gone below ∙ append_assoc next (e ∷ []) rest in
     part-longer o o'' (closed_text s site below) (closed_text s site (e ∷ rest)) (closed_text s site (held ++ below)) g.0 (ap (closed_text s site) all ∙ g.1)
     (part-on o o' o'' _ _ _ w.1 (part-text o' o'' (closed_text s site rest) (closed_text s site (e ∷ rest)) (closing s site e rest) (closed-more s site e rest) (part rest w.0)))
 
@@ -107,8 +107,8 @@ finishes s w c c' k k' b p o o' o'' l l' size position closes header counts wrot
     let t = closes (closed s.window A) rep.closed in
     let all = kept-all s w A size rep.window in
     let same : k' ≡ all_counts s found =
-        counts ∙ ap (λ (x : Counts). record x { epochs = c'.count }) rep.counts
-        ∙ ap (λ (n : ℕ). record (frame_counts s.window found) { epochs = n }) (t.follows.count ∙ ap (record_count s.heading.listed) all) in
+    counts ∙ ap (λ (x : Counts). record x { epochs = c'.count }) rep.counts
+    ∙ ap (λ (n : ℕ). record (frame_counts s.window found) { epochs = n }) (t.follows.count ∙ ap (record_count s.heading.listed) all) in
     record {
       counts_are = same;
       out = writes-on o o' o'' (file_so_far s A) (closed_text s (site_of p) (w.sets ++ closed s.window A)) (kept_file s A)

@@ -49,8 +49,8 @@ part-longer before after first second third rest e p =
 -- a part, behind a text that was written whole
 pub part-on : (a b c : Option (List ℕ)) (x y z : List ℕ) → Writes a b x y → WritesPart b c y z → WritesPart a c x z
 part-on a b c x y z p q = (
-    p.0 ++ q.0,
-    q.1,
-    q.2 ∙ ap (λ t. t ++ (q.0 ++ q.1)) p.1 ∙ append_assoc x p.0 (q.0 ++ q.1) ∙ ap (λ t. x ++ t) (sym (append_assoc p.0 q.0 q.1)),
-    q.3 ∙ ap (λ t. with_more t q.0) p.2 ∙ with_more-with_more a p.0 q.0,
+  p.0 ++ q.0,
+  q.1,
+  q.2 ∙ ap (λ t. t ++ (q.0 ++ q.1)) p.1 ∙ append_assoc x p.0 (q.0 ++ q.1) ∙ ap (λ t. x ++ t) (sym (append_assoc p.0 q.0 q.1)),
+  q.3 ∙ ap (λ t. with_more t q.0) p.2 ∙ with_more-with_more a p.0 q.0,
 )

@@ -178,7 +178,10 @@ impl Conversion {
         };
         let position = self.collector.station();
         let (epoch, cells) = (set.epoch(), set.cells());
-        match self.records.close(self.alloc, &self.setup, &position, epoch, cells, out) {
+        match self
+            .records
+            .close(self.alloc, &self.setup, &position, epoch, cells, out)
+        {
             Ok(()) => put_lines(log, &lines),
             Err(fault) => Err(fault),
         }

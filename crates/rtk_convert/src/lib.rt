@@ -18,3 +18,5 @@ pub use fault::{ConvertFault, Stream};
 pub use laws::{file_laws, file_only_grows, set_decides_file};
 pub use setup::{Setup, SetupFault};
 
+#[cfg(test)]
+mod tests;

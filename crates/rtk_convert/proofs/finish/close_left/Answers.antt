@@ -8,7 +8,7 @@ pub returns-in-Err-clause-err : goal.returns-in-Err-clause-err
 returns-in-Err-clause-err g c =
     let e : EpochCells = record { epoch = c.epoch-epoch.result; cells = c.cells-cells.result.now } in
     let same : c.in-Some.set ≡ e =
-        ap (λ (t : ℕ). record c.in-Some.set { epoch = t }) (sym c.epoch-epoch.ensures) ∙ ap (λ xs. record { epoch = c.epoch-epoch.result; cells = xs }) (sym c.cells-cells.ensures.value) in
+    ap (λ (t : ℕ). record c.in-Some.set { epoch = t }) (sym c.epoch-epoch.ensures) ∙ ap (λ xs. record { epoch = c.epoch-epoch.result; cells = xs }) (sym c.cells-cells.ensures.value) in
     some-part c.args.setup.now (site_of c.args.position.now) c.args.left.now.sets c.left.left.sets c.next_left.new.self.sets e c.args.records.now c.left.records
     (g.O.Sink.taken c.args.out.now) (g.O.Sink.taken c.left.out) (g.O.Sink.taken c.close.new.out) c.left.invariant.some
     (c.in-Some.ensures.next ∙ ap (λ (x : EpochCells). c.next_left.new.self.sets ++ x ∷ []) same) c.close.ensures.part
@@ -17,7 +17,7 @@ pub left-preserved : goal.left-preserved
 left-preserved g c =
     let e : EpochCells = record { epoch = c.epoch-epoch.result; cells = c.cells-cells.result.now } in
     let same : c.in-Some.set ≡ e =
-        ap (λ (t : ℕ). record c.in-Some.set { epoch = t }) (sym c.epoch-epoch.ensures) ∙ ap (λ xs. record { epoch = c.epoch-epoch.result; cells = xs }) (sym c.cells-cells.ensures.value) in
+    ap (λ (t : ℕ). record c.in-Some.set { epoch = t }) (sym c.epoch-epoch.ensures) ∙ ap (λ xs. record { epoch = c.epoch-epoch.result; cells = xs }) (sym c.cells-cells.ensures.value) in
     record {
       some = some-more c.args.setup.now (site_of c.args.position.now) c.args.left.now.sets c.left.left.sets c.next_left.new.self.sets e c.args.records.now c.left.records c.close.new.self
           (g.O.Sink.taken c.args.out.now) (g.O.Sink.taken c.left.out) (g.O.Sink.taken c.close.new.out) c.left.invariant.some

@@ -5,5 +5,14 @@ use Rattle.rtk_convert.proofs.report.counts.Goals as goal
 pub returns : goal.returns
 unfolding count_lines
 returns c = rw (
-    c.in_ok-put_count-9.ensures, c.in_ok-put_count-8.ensures, c.in_ok-put_count-7.ensures, c.in_ok-put_count-6.ensures, c.in_ok-put_count-5.ensures,
-    c.in_ok-put_count-4.ensures, c.in_ok-put_count-3.ensures, c.in_ok-put_count-2.ensures, c.in_ok-put_count.ensures, c.new-lines.ensures.items) refl
+  c.in_ok-put_count-9.ensures,
+  c.in_ok-put_count-8.ensures,
+  c.in_ok-put_count-7.ensures,
+  c.in_ok-put_count-6.ensures,
+  c.in_ok-put_count-5.ensures,
+  c.in_ok-put_count-4.ensures,
+  c.in_ok-put_count-3.ensures,
+  c.in_ok-put_count-2.ensures,
+  c.in_ok-put_count.ensures,
+  c.new-lines.ensures.items,
+) refl

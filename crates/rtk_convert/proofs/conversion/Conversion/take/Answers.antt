@@ -19,7 +19,7 @@ pub returns-in-OtherMessage-clause-ok : goal.returns-in-OtherMessage-clause-ok
 returns-in-OtherMessage-clause-ok g c =
     let comes = subst (λ (f : Finding). ComesTo c.self.inside.setup c.args.payload.now f) c.in-OtherMessage.is c.find.ensures in
     let counts = ap (λ (n : ℕ). record (record c.self.inside.counts { frames = n }) { other = c.saturating_add-self-inside-in-OtherMessage.result }) c.saturating_add-self-inside.ensures
-        ∙ ap (λ (n : ℕ). record (one_frame_more c.self.inside.counts) { other = n }) c.saturating_add-self-inside-in-OtherMessage.ensures in
+    ∙ ap (λ (n : ℕ). record (one_frame_more c.self.inside.counts) { other = n }) c.saturating_add-self-inside-in-OtherMessage.ensures in
     subst (λ (x : State). Arrives x c.args.link c.args.payload.now (state c.self.inside.setup c.self.inside.collector c.self.inside.records (record (record c.self.inside.counts { frames = c.saturating_add-self-inside.result }) { other = c.saturating_add-self-inside-in-OtherMessage.result }) c.self.inside.stopped) (g.O.Sink.taken c.args.out.now) (g.O.Sink.taken c.args.out.now) (g.L.Sink.taken c.args.log.now) (g.L.Sink.taken c.args.log.now)) c.self.view_is (arrives-other c.self.inside.setup c.self.inside.collector c.self.inside.records c.self.inside.counts (record (record c.self.inside.counts { frames = c.saturating_add-self-inside.result }) { other = c.saturating_add-self-inside-in-OtherMessage.result }) c.self.inside.stopped c.self.inside.stopped c.args.link c.args.payload.now (g.O.Sink.taken c.args.out.now) (g.L.Sink.taken c.args.log.now) comes counts)
 
 pub returns-in-Ok-clause-ahead : goal.returns-in-Ok-clause-ahead
@@ -30,7 +30,7 @@ pub returns-in-Ok-clause-ok : goal.returns-in-Ok-clause-ok
 returns-in-Ok-clause-ok g c =
     let comes = subst (λ (f : Finding). ComesTo c.self.inside.setup c.args.payload.now f) c.in-Refused.is c.find.ensures in
     let counts = ap (λ (n : ℕ). record (record c.self.inside.counts { frames = n }) { refused = c.saturating_add-self-inside-in-Refused.result }) c.saturating_add-self-inside.ensures
-        ∙ ap (λ (n : ℕ). record (one_frame_more c.self.inside.counts) { refused = n }) c.saturating_add-self-inside-in-Refused.ensures in
+    ∙ ap (λ (n : ℕ). record (one_frame_more c.self.inside.counts) { refused = n }) c.saturating_add-self-inside-in-Refused.ensures in
     on_ok-map c.put_lines.result (λ wrote. subst (λ (x : State). Arrives x c.args.link c.args.payload.now (state c.self.inside.setup c.self.inside.collector c.self.inside.records (record (record c.self.inside.counts { frames = c.saturating_add-self-inside.result }) { refused = c.saturating_add-self-inside-in-Refused.result }) c.self.inside.stopped) (g.O.Sink.taken c.args.out.now) (g.O.Sink.taken c.args.out.now) (g.L.Sink.taken c.args.log.now) (g.L.Sink.taken c.put_lines.new.log)) c.self.view_is (arrives-refused c.self.inside.setup c.self.inside.collector c.self.inside.records c.self.inside.counts (record (record c.self.inside.counts { frames = c.saturating_add-self-inside.result }) { refused = c.saturating_add-self-inside-in-Refused.result }) c.self.inside.stopped c.self.inside.stopped c.args.link c.args.payload.now c.in-Refused.fault (g.O.Sink.taken c.args.out.now) (g.L.Sink.taken c.args.log.now) (g.L.Sink.taken c.put_lines.new.log) comes counts (wrote ∙ ap (with_more (g.L.Sink.taken c.args.log.now)) (c.deref.ensures.value ∙ c.in-Ok.ensures)))) c.put_lines.ensures.all
 
 pub returns-in-Ok-clause-err : goal.returns-in-Ok-clause-err
