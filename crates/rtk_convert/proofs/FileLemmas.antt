@@ -44,7 +44,7 @@ unfolding records first_time
 some-records listed [] t h = cc
 some-records listed (e ∷ below) t h = some-step (first_time listed below) e.epoch t (records listed below) (record_of listed e below) (λ u. some-records listed below u) h
 
-first-kept : (o : Option ℕ) (e t : ℕ) (text : List ℕ) → o ≡ Some t → first_or o e text ≡ Some t
+pub first-kept : (o : Option ℕ) (e t : ℕ) (text : List ℕ) → o ≡ Some t → first_or o e text ≡ Some t
 first-kept None e t text h = cc
 first-kept (Some u) e t text h = h
 

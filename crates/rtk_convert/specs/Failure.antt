@@ -9,3 +9,9 @@ abbrev pub IsOutFault : ConvertFault → Type 0
 IsOutFault OutOfMemory = Unit {0}
 IsOutFault (Write Out) = Unit {0}
 IsOutFault _ = ⊥
+
+-- memory was refused, or a write failed
+abbrev pub IsFrameFault : ConvertFault → Type 0
+IsFrameFault OutOfMemory = Unit {0}
+IsFrameFault (Write stream) = Unit {0}
+IsFrameFault _ = ⊥
