@@ -1,12 +1,9 @@
 -- What the answer of a window says of the lines, the counts and the closed epochs.
-use Rattle.std.proofs.Common.{◌≡◌, ◌≢◌, ℕ, zero, suc, ◌+◌, ◌-◌, ◌<◌, ◌≤◌, Bool, true, false, cond, List, [], ◌∷◌, ◌++◌, take, drop, get_or, length, length-append, length-drop, Option, None, Some, refl, ap, sym, subst, ◌∙◌, arith, inl, inr, nat_eq}
-use Rattle.std.specs.Prelude.{if◌then◌else◌, option_to_list, All}
-use Rattle.std.proofs.lemmas.List.Elements.{All-nil, All-cons}
+use Rattle.std.proofs.Common.{◌≡◌, ◌≢◌, ℕ, suc, ◌-◌, Bool, true, false, cond, List, [], ◌∷◌, ◌++◌, length, length-append, length-drop, Option, None, Some, refl, ap, sym, ◌∙◌, arith, inl, inr, nat_eq}
+use Rattle.std.specs.Prelude.{if◌then◌else◌, option_to_list}
 use Rattle.std.proofs.lemmas.Bool.{cases_order, ne_eqb}
-use Rattle.rtk_message.specs.declared.message.Message.{Message}
 use Rattle.rtk_message.specs.Decoded.{number_of}
 use Rattle.rtk_obs.specs.declared.cell.CellEntry.{CellEntry}
-use Rattle.rtk_collect.specs.declared.conflicts.SatelliteCode.{SatelliteCode}
 use Rattle.rtk_collect.specs.declared.offers.Offer.{Offer}
 use Rattle.rtk_collect.specs.declared.offers.Offer.TheVariants.{Taken, Conflict, Repeat, Late}
 use Rattle.rtk_collect.specs.EpochCells.{EpochCells}

@@ -1,12 +1,11 @@
 -- The laws on the file of arrivals.
-use Rattle.std.proofs.Common.{◌≡◌, ℕ, zero, suc, ◌≤◌, List, [], ◌∷◌, ◌++◌, take, drop, length, Option, None, Some, refl, ap, append_assoc, sym, ◌∙◌, inl, inr}
+use Rattle.std.proofs.Common.{◌≡◌, ℕ, List, [], ◌∷◌, ◌++◌, take, Option, Some, refl, ap, append_assoc, sym, ◌∙◌, inl, inr}
 use Rattle.std.specs.Prelude.{is_some, unwrap_or}
 use Rattle.std.proofs.lemmas.List.{append-nil, take-append-drop}
 use Rattle.rtk_message.specs.declared.message.Message.{Message}
 use Rattle.rtk_obs.specs.declared.code.Code.{Code}
 use Rattle.rtk_collect.specs.EpochCells.{EpochCells}
 use Rattle.rtk_collect.specs.Arrival.{Arrival}
-use Rattle.rtk_collect.specs.Late.{epochs}
 use Rattle.rtk_collect.specs.Accepted.{station, kept, closed}
 use Rattle.rtk_collect.specs.Laws.{without_late, SetDecides, LateChangeNothing}
 use Rattle.rtk_collect.proofs.ArrivalsLemmas.{closed-drop}

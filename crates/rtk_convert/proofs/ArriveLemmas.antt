@@ -1,6 +1,6 @@
 -- One arrival: what the conversion represents after it, and what was written.
-use Rattle.std.proofs.Common.{◌≡◌, ℕ, Bool, true, false, List, [], ◌∷◌, ◌++◌, Option, None, Some, Result, Ok, Err, refl, ap, sym, subst, ◌∙◌, ℤ, pos}
-use Rattle.std.specs.Prelude.{is_some, option_to_list, option_map, IfErr, IsErrOf}
+use Rattle.std.proofs.Common.{◌≡◌, ℕ, Bool, List, [], ◌∷◌, ◌++◌, Option, None, Some, refl, ap, sym, subst, ◌∙◌, ℤ, pos}
+use Rattle.std.specs.Prelude.{is_some, option_to_list, option_map}
 use Rattle.std.proofs.Math.Seq.{take-nil}
 use Rattle.rtk_message.specs.declared.message.Message.{Message}
 use Rattle.rtk_message.specs.declared.message.Message.TheVariants.{Arp1005, Arp1006}
@@ -9,9 +9,7 @@ use Rattle.rtk_message.specs.declared.arp1006.Arp1006.{Arp1006 as Message1006}
 use Rattle.rtk_message.specs.declared.fault.DecodeFault.{DecodeFault}
 use Rattle.rtk_message.specs.Decoded.{number_of}
 use Rattle.rtk_obs.specs.declared.position.Position.{Position}
-use Rattle.rtk_collect.specs.declared.conflicts.SatelliteCode.{SatelliteCode}
 use Rattle.rtk_collect.specs.declared.offers.Offer.{Offer}
-use Rattle.rtk_collect.specs.declared.offers.Offer.TheVariants.{Taken, Conflict, Repeat, Late}
 use Rattle.rtk_collect.specs.EpochCells.{EpochCells}
 use Rattle.rtk_collect.specs.Arrival.{Arrival, epoch_of, message_of}
 use Rattle.rtk_collect.specs.Accepted.{station, closed}
@@ -22,22 +20,17 @@ use Rattle.rtk_collect.specs.Position.{IsPosition, IsPositionOf}
 use Rattle.rtk_frame.specs.Stream.{with_more, TakesPart, count_after}
 use Rattle.rtk_frame.proofs.StreamLemmas.{with_more-nil}
 use Rattle.rtk_rinex.specs.Header.{Site, site_of}
-use Rattle.rtk_convert.specs.declared.arrival.Finding.{Finding}
 use Rattle.rtk_convert.specs.declared.arrival.Finding.TheVariants.{OtherMessage, Refused, Foreign, Arrived}
 use Rattle.rtk_convert.specs.declared.counts.Counts.{Counts}
-use Rattle.rtk_convert.specs.declared.fault.ConvertFault.{ConvertFault}
-use Rattle.rtk_convert.specs.declared.fault.ConvertFault.TheVariants.{Write}
-use Rattle.rtk_convert.specs.declared.fault.Stream.TheVariants.{Out, Log}
 use Rattle.rtk_convert.specs.File.{first_time, record_of}
 use Rattle.rtk_convert.specs.FilePrefix.{closing_text}
 use Rattle.rtk_convert.specs.FileOfArrivals.{site_of_stations, site_of_kept, file_so_far}
 use Rattle.rtk_convert.specs.Finding.{ComesTo, Found, arrivals}
-use Rattle.rtk_convert.specs.Offering.{closed_by, IsAfter, TakesAs, TakesPartAs, Takes, TakesInPart}
+use Rattle.rtk_convert.specs.Offering.{closed_by, Takes, TakesInPart}
 use Rattle.rtk_convert.specs.Records.{Closed, Follows}
 use Rattle.rtk_convert.specs.Report.{offer_lines, frame_lines, refused_line, lines, counted_as, counted_offer, one_frame_more, frame_counts}
 use Rattle.rtk_convert.specs.Settings.{Settings}
-use Rattle.rtk_convert.specs.State.{State, Represents, ArrivesAs, BreaksOffAs, Arrives, BreaksOff}
-use Rattle.rtk_convert.specs.Writing.{Writes, WritesPart}
+use Rattle.rtk_convert.specs.State.{State, Arrives, BreaksOff}
 use Rattle.rtk_convert.proofs.AnswersLemmas.{answer-lines, answer-counts, answer-closed}
 use Rattle.rtk_convert.proofs.SoFarLemmas.{so_far-stays, so_far-closes, so_far-grows}
 use Rattle.rtk_convert.proofs.WritingLemmas.{writes-none, writes-text, part-text, part-none, part-all, takes-none}

@@ -1,5 +1,5 @@
 -- The end: the epochs that are left close one after another.
-use Rattle.std.proofs.Common.{◌≡◌, ℕ, Bool, true, false, List, [], ◌∷◌, ◌++◌, take, drop, Option, None, Some, refl, ap, append_assoc, sym, subst, ◌∙◌}
+use Rattle.std.proofs.Common.{◌≡◌, ℕ, Bool, List, [], ◌∷◌, ◌++◌, take, Option, refl, ap, append_assoc, sym, subst, ◌∙◌}
 use Rattle.std.specs.Prelude.{is_some}
 use Rattle.std.proofs.lemmas.List.{append-nil, take-append-drop}
 use Rattle.rtk_obs.specs.declared.position.Position.{Position}
@@ -10,19 +10,18 @@ use Rattle.rtk_collect.specs.Collector.{Window, Represents as HoldsKept}
 use Rattle.rtk_collect.specs.Position.{IsPositionOf}
 use Rattle.rtk_collect.proofs.ArrivalsLemmas.{closed-drop}
 use Rattle.rtk_frame.specs.Stream.{with_more, TakesPart}
-use Rattle.rtk_frame.proofs.StreamLemmas.{with_more-nil}
 use Rattle.rtk_rinex.specs.Header.{Site, site_of}
 use Rattle.rtk_convert.specs.declared.counts.Counts.{Counts}
 use Rattle.rtk_convert.specs.File.{first_time, file_of, record_count}
 use Rattle.rtk_convert.specs.FilePrefix.{closed_text, header_before}
-use Rattle.rtk_convert.specs.FileOfArrivals.{site_of_kept, kept_file, file_so_far}
+use Rattle.rtk_convert.specs.FileOfArrivals.{kept_file, file_so_far}
 use Rattle.rtk_convert.specs.Finding.{Found, arrivals}
-use Rattle.rtk_convert.specs.Finish.{ClosesAs, Closes, ClosesInPart, all_counts, report_of, FinishesAs, FinishesPartAs, Finishes, FinishesInPart}
+use Rattle.rtk_convert.specs.Finish.{Closes, ClosesInPart, all_counts, report_of, Finishes, FinishesInPart}
 use Rattle.rtk_convert.specs.Records.{Closed, Follows}
 use Rattle.rtk_convert.specs.Report.{lines, frame_counts}
 use Rattle.rtk_convert.specs.ReportText.{count_lines}
 use Rattle.rtk_convert.specs.Settings.{Settings}
-use Rattle.rtk_convert.specs.State.{State, Represents}
+use Rattle.rtk_convert.specs.State.{State}
 use Rattle.rtk_convert.specs.Writing.{Writes, WritesPart}
 use Rattle.rtk_convert.proofs.FileLemmas.{closed-more, closed-grows, file-closed}
 use Rattle.rtk_convert.proofs.SoFarLemmas.{so_far-is}

@@ -1,7 +1,6 @@
 -- How the file so far grows with an arrival.
-use Rattle.std.proofs.Common.{◌≡◌, ◌≢◌, ℕ, zero, suc, ◌+◌, ◌<◌, ◌≤◌, ◌⊎◌, Bool, true, false, List, [], ◌∷◌, ◌++◌, take, drop, length, Option, None, Some, refl, ap, append_assoc, sym, subst, ◌∙◌, arith, inl, inr}
-use Rattle.std.specs.Prelude.{is_some, option_to_list}
-use Rattle.std.proofs.lemmas.List.{append-nil}
+use Rattle.std.proofs.Common.{◌≡◌, ℕ, ◌≤◌, List, [], ◌∷◌, ◌++◌, drop, length, Option, ap, sym, ◌∙◌, inl, inr}
+use Rattle.std.specs.Prelude.{is_some}
 use Rattle.rtk_message.specs.declared.message.Message.{Message}
 use Rattle.rtk_collect.specs.EpochCells.{EpochCells}
 use Rattle.rtk_collect.specs.Arrival.{Arrival}
@@ -11,10 +10,10 @@ use Rattle.rtk_collect.proofs.ArrivalsLemmas.{closed-drop}
 use Rattle.rtk_collect.proofs.MembersLemmas.{closed-only-grow, closed-after, stations-are-final}
 use Rattle.rtk_rinex.specs.Header.{Site}
 use Rattle.rtk_convert.specs.Settings.{Settings}
-use Rattle.rtk_convert.specs.File.{record_of, records, first_time, file_of}
-use Rattle.rtk_convert.specs.FilePrefix.{so_far, closed_text, closing_text, header_before}
-use Rattle.rtk_convert.specs.FileOfArrivals.{site_of_stations, site_of_kept, kept_file, file_so_far}
-use Rattle.rtk_convert.proofs.FileLemmas.{so_far-closed, closed-more, closed-grows, file-closed, closed-none}
+use Rattle.rtk_convert.specs.File.{record_of, first_time}
+use Rattle.rtk_convert.specs.FilePrefix.{so_far, closed_text, closing_text}
+use Rattle.rtk_convert.specs.FileOfArrivals.{site_of_stations, site_of_kept, file_so_far}
+use Rattle.rtk_convert.proofs.FileLemmas.{so_far-closed, closed-more, closed-grows, closed-none}
 
 any_epoch : EpochCells
 any_epoch = record { epoch = 0; cells = [] }

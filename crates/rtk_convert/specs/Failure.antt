@@ -1,8 +1,7 @@
 -- Why a call breaks off.
 use Rattle.rtk_convert.specs.declared.fault.ConvertFault.{ConvertFault}
-use Rattle.rtk_convert.specs.declared.fault.ConvertFault.TheVariants.{Setup, NoLink, LinkClosed, OutOfMemory, Write, Read, Endless, Stopped}
-use Rattle.rtk_convert.specs.declared.fault.Stream.{Stream}
-use Rattle.rtk_convert.specs.declared.fault.Stream.TheVariants.{Out, Log}
+use Rattle.rtk_convert.specs.declared.fault.ConvertFault.TheVariants.{OutOfMemory, Write}
+use Rattle.rtk_convert.specs.declared.fault.Stream.TheVariants.{Out}
 
 -- memory was refused, or a write to the file failed
 abbrev pub IsOutFault : ConvertFault → Type 0

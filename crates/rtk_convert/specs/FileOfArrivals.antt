@@ -1,7 +1,7 @@
 -- The file of what is kept of arrivals, newest first, and what of it is out so far.
-use Rattle.std.specs.Prelude.{ℕ, pos, List, Option, None, Some}
+use Rattle.std.specs.Prelude.{ℕ, pos, List, Option, Some}
 use Rattle.rtk_message.specs.declared.message.Message.{Message}
-use Rattle.rtk_message.specs.declared.message.Message.TheVariants.{Obs1004, Arp1005, Arp1006, Msm1074}
+use Rattle.rtk_message.specs.declared.message.Message.TheVariants.{Arp1005, Arp1006}
 use Rattle.rtk_collect.specs.Arrival.{Arrival}
 use Rattle.rtk_collect.specs.Accepted.{station, kept, closed}
 use Rattle.rtk_rinex.specs.Header.{Site}

@@ -1,6 +1,5 @@
 -- The end of a conversion.
 use Rattle.std.specs.Prelude.{◌≡◌, ℕ, List, ◌++◌, Option, All}
-use Rattle.rtk_obs.specs.declared.code.Code.{Code}
 use Rattle.rtk_collect.specs.EpochCells.{EpochCells}
 use Rattle.rtk_collect.specs.Accepted.{kept}
 use Rattle.rtk_rinex.specs.Header.{Site}

@@ -1,15 +1,14 @@
 -- What a conversion represents: a list of found frames.
-use Rattle.std.specs.Prelude.{◌≡◌, ◌<◌, ℕ, Bool, true, false, List, [], ◌∷◌, length, Option, None, Some, All}
+use Rattle.std.specs.Prelude.{◌≡◌, ◌<◌, ℕ, Bool, false, List, ◌∷◌, length, Option, None, Some, All}
 use Rattle.rtk_obs.specs.declared.code.Code.{Code}
 use Rattle.rtk_obs.specs.declared.track.Track.{Track}
 use Rattle.rtk_obs.specs.Cell.{IsSatellite}
 use Rattle.rtk_obs.specs.Tracks.{track_at}
-use Rattle.rtk_collect.specs.Arrival.{Arrival}
 use Rattle.rtk_collect.specs.Accepted.{closed}
 use Rattle.rtk_collect.specs.Collector.{Window, Represents as HoldsKept}
 use Rattle.rtk_convert.specs.declared.arrival.Finding.{Finding}
 use Rattle.rtk_convert.specs.declared.counts.Counts.{Counts}
-use Rattle.rtk_convert.specs.FileOfArrivals.{kept_file, file_so_far}
+use Rattle.rtk_convert.specs.FileOfArrivals.{file_so_far}
 use Rattle.rtk_convert.specs.Finding.{ComesTo, Found, arrivals}
 use Rattle.rtk_convert.specs.Records.{Closed, Follows}
 use Rattle.rtk_convert.specs.Report.{lines, frame_counts}

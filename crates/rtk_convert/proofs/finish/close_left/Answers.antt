@@ -1,4 +1,4 @@
-use Rattle.std.proofs.Common.{◌≡◌, ℕ, ◌<◌, List, [], ◌∷◌, ◌++◌, get_or, sym, ap, ◌∙◌, arith}
+use Rattle.std.proofs.Common.{◌≡◌, ℕ, ◌<◌, [], ◌∷◌, ◌++◌, get_or, sym, ap, ◌∙◌, arith}
 use Rattle.rtk_collect.specs.EpochCells.{EpochCells}
 use Rattle.rtk_rinex.specs.Header.{site_of}
 use Rattle.rtk_convert.proofs.FinishLemmas.{some-more, some-part}

@@ -1,8 +1,7 @@
-use Rattle.std.proofs.Common.{◌≡◌, ℕ, Bool, List, refl, sym, ap, subst, ◌∙◌}
+use Rattle.std.proofs.Common.{ℕ, Bool, List, refl, sym, ap, subst, ◌∙◌}
 use Rattle.rtk_collect.specs.EpochCells.{EpochCells}
 use Rattle.rtk_frame.specs.Stream.{with_more, TakesPart}
 use Rattle.rtk_rinex.specs.Header.{site_of}
-use Rattle.rtk_convert.specs.declared.counts.Counts.{Counts}
 use Rattle.rtk_convert.specs.FilePrefix.{header_before}
 use Rattle.rtk_convert.specs.Finish.{AllAbove, Closes, ClosesInPart, Finishes, FinishesInPart}
 use Rattle.rtk_convert.specs.ReportText.{count_lines}

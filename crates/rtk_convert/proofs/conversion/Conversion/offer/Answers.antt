@@ -3,7 +3,6 @@ use Rattle.rtk_message.specs.Decoded.{number_of}
 use Rattle.rtk_collect.specs.EpochCells.{EpochCells}
 use Rattle.rtk_collect.specs.Arrival.{epoch_of, message_of}
 use Rattle.rtk_frame.specs.Stream.{with_more, TakesPart}
-use Rattle.rtk_convert.specs.LastPhases.{AllBelow}
 use Rattle.rtk_convert.specs.Offering.{closed_by, Takes, TakesInPart}
 use Rattle.rtk_convert.specs.Report.{offer_lines}
 use Rattle.rtk_convert.specs.State.{State, IsAhead}
