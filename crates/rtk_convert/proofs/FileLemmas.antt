@@ -1,12 +1,12 @@
 -- The file so far, from the closed epochs alone, and how it grows.
-use Rattle.std.proofs.Common.{◌≡◌, ◌≢◌, ℕ, zero, suc, ◌+◌, ◌<◌, ◌≤◌, Bool, true, false, List, [], ◌∷◌, ◌++◌, take, drop, Option, None, Some, refl, ap, append_assoc, sym, ◌∙◌, arith}
-use Rattle.std.specs.Prelude.{unwrap_or, is_some, if◌then◌else◌}
+use Rattle.std.proofs.Common.{◌≡◌, ◌≢◌, ℕ, zero, suc, List, [], ◌∷◌, ◌++◌, drop, Option, None, Some, refl, ap, append_assoc, sym, ◌∙◌}
+use Rattle.std.specs.Prelude.{unwrap_or, is_some}
 use Rattle.std.proofs.lemmas.List.{append-nil}
 use Rattle.rtk_obs.specs.declared.code.Code.{Code}
 use Rattle.rtk_collect.specs.EpochCells.{EpochCells}
 use Rattle.rtk_rinex.specs.Header.{Site, header_text}
 use Rattle.rtk_convert.specs.Settings.{Settings}
-use Rattle.rtk_convert.specs.File.{record_of, records, first_or, first_time, header_of, file_of, one_more_if_any, record_count}
+use Rattle.rtk_convert.specs.File.{record_of, records, first_or, first_time, header_of, file_of}
 use Rattle.rtk_convert.specs.FilePrefix.{unless_empty, so_far, with_header, closed_text, header_before, closing_text}
 
 pub records-more : (listed : List Code) (e : EpochCells) (below : List EpochCells) → records listed (e ∷ below) ≡ records listed below ++ record_of listed e below
@@ -44,7 +44,7 @@ unfolding records first_time
 some-records listed [] t h = cc
 some-records listed (e ∷ below) t h = some-step (first_time listed below) e.epoch t (records listed below) (record_of listed e below) (λ u. some-records listed below u) h
 
-first-kept : (o : Option ℕ) (e t : ℕ) (text : List ℕ) → o ≡ Some t → first_or o e text ≡ Some t
+pub first-kept : (o : Option ℕ) (e t : ℕ) (text : List ℕ) → o ≡ Some t → first_or o e text ≡ Some t
 first-kept None e t text h = cc
 first-kept (Some u) e t text h = h
 

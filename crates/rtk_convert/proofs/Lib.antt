@@ -4,3 +4,10 @@ pub mod RowsLemmas
 pub mod FileLemmas
 pub mod TableLemmas
 pub mod RecordsLemmas
+pub mod WritingLemmas
+pub mod SoFarLemmas
+pub mod AnswersLemmas
+pub mod AheadLemmas
+pub mod ArriveLemmas
+pub mod FinishLemmas
+pub mod ArrivalLawsLemmas

@@ -1,12 +1,10 @@
 -- One more cell of an epoch.
-use Rattle.std.proofs.Common.{◌≡◌, ◌≢◌, ℕ, zero, suc, length, set, ◌+◌, ◌*◌, ◌<◌, ◌≤◌, [], ◌∷◌, ◌++◌, List, refl, sym, ap, subst, ◌∙◌, arith, get_or, get_or-set_same, get_or-set_other, Some, None, Option, true, false, Bool, cond, append_assoc}
-use Rattle.std.specs.Prelude.{is_some, IfSome, filter, take}
-use Rattle.std.proofs.lemmas.List.{append-nil}
+use Rattle.std.proofs.Common.{◌≡◌, ◌≢◌, ℕ, length, set, ◌<◌, ◌≤◌, [], ◌∷◌, ◌++◌, List, refl, sym, ap, subst, ◌∙◌, arith, get_or, get_or-set_same, get_or-set_other, Some, None, Option, true, false, Bool, cond}
+use Rattle.std.specs.Prelude.{is_some, IfSome}
 use Rattle.rtk_obs.specs.declared.track.Track.{Track}
 use Rattle.rtk_obs.specs.declared.track.Digits.{Digits}
 use Rattle.rtk_obs.specs.declared.cell.Cell.{Cell}
 use Rattle.rtk_obs.specs.declared.cell.CellEntry.{CellEntry}
-use Rattle.rtk_obs.specs.declared.cell.CellSource.{CellSource}
 use Rattle.rtk_obs.specs.declared.code.Code.{Code}
 use Rattle.rtk_obs.specs.Code.{place_of, band_of}
 use Rattle.rtk_obs.specs.Slip.{epoch_cell, has_phase, EpochCell}
@@ -15,7 +13,7 @@ use Rattle.rtk_obs.specs.Cell.{IsSatellite}
 use Rattle.rtk_obs.specs.Tracks.{IsLater, track_at, place_of_signal}
 use Rattle.rtk_rinex.specs.declared.epoch_table.Observed.{Observed}
 use Rattle.rtk_rinex.specs.Record.{IsStrength}
-use Rattle.rtk_convert.specs.Rows.{is_signal, first_cell, observed_with, observed_after, is_from, and_below}
+use Rattle.rtk_convert.specs.Rows.{is_signal, first_cell, observed_with, observed_after, and_below}
 use Rattle.rtk_convert.specs.LastPhases.{shown_at, track_after, IsThrough, MayShow, AreStrengths}
 use Rattle.rtk_convert.proofs.PlacesLemmas.{by_eq, same_signal, same_test, other_signal, place_inside}
 

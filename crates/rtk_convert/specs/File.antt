@@ -1,6 +1,6 @@
 -- The file of a set of messages, defined from the set at once. A set is seen as the site of its station and its epochs, which
 -- fall: behind an epoch, with its cells, stand the lower ones.
-use Rattle.std.specs.Prelude.{ℕ, zero, suc, List, [], ◌∷◌, ◌++◌, Option, None, Some, unwrap_or}
+use Rattle.std.specs.Prelude.{ℕ, List, [], ◌∷◌, ◌++◌, Option, None, Some, unwrap_or}
 use Rattle.rtk_obs.specs.declared.code.Code.{Code}
 use Rattle.rtk_frame.specs.Stream.{count_after}
 use Rattle.rtk_collect.specs.EpochCells.{EpochCells}

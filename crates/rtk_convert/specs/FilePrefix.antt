@@ -1,9 +1,8 @@
 -- What of a file is out once some of its epochs are closed.
-use Rattle.std.specs.Prelude.{◌≡◌, ℕ, Bool, true, false, List, [], ◌∷◌, ◌++◌, Option, None, Some, is_some, if◌then◌else◌}
+use Rattle.std.specs.Prelude.{ℕ, Bool, true, false, List, [], ◌∷◌, ◌++◌, Option, None, Some}
 use Rattle.rtk_collect.specs.EpochCells.{EpochCells}
 use Rattle.rtk_rinex.specs.Header.{Site, header_text}
-use Rattle.rtk_convert.specs.Rows.{table_of}
-use Rattle.rtk_convert.specs.File.{records, first_time, header_of, record_of}
+use Rattle.rtk_convert.specs.File.{records, first_time, header_of}
 use Rattle.rtk_convert.specs.Settings.{Settings}
 
 -- a text, unless the other one is empty

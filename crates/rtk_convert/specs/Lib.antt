@@ -4,7 +4,15 @@ pub mod Rows
 pub mod LastPhases
 pub mod File
 pub mod FilePrefix
-pub mod ReportText
-pub mod Failure
 pub mod FileLaws
+pub mod Failure
 pub mod Records
+pub mod Writing
+pub mod Finding
+pub mod FileOfArrivals
+pub mod ReportText
+pub mod Report
+pub mod State
+pub mod Offering
+pub mod Finish
+pub mod ArrivalLaws

@@ -33,10 +33,14 @@ late_line link number epoch = message_text link (codes " late ") number epoch ++
 abbrev pub conflict_line : ℕ → ℕ → List ℕ
 conflict_line link number = message_text link (codes " conflict ") number None ++ 10 ∷ []
 
+-- a satellite and a code, as in: G05 1C
+unfoldable pub signal_text : ℕ → Code → List ℕ
+signal_text satellite code = codes " G" ++ last_digits 2 satellite ++ 32 ∷ name_of code
+
 -- a cell that differs from the one before, as in: link 1 conflict 1074 2024-05-17 12:00:00.000 G05 1C
 abbrev pub cell_conflict_line : ℕ → ℕ → ℕ → ℕ → Code → List ℕ
 cell_conflict_line link number epoch satellite code =
-    message_text link (codes " conflict ") number (Some epoch) ++ codes " G" ++ last_digits 2 satellite ++ 32 ∷ name_of code ++ 10 ∷ []
+    message_text link (codes " conflict ") number (Some epoch) ++ signal_text satellite code ++ 10 ∷ []
 
 abbrev pub count_line : List ℕ → ℕ → List ℕ
 count_line name count = name ++ decimal count ++ 10 ∷ []

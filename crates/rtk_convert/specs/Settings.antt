@@ -1,5 +1,5 @@
 -- What a conversion is set up with.
-use Rattle.std.specs.Prelude.{◌≡◌, ℕ, ◌≤◌}
+use Rattle.std.specs.Prelude.{ℕ, ◌≤◌}
 use Rattle.std.specs.Int.{IsInRange}
 use Rattle.rtk_obs.specs.Dating.{IsReference}
 use Rattle.rtk_rinex.specs.Header.{Heading, IsHeading}

@@ -1,7 +1,9 @@
 //! Laws on the file of a set of messages, whatever arrivals the set came from.
 
+ghost use Rattle.rtk_convert.specs.ArrivalLaws.{OneSetHasOneFile, LateLeaveFile, SoFarBegins, HeaderIsFinal, OthersLeaveFile};
 ghost use Rattle.rtk_convert.specs.FileLaws.{FileIsTable};
 
+use rtk_collect::{late_arrivals_change_nothing, set_decides};
 use rtk_rinex::files_are_tables;
 
 /// The file of every set is the text of a well-formed table, so the checker accepts it.
@@ -10,3 +12,20 @@ pub fn file_laws()
 {
     files_are_tables();
 }
+
+/// Where equal keys carry equal bodies, the file depends on the set of messages in time alone; late
+/// messages change nothing, nor do frames that are other, refused or foreign.
+pub fn set_decides_file()
+    ensures same { OneSetHasOneFile }
+    ensures late { LateLeaveFile }
+    ensures others { OthersLeaveFile }
+{
+    set_decides();
+    late_arrivals_change_nothing();
+}
+
+/// What is out only grows, and begins the file of all that arrives later; its header stays.
+pub fn file_only_grows()
+    ensures begins { SoFarBegins }
+    ensures header { HeaderIsFinal }
+{}

@@ -103,3 +103,19 @@ pub(crate) fn put_last_header<O: Sink>(
     };
     put(out, &text)
 }
+
+/// Writes lines to the report.
+pub(crate) fn put_lines<L: Sink>(log: &mut L, lines: &[u8]) -> Result<(), ConvertFault>
+    ensures all { OnOk result (L.taken log.new ≡ with_more (L.taken log.old) lines.now) }
+    ensures part { TakesPart (L.taken log.old) (L.taken log.new) lines.now }
+    ensures same { OnOk result (L.failures log.new ≡ L.failures log.old) }
+    ensures failed { OnErr result (Rises (L.failures log.old) (L.failures log.new)) }
+    ensures fault { IfErr result (λ f. f ≡ ConvertFault.Write Stream.Log) }
+{
+    match write_all(log, lines) {
+        Ok(()) => Ok(()),
+        Err(_) => Err(ConvertFault::Write {
+            stream: Stream::Log,
+        }),
+    }
+}

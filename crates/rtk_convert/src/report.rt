@@ -1,13 +1,17 @@
 //! The lines of a report, as text.
 
-ghost use Rattle.std.specs.Prelude.{◌≡◌, ◌<◌, ◌++◌, [], Some, None, Option, ℕ, decimal, IfOk, OnOk};
+ghost use Rattle.std.specs.Prelude.{◌≡◌, ◌<◌, ◌++◌, [], Some, None, Option, ℕ, decimal, flat_map, IfOk, OnOk};
+ghost use Rattle.rtk_collect.specs.declared.conflicts.SatelliteCode.{SatelliteCode};
 ghost use Rattle.rtk_rinex.specs.Columns.{last_digits};
 ghost use Rattle.rtk_rinex.specs.Reading.{reading_of};
-ghost use Rattle.rtk_convert.specs.ReportText.{civil_text, epoch_text, link_text, message_text, late_line, conflict_line, cell_conflict_line, count_line, count_lines};
+ghost use Rattle.rtk_convert.specs.Report.{fault_text, refused_line, cell_lines, conflict_lines, offer_lines};
+ghost use Rattle.rtk_convert.specs.ReportText.{civil_text, epoch_text, link_text, message_text, signal_text, late_line, conflict_line, cell_conflict_line, count_line, count_lines};
 
 use crate::counts::Counts;
 use itoa::Buffer;
-use rtk_obs::{Civil, Code, GpsMs, civil};
+use rtk_collect::{Offer, SatelliteCode};
+use rtk_message::DecodeFault;
+use rtk_obs::{Civil, GpsMs, civil};
 use std::alloc::{AllocError, Global};
 
 fn put_number(line: &mut Vec<u8>, number: u64) -> Result<(), AllocError>
@@ -16,11 +20,26 @@ fn put_number(line: &mut Vec<u8>, number: u64) -> Result<(), AllocError>
     line.extend_from_slice(Buffer::new().format(number).as_bytes())
 }
 
+// A word and a number.
+fn put_named(line: &mut Vec<u8>, name: &[u8], number: u64) -> Result<(), AllocError>
+    ensures { OnOk result (line.new.items ≡ line.old.items ++ name.now ++ decimal number) }
+{
+    line.extend_from_slice(name)?;
+    put_number(line, number)
+}
+
 // The digits of tens and ones.
 fn two_digits(n: u8) -> [u8; 2]
     ensures { result ≡ last_digits 2 n }
 {
     [b'0' + n / 10 % 10, b'0' + n % 10]
+}
+
+fn three_digits(n: u16) -> [u8; 3]
+    ensures { result ≡ last_digits 3 n }
+{
+    let digit = |n: u16| b'0' + (n % 10) as u8;
+    [digit(n / 10 / 10), digit(n / 10), digit(n)]
 }
 
 fn four_digits(n: u16) -> [u8; 4]
@@ -33,13 +52,6 @@ fn four_digits(n: u16) -> [u8; 4]
         digit(n / 10),
         digit(n),
     ]
-}
-
-fn three_digits(n: u16) -> [u8; 3]
-    ensures { result ≡ last_digits 3 n }
-{
-    let digit = |n: u16| b'0' + (n % 10) as u8;
-    [digit(n / 10 / 10), digit(n / 10), digit(n)]
 }
 
 // A reading, as 2024-05-17 12:00:00.000.
@@ -74,63 +86,135 @@ fn put_epoch(line: &mut Vec<u8>, epoch: Option<GpsMs>) -> Result<(), AllocError>
 }
 
 // The link, what became of the message, its number and its epoch.
-fn message_line(
-    alloc: Global,
+fn put_message(
+    line: &mut Vec<u8>,
     link: u8,
     what: &[u8],
     number: u16,
     epoch: Option<GpsMs>,
-) -> Result<Vec<u8>, AllocError>
-    ensures { IfOk result (λ line. line.items ≡ message_text link what.now number epoch) }
+) -> Result<(), AllocError>
+    ensures { OnOk result (line.new.items ≡ line.old.items ++ message_text link what.now number epoch) }
 {
-    let mut line = Vec::from_slice(alloc, b"link ")?;
-    put_number(&mut line, u64::from(link) + 1)?;
-    line.extend_from_slice(what)?;
-    put_number(&mut line, number.into())?;
+    put_named(line, b"link ", u64::from(link) + 1)?;
+    put_named(line, what, number.into())?;
     line.push(b' ')?;
-    put_epoch(&mut line, epoch)?;
-    Ok(line)
+    put_epoch(line, epoch)?;
+    Ok(())
 }
 
-/// The line of a message that came too late.
-pub(crate) fn late(
+// The satellite and the code of a cell.
+fn put_signal(line: &mut Vec<u8>, cell: SatelliteCode) -> Result<(), AllocError>
+    ensures { OnOk result (line.new.items ≡ line.old.items ++ signal_text cell.satellite cell.code) }
+{
+    line.extend_from_slice(b" G")?;
+    line.extend_from_slice(&two_digits(cell.satellite))?;
+    line.push(b' ')?;
+    line.extend_from_slice(&cell.code.name())?;
+    Ok(())
+}
+
+// The line of a cell that differs from the one before.
+fn put_cell(
+    lines: &mut Vec<u8>,
+    link: u8,
+    number: u16,
+    epoch: GpsMs,
+    cell: SatelliteCode,
+) -> Result<(), AllocError>
+    ensures { OnOk result (lines.new.items ≡ lines.old.items ++ cell_conflict_line link number epoch cell.satellite cell.code) }
+{
+    put_message(lines, link, b" conflict ", number, Some(epoch))?;
+    put_signal(lines, cell)?;
+    lines.push(b'\n')?;
+    Ok(())
+}
+
+// A line for each cell that differs from the one before.
+fn put_cells(
+    lines: &mut Vec<u8>,
+    link: u8,
+    number: u16,
+    epoch: Option<GpsMs>,
+    cells: &[SatelliteCode],
+) -> Result<(), AllocError>
+    ensures { OnOk result (lines.new.items ≡ lines.old.items ++ cell_lines link number epoch cells.now) }
+{
+    let Some(epoch) = epoch else {
+        return Ok(());
+    };
+    for cell in cells {
+        put_cell(lines, link, number, epoch, *cell)?;
+    }
+    Ok(())
+}
+
+// The line of a station message that differs from the one before, or the lines of the cells that do.
+fn put_conflicts(
+    lines: &mut Vec<u8>,
+    link: u8,
+    number: u16,
+    epoch: Option<GpsMs>,
+    cells: &[SatelliteCode],
+) -> Result<(), AllocError>
+    ensures { OnOk result (lines.new.items ≡ lines.old.items ++ conflict_lines link number epoch cells.now) }
+{
+    if epoch.is_some() {
+        return put_cells(lines, link, number, epoch, cells);
+    }
+    put_message(lines, link, b" conflict ", number, None)?;
+    lines.push(b'\n')?;
+    Ok(())
+}
+
+/// The lines of a message with this number and epoch that got this answer. They take memory only
+/// where there is one.
+pub(crate) fn offered(
     alloc: Global,
     link: u8,
     number: u16,
     epoch: Option<GpsMs>,
+    offer: &Offer,
 ) -> Result<Vec<u8>, AllocError>
-    ensures { IfOk result (λ line. line.items ≡ late_line link number epoch) }
+    ensures { IfOk result (λ lines. lines.items ≡ offer_lines link number epoch offer.now) }
 {
-    let mut line = message_line(alloc, link, b" late ", number, epoch)?;
-    line.push(b'\n')?;
-    Ok(line)
+    let mut lines = Vec::new(alloc);
+    match offer {
+        Offer::Late => {
+            put_message(&mut lines, link, b" late ", number, epoch)?;
+            lines.push(b'\n')?;
+        }
+        Offer::Taken { conflicts, .. } => {
+            put_cells(&mut lines, link, number, epoch, conflicts.as_slice())?;
+        }
+        Offer::Conflict { conflicts } => {
+            put_conflicts(&mut lines, link, number, epoch, conflicts.as_slice())?;
+        }
+        Offer::Repeat => {}
+    }
+    Ok(lines)
 }
 
-/// The line of a station message that differs from the one before.
-pub(crate) fn conflict(alloc: Global, link: u8, number: u16) -> Result<Vec<u8>, AllocError>
-    ensures { IfOk result (λ line. line.items ≡ conflict_line link number) }
+// A fault by its number, and the number of the message.
+fn put_fault(line: &mut Vec<u8>, fault: DecodeFault) -> Result<(), AllocError>
+    ensures { OnOk result (line.new.items ≡ line.old.items ++ fault_text fault) }
 {
-    let mut line = message_line(alloc, link, b" conflict ", number, None)?;
-    line.push(b'\n')?;
-    Ok(line)
+    match fault {
+        DecodeFault::NoNumber => line.extend_from_slice(b"M1 -"),
+        DecodeFault::Other { number } => put_named(line, b"M2 ", number.into()),
+        DecodeFault::Short { number } => put_named(line, b"M3 ", number.into()),
+        DecodeFault::EpochRange { number } => put_named(line, b"M4 ", number.into()),
+        DecodeFault::TooManyCells => line.extend_from_slice(b"M5 1074"),
+    }
 }
 
-/// The line of a cell that differs from the one before.
-pub(crate) fn cell_conflict(
-    alloc: Global,
-    link: u8,
-    number: u16,
-    epoch: GpsMs,
-    satellite: u8,
-    code: Code,
-) -> Result<Vec<u8>, AllocError>
-    ensures { IfOk result (λ line. line.items ≡ cell_conflict_line link number epoch satellite code) }
+/// The line of a payload that is refused.
+pub(crate) fn refused(alloc: Global, link: u8, fault: DecodeFault) -> Result<Vec<u8>, AllocError>
+    ensures { IfOk result (λ line. line.items ≡ refused_line link fault) }
 {
-    let mut line = message_line(alloc, link, b" conflict ", number, Some(epoch))?;
-    line.extend_from_slice(b" G")?;
-    line.extend_from_slice(&two_digits(satellite))?;
-    line.push(b' ')?;
-    line.extend_from_slice(&code.name())?;
+    let mut line = Vec::new(alloc);
+    put_named(&mut line, b"link ", u64::from(link) + 1)?;
+    line.extend_from_slice(b" refused ")?;
+    put_fault(&mut line, fault)?;
     line.push(b'\n')?;
     Ok(line)
 }
@@ -138,8 +222,7 @@ pub(crate) fn cell_conflict(
 fn put_count(lines: &mut Vec<u8>, name: &[u8], count: u64) -> Result<(), AllocError>
     ensures { OnOk result (lines.new.items ≡ lines.old.items ++ count_line name.now count) }
 {
-    lines.extend_from_slice(name)?;
-    put_number(lines, count)?;
+    put_named(lines, name, count)?;
     lines.push(b'\n')?;
     Ok(())
 }

@@ -1,9 +1,8 @@
-use Rattle.std.proofs.Common.{◌≡◌, ℕ, ◌+◌, ◌<◌, ◌≤◌, List, [], ◌∷◌, ◌++◌, length, sym, ap, subst, ◌∙◌, arith, true, false}
+use Rattle.std.proofs.Common.{◌+◌, ◌≤◌, [], ◌∷◌, ◌++◌, length, sym, ap, subst, ◌∙◌, arith}
 use Rattle.std.proofs.lemmas.List.{append-nil, length-append}
 use Rattle.std.proofs.lemmas.List.Elements.{All-nil, All-same, All-push, All-weaker}
 use Rattle.rtk_rinex.specs.declared.epoch_table.SatelliteRow.{SatelliteRow}
 use Rattle.rtk_rinex.specs.Record.{Epoch, IsRow}
-use Rattle.rtk_convert.specs.Rows.{row_with, row_if_any, rows_to}
 use Rattle.rtk_convert.specs.LastPhases.{shown_at}
 use Rattle.rtk_convert.proofs.RowsLemmas.{rows_to-zero, rows-step, row-yes, row-no, row-good}
 use Rattle.rtk_convert.proofs.rows.put_rows.Goals as goal

@@ -1,7 +1,6 @@
-use Rattle.std.proofs.Common.{◌≡◌, ℕ, ◌+◌, ◌-◌, ◌*◌, List, ◌∷◌, [], ◌++◌, None, Some, Option, true, false, arith, sym, ap, subst, ◌∙◌}
+use Rattle.std.proofs.Common.{◌≡◌, ℕ, ◌+◌, ◌*◌, ◌∷◌, [], ◌++◌, None, Some, arith, sym, ap, subst, ◌∙◌}
 use Rattle.std.specs.Prelude.{is_some, slice_index_or, slice_set}
 use Rattle.rtk_obs.specs.Tracks.{place_of_signal}
-use Rattle.rtk_rinex.specs.declared.epoch_table.Observed.{Observed}
 use Rattle.rtk_convert.specs.LastPhases.{IsThrough, MayShow}
 use Rattle.rtk_convert.proofs.ThroughLemmas.{through-same, through-more, may-more}
 use Rattle.rtk_convert.proofs.rows.take_entry.Goals as goal

@@ -1,4 +1,4 @@
-use Rattle.std.proofs.Common.{◌≡◌, ℕ, Bool, true, false, List, refl, sym, ap, subst, ◌∙◌}
+use Rattle.std.proofs.Common.{true, List, refl, sym, ap, subst, ◌∙◌}
 use Rattle.rtk_obs.specs.declared.code.Code.{Code}
 use Rattle.rtk_collect.specs.EpochCells.{EpochCells}
 use Rattle.rtk_rinex.specs.Header.{Heading}

@@ -1,0 +1,99 @@
+-- The report of a list of found frames, newest first: a line for each that is refused, late or in conflict, and counts.
+use Rattle.std.specs.Prelude.{ℕ, List, [], ◌∷◌, ◌++◌, flat_map, codes, decimal, Option, None, Some}
+use Rattle.rtk_frame.specs.Stream.{count_after}
+use Rattle.rtk_message.specs.declared.fault.DecodeFault.{DecodeFault}
+use Rattle.rtk_message.specs.declared.fault.DecodeFault.TheVariants.{NoNumber, Other, Short, EpochRange, TooManyCells}
+use Rattle.rtk_message.specs.Decoded.{number_of}
+use Rattle.rtk_collect.specs.declared.conflicts.SatelliteCode.{SatelliteCode}
+use Rattle.rtk_collect.specs.declared.offers.Offer.{Offer}
+use Rattle.rtk_collect.specs.declared.offers.Offer.TheVariants.{Taken, Conflict, Repeat, Late}
+use Rattle.rtk_collect.specs.Arrival.{Arrival, epoch_of, message_of}
+use Rattle.rtk_collect.specs.Answer.{Class, LateClass, TakenClass, RepeatClass, ConflictClass, class_of, conflicts_of}
+use Rattle.rtk_convert.specs.Finding.{Found, arrivals}
+use Rattle.rtk_convert.specs.declared.arrival.Finding.{Finding}
+use Rattle.rtk_convert.specs.declared.arrival.Finding.TheVariants.{OtherMessage, Refused, Foreign, Arrived}
+use Rattle.rtk_convert.specs.ReportText.{link_text, late_line, conflict_line, cell_conflict_line}
+use Rattle.rtk_convert.specs.declared.counts.Counts.{Counts}
+
+-- ---- lines
+
+-- the fault of a refused payload, by its number, and the number of the message
+abbrev pub fault_text : DecodeFault → List ℕ
+fault_text NoNumber = codes "M1 -"
+fault_text (Other number) = codes "M2 " ++ decimal number
+fault_text (Short number) = codes "M3 " ++ decimal number
+fault_text (EpochRange number) = codes "M4 " ++ decimal number
+fault_text TooManyCells = codes "M5 1074"
+
+-- as in: link 1 refused M3 1005
+abbrev pub refused_line : ℕ → DecodeFault → List ℕ
+refused_line link fault = link_text link ++ codes " refused " ++ fault_text fault ++ 10 ∷ []
+
+-- a line for each cell that conflicts, in the order of the message
+abbrev pub cell_lines : ℕ → ℕ → Option ℕ → List SatelliteCode → List ℕ
+cell_lines link number None cells = []
+cell_lines link number (Some e) cells = flat_map (λ c. cell_conflict_line link number e c.satellite c.code) cells
+
+-- the lines of a message of which nothing was new, and something conflicts
+abbrev pub conflict_lines : ℕ → ℕ → Option ℕ → List SatelliteCode → List ℕ
+conflict_lines link number None cells = conflict_line link number
+conflict_lines link number (Some e) cells = cell_lines link number (Some e) cells
+
+-- the lines of a message of a class, by its number and epoch and the cells of it that conflict
+abbrev pub class_lines : ℕ → ℕ → Option ℕ → Class → List SatelliteCode → List ℕ
+class_lines link number epoch LateClass cells = late_line link number epoch
+class_lines link number epoch TakenClass cells = cell_lines link number epoch cells
+class_lines link number epoch RepeatClass cells = []
+class_lines link number epoch ConflictClass cells = conflict_lines link number epoch cells
+
+-- the lines of a message with this answer
+abbrev pub offer_lines : ℕ → ℕ → Option ℕ → Offer → List ℕ
+offer_lines link number epoch Late = late_line link number epoch
+offer_lines link number epoch (Taken closing cells) = cell_lines link number epoch cells
+offer_lines link number epoch Repeat = []
+offer_lines link number epoch (Conflict cells) = conflict_lines link number epoch cells
+
+-- the lines of a found frame, after the arrivals before it, in a window of n epochs
+abbrev pub frame_lines : ℕ → ℕ → Finding → List Arrival → List ℕ
+frame_lines n link OtherMessage before = []
+frame_lines n link (Refused fault) before = refused_line link fault
+frame_lines n link Foreign before = []
+frame_lines n link (Arrived a) before = class_lines link (number_of (message_of a)) (epoch_of a) (class_of n a before) (conflicts_of n a before)
+
+-- the lines of all found frames, in order
+abbrev pub lines : ℕ → List Found → List ℕ
+lines n [] = []
+lines n (f ∷ before) = lines n before ++ frame_lines n f.link f.finding (arrivals before)
+
+-- ---- counts, each of which stays at its greatest value
+
+abbrev pub no_counts : Counts
+no_counts = record { frames = 0; other = 0; refused = 0; foreign = 0; taken = 0; repeat = 0; conflict = 0; late = 0; epochs = 0 }
+
+abbrev pub counted_as : Class → Counts → Counts
+counted_as LateClass c = record c { late = count_after c.late }
+counted_as TakenClass c = record c { taken = count_after c.taken }
+counted_as RepeatClass c = record c { repeat = count_after c.repeat }
+counted_as ConflictClass c = record c { conflict = count_after c.conflict }
+
+-- an arrival with this answer
+abbrev pub counted_offer : Offer → Counts → Counts
+counted_offer Late c = counted_as LateClass c
+counted_offer (Taken closing cells) c = counted_as TakenClass c
+counted_offer (Conflict cells) c = counted_as ConflictClass c
+counted_offer Repeat c = counted_as RepeatClass c
+
+-- each frame is in exactly one of the seven counts
+abbrev pub counted : ℕ → Finding → List Arrival → Counts → Counts
+counted n OtherMessage before c = record c { other = count_after c.other }
+counted n (Refused fault) before c = record c { refused = count_after c.refused }
+counted n Foreign before c = record c { foreign = count_after c.foreign }
+counted n (Arrived a) before c = counted_as (class_of n a before) c
+
+abbrev pub one_frame_more : Counts → Counts
+one_frame_more c = record c { frames = count_after c.frames }
+
+-- the counts of frames
+abbrev pub frame_counts : ℕ → List Found → Counts
+frame_counts n [] = no_counts
+frame_counts n (f ∷ before) = counted n f.finding (arrivals before) (one_frame_more (frame_counts n before))

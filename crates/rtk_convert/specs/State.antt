@@ -1,0 +1,72 @@
+-- What a conversion represents: a list of found frames.
+use Rattle.std.specs.Prelude.{◌≡◌, ◌<◌, ℕ, Bool, false, List, ◌∷◌, length, Option, None, Some, All}
+use Rattle.rtk_obs.specs.declared.code.Code.{Code}
+use Rattle.rtk_obs.specs.declared.track.Track.{Track}
+use Rattle.rtk_obs.specs.Cell.{IsSatellite}
+use Rattle.rtk_obs.specs.Tracks.{track_at}
+use Rattle.rtk_collect.specs.Accepted.{closed}
+use Rattle.rtk_collect.specs.Collector.{Window, Represents as HoldsKept}
+use Rattle.rtk_convert.specs.declared.arrival.Finding.{Finding}
+use Rattle.rtk_convert.specs.declared.counts.Counts.{Counts}
+use Rattle.rtk_convert.specs.FileOfArrivals.{file_so_far}
+use Rattle.rtk_convert.specs.Finding.{ComesTo, Found, arrivals}
+use Rattle.rtk_convert.specs.Records.{Closed, Follows}
+use Rattle.rtk_convert.specs.Report.{lines, frame_counts}
+use Rattle.rtk_convert.specs.Settings.{Settings}
+use Rattle.rtk_convert.specs.Writing.{Writes, WritesPart}
+
+pub record State : Type 0 where
+  pub settings : Settings
+  -- the open epochs and the station messages
+  pub window : Window
+  -- what is known of the closed epochs
+  pub closed : Closed
+  -- the counts of frames
+  pub counts : Counts
+  -- a call broke off
+  pub stopped : Bool
+
+-- a conversion represents these found frames: its window holds what is kept of their arrivals, and it has the last
+-- phases of the closed epochs, whether the header is out, how many records are, and the counts of the frames
+pub record Represents (s : State) (found : List Found) : Type 0 where
+  pub window : HoldsKept s.window (arrivals found)
+  pub closed : Follows s.closed s.settings.heading.listed (closed s.settings.window (arrivals found))
+  pub counts : s.counts ≡ frame_counts s.settings.window found
+
+-- of a satellite and code: it has a last phase only once the window is full, and then one below all of its epochs
+abbrev pub IsUnder : Option Track → Window → Type 0
+IsUnder None w = Unit {0}
+IsUnder (Some t) w = (length w.sets ≡ w.size) × All (λ x. t.epoch < x.epoch) w.sets
+
+-- all last phases are below the window
+abbrev pub IsAhead : Window → Closed → Type 0
+IsAhead w c = (satellite : ℕ) (code : Code) → IsSatellite satellite → IsUnder (track_at c.tracks satellite code) w
+
+-- the window has the places that were set up, and unless a call broke off it is ahead of the last phases
+pub record IsState (s : State) : Type 0 where
+  pub places : s.window.size ≡ s.settings.window
+  pub ahead : s.stopped ≡ false → IsAhead s.window s.closed
+
+abbrev pub found_on : ℕ → Finding → Found
+found_on link f = record { link = link; finding = f }
+
+-- a frame with this finding arrives on a link after those before: the conversion then represents the frames with this
+-- one, and what was written is what the file so far and the lines have past those before
+pub record ArrivesAs (old : State) (link : ℕ) (f : Finding) (before : List Found) (new : State) (out_old out_new log_old log_new : Option (List ℕ)) : Type 0 where
+  pub represents : Represents new (found_on link f ∷ before)
+  pub out : Writes out_old out_new (file_so_far old.settings (arrivals before)) (file_so_far old.settings (arrivals (found_on link f ∷ before)))
+  pub log : Writes log_old log_new (lines old.settings.window before) (lines old.settings.window (found_on link f ∷ before))
+
+-- the call breaks off: what was written is a first part of that
+pub record BreaksOffAs (old : State) (link : ℕ) (f : Finding) (before : List Found) (out_old out_new log_old log_new : Option (List ℕ)) : Type 0 where
+  pub out : WritesPart out_old out_new (file_so_far old.settings (arrivals before)) (file_so_far old.settings (arrivals (found_on link f ∷ before)))
+  pub log : WritesPart log_old log_new (lines old.settings.window before) (lines old.settings.window (found_on link f ∷ before))
+
+-- whatever was found before
+abbrev pub Arrives : State → ℕ → List ℕ → State → Option (List ℕ) → Option (List ℕ) → Option (List ℕ) → Option (List ℕ) → Type 0
+Arrives old link payload new out_old out_new log_old log_new = (before : List Found) → Represents old before
+    → (f : Finding) × ComesTo old.settings payload f × ArrivesAs old link f before new out_old out_new log_old log_new
+
+abbrev pub BreaksOff : State → ℕ → List ℕ → Option (List ℕ) → Option (List ℕ) → Option (List ℕ) → Option (List ℕ) → Type 0
+BreaksOff old link payload out_old out_new log_old log_new = (before : List Found) → Represents old before
+    → (f : Finding) × ComesTo old.settings payload f × BreaksOffAs old link f before out_old out_new log_old log_new

@@ -1,0 +1,250 @@
+//! What all links together have come to: one found frame at a time.
+
+ghost use Rattle.std.specs.Prelude.{◌≡◌, ◌↔◌, [], true, false, List, Err, OnOk, OnErr, IsErrOf, IfOk, IfErr};
+ghost use Rattle.rtk_frame.specs.Stream.{Rises};
+ghost use Rattle.rtk_convert.specs.Failure.{IsFrameFault};
+ghost use Rattle.rtk_convert.specs.Finish.{Finishes, FinishesInPart};
+ghost use Rattle.rtk_convert.specs.Offering.{Takes, TakesInPart, closed_by};
+ghost use Rattle.rtk_convert.specs.Report.{counted_offer};
+ghost use Rattle.rtk_convert.specs.State.{Represents, IsAhead, Arrives, BreaksOff};
+
+use crate::arrival::{Finding, find};
+use crate::counts::Counts;
+use crate::fault::{ConvertFault, Stream};
+use crate::finish::close_left;
+use crate::output::{put_last_header, put_lines};
+use crate::records::Records;
+use crate::report;
+use crate::setup::Setup;
+use rtk_collect::{Collector, Dated, EpochSet, Offer};
+use rtk_frame::Sink;
+use std::alloc::Global;
+use std::marker::Model;
+
+/// What all links together have come to: the open epochs and the station messages, the last phases
+/// of the closed epochs, whether the header is out, and the counts.
+///
+/// A call that breaks off stops it: each later call answers V8.
+#[derive(Drop)]
+pub(crate) struct Conversion {
+    alloc: Global,
+    setup: Setup,
+    collector: Collector,
+    records: Records,
+    counts: Counts,
+    stopped: bool,
+}
+
+impl Model for Conversion {
+    ghost use Rattle.rtk_convert.specs.State.{State, IsState};
+
+    ghost Value = { State };
+
+    ghost view = { λ c. record { settings = c.setup; window = c.collector; closed = c.records; counts = c.counts; stopped = c.stopped } };
+
+    ghost invariant = { λ c. IsState (record { settings = c.setup; window = c.collector; closed = c.records; counts = c.counts; stopped = c.stopped }) };
+}
+
+impl Conversion {
+    /// Nothing was found yet. It takes no memory.
+    pub(crate) fn new(alloc: Global, setup: Setup) -> Conversion
+        ensures represents { Represents result [] }
+        ensures settings { result.settings ≡ setup }
+        ensures going { result.stopped ≡ false }
+    {
+        let collector = Collector::new(alloc, setup.window());
+        let records = Records::new(setup.near());
+        Conversion {
+            alloc,
+            setup,
+            collector,
+            records,
+            counts: Counts {
+                frames: 0,
+                other: 0,
+                refused: 0,
+                foreign: 0,
+                taken: 0,
+                repeat: 0,
+                conflict: 0,
+                late: 0,
+                epochs: 0,
+            },
+            stopped: false,
+        }
+    }
+
+    /// Takes the payload of a frame that was found on a link, counted from 0: writes the record of
+    /// the epoch that it closes to `out`, and its lines to `log`.
+    pub(crate) fn arrive<O: Sink, L: Sink>(
+        &mut self,
+        link: u8,
+        payload: &[u8],
+        out: &mut O,
+        log: &mut L,
+    ) -> Result<(), ConvertFault>
+        ensures settings { self.new.settings ≡ self.old.settings }
+        ensures stopped { (result ≡ Err ConvertFault.Stopped) ↔ (self.old.stopped ≡ true) }
+        ensures going { OnOk result (self.new.stopped ≡ false) }
+        ensures halts { OnErr result (self.new.stopped ≡ true) }
+        ensures ok { OnOk result (Arrives self.old link payload.now self.new (O.taken out.old) (O.taken out.new) (L.taken log.old) (L.taken log.new)) }
+        ensures err { OnErr result (self.old.stopped ≡ false → BreaksOff self.old link payload.now (O.taken out.old) (O.taken out.new) (L.taken log.old) (L.taken log.new)) }
+        ensures out_failed { IsErrOf result (ConvertFault.Write Stream.Out) → Rises (O.failures out.old) (O.failures out.new) }
+        ensures log_failed { IsErrOf result (ConvertFault.Write Stream.Log) → Rises (L.failures log.old) (L.failures log.new) }
+    {
+        if self.stopped {
+            return Err(ConvertFault::Stopped);
+        }
+        self.stopped = true;
+        match self.take(link, payload, out, log) {
+            Ok(()) => {
+                self.stopped = false;
+                Ok(())
+            }
+            Err(fault) => Err(fault),
+        }
+    }
+
+    // Takes the payload of a frame. Whether it has stopped is left as it is.
+    fn take<O: Sink, L: Sink>(
+        &mut self,
+        link: u8,
+        payload: &[u8],
+        out: &mut O,
+        log: &mut L,
+    ) -> Result<(), ConvertFault>
+        requires stopped { self.old.stopped ≡ true }
+        requires ahead { IsAhead self.old.window self.old.closed }
+        ensures settings { self.new.settings ≡ self.old.settings }
+        ensures stopped { self.new.stopped ≡ true }
+        ensures ahead { OnOk result (IsAhead self.new.window self.new.closed) }
+        ensures ok { OnOk result (Arrives self.old link payload.now self.new (O.taken out.old) (O.taken out.new) (L.taken log.old) (L.taken log.new)) }
+        ensures err { OnErr result (BreaksOff self.old link payload.now (O.taken out.old) (O.taken out.new) (L.taken log.old) (L.taken log.new)) }
+        ensures fault { IfErr result IsFrameFault }
+        ensures out_failed { IsErrOf result (ConvertFault.Write Stream.Out) → Rises (O.failures out.old) (O.failures out.new) }
+        ensures log_failed { IsErrOf result (ConvertFault.Write Stream.Log) → Rises (L.failures log.old) (L.failures log.new) }
+    {
+        self.counts.frames = self.counts.frames.saturating_add(1);
+        match find(&self.setup, payload) {
+            Finding::OtherMessage => {
+                self.counts.other = self.counts.other.saturating_add(1);
+                Ok(())
+            }
+            Finding::Foreign => {
+                self.counts.foreign = self.counts.foreign.saturating_add(1);
+                Ok(())
+            }
+            Finding::Refused(fault) => {
+                self.counts.refused = self.counts.refused.saturating_add(1);
+                let Ok(line) = report::refused(self.alloc, link, fault) else {
+                    return Err(ConvertFault::OutOfMemory);
+                };
+                put_lines(log, &line)
+            }
+            Finding::Arrived(dated) => self.offer(link, dated, out, log),
+        }
+    }
+
+    // Offers a message to the window.
+    fn offer<O: Sink, L: Sink>(
+        &mut self,
+        link: u8,
+        dated: Dated,
+        out: &mut O,
+        log: &mut L,
+    ) -> Result<(), ConvertFault>
+        requires stopped { self.old.stopped ≡ true }
+        requires ahead { IsAhead self.old.window self.old.closed }
+        ensures settings { self.new.settings ≡ self.old.settings }
+        ensures stopped { self.new.stopped ≡ true }
+        ensures ahead { OnOk result (IsAhead self.new.window self.new.closed) }
+        ensures ok { OnOk result (Takes self.old link dated self.new (O.taken out.old) (O.taken out.new) (L.taken log.old) (L.taken log.new)) }
+        ensures err { OnErr result (TakesInPart self.old link dated (O.taken out.old) (O.taken out.new) (L.taken log.old) (L.taken log.new)) }
+        ensures fault { IfErr result IsFrameFault }
+        ensures out_failed { IsErrOf result (ConvertFault.Write Stream.Out) → Rises (O.failures out.old) (O.failures out.new) }
+        ensures log_failed { IsErrOf result (ConvertFault.Write Stream.Log) → Rises (L.failures log.old) (L.failures log.new) }
+    {
+        let number = dated.message().number();
+        let epoch = dated.epoch();
+        let Ok(offer) = self.collector.offer(dated) else {
+            return Err(ConvertFault::OutOfMemory);
+        };
+        let Ok(lines) = report::offered(self.alloc, link, number, epoch, &offer) else {
+            return Err(ConvertFault::OutOfMemory);
+        };
+        count(&mut self.counts, &offer);
+        let Some(set) = closed_by(offer) else {
+            return put_lines(log, &lines);
+        };
+        let position = self.collector.station();
+        let (epoch, cells) = (set.epoch(), set.cells());
+        match self
+            .records
+            .close(self.alloc, &self.setup, &position, epoch, cells, out)
+        {
+            Ok(()) => put_lines(log, &lines),
+            Err(fault) => Err(fault),
+        }
+    }
+}
+
+impl Conversion {
+    /// Ends the conversion: writes the records of the epochs that are open, rising, and the header
+    /// if it is not out, to `out`, and the counts to `log`.
+    pub(crate) fn finish<O: Sink, L: Sink>(
+        self,
+        out: &mut O,
+        log: &mut L,
+    ) -> Result<Counts, ConvertFault>
+        ensures stopped { (result ≡ Err ConvertFault.Stopped) ↔ (self.stopped ≡ true) }
+        ensures ok { IfOk result (λ counts. Finishes self counts (O.taken out.old) (O.taken out.new) (L.taken log.old) (L.taken log.new)) }
+        ensures err { OnErr result (self.stopped ≡ false → FinishesInPart self (O.taken out.old) (O.taken out.new) (L.taken log.old) (L.taken log.new)) }
+        ensures out_failed { IsErrOf result (ConvertFault.Write Stream.Out) → Rises (O.failures out.old) (O.failures out.new) }
+        ensures log_failed { IsErrOf result (ConvertFault.Write Stream.Log) → Rises (L.failures log.old) (L.failures log.new) }
+    {
+        if self.stopped {
+            return Err(ConvertFault::Stopped);
+        }
+        let (alloc, setup) = (self.alloc, self.setup);
+        let position = self.collector.station();
+        let mut records = self.records;
+        let mut left = self.collector.close();
+        if let Err(fault) = close_left(alloc, &setup, &position, &mut records, &mut left, out) {
+            return Err(fault);
+        }
+        if let Err(fault) = put_last_header(alloc, &setup, &position, records.header_out(), out) {
+            return Err(fault);
+        }
+        let mut counts = self.counts;
+        counts.epochs = records.count();
+        let Ok(lines) = report::counts(alloc, &counts) else {
+            return Err(ConvertFault::OutOfMemory);
+        };
+        match put_lines(log, &lines) {
+            Ok(()) => Ok(counts),
+            Err(fault) => Err(fault),
+        }
+    }
+}
+
+// The epoch that is closed by a message with this answer.
+fn closed_by(offer: Offer) -> Option<EpochSet>
+    ensures { result ≡ closed_by offer }
+{
+    match offer {
+        Offer::Taken { closed, .. } => closed,
+        _ => None,
+    }
+}
+
+// Counts a message with this answer.
+fn count(counts: &mut Counts, offer: &Offer)
+    ensures { counts.new ≡ counted_offer offer.now counts.old }
+{
+    match offer {
+        Offer::Late => counts.late = counts.late.saturating_add(1),
+        Offer::Taken { .. } => counts.taken = counts.taken.saturating_add(1),
+        Offer::Repeat => counts.repeat = counts.repeat.saturating_add(1),
+        Offer::Conflict { .. } => counts.conflict = counts.conflict.saturating_add(1),
+    }
+}

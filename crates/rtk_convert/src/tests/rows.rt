@@ -1,0 +1,368 @@
+//! Lists of payloads, with the file and the report that each comes to.
+
+use super::payloads::*;
+use super::texts::*;
+
+/// The file and the report that payloads on link 0 come to, with a window of two epochs.
+pub(crate) struct Row {
+    pub(crate) payloads: &'static [&'static [u8]],
+    pub(crate) file: &'static [&'static str],
+    pub(crate) report: &'static str,
+}
+
+/// Positions, cells and closed epochs.
+pub(crate) const EPOCHS: [Row; 8] = [
+    // The example: a position and an epoch.
+    Row {
+        payloads: &[P, Q],
+        file: &[TOP, SITE, TYPES, FIRST_AT_NOON, END, AT_NOON, Q_LINE],
+        report: "frames 2\nother 0\nrefused 0\nforeign 0\ntaken 2\nrepeat 0\nconflict 0\nlate 0\nepochs 1\n",
+    },
+    // Nothing was found.
+    Row {
+        payloads: &[],
+        file: &[TOP, NO_SITE, TYPES, FIRST_AT_NOON, END],
+        report: "frames 0\nother 0\nrefused 0\nforeign 0\ntaken 0\nrepeat 0\nconflict 0\nlate 0\nepochs 0\n",
+    },
+    // A 1006 gives the height too.
+    Row {
+        payloads: &[P_WITH_HEIGHT, Q],
+        file: &[
+            TOP,
+            SITE_WITH_HEIGHT,
+            TYPES,
+            FIRST_AT_NOON,
+            END,
+            AT_NOON,
+            Q_LINE,
+        ],
+        report: "frames 2\nother 0\nrefused 0\nforeign 0\ntaken 2\nrepeat 0\nconflict 0\nlate 0\nepochs 1\n",
+    },
+    // A 1006 is preferred to a 1005 before it.
+    Row {
+        payloads: &[P, P_WITH_HEIGHT],
+        file: &[TOP, SITE_WITH_HEIGHT, TYPES, FIRST_AT_NOON, END],
+        report: "frames 2\nother 0\nrefused 0\nforeign 0\ntaken 2\nrepeat 0\nconflict 0\nlate 0\nepochs 0\n",
+    },
+    // The cell of a 1074 stands before that of a 1004; satellite 40 is not written.
+    Row {
+        payloads: &[SATELLITES_5_AND_40, SATELLITES_5_AND_40, MSM_5, MSM_5],
+        file: &[
+            TOP,
+            NO_SITE,
+            TYPES,
+            FIRST_AT_NOON,
+            END,
+            AT_NOON,
+            MERGED_LINE,
+        ],
+        report: "frames 4\nother 0\nrefused 0\nforeign 0\ntaken 2\nrepeat 2\nconflict 0\nlate 0\nepochs 1\n",
+    },
+    // In either order.
+    Row {
+        payloads: &[MSM_5, MSM_5, SATELLITES_5_AND_40, SATELLITES_5_AND_40],
+        file: &[
+            TOP,
+            NO_SITE,
+            TYPES,
+            FIRST_AT_NOON,
+            END,
+            AT_NOON,
+            MERGED_LINE,
+        ],
+        report: "frames 4\nother 0\nrefused 0\nforeign 0\ntaken 2\nrepeat 2\nconflict 0\nlate 0\nepochs 1\n",
+    },
+    // Also where it has no value.
+    Row {
+        payloads: &[Q, MSM_5_INVALID],
+        file: &[
+            TOP,
+            NO_SITE,
+            TYPES,
+            FIRST_AT_NOON,
+            END,
+            AT_NOON,
+            "G05                                                  21085474.060 5  86341483.283 5        35.000\n",
+        ],
+        report: "frames 2\nother 0\nrefused 0\nforeign 0\ntaken 2\nrepeat 0\nconflict 0\nlate 0\nepochs 1\n",
+    },
+    // An epoch that is closed takes no more.
+    Row {
+        payloads: &[Q, Q_1, Q_2, Q],
+        file: &[
+            TOP,
+            NO_SITE,
+            TYPES,
+            FIRST_AT_NOON,
+            END,
+            AT_NOON,
+            Q_LINE,
+            AFTER_1_S,
+            Q_LINE,
+            AFTER_2_S,
+            Q_LINE,
+        ],
+        report: "link 1 late 1004 2024-05-17 12:00:00.000\nframes 4\nother 0\nrefused 0\nforeign 0\ntaken 3\nrepeat 0\nconflict 0\nlate 1\nepochs 3\n",
+    },
+];
+
+/// Late, refused and other messages.
+pub(crate) const REPORTS: [Row; 6] = [
+    // A station message after two epochs is late.
+    Row {
+        payloads: &[Q, Q_1, P],
+        file: &[
+            TOP,
+            NO_SITE,
+            TYPES,
+            FIRST_AT_NOON,
+            END,
+            AT_NOON,
+            Q_LINE,
+            AFTER_1_S,
+            Q_LINE,
+        ],
+        report: "link 1 late 1005 -\nframes 3\nother 0\nrefused 0\nforeign 0\ntaken 2\nrepeat 0\nconflict 0\nlate 1\nepochs 2\n",
+    },
+    // But for a repeat.
+    Row {
+        payloads: &[Q, P, Q_1, P, P_OF_ANOTHER_YEAR],
+        file: &[
+            TOP,
+            SITE,
+            TYPES,
+            FIRST_AT_NOON,
+            END,
+            AT_NOON,
+            Q_LINE,
+            AFTER_1_S,
+            Q_LINE,
+        ],
+        report: "link 1 late 1005 -\nframes 5\nother 0\nrefused 0\nforeign 0\ntaken 3\nrepeat 1\nconflict 0\nlate 1\nepochs 2\n",
+    },
+    // The first station message stays.
+    Row {
+        payloads: &[P, P_OF_ANOTHER_YEAR],
+        file: &[TOP, SITE, TYPES, FIRST_AT_NOON, END],
+        report: "link 1 conflict 1005 -\nframes 2\nother 0\nrefused 0\nforeign 0\ntaken 1\nrepeat 0\nconflict 1\nlate 0\nepochs 0\n",
+    },
+    // Other messages and other stations are counted.
+    Row {
+        payloads: &[OTHER_NUMBER, P_OF_STATION_7],
+        file: &[TOP, NO_SITE, TYPES, FIRST_AT_NOON, END],
+        report: "frames 2\nother 1\nrefused 0\nforeign 1\ntaken 0\nrepeat 0\nconflict 0\nlate 0\nepochs 0\n",
+    },
+    // Refused payloads are listed with their fault.
+    Row {
+        payloads: &[TOO_MANY_CELLS, OUTSIDE_THE_WEEK, ONE_BYTE],
+        file: &[TOP, NO_SITE, TYPES, FIRST_AT_NOON, END],
+        report: "link 1 refused M5 1074\nlink 1 refused M4 1004\nlink 1 refused M1 -\nframes 3\nother 0\nrefused 3\nforeign 0\ntaken 0\nrepeat 0\nconflict 0\nlate 0\nepochs 0\n",
+    },
+    // Epochs far ahead of the others make these late.
+    Row {
+        payloads: &[Q_LATER_WEEK, Q_LATER_WEEK_1, Q],
+        file: &[
+            TOP,
+            NO_SITE,
+            TYPES,
+            FIRST_LATER,
+            END,
+            "> 2024 05 20 03 46 40.0000000  0  1\n",
+            Q_LINE,
+            "> 2024 05 20 03 46 41.0000000  0  1\n",
+            Q_LINE,
+        ],
+        report: "link 1 late 1004 2024-05-17 12:00:00.000\nframes 3\nother 0\nrefused 0\nforeign 0\ntaken 2\nrepeat 0\nconflict 0\nlate 1\nepochs 2\n",
+    },
+];
+
+/// Conflicts and split epochs.
+pub(crate) const PARTS: [Row; 7] = [
+    // A cell that differs is in conflict, and the first stays.
+    Row {
+        payloads: &[P, Q, Q_STRONGER],
+        file: &[TOP, SITE, TYPES, FIRST_AT_NOON, END, AT_NOON, Q_LINE],
+        report: "link 1 conflict 1004 2024-05-17 12:00:00.000 G05 1C\nframes 3\nother 0\nrefused 0\nforeign 0\ntaken 2\nrepeat 0\nconflict 1\nlate 0\nepochs 1\n",
+    },
+    // Header fields do not matter.
+    Row {
+        payloads: &[P, Q, Q_SMOOTHED],
+        file: &[TOP, SITE, TYPES, FIRST_AT_NOON, END, AT_NOON, Q_LINE],
+        report: "frames 3\nother 0\nrefused 0\nforeign 0\ntaken 2\nrepeat 1\nconflict 0\nlate 0\nepochs 1\n",
+    },
+    // An epoch may come in two parts.
+    Row {
+        payloads: &[MSM_5, MSM_7],
+        file: &[
+            TOP,
+            NO_SITE,
+            TYPES,
+            FIRST_AT_NOON,
+            END,
+            "> 2024 05 17 12 00  0.0000000  0  2\n",
+            MSM_LINE,
+            "G07  21135368.289   111067110.000\n",
+        ],
+        report: "frames 2\nother 0\nrefused 0\nforeign 0\ntaken 2\nrepeat 0\nconflict 0\nlate 0\nepochs 1\n",
+    },
+    // In either order.
+    Row {
+        payloads: &[MSM_7, MSM_5],
+        file: &[
+            TOP,
+            NO_SITE,
+            TYPES,
+            FIRST_AT_NOON,
+            END,
+            "> 2024 05 17 12 00  0.0000000  0  2\n",
+            MSM_LINE,
+            "G07  21135368.289   111067110.000\n",
+        ],
+        report: "frames 2\nother 0\nrefused 0\nforeign 0\ntaken 2\nrepeat 0\nconflict 0\nlate 0\nepochs 1\n",
+    },
+    // A message that is taken may have cells in conflict.
+    Row {
+        payloads: &[MSM_5, MSM_5_AND_7],
+        file: &[
+            TOP,
+            NO_SITE,
+            TYPES,
+            FIRST_AT_NOON,
+            END,
+            "> 2024 05 17 12 00  0.0000000  0  2\n",
+            MSM_LINE,
+            "G07  21135368.289   111067110.000\n",
+        ],
+        report: "link 1 conflict 1074 2024-05-17 12:00:00.000 G05 1C\nframes 2\nother 0\nrefused 0\nforeign 0\ntaken 2\nrepeat 0\nconflict 0\nlate 0\nepochs 1\n",
+    },
+    // A message without cells opens its epoch, which has no record.
+    Row {
+        payloads: &[MSM_EMPTY, MSM_EMPTY, Q_1, Q_2, MSM_5],
+        file: &[
+            TOP,
+            NO_SITE,
+            TYPES,
+            FIRST_AFTER_NOON,
+            END,
+            AFTER_1_S,
+            Q_LINE,
+            AFTER_2_S,
+            Q_LINE,
+        ],
+        report: "link 1 late 1074 2024-05-17 12:00:00.000\nframes 5\nother 0\nrefused 0\nforeign 0\ntaken 3\nrepeat 1\nconflict 0\nlate 1\nepochs 2\n",
+    },
+    // The first time is that of the first record.
+    Row {
+        payloads: &[SATELLITE_40, Q_1, Q_2, Q_3],
+        file: &[
+            TOP,
+            NO_SITE,
+            TYPES,
+            FIRST_AFTER_NOON,
+            END,
+            AFTER_1_S,
+            Q_LINE,
+            AFTER_2_S,
+            Q_LINE,
+            "> 2024 05 17 12 00  3.0000000  0  1\n",
+            Q_LINE,
+        ],
+        report: "frames 4\nother 0\nrefused 0\nforeign 0\ntaken 4\nrepeat 0\nconflict 0\nlate 0\nepochs 3\n",
+    },
+];
+
+/// Rolls and losses of lock.
+pub(crate) const PHASES: [Row; 5] = [
+    // A phase that rolled over by 1500 cycles is rolled back.
+    Row {
+        payloads: &[ROLLED, ROLLED_BACK],
+        file: &[
+            TOP,
+            NO_SITE,
+            TYPES,
+            FIRST_AT_NOON,
+            END,
+            AT_NOON,
+            ROLLED_LINE,
+            AFTER_1_S,
+            ROLLED_LINE,
+        ],
+        report: "frames 2\nother 0\nrefused 0\nforeign 0\ntaken 2\nrepeat 0\nconflict 0\nlate 0\nepochs 2\n",
+    },
+    // But not after a loss of lock, which has its digit.
+    Row {
+        payloads: &[ROLLED, ROLLED_UNLOCKED],
+        file: &[
+            TOP,
+            NO_SITE,
+            TYPES,
+            FIRST_AT_NOON,
+            END,
+            AT_NOON,
+            ROLLED_LINE,
+            AFTER_1_S,
+            "G05  21085472.060 7 110804191.80217        45.000    21085474.060 5  86341483.283 5        35.000\n",
+        ],
+        report: "frames 2\nother 0\nrefused 0\nforeign 0\ntaken 2\nrepeat 0\nconflict 0\nlate 0\nepochs 2\n",
+    },
+    // Nor behind a phase of a 1074.
+    Row {
+        payloads: &[ROLLED, MSM_5_1, ROLLED_BACK_2],
+        file: &[
+            TOP,
+            NO_SITE,
+            TYPES,
+            FIRST_AT_NOON,
+            END,
+            AT_NOON,
+            ROLLED_LINE,
+            AFTER_1_S,
+            MSM_LINE,
+            AFTER_2_S,
+            "G05  21085472.060 7 110804191.802 7        45.000    21085474.060 5  86341483.283 5        35.000\n",
+        ],
+        report: "frames 3\nother 0\nrefused 0\nforeign 0\ntaken 3\nrepeat 0\nconflict 0\nlate 0\nepochs 3\n",
+    },
+    // A phase that is rolled to 0 is blank, and its epoch has no record.
+    Row {
+        payloads: &[
+            NEAR_ZERO_0,
+            NEAR_ZERO_1,
+            NEAR_ZERO_2,
+            NEAR_ZERO_3,
+            NEAR_ZERO_4,
+        ],
+        file: &[
+            TOP,
+            NO_SITE,
+            TYPES,
+            FIRST_AT_NOON,
+            END,
+            AT_NOON,
+            "G05                                                                      2923.465\n",
+            AFTER_1_S,
+            "G05                                                                      2181.009\n",
+            AFTER_2_S,
+            "G05                                                                      1438.553\n",
+            "> 2024 05 17 12 00  3.0000000  0  1\n",
+            "G05                                                                       742.432\n",
+        ],
+        report: "frames 5\nother 0\nrefused 0\nforeign 0\ntaken 5\nrepeat 0\nconflict 0\nlate 0\nepochs 4\n",
+    },
+    // A loss of lock with an open half cycle has digit 3.
+    Row {
+        payloads: &[MSM_5_1, MSM_5_2],
+        file: &[
+            TOP,
+            NO_SITE,
+            TYPES,
+            FIRST_AFTER_NOON,
+            END,
+            AFTER_1_S,
+            MSM_LINE,
+            AFTER_2_S,
+            "G05  21135368.289   111067110.0003\n",
+        ],
+        report: "frames 2\nother 0\nrefused 0\nforeign 0\ntaken 2\nrepeat 0\nconflict 0\nlate 0\nepochs 2\n",
+    },
+];
