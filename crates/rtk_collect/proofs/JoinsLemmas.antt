@@ -108,10 +108,15 @@ offer-joins n e m sets items new before closes h l put front back =
     }
 
 pub offer-late : (n e : ℕ) (m : Message) (sets : List EpochCells) (before : List Arrival) → sets ≡ take n (kept n before) → leading e sets ≡ n
-    → (late n (At (Some e) m) before ≡ true) × (sets ≡ take n (kept n (At (Some e) m ∷ before)))
+    → (late n (At (Some e) m) before ≡ true) × (sets ≡ take n (kept n (At (Some e) m ∷ before))) × (closed n (At (Some e) m ∷ before) ≡ closed n before)
 offer-late n e m sets before h l =
     let over : n ≤ leadingN e (epochs before) = sets-late n e sets before h (omega arith) in
-    (late-true n e m before over, h ∙ ap (take n) (sym (is-late n e m before over)))
+    let d : EpochCells = no_cells 0 in
+    (
+      late-true n e m before over,
+      h ∙ ap (take n) (sym (is-late n e m before over)),
+      closed-drop n d (At (Some e) m ∷ before) ∙ ap (drop n) (is-late n e m before over) ∙ sym (closed-drop n d before),
+    )
 
 -- what is held of an epoch is what is kept of it
 pub kept-found : (n e : ℕ) (b : List CellEntry) (sets : List EpochCells) (before : List Arrival) → sets ≡ take n (kept n before) → cells_at e sets ≡ Some b → cells_at e (kept n before) ≡ Some b

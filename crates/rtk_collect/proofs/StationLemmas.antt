@@ -146,10 +146,10 @@ module _ {T : Type 0} (wrap : T → Message) (eq : T → T → Bool) (same_eq : 
   slot-class (Some x) new m full Repeat h = (rw (h.0, and-none full, same_eq x m, h.0) refl, ap (option_map wrap) h.1 ∙ rw (h.0, and-none full) refl)
 
   answers-from : (n : ℕ) (m : T) (before : List Arrival) (offer : Offer) → ClassOf offer (class_of n (At None (wrap m)) before) → Answers n (At None (wrap m)) before offer
-  answers-from n m before Late h = h
+  answers-from n m before Late h = (h, refl)
   answers-from n m before (Taken out found) h = (h.0, h.2, ap (λ o. option_to_list o ++ closed n before) (sym h.1))
-  answers-from n m before (Conflict found) h = (h.0, h.1)
-  answers-from n m before Repeat h = h
+  answers-from n m before (Conflict found) h = (h.0, h.1, refl)
+  answers-from n m before Repeat h = (h, refl)
 
   pub record StationStep (n k : ℕ) (m : T) (before : List Arrival) (offer : Offer) (slot : Option T) : Type 0 where
     pub answers : Answers n (At None (wrap m)) before offer

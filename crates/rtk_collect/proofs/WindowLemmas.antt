@@ -166,9 +166,9 @@ open-answers n e m before new b count found Late p c f a = absurd a
 open-answers n e m before new b count found (Taken out listed) p c f a =
     (p.class TakenClass (cells-taken (cells_of m) b count c a.0), a.2 ∙ f ∙ p.same, p.joins.closing ∙ ap (λ o. option_to_list o ++ closed n before) (sym a.1))
 open-answers n e m before new b count found (Conflict listed) p c f a =
-    (p.class ConflictClass (cells-stale (cells_of m) b count c (omega (arith, a.0)) ∙ by-some (conflicts (cells_of m) b) (λ z. a.1 (f ∙ z))), a.2 ∙ f ∙ p.same)
+    (p.class ConflictClass (cells-stale (cells_of m) b count c (omega (arith, a.0)) ∙ by-some (conflicts (cells_of m) b) (λ z. a.1 (f ∙ z))), a.2 ∙ f ∙ p.same, p.joins.closing)
 open-answers n e m before new b count found Repeat p c f a =
-    p.class RepeatClass (cells-stale (cells_of m) b count c (omega (arith, a.0)) ∙ by-none (conflicts (cells_of m) b) (sym f ∙ a.1))
+    (p.class RepeatClass (cells-stale (cells_of m) b count c (omega (arith, a.0)) ∙ by-none (conflicts (cells_of m) b) (sym f ∙ a.1)), p.joins.closing)
 
 pub open-branch : (n e at : ℕ) (cs : List CellEntry) (d : EpochCells) (sets new : List EpochCells) (count : ℕ) (found : List SatelliteCode) (offer : Offer) → Falls sets → length sets ≤ n
     → at ≡ leading e sets → at < length sets → (get_or sets at d).epoch ≡ e → new ≡ set sets at (joined cs (get_or sets at d))
@@ -198,7 +198,7 @@ late-branch n e at cs sets f small place full =
     record {
       len = small;
       falls = f;
-      answer = λ m k before h. let l = offer-late n e m sets before h (sym place ∙ full) in (class-late n e m before l.0, l.1);
+      answer = λ m k before h. let l = offer-late n e m sets before h (sym place ∙ full) in ((class-late n e m before l.0, l.2), l.1);
       below = tt;
       least_closes = tt;
       least = λ all. (all, λ x h. h);

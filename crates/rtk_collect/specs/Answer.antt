@@ -52,9 +52,9 @@ abbrev pub conflicts_of : ℕ → Arrival → List Arrival → List SatelliteCod
 conflicts_of n (At None m) before = []
 conflicts_of n (At (Some e) m) before = conflicts_with (cells_of m) (cells_at e (kept n before))
 
--- the right answer to an arrival after those before it
+-- the right answer to an arrival after those before it. Only one that is taken closes an epoch
 abbrev pub Answers : ℕ → Arrival → List Arrival → Offer → Type 0
-Answers n a before Late = class_of n a before ≡ LateClass
+Answers n a before Late = (class_of n a before ≡ LateClass) × (closed n (a ∷ before) ≡ closed n before)
 Answers n a before (Taken done found) = (class_of n a before ≡ TakenClass) × (found ≡ conflicts_of n a before) × (closed n (a ∷ before) ≡ option_to_list done ++ closed n before)
-Answers n a before (Conflict found) = (class_of n a before ≡ ConflictClass) × (found ≡ conflicts_of n a before)
-Answers n a before Repeat = class_of n a before ≡ RepeatClass
+Answers n a before (Conflict found) = (class_of n a before ≡ ConflictClass) × (found ≡ conflicts_of n a before) × (closed n (a ∷ before) ≡ closed n before)
+Answers n a before Repeat = (class_of n a before ≡ RepeatClass) × (closed n (a ∷ before) ≡ closed n before)
