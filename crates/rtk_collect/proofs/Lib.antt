@@ -1,4 +1,5 @@
 pub mod CellsLemmas
+pub mod FewLemmas
 pub mod ArrivalsLemmas
 pub mod JoinsLemmas
 pub mod OffersLemmas

@@ -1,5 +1,5 @@
 -- Laws of late arrivals, kept cells and closed epochs.
-use Rattle.std.specs.Prelude.{◌≡◌, ◌↔◌, ◌⊎◌, ℕ, ◌≤◌, Bool, false, not, List, [], ◌∷◌, ◌++◌, length, None, Some, if◌then◌else◌}
+use Rattle.std.specs.Prelude.{◌≡◌, ◌↔◌, ◌⊎◌, ℕ, ◌≤◌, Bool, false, not, List, [], ◌∷◌, ◌++◌, length, map, take, All, None, Some, if◌then◌else◌}
 use Rattle.std.specs.Bool.{Decides}
 use Rattle.rtk_message.specs.declared.arp1005.Arp1005.{Arp1005 as Message1005}
 use Rattle.rtk_message.specs.declared.arp1006.Arp1006.{Arp1006 as Message1006}
@@ -85,6 +85,14 @@ KeptAreTaken = (n : ℕ) (arrivals : List Arrival) →
 abbrev pub SetDecides : Type 0
 SetDecides = (n : ℕ) (first second : List Arrival) → IsConsistent n first → IsConsistent n second → ((a : Arrival) → IsTaken n a first ↔ IsTaken n a second)
     → (kept n first ≡ kept n second) × ((k : ℕ) → station n k first ≡ station n k second)
+
+-- an epoch has at most 1,024 kept cells: those of 32 satellites, 16 codes and 2 kinds of message
+abbrev pub KeptAreFew : Type 0
+KeptAreFew = (n : ℕ) (arrivals : List Arrival) → All (λ x. length x.cells ≤ 1024) (kept n arrivals)
+
+-- the n greatest kept epochs are the n greatest distinct epochs that came
+abbrev pub KeptAreGreatest : Type 0
+KeptAreGreatest = (n : ℕ) (arrivals : List Arrival) → map (λ x. x.epoch) (take n (kept n arrivals)) ≡ take n (epochs arrivals)
 
 -- two cells have one key exactly where satellite, code and kind of message are the same
 abbrev pub KeysAreDistinct : Type 0
