@@ -2,6 +2,7 @@ pub mod CellsLemmas
 pub mod FewLemmas
 pub mod ArrivalsLemmas
 pub mod JoinsLemmas
+pub mod OpeningLemmas
 pub mod OffersLemmas
 pub mod StationLemmas
 pub mod WindowLemmas
