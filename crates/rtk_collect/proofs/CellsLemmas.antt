@@ -6,7 +6,7 @@ use Rattle.std.proofs.Common.{add-one, drop-cons}
 use Rattle.std.specs.Option.{is_some}
 use Rattle.std.specs.List.{All, AllByRecursion, insert}
 use Rattle.std.proofs.lemmas.List.Elements.{All-from_recursion, recursion_from_All}
-use Rattle.rtk_obs.specs.Cell.{IsInRange}
+use Rattle.rtk_obs.specs.Cell.{IsSatellite, IsInRange}
 use Rattle.rtk_obs.specs.declared.cell.CellEntry.{CellEntry}
 use Rattle.rtk_obs.specs.declared.cell.CellSource.TheVariants.{Legacy}
 use Rattle.rtk_obs.specs.declared.code.Code.TheVariants.{C1C}
@@ -302,7 +302,7 @@ with_cell-all P c (x ∷ xs) p h = elim (cases_order (key c) (key x)) [
   ]
 ]
 
-with_cells-each : (P : CellEntry → Type 0) (cells kept : List CellEntry) → AllByRecursion P cells → AllByRecursion P kept → AllByRecursion P (with_cells cells kept)
+pub with_cells-each : (P : CellEntry → Type 0) (cells kept : List CellEntry) → AllByRecursion P cells → AllByRecursion P kept → AllByRecursion P (with_cells cells kept)
 with_cells-each P [] kept h k = k
 with_cells-each P (c ∷ more) kept h k = with_cells-each P more (with_cell c kept) h.1 (with_cell-all P c kept h.0 k)
 
@@ -334,20 +334,30 @@ key-high : (c : CellEntry) → c.satellite ≤ 32 → key c < 1056
 unfolding key key_at
 key-high c h = let p = place-less c.code in let r = rank-less c.cell.source in omega arith
 
-low-from : (xs : List CellEntry) → AllByRecursion IsInRange xs → From 32 xs
-low-from [] h = tt
-low-from (x ∷ xs) h = key-low x h.0.satellite.0
+-- a satellite from 1 to 32
+abbrev pub HasSatellite : CellEntry → Type 0
+HasSatellite c = IsSatellite c.satellite
 
-high-all : (xs : List CellEntry) → AllByRecursion IsInRange xs → AllByRecursion (λ c. key c < 1056) xs
+low-from : (xs : List CellEntry) → AllByRecursion HasSatellite xs → From 32 xs
+low-from [] h = tt
+low-from (x ∷ xs) h = key-low x h.0.0
+
+high-all : (xs : List CellEntry) → AllByRecursion HasSatellite xs → AllByRecursion (λ c. key c < 1056) xs
 high-all [] h = tt
-high-all (x ∷ xs) h = (key-high x h.0.satellite.1, high-all xs h.1)
+high-all (x ∷ xs) h = (key-high x h.0.1, high-all xs h.1)
+
+range-satellites : (xs : List CellEntry) → AllByRecursion IsInRange xs → AllByRecursion HasSatellite xs
+range-satellites [] h = tt
+range-satellites (x ∷ xs) h = (h.0.satellite, range-satellites xs h.1)
 
 -- an epoch has at most 32 satellites with 16 codes of 2 kinds of message
-pub cells-few : (xs : List CellEntry) → Rises xs → All IsInRange xs → length xs ≤ 1024
-cells-few xs r h =
-    let a : AllByRecursion IsInRange xs = recursion_from_All IsInRange xs h in
+pub satellites-few : (xs : List CellEntry) → Rises xs → AllByRecursion HasSatellite xs → length xs ≤ 1024
+satellites-few xs r a =
     let f : length xs + 32 ≤ 1056 = keys-fit 32 1056 xs (omega arith) r (low-from xs a) (high-all xs a) in
     omega arith
+
+pub cells-few : (xs : List CellEntry) → Rises xs → All IsInRange xs → length xs ≤ 1024
+cells-few xs r h = satellites-few xs r (range-satellites xs (recursion_from_All IsInRange xs h))
 
 -- the parts of a key
 pub key-from : (c : CellEntry) (s p r : ℕ) → s ≡ c.satellite → p ≡ place_of c.code → r ≡ rank_of c.cell.source → (s * 16 + p) * 2 + r ≡ key c

@@ -111,8 +111,7 @@ pub offer-late : (n e : ℕ) (m : Message) (sets : List EpochCells) (before : Li
     → (late n (At (Some e) m) before ≡ true) × (sets ≡ take n (kept n (At (Some e) m ∷ before))) × (closed n (At (Some e) m ∷ before) ≡ closed n before)
 offer-late n e m sets before h l =
     let over : n ≤ leadingN e (epochs before) = sets-late n e sets before h (omega arith) in
-    let d : EpochCells = no_cells 0 in
-    (
+    let d : EpochCells = no_cells 0 in (
       late-true n e m before over,
       h ∙ ap (take n) (sym (is-late n e m before over)),
       closed-drop n d (At (Some e) m ∷ before) ∙ ap (drop n) (is-late n e m before over) ∙ sym (closed-drop n d before),

@@ -1,6 +1,8 @@
 pub mod CellsLemmas
+pub mod FewLemmas
 pub mod ArrivalsLemmas
 pub mod JoinsLemmas
+pub mod OpeningLemmas
 pub mod OffersLemmas
 pub mod StationLemmas
 pub mod WindowLemmas

@@ -1,20 +1,23 @@
 -- Laws of late arrivals, kept cells and closed epochs.
-use Rattle.std.specs.Prelude.{◌≡◌, ◌↔◌, ◌⊎◌, ℕ, ◌≤◌, Bool, false, not, List, [], ◌∷◌, ◌++◌, length, None, Some, if◌then◌else◌}
+use Rattle.std.specs.Prelude.{◌≡◌, ◌↔◌, ◌⊎◌, ℕ, ◌≤◌, Bool, false, not, List, [], ◌∷◌, ◌++◌, length, map, take, All, None, Some, if◌then◌else◌}
 use Rattle.std.specs.Bool.{Decides}
 use Rattle.rtk_message.specs.declared.arp1005.Arp1005.{Arp1005 as Message1005}
 use Rattle.rtk_message.specs.declared.arp1006.Arp1006.{Arp1006 as Message1006}
 use Rattle.rtk_message.specs.declared.message.Message.{Message}
-use Rattle.rtk_message.specs.Decoded.{number_of}
+use Rattle.rtk_message.specs.Decoded.{number_of, IsValid}
 use Rattle.rtk_obs.specs.declared.cell.Cell.{Cell}
 use Rattle.rtk_obs.specs.declared.cell.CellEntry.{CellEntry}
 use Rattle.rtk_obs.specs.declared.code.Code.{Code}
+use Rattle.rtk_collect.specs.declared.conflicts.SatelliteCode.{SatelliteCode}
+use Rattle.rtk_collect.specs.declared.offers.Offer.TheVariants.{Taken}
 use Rattle.rtk_collect.specs.Key.{key, Rises}
 use Rattle.rtk_collect.specs.Search.{Falls}
 use Rattle.rtk_collect.specs.Equal.{equal_cells, equal_1005, equal_1006, equal_stations}
-use Rattle.rtk_collect.specs.EpochCells.{EpochCells, cell_of, first_cell}
+use Rattle.rtk_collect.specs.EpochCells.{EpochCells, cell_of, first_cell, conflicts}
 use Rattle.rtk_collect.specs.Slot.{is_first}
-use Rattle.rtk_collect.specs.Arrival.{Arrival, At}
+use Rattle.rtk_collect.specs.Arrival.{Arrival, At, message_of, cells_of}
 use Rattle.rtk_collect.specs.Late.{epochs, is_excused, late}
+use Rattle.rtk_collect.specs.Answer.{Answers}
 use Rattle.rtk_collect.specs.Accepted.{station, kept, closed, IsTaken, AmongCells, IsTakenCell, IsConsistent}
 
 -- the arrivals without those that are late
@@ -85,6 +88,23 @@ KeptAreTaken = (n : ℕ) (arrivals : List Arrival) →
 abbrev pub SetDecides : Type 0
 SetDecides = (n : ℕ) (first second : List Arrival) → IsConsistent n first → IsConsistent n second → ((a : Arrival) → IsTaken n a first ↔ IsTaken n a second)
     → (kept n first ≡ kept n second) × ((k : ℕ) → station n k first ≡ station n k second)
+
+-- an epoch has at most 1,024 kept cells: those of 32 satellites, 16 codes and 2 kinds of message
+abbrev pub KeptAreFew : Type 0
+KeptAreFew = (n : ℕ) (arrivals : List Arrival) → All (λ x. length x.cells ≤ 1024) (kept n arrivals)
+
+-- the n greatest kept epochs are the n greatest distinct epochs that came
+abbrev pub KeptAreGreatest : Type 0
+KeptAreGreatest = (n : ℕ) (arrivals : List Arrival) → map (λ x. x.epoch) (take n (kept n arrivals)) ≡ take n (epochs arrivals)
+
+-- none of the cells of a message conflicts where it opens its epoch, since no two are of one satellite and code
+abbrev pub OpeningConflictsNot : Type 0
+OpeningConflictsNot = (m : Message) → IsValid m → conflicts (cells_of m) [] ≡ []
+
+-- a message that closes an epoch opens one, so none of its cells conflicts
+abbrev pub ClosingConflictsNot : Type 0
+ClosingConflictsNot = (n : ℕ) (a : Arrival) (before : List Arrival) (set : EpochCells) (found : List SatelliteCode) → IsValid (message_of a)
+    → Answers n a before (Taken (Some set) found) → found ≡ []
 
 -- two cells have one key exactly where satellite, code and kind of message are the same
 abbrev pub KeysAreDistinct : Type 0

@@ -1,6 +1,6 @@
 //! Laws over the definitions: what late arrivals, repeats and the order of arrivals change.
 
-ghost use Rattle.rtk_collect.specs.Laws.{LateChangeNothing, ClosedOnlyGrow, ClosedFall, ClosedAfter, FirstIsPreferred, ExcusedIsKept, StationsAreFinal, KeptAreTaken, SetDecides, KeysAreDistinct, EqualityDecides};
+ghost use Rattle.rtk_collect.specs.Laws.{LateChangeNothing, ClosedOnlyGrow, ClosedFall, ClosedAfter, FirstIsPreferred, ExcusedIsKept, StationsAreFinal, KeptAreTaken, SetDecides, KeptAreFew, KeptAreGreatest, OpeningConflictsNot, ClosingConflictsNot, KeysAreDistinct, EqualityDecides};
 
 /// With all late arrivals deleted each other one is late or not as before, and what is kept is the same.
 pub fn late_arrivals_change_nothing()
@@ -25,6 +25,18 @@ pub fn stations_are_final()
 pub fn set_decides()
     ensures taken { KeptAreTaken }
     ensures same { SetDecides }
+{}
+
+/// The n greatest kept epochs are the n greatest distinct ones that came, and each has at most 1,024 cells.
+pub fn epochs_are_bounded()
+    ensures greatest { KeptAreGreatest }
+    ensures cells { KeptAreFew }
+{}
+
+/// None of the cells of a message conflicts where it opens its epoch, and so none where it closes one.
+pub fn openings_do_not_conflict()
+    ensures opens { OpeningConflictsNot }
+    ensures closes { ClosingConflictsNot }
 {}
 
 /// In the order of an epoch's cells the first of a satellite and code is that of a 1074, if there is

@@ -17,8 +17,8 @@ pub use conflicts::{Conflicts, SatelliteCode};
 pub use dated::Dated;
 pub use epoch_set::EpochSet;
 pub use laws::{
-    closed_epochs_only_grow, equality_decides, first_is_preferred, late_arrivals_change_nothing,
-    set_decides, stations_are_final,
+    closed_epochs_only_grow, epochs_are_bounded, equality_decides, first_is_preferred,
+    late_arrivals_change_nothing, openings_do_not_conflict, set_decides, stations_are_final,
 };
 pub use left::Left;
 pub use offers::Offer;

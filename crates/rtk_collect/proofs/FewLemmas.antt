@@ -1,0 +1,106 @@
+-- How many cells an epoch has, and which epochs are kept.
+use Rattle.std.proofs.Common.{◌≡◌, ℕ, suc, ◌≤◌, Bool, true, false, cond, List, [], ◌∷◌, ◌++◌, length, get_or, Option, None, Some, refl, ap, sym, ◌∙◌, map, take, arith, inl, inr, subst, filter, All}
+use Rattle.std.specs.List.{flat_map, AllByRecursion}
+use Rattle.std.proofs.lemmas.Bool.{cases_order, cases_Bool}
+use Rattle.std.proofs.lemmas.Bool.Decides.{nat_tests}
+use Rattle.std.proofs.lemmas.List.Elements.{All-from_recursion}
+use Rattle.rtk_message.specs.declared.satellites.Satellite.{Satellite}
+use Rattle.rtk_message.specs.declared.msm1074.Msm1074.{Msm1074}
+use Rattle.rtk_message.specs.declared.message.Message.{Message}
+use Rattle.rtk_message.specs.declared.message.Message.TheVariants.{Obs1004, Arp1005, Arp1006, Msm1074 as Msm}
+use Rattle.rtk_obs.specs.declared.code.Code.{Code}
+use Rattle.rtk_obs.specs.declared.cell.CellEntry.{CellEntry}
+use Rattle.rtk_obs.specs.Cell.{is_satellite, IsSatellite}
+use Rattle.rtk_obs.specs.Mask.{join_from}
+use Rattle.rtk_obs.specs.LegacyCells.{first_entries, satellite_entries}
+use Rattle.rtk_obs.specs.MsmCells.{satellites_of, slots_of, coded_entry, slot_entry, code_of_signal, cells_of_1074}
+use Rattle.rtk_collect.specs.Key.{Rises}
+use Rattle.rtk_collect.specs.EpochCells.{EpochCells}
+use Rattle.rtk_collect.specs.Arrival.{Arrival, At, cells_of}
+use Rattle.rtk_collect.specs.Late.{epochs, late}
+use Rattle.rtk_collect.specs.Accepted.{kept, with_arrival}
+use Rattle.rtk_collect.specs.Laws.{KeptAreFew, KeptAreGreatest}
+use Rattle.rtk_collect.proofs.CellsLemmas.{HasSatellite, satellites-few, with_cells-rises, with_cells-each}
+use Rattle.rtk_collect.proofs.ArrivalsLemmas.{keys, keys-take, same_greatest, with_arrival-new, with_arrival-below, with_arrival-same}
+use Rattle.rtk_collect.proofs.LateLemmas.{kept-late, kept-new}
+
+-- the cells of a message are of satellites from 1 to 32
+
+satellite-is : (n : ℕ) → is_satellite n ≡ true → IsSatellite n
+satellite-is n h = grind (arith, nat_tests)
+
+legacy-if : (b : Bool) (s : Satellite) (rest : List Satellite) → is_satellite s.satellite ≡ b → AllByRecursion HasSatellite (flat_map satellite_entries rest)
+    → AllByRecursion HasSatellite (flat_map satellite_entries (cond b (s ∷ rest) rest))
+legacy-if true s rest e a = (satellite-is s.satellite e, (satellite-is s.satellite e, a))
+legacy-if false s rest e a = a
+
+of-legacy : (ss : List Satellite) → AllByRecursion HasSatellite (flat_map satellite_entries (filter (λ (t : Satellite). is_satellite t.satellite) ss))
+of-legacy [] = tt
+of-legacy (s ∷ ss) = legacy-if (is_satellite s.satellite) s (filter (λ (t : Satellite). is_satellite t.satellite) ss) refl (of-legacy ss)
+
+of-coded : (m : Msm1074) (k row satellite : ℕ) (code : Option Code) → IsSatellite satellite → AllByRecursion HasSatellite (coded_entry m k row satellite code)
+of-coded m k row satellite None s = tt
+of-coded m k row satellite (Some code) s = (s, tt)
+
+slot-if : (b : Bool) (satellite : ℕ) (es : List CellEntry) → is_satellite satellite ≡ b → (IsSatellite satellite → AllByRecursion HasSatellite es) → AllByRecursion HasSatellite (cond b es [])
+slot-if true satellite es e a = a (satellite-is satellite e)
+slot-if false satellite es e a = tt
+
+all-append : (P : CellEntry → Type 0) (xs ys : List CellEntry) → AllByRecursion P xs → AllByRecursion P ys → AllByRecursion P (xs ++ ys)
+all-append P [] ys a b = b
+all-append P (x ∷ xs) ys a b = (a.0, all-append P xs ys a.1 b)
+
+all-join : {X : Type 0} (f : ℕ → X → List CellEntry) → ((k : ℕ) (x : X) → AllByRecursion HasSatellite (f k x)) → (k : ℕ) (xs : List X) → AllByRecursion HasSatellite (join_from f k xs)
+unfolding join_from
+all-join f each k [] = tt
+all-join f each k (x ∷ xs) = all-append HasSatellite (f k x) (join_from f (suc k) xs) (each k x) (all-join f each (suc k) xs)
+
+of-msm : (m : Msm1074) → AllByRecursion HasSatellite (cells_of_1074 m)
+of-msm m = all-join (slot_entry m) (λ k s.
+    slot-if (is_satellite (get_or (satellites_of m) s.row 0)) (get_or (satellites_of m) s.row 0) (coded_entry m k s.row (get_or (satellites_of m) s.row 0) (code_of_signal s.signal)) refl
+    (λ is. of-coded m k s.row (get_or (satellites_of m) s.row 0) (code_of_signal s.signal) is)) 0 (slots_of m)
+
+of-message : (m : Message) → AllByRecursion HasSatellite (cells_of m)
+of-message (Obs1004 m) = of-legacy (first_entries m.satellites)
+of-message (Arp1005 m) = tt
+of-message (Arp1006 m) = tt
+of-message (Msm m) = of-msm m
+
+-- so are those that are kept, and their keys rise
+
+abbrev IsGood : EpochCells → Type 0
+IsGood x = Rises x.cells × AllByRecursion HasSatellite x.cells
+
+arrival-good : (e : ℕ) (cs : List CellEntry) (xs : List EpochCells) → AllByRecursion HasSatellite cs → AllByRecursion IsGood xs → AllByRecursion IsGood (with_arrival e cs xs)
+arrival-good e cs [] a h = ((with_cells-rises cs [] tt, with_cells-each HasSatellite cs [] a tt), tt)
+arrival-good e cs (y ∷ ys) a h = elim (cases_order y.epoch e) [
+  | inl same ↦ subst (AllByRecursion IsGood) (sym (with_arrival-same e cs y ys (sym same))) ((with_cells-rises cs y.cells h.0.0, with_cells-each HasSatellite cs y.cells a h.0.1), h.1)
+  | inr more ↦ elim more [
+    | inl new ↦ subst (AllByRecursion IsGood) (sym (with_arrival-new e cs y ys new)) ((with_cells-rises cs [] tt, with_cells-each HasSatellite cs [] a tt), h)
+    | inr below ↦ subst (AllByRecursion IsGood) (sym (with_arrival-below e cs y ys below)) (h.0, arrival-good e cs ys a h.1)
+  ]
+]
+
+kept-good : (n : ℕ) (arrivals : List Arrival) → AllByRecursion IsGood (kept n arrivals)
+kept-good n [] = tt
+kept-good n (At None m ∷ before) = kept-good n before
+kept-good n (At (Some e) m ∷ before) = elim (cases_Bool (late n (At (Some e) m) before)) [
+  | inl over ↦ subst (AllByRecursion IsGood) (sym (kept-late n e m before over)) (kept-good n before)
+  | inr fresh ↦ subst (AllByRecursion IsGood) (sym (kept-new n e m before fresh)) (arrival-good e (cells_of m) (kept n before) (of-message m) (kept-good n before))
+]
+
+good-few : (xs : List EpochCells) → AllByRecursion IsGood xs → AllByRecursion (λ (x : EpochCells). length x.cells ≤ 1024) xs
+good-few [] h = tt
+good-few (x ∷ xs) h = (satellites-few x.cells h.0.0 h.0.1, good-few xs h.1)
+
+pub kept-are-few : KeptAreFew
+kept-are-few n arrivals = All-from_recursion (λ (x : EpochCells). length x.cells ≤ 1024) (kept n arrivals) (good-few (kept n arrivals) (kept-good n arrivals))
+
+-- the greatest
+
+epochs-keys : (xs : List EpochCells) → map (λ (x : EpochCells). x.epoch) xs ≡ keys xs
+epochs-keys [] = refl
+epochs-keys (x ∷ xs) = ap (λ t. x.epoch ∷ t) (epochs-keys xs)
+
+pub kept-are-greatest : KeptAreGreatest
+kept-are-greatest n arrivals = epochs-keys (take n (kept n arrivals)) ∙ keys-take n (kept n arrivals) ∙ same_greatest n arrivals
