@@ -10,11 +10,11 @@ use Rattle.rtk_collect.specs.Accepted.{station}
 
 -- the position of the 1006, else of the 1005, else zeros; the height of the 1006, else zero (this project's rule)
 abbrev pub IsPosition : Option Message1005 → Option Message1006 → Position → Type 0
-IsPosition short (Some m) p = HasFields m.x m.y m.z m.height p
+IsPosition arp1005 (Some m) p = HasFields m.x m.y m.z m.height p
 IsPosition (Some m) None p = HasFields m.x m.y m.z 0 p
 IsPosition None None p = HasFields (pos 0) (pos 0) (pos 0) 0 p
 
 -- the position from the station messages that are kept of these arrivals
 abbrev pub IsPositionOf : ℕ → List Arrival → Position → Type 0
 IsPositionOf n arrivals p =
-    (short : Option Message1005) (tall : Option Message1006) → option_map Arp1005 short ≡ station n 1005 arrivals → option_map Arp1006 tall ≡ station n 1006 arrivals → IsPosition short tall p
+    (arp1005 : Option Message1005) (arp1006 : Option Message1006) → option_map Arp1005 arp1005 ≡ station n 1005 arrivals → option_map Arp1006 arp1006 ≡ station n 1006 arrivals → IsPosition arp1005 arp1006 p

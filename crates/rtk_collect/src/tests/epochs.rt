@@ -1,7 +1,7 @@
 //! Which epochs are late, opened and closed.
 
 use super::Answer::{Closes, Conflict, Late, Repeat, Taken};
-use super::{Answer, NOON, Q, check, legacy, msm};
+use super::{Answer, NOON, Q, check, legacy, msm, read};
 use crate::{Collector, SatelliteCode};
 use rtk_message::Satellite;
 use rtk_obs::Code;
@@ -54,13 +54,19 @@ fn an_arrival_is_late_after_as_many_greater_epochs_as_places(
     check_seconds(&rt, alloc, &[(1000, Taken), (1001, Taken), (1, Late)])
 }
 
+// A 1074 without satellites and signals: DF394 and DF395 are 0.
+const NO_SATELLITES: [u8; 22] = [
+    0x43, 0x27, 0xd3, 0x71, 0x4b, 0xe8, 0x00, 0x00, 0x00, 0x00, 0x00, 0x00, 0x00, 0x00, 0x00, 0x00,
+    0x00, 0x00, 0x00, 0x00, 0x00, 0x00,
+];
+
 #[test]
 fn a_message_without_cells_opens_its_epoch(rt: HostRuntime) -> Result<(), AllocError> {
-    for satellite in [0, 40] {
-        let empty = || if satellite == 0 {
-            legacy(&[], 0)
-        } else {
-            msm(&rt, satellite)
+    for satellite in [0, 1, 40] {
+        let empty = || match satellite {
+            0 => legacy(&[], 0),
+            1 => read(&rt, &NO_SATELLITES),
+            _ => msm(&rt, satellite),
         };
         let mut collector = Collector::new(rt.alloc(), 2);
         check(&rt, &mut collector, empty(), 1, Taken, &[])?;
