@@ -8,8 +8,8 @@ use Rattle.rtk_collect.specs.EpochCells.{EpochCells}
 use Rattle.rtk_collect.specs.Arrival.{Arrival}
 use Rattle.rtk_collect.specs.Accepted.{station, kept, closed}
 use Rattle.rtk_collect.specs.Laws.{without_late, SetDecides, LateChangeNothing}
-use Rattle.rtk_collect.proofs.ArrivalsLemmas.{closed-drop}
-use Rattle.rtk_collect.proofs.MembersLemmas.{closed-only-grow, closed-after}
+use Rattle.rtk_collect.proofs.JoinsLemmas.{closed-drop}
+use Rattle.rtk_collect.proofs.LateLemmas.{closed-only-grow, closed-after}
 use Rattle.rtk_rinex.specs.Header.{Site, header_text}
 use Rattle.rtk_convert.specs.declared.arrival.Finding.{Finding}
 use Rattle.rtk_convert.specs.declared.arrival.Finding.TheVariants.{OtherMessage, Refused, Foreign, Arrived}

@@ -8,7 +8,7 @@ use Rattle.rtk_collect.specs.Arrival.{Arrival}
 use Rattle.rtk_collect.specs.Accepted.{kept, closed}
 use Rattle.rtk_collect.specs.Collector.{Window, Represents as HoldsKept}
 use Rattle.rtk_collect.specs.Position.{IsPositionOf}
-use Rattle.rtk_collect.proofs.ArrivalsLemmas.{closed-drop}
+use Rattle.rtk_collect.proofs.JoinsLemmas.{closed-drop}
 use Rattle.rtk_frame.specs.Stream.{with_more, TakesPart}
 use Rattle.rtk_rinex.specs.Header.{Site, site_of}
 use Rattle.rtk_convert.specs.declared.counts.Counts.{Counts}

@@ -6,8 +6,8 @@ use Rattle.rtk_collect.specs.EpochCells.{EpochCells}
 use Rattle.rtk_collect.specs.Arrival.{Arrival}
 use Rattle.rtk_collect.specs.Late.{epochs}
 use Rattle.rtk_collect.specs.Accepted.{station, kept, closed}
-use Rattle.rtk_collect.proofs.ArrivalsLemmas.{closed-drop}
-use Rattle.rtk_collect.proofs.MembersLemmas.{closed-only-grow, closed-after, stations-are-final}
+use Rattle.rtk_collect.proofs.JoinsLemmas.{closed-drop}
+use Rattle.rtk_collect.proofs.LateLemmas.{closed-only-grow, closed-after, stations-are-final}
 use Rattle.rtk_rinex.specs.Header.{Site}
 use Rattle.rtk_convert.specs.Settings.{Settings}
 use Rattle.rtk_convert.specs.File.{record_of, first_time}
