@@ -13,7 +13,8 @@ pub use epoch_table::{EpochTable, Observed, SatelliteRow};
 pub use head::{Head, HeadFault};
 pub use header_text::header;
 pub use laws::{files_are_tables, records_are_of_tables};
-pub use record_text::record;
+
+pub use record_text::{is_shown, is_written_value, put_epoch_line, put_satellite_line, record};
 
 #[cfg(test)]
 mod tests;

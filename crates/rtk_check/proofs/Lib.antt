@@ -1,0 +1,3 @@
+pub mod ValuesLemmas
+pub mod EpochLemmas
+pub mod RowLemmas
