@@ -1,5 +1,5 @@
 -- What a satellite line shows is its row.
-use Rattle.std.proofs.Common.{◌≡◌, ◌≢◌, ℕ, zero, suc, ◌+◌, ◌-◌, ◌*◌, ◌<◌, ◌≤◌, Bool, true, false, ◌==◌, if◌then◌else◌, Option, Some, None, List, [], ◌∷◌, ◌++◌, length, take, drop, replicate, get_or, All, refl, sym, ◌∙◌, ap, arith, length-append, append_assoc}
+use Rattle.std.proofs.Common.{◌≡◌, ◌≢◌, ℕ, zero, suc, ◌+◌, ◌-◌, ◌*◌, ◌/◌, ◌%◌, ◌<◌, ◌≤◌, Bool, true, false, ◌==◌, if◌then◌else◌, Option, Some, None, List, [], ◌∷◌, ◌++◌, length, take, drop, replicate, get_or, All, refl, sym, ◌∙◌, ap, arith, length-append, append_assoc}
 use Rattle.std.specs.Prelude.{IsTrue}
 use Rattle.std.specs.Int.{IsInRange}
 use Rattle.std.specs.List.{flat_map}
@@ -78,7 +78,7 @@ cells zero os rest h le = refl
 cells (suc n) os rest h le =
     let inside : n < length os = omega arith in
     let one : observed_of (take 48 (drop (48 * n) (flat_map observations os ++ rest))) ≡ get_or os n no_observed =
-        ap observed_of (piece os rest n no_observed h inside) ∙ observed_of-observations (get_or os n no_observed) (h n no_observed inside) in
+    ap observed_of (piece os rest n no_observed h inside) ∙ observed_of-observations (get_or os n no_observed) (h n no_observed inside) in
     let next : suc n ≡ n + 1 = omega arith in
     let more : take (suc n) os ≡ take n os ++ get_or os n no_observed ∷ [] = ap (λ m. take m os) next ∙ (take_at_read os n no_observed inside).1 in
     rw (cells n os rest h (omega arith), one) (sym more)
@@ -118,7 +118,7 @@ unfolding whole
 row_of-columns w r blanks h =
     let os = r.observed.items in
     let all : observations_in w (flat_map observations os ++ blanks) ≡ os =
-        cells w os blanks h.observed (omega (arith, h.width)) ∙ take_all w os (omega (arith, h.width)) in
+    cells w os blanks h.observed (omega (arith, h.width)) ∙ take_all w os (omega (arith, h.width)) in
     same_row _ r.satellite _ os (digits_from-last_2 r.satellite (omega (arith, h.satellite))) all
 
 -- a line that is a satellite line shows its row
@@ -147,3 +147,17 @@ shows w r le h =
 pub row-shows : (w : ℕ) (line : List ℕ) (r : SatelliteRow) → w ≤ 16 → IsTableRow w r → line ≡ satellite_line r → ShowsRow w line r
 unfolding whole
 row-shows w line r le h e = rw e (shows w r le h)
+
+-- ---- the satellite that a line names
+
+pub named : (line : List ℕ) (s : ℕ) → IsInRange 1 32 s → take 3 line ≡ 71 ∷ last_digits 2 s
+    → (get_or line 0 0 ≡ 71) × (get_or line 1 0 ≡ 48 + s / 10 % 10) × (get_or line 2 0 ≡ 48 + s % 10)
+    × (digits_from 0 (get_or line 1 0 ∷ get_or line 2 0 ∷ []) ≡ s)
+named [] s h e = absurd (let long = ap length e in omega (arith, long))
+named (x ∷ []) s h e = absurd (let long = ap length e in omega (arith, long))
+named (x ∷ y ∷ []) s h e = absurd (let long = ap length e in omega (arith, long))
+named (x ∷ y ∷ z ∷ rest) s h e =
+    let first : x ≡ 71 = ap (λ (xs : List ℕ). get_or xs 0 0) e in
+    let tens : y ≡ 48 + s / 10 % 10 = ap (λ (xs : List ℕ). get_or xs 1 0) e in
+    let units : z ≡ 48 + s % 10 = ap (λ (xs : List ℕ). get_or xs 2 0) e in
+    (first, tens, units, rw (tens, units) (digits_from-last_2 s (omega (arith, h))))

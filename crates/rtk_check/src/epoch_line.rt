@@ -46,7 +46,7 @@ fn stamp_in(columns: &[u8]) -> Option<EpochStamp>
     requires { length columns.now ≡ 35 }
     ensures { MatchOption result
         ((t n : ℕ) → IsMoment t → IsInRange 1 32 n → columns.now ≢ epoch_columns (reading_of t) n)
-        (λ s. IsInRange 1 32 s.count × (s.reading ≡ reading_of s.time)
+        (λ s. IsMoment s.time × IsInRange 1 32 s.count × (s.reading ≡ reading_of s.time)
         × ((t n : ℕ) → IsMoment t → IsInRange 1 32 n → columns.now ≡ epoch_columns (reading_of t) n → (s.time ≡ t) × (s.count ≡ n))) }
 {
     let seconds = digits(&columns[18..29]);
@@ -81,7 +81,7 @@ pub fn is_end_from(text: &[u8], start: usize, end: &[u8]) -> bool
 pub fn read_epoch_line(out: &mut Vec<u8>, line: &[u8]) -> Result<Option<EpochStamp>, AllocError>
     ensures { IfOk result (λ found. MatchOption found
         ((t n : ℕ) → IsMoment t → IsInRange 1 32 n → line.now ≢ epoch_line (reading_of t) n)
-        (λ s. IsInRange 1 32 s.count × (line.now ≡ epoch_line (reading_of s.time) s.count) × (out.new.items ≡ out.old.items ++ line.now))) }
+        (λ s. IsMoment s.time × IsInRange 1 32 s.count × (line.now ≡ epoch_line (reading_of s.time) s.count) × (out.new.items ≡ out.old.items ++ line.now))) }
 {
     if line.len() != 36 {
         return Ok(None);

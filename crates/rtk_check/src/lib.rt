@@ -2,8 +2,12 @@
 #![tactic(auto)]
 
 mod epoch_line;
+mod fault;
+mod record_check;
 mod satellite_line;
 mod values;
 
 pub use epoch_line::{EpochStamp, read_epoch_line};
+pub use fault::Cause;
+pub use record_check::{check_epoch_line, check_satellite_line};
 pub use satellite_line::read_satellite_line;

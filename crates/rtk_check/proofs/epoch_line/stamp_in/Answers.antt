@@ -27,6 +27,7 @@ returns-then-count-eq0 c = λ t n h k e.
 
 pub returns : goal.returns
 returns c = (
+  omega arith,
   (omega arith, omega arith),
   reading_is c.in-Some.time c.reading_in-reading.result c.in-Some.ensures,
   λ t n h k e.
