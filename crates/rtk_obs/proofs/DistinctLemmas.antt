@@ -18,7 +18,7 @@ use Rattle.rtk_obs.specs.Mask.{set_bits_from, set_bits, join_from}
 use Rattle.rtk_obs.specs.LegacyCells.{first_entries, has_number, satellite_entries, cells_of_1004, l1_code_of, l2_code_of, l1_cell_of, l2_cell_of}
 use Rattle.rtk_obs.specs.MsmCells.{satellites_of, signals_of, row_slots, slots_of, coded_entry, slot_entry, code_of_signal, cells_of_1074}
 use Rattle.rtk_obs.proofs.MaskLemmas.{set_bits_from-bounds}
-use Rattle.rtk_obs.proofs.MsmLemmas.{count-satellites}
+use Rattle.rtk_obs.proofs.MsmLemmas.{satellite_in, count-satellites}
 
 -- ---- lists by recursion
 
@@ -148,7 +148,7 @@ rises_at xs p i j before inside = all_pairs IsBelow xs p i j 0 before inside
 module _ (satellites signals : List ℕ) where
   -- of different satellites, or of one and different signals
   abbrev pub AreOtherSlots : Slot → Slot → Type 0
-  AreOtherSlots s t = get_or satellites s.row 0 ≡ get_or satellites t.row 0 → s.signal ≢ t.signal
+  AreOtherSlots s t = satellite_in satellites s ≡ satellite_in satellites t → s.signal ≢ t.signal
 
   abbrev pub slot_at : ℕ → ℕ → Slot
   slot_at row p = record { row = row; signal = get_or signals (p - 1) 0 }
@@ -248,14 +248,14 @@ signal_of_coded s c h =
 
 module _ (m : Msm1074) where
   abbrev pub IsOfSlot : Slot → CellEntry → Type 0
-  IsOfSlot s e = (e.satellite ≡ get_or (satellites_of m) s.row 0) × (code_of_signal s.signal ≡ Some e.code)
+  IsOfSlot s e = (e.satellite ≡ satellite_in (satellites_of m) s) × (code_of_signal s.signal ≡ Some e.code)
 
-  coded_of : (k : ℕ) (s : Slot) (code : Option Code) → code_of_signal s.signal ≡ code → AllByRecursion (IsOfSlot s) (coded_entry m k s.row (get_or (satellites_of m) s.row 0) code)
+  coded_of : (k : ℕ) (s : Slot) (code : Option Code) → code_of_signal s.signal ≡ code → AllByRecursion (IsOfSlot s) (coded_entry m k s.row (satellite_in (satellites_of m) s) code)
   coded_of k s None e = tt
   coded_of k s (Some code) e = ((refl, e), tt)
 
   of_slot_if : (b : Bool) (k : ℕ) (s : Slot)
-      → AllByRecursion (IsOfSlot s) (cond b (coded_entry m k s.row (get_or (satellites_of m) s.row 0) (code_of_signal s.signal)) [])
+      → AllByRecursion (IsOfSlot s) (cond b (coded_entry m k s.row (satellite_in (satellites_of m) s) (code_of_signal s.signal)) [])
   of_slot_if true k s = coded_of k s (code_of_signal s.signal) refl
   of_slot_if false k s = tt
 
@@ -272,7 +272,7 @@ module _ (m : Msm1074) where
       others (sym p.0 ∙ (same ∙ q.0)) (signal_of_coded s.signal a.code p.1 ∙ (ap signal_of codes ∙ sym (signal_of_coded t.signal b.code q.1)))
 
   slot_entry-of : (k : ℕ) (s : Slot) → AllByRecursion (IsOfSlot s) (slot_entry m k s)
-  slot_entry-of k s = of_slot_if (is_satellite (get_or (satellites_of m) s.row 0)) k s
+  slot_entry-of k s = of_slot_if (is_satellite (satellite_in (satellites_of m) s)) k s
 
   later_differ : (s : Slot) (a : CellEntry) → IsOfSlot s a → (k : ℕ) (ts : List Slot) → AllByRecursion (AreOtherSlots (satellites_of m) (signals_of m) s) ts
       → AllByRecursion (AreDifferentSignals a) (join_from (slot_entry m) k ts)
@@ -288,7 +288,7 @@ module _ (m : Msm1074) where
   entries_of_slots k [] p = tt
   entries_of_slots k (s ∷ ss) p =
       pairs-append AreDifferentSignals (slot_entry m k s) (join_from (slot_entry m) (suc k) ss)
-      (one_if (is_satellite (get_or (satellites_of m) s.row 0)) k s.row (get_or (satellites_of m) s.row 0) (code_of_signal s.signal))
+      (one_if (is_satellite (satellite_in (satellites_of m) s)) k s.row (satellite_in (satellites_of m) s) (code_of_signal s.signal))
       (entries_of_slots (suc k) ss p.1)
       (all_from (IsOfSlot s) (λ (a : CellEntry). AllByRecursion (AreDifferentSignals a) (join_from (slot_entry m) (suc k) ss))
       (λ a is. later_differ s a is (suc k) ss p.0) (slot_entry m k s) (slot_entry-of k s))

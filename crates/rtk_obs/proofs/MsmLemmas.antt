@@ -18,6 +18,10 @@ use Rattle.rtk_obs.specs.Scaling.{strength_of}
 use Rattle.rtk_obs.specs.MsmCells.{satellites_of, signals_of, row_slots, slots_of, coded_entry, slot_entry, code_of_signal, cells_of_1074}
 use Rattle.rtk_obs.proofs.MaskLemmas.{set_bits_from-length, count-set_bits_from, length-join_from, join_from-length, join_from-room, all-join_from}
 
+-- the satellite of a slot: that of its row
+abbrev pub satellite_in : List ℕ → Slot → ℕ
+satellite_in satellites s = get_or satellites (s.row) 0
+
 -- ---- widths
 
 fits_right : (fs gs : List Field) → FieldsFit (fs ++ gs) → FieldsFit gs
@@ -139,8 +143,8 @@ pub cells_in_range : (m : Msm1074) → IsValid m → All IsInRange (cells_of_107
 cells_in_range m h =
     All-from_recursion IsInRange (cells_of_1074 m)
     (all-join_from (slot_entry m) IsInRange 0 (length (slots_of m)) (slots_of m) (omega arith)
-    (λ k s below. in_range_if (is_satellite (get_or (satellites_of m) s.row 0)) (get_or (satellites_of m) s.row 0) (coded_entry m k s.row (get_or (satellites_of m) s.row 0) (code_of_signal s.signal)) refl
-    (λ is. coded_in_range m k s.row (get_or (satellites_of m) s.row 0) (code_of_signal s.signal) is (cnr_fits m h))))
+    (λ k s below. in_range_if (is_satellite (satellite_in (satellites_of m) s)) (satellite_in (satellites_of m) s) (coded_entry m k s.row (satellite_in (satellites_of m) s) (code_of_signal s.signal)) refl
+    (λ is. coded_in_range m k s.row (satellite_in (satellites_of m) s) (code_of_signal s.signal) is (cnr_fits m h))))
 
 pub at_most_one : (o : Option CellEntry) → length (option_to_list o) ≤ 1
 at_most_one None = omega arith

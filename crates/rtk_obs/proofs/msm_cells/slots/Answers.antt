@@ -13,16 +13,16 @@ push_row-requires-clause-few c = rw (c.as_slice-signals.ensures.value, c.signals
 pub push_row-requires-clause-fits : goal.push_row-requires-clause-fits
 push_row-requires-clause-fits c =
     rw (c.as_slice-signals.ensures.value, c.signals-signal_list.ensures, c.as_slice-rows.ensures.value)
-    (fits_at c.args.message.now c.requires c.loop-row.row 0 (rw c.as_slice-rows.ensures.value at c.loop-row-test.true))
+    (fits_at c.args.message.now c.requires (c.loop-row.row) 0 (rw c.as_slice-rows.ensures.value at c.loop-row-test.true))
 
 pub push_row-requires-clause-room : goal.push_row-requires-clause-room
 push_row-requires-clause-room c =
     rw (c.loop-row.invariant, c.as_slice-signals.ensures.value, c.signals-signal_list.ensures, c.as_slice-rows.ensures.value)
-    (room_at c.args.message.now c.requires c.loop-row.row 0 (rw c.as_slice-rows.ensures.value at c.loop-row-test.true))
+    (room_at c.args.message.now c.requires (c.loop-row.row) 0 (rw c.as_slice-rows.ensures.value at c.loop-row-test.true))
 
 pub loop-row-preserved : goal.loop-row-preserved
 loop-row-preserved c =
-    join_from-more (row_slots (signals_of c.args.message.now)) c.as_slice-rows.result.now c.loop-row.row 0 c.loop-row.slots.items c.push_row.new.slots.items
+    join_from-more (row_slots (signals_of c.args.message.now)) c.as_slice-rows.result.now (c.loop-row.row) 0 c.loop-row.slots.items c.push_row.new.slots.items
     c.loop-row-test.true c.loop-row.invariant
-    (subst (λ (ss : List ℕ). c.push_row.new.slots.items ≡ c.loop-row.slots.items ++ row_slots ss c.loop-row.row (get_or c.as_slice-rows.result.now c.loop-row.row 0))
+    (subst (λ (ss : List ℕ). c.push_row.new.slots.items ≡ c.loop-row.slots.items ++ row_slots ss c.loop-row.row (get_or c.as_slice-rows.result.now (c.loop-row.row) 0))
     (c.as_slice-signals.ensures.value ∙ c.signals-signal_list.ensures) c.push_row.ensures)
