@@ -1,4 +1,5 @@
-// Preloaded under a program: refuses the growth of memory whose number REFUSED_GROWTH says, counted from 1.
+// Preloaded under a program: refuses the growth of memory whose number REFUSED_GROWTH says, counted from 1, and then
+// writes a byte to descriptor 9, so that the caller knows that the program met the refusal.
 // It needs no header, so that the toolchain's own compiler builds it.
 
 typedef unsigned long size_t;
@@ -6,6 +7,7 @@ void *__libc_malloc(size_t size);
 void *__libc_realloc(void *old, size_t size);
 char *getenv(const char *name);
 long strtol(const char *text, char **end, int base);
+long write(int descriptor, const void *bytes, size_t count);
 
 static long growths;
 
@@ -15,7 +17,9 @@ static int is_refused(void) {
         const char *text = getenv("REFUSED_GROWTH");
         refused = text ? strtol(text, 0, 10) : -1;
     }
-    return ++growths == refused;
+    if (++growths != refused) return 0;
+    write(9, "!", 1);
+    return 1;
 }
 
 void *malloc(size_t size) {

@@ -97,6 +97,9 @@ mkdir folder
 : >empty
 head -c 16777217 /dev/zero >long
 head -c 16777216 /dev/zero >longest
+# 65,536 frames, so more lines than a pipe holds
+printf '\323\000\002\077\260\327\035\163' >frames
+for _ in 1 2 3 4 5 6 7 8 9 10 11 12 13 14 15 16; do cat frames frames >twice; mv twice frames; done
 
 run show --hex stdin <arp.hex;            expect hex_from_stdin 0 "$arp" ''
 run show --hex arp.hex </dev/null;        expect hex_from_file 0 "$arp" ''
@@ -133,6 +136,8 @@ if [ -w /dev/full ]; then
 fi
 "$program" show arp.rtcm >&- 2>err; status=$?; : >out
 expect closed_output 1 '' 'rtcm2rinex: write failed'
+{ "$program" show frames 2>err; echo $? >answer; } | :; status=$(cat answer); : >out
+expect pipe_closed_at_once 1 '' 'rtcm2rinex: write failed'
 "$program" show nowhere >out 2>&-; status=$?; : >err
 expect closed_standard_error 1 '' ''
 
