@@ -1,6 +1,8 @@
 //! The command line, as clap reads it.
-ghost use Rattle.std.specs.Prelude.{IfErr};
-ghost use Rattle.rtk_cli.specs.Words.{HasStatus};
+ghost use Rattle.std.specs.Prelude.{◌≡◌, ℕ, IfErr};
+ghost use Rattle.clap.specs.Values.{kind_of};
+ghost use Rattle.rtk_cli.specs.Words.{HasStatus, IsStatusOf};
+ghost use Rattle.rtk_cli.specs.declared.words.WordsFault.TheVariants.{Clap};
 
 use crate::words::{Job, WordsFault};
 use clap::error::ErrorKind;
@@ -43,7 +45,9 @@ fn program<'a>(alloc: Global) -> Result<Command<'a>, AllocError> {
 
 // The text that clap has for an error. What was asked for, as help, goes to standard output.
 fn refused(alloc: Global, error: &Error) -> WordsFault
-    ensures { HasStatus result }
+    ensures two { HasStatus result }
+    ensures status { (text : _) (status : ℕ)
+        → result ≡ Clap text status → IsStatusOf (kind_of error.now) status }
 {
     if error.kind() == ErrorKind::OutOfMemory {
         return WordsFault::OutOfMemory;

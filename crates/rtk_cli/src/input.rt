@@ -1,5 +1,5 @@
 //! Reading an input whole.
-ghost use Rattle.std.specs.Prelude.{◌≡◌, ◌≢◌, ◌+◌, ◌^◌, ◌<◌, ◌≤◌, length, Err, IfOk, IsErrOf};
+ghost use Rattle.std.specs.Prelude.{◌≡◌, ◌≢◌, ◌+◌, ◌≤◌, length, Err, IfOk, IsErrOf};
 ghost use Rattle.rtk_frame.specs.Stream.{Rises};
 ghost use Rattle.rtk_cli.specs.Input.{GivesText};
 ghost use Rattle.rtk_cli.specs.declared.words.ToolFault.TheVariants.{Input, TooLong, NotHex, Output};
@@ -18,7 +18,6 @@ pub fn read_whole<R: Source>(
     reader: &mut R,
     limit: usize,
 ) -> Result<Vec<u8>, ToolFault>
-    requires { limit < 2 ^ 62 }
     ensures whole { IfOk result (λ bytes. GivesText (R.given reader.old) (R.given reader.new) (λ text.
         (text ≡ bytes.items) × (length text ≤ limit))) }
     ensures no_fault { result ≢ Err Input → R.failures reader.new ≡ R.failures reader.old }
@@ -33,7 +32,7 @@ pub fn read_whole<R: Source>(
     let mut bytes = Vec::new(alloc);
     let mut piece = [0u8; PIECE];
     while bytes.len() <= limit {
-        let room = PIECE.min(limit + 1 - bytes.len());
+        let room = PIECE.min((limit - bytes.len()).saturating_add(1));
         let Ok(count) = reader.read(&mut piece[..room]) else {
             return Err(ToolFault::Input);
         };
