@@ -105,10 +105,11 @@ impl MsmHeader {
         Ok(())
     }
 
+    // Whether each field fits, and the time of week is one.
     fn fits(self) -> bool
-        ensures { IsTrue result ↔ FieldsFit (header_table self) }
+        ensures { IsTrue result ↔ (FieldsFit (header_table self) × (self.tow < 604800000)) }
     {
-        if self.station >= 1 << 12 || self.tow >= 1 << 30 || self.issue_of_data_station >= 1 << 3 {
+        if self.station >= 1 << 12 || self.tow >= WEEK_MS || self.issue_of_data_station >= 1 << 3 {
             return false;
         }
         if self.reserved >= 1 << 7 || self.clock_steering >= 1 << 2 {
@@ -226,7 +227,7 @@ impl Layout for Msm1074 {
     }
 
     fn fits(&self) -> bool {
-        if self.header.tow >= WEEK_MS || !self.header.fits() {
+        if !self.header.fits() {
             return false;
         }
         if has_too_many_cells(self.header.satellite_count(), self.header.signal_count()) {
