@@ -1,5 +1,5 @@
 //! Files and standard streams as sources and sinks: nothing is known of what they gave and took.
-ghost use Rattle.std.specs.Prelude.{◌≡◌, None};
+ghost use Rattle.std.specs.Prelude.{◌≡◌, None, true};
 
 use rtk_frame::{Sink, Source, StreamFault};
 use std::io::{Read, Write};
@@ -10,6 +10,7 @@ pub struct Reads<R: Read> {
     inner: R,
     failed: u64,
     made: u64,
+    ended: bool,
 }
 
 impl<R: Read> Reads<R> {
@@ -21,6 +22,7 @@ impl<R: Read> Reads<R> {
             inner,
             failed: 0,
             made: 0,
+            ended: false,
         }
     }
 }
@@ -32,9 +34,15 @@ impl<R: Read> Source for Reads<R> {
 
     ghost calls = { λ source. source.made };
 
+    ghost is_at_end = { λ source. source.ended ≡ true };
+
     fn read(&mut self, buf: &mut [u8]) -> Result<usize, StreamFault> {
         self.made = self.made.saturating_add(1);
         match self.inner.read(buf) {
+            Ok(0) if !buf.is_empty() => {
+                self.ended = true;
+                Ok(0)
+            }
             Ok(count) => Ok(count),
             Err(_) => {
                 self.failed = self.failed.saturating_add(1);

@@ -1,5 +1,5 @@
 //! Reading an input whole.
-ghost use Rattle.std.specs.Prelude.{◌≡◌, ◌≢◌, ◌+◌, ◌≤◌, length, Err, IfOk, IsErrOf};
+ghost use Rattle.std.specs.Prelude.{◌≡◌, ◌≢◌, ◌+◌, ◌≤◌, length, Err, IfOk, OnOk, IsErrOf};
 ghost use Rattle.rtk_frame.specs.Stream.{Rises};
 ghost use Rattle.rtk_cli.specs.Input.{GivesText};
 ghost use Rattle.rtk_cli.specs.declared.words.ToolFault.TheVariants.{Input, TooLong, NotHex, Output};
@@ -20,6 +20,7 @@ pub fn read_whole<R: Source>(
 ) -> Result<Vec<u8>, ToolFault>
     ensures whole { IfOk result (λ bytes. GivesText (R.given reader.old) (R.given reader.new) (λ text.
         (text ≡ bytes.items) × (length text ≤ limit))) }
+    ensures to_the_end { OnOk result (R.is_at_end reader.new) }
     ensures no_fault { result ≢ Err Input → R.failures reader.new ≡ R.failures reader.old }
     ensures input { IsErrOf result Input → Rises (R.failures reader.old) (R.failures reader.new) }
     ensures too_long { IsErrOf result TooLong

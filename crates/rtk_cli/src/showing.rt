@@ -92,6 +92,10 @@ pub fn show<R: Source, W: Sink>(
         (length text ≤ SHOW_LIMIT) × IsSomeAnd (capture_of hex text) (λ capture.
         Shows capture (W.taken out.old) (W.taken out.new) × (count ≡ length (frames capture))))) }
 
+    // What is shown, or is no hex text, was read to its end.
+    ensures to_the_end { result ≢ Err Input → result ≢ Err TooLong → result ≢ Err OutOfMemory
+        → R.is_at_end reader.new }
+
     // Each fault only where its cause is, and no call failed without its fault.
     ensures input { IsErrOf result Input → Rises (R.failures reader.old) (R.failures reader.new) }
     ensures no_failed_read { result ≢ Err Input → R.failures reader.new ≡ R.failures reader.old }

@@ -83,6 +83,8 @@ impl Source for MemSource {
 
     ghost calls = { λ s. s.calls };
 
+    ghost is_at_end = { λ s. IsSpent s End };
+
     /// Gives the next bytes, as many as fit; behind the last of them does what `After` says.
     fn read(&mut self, buf: &mut [u8]) -> Result<usize, StreamFault>
         ensures bound { moved_count result ≤ length buf.new }

@@ -118,7 +118,8 @@ impl Scanner {
         match advance_ended(&mut self.ring) {
             None => None,
             Some(payload) => {
-                self.given = payload + 6;
+                let size = payload + 6;
+                self.given = size;
                 let bytes = all_bytes(&mut self.ring);
                 Some(&bytes[3..payload + 3])
             }

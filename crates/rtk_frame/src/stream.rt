@@ -1,5 +1,5 @@
 //! Where bytes come from and where they go: the two traits, their fault, and two calls over them.
-ghost use Rattle.std.specs.Prelude.{◌≡◌, ◌≤◌, ◌<◌, List, ℕ, Option, length, take, is_err, OnOk, OnErr};
+ghost use Rattle.std.specs.Prelude.{◌≡◌, ◌≤◌, ◌<◌, List, ℕ, Option, Ok, length, take, is_err, OnOk, OnErr};
 ghost use Rattle.rtk_frame.specs.Stream.{moved_count, with_more, count_after, failures_after, is_failed_write, Rises, TakesPart, ReadsOne};
 
 use thiserror::Error;
@@ -20,6 +20,9 @@ pub trait Source {
     /// How many calls were made so far: a `u64` that stays at its greatest value.
     ghost calls: { Self → ℕ };
 
+    /// It has met its end: a read with room gave nothing.
+    ghost is_at_end: { Self → Type 0 };
+
     /// Reads into the buffer and answers how many bytes it gave; 0 where there is room is the end.
     ///
     /// A failed call gives nothing. What stands in the buffer behind the bytes given is not said.
@@ -27,7 +30,8 @@ pub trait Source {
         ensures bound { moved_count result ≤ length buf.new }
         ensures given { given self.new ≡ with_more (given self.old) (take (moved_count result) buf.new) }
         ensures failures { failures self.new ≡ failures_after (failures self.old) (is_err result) }
-        ensures calls { calls self.new ≡ count_after (calls self.old) };
+        ensures calls { calls self.new ≡ count_after (calls self.old) }
+        ensures at_end { 0 < length buf.old → result ≡ Ok 0 → is_at_end self.new };
 }
 
 /// Where bytes go: std's `Write`, with a contract that tells what passed.

@@ -32,7 +32,9 @@ returns-in-Some c =
     let within : length (drop (c.in-Some.payload + 6) c.all_bytes-bytes.follows.lender-at-none.items) ≤ 1029 = omega (arith, ap length left, gone, c.advance-used.ensures.capacity.1) in
     let less : length (drop (c.in-Some.payload + 6) c.all_bytes-bytes.follows.lender-at-none.items) + (length c.args.piece.now - c.advance-used.result.0) + 6 ≤ length c.args.self.now.pending + length c.args.piece.now =
     omega (arith, ap length left, gone, whole, scanned_length _ _ scanned, length-append c.args.self.now.pending (take c.advance-used.result.0 c.args.piece.now), length-take c.advance-used.result.0 c.args.piece.now, c.advance-used.ensures.used) in
-    ((refl, λ _. tt, (ap (λ (s : Scan). s.ended) view ∙ c.requires, within, ((first.0, first.1, first.2, first.3 ∙ sym taken, left ∙ first.4), less))), record { used = c.advance-used.ensures.used; after = tt })
+    let both : length (take (c.in-Some.payload + 3 - 3) (drop 3 c.all_bytes-bytes.result.now)) + 6 + length (drop (c.in-Some.payload + 6) c.all_bytes-bytes.follows.lender-at-none.items) ≤ 1029 =
+    omega (arith, length-take (c.in-Some.payload + 3 - 3) (drop 3 c.all_bytes-bytes.result.now), found.1, ap length left, gone, whole, c.advance-used.ensures.capacity.1) in
+    ((refl, λ _. tt, (ap (λ (s : Scan). s.ended) view ∙ c.requires, within, ((first.0, first.1, first.2, first.3 ∙ sym taken, left ∙ first.4), less, both))), record { used = c.advance-used.ensures.used; after = tt })
 
 pub slice_bounds-self-end : goal.slice_bounds-self-end
 slice_bounds-self-end c =

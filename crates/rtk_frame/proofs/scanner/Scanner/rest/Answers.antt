@@ -1,4 +1,4 @@
-use Rattle.std.proofs.Common.{◌≡◌, ◌≤◌, ◌+◌, ◌-◌, ℕ, List, length, take, drop, arith, length-drop, refl, sym, ◌∙◌, ap}
+use Rattle.std.proofs.Common.{◌≡◌, ◌≤◌, ◌+◌, ◌-◌, ℕ, List, length, take, drop, arith, length-take, length-drop, refl, sym, ◌∙◌, ap}
 use Rattle.rtk_frame.specs.Frame.{payload_of, payload_length}
 use Rattle.rtk_frame.specs.ScannerState.{Scan}
 use Rattle.rtk_frame.proofs.Fronts.{frame_is_whole}
@@ -26,7 +26,9 @@ returns-in-Some c =
     let gone = length-drop (payload_length items + 6) items in
     let within : length (drop (c.in-Some.payload + 6) c.all_bytes-bytes.follows.lender-at-none.items) ≤ 1029 = omega (arith, ap length left, gone, c.advance_ended.ensures.capacity.1) in
     let less : length (drop (c.in-Some.payload + 6) c.all_bytes-bytes.follows.lender-at-none.items) + 6 ≤ length c.args.self.now.pending = omega (arith, ap length left, gone, whole, searched_length _ _ searched) in
-    ((refl, λ _. tt, (refl, within, ((first.0, first.1, first.2, first.3 ∙ sym taken, left ∙ first.4), less))), record { after = tt })
+    let both : length (take (c.in-Some.payload + 3 - 3) (drop 3 c.all_bytes-bytes.result.now)) + 6 + length (drop (c.in-Some.payload + 6) c.all_bytes-bytes.follows.lender-at-none.items) ≤ 1029 =
+    omega (arith, length-take (c.in-Some.payload + 3 - 3) (drop 3 c.all_bytes-bytes.result.now), found.1, ap length left, gone, whole, c.advance_ended.ensures.capacity.1) in
+    ((refl, λ _. tt, (refl, within, ((first.0, first.1, first.2, first.3 ∙ sym taken, left ∙ first.4), less, both))), record { after = tt })
 
 pub slice_bounds-self-end : goal.slice_bounds-self-end
 slice_bounds-self-end c =
