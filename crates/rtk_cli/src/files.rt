@@ -1,5 +1,5 @@
 //! Files and standard streams as sources and sinks: nothing is known of what they gave and took.
-ghost use Rattle.std.specs.Prelude.{◌≡◌, None, true};
+ghost use Rattle.std.specs.Prelude.{◌≡◌, None, true, false};
 
 use rtk_frame::{Sink, Source, StreamFault};
 use std::io::{Read, Write};
@@ -16,7 +16,7 @@ pub struct Reads<R: Read> {
 impl<R: Read> Reads<R> {
     /// A source over a reader, before its first call.
     pub fn new(inner: R) -> Reads<R>
-        ensures no_call { (result.made ≡ 0) × (result.failed ≡ 0) }
+        ensures no_call { (result.made ≡ 0) × (result.failed ≡ 0) × (result.ended ≡ false) }
     {
         Reads {
             inner,
