@@ -1,14 +1,15 @@
 -- Laws on the file of arrivals. Lists of arrivals and of found frames are newest first.
-use Rattle.std.specs.Prelude.{◌≡◌, ◌↔◌, ℕ, List, [], ◌∷◌, ◌++◌, Some}
+use Rattle.std.specs.Prelude.{◌≡◌, ◌↔◌, ℕ, List, [], ◌∷◌, ◌++◌, Some, All}
 use Rattle.rtk_collect.specs.Arrival.{Arrival}
 use Rattle.rtk_collect.specs.Accepted.{kept, closed, IsTaken, IsConsistent}
 use Rattle.rtk_collect.specs.Laws.{without_late}
+use Rattle.rtk_rinex.specs.Table.{Table, IsTable, table_text}
 use Rattle.rtk_convert.specs.declared.arrival.Finding.{Finding}
 use Rattle.rtk_convert.specs.declared.arrival.Finding.TheVariants.{OtherMessage, Refused, Foreign, Arrived}
 use Rattle.rtk_convert.specs.File.{first_time, header_of}
 use Rattle.rtk_convert.specs.FileOfArrivals.{site_of_kept, kept_file, file_so_far}
-use Rattle.rtk_convert.specs.Finding.{Found, arrivals}
-use Rattle.rtk_convert.specs.Settings.{Settings}
+use Rattle.rtk_convert.specs.Finding.{ComesTo, Found, arrivals}
+use Rattle.rtk_convert.specs.Settings.{Settings, IsSettings}
 
 -- two lists of consistent arrivals with one set of those in time have one file
 abbrev pub OneSetHasOneFile : Type 0
@@ -50,3 +51,12 @@ only_arrived (f ∷ before) = and_if_arrived f f.finding (only_arrived before)
 abbrev pub OthersLeaveFile : Type 0
 OthersLeaveFile =
     (s : Settings) (found : List Found) → (arrivals (only_arrived found) ≡ arrivals found) × (kept_file s (arrivals (only_arrived found)) ≡ kept_file s (arrivals found))
+
+-- a found frame has a payload that comes to its finding
+abbrev pub HasPayload : Settings → Found → Type 0
+HasPayload s f = (payload : List ℕ) × ComesTo s payload f.finding
+
+-- the file of found frames, whatever their payloads, is the text of a well-formed table, which the checker accepts
+abbrev pub KeptFileIsTable : Type 0
+KeptFileIsTable =
+    (s : Settings) (found : List Found) → IsSettings s → All (HasPayload s) found → (t : Table) × IsTable t × (kept_file s (arrivals found) ≡ table_text t)

@@ -1,14 +1,16 @@
 //! Laws on the file of a set of messages, whatever arrivals the set came from.
 
-ghost use Rattle.rtk_convert.specs.ArrivalLaws.{OneSetHasOneFile, LateLeaveFile, SoFarBegins, HeaderIsFinal, OthersLeaveFile};
+ghost use Rattle.rtk_convert.specs.ArrivalLaws.{OneSetHasOneFile, LateLeaveFile, SoFarBegins, HeaderIsFinal, OthersLeaveFile, KeptFileIsTable};
 ghost use Rattle.rtk_convert.specs.FileLaws.{FileIsTable};
 
 use rtk_collect::{late_arrivals_change_nothing, set_decides};
 use rtk_rinex::files_are_tables;
 
-/// The file of every set is the text of a well-formed table, so the checker accepts it.
+/// The file of every set, and so that of all found frames, is the text of a well-formed table: the
+/// checker accepts it.
 pub fn file_laws()
     ensures table { FileIsTable }
+    ensures kept { KeptFileIsTable }
 {
     files_are_tables();
 }

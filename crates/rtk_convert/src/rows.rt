@@ -107,14 +107,14 @@ fn row_of(shown: &[Option<Observed>], satellite: u8, listed: &[Code]) -> Satelli
     requires few { length listed.now ≤ 16 }
     ensures { result ≡ row_with (shown_at shown.now) listed.now satellite }
 {
-    let mut observed = ArrayVec::new();
-    for code in listed {
-        observed.push(shown_by(shown, satellite, *code));
-    }
-    SatelliteRow {
+    let mut row = SatelliteRow {
         satellite,
-        observed,
+        observed: ArrayVec::new(),
+    };
+    for code in listed {
+        row.observed.push(shown_by(shown, satellite, *code));
     }
+    row
 }
 
 // Has a satellite a cell of a listed code?

@@ -145,6 +145,30 @@ fn records_go_out_as_epochs_close(rt: HostRuntime) -> Result<(), Fail> {
 }
 
 #[test]
+fn nothing_goes_out_before_a_record(rt: HostRuntime) -> Result<(), Fail> {
+    let alloc = rt.alloc();
+    let mut out = MemSink::new(alloc, 65_536, 65_536)?;
+    let mut log = MemSink::new(alloc, 65_536, 65_536)?;
+    let mut conversion = Conversion::new(alloc, setup(2003, NOON, 2)?);
+    for payload in [SATELLITE_40, Q_1, Q_2] {
+        conversion.arrive(0, payload, &mut out, &mut log)?;
+    }
+    assert_eq!(rt; out.bytes().len(), 0);
+    conversion.arrive(0, Q_3, &mut out, &mut log)?;
+    let file = [
+        TOP,
+        NO_SITE,
+        TYPES,
+        FIRST_AFTER_NOON,
+        END,
+        AFTER_1_S,
+        Q_LINE,
+    ];
+    assert!(rt; consists_of(out.bytes(), &file));
+    Ok(())
+}
+
+#[test]
 fn a_conversion_that_broke_off_stays_stopped(rt: HostRuntime) -> Result<(), Fail> {
     let alloc = rt.alloc();
     let mut out = MemSink::new(alloc, 65_536, 65_536)?;

@@ -1,6 +1,6 @@
 //! Numbers in columns of text, as the formats of RINEX 3.05 name them (F14.3, I6 ..).
 
-ghost use Rattle.std.specs.Prelude.{◌≡◌, ℕ, ◌+◌, ◌^◌, ◌<◌, ◌≤◌, ◌++◌, length, take, decimal, if◌then◌else◌, false, pos, negsuc, ◌≤ℤ◌};
+ghost use Rattle.std.specs.Prelude.{◌≡◌, ℕ, ◌+◌, ◌^◌, ◌<◌, ◌≤◌, ◌++◌, length, take, replicate, decimal, if◌then◌else◌, false, pos, negsuc, ◌≤ℤ◌};
 ghost use Rattle.rtk_rinex.specs.Columns.{last_digits, right, decimals, fixed};
 
 /// Writes the last digits of a number over the whole of `field`.
@@ -34,28 +34,28 @@ pub fn put_decimal(field: &mut [u8], number: u64) -> usize
     at
 }
 
-// F14.3 of a sign and a magnitude in thousandths.
-fn signed_14_3(negative: bool, magnitude: u64) -> [u8; 14]
-    requires { magnitude < (if negative then 10 ^ 12 else 10 ^ 13) }
-    ensures { result ≡ right 14 (decimals 3 negative magnitude) }
+// Writes F14.3 of a sign and a magnitude in thousandths.
+fn put_signed_14_3(field: &mut [u8], negative: bool, magnitude: u64)
+    requires blank { field.old ≡ replicate 14 32 }
+    requires fits { magnitude < (if negative then 10 ^ 12 else 10 ^ 13) }
+    ensures { field.new ≡ right 14 (decimals 3 negative magnitude) }
 {
-    let mut field = [b' '; 14];
     put_last_digits(&mut field[11..], magnitude);
     field[10] = b'.';
     let start = put_decimal(&mut field[..10], magnitude / 1000);
     if negative {
         field[start - 1] = b'-';
     }
-    field
 }
 
-/// F14.3 of a number of thousandths.
-pub fn fixed_14_3(value: i64) -> [u8; 14]
+/// Writes F14.3 of a number of thousandths over 14 blanks.
+pub fn put_fixed_14_3(field: &mut [u8], value: i64)
+    requires blank { field.old ≡ replicate 14 32 }
     requires low { negsuc 999_999_999_998 ≤ℤ value }
     requires high { value ≤ℤ pos 9_999_999_999_999 }
-    ensures { result ≡ fixed 3 14 value }
+    ensures { field.new ≡ fixed 3 14 value }
 {
-    signed_14_3(value < 0, value.unsigned_abs())
+    put_signed_14_3(field, value < 0, value.unsigned_abs());
 }
 
 // F14.4 of a sign and a magnitude in ten-thousandths.

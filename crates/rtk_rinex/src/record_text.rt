@@ -4,7 +4,7 @@ ghost use Rattle.std.specs.Prelude.{◌≡◌, ℕ, ◌+◌, ◌*◌, ◌<◌, �
 ghost use Rattle.std.specs.List.{filter, list_any};
 ghost use Rattle.rtk_rinex.specs.Record.{HasWidth, is_written, is_value, observation, observations, strength_digit, strength_value, lli_digit, has_observation, has_line, trim_end, satellite_line, epoch_date_text, epoch_line, record_text};
 
-use crate::columns::{fixed_14_3, integer_3, put_last_digits, unsigned_11_7};
+use crate::columns::{integer_3, put_fixed_14_3, put_last_digits, unsigned_11_7};
 use crate::epoch_table::{EpochTable, Observed, SatelliteRow};
 use crate::head::Head;
 use crate::reading::{reading, seconds};
@@ -23,19 +23,24 @@ fn is_written_value(value: i64) -> bool
     value != 0 && value >= LEAST && value <= GREATEST
 }
 
-// F14.3 and two digits, or blanks.
-fn observation_field(value: Option<i64>, first: u8, second: u8) -> [u8; 16]
-    ensures { result ≡ observation value first second }
+// Appends F14.3 and two digits, or blanks.
+fn put_observation(
+    out: &mut Vec<u8>,
+    value: Option<i64>,
+    first: u8,
+    second: u8,
+) -> Result<(), AllocError>
+    ensures { OnOk result (out.new.items ≡ out.old.items ++ observation value first second) }
 {
     match value {
         Some(value) if is_written_value(value) => {
             let mut field = [b' '; 16];
-            field[..14].copy_from_slice(&fixed_14_3(value));
+            put_fixed_14_3(&mut field[..14], value);
             field[14] = first;
             field[15] = second;
-            field
+            out.extend_from_slice(&field)
         }
-        _ => [b' '; 16],
+        _ => out.extend_from_slice(&[b' '; 16]),
     }
 }
 
@@ -73,9 +78,9 @@ fn put_observations(out: &mut Vec<u8>, observed: &Observed) -> Result<(), AllocE
     let digit = digit_of_strength(observed.strength_millidbhz);
     let lock = digit_of_lock(observed.slip, observed.half);
     let strength = value_of_strength(observed.strength_millidbhz);
-    out.extend_from_slice(&observation_field(observed.range_mm, b' ', digit))?;
-    out.extend_from_slice(&observation_field(observed.phase_millicycles, lock, digit))?;
-    out.extend_from_slice(&observation_field(strength, b' ', b' '))
+    put_observation(out, observed.range_mm, b' ', digit)?;
+    put_observation(out, observed.phase_millicycles, lock, digit)?;
+    put_observation(out, strength, b' ', b' ')
 }
 
 // How many bytes are left without the blanks at the end.

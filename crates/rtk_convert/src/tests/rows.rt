@@ -11,7 +11,7 @@ pub(crate) struct Row {
 }
 
 /// Positions, cells and closed epochs.
-pub(crate) const EPOCHS: [Row; 8] = [
+pub(crate) const EPOCHS: [Row; 10] = [
     // The example: a position and an epoch.
     Row {
         payloads: &[P, Q],
@@ -104,6 +104,40 @@ pub(crate) const EPOCHS: [Row; 8] = [
         ],
         report: "link 1 late 1004 2024-05-17 12:00:00.000\nframes 4\nother 0\nrefused 0\nforeign 0\ntaken 3\nrepeat 0\nconflict 0\nlate 1\nepochs 3\n",
     },
+    // Epochs below a greater one close from the least on.
+    Row {
+        payloads: &[Q_1000, Q_1, Q_2, Q_3],
+        file: &[
+            TOP,
+            NO_SITE,
+            TYPES,
+            FIRST_AFTER_NOON,
+            END,
+            AFTER_1_S,
+            Q_LINE,
+            AFTER_2_S,
+            Q_LINE,
+            "> 2024 05 17 12 00  3.0000000  0  1\n",
+            Q_LINE,
+            "> 2024 05 17 12 16 40.0000000  0  1\n",
+            "G05  21085472.060 7 110804903.54717        45.000    21085474.060 5  86341483.28315        35.000\n",
+        ],
+        report: "frames 4\nother 0\nrefused 0\nforeign 0\ntaken 4\nrepeat 0\nconflict 0\nlate 0\nepochs 4\n",
+    },
+    // A strength alone has a line, without a digit.
+    Row {
+        payloads: &[STRENGTH_ALONE],
+        file: &[
+            TOP,
+            NO_SITE,
+            TYPES,
+            FIRST_AT_NOON,
+            END,
+            AT_NOON,
+            "G05                                        45.000\n",
+        ],
+        report: "frames 1\nother 0\nrefused 0\nforeign 0\ntaken 1\nrepeat 0\nconflict 0\nlate 0\nepochs 1\n",
+    },
 ];
 
 /// Late, refused and other messages.
@@ -177,7 +211,7 @@ pub(crate) const REPORTS: [Row; 6] = [
 ];
 
 /// Conflicts and split epochs.
-pub(crate) const PARTS: [Row; 7] = [
+pub(crate) const PARTS: [Row; 8] = [
     // A cell that differs is in conflict, and the first stays.
     Row {
         payloads: &[P, Q, Q_STRONGER],
@@ -269,10 +303,16 @@ pub(crate) const PARTS: [Row; 7] = [
         ],
         report: "frames 4\nother 0\nrefused 0\nforeign 0\ntaken 4\nrepeat 0\nconflict 0\nlate 0\nepochs 3\n",
     },
+    // A message whose fields differ and whose values are equal is a repeat.
+    Row {
+        payloads: &[MSM_5_INVALID, MSM_5_INVALID_TOO],
+        file: &[TOP, NO_SITE, TYPES, FIRST_AT_NOON, END],
+        report: "frames 2\nother 0\nrefused 0\nforeign 0\ntaken 1\nrepeat 1\nconflict 0\nlate 0\nepochs 0\n",
+    },
 ];
 
 /// Rolls and losses of lock.
-pub(crate) const PHASES: [Row; 5] = [
+pub(crate) const PHASES: [Row; 8] = [
     // A phase that rolled over by 1500 cycles is rolled back.
     Row {
         payloads: &[ROLLED, ROLLED_BACK],
@@ -362,6 +402,56 @@ pub(crate) const PHASES: [Row; 5] = [
             MSM_LINE,
             AFTER_2_S,
             "G05  21135368.289   111067110.0003\n",
+        ],
+        report: "frames 2\nother 0\nrefused 0\nforeign 0\ntaken 2\nrepeat 0\nconflict 0\nlate 0\nepochs 2\n",
+    },
+    // The time since the last phase counts, though the satellite was absent at the epoch between.
+    Row {
+        payloads: &[Q, Q_1_OF_SATELLITE_7, Q_31],
+        file: &[
+            TOP,
+            NO_SITE,
+            TYPES,
+            FIRST_AT_NOON,
+            END,
+            AT_NOON,
+            Q_LINE,
+            AFTER_1_S,
+            "G07  21085472.060 7 110804903.547 7        45.000    21085474.060 5  86341483.283 5        35.000\n",
+            "> 2024 05 17 12 00 31.0000000  0  1\n",
+            "G05  21085472.060 7 110804903.54717        45.000    21085474.060 5  86341483.283 5        35.000\n",
+        ],
+        report: "frames 3\nother 0\nrefused 0\nforeign 0\ntaken 3\nrepeat 0\nconflict 0\nlate 0\nepochs 3\n",
+    },
+    // A lock time below that of the last phase is a loss of lock.
+    Row {
+        payloads: &[MSM_5_LONG_LOCKED, MSM_5_1_SLIPPED],
+        file: &[
+            TOP,
+            NO_SITE,
+            TYPES,
+            FIRST_AT_NOON,
+            END,
+            AT_NOON,
+            MSM_LINE,
+            AFTER_1_S,
+            "G05  21135368.289   111067110.0001\n",
+        ],
+        report: "frames 2\nother 0\nrefused 0\nforeign 0\ntaken 2\nrepeat 0\nconflict 0\nlate 0\nepochs 2\n",
+    },
+    // But for that of the other kind of message.
+    Row {
+        payloads: &[Q_LONG_LOCKED, MSM_5_1],
+        file: &[
+            TOP,
+            NO_SITE,
+            TYPES,
+            FIRST_AT_NOON,
+            END,
+            AT_NOON,
+            Q_LINE,
+            AFTER_1_S,
+            MSM_LINE,
         ],
         report: "frames 2\nother 0\nrefused 0\nforeign 0\ntaken 2\nrepeat 0\nconflict 0\nlate 0\nepochs 2\n",
     },

@@ -1,0 +1,163 @@
+-- The file of what is kept of found frames is the text of a table.
+use Rattle.std.proofs.Common.{ℕ, Bool, true, false, List, [], ◌∷◌, Option, None, Some, Result, Ok, Err, sym, subst, arith, inl, inr, ℤ, pos, negsuc}
+use Rattle.std.specs.Prelude.{◌≤ℤ◌, ◌<ℤ◌, ◌==◌, ◌&&◌, not, if◌then◌else◌, All}
+use Rattle.std.specs.List.{AllByRecursion}
+use Rattle.std.proofs.lemmas.Bool.{cases_Bool, cases_order}
+use Rattle.std.proofs.lemmas.Int.{ints}
+use Rattle.std.proofs.lemmas.List.Elements.{All-nil, All-from_recursion, recursion_from_All}
+use Rattle.rtk_bits.specs.Bits.{bits}
+use Rattle.rtk_message.specs.declared.message.Message.{Message}
+use Rattle.rtk_message.specs.declared.message.Message.TheVariants.{Obs1004, Arp1005, Arp1006, Msm1074}
+use Rattle.rtk_message.specs.declared.fault.DecodeFault.{DecodeFault}
+use Rattle.rtk_message.specs.declared.fault.DecodeFault.TheVariants.{NoNumber, Other, Short, EpochRange, TooManyCells}
+use Rattle.rtk_message.specs.Decoded.{Decodes, IsValid, number_of, tow_of}
+use Rattle.rtk_obs.specs.declared.cell.CellEntry.{CellEntry}
+use Rattle.rtk_obs.specs.Cell.{IsInRange}
+use Rattle.rtk_obs.specs.Dating.{IsReference}
+use Rattle.rtk_obs.specs.Position.{IsCoordinate}
+use Rattle.rtk_obs.proofs.LegacyLemmas.{fields_of_valid, cells_in_range as cells_in_range-1004}
+use Rattle.rtk_obs.proofs.MsmLemmas.{cells_in_range as cells_in_range-1074}
+use Rattle.rtk_collect.specs.EpochCells.{EpochCells, joined}
+use Rattle.rtk_collect.specs.Search.{Below, Falls}
+use Rattle.rtk_collect.specs.Arrival.{Arrival, At, cells_of}
+use Rattle.rtk_collect.specs.Late.{late}
+use Rattle.rtk_collect.specs.Accepted.{first, station, no_cells, with_arrival, kept}
+use Rattle.rtk_collect.proofs.CellsLemmas.{with_cells-all}
+use Rattle.rtk_collect.proofs.ArrivalsLemmas.{with_arrival-new, with_arrival-below, with_arrival-same, kept-falls}
+use Rattle.rtk_collect.proofs.LateLemmas.{kept-late, kept-new}
+use Rattle.rtk_rinex.specs.Header.{IsSite}
+use Rattle.rtk_rinex.specs.Reading.{IsMoment}
+use Rattle.rtk_rinex.specs.Table.{FilesAreTables}
+use Rattle.rtk_convert.specs.declared.arrival.Finding.{Finding}
+use Rattle.rtk_convert.specs.declared.arrival.Finding.TheVariants.{OtherMessage, Refused, Foreign, Arrived}
+use Rattle.rtk_convert.specs.ArrivalLaws.{HasPayload, KeptFileIsTable}
+use Rattle.rtk_convert.specs.FileLaws.{IsAbove, Fall, IsGoodEpoch}
+use Rattle.rtk_convert.specs.FileOfArrivals.{no_site, site_of_1005, site_of_stations, site_of_kept}
+use Rattle.rtk_convert.specs.Finding.{IsEpochOf, IsFindingOf, ComesTo, Found, and_arrived, arrivals}
+use Rattle.rtk_convert.specs.Settings.{Settings}
+use Rattle.rtk_convert.proofs.TableLemmas.{file-is_table}
+
+-- ---- arrivals of payloads are valid, and their epochs are moments
+
+abbrev IsTimed : Option ℕ → Type 0
+IsTimed None = Unit {0}
+IsTimed (Some t) = IsMoment t
+
+abbrev IsGoodArrival : Arrival → Type 0
+IsGoodArrival (At e m) = IsValid m × IsTimed e
+
+timed : (near : ℕ) (tow e : Option ℕ) → IsReference near → IsEpochOf near tow e → IsTimed e
+timed near None None r h = tt
+timed near (Some w) (Some t) r h = let before = h.before in let to = r.to in omega arith
+timed near None (Some t) r h = absurd h
+timed near (Some w) None r h = absurd h
+
+good-by : (s : Settings) (payload : List ℕ) (r : Result Message DecodeFault) (e : Option ℕ) (m : Message) → IsReference s.near → Decodes (bits payload) r → IsFindingOf s r (Arrived (At e m))
+    → IsGoodArrival (At e m)
+good-by s payload (Ok x) e m near d f = (subst IsValid (sym f.1.0) d.message.valid, timed s.near (tow_of x) e near f.1.1)
+good-by s payload (Err NoNumber) e m near d f = cc
+good-by s payload (Err (Other number)) e m near d f = cc
+good-by s payload (Err (Short number)) e m near d f = cc
+good-by s payload (Err (EpochRange number)) e m near d f = cc
+good-by s payload (Err TooManyCells) e m near d f = cc
+
+and-good : (s : Settings) (f : Finding) (before : List Arrival) → IsReference s.near → (payload : List ℕ) → ComesTo s payload f → AllByRecursion IsGoodArrival before → AllByRecursion IsGoodArrival (and_arrived f before)
+and-good s OtherMessage before near payload c h = h
+and-good s (Refused fault) before near payload c h = h
+and-good s Foreign before near payload c h = h
+and-good s (Arrived (At e m)) before near payload c h = (good-by s payload c.0 e m near c.1 c.2, h)
+
+arrivals-good : (s : Settings) (found : List Found) → IsReference s.near → AllByRecursion (HasPayload s) found → AllByRecursion IsGoodArrival (arrivals found)
+arrivals-good s [] near h = tt
+arrivals-good s (f ∷ before) near h = and-good s f.finding (arrivals before) near h.0.0 h.0.1 (arrivals-good s before near h.1)
+
+-- ---- so are the kept epochs
+
+cells-good : (m : Message) → IsValid m → All IsInRange (cells_of m)
+cells-good (Obs1004 m) v = cells_in_range-1004 m.satellites (fields_of_valid m v)
+cells-good (Arp1005 m) v = All-nil IsInRange
+cells-good (Arp1006 m) v = All-nil IsInRange
+cells-good (Msm1074 m) v = cells_in_range-1074 m v
+
+joined-good : (cs : List CellEntry) (x : EpochCells) → All IsInRange cs → IsGoodEpoch x → IsGoodEpoch (joined cs x)
+joined-good cs x h g = record { time = g.time; cells = with_cells-all IsInRange cs x.cells h g.cells }
+
+opened-good : (e : ℕ) (cs : List CellEntry) → IsMoment e → All IsInRange cs → IsGoodEpoch (joined cs (no_cells e))
+opened-good e cs m h = joined-good cs (no_cells e) h (record { time = m; cells = All-nil IsInRange })
+
+with_arrival-good : (e : ℕ) (cs : List CellEntry) (xs : List EpochCells) → IsMoment e → All IsInRange cs → AllByRecursion IsGoodEpoch xs → AllByRecursion IsGoodEpoch (with_arrival e cs xs)
+with_arrival-good e cs [] m h g = (opened-good e cs m h, tt)
+with_arrival-good e cs (x ∷ xs) m h g = elim (cases_order x.epoch e) [
+  | inl same ↦ subst (AllByRecursion IsGoodEpoch) (sym (with_arrival-same e cs x xs (sym same))) (joined-good cs x h g.0, g.1)
+  | inr more ↦ elim more [
+    | inl new ↦ subst (AllByRecursion IsGoodEpoch) (sym (with_arrival-new e cs x xs new)) (opened-good e cs m h, g)
+    | inr below ↦ subst (AllByRecursion IsGoodEpoch) (sym (with_arrival-below e cs x xs below)) (g.0, with_arrival-good e cs xs m h g.1)
+  ]
+]
+
+kept-good : (n : ℕ) (arrivals : List Arrival) → AllByRecursion IsGoodArrival arrivals → AllByRecursion IsGoodEpoch (kept n arrivals)
+kept-good n [] h = tt
+kept-good n (At None m ∷ before) h = kept-good n before h.1
+kept-good n (At (Some e) m ∷ before) h = elim (cases_Bool (late n (At (Some e) m) before)) [
+  | inl over ↦ subst (AllByRecursion IsGoodEpoch) (sym (kept-late n e m before over)) (kept-good n before h.1)
+  | inr fresh ↦ subst (AllByRecursion IsGoodEpoch) (sym (kept-new n e m before fresh)) (with_arrival-good e (cells_of m) (kept n before) h.0.1 (cells-good m h.0.0) (kept-good n before h.1))
+]
+
+below-above : (e : ℕ) (xs : List EpochCells) → Below e xs → IsAbove e xs
+below-above e [] h = tt
+below-above e (x ∷ xs) h = h
+
+falls-fall : (xs : List EpochCells) → Falls xs → Fall xs
+falls-fall [] f = tt
+falls-fall (x ∷ xs) f = (below-above x.epoch xs f.0, falls-fall xs f.1)
+
+-- ---- and so is the position
+
+abbrev IfValid : Option Message → Type 0
+IfValid None = Unit {0}
+IfValid (Some m) = IsValid m
+
+station-if : (b : Bool) (o : Option Message) (m : Message) → IsValid m → IfValid o → IfValid (if b then first o m else o)
+station-if true None m v h = v
+station-if true (Some x) m v h = h
+station-if false o m v h = h
+
+station-good : (n k : ℕ) (arrivals : List Arrival) → AllByRecursion IsGoodArrival arrivals → IfValid (station n k arrivals)
+station-good n k [] h = tt
+station-good n k (At (Some e) m ∷ before) h = station-good n k before h.1
+station-good n k (At None m ∷ before) h = station-if ((number_of m == k) && not (late n (At None m) before)) (station n k before) m h.0.0 (station-good n k before h.1)
+
+abbrev FitsField : ℤ → Type 0
+FitsField v = (negsuc 137438953471 ≤ℤ v) × (v <ℤ pos 137438953472)
+
+coordinate : (v : ℤ) → FitsField v → IsCoordinate v
+coordinate v h = let l = h.1 in record { least = h.0; greatest = omega (arith, ints, l) }
+
+zeros-good : IsSite no_site
+zeros-good =
+    let zero : IsCoordinate (pos 0) = record { least = omega (arith, ints); greatest = omega (arith, ints) } in (zero, zero, zero, omega arith)
+
+site_of_1005-good : (o : Option Message) → IfValid o → IsSite (site_of_1005 o)
+site_of_1005-good None v = zeros-good
+site_of_1005-good (Some (Obs1004 m)) v = zeros-good
+site_of_1005-good (Some (Arp1005 m)) v = (coordinate m.x v.1.1.1.1.1.1.0, coordinate m.y v.1.1.1.1.1.1.1.1.1.0, coordinate m.z v.1.1.1.1.1.1.1.1.1.1.1.0, omega arith)
+site_of_1005-good (Some (Arp1006 m)) v = zeros-good
+site_of_1005-good (Some (Msm1074 m)) v = zeros-good
+
+site-good : (short tall : Option Message) → IfValid short → IfValid tall → IsSite (site_of_stations short tall)
+site-good short None s t = site_of_1005-good short s
+site-good short (Some (Obs1004 m)) s t = site_of_1005-good short s
+site-good short (Some (Arp1005 m)) s t = site_of_1005-good short s
+site-good short (Some (Arp1006 m)) s v = (coordinate m.x v.1.1.1.1.1.1.0, coordinate m.y v.1.1.1.1.1.1.1.1.1.0, coordinate m.z v.1.1.1.1.1.1.1.1.1.1.1.0, v.1.1.1.1.1.1.1.1.1.1.1.1.0)
+site-good short (Some (Msm1074 m)) s t = site_of_1005-good short s
+
+-- ---- so the file is a table's
+
+pub kept-file-is_table : FilesAreTables → KeptFileIsTable
+kept-file-is_table law s found settings h =
+    let n : ℕ = s.window in
+    let good = arrivals-good s found settings.1 (recursion_from_All (HasPayload s) found h) in
+    file-is_table law s (site_of_kept n (arrivals found)) (kept n (arrivals found)) settings
+    (site-good (station n 1005 (arrivals found)) (station n 1006 (arrivals found)) (station-good n 1005 (arrivals found) good) (station-good n 1006 (arrivals found) good))
+    (falls-fall (kept n (arrivals found)) (kept-falls n (arrivals found)))
+    (All-from_recursion IsGoodEpoch (kept n (arrivals found)) (kept-good n (arrivals found) good))
