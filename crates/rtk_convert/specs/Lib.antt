@@ -16,3 +16,5 @@ pub mod State
 pub mod Offering
 pub mod Finish
 pub mod ArrivalLaws
+pub mod History
+pub mod Converter

@@ -7,6 +7,7 @@ mod counts;
 mod fault;
 mod finish;
 mod laws;
+mod link;
 mod output;
 mod records;
 mod report;
