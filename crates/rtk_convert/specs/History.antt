@@ -80,6 +80,10 @@ epoch_found (Refused fault) = None
 epoch_found Foreign = None
 epoch_found (Arrived a) = epoch_of a
 
+-- the same of the payload of a frame
+abbrev pub IsEpochIn : Settings → List ℕ → Option ℕ → Type 0
+IsEpochIn s payload epoch = (f : Finding) × ComesTo s payload f × (epoch ≡ epoch_found f)
+
 -- the greater of two epochs
 abbrev pub later_of : Option ℕ → Option ℕ → Option ℕ
 later_of None b = b
