@@ -79,10 +79,10 @@ length-held e cs b (x ∷ xs) f h = elim (cases_order x.epoch e) [
   ]
 ]
 
-closed-length : (n : ℕ) (arrivals : List Arrival) → length (closed n arrivals) ≡ length (kept n arrivals) - n
+pub closed-length : (n : ℕ) (arrivals : List Arrival) → length (closed n arrivals) ≡ length (kept n arrivals) - n
 closed-length n arrivals = ap length (closed-drop n (no_cells 0) arrivals) ∙ length-drop n (kept n arrivals)
 
-held-length : (n e : ℕ) (m : Message) (b : List CellEntry) (before : List Arrival) → cells_at e (kept n before) ≡ Some b → length (kept n (At (Some e) m ∷ before)) ≡ length (kept n before)
+pub held-length : (n e : ℕ) (m : Message) (b : List CellEntry) (before : List Arrival) → cells_at e (kept n before) ≡ Some b → length (kept n (At (Some e) m ∷ before)) ≡ length (kept n before)
 held-length n e m b before h = elim (cases_lt (leadingN e (epochs before)) n) [
   | inl fresh ↦ ap length (is-open n e m before fresh) ∙ length-held e (cells_of m) b (kept n before) (kept-falls n before) h
   | inr over ↦ ap length (is-late n e m before over)

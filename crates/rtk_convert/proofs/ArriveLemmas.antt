@@ -1,5 +1,5 @@
 -- One arrival: what the conversion represents after it, and what was written.
-use Rattle.std.proofs.Common.{◌≡◌, ℕ, Bool, List, [], ◌∷◌, ◌++◌, Option, None, Some, refl, ap, sym, subst, ◌∙◌, ℤ, pos}
+use Rattle.std.proofs.Common.{◌≡◌, ℕ, Bool, List, [], ◌∷◌, ◌++◌, Option, None, Some, refl, ap, sym, subst, ◌∙◌, ℤ, pos, inl}
 use Rattle.std.specs.Prelude.{is_some, option_to_list, option_map}
 use Rattle.std.proofs.Math.Seq.{take-nil}
 use Rattle.rtk_message.specs.declared.message.Message.{Message}
@@ -32,6 +32,7 @@ use Rattle.rtk_convert.specs.Report.{offer_lines, frame_lines, refused_line, lin
 use Rattle.rtk_convert.specs.Settings.{Settings}
 use Rattle.rtk_convert.specs.State.{State, Arrives, BreaksOff}
 use Rattle.rtk_convert.proofs.AnswersLemmas.{answer-lines, answer-counts, answer-closed}
+use Rattle.rtk_convert.proofs.OneTextLemmas.{one-arrived}
 use Rattle.rtk_convert.proofs.SoFarLemmas.{so_far-stays, so_far-closes, so_far-grows}
 use Rattle.rtk_convert.proofs.WritingLemmas.{writes-none, writes-text, part-text, part-none, part-all, takes-none}
 
@@ -158,6 +159,7 @@ arrives-arrived s w c new k k₁ b b₁ link payload a o o' l l' comes frames se
         };
         out = t.out;
         log = writes-text l l' (lines s.window before) (lines s.window found) (frame_lines s.window link (Arrived a) (arrivals before)) refl t.log;
+        one = one-arrived s link payload a before comes;
       },
     )
 
@@ -170,6 +172,7 @@ breaks-arrived s w c k k₁ b b₁ link payload a o o' l l' comes takes = λ bef
       record {
         out = t.out;
         log = part-text l l' (lines s.window before) (lines s.window (record { link = link; finding = Arrived a } ∷ before)) (frame_lines s.window link (Arrived a) (arrivals before)) refl t.log;
+        one = one-arrived s link payload a before comes;
       },
     )
 
@@ -182,6 +185,7 @@ arrives-other s w c k k' b b' link payload o l comes counts = λ before rep. (
     represents = record { window = rep.window; closed = rep.closed; counts = counts ∙ ap (λ (x : Counts). record (one_frame_more x) { other = count_after x.other }) rep.counts };
     out = writes-none o _ _ refl;
     log = writes-text l l (lines s.window before) (lines s.window before ++ []) [] refl (sym (with_more-nil l));
+    one = inl refl;
   },
 )
 
@@ -194,6 +198,7 @@ arrives-foreign s w c k k' b b' link payload o l comes counts = λ before rep. (
     represents = record { window = rep.window; closed = rep.closed; counts = counts ∙ ap (λ (x : Counts). record (one_frame_more x) { foreign = count_after x.foreign }) rep.counts };
     out = writes-none o _ _ refl;
     log = writes-text l l (lines s.window before) (lines s.window before ++ []) [] refl (sym (with_more-nil l));
+    one = inl refl;
   },
 )
 
@@ -206,6 +211,7 @@ arrives-refused s w c k k' b b' link payload fault o l l' comes counts wrote = �
     represents = record { window = rep.window; closed = rep.closed; counts = counts ∙ ap (λ (x : Counts). record (one_frame_more x) { refused = count_after x.refused }) rep.counts };
     out = writes-none o _ _ refl;
     log = writes-text l l' (lines s.window before) _ (refused_line link fault) refl wrote;
+    one = inl refl;
   },
 )
 
@@ -217,6 +223,7 @@ breaks-refused s w c k b link payload fault o l l' comes part = λ before rep. (
   record {
     out = part-all o o _ _ (writes-none o (file_so_far s (arrivals before)) (file_so_far s (arrivals before)) refl);
     log = part-text l l' (lines s.window before) _ (refused_line link fault) refl part;
+    one = inl refl;
   },
 )
 
@@ -244,5 +251,6 @@ arrives-still s s' w w' c c' k k' b b' d d' link payload o o' l l' arrives = λ 
         represents = record { window = t.2.represents.window; closed = t.2.represents.closed; counts = t.2.represents.counts };
         out = t.2.out;
         log = t.2.log;
+        one = t.2.one;
       },
     )

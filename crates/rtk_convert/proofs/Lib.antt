@@ -8,6 +8,7 @@ pub mod WritingLemmas
 pub mod SoFarLemmas
 pub mod AnswersLemmas
 pub mod AheadLemmas
+pub mod OneTextLemmas
 pub mod ArriveLemmas
 pub mod FinishLemmas
 pub mod ArrivalLawsLemmas

@@ -1,5 +1,5 @@
 -- What a conversion represents: a list of found frames.
-use Rattle.std.specs.Prelude.{◌≡◌, ◌<◌, ℕ, Bool, false, List, ◌∷◌, length, Option, None, Some, All}
+use Rattle.std.specs.Prelude.{◌≡◌, ◌<◌, ◌⊎◌, ℕ, Bool, false, List, ◌∷◌, length, Option, None, Some, All}
 use Rattle.rtk_obs.specs.declared.code.Code.{Code}
 use Rattle.rtk_obs.specs.declared.track.Track.{Track}
 use Rattle.rtk_obs.specs.Cell.{IsSatellite}
@@ -50,17 +50,23 @@ pub record IsState (s : State) : Type 0 where
 abbrev pub found_on : ℕ → Finding → Found
 found_on link f = record { link = link; finding = f }
 
+-- of what a frame adds to the file so far and to the lines, one at least is empty
+abbrev pub AddsToOne : Settings → Found → List Found → Type 0
+AddsToOne s f before = (file_so_far s (arrivals (f ∷ before)) ≡ file_so_far s (arrivals before)) ⊎ (lines s.window (f ∷ before) ≡ lines s.window before)
+
 -- a frame with this finding arrives on a link after those before: the conversion then represents the frames with this
--- one, and what was written is what the file so far and the lines have past those before
+-- one, and what was written is what the file so far and the lines have past those before, of which one at least is empty
 pub record ArrivesAs (old : State) (link : ℕ) (f : Finding) (before : List Found) (new : State) (out_old out_new log_old log_new : Option (List ℕ)) : Type 0 where
   pub represents : Represents new (found_on link f ∷ before)
   pub out : Writes out_old out_new (file_so_far old.settings (arrivals before)) (file_so_far old.settings (arrivals (found_on link f ∷ before)))
   pub log : Writes log_old log_new (lines old.settings.window before) (lines old.settings.window (found_on link f ∷ before))
+  pub one : AddsToOne old.settings (found_on link f) before
 
 -- the call breaks off: what was written is a first part of that
 pub record BreaksOffAs (old : State) (link : ℕ) (f : Finding) (before : List Found) (out_old out_new log_old log_new : Option (List ℕ)) : Type 0 where
   pub out : WritesPart out_old out_new (file_so_far old.settings (arrivals before)) (file_so_far old.settings (arrivals (found_on link f ∷ before)))
   pub log : WritesPart log_old log_new (lines old.settings.window before) (lines old.settings.window (found_on link f ∷ before))
+  pub one : AddsToOne old.settings (found_on link f) before
 
 -- whatever was found before
 abbrev pub Arrives : State → ℕ → List ℕ → State → Option (List ℕ) → Option (List ℕ) → Option (List ℕ) → Option (List ℕ) → Type 0

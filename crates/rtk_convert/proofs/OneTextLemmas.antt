@@ -1,0 +1,81 @@
+-- No arrival adds to both the file so far and the lines.
+use Rattle.std.proofs.Common.{◌≡◌, ◌⊎◌, ℕ, ◌-◌, Bool, true, false, List, [], ◌∷◌, ◌++◌, length, Option, None, Some, Result, Ok, Err, refl, ap, sym, subst, ◌∙◌, arith, inl, inr}
+use Rattle.std.specs.Prelude.{if◌then◌else◌}
+use Rattle.std.proofs.lemmas.Bool.{cases_Bool}
+use Rattle.std.proofs.lemmas.List.{append-nil, length-append}
+use Rattle.rtk_bits.specs.Bits.{bits}
+use Rattle.rtk_message.specs.declared.message.Message.{Message}
+use Rattle.rtk_message.specs.declared.fault.DecodeFault.{DecodeFault}
+use Rattle.rtk_message.specs.declared.fault.DecodeFault.TheVariants.{NoNumber, Other, Short, EpochRange, TooManyCells}
+use Rattle.rtk_message.specs.Decoded.{Decodes, IsValid, number_of}
+use Rattle.rtk_obs.specs.declared.cell.CellEntry.{CellEntry}
+use Rattle.rtk_collect.specs.EpochCells.{EpochCells}
+use Rattle.rtk_collect.specs.Arrival.{Arrival, At, cells_of, message_of}
+use Rattle.rtk_collect.specs.Late.{late}
+use Rattle.rtk_collect.specs.Accepted.{kept, cells_at, closed}
+use Rattle.rtk_collect.specs.Answer.{Class, LateClass, TakenClass, class_of, class_of_cells, class_in_time, conflicts_of, conflicts_with}
+use Rattle.rtk_collect.proofs.LateLemmas.{closed-only-grow, kept-late}
+use Rattle.rtk_collect.proofs.OpeningLemmas.{opening-conflicts-not, closed-length, held-length}
+use Rattle.rtk_convert.specs.declared.arrival.Finding.TheVariants.{Arrived}
+use Rattle.rtk_convert.specs.FileOfArrivals.{file_so_far}
+use Rattle.rtk_convert.specs.Finding.{IsFindingOf, ComesTo, Found, arrivals}
+use Rattle.rtk_convert.specs.Report.{class_lines, cell_lines, frame_lines, lines}
+use Rattle.rtk_convert.specs.Settings.{Settings}
+use Rattle.rtk_convert.specs.State.{found_on, AddsToOne}
+use Rattle.rtk_convert.proofs.SoFarLemmas.{so_far-stays}
+
+-- ---- an arrival holds a valid message
+
+valid-by : (s : Settings) (payload : List ℕ) (r : Result Message DecodeFault) (e : Option ℕ) (m : Message) → Decodes (bits payload) r → IsFindingOf s r (Arrived (At e m)) → IsValid m
+valid-by s payload (Ok x) e m d f = subst IsValid (sym f.1.0) d.message.valid
+valid-by s payload (Err NoNumber) e m d f = cc
+valid-by s payload (Err (Other number)) e m d f = cc
+valid-by s payload (Err (Short number)) e m d f = cc
+valid-by s payload (Err (EpochRange number)) e m d f = cc
+valid-by s payload (Err TooManyCells) e m d f = cc
+
+comes-valid : (s : Settings) (payload : List ℕ) (a : Arrival) → ComesTo s payload (Arrived a) → IsValid (message_of a)
+comes-valid s payload (At e m) c = valid-by s payload c.0 e m c.1 c.2
+
+-- ---- no epoch closes where as many are kept as before
+
+same-length : (more xs all : List EpochCells) → all ≡ more ++ xs → length all ≡ length xs → all ≡ xs
+same-length [] xs all e l = e
+same-length (x ∷ more) xs all e l = let k = ap length e ∙ length-append (x ∷ more) xs in absurd (omega arith)
+
+closed-same : (n : ℕ) (a : Arrival) (before : List Arrival) → length (kept n (a ∷ before)) ≡ length (kept n before) → closed n (a ∷ before) ≡ closed n before
+closed-same n a before h =
+    let g = closed-only-grow n (a ∷ []) before in
+    same-length g.0 (closed n before) (closed n (a ∷ before)) g.1 (closed-length n (a ∷ before) ∙ ap (λ (k : ℕ). k - n) h ∙ sym (closed-length n before))
+
+-- ---- an arrival
+
+abbrev One : Settings → ℕ → Arrival → List Arrival → Type 0
+One s link a before = (file_so_far s (a ∷ before) ≡ file_so_far s before) ⊎ (frame_lines s.window link (Arrived a) before ≡ [])
+
+stays : (s : Settings) (link : ℕ) (a : Arrival) (before : List Arrival) → length (kept s.window (a ∷ before)) ≡ length (kept s.window before) → One s link a before
+stays s link a before h = inl (so_far-stays s a before (closed-same s.window a before h))
+
+-- observations that come in time: their epoch is open, or they open it and conflict with nothing
+one-in-time : (s : Settings) (link e : ℕ) (m : Message) (before : List Arrival) (o : Option (List CellEntry)) → IsValid m → late s.window (At (Some e) m) before ≡ false → cells_at e (kept s.window before) ≡ o
+    → One s link (At (Some e) m) before
+one-in-time s link e m before None valid fresh none =
+    let class : class_of s.window (At (Some e) m) before ≡ TakenClass =
+    ap (λ (b : Bool). if b then LateClass else class_in_time s.window (At (Some e) m) before) fresh ∙ ap (class_of_cells (cells_of m)) none in
+    inr (ap (λ (c : Class). class_lines link (number_of m) (Some e) c (conflicts_of s.window (At (Some e) m) before)) class
+    ∙ ap (cell_lines link (number_of m) (Some e)) (ap (conflicts_with (cells_of m)) none ∙ opening-conflicts-not m valid))
+one-in-time s link e m before (Some b) valid fresh held = stays s link (At (Some e) m) before (held-length s.window e m b before held)
+
+one-text : (s : Settings) (link : ℕ) (a : Arrival) (before : List Arrival) → IsValid (message_of a) → One s link a before
+one-text s link (At None m) before valid = stays s link (At None m) before refl
+one-text s link (At (Some e) m) before valid = elim (cases_Bool (late s.window (At (Some e) m) before)) [
+  | inl over ↦ stays s link (At (Some e) m) before (ap length (kept-late s.window e m before over))
+  | inr fresh ↦ one-in-time s link e m before (cells_at e (kept s.window before)) valid fresh refl
+]
+
+-- a payload that comes to an arrival adds to one text at most
+pub one-arrived : (s : Settings) (link : ℕ) (payload : List ℕ) (a : Arrival) (before : List Found) → ComesTo s payload (Arrived a) → AddsToOne s (found_on link (Arrived a)) before
+one-arrived s link payload a before comes = elim (one-text s link a (arrivals before) (comes-valid s payload a comes)) [
+  | inl same ↦ inl same
+  | inr none ↦ inr (ap (λ (t : List ℕ). lines s.window before ++ t) none ∙ append-nil (lines s.window before))
+]
