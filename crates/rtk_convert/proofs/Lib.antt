@@ -12,3 +12,4 @@ pub mod OneTextLemmas
 pub mod ArriveLemmas
 pub mod FinishLemmas
 pub mod ArrivalLawsLemmas
+pub mod GatheringLemmas

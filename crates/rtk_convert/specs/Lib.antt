@@ -18,3 +18,4 @@ pub mod Finish
 pub mod ArrivalLaws
 pub mod History
 pub mod Converter
+pub mod Gathering

@@ -93,6 +93,9 @@ impl Conversion {
         ensures epoch { IfOk result (λ epoch. IsEpochIn self.old.settings payload.now epoch) }
         ensures ok { OnOk result (Arrives self.old link payload.now self.new (O.taken out.old) (O.taken out.new) (L.taken log.old) (L.taken log.new)) }
         ensures err { OnErr result (self.old.stopped ≡ false → BreaksOff self.old link payload.now (O.taken out.old) (O.taken out.new) (L.taken log.old) (L.taken log.new)) }
+        ensures fault { self.old.stopped ≡ false → IfErr result IsFrameFault }
+        ensures out_same { OnOk result (O.failures out.new ≡ O.failures out.old) }
+        ensures log_same { OnOk result (L.failures log.new ≡ L.failures log.old) }
         ensures out_failed { IsErrOf result (ConvertFault.Write Stream.Out) → Rises (O.failures out.old) (O.failures out.new) }
         ensures log_failed { IsErrOf result (ConvertFault.Write Stream.Log) → Rises (L.failures log.old) (L.failures log.new) }
     {
@@ -126,6 +129,8 @@ impl Conversion {
         ensures ok { OnOk result (Arrives self.old link payload.now self.new (O.taken out.old) (O.taken out.new) (L.taken log.old) (L.taken log.new)) }
         ensures err { OnErr result (BreaksOff self.old link payload.now (O.taken out.old) (O.taken out.new) (L.taken log.old) (L.taken log.new)) }
         ensures fault { IfErr result IsFrameFault }
+        ensures out_same { OnOk result (O.failures out.new ≡ O.failures out.old) }
+        ensures log_same { OnOk result (L.failures log.new ≡ L.failures log.old) }
         ensures out_failed { IsErrOf result (ConvertFault.Write Stream.Out) → Rises (O.failures out.old) (O.failures out.new) }
         ensures log_failed { IsErrOf result (ConvertFault.Write Stream.Log) → Rises (L.failures log.old) (L.failures log.new) }
     {
@@ -175,6 +180,8 @@ impl Conversion {
         ensures ok { OnOk result (Takes self.old link dated self.new (O.taken out.old) (O.taken out.new) (L.taken log.old) (L.taken log.new)) }
         ensures err { OnErr result (TakesInPart self.old link dated (O.taken out.old) (O.taken out.new) (L.taken log.old) (L.taken log.new)) }
         ensures fault { IfErr result IsFrameFault }
+        ensures out_same { OnOk result (O.failures out.new ≡ O.failures out.old) }
+        ensures log_same { OnOk result (L.failures log.new ≡ L.failures log.old) }
         ensures out_failed { IsErrOf result (ConvertFault.Write Stream.Out) → Rises (O.failures out.old) (O.failures out.new) }
         ensures log_failed { IsErrOf result (ConvertFault.Write Stream.Log) → Rises (L.failures log.old) (L.failures log.new) }
     {
@@ -213,6 +220,7 @@ impl Conversion {
         ensures stopped { (result ≡ Err ConvertFault.Stopped) ↔ (self.stopped ≡ true) }
         ensures ok { IfOk result (λ counts. Finishes self counts (O.taken out.old) (O.taken out.new) (L.taken log.old) (L.taken log.new)) }
         ensures err { OnErr result (self.stopped ≡ false → FinishesInPart self (O.taken out.old) (O.taken out.new) (L.taken log.old) (L.taken log.new)) }
+        ensures fault { self.stopped ≡ false → IfErr result IsFrameFault }
         ensures out_failed { IsErrOf result (ConvertFault.Write Stream.Out) → Rises (O.failures out.old) (O.failures out.new) }
         ensures log_failed { IsErrOf result (ConvertFault.Write Stream.Log) → Rises (L.failures log.old) (L.failures log.new) }
     {
