@@ -9,12 +9,12 @@ use Rattle.rtk_message.specs.declared.fault.DecodeFault.{DecodeFault}
 use Rattle.rtk_message.specs.Decoded.{Decodes, tow_of}
 use Rattle.rtk_obs.specs.Dating.{IsDated}
 use Rattle.rtk_collect.specs.Arrival.{Arrival, At}
-use Rattle.rtk_frame.specs.Frames.{final_frames, payloads, pending}
-use Rattle.rtk_frame.specs.Scanner.{FedAnswer}
+use Rattle.rtk_frame.specs.Frames.{final_frames, frames, payloads, pending}
+use Rattle.rtk_frame.specs.Scanner.{FedAnswer, RestAnswer}
 use Rattle.rtk_frame.specs.ScannerState.{Scan}
 use Rattle.rtk_frame.specs.Stream.{with_more}
 use Rattle.rtk_frame.specs.declared.scanner.Answer.TheVariants.{Found, Hungry}
-use Rattle.rtk_frame.proofs.FirstFrame.{after_found}
+use Rattle.rtk_frame.proofs.FirstFrame.{after_found, first_payloads}
 use Rattle.rtk_frame.proofs.StreamLemmas.{with_more-with_more}
 use Rattle.rtk_convert.specs.Converter.{WritesInto}
 use Rattle.rtk_convert.specs.FileOfArrivals.{file_so_far}
@@ -189,4 +189,21 @@ finds-no-more s0 p s1 at used done scan whole waiting answer =
     record {
       all = whole ∙ ap (λ t. done ++ payloads t) a.1 ∙ append-nil done;
       waiting = a.2 ∙ sym waiting;
+    }
+
+-- of the pending bytes s0 no more will come, and the next frame was found: s2 is pending
+pub record FindsLeft (s0 s1 s2 : List ℕ) (done : List (List ℕ)) (payload : List ℕ) : Type 0 where
+  pub split : payloads (frames s0) ≡ done ++ (payload ∷ payloads (frames s2))
+  pub taken : payloads (frames s0) ≡ (done ++ payload ∷ []) ++ payloads (frames s2)
+  pub smaller : length s2 < length s1
+
+pub finds-left : (s0 s1 : List ℕ) (done : List (List ℕ)) (payload : Bor (List ℕ)) (scan : Scan)
+    → payloads (frames s0) ≡ done ++ payloads (frames s1) → RestAnswer s1 (Some payload) scan → FindsLeft s0 s1 scan.pending done payload.now
+finds-left s0 s1 done payload scan whole answer =
+    let split = whole ∙ ap (λ t. done ++ t) (first_payloads s1 payload.now scan.pending answer.0) in
+    let fall = answer.1 in
+    record {
+      split = split;
+      taken = split ∙ sym (append_assoc done (payload.now ∷ []) (payloads (frames scan.pending)));
+      smaller = grind (arith);
     }

@@ -73,4 +73,36 @@ impl Link {
             }
         }
     }
+
+    /// Ends the stream, and takes the frames that are left in it.
+    pub(crate) fn close<O: Sink, L: Sink>(
+        &mut self,
+        number: u8,
+        conversion: &mut Conversion,
+        out: &mut O,
+        log: &mut L,
+    ) -> Result<(), ConvertFault>
+        requires going { conversion.old.stopped ≡ false }
+        ensures ended { self.new.scanner.ended ≡ true }
+        ensures settings { conversion.new.settings ≡ conversion.old.settings }
+        ensures going { OnOk result (conversion.new.stopped ≡ false) }
+        ensures halts { OnErr result (conversion.new.stopped ≡ true) }
+        ensures ok { OnOk result (Gathers conversion.old number (payloads (frames self.old.scanner.pending)) conversion.new self.old.newest self.new.newest
+            (O.taken out.old) (O.taken out.new) (L.taken log.old) (L.taken log.new)) }
+        ensures err { OnErr result (GathersInPart conversion.old number (payloads (frames self.old.scanner.pending))
+            (O.taken out.old) (O.taken out.new) (L.taken log.old) (L.taken log.new)) }
+        ensures fault { IfErr result IsFrameFault }
+        ensures out_same { OnOk result (O.failures out.new ≡ O.failures out.old) }
+        ensures log_same { OnOk result (L.failures log.new ≡ L.failures log.old) }
+        ensures out_failed { IsErrOf result (ConvertFault.Write Stream.Out) → Rises (O.failures out.old) (O.failures out.new) }
+        ensures log_failed { IsErrOf result (ConvertFault.Write Stream.Log) → Rises (L.failures log.old) (L.failures log.new) }
+    {
+        'frames: while let Some(payload) = self.scanner.rest() {
+            match conversion.arrive(number, payload, out, log) {
+                Ok(epoch) => self.newest = later(epoch, self.newest),
+                Err(fault) => return Err(fault),
+            }
+        }
+        Ok(())
+    }
 }
