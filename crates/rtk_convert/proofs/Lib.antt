@@ -13,3 +13,4 @@ pub mod ArriveLemmas
 pub mod FinishLemmas
 pub mod ArrivalLawsLemmas
 pub mod GatheringLemmas
+pub mod ConverterLemmas

@@ -76,6 +76,13 @@ impl Conversion {
         }
     }
 
+    /// Whether a call broke off.
+    pub(crate) fn is_stopped(&self) -> bool
+        ensures { result ≡ self.now.stopped }
+    {
+        self.stopped
+    }
+
     /// Takes the payload of a frame that was found on a link, counted from 0: writes the record of
     /// the epoch that it closes to `out`, and its lines to `log`. Answers its epoch, if it is an
     /// observation of the chosen station, be it late or not.

@@ -3,6 +3,7 @@
 
 mod arrival;
 mod conversion;
+mod converter;
 mod counts;
 mod fault;
 mod finish;
@@ -14,6 +15,7 @@ mod report;
 mod rows;
 mod setup;
 
+pub use converter::Converter;
 pub use counts::Counts;
 pub use fault::{ConvertFault, Stream};
 pub use laws::{file_laws, file_only_grows, set_decides_file};

@@ -1,6 +1,6 @@
 //! One link: its scanner and the newest epoch that came on it.
 
-ghost use Rattle.std.specs.Prelude.{◌≡◌, ◌++◌, [], true, false, OnOk, OnErr, IsErrOf, IfErr};
+ghost use Rattle.std.specs.Prelude.{◌≡◌, ◌≤◌, ◌++◌, [], length, true, false, OnOk, OnErr, IsErrOf, IfErr};
 ghost use Rattle.rtk_frame.specs.Frames.{final_frames, frames, payloads, pending};
 ghost use Rattle.rtk_frame.specs.Stream.{Rises};
 ghost use Rattle.rtk_convert.specs.Failure.{IsFrameFault};
@@ -47,6 +47,7 @@ impl Link {
         requires going { conversion.old.stopped ≡ false }
         ensures is_open { self.new.scanner.ended ≡ false }
         ensures pending { OnOk result (self.new.scanner.pending ≡ pending (self.old.scanner.pending ++ piece.now)) }
+        ensures short { length self.new.scanner.pending ≤ 1029 }
         ensures settings { conversion.new.settings ≡ conversion.old.settings }
         ensures going { OnOk result (conversion.new.stopped ≡ false) }
         ensures halts { OnErr result (conversion.new.stopped ≡ true) }
@@ -84,6 +85,7 @@ impl Link {
     ) -> Result<(), ConvertFault>
         requires going { conversion.old.stopped ≡ false }
         ensures ended { self.new.scanner.ended ≡ true }
+        ensures short { length self.new.scanner.pending ≤ 1029 }
         ensures settings { conversion.new.settings ≡ conversion.old.settings }
         ensures going { OnOk result (conversion.new.stopped ≡ false) }
         ensures halts { OnErr result (conversion.new.stopped ≡ true) }
