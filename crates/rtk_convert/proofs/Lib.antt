@@ -13,3 +13,5 @@ pub mod ArriveLemmas
 pub mod FinishLemmas
 pub mod ArrivalLawsLemmas
 pub mod KeptTableLemmas
+pub mod GatheringLemmas
+pub mod ConverterLemmas

@@ -1,6 +1,6 @@
 -- Texts that were written, in whole or in part.
 use Rattle.std.proofs.Common.{◌≡◌, ℕ, List, [], ◌++◌, take, drop, Option, Result, Ok, Err, ap, append_assoc, sym, ◌∙◌, arith}
-use Rattle.std.specs.Prelude.{OnOk, OnErr}
+use Rattle.std.specs.Prelude.{OnOk, OnErr, IfErr}
 use Rattle.std.proofs.lemmas.List.{append-nil, take-append-drop}
 use Rattle.rtk_frame.specs.Stream.{with_more, TakesPart}
 use Rattle.rtk_frame.proofs.StreamLemmas.{with_more-nil, with_more-with_more}
@@ -17,6 +17,18 @@ on_err-map (Err e) f p = f p
 pub on_err-from : {T E : Type 0} (r : Result T E) {Q : Type 0} → Q → OnErr r Q
 on_err-from (Ok x) q = tt
 on_err-from (Err e) q = q
+
+pub on_ok-two : {T E : Type 0} (r : Result T E) {P Q R : Type 0} → (P → Q → R) → OnOk r P → OnOk r Q → OnOk r R
+on_ok-two (Ok x) f p q = f p q
+on_ok-two (Err e) f p q = tt
+
+pub on_ok-three : {T E : Type 0} (r : Result T E) {P Q R S : Type 0} → (P → Q → R → S) → OnOk r P → OnOk r Q → OnOk r R → OnOk r S
+on_ok-three (Ok x) f p q s = f p q s
+on_ok-three (Err e) f p q s = tt
+
+pub if_err-map : {T E : Type 0} (r : Result T E) (F : E → Type 0) {P Q : Type 0} → (P → Q) → OnErr r P → IfErr r (λ e. F e → Q)
+if_err-map (Ok x) F f p = tt
+if_err-map (Err e) F f p = λ is. f p
 
 -- nothing was written, and nothing was to be
 pub writes-none : (o : Option (List ℕ)) (first second : List ℕ) → second ≡ first → Writes o o first second

@@ -16,3 +16,6 @@ pub mod State
 pub mod Offering
 pub mod Finish
 pub mod ArrivalLaws
+pub mod History
+pub mod Converter
+pub mod Gathering

@@ -4,6 +4,7 @@ ghost use Rattle.std.specs.Prelude.{◌≡◌, ◌↔◌, [], true, false, List,
 ghost use Rattle.rtk_frame.specs.Stream.{Rises};
 ghost use Rattle.rtk_convert.specs.Failure.{IsFrameFault};
 ghost use Rattle.rtk_convert.specs.Finish.{Finishes, FinishesInPart};
+ghost use Rattle.rtk_convert.specs.History.{IsEpochIn};
 ghost use Rattle.rtk_convert.specs.Offering.{Takes, TakesInPart, closed_by};
 ghost use Rattle.rtk_convert.specs.Report.{counted_offer};
 ghost use Rattle.rtk_convert.specs.State.{Represents, IsAhead, Arrives, BreaksOff};
@@ -18,6 +19,7 @@ use crate::report;
 use crate::setup::Setup;
 use rtk_collect::{Collector, Dated, EpochSet, Offer};
 use rtk_frame::Sink;
+use rtk_obs::GpsMs;
 use std::alloc::Global;
 use std::marker::Model;
 
@@ -74,21 +76,33 @@ impl Conversion {
         }
     }
 
+    /// Whether a call broke off.
+    pub(crate) fn is_stopped(&self) -> bool
+        ensures { result ≡ self.now.stopped }
+    {
+        self.stopped
+    }
+
     /// Takes the payload of a frame that was found on a link, counted from 0: writes the record of
-    /// the epoch that it closes to `out`, and its lines to `log`.
+    /// the epoch that it closes to `out`, and its lines to `log`. Answers its epoch, if it is an
+    /// observation of the chosen station, be it late or not.
     pub(crate) fn arrive<O: Sink, L: Sink>(
         &mut self,
         link: u8,
         payload: &[u8],
         out: &mut O,
         log: &mut L,
-    ) -> Result<(), ConvertFault>
+    ) -> Result<Option<GpsMs>, ConvertFault>
         ensures settings { self.new.settings ≡ self.old.settings }
         ensures stopped { (result ≡ Err ConvertFault.Stopped) ↔ (self.old.stopped ≡ true) }
         ensures going { OnOk result (self.new.stopped ≡ false) }
         ensures halts { OnErr result (self.new.stopped ≡ true) }
+        ensures epoch { IfOk result (λ epoch. IsEpochIn self.old.settings payload.now epoch) }
         ensures ok { OnOk result (Arrives self.old link payload.now self.new (O.taken out.old) (O.taken out.new) (L.taken log.old) (L.taken log.new)) }
         ensures err { OnErr result (self.old.stopped ≡ false → BreaksOff self.old link payload.now (O.taken out.old) (O.taken out.new) (L.taken log.old) (L.taken log.new)) }
+        ensures fault { self.old.stopped ≡ false → IfErr result IsFrameFault }
+        ensures out_same { OnOk result (O.failures out.new ≡ O.failures out.old) }
+        ensures log_same { OnOk result (L.failures log.new ≡ L.failures log.old) }
         ensures out_failed { IsErrOf result (ConvertFault.Write Stream.Out) → Rises (O.failures out.old) (O.failures out.new) }
         ensures log_failed { IsErrOf result (ConvertFault.Write Stream.Log) → Rises (L.failures log.old) (L.failures log.new) }
     {
@@ -97,9 +111,9 @@ impl Conversion {
         }
         self.stopped = true;
         match self.take(link, payload, out, log) {
-            Ok(()) => {
+            Ok(epoch) => {
                 self.stopped = false;
-                Ok(())
+                Ok(epoch)
             }
             Err(fault) => Err(fault),
         }
@@ -112,15 +126,18 @@ impl Conversion {
         payload: &[u8],
         out: &mut O,
         log: &mut L,
-    ) -> Result<(), ConvertFault>
+    ) -> Result<Option<GpsMs>, ConvertFault>
         requires stopped { self.old.stopped ≡ true }
         requires ahead { IsAhead self.old.window self.old.closed }
         ensures settings { self.new.settings ≡ self.old.settings }
         ensures stopped { self.new.stopped ≡ true }
         ensures ahead { OnOk result (IsAhead self.new.window self.new.closed) }
+        ensures epoch { IfOk result (λ epoch. IsEpochIn self.old.settings payload.now epoch) }
         ensures ok { OnOk result (Arrives self.old link payload.now self.new (O.taken out.old) (O.taken out.new) (L.taken log.old) (L.taken log.new)) }
         ensures err { OnErr result (BreaksOff self.old link payload.now (O.taken out.old) (O.taken out.new) (L.taken log.old) (L.taken log.new)) }
         ensures fault { IfErr result IsFrameFault }
+        ensures out_same { OnOk result (O.failures out.new ≡ O.failures out.old) }
+        ensures log_same { OnOk result (L.failures log.new ≡ L.failures log.old) }
         ensures out_failed { IsErrOf result (ConvertFault.Write Stream.Out) → Rises (O.failures out.old) (O.failures out.new) }
         ensures log_failed { IsErrOf result (ConvertFault.Write Stream.Log) → Rises (L.failures log.old) (L.failures log.new) }
     {
@@ -128,20 +145,29 @@ impl Conversion {
         match find(&self.setup, payload) {
             Finding::OtherMessage => {
                 self.counts.other = self.counts.other.saturating_add(1);
-                Ok(())
+                Ok(None)
             }
             Finding::Foreign => {
                 self.counts.foreign = self.counts.foreign.saturating_add(1);
-                Ok(())
+                Ok(None)
             }
             Finding::Refused(fault) => {
                 self.counts.refused = self.counts.refused.saturating_add(1);
                 let Ok(line) = report::refused(self.alloc, link, fault) else {
                     return Err(ConvertFault::OutOfMemory);
                 };
-                put_lines(log, &line)
+                match put_lines(log, &line) {
+                    Ok(()) => Ok(None),
+                    Err(fault) => Err(fault),
+                }
             }
-            Finding::Arrived(dated) => self.offer(link, dated, out, log),
+            Finding::Arrived(dated) => {
+                let epoch = dated.epoch();
+                match self.offer(link, dated, out, log) {
+                    Ok(()) => Ok(epoch),
+                    Err(fault) => Err(fault),
+                }
+            }
         }
     }
 
@@ -161,6 +187,8 @@ impl Conversion {
         ensures ok { OnOk result (Takes self.old link dated self.new (O.taken out.old) (O.taken out.new) (L.taken log.old) (L.taken log.new)) }
         ensures err { OnErr result (TakesInPart self.old link dated (O.taken out.old) (O.taken out.new) (L.taken log.old) (L.taken log.new)) }
         ensures fault { IfErr result IsFrameFault }
+        ensures out_same { OnOk result (O.failures out.new ≡ O.failures out.old) }
+        ensures log_same { OnOk result (L.failures log.new ≡ L.failures log.old) }
         ensures out_failed { IsErrOf result (ConvertFault.Write Stream.Out) → Rises (O.failures out.old) (O.failures out.new) }
         ensures log_failed { IsErrOf result (ConvertFault.Write Stream.Log) → Rises (L.failures log.old) (L.failures log.new) }
     {
@@ -199,6 +227,7 @@ impl Conversion {
         ensures stopped { (result ≡ Err ConvertFault.Stopped) ↔ (self.stopped ≡ true) }
         ensures ok { IfOk result (λ counts. Finishes self counts (O.taken out.old) (O.taken out.new) (L.taken log.old) (L.taken log.new)) }
         ensures err { OnErr result (self.stopped ≡ false → FinishesInPart self (O.taken out.old) (O.taken out.new) (L.taken log.old) (L.taken log.new)) }
+        ensures fault { self.stopped ≡ false → IfErr result IsFrameFault }
         ensures out_failed { IsErrOf result (ConvertFault.Write Stream.Out) → Rises (O.failures out.old) (O.failures out.new) }
         ensures log_failed { IsErrOf result (ConvertFault.Write Stream.Log) → Rises (L.failures log.old) (L.failures log.new) }
     {

@@ -3,16 +3,19 @@
 
 mod arrival;
 mod conversion;
+mod converter;
 mod counts;
 mod fault;
 mod finish;
 mod laws;
+mod link;
 mod output;
 mod records;
 mod report;
 mod rows;
 mod setup;
 
+pub use converter::Converter;
 pub use counts::Counts;
 pub use fault::{ConvertFault, Stream};
 pub use laws::{file_laws, file_only_grows, set_decides_file};

@@ -2,12 +2,12 @@ mod ByteTable
 mod Division
 mod EightBytes
 mod FinalLaw
-mod FirstFrame
+pub mod FirstFrame
 mod FramesLaw
 mod Framed
 mod Fronts
 mod NextFrame
 mod Passing
-mod Pieces
+pub mod Pieces
 mod Remainder
 pub mod StreamLemmas

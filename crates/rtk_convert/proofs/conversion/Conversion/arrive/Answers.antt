@@ -1,5 +1,5 @@
 use Rattle.std.proofs.Common.{true, false, sym, subst}
-use Rattle.rtk_convert.specs.State.{State, Arrives}
+use Rattle.rtk_convert.specs.State.{State, IsAhead, Arrives}
 use Rattle.rtk_convert.proofs.ArriveLemmas.{state, arrives-still}
 use Rattle.rtk_convert.proofs.conversion.Conversion.arrive.Goals as goal
 
@@ -8,3 +8,9 @@ returns-in-Ok-clause-ok g c =
     subst (λ (x : State). Arrives x c.args.link c.args.payload.now (state c.self-2.inside.setup c.self-2.inside.collector c.self-2.inside.records c.self-2.inside.counts false) (g.O.Sink.taken c.args.out.now) (g.O.Sink.taken c.take.new.out) (g.L.Sink.taken c.args.log.now) (g.L.Sink.taken c.take.new.log)) c.self.view_is
     (arrives-still c.self.inside.setup c.self-2.inside.setup c.self.inside.collector c.self-2.inside.collector c.self.inside.records c.self-2.inside.records c.self.inside.counts c.self-2.inside.counts true c.self-2.inside.stopped c.self.inside.stopped false c.args.link c.args.payload.now (g.O.Sink.taken c.args.out.now) (g.O.Sink.taken c.take.new.out) (g.L.Sink.taken c.args.log.now) (g.L.Sink.taken c.take.new.log)
     (subst (λ (x : State). Arrives (state c.self.inside.setup c.self.inside.collector c.self.inside.records c.self.inside.counts true) c.args.link c.args.payload.now x (g.O.Sink.taken c.args.out.now) (g.O.Sink.taken c.take.new.out) (g.L.Sink.taken c.args.log.now) (g.L.Sink.taken c.take.new.log)) (sym c.self-2.view_is) c.in-Ok.ensures.ok))
+
+pub invariant_of-self-in-Ok : goal.invariant_of-self-in-Ok
+invariant_of-self-in-Ok g c = record {
+  places = c.self-2.invariant.places;
+  ahead = λ going. subst (λ (x : State). IsAhead x.window x.closed) (sym c.self-2.view_is) c.in-Ok.ensures.ahead;
+}

@@ -1,0 +1,284 @@
+-- What a converter represents after a call on one of its links.
+use Rattle.std.proofs.Common.{◌≡◌, ◌≢◌, ◌≤◌, ◌<◌, ◌+◌, ℕ, zero, suc, Bool, true, false, not, if◌then◌else◌, List, [], ◌∷◌, ◌++◌, Option, None, Some, length, drop, set, replicate, refl, ap, sym, subst, ◌∙◌, arith}
+use Rattle.std.proofs.lemmas.Grind.{common_steps}
+use Rattle.std.specs.Prelude.{slice_get, Decides}
+use Rattle.rtk_frame.specs.Frames.{Frame, final_frames, frames, payloads, pending}
+use Rattle.rtk_frame.specs.Frames as spec
+use Rattle.rtk_frame.specs.ScannerState.{scan}
+use Rattle.rtk_frame.proofs.FirstFrame.{final_payloads_cut, payloads_cut}
+use Rattle.rtk_frame.proofs.Pieces.{pending_cut}
+use Rattle.rtk_convert.specs.Converter.{ConverterState, IsLink, AreLinks, Represents, BreaksOffAt, Feeds, FeedsInPart, Closes, ClosesInPart, link_refusal, refusal}
+use Rattle.rtk_convert.specs.Finding.{Found}
+use Rattle.rtk_convert.specs.Gathering.{Gathers, GathersInPart}
+use Rattle.rtk_convert.specs.History.{LinkPast, History, Finds, IsOpen, fed_on, with_piece, with_closed, found_by_piece, found_by_close, newest_on}
+use Rattle.rtk_convert.specs.Settings.{Settings}
+use Rattle.rtk_convert.specs.State.{State, found_on}
+use Rattle.rtk_convert.specs.declared.arrival.Finding.{Finding}
+use Rattle.rtk_convert.specs.declared.fault.ConvertFault.{ConvertFault}
+use Rattle.rtk_convert.specs.declared.fault.ConvertFault.TheVariants.{LinkClosed, Stopped}
+use Rattle.rtk_convert.specs.declared.link.Link.{Link}
+
+abbrev pub converter : State → List Link → ConverterState
+converter conversion links = record { conversion = conversion; links = links }
+
+-- ---- a link and its past
+
+pub are-many : (ls : List Link) (ps : List LinkPast) (n : ℕ) (found : List Found) → AreLinks ls ps n found → length ls ≡ length ps
+are-many [] [] n found a = refl
+are-many [] (p ∷ ps) n found a = absurd a
+are-many (l ∷ ls) [] n found a = absurd a
+are-many (l ∷ ls) (p ∷ ps) n found a = ap suc (are-many ls ps (suc n) found a.1)
+
+-- the link of a number, and its past
+pub record AtLink (l : Link) (i k : ℕ) (ps : List LinkPast) (found : List Found) : Type 0 where
+  pub past : LinkPast
+  pub there : slice_get ps i ≡ Some past
+  pub fed : fed_on i ps ≡ past.fed
+  pub is : IsLink l past k found
+
+pub link-at : (i k n : ℕ) (l : Link) (ls : List Link) (ps : List LinkPast) (found : List Found) → AreLinks ls ps n found → slice_get ls i ≡ Some l → k ≡ n + i → AtLink l i k ps found
+link-at i k n l [] ps found a e number = absurd cc
+link-at i k n l (x ∷ xs) [] found a e number = absurd a
+link-at zero k n l (x ∷ xs) (p ∷ ps) found a e number =
+    let first : k ≡ n = omega arith in
+    let same : x ≡ l = cc in
+    record { past = p; there = refl; fed = refl; is = subst (λ (m : ℕ). IsLink l p m found) (sym first) (subst (λ (y : Link). IsLink y p n found) same a.0) }
+link-at (suc i) k n l (x ∷ xs) (p ∷ ps) found a e number =
+    let other = link-at i k (suc n) l xs ps found a.1 e (omega arith) in
+    record { past = other.past; there = other.there; fed = other.fed; is = other.is }
+
+-- the past of a number, and its link
+pub past-at : (i n : ℕ) (p : LinkPast) (ls : List Link) (ps : List LinkPast) (found : List Found) → AreLinks ls ps n found → slice_get ps i ≡ Some p
+    → (l : Link) × (slice_get ls i ≡ Some l) × (l.scanner.ended ≡ p.is_closed)
+past-at i n p ls [] found a e = absurd cc
+past-at i n p [] (q ∷ ps) found a e = absurd a
+past-at zero n p (l ∷ ls) (q ∷ ps) found a e =
+    let same : q ≡ p = cc in
+    (l, refl, a.0.closed ∙ ap (λ (x : LinkPast). x.is_closed) same)
+past-at (suc i) n p (l ∷ ls) (q ∷ ps) found a e = past-at i (suc n) p ls ps found a.1 e
+
+-- ---- is a link open?
+
+some-same : (x y : Link) → Some x ≡ Some y → x ≡ y
+some-same x y e = cc
+
+none-some : (x : Link) → None ≡ Some x → ⊥
+none-some x e = cc
+
+pub is-open : (i : ℕ) (l : Link) (ls : List Link) (h : History) → AreLinks ls h.links 0 h.found → slice_get ls i ≡ Some l → l.scanner.ended ≡ false → IsOpen h i
+is-open i l ls h a e unended =
+    let at = link-at i i 0 l ls h.links h.found a e (omega arith) in
+    (at.past.fed, at.there ∙ ap (λ (b : Bool). Some (record at.past { is_closed = b })) (sym at.is.closed ∙ unended))
+
+pub not-ended : (i : ℕ) (ls : List Link) (h : History) → AreLinks ls h.links 0 h.found → IsOpen h i → (l : Link) × (slice_get ls i ≡ Some l) × (l.scanner.ended ≡ false)
+not-ended i ls h a (fed, there) = past-at i 0 (record { fed = fed; is_closed = false }) ls h.links h.found a there
+
+ended-not : (b : Bool) → b ≡ false → not b ≡ true
+ended-not b e = ap not e
+
+not-ended-is : (b : Bool) → not b ≡ true → b ≡ false
+not-ended-is true e = absurd cc
+not-ended-is false e = refl
+
+pub decides-open : (i : ℕ) (l : Link) (ls : List Link) (h : History) → AreLinks ls h.links 0 h.found → slice_get ls i ≡ Some l → Decides (not l.scanner.ended) (IsOpen h i)
+decides-open i l ls h a e = (
+  λ b. is-open i l ls h a e (not-ended-is l.scanner.ended b),
+  λ unended.
+      let (x, there, ended) = not-ended i ls h a unended in
+      let same : x ≡ l = some-same x l (sym there ∙ e) in
+      ended-not l.scanner.ended (ap (λ (y : Link). y.scanner.ended) (sym same) ∙ ended),
+)
+
+past-end : (ls : List Link) (i : ℕ) → length ls ≤ i → slice_get ls i ≡ None
+past-end [] i le = refl
+past-end (l ∷ ls) zero le = absurd (omega arith)
+past-end (l ∷ ls) (suc i) le = past-end ls i (omega arith)
+
+pub decides-none : (i : ℕ) (ls : List Link) (h : History) → AreLinks ls h.links 0 h.found → length ls ≤ i → Decides false (IsOpen h i)
+decides-none i ls h a le = (
+  λ b. absurd cc,
+  λ unended.
+      let (x, there, ended) = not-ended i ls h a unended in
+      absurd (none-some x (sym (past-end ls i le) ∙ there)),
+)
+
+pub record IsAccepted (c : ConverterState) (link : ℕ) : Type 0 where
+  pub going : c.conversion.stopped ≡ false
+  pub is_open : (l : Link) → slice_get c.links link ≡ Some l → l.scanner.ended ≡ false
+
+none-refused : (stopped : Bool) (o : Option ConvertFault) → (if stopped then Some Stopped else o) ≡ None → (stopped ≡ false) × (o ≡ None)
+none-refused true o e = absurd cc
+none-refused false o e = (refl, e)
+
+none-closed : (ended : Bool) → (if ended then Some LinkClosed else None) ≡ None → ended ≡ false
+none-closed true e = absurd cc
+none-closed false e = refl
+
+pub accepted : (c : ConverterState) (link : ℕ) → refusal c link ≡ None → IsAccepted c link
+accepted c link e =
+    let r = none-refused c.conversion.stopped (link_refusal (slice_get c.links link)) e in
+    record {
+      going = r.0;
+      is_open = λ l there. none-closed l.scanner.ended (subst (λ (o : Option Link). link_refusal o ≡ None) there r.1);
+    }
+
+-- so there is such a link
+within-list : (ls : List Link) (link : ℕ) → link_refusal (slice_get ls link) ≡ None → link < length ls
+within-list [] link e = absurd cc
+within-list (l ∷ ls) zero e = omega arith
+within-list (l ∷ ls) (suc link) e = let rest = within-list ls link e in omega arith
+
+pub accepted-within : (c : ConverterState) (link : ℕ) → refusal c link ≡ None → link < length c.links
+accepted-within c link e = within-list c.links link (none-refused c.conversion.stopped (link_refusal (slice_get c.links link)) e).1
+
+pub open-accepted : (c : ConverterState) (h : History) (link : ℕ) → Represents c h → IsOpen h link → refusal c link ≡ None
+open-accepted c h link r unended =
+    let (l, there, ended) = not-ended link c.links h r.links unended in
+    ap (λ (b : Bool). if b then Some Stopped else link_refusal (slice_get c.links link)) r.going
+    ∙ ap link_refusal there ∙ ap (λ (b : Bool). if b then Some LinkClosed else None) ended
+
+-- ---- what a call finds
+
+drop-past : (fs : List Frame) (ps : List (List ℕ)) → drop (length fs) (payloads fs ++ ps) ≡ ps
+drop-past [] ps = refl
+drop-past (f ∷ fs) ps = drop-past fs ps
+
+pub found-pending : (fed piece : List ℕ) → found_by_piece fed piece ≡ payloads (final_frames (pending fed ++ piece))
+found-pending fed piece = ap (drop (length (final_frames fed))) (final_payloads_cut fed piece) ∙ drop-past (final_frames fed) (payloads (final_frames (pending fed ++ piece)))
+
+pub found-left : (fed : List ℕ) → found_by_close fed ≡ payloads (frames (pending fed))
+found-left fed = ap (drop (length (final_frames fed))) (payloads_cut fed) ∙ drop-past (final_frames fed) (payloads (frames (pending fed)))
+
+-- ---- the other links
+
+passes : (link k : ℕ) (f : Finding) (found : List Found) → k ≢ link → newest_on k (found_on link f ∷ found) ≡ newest_on k found
+passes link k f found other = grind (arith, common_steps)
+
+pub others-newest : (s : Settings) (link k : ℕ) (ps : List (List ℕ)) (before after : List Found) → k ≢ link → Finds s link ps before after → newest_on k after ≡ newest_on k before
+others-newest s link k [] before after other found = ap (newest_on k) found
+others-newest s link k (p ∷ ps) before after other (f, comes, more) = others-newest s link k ps (found_on link f ∷ before) after other more ∙ passes link k f before other
+
+links-later : (ls : List Link) (ps : List LinkPast) (n : ℕ) (before after : List Found) → ((k : ℕ) → n ≤ k → newest_on k after ≡ newest_on k before) → AreLinks ls ps n before → AreLinks ls ps n after
+links-later [] [] n before after same a = a
+links-later [] (p ∷ ps) n before after same a = a
+links-later (l ∷ ls) [] n before after same a = a
+links-later (l ∷ ls) (p ∷ ps) n before after same a = (
+  record { closed = a.0.closed; waiting = a.0.waiting; newest = a.0.newest ∙ sym (same n (omega arith)) },
+  links-later ls ps (suc n) before after (λ k le. same k (omega arith)) a.1,
+)
+
+pub links-fed : (i k n : ℕ) (piece : List ℕ) (l new : Link) (ls : List Link) (ps : List LinkPast) (before after : List Found) → AreLinks ls ps n before → slice_get ls i ≡ Some l → k ≡ n + i
+    → ((p : LinkPast) → IsLink l p k before → IsLink new (record { fed = p.fed ++ piece; is_closed = p.is_closed }) k after) → ((j : ℕ) → j ≢ k → newest_on j after ≡ newest_on j before)
+    → AreLinks (set ls i new) (with_piece i piece ps) n after
+links-fed i k n piece l new [] ps before after a e number changed same = absurd cc
+links-fed i k n piece l new (x ∷ xs) [] before after a e number changed same = absurd a
+links-fed zero k n piece l new (x ∷ xs) (p ∷ ps) before after a e number changed same =
+    let first : k ≡ n = omega arith in
+    let here : x ≡ l = cc in (
+      subst (λ (m : ℕ). IsLink new (record { fed = p.fed ++ piece; is_closed = p.is_closed }) m after) first
+          (changed p (subst (λ (m : ℕ). IsLink l p m before) (sym first) (subst (λ (y : Link). IsLink y p n before) here a.0))),
+      links-later xs ps (suc n) before after (λ j le. same j (λ q. omega arith)) a.1,
+    )
+links-fed (suc i) k n piece l new (x ∷ xs) (p ∷ ps) before after a e number changed same = (
+  record { closed = a.0.closed; waiting = a.0.waiting; newest = a.0.newest ∙ sym (same n (λ q. omega arith)) },
+  links-fed i k (suc n) piece l new xs ps before after a.1 e (omega arith) changed same,
+)
+
+pub links-closed : (i k n : ℕ) (l new : Link) (ls : List Link) (ps : List LinkPast) (before after : List Found) → AreLinks ls ps n before → slice_get ls i ≡ Some l → k ≡ n + i
+    → ((p : LinkPast) → IsLink l p k before → IsLink new (record { fed = p.fed; is_closed = true }) k after) → ((j : ℕ) → j ≢ k → newest_on j after ≡ newest_on j before)
+    → AreLinks (set ls i new) (with_closed i ps) n after
+links-closed i k n l new [] ps before after a e number changed same = absurd cc
+links-closed i k n l new (x ∷ xs) [] before after a e number changed same = absurd a
+links-closed zero k n l new (x ∷ xs) (p ∷ ps) before after a e number changed same =
+    let first : k ≡ n = omega arith in
+    let here : x ≡ l = cc in (
+      subst (λ (m : ℕ). IsLink new (record { fed = p.fed; is_closed = true }) m after) first
+          (changed p (subst (λ (m : ℕ). IsLink l p m before) (sym first) (subst (λ (y : Link). IsLink y p n before) here a.0))),
+      links-later xs ps (suc n) before after (λ j le. same j (λ q. omega arith)) a.1,
+    )
+links-closed (suc i) k n l new (x ∷ xs) (p ∷ ps) before after a e number changed same = (
+  record { closed = a.0.closed; waiting = a.0.waiting; newest = a.0.newest ∙ sym (same n (λ q. omega arith)) },
+  links-closed i k (suc n) l new xs ps before after a.1 e (omega arith) changed same,
+)
+
+-- ---- nothing was fed yet
+
+nothing-waits : pending [] ≡ []
+unfolding spec.pending_from
+nothing-waits = refl
+
+pub links-new : (count n : ℕ) → AreLinks (replicate count (record { scanner = scan [] false; newest = None })) (replicate count (record { fed = []; is_closed = false })) n []
+links-new zero n = tt
+links-new (suc count) n = (record { closed = refl; waiting = λ q. sym nothing-waits; newest = refl }, links-new count (suc n))
+
+-- ---- a piece
+
+pub feeds : (old : ConverterState) (conversion : State) (i : ℕ) (piece : List ℕ) (l new : Link) (o o' w w' : Option (List ℕ))
+    → slice_get old.links i ≡ Some l → l.scanner.ended ≡ false → conversion.stopped ≡ false → new.scanner.ended ≡ false → new.scanner.pending ≡ pending (l.scanner.pending ++ piece)
+    → Gathers old.conversion i (payloads (final_frames (l.scanner.pending ++ piece))) conversion l.newest new.newest o o' w w'
+    → Feeds old i piece (record { conversion = conversion; links = set old.links i new }) o o' w w'
+feeds old conversion i piece l new o o' w w' there unended going still waits gathers = λ h r.
+    let at = link-at i i 0 l old.links h.links h.found r.links there (omega arith) in
+    let is_open : at.past.is_closed ≡ false = sym at.is.closed ∙ unended in
+    let (after, g) = gathers h.found r.found in
+    let found : payloads (final_frames (l.scanner.pending ++ piece)) ≡ found_by_piece (fed_on i h.links) piece =
+    ap (λ t. payloads (final_frames (t ++ piece))) (at.is.waiting is_open ∙ ap pending (sym at.fed)) ∙ sym (found-pending (fed_on i h.links) piece) in (
+      record { links = with_piece i piece h.links; found = after },
+      record { links = refl; found = subst (λ (ps : List (List ℕ)). Finds old.conversion.settings i ps h.found after) found g.finds },
+      record {
+        going = going;
+        links = links-fed i i 0 piece l new old.links h.links h.found after r.links there (omega arith)
+            (λ p is. record {
+              closed = still ∙ sym unended ∙ is.closed;
+              waiting = λ q. waits ∙ ap (λ t. pending (t ++ piece)) (is.waiting q) ∙ sym (pending_cut p.fed piece);
+              newest = g.newest is.newest;
+            })
+            (λ j other. others-newest old.conversion.settings i j (payloads (final_frames (l.scanner.pending ++ piece))) h.found after other g.finds);
+        found = g.represents;
+      },
+      g.writes,
+    )
+
+pub feeds-part : (old : ConverterState) (i : ℕ) (piece : List ℕ) (l : Link) (o o' w w' : Option (List ℕ))
+    → slice_get old.links i ≡ Some l → l.scanner.ended ≡ false
+    → GathersInPart old.conversion i (payloads (final_frames (l.scanner.pending ++ piece))) o o' w w' → FeedsInPart old i piece o o' w w'
+feeds-part old i piece l o o' w w' there unended gathers = λ h r.
+    let at = link-at i i 0 l old.links h.links h.found r.links there (omega arith) in
+    let is_open : at.past.is_closed ≡ false = sym at.is.closed ∙ unended in
+    let found : payloads (final_frames (l.scanner.pending ++ piece)) ≡ found_by_piece (fed_on i h.links) piece =
+    ap (λ t. payloads (final_frames (t ++ piece))) (at.is.waiting is_open ∙ ap pending (sym at.fed)) ∙ sym (found-pending (fed_on i h.links) piece) in
+    subst (λ (ps : List (List ℕ)). BreaksOffAt old.conversion.settings i ps h.found o o' w w') found (gathers h.found r.found)
+
+-- ---- a close
+
+pub closes : (old : ConverterState) (conversion : State) (i : ℕ) (l new : Link) (o o' w w' : Option (List ℕ))
+    → slice_get old.links i ≡ Some l → l.scanner.ended ≡ false → conversion.stopped ≡ false → new.scanner.ended ≡ true
+    → Gathers old.conversion i (payloads (frames l.scanner.pending)) conversion l.newest new.newest o o' w w'
+    → Closes old i (record { conversion = conversion; links = set old.links i new }) o o' w w'
+closes old conversion i l new o o' w w' there unended going ended gathers = λ h r.
+    let at = link-at i i 0 l old.links h.links h.found r.links there (omega arith) in
+    let is_open : at.past.is_closed ≡ false = sym at.is.closed ∙ unended in
+    let (after, g) = gathers h.found r.found in
+    let found : payloads (frames l.scanner.pending) ≡ found_by_close (fed_on i h.links) =
+    ap (λ t. payloads (frames t)) (at.is.waiting is_open ∙ ap pending (sym at.fed)) ∙ sym (found-left (fed_on i h.links)) in (
+      record { links = with_closed i h.links; found = after },
+      record { links = refl; found = subst (λ (ps : List (List ℕ)). Finds old.conversion.settings i ps h.found after) found g.finds },
+      record {
+        going = going;
+        links = links-closed i i 0 l new old.links h.links h.found after r.links there (omega arith)
+            (λ p is. record { closed = ended; waiting = λ q. absurd cc; newest = g.newest is.newest })
+            (λ j other. others-newest old.conversion.settings i j (payloads (frames l.scanner.pending)) h.found after other g.finds);
+        found = g.represents;
+      },
+      g.writes,
+    )
+
+pub closes-part : (old : ConverterState) (i : ℕ) (l : Link) (o o' w w' : Option (List ℕ))
+    → slice_get old.links i ≡ Some l → l.scanner.ended ≡ false
+    → GathersInPart old.conversion i (payloads (frames l.scanner.pending)) o o' w w' → ClosesInPart old i o o' w w'
+closes-part old i l o o' w w' there unended gathers = λ h r.
+    let at = link-at i i 0 l old.links h.links h.found r.links there (omega arith) in
+    let is_open : at.past.is_closed ≡ false = sym at.is.closed ∙ unended in
+    let found : payloads (frames l.scanner.pending) ≡ found_by_close (fed_on i h.links) =
+    ap (λ t. payloads (frames t)) (at.is.waiting is_open ∙ ap pending (sym at.fed)) ∙ sym (found-left (fed_on i h.links)) in
+    subst (λ (ps : List (List ℕ)). BreaksOffAt old.conversion.settings i ps h.found o o' w w') found (gathers h.found r.found)

@@ -1,0 +1,209 @@
+-- The frames that one link finds, one after another.
+use Rattle.std.proofs.Common.{◌≡◌, ◌≤◌, ◌<◌, ◌+◌, ◌-◌, ◌%◌, ℕ, Bool, List, [], ◌∷◌, ◌++◌, Option, None, Some, Result, Ok, Err, length, take, drop, refl, ap, append_assoc, sym, subst, ◌∙◌, arith}
+use Rattle.std.proofs.lemmas.Grind.{common_steps}
+use Rattle.std.proofs.lemmas.List.{append-nil}
+use Rattle.std.specs.Borrow.{Bor}
+use Rattle.rtk_bits.specs.Bits.{bits}
+use Rattle.rtk_message.specs.declared.message.Message.{Message}
+use Rattle.rtk_message.specs.declared.fault.DecodeFault.{DecodeFault}
+use Rattle.rtk_message.specs.Decoded.{Decodes, tow_of}
+use Rattle.rtk_obs.specs.Dating.{IsDated}
+use Rattle.rtk_collect.specs.Arrival.{Arrival, At}
+use Rattle.rtk_frame.specs.Frames.{final_frames, frames, payloads, pending}
+use Rattle.rtk_frame.specs.Scanner.{FedAnswer, RestAnswer}
+use Rattle.rtk_frame.specs.ScannerState.{Scan}
+use Rattle.rtk_frame.specs.Stream.{with_more}
+use Rattle.rtk_frame.specs.declared.scanner.Answer.TheVariants.{Found, Hungry}
+use Rattle.rtk_frame.proofs.FirstFrame.{after_found, first_payloads}
+use Rattle.rtk_frame.proofs.StreamLemmas.{with_more-with_more}
+use Rattle.rtk_convert.specs.Converter.{WritesInto}
+use Rattle.rtk_convert.specs.FileOfArrivals.{file_so_far}
+use Rattle.rtk_convert.specs.Finding.{IsEpochOf, IsDatedMessage, IsFindingOf, ComesTo, Found as FoundFrame, arrivals}
+use Rattle.rtk_convert.specs.Gathering.{Gathers, GathersInPart}
+use Rattle.rtk_convert.specs.History.{Finds, IsEpochIn, epoch_found, later_of, newest_on}
+use Rattle.rtk_convert.specs.Report.{lines}
+use Rattle.rtk_convert.specs.Settings.{Settings}
+use Rattle.rtk_convert.specs.State.{State, found_on, Arrives, BreaksOff}
+use Rattle.rtk_convert.specs.Writing.{Writes, WritesPart}
+use Rattle.rtk_convert.specs.declared.arrival.Finding.{Finding}
+use Rattle.rtk_convert.specs.declared.arrival.Finding.TheVariants.{OtherMessage, Refused, Foreign, Arrived}
+use Rattle.rtk_convert.proofs.WritingLemmas.{writes-none, writes-on}
+
+-- ---- a payload comes to one finding
+
+-- bits decode to one message or fault
+decodes-once : (bs : List Bool) (r s : Result Message DecodeFault) → Decodes bs r → Decodes bs s → r ≡ s
+decodes-once bs (Ok m) s a b = sym (b.only m a.message)
+decodes-once bs (Err f) (Ok n) a b = a.only n b.message
+decodes-once bs (Err f) (Err g) a b = let e : Some f ≡ Some g = sym a.fault ∙ b.fault in cc
+
+dated-once : (near tow t u : ℕ) → IsDated near tow t → IsDated near tow u → t ≡ u
+dated-once near tow t u a b =
+    let same : t % 604_800_000 ≡ u % 604_800_000 = a.time_of_week ∙ sym b.time_of_week in
+    let from = a.from in
+    let before = a.before in
+    let from' = b.from in
+    let before' = b.before in
+    grind (arith)
+
+epoch-once : (near : ℕ) (tow a b : Option ℕ) → IsEpochOf near tow a → IsEpochOf near tow b → a ≡ b
+epoch-once near None None None p q = refl
+epoch-once near None None (Some u) p q = absurd q
+epoch-once near None (Some t) b p q = absurd p
+epoch-once near (Some tow) None b p q = absurd p
+epoch-once near (Some tow) (Some t) None p q = absurd q
+epoch-once near (Some tow) (Some t) (Some u) p q = ap Some (dated-once near tow t u p q)
+
+message-once : (s : Settings) (m : Message) (a b : Arrival) → IsDatedMessage s m a → IsDatedMessage s m b → a ≡ b
+message-once s m (At e x) (At f y) p q =
+    let messages : x ≡ y = p.0 ∙ sym q.0 in
+    let epochs : e ≡ f = epoch-once s.near (tow_of m) e f p.1 q.1 in
+    cc
+
+finding-once : (s : Settings) (r : Result Message DecodeFault) (f g : Finding) → IsFindingOf s r f → IsFindingOf s r g → f ≡ g
+finding-once s (Err fault) f g p q = p ∙ sym q
+finding-once s (Ok m) OtherMessage g p q = absurd p
+finding-once s (Ok m) (Refused fault) g p q = absurd p
+finding-once s (Ok m) Foreign OtherMessage p q = absurd q
+finding-once s (Ok m) Foreign (Refused fault) p q = absurd q
+finding-once s (Ok m) Foreign Foreign p q = refl
+finding-once s (Ok m) Foreign (Arrived b) p q = absurd (p q.0)
+finding-once s (Ok m) (Arrived a) OtherMessage p q = absurd q
+finding-once s (Ok m) (Arrived a) (Refused fault) p q = absurd q
+finding-once s (Ok m) (Arrived a) Foreign p q = absurd (q p.0)
+finding-once s (Ok m) (Arrived a) (Arrived b) p q = ap Arrived (message-once s m a b p.1 q.1)
+
+pub comes-once : (s : Settings) (payload : List ℕ) (f g : Finding) → ComesTo s payload f → ComesTo s payload g → f ≡ g
+comes-once s payload f g (r, decodes, is) (r', decodes', is') =
+    let same : r' ≡ r = decodes-once (bits payload) r' r decodes' decodes in
+    finding-once s r f g is (subst (λ (x : Result Message DecodeFault). IsFindingOf s x g) same is')
+
+-- ---- one frame more
+
+pub finds-more : (s : Settings) (link : ℕ) (done : List (List ℕ)) (payload : List ℕ) (f : Finding) (before mid : List FoundFrame)
+    → Finds s link done before mid → ComesTo s payload f → Finds s link (done ++ payload ∷ []) before (found_on link f ∷ mid)
+finds-more s link [] payload f before mid found comes = (f, comes, ap (λ (t : List FoundFrame). found_on link f ∷ t) found)
+finds-more s link (p ∷ ps) payload f before mid (g, here, more) comes = (g, here, finds-more s link ps payload f (found_on link g ∷ before) mid more comes)
+
+pub gathers-none : (old : State) (link : ℕ) (n : Option ℕ) (o l : Option (List ℕ)) → Gathers old link [] old n n o o l l
+gathers-none old link n o l = λ before represents. (
+  before,
+  record {
+    finds = refl;
+    represents = represents;
+    newest = λ e. e;
+    writes = record { out = writes-none o (file_so_far old.settings (arrivals before)) (file_so_far old.settings (arrivals before)) refl; log = writes-none l (lines old.settings.window before) (lines old.settings.window before) refl };
+  },
+)
+
+newest-more : (link : ℕ) (f : Finding) (found : List FoundFrame) → newest_on link (found_on link f ∷ found) ≡ later_of (epoch_found f) (newest_on link found)
+newest-more link f found = grind (arith, common_steps)
+
+pub gathers-more : (old mid new : State) (link : ℕ) (done : List (List ℕ)) (payload : List ℕ) (epoch n0 n1 n2 : Option ℕ) (o0 o1 o2 l0 l1 l2 : Option (List ℕ))
+    → mid.settings ≡ old.settings → Gathers old link done mid n0 n1 o0 o1 l0 l1 → Arrives mid link payload new o1 o2 l1 l2 → IsEpochIn mid.settings payload epoch → n2 ≡ later_of epoch n1
+    → Gathers old link (done ++ payload ∷ []) new n0 n2 o0 o2 l0 l2
+gathers-more old mid new link done payload epoch n0 n1 n2 o0 o1 o2 l0 l1 l2 settings gathers arrives is newest = λ before represents.
+    let (found, g) = gathers before represents in
+    let (f, comes, a) = arrives found g.represents in
+    let same : is.0 ≡ f = comes-once mid.settings payload is.0 f is.1 comes in
+    let out = subst (λ (s : Settings). Writes o1 o2 (file_so_far s (arrivals found)) (file_so_far s (arrivals (found_on link f ∷ found)))) settings a.out in
+    let log = subst (λ (s : Settings). Writes l1 l2 (lines s.window found) (lines s.window (found_on link f ∷ found))) settings a.log in (
+      found_on link f ∷ found,
+      record {
+        finds = finds-more old.settings link done payload f before found g.finds (subst (λ (s : Settings). ComesTo s payload f) settings comes);
+        represents = a.represents;
+        newest = λ e. newest ∙ ap (λ (t : Option ℕ). later_of t n1) (is.2 ∙ ap epoch_found same) ∙ ap (later_of (epoch_found f)) (g.newest e) ∙ sym (newest-more link f found);
+        writes = record { out = writes-on o0 o1 o2 _ _ _ g.writes.out out; log = writes-on l0 l1 l2 _ _ _ g.writes.log log };
+      },
+    )
+
+writes-into : (a b c : Option (List ℕ)) (x y z : List ℕ) → Writes a b x y → WritesPart b c y z → WritesInto a c x y z
+writes-into a b c x y z p q = (p.0, q.0, q.1, p.1, q.2, q.3 ∙ ap (λ t. with_more t q.0) p.2 ∙ with_more-with_more a p.0 q.0)
+
+pub breaks-off : (old mid : State) (link : ℕ) (all done left : List (List ℕ)) (payload : List ℕ) (n0 n1 : Option ℕ) (o0 o1 o2 l0 l1 l2 : Option (List ℕ))
+    → mid.settings ≡ old.settings → all ≡ done ++ (payload ∷ left) → Gathers old link done mid n0 n1 o0 o1 l0 l1 → BreaksOff mid link payload o1 o2 l1 l2
+    → GathersInPart old link all o0 o2 l0 l2
+breaks-off old mid link all done left payload n0 n1 o0 o1 o2 l0 l1 l2 settings split gathers breaks = λ before represents.
+    let (found, g) = gathers before represents in
+    let (f, comes, b) = breaks found g.represents in
+    let out = subst (λ (s : Settings). WritesPart o1 o2 (file_so_far s (arrivals found)) (file_so_far s (arrivals (found_on link f ∷ found)))) settings b.out in
+    let log = subst (λ (s : Settings). WritesPart l1 l2 (lines s.window found) (lines s.window (found_on link f ∷ found))) settings b.log in
+    record {
+      done = done;
+      payload = payload;
+      left = left;
+      split = split;
+      found = found;
+      finds = g.finds;
+      finding = f;
+      comes = subst (λ (s : Settings). ComesTo s payload f) settings comes;
+      out = writes-into o0 o1 o2 _ _ _ g.writes.out out;
+      log = writes-into l0 l1 l2 _ _ _ g.writes.log log;
+    }
+
+-- ---- the scanner's answers
+
+rest-is : (at : ℕ) (p : List ℕ) → take (length p - at) (drop at p) ≡ drop at p
+rest-is at p = grind (arith, common_steps)
+
+-- of a piece p behind the pending bytes s0, the next frame was found: s2 is pending, and the place next was reached
+pub record FindsNext (s0 p s1 s2 : List ℕ) (at next : ℕ) (done : List (List ℕ)) (payload : List ℕ) : Type 0 where
+  pub split : payloads (final_frames (s0 ++ p)) ≡ done ++ (payload ∷ payloads (final_frames (s2 ++ drop next p)))
+  pub taken : payloads (final_frames (s0 ++ p)) ≡ (done ++ payload ∷ []) ++ payloads (final_frames (s2 ++ drop next p))
+  pub waiting : pending (s0 ++ p) ≡ pending (s2 ++ drop next p)
+  pub within : next ≤ length p
+  pub smaller : length s2 + (length p - next) < length s1 + (length p - at)
+
+pub finds-next : (s0 p s1 : List ℕ) (at used : ℕ) (done : List (List ℕ)) (payload : Bor (List ℕ)) (scan : Scan)
+    → at ≤ length p → used ≤ length (take (length p - at) (drop at p))
+    → payloads (final_frames (s0 ++ p)) ≡ done ++ payloads (final_frames (s1 ++ drop at p)) → pending (s0 ++ p) ≡ pending (s1 ++ drop at p)
+    → FedAnswer s1 (take (length p - at) (drop at p)) used (Found payload) scan
+    → FindsNext s0 p s1 scan.pending at (at + used) done payload.now
+finds-next s0 p s1 at used done payload scan within some whole waiting answer =
+    let a = subst (λ (q : List ℕ). FedAnswer s1 q used (Found payload) scan) (rest-is at p) answer in
+    let few : used ≤ length (drop at p) = subst (λ (q : List ℕ). used ≤ length q) (rest-is at p) some in
+    let law = after_found s1 (drop at p) used payload.now scan.pending a.0 in
+    let d : drop used (drop at p) ≡ drop (at + used) p = grind (arith, common_steps) in
+    let n : length (drop at p) ≡ length p - at = grind (arith, common_steps) in
+    let fall = a.1 in
+    let split = whole ∙ ap (λ t. done ++ t) (law.0 ∙ ap (λ (t : List ℕ). payload.now ∷ payloads (final_frames (scan.pending ++ t))) d) in
+    record {
+      split = split;
+      taken = split ∙ sym (append_assoc done (payload.now ∷ []) (payloads (final_frames (scan.pending ++ drop (at + used) p))));
+      waiting = waiting ∙ law.1 ∙ ap (λ (t : List ℕ). pending (scan.pending ++ t)) d;
+      within = grind (arith);
+      smaller = grind (arith);
+    }
+
+-- it was searched to its end
+pub record FindsNoMore (s0 p s2 : List ℕ) (done : List (List ℕ)) : Type 0 where
+  pub all : payloads (final_frames (s0 ++ p)) ≡ done
+  pub waiting : s2 ≡ pending (s0 ++ p)
+
+pub finds-no-more : (s0 p s1 : List ℕ) (at used : ℕ) (done : List (List ℕ)) (scan : Scan)
+    → payloads (final_frames (s0 ++ p)) ≡ done ++ payloads (final_frames (s1 ++ drop at p)) → pending (s0 ++ p) ≡ pending (s1 ++ drop at p)
+    → FedAnswer s1 (take (length p - at) (drop at p)) used Hungry scan
+    → FindsNoMore s0 p scan.pending done
+finds-no-more s0 p s1 at used done scan whole waiting answer =
+    let a = subst (λ (q : List ℕ). FedAnswer s1 q used Hungry scan) (rest-is at p) answer in
+    record {
+      all = whole ∙ ap (λ t. done ++ payloads t) a.1 ∙ append-nil done;
+      waiting = a.2 ∙ sym waiting;
+    }
+
+-- of the pending bytes s0 no more will come, and the next frame was found: s2 is pending
+pub record FindsLeft (s0 s1 s2 : List ℕ) (done : List (List ℕ)) (payload : List ℕ) : Type 0 where
+  pub split : payloads (frames s0) ≡ done ++ (payload ∷ payloads (frames s2))
+  pub taken : payloads (frames s0) ≡ (done ++ payload ∷ []) ++ payloads (frames s2)
+  pub smaller : length s2 < length s1
+
+pub finds-left : (s0 s1 : List ℕ) (done : List (List ℕ)) (payload : Bor (List ℕ)) (scan : Scan)
+    → payloads (frames s0) ≡ done ++ payloads (frames s1) → RestAnswer s1 (Some payload) scan → FindsLeft s0 s1 scan.pending done payload.now
+finds-left s0 s1 done payload scan whole answer =
+    let split = whole ∙ ap (λ t. done ++ t) (first_payloads s1 payload.now scan.pending answer.0) in
+    let fall = answer.1 in
+    record {
+      split = split;
+      taken = split ∙ sym (append_assoc done (payload.now ∷ []) (payloads (frames scan.pending)));
+      smaller = grind (arith);
+    }

@@ -1,0 +1,110 @@
+-- The history of a converter: what was fed on each link, and the frames that were found. All of it is this project's rule.
+use Rattle.std.specs.Prelude.{◌≡◌, ℕ, zero, suc, ◌<◌, ◌≤◌, ◌==◌, if◌then◌else◌, Bool, true, false, List, [], ◌∷◌, ◌++◌, length, drop, max, replicate, slice_get, Option, None, Some}
+use Rattle.rtk_frame.specs.Frames.{frames, final_frames, payloads}
+use Rattle.rtk_collect.specs.Arrival.{epoch_of}
+use Rattle.rtk_convert.specs.declared.arrival.Finding.{Finding}
+use Rattle.rtk_convert.specs.declared.arrival.Finding.TheVariants.{OtherMessage, Refused, Foreign, Arrived}
+use Rattle.rtk_convert.specs.Finding.{Found, ComesTo}
+use Rattle.rtk_convert.specs.Settings.{Settings}
+use Rattle.rtk_convert.specs.State.{found_on}
+
+-- the bytes that were fed on a link, and whether it is closed
+pub record LinkPast : Type 0 where
+  pub fed : List ℕ
+  pub is_closed : Bool
+
+-- the links, and the frames found on them, newest first
+pub record History : Type 0 where
+  pub links : List LinkPast
+  pub found : List Found
+
+-- nothing was fed on any of n links
+abbrev pub new_history : ℕ → History
+new_history n = record { links = replicate n (record { fed = []; is_closed = false }); found = [] }
+
+-- ---- what a call finds
+
+-- the payloads that a piece behind these bytes finds: those of the final frames, but for the ones before
+abbrev pub found_by_piece : List ℕ → List ℕ → List (List ℕ)
+found_by_piece fed piece = drop (length (final_frames fed)) (payloads (final_frames (fed ++ piece)))
+
+-- the payloads that a close finds: those of all frames of the bytes, but for the final ones
+abbrev pub found_by_close : List ℕ → List (List ℕ)
+found_by_close fed = drop (length (final_frames fed)) (payloads (frames fed))
+
+-- frames with these payloads are found on a link, one after another, after those before
+abbrev pub Finds : Settings → ℕ → List (List ℕ) → List Found → List Found → Type 0
+Finds s link [] before after = after ≡ before
+Finds s link (p ∷ ps) before after = (f : Finding) × ComesTo s p f × Finds s link ps (found_on link f ∷ before) after
+
+-- ---- links
+
+-- all bytes fed on a link
+abbrev pub fed_on : ℕ → List LinkPast → List ℕ
+fed_on k [] = []
+fed_on zero (p ∷ ps) = p.fed
+fed_on (suc k) (p ∷ ps) = fed_on k ps
+
+-- a piece more on a link
+abbrev pub with_piece : ℕ → List ℕ → List LinkPast → List LinkPast
+with_piece k piece [] = []
+with_piece zero piece (p ∷ ps) = record { fed = p.fed ++ piece; is_closed = p.is_closed } ∷ ps
+with_piece (suc k) piece (p ∷ ps) = p ∷ with_piece k piece ps
+
+-- a link closed
+abbrev pub with_closed : ℕ → List LinkPast → List LinkPast
+with_closed k [] = []
+with_closed zero (p ∷ ps) = record { fed = p.fed; is_closed = true } ∷ ps
+with_closed (suc k) (p ∷ ps) = p ∷ with_closed k ps
+
+-- there is such a link, and it is open
+abbrev pub IsOpen : History → ℕ → Type 0
+IsOpen h link = (fed : List ℕ) × (slice_get h.links link ≡ Some (record { fed = fed; is_closed = false }))
+
+-- the history with a piece more on an open link
+pub record IsAfterFeed (s : Settings) (h : History) (link : ℕ) (piece : List ℕ) (next : History) : Type 0 where
+  pub links : next.links ≡ with_piece link piece h.links
+  pub found : Finds s link (found_by_piece (fed_on link h.links) piece) h.found next.found
+
+-- the history with an open link closed
+pub record IsAfterClose (s : Settings) (h : History) (link : ℕ) (next : History) : Type 0 where
+  pub links : next.links ≡ with_closed link h.links
+  pub found : Finds s link (found_by_close (fed_on link h.links)) h.found next.found
+
+-- ---- the newest epoch of a link
+
+-- the observation epoch of a message of the chosen station
+abbrev pub epoch_found : Finding → Option ℕ
+epoch_found OtherMessage = None
+epoch_found (Refused fault) = None
+epoch_found Foreign = None
+epoch_found (Arrived a) = epoch_of a
+
+-- the same of the payload of a frame
+abbrev pub IsEpochIn : Settings → List ℕ → Option ℕ → Type 0
+IsEpochIn s payload epoch = (f : Finding) × ComesTo s payload f × (epoch ≡ epoch_found f)
+
+-- the greater of two epochs
+abbrev pub later_of : Option ℕ → Option ℕ → Option ℕ
+later_of None b = b
+later_of (Some a) None = Some a
+later_of (Some a) (Some b) = Some (max a b)
+
+-- the greatest observation epoch that came on a link, be the message late or not
+abbrev pub newest_on : ℕ → List Found → Option ℕ
+newest_on link [] = None
+newest_on link (f ∷ before) = if f.link == link then later_of (epoch_found f.finding) (newest_on link before) else newest_on link before
+
+-- ---- the order of reading
+
+-- an epoch is at most another; no epoch is before all of them
+abbrev pub IsUpTo : Option ℕ → Option ℕ → Type 0
+IsUpTo None b = Unit {0}
+IsUpTo (Some a) None = ⊥
+IsUpTo (Some a) (Some b) = a ≤ b
+
+-- the link that is read next: of the open ones that with the least newest epoch, and of those alike the lowest
+pub record IsNextLink (h : History) (link : ℕ) : Type 0 where
+  pub is_open : IsOpen h link
+  pub least : (other : ℕ) → IsOpen h other → IsUpTo (newest_on link h.found) (newest_on other h.found)
+  pub lowest : (other : ℕ) → other < link → IsOpen h other → ¬ (IsUpTo (newest_on other h.found) (newest_on link h.found))

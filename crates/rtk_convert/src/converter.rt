@@ -1,0 +1,173 @@
+//! Pieces of 1 to 16 links, in any order, to one file.
+
+ghost use Rattle.std.specs.Prelude.{◌≡◌, ◌≤◌, ◌<◌, ◌↔◌, [], true, false, None, length, replicate, OnOk, OnErr, IsErrOf, IfOk, IfErr, IfSome, Decides};
+ghost use Rattle.rtk_frame.specs.ScannerState.{scan};
+ghost use Rattle.rtk_frame.specs.Stream.{Rises};
+ghost use Rattle.rtk_convert.specs.Converter.{IsLinkCount, Represents, refusal, Feeds, FeedsInPart, Closes, ClosesInPart, Ends, EndsInPart};
+ghost use Rattle.rtk_convert.specs.Failure.{IsFrameFault};
+ghost use Rattle.rtk_convert.specs.History.{History, new_history, IsOpen, newest_on};
+
+use crate::conversion::Conversion;
+use crate::counts::Counts;
+use crate::fault::{ConvertFault, Stream};
+use crate::link::Link;
+use crate::setup::Setup;
+use rtk_frame::{Scanner, Sink};
+use rtk_obs::GpsMs;
+use std::alloc::Global;
+use std::marker::Model;
+
+/// Links that carry messages of one station, and the file and the report that they come to.
+///
+/// Its memory is bounded: a link holds at most 1,029 bytes, and what all links have come to at most
+/// the window's epochs. A call that breaks off (V4, V5) stops it: each later call answers V8.
+#[derive(Drop)]
+pub struct Converter {
+    conversion: Conversion,
+    links: Vec<Link>,
+}
+
+impl Model for Converter {
+    ghost use Rattle.rtk_convert.specs.Converter.{ConverterState, IsConverter};
+
+    ghost Value = { ConverterState };
+
+    ghost view = { λ c. record { conversion = c.conversion; links = c.links.items } };
+
+    ghost invariant = { λ c. IsConverter (record { conversion = c.conversion; links = c.links.items }) };
+}
+
+// So many open links on which nothing came.
+fn new_links(alloc: Global, count: usize) -> Result<Vec<Link>, ConvertFault>
+    ensures new { IfOk result (λ links. links.items ≡ replicate count (record { scanner = scan [] false; newest = None })) }
+    ensures fault { IfErr result (λ fault. fault ≡ ConvertFault.OutOfMemory) }
+{
+    let mut links = Vec::new(alloc);
+    for _ in 0..count {
+        let Ok(scanner) = Scanner::new(alloc) else {
+            return Err(ConvertFault::OutOfMemory);
+        };
+        let link = Link {
+            scanner,
+            newest: None,
+        };
+        let Ok(()) = links.push(link) else {
+            return Err(ConvertFault::OutOfMemory);
+        };
+    }
+    Ok(links)
+}
+
+impl Converter {
+    /// Nothing was fed yet. The links are counted from 0.
+    pub fn new(alloc: Global, setup: Setup, links: usize) -> Result<Converter, ConvertFault>
+        ensures ok { IfOk result (λ c. Represents c (new_history links)) }
+        ensures settings { IfOk result (λ c. c.conversion.settings ≡ setup) }
+        ensures setup { IsErrOf result ConvertFault.Setup ↔ ¬ (IsLinkCount links) }
+        ensures fault { IfErr result (λ fault. IsLinkCount links → fault ≡ ConvertFault.OutOfMemory) }
+    {
+        if links < 1 || links > 16 {
+            return Err(ConvertFault::Setup);
+        }
+        let Ok(links) = new_links(alloc, links) else {
+            return Err(ConvertFault::OutOfMemory);
+        };
+        Ok(Converter {
+            conversion: Conversion::new(alloc, setup),
+            links,
+        })
+    }
+
+    /// How many links there are.
+    pub fn links(&self) -> usize
+        ensures value { result ≡ length self.now.links }
+        ensures of_history { (h : History) → Represents self.now h → result ≡ length h.links }
+    {
+        self.links.len()
+    }
+
+    /// Whether there is such a link and it is open.
+    pub fn is_open(&self, link: usize) -> bool
+        ensures { (h : History) → Represents self.now h → Decides result (IsOpen h link) }
+    {
+        match self.links.get(link) {
+            Some(open) => !open.scanner.ended(),
+            None => false,
+        }
+    }
+
+    /// The greatest observation epoch that came on the link, late messages included.
+    pub fn newest(&self, link: usize) -> Option<GpsMs>
+        requires { link < length self.now.links }
+        ensures { (h : History) → Represents self.now h → result ≡ newest_on link h.found }
+    {
+        self.links[link].newest
+    }
+
+    // Why a call on the link is refused at once.
+    fn refusal(&self, link: usize) -> Option<ConvertFault>
+        ensures { result ≡ refusal self.now link }
+    {
+        if self.conversion.is_stopped() {
+            return Some(ConvertFault::Stopped);
+        }
+        let Some(open) = self.links.get(link) else {
+            return Some(ConvertFault::NoLink);
+        };
+        if open.scanner.ended() {
+            return Some(ConvertFault::LinkClosed);
+        }
+        None
+    }
+
+    /// Takes the next bytes of a link: the frames that they complete arrive.
+    pub fn feed<O: Sink, L: Sink>(
+        &mut self,
+        link: usize,
+        piece: &[u8],
+        out: &mut O,
+        log: &mut L,
+    ) -> Result<(), ConvertFault>
+        ensures settings { self.new.conversion.settings ≡ self.old.conversion.settings }
+        ensures as_many { length self.new.links ≡ length self.old.links }
+        ensures refused { IfSome (refusal self.old link) (λ fault. IsErrOf result fault × (self.new ≡ self.old) × (out.new ≡ out.old) × (log.new ≡ log.old)) }
+        ensures fault { refusal self.old link ≡ None → IfErr result IsFrameFault }
+        ensures ok { OnOk result (Feeds self.old link piece.now self.new (O.taken out.old) (O.taken out.new) (L.taken log.old) (L.taken log.new)) }
+        ensures err { IfErr result (λ fault. IsFrameFault fault → FeedsInPart self.old link piece.now (O.taken out.old) (O.taken out.new) (L.taken log.old) (L.taken log.new)) }
+        ensures halts { IfErr result (λ fault. IsFrameFault fault → self.new.conversion.stopped ≡ true) }
+        ensures out_same { OnOk result (O.failures out.new ≡ O.failures out.old) }
+        ensures log_same { OnOk result (L.failures log.new ≡ L.failures log.old) }
+        ensures out_failed { IsErrOf result (ConvertFault.Write Stream.Out) → Rises (O.failures out.old) (O.failures out.new) }
+        ensures log_failed { IsErrOf result (ConvertFault.Write Stream.Log) → Rises (L.failures log.old) (L.failures log.new) }
+    {
+        if let Some(fault) = self.refusal(link) {
+            return Err(fault);
+        }
+        self.links[link].feed(link as u8, &mut self.conversion, piece, out, log)
+    }
+
+    /// Closes a link: no more bytes will come, and the frames that are left in it arrive.
+    pub fn close<O: Sink, L: Sink>(
+        &mut self,
+        link: usize,
+        out: &mut O,
+        log: &mut L,
+    ) -> Result<(), ConvertFault>
+        ensures settings { self.new.conversion.settings ≡ self.old.conversion.settings }
+        ensures as_many { length self.new.links ≡ length self.old.links }
+        ensures refused { IfSome (refusal self.old link) (λ fault. IsErrOf result fault × (self.new ≡ self.old) × (out.new ≡ out.old) × (log.new ≡ log.old)) }
+        ensures fault { refusal self.old link ≡ None → IfErr result IsFrameFault }
+        ensures ok { OnOk result (Closes self.old link self.new (O.taken out.old) (O.taken out.new) (L.taken log.old) (L.taken log.new)) }
+        ensures err { IfErr result (λ fault. IsFrameFault fault → ClosesInPart self.old link (O.taken out.old) (O.taken out.new) (L.taken log.old) (L.taken log.new)) }
+        ensures halts { IfErr result (λ fault. IsFrameFault fault → self.new.conversion.stopped ≡ true) }
+        ensures out_same { OnOk result (O.failures out.new ≡ O.failures out.old) }
+        ensures log_same { OnOk result (L.failures log.new ≡ L.failures log.old) }
+        ensures out_failed { IsErrOf result (ConvertFault.Write Stream.Out) → Rises (O.failures out.old) (O.failures out.new) }
+        ensures log_failed { IsErrOf result (ConvertFault.Write Stream.Log) → Rises (L.failures log.old) (L.failures log.new) }
+    {
+        if let Some(fault) = self.refusal(link) {
+            return Err(fault);
+        }
+        self.links[link].close(link as u8, &mut self.conversion, out, log)
+    }
+}

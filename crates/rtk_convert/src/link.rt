@@ -1,0 +1,110 @@
+//! One link: its scanner and the newest epoch that came on it.
+
+ghost use Rattle.std.specs.Prelude.{◌≡◌, ◌≤◌, ◌++◌, [], length, true, false, OnOk, OnErr, IsErrOf, IfErr};
+ghost use Rattle.rtk_frame.specs.Frames.{final_frames, frames, payloads, pending};
+ghost use Rattle.rtk_frame.specs.Stream.{Rises};
+ghost use Rattle.rtk_convert.specs.Failure.{IsFrameFault};
+ghost use Rattle.rtk_convert.specs.Gathering.{Gathers, GathersInPart};
+ghost use Rattle.rtk_convert.specs.History.{later_of};
+
+use crate::conversion::Conversion;
+use crate::fault::{ConvertFault, Stream};
+use rtk_frame::{Answer, Scanner, Sink};
+use rtk_obs::GpsMs;
+
+/// A link. It is closed exactly where its scanner has ended.
+///
+/// Its memory does not grow: the scanner holds at most 1,029 bytes.
+#[derive(Drop)]
+pub(crate) struct Link {
+    pub(crate) scanner: Scanner,
+    /// The greatest observation epoch that came on it, late messages included.
+    pub(crate) newest: Option<GpsMs>,
+}
+
+// The later of two epochs.
+fn later(a: Option<GpsMs>, b: Option<GpsMs>) -> Option<GpsMs>
+    ensures { result ≡ later_of a b }
+{
+    match (a, b) {
+        (Some(a), Some(b)) => Some(if a < b { b } else { a }),
+        (Some(a), None) => Some(a),
+        (None, b) => b,
+    }
+}
+
+impl Link {
+    /// Feeds a piece, and takes the frames that it finds.
+    pub(crate) fn feed<O: Sink, L: Sink>(
+        &mut self,
+        number: u8,
+        conversion: &mut Conversion,
+        piece: &[u8],
+        out: &mut O,
+        log: &mut L,
+    ) -> Result<(), ConvertFault>
+        requires is_open { self.old.scanner.ended ≡ false }
+        requires going { conversion.old.stopped ≡ false }
+        ensures is_open { self.new.scanner.ended ≡ false }
+        ensures pending { OnOk result (self.new.scanner.pending ≡ pending (self.old.scanner.pending ++ piece.now)) }
+        ensures short { length self.new.scanner.pending ≤ 1029 }
+        ensures settings { conversion.new.settings ≡ conversion.old.settings }
+        ensures going { OnOk result (conversion.new.stopped ≡ false) }
+        ensures halts { OnErr result (conversion.new.stopped ≡ true) }
+        ensures ok { OnOk result (Gathers conversion.old number (payloads (final_frames (self.old.scanner.pending ++ piece.now))) conversion.new self.old.newest self.new.newest
+            (O.taken out.old) (O.taken out.new) (L.taken log.old) (L.taken log.new)) }
+        ensures err { OnErr result (GathersInPart conversion.old number (payloads (final_frames (self.old.scanner.pending ++ piece.now)))
+            (O.taken out.old) (O.taken out.new) (L.taken log.old) (L.taken log.new)) }
+        ensures fault { IfErr result IsFrameFault }
+        ensures out_same { OnOk result (O.failures out.new ≡ O.failures out.old) }
+        ensures log_same { OnOk result (L.failures log.new ≡ L.failures log.old) }
+        ensures out_failed { IsErrOf result (ConvertFault.Write Stream.Out) → Rises (O.failures out.old) (O.failures out.new) }
+        ensures log_failed { IsErrOf result (ConvertFault.Write Stream.Log) → Rises (L.failures log.old) (L.failures log.new) }
+    {
+        let mut at = 0;
+        'frames: loop {
+            let fed = self.scanner.feed(&piece[at..]);
+            at += fed.used;
+            let Answer::Found(payload) = fed.answer else {
+                return Ok(());
+            };
+            match conversion.arrive(number, payload, out, log) {
+                Ok(epoch) => self.newest = later(epoch, self.newest),
+                Err(fault) => return Err(fault),
+            }
+        }
+    }
+
+    /// Ends the stream, and takes the frames that are left in it.
+    pub(crate) fn close<O: Sink, L: Sink>(
+        &mut self,
+        number: u8,
+        conversion: &mut Conversion,
+        out: &mut O,
+        log: &mut L,
+    ) -> Result<(), ConvertFault>
+        requires going { conversion.old.stopped ≡ false }
+        ensures ended { self.new.scanner.ended ≡ true }
+        ensures short { length self.new.scanner.pending ≤ 1029 }
+        ensures settings { conversion.new.settings ≡ conversion.old.settings }
+        ensures going { OnOk result (conversion.new.stopped ≡ false) }
+        ensures halts { OnErr result (conversion.new.stopped ≡ true) }
+        ensures ok { OnOk result (Gathers conversion.old number (payloads (frames self.old.scanner.pending)) conversion.new self.old.newest self.new.newest
+            (O.taken out.old) (O.taken out.new) (L.taken log.old) (L.taken log.new)) }
+        ensures err { OnErr result (GathersInPart conversion.old number (payloads (frames self.old.scanner.pending))
+            (O.taken out.old) (O.taken out.new) (L.taken log.old) (L.taken log.new)) }
+        ensures fault { IfErr result IsFrameFault }
+        ensures out_same { OnOk result (O.failures out.new ≡ O.failures out.old) }
+        ensures log_same { OnOk result (L.failures log.new ≡ L.failures log.old) }
+        ensures out_failed { IsErrOf result (ConvertFault.Write Stream.Out) → Rises (O.failures out.old) (O.failures out.new) }
+        ensures log_failed { IsErrOf result (ConvertFault.Write Stream.Log) → Rises (L.failures log.old) (L.failures log.new) }
+    {
+        'frames: while let Some(payload) = self.scanner.rest() {
+            match conversion.arrive(number, payload, out, log) {
+                Ok(epoch) => self.newest = later(epoch, self.newest),
+                Err(fault) => return Err(fault),
+            }
+        }
+        Ok(())
+    }
+}
