@@ -4,6 +4,10 @@
 mod columns;
 mod epoch_table;
 mod head;
+mod header_check;
+mod header_digits;
+mod header_fault;
+mod header_lines;
 mod header_text;
 mod laws;
 mod reading;
