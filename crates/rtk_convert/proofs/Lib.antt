@@ -14,3 +14,4 @@ pub mod FinishLemmas
 pub mod ArrivalLawsLemmas
 pub mod GatheringLemmas
 pub mod ConverterLemmas
+pub mod ClosingLemmas
