@@ -122,6 +122,11 @@ accepted c link e =
       is_open = λ l there. none-closed l.scanner.ended (subst (λ (o : Option Link). link_refusal o ≡ None) there r.1);
     }
 
+some-there : (ls : List Link) (i : ℕ) → i < length ls → (l : Link) × (slice_get ls i ≡ Some l)
+some-there [] i le = absurd (omega arith)
+some-there (l ∷ ls) zero le = (l, refl)
+some-there (l ∷ ls) (suc i) le = some-there ls i (omega arith)
+
 -- so there is such a link
 within-list : (ls : List Link) (link : ℕ) → link_refusal (slice_get ls link) ≡ None → link < length ls
 within-list [] link e = absurd cc
@@ -130,6 +135,11 @@ within-list (l ∷ ls) (suc link) e = let rest = within-list ls link e in omega 
 
 pub accepted-within : (c : ConverterState) (link : ℕ) → refusal c link ≡ None → link < length c.links
 accepted-within c link e = within-list c.links link (none-refused c.conversion.stopped (link_refusal (slice_get c.links link)) e).1
+
+pub accepted-open : (c : ConverterState) (h : History) (link : ℕ) → Represents c h → refusal c link ≡ None → IsOpen h link
+accepted-open c h link r none =
+    let (l, there) = some-there c.links link (accepted-within c link none) in
+    is-open link l c.links h r.links there ((accepted c link none).is_open l there)
 
 pub open-accepted : (c : ConverterState) (h : History) (link : ℕ) → Represents c h → IsOpen h link → refusal c link ≡ None
 open-accepted c h link r unended =

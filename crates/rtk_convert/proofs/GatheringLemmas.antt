@@ -117,7 +117,7 @@ gathers-more old mid new link done payload epoch n0 n1 n2 o0 o1 o2 l0 l1 l2 sett
       },
     )
 
-writes-into : (a b c : Option (List ℕ)) (x y z : List ℕ) → Writes a b x y → WritesPart b c y z → WritesInto a c x y z
+pub writes-into : (a b c : Option (List ℕ)) (x y z : List ℕ) → Writes a b x y → WritesPart b c y z → WritesInto a c x y z
 writes-into a b c x y z p q = (p.0, q.0, q.1, p.1, q.2, q.3 ∙ ap (λ t. with_more t q.0) p.2 ∙ with_more-with_more a p.0 q.0)
 
 pub breaks-off : (old mid : State) (link : ℕ) (all done left : List (List ℕ)) (payload : List ℕ) (n0 n1 : Option ℕ) (o0 o1 o2 l0 l1 l2 : Option (List ℕ))

@@ -15,3 +15,4 @@ pub mod ArrivalLawsLemmas
 pub mod KeptTableLemmas
 pub mod GatheringLemmas
 pub mod ConverterLemmas
+pub mod ClosingLemmas

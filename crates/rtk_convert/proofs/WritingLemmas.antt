@@ -1,6 +1,6 @@
 -- Texts that were written, in whole or in part.
 use Rattle.std.proofs.Common.{◌≡◌, ℕ, List, [], ◌++◌, take, drop, Option, Result, Ok, Err, ap, append_assoc, sym, ◌∙◌, arith}
-use Rattle.std.specs.Prelude.{OnOk, OnErr, IfErr}
+use Rattle.std.specs.Prelude.{OnOk, OnErr, IfOk, IfErr}
 use Rattle.std.proofs.lemmas.List.{append-nil, take-append-drop}
 use Rattle.rtk_frame.specs.Stream.{with_more, TakesPart}
 use Rattle.rtk_frame.proofs.StreamLemmas.{with_more-nil, with_more-with_more}
@@ -25,6 +25,10 @@ on_ok-two (Err e) f p q = tt
 pub on_ok-three : {T E : Type 0} (r : Result T E) {P Q R S : Type 0} → (P → Q → R → S) → OnOk r P → OnOk r Q → OnOk r R → OnOk r S
 on_ok-three (Ok x) f p q s = f p q s
 on_ok-three (Err e) f p q s = tt
+
+pub if_ok-map : {T E : Type 0} (r : Result T E) (F G : T → Type 0) → ((x : T) → F x → G x) → IfOk r F → IfOk r G
+if_ok-map (Ok x) F G f p = f x p
+if_ok-map (Err e) F G f p = tt
 
 pub if_err-map : {T E : Type 0} (r : Result T E) (F : E → Type 0) {P Q : Type 0} → (P → Q) → OnErr r P → IfErr r (λ e. F e → Q)
 if_err-map (Ok x) F f p = tt

@@ -119,6 +119,12 @@ abbrev pub IsAfterClosingAll : Settings → History → ℕ → History → Type
 IsAfterClosingAll s h zero next = next ≡ h
 IsAfterClosingAll s h (suc n) next = (mid : History) × IsAfterClosingAll s h n mid × IsAfterClosing s mid n next
 
+-- all open links closed, whatever the history was
+abbrev pub ClosesAll : ConverterState → ConverterState → Option (List ℕ) → Option (List ℕ) → Option (List ℕ) → Option (List ℕ) → Type 0
+ClosesAll old new out_old out_new log_old log_new = (h : History) → Represents old h
+    → (last : History) × IsAfterClosingAll old.conversion.settings h (length h.links) last × Represents new last
+    × WritesOn old.conversion.settings h.found last.found out_old out_new log_old log_new
+
 -- the end of a converter: its open links are closed, the file and the report are whole
 pub record EndsAs (s : Settings) (h last : History) (counts : Counts) (out_old out_new log_old log_new : Option (List ℕ)) : Type 0 where
   pub closed : IsAfterClosingAll s h (length h.links) last
@@ -137,6 +143,10 @@ pub record BreaksOffClosing (s : Settings) (h : History) (link : ℕ) (out_old o
   pub closed : IsAfterClosingAll s h link mid
   pub is_open : IsOpen mid link
   pub breaks : BreaksOffAfter s link (found_by_close (fed_on link mid.links)) h.found mid.found out_old out_new log_old log_new
+
+abbrev pub ClosesAllInPart : ConverterState → Option (List ℕ) → Option (List ℕ) → Option (List ℕ) → Option (List ℕ) → Type 0
+ClosesAllInPart old out_old out_new log_old log_new = (h : History) → Represents old h
+    → (link : ℕ) × BreaksOffClosing old.conversion.settings h link out_old out_new log_old log_new
 
 -- or once all are closed: what is out lies between the file so far and the file
 pub record BreaksOffEnding (s : Settings) (h : History) (out_old out_new log_old log_new : Option (List ℕ)) : Type 0 where

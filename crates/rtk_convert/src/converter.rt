@@ -3,7 +3,7 @@
 ghost use Rattle.std.specs.Prelude.{◌≡◌, ◌≤◌, ◌<◌, ◌↔◌, [], true, false, None, length, replicate, OnOk, OnErr, IsErrOf, IfOk, IfErr, IfSome, Decides};
 ghost use Rattle.rtk_frame.specs.ScannerState.{scan};
 ghost use Rattle.rtk_frame.specs.Stream.{Rises};
-ghost use Rattle.rtk_convert.specs.Converter.{IsLinkCount, Represents, refusal, Feeds, FeedsInPart, Closes, ClosesInPart, Ends, EndsInPart};
+ghost use Rattle.rtk_convert.specs.Converter.{IsLinkCount, Represents, refusal, Feeds, FeedsInPart, Closes, ClosesInPart, ClosesAll, ClosesAllInPart, Ends, EndsInPart};
 ghost use Rattle.rtk_convert.specs.Failure.{IsFrameFault};
 ghost use Rattle.rtk_convert.specs.History.{History, new_history, IsOpen, newest_on};
 
@@ -134,6 +134,7 @@ impl Converter {
         ensures fault { refusal self.old link ≡ None → IfErr result IsFrameFault }
         ensures ok { OnOk result (Feeds self.old link piece.now self.new (O.taken out.old) (O.taken out.new) (L.taken log.old) (L.taken log.new)) }
         ensures err { IfErr result (λ fault. IsFrameFault fault → FeedsInPart self.old link piece.now (O.taken out.old) (O.taken out.new) (L.taken log.old) (L.taken log.new)) }
+        ensures going { OnOk result (self.new.conversion.stopped ≡ false) }
         ensures halts { IfErr result (λ fault. IsFrameFault fault → self.new.conversion.stopped ≡ true) }
         ensures out_same { OnOk result (O.failures out.new ≡ O.failures out.old) }
         ensures log_same { OnOk result (L.failures log.new ≡ L.failures log.old) }
@@ -159,6 +160,7 @@ impl Converter {
         ensures fault { refusal self.old link ≡ None → IfErr result IsFrameFault }
         ensures ok { OnOk result (Closes self.old link self.new (O.taken out.old) (O.taken out.new) (L.taken log.old) (L.taken log.new)) }
         ensures err { IfErr result (λ fault. IsFrameFault fault → ClosesInPart self.old link (O.taken out.old) (O.taken out.new) (L.taken log.old) (L.taken log.new)) }
+        ensures going { OnOk result (self.new.conversion.stopped ≡ false) }
         ensures halts { IfErr result (λ fault. IsFrameFault fault → self.new.conversion.stopped ≡ true) }
         ensures out_same { OnOk result (O.failures out.new ≡ O.failures out.old) }
         ensures log_same { OnOk result (L.failures log.new ≡ L.failures log.old) }
@@ -169,5 +171,48 @@ impl Converter {
             return Err(fault);
         }
         self.links[link].close(link as u8, &mut self.conversion, out, log)
+    }
+
+    // Closes the links that are open, the lower number first.
+    fn close_all<O: Sink, L: Sink>(&mut self, out: &mut O, log: &mut L) -> Result<(), ConvertFault>
+        requires going { self.old.conversion.stopped ≡ false }
+        ensures settings { self.new.conversion.settings ≡ self.old.conversion.settings }
+        ensures going { OnOk result (self.new.conversion.stopped ≡ false) }
+        ensures fault { IfErr result IsFrameFault }
+        ensures ok { OnOk result (ClosesAll self.old self.new (O.taken out.old) (O.taken out.new) (L.taken log.old) (L.taken log.new)) }
+        ensures err { OnErr result (ClosesAllInPart self.old (O.taken out.old) (O.taken out.new) (L.taken log.old) (L.taken log.new)) }
+        ensures out_same { OnOk result (O.failures out.new ≡ O.failures out.old) }
+        ensures log_same { OnOk result (L.failures log.new ≡ L.failures log.old) }
+        ensures out_failed { IsErrOf result (ConvertFault.Write Stream.Out) → Rises (O.failures out.old) (O.failures out.new) }
+        ensures log_failed { IsErrOf result (ConvertFault.Write Stream.Log) → Rises (L.failures log.old) (L.failures log.new) }
+    {
+        'links: for link in 0..self.links.len() {
+            if self.refusal(link).is_some() {
+                continue;
+            }
+            if let Err(fault) = self.close(link, out, log) {
+                return Err(fault);
+            }
+        }
+        Ok(())
+    }
+
+    /// Closes the links that are open, the lower number first, and ends the file and the report.
+    pub fn finish<O: Sink, L: Sink>(self, out: &mut O, log: &mut L) -> Result<Counts, ConvertFault>
+        ensures stopped { self.conversion.stopped ≡ true → IsErrOf result ConvertFault.Stopped }
+        ensures fault { self.conversion.stopped ≡ false → IfErr result IsFrameFault }
+        ensures ok { IfOk result (λ counts. Ends self counts (O.taken out.old) (O.taken out.new) (L.taken log.old) (L.taken log.new)) }
+        ensures err { IfErr result (λ fault. IsFrameFault fault → EndsInPart self (O.taken out.old) (O.taken out.new) (L.taken log.old) (L.taken log.new)) }
+        ensures out_failed { IsErrOf result (ConvertFault.Write Stream.Out) → Rises (O.failures out.old) (O.failures out.new) }
+        ensures log_failed { IsErrOf result (ConvertFault.Write Stream.Log) → Rises (L.failures log.old) (L.failures log.new) }
+    {
+        if self.conversion.is_stopped() {
+            return Err(ConvertFault::Stopped);
+        }
+        let mut closing = self;
+        if let Err(fault) = closing.close_all(out, log) {
+            return Err(fault);
+        }
+        closing.conversion.finish(out, log)
     }
 }

@@ -1,0 +1,62 @@
+use Rattle.std.proofs.lemmas.Grind.{common_steps}
+use Rattle.std.proofs.Common.{◌≡◌, ◌+◌, ℕ, length, None, suc, refl, sym, subst, ◌∙◌, arith}
+use Rattle.rtk_convert.specs.Converter.{ConverterState, refusal}
+use Rattle.rtk_convert.proofs.ClosingLemmas.{ClosesSome, some-refused, none-given, closes-none, closes-past, closes-next, closes-off, closes-all}
+use Rattle.rtk_convert.proofs.converter.Converter.close_all.Goals as goal
+
+pub links-init : goal.links-init
+links-init g c = record {
+  going = c.requires.going;
+  settings = refl;
+  out_same = refl;
+  log_same = refl;
+  closed = λ h r. closes-none c.args.self.now h (g.O.Sink.taken c.args.out.now) (g.L.Sink.taken c.args.log.now) r;
+}
+
+pub links-preserved-then-is_some : goal.links-preserved-then-is_some
+links-preserved-then-is_some g c =
+    let i = c.links.invariant in
+    let next : suc c.links.link ≡ c.links.link + 1 = omega arith in
+    let refused : refusal c.links.self c.links.link ≡ None → ⊥ = some-refused c.refusal.result (refusal c.links.self c.links.link) c.refusal.ensures (sym c.is_some.ensures ∙ c.if-is_some.true) in
+    record {
+      going = i.going;
+      settings = i.settings;
+      out_same = i.out_same;
+      log_same = i.log_same;
+      closed = λ h r. subst (λ (n : ℕ). ClosesSome c.args.self.now h n c.links.self (g.O.Sink.taken c.args.out.now) (g.O.Sink.taken c.links.out) (g.L.Sink.taken c.args.log.now) (g.L.Sink.taken c.links.log)) next
+          (closes-past c.args.self.now c.links.self h c.links.link (g.O.Sink.taken c.args.out.now) (g.O.Sink.taken c.links.out) (g.L.Sink.taken c.args.log.now) (g.L.Sink.taken c.links.log) refused (i.closed h r));
+    }
+
+pub links-preserved : goal.links-preserved
+links-preserved g c =
+    let i = c.links.invariant in
+    let next : suc c.links.link ≡ c.links.link + 1 = omega arith in
+    let none : refusal c.links.self c.links.link ≡ None = none-given c.refusal.result (refusal c.links.self c.links.link) c.refusal.ensures (sym c.is_some.ensures ∙ c.if-is_some.false) in
+    record {
+      going = c.in_default.ensures.going;
+      settings = c.close.ensures.settings ∙ i.settings;
+      out_same = c.in_default.ensures.out_same ∙ i.out_same;
+      log_same = c.in_default.ensures.log_same ∙ i.log_same;
+      closed = λ h r. subst (λ (n : ℕ). ClosesSome c.args.self.now h n c.close.new.self (g.O.Sink.taken c.args.out.now) (g.O.Sink.taken c.close.new.out) (g.L.Sink.taken c.args.log.now) (g.L.Sink.taken c.close.new.log)) next
+          (closes-next c.args.self.now c.links.self c.close.new.self h c.links.link (g.O.Sink.taken c.args.out.now) (g.O.Sink.taken c.links.out) (g.O.Sink.taken c.close.new.out) (g.L.Sink.taken c.args.log.now) (g.L.Sink.taken c.links.log) (g.L.Sink.taken c.close.new.log)
+          i.settings none (i.closed h r) c.in_default.ensures.ok);
+    }
+
+pub returns-in-Err-clause-err : goal.returns-in-Err-clause-err
+returns-in-Err-clause-err g c =
+    let i = c.links.invariant in
+    let none : refusal c.links.self c.links.link ≡ None = none-given c.refusal.result (refusal c.links.self c.links.link) c.refusal.ensures (sym c.is_some.ensures ∙ c.if-is_some.false) in
+    λ h r. (
+      c.links.link,
+      closes-off c.args.self.now c.links.self h c.links.link (g.O.Sink.taken c.args.out.now) (g.O.Sink.taken c.links.out) (g.O.Sink.taken c.close.new.out) (g.L.Sink.taken c.args.log.now) (g.L.Sink.taken c.links.log) (g.L.Sink.taken c.close.new.log)
+          i.settings none (i.closed h r) (c.in-Err.ensures.err (c.in-Err.ensures.fault none)),
+    )
+
+pub returns-clause-ok : goal.returns-clause-ok
+returns-clause-ok g c =
+    let len : c.len-link-end.result ≡ length c.self.inside.links.items = grind (arith, common_steps, c.len-link-end.ensures) in
+    let test = c.links-test.false in
+    let le = c.links.auto.link-end in
+    let end : c.links.link ≡ c.len-link-end.result = grind (arith) in
+    let all : c.links.link ≡ length c.args.self.now.links = subst (λ (s : ConverterState). c.links.link ≡ length s.links) c.self.view_is (end ∙ len) in
+    closes-all c.args.self.now c.links.self c.links.link (g.O.Sink.taken c.args.out.now) (g.O.Sink.taken c.links.out) (g.L.Sink.taken c.args.log.now) (g.L.Sink.taken c.links.log) all c.links.invariant.closed
