@@ -3,13 +3,13 @@ use Rattle.std.proofs.Common.{◌≡◌, ℕ, zero, suc, ◌+◌, ◌/◌, ◌<�
 use Rattle.std.specs.Int.{IsInRange}
 use Rattle.std.proofs.lemmas.Bool.{cases_order}
 use Rattle.std.proofs.lemmas.Bool.Decides.{nat_tests}
-use Rattle.jiff_core.specs.Calendar.{day_count, days_in_month, IsCivilDate, IsYear}
+use Rattle.jiff_core.specs.Calendar.{day_count, days_from_civil, days_in_month, IsCivilDate, IsYear}
 use Rattle.jiff_core.proofs.SignedLemmas.{signed_arith}
-use Rattle.jiff_core.proofs.MarchLemmas.{day_count-early}
+use Rattle.jiff_core.proofs.MarchLemmas.{day_count-early, day_count-late}
 use Rattle.jiff_core.proofs.CalendarLemmas.{days_from_civil-day_count, days_in_month_bounds, day_count-lt_year, day_count-lt_month, day_count-day, day_count-next_month, day_count-next_year, day_count-last_of_year}
 use Rattle.rtk_obs.specs.declared.time.Civil.{Civil}
 use Rattle.rtk_obs.specs.Calendar.{Reads}
-use Rattle.rtk_rinex.specs.Reading.{CivilDate, date_after, reading_of}
+use Rattle.rtk_rinex.specs.Reading.{IsMoment, CivilDate, date_after, reading_of}
 
 abbrev IsGood : CivilDate → Type 0
 IsGood d = (1980 ≤ d.year) × IsInRange 1 12 d.month × IsInRange 1 (days_in_month (pos d.year) d.month) d.day
@@ -85,7 +85,7 @@ same_parts : (y m d h i s f y₂ m₂ d₂ h₂ i₂ s₂ f₂ : ℕ) → y ≡ 
     → civil_with y m d h i s f ≡ civil_with y₂ m₂ d₂ h₂ i₂ s₂ f₂
 same_parts y m d h i s f y₂ m₂ d₂ h₂ i₂ s₂ f₂ e₁ e₂ e₃ e₄ e₅ e₆ e₇ = cc
 
-same_civil : (c d : Civil) → c.year ≡ d.year → c.month ≡ d.month → c.day ≡ d.day → c.hour ≡ d.hour → c.minute ≡ d.minute
+pub same_civil : (c d : Civil) → c.year ≡ d.year → c.month ≡ d.month → c.day ≡ d.day → c.hour ≡ d.hour → c.minute ≡ d.minute
     → c.second ≡ d.second → c.millisecond ≡ d.millisecond → c ≡ d
 same_civil c d year month day hour minute second millisecond =
     same_parts c.year c.month c.day c.hour c.minute c.second c.millisecond d.year d.month d.day d.hour d.minute d.second d.millisecond
@@ -100,3 +100,33 @@ reading_is t c h =
     let on : day_count (pos c.year) c.month c.day ≡ 4_375_610 + k = omega (arith, signed_arith, days_from_civil-day_count (pos c.year) c.month c.day, h.0.1) in
     let same = same_day c.year c.month c.day date.year date.month date.day h.0.0 good.0.0 good.0.1 good.0.2 (on ∙ sym good.1) in
     same_civil c (reading_of t) same.0 same.1 same.2 (omega (arith, h.1, h.2)) (omega (arith, h.1, h.2)) (omega (arith, h.1, h.2)) (omega (arith, h.1, h.2))
+
+is_civil_2100 : IsCivilDate (pos 2100) 12 31
+is_civil_2100 = ((omega (arith, signed_arith), omega (arith, signed_arith)), (omega arith, omega arith), (omega arith, omega arith))
+
+count_2100 : day_count (pos 2100) 12 31 ≡ 4_419_799
+count_2100 = day_count-late (pos 2100) 12100 12 31 refl (omega arith) (omega arith) (omega arith)
+
+-- the days of a moment are of 2100 or earlier
+pub year-bound : (k : ℕ) → k ≤ 44_189 → (date_after k).year ≤ 2100
+year-bound k h =
+    let date = date_after k in
+    let good = date_after-is k in
+    elim (cases_order date.year 2100) [
+      | inl same ↦ omega arith
+      | inr (inl below) ↦ omega arith
+      | inr (inr above) ↦ absurd (
+          let years : pos 2100 <ℤ pos date.year = omega (arith, signed_arith) in
+          omega (arith, count_2100, good.1, day_count-lt_year (pos 2100) 12 31 (pos date.year) date.month date.day is_civil_2100 good.0.2.0 years))
+    ]
+
+-- the reading of a moment reads it
+pub reading-reads : (t : ℕ) → IsMoment t → Reads t (reading_of t)
+reading-reads t h =
+    let k = t / 86_400_000 in
+    let date = date_after k in
+    let good = date_after-is k in
+    let late : date.year ≤ 2100 = year-bound k (omega arith) in
+    let year : IsYear (pos date.year) = (omega (arith, signed_arith), omega (arith, signed_arith)) in
+    let day : days_from_civil (pos date.year) date.month date.day ≡ pos (3657 + k) = omega (arith, signed_arith, days_from_civil-day_count (pos date.year) date.month date.day, good.1) in
+    (((year, good.0.1, good.0.2), day), (omega arith, omega arith, omega arith, omega arith), omega arith)

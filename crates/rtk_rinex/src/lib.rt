@@ -1,6 +1,11 @@
 //! RINEX 3.05 observation files of GPS: the header and the records, as text.
 #![tactic(auto)]
 
+mod check_epoch_line;
+mod check_fault;
+mod check_record_line;
+mod check_satellite_line;
+mod check_values;
 mod columns;
 mod epoch_table;
 mod head;
@@ -9,6 +14,7 @@ mod laws;
 mod reading;
 mod record_text;
 
+pub use check_fault::Cause;
 pub use epoch_table::{EpochTable, Observed, SatelliteRow};
 pub use head::{Head, HeadFault};
 pub use header_text::header;
