@@ -6,3 +6,4 @@ pub mod TableLemmas
 pub mod ValuesLemmas
 pub mod EpochLemmas
 pub mod RowLemmas
+pub mod CheckLemmas

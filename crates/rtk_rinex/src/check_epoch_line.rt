@@ -7,8 +7,8 @@ ghost use Rattle.rtk_rinex.specs.Record.{epoch_columns, epoch_line};
 ghost use Rattle.rtk_rinex.specs.CheckValues.{seconds_in, civil_of, count_of};
 
 use crate::check_values::digits;
-use rtk_obs::{Civil, GpsMs, of_civil};
 use crate::record_text::put_epoch_line;
+use rtk_obs::{Civil, GpsMs, of_civil};
 use std::alloc::AllocError;
 
 /// What an epoch line shows.

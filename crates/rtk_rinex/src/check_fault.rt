@@ -24,3 +24,12 @@ pub enum Cause {
     #[error("C6 OutOfMemory")]
     OutOfMemory,
 }
+
+/// The first line of a text that has a fault, and its cause.
+#[derive(Clone, Copy, Debug, PartialEq, Eq, Error)]
+#[error("line {line}: {cause}")]
+pub struct CheckFault {
+    /// The number of the line, from 1.
+    pub line: usize,
+    pub cause: Cause,
+}

@@ -11,8 +11,8 @@ use crate::check_epoch_line::{EpochStamp, read_epoch_line};
 use crate::check_fault::Cause;
 use crate::check_satellite_line::read_satellite_line;
 use crate::check_values::digits;
-use rtk_obs::GpsMs;
 use crate::epoch_table::SatelliteRow;
+use rtk_obs::GpsMs;
 
 fn is_next_time(first: GpsMs, last: Option<GpsMs>, time: GpsMs) -> bool
     ensures { IsTrue result ↔ IsNextTime first last time }
@@ -99,6 +99,7 @@ pub fn check_satellite_line(
 ) -> Result<SatelliteRow, Cause>
     requires { width ≤ 16 }
     ensures row { IfOk result (λ r. IsTableRow width r × (line.now ≡ satellite_line r)) }
+    ensures next { IfOk result (λ r. IsNextSatellite last r.satellite) }
     ensures out { IfOk result (λ r. out.new.items ≡ out.old.items ++ line.now) }
     ensures fault { IfErr result (IsSatelliteFault width last line.now) }
 {

@@ -9,9 +9,9 @@ ghost use Rattle.rtk_rinex.specs.CheckValues as spec;
 
 use crate::check_epoch_line::is_end_from;
 use crate::check_values::{digits, observed};
-use arrayvec::ArrayVec;
 use crate::epoch_table::{Observed, SatelliteRow};
 use crate::record_text::{is_shown, is_written_value, put_satellite_line};
+use arrayvec::ArrayVec;
 use std::alloc::AllocError;
 
 /// The longest line of a satellite without its LF: a mark, two digits, and 48 columns for each of 16 codes.

@@ -4,6 +4,7 @@
 mod check_epoch_line;
 mod check_fault;
 mod check_record_line;
+mod check_records;
 mod check_satellite_line;
 mod check_values;
 mod columns;
@@ -14,7 +15,7 @@ mod laws;
 mod reading;
 mod record_text;
 
-pub use check_fault::Cause;
+pub use check_fault::{Cause, CheckFault};
 pub use epoch_table::{EpochTable, Observed, SatelliteRow};
 pub use head::{Head, HeadFault};
 pub use header_text::header;
