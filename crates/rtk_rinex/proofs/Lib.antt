@@ -1,6 +1,13 @@
 pub mod ColumnsLemmas
 pub mod ReadingLemmas
 pub mod HeaderLemmas
+pub mod HeaderDigitsLemmas
+pub mod HeaderCodesLemmas
+pub mod HeaderShownLemmas
+pub mod HeaderRowsLemmas
+pub mod HeaderGoodLemmas
+pub mod HeaderSameLemmas
+pub mod HeaderVerdictLemmas
 pub mod RecordLemmas
 pub mod TableLemmas
 pub mod ValuesLemmas

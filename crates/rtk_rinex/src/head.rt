@@ -54,7 +54,8 @@ fn is_printed(text: &[u8]) -> bool
     true
 }
 
-fn is_marker(marker: &[u8]) -> bool
+/// Is this a marker's name?
+pub(crate) fn is_marker(marker: &[u8]) -> bool
     ensures { Decides result (IsMarker marker.now) }
 {
     if marker.len() == 0 || marker.len() > 60 {

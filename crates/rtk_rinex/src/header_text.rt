@@ -260,6 +260,22 @@ fn put_last_lines(out: &mut Vec<u8>, first: Civil) -> Result<(), AllocError>
     Ok(())
 }
 
+/// Appends the header of a file of this head, whose first observation is at `first`.
+pub(crate) fn put_header(
+    out: &mut Vec<u8>,
+    head: &Head,
+    position: &Position,
+    first: GpsMs,
+) -> Result<(), AllocError>
+    ensures { OnOk result (out.new.items ≡ out.old.items ++ header_text head.now (site_of position.now) first) }
+{
+    put_first_lines(out, head.marker(), reading(head.made()))?;
+    put_position_lines(out, position)?;
+    put_types_lines(out, head.codes())?;
+    put_last_lines(out, reading(first))?;
+    Ok(())
+}
+
 /// The header of a file of this head, whose first observation is at `first`.
 ///
 /// The position is that of the antenna reference point, and its height that of the antenna. Memory
@@ -273,9 +289,6 @@ pub fn header(
     ensures { IfOk result (λ text. text.items ≡ header_text head.now (site_of position.now) first) }
 {
     let mut out = Vec::with_capacity(alloc, LONGEST)?;
-    put_first_lines(&mut out, head.marker(), reading(head.made()))?;
-    put_position_lines(&mut out, position)?;
-    put_types_lines(&mut out, head.codes())?;
-    put_last_lines(&mut out, reading(first))?;
+    put_header(&mut out, head, position, first)?;
     Ok(out)
 }

@@ -79,8 +79,8 @@ fn put_observations(out: &mut Vec<u8>, observed: &Observed) -> Result<(), AllocE
     out.extend_from_slice(&observation_field(strength, b' ', b' '))
 }
 
-// How many bytes are left without the blanks at the end.
-fn trimmed_len(bytes: &[u8]) -> usize
+/// How many bytes are left without the blanks at the end.
+pub(crate) fn trimmed_len(bytes: &[u8]) -> usize
     ensures within { result ≤ length bytes.now }
     ensures value { take result bytes.now ≡ trim_end bytes.now }
 {

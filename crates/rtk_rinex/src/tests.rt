@@ -1,6 +1,7 @@
 //! Values from outside: an example file, the limits of the columns, and heads that are refused.
 
 mod header;
+mod header_check;
 mod record;
 
 use rtk_obs::{Code, GpsMs};

@@ -9,7 +9,7 @@ use std::fmt::Write;
 use std::test::Fail;
 
 /// The header of an example file: station BASE, codes 1C and 2W.
-const HEADER: &str = concat!(
+pub const HEADER: &str = concat!(
     "     3.05           OBSERVATION DATA    G                   RINEX VERSION / TYPE\n",
     "rtcm2rinex                              20240517 130000 UTC PGM / RUN BY / DATE \n",
     "BASE                                                        MARKER NAME         \n",

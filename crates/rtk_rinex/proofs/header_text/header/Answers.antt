@@ -1,7 +1,5 @@
 use Rattle.std.proofs.Common.{refl}
-use Rattle.rtk_rinex.specs.Header.{header_text}
 use Rattle.rtk_rinex.proofs.header_text.header.Goals as goal
 
 pub returns : goal.returns
-unfolding header_text
-returns c = rw (c.in_ok-put_last_lines.ensures, c.in_ok-put_types_lines.ensures, c.in_ok-put_position_lines.ensures, c.in_ok-put_first_lines.ensures, c.in_ok-out.ensures.items, c.marker.ensures.value, c.reading.ensures.value, c.made.ensures.value, c.codes.ensures.value, c.reading-2.ensures.value) refl
+returns c = rw (c.in_ok-put_header.ensures, c.in_ok-out.ensures.items) refl

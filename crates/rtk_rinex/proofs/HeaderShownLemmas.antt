@@ -1,0 +1,266 @@
+-- The lines of a header show its values.
+use Rattle.std.proofs.Common.{◌≡◌, ◌≢◌, ℕ, zero, suc, ◌+◌, ◌-◌, ◌*◌, ◌/◌, ◌%◌, ◌^◌, ◌<◌, ◌≤◌, List, [], ◌∷◌, ◌++◌, length, take, drop, replicate, get_or, slice_get, Some, decimal, codes, Bool, true, false, arith, refl, sym, ◌∙◌, ap, append_assoc, length-append, ℤ, pos, negsuc, unsigned_abs, ◌≤ℤ◌}
+use Rattle.std.specs.Int.{IsInRange}
+use Rattle.std.proofs.lemmas.Fmt.{length-decimal-le}
+use Rattle.std.proofs.lemmas.Int.{ints}
+use Rattle.std.proofs.lemmas.Option.{slice_get-get_or}
+use Rattle.std.proofs.lemmas.List.{length-replicate, replicate-append-replicate, take_all, append-nil}
+use Rattle.jiff_core.proofs.SignedLemmas.{signed_arith}
+use Rattle.jiff_core.proofs.CalendarLemmas.{days_in_month_bounds}
+use Rattle.rtk_obs.specs.declared.time.Civil.{Civil}
+use Rattle.rtk_obs.specs.Calendar.{Reads}
+use Rattle.rtk_obs.specs.Position.{IsCoordinate}
+use Rattle.rtk_rinex.specs.Columns.{left, right, decimals, fixed, last_digits}
+use Rattle.rtk_rinex.specs.Reading.{IsMoment, reading_of, seconds_of}
+use Rattle.rtk_rinex.specs.Record.{trim_end}
+use Rattle.rtk_rinex.specs.Header.{header_line, made_text, first_text, IsMarker}
+use Rattle.rtk_rinex.specs.HeaderDigits.{digits_from, number_of}
+use Rattle.rtk_rinex.specs.HeaderShown.{number_at, made_civil, first_civil}
+use Rattle.rtk_rinex.proofs.ReadingLemmas.{same_civil, reading-reads, year-bound}
+use Rattle.rtk_rinex.proofs.RecordLemmas.{trim_end-blank, trim_end-done}
+use Rattle.rtk_rinex.proofs.HeaderDigitsLemmas.{digits_from-last_2, digits_from-last_4, digits_from-seconds, digits_from-right, digits_from-tenthousandths, number_of-fixed, length-left, take-exact, drop-exact, piece, length-right}
+
+-- a reading whose fields fit their columns
+pub record Fits (c : Civil) : Type 0 where
+  pub year : c.year < 10_000
+  pub month : c.month < 100
+  pub day : c.day < 100
+  pub hour : c.hour < 100
+  pub minute : c.minute < 100
+  pub second : c.second < 60
+  pub millisecond : c.millisecond < 1000
+
+pub Fits-reading_of : (t : ℕ) → IsMoment t → Fits (reading_of t)
+Fits-reading_of t h =
+    let reads = reading-reads t h in
+    let late = year-bound (t / 86_400_000) (omega arith) in
+    let day = reads.0.0.2.1 in
+    record {
+      year = omega arith;
+      month = omega (arith, reads.0.0.1.1);
+      day = omega (arith, day, days_in_month_bounds (pos (reading_of t).year) (reading_of t).month);
+      hour = omega arith;
+      minute = omega arith;
+      second = omega arith;
+      millisecond = omega arith;
+    }
+
+-- a reading belongs to one moment
+pub one_moment : (s t : ℕ) (c : Civil) → Reads s c → Reads t c → s ≡ t
+one_moment s t c h g =
+    let days : pos (3657 + s / 86_400_000) ≡ pos (3657 + t / 86_400_000) = sym h.0.1 ∙ g.0.1 in
+    omega (arith, signed_arith, h.2, g.2)
+
+-- ---- the moment at which the file is made
+
+pub made_is : (line label : List ℕ) (t : ℕ) → IsMoment t → t % 1000 ≡ 0
+    → line ≡ header_line (codes "rtcm2rinex                              " ++ made_text (reading_of t)) label → made_civil line ≡ reading_of t
+unfolding header_line left
+made_is line label t h whole e =
+    let c = reading_of t in
+    let fits = Fits-reading_of t h in
+    rw e (same_civil (made_civil (header_line (codes "rtcm2rinex                              " ++ made_text c) label)) c
+    (digits_from-last_4 0 c.year ∙ omega (arith, fits.year)) (digits_from-last_2 c.month fits.month) (digits_from-last_2 c.day fits.day)
+    (digits_from-last_2 c.hour fits.hour) (digits_from-last_2 c.minute fits.minute) (digits_from-last_2 c.second (omega (arith, fits.second))) (sym whole))
+
+-- ---- what stands at the front of a line
+
+pub line_rest : List ℕ → List ℕ → List ℕ
+line_rest content label = replicate (60 - length content) 32 ++ (left 20 label ++ 10 ∷ [])
+
+pub line_is : (content label : List ℕ) → header_line content label ≡ content ++ line_rest content label
+unfolding header_line left line_rest
+line_is content label = simp append_assoc
+
+-- ---- the first time
+
+right_split : (a w : ℕ) (t : List ℕ) → length t ≤ w → right (a + w) t ≡ replicate a 32 ++ right w t
+right_split a w t h =
+    let n : a + w - length t ≡ a + (w - length t) = omega arith in
+    let two : replicate {A = ℕ} (a + (w - length t)) 32 ≡ replicate a 32 ++ replicate (w - length t) 32 = sym (replicate-append-replicate {A = ℕ} a (w - length t) 32) in
+    rw (n, two) (append_assoc (replicate a 32) (replicate (w - length t) 32) t)
+
+-- fields behind each other
+record AreFields (line a b c d e s : List ℕ) : Type 0 where
+  pub first : take 4 (drop 2 line) ≡ a
+  pub second : take 2 (drop 10 line) ≡ b
+  pub third : take 2 (drop 16 line) ≡ c
+  pub fourth : take 2 (drop 22 line) ≡ d
+  pub fifth : take 2 (drop 28 line) ≡ e
+  pub last : take 13 (drop 30 line) ≡ s
+
+fields : (p q a b c d e s rest : List ℕ) → length p ≡ 2 → length q ≡ 4 → length a ≡ 4 → length b ≡ 2 → length c ≡ 2 → length d ≡ 2
+    → length e ≡ 2 → length s ≡ 13 → AreFields (((((((p ++ a) ++ (q ++ b)) ++ (q ++ c)) ++ (q ++ d)) ++ (q ++ e)) ++ s) ++ rest) a b c d e s
+fields p q a b c d e s rest lp lq la lb lc ld le ls =
+    let f₁ = (p ++ a) ++ q in
+    let f₂ = (f₁ ++ b) ++ q in
+    let f₃ = (f₂ ++ c) ++ q in
+    let f₄ = (f₃ ++ d) ++ q in
+    let f₅ = f₄ ++ e in
+    let l₁ : length f₁ ≡ 10 = simp length-append (omega arith) in
+    let l₂ : length f₂ ≡ 16 = simp length-append (omega arith) in
+    let l₃ : length f₃ ≡ 22 = simp length-append (omega arith) in
+    let l₄ : length f₄ ≡ 28 = simp length-append (omega arith) in
+    let l₅ : length f₅ ≡ 30 = simp length-append (omega arith) in
+    let whole : List ℕ = ((((((p ++ a) ++ (q ++ b)) ++ (q ++ c)) ++ (q ++ d)) ++ (q ++ e)) ++ s) ++ rest in
+    let r₀ : whole ≡ p ++ (a ++ (q ++ (b ++ (q ++ (c ++ (q ++ (d ++ (q ++ (e ++ (s ++ rest)))))))))) = simp append_assoc in
+    let r₁ : whole ≡ f₁ ++ (b ++ (q ++ (c ++ (q ++ (d ++ (q ++ (e ++ (s ++ rest)))))))) = simp append_assoc in
+    let r₂ : whole ≡ f₂ ++ (c ++ (q ++ (d ++ (q ++ (e ++ (s ++ rest)))))) = simp append_assoc in
+    let r₃ : whole ≡ f₃ ++ (d ++ (q ++ (e ++ (s ++ rest)))) = simp append_assoc in
+    let r₄ : whole ≡ f₄ ++ (e ++ (s ++ rest)) = simp append_assoc in
+    let r₅ : whole ≡ f₅ ++ (s ++ rest) = simp append_assoc in record {
+      first = rw r₀ (piece 2 4 p a _ lp la);
+      second = rw r₁ (piece 10 2 f₁ b _ l₁ lb);
+      third = rw r₂ (piece 16 2 f₂ c _ l₂ lc);
+      fourth = rw r₃ (piece 22 2 f₃ d _ l₃ ld);
+      fifth = rw r₄ (piece 28 2 f₄ e _ l₄ le);
+      last = rw r₅ (piece 30 13 f₅ s rest l₅ ls);
+    }
+
+pub length-seconds : (n : ℕ) → n < 10 ^ 10 → length (right 13 (decimals 7 false n)) ≡ 13
+length-seconds n h =
+    let digits = length-decimal-le 3 (n / 10_000_000) (omega arith) (omega arith) (omega arith) in
+    length-right 13 (decimals 7 false n) (simp length-append (omega arith))
+
+-- the line up to the seconds
+first_front : Civil → List ℕ
+first_front c =
+    right 6 (decimal c.year) ++ right 6 (decimal c.month) ++ right 6 (decimal c.day)
+    ++ right 6 (decimal c.hour) ++ right 6 (decimal c.minute) ++ right 13 (decimals 7 false (seconds_of c))
+
+fields_of : (c : Civil) (rest : List ℕ) → Fits c
+    → AreFields (first_front c ++ rest) (right 4 (decimal c.year)) (right 2 (decimal c.month)) (right 2 (decimal c.day)) (right 2 (decimal c.hour)) (right 2 (decimal c.minute)) (right 13 (decimals 7 false (seconds_of c)))
+unfolding first_front
+fields_of c rest fits =
+    let p : List ℕ = replicate {A = ℕ} 2 32 in
+    let q : List ℕ = replicate {A = ℕ} 4 32 in
+    let y = length-decimal-le 4 c.year (omega arith) (omega (arith, fits.year)) (omega (arith, fits.year)) in
+    let m = length-decimal-le 2 c.month (omega arith) (omega (arith, fits.month)) (omega (arith, fits.month)) in
+    let d = length-decimal-le 2 c.day (omega arith) (omega (arith, fits.day)) (omega (arith, fits.day)) in
+    let h = length-decimal-le 2 c.hour (omega arith) (omega (arith, fits.hour)) (omega (arith, fits.hour)) in
+    let i = length-decimal-le 2 c.minute (omega arith) (omega (arith, fits.minute)) (omega (arith, fits.minute)) in
+    let s = length-seconds (seconds_of c) (omega (arith, fits.second, fits.millisecond)) in
+    let all = fields p q (right 4 (decimal c.year)) (right 2 (decimal c.month)) (right 2 (decimal c.day)) (right 2 (decimal c.hour)) (right 2 (decimal c.minute))
+    (right 13 (decimals 7 false (seconds_of c))) rest refl refl
+    (length-right 4 (decimal c.year) y) (length-right 2 (decimal c.month) m) (length-right 2 (decimal c.day) d) (length-right 2 (decimal c.hour) h) (length-right 2 (decimal c.minute) i) s in
+    rw (right_split 2 4 (decimal c.year) y, right_split 4 2 (decimal c.month) m, right_split 4 2 (decimal c.day) d, right_split 4 2 (decimal c.hour) h, right_split 4 2 (decimal c.minute) i) all
+
+first_fields : (line label : List ℕ) (c : Civil) → Fits c → line ≡ header_line (first_text c) label
+    → AreFields line (right 4 (decimal c.year)) (right 2 (decimal c.month)) (right 2 (decimal c.day)) (right 2 (decimal c.hour)) (right 2 (decimal c.minute)) (right 13 (decimals 7 false (seconds_of c)))
+unfolding first_front
+first_fields line label c fits e =
+    let rest : List ℕ = codes "     GPS" ++ line_rest (first_text c) label in
+    let split : line ≡ first_front c ++ rest = e ∙ line_is (first_text c) label ∙ append_assoc (first_front c) (codes "     GPS") (line_rest (first_text c) label) in
+    rw split (fields_of c rest fits)
+
+pub record ShowsFirst (line : List ℕ) (t : ℕ) : Type 0 where
+  pub seconds : number_at 30 13 line < 600_000_000
+  pub reading : first_civil line ≡ reading_of t
+
+pub first_is : (line label : List ℕ) (t : ℕ) → IsMoment t → line ≡ header_line (first_text (reading_of t)) label → ShowsFirst line t
+first_is line label t h e =
+    let c = reading_of t in
+    let fits = Fits-reading_of t h in
+    let f = first_fields line label c fits e in
+    let small : seconds_of c < 10 ^ 10 = omega (arith, fits.second, fits.millisecond) in
+    let seconds : number_at 30 13 line ≡ seconds_of c = rw f.last (digits_from-seconds (seconds_of c) small) in
+    record {
+      seconds = omega (arith, seconds, fits.second, fits.millisecond);
+      reading = same_civil (first_civil line) c
+          (rw f.first (digits_from-right 4 c.year (omega (arith, fits.year)))) (rw f.second (digits_from-right 2 c.month (omega (arith, fits.month))))
+          (rw f.third (digits_from-right 2 c.day (omega (arith, fits.day)))) (rw f.fourth (digits_from-right 2 c.hour (omega (arith, fits.hour))))
+          (rw f.fifth (digits_from-right 2 c.minute (omega (arith, fits.minute)))) (omega (arith, seconds, fits.second, fits.millisecond)) (omega (arith, seconds, fits.second, fits.millisecond));
+    }
+
+-- ---- coordinates and the height
+
+magnitude : (v : ℤ) → IsCoordinate v → unsigned_abs v < 2 ^ 63
+magnitude (pos n) h = omega (arith, ints, h.least, h.greatest)
+magnitude (negsuc n) h = omega (arith, ints, h.least, h.greatest)
+
+pub length-fixed : (v : ℤ) → IsCoordinate v → length (fixed 4 14 v) ≡ 14
+length-fixed (pos n) h =
+    let low : n ≤ 137_438_953_471 = omega (arith, ints, h.greatest) in
+    let digits = length-decimal-le 8 (n / 10_000) (omega arith) (omega arith) (omega arith) in
+    length-right 14 (decimals 4 false n) (simp length-append (omega arith))
+length-fixed (negsuc n) h =
+    let low : suc n ≤ 137_438_953_472 = omega (arith, ints, h.least) in
+    let digits = length-decimal-le 8 (suc n / 10_000) (omega arith) (omega arith) (omega arith) in
+    length-right 14 (decimals 4 true (suc n)) (simp length-append (omega arith))
+
+pub record ShowsPlace (line : List ℕ) (x y z : ℤ) : Type 0 where
+  pub first : number_of (take 14 (drop 0 line)) ≡ x
+  pub second : number_of (take 14 (drop 14 line)) ≡ y
+  pub third : number_of (take 14 (drop 28 line)) ≡ z
+
+pub place_is : (line label : List ℕ) (x y z : ℤ) → IsCoordinate x → IsCoordinate y → IsCoordinate z
+    → line ≡ header_line (fixed 4 14 x ++ fixed 4 14 y ++ fixed 4 14 z) label → ShowsPlace line x y z
+place_is line label x y z hx hy hz e =
+    let a : List ℕ = fixed 4 14 x in
+    let b : List ℕ = fixed 4 14 y in
+    let c : List ℕ = fixed 4 14 z in
+    let rest : List ℕ = line_rest (a ++ b ++ c) label in
+    let la : length a ≡ 14 = length-fixed x hx in
+    let lb : length b ≡ 14 = length-fixed y hy in
+    let lc : length c ≡ 14 = length-fixed z hz in
+    let two : length (a ++ b) ≡ 28 = length-append a b ∙ omega arith in
+    let whole : line ≡ ((a ++ b) ++ c) ++ rest = e ∙ line_is ((a ++ b) ++ c) label in
+    let r₀ : line ≡ [] ++ (a ++ (b ++ (c ++ rest))) = whole ∙ simp append_assoc in
+    let r₁ : line ≡ a ++ (b ++ (c ++ rest)) = whole ∙ simp append_assoc in
+    let r₂ : line ≡ (a ++ b) ++ (c ++ rest) = whole ∙ simp append_assoc in record {
+      first = ap number_of (rw r₀ (piece 0 14 [] a (b ++ (c ++ rest)) refl la)) ∙ number_of-fixed x (magnitude x hx);
+      second = ap number_of (rw r₁ (piece 14 14 a b (c ++ rest) la lb)) ∙ number_of-fixed y (magnitude y hy);
+      third = ap number_of (rw r₂ (piece 28 14 (a ++ b) c rest two lc)) ∙ number_of-fixed z (magnitude z hz);
+    }
+
+pub IsCoordinate-height : (h : ℕ) → h < 65_536 → IsCoordinate (pos h)
+IsCoordinate-height h small = record { least = omega (arith, ints); greatest = omega (arith, ints) }
+
+digits_from-height : (h : ℕ) → h < 65_536 → digits_from 0 (fixed 4 14 (pos h)) ≡ h
+digits_from-height h small = digits_from-tenthousandths false h (omega arith)
+
+pub height_is : (line label more : List ℕ) (h : ℕ) → h < 65_536 → line ≡ header_line (fixed 4 14 (pos h) ++ more) label → number_at 0 14 line ≡ h
+height_is line label more h small e =
+    let a : List ℕ = fixed 4 14 (pos h) in
+    let r : line ≡ a ++ (more ++ line_rest (a ++ more) label) = e ∙ line_is (a ++ more) label ∙ append_assoc a more (line_rest (a ++ more) label) in
+    rw (r, take-exact 14 a (more ++ line_rest (a ++ more) label) (length-fixed (pos h) (IsCoordinate-height h small))) (digits_from-height h small)
+
+-- ---- the number of observation types
+
+pub count_is : (line label rest : List ℕ) (n : ℕ) → IsInRange 1 16 n → line ≡ header_line (codes "G  " ++ right 3 (decimal (3 * n)) ++ rest) label
+    → number_at 3 3 line ≡ 3 * n
+count_is line label rest n h e =
+    let a : List ℕ = right 3 (decimal (3 * n)) in
+    let content : List ℕ = (codes "G  " ++ a) ++ rest in
+    let r : line ≡ codes "G  " ++ (a ++ (rest ++ line_rest content label)) = e ∙ line_is content label ∙ simp append_assoc in
+    let digits = length-decimal-le 3 (3 * n) (omega arith) (omega arith) (omega arith) in
+    rw (r, piece 3 3 (codes "G  ") a (rest ++ line_rest content label) refl (length-right 3 (decimal (3 * n)) digits)) (digits_from-right 3 (3 * n) (omega arith))
+
+-- ---- the marker's name
+
+trim_end-blanks : (m : List ℕ) (k : ℕ) → trim_end (m ++ replicate k 32) ≡ trim_end m
+trim_end-blanks m zero = rw (append-nil m) refl
+trim_end-blanks m (suc k) =
+    let n : suc k ≡ k + 1 = omega arith in
+    let more : replicate {A = ℕ} (suc k) 32 ≡ replicate k 32 ++ 32 ∷ [] = ap (λ (n : ℕ). replicate {A = ℕ} n 32) n ∙ sym (replicate-append-replicate {A = ℕ} k 1 32) in
+    rw (more, ← append_assoc m (replicate k 32) (32 ∷ [])) (trim_end-blank (m ++ replicate k 32) ∙ trim_end-blanks m k)
+
+last_solid : (m : List ℕ) → 0 < length m → slice_get m (length m - 1) ≢ Some 32 → get_or m (length m - 1) 0 ≢ 32
+last_solid m some h e = h (slice_get-get_or m (length m - 1) 0 (omega (arith, some)) ∙ ap Some e)
+
+trimmed-marker : (m : List ℕ) → IsMarker m → trim_end (left 60 m) ≡ m
+unfolding left
+trimmed-marker m h =
+    let some : 0 < length m = omega (arith, h.0) in
+    let all : take (length m) m ≡ m = take_all (length m) m (omega arith) in
+    trim_end-blanks m (60 - length m) ∙ rw all at (trim_end-done m (length m) some (omega arith) (last_solid m some h.3))
+
+pub marker_is : (line label m : List ℕ) → IsMarker m → line ≡ header_line m label → trim_end (take 60 (drop 0 line)) ≡ m
+unfolding header_line
+marker_is line label m h e =
+    let r : line ≡ left 60 m ++ (left 20 label ++ 10 ∷ []) = e ∙ append_assoc (left 60 m) (left 20 label) (10 ∷ []) in
+    let long : length (left 60 m) ≡ 60 = length-left 60 m (omega (arith, h.0)) in
+    rw (r, take-exact 60 (left 60 m) (left 20 label ++ 10 ∷ []) long) (trimmed-marker m h)
+
+pub clash : (b : Bool) → b ≡ false → b ≡ true → ⊥
+clash b e f = let apart : false ≡ true = sym e ∙ f in cc

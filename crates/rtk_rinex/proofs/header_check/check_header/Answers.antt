@@ -1,0 +1,81 @@
+use Rattle.std.proofs.Common.{◌≡◌, ◌≢◌, ◌∙◌, ◌+◌, ◌*◌, ◌<◌, ℕ, List, length, take, drop, arith, ap, sym, refl}
+use Rattle.std.proofs.lemmas.List.{take-append-drop}
+use Rattle.rtk_rinex.specs.Header.{site_of, header_text}
+use Rattle.rtk_rinex.specs.HeaderFault.{AreLines}
+use Rattle.rtk_rinex.specs.HeaderShown.{line_at}
+use Rattle.rtk_rinex.proofs.HeaderDigitsLemmas.{drop-exact}
+use Rattle.rtk_rinex.proofs.HeaderSameLemmas.{IsGood, length-header, lines_of}
+use Rattle.rtk_rinex.proofs.HeaderVerdictLemmas.{PartsAt, are_lines, parts_lines, parts_begin, parts_whole, parts_none, parts_next}
+use Rattle.rtk_rinex.proofs.header_check.check_header.Goals as goal
+use Rattle.rtk_rinex.proofs.header_check.check_header.Goals.{in-Some-line_end, in-None}
+
+pub returns-in_default-unlike_line-clause-size : goal.returns-in_default-unlike_line-clause-size
+returns-in_default-unlike_line-clause-size c =
+    let r = c.shown-read.result in
+    let g : IsGood r.head (site_of r.position) r.first = record { heading = c.shown-read.ensures.good.0; site = c.shown-read.ensures.good.1; first = c.shown-read.ensures.good.2 } in
+    let long = length-header r.head (site_of r.position) r.first g in
+    let lines : 13 + lines_of r.head ≡ r.lines = omega (arith, long, c.shown-read.ensures.size.0, c.shown-read.ensures.size.1) in
+    (sym c.shown-read.ensures.size.0, rw lines at (are_lines r.head (site_of r.position) r.first g))
+
+header_is : (c : goal.Joined-line_end)
+    → c.split_at.result.1.now ≡ header_text c.shown-read.result.head (site_of c.shown-read.result.position) c.shown-read.result.first
+header_is c =
+    let r = c.shown-read.result in
+    let h = header_text r.head (site_of r.position) r.first in
+    let start = length c.as_slice-start.result.now in
+    c.split_at.ensures.back ∙ ap (λ (xs : List ℕ). drop start xs) (c.as_slice.ensures.value ∙ c.in-Ok.ensures)
+    ∙ drop-exact start c.args.out.now.items h (ap length (sym c.as_slice-start.ensures.value))
+
+parts : (c : goal.Joined-line_end) → PartsAt c.args.text.now c.shown-read.result.head (site_of c.shown-read.result.position) c.shown-read.result.first c.in-Some.k
+parts c =
+    let e = rw (header_is c) at c.in-Some.ensures in
+    record {
+      good = record { heading = c.shown-read.ensures.good.0; site = c.shown-read.ensures.good.1; first = c.shown-read.ensures.good.2 };
+      back = c.shown-read.ensures.shown;
+      below = e.0;
+      front = e.1;
+      unlike = e.2;
+    }
+
+pub returns-clause-fault : goal.returns-clause-fault
+returns-clause-fault c =
+    let text = c.args.text.now in
+    let r = c.shown-read.result in
+    let k = c.in-Some.k in
+    let p = parts c in
+    let whole = sym (take-append-drop (81 * k) text) in (
+      k,
+      refl,
+      elim c.match-line_end.branch [
+        | in-Some-line_end w ↦
+            let rest = rw (c.split_at-2.ensures.back) at w.in-Some-line_end.ensures in
+            rw w.cause-is (
+              take (81 * k) text,
+              drop (81 * k) text,
+              parts_lines text r.head (site_of r.position) r.first k p,
+              whole,
+              parts_begin text r.head (site_of r.position) r.first k p,
+              parts_whole text r.head (site_of r.position) r.first k p,
+              (_, _, rest.0, rest.1, parts_next text _ _ r.head (site_of r.position) r.first k p rest.0 rest.1),
+            )
+        | in-None w ↦
+            rw w.cause-is (
+              take (81 * k) text,
+              drop (81 * k) text,
+              parts_lines text r.head (site_of r.position) r.first k p,
+              whole,
+              parts_begin text r.head (site_of r.position) r.first k p,
+              parts_whole text r.head (site_of r.position) r.first k p,
+              (rw (c.split_at-2.ensures.back) at w.in-None.ensures),
+            )
+      ],
+    )
+
+pub returns-clause-none : goal.returns-clause-none
+returns-clause-none c =
+    let r = c.shown-read.result in
+    let none = parts_none c.args.text.now r.head (site_of r.position) r.first c.in-Some.k (parts c) in
+    elim c.match-line_end.branch [
+      | in-Some-line_end w ↦ rw w.cause-is none
+      | in-None w ↦ rw w.cause-is none
+    ]

@@ -1,0 +1,53 @@
+-- What is wrong with the header of a text: its first line with which no header begins, or the line that is not whole.
+use Rattle.std.specs.Prelude.{◌≡◌, ◌≢◌, ℕ, ◌+◌, List, [], ◌∷◌, ◌++◌, length, flat_map, All}
+use Rattle.rtk_rinex.specs.Reading.{IsMoment}
+use Rattle.rtk_rinex.specs.Header.{Heading, Site, IsHeading, IsSite, header_text}
+use Rattle.rtk_rinex.specs.declared.header_fault.HeaderFault.{HeaderFault}
+use Rattle.rtk_rinex.specs.declared.header_fault.HeaderCause.{HeaderCause}
+use Rattle.rtk_rinex.specs.declared.header_fault.HeaderCause.TheVariants.{HeaderLine, Truncated, OutOfMemory}
+
+-- the header of a good heading, a good site and a moment
+abbrev pub IsHeader : List ℕ → Type 0
+IsHeader text =
+    (h : Heading) × (s : Site) × (first : ℕ) × IsHeading h × IsSite s × IsMoment first × (text ≡ header_text h s first)
+
+-- some header begins with it
+abbrev pub BeginsHeader : List ℕ → Type 0
+BeginsHeader text = (rest : List ℕ) × IsHeader (text ++ rest)
+
+-- it begins with some header
+abbrev pub HasHeader : List ℕ → Type 0
+HasHeader text = (header : List ℕ) × (rest : List ℕ) × IsHeader header × (text ≡ header ++ rest)
+
+-- what stands before the LF of a line
+abbrev pub IsLine : List ℕ → Type 0
+IsLine line = All (λ x. x ≢ 10) line
+
+-- so many lines, each ended by LF
+abbrev pub AreLines : ℕ → List ℕ → Type 0
+AreLines n text =
+    (lines : List (List ℕ)) × All IsLine lines × (length lines ≡ n) × (text ≡ flat_map (λ line. line ++ 10 ∷ []) lines)
+
+-- what is wrong with the next line, where `rest` stands behind the lines so far: no LF ends it; or it is one with which
+-- no header begins
+abbrev pub IsLineFault : List ℕ → List ℕ → HeaderCause → Type 0
+IsLineFault front rest Truncated = IsLine rest
+IsLineFault front rest HeaderLine =
+    (line : List ℕ) × (more : List ℕ) × IsLine line × (rest ≡ line ++ 10 ∷ more) × ¬ (BeginsHeader (front ++ line ++ 10 ∷ []))
+IsLineFault front rest OutOfMemory = Unit {0}
+
+-- a fault at the line behind n lines: they begin a header and are no whole one
+abbrev pub IsFaultBehind : ℕ → List ℕ → HeaderCause → Type 0
+IsFaultBehind n bytes OutOfMemory = Unit {0}
+IsFaultBehind n bytes cause =
+    (front : List ℕ) × (rest : List ℕ) × AreLines n front × (bytes ≡ front ++ rest) × BeginsHeader front × ¬ (IsHeader front)
+    × IsLineFault front rest cause
+
+-- a fault's line counts from 1; want of memory says nothing of the text
+abbrev pub IsHeaderFault : List ℕ → HeaderFault → Type 0
+IsHeaderFault bytes f = (n : ℕ) × (f.line ≡ n + 1) × IsFaultBehind n bytes f.cause
+
+-- a text that is refused begins with no header; want of memory says nothing
+abbrev pub IsWithoutHeader : List ℕ → HeaderCause → Type 0
+IsWithoutHeader bytes OutOfMemory = Unit {0}
+IsWithoutHeader bytes cause = ¬ (HasHeader bytes)

@@ -1,0 +1,50 @@
+-- Where a header shows what: its lines have 81 bytes each, and 13 observation types stand on a line. What columns show is
+-- only compared by writing it again.
+use Rattle.std.specs.Prelude.{◌≡◌, ◌≢◌, ℕ, ◌+◌, ◌*◌, ◌/◌, ◌%◌, List, length, take, drop, AllPairs, Contains}
+use Rattle.rtk_obs.specs.declared.code.Code.{Code}
+use Rattle.rtk_obs.specs.declared.time.Civil.{Civil}
+use Rattle.rtk_rinex.specs.HeaderDigits.{digits_from}
+
+-- the line behind k lines of 81 bytes
+abbrev pub line_at : ℕ → List ℕ → List ℕ
+line_at k text = take 81 (drop (81 * k) text)
+
+-- the name of the code behind i codes: of their three types each, that of its pseudorange; the first is on the tenth line
+abbrev pub name_at : ℕ → List ℕ → List ℕ
+name_at i text = take 2 (drop (8 + 4 * (3 * i % 13)) (line_at (9 + 3 * i / 13) text))
+
+-- the number in columns of a line
+abbrev pub number_at : ℕ → ℕ → List ℕ → ℕ
+number_at from width line = digits_from 0 (take width (drop from line))
+
+-- the reading in the line of the moment at which the file is made
+abbrev pub made_civil : List ℕ → Civil
+made_civil line =
+    record {
+      year = number_at 40 4 line;
+      month = number_at 44 2 line;
+      day = number_at 46 2 line;
+      hour = number_at 49 2 line;
+      minute = number_at 51 2 line;
+      second = number_at 53 2 line;
+      millisecond = 0;
+    }
+
+-- the reading in the line of the first observation, whose seconds are F13.7
+abbrev pub first_civil : List ℕ → Civil
+first_civil line =
+    record {
+      year = number_at 2 4 line;
+      month = number_at 10 2 line;
+      day = number_at 16 2 line;
+      hour = number_at 22 2 line;
+      minute = number_at 28 2 line;
+      second = number_at 30 13 line / 10_000_000;
+      millisecond = number_at 30 13 line / 10_000 % 1000;
+    }
+
+-- all sixteen codes, each once
+pub record AreAllCodes (all : List Code) : Type 0 where
+  pub length : length all ≡ 16
+  pub distinct : AllPairs (λ a b. a ≢ b) all
+  pub every : (c : Code) → Contains all c

@@ -1,0 +1,88 @@
+//! Columns of a line, and the numbers that they show, read without a test of their form.
+
+ghost use Rattle.std.specs.Prelude.{◌≡◌, ℕ, ◌+◌, ◌*◌, ◌^◌, ◌<◌, ◌≤◌, length, take, drop};
+ghost use Rattle.rtk_rinex.specs.HeaderDigits.{digits_from, has_minus, number_of};
+ghost use Rattle.rtk_rinex.specs.HeaderDigits as spec;
+
+fn front(text: &[u8], width: usize) -> &[u8]
+    ensures value { result.now ≡ take width text.now }
+    ensures len { length result.now ≤ width }
+{
+    if text.len() <= width {
+        return text;
+    }
+    text.split_at(width).0
+}
+
+fn behind(text: &[u8], from: usize) -> &[u8]
+    ensures { result.now ≡ drop from text.now }
+{
+    text.split_at(text.len().min(from)).1
+}
+
+/// So many bytes of a text behind a place, as far as it has them.
+pub fn columns(text: &[u8], from: usize, width: usize) -> &[u8]
+    ensures value { result.now ≡ take width (drop from text.now) }
+    ensures len { length result.now ≤ width }
+{
+    front(behind(text, from), width)
+}
+
+// One more character of a number.
+fn with_digit(value: u64, byte: u8) -> u64
+    requires { value < 10 ^ 18 }
+    ensures value { result ≡ spec.with_digit value byte }
+    ensures bound { result ≤ value * 10 + 9 }
+{
+    if byte >= b'0' && byte <= b'9' {
+        value * 10 + u64::from(byte - b'0')
+    } else {
+        value
+    }
+}
+
+// The number that the digits of a text write, whatever stands between them.
+fn digits(text: &[u8]) -> u64
+    requires { length text.now ≤ 18 }
+    ensures value { result ≡ digits_from 0 text.now }
+    ensures width { result < 10 ^ length text.now }
+{
+    let mut value = 0u64;
+    for byte in text {
+        value = with_digit(value, *byte);
+    }
+    value
+}
+
+#[tactic(auto, unfolding(crate::specs::HeaderDigits::has_minus))]
+fn contains_minus(text: &[u8]) -> bool
+    ensures { result ≡ has_minus text.now }
+{
+    for byte in text {
+        if *byte == b'-' {
+            return true;
+        }
+    }
+    false
+}
+
+/// The number that the digits in these columns write.
+pub fn number_in(line: &[u8], from: usize, width: usize) -> u64
+    requires { width ≤ 18 }
+    ensures value { result ≡ digits_from 0 (take width (drop from line.now)) }
+    ensures bound { result < 10 ^ width }
+{
+    digits(columns(line, from, width))
+}
+
+/// The number in 14 columns, negative where they have a minus sign.
+pub fn signed_in(line: &[u8], from: usize) -> i64
+    ensures { result ≡ number_of (take 14 (drop from line.now)) }
+{
+    let magnitude = number_in(line, from, 14) as i64;
+    if contains_minus(columns(line, from, 14)) {
+        -magnitude
+    } else {
+        magnitude
+    }
+}
