@@ -19,7 +19,7 @@ use Rattle.rtk_rinex.proofs.ValuesLemmas.{length-observation, observed_of-observ
 -- ---- blanks at the end
 
 -- a text is what is left of it without the blanks at its end, and these blanks
-IsTrimmed : List ℕ → List ℕ → Type 0
+unfoldable pub IsTrimmed : List ℕ → List ℕ → Type 0
 IsTrimmed text rest = (k : ℕ) × (rest ++ replicate k 32 ≡ text)
 
 trimmed_if : (x : ℕ) (xs : List ℕ) (b : Bool) → (x == 32) ≡ b → IsTrimmed xs [] → IsTrimmed (x ∷ xs) (if b then [] else x ∷ [])
@@ -32,7 +32,7 @@ unfolding IsTrimmed
 trimmed_front x xs [] h = trimmed_if x xs (x == 32) refl h
 trimmed_front x xs (y ∷ ys) h = (h.0, rw h.1 refl)
 
-trimmed : (text : List ℕ) → IsTrimmed text (trim_end text)
+pub trimmed : (text : List ℕ) → IsTrimmed text (trim_end text)
 unfolding IsTrimmed trim_end
 trimmed [] = (0, refl)
 trimmed (x ∷ xs) = trimmed_front x xs (trim_end xs) (trimmed xs)
@@ -86,10 +86,10 @@ cells (suc n) os rest h le =
 -- ---- the row
 
 -- the columns of a satellite line, with the blanks at its end
-whole : SatelliteRow → List ℕ
+unfoldable pub whole : SatelliteRow → List ℕ
 whole r = 71 ∷ last_digits 2 r.satellite ++ flat_map observations r.observed.items
 
-length-whole : (w : ℕ) (r : SatelliteRow) → IsTableRow w r → length (whole r) ≡ 3 + 48 * w
+pub length-whole : (w : ℕ) (r : SatelliteRow) → IsTableRow w r → length (whole r) ≡ 3 + 48 * w
 unfolding whole
 length-whole w r h = omega (arith, length-all r.observed.items h.observed, h.width)
 

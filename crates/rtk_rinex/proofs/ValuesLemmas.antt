@@ -151,7 +151,7 @@ is_blank-decimals w k n negative =
 pub written-limits : (v : ℤ) → is_written v ≡ true → (negsuc 999_999_999_998 ≤ℤ v) × (v ≤ℤ pos 9_999_999_999_999)
 written-limits v h = (grind (arith, ints), grind (arith, ints))
 
-written-magnitude : (v : ℤ) → is_written v ≡ true → unsigned_abs v < 10 ^ 13
+pub written-magnitude : (v : ℤ) → is_written v ≡ true → unsigned_abs v < 10 ^ 13
 written-magnitude v h = let l = written-limits v h in omega (arith, ints, l)
 
 pub length-right : (w : ℕ) (t : List ℕ) → length t ≤ w → length (right w t) ≡ w

@@ -6,6 +6,8 @@ mod check_fault;
 mod check_record_line;
 mod check_records;
 mod check_satellite_line;
+mod check_table;
+mod check_text;
 mod check_values;
 mod columns;
 mod epoch_table;
@@ -20,6 +22,8 @@ mod reading;
 mod record_text;
 
 pub use check_fault::{Cause, CheckFault};
+pub use check_table::Table;
+pub use check_text::{check, text};
 pub use epoch_table::{EpochTable, Observed, SatelliteRow};
 pub use head::{Head, HeadFault};
 pub use header_text::header;
