@@ -3,6 +3,7 @@ pub mod ThroughLemmas
 pub mod RowsLemmas
 pub mod FileLemmas
 pub mod TableLemmas
+pub mod KeptTableLemmas
 pub mod RecordsLemmas
 pub mod WritingLemmas
 pub mod SoFarLemmas
@@ -12,4 +13,3 @@ pub mod OneTextLemmas
 pub mod ArriveLemmas
 pub mod FinishLemmas
 pub mod ArrivalLawsLemmas
-pub mod KeptTableLemmas
