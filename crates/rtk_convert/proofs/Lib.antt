@@ -3,6 +3,7 @@ pub mod ThroughLemmas
 pub mod RowsLemmas
 pub mod FileLemmas
 pub mod TableLemmas
+pub mod KeptTableLemmas
 pub mod RecordsLemmas
 pub mod WritingLemmas
 pub mod SoFarLemmas
