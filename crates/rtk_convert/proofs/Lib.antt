@@ -13,7 +13,6 @@ pub mod OneTextLemmas
 pub mod ArriveLemmas
 pub mod FinishLemmas
 pub mod ArrivalLawsLemmas
-pub mod KeptTableLemmas
 pub mod GatheringLemmas
 pub mod ConverterLemmas
 pub mod ClosingLemmas
