@@ -59,7 +59,7 @@ length-rows h s t =
     let behind = length-append (type_rows 0 (lines_of h) h.listed) (last_rows t) in
     length-append (first_rows h s) (type_rows 0 (lines_of h) h.listed ++ last_rows t) ∙ omega (arith, m, behind)
 
-in_first : (h : Heading) (s : Site) (t k : ℕ) → k < 9 → get_or (rows h s t) k [] ≡ get_or (first_rows h s) k []
+pub in_first : (h : Heading) (s : Site) (t k : ℕ) → k < 9 → get_or (rows h s t) k [] ≡ get_or (first_rows h s) k []
 unfolding rows
 in_first h s t k lt = get_or-append (first_rows h s) (type_rows 0 (lines_of h) h.listed ++ last_rows t) [] k lt
 
@@ -71,7 +71,7 @@ in_types h s t j lt =
     get_or-append-add (first_rows h s) (type_rows 0 (lines_of h) h.listed ++ last_rows t) j []
     ∙ get_or-append (type_rows 0 (lines_of h) h.listed) (last_rows t) [] j (omega (arith, m, lt)) ∙ read_type 0 (lines_of h) j h.listed lt ∙ ap (λ (k : ℕ). type_row k h.listed) n
 
-in_last : (h : Heading) (s : Site) (t j : ℕ) → get_or (rows h s t) (9 + (lines_of h + j)) [] ≡ get_or (last_rows t) j []
+pub in_last : (h : Heading) (s : Site) (t j : ℕ) → get_or (rows h s t) (9 + (lines_of h + j)) [] ≡ get_or (last_rows t) j []
 unfolding rows
 in_last h s t j =
     let m = length-type_rows 0 (lines_of h) h.listed in
@@ -180,7 +180,7 @@ name_in front name rest head tail j r lh ln le lf =
     rw whole (piece (8 + 4 * r) 2 (head ++ kept) name (take (48 - 4 * r) rest ++ tail) before ln)
 
 -- a text with the line that shows the first name of a code has the name where it is looked for
-name_is : (text : List ℕ) (cs : List Code) (i : ℕ) (e : Code) → IsInRange 1 16 (length cs) → i < length cs
+pub name_is : (text : List ℕ) (cs : List Code) (i : ℕ) (e : Code) → IsInRange 1 16 (length cs) → i < length cs
     → line_at (9 + 3 * i / 13) text ≡ ended (type_row (3 * i / 13) cs) → name_at i text ≡ name_of (get_or cs i e)
 unfolding type_row
 name_is text cs i e h lt line =
@@ -237,11 +237,11 @@ types_same xs ys j n same =
 abbrev pub Agrees : List ℕ → Heading → Site → ℕ → ℕ → Type 0
 Agrees text h s t k = (j : ℕ) → j ≤ k → line_at j (header_text h s t) ≡ line_at j text
 
-agreed : (text : List ℕ) (h : Heading) (s : Site) (t k j : ℕ) → IsGood h s t → Agrees text h s t k → j ≤ k → j < 13 + lines_of h
+pub agreed : (text : List ℕ) (h : Heading) (s : Site) (t k j : ℕ) → IsGood h s t → Agrees text h s t k → j ≤ k → j < 13 + lines_of h
     → line_at j text ≡ ended (get_or (rows h s t) j [])
 agreed text h s t k j g a le lt = sym (a j le) ∙ line_within h s t j g lt
 
-same_count : (text : List ℕ) (h c : Heading) (s d : Site) (t u k : ℕ) → Shows text h c s d t u → IsGood h s t → Agrees text h s t k → 9 ≤ k
+pub same_count : (text : List ℕ) (h c : Heading) (s d : Site) (t u k : ℕ) → Shows text h c s d t u → IsGood h s t → Agrees text h s t k → 9 ≤ k
     → length c.listed ≡ length h.listed
 unfolding type_row
 same_count text h c s d t u k shows g a le =

@@ -8,5 +8,14 @@ pub mod HeaderRowsLemmas
 pub mod HeaderGoodLemmas
 pub mod HeaderSameLemmas
 pub mod HeaderVerdictLemmas
+pub mod HeaderOnlyLemmas
 pub mod RecordLemmas
 pub mod TableLemmas
+pub mod ValuesLemmas
+pub mod EpochLemmas
+pub mod RowLemmas
+pub mod CheckLemmas
+pub mod LineLemmas
+pub mod OneLemmas
+pub mod FormLemmas
+pub mod TextLemmas

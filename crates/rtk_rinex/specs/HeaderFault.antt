@@ -56,3 +56,9 @@ IsHeaderFault bytes f = (n : ℕ) × (f.line ≡ n + 1) × IsFaultBehind n bytes
 abbrev pub IsWithoutHeader : List ℕ → HeaderCause → Type 0
 IsWithoutHeader bytes OutOfMemory = Unit {0}
 IsWithoutHeader bytes cause = ¬ (HasHeader bytes)
+
+-- a text begins with this header, and with no other
+abbrev pub IsOnlyHeader : List ℕ → Heading → Site → ℕ → Type 0
+IsOnlyHeader bytes head site first =
+    (h : Heading) (s : Site) (f : ℕ) (rest : List ℕ) → IsHeading h → IsSite s → IsMoment f → bytes ≡ header_text h s f ++ rest
+    → (h ≡ head) × (s ≡ site) × (f ≡ first)

@@ -95,10 +95,14 @@ epoch_date_text c =
     62 ∷ 32 ∷ last_digits 4 c.year ++ 32 ∷ last_digits 2 c.month ++ 32 ∷ last_digits 2 c.day
     ++ 32 ∷ last_digits 2 c.hour ++ 32 ∷ last_digits 2 c.minute
 
--- the epoch line of a reading and a count of satellites; then F11.7, 2X, I1 (0: no event), I3
+-- the columns of the epoch line of a reading and a count of satellites; behind the date F11.7, 2X, I1 (0: no event), I3
+abbrev pub epoch_columns : Civil → ℕ → List ℕ
+epoch_columns c count =
+    epoch_date_text c ++ right 11 (decimals 7 false (seconds_of c)) ++ codes "  0" ++ right 3 (decimal count)
+
+-- the epoch line
 abbrev pub epoch_line : Civil → ℕ → List ℕ
-epoch_line c count =
-    epoch_date_text c ++ right 11 (decimals 7 false (seconds_of c)) ++ codes "  0" ++ right 3 (decimal count) ++ 10 ∷ []
+epoch_line c count = epoch_columns c count ++ 10 ∷ []
 
 -- the epoch line and the lines of these satellites; nothing where there is none
 abbrev pub lines_of : Civil → List SatelliteRow → List ℕ

@@ -4,7 +4,7 @@ ghost use Rattle.std.specs.Prelude.{◌≡◌, ◌≢◌, ℕ, ◌+◌, ◌*◌,
 ghost use Rattle.rtk_rinex.specs.Reading.{IsMoment};
 ghost use Rattle.rtk_rinex.specs.Header.{Heading, Site, IsHeading, IsSite, site_of, header_text};
 ghost use Rattle.rtk_rinex.specs.HeaderShown.{line_at};
-ghost use Rattle.rtk_rinex.specs.HeaderFault.{IsLine, AreLines, IsWithoutHeader, IsHeaderFault};
+ghost use Rattle.rtk_rinex.specs.HeaderFault.{IsLine, AreLines, IsWithoutHeader, IsHeaderFault, IsOnlyHeader};
 
 use crate::head::Head;
 use crate::header_fault::{HeaderCause, HeaderFault};
@@ -32,6 +32,7 @@ pub struct HeaderRead {
 
 // What the lines of a text show, where they are those of a header; good parts in any case.
 fn shown(text: &[u8]) -> HeaderRead
+    ensures only { IsOnlyHeader text.now result.head (site_of result.position) result.first }
     ensures good { IsHeading result.head × IsSite (site_of result.position) × IsMoment result.first }
     ensures size { (length (header_text result.head (site_of result.position) result.first) ≡ result.used) × (result.used ≡ 81 * result.lines) }
     ensures shown { (h : Heading) (s : Site) (first k : ℕ) → IsHeading h → IsSite s → IsMoment first
@@ -98,6 +99,7 @@ pub fn check_header(out: &mut Vec<u8>, text: &[u8]) -> Result<HeaderRead, Header
     ensures text { IfOk result (λ r. text.now ≡ header_text r.head (site_of r.position) r.first ++ drop r.used text.now) }
     ensures size { IfOk result (λ r. (r.used ≡ length (header_text r.head (site_of r.position) r.first)) × AreLines r.lines (header_text r.head (site_of r.position) r.first)) }
     ensures out { IfOk result (λ r. out.new.items ≡ out.old.items ++ header_text r.head (site_of r.position) r.first) }
+    ensures only { IfOk result (λ r. IsOnlyHeader text.now r.head (site_of r.position) r.first) }
     ensures fault { IfErr result (IsHeaderFault text.now) }
     ensures none { IfErr result (λ f. IsWithoutHeader text.now f.cause) }
 {

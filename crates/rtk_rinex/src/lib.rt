@@ -1,6 +1,14 @@
 //! RINEX 3.05 observation files of GPS: the header and the records, as text.
 #![tactic(auto)]
 
+mod check_epoch_line;
+mod check_fault;
+mod check_record_line;
+mod check_records;
+mod check_satellite_line;
+mod check_table;
+mod check_text;
+mod check_values;
 mod columns;
 mod epoch_table;
 mod head;
@@ -13,6 +21,9 @@ mod laws;
 mod reading;
 mod record_text;
 
+pub use check_fault::{Cause, CheckFault};
+pub use check_table::Table;
+pub use check_text::{check, text};
 pub use epoch_table::{EpochTable, Observed, SatelliteRow};
 pub use head::{Head, HeadFault};
 pub use header_text::header;

@@ -17,7 +17,8 @@ const LEAST: i64 = -999_999_999_999;
 /// The greatest one.
 const GREATEST: i64 = 9_999_999_999_999;
 
-fn is_written_value(value: i64) -> bool
+/// Is it a value that F14.3 has room for, in thousandths, and not 0?
+pub fn is_written_value(value: i64) -> bool
     ensures { result ≡ is_written value }
 {
     value != 0 && value >= LEAST && value <= GREATEST
@@ -90,8 +91,8 @@ pub(crate) fn trimmed_len(bytes: &[u8]) -> usize
     end
 }
 
-// Appends the line of a satellite.
-fn put_satellite_line(out: &mut Vec<u8>, row: &SatelliteRow) -> Result<(), AllocError>
+/// Appends the line of a satellite.
+pub fn put_satellite_line(out: &mut Vec<u8>, row: &SatelliteRow) -> Result<(), AllocError>
     ensures { OnOk result (out.new.items ≡ out.old.items ++ satellite_line row.now) }
 {
     out.push(b'G')?;
@@ -123,7 +124,8 @@ fn shows(observed: &Observed) -> bool
         || observed.strength_millidbhz.is_some()
 }
 
-fn is_shown(row: &SatelliteRow) -> bool
+/// Is an observation of the satellite written, so that it has a line?
+pub fn is_shown(row: &SatelliteRow) -> bool
     ensures { result ≡ has_line row.now }
 {
     for observed in row.observed.as_slice() {
@@ -160,8 +162,8 @@ fn epoch_date(time: Civil) -> [u8; 18]
     field
 }
 
-// Appends the epoch line.
-fn put_epoch_line(out: &mut Vec<u8>, time: Civil, count: usize) -> Result<(), AllocError>
+/// Appends the epoch line of a reading and a count of satellites.
+pub fn put_epoch_line(out: &mut Vec<u8>, time: Civil, count: usize) -> Result<(), AllocError>
     requires second { time.second < 60 }
     requires millisecond { time.millisecond < 1000 }
     requires count { count < 1000 }

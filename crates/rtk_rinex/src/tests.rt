@@ -1,5 +1,6 @@
 //! Values from outside: an example file, the limits of the columns, and heads that are refused.
 
+mod check;
 mod header;
 mod header_check;
 mod record;

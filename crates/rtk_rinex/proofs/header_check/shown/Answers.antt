@@ -6,6 +6,7 @@ use Rattle.rtk_rinex.specs.Reading.{IsMoment}
 use Rattle.rtk_rinex.specs.HeaderShown.{line_at}
 use Rattle.rtk_rinex.proofs.HeaderRowsLemmas.{row_count}
 use Rattle.rtk_rinex.proofs.HeaderSameLemmas.{Shows, IsGood, length-header, line_same}
+use Rattle.rtk_rinex.proofs.HeaderOnlyLemmas.{only_shown}
 use Rattle.rtk_rinex.proofs.header_check.shown.Goals as goal
 
 listed_is : (c : goal.After-first_shown-first) → c.in-Ok.head.listed ≡ take c.code_count_shown-count.result c.codes_shown-codes.result
@@ -51,3 +52,8 @@ pub returns-clause-shown : goal.returns-clause-shown
 returns-clause-shown c = λ h s t k g p m agree.
     line_same c.args.text.now h c.in-Ok.head s (site_of c.position_shown-position.result) t c.first_shown-first.result k
     (shows c h s t g p m) (record { heading = g; site = p; first = m }) (good c) agree
+
+pub returns-clause-only : goal.returns-clause-only
+returns-clause-only c = λ h s t rest g p m e.
+    only_shown c.args.text.now rest h c.in-Ok.head s (site_of c.position_shown-position.result) t c.first_shown-first.result
+    (shows c h s t g p m) (record { heading = g; site = p; first = m }) e

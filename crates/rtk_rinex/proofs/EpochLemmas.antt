@@ -1,0 +1,123 @@
+-- What an epoch line shows is its moment and its count.
+use Rattle.std.proofs.Common.{◌≡◌, ℕ, ◌+◌, ◌/◌, ◌^◌, ◌<◌, List, [], ◌∷◌, ◌++◌, length, take, drop, decimal, codes, false, arith, refl, sym, ◌∙◌, append_assoc, length-append, pos}
+use Rattle.std.specs.Int.{IsInRange}
+use Rattle.std.proofs.lemmas.Fmt.{length-decimal-le}
+use Rattle.jiff_core.proofs.SignedLemmas.{signed_arith}
+use Rattle.jiff_core.proofs.CalendarLemmas.{days_in_month_bounds}
+use Rattle.rtk_obs.specs.declared.time.Civil.{Civil}
+use Rattle.rtk_obs.specs.Calendar.{Reads}
+use Rattle.rtk_rinex.specs.Columns.{right, decimals}
+use Rattle.rtk_rinex.specs.Reading.{IsMoment, reading_of, seconds_of}
+use Rattle.rtk_rinex.specs.Record.{epoch_date_text, epoch_columns, epoch_line}
+use Rattle.rtk_rinex.specs.CheckValues.{seconds_in, civil_of, count_of}
+use Rattle.rtk_rinex.proofs.ReadingLemmas.{same_civil, reading-reads, year-bound}
+use Rattle.rtk_rinex.proofs.ValuesLemmas.{digits_from-last_2, digits_from-last_4, digits_from-seconds, digits_from-count, length-right, take-exact, drop-exact}
+
+length-seconds : (n : ℕ) → n < 10 ^ 10 → length (right 11 (decimals 7 false n)) ≡ 11
+length-seconds n h =
+    let digits = length-decimal-le 3 (n / 10_000_000) (omega arith) (omega arith) (omega arith) in
+    length-right 11 (decimals 7 false n) (simp length-append (omega arith))
+
+length-count : (n : ℕ) → n < 1000 → length (right 3 (decimal n)) ≡ 3
+length-count n h = length-right 3 (decimal n) (length-decimal-le 3 n (omega arith) (omega arith) (omega arith))
+
+-- a reading whose fields fit their columns
+pub record Fits (c : Civil) : Type 0 where
+  pub year : c.year < 10_000
+  pub month : c.month < 100
+  pub day : c.day < 100
+  pub hour : c.hour < 100
+  pub minute : c.minute < 100
+  pub second : c.second < 60
+  pub millisecond : c.millisecond < 1000
+
+pub seconds_in-columns : (c : Civil) (n : ℕ) → Fits c → seconds_in (epoch_columns c n) ≡ seconds_of c
+seconds_in-columns c n h =
+    let s : List ℕ = right 11 (decimals 7 false (seconds_of c)) in
+    let last : List ℕ = right 3 (decimal n) in
+    let small : seconds_of c < 10 ^ 10 = omega arith in
+    let from : drop 18 (((epoch_date_text c ++ s) ++ codes "  0") ++ last) ≡ s ++ (codes "  0" ++ last) =
+    rw (append_assoc (epoch_date_text c ++ s) (codes "  0") last, append_assoc (epoch_date_text c) s (codes "  0" ++ last)) refl in
+    rw (from, take-exact 11 s (codes "  0" ++ last) (length-seconds (seconds_of c) small)) (digits_from-seconds (seconds_of c) small)
+
+pub civil_of-columns : (c : Civil) (n : ℕ) → Fits c → civil_of (epoch_columns c n) ≡ c
+civil_of-columns c n h =
+    let seconds = seconds_in-columns c n h in
+    same_civil (civil_of (epoch_columns c n)) c
+    (digits_from-last_4 c.year h.year) (digits_from-last_2 c.month h.month) (digits_from-last_2 c.day h.day)
+    (digits_from-last_2 c.hour h.hour) (digits_from-last_2 c.minute h.minute) (omega arith) (omega arith)
+
+-- the lengths of the four parts of an epoch line
+lengths : (f s z l : List ℕ) → length f ≡ 18 → length s ≡ 11 → length z ≡ 3 → length l ≡ 3
+    → (length ((f ++ s) ++ z) ≡ 32) × (length (((f ++ s) ++ z) ++ l) ≡ 35)
+lengths f s z l a b c d = (simp length-append (omega arith), simp length-append (omega arith))
+
+columns-lengths : (c : Civil) (n : ℕ) → Fits c → n < 1000
+    → (length ((epoch_date_text c ++ right 11 (decimals 7 false (seconds_of c))) ++ codes "  0") ≡ 32) × (length (epoch_columns c n) ≡ 35)
+columns-lengths c n h k =
+    lengths (epoch_date_text c) (right 11 (decimals 7 false (seconds_of c))) (codes "  0") (right 3 (decimal n)) refl
+    (length-seconds (seconds_of c) (omega (arith, h.second, h.millisecond))) refl (length-count n k)
+
+pub length-columns : (c : Civil) (n : ℕ) → Fits c → n < 1000 → length (epoch_columns c n) ≡ 35
+length-columns c n h k = (columns-lengths c n h k).1
+
+pub count_of-columns : (c : Civil) (n : ℕ) → Fits c → n < 1000 → count_of (epoch_columns c n) ≡ n
+count_of-columns c n h k =
+    let front : List ℕ = (epoch_date_text c ++ right 11 (decimals 7 false (seconds_of c))) ++ codes "  0" in
+    let last : List ℕ = right 3 (decimal n) in
+    let from : drop 32 (front ++ last) ≡ last = drop-exact 32 front last ((columns-lengths c n h k).0) in
+    rw from (digits_from-count n k)
+
+pub Fits-reading_of : (t : ℕ) → IsMoment t → Fits (reading_of t)
+Fits-reading_of t h =
+    let reads = reading-reads t h in
+    let late = year-bound (t / 86_400_000) (omega arith) in
+    let day = reads.0.0.2.1 in
+    record {
+      year = omega arith;
+      month = omega (arith, reads.0.0.1.1);
+      day = omega (arith, day, days_in_month_bounds (pos (reading_of t).year) (reading_of t).month);
+      hour = omega arith;
+      minute = omega arith;
+      second = omega arith;
+      millisecond = omega arith;
+    }
+
+-- a line that is an epoch line shows its moment's reading and its count
+pub record ShowsEpoch (line : List ℕ) (t n : ℕ) : Type 0 where
+  pub length : length line ≡ 35
+  pub seconds : seconds_in line < 600_000_000
+  pub reading : civil_of line ≡ reading_of t
+  pub count : count_of line ≡ n
+
+pub epoch-shows : (line : List ℕ) (t n : ℕ) → IsMoment t → IsInRange 1 32 n → line ≡ epoch_columns (reading_of t) n → ShowsEpoch line t n
+epoch-shows line t n h k e =
+    let fits = Fits-reading_of t h in
+    let few : n < 1000 = omega arith in
+    record {
+      length = rw e (length-columns (reading_of t) n fits few);
+      seconds = rw (e, seconds_in-columns (reading_of t) n fits) (omega (arith, fits.second, fits.millisecond));
+      reading = rw e (civil_of-columns (reading_of t) n fits);
+      count = rw e (count_of-columns (reading_of t) n fits few);
+    }
+
+-- a reading belongs to one moment
+pub one_moment : (s t : ℕ) (c : Civil) → Reads s c → Reads t c → s ≡ t
+one_moment s t c h g =
+    let days : pos (3657 + s / 86_400_000) ≡ pos (3657 + t / 86_400_000) = sym h.0.1 ∙ g.0.1 in
+    omega (arith, signed_arith, h.2, g.2)
+
+-- an epoch line has 36 bytes, of which the last is LF
+pub length-line : (line : List ℕ) (t n : ℕ) → IsMoment t → IsInRange 1 32 n → line ≡ epoch_line (reading_of t) n → length line ≡ 36
+length-line line t n h k e =
+    let long = length-columns (reading_of t) n (Fits-reading_of t h) (omega arith) in
+    rw e (length-append (epoch_columns (reading_of t) n) (10 ∷ []) ∙ omega arith)
+
+pub line-columns : (line : List ℕ) (t n : ℕ) → IsMoment t → IsInRange 1 32 n → line ≡ epoch_line (reading_of t) n
+    → take 35 line ≡ epoch_columns (reading_of t) n
+line-columns line t n h k e =
+    rw e (take-exact 35 (epoch_columns (reading_of t) n) (10 ∷ []) (length-columns (reading_of t) n (Fits-reading_of t h) (omega arith)))
+
+-- what was appended to a text
+pub appended : (old new line : List ℕ) (start : ℕ) → new ≡ old ++ line → length old ≡ start → drop start new ≡ line
+appended old new line start e h = rw e (drop-exact start old line h)

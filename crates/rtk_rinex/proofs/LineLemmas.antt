@@ -1,0 +1,162 @@
+-- Each line of a record ends in its only LF.
+use Rattle.std.proofs.Common.{◌≡◌, ◌≢◌, ℕ, zero, suc, ◌+◌, ◌-◌, ◌/◌, ◌%◌, ◌^◌, ◌<◌, ◌≤◌, Bool, true, false, ◌==◌, if◌then◌else◌, Option, Some, None, ℤ, unsigned_abs, List, [], ◌∷◌, ◌++◌, length, drop, get_or, replicate, decimal, codes, refl, sym, ◌∙◌, ap, arith, append_assoc, flat_map}
+use Rattle.std.specs.Prelude.{All, min, max}
+use Rattle.std.specs.Fmt.{sign_text}
+use Rattle.std.proofs.lemmas.Fmt.{decimal_by_steps}
+use Rattle.std.proofs.lemmas.List.Elements.{All-nil, All-cons, All-head, All-tail, All-append, All-replicate}
+use Rattle.rtk_obs.specs.declared.time.Civil.{Civil}
+use Rattle.rtk_rinex.specs.declared.epoch_table.Observed.{Observed}
+use Rattle.rtk_rinex.specs.declared.epoch_table.SatelliteRow.{SatelliteRow}
+use Rattle.rtk_rinex.specs.Columns.{right, last_digits, decimals, fixed, is_negative}
+use Rattle.rtk_rinex.specs.Reading.{IsMoment, reading_of, seconds_of}
+use Rattle.rtk_rinex.specs.Record.{is_written, observation, observations, lli_digit, strength_digit, strength_value, before_trimmed, trim_end, satellite_line, epoch_date_text, epoch_columns, epoch_line}
+use Rattle.rtk_rinex.specs.Table.{IsTableRow, IsObserved, IsValue}
+use Rattle.rtk_rinex.specs.CheckText.{HasNoEnd, IsLine}
+use Rattle.rtk_rinex.proofs.ValuesLemmas.{written-magnitude, IsValue-strength}
+use Rattle.rtk_rinex.proofs.EpochLemmas.{Fits, Fits-reading_of}
+
+abbrev IsNoEnd : ℕ → Type 0
+IsNoEnd x = x ≢ 10
+
+one : (x : ℕ) → x ≢ 10 → HasNoEnd (x ∷ [])
+one x h = All-cons IsNoEnd x [] h (All-nil IsNoEnd)
+
+both : (xs ys : List ℕ) → HasNoEnd xs → HasNoEnd ys → HasNoEnd (xs ++ ys)
+both xs ys h g = All-append IsNoEnd xs ys h g
+
+blanks : (k : ℕ) → HasNoEnd (replicate k 32)
+blanks k = All-replicate IsNoEnd k 32 (λ e. omega (arith, e))
+
+digit : (d : ℕ) → HasNoEnd ((48 + d) ∷ [])
+digit d = one (48 + d) (λ e. omega (arith, e))
+
+of_decimal : (n : ℕ) → n < 2 ^ 64 → HasNoEnd (decimal n)
+of_decimal n h = decimal_by_steps (λ n ds. HasNoEnd ds) (λ n small. digit n) (λ n ds low e. both ds ((48 + n % 10) ∷ []) e (digit (n % 10))) n h
+
+of_last_digits : (k n : ℕ) → HasNoEnd (last_digits k n)
+of_last_digits zero n = All-nil IsNoEnd
+of_last_digits (suc k) n = both (last_digits k (n / 10)) ((48 + n % 10) ∷ []) (of_last_digits k (n / 10)) (digit (n % 10))
+
+of_sign : (b : Bool) → HasNoEnd (sign_text b)
+of_sign true = one 45 (λ e. omega (arith, e))
+of_sign false = All-nil IsNoEnd
+
+of_right : (w : ℕ) (text : List ℕ) → HasNoEnd text → HasNoEnd (right w text)
+of_right w text h = both (replicate (w - length text) 32) text (blanks (w - length text)) h
+
+of_decimals : (k : ℕ) (b : Bool) (n : ℕ) → n / 10 ^ k < 2 ^ 64 → HasNoEnd (decimals k b n)
+of_decimals k b n h =
+    both (sign_text b ++ decimal (n / 10 ^ k)) (46 ∷ last_digits k n) (both (sign_text b) (decimal (n / 10 ^ k)) (of_sign b) (of_decimal (n / 10 ^ k) h))
+    (All-cons IsNoEnd 46 (last_digits k n) (λ e. omega (arith, e)) (of_last_digits k n))
+
+observation_if : (v : ℤ) (a b : ℕ) → a ≢ 10 → b ≢ 10 → (c : Bool) → is_written v ≡ c → HasNoEnd (if c then fixed 3 14 v ++ a ∷ b ∷ [] else replicate 16 32)
+observation_if v a b h g true e =
+    let small = written-magnitude v e in
+    both (fixed 3 14 v) (a ∷ b ∷ []) (of_right 14 (decimals 3 (is_negative v) (unsigned_abs v)) (of_decimals 3 (is_negative v) (unsigned_abs v) (omega arith)))
+    (All-cons IsNoEnd a (b ∷ []) h (one b g))
+observation_if v a b h g false e = blanks 16
+
+of_observation : (v : Option ℤ) (a b : ℕ) → a ≢ 10 → b ≢ 10 → HasNoEnd (observation v a b)
+of_observation None a b h g = blanks 16
+of_observation (Some v) a b h g = observation_if v a b h g (is_written v) refl
+
+strength_is : (s : Option ℕ) → strength_digit s ≢ 10
+strength_is None e = omega (arith, e)
+strength_is (Some s) e = omega (arith, e)
+
+lli_is : (slip half : Bool) → lli_digit slip half ≢ 10
+lli_is true true e = omega (arith, e)
+lli_is true false e = omega (arith, e)
+lli_is false true e = omega (arith, e)
+lli_is false false e = omega (arith, e)
+
+of_observations : (o : Observed) → HasNoEnd (observations o)
+of_observations o =
+    let digit = strength_digit o.strength_millidbhz in
+    let lli = lli_digit o.slip o.half in
+    let blank : 32 ≢ 10 = λ e. omega (arith, e) in
+    let a : List ℕ = observation o.range_mm 32 digit in
+    let b : List ℕ = observation o.phase_millicycles lli digit in
+    let c : List ℕ = observation (strength_value o.strength_millidbhz) 32 32 in
+    both (a ++ b) c
+    (both a b (of_observation o.range_mm 32 digit blank (strength_is o.strength_millidbhz)) (of_observation o.phase_millicycles lli digit (lli_is o.slip o.half) (strength_is o.strength_millidbhz)))
+    (of_observation (strength_value o.strength_millidbhz) 32 32 blank blank)
+
+of_all : (os : List Observed) → HasNoEnd (flat_map observations os)
+of_all [] = All-nil IsNoEnd
+of_all (o ∷ os) = both (observations o) (flat_map observations os) (of_observations o) (of_all os)
+
+trimmed_if : (x : ℕ) → x ≢ 10 → (c : Bool) → HasNoEnd (if c then [] else x ∷ [])
+trimmed_if x h true = All-nil IsNoEnd
+trimmed_if x h false = one x h
+
+front_of : (x : ℕ) (xs : List ℕ) → x ≢ 10 → HasNoEnd xs → HasNoEnd (before_trimmed x xs)
+front_of x [] h g = trimmed_if x h (x == 32)
+front_of x (y ∷ ys) h g = All-cons IsNoEnd x (y ∷ ys) h g
+
+of_trimmed : (xs : List ℕ) → HasNoEnd xs → HasNoEnd (trim_end xs)
+unfolding trim_end
+of_trimmed [] h = h
+of_trimmed (x ∷ xs) h = front_of x (trim_end xs) (All-head IsNoEnd x xs h) (of_trimmed xs (All-tail IsNoEnd x xs h))
+
+pub satellite_line-line : (r : SatelliteRow) → IsLine (satellite_line r)
+satellite_line-line r =
+    let front : List ℕ = 71 ∷ last_digits 2 r.satellite in
+    let text : List ℕ = front ++ flat_map observations r.observed.items in
+    let g : HasNoEnd front = All-cons IsNoEnd 71 (last_digits 2 r.satellite) (λ e. omega (arith, e)) (of_last_digits 2 r.satellite) in
+    (trim_end text, of_trimmed text (both front (flat_map observations r.observed.items) g (of_all r.observed.items)), refl)
+
+of_date : (c : Civil) → HasNoEnd (epoch_date_text c)
+of_date c =
+    let blank : 32 ≢ 10 = λ e. omega (arith, e) in
+    let two = λ (n : ℕ). All-cons IsNoEnd 32 (last_digits 2 n) blank (of_last_digits 2 n) in
+    let year : List ℕ = 62 ∷ 32 ∷ last_digits 4 c.year in
+    let head : HasNoEnd year = All-cons IsNoEnd 62 (32 ∷ last_digits 4 c.year) (λ e. omega (arith, e)) (All-cons IsNoEnd 32 (last_digits 4 c.year) blank (of_last_digits 4 c.year)) in
+    let b : List ℕ = 32 ∷ last_digits 2 c.month in
+    let d : List ℕ = 32 ∷ last_digits 2 c.day in
+    let f : List ℕ = 32 ∷ last_digits 2 c.hour in
+    let g : List ℕ = 32 ∷ last_digits 2 c.minute in
+    both (((year ++ b) ++ d) ++ f) g (both ((year ++ b) ++ d) f (both (year ++ b) d (both year b head (two c.month)) (two c.day)) (two c.hour)) (two c.minute)
+
+pub epoch_line-line : (t n : ℕ) → IsMoment t → n < 1000 → IsLine (epoch_line (reading_of t) n)
+epoch_line-line t n h small =
+    let c = reading_of t in
+    let fits = Fits-reading_of t h in
+    let s : List ℕ = right 11 (decimals 7 false (seconds_of c)) in
+    let z : List ℕ = codes "  0" in
+    let k : List ℕ = right 3 (decimal n) in
+    let zero : HasNoEnd z = All-cons IsNoEnd 32 (32 ∷ 48 ∷ []) (λ e. omega (arith, e)) (All-cons IsNoEnd 32 (48 ∷ []) (λ e. omega (arith, e)) (digit 0)) in
+    let seconds : HasNoEnd s = of_right 11 (decimals 7 false (seconds_of c)) (of_decimals 7 false (seconds_of c) (omega (arith, fits.second, fits.millisecond))) in (
+      epoch_columns c n,
+      both ((epoch_date_text c ++ s) ++ z) k (both (epoch_date_text c ++ s) z (both (epoch_date_text c) s (of_date c) seconds) zero) (of_right 3 (decimal n) (of_decimal n (omega arith))),
+      refl,
+    )
+
+-- ---- the first line of a text is one
+
+no_front : (front rest : List ℕ) → HasNoEnd (front ++ 10 ∷ rest) → ⊥
+no_front [] rest h = All-head IsNoEnd 10 rest h refl
+no_front (x ∷ front) rest h = no_front front rest (All-tail IsNoEnd x (front ++ 10 ∷ rest) h)
+
+pub no_line : (text line rest : List ℕ) → HasNoEnd text → IsLine line → text ≡ line ++ rest → ⊥
+no_line text line rest h l e =
+    let whole : text ≡ l.0 ++ (10 ∷ rest) = e ∙ ap (λ (t : List ℕ). t ++ rest) l.2 ∙ append_assoc l.0 (10 ∷ []) rest in
+    let inside = rw whole at h in
+    no_front l.0 rest inside
+
+same_front : (f g x y : List ℕ) → HasNoEnd f → HasNoEnd g → f ++ 10 ∷ x ≡ g ++ 10 ∷ y → (f ≡ g) × (x ≡ y)
+same_front [] [] x y h k e = (refl, cc)
+same_front [] (b ∷ g) x y h k e = absurd (let same : 10 ≡ b = ap (λ (xs : List ℕ). get_or xs 0 0) e in All-head IsNoEnd b g k (sym same))
+same_front (a ∷ f) [] x y h k e = absurd (let same : a ≡ 10 = ap (λ (xs : List ℕ). get_or xs 0 0) e in All-head IsNoEnd a f h same)
+same_front (a ∷ f) (b ∷ g) x y h k e =
+    let first : a ≡ b = ap (λ (xs : List ℕ). get_or xs 0 0) e in
+    let rest : f ++ 10 ∷ x ≡ g ++ 10 ∷ y = ap (drop 1) e in
+    let s = same_front f g x y (All-tail IsNoEnd a f h) (All-tail IsNoEnd b g k) rest in
+    (rw (first, s.0) refl, s.1)
+
+pub same_line : (l m x y : List ℕ) → IsLine l → IsLine m → l ++ x ≡ m ++ y → (l ≡ m) × (x ≡ y)
+same_line l m x y h k e =
+    let left : l ++ x ≡ h.0 ++ 10 ∷ x = ap (λ (t : List ℕ). t ++ x) h.2 ∙ append_assoc h.0 (10 ∷ []) x in
+    let right : m ++ y ≡ k.0 ++ 10 ∷ y = ap (λ (t : List ℕ). t ++ y) k.2 ∙ append_assoc k.0 (10 ∷ []) y in
+    let s = same_front h.0 k.0 x y h.1 k.1 (sym left ∙ e ∙ right) in
+    (h.2 ∙ ap (λ (t : List ℕ). t ++ 10 ∷ []) s.0 ∙ sym k.2, s.1)

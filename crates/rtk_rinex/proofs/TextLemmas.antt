@@ -1,0 +1,204 @@
+-- The answers of the check of a whole text.
+use Rattle.std.proofs.Common.{◌≡◌, ◌≢◌, ℕ, suc, ◌+◌, ◌*◌, ◌<◌, ◌≤◌, Option, None, List, [], ◌∷◌, ◌++◌, length, get_or, refl, sym, ◌∙◌, ap, arith, append_assoc, length-append, flat_map, inl, inr, ◌⊎◌, ⊎_elim, codes}
+use Rattle.std.specs.Prelude.{All, AllPairs}
+use Rattle.std.specs.Int.{IsInRange}
+use Rattle.std.proofs.lemmas.List.{append-nil, append_cancel_left}
+use Rattle.std.proofs.lemmas.List.Elements.{All-head, All-tail}
+use Rattle.rtk_rinex.specs.declared.check_fault.Cause.{Cause}
+use Rattle.rtk_rinex.specs.declared.check_fault.Cause.TheVariants.{HeaderLine, Columns, Value, Order, Truncated, OutOfMemory}
+use Rattle.rtk_rinex.specs.declared.check_fault.CheckFault.{CheckFault}
+use Rattle.rtk_rinex.specs.declared.header_fault.HeaderCause.{HeaderCause}
+use Rattle.rtk_rinex.specs.declared.header_fault.HeaderCause.TheVariants as header
+use Rattle.rtk_rinex.specs.declared.epoch_table.SatelliteRow.{SatelliteRow}
+use Rattle.rtk_rinex.specs.Columns.{left}
+use Rattle.rtk_rinex.specs.Reading.{IsMoment, reading_of}
+use Rattle.rtk_rinex.specs.Header.{Heading, Site, IsHeading, IsSite, header_line, header_text}
+use Rattle.rtk_rinex.specs.Record.{Epoch, epoch_line, satellite_line, record_text}
+use Rattle.rtk_rinex.specs.Table.{Table, IsTable, IsTableEpoch, IsTableRow, StartsAt, table_text}
+use Rattle.rtk_rinex.specs.HeaderFault.{AreLines, IsWithoutHeader, IsOnlyHeader}
+use Rattle.rtk_rinex.specs.CheckText.{BeginsWithFault, last_satellite, AreEpochs, last_time, satellite_lines, IsFaultOfRows, IsFaultOfEpochLine, IsFaultBehindEpochLine, IsFaultOfRecord, IsFaultOfRecords, ReadsRecords}
+use Rattle.rtk_rinex.specs.CheckTable.{HoldsTable, cause_of, IsFault, IsWithoutTable}
+use Rattle.rtk_rinex.specs.CheckLine.{IsNextTime, IsSatelliteFault}
+use Rattle.rtk_rinex.proofs.EpochLemmas.{length-line}
+use Rattle.rtk_rinex.proofs.CheckLemmas.{rows-all}
+use Rattle.rtk_rinex.proofs.LineLemmas.{epoch_line-line, same_line}
+use Rattle.rtk_rinex.proofs.OneLemmas.{Below, Earlier, one_epoch_line, count-of, same_rows, epoch-front, epoch_line-of, some_text, same_epochs, row-next, epoch-next, epochs-all, epochs-rise, epochs-start}
+use Rattle.rtk_rinex.proofs.FormLemmas.{IsTold, no_satellite_fault, no_epoch_fault}
+
+-- ---- want of memory, and faults of the header
+
+pub room-fault : (bytes : List ℕ) (f : CheckFault) → f.line ≡ 1 → f.cause ≡ OutOfMemory → IsFault bytes f
+room-fault bytes f line cause = inl (record { found = record { line = 1; cause = header.OutOfMemory }; is_fault = (0, refl, tt); line = line; cause = cause })
+
+pub header-none : (bytes : List ℕ) (c : HeaderCause) → IsWithoutHeader bytes c → IsWithoutTable bytes (cause_of c)
+header-none bytes header.HeaderLine h = λ t is e.
+    h (header_text t.head t.site t.first, flat_map record_text t.epochs, (t.head, t.site, t.first, is.head, is.site, is.first, refl), e)
+header-none bytes header.Truncated h = λ t is e.
+    h (header_text t.head t.site t.first, flat_map record_text t.epochs, (t.head, t.site, t.first, is.head, is.site, is.first, refl), e)
+header-none bytes header.OutOfMemory h = tt
+
+-- a header has more bytes than lines
+line_bytes : (lines : List (List ℕ)) → length lines ≤ length (flat_map (λ (line : List ℕ). line ++ 10 ∷ []) lines)
+line_bytes [] = omega arith
+line_bytes (l ∷ lines) =
+    omega (arith, line_bytes lines, length-append (l ++ 10 ∷ []) (flat_map (λ (line : List ℕ). line ++ 10 ∷ []) lines), length-append l (10 ∷ []))
+
+more_bytes : (text : List ℕ) (lines : List (List ℕ)) → get_or text 0 0 ≡ 32 → text ≡ flat_map (λ (line : List ℕ). line ++ 10 ∷ []) lines → length lines < length text
+more_bytes text [] h e = absurd (let none : get_or text 0 0 ≡ 0 = ap (λ (xs : List ℕ). get_or xs 0 0) e in omega (arith, none, h))
+more_bytes text ([] ∷ lines) h e = absurd (let lf : get_or text 0 0 ≡ 10 = ap (λ (xs : List ℕ). get_or xs 0 0) e in omega (arith, lf, h))
+more_bytes text ((x ∷ l) ∷ lines) h e =
+    omega (arith, line_bytes lines, ap length e, length-append ((x ∷ l) ++ 10 ∷ []) (flat_map (λ (line : List ℕ). line ++ 10 ∷ []) lines), length-append (x ∷ l) (10 ∷ []))
+
+first_blank : (h : Heading) (s : Site) (first : ℕ) → get_or (header_text h s first) 0 0 ≡ 32
+unfolding header_text header_line left
+first_blank h s first = refl
+
+pub few_lines : (n : ℕ) (h : Heading) (s : Site) (first : ℕ) → AreLines n (header_text h s first) → n < length (header_text h s first)
+few_lines n h s first l = let more = more_bytes (header_text h s first) l.0 (first_blank h s first) l.3 in omega (arith, more, l.2)
+
+-- ---- the table
+
+abbrev table_with : Heading → Site → ℕ → List Epoch → Table
+table_with h s first epochs = record { head = h; site = s; first = first; epochs = epochs }
+
+same_table : (h k : Heading) (s t : Site) (f g : ℕ) (a b : List Epoch) → h ≡ k → s ≡ t → f ≡ g → a ≡ b → table_with h s f a ≡ table_with k t g b
+same_table h k s t f g a b e₁ e₂ e₃ e₄ = cc
+
+-- the header of a table's text, and its epochs' text
+epochs-behind : (bytes rest : List ℕ) (h : Heading) (s : Site) (first : ℕ) (u : Table) → bytes ≡ header_text h s first ++ rest
+    → bytes ≡ table_text u → u.head ≡ h → u.site ≡ s → u.first ≡ first → rest ≡ flat_map record_text u.epochs
+epochs-behind bytes rest h s first u e f a b c =
+    let same : header_text u.head u.site u.first ≡ header_text h s first = rw (a, b, c) refl in
+    append_cancel_left (header_text h s first) rest (flat_map record_text u.epochs)
+    (sym e ∙ f ∙ ap (λ (t : List ℕ). t ++ flat_map record_text u.epochs) same)
+
+no_rest : (n : ℕ) (more : List Epoch) → All (IsTableEpoch n) more → [] ≡ flat_map record_text more ++ [] → more ≡ []
+no_rest n [] h e = refl
+no_rest n (a ∷ more) h e =
+    absurd (some_text n a (flat_map record_text more ++ []) (h 0 a (omega arith)) (sym (append_assoc (record_text a) (flat_map record_text more) []) ∙ sym e))
+
+all_more : (n : ℕ) (xs more : List Epoch) → All (IsTableEpoch n) (xs ++ more) → All (IsTableEpoch n) more
+all_more n [] more h = h
+all_more n (x ∷ xs) more h = all_more n xs more (All-tail (IsTableEpoch n) x (xs ++ more) h)
+
+same_list : (n : ℕ) (epochs others : List Epoch) → n ≤ 16 → All (IsTableEpoch n) epochs → All (IsTableEpoch n) others
+    → flat_map record_text epochs ≡ flat_map record_text others → others ≡ epochs
+same_list n epochs others le h g e =
+    let goes = same_epochs n epochs others [] le h g (append-nil (flat_map record_text epochs) ∙ e) in
+    let none : goes.more ≡ [] = no_rest n goes.more (all_more n epochs goes.more (rw goes.list at g)) goes.text in
+    goes.list ∙ ap (λ (t : List Epoch). epochs ++ t) none ∙ append-nil epochs
+
+pub holds : (bytes rest old new : List ℕ) (h : Heading) (s : Site) (first records lines : ℕ) → IsHeading h → IsSite s → IsMoment first
+    → bytes ≡ header_text h s first ++ rest → IsOnlyHeader bytes h s first → ReadsRecords (length h.listed) first records lines rest old new
+    → HoldsTable bytes records lines
+holds bytes rest old new h s first records lines heading site moment e only r =
+    let n = length h.listed in
+    let le : n ≤ 16 = heading.1.0.1 in
+    let all = epochs-all n first None r.epochs r.are_epochs in
+    record {
+      table = table_with h s first r.epochs;
+      is_table = record {
+        head = heading;
+        site = site;
+        first = moment;
+        starts = epochs-start n first r.epochs r.are_epochs;
+        epochs = all;
+        rise = epochs-rise n first None r.epochs r.are_epochs;
+      };
+      text = e ∙ ap (λ (t : List ℕ). header_text h s first ++ t) r.text;
+      only = λ u is f.
+          let o = only u.head u.site u.first (flat_map record_text u.epochs) is.head is.site is.first f in
+          let rest_is = epochs-behind bytes rest h s first u e f o.0 o.1 o.2 in
+          let good : All (IsTableEpoch n) u.epochs = rw o.0 at is.epochs in
+          same_table u.head h u.site s u.first first u.epochs r.epochs o.0 o.1 o.2 (same_list n r.epochs u.epochs le all good (sym r.text ∙ rest_is));
+      epochs = r.count;
+      satellites = r.satellites;
+    }
+
+-- what is out is the text
+pub copy : (n : ℕ) (bytes rest start mid new : List ℕ) (h : Heading) (s : Site) (first records lines : ℕ) → start ≡ [] → mid ≡ start ++ header_text h s first
+    → bytes ≡ header_text h s first ++ rest → ReadsRecords n first records lines rest mid new → new ≡ bytes
+copy n bytes rest start mid new h s first records lines none m e r =
+    let begun : mid ≡ header_text h s first = rw none at m in
+    r.out ∙ ap (λ (t : List ℕ). t ++ flat_map record_text r.epochs) begun ∙ ap (λ (t : List ℕ). header_text h s first ++ t) (sym r.text) ∙ sym e
+
+-- ---- a fault in the records
+
+rows_more : (n : ℕ) (xs more : List SatelliteRow) → All (IsTableRow n) (xs ++ more) → All (IsTableRow n) more
+rows_more n [] more h = h
+rows_more n (x ∷ xs) more h = rows_more n xs more (All-tail (IsTableRow n) x (xs ++ more) h)
+
+rows-fault : (n before : ℕ) (text : List ℕ) (f : CheckFault) (rows others more : List SatelliteRow) (rest y : List ℕ) → IsTold f.cause
+    → BeginsWithFault (IsSatelliteFault n (last_satellite None rows)) rest f.cause → All (IsTableRow n) others → AllPairs Below others
+    → others ≡ rows ++ more → rest ≡ flat_map satellite_line more ++ y → length rows < length others → ⊥
+rows-fault n before text f rows others [] rest y told b h p e t less = omega (arith, less, ap length e, length-append {A = SatelliteRow} rows [])
+rows-fault n before text f rows others (r ∷ more) rest y told b h p e t less =
+    let good : All (IsTableRow n) (rows ++ r ∷ more) = rw e at h in
+    let rise : AllPairs Below (rows ++ r ∷ more) = rw e at p in
+    let is = All-head (IsTableRow n) r more (rows_more n rows (r ∷ more) good) in
+    no_satellite_fault n (last_satellite None rows) rest f.cause r (flat_map satellite_line more ++ y) told b is (row-next rows r more rise)
+    (t ∙ append_assoc (satellite_line r) (flat_map satellite_line more) y)
+
+behind-fault : (n first : ℕ) (last : Option ℕ) (before : ℕ) (text : List ℕ) (f : CheckFault) (a : Epoch) (y : List ℕ) → n ≤ 16 → IsTold f.cause
+    → IsFaultBehindEpochLine n first last before text f → IsTableEpoch n a → text ≡ record_text a ++ y → ⊥
+behind-fault n first last before text f a y le told b h e =
+    let c = count-of n a h in
+    let line = same_line (epoch_line (reading_of b.time) b.count) (epoch_line (reading_of a.time) (length a.rows)) b.rest (flat_map satellite_line a.rows ++ y)
+    (epoch_line-line b.time b.count b.moment (omega (arith, b.range))) (epoch_line-of n a h) (sym b.text ∙ e ∙ epoch-front n a y h) in
+    let one = one_epoch_line b.time a.time b.count (length a.rows) b.moment h.time b.range c line.0 in
+    let w = b.rows in
+    let less : length w.rows < length a.rows = omega (arith, w.due, one.1) in
+    let goes = same_rows n w.rows a.rows w.rest y le (rows-all n None w.rows w.are_rows) h.rows (omega (arith, less)) (sym w.text ∙ line.1) in
+    rows-fault n before text f w.rows a.rows goes.more w.rest y told w.cause h.rows h.rise goes.list goes.text less
+
+record-fault : (n first : ℕ) (last : Option ℕ) (before : ℕ) (text : List ℕ) (f : CheckFault) (a : Epoch) (y : List ℕ) → n ≤ 16 → IsTold f.cause
+    → IsFaultOfRecord n first last before text f → IsTableEpoch n a → IsNextTime first last a.time → text ≡ record_text a ++ y → ⊥
+record-fault n first last before text f a y le told b h next e =
+    ⊎_elim
+    (λ line. no_epoch_fault n first last text f.cause a (flat_map satellite_line a.rows ++ y) told line.cause h next (e ∙ epoch-front n a y h))
+    (λ behind. behind-fault n first last before text f a y le told behind h e) b
+
+end-fault : (n first : ℕ) (last : Option ℕ) (before : ℕ) (text : List ℕ) (f : CheckFault) → IsFaultOfRecord n first last before text f → text ≡ [] → ⊥
+end-fault n first last before text f b e =
+    ⊎_elim (λ line. line.some e)
+    (λ behind.
+    let long = length-line (epoch_line (reading_of behind.time) behind.count) behind.time behind.count behind.moment behind.range refl in
+    let zero = ap length (sym behind.text ∙ e) in
+    omega (arith, long, length-append (epoch_line (reading_of behind.time) behind.count) behind.rest, zero))
+    b
+
+next-fault : (n first before : ℕ) (f : CheckFault) (epochs others more : List Epoch) (rest : List ℕ) → n ≤ 16 → IsTold f.cause
+    → IsFaultOfRecord n first (last_time None epochs) before rest f → All (IsTableEpoch n) others → AllPairs Earlier others → StartsAt first others
+    → others ≡ epochs ++ more → rest ≡ flat_map record_text more ++ [] → ⊥
+next-fault n first before f epochs others [] rest le told b h p s e t = end-fault n first (last_time None epochs) before rest f b t
+next-fault n first before f epochs others (a ∷ more) rest le told b h p s e t =
+    let good : All (IsTableEpoch n) (epochs ++ a ∷ more) = rw e at h in
+    let rise : AllPairs Earlier (epochs ++ a ∷ more) = rw e at p in
+    let start : StartsAt first (epochs ++ a ∷ more) = rw e at s in
+    record-fault n first (last_time None epochs) before rest f a (flat_map record_text more ++ []) le told b
+    (All-head (IsTableEpoch n) a more (all_more n epochs (a ∷ more) good)) (epoch-next first epochs a more start rise)
+    (t ∙ append_assoc (record_text a) (flat_map record_text more) [])
+
+no_records : (n first before : ℕ) (text : List ℕ) (f : CheckFault) (others : List Epoch) → n ≤ 16 → IsTold f.cause → IsFaultOfRecords n first before text f
+    → All (IsTableEpoch n) others → AllPairs Earlier others → StartsAt first others → text ≡ flat_map record_text others → ⊥
+no_records n first before text f others le told r h p s e =
+    let goes = same_epochs n r.epochs others r.rest le (epochs-all n first None r.epochs r.are_epochs) h (sym r.text ∙ e) in
+    next-fault n first _ f r.epochs others goes.more r.rest le told r.next h p s goes.list goes.text
+
+without : (bytes : List ℕ) (cause : Cause) → (IsTold cause → (t : Table) → IsTable t → bytes ≢ table_text t) → IsWithoutTable bytes cause
+without bytes HeaderLine h = h tt
+without bytes Columns h = h tt
+without bytes Value h = h tt
+without bytes Order h = h tt
+without bytes Truncated h = h tt
+without bytes OutOfMemory h = tt
+
+pub records-none : (bytes rest : List ℕ) (h : Heading) (s : Site) (first lines : ℕ) (f : CheckFault) → IsHeading h → bytes ≡ header_text h s first ++ rest
+    → IsOnlyHeader bytes h s first → IsFaultOfRecords (length h.listed) first lines rest f → IsWithoutTable bytes f.cause
+records-none bytes rest h s first lines f heading e only r =
+    without bytes f.cause (λ told u is same.
+    let o = only u.head u.site u.first (flat_map record_text u.epochs) is.head is.site is.first same in
+    let rest_is = epochs-behind bytes rest h s first u e same o.0 o.1 o.2 in
+    let good : All (IsTableEpoch (length h.listed)) u.epochs = rw o.0 at is.epochs in
+    let start : StartsAt first u.epochs = rw o.2 at is.starts in
+    no_records (length h.listed) first lines rest f u.epochs heading.1.0.1 told r good is.rise start rest_is)

@@ -1,0 +1,68 @@
+-- A text as that of a well-formed table, or its fault.
+use Rattle.std.specs.Prelude.{◌≡◌, ◌≢◌, ℕ, List, ◌++◌, length, ◌⊎◌}
+use Rattle.rtk_rinex.specs.Reading.{IsMoment}
+use Rattle.rtk_rinex.specs.Header.{Heading, Site, IsHeading, IsSite, header_text}
+use Rattle.rtk_rinex.specs.Table.{Table, IsTable, table_text}
+use Rattle.rtk_rinex.specs.HeaderFault.{AreLines, IsHeaderFault}
+use Rattle.rtk_rinex.specs.CheckText.{satellite_lines, IsFaultOfRecords}
+use Rattle.rtk_rinex.specs.declared.header_fault.HeaderFault.{HeaderFault}
+use Rattle.rtk_rinex.specs.declared.header_fault.HeaderCause.{HeaderCause}
+use Rattle.rtk_rinex.specs.declared.header_fault.HeaderCause.TheVariants as header
+use Rattle.rtk_rinex.specs.declared.check_fault.Cause.{Cause}
+use Rattle.rtk_rinex.specs.declared.check_fault.Cause.TheVariants.{HeaderLine, Columns, Value, Order, Truncated, OutOfMemory}
+use Rattle.rtk_rinex.specs.declared.check_fault.CheckFault.{CheckFault}
+
+-- a text is that of one well-formed table, with so many records and satellite lines
+pub record HoldsTable (bytes : List ℕ) (records lines : ℕ) : Type 0 where
+  pub table : Table
+  pub is_table : IsTable table
+  pub text : bytes ≡ table_text table
+  pub only : (other : Table) → IsTable other → bytes ≡ table_text other → other ≡ table
+  pub epochs : length table.epochs ≡ records
+  pub satellites : satellite_lines table.epochs ≡ lines
+
+-- a text, and how many records and satellite lines it has
+pub record Counted : Type 0 where
+  pub text : List ℕ
+  pub epochs : ℕ
+  pub satellites : ℕ
+
+-- it is the text of some well-formed table, with these numbers
+abbrev pub IsTableText : Counted → Type 0
+IsTableText t = ∥ HoldsTable t.text t.epochs t.satellites ∥₁
+
+-- the cause of a fault in the header
+abbrev pub cause_of : HeaderCause → Cause
+cause_of header.HeaderLine = HeaderLine
+cause_of header.Truncated = Truncated
+cause_of header.OutOfMemory = OutOfMemory
+
+-- the fault is in the header
+pub record IsFaultOfHeader (bytes : List ℕ) (fault : CheckFault) : Type 0 where
+  pub found : HeaderFault
+  pub is_fault : IsHeaderFault bytes found
+  pub line : fault.line ≡ found.line
+  pub cause : fault.cause ≡ cause_of found.cause
+
+-- the header is good, and has so many lines; the fault is in the records
+pub record IsFaultBehindHeader (bytes : List ℕ) (fault : CheckFault) : Type 0 where
+  pub head : Heading
+  pub site : Site
+  pub first : ℕ
+  pub rest : List ℕ
+  pub lines : ℕ
+  pub heading : IsHeading head
+  pub good_site : IsSite site
+  pub moment : IsMoment first
+  pub text : bytes ≡ header_text head site first ++ rest
+  pub are_lines : AreLines lines (header_text head site first)
+  pub records : IsFaultOfRecords (length head.listed) first lines rest fault
+
+-- the first fault of a text; of the want of memory it says nothing
+abbrev pub IsFault : List ℕ → CheckFault → Type 0
+IsFault bytes fault = IsFaultOfHeader bytes fault ⊎ IsFaultBehindHeader bytes fault
+
+-- the text is that of no well-formed table; the want of memory says nothing
+abbrev pub IsWithoutTable : List ℕ → Cause → Type 0
+IsWithoutTable bytes OutOfMemory = Unit {0}
+IsWithoutTable bytes cause = (t : Table) → IsTable t → bytes ≢ table_text t
