@@ -16,3 +16,4 @@ pub mod ArrivalLawsLemmas
 pub mod GatheringLemmas
 pub mod ConverterLemmas
 pub mod ClosingLemmas
+pub mod HistoryLemmas

@@ -19,3 +19,4 @@ pub mod ArrivalLaws
 pub mod History
 pub mod Converter
 pub mod Gathering
+pub mod HistoryLaws

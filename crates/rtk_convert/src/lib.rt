@@ -18,7 +18,7 @@ mod setup;
 pub use converter::Converter;
 pub use counts::Counts;
 pub use fault::{ConvertFault, Stream};
-pub use laws::{file_laws, file_only_grows, set_decides_file};
+pub use laws::{file_laws, file_only_grows, one_history_of_calls, set_decides_file};
 pub use setup::{Setup, SetupFault};
 
 #[cfg(test)]
