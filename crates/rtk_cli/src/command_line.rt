@@ -45,7 +45,7 @@ fn program<'a>(alloc: Global) -> Result<Command<'a>, AllocError> {
 
 // The text that clap has for an error. What was asked for, as help, goes to standard output.
 fn refused(alloc: Global, error: &Error) -> WordsFault
-    ensures two { HasStatus result }
+    ensures zero_or_two { HasStatus result }
     ensures status { (text : _) (status : ℕ)
         → result ≡ Clap text status → IsStatusOf (kind_of error.now) status }
 {
