@@ -1,13 +1,14 @@
 -- Where the header that a text shows and the text part, no header begins so, and the text begins with none.
-use Rattle.std.proofs.Common.{◌≡◌, ◌≢◌, ℕ, zero, suc, ◌+◌, ◌-◌, ◌*◌, ◌/◌, ◌<◌, ◌≤◌, List, [], ◌∷◌, ◌++◌, length, take, drop, get_or, decimal, codes, All, arith, refl, sym, ◌∙◌, ap, append_assoc, length-append, inl, inr, min}
+use Rattle.std.proofs.Common.{◌≡◌, ◌≢◌, ℕ, zero, suc, ◌+◌, ◌*◌, ◌<◌, ◌≤◌, List, [], ◌∷◌, ◌++◌, length, take, drop, get_or, codes, All, arith, refl, sym, ◌∙◌, ap, append_assoc, length-append, inl, inr}
+use Rattle.std.specs.List.{flat_map}
 use Rattle.std.proofs.lemmas.Bool.Decides.{leb_tells}
-use Rattle.std.proofs.lemmas.List.{length-take, take-append-le, take_all, take-append-drop, drop-append-le, length-drop, get_or-take}
-use Rattle.std.proofs.lemmas.List.Elements.{All-nil, All-cons, All-head, All-tail}
+use Rattle.std.proofs.lemmas.List.{length-take, take-append-le, take-append-drop, drop-append-le, length-drop, get_or-take}
+use Rattle.std.proofs.lemmas.List.Elements.{All-head, All-tail}
 use Rattle.std.proofs.Math.Seq.{take-append-add}
-use Rattle.rtk_rinex.specs.Columns.{right}
 use Rattle.rtk_rinex.specs.Reading.{IsMoment}
-use Rattle.rtk_rinex.specs.Header.{Heading, Site, IsHeading, IsSite, header_line, types, header_text}
-use Rattle.rtk_rinex.specs.HeaderFault.{IsLine, AreLines, IsHeader, BeginsHeader, HasHeader}
+use Rattle.rtk_rinex.specs.Header.{Heading, Site, IsHeading, IsSite, types, header_text}
+use Rattle.rtk_rinex.specs.Record.{record_text}
+use Rattle.rtk_rinex.specs.HeaderFault.{IsLine, AreLines, IsHeader, BeginsHeader, BeginsTable, HasHeader}
 use Rattle.rtk_rinex.specs.HeaderShown.{line_at, number_at}
 use Rattle.rtk_rinex.proofs.HeaderDigitsLemmas.{take-exact, drop-exact}
 use Rattle.rtk_rinex.proofs.HeaderShownLemmas.{count_is}
@@ -165,36 +166,45 @@ parts_none text c d u k p x =
     let within = not_past text h c s d t u k g p (line 9 (omega arith)) in
     p.unlike (p.back h s t k g.heading g.site g.first (λ j le. line j (omega (arith, le, within))))
 
--- no header begins with the lines before and this one
+-- no table's text begins with the lines before and this one
 pub parts_next : (text line more : List ℕ) (c : Heading) (d : Site) (u k : ℕ) → PartsAt text c d u k → IsLine line
-    → drop (81 * k) text ≡ line ++ 10 ∷ more → ¬ (BeginsHeader (take (81 * k) text ++ line ++ 10 ∷ []))
+    → drop (81 * k) text ≡ line ++ 10 ∷ more → ¬ (BeginsTable (take (81 * k) text ++ line ++ 10 ∷ []))
 parts_next text line more c d u k p l is x =
-    let rest = x.0 in
-    let h = x.1.0 in
-    let s = x.1.1 in
-    let t = x.1.2 in
-    let g : IsGood h s t = record { heading = x.1.3; site = x.1.4; first = x.1.5 } in
+    let h = x.0.head in
+    let s = x.0.site in
+    let t = x.0.first in
+    let rest = x.1 in
+    let g : IsGood h s t = record { heading = x.2.head; site = x.2.site; first = x.2.first } in
+    let records : List ℕ = flat_map record_text x.0.epochs in
+    let file : List ℕ = header_text h s t ++ records in
     let front : List ℕ = take (81 * k) text in
     let f = length-front text c d u k p in
-    let e : header_text h s t ≡ front ++ (line ++ 10 ∷ rest) = sym x.1.6 ∙ simp append_assoc in
+    let e : file ≡ front ++ (line ++ 10 ∷ rest) = x.3 ∙ simp append_assoc in
     let whole = length-header h s t g in
-    let n = ap length e ∙ length-append front (line ++ 10 ∷ rest) ∙ ap (λ (m : ℕ). length front + m) (length-append line (10 ∷ rest)) in
-    let within : k < 13 + lines_of h = omega (arith, n, whole, f.0) in
-    let row_is : line_at k (header_text h s t) ≡ ended (get_or (rows h s t) k []) = line_within h s t k g within in
-    let m = length-rows h s t in
-    let good : IsRow (get_or (rows h s t) k []) = rows_good h s t g.heading g.site g.first k [] (omega (arith, m, within)) in
-    let w : List ℕ = get_or (rows h s t) k [] in
-    let behind : drop (81 * k) (header_text h s t) ≡ line ++ 10 ∷ rest = ap (λ (xs : List ℕ). drop (81 * k) xs) e ∙ drop-exact (81 * k) front (line ++ 10 ∷ rest) f.0 in
-    let split : w ++ 10 ∷ drop 81 (drop (81 * k) (header_text h s t)) ≡ line ++ 10 ∷ rest =
-    sym (append_assoc w (10 ∷ []) (drop 81 (drop (81 * k) (header_text h s t)))) ∙ (rw (← row_is) (take-append-drop 81 (drop (81 * k) (header_text h s t)))) ∙ behind in
-    let same : w ≡ line = one_line w line (drop 81 (drop (81 * k) (header_text h s t))) rest good.plain l split in
-    let long : length (ended line) ≡ 81 = length-append line (10 ∷ []) ∙ (let b = ap length same in omega (arith, b, good.length)) in
-    let here : line_at k text ≡ ended line = ap (λ (xs : List ℕ). take 81 xs) (is ∙ sym (append_assoc line (10 ∷ []) more)) ∙ take-exact 81 (ended line) more long in
-    let last : line_at k (header_text h s t) ≡ line_at k text = row_is ∙ ap (λ (r : List ℕ). ended r) same ∙ sym here in
-    p.unlike (p.back h s t k g.heading g.site g.first (λ j le.
-    elim (leb_tells k j) [
-      | inl at ↦ let place : j ≡ k = omega (arith, le, at.1) in rw place last
-      | inr before ↦
-          ap (line_at j) e ∙ line_front front (line ++ 10 ∷ rest) j (omega (arith, f.0, before.1))
-          ∙ sym (line_front front (drop (81 * k) text) j (omega (arith, f.0, before.1))) ∙ ap (line_at j) (take-append-drop (81 * k) text)
-    ]))
+    let own : (j : ℕ) → j < 13 + lines_of h → line_at j file ≡ line_at j (header_text h s t) = λ j lt.
+    line_front (header_text h s t) records j (omega (arith, lt, whole)) in
+    let before : (j : ℕ) → j < k → line_at j file ≡ line_at j text = λ j lt.
+    ap (line_at j) e ∙ line_front front (line ++ 10 ∷ rest) j (omega (arith, f.0, lt))
+    ∙ sym (line_front front (drop (81 * k) text) j (omega (arith, f.0, lt))) ∙ ap (line_at j) (take-append-drop (81 * k) text) in
+    elim (leb_tells (13 + lines_of h) k) [
+      | inl past ↦
+          let within = not_past text h c s d t u k g p (sym (own 9 (omega arith)) ∙ before 9 (omega (arith, past.1))) in
+          omega (arith, past.1, within)
+      | inr within ↦
+          let w : List ℕ = get_or (rows h s t) k [] in
+          let row_is : line_at k file ≡ ended w = own k within.1 ∙ line_within h s t k g within.1 in
+          let m = length-rows h s t in
+          let good : IsRow w = rows_good h s t g.heading g.site g.first k [] (omega (arith, m, within.1)) in
+          let behind : drop (81 * k) file ≡ line ++ 10 ∷ rest = ap (λ (xs : List ℕ). drop (81 * k) xs) e ∙ drop-exact (81 * k) front (line ++ 10 ∷ rest) f.0 in
+          let split : w ++ 10 ∷ drop 81 (drop (81 * k) file) ≡ line ++ 10 ∷ rest =
+          sym (append_assoc w (10 ∷ []) (drop 81 (drop (81 * k) file))) ∙ (rw (← row_is) (take-append-drop 81 (drop (81 * k) file))) ∙ behind in
+          let same : w ≡ line = one_line w line (drop 81 (drop (81 * k) file)) rest good.plain l split in
+          let long : length (ended line) ≡ 81 = length-append line (10 ∷ []) ∙ (let b = ap length same in omega (arith, b, good.length)) in
+          let here : line_at k text ≡ ended line = ap (λ (xs : List ℕ). take 81 xs) (is ∙ sym (append_assoc line (10 ∷ []) more)) ∙ take-exact 81 (ended line) more long in
+          let last : line_at k file ≡ line_at k text = row_is ∙ ap (λ (r : List ℕ). ended r) same ∙ sym here in
+          p.unlike (p.back h s t k g.heading g.site g.first (λ j le.
+          sym (own j (omega (arith, le, within.1))) ∙ elim (leb_tells k j) [
+            | inl at ↦ let place : j ≡ k = omega (arith, le, at.1) in rw place last
+            | inr low ↦ before j low.1
+          ]))
+    ]
