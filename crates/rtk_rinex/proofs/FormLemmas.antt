@@ -1,6 +1,5 @@
 -- The line of a row has the form of a satellite line; and a line of a well-formed table has no fault.
-use Rattle.std.proofs.Common.{◌≡◌, ◌≢◌, ℕ, zero, suc, ◌+◌, ◌-◌, ◌*◌, ◌<◌, ◌≤◌, ◌==◌, Bool, true, false, if◌then◌else◌, Option, Some, None, List, [], ◌∷◌, ◌++◌, length, take, ◌%◌, replicate, get_or, refl, sym, ◌∙◌, ap, arith, length-append}
-use Rattle.std.specs.Prelude.{slice_get}
+use Rattle.std.proofs.Common.{◌≡◌, ◌≢◌, ℕ, zero, suc, ◌+◌, ◌-◌, ◌<◌, ◌≤◌, ◌==◌, Bool, true, false, if◌then◌else◌, Option, List, [], ◌∷◌, ◌++◌, length, take, ◌%◌, replicate, get_or, refl, sym, ◌∙◌, ap, arith, length-append}
 use Rattle.std.proofs.lemmas.Bool.Decides.{nat_tests}
 use Rattle.std.proofs.lemmas.List.{length-replicate}
 use Rattle.std.proofs.lemmas.Option.{get_or_from_slice_get}
@@ -12,7 +11,7 @@ use Rattle.rtk_rinex.specs.Reading.{reading_of}
 use Rattle.rtk_rinex.specs.Record.{Epoch, before_trimmed, trim_end, epoch_line, satellite_line}
 use Rattle.rtk_rinex.specs.Table.{IsTableRow, IsTableEpoch}
 use Rattle.rtk_rinex.specs.CheckLine.{IsNextTime, IsEpochFault, IsSatelliteForm, IsNextSatellite, IsSatelliteFault}
-use Rattle.rtk_rinex.specs.CheckText.{IsLine, BeginsWithFault}
+use Rattle.rtk_rinex.specs.CheckText.{BeginsWithFault}
 use Rattle.rtk_rinex.proofs.RowLemmas.{IsTrimmed, trimmed, whole, length-whole}
 use Rattle.rtk_rinex.proofs.CheckLemmas.{named-row, one_satellite}
 use Rattle.rtk_rinex.proofs.LineLemmas.{satellite_line-line, no_line, same_line}

@@ -1,14 +1,14 @@
 -- Columns show the numbers that are written in them.
-use Rattle.std.proofs.Common.{◌≡◌, ℕ, zero, suc, ◌+◌, ◌-◌, ◌*◌, ◌/◌, ◌%◌, ◌^◌, ◌<◌, ◌≤◌, [], ◌∷◌, ◌++◌, List, length, replicate, decimal, take, drop, ap, arith, refl, sym, ◌∙◌, true, false, Bool, ◌==◌, ◌&&◌, ◌||◌, length-append, append_assoc, ℤ, pos, negsuc, unsigned_abs}
+use Rattle.std.proofs.Common.{◌≡◌, ℕ, zero, suc, ◌+◌, ◌-◌, ◌*◌, ◌/◌, ◌%◌, ◌^◌, ◌<◌, ◌≤◌, [], ◌∷◌, ◌++◌, List, length, replicate, decimal, take, drop, ap, arith, refl, sym, ◌∙◌, true, false, Bool, ◌==◌, ◌||◌, length-append, ℤ, pos, negsuc, unsigned_abs}
 use Rattle.std.specs.Fmt.{sign_text}
-use Rattle.std.proofs.lemmas.Fmt.{decimal_by_steps, length-decimal-le}
+use Rattle.std.proofs.lemmas.Fmt.{decimal_by_steps}
 use Rattle.std.proofs.lemmas.Nat.{pow-add}
 use Rattle.std.proofs.Math.Nat.{mul-le-mul_left, pow-suc}
 use Rattle.std.proofs.lemmas.Bool.Decides.{nat_tests}
 use Rattle.std.proofs.lemmas.List.{length-replicate}
 use Rattle.std.proofs.Math.Seq.{take-append_seam, drop-append_seam}
 use Rattle.std.proofs.lemmas.List.Folds.{list_any-append}
-use Rattle.rtk_rinex.specs.Columns.{left, right, last_digits, decimals, fixed, is_negative}
+use Rattle.rtk_rinex.specs.Columns.{left, right, last_digits, decimals, fixed}
 use Rattle.rtk_rinex.specs.HeaderDigits.{with_digit, digits_from, has_minus, number_of}
 
 pub digits_from-append : (a : ℕ) (xs ys : List ℕ) → digits_from a (xs ++ ys) ≡ digits_from (digits_from a xs) ys

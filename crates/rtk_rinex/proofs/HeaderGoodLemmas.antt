@@ -1,24 +1,23 @@
 -- The lines of a good header have 80 columns, and no LF among them.
-use Rattle.std.proofs.Common.{◌≡◌, ◌≢◌, ℕ, zero, suc, ◌+◌, ◌-◌, ◌*◌, ◌/◌, ◌%◌, ◌^◌, ◌<◌, ◌≤◌, List, [], ◌∷◌, ◌++◌, length, take, drop, replicate, get_or, decimal, codes, Bool, true, false, ◌==◌, ◌&&◌, not, All, arith, refl, sym, ◌∙◌, ap, append_assoc, length-append, ℤ, pos, negsuc, unsigned_abs}
+use Rattle.std.proofs.Common.{◌≡◌, ◌≢◌, ℕ, zero, suc, ◌+◌, ◌-◌, ◌*◌, ◌/◌, ◌%◌, ◌^◌, ◌<◌, ◌≤◌, List, [], ◌∷◌, ◌++◌, length, take, drop, replicate, get_or, decimal, codes, Bool, true, false, ◌==◌, ◌&&◌, not, All, arith, refl, ◌∙◌, length-append, ℤ, pos, negsuc, unsigned_abs}
 use Rattle.std.specs.Int.{IsInRange}
 use Rattle.std.specs.Fmt.{sign_text}
-use Rattle.std.specs.List.{flat_map, list_all}
+use Rattle.std.specs.List.{list_all}
 use Rattle.std.proofs.Math.Seq.{drop-append-add}
 use Rattle.std.proofs.Math.ListN.{drop_of_length-le}
 use Rattle.std.proofs.lemmas.Bool.Decides.{nat_tests}
 use Rattle.std.proofs.lemmas.Fmt.{decimal_by_steps, length-decimal-le}
 use Rattle.std.proofs.lemmas.Int.{ints}
-use Rattle.std.proofs.lemmas.List.{length-replicate, length-take}
+use Rattle.std.proofs.lemmas.List.{length-take}
 use Rattle.std.proofs.lemmas.List.Folds.{list_all-append}
 use Rattle.std.proofs.lemmas.List.Elements.{All-nil, All-cons, All-head, All-tail, All-append}
 use Rattle.rtk_obs.specs.declared.code.Code.{Code}
 use Rattle.rtk_obs.specs.declared.code.Code.TheVariants.{C1C, C1P, C1W, C1S, C1L, C1X, C2C, C2D, C2P, C2W, C2S, C2L, C2X, C5I, C5Q, C5X}
 use Rattle.rtk_obs.specs.declared.time.Civil.{Civil}
-use Rattle.rtk_obs.specs.Code.{name_of}
 use Rattle.rtk_obs.specs.Position.{IsCoordinate}
 use Rattle.rtk_rinex.specs.Columns.{left, right, decimals, fixed, last_digits, is_negative}
 use Rattle.rtk_rinex.specs.Reading.{IsMoment, reading_of, seconds_of}
-use Rattle.rtk_rinex.specs.Header.{Heading, Site, IsHeading, IsSite, IsMarker, header_line, made_text, types_of, types, first_text}
+use Rattle.rtk_rinex.specs.Header.{Heading, Site, IsHeading, IsSite, made_text, types_of, types, first_text}
 use Rattle.rtk_rinex.specs.HeaderFault.{IsLine}
 use Rattle.rtk_rinex.specs.HeaderShown.{line_at}
 use Rattle.rtk_rinex.proofs.HeaderDigitsLemmas.{take-exact, length-left, length-right}

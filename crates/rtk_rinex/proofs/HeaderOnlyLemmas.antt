@@ -1,12 +1,12 @@
 -- A text that begins with a header shows this header.
-use Rattle.std.proofs.Common.{◌≡◌, ℕ, suc, ◌+◌, ◌*◌, ◌/◌, ◌<◌, ◌≤◌, ◌-◌, ℤ, List, [], ◌++◌, length, take, drop, get_or, decimal, codes, refl, sym, ◌∙◌, ap, arith, pos}
+use Rattle.std.proofs.Common.{◌≡◌, ℕ, ◌+◌, ◌*◌, ◌/◌, ◌<◌, ◌-◌, ℤ, List, [], ◌++◌, length, take, drop, get_or, codes, sym, ◌∙◌, ap, arith, pos}
 use Rattle.std.proofs.lemmas.List.{same_lists, take-append-le, drop-append-le, length-drop}
 use Rattle.rtk_obs.specs.declared.code.Code.{Code}
-use Rattle.rtk_rinex.specs.Columns.{right, fixed}
-use Rattle.rtk_rinex.specs.Reading.{IsMoment, reading_of}
-use Rattle.rtk_rinex.specs.Header.{Heading, Site, made_text, types, first_text, header_text}
+use Rattle.rtk_rinex.specs.Columns.{fixed}
+use Rattle.rtk_rinex.specs.Reading.{reading_of}
+use Rattle.rtk_rinex.specs.Header.{Heading, Site, made_text, first_text, header_text}
 use Rattle.rtk_rinex.specs.HeaderShown.{line_at}
-use Rattle.rtk_rinex.proofs.HeaderRowsLemmas.{row, row_ended, ended, types_head, type_row, last_rows, rows}
+use Rattle.rtk_rinex.proofs.HeaderRowsLemmas.{row, row_ended, ended, type_row, rows}
 use Rattle.rtk_rinex.proofs.HeaderSameLemmas.{Shows, IsGood, Agrees, lines_of, length-header, in_first, in_types, in_last, agreed, same_count, name_is}
 
 -- the lines of a header are those of a text that begins with it

@@ -1,28 +1,15 @@
 -- A header is lines of 80 columns, none with an LF inside, each ended by LF.
-use Rattle.std.proofs.Common.{◌≡◌, ◌≢◌, ℕ, zero, suc, ◌+◌, ◌-◌, ◌*◌, ◌/◌, ◌%◌, ◌^◌, ◌<◌, ◌≤◌, List, [], ◌∷◌, ◌++◌, length, take, drop, replicate, get_or, decimal, codes, Bool, true, false, ◌==◌, ◌&&◌, not, if◌then◌else◌, All, arith, refl, sym, ◌∙◌, ap, append_assoc, length-append, ℤ, pos, negsuc, unsigned_abs, inl, inr}
+use Rattle.std.proofs.Common.{◌≡◌, ◌≢◌, ℕ, zero, suc, ◌+◌, ◌*◌, ◌/◌, ◌<◌, ◌≤◌, List, [], ◌∷◌, ◌++◌, length, take, drop, decimal, codes, Bool, true, false, ◌==◌, if◌then◌else◌, arith, refl, sym, ◌∙◌, append_assoc, length-append, pos, inl, inr}
 use Rattle.std.specs.Int.{IsInRange}
-use Rattle.std.specs.Fmt.{sign_text}
-use Rattle.std.specs.List.{flat_map, list_all}
-use Rattle.std.proofs.Math.Seq.{drop-append-add}
-use Rattle.std.proofs.lemmas.Bool.{cases_order}
+use Rattle.std.specs.List.{flat_map}
 use Rattle.std.proofs.lemmas.Bool.Decides.{nat_tests, leb_tells}
-use Rattle.std.proofs.lemmas.Fmt.{decimal_by_steps, length-decimal-le}
 use Rattle.std.proofs.lemmas.Grind.{flat_map-append}
-use Rattle.std.proofs.lemmas.List.{length-drop, length-replicate}
-use Rattle.std.proofs.lemmas.List.Folds.{list_all-append}
-use Rattle.std.proofs.lemmas.List.Elements.{All-nil, All-cons, All-head, All-tail, All-append}
+use Rattle.std.proofs.lemmas.List.{length-drop}
 use Rattle.rtk_obs.specs.declared.code.Code.{Code}
 use Rattle.rtk_obs.specs.declared.code.Code.TheVariants.{C1C, C1P, C1W, C1S, C1L, C1X, C2C, C2D, C2P, C2W, C2S, C2L, C2X, C5I, C5Q, C5X}
-use Rattle.rtk_obs.specs.declared.time.Civil.{Civil}
-use Rattle.rtk_obs.specs.Code.{name_of}
-use Rattle.rtk_obs.specs.Position.{IsCoordinate}
-use Rattle.rtk_rinex.specs.Columns.{left, right, decimals, fixed, last_digits, is_negative}
-use Rattle.rtk_rinex.specs.Reading.{IsMoment, reading_of, seconds_of}
-use Rattle.rtk_rinex.specs.Header.{Heading, Site, IsHeading, IsSite, IsMarker, header_line, made_text, first_lines, position_lines, types_of, types, continuation_line, types_lines, first_text, last_lines, header_text}
-use Rattle.rtk_rinex.specs.HeaderFault.{IsLine}
-use Rattle.rtk_rinex.specs.HeaderShown.{line_at}
-use Rattle.rtk_rinex.proofs.HeaderDigitsLemmas.{take-exact, length-left, length-right}
-use Rattle.rtk_rinex.proofs.HeaderShownLemmas.{Fits, Fits-reading_of, length-fixed, IsCoordinate-height}
+use Rattle.rtk_rinex.specs.Columns.{left, right, fixed}
+use Rattle.rtk_rinex.specs.Reading.{reading_of}
+use Rattle.rtk_rinex.specs.Header.{Heading, Site, header_line, made_text, first_lines, position_lines, types_of, types, continuation_line, types_lines, first_text, last_lines, header_text}
 
 -- ---- lines as lists of columns
 

@@ -1,7 +1,6 @@
 -- Where a header and a text have the same lines as far as some line, what the text shows makes the same line again.
-use Rattle.std.proofs.Common.{◌≡◌, ◌≢◌, ℕ, zero, suc, ◌+◌, ◌-◌, ◌*◌, ◌/◌, ◌%◌, ◌<◌, ◌≤◌, List, [], ◌∷◌, ◌++◌, length, take, drop, get_or, decimal, codes, All, arith, refl, sym, ◌∙◌, ap, append_assoc, length-append, pos, inl, inr, min}
+use Rattle.std.proofs.Common.{◌≡◌, ℕ, zero, suc, ◌+◌, ◌-◌, ◌*◌, ◌/◌, ◌%◌, ◌<◌, ◌≤◌, List, [], ◌∷◌, ◌++◌, length, take, drop, get_or, decimal, codes, arith, refl, sym, ◌∙◌, ap, append_assoc, length-append, pos, inl, inr, min}
 use Rattle.std.specs.Int.{IsInRange}
-use Rattle.std.specs.List.{flat_map}
 use Rattle.std.proofs.Math.Seq.{take-append-add}
 use Rattle.std.proofs.Math.ListN.{get_or-append}
 use Rattle.std.proofs.lemmas.Bool.Decides.{leb_tells}
@@ -15,9 +14,9 @@ use Rattle.rtk_rinex.specs.Columns.{right, fixed}
 use Rattle.rtk_rinex.specs.Reading.{IsMoment, reading_of}
 use Rattle.rtk_rinex.specs.Header.{Heading, Site, IsHeading, IsSite, header_line, made_text, types_of, types, first_text, header_text}
 use Rattle.rtk_rinex.specs.HeaderShown.{line_at, name_at}
-use Rattle.rtk_rinex.proofs.HeaderDigitsLemmas.{piece, take-exact, length-right}
+use Rattle.rtk_rinex.proofs.HeaderDigitsLemmas.{piece}
 use Rattle.rtk_rinex.proofs.HeaderShownLemmas.{line_rest, line_is}
-use Rattle.rtk_rinex.proofs.HeaderRowsLemmas.{row, row_ended, ended, text_of, types_head, type_row, type_rows, row_count, first_rows, last_rows, rows, rows_text, length-types}
+use Rattle.rtk_rinex.proofs.HeaderRowsLemmas.{row, row_ended, ended, types_head, type_row, type_rows, row_count, first_rows, last_rows, rows, rows_text, length-types}
 use Rattle.rtk_rinex.proofs.HeaderGoodLemmas.{rows_good, length-text, line_in, line_past, head_fits}
 
 -- what the lines of a text show of a header: if it has a line, the part that was read from this line is the header's

@@ -1,16 +1,16 @@
 -- The lines of a header show its values.
-use Rattle.std.proofs.Common.{◌≡◌, ◌≢◌, ℕ, zero, suc, ◌+◌, ◌-◌, ◌*◌, ◌/◌, ◌%◌, ◌^◌, ◌<◌, ◌≤◌, List, [], ◌∷◌, ◌++◌, length, take, drop, replicate, get_or, slice_get, Some, decimal, codes, Bool, true, false, arith, refl, sym, ◌∙◌, ap, append_assoc, length-append, ℤ, pos, negsuc, unsigned_abs, ◌≤ℤ◌}
+use Rattle.std.proofs.Common.{◌≡◌, ◌≢◌, ℕ, zero, suc, ◌+◌, ◌-◌, ◌*◌, ◌/◌, ◌%◌, ◌^◌, ◌<◌, ◌≤◌, List, [], ◌∷◌, ◌++◌, length, take, drop, replicate, get_or, slice_get, Some, decimal, codes, Bool, true, false, arith, refl, sym, ◌∙◌, ap, append_assoc, length-append, ℤ, pos, negsuc, unsigned_abs}
 use Rattle.std.specs.Int.{IsInRange}
 use Rattle.std.proofs.lemmas.Fmt.{length-decimal-le}
 use Rattle.std.proofs.lemmas.Int.{ints}
 use Rattle.std.proofs.lemmas.Option.{slice_get-get_or}
-use Rattle.std.proofs.lemmas.List.{length-replicate, replicate-append-replicate, take_all, append-nil}
+use Rattle.std.proofs.lemmas.List.{replicate-append-replicate, take_all, append-nil}
 use Rattle.jiff_core.proofs.SignedLemmas.{signed_arith}
 use Rattle.jiff_core.proofs.CalendarLemmas.{days_in_month_bounds}
 use Rattle.rtk_obs.specs.declared.time.Civil.{Civil}
 use Rattle.rtk_obs.specs.Calendar.{Reads}
 use Rattle.rtk_obs.specs.Position.{IsCoordinate}
-use Rattle.rtk_rinex.specs.Columns.{left, right, decimals, fixed, last_digits}
+use Rattle.rtk_rinex.specs.Columns.{left, right, decimals, fixed}
 use Rattle.rtk_rinex.specs.Reading.{IsMoment, reading_of, seconds_of}
 use Rattle.rtk_rinex.specs.Record.{trim_end}
 use Rattle.rtk_rinex.specs.Header.{header_line, made_text, first_text, IsMarker}
@@ -18,7 +18,7 @@ use Rattle.rtk_rinex.specs.HeaderDigits.{digits_from, number_of}
 use Rattle.rtk_rinex.specs.HeaderShown.{number_at, made_civil, first_civil}
 use Rattle.rtk_rinex.proofs.ReadingLemmas.{same_civil, reading-reads, year-bound}
 use Rattle.rtk_rinex.proofs.RecordLemmas.{trim_end-blank, trim_end-done}
-use Rattle.rtk_rinex.proofs.HeaderDigitsLemmas.{digits_from-last_2, digits_from-last_4, digits_from-seconds, digits_from-right, digits_from-tenthousandths, number_of-fixed, length-left, take-exact, drop-exact, piece, length-right}
+use Rattle.rtk_rinex.proofs.HeaderDigitsLemmas.{digits_from-last_2, digits_from-last_4, digits_from-seconds, digits_from-right, digits_from-tenthousandths, number_of-fixed, length-left, take-exact, piece, length-right}
 
 -- a reading whose fields fit their columns
 pub record Fits (c : Civil) : Type 0 where

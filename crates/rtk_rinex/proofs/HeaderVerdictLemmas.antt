@@ -1,15 +1,13 @@
 -- Where the header that a text shows and the text part, no header begins so, and the text begins with none.
-use Rattle.std.proofs.Common.{◌≡◌, ◌≢◌, ℕ, zero, suc, ◌+◌, ◌-◌, ◌*◌, ◌/◌, ◌<◌, ◌≤◌, List, [], ◌∷◌, ◌++◌, length, take, drop, get_or, decimal, codes, All, arith, refl, sym, ◌∙◌, ap, append_assoc, length-append, inl, inr, min}
+use Rattle.std.proofs.Common.{◌≡◌, ◌≢◌, ℕ, zero, suc, ◌+◌, ◌*◌, ◌<◌, ◌≤◌, List, [], ◌∷◌, ◌++◌, length, take, drop, get_or, codes, All, arith, refl, sym, ◌∙◌, ap, append_assoc, length-append, inl, inr}
 use Rattle.std.specs.List.{flat_map}
 use Rattle.std.proofs.lemmas.Bool.Decides.{leb_tells}
-use Rattle.std.proofs.lemmas.List.{length-take, take-append-le, take_all, take-append-drop, drop-append-le, length-drop, get_or-take}
-use Rattle.std.proofs.lemmas.List.Elements.{All-nil, All-cons, All-head, All-tail}
+use Rattle.std.proofs.lemmas.List.{length-take, take-append-le, take-append-drop, drop-append-le, length-drop, get_or-take}
+use Rattle.std.proofs.lemmas.List.Elements.{All-head, All-tail}
 use Rattle.std.proofs.Math.Seq.{take-append-add}
-use Rattle.rtk_rinex.specs.Columns.{right}
 use Rattle.rtk_rinex.specs.Reading.{IsMoment}
-use Rattle.rtk_rinex.specs.Header.{Heading, Site, IsHeading, IsSite, header_line, types, header_text}
+use Rattle.rtk_rinex.specs.Header.{Heading, Site, IsHeading, IsSite, types, header_text}
 use Rattle.rtk_rinex.specs.Record.{record_text}
-use Rattle.rtk_rinex.specs.Table.{Table, IsTable, table_text}
 use Rattle.rtk_rinex.specs.HeaderFault.{IsLine, AreLines, IsHeader, BeginsHeader, BeginsTable, HasHeader}
 use Rattle.rtk_rinex.specs.HeaderShown.{line_at, number_at}
 use Rattle.rtk_rinex.proofs.HeaderDigitsLemmas.{take-exact, drop-exact}

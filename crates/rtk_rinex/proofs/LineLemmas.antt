@@ -1,6 +1,5 @@
 -- Each line of a record ends in its only LF.
-use Rattle.std.proofs.Common.{◌≡◌, ◌≢◌, ℕ, zero, suc, ◌+◌, ◌-◌, ◌/◌, ◌%◌, ◌^◌, ◌<◌, ◌≤◌, Bool, true, false, ◌==◌, if◌then◌else◌, Option, Some, None, ℤ, unsigned_abs, List, [], ◌∷◌, ◌++◌, length, drop, get_or, replicate, decimal, codes, refl, sym, ◌∙◌, ap, arith, append_assoc, flat_map}
-use Rattle.std.specs.Prelude.{All, min, max}
+use Rattle.std.proofs.Common.{◌≡◌, ◌≢◌, ℕ, zero, suc, ◌+◌, ◌-◌, ◌/◌, ◌%◌, ◌^◌, ◌<◌, Bool, true, false, ◌==◌, if◌then◌else◌, Option, Some, None, ℤ, unsigned_abs, List, [], ◌∷◌, ◌++◌, length, drop, get_or, replicate, decimal, codes, refl, sym, ◌∙◌, ap, arith, append_assoc, flat_map}
 use Rattle.std.specs.Fmt.{sign_text}
 use Rattle.std.proofs.lemmas.Fmt.{decimal_by_steps}
 use Rattle.std.proofs.lemmas.List.Elements.{All-nil, All-cons, All-head, All-tail, All-append, All-replicate}
@@ -10,10 +9,9 @@ use Rattle.rtk_rinex.specs.declared.epoch_table.SatelliteRow.{SatelliteRow}
 use Rattle.rtk_rinex.specs.Columns.{right, last_digits, decimals, fixed, is_negative}
 use Rattle.rtk_rinex.specs.Reading.{IsMoment, reading_of, seconds_of}
 use Rattle.rtk_rinex.specs.Record.{is_written, observation, observations, lli_digit, strength_digit, strength_value, before_trimmed, trim_end, satellite_line, epoch_date_text, epoch_columns, epoch_line}
-use Rattle.rtk_rinex.specs.Table.{IsTableRow, IsObserved, IsValue}
 use Rattle.rtk_rinex.specs.CheckText.{HasNoEnd, IsLine}
-use Rattle.rtk_rinex.proofs.ValuesLemmas.{written-magnitude, IsValue-strength}
-use Rattle.rtk_rinex.proofs.EpochLemmas.{Fits, Fits-reading_of}
+use Rattle.rtk_rinex.proofs.ValuesLemmas.{written-magnitude}
+use Rattle.rtk_rinex.proofs.EpochLemmas.{Fits-reading_of}
 
 abbrev IsNoEnd : ℕ → Type 0
 IsNoEnd x = x ≢ 10

@@ -1,6 +1,6 @@
 -- A text is that of one list of epochs at most, and a text with a fault is that of none.
-use Rattle.std.proofs.Common.{◌≡◌, ◌≢◌, ℕ, zero, suc, ◌+◌, ◌-◌, ◌*◌, ◌<◌, ◌≤◌, Option, Some, None, List, [], ◌∷◌, ◌++◌, length, take, drop, get_or, refl, sym, ◌∙◌, ap, arith, subst, append_assoc, length-append, flat_map, inl, inr, ◌⊎◌, ⊎_elim}
-use Rattle.std.specs.Prelude.{All, AllPairs, slice_get}
+use Rattle.std.proofs.Common.{◌≡◌, ◌≢◌, ℕ, suc, ◌+◌, ◌<◌, ◌≤◌, Option, Some, None, List, [], ◌∷◌, ◌++◌, length, take, refl, sym, ◌∙◌, ap, arith, subst, append_assoc, length-append, flat_map, inl, inr, ◌⊎◌, ⊎_elim}
+use Rattle.std.specs.Prelude.{All, AllPairs}
 use Rattle.std.specs.Int.{IsInRange}
 use Rattle.std.proofs.lemmas.List.Elements.{All-nil, All-cons, All-head, All-tail}
 use Rattle.std.proofs.lemmas.List.Kept.{AllPairs-cons}
@@ -9,10 +9,10 @@ use Rattle.rtk_rinex.specs.declared.epoch_table.SatelliteRow.{SatelliteRow}
 use Rattle.rtk_obs.specs.declared.time.Civil.{Civil}
 use Rattle.rtk_obs.specs.Calendar.{Reads}
 use Rattle.rtk_rinex.specs.Reading.{IsMoment, reading_of}
-use Rattle.rtk_rinex.specs.Record.{Epoch, epoch_columns, epoch_line, satellite_line, record_text}
+use Rattle.rtk_rinex.specs.Record.{Epoch, epoch_line, satellite_line, record_text}
 use Rattle.rtk_rinex.specs.Table.{IsTableRow, IsTableEpoch, StartsAt}
 use Rattle.rtk_rinex.specs.CheckLine.{IsNextTime, IsNextSatellite}
-use Rattle.rtk_rinex.specs.CheckText.{IsLine, HasNoEnd, AreRows, AreEpochs, last_satellite, last_time}
+use Rattle.rtk_rinex.specs.CheckText.{IsLine, AreEpochs, last_satellite, last_time}
 use Rattle.rtk_rinex.proofs.ReadingLemmas.{reading-reads}
 use Rattle.rtk_rinex.proofs.EpochLemmas.{epoch-shows, line-columns, length-line, one_moment}
 use Rattle.rtk_rinex.proofs.RowLemmas.{row-shows}

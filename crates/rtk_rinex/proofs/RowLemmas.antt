@@ -1,6 +1,5 @@
 -- What a satellite line shows is its row.
-use Rattle.std.proofs.Common.{◌≡◌, ◌≢◌, ℕ, zero, suc, ◌+◌, ◌-◌, ◌*◌, ◌/◌, ◌%◌, ◌<◌, ◌≤◌, Bool, true, false, ◌==◌, if◌then◌else◌, Option, Some, None, List, [], ◌∷◌, ◌++◌, length, take, drop, replicate, get_or, All, refl, sym, ◌∙◌, ap, arith, length-append, append_assoc}
-use Rattle.std.specs.Prelude.{IsTrue}
+use Rattle.std.proofs.Common.{◌≡◌, ℕ, zero, suc, ◌+◌, ◌-◌, ◌*◌, ◌/◌, ◌%◌, ◌<◌, ◌≤◌, Bool, true, false, ◌==◌, if◌then◌else◌, None, List, [], ◌∷◌, ◌++◌, length, take, drop, replicate, get_or, All, refl, sym, ◌∙◌, ap, arith, length-append, append_assoc}
 use Rattle.std.specs.Int.{IsInRange}
 use Rattle.std.specs.List.{flat_map}
 use Rattle.std.proofs.Math.Seq.{drop-append-add}
@@ -14,7 +13,7 @@ use Rattle.rtk_rinex.specs.Columns.{left, last_digits}
 use Rattle.rtk_rinex.specs.Record.{observation, observations, lli_digit, strength_digit, strength_value, trim_end, before_trimmed, satellite_line}
 use Rattle.rtk_rinex.specs.Table.{IsObserved, IsTableRow}
 use Rattle.rtk_rinex.specs.CheckValues.{observed_of, observations_in, row_in, digits_from}
-use Rattle.rtk_rinex.proofs.ValuesLemmas.{length-observation, observed_of-observations, IsValue-strength, take-exact, drop-exact, digits_from-last_2}
+use Rattle.rtk_rinex.proofs.ValuesLemmas.{length-observation, observed_of-observations, IsValue-strength, take-exact, digits_from-last_2}
 
 -- ---- blanks at the end
 

@@ -1,7 +1,6 @@
 -- The answers of the check of a whole text.
-use Rattle.std.proofs.Common.{◌≡◌, ◌≢◌, ℕ, suc, ◌+◌, ◌*◌, ◌<◌, ◌≤◌, Option, None, List, [], ◌∷◌, ◌++◌, length, get_or, refl, sym, ◌∙◌, ap, arith, append_assoc, length-append, flat_map, inl, inr, ◌⊎◌, ⊎_elim, codes}
+use Rattle.std.proofs.Common.{◌≡◌, ◌≢◌, ℕ, ◌<◌, ◌≤◌, Option, None, List, [], ◌∷◌, ◌++◌, length, get_or, refl, sym, ◌∙◌, ap, arith, append_assoc, length-append, flat_map, inl, ⊎_elim}
 use Rattle.std.specs.Prelude.{All, AllPairs}
-use Rattle.std.specs.Int.{IsInRange}
 use Rattle.std.proofs.lemmas.List.{append-nil, append_cancel_left}
 use Rattle.std.proofs.lemmas.List.Elements.{All-head, All-tail}
 use Rattle.rtk_rinex.specs.declared.check_fault.Cause.{Cause}
@@ -16,7 +15,7 @@ use Rattle.rtk_rinex.specs.Header.{Heading, Site, IsHeading, IsSite, header_line
 use Rattle.rtk_rinex.specs.Record.{Epoch, epoch_line, satellite_line, record_text}
 use Rattle.rtk_rinex.specs.Table.{Table, IsTable, IsTableEpoch, IsTableRow, StartsAt, table_text}
 use Rattle.rtk_rinex.specs.HeaderFault.{AreLines, IsWithoutHeader, IsOnlyHeader}
-use Rattle.rtk_rinex.specs.CheckText.{BeginsWithFault, last_satellite, AreEpochs, last_time, satellite_lines, IsFaultOfRows, IsFaultOfEpochLine, IsFaultBehindEpochLine, IsFaultOfRecord, IsFaultOfRecords, ReadsRecords}
+use Rattle.rtk_rinex.specs.CheckText.{BeginsWithFault, last_satellite, last_time, IsFaultBehindEpochLine, IsFaultOfRecord, IsFaultOfRecords, ReadsRecords}
 use Rattle.rtk_rinex.specs.CheckTable.{HoldsTable, cause_of, IsFault, IsWithoutTable}
 use Rattle.rtk_rinex.specs.CheckLine.{IsNextTime, IsSatelliteFault}
 use Rattle.rtk_rinex.proofs.EpochLemmas.{length-line}

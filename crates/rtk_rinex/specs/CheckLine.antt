@@ -7,7 +7,7 @@ use Rattle.rtk_rinex.specs.Record.{epoch_line, satellite_line}
 use Rattle.rtk_rinex.specs.Table.{IsTableRow}
 use Rattle.rtk_rinex.specs.declared.epoch_table.SatelliteRow.{SatelliteRow}
 use Rattle.rtk_rinex.specs.declared.check_fault.Cause.{Cause}
-use Rattle.rtk_rinex.specs.declared.check_fault.Cause.TheVariants.{HeaderLine, Columns, Value, Order, Truncated, OutOfMemory}
+use Rattle.rtk_rinex.specs.declared.check_fault.Cause.TheVariants.{Columns, Value, Order, OutOfMemory}
 
 -- it is the epoch line of a moment and a count
 abbrev pub IsEpochLine : List ℕ → ℕ → ℕ → Type 0

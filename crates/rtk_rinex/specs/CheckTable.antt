@@ -9,7 +9,7 @@ use Rattle.rtk_rinex.specs.declared.header_fault.HeaderFault.{HeaderFault}
 use Rattle.rtk_rinex.specs.declared.header_fault.HeaderCause.{HeaderCause}
 use Rattle.rtk_rinex.specs.declared.header_fault.HeaderCause.TheVariants as header
 use Rattle.rtk_rinex.specs.declared.check_fault.Cause.{Cause}
-use Rattle.rtk_rinex.specs.declared.check_fault.Cause.TheVariants.{HeaderLine, Columns, Value, Order, Truncated, OutOfMemory}
+use Rattle.rtk_rinex.specs.declared.check_fault.Cause.TheVariants.{HeaderLine, Truncated, OutOfMemory}
 use Rattle.rtk_rinex.specs.declared.check_fault.CheckFault.{CheckFault}
 
 -- a text is that of one well-formed table, with so many records and satellite lines

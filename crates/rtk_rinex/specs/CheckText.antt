@@ -2,13 +2,12 @@
 use Rattle.std.specs.Prelude.{◌≡◌, ◌≢◌, ◌<◌, ℕ, ◌+◌, List, [], ◌∷◌, ◌++◌, length, flat_map, All, sum_by, Option, Some, None, ◌⊎◌}
 use Rattle.std.specs.Int.{IsInRange}
 use Rattle.rtk_rinex.specs.Reading.{IsMoment, reading_of}
-use Rattle.rtk_rinex.specs.Header.{Heading, Site, IsHeading, IsSite, header_text}
 use Rattle.rtk_rinex.specs.Record.{Epoch, epoch_line, satellite_line, record_text}
-use Rattle.rtk_rinex.specs.Table.{Table, IsTable, IsTableRow, IsTableEpoch, table_text}
+use Rattle.rtk_rinex.specs.Table.{IsTableRow, IsTableEpoch}
 use Rattle.rtk_rinex.specs.CheckLine.{IsNextTime, IsEpochFault, IsNextSatellite, IsSatelliteFault}
 use Rattle.rtk_rinex.specs.declared.epoch_table.SatelliteRow.{SatelliteRow}
 use Rattle.rtk_rinex.specs.declared.check_fault.Cause.{Cause}
-use Rattle.rtk_rinex.specs.declared.check_fault.Cause.TheVariants.{HeaderLine, Columns, Value, Order, Truncated, OutOfMemory}
+use Rattle.rtk_rinex.specs.declared.check_fault.Cause.TheVariants.{Truncated}
 use Rattle.rtk_rinex.specs.declared.check_fault.CheckFault.{CheckFault}
 
 -- no line ends in this text

@@ -1,4 +1,4 @@
-use Rattle.std.proofs.Common.{◌≡◌, ◌∙◌, arith, sym, ap, drop, length}
+use Rattle.std.proofs.Common.{◌≡◌, ◌∙◌, sym, ap, drop, length}
 use Rattle.rtk_rinex.specs.Record.{epoch_line}
 use Rattle.rtk_rinex.proofs.ValuesLemmas.{clash}
 use Rattle.rtk_rinex.proofs.EpochLemmas.{length-line, line-columns, appended}

@@ -1,4 +1,3 @@
-use Rattle.std.proofs.Common.{◌≡◌}
 use Rattle.rtk_rinex.proofs.ValuesLemmas.{clash}
 use Rattle.rtk_rinex.proofs.check_record_line.check_epoch_line.Goals as goal
 

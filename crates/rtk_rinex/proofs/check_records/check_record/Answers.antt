@@ -1,6 +1,5 @@
-use Rattle.std.proofs.Common.{◌≡◌, ◌≢◌, ◌∙◌, ◌++◌, [], List, ℕ, length, None, arith, ap, sym, append_assoc, flat_map}
+use Rattle.std.proofs.Common.{◌≢◌, length, None, arith, ap}
 use Rattle.rtk_rinex.specs.Reading.{reading_of}
-use Rattle.rtk_rinex.specs.Record.{epoch_line, satellite_line, record_text}
 use Rattle.rtk_rinex.proofs.CheckLemmas.{rows-all, rows-rise, record-lines, record-is, record-out}
 use Rattle.rtk_rinex.proofs.check_records.check_record.Goals as goal
 

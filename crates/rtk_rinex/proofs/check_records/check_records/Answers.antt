@@ -1,6 +1,5 @@
-use Rattle.std.proofs.Common.{◌≡◌, ◌∙◌, ◌++◌, [], ◌∷◌, length, None, arith, refl, sym, ap, length-append}
+use Rattle.std.proofs.Common.{◌++◌, [], ◌∷◌, None, arith, refl, sym, length-append}
 use Rattle.rtk_rinex.specs.Record.{Epoch, record_text}
-use Rattle.rtk_rinex.specs.CheckText.{record_lines, satellite_lines}
 use Rattle.rtk_rinex.proofs.CheckLemmas.{last_time-more, epochs-more, text-more, out-more, nothing-more, record_lines-more, satellite_lines-more}
 use Rattle.rtk_rinex.proofs.check_records.check_records.Goals as goal
 

@@ -1,6 +1,5 @@
-use Rattle.std.proofs.Common.{◌≡◌, ◌+◌, ◌≤◌, ◌++◌, length, flat_map, None}
-use Rattle.rtk_rinex.specs.Record.{record_text}
-use Rattle.rtk_rinex.specs.CheckText.{AreEpochs, last_time, record_lines, satellite_lines}
+use Rattle.std.proofs.Common.{◌≡◌, ◌+◌, ◌≤◌, length, None}
+use Rattle.rtk_rinex.specs.CheckText.{last_time, record_lines, satellite_lines}
 use Rattle.rtk_rinex.proofs.CheckLemmas.{ReadsFront}
 use Rattle.rtk_rinex.proofs.check_records.check_records.Given as goal
 

@@ -1,4 +1,4 @@
-use Rattle.std.proofs.Common.{◌≡◌, ◌-◌, ◌++◌, ℕ, length, arith, take, replicate, refl}
+use Rattle.std.proofs.Common.{◌≡◌, ◌-◌, ℕ, length, arith, take, replicate, refl}
 use Rattle.std.proofs.lemmas.List.{take-replicate}
 use Rattle.rtk_rinex.specs.Columns.{left}
 use Rattle.rtk_rinex.proofs.check_satellite_line.padded.Goals as goal

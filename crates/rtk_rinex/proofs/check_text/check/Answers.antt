@@ -1,4 +1,4 @@
-use Rattle.std.proofs.Common.{◌≡◌, ◌∙◌, ◌++◌, List, ℕ, arith, ap, sym, length, drop}
+use Rattle.std.proofs.Common.{◌≡◌, ◌∙◌, ◌++◌, List, ℕ, arith, ap, sym}
 use Rattle.rtk_rinex.specs.Header.{header_text, site_of}
 use Rattle.rtk_rinex.specs.CheckTable.{Counted}
 use Rattle.rtk_rinex.proofs.TextLemmas.{room-fault, header-none, few_lines, holds, copy, records-none}

@@ -1,4 +1,4 @@
-use Rattle.std.proofs.Common.{◌≡◌, ◌+◌, ◌*◌, ◌∙◌, ◌++◌, take, drop, arith, ap, sym, ℕ, refl}
+use Rattle.std.proofs.Common.{◌≡◌, ◌+◌, ◌*◌, arith, refl}
 use Rattle.std.proofs.Math.Seq.{take-add}
 use Rattle.rtk_rinex.proofs.header_check.unlike_line.Goals as goal
 

@@ -1,4 +1,4 @@
-use Rattle.std.proofs.Common.{◌≡◌, ◌≢◌, ◌<◌, slice_index_or, arith, ◌∙◌, ap, inl, inr, ℕ}
+use Rattle.std.proofs.Common.{slice_index_or, arith, ◌∙◌, ap, inl, inr, ℕ}
 use Rattle.std.proofs.lemmas.Bool.{cases_order}
 use Rattle.std.proofs.lemmas.List.{get_or_default}
 use Rattle.rtk_rinex.proofs.HeaderCodesLemmas.{swapped_all}

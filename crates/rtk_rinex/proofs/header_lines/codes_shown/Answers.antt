@@ -1,7 +1,6 @@
-use Rattle.std.proofs.Common.{◌≡◌, ◌≢◌, ◌+◌, ◌<◌, ◌∙◌, sym, arith, slice_index_or, inl, inr, ℕ, ap, refl}
+use Rattle.std.proofs.Common.{◌∙◌, sym, arith, slice_index_or, inl, inr}
 use Rattle.std.proofs.lemmas.Bool.{cases_order}
 use Rattle.std.proofs.lemmas.List.{get_or_default}
-use Rattle.rtk_obs.specs.Code.{name_of}
 use Rattle.rtk_rinex.proofs.HeaderCodesLemmas.{all_in_order}
 use Rattle.rtk_rinex.proofs.header_lines.codes_shown.Goals as goal
 

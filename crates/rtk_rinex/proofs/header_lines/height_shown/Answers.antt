@@ -1,4 +1,4 @@
-use Rattle.std.proofs.Common.{◌≡◌, ◌∙◌, arith}
+use Rattle.std.proofs.Common.{◌∙◌, arith}
 use Rattle.rtk_rinex.proofs.HeaderShownLemmas.{height_is}
 use Rattle.rtk_rinex.proofs.header_lines.height_shown.Goals as goal
 

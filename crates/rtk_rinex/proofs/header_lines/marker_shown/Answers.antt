@@ -1,6 +1,4 @@
-use Rattle.std.proofs.Common.{◌≡◌, ◌∙◌, ap, true, false, sym}
-use Rattle.rtk_rinex.specs.Record.{trim_end}
-use Rattle.rtk_rinex.specs.Header.{IsMarker}
+use Rattle.std.proofs.Common.{◌∙◌}
 use Rattle.rtk_rinex.proofs.HeaderShownLemmas.{marker_is, clash}
 use Rattle.rtk_rinex.proofs.header_lines.marker_shown.Goals as goal
 

@@ -1,4 +1,4 @@
-use Rattle.std.proofs.Common.{◌≡◌, ◌≢◌, ℕ, ◌<◌, slice_index_or}
+use Rattle.std.proofs.Common.{◌≢◌, ℕ, ◌<◌, slice_index_or}
 use Rattle.rtk_rinex.proofs.header_lines.place_in.Given as goal
 
 abbrev pub invariant-loop-k : goal.invariant-loop-k

@@ -1,4 +1,4 @@
-use Rattle.std.proofs.Common.{◌≡◌, ◌∙◌}
+use Rattle.std.proofs.Common.{◌∙◌}
 use Rattle.rtk_rinex.proofs.HeaderShownLemmas.{place_is}
 use Rattle.rtk_rinex.proofs.header_lines.position_shown.Goals as goal
 
