@@ -20,3 +20,4 @@ pub mod ReadLemmas
 pub mod RunLemmas
 pub mod HeadlineLemmas
 pub mod CallsLemmas
+pub mod HistoryLemmas

@@ -24,3 +24,4 @@ pub mod Reading
 pub mod Run
 pub mod Headline
 pub mod CallLaws
+pub mod HistoryLaws

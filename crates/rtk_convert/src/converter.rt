@@ -63,6 +63,7 @@ impl Converter {
     pub fn new(alloc: Global, setup: Setup, links: usize) -> Result<Converter, ConvertFault>
         ensures ok { IfOk result (λ c. Represents c (new_history links)) }
         ensures settings { IfOk result (λ c. c.conversion.settings ≡ setup) }
+        ensures as_many { IfOk result (λ c. length c.links ≡ links) }
         ensures setup { IsErrOf result ConvertFault.Setup ↔ ¬ (IsLinkCount links) }
         ensures fault { IfErr result (λ fault. IsLinkCount links → fault ≡ ConvertFault.OutOfMemory) }
     {

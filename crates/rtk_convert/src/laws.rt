@@ -2,6 +2,7 @@
 
 ghost use Rattle.rtk_convert.specs.ArrivalLaws.{OneSetHasOneFile, LateLeaveFile, SoFarBegins, HeaderIsFinal, OthersLeaveFile};
 ghost use Rattle.rtk_convert.specs.FileLaws.{FileIsTable};
+ghost use Rattle.rtk_convert.specs.HistoryLaws.{ComesToOne, FeedsToOne, ClosesToOne, EndsAtOne};
 
 use rtk_collect::{late_arrivals_change_nothing, set_decides};
 use rtk_rinex::files_are_tables;
@@ -28,4 +29,12 @@ pub fn set_decides_file()
 pub fn file_only_grows()
     ensures begins { SoFarBegins }
     ensures header { HeaderIsFinal }
+{}
+
+/// A payload comes to one finding, so each call on a link comes to one history.
+pub fn one_history_of_calls()
+    ensures finding { ComesToOne }
+    ensures feed { FeedsToOne }
+    ensures close { ClosesToOne }
+    ensures end { EndsAtOne }
 {}

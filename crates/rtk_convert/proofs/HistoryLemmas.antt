@@ -1,0 +1,36 @@
+-- A call comes to one history.
+use Rattle.std.proofs.Common.{◌≡◌, ℕ, zero, suc, List, [], ◌∷◌, inl, inr, ap, sym, subst, ◌∙◌}
+use Rattle.rtk_convert.specs.Converter.{IsAfterClosing, IsAfterClosingAll}
+use Rattle.rtk_convert.specs.Finding.{Found}
+use Rattle.rtk_convert.specs.History.{LinkPast, History, Finds, IsAfterFeed, IsAfterClose}
+use Rattle.rtk_convert.specs.Settings.{Settings}
+use Rattle.rtk_convert.specs.State.{found_on}
+use Rattle.rtk_convert.specs.declared.arrival.Finding.{Finding}
+use Rattle.rtk_convert.proofs.GatheringLemmas.{comes-once}
+
+finds-once : (s : Settings) (link : ℕ) (ps : List (List ℕ)) (before a b : List Found) → Finds s link ps before a → Finds s link ps before b → a ≡ b
+finds-once s link [] before a b p q = p ∙ sym q
+finds-once s link (x ∷ xs) before a b (f, comes, more) (g, comes', more') =
+    let same : g ≡ f = comes-once s x g f comes' comes in
+    finds-once s link xs (found_on link f ∷ before) a b more (subst (λ (y : Finding). Finds s link xs (found_on link y ∷ before) b) same more')
+
+histories-same : (a b : History) → a.links ≡ b.links → a.found ≡ b.found → a ≡ b
+histories-same a b links found = ap (λ (ls : List LinkPast). record { links = ls; found = a.found }) links ∙ ap (λ (fs : List Found). record { links = b.links; found = fs }) found
+
+pub feeds-once : (s : Settings) (h : History) (link : ℕ) (piece : List ℕ) (a b : History) → IsAfterFeed s h link piece a → IsAfterFeed s h link piece b → a ≡ b
+feeds-once s h link piece a b p q = histories-same a b (p.links ∙ sym q.links) (finds-once s link _ h.found a.found b.found p.found q.found)
+
+pub closes-once : (s : Settings) (h : History) (link : ℕ) (a b : History) → IsAfterClose s h link a → IsAfterClose s h link b → a ≡ b
+closes-once s h link a b p q = histories-same a b (p.links ∙ sym q.links) (finds-once s link _ h.found a.found b.found p.found q.found)
+
+closing-once : (s : Settings) (h : History) (link : ℕ) (a b : History) → IsAfterClosing s h link a → IsAfterClosing s h link b → a ≡ b
+closing-once s h link a b (inl p) (inl q) = closes-once s h link a b p.1 q.1
+closing-once s h link a b (inl p) (inr q) = absurd (q.0 p.0)
+closing-once s h link a b (inr p) (inl q) = absurd (p.0 q.0)
+closing-once s h link a b (inr p) (inr q) = p.1 ∙ sym q.1
+
+pub ends-once : (s : Settings) (h : History) (links : ℕ) (a b : History) → IsAfterClosingAll s h links a → IsAfterClosingAll s h links b → a ≡ b
+ends-once s h zero a b p q = p ∙ sym q
+ends-once s h (suc n) a b (m, before, p) (m', before', q) =
+    let same : m' ≡ m = ends-once s h n m' m before' before in
+    closing-once s m n a b p (subst (λ (x : History). IsAfterClosing s x n b) same q)

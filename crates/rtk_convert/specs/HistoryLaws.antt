@@ -1,0 +1,19 @@
+-- Laws: a payload comes to one finding, and so a call to one history.
+use Rattle.std.specs.Prelude.{◌≡◌, ℕ, List}
+use Rattle.rtk_convert.specs.declared.arrival.Finding.{Finding}
+use Rattle.rtk_convert.specs.Converter.{IsAfterClosingAll}
+use Rattle.rtk_convert.specs.Finding.{ComesTo}
+use Rattle.rtk_convert.specs.History.{History, IsAfterFeed, IsAfterClose}
+use Rattle.rtk_convert.specs.Settings.{Settings}
+
+abbrev pub ComesToOne : Type 0
+ComesToOne = (s : Settings) (payload : List ℕ) (f g : Finding) → ComesTo s payload f → ComesTo s payload g → f ≡ g
+
+abbrev pub FeedsToOne : Type 0
+FeedsToOne = (s : Settings) (h : History) (link : ℕ) (piece : List ℕ) (a b : History) → IsAfterFeed s h link piece a → IsAfterFeed s h link piece b → a ≡ b
+
+abbrev pub ClosesToOne : Type 0
+ClosesToOne = (s : Settings) (h : History) (link : ℕ) (a b : History) → IsAfterClose s h link a → IsAfterClose s h link b → a ≡ b
+
+abbrev pub EndsAtOne : Type 0
+EndsAtOne = (s : Settings) (h : History) (links : ℕ) (a b : History) → IsAfterClosingAll s h links a → IsAfterClosingAll s h links b → a ≡ b
