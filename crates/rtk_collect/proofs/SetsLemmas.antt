@@ -46,7 +46,7 @@ rises-same (x ∷ xs) (y ∷ ys) f g h k =
     let t : xs ≡ ys = rises-same xs ys f.1 g.1 (tail-cells x y xs ys f e h) (tail-cells y x ys xs g (sym e) k) in
     ap (λ z. z ∷ xs) e ∙ ap (λ z. y ∷ z) t
 
-abbrev AllRise : List EpochCells → Type 0
+abbrev pub AllRise : List EpochCells → Type 0
 AllRise [] = Unit {0}
 AllRise (x ∷ xs) = Rises x.cells × AllRise xs
 
@@ -91,7 +91,7 @@ same-first x y xs ys f g m k = elim m [
 same-open : (x y : EpochCells) → x.epoch ≡ y.epoch → x.cells ≡ y.cells → x ≡ y
 same-open x y e c = ap (λ t. record { epoch = t; cells = x.cells }) e ∙ ap (λ t. record { epoch = y.epoch; cells = t }) c
 
-kept-same : (xs ys : List EpochCells) → Falls xs → Falls ys → AllRise xs → AllRise ys → ((e : ℕ) → HasEpoch e xs → HasEpoch e ys) → ((e : ℕ) → HasEpoch e ys → HasEpoch e xs)
+pub kept-same : (xs ys : List EpochCells) → Falls xs → Falls ys → AllRise xs → AllRise ys → ((e : ℕ) → HasEpoch e xs → HasEpoch e ys) → ((e : ℕ) → HasEpoch e ys → HasEpoch e xs)
     → ((e : ℕ) (c : CellEntry) → IsKept e c xs → IsKept e c ys) → ((e : ℕ) (c : CellEntry) → IsKept e c ys → IsKept e c xs) → xs ≡ ys
 kept-same [] [] f g r s h k u v = refl
 kept-same [] (y ∷ ys) f g r s h k u v = absurd (k y.epoch (inl refl))
@@ -112,7 +112,7 @@ arrival-rise e cs (y ∷ ys) h = elim (cases_order y.epoch e) [
   ]
 ]
 
-kept-rise : (n : ℕ) (arrivals : List Arrival) → AllRise (kept n arrivals)
+pub kept-rise : (n : ℕ) (arrivals : List Arrival) → AllRise (kept n arrivals)
 kept-rise n [] = tt
 kept-rise n (At None m ∷ before) = kept-rise n before
 kept-rise n (At (Some e) m ∷ before) = elim (cases_Bool (late n (At (Some e) m) before)) [

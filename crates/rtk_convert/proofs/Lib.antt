@@ -16,4 +16,9 @@ pub mod ArrivalLawsLemmas
 pub mod GatheringLemmas
 pub mod ConverterLemmas
 pub mod ClosingLemmas
+pub mod NextLemmas
+pub mod ReadLemmas
+pub mod RunLemmas
+pub mod HeadlineLemmas
+pub mod CallsLemmas
 pub mod HistoryLemmas

@@ -1,6 +1,6 @@
 -- Why a call breaks off.
 use Rattle.rtk_convert.specs.declared.fault.ConvertFault.{ConvertFault}
-use Rattle.rtk_convert.specs.declared.fault.ConvertFault.TheVariants.{OutOfMemory, Write}
+use Rattle.rtk_convert.specs.declared.fault.ConvertFault.TheVariants.{Setup, OutOfMemory, Write, Read, Endless}
 use Rattle.rtk_convert.specs.declared.fault.Stream.TheVariants.{Out}
 
 -- memory was refused, or a write to the file failed
@@ -14,3 +14,23 @@ abbrev pub IsFrameFault : ConvertFault → Type 0
 IsFrameFault OutOfMemory = Unit {0}
 IsFrameFault (Write stream) = Unit {0}
 IsFrameFault _ = ⊥
+
+-- memory was refused, or a read or a write failed
+abbrev pub IsReadFault : ConvertFault → Type 0
+IsReadFault OutOfMemory = Unit {0}
+IsReadFault (Write stream) = Unit {0}
+IsReadFault (Read link) = Unit {0}
+IsReadFault _ = ⊥
+
+-- memory was refused, a read or a write failed, or a link did not end
+abbrev pub IsReadingFault : ConvertFault → Type 0
+IsReadingFault OutOfMemory = Unit {0}
+IsReadingFault (Write stream) = Unit {0}
+IsReadingFault (Read link) = Unit {0}
+IsReadingFault Endless = Unit {0}
+IsReadingFault _ = ⊥
+
+-- the number of readers is no good one, or one of these
+abbrev pub IsRunFault : ConvertFault → Type 0
+IsRunFault Setup = Unit {0}
+IsRunFault fault = IsReadingFault fault

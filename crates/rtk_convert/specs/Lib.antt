@@ -19,4 +19,9 @@ pub mod ArrivalLaws
 pub mod History
 pub mod Converter
 pub mod Gathering
+pub mod Reads
+pub mod Reading
+pub mod Run
+pub mod Headline
+pub mod CallLaws
 pub mod HistoryLaws

@@ -1,4 +1,4 @@
-//! Links to a file: what the file of a set of messages is, and one arrival at a time.
+//! Links to a file: what the file of a set of messages is, and a run that reads 1 to 16 links and writes it.
 #![tactic(auto)]
 
 mod arrival;
@@ -7,9 +7,11 @@ mod converter;
 mod counts;
 mod fault;
 mod finish;
+mod headline;
 mod laws;
 mod link;
 mod output;
+mod reading;
 mod records;
 mod report;
 mod rows;
@@ -18,7 +20,9 @@ mod setup;
 pub use converter::Converter;
 pub use counts::Counts;
 pub use fault::{ConvertFault, Stream};
+pub use headline::{calls_keep_promise, set_has_one_file};
 pub use laws::{file_laws, file_only_grows, one_history_of_calls, set_decides_file};
+pub use reading::run;
 pub use setup::{Setup, SetupFault};
 
 #[cfg(test)]

@@ -3,16 +3,19 @@
 mod links;
 mod payloads;
 mod rows;
+mod runs;
 mod texts;
 
 use crate::conversion::Conversion;
 use crate::fault::{ConvertFault, Stream};
+use crate::reading::run;
 use crate::setup::{Setup, SetupFault};
 use payloads::*;
 use rows::{EPOCHS, PARTS, PHASES, REPORTS, Row};
-use rtk_frame::MemSink;
+use rtk_frame::{After, MemSink, MemSource, encode_frame};
 use rtk_obs::{Code, GpsMs};
 use rtk_rinex::Head;
+use runs::{BROKEN, ENDED, Run};
 use std::alloc::Global;
 use std::process::Abort;
 use std::test::Fail;
@@ -193,5 +196,74 @@ fn a_conversion_that_broke_off_stays_stopped(rt: HostRuntime) -> Result<(), Fail
         Err(ConvertFault::Stopped)
     );
     assert_eq!(rt; out.bytes().len(), 0);
+    Ok(())
+}
+
+// A source of the frames of these payloads.
+fn source(alloc: Global, payloads: &[&[u8]], after: After) -> Result<MemSource, Fail> {
+    let mut bytes = Vec::new(alloc);
+    for payload in payloads {
+        let frame = encode_frame(alloc, *payload)?;
+        bytes.extend_from_slice(&frame)?;
+    }
+    Ok(MemSource::new(alloc, &bytes, 512, after)?)
+}
+
+fn check_run(rt: &impl Abort, alloc: Global, row: &Run) -> Result<(), Fail> {
+    let mut readers = Vec::new(alloc);
+    for payloads in row.links {
+        readers.push(source(alloc, *payloads, row.after)?)?;
+    }
+    let (room, per_write) = row.room;
+    if per_write == 0 {
+        return Err("a sink that takes nothing".into());
+    }
+    let mut out = MemSink::new(alloc, room, per_write)?;
+    let mut log = MemSink::new(alloc, row.log_room, 65_536)?;
+    let setup = setup(2003, NOON, 2)?;
+    let answer = run(
+        alloc,
+        setup,
+        &mut readers,
+        &mut out,
+        &mut log,
+        row.max_reads,
+    );
+    assert_eq!(rt; answer.err(), row.fault);
+    assert!(rt; consists_of(out.bytes(), row.file));
+    assert_eq!(rt; log.bytes(), row.report.as_bytes());
+    Ok(())
+}
+
+#[test]
+fn runs_come_to_their_end(rt: HostRuntime) -> Result<(), Fail> {
+    for row in &ENDED {
+        check_run(&rt, rt.alloc(), row)?;
+    }
+    Ok(())
+}
+
+#[test]
+fn runs_that_break_off_leave_what_came_before(rt: HostRuntime) -> Result<(), Fail> {
+    for row in &BROKEN {
+        check_run(&rt, rt.alloc(), row)?;
+    }
+    Ok(())
+}
+
+#[test]
+fn a_run_has_1_to_16_links(rt: HostRuntime) -> Result<(), Fail> {
+    for links in [0u8, 17] {
+        let alloc = rt.alloc();
+        let mut readers = Vec::new(alloc);
+        for _ in 0..links {
+            readers.push(source(alloc, &[], After::End)?)?;
+        }
+        let mut out = MemSink::new(alloc, 1, 1)?;
+        let mut log = MemSink::new(alloc, 1, 1)?;
+        let setup = setup(2003, NOON, 2)?;
+        let answer = run(alloc, setup, &mut readers, &mut out, &mut log, 100);
+        assert_eq!(rt; answer.err(), Some(ConvertFault::Setup));
+    }
     Ok(())
 }

@@ -1,0 +1,188 @@
+-- The promise of a conversion.
+use Rattle.std.proofs.Common.{◌≡◌, ℕ, zero, suc, inl, inr, true, List, [], ◌∷◌, ◌++◌, length, Option, None, Some, Result, Ok, Err, refl, sym, ap, subst, ◌∙◌, append_assoc}
+use Rattle.std.specs.Prelude.{◌↔◌, IfOk, OnOk}
+use Rattle.std.proofs.lemmas.List.{append-nil}
+use Rattle.rtk_frame.specs.Stream.{with_more}
+use Rattle.rtk_message.specs.declared.message.Message.{Message}
+use Rattle.rtk_message.specs.Decoded.{number_of}
+use Rattle.rtk_collect.specs.Arrival.{Arrival, At, epoch_of, message_of}
+use Rattle.rtk_collect.specs.Accepted.{kept, station}
+use Rattle.rtk_collect.specs.Answer.{class_of, conflicts_of, LateClass}
+use Rattle.rtk_collect.specs.EpochCells.{EpochCells}
+use Rattle.rtk_collect.specs.Late.{late}
+use Rattle.rtk_collect.proofs.ArrivalsLemmas.{kept-falls}
+use Rattle.rtk_collect.proofs.LateLemmas.{late-change-nothing}
+use Rattle.rtk_collect.proofs.MembersLemmas.{kept-are-taken}
+use Rattle.rtk_collect.proofs.SetsLemmas.{AllRise, kept-same, kept-rise}
+use Rattle.rtk_convert.specs.declared.arrival.Finding.TheVariants.{Arrived}
+use Rattle.rtk_convert.specs.File.{file_of}
+use Rattle.rtk_convert.specs.FileOfArrivals.{site_of_stations, kept_file}
+use Rattle.rtk_convert.specs.Finding.{Found, arrivals}
+use Rattle.rtk_convert.specs.Finish.{all_counts, report_of}
+use Rattle.rtk_convert.specs.Headline.{Call, IsAfterCall, ComeTo, FindAll, EqualKeysCarryEqualBodies, CameInTime, Content, IsStationOf, IsContentOf, CellsRise, EachOnce, IsFileOf, CameLate, IsPartOf, LateAreListed, LateChangeNothing, Headline, SetHasOneFile, call_of, calls_of, RunHeadline}
+use Rattle.rtk_convert.specs.Converter.{IsAfterClosingAll}
+use Rattle.rtk_convert.specs.declared.counts.Counts.{Counts}
+use Rattle.rtk_convert.specs.History.{History, IsOpen}
+use Rattle.rtk_convert.specs.Reads.{Read, IsAfterPiece, IsNextRead, IsHistoryOf, AllClosed}
+use Rattle.rtk_convert.specs.Run.{RunsAs}
+use Rattle.rtk_convert.specs.Report.{lines, frame_lines, class_lines}
+use Rattle.rtk_convert.specs.ReportText.{late_line, count_lines}
+use Rattle.rtk_convert.specs.Settings.{Settings}
+use Rattle.rtk_convert.proofs.ArrivalLawsLemmas.{late-leave}
+
+-- ---- the file of the set
+
+content : Settings → List Found → Content
+content s found = record {
+  epochs = kept s.window (arrivals found);
+  arp1005 = station s.window 1005 (arrivals found);
+  arp1006 = station s.window 1006 (arrivals found);
+}
+
+station-of : (s : Settings) (found : List Found) (number : ℕ) → EqualKeysCarryEqualBodies s found → IsStationOf (CameInTime s found) number (station s.window number (arrivals found))
+station-of s found number good =
+    let law = kept-are-taken s.window (arrivals found) in
+    λ m. (
+      λ e. law.2 m number e,
+      λ p. subst (λ (k : ℕ). station s.window k (arrivals found) ≡ Some m) p.1 ((law.3 good).1 m p.0),
+    )
+
+content-of : (s : Settings) (found : List Found) → EqualKeysCarryEqualBodies s found → IsContentOf (CameInTime s found) (content s found)
+unfolding content
+content-of s found good =
+    let law = kept-are-taken s.window (arrivals found) in
+    record {
+      epochs = law.0;
+      cells = λ e x. (law.1 e x, (law.3 good).0 e x);
+      arp1005 = station-of s found 1005 good;
+      arp1006 = station-of s found 1006 good;
+    }
+
+rise : (xs : List EpochCells) → AllRise xs → CellsRise xs
+rise [] p = tt
+rise (x ∷ xs) p = (p.0, rise xs p.1)
+
+rise-back : (xs : List EpochCells) → CellsRise xs → AllRise xs
+rise-back [] p = tt
+rise-back (x ∷ xs) p = (p.0, rise-back xs p.1)
+
+each-once : (s : Settings) (found : List Found) → EachOnce (content s found)
+unfolding content
+each-once s found = record { epochs = kept-falls s.window (arrivals found); cells = rise (kept s.window (arrivals found)) (kept-rise s.window (arrivals found)) }
+
+pub file-of-set : (s : Settings) (found : List Found) → EqualKeysCarryEqualBodies s found → IsFileOf s (CameInTime s found) (kept_file s (arrivals found))
+unfolding content
+file-of-set s found good = (content s found, content-of s found good, each-once s found, refl)
+
+-- ---- a set has one file
+
+same-option : (a b : Option Message) → ((m : Message) → a ≡ Some m → b ≡ Some m) → ((m : Message) → b ≡ Some m → a ≡ Some m) → a ≡ b
+same-option None None f g = refl
+same-option None (Some m) f g = g m refl
+same-option (Some m) b f g = sym (f m refl)
+
+same-station : (set other : Arrival → Type 0) (number : ℕ) (a b : Option Message) → ((x : Arrival) → set x ↔ other x) → IsStationOf set number a → IsStationOf other number b → a ≡ b
+same-station set other number a b same p q =
+    same-option a b (λ m e. let h = (p m).0 e in (q m).1 ((same (At None m)).0 h.0, h.1)) (λ m e. let h = (q m).0 e in (p m).1 ((same (At None m)).1 h.0, h.1))
+
+same-file-of : (s : Settings) (set other : Arrival → Type 0) (first second : List ℕ) → ((x : Arrival) → set x ↔ other x) → IsFileOf s set first → IsFileOf s other second → first ≡ second
+same-file-of s set other first second same p q =
+    let c : Content = p.0 in
+    let d : Content = q.0 in
+    let epochs = kept-same c.epochs d.epochs p.2.epochs q.2.epochs (rise-back c.epochs p.2.cells) (rise-back d.epochs q.2.cells)
+    (λ e h. let m = (p.1.epochs e).0 h in (q.1.epochs e).1 (m.0, (same (At (Some e) m.0)).0 m.1))
+    (λ e h. let m = (q.1.epochs e).0 h in (p.1.epochs e).1 (m.0, (same (At (Some e) m.0)).1 m.1))
+    (λ e x h. let m = (p.1.cells e x).0 h in (q.1.cells e x).1 (m.0, (same (At (Some e) m.0)).0 m.1, m.2))
+    (λ e x h. let m = (q.1.cells e x).0 h in (p.1.cells e x).1 (m.0, (same (At (Some e) m.0)).1 m.1, m.2)) in
+    let a = same-station set other 1005 c.arp1005 d.arp1005 same p.1.arp1005 q.1.arp1005 in
+    let b = same-station set other 1006 c.arp1006 d.arp1006 same p.1.arp1006 q.1.arp1006 in
+    p.3 ∙ ap (λ (m : Option Message). file_of s (site_of_stations m c.arp1006) c.epochs) a
+    ∙ ap (λ (m : Option Message). file_of s (site_of_stations d.arp1005 m) c.epochs) b
+    ∙ ap (λ (xs : List EpochCells). file_of s (site_of_stations d.arp1005 d.arp1006) xs) epochs
+    ∙ sym q.3
+
+pub set-has-one-file : SetHasOneFile
+set-has-one-file s one other first second same p q = same-file-of s (CameInTime s one) (CameInTime s other) first second same p q
+
+-- ---- late arrivals
+
+late-lines : (n link : ℕ) (a : Arrival) (before : List Found) → late n a (arrivals before) ≡ true
+    → frame_lines n link (Arrived a) (arrivals before) ≡ late_line link (number_of (message_of a)) (epoch_of a)
+late-lines n link a before over =
+    let e : class_of n a (arrivals before) ≡ LateClass = rw over refl in
+    ap (λ k. class_lines link (number_of (message_of a)) (epoch_of a) k (conflicts_of n a (arrivals before))) e
+
+late-part : (s : Settings) (link : ℕ) (a : Arrival) (found : List Found) → CameLate s link a found → IsPartOf (late_line link (number_of (message_of a)) (epoch_of a)) (lines s.window found)
+late-part s link a [] p = absurd p
+late-part s link a (f ∷ before) (inl here) = (
+  lines s.window before,
+  [],
+  ap (λ (x : Found). lines s.window before ++ frame_lines s.window x.link x.finding (arrivals before)) here.0
+      ∙ ap (λ t. lines s.window before ++ t) (late-lines s.window link a before here.1 ∙ sym (append-nil (late_line link (number_of (message_of a)) (epoch_of a)))),
+)
+late-part s link a (f ∷ before) (inr there) =
+    let p = late-part s link a before there in
+    let line = late_line link (number_of (message_of a)) (epoch_of a) in
+    let more = frame_lines s.window f.link f.finding (arrivals before) in
+    (p.0, p.1 ++ more, ap (λ t. t ++ more) p.2 ∙ append_assoc p.0 (line ++ p.1) more ∙ ap (λ t. p.0 ++ t) (append_assoc line p.1 more))
+
+pub late-listed : (s : Settings) (found : List Found) (log_old log_new : Option (List ℕ)) → log_new ≡ with_more log_old (report_of s found) → LateAreListed s found log_old log_new
+late-listed s found log_old log_new w link a p =
+    let part = late-part s link a found p in
+    let line = late_line link (number_of (message_of a)) (epoch_of a) in
+    let more = count_lines (all_counts s found) in
+    (report_of s found, w, (part.0, part.1 ++ more, ap (λ t. t ++ more) part.2 ∙ append_assoc part.0 (line ++ part.1) more ∙ ap (λ t. part.0 ++ t) (append_assoc line part.1 more)))
+
+pub late-nothing : (s : Settings) (found : List Found) → LateChangeNothing s found
+late-nothing s found =
+    let law = late-change-nothing s.window (arrivals found) in
+    record {
+      others = law.0;
+      none_late = law.1;
+      same_set = law.2;
+      same_file = late-leave late-change-nothing s (arrivals found);
+    }
+
+-- ---- the whole sentence
+
+pub headline-of : (s : Settings) (links : ℕ) (calls : List Call) (found : List Found) (out_old out_new log_old log_new : Option (List ℕ)) → FindAll s links calls found
+    → out_new ≡ with_more out_old (kept_file s (arrivals found)) → log_new ≡ with_more log_old (report_of s found)
+    → Headline s links calls out_old out_new log_old log_new
+headline-of s links calls found out_old out_new log_old log_new all out log = record {
+  found = found;
+  of_all_pieces = all;
+  file_of_the_set = λ good. (kept_file s (arrivals found), out, file-of-set s found good);
+  late_are_listed = late-listed s found log_old log_new log;
+  late_change_nothing = late-nothing s found;
+}
+
+-- ---- the calls of a run
+
+call-step : (s : Settings) (h : History) (link : ℕ) (piece : List ℕ) (next : History) → IsOpen h link → IsAfterPiece s h link piece next → IsAfterCall s h (call_of link piece) next
+call-step s h link [] next is_open after = inl (is_open, after)
+call-step s h link (x ∷ piece) next is_open after = inl (is_open, after)
+
+call-of : (s : Settings) (h : History) (r : Read) (next : History) → IsNextRead s h r next → IsAfterCall s h (call_of r.link r.piece) next
+call-of s h r next p = call-step s h r.link r.piece next p.link.is_open p.after
+
+pub calls-come-to : (s : Settings) (links : ℕ) (reads : List Read) (h : History) → IsHistoryOf s links reads h → ComeTo s links (calls_of reads) h
+calls-come-to s links [] h p = p
+calls-come-to s links (r ∷ before) h p = (p.0, calls-come-to s links before p.0 p.1, call-of s p.0 r h p.2)
+
+-- links that are closed are left so at the end
+closing-closed : (s : Settings) (h : History) (n : ℕ) → AllClosed h → IsAfterClosingAll s h n h
+closing-closed s h zero closed = refl
+closing-closed s h (suc n) closed = (h, closing-closed s h n closed, inr (closed n, refl))
+
+pub run-headline : {R : Type 0} (given : R → Option (List ℕ)) (s : Settings) (before after : List R) (counts : Counts) (out_old out_new log_old log_new : Option (List ℕ))
+    → RunsAs given s before after counts out_old out_new log_old log_new → RunHeadline given s before after out_old out_new log_old log_new
+run-headline given s before after counts out_old out_new log_old log_new p = (
+  p.reads,
+  p.gave,
+  headline-of s (length before) (calls_of p.reads) p.history.found out_old out_new log_old log_new
+      (p.history, p.history, calls-come-to s (length before) p.reads p.history p.comes_to, closing-closed s p.history (length before) p.closed, refl) p.out p.log,
+)
+
+pub if_ok-on : {T E : Type 0} (r : Result T E) {P : T → Type 0} {Q : Type 0} → ((x : T) → P x → Q) → IfOk r P → OnOk r Q
+if_ok-on (Ok x) f p = f x p
+if_ok-on (Err e) f p = tt

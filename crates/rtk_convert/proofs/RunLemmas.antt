@@ -1,0 +1,205 @@
+-- All reads of a run.
+use Rattle.std.proofs.Common.{◌≡◌, ℕ, zero, suc, inl, inr, ◌⊎◌, false, ◌<◌, List, [], ◌∷◌, ◌++◌, length, Option, refl, sym, ap, subst, ◌∙◌, arith}
+use Rattle.std.specs.Prelude.{slice_index_or}
+use Rattle.std.proofs.lemmas.Bool.{cases_lt}
+use Rattle.std.proofs.lemmas.List.{append_assoc, length-replicate}
+use Rattle.rtk_frame.specs.Stream.{with_more, Rises}
+use Rattle.rtk_frame.proofs.StreamLemmas.{with_more-nil, with_more-with_more}
+use Rattle.rtk_convert.specs.Converter.{IsLinkCount, ConverterState, WritesInto, IsAfterClosingAll, EndsAs, BreaksOffClosing, BreaksOffEnding}
+use Rattle.rtk_convert.specs.declared.counts.Counts.{Counts}
+use Rattle.rtk_convert.specs.declared.fault.ConvertFault.{ConvertFault}
+use Rattle.rtk_convert.specs.declared.fault.ConvertFault.TheVariants.{Setup, NoLink, LinkClosed, OutOfMemory, Write, Read as ReadFault, Endless, Stopped}
+use Rattle.rtk_convert.specs.Failure.{IsFrameFault, IsReadingFault, IsRunFault}
+use Rattle.rtk_convert.specs.File.{records}
+use Rattle.rtk_convert.specs.FileOfArrivals.{file_so_far, kept_file}
+use Rattle.rtk_convert.specs.Finding.{arrivals}
+use Rattle.rtk_convert.specs.Finish.{all_counts, report_of}
+use Rattle.rtk_convert.specs.History.{History, LinkPast, new_history, IsOpen, IsNextLink, with_piece, with_closed}
+use Rattle.rtk_convert.specs.Reading.{read_of, ReadsOn, BreaksOffOn, FailsOn, HasRead, HasReadAll}
+use Rattle.rtk_convert.specs.Reads.{Read, AllClosed, IsHistoryOf, IsAfterPiece, Gave}
+use Rattle.rtk_convert.specs.Report.{lines}
+use Rattle.rtk_convert.specs.Run.{RunsAs, BreaksOffReading, BreaksOffAtEnd, FailsReading}
+use Rattle.rtk_convert.specs.Settings.{Settings}
+use Rattle.rtk_convert.specs.Writing.{Writes}
+use Rattle.rtk_convert.proofs.ReadLemmas.{gave-none, gave-more}
+
+-- ---- how many links there are
+
+pub length-with_piece : (k : ℕ) (piece : List ℕ) (ps : List LinkPast) → length (with_piece k piece ps) ≡ length ps
+length-with_piece k piece [] = refl
+length-with_piece zero piece (p ∷ ps) = refl
+length-with_piece (suc k) piece (p ∷ ps) = ap suc (length-with_piece k piece ps)
+
+pub length-with_closed : (k : ℕ) (ps : List LinkPast) → length (with_closed k ps) ≡ length ps
+length-with_closed k [] = refl
+length-with_closed zero (p ∷ ps) = refl
+length-with_closed (suc k) (p ∷ ps) = ap suc (length-with_closed k ps)
+
+length-after : (s : Settings) (h : History) (link : ℕ) (piece : List ℕ) (next : History) → IsAfterPiece s h link piece next → length next.links ≡ length h.links
+length-after s h link [] next after = ap length after.links ∙ length-with_closed link h.links
+length-after s h link (x ∷ piece) next after = ap length after.links ∙ length-with_piece link (x ∷ piece) h.links
+
+pub length-links : (s : Settings) (links : ℕ) (reads : List Read) (h : History) → IsHistoryOf s links reads h → length h.links ≡ links
+length-links s links [] h p = ap (λ (x : History). length x.links) p ∙ length-replicate links (record { fed = []; is_closed = false })
+length-links s links (r ∷ before) h p = length-after s p.0 r.link r.piece h p.2.after ∙ length-links s links before p.0 p.1
+
+-- ---- what is out
+
+pub so_far-nothing : (s : Settings) → file_so_far s [] ≡ []
+unfolding records
+so_far-nothing s = refl
+
+-- what was written on, after all that was out before
+pub written : (a b c : Option (List ℕ)) (x y : List ℕ) → b ≡ with_more a x → Writes b c x y → c ≡ with_more a y
+written a b c x y p w = w.2 ∙ ap (λ o. with_more o w.0) p ∙ with_more-with_more a x w.0 ∙ ap (with_more a) (sym w.1)
+
+pub has_read-nothing : {R : Type 0} (given : R → Option (List ℕ)) (s : Settings) (readers : List R) (out log : Option (List ℕ))
+    → HasRead given s readers readers [] (new_history (length readers)) out out log log
+has_read-nothing given s readers out log = record {
+  comes_to = refl;
+  gave = gave-none given readers;
+  out = sym (with_more-nil out) ∙ ap (with_more out) (sym (so_far-nothing s));
+  log = sym (with_more-nil log);
+}
+
+pub has_read-more : {R : Type 0} (given : R → Option (List ℕ)) (s : Settings) (h : History) (link : ℕ) (before mid after : List R) (reads : List Read) (new : ConverterState) (o0 o1 o2 l0 l1 l2 : Option (List ℕ))
+    → HasRead given s before mid reads h o0 o1 l0 l1 → (p : ReadsOn given s h link mid after new o1 o2 l1 l2)
+    → HasRead given s before after (read_of link p.piece ∷ reads) p.next o0 o2 l0 l2
+has_read-more given s h link before mid after reads new o0 o1 o2 l0 l1 l2 q p = record {
+  comes_to = (h, q.comes_to, p.is_next);
+  gave = gave-more given before mid after reads (read_of link p.piece) q.gave p.gave;
+  out = written o0 o1 o2 (file_so_far s (arrivals h.found)) (file_so_far s (arrivals p.next.found)) q.out p.writes.out;
+  log = written l0 l1 l2 (lines s.window h.found) (lines s.window p.next.found) q.log p.writes.log;
+}
+
+-- ---- where it breaks off
+
+into : (a b c : Option (List ℕ)) (x y z : List ℕ) → b ≡ with_more a x → WritesInto b c x y z → WritesInto a c [] y z
+into a b c x y z p w = (x ++ w.0, w.1, w.2, w.3, w.4, w.5 ∙ ap (λ o. with_more o (w.0 ++ w.1)) p ∙ with_more-with_more a x (w.0 ++ w.1) ∙ ap (with_more a) (sym (append_assoc x w.0 w.1)))
+
+pub breaks-reading : {R : Type 0} (given : R → Option (List ℕ)) (s : Settings) (h : History) (link : ℕ) (before mid after : List R) (reads : List Read) (o0 o1 o2 l0 l1 l2 : Option (List ℕ))
+    → HasRead given s before mid reads h o0 o1 l0 l1 → IsNextLink h link → BreaksOffOn given s h link mid after o1 o2 l1 l2
+    → BreaksOffReading given s before after o0 o2 l0 l2
+breaks-reading given s h link before mid after reads o0 o1 o2 l0 l1 l2 q n p = record {
+  reads = reads;
+  history = h;
+  comes_to = q.comes_to;
+  link = link;
+  is_next = n;
+  piece = p.piece;
+  few = p.few;
+  gave = gave-more given before mid after reads (read_of link p.piece) q.gave p.gave;
+  cut = record {
+    done = p.breaks.done;
+    payload = p.breaks.payload;
+    left = p.breaks.left;
+    split = p.breaks.split;
+    found = p.breaks.found;
+    finds = p.breaks.finds;
+    finding = p.breaks.finding;
+    comes = p.breaks.comes;
+    out = into o0 o1 o2 _ _ _ q.out p.breaks.out;
+    log = into l0 l1 l2 _ _ _ q.log p.breaks.log;
+  };
+}
+
+pub gave-same : {R : Type 0} (given : R → Option (List ℕ)) (a b c : List R) (reads : List Read) → Gave given a b reads → Gave given b c [] → Gave given a c reads
+gave-same given a b c reads p q = record {
+  as_many = q.as_many ∙ p.as_many;
+  bytes = λ k none lt.
+      let within : k < length b = omega (arith, lt, p.as_many) in
+      q.bytes k none within ∙ with_more-nil (given (slice_index_or b k none)) ∙ p.bytes k none lt;
+}
+
+pub fails-reading : {R : Type 0} (given : R → Option (List ℕ)) (failures : R → ℕ) (s : Settings) (h : History) (link : ℕ) (before mid after : List R) (reads : List Read) (o0 o1 o2 l0 l1 l2 : Option (List ℕ))
+    → HasRead given s before mid reads h o0 o1 l0 l1 → IsNextLink h link → ((k : ℕ) (none : R) → failures (slice_index_or mid k none) ≡ failures (slice_index_or before k none))
+    → FailsOn given failures link mid after o1 o2 l1 l2 → FailsReading given failures s link before after o0 o2 l0 l2
+fails-reading given failures s h link before mid after reads o0 o1 o2 l0 l1 l2 q n same p = record {
+  reads = reads;
+  history = h;
+  has_read = record {
+    comes_to = q.comes_to;
+    gave = gave-same given before mid after reads q.gave p.gave;
+    out = p.out ∙ q.out;
+    log = p.log ∙ q.log;
+  };
+  is_next = n;
+  failed = λ none. subst (λ (x : ℕ). Rises x (failures (slice_index_or after link none))) (same link none) (p.failed none);
+}
+
+-- ---- the end
+
+-- closed links are left as they are
+pub closing-none : (s : Settings) (h : History) (n : ℕ) (last : History) → AllClosed h → IsAfterClosingAll s h n last → last ≡ h
+closing-none s h zero last closed p = p
+closing-none s h (suc n) last closed p =
+    let same = closing-none s h n p.0 closed p.1 in
+    elim p.2 [
+      | inl opened ↦ absurd (closed n (subst (λ (x : History). IsOpen x n) same opened.0))
+      | inr stays ↦ stays.1 ∙ same
+    ]
+
+pub runs-as : {R : Type 0} (given : R → Option (List ℕ)) (s : Settings) (before after : List R) (converter : ConverterState) (counts : Counts) (o0 o1 o2 l0 l1 l2 : Option (List ℕ))
+    → (p : HasReadAll given s before after converter o0 o1 l0 l1) → (last : History) → EndsAs s p.history last counts o1 o2 l1 l2
+    → RunsAs given s before after counts o0 o2 l0 l2
+runs-as given s before after converter counts o0 o1 o2 l0 l1 l2 p last e =
+    let same = closing-none s p.history (length p.history.links) last p.closed e.closed in
+    record {
+      reads = p.reads;
+      history = p.history;
+      comes_to = p.has_read.comes_to;
+      closed = p.closed;
+      gave = p.has_read.gave;
+      out = written o0 o1 o2 (file_so_far s (arrivals p.history.found)) (kept_file s (arrivals last.found)) p.has_read.out e.out ∙ ap (λ (h : History). with_more o0 (kept_file s (arrivals h.found))) same;
+      log = written l0 l1 l2 (lines s.window p.history.found) (report_of s last.found) p.has_read.log e.log ∙ ap (λ (h : History). with_more l0 (report_of s h.found)) same;
+      counts_are = e.counts_are ∙ ap (λ (h : History). all_counts s h.found) same;
+    }
+
+-- once all links were closed, the end breaks off with no frame in hand
+pub breaks-ending : {R : Type 0} (given : R → Option (List ℕ)) (s : Settings) (before after : List R) (converter : ConverterState) (o0 o1 o2 l0 l1 l2 : Option (List ℕ))
+    → (p : HasReadAll given s before after converter o0 o1 l0 l1)
+    → ((link : ℕ) × BreaksOffClosing s p.history link o1 o2 l1 l2) ⊎ BreaksOffEnding s p.history o1 o2 l1 l2
+    → BreaksOffAtEnd given s before after o0 o2 l0 l2
+breaks-ending given s before after converter o0 o1 o2 l0 l1 l2 p (inl breaks) =
+    let same = closing-none s p.history breaks.0 breaks.1.mid p.closed breaks.1.closed in
+    absurd (p.closed breaks.0 (subst (λ (h : History). IsOpen h breaks.0) same breaks.1.is_open))
+breaks-ending given s before after converter o0 o1 o2 l0 l1 l2 p (inr breaks) =
+    let same = closing-none s p.history (length p.history.links) breaks.last p.closed breaks.closed in
+    record {
+      reads = p.reads;
+      history = p.history;
+      comes_to = p.has_read.comes_to;
+      closed = p.closed;
+      gave = p.has_read.gave;
+      out = subst (λ (h : History). WritesInto o0 o2 [] (file_so_far s (arrivals h.found)) (kept_file s (arrivals h.found))) same (into o0 o1 o2 _ _ _ p.has_read.out breaks.out);
+      log = subst (λ (h : History). WritesInto l0 l2 [] (lines s.window h.found) (report_of s h.found)) same (into l0 l1 l2 _ _ _ p.has_read.log breaks.log);
+    }
+
+pub links-few : (links : ℕ) (P : Type 0) → (P → ⊥) → (¬ (IsLinkCount links) → P) → IsLinkCount links
+links-few links P not_so f = elim (cases_lt 16 links) [
+  | inl many ↦ absurd (not_so (f (λ p. absurd (let hi = p.1 in omega arith))))
+  | inr few ↦ elim (cases_lt links 1) [
+    | inl none ↦ absurd (not_so (f (λ p. absurd (let lo = p.0 in omega arith))))
+    | inr some ↦ (some, few)
+  ]
+]
+
+pub reading-run : (fault : ConvertFault) → IsReadingFault fault → IsRunFault fault
+reading-run Setup p = tt
+reading-run NoLink p = p
+reading-run LinkClosed p = p
+reading-run OutOfMemory p = p
+reading-run (Write stream) p = p
+reading-run (ReadFault link) p = p
+reading-run Endless p = p
+reading-run Stopped p = p
+
+pub frame-run : (fault : ConvertFault) → IsFrameFault fault → IsRunFault fault
+frame-run Setup p = tt
+frame-run NoLink p = p
+frame-run LinkClosed p = p
+frame-run OutOfMemory p = p
+frame-run (Write stream) p = p
+frame-run (ReadFault link) p = absurd p
+frame-run Endless p = tt
+frame-run Stopped p = p

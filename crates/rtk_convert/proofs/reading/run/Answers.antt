@@ -1,0 +1,90 @@
+use Rattle.std.proofs.Common.{◌≡◌, ℕ, inl, inr, ◌⊎◌, length, Err, ap, subst, ◌∙◌}
+use Rattle.std.proofs.lemmas.Result.{IfErr-weaker, IfOk-weaker, IfErr-at_err}
+use Rattle.rtk_convert.specs.Converter.{EndsAs, BreaksOffClosing, BreaksOffEnding}
+use Rattle.rtk_convert.specs.declared.fault.ConvertFault.TheVariants.{Read as ReadFault, Endless}
+use Rattle.rtk_convert.specs.Failure.{IsReadingFault}
+use Rattle.rtk_convert.specs.Reading.{HasReadAll}
+use Rattle.rtk_convert.specs.Run.{FailsReading, StaysOpen, BreaksOffReading}
+use Rattle.rtk_convert.specs.Settings.{Settings}
+use Rattle.rtk_convert.proofs.HeadlineLemmas.{if_ok-on, run-headline}
+use Rattle.rtk_convert.proofs.RunLemmas.{runs-as, breaks-ending, links-few, reading-run, frame-run}
+use Rattle.rtk_convert.proofs.reading.run.Goals as goal
+
+pub read_all-requires-clause-links : goal.read_all-requires-clause-links
+read_all-requires-clause-links g c = (links-few (length c.args.readers.now) _ (λ e. cc) c.in_ok-converter.ensures.setup.1).1
+
+pub returns-in-Err-clause-setup : goal.returns-in-Err-clause-setup
+returns-in-Err-clause-setup g c = (
+  λ is_setup few. IfErr-at_err IsReadingFault is_setup c.in-Err.ensures.fault,
+  λ many. absurd (many (links-few (length c.args.readers.now) _ (λ e. cc) c.in_ok-converter.ensures.setup.1)),
+)
+
+pub returns-in-Err-clause-fault : goal.returns-in-Err-clause-fault
+returns-in-Err-clause-fault g c = reading-run c.in-Err.fault c.in-Err.ensures.fault
+
+pub returns-in-Err-clause-breaks_off : goal.returns-in-Err-clause-breaks_off
+returns-in-Err-clause-breaks_off g c = λ frame. inr (inl (
+    subst (λ (s : Settings). BreaksOffReading g.R.Source.given s c.args.readers.now c.read_all.new.readers (g.O.Sink.taken c.args.out.now) (g.O.Sink.taken c.read_all.new.out) (g.L.Sink.taken c.args.log.now) (g.L.Sink.taken c.read_all.new.log))
+    c.in_ok-converter.ensures.settings (c.in-Err.ensures.err frame)))
+
+pub returns-in-Err-clause-read_failed : goal.returns-in-Err-clause-read_failed
+returns-in-Err-clause-read_failed g c = λ link is_read.
+    subst (λ (s : Settings). FailsReading g.R.Source.given g.R.Source.failures s link c.args.readers.now c.read_all.new.readers (g.O.Sink.taken c.args.out.now) (g.O.Sink.taken c.read_all.new.out) (g.L.Sink.taken c.args.log.now) (g.L.Sink.taken c.read_all.new.log))
+    c.in_ok-converter.ensures.settings (c.in-Err.ensures.read_failed link (let same : c.in-Err.fault ≡ ReadFault link = cc in ap Err same))
+
+pub returns-in-Err-clause-endless : goal.returns-in-Err-clause-endless
+returns-in-Err-clause-endless g c = λ is_endless.
+    let both = c.in-Err.ensures.endless (let same : c.in-Err.fault ≡ Endless = cc in ap Err same) in (
+      subst (λ (s : Settings). StaysOpen g.R.Source.given s c.args.readers.now c.read_all.new.readers (g.O.Sink.taken c.args.out.now) (g.O.Sink.taken c.read_all.new.out) (g.L.Sink.taken c.args.log.now) (g.L.Sink.taken c.read_all.new.log))
+          c.in_ok-converter.ensures.settings both.0,
+      both.1,
+    )
+
+pub returns-clause-setup : goal.returns-clause-setup
+returns-clause-setup g c = (
+  λ is_setup few. IfErr-at_err _ is_setup (c.finish.ensures.fault c.in_default.ensures.ok.represents.going),
+  λ many. absurd (many (links-few (length c.args.readers.now) _ (λ e. cc) c.in_ok-converter.ensures.setup.1)),
+)
+
+pub returns-clause-fault : goal.returns-clause-fault
+returns-clause-fault g c = IfErr-weaker c.finish.result _ _ frame-run (c.finish.ensures.fault c.in_default.ensures.ok.represents.going)
+
+pub returns-clause-ok : goal.returns-clause-ok
+returns-clause-ok g c =
+    let all : HasReadAll g.R.Source.given c.args.setup c.args.readers.now c.read_all.new.readers c.read_all.new.converter (g.O.Sink.taken c.args.out.now) (g.O.Sink.taken c.read_all.new.out) (g.L.Sink.taken c.args.log.now) (g.L.Sink.taken c.read_all.new.log) =
+    subst (λ (s : Settings). HasReadAll g.R.Source.given s c.args.readers.now c.read_all.new.readers c.read_all.new.converter (g.O.Sink.taken c.args.out.now) (g.O.Sink.taken c.read_all.new.out) (g.L.Sink.taken c.args.log.now) (g.L.Sink.taken c.read_all.new.log))
+    c.in_ok-converter.ensures.settings c.in_default.ensures.ok in
+    IfOk-weaker c.finish.result _ _ (λ counts ends.
+    let e = ends all.history all.represents in
+    runs-as g.R.Source.given c.args.setup c.args.readers.now c.read_all.new.readers c.read_all.new.converter counts
+    (g.O.Sink.taken c.args.out.now) (g.O.Sink.taken c.read_all.new.out) (g.O.Sink.taken c.finish.new.out) (g.L.Sink.taken c.args.log.now) (g.L.Sink.taken c.read_all.new.log) (g.L.Sink.taken c.finish.new.log)
+    all e.0 (subst (λ (s : Settings). EndsAs s all.history e.0 counts (g.O.Sink.taken c.read_all.new.out) (g.O.Sink.taken c.finish.new.out) (g.L.Sink.taken c.read_all.new.log) (g.L.Sink.taken c.finish.new.log)) (c.read_all.ensures.settings ∙ c.in_ok-converter.ensures.settings) e.1)) c.finish.ensures.ok
+
+pub returns-clause-headline : goal.returns-clause-headline
+returns-clause-headline g c =
+    let all : HasReadAll g.R.Source.given c.args.setup c.args.readers.now c.read_all.new.readers c.read_all.new.converter (g.O.Sink.taken c.args.out.now) (g.O.Sink.taken c.read_all.new.out) (g.L.Sink.taken c.args.log.now) (g.L.Sink.taken c.read_all.new.log) =
+    subst (λ (s : Settings). HasReadAll g.R.Source.given s c.args.readers.now c.read_all.new.readers c.read_all.new.converter (g.O.Sink.taken c.args.out.now) (g.O.Sink.taken c.read_all.new.out) (g.L.Sink.taken c.args.log.now) (g.L.Sink.taken c.read_all.new.log))
+    c.in_ok-converter.ensures.settings c.in_default.ensures.ok in
+    if_ok-on c.finish.result (λ counts ends.
+    let e = ends all.history all.represents in
+    run-headline g.R.Source.given c.args.setup c.args.readers.now c.read_all.new.readers counts (g.O.Sink.taken c.args.out.now) (g.O.Sink.taken c.finish.new.out) (g.L.Sink.taken c.args.log.now) (g.L.Sink.taken c.finish.new.log)
+    (runs-as g.R.Source.given c.args.setup c.args.readers.now c.read_all.new.readers c.read_all.new.converter counts
+    (g.O.Sink.taken c.args.out.now) (g.O.Sink.taken c.read_all.new.out) (g.O.Sink.taken c.finish.new.out) (g.L.Sink.taken c.args.log.now) (g.L.Sink.taken c.read_all.new.log) (g.L.Sink.taken c.finish.new.log)
+    all e.0 (subst (λ (s : Settings). EndsAs s all.history e.0 counts (g.O.Sink.taken c.read_all.new.out) (g.O.Sink.taken c.finish.new.out) (g.L.Sink.taken c.read_all.new.log) (g.L.Sink.taken c.finish.new.log)) (c.read_all.ensures.settings ∙ c.in_ok-converter.ensures.settings) e.1))) c.finish.ensures.ok
+
+pub returns-clause-breaks_off : goal.returns-clause-breaks_off
+returns-clause-breaks_off g c =
+    let all : HasReadAll g.R.Source.given c.args.setup c.args.readers.now c.read_all.new.readers c.read_all.new.converter (g.O.Sink.taken c.args.out.now) (g.O.Sink.taken c.read_all.new.out) (g.L.Sink.taken c.args.log.now) (g.L.Sink.taken c.read_all.new.log) =
+    subst (λ (s : Settings). HasReadAll g.R.Source.given s c.args.readers.now c.read_all.new.readers c.read_all.new.converter (g.O.Sink.taken c.args.out.now) (g.O.Sink.taken c.read_all.new.out) (g.L.Sink.taken c.args.log.now) (g.L.Sink.taken c.read_all.new.log))
+    c.in_ok-converter.ensures.settings c.in_default.ensures.ok in
+    IfErr-weaker c.finish.result _ _ (λ fault breaks frame.
+    inr (inr (breaks-ending g.R.Source.given c.args.setup c.args.readers.now c.read_all.new.readers c.read_all.new.converter
+    (g.O.Sink.taken c.args.out.now) (g.O.Sink.taken c.read_all.new.out) (g.O.Sink.taken c.finish.new.out) (g.L.Sink.taken c.args.log.now) (g.L.Sink.taken c.read_all.new.log) (g.L.Sink.taken c.finish.new.log)
+    all (subst (λ (s : Settings). ((link : ℕ) × BreaksOffClosing s all.history link (g.O.Sink.taken c.read_all.new.out) (g.O.Sink.taken c.finish.new.out) (g.L.Sink.taken c.read_all.new.log) (g.L.Sink.taken c.finish.new.log)) ⊎ BreaksOffEnding s all.history (g.O.Sink.taken c.read_all.new.out) (g.O.Sink.taken c.finish.new.out) (g.L.Sink.taken c.read_all.new.log) (g.L.Sink.taken c.finish.new.log))
+    (c.read_all.ensures.settings ∙ c.in_ok-converter.ensures.settings) (breaks frame all.history all.represents))))) c.finish.ensures.err
+
+pub returns-clause-read_failed : goal.returns-clause-read_failed
+returns-clause-read_failed g c = λ link is_read. absurd (IfErr-at_err _ is_read (c.finish.ensures.fault c.in_default.ensures.ok.represents.going))
+
+pub returns-clause-endless : goal.returns-clause-endless
+returns-clause-endless g c = λ is_endless. absurd (IfErr-at_err _ is_endless (c.finish.ensures.fault c.in_default.ensures.ok.represents.going))

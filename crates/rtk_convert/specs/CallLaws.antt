@@ -1,0 +1,36 @@
+-- The promise for any list of calls, by the contracts of `feed`, `close` and `finish`.
+use Rattle.std.specs.Prelude.{◌≡◌, ◌⊎◌, ℕ, List, [], ◌∷◌, Option, None, Some}
+use Rattle.rtk_convert.specs.declared.counts.Counts.{Counts}
+use Rattle.rtk_convert.specs.declared.fault.ConvertFault.TheVariants.{NoLink, LinkClosed}
+use Rattle.rtk_convert.specs.Converter.{ConverterState, Represents, refusal, Feeds, Closes, Ends}
+use Rattle.rtk_convert.specs.Headline.{Call, Feed, Close, Headline}
+use Rattle.rtk_convert.specs.History.{new_history}
+use Rattle.rtk_convert.specs.Settings.{Settings}
+
+-- a call is refused, since there is no such link or it is closed, and nothing comes of it
+pub record IsRefused (old : ConverterState) (link : ℕ) (new : ConverterState) (out_old out_new log_old log_new : Option (List ℕ)) : Type 0 where
+  pub why : (refusal old link ≡ Some NoLink) ⊎ (refusal old link ≡ Some LinkClosed)
+  pub same : new ≡ old
+  pub out : out_new ≡ out_old
+  pub log : log_new ≡ log_old
+
+-- a call is answered Ok, or refused so
+abbrev pub IsAnswered : ConverterState → Call → ConverterState → Option (List ℕ) → Option (List ℕ) → Option (List ℕ) → Option (List ℕ) → Type 0
+IsAnswered old (Feed link piece) new out_old out_new log_old log_new =
+    ((refusal old link ≡ None) × Feeds old link piece new out_old out_new log_old log_new) ⊎ IsRefused old link new out_old out_new log_old log_new
+IsAnswered old (Close link) new out_old out_new log_old log_new =
+    ((refusal old link ≡ None) × Closes old link new out_old out_new log_old log_new) ⊎ IsRefused old link new out_old out_new log_old log_new
+
+-- so are all calls of a list, newest first, one after another on this converter
+abbrev pub AreAnswered : ConverterState → List Call → ConverterState → Option (List ℕ) → Option (List ℕ) → Option (List ℕ) → Option (List ℕ) → Type 0
+AreAnswered first [] now out_old out_new log_old log_new = (now ≡ first) × (out_new ≡ out_old) × (log_new ≡ log_old)
+AreAnswered first (call ∷ before) now out_old out_new log_old log_new =
+    (mid : ConverterState) × (out : Option (List ℕ)) × (log : Option (List ℕ)) × AreAnswered first before mid out_old out log_old log
+    × IsAnswered mid call now out out_new log log_new × (now.conversion.settings ≡ mid.conversion.settings)
+
+-- any calls on a new converter, and then its end, keep the promise
+abbrev pub CallsKeepPromise : Type 0
+CallsKeepPromise =
+    (s : Settings) (links : ℕ) (first now : ConverterState) (calls : List Call) (counts : Counts) (out_old out out_new log_old log log_new : Option (List ℕ))
+    → Represents first (new_history links) → first.conversion.settings ≡ s → AreAnswered first calls now out_old out log_old log
+    → Ends now counts out out_new log log_new → Headline s links calls out_old out_new log_old log_new

@@ -1,0 +1,150 @@
+-- The promise of a conversion, phrase by phrase: for every list of pieces fed over any links, with repeats, losses and
+-- reorderings, provided equal keys carry equal bodies, the file written is byte for byte the file of the set of messages
+-- that came at least once while their epoch was open, each taken once; late arrivals are listed and change nothing.
+use Rattle.std.specs.Prelude.{◌≡◌, ◌↔◌, ◌⊎◌, ℕ, true, List, [], ◌∷◌, ◌++◌, length, Option, None, Some}
+use Rattle.rtk_frame.specs.Stream.{with_more}
+use Rattle.rtk_message.specs.declared.message.Message.{Message}
+use Rattle.rtk_message.specs.Decoded.{number_of}
+use Rattle.rtk_obs.specs.declared.cell.CellEntry.{CellEntry}
+use Rattle.rtk_collect.specs.Arrival.{Arrival, At, epoch_of, message_of, cells_of}
+use Rattle.rtk_collect.specs.Accepted.{kept, IsTaken, AmongCells, IsConsistent}
+use Rattle.rtk_collect.specs.EpochCells.{EpochCells}
+use Rattle.rtk_collect.specs.Key.{Rises}
+use Rattle.rtk_collect.specs.Late.{late}
+use Rattle.rtk_collect.specs.Laws.{without_late, AreInTime, IsKept, HasEpoch}
+use Rattle.rtk_collect.specs.Search.{Falls}
+use Rattle.rtk_convert.specs.declared.arrival.Finding.TheVariants.{Arrived}
+use Rattle.rtk_convert.specs.Converter.{IsAfterClosing, IsAfterClosingAll}
+use Rattle.rtk_convert.specs.File.{file_of}
+use Rattle.rtk_convert.specs.FileOfArrivals.{site_of_stations, kept_file}
+use Rattle.rtk_convert.specs.Finding.{Found, arrivals}
+use Rattle.rtk_convert.specs.History.{History, new_history, IsOpen, IsAfterFeed}
+use Rattle.rtk_convert.specs.Reads.{Read, Gave}
+use Rattle.rtk_convert.specs.ReportText.{late_line}
+use Rattle.rtk_convert.specs.Settings.{Settings}
+use Rattle.rtk_convert.specs.State.{found_on}
+
+-- ---- "for every list of pieces fed over any links"
+
+-- a call: a piece is fed on a link, or a link is closed
+pub data Call : Type 0 where
+  Feed : (link : ℕ) (piece : List ℕ) → Call
+  Close : (link : ℕ) → Call
+
+-- the history after a call; one on a link that is closed, or that there is not, is refused, and nothing comes of it
+abbrev pub IsAfterCall : Settings → History → Call → History → Type 0
+IsAfterCall s h (Feed link piece) next = (IsOpen h link × IsAfterFeed s h link piece next) ⊎ ((IsOpen h link → ⊥) × (next ≡ h))
+IsAfterCall s h (Close link) next = IsAfterClosing s h link next
+
+-- the history that calls come to, newest first: whatever they feed, in whatever order
+abbrev pub ComeTo : Settings → ℕ → List Call → History → Type 0
+ComeTo s links [] h = h ≡ new_history links
+ComeTo s links (c ∷ before) h = (old : History) × ComeTo s links before old × IsAfterCall s old c h
+
+-- all frames that calls find, and the end that closes the links which are open
+abbrev pub FindAll : Settings → ℕ → List Call → List Found → Type 0
+FindAll s links calls found = (h : History) × (last : History) × ComeTo s links calls h × IsAfterClosingAll s h links last × (found ≡ last.found)
+
+-- ---- "provided equal keys carry equal bodies"
+
+abbrev pub EqualKeysCarryEqualBodies : Settings → List Found → Type 0
+EqualKeysCarryEqualBodies s found = IsConsistent s.window (arrivals found)
+
+-- ---- "the set of messages that came at least once while their epoch was open"
+
+abbrev pub CameInTime : Settings → List Found → Arrival → Type 0
+CameInTime s found a = IsTaken s.window a (arrivals found)
+
+-- ---- "the file of the set"
+
+-- what a file shows: epochs, each with its cells, and station messages
+pub record Content : Type 0 where
+  pub epochs : List EpochCells
+  pub arp1005 : Option Message
+  pub arp1006 : Option Message
+
+-- the station message of a number
+abbrev pub IsStationOf : (Arrival → Type 0) → ℕ → Option Message → Type 0
+IsStationOf set number kept = (m : Message) → (kept ≡ Some m) ↔ (set (At None m) × (number_of m ≡ number))
+
+-- the epochs, cells and station messages of a set, and no others
+pub record IsContentOf (set : Arrival → Type 0) (c : Content) : Type 0 where
+  pub epochs : (e : ℕ) → HasEpoch e c.epochs ↔ ((m : Message) × set (At (Some e) m))
+  pub cells : (e : ℕ) (x : CellEntry) → IsKept e x c.epochs ↔ ((m : Message) × set (At (Some e) m) × AmongCells x (cells_of m))
+  pub arp1005 : IsStationOf set 1005 c.arp1005
+  pub arp1006 : IsStationOf set 1006 c.arp1006
+
+-- ---- "each taken once"
+
+abbrev pub CellsRise : List EpochCells → Type 0
+CellsRise [] = Unit {0}
+CellsRise (x ∷ below) = Rises x.cells × CellsRise below
+
+-- no epoch stands twice, for they fall; and under a key no two cells of an epoch, for the keys rise
+pub record EachOnce (c : Content) : Type 0 where
+  pub epochs : Falls c.epochs
+  pub cells : CellsRise c.epochs
+
+-- the text of a set: the header, and the records of its epochs, rising
+abbrev pub IsFileOf : Settings → (Arrival → Type 0) → List ℕ → Type 0
+IsFileOf s set text = (c : Content) × IsContentOf set c × EachOnce c × (text ≡ file_of s (site_of_stations c.arp1005 c.arp1006) c.epochs)
+
+-- ---- "the file written is byte for byte"
+
+-- such a text was written, behind what was written before
+abbrev pub IsWritten : Option (List ℕ) → Option (List ℕ) → (List ℕ → Type 0) → Type 0
+IsWritten before after IsText = (text : List ℕ) × (after ≡ with_more before text) × IsText text
+
+-- ---- "late arrivals are listed"
+
+-- a message came on a link too late
+abbrev pub CameLate : Settings → ℕ → Arrival → List Found → Type 0
+CameLate s link a [] = ⊥
+CameLate s link a (f ∷ before) = ((f ≡ found_on link (Arrived a)) × (late s.window a (arrivals before) ≡ true)) ⊎ CameLate s link a before
+
+abbrev pub IsPartOf : List ℕ → List ℕ → Type 0
+IsPartOf line text = (front : List ℕ) × (rest : List ℕ) × (text ≡ front ++ (line ++ rest))
+
+abbrev pub LateAreListed : Settings → List Found → Option (List ℕ) → Option (List ℕ) → Type 0
+LateAreListed s found log_old log_new = (link : ℕ) (a : Arrival) → CameLate s link a found
+    → IsWritten log_old log_new (IsPartOf (late_line link (number_of (message_of a)) (epoch_of a)))
+
+-- ---- "and change nothing"
+
+-- with the late arrivals deleted each other one is late or not as before, none that stays is late, and the set and the
+-- file are the same
+pub record LateChangeNothing (s : Settings) (found : List Found) : Type 0 where
+  pub others : (a : Arrival) → late s.window a (without_late s.window (arrivals found)) ≡ late s.window a (arrivals found)
+  pub none_late : AreInTime s.window (without_late s.window (arrivals found))
+  pub same_set : (a : Arrival) → IsTaken s.window a (without_late s.window (arrivals found)) ↔ CameInTime s found a
+  pub same_file : kept_file s (without_late s.window (arrivals found)) ≡ kept_file s (arrivals found)
+
+-- ---- the whole sentence
+
+pub record Headline (s : Settings) (links : ℕ) (calls : List Call) (out_old out_new log_old log_new : Option (List ℕ)) : Type 0 where
+  pub found : List Found
+  pub of_all_pieces : FindAll s links calls found
+  pub file_of_the_set : EqualKeysCarryEqualBodies s found → IsWritten out_old out_new (IsFileOf s (CameInTime s found))
+  pub late_are_listed : LateAreListed s found log_old log_new
+  pub late_change_nothing : LateChangeNothing s found
+
+-- a set has one file, whatever the frames are in which it came
+abbrev pub SetHasOneFile : Type 0
+SetHasOneFile = (s : Settings) (one other : List Found) (first second : List ℕ) → ((a : Arrival) → CameInTime s one a ↔ CameInTime s other a)
+    → IsFileOf s (CameInTime s one) first → IsFileOf s (CameInTime s other) second → first ≡ second
+
+-- ---- of a run
+
+-- a read feeds the bytes that it gave, or closes the link where it gave none
+abbrev pub call_of : ℕ → List ℕ → Call
+call_of link [] = Close link
+call_of link (x ∷ piece) = Feed link (x ∷ piece)
+
+abbrev pub calls_of : List Read → List Call
+calls_of [] = []
+calls_of (r ∷ before) = call_of r.link r.piece ∷ calls_of before
+
+-- the sentence, of the pieces that the readers gave
+abbrev pub RunHeadline : {R : Type 0} → (R → Option (List ℕ)) → Settings → List R → List R → Option (List ℕ) → Option (List ℕ) → Option (List ℕ) → Option (List ℕ) → Type 0
+RunHeadline given s before after out_old out_new log_old log_new =
+    (reads : List Read) × Gave given before after reads × Headline s (length before) (calls_of reads) out_old out_new log_old log_new
