@@ -1,11 +1,14 @@
 //! The commands of the program: the words of a command line, and the work that each asks for.
 #![tactic(auto)]
 
+mod code_list;
 mod command_line;
+mod convert_words;
 mod files;
 mod hex_input;
 mod input;
 pub mod laws;
+mod moment_text;
 mod payload_line;
 mod running;
 mod showing;
@@ -16,7 +19,7 @@ pub use files::{Reads, Writes};
 pub use payload_line::show_line;
 pub use running::run;
 pub use showing::{SHOW_LIMIT, show};
-pub use words::{Job, ToolFault, WordsFault};
+pub use words::{BadWords, Job, ToolFault, WordsFault};
 
 #[cfg(test)]
 mod tests;

@@ -4,14 +4,11 @@ ghost use Rattle.std.specs.Prelude.{◌≡◌, ◌≤◌};
 use crate::command_line::job;
 use crate::files::{Reads, Writes};
 use crate::showing::show;
-use crate::words::{Job, ToolFault, WordsFault};
+use crate::words::{Job, STDIN, ToolFault, WordsFault};
 use std::env::Env;
 use std::fs::Files;
 use std::io::ErrorKind;
 use std::{fs, io};
-
-/// The word that names standard input.
-const STDIN: &str = "stdin";
 
 /// The exit statuses: the work is done; an input or an output failed; the words are refused.
 const DONE: u8 = 0;
@@ -80,8 +77,10 @@ fn run_words<R: Files + Input + Print + Eprint + AllocGlobal>(rt: &R, words: &[&
     ensures { result ≤ REFUSED }
 {
     match job(rt.alloc(), words) {
+        Ok(Job::Convert { .. }) => REFUSED,
         Ok(Job::Show { hex, file }) => show_file(rt, hex, file),
         Err(WordsFault::Clap { text, status }) => tell(rt, text.as_str(), status),
+        Err(WordsFault::Bad { line }) => REFUSED,
         Err(WordsFault::OutOfMemory) => refuse(rt, ToolFault::OutOfMemory),
     }
 }
