@@ -4,6 +4,7 @@
 mod code_list;
 mod command_line;
 mod convert_words;
+mod converting;
 mod files;
 mod hex_input;
 mod input;
@@ -12,6 +13,7 @@ mod moment_text;
 mod payload_line;
 mod running;
 mod showing;
+mod telling;
 mod words;
 
 pub use command_line::job;
