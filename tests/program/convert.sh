@@ -84,18 +84,18 @@ running=$!
 exec 9>capture
 head -c 184 "$examples/late.rtcm" >&9
 for _ in 1 2 3 4 5 6 7 8 9 10; do
-    [ -s out ] && break
+    [ "$(wc -l <out)" -ge 20 ] && break
     sleep 0.2
 done
 sed -n '1,20p' "$examples/late.rnx" >followed
 status=0
-cp out seen && cp err seen_err && mv out later_out && mv seen out && mv err later_err && mv seen_err err
+mv out whole_out && mv err whole_err && cp whole_out out && cp whole_err err
 expect followed 0 followed /dev/null
 tail -c +185 "$examples/late.rtcm" >&9
 exec 9>&-
 wait $running
 status=$?
-mv later_out out && mv later_err err
+mv whole_out out && mv whole_err err
 expect followed_to_its_end 0 "$examples/late.rnx" "$examples/late.report"
 
 # Links that can't be opened or read: of the first kind nothing is read and nothing is out.
