@@ -49,8 +49,9 @@ help='RTCM 3 observation streams to RINEX 3.05
 Usage: rtcm2rinex <COMMAND>
 
 Commands:
-  show  Shows the messages of a capture, a line for each frame
-  help  Print this message or the help of the given subcommand(s)
+  convert  Converts captures of one station to a RINEX 3.05 observation file
+  show     Shows the messages of a capture, a line for each frame
+  help     Print this message or the help of the given subcommand(s)
 
 Options:
   -h, --help     Print help

@@ -1,2 +1,4 @@
+pub mod CodeListLemmas
 pub mod LawLemmas
+pub mod MomentTextLemmas
 pub mod ShownLemmas

@@ -1,13 +1,33 @@
 -- What the words of a command line may give.
-use Rattle.std.specs.Prelude.{◌≡◌, ◌≢◌, ℕ, ◌⊎◌}
+use Rattle.std.specs.Prelude.{◌≡◌, ◌≢◌, ◌⊎◌, ℕ, ◌≤◌, Bool, nat_eq, List, length, map, count_by, codes}
+use Rattle.std.specs.Int.{IsInRange}
+use Rattle.std.specs.Cmp.Lexicographic.{pointwise}
 use Rattle.clap.specs.declared.error.kind.ErrorKind.{ErrorKind}
 use Rattle.clap.specs.declared.error.kind.ErrorKind.TheVariants.{DisplayHelp, DisplayVersion}
+use Rattle.rtk_convert.specs.Settings.{IsStation, IsWindow}
+use Rattle.rtk_cli.specs.declared.words.Job.{Job}
+use Rattle.rtk_cli.specs.declared.words.Job.TheVariants.{Convert, Show}
 use Rattle.rtk_cli.specs.declared.words.WordsFault.{WordsFault}
-use Rattle.rtk_cli.specs.declared.words.WordsFault.TheVariants.{Clap, OutOfMemory}
+use Rattle.rtk_cli.specs.declared.words.WordsFault.TheVariants.{Clap, Bad, OutOfMemory}
+
+-- the word that names standard input
+abbrev pub is_stdin : List ℕ → Bool
+is_stdin word = pointwise nat_eq word (codes "stdin")
+
+-- the links of a conversion: 1 to 16, and standard input at most once (this project's rule)
+abbrev pub AreLinks : List (List ℕ) → Type 0
+AreLinks links = IsInRange 1 16 (length links) × (count_by is_stdin links ≤ 1)
+
+-- a conversion is of a station, a window and links within their limits
+abbrev pub IsWithinLimits : Job → Type 0
+IsWithinLimits (Convert setup links) =
+    IsStation setup.station × IsWindow setup.window × AreLinks (map (λ link. link.now) links.items)
+IsWithinLimits (Show hex file) = Unit {0}
 
 -- a text of clap's ends the program with status 0 or 2, and nothing is said of which (this project's rule)
 abbrev pub HasStatus : WordsFault → Type 0
 HasStatus (Clap text status) = (status ≡ 0) ⊎ (status ≡ 2)
+HasStatus (Bad line) = Unit {0}
 HasStatus OutOfMemory = Unit {0}
 
 -- the status that goes with a text of clap's: 0 where help or the version was asked for, else 2

@@ -1,12 +1,13 @@
 //! The command line, as clap reads it.
-ghost use Rattle.std.specs.Prelude.{◌≡◌, ℕ, IfErr};
+ghost use Rattle.std.specs.Prelude.{◌≡◌, ℕ, IfOk, IfErr};
 ghost use Rattle.clap.specs.Values.{kind_of};
-ghost use Rattle.rtk_cli.specs.Words.{HasStatus, IsStatusOf};
+ghost use Rattle.rtk_cli.specs.Words.{HasStatus, IsStatusOf, IsWithinLimits};
 ghost use Rattle.rtk_cli.specs.declared.words.WordsFault.TheVariants.{Clap};
 
+use crate::convert_words::{Options, conversion};
 use crate::words::{Job, WordsFault};
 use clap::error::ErrorKind;
-use clap::{Arg, ArgAction, Command, Error};
+use clap::{Arg, ArgAction, ArgMatches, Command, Error, value_parser};
 use std::alloc::{AllocError, Global};
 
 /// The name of the program in its texts; no word gives it.
@@ -14,6 +15,9 @@ const NAME: &str = "rtcm2rinex";
 
 /// The version that `--version` shows.
 const VERSION: &str = "0.1.0";
+
+/// The window where none is given.
+const WINDOW: &str = "64";
 
 // The name of a capture, of any command.
 fn file<'a>(alloc: Global) -> Arg<'a> {
@@ -33,6 +37,60 @@ fn show<'a>(alloc: Global) -> Result<Command<'a>, AllocError> {
         .arg(file(alloc))
 }
 
+// An option of `convert` that has a value.
+fn option<'a>(alloc: Global, name: &'a str, value: &'a str, help: &'a str) -> Arg<'a> {
+    Arg::new(alloc, name)
+        .long(name)
+        .value_name(value)
+        .help(help)
+}
+
+fn convert<'a>(alloc: Global) -> Result<Command<'a>, AllocError> {
+    let station = option(alloc, "station", "N", "The reference station, 0 to 4095")
+        .required(true)
+        .value_parser(value_parser!(u16).range(0..=4095));
+    let near = option(
+        alloc,
+        "near",
+        "T",
+        "A GPS time within half a week of all messages",
+    )
+    .required(true);
+    let made = option(
+        alloc,
+        "made",
+        "T",
+        "The UTC time that the file shows as its making",
+    )
+    .required(true);
+    let marker = option(alloc, "marker", "NAME", "The marker's name")
+        .required(true)
+        .allow_hyphen_values(true);
+    let codes = option(alloc, "codes", "LIST", "The observation codes, as 1C,2W").required(true);
+    let window = option(
+        alloc,
+        "window",
+        "N",
+        "How many epochs are kept open, 2 to 4096",
+    )
+    .default_value(WINDOW)
+    .value_parser(value_parser!(u16).range(2..=4096));
+    let links = Arg::new(alloc, "LINK")
+        .help("The captures, 1 to 16; stdin is standard input")
+        .required(true)
+        .action(ArgAction::Append)
+        .num_args(1..);
+    Command::new(alloc, "convert")
+        .about("Converts captures of one station to a RINEX 3.05 observation file")
+        .arg(station)?
+        .arg(near)?
+        .arg(made)?
+        .arg(marker)?
+        .arg(codes)?
+        .arg(window)?
+        .arg(links)
+}
+
 fn program<'a>(alloc: Global) -> Result<Command<'a>, AllocError> {
     Command::new(alloc, NAME)
         .bin_name(NAME)?
@@ -40,6 +98,7 @@ fn program<'a>(alloc: Global) -> Result<Command<'a>, AllocError> {
         .about("RTCM 3 observation streams to RINEX 3.05")
         .version(VERSION)
         .subcommand_required(true)
+        .subcommand(convert(alloc)?)?
         .subcommand(show(alloc)?)
 }
 
@@ -59,17 +118,44 @@ fn refused(alloc: Global, error: &Error) -> WordsFault
     }
 }
 
+fn show_job<'a>(matches: &ArgMatches<'a>) -> Job<'a>
+    ensures { IsWithinLimits result }
+{
+    let hex = matches.get_flag("hex");
+    let file = matches.get_str("FILE").unwrap_or("");
+    Job::Show { hex, file }
+}
+
+fn convert_job<'a>(alloc: Global, matches: &ArgMatches<'a>) -> Result<Job<'a>, WordsFault>
+    ensures limits { IfOk result IsWithinLimits }
+    ensures status { IfErr result HasStatus }
+{
+    let options = Options {
+        station: matches.get_one::<u16>("station").unwrap_or(0),
+        near: matches.get_str("near").unwrap_or(""),
+        made: matches.get_str("made").unwrap_or(""),
+        marker: matches.get_str("marker").unwrap_or(""),
+        codes: matches.get_str("codes").unwrap_or(""),
+        window: matches.get_one::<u16>("window").unwrap_or(64),
+    };
+    conversion(alloc, &options, matches.get_strs("LINK").unwrap_or(&[]))
+}
+
 /// What the words of a command line ask for. They begin behind the name of the program.
 pub fn job<'a>(alloc: Global, words: &'a [&'a str]) -> Result<Job<'a>, WordsFault>
+    ensures limits { IfOk result IsWithinLimits }
     ensures status { IfErr result HasStatus }
 {
     let matches = match program(alloc)?.try_get_matches_from(words) {
         Ok(matches) => matches,
         Err(error) => return Err(refused(alloc, &error)),
     };
-    let (hex, file) = match matches.subcommand() {
-        Some((_, show)) => (show.get_flag("hex"), show.get_str("FILE").unwrap_or("")),
-        None => (false, ""),
-    };
-    Ok(Job::Show { hex, file })
+    match matches.subcommand() {
+        Some(("convert", convert)) => convert_job(alloc, convert),
+        Some((_, show)) => Ok(show_job(show)),
+        None => Ok(Job::Show {
+            hex: false,
+            file: "",
+        }),
+    }
 }

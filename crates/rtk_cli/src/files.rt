@@ -2,7 +2,24 @@
 ghost use Rattle.std.specs.Prelude.{◌≡◌, None, true, false};
 
 use rtk_frame::{Sink, Source, StreamFault};
+use std::io;
 use std::io::{Read, Write};
+
+/// A capture of the program: a file, or standard input.
+#[derive(Drop)]
+pub enum Link<F: Read + Drop, I: Read + Drop> {
+    File(F),
+    Stdin(I),
+}
+
+impl<F: Read + Drop, I: Read + Drop> Read for Link<F, I> {
+    fn read(&mut self, buf: &mut [u8]) -> io::Result<usize> {
+        match self {
+            Link::File(file) => file.read(buf),
+            Link::Stdin(stdin) => stdin.read(buf),
+        }
+    }
+}
 
 /// A reader of std's as a source. Nothing is known of its bytes; its calls are counted.
 #[derive(Drop)]
@@ -65,6 +82,17 @@ impl<W: Write> Writes<W> {
         ensures no_failed_call { result.failed ≡ 0 }
     {
         Writes { inner, failed: 0 }
+    }
+
+    /// Hands on what the writer has gathered. Nothing is known of its bytes.
+    pub fn flush(&mut self) -> Result<(), StreamFault> {
+        match self.inner.flush() {
+            Ok(()) => Ok(()),
+            Err(_) => {
+                self.failed = self.failed.saturating_add(1);
+                Err(StreamFault)
+            }
+        }
     }
 }
 

@@ -1,14 +1,19 @@
 //! The commands of the program: the words of a command line, and the work that each asks for.
 #![tactic(auto)]
 
+mod code_list;
 mod command_line;
+mod convert_words;
+mod converting;
 mod files;
 mod hex_input;
 mod input;
 pub mod laws;
+mod moment_text;
 mod payload_line;
 mod running;
 mod showing;
+mod telling;
 mod words;
 
 pub use command_line::job;
@@ -16,7 +21,7 @@ pub use files::{Reads, Writes};
 pub use payload_line::show_line;
 pub use running::run;
 pub use showing::{SHOW_LIMIT, show};
-pub use words::{Job, ToolFault, WordsFault};
+pub use words::{BadWords, Job, ToolFault, WordsFault};
 
 #[cfg(test)]
 mod tests;

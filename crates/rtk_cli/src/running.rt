@@ -1,24 +1,16 @@
 //! The program: it reads its words, opens what they name, does the work, or says why it is not done.
-ghost use Rattle.std.specs.Prelude.{◌≡◌, ◌≤◌};
+ghost use Rattle.std.specs.Prelude.{◌≤◌};
 
 use crate::command_line::job;
+use crate::converting::convert_links;
 use crate::files::{Reads, Writes};
 use crate::showing::show;
-use crate::words::{Job, ToolFault, WordsFault};
+use crate::telling::{DONE, REFUSED, fail, fail_to_open, refuse, tell};
+use crate::words::{Job, STDIN, ToolFault, WordsFault};
 use std::env::Env;
 use std::fs::Files;
-use std::io::ErrorKind;
+use std::io::{ErrorKind, Write};
 use std::{fs, io};
-
-/// The word that names standard input.
-const STDIN: &str = "stdin";
-
-/// The exit statuses: the work is done; an input or an output failed; the words are refused.
-const DONE: u8 = 0;
-
-const FAILED: u8 = 1;
-
-const REFUSED: u8 = 2;
 
 // The words behind the name of the program. One that is no text (UTF-8) can't be read.
 fn words_of<R: Env + AllocGlobal>(rt: &R) -> Result<Vec<String>, ToolFault> {
@@ -35,28 +27,6 @@ fn words_of<R: Env + AllocGlobal>(rt: &R) -> Result<Vec<String>, ToolFault> {
     Ok(words)
 }
 
-// Says why the work is not done. Where standard error is closed nobody hears it.
-fn refuse<R: Eprint>(rt: &R, fault: ToolFault) -> u8
-    ensures { result ≡ FAILED }
-{
-    let _told = eprintln!(rt; "rtcm2rinex: {fault}");
-    FAILED
-}
-
-// Shows clap's text: what was asked for on standard output, a refusal on standard error.
-fn tell<R: Print + Eprint>(rt: &R, text: &str, status: u8) -> u8
-    ensures { result ≤ REFUSED }
-{
-    if status != DONE {
-        let _told = eprint!(rt; "{text}");
-        return REFUSED;
-    }
-    match print!(rt; "{text}") {
-        Ok(()) => DONE,
-        Err(_) => refuse(rt, ToolFault::Output),
-    }
-}
-
 fn show_file<R: Files + Input + Print + Eprint + AllocGlobal>(rt: &R, hex: bool, file: &str) -> u8
     ensures { result ≤ REFUSED }
 {
@@ -65,41 +35,50 @@ fn show_file<R: Files + Input + Print + Eprint + AllocGlobal>(rt: &R, hex: bool,
         show(rt.alloc(), &mut Reads::new(rt.reader()), &mut out, hex)
     } else {
         let Ok(capture) = fs::open(rt, file) else {
-            let _told = eprintln!(rt; "rtcm2rinex: cannot open {file}");
-            return FAILED;
+            return fail_to_open(rt, file);
         };
         show(rt.alloc(), &mut Reads::new(capture), &mut out, hex)
     };
     match shown {
         Ok(_) => DONE,
-        Err(fault) => refuse(rt, fault),
+        Err(fault) => fail(rt, fault),
     }
 }
 
-fn run_words<R: Files + Input + Print + Eprint + AllocGlobal>(rt: &R, words: &[&str]) -> u8
+fn run_words<R: Files + Input + Print + Eprint + AllocGlobal, W: Write + Drop>(
+    rt: &R,
+    report: W,
+    words: &[&str],
+) -> u8
     ensures { result ≤ REFUSED }
 {
     match job(rt.alloc(), words) {
+        Ok(Job::Convert { setup, links }) => convert_links(rt, report, setup, links.as_slice()),
         Ok(Job::Show { hex, file }) => show_file(rt, hex, file),
         Err(WordsFault::Clap { text, status }) => tell(rt, text.as_str(), status),
-        Err(WordsFault::OutOfMemory) => refuse(rt, ToolFault::OutOfMemory),
+        Err(WordsFault::Bad { line }) => refuse(rt, line),
+        Err(WordsFault::OutOfMemory) => fail(rt, ToolFault::OutOfMemory),
     }
 }
 
 /// Runs the program, and answers its exit status: 0 the work is done, 1 an input or an output failed,
-/// or there was no memory, 2 the words are refused.
-pub fn run<R: Env + Files + Input + Print + Eprint + AllocGlobal>(rt: &R) -> u8
+/// or there was no memory, 2 the words are refused. The report of a conversion goes to `report`, which is
+/// standard error.
+pub fn run<R: Env + Files + Input + Print + Eprint + AllocGlobal, W: Write + Drop>(
+    rt: &R,
+    report: W,
+) -> u8
     ensures { result ≤ REFUSED }
 {
     let owned = match words_of(rt) {
         Ok(owned) => owned,
-        Err(fault) => return refuse(rt, fault),
+        Err(fault) => return fail(rt, fault),
     };
     let mut words = Vec::new(rt.alloc());
     for word in &owned {
         if words.push(word.as_str()).is_err() {
-            return refuse(rt, ToolFault::OutOfMemory);
+            return fail(rt, ToolFault::OutOfMemory);
         }
     }
-    run_words(rt, words.as_slice())
+    run_words(rt, report, words.as_slice())
 }

@@ -1,7 +1,10 @@
 //! Tests of the commands, by values from outside.
 
+mod convert_refusals;
+mod convert_words;
 mod faults;
 mod lines;
 mod long;
+mod moments;
 mod rows;
 mod words;

@@ -1,11 +1,23 @@
 //! What the words of a command line ask for, and why a command is not done.
 
+use arrayvec::ArrayVec;
+use rtk_convert::Setup;
 use std::alloc::AllocError;
 use thiserror::Error;
 
-/// What the words ask for. There is one command, `show`.
-#[derive(Clone, Copy, Debug, PartialEq, Eq)]
+/// The word that names standard input.
+pub const STDIN: &str = "stdin";
+
+/// What the words ask for.
+#[derive(Drop)]
 pub enum Job<'a> {
+    /// `convert OPTIONS LINK..`: captures of one station to a file and a report.
+    Convert {
+        /// The station, the reference, the file's head and the window.
+        setup: Setup,
+        /// The names of the captures; `stdin` is standard input, once at most.
+        links: ArrayVec<&'a str, 16>,
+    },
     /// `show [--hex] FILE`: one line for each frame of a capture.
     Show {
         /// The capture is hex text.
@@ -13,6 +25,33 @@ pub enum Job<'a> {
         /// The name of the capture; `stdin` is standard input.
         file: &'a str,
     },
+}
+
+/// Why words that clap takes give no conversion: the first cause that holds, in this order. Displayed, it
+/// is the fault line of the program.
+#[derive(Clone, Copy, Debug, PartialEq, Eq, Error)]
+pub enum BadWords {
+    /// The reference is written in another form, doesn't exist, or is none near which times are dated.
+    #[error("bad --near")]
+    Near,
+    /// The time of making is written in another form or doesn't exist.
+    #[error("bad --made")]
+    Made,
+    /// A name is no observation code; or, behind the marker, the codes are not 1 to 16 or one stands twice.
+    #[error("bad --codes")]
+    Codes,
+    /// The marker's name has not 1 to 60 characters of ASCII, or a blank first or last.
+    #[error("bad --marker")]
+    Marker,
+    /// The links are not 1 to 16, or standard input stands twice.
+    #[error("bad links")]
+    Links,
+    /// The station is over 4,095; clap has refused it before.
+    #[error("bad --station")]
+    Station,
+    /// The window is not 2 to 4,096; clap has refused it before.
+    #[error("bad --window")]
+    Window,
 }
 
 /// Why the words give no job.
@@ -25,6 +64,11 @@ pub enum WordsFault {
         text: String,
         /// The exit status of the program.
         status: u8,
+    },
+    /// Words that clap takes give no conversion (status 2).
+    Bad {
+        /// The fault line.
+        line: BadWords,
     },
     /// No memory for reading the words.
     OutOfMemory,

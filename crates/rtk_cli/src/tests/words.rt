@@ -9,8 +9,9 @@ RTCM 3 observation streams to RINEX 3.05
 Usage: rtcm2rinex <COMMAND>
 
 Commands:
-  show  Shows the messages of a capture, a line for each frame
-  help  Print this message or the help of the given subcommand(s)
+  convert  Converts captures of one station to a RINEX 3.05 observation file
+  show     Shows the messages of a capture, a line for each frame
+  help     Print this message or the help of the given subcommand(s)
 
 Options:
   -h, --help     Print help
@@ -32,7 +33,7 @@ Options:
 
 const NO_COMMAND: &str = "\
 error: 'rtcm2rinex' requires a subcommand but one was not provided
-  [subcommands: show, help]
+  [subcommands: convert, show, help]
 
 Usage: rtcm2rinex <COMMAND>
 
@@ -128,7 +129,7 @@ fn words_of_show(rt: HostRuntime) -> Result<(), Fail> {
                 assert_eq!(rt; hex, want_hex);
                 assert_eq!(rt; file, want_file);
             }
-            Err(_) => assert!(rt; false, "{want_file}"),
+            _ => assert!(rt; false, "{want_file}"),
         }
     }
     Ok(())

@@ -1,0 +1,21 @@
+-- A moment as the words of a command line write it: a whole second, as 2024-05-17T12:00:00 (ISO 8601).
+use Rattle.std.specs.Prelude.{◌≡◌, ℕ, ◌<◌, List, ◌∷◌, ◌++◌}
+use Rattle.rtk_obs.specs.declared.time.Civil.{Civil}
+use Rattle.rtk_obs.specs.Calendar.{Reads}
+use Rattle.rtk_rinex.specs.Columns.{last_digits}
+
+-- a reading to the second
+abbrev pub moment_text : Civil → List ℕ
+moment_text c =
+    last_digits 4 c.year ++ 45 ∷ last_digits 2 c.month ++ 45 ∷ last_digits 2 c.day
+    ++ 84 ∷ last_digits 2 c.hour ++ 58 ∷ last_digits 2 c.minute ++ 58 ∷ last_digits 2 c.second
+
+-- each number of the reading has its digits: four of the year, two of the others, none of the millisecond
+abbrev pub HasDigits : Civil → Type 0
+HasDigits c =
+    (c.year < 10_000) × (c.month < 100) × (c.day < 100) × (c.hour < 100) × (c.minute < 100) × (c.second < 100)
+    × (c.millisecond ≡ 0)
+
+-- the text writes a moment: it is that of the moment's reading, which has a whole second
+abbrev pub Writes : List ℕ → ℕ → Type 0
+Writes text t = (c : Civil) × Reads t c × HasDigits c × (text ≡ moment_text c)

@@ -1,0 +1,134 @@
+//! The command `convert`: opens the captures, converts them, and says how it went.
+ghost use Rattle.std.specs.Prelude.{◌≡◌, ◌≤◌};
+
+use crate::files::{Link, Reads, Writes};
+use crate::telling::{DONE, FAILED, REFUSED, fail, fail_to_open, refuse};
+use crate::words::{BadWords, STDIN, ToolFault};
+use rtk_convert::{ConvertFault, Counts, Setup};
+use std::alloc::Global;
+use std::fs::Files;
+use std::io::{BufReader, BufWriter, Write};
+use std::{fs, io};
+
+/// So many bytes of a capture are read at once. It is a multiple of the 512 that a conversion asks for, so
+/// that a file gives it 512 at a time, up to its end.
+const READ_AT_ONCE: usize = 32_768;
+
+/// So many bytes of the file and of the report are gathered, where no link is standard input.
+const GATHERED: usize = 65_536;
+
+/// The most reads of a conversion.
+const MOST_READS: u64 = 1_000_000_000;
+
+/// A link of the program: a file or standard input, read ahead.
+type Reader<R> = Reads<BufReader<Link<<R as Files>::File, <R as Input>::Reader>>>;
+
+// Why the links are not open.
+enum OpenFault<'a> {
+    // There is no such file, or it may not be read.
+    NotOpened { name: &'a str },
+    OutOfMemory,
+}
+
+fn open_link<'a, R: Files + Input + AllocGlobal>(
+    rt: &R,
+    name: &'a str,
+) -> Result<Reader<R>, OpenFault<'a>> {
+    let link = if name == STDIN {
+        Link::Stdin(rt.reader())
+    } else {
+        let Ok(file) = fs::open(rt, name) else {
+            return Err(OpenFault::NotOpened { name });
+        };
+        Link::File(file)
+    };
+    match BufReader::with_capacity(rt.alloc(), READ_AT_ONCE, link) {
+        Ok(reader) => Ok(Reads::new(reader)),
+        Err(_) => Err(OpenFault::OutOfMemory),
+    }
+}
+
+// All links, open; none of them is read.
+fn open_links<'a, R: Files + Input + AllocGlobal>(
+    rt: &R,
+    names: &[&'a str],
+) -> Result<Vec<Reader<R>>, OpenFault<'a>> {
+    let mut links = Vec::new(rt.alloc());
+    for name in names {
+        let link = open_link(rt, *name)?;
+        if links.push(link).is_err() {
+            return Err(OpenFault::OutOfMemory);
+        }
+    }
+    Ok(links)
+}
+
+// Standard output or standard error as a sink. It gathers what it takes, or, with no room, passes each write on.
+fn sink<W: Write + Drop>(
+    alloc: Global,
+    room: usize,
+    to: W,
+) -> Result<Writes<BufWriter<W>>, ToolFault> {
+    match BufWriter::with_capacity(alloc, room, to) {
+        Ok(writer) => Ok(Writes::new(writer)),
+        Err(_) => Err(ToolFault::OutOfMemory),
+    }
+}
+
+// The exit status of a conversion that was done or broke off, and its fault line.
+fn end<R: Eprint>(rt: &R, done: Result<Counts, ConvertFault>, is_out: bool) -> u8
+    ensures { result ≤ REFUSED }
+{
+    match done {
+        Ok(_) if is_out => DONE,
+        Ok(_) | Err(ConvertFault::Write { .. }) => fail(rt, ToolFault::Output),
+        Err(ConvertFault::OutOfMemory) => fail(rt, ToolFault::OutOfMemory),
+        Err(ConvertFault::Read { .. }) => fail(rt, ToolFault::Input),
+        Err(ConvertFault::Endless) => {
+            let _told = eprintln!(rt; "rtcm2rinex: input does not end");
+            FAILED
+        }
+        // The words give 1 to 16 links, and a conversion refuses no call of its own.
+        Err(_) => refuse(rt, BadWords::Links),
+    }
+}
+
+/// Converts captures: the file goes to standard output, the report to `report`. All captures are opened
+/// before one is read. Where one is standard input each write goes straight on, so that the file can be
+/// followed. At the end the file is out before the report, and the report before a fault line.
+pub fn convert_links<R: Files + Input + Print + Eprint + AllocGlobal, W: Write + Drop>(
+    rt: &R,
+    report: W,
+    setup: Setup,
+    names: &[&str],
+) -> u8
+    ensures { result ≤ REFUSED }
+{
+    let mut links = match open_links(rt, names) {
+        Ok(links) => links,
+        Err(OpenFault::NotOpened { name }) => return fail_to_open(rt, name),
+        Err(OpenFault::OutOfMemory) => return fail(rt, ToolFault::OutOfMemory),
+    };
+    let room = if names.iter().any(|name| *name == STDIN) {
+        0
+    } else {
+        GATHERED
+    };
+    let Ok(mut out) = sink(rt.alloc(), room, io::writer(rt)) else {
+        return fail(rt, ToolFault::OutOfMemory);
+    };
+    let Ok(mut log) = sink(rt.alloc(), room, report) else {
+        return fail(rt, ToolFault::OutOfMemory);
+    };
+    let done = rtk_convert::run(
+        rt.alloc(),
+        setup,
+        links.as_mut_slice(),
+        &mut out,
+        &mut log,
+        MOST_READS,
+    );
+    let is_file_out = out.flush().is_ok();
+    let is_report_out = log.flush().is_ok();
+    end(rt, done, is_file_out && is_report_out)
+}

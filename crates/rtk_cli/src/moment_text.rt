@@ -1,0 +1,81 @@
+//! Moments as the words of a command line write them.
+ghost use Rattle.std.specs.Prelude.{◌≡◌, ◌≢◌, ℕ, ◌+◌, ◌/◌, ◌%◌, ◌<◌, ◌≤◌, MatchOption};
+ghost use Rattle.rtk_obs.specs.declared.time.Civil.{Civil};
+ghost use Rattle.rtk_obs.specs.declared.time.TheConstants.{LAST_MS};
+ghost use Rattle.rtk_cli.specs.MomentText.{moment_text, HasDigits, Writes};
+
+use rtk_obs::{Civil, GpsMs, of_civil};
+
+// The number that two digits write; of other characters some number below 100.
+fn two_digits(tens: u8, ones: u8) -> u8
+    ensures value { (n : ℕ) → n < 100 → tens ≡ 48 + n / 10 % 10 → ones ≡ 48 + n % 10 → result ≡ n }
+    ensures bound { result < 100 }
+{
+    tens.wrapping_sub(b'0') % 10 * 10 + ones.wrapping_sub(b'0') % 10
+}
+
+// The text of a reading.
+fn text_of(reading: Civil) -> [u8; 19]
+    ensures { result ≡ moment_text reading }
+{
+    let digit = |n: u16| b'0' + (n % 10) as u8;
+    let year = reading.year;
+    [
+        digit(year / 10 / 10 / 10),
+        digit(year / 10 / 10),
+        digit(year / 10),
+        digit(year),
+        b'-',
+        b'0' + reading.month / 10 % 10,
+        b'0' + reading.month % 10,
+        b'-',
+        b'0' + reading.day / 10 % 10,
+        b'0' + reading.day % 10,
+        b'T',
+        b'0' + reading.hour / 10 % 10,
+        b'0' + reading.hour % 10,
+        b':',
+        b'0' + reading.minute / 10 % 10,
+        b'0' + reading.minute % 10,
+        b':',
+        b'0' + reading.second / 10 % 10,
+        b'0' + reading.second % 10,
+    ]
+}
+
+// The reading that a text is that of; whether there is such a day and time is another question.
+fn reading_of(text: &[u8]) -> Option<Civil>
+    ensures { MatchOption result ((c : Civil) → HasDigits c → text.now ≢ moment_text c)
+        (λ c. HasDigits c × (text.now ≡ moment_text c)) }
+{
+    if text.len() != 19 {
+        return None;
+    }
+    let century = two_digits(text[0], text[1]);
+    let reading = Civil {
+        year: u16::from(century) * 100 + u16::from(two_digits(text[2], text[3])),
+        month: two_digits(text[5], text[6]),
+        day: two_digits(text[8], text[9]),
+        hour: two_digits(text[11], text[12]),
+        minute: two_digits(text[14], text[15]),
+        second: two_digits(text[17], text[18]),
+        millisecond: 0,
+    };
+    if text_of(reading).as_slice() == text {
+        Some(reading)
+    } else {
+        None
+    }
+}
+
+/// The moment that a text writes, as `2024-05-17T12:00:00`: a whole second, in 19 characters. `None`
+/// exactly where the text is no such text, the day or the time of day doesn't exist, or the moment lies
+/// outside `GpsMs`.
+pub fn moment_of(text: &[u8]) -> Option<GpsMs>
+    ensures { MatchOption result ((t : ℕ) → t ≤ LAST_MS → ¬ (Writes text.now t)) (λ t. Writes text.now t) }
+{
+    let Some(reading) = reading_of(text) else {
+        return None;
+    };
+    of_civil(reading)
+}

@@ -1,0 +1,159 @@
+#!/bin/sh
+# Runs `convert` as a user does, and looks at standard output, standard error and the exit status.
+# The program is $1. Prints `ok NAME` or `FAILED NAME` for each test, and last `PASSED FAILED`, two counts.
+set -u
+root=$(cd "$(dirname "$(readlink -f "$0")")/../.." && pwd)
+program=$(readlink -f "$1")
+examples=$root/examples
+work=$(mktemp -d)
+trap 'rm -rf "$work"' EXIT
+cd "$work" || exit 1
+
+passed=0
+failed=0
+near=2024-05-17T12:00:00
+made=2024-05-17T13:00:00
+
+# expect NAME STATUS OUT ERR: what the last run left; OUT and ERR are files, compared byte for byte
+expect() {
+    if [ "$status" = "$2" ] && cmp -s out "$3" && cmp -s err "$4"; then
+        echo "ok $1"
+        passed=$((passed + 1))
+    else
+        echo "FAILED $1: status $status, standard output '$(head -c 300 out)', standard error '$(head -c 300 err)'"
+        failed=$((failed + 1))
+    fi
+}
+
+# fails NAME STATUS LINE: nothing is out, and standard error has this fault line alone
+fails() {
+    printf 'rtcm2rinex: %s\n' "$3" >want_err
+    expect "$1" "$2" /dev/null want_err
+}
+
+# convert CODES WORD..: of station 2003 near noon, marker BASE; standard input as it is
+convert() {
+    codes=$1
+    shift
+    "$program" convert --station 2003 --near $near --made $made --marker BASE --codes "$codes" "$@" >out 2>err
+    status=$?
+}
+
+# words NEAR MADE MARKER CODES LINK..
+words() {
+    near_=$1 made_=$2 marker_=$3 codes_=$4
+    shift 4
+    "$program" convert --station 2003 --near "$near_" --made "$made_" --marker "$marker_" --codes "$codes_" "$@" >out 2>err </dev/null
+    status=$?
+}
+
+# report COUNT..: the nine counts
+report() {
+    printf 'frames %s\nother %s\nrefused %s\nforeign %s\ntaken %s\nrepeat %s\nconflict %s\nlate %s\nepochs %s\n' "$@"
+}
+
+report 2 0 0 0 2 0 0 0 1 >base.report
+base=$examples/base.rtcm
+session=$examples/session
+first=$examples/session_link1.rtcm
+second=$examples/session_link2.rtcm
+
+# The captures of examples/, with the files and reports that they are due.
+convert 1C,2W "$base" </dev/null;                     expect file 0 "$examples/base.rnx" base.report
+convert 1C,2W stdin <"$base";                         expect standard_input 0 "$examples/base.rnx" base.report
+cat "$base" | { convert 1C,2W stdin; expect pipe 0 "$examples/base.rnx" base.report; echo "$passed $failed" >counts; }
+read -r passed failed <counts
+convert 1C,2W,5X "$session.rtcm" </dev/null;          expect session 0 "$session.rnx" "$session.report"
+convert 1C,2W,5X "$first" "$second" </dev/null;       expect two_links 0 "$session.rnx" "$examples/session_links.report"
+convert 1C,2W,5X "$second" "$first" </dev/null;       expect two_links_exchanged 0 "$session.rnx" "$examples/session_links.report"
+convert 1C,2W,5X stdin "$second" <"$first";           expect standard_input_and_a_file 0 "$session.rnx" "$examples/session_links.report"
+convert 1C,2W --window 2 "$examples/late.rtcm" </dev/null; expect late_epoch 0 "$examples/late.rnx" "$examples/late.report"
+
+# A file of the name stdin; an empty capture, whose file is a header with a position of zeros.
+cp "$base" stdin
+convert 1C,2W ./stdin </dev/null;                     expect file_of_the_name_stdin 0 "$examples/base.rnx" base.report
+sed -n '1,14p' "$examples/base.rnx" |
+    sed 's/^  1114104.5999 -4850729.7108  3975521.4643/        0.0000        0.0000        0.0000/' >empty.rnx
+report 0 0 0 0 0 0 0 0 0 >empty.report
+convert 1C,2W stdin </dev/null;                       expect empty_capture 0 empty.rnx empty.report
+
+# The file can be followed: the records of closed epochs are out while standard input is open.
+mkfifo capture
+"$program" convert --station 2003 --near $near --made $made --marker BASE --codes 1C,2W --window 2 stdin <capture >out 2>err &
+running=$!
+exec 9>capture
+head -c 184 "$examples/late.rtcm" >&9
+for _ in 1 2 3 4 5 6 7 8 9 10; do
+    [ "$(wc -l <out)" -ge 20 ] && break
+    sleep 0.2
+done
+sed -n '1,20p' "$examples/late.rnx" >followed
+status=0
+mv out whole_out && mv err whole_err && cp whole_out out && cp whole_err err
+expect followed 0 followed /dev/null
+tail -c +185 "$examples/late.rtcm" >&9
+exec 9>&-
+wait $running
+status=$?
+mv whole_out out && mv whole_err err
+expect followed_to_its_end 0 "$examples/late.rnx" "$examples/late.report"
+
+# Links that can't be opened or read: of the first kind nothing is read and nothing is out.
+mkdir folder
+convert 1C nowhere "$base" </dev/null;                fails missing_link 1 'cannot open nowhere'
+convert 1C "$base" nowhere </dev/null;                fails missing_link_behind_another 1 'cannot open nowhere'
+convert 1C '' </dev/null;                             fails empty_name 1 'cannot open '
+convert 1C folder </dev/null;                         fails a_directory 1 'read failed'
+convert 1C stdin <folder;                             fails a_directory_as_standard_input 1 'read failed'
+convert 1C "$(printf '\377')" </dev/null;             fails a_link_that_is_no_text 1 'read failed'
+"$program" convert --station 2003 --near $near --made $made --marker BASE --codes 1C stdin <&- >out 2>err; status=$?
+fails closed_standard_input 1 'read failed'
+
+# Our own refusals, by the first cause.
+words '' '' '' '' stdin stdin;                        fails form_of_near 2 'bad --near'
+words 2024-02-30T00:00:00 $made BASE 1C,2W x;         fails no_such_day 2 'bad --near'
+words $near 2024-05-17 BASE 1C,9Z x;                  fails form_of_made 2 'bad --made'
+words $near $made ' X' 1C,9Z x;                       fails unknown_code 2 'bad --codes'
+words $near $made ' X' 1C,1C stdin stdin;             fails marker 2 'bad --marker'
+words $near $made X 1C,1C stdin stdin;                fails repeated_code 2 'bad --codes'
+words 1980-01-06T00:00:00 $made X 1C stdin stdin;     fails standard_input_twice 2 'bad links'
+words $near $made X 1C 1 2 3 4 5 6 7 8 9 10 11 12 13 14 15 16 17; fails seventeen_links 2 'bad links'
+words 1980-01-06T00:00:00 $made X 1C nowhere;         fails reference_out_of_range 2 'bad --near'
+words $near $made -X 1C nowhere;                      fails marker_with_a_hyphen 1 'cannot open nowhere'
+
+# clap's refusals; the whole texts stand in the tests of rtk_cli.
+try="
+For more information, try '--help'."
+"$program" convert --station 4096 stdin >out 2>err </dev/null; status=$?
+printf '%s\n' "error: invalid value '4096' for '--station <N>': 4096 is not in 0..=4095" "$try" >want_err
+expect station_of_4096 2 /dev/null want_err
+"$program" convert --window 1 stdin >out 2>err </dev/null; status=$?
+printf '%s\n' "error: invalid value '1' for '--window <N>': 1 is not in 2..=4096" "$try" >want_err
+expect window_of_1 2 /dev/null want_err
+
+# Outputs that fail: the fault line stands behind what of the report is told.
+printf 'rtcm2rinex: write failed\n' >write_failed
+cat base.report write_failed >told_in_full
+if [ -w /dev/full ]; then
+    "$program" convert --station 2003 --near $near --made $made --marker BASE --codes 1C,2W "$base" </dev/null >/dev/full 2>err
+    status=$?
+    : >out
+    expect full_output 1 /dev/null told_in_full
+    "$program" convert --station 2003 --near $near --made $made --marker BASE --codes 1C,2W stdin <"$base" >/dev/full 2>err
+    status=$?
+    : >out
+    expect full_output_that_is_followed 1 /dev/null write_failed
+fi
+"$program" convert --station 2003 --near $near --made $made --marker BASE --codes 1C,2W "$base" </dev/null >&- 2>err; status=$?
+: >out
+expect closed_output 1 /dev/null told_in_full
+"$program" convert --station 2003 --near $near --made $made --marker BASE --codes 1C,2W "$base" </dev/null >out 2>&-; status=$?
+: >err
+expect closed_standard_error 1 "$examples/base.rnx" /dev/null
+
+# The command of the README.
+"$root/bin/rtcm2rinex" convert --station 2003 --near $near --made $made --marker BASE --codes 1C,2W "$base" >out 2>err </dev/null
+status=$?
+expect start_convert 0 "$examples/base.rnx" base.report
+
+echo "$passed $failed"
