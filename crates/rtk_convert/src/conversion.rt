@@ -95,6 +95,7 @@ impl Conversion {
     ) -> Result<Option<GpsMs>, ConvertFault>
         ensures settings { self.new.settings ≡ self.old.settings }
         ensures stopped { (result ≡ Err ConvertFault.Stopped) ↔ (self.old.stopped ≡ true) }
+        ensures still { self.old.stopped ≡ true → (out.new ≡ out.old) × (log.new ≡ log.old) }
         ensures going { OnOk result (self.new.stopped ≡ false) }
         ensures halts { OnErr result (self.new.stopped ≡ true) }
         ensures epoch { IfOk result (λ epoch. IsEpochIn self.old.settings payload.now epoch) }
@@ -225,6 +226,7 @@ impl Conversion {
         log: &mut L,
     ) -> Result<Counts, ConvertFault>
         ensures stopped { (result ≡ Err ConvertFault.Stopped) ↔ (self.stopped ≡ true) }
+        ensures still { self.stopped ≡ true → (out.new ≡ out.old) × (log.new ≡ log.old) }
         ensures ok { IfOk result (λ counts. Finishes self counts (O.taken out.old) (O.taken out.new) (L.taken log.old) (L.taken log.new)) }
         ensures err { OnErr result (self.stopped ≡ false → FinishesInPart self (O.taken out.old) (O.taken out.new) (L.taken log.old) (L.taken log.new)) }
         ensures fault { self.stopped ≡ false → IfErr result IsFrameFault }
