@@ -7,7 +7,7 @@ ghost use Rattle.rtk_convert.specs.Finish.{Finishes, FinishesInPart};
 ghost use Rattle.rtk_convert.specs.History.{IsEpochIn};
 ghost use Rattle.rtk_convert.specs.Offering.{Takes, TakesInPart, closed_by};
 ghost use Rattle.rtk_convert.specs.Report.{counted_offer};
-ghost use Rattle.rtk_convert.specs.State.{Represents, IsAhead, Arrives, BreaksOff};
+ghost use Rattle.rtk_convert.specs.State.{Represents, IsAhead, Arrives, BreaksOff, HasCause};
 
 use crate::arrival::{Finding, find};
 use crate::counts::Counts;
@@ -102,6 +102,7 @@ impl Conversion {
         ensures ok { OnOk result (Arrives self.old link payload.now self.new (O.taken out.old) (O.taken out.new) (L.taken log.old) (L.taken log.new)) }
         ensures err { OnErr result (self.old.stopped ≡ false → BreaksOff self.old link payload.now (O.taken out.old) (O.taken out.new) (L.taken log.old) (L.taken log.new)) }
         ensures fault { self.old.stopped ≡ false → IfErr result IsFrameFault }
+        ensures cause { OnErr result (self.old.stopped ≡ false → HasCause self.old.settings payload.now) }
         ensures out_same { OnOk result (O.failures out.new ≡ O.failures out.old) }
         ensures log_same { OnOk result (L.failures log.new ≡ L.failures log.old) }
         ensures out_failed { IsErrOf result (ConvertFault.Write Stream.Out) → Rises (O.failures out.old) (O.failures out.new) }
@@ -137,6 +138,7 @@ impl Conversion {
         ensures ok { OnOk result (Arrives self.old link payload.now self.new (O.taken out.old) (O.taken out.new) (L.taken log.old) (L.taken log.new)) }
         ensures err { OnErr result (BreaksOff self.old link payload.now (O.taken out.old) (O.taken out.new) (L.taken log.old) (L.taken log.new)) }
         ensures fault { IfErr result IsFrameFault }
+        ensures cause { OnErr result (HasCause self.old.settings payload.now) }
         ensures out_same { OnOk result (O.failures out.new ≡ O.failures out.old) }
         ensures log_same { OnOk result (L.failures log.new ≡ L.failures log.old) }
         ensures out_failed { IsErrOf result (ConvertFault.Write Stream.Out) → Rises (O.failures out.old) (O.failures out.new) }
