@@ -254,3 +254,12 @@ arrives-still s s' w w' c c' k k' b b' d d' link payload o o' l l' arrives = λ 
         one = t.2.one;
       },
     )
+
+pub breaks-still : (s : Settings) (w : Window) (c : Closed) (k : Counts) (b d : Bool) (link : ℕ) (payload : List ℕ) (o o' l l' : Option (List ℕ))
+    → BreaksOff (state s w c k b) link payload o o' l l' → BreaksOff (state s w c k d) link payload o o' l l'
+breaks-still s w c k b d link payload o o' l l' breaks = λ before rep.
+    let t = breaks before (record { window = rep.window; closed = rep.closed; counts = rep.counts }) in (
+      t.0,
+      t.1,
+      record { out = t.2.out; log = t.2.log; one = t.2.one },
+    )

@@ -7,6 +7,7 @@ use Rattle.rtk_obs.specs.Tracks.{track_at}
 use Rattle.rtk_collect.specs.Accepted.{closed}
 use Rattle.rtk_collect.specs.Collector.{Window, Represents as HoldsKept}
 use Rattle.rtk_convert.specs.declared.arrival.Finding.{Finding}
+use Rattle.rtk_convert.specs.declared.arrival.Finding.TheVariants.{OtherMessage, Refused, Foreign, Arrived}
 use Rattle.rtk_convert.specs.declared.counts.Counts.{Counts}
 use Rattle.rtk_convert.specs.FileOfArrivals.{file_so_far}
 use Rattle.rtk_convert.specs.Finding.{ComesTo, Found, arrivals}
@@ -76,3 +77,14 @@ Arrives old link payload new out_old out_new log_old log_new = (before : List Fo
 abbrev pub BreaksOff : State → ℕ → List ℕ → Option (List ℕ) → Option (List ℕ) → Option (List ℕ) → Option (List ℕ) → Type 0
 BreaksOff old link payload out_old out_new log_old log_new = (before : List Found) → Represents old before
     → (f : Finding) × ComesTo old.settings payload f × BreaksOffAs old link f before out_old out_new log_old log_new
+
+-- another message, or one of another station, takes no memory and writes nothing
+abbrev pub MayBreakOff : Finding → Type 0
+MayBreakOff OtherMessage = ⊥
+MayBreakOff (Refused fault) = Unit {0}
+MayBreakOff Foreign = ⊥
+MayBreakOff (Arrived a) = Unit {0}
+
+-- the payload comes to a finding on which a call may break off
+abbrev pub HasCause : Settings → List ℕ → Type 0
+HasCause s payload = (f : Finding) × ComesTo s payload f × MayBreakOff f

@@ -7,7 +7,7 @@ ghost use Rattle.rtk_convert.specs.Finish.{Finishes, FinishesInPart};
 ghost use Rattle.rtk_convert.specs.History.{IsEpochIn};
 ghost use Rattle.rtk_convert.specs.Offering.{Takes, TakesInPart, closed_by};
 ghost use Rattle.rtk_convert.specs.Report.{counted_offer};
-ghost use Rattle.rtk_convert.specs.State.{Represents, IsAhead, Arrives, BreaksOff};
+ghost use Rattle.rtk_convert.specs.State.{Represents, IsAhead, Arrives, BreaksOff, HasCause};
 
 use crate::arrival::{Finding, find};
 use crate::counts::Counts;
@@ -95,12 +95,14 @@ impl Conversion {
     ) -> Result<Option<GpsMs>, ConvertFault>
         ensures settings { self.new.settings ≡ self.old.settings }
         ensures stopped { (result ≡ Err ConvertFault.Stopped) ↔ (self.old.stopped ≡ true) }
+        ensures still { self.old.stopped ≡ true → (out.new ≡ out.old) × (log.new ≡ log.old) }
         ensures going { OnOk result (self.new.stopped ≡ false) }
         ensures halts { OnErr result (self.new.stopped ≡ true) }
         ensures epoch { IfOk result (λ epoch. IsEpochIn self.old.settings payload.now epoch) }
         ensures ok { OnOk result (Arrives self.old link payload.now self.new (O.taken out.old) (O.taken out.new) (L.taken log.old) (L.taken log.new)) }
         ensures err { OnErr result (self.old.stopped ≡ false → BreaksOff self.old link payload.now (O.taken out.old) (O.taken out.new) (L.taken log.old) (L.taken log.new)) }
         ensures fault { self.old.stopped ≡ false → IfErr result IsFrameFault }
+        ensures cause { OnErr result (self.old.stopped ≡ false → HasCause self.old.settings payload.now) }
         ensures out_same { OnOk result (O.failures out.new ≡ O.failures out.old) }
         ensures log_same { OnOk result (L.failures log.new ≡ L.failures log.old) }
         ensures out_failed { IsErrOf result (ConvertFault.Write Stream.Out) → Rises (O.failures out.old) (O.failures out.new) }
@@ -136,6 +138,7 @@ impl Conversion {
         ensures ok { OnOk result (Arrives self.old link payload.now self.new (O.taken out.old) (O.taken out.new) (L.taken log.old) (L.taken log.new)) }
         ensures err { OnErr result (BreaksOff self.old link payload.now (O.taken out.old) (O.taken out.new) (L.taken log.old) (L.taken log.new)) }
         ensures fault { IfErr result IsFrameFault }
+        ensures cause { OnErr result (HasCause self.old.settings payload.now) }
         ensures out_same { OnOk result (O.failures out.new ≡ O.failures out.old) }
         ensures log_same { OnOk result (L.failures log.new ≡ L.failures log.old) }
         ensures out_failed { IsErrOf result (ConvertFault.Write Stream.Out) → Rises (O.failures out.old) (O.failures out.new) }
@@ -225,6 +228,7 @@ impl Conversion {
         log: &mut L,
     ) -> Result<Counts, ConvertFault>
         ensures stopped { (result ≡ Err ConvertFault.Stopped) ↔ (self.stopped ≡ true) }
+        ensures still { self.stopped ≡ true → (out.new ≡ out.old) × (log.new ≡ log.old) }
         ensures ok { IfOk result (λ counts. Finishes self counts (O.taken out.old) (O.taken out.new) (L.taken log.old) (L.taken log.new)) }
         ensures err { OnErr result (self.stopped ≡ false → FinishesInPart self (O.taken out.old) (O.taken out.new) (L.taken log.old) (L.taken log.new)) }
         ensures fault { self.stopped ≡ false → IfErr result IsFrameFault }

@@ -201,6 +201,7 @@ impl Converter {
     /// Closes the links that are open, the lower number first, and ends the file and the report.
     pub fn finish<O: Sink, L: Sink>(self, out: &mut O, log: &mut L) -> Result<Counts, ConvertFault>
         ensures stopped { self.conversion.stopped ≡ true → IsErrOf result ConvertFault.Stopped }
+        ensures still { self.conversion.stopped ≡ true → (out.new ≡ out.old) × (log.new ≡ log.old) }
         ensures fault { self.conversion.stopped ≡ false → IfErr result IsFrameFault }
         ensures ok { IfOk result (λ counts. Ends self counts (O.taken out.old) (O.taken out.new) (L.taken log.old) (L.taken log.new)) }
         ensures err { IfErr result (λ fault. IsFrameFault fault → EndsInPart self (O.taken out.old) (O.taken out.new) (L.taken log.old) (L.taken log.new)) }

@@ -1,6 +1,6 @@
 use Rattle.std.proofs.Common.{true, false, sym, subst}
-use Rattle.rtk_convert.specs.State.{State, IsAhead, Arrives}
-use Rattle.rtk_convert.proofs.ArriveLemmas.{state, arrives-still}
+use Rattle.rtk_convert.specs.State.{State, IsAhead, Arrives, BreaksOff}
+use Rattle.rtk_convert.proofs.ArriveLemmas.{state, arrives-still, breaks-still}
 use Rattle.rtk_convert.proofs.conversion.Conversion.arrive.Goals as goal
 
 pub returns-in-Ok-clause-ok : goal.returns-in-Ok-clause-ok
@@ -14,3 +14,8 @@ invariant_of-self-in-Ok g c = record {
   places = c.self-2.invariant.places;
   ahead = λ going. subst (λ (x : State). IsAhead x.window x.closed) (sym c.self-2.view_is) c.in-Ok.ensures.ahead;
 }
+
+pub returns-in-Err-clause-err : goal.returns-in-Err-clause-err
+returns-in-Err-clause-err g c = λ going.
+    subst (λ (x : State). BreaksOff x c.args.link c.args.payload.now (g.O.Sink.taken c.args.out.now) (g.O.Sink.taken c.take.new.out) (g.L.Sink.taken c.args.log.now) (g.L.Sink.taken c.take.new.log)) c.self.view_is
+    (breaks-still c.self.inside.setup c.self.inside.collector c.self.inside.records c.self.inside.counts true c.self.inside.stopped c.args.link c.args.payload.now (g.O.Sink.taken c.args.out.now) (g.O.Sink.taken c.take.new.out) (g.L.Sink.taken c.args.log.now) (g.L.Sink.taken c.take.new.log) c.in-Err.ensures.err)
