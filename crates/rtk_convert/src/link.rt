@@ -1,6 +1,6 @@
 //! One link: its scanner and the newest epoch that came on it.
 
-ghost use Rattle.std.specs.Prelude.{◌≡◌, ◌≤◌, ◌++◌, [], length, true, false, OnOk, OnErr, IsErrOf, IfErr};
+ghost use Rattle.std.specs.Prelude.{◌≡◌, ◌≤◌, ◌++◌, length, true, false, OnOk, OnErr, IsErrOf, IfErr};
 ghost use Rattle.rtk_frame.specs.Frames.{final_frames, frames, payloads, pending};
 ghost use Rattle.rtk_frame.specs.Stream.{Rises};
 ghost use Rattle.rtk_convert.specs.Failure.{IsFrameFault};
