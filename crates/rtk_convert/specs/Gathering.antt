@@ -7,7 +7,8 @@ use Rattle.rtk_convert.specs.State.{State, Represents}
 
 -- frames with these payloads come on a link, after those before: the conversion then represents all of them, the link
 -- still has the newest epoch that came on it, and what was written is what the file so far and the lines have past those before
-pub record GathersAs (old : State) (link : ℕ) (payloads : List (List ℕ)) (before after : List Found) (new : State) (newest_old newest_new : Option ℕ) (out_old out_new log_old log_new : Option (List ℕ)) : Type 0 where
+pub record GathersAs (old : State) (link : ℕ) (payloads : List (List ℕ)) (before after : List Found) (new : State)
+    (newest_old newest_new : Option ℕ) (out_old out_new log_old log_new : Option (List ℕ)) : Type 0 where
   pub finds : Finds old.settings link payloads before after
   pub represents : Represents new after
   pub newest : newest_old ≡ newest_on link before → newest_new ≡ newest_on link after

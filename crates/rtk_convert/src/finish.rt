@@ -33,9 +33,7 @@ pub(crate) fn close_left<O: Sink>(
 {
     'left: while let Some(set) = left.next_left() {
         let (epoch, cells) = (set.epoch(), set.cells());
-        if let Err(fault) = records.close(alloc, setup, position, epoch, cells, out) {
-            return Err(fault);
-        }
+        records.close(alloc, setup, position, epoch, cells, out)?;
     }
     Ok(())
 }

@@ -98,10 +98,7 @@ impl Records {
         let listed = setup.head().codes();
         fill_table(&mut self.tracks, epoch, cells, listed, &mut self.table);
         let table = &self.table;
-        let has_record = match put_record(alloc, setup, position, self.header_out, table, out) {
-            Ok(has_record) => has_record,
-            Err(fault) => return Err(fault),
-        };
+        let has_record = put_record(alloc, setup, position, self.header_out, table, out)?;
         if !has_record {
             return Ok(());
         }

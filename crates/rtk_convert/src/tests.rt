@@ -267,3 +267,66 @@ fn a_run_has_1_to_16_links(rt: HostRuntime) -> Result<(), Fail> {
     }
     Ok(())
 }
+
+#[test]
+fn a_full_file_keeps_its_first_part(rt: HostRuntime) -> Result<(), Fail> {
+    let alloc = rt.alloc();
+    let mut out = MemSink::new(alloc, 100, 65_536)?;
+    let mut log = MemSink::new(alloc, 65_536, 65_536)?;
+    let mut conversion = Conversion::new(alloc, setup(2003, NOON, 2)?);
+    conversion.arrive(0, Q, &mut out, &mut log)?;
+    conversion.arrive(0, Q_1, &mut out, &mut log)?;
+    let fault = ConvertFault::Write {
+        stream: Stream::Out,
+    };
+    assert_eq!(rt; conversion.arrive(0, Q_2, &mut out, &mut log), Err(fault));
+    assert_eq!(rt; out.bytes(), &TOP.as_bytes()[..100]);
+    assert_eq!(rt; log.bytes().len(), 0);
+    Ok(())
+}
+
+#[test]
+fn a_full_report_leaves_the_whole_file(rt: HostRuntime) -> Result<(), Fail> {
+    let alloc = rt.alloc();
+    let mut out = MemSink::new(alloc, 65_536, 65_536)?;
+    let mut log = MemSink::new(alloc, 10, 65_536)?;
+    let mut conversion = Conversion::new(alloc, setup(2003, NOON, 2)?);
+    conversion.arrive(0, P, &mut out, &mut log)?;
+    conversion.arrive(0, Q, &mut out, &mut log)?;
+    let fault = ConvertFault::Write {
+        stream: Stream::Log,
+    };
+    assert_eq!(rt; conversion.finish(&mut out, &mut log), Err(fault));
+    let file = [TOP, SITE, TYPES, FIRST_AT_NOON, END, AT_NOON, Q_LINE];
+    assert!(rt; consists_of(out.bytes(), &file));
+    assert_eq!(rt; log.bytes(), b"frames 2\no".as_slice());
+    Ok(())
+}
+
+#[test]
+fn faults_have_their_texts(rt: HostRuntime) -> Result<(), Fail> {
+    let alloc = rt.alloc();
+    let stream = Stream::Out;
+    let rows = [
+        (ConvertFault::Setup, "V1 not 1 to 16 links"),
+        (ConvertFault::NoLink, "V2 no such link"),
+        (ConvertFault::LinkClosed, "V3 the link is closed"),
+        (ConvertFault::OutOfMemory, "V4 out of memory"),
+        (ConvertFault::Write { stream }, "V5 a write failed"),
+        (ConvertFault::Read { link: 1 }, "V6 reading link 1 failed"),
+        (ConvertFault::Endless, "V7 the input does not end"),
+        (ConvertFault::Stopped, "V8 stopped"),
+    ];
+    for (fault, want) in rows {
+        assert_eq!(rt; fault.to_string(alloc)?.as_str(), want);
+    }
+    let rows = [
+        (SetupFault::Station, "S1 bad station"),
+        (SetupFault::Near, "S2 bad reference"),
+        (SetupFault::Window, "S3 bad window"),
+    ];
+    for (fault, want) in rows {
+        assert_eq!(rt; fault.to_string(alloc)?.as_str(), want);
+    }
+    Ok(())
+}

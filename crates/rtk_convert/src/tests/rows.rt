@@ -192,9 +192,9 @@ pub(crate) const REPORTS: [Row; 6] = [
         file: &[TOP, NO_SITE, TYPES, FIRST_AT_NOON, END],
         report: "link 1 refused M5 1074\nlink 1 refused M4 1004\nlink 1 refused M1 -\nframes 3\nother 0\nrefused 3\nforeign 0\ntaken 0\nrepeat 0\nconflict 0\nlate 0\nepochs 0\n",
     },
-    // Epochs far ahead of the others make these late.
+    // Epochs far ahead of the others make these late; a payload that is cut short is refused.
     Row {
-        payloads: &[Q_LATER_WEEK, Q_LATER_WEEK_1, Q],
+        payloads: &[Q_LATER_WEEK, Q_LATER_WEEK_1, Q_127_891, P_CUT_SHORT],
         file: &[
             TOP,
             NO_SITE,
@@ -206,17 +206,32 @@ pub(crate) const REPORTS: [Row; 6] = [
             "> 2024 05 20 03 46 41.0000000  0  1\n",
             Q_LINE,
         ],
-        report: "link 1 late 1004 2024-05-17 12:00:00.000\nframes 3\nother 0\nrefused 0\nforeign 0\ntaken 2\nrepeat 0\nconflict 0\nlate 1\nepochs 2\n",
+        report: "link 1 late 1004 2024-05-17 12:02:07.891\nlink 1 refused M3 1005\nframes 4\nother 0\nrefused 1\nforeign 0\ntaken 2\nrepeat 0\nconflict 0\nlate 1\nepochs 2\n",
     },
 ];
 
 /// Conflicts and split epochs.
-pub(crate) const PARTS: [Row; 8] = [
+pub(crate) const PARTS: [Row; 9] = [
     // A cell that differs is in conflict, and the first stays.
     Row {
         payloads: &[P, Q, Q_STRONGER],
         file: &[TOP, SITE, TYPES, FIRST_AT_NOON, END, AT_NOON, Q_LINE],
         report: "link 1 conflict 1004 2024-05-17 12:00:00.000 G05 1C\nframes 3\nother 0\nrefused 0\nforeign 0\ntaken 2\nrepeat 0\nconflict 1\nlate 0\nepochs 1\n",
+    },
+    // Rows rise by satellite, lines of cells in conflict have the order of the message.
+    Row {
+        payloads: &[SATELLITES_32_AND_1, SATELLITES_32_AND_1_STRONGER],
+        file: &[
+            TOP,
+            NO_SITE,
+            TYPES,
+            FIRST_AT_NOON,
+            END,
+            "> 2024 05 17 12 00  0.0000000  0  2\n",
+            "G01  21085472.060 7 110804903.547 7        45.000    21085474.060 5  86341483.283 5        35.000\n",
+            "G32  21085472.060 7 110804903.547 7        45.000    21085474.060 5  86341483.283 5        35.000\n",
+        ],
+        report: "link 1 conflict 1004 2024-05-17 12:00:00.000 G32 1C\nlink 1 conflict 1004 2024-05-17 12:00:00.000 G01 1C\nframes 2\nother 0\nrefused 0\nforeign 0\ntaken 1\nrepeat 0\nconflict 1\nlate 0\nepochs 1\n",
     },
     // Header fields do not matter.
     Row {
@@ -312,7 +327,7 @@ pub(crate) const PARTS: [Row; 8] = [
 ];
 
 /// Rolls and losses of lock.
-pub(crate) const PHASES: [Row; 8] = [
+pub(crate) const PHASES: [Row; 9] = [
     // A phase that rolled over by 1500 cycles is rolled back.
     Row {
         payloads: &[ROLLED, ROLLED_BACK],
@@ -422,6 +437,24 @@ pub(crate) const PHASES: [Row; 8] = [
             "G05  21085472.060 7 110804903.54717        45.000    21085474.060 5  86341483.283 5        35.000\n",
         ],
         report: "frames 3\nother 0\nrefused 0\nforeign 0\ntaken 3\nrepeat 0\nconflict 0\nlate 0\nepochs 3\n",
+    },
+    // The phase of a 1004 that stands behind a 1074 without one does not count.
+    Row {
+        payloads: &[Q, Q_1_UNLOCKED, MSM_5_INVALID_1, Q_2_LOCKED_LATER],
+        file: &[
+            TOP,
+            NO_SITE,
+            TYPES,
+            FIRST_AT_NOON,
+            END,
+            AT_NOON,
+            Q_LINE,
+            AFTER_1_S,
+            "G05                                                  21085474.060 5  86341483.283 5        35.000\n",
+            AFTER_2_S,
+            "G05  21085472.060 7 110804903.54717        45.000    21085474.060 5  86341483.283 5        35.000\n",
+        ],
+        report: "frames 4\nother 0\nrefused 0\nforeign 0\ntaken 4\nrepeat 0\nconflict 0\nlate 0\nepochs 3\n",
     },
     // A lock time below that of the last phase is a loss of lock.
     Row {

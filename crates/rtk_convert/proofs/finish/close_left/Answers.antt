@@ -2,16 +2,17 @@ use Rattle.std.proofs.Common.{◌≡◌, ℕ, ◌<◌, [], ◌∷◌, ◌++◌, 
 use Rattle.rtk_collect.specs.EpochCells.{EpochCells}
 use Rattle.rtk_rinex.specs.Header.{site_of}
 use Rattle.rtk_convert.proofs.FinishLemmas.{some-more, some-part}
+use Rattle.rtk_convert.proofs.WritingLemmas.{on_err-from}
 use Rattle.rtk_convert.proofs.finish.close_left.Goals as goal
 
-pub returns-in-Err-clause-err : goal.returns-in-Err-clause-err
-returns-in-Err-clause-err g c =
+pub returns-in_err-close-clause-err : goal.returns-in_err-close-clause-err
+returns-in_err-close-clause-err g c =
     let e : EpochCells = record { epoch = c.epoch-epoch.result; cells = c.cells-cells.result.now } in
     let same : c.in-Some.set ≡ e =
     ap (λ (t : ℕ). record c.in-Some.set { epoch = t }) (sym c.epoch-epoch.ensures) ∙ ap (λ xs. record { epoch = c.epoch-epoch.result; cells = xs }) (sym c.cells-cells.ensures.value) in
-    some-part c.args.setup.now (site_of c.args.position.now) c.args.left.now.sets c.left.left.sets c.next_left.new.self.sets e c.args.records.now c.left.records
+    on_err-from c.from_residual.result (some-part c.args.setup.now (site_of c.args.position.now) c.args.left.now.sets c.left.left.sets c.next_left.new.self.sets e c.args.records.now c.left.records
     (g.O.Sink.taken c.args.out.now) (g.O.Sink.taken c.left.out) (g.O.Sink.taken c.close.new.out) c.left.invariant.some
-    (c.in-Some.ensures.next ∙ ap (λ (x : EpochCells). c.next_left.new.self.sets ++ x ∷ []) same) c.close.ensures.part
+    (c.in-Some.ensures.next ∙ ap (λ (x : EpochCells). c.next_left.new.self.sets ++ x ∷ []) same) c.close.ensures.part)
 
 pub left-preserved : goal.left-preserved
 left-preserved g c =
@@ -21,10 +22,10 @@ left-preserved g c =
     record {
       some = some-more c.args.setup.now (site_of c.args.position.now) c.args.left.now.sets c.left.left.sets c.next_left.new.self.sets e c.args.records.now c.left.records c.close.new.self
           (g.O.Sink.taken c.args.out.now) (g.O.Sink.taken c.left.out) (g.O.Sink.taken c.close.new.out) c.left.invariant.some
-          (c.in-Some.ensures.next ∙ ap (λ (x : EpochCells). c.next_left.new.self.sets ++ x ∷ []) same) c.in_default-close.ensures.follows c.in_default-close.ensures.all;
+          (c.in-Some.ensures.next ∙ ap (λ (x : EpochCells). c.next_left.new.self.sets ++ x ∷ []) same) c.in_ok-close.ensures.follows c.in_ok-close.ensures.all;
       above = λ k d lt sat code hs.
           let below = c.in-Some.ensures.least k d lt in
           let higher : c.epoch-epoch.result < (get_or c.next_left.new.self.sets k d).epoch = omega (arith, below, c.epoch-epoch.ensures) in
-          c.in_default-close.ensures.later (get_or c.next_left.new.self.sets k d).epoch higher sat code hs;
-      failures = c.in_default-close.ensures.same ∙ c.left.invariant.failures;
+          c.in_ok-close.ensures.later (get_or c.next_left.new.self.sets k d).epoch higher sat code hs;
+      failures = c.in_ok-close.ensures.same ∙ c.left.invariant.failures;
     }

@@ -16,7 +16,7 @@ returns-then-not-has_record-clause-follows g c = λ below f.
     let old : Closed = record { tracks = c.self.inside.tracks; header_out = c.self.inside.header_out; count = c.self.inside.count } in
     let before = subst (λ (x : Closed). Follows x c.args.setup.now.heading.listed below) (sym c.self.view_is) f in
     let inside = subst (λ (l : List Code). Follows old l below) (sym listed) before in
-    let text = c.in-Ok.ensures.any ∙ ap (λ (t : Epoch). is_any (record_text t)) (c.fill_table.ensures.table below inside.phases) ∙ ap (λ (l : List Code). is_any (record_of l e below)) listed in
+    let text = c.in_ok-has_record.ensures.any ∙ ap (λ (t : Epoch). is_any (record_text t)) (c.fill_table.ensures.table below inside.phases) ∙ ap (λ (l : List Code). is_any (record_of l e below)) listed in
     follows-no old (record { tracks = c.fill_table.new.tracks; header_out = c.self.inside.header_out; count = c.self.inside.count }) c.args.setup.now.heading.listed e below
     (c.fill_table.ensures.phases below before.phases) refl refl (sym text ∙ c.if-not-has_record.true) before
 
@@ -27,6 +27,6 @@ returns-clause-follows g c = λ below f.
     let old : Closed = record { tracks = c.self.inside.tracks; header_out = c.self.inside.header_out; count = c.self.inside.count } in
     let before = subst (λ (x : Closed). Follows x c.args.setup.now.heading.listed below) (sym c.self.view_is) f in
     let inside = subst (λ (l : List Code). Follows old l below) (sym listed) before in
-    let text = c.in-Ok.ensures.any ∙ ap (λ (t : Epoch). is_any (record_text t)) (c.fill_table.ensures.table below inside.phases) ∙ ap (λ (l : List Code). is_any (record_of l e below)) listed in
+    let text = c.in_ok-has_record.ensures.any ∙ ap (λ (t : Epoch). is_any (record_text t)) (c.fill_table.ensures.table below inside.phases) ∙ ap (λ (l : List Code). is_any (record_of l e below)) listed in
     follows-yes old (record { tracks = c.fill_table.new.tracks; header_out = true; count = c.saturating_add-self-inside.result }) c.args.setup.now.heading.listed e below
     (c.fill_table.ensures.phases below before.phases) refl c.saturating_add-self-inside.ensures (sym text ∙ c.if-not-has_record.false) before
