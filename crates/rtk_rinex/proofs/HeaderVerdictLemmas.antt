@@ -18,7 +18,7 @@ use Rattle.rtk_rinex.proofs.HeaderSameLemmas.{IsGood, Agrees, lines_of, length-r
 
 -- ---- lines of texts
 
-line_front : (a b : List ℕ) (j : ℕ) → 81 * j + 81 ≤ length a → line_at j (a ++ b) ≡ line_at j a
+pub line_front : (a b : List ℕ) (j : ℕ) → 81 * j + 81 ≤ length a → line_at j (a ++ b) ≡ line_at j a
 line_front a b j h =
     let dropped : drop (81 * j) (a ++ b) ≡ drop (81 * j) a ++ b = drop-append-le (81 * j) a b (omega arith) in
     let n = length-drop (81 * j) a in
@@ -65,7 +65,7 @@ are_lines c d u g =
 
 -- ---- one number of lines
 
-count_shown : (line : List ℕ) (h : Heading) (s : Site) (t : ℕ) → IsGood h s t → line ≡ line_at 9 (header_text h s t) → number_at 3 3 line ≡ 3 * length h.listed
+pub count_shown : (line : List ℕ) (h : Heading) (s : Site) (t : ℕ) → IsGood h s t → line ≡ line_at 9 (header_text h s t) → number_at 3 3 line ≡ 3 * length h.listed
 unfolding type_row
 count_shown line h s t g e =
     let some : 0 < lines_of h = omega (arith, g.heading.1.0) in

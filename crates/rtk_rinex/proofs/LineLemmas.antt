@@ -132,7 +132,7 @@ epoch_line-line t n h small =
 
 -- ---- the first line of a text is one
 
-no_front : (front rest : List ℕ) → HasNoEnd (front ++ 10 ∷ rest) → ⊥
+pub no_front : (front rest : List ℕ) → HasNoEnd (front ++ 10 ∷ rest) → ⊥
 no_front [] rest h = All-head IsNoEnd 10 rest h refl
 no_front (x ∷ front) rest h = no_front front rest (All-tail IsNoEnd x (front ++ 10 ∷ rest) h)
 
@@ -142,7 +142,7 @@ no_line text line rest h l e =
     let inside = rw whole at h in
     no_front l.0 rest inside
 
-same_front : (f g x y : List ℕ) → HasNoEnd f → HasNoEnd g → f ++ 10 ∷ x ≡ g ++ 10 ∷ y → (f ≡ g) × (x ≡ y)
+pub same_front : (f g x y : List ℕ) → HasNoEnd f → HasNoEnd g → f ++ 10 ∷ x ≡ g ++ 10 ∷ y → (f ≡ g) × (x ≡ y)
 same_front [] [] x y h k e = (refl, cc)
 same_front [] (b ∷ g) x y h k e = absurd (let same : 10 ≡ b = ap (λ (xs : List ℕ). get_or xs 0 0) e in All-head IsNoEnd b g k (sym same))
 same_front (a ∷ f) [] x y h k e = absurd (let same : a ≡ 10 = ap (λ (xs : List ℕ). get_or xs 0 0) e in All-head IsNoEnd a f h same)

@@ -76,7 +76,7 @@ count-of n e h =
 
 -- ---- one list
 
-same_cons : {X : Type 0} (a b : X) (xs ys : List X) → a ≡ b → ys ≡ xs → b ∷ ys ≡ a ∷ xs
+pub same_cons : {X : Type 0} (a b : X) (xs ys : List X) → a ≡ b → ys ≡ xs → b ∷ ys ≡ a ∷ xs
 same_cons a b xs ys e f = cc
 
 pub record Goes {X : Type 0} (f : X → List ℕ) (xs ys : List X) (x y : List ℕ) : Type 0 where
