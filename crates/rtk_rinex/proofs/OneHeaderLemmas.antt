@@ -12,7 +12,8 @@ use Rattle.rtk_rinex.specs.declared.header_fault.HeaderCause.TheVariants.{Header
 use Rattle.rtk_rinex.specs.Reading.{reading_of}
 use Rattle.rtk_rinex.specs.Header.{Heading, Site, header_line, first_text, header_text}
 use Rattle.rtk_rinex.specs.HeaderShown.{line_at}
-use Rattle.rtk_rinex.specs.HeaderFault.{IsLine, AreLines, IsHeader, BeginsHeader, BeginsTable, HasHeader, IsLineFault, IsFaultBehind}
+use Rattle.rtk_rinex.specs.Lines.{HasNoEnd}
+use Rattle.rtk_rinex.specs.HeaderFault.{AreLines, IsHeader, BeginsHeader, BeginsTable, HasHeader, IsLineFault, IsFaultBehind}
 use Rattle.rtk_rinex.specs.Table.{IsTableEpoch}
 use Rattle.rtk_rinex.specs.CheckTable.{cause_of}
 use Rattle.rtk_rinex.proofs.ReadingLemmas.{reading-reads}
@@ -78,13 +79,13 @@ one_header h c s d t u x y g f e =
 lines-front : (l : List ℕ) (ls : List (List ℕ)) (x : List ℕ) → text_of (l ∷ ls) ++ x ≡ l ++ 10 ∷ (text_of ls ++ x)
 lines-front l ls x = append_assoc (ended l) (text_of ls) x ∙ append_assoc l (10 ∷ []) (text_of ls ++ x)
 
-same_lines : (ls ms : List (List ℕ)) (x y : List ℕ) → All IsLine ls → All IsLine ms → length ls ≤ length ms → text_of ls ++ x ≡ text_of ms ++ y → Goes ended ls ms x y
+same_lines : (ls ms : List (List ℕ)) (x y : List ℕ) → All HasNoEnd ls → All HasNoEnd ms → length ls ≤ length ms → text_of ls ++ x ≡ text_of ms ++ y → Goes ended ls ms x y
 same_lines [] ms x y h g long e = record { more = ms; list = refl; text = e }
 same_lines (l ∷ ls) [] x y h g long e = absurd (omega arith)
 same_lines (l ∷ ls) (m ∷ ms) x y h g long e =
-    let one = same_front l m (text_of ls ++ x) (text_of ms ++ y) (All-head IsLine l ls h) (All-head IsLine m ms g)
+    let one = same_front l m (text_of ls ++ x) (text_of ms ++ y) (All-head HasNoEnd l ls h) (All-head HasNoEnd m ms g)
     (sym (lines-front l ls x) ∙ e ∙ lines-front m ms y) in
-    let rest = same_lines ls ms x y (All-tail IsLine l ls h) (All-tail IsLine m ms g) (omega arith) one.1 in
+    let rest = same_lines ls ms x y (All-tail HasNoEnd l ls h) (All-tail HasNoEnd m ms g) (omega arith) one.1 in
     record { more = rest.more; list = same_cons l m (ls ++ rest.more) ms one.0 rest.list; text = rest.text }
 
 no_text : (more : List (List ℕ)) (x : List ℕ) → text_of more ++ x ≡ [] → length more ≡ 0
@@ -113,7 +114,7 @@ one_number n m text a b =
 pub record HasFaultBehind (n : ℕ) (bytes : List ℕ) (cause : HeaderCause) : Type 0 where
   pub lines : List (List ℕ)
   pub rest : List ℕ
-  pub are_lines : All IsLine lines
+  pub are_lines : All HasNoEnd lines
   pub size : length lines ≡ n
   pub text : bytes ≡ text_of lines ++ rest
   pub begins : BeginsHeader (text_of lines)
@@ -161,7 +162,7 @@ table_begins text x h = (
 )
 
 -- no header goes on with the line that has the fault
-no_next : (front rest : List ℕ) (cause : HeaderCause) (l y x : List ℕ) → IsTold (cause_of cause) → IsLineFault front rest cause → IsLine l
+no_next : (front rest : List ℕ) (cause : HeaderCause) (l y x : List ℕ) → IsTold (cause_of cause) → IsLineFault front rest cause → HasNoEnd l
     → rest ≡ l ++ 10 ∷ y → IsHeader ((front ++ l ++ 10 ∷ []) ++ x) → ⊥
 no_next front rest HeaderLine l y x told f is e h =
     let same = same_front l f.0 y f.1 is f.2 (sym e ∙ f.3) in
@@ -169,15 +170,15 @@ no_next front rest HeaderLine l y x told f is e h =
 no_next front rest Truncated l y x told f is e h = no_front l y (rw e at f)
 no_next front rest OutOfMemory l y x told f is e h = told
 
-more_lines : (ls ms : List (List ℕ)) → All IsLine (ls ++ ms) → All IsLine ms
+more_lines : (ls ms : List (List ℕ)) → All HasNoEnd (ls ++ ms) → All HasNoEnd ms
 more_lines [] ms h = h
-more_lines (l ∷ ls) ms h = more_lines ls ms (All-tail IsLine l (ls ++ ms) h)
+more_lines (l ∷ ls) ms h = more_lines ls ms (All-tail HasNoEnd l (ls ++ ms) h)
 
 goes_on : (n : ℕ) (bytes : List ℕ) (cause : HeaderCause) (a : HasFaultBehind n bytes cause) (ms : List (List ℕ)) (l : List ℕ) (more : List (List ℕ)) (y z : List ℕ)
-    → IsTold (cause_of cause) → All IsLine ms → ms ≡ a.lines ++ l ∷ more → a.rest ≡ text_of (l ∷ more) ++ y → IsHeader (text_of ms ++ z) → ⊥
+    → IsTold (cause_of cause) → All HasNoEnd ms → ms ≡ a.lines ++ l ∷ more → a.rest ≡ text_of (l ∷ more) ++ y → IsHeader (text_of ms ++ z) → ⊥
 goes_on n bytes cause a ms l more y z told is e text h =
-    let good : All IsLine (a.lines ++ l ∷ more) = rw e at is in
-    let line = All-head IsLine l more (more_lines a.lines (l ∷ more) good) in
+    let good : All HasNoEnd (a.lines ++ l ∷ more) = rw e at is in
+    let line = All-head HasNoEnd l more (more_lines a.lines (l ∷ more) good) in
     let front : List ℕ = text_of a.lines in
     let all : text_of ms ++ z ≡ (front ++ text_of (l ∷ more)) ++ z = ap (λ (t : List ℕ). t ++ z) (ap text_of e ∙ flat_map-append ended a.lines (l ∷ more)) in
     let split : (front ++ text_of (l ∷ more)) ++ z ≡ (front ++ l ++ 10 ∷ []) ++ (text_of more ++ z) = simp append_assoc in
@@ -187,7 +188,7 @@ goes_on n bytes cause a ms l more y z told is e text h =
 -- ---- where a header has a fault, no header stands
 
 no_header_more : (n : ℕ) (bytes : List ℕ) (cause : HeaderCause) (a : HasFaultBehind n bytes cause) (ms more : List (List ℕ)) (y : List ℕ)
-    → IsTold (cause_of cause) → All IsLine ms → ms ≡ a.lines ++ more → a.rest ≡ text_of more ++ y → IsHeader (text_of ms) → ⊥
+    → IsTold (cause_of cause) → All HasNoEnd ms → ms ≡ a.lines ++ more → a.rest ≡ text_of more ++ y → IsHeader (text_of ms) → ⊥
 no_header_more n bytes cause a ms [] y told is e text h =
     let same : ms ≡ a.lines = e ∙ append-nil a.lines in
     a.part (rw same at h)

@@ -13,7 +13,8 @@ use Rattle.rtk_rinex.specs.Reading.{IsMoment, reading_of}
 use Rattle.rtk_rinex.specs.Record.{Epoch, epoch_line, satellite_line, record_text}
 use Rattle.rtk_rinex.specs.Table.{IsTableRow, IsTableEpoch, StartsAt}
 use Rattle.rtk_rinex.specs.CheckLine.{IsNextTime, IsEpochFault, IsSatelliteFault}
-use Rattle.rtk_rinex.specs.CheckText.{HasNoEnd, IsLine, BeginsWithFault, last_satellite, last_time, record_lines, IsFaultOfRows, IsFaultBehindEpochLine, IsFaultOfEpochLine, IsFaultOfRecord, IsFaultOfRecords}
+use Rattle.rtk_rinex.specs.Lines.{HasNoEnd, IsLine}
+use Rattle.rtk_rinex.specs.CheckText.{BeginsWithFault, last_satellite, last_time, record_lines, IsFaultOfRows, IsFaultBehindEpochLine, IsFaultOfEpochLine, IsFaultOfRecord, IsFaultOfRecords}
 use Rattle.rtk_rinex.proofs.CheckLemmas.{one_satellite, rows-all, rows-rise}
 use Rattle.rtk_rinex.proofs.LineLemmas.{epoch_line-line, no_line, same_line}
 use Rattle.rtk_rinex.proofs.OneLemmas.{Below, Earlier, Goes, same_cons, one_epoch_line, same_rows, one_record, row-next, epoch-next, epochs-all, epochs-rise, epochs-start}
