@@ -13,7 +13,8 @@ use Rattle.rtk_rinex.specs.Reading.{reading_of}
 use Rattle.rtk_rinex.specs.Record.{Epoch, observations, has_line, trim_end, epoch_line, satellite_line, record_text}
 use Rattle.rtk_rinex.specs.Table.{IsTableRow, IsTableEpoch}
 use Rattle.rtk_rinex.specs.CheckLine.{IsNextSatellite, IsNextTime, IsEpochFault, IsSatelliteFault}
-use Rattle.rtk_rinex.specs.CheckText.{IsLine, BeginsWithFault, last_satellite, AreRows, last_time, AreEpochs, record_lines, satellite_lines}
+use Rattle.rtk_rinex.specs.Lines.{IsLine}
+use Rattle.rtk_rinex.specs.CheckText.{BeginsWithFault, last_satellite, AreRows, last_time, AreEpochs, record_lines, satellite_lines}
 use Rattle.rtk_rinex.specs.declared.check_fault.Cause.{Cause}
 use Rattle.rtk_rinex.specs.declared.check_fault.Cause.TheVariants.{HeaderLine, Columns, Value, Order, Truncated, OutOfMemory}
 use Rattle.rtk_rinex.specs.declared.epoch_table.SatelliteRow.{SatelliteRow}

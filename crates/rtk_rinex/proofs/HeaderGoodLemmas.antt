@@ -18,7 +18,7 @@ use Rattle.rtk_obs.specs.Position.{IsCoordinate}
 use Rattle.rtk_rinex.specs.Columns.{left, right, decimals, fixed, last_digits, is_negative}
 use Rattle.rtk_rinex.specs.Reading.{IsMoment, reading_of, seconds_of}
 use Rattle.rtk_rinex.specs.Header.{Heading, Site, IsHeading, IsSite, made_text, types_of, types, first_text}
-use Rattle.rtk_rinex.specs.HeaderFault.{IsLine}
+use Rattle.rtk_rinex.specs.Lines.{HasNoEnd}
 use Rattle.rtk_rinex.specs.HeaderShown.{line_at}
 use Rattle.rtk_rinex.proofs.HeaderDigitsLemmas.{take-exact, length-left, length-right}
 use Rattle.rtk_rinex.proofs.HeaderShownLemmas.{Fits, Fits-reading_of, length-fixed, IsCoordinate-height, length-seconds}
@@ -65,7 +65,7 @@ not_lf : (x : ℕ) (b : Bool) → (x == 10) ≡ b → not b ≡ true → x ≢ 1
 not_lf x true e h = absurd (let apart : false ≡ true = h in cc)
 not_lf x false e h = grind (arith, nat_tests)
 
-line-plain : (xs : List ℕ) → plain xs ≡ true → IsLine xs
+line-plain : (xs : List ℕ) → plain xs ≡ true → HasNoEnd xs
 unfolding plain
 line-plain [] e = All-nil (λ (x : ℕ). x ≢ 10)
 line-plain (x ∷ xs) e =
@@ -139,7 +139,7 @@ plain-types (c ∷ cs) = both (types_of c) (types cs) (plain-types_of c) (plain-
 
 pub record IsRow (line : List ℕ) : Type 0 where
   pub length : length line ≡ 80
-  pub plain : IsLine line
+  pub plain : HasNoEnd line
 
 good_row : (content label : List ℕ) → length content ≤ 60 → length label ≤ 20 → plain content ≡ true → plain label ≡ true → IsRow (row content label)
 unfolding row

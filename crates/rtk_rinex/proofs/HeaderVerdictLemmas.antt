@@ -8,7 +8,8 @@ use Rattle.std.proofs.Math.Seq.{take-append-add}
 use Rattle.rtk_rinex.specs.Reading.{IsMoment}
 use Rattle.rtk_rinex.specs.Header.{Heading, Site, IsHeading, IsSite, types, header_text}
 use Rattle.rtk_rinex.specs.Record.{record_text}
-use Rattle.rtk_rinex.specs.HeaderFault.{IsLine, AreLines, IsHeader, BeginsHeader, BeginsTable, HasHeader}
+use Rattle.rtk_rinex.specs.Lines.{HasNoEnd}
+use Rattle.rtk_rinex.specs.HeaderFault.{AreLines, IsHeader, BeginsHeader, BeginsTable, HasHeader}
 use Rattle.rtk_rinex.specs.HeaderShown.{line_at, number_at}
 use Rattle.rtk_rinex.proofs.HeaderDigitsLemmas.{take-exact, drop-exact}
 use Rattle.rtk_rinex.proofs.HeaderShownLemmas.{count_is}
@@ -18,7 +19,7 @@ use Rattle.rtk_rinex.proofs.HeaderSameLemmas.{IsGood, Agrees, lines_of, length-r
 
 -- ---- lines of texts
 
-line_front : (a b : List ℕ) (j : ℕ) → 81 * j + 81 ≤ length a → line_at j (a ++ b) ≡ line_at j a
+pub line_front : (a b : List ℕ) (j : ℕ) → 81 * j + 81 ≤ length a → line_at j (a ++ b) ≡ line_at j a
 line_front a b j h =
     let dropped : drop (81 * j) (a ++ b) ≡ drop (81 * j) a ++ b = drop-append-le (81 * j) a b (omega arith) in
     let n = length-drop (81 * j) a in
@@ -36,7 +37,7 @@ head_same : (x y : ℕ) (xs ys : List ℕ) → x ∷ xs ≡ y ∷ ys → (x ≡ 
 head_same x y xs ys e = (ap (λ (l : List ℕ). get_or l 0 0) e, ap (λ (l : List ℕ). drop 1 l) e)
 
 -- a text has one first line
-one_line : (xs ys us vs : List ℕ) → IsLine xs → IsLine ys → xs ++ 10 ∷ us ≡ ys ++ 10 ∷ vs → xs ≡ ys
+one_line : (xs ys us vs : List ℕ) → HasNoEnd xs → HasNoEnd ys → xs ++ 10 ∷ us ≡ ys ++ 10 ∷ vs → xs ≡ ys
 one_line [] [] us vs h g e = refl
 one_line [] (y ∷ ys) us vs h g e = absurd (All-head (λ (x : ℕ). x ≢ 10) y ys g (sym (head_same 10 y us (ys ++ 10 ∷ vs) e).0))
 one_line (x ∷ xs) [] us vs h g e = absurd (All-head (λ (x : ℕ). x ≢ 10) x xs h (head_same x 10 (xs ++ 10 ∷ us) vs e).0)
@@ -54,7 +55,7 @@ front_rows (r ∷ rs) (suc k) h le =
     let places : 81 * suc k ≡ length (ended r) + 81 * k = omega arith in
     rw (places, take-append-add (ended r) (text_of rs) (81 * k), front_rows rs k (All-tail IsRow r rs h) (omega arith)) refl
 
-line_rows : (rs : List (List ℕ)) (k : ℕ) → All IsRow rs → All IsLine (take k rs)
+line_rows : (rs : List (List ℕ)) (k : ℕ) → All IsRow rs → All HasNoEnd (take k rs)
 line_rows rs k h i d lt =
     let n = length-take k rs in
     rw (get_or-take k rs i d (omega (arith, n, lt))) ((h i d (omega (arith, n, lt))).plain)
@@ -65,7 +66,7 @@ are_lines c d u g =
 
 -- ---- one number of lines
 
-count_shown : (line : List ℕ) (h : Heading) (s : Site) (t : ℕ) → IsGood h s t → line ≡ line_at 9 (header_text h s t) → number_at 3 3 line ≡ 3 * length h.listed
+pub count_shown : (line : List ℕ) (h : Heading) (s : Site) (t : ℕ) → IsGood h s t → line ≡ line_at 9 (header_text h s t) → number_at 3 3 line ≡ 3 * length h.listed
 unfolding type_row
 count_shown line h s t g e =
     let some : 0 < lines_of h = omega (arith, g.heading.1.0) in
@@ -167,7 +168,7 @@ parts_none text c d u k p x =
     p.unlike (p.back h s t k g.heading g.site g.first (λ j le. line j (omega (arith, le, within))))
 
 -- no table's text begins with the lines before and this one
-pub parts_next : (text line more : List ℕ) (c : Heading) (d : Site) (u k : ℕ) → PartsAt text c d u k → IsLine line
+pub parts_next : (text line more : List ℕ) (c : Heading) (d : Site) (u k : ℕ) → PartsAt text c d u k → HasNoEnd line
     → drop (81 * k) text ≡ line ++ 10 ∷ more → ¬ (BeginsTable (take (81 * k) text ++ line ++ 10 ∷ []))
 parts_next text line more c d u k p l is x =
     let h = x.0.head in

@@ -19,3 +19,6 @@ pub mod LineLemmas
 pub mod OneLemmas
 pub mod FormLemmas
 pub mod TextLemmas
+pub mod OneRecordsLemmas
+pub mod OneHeaderLemmas
+pub mod OneFaultLemmas

@@ -9,7 +9,7 @@ use Rattle.rtk_rinex.specs.declared.epoch_table.SatelliteRow.{SatelliteRow}
 use Rattle.rtk_rinex.specs.Columns.{right, last_digits, decimals, fixed, is_negative}
 use Rattle.rtk_rinex.specs.Reading.{IsMoment, reading_of, seconds_of}
 use Rattle.rtk_rinex.specs.Record.{is_written, observation, observations, lli_digit, strength_digit, strength_value, before_trimmed, trim_end, satellite_line, epoch_date_text, epoch_columns, epoch_line}
-use Rattle.rtk_rinex.specs.CheckText.{HasNoEnd, IsLine}
+use Rattle.rtk_rinex.specs.Lines.{HasNoEnd, IsLine}
 use Rattle.rtk_rinex.proofs.ValuesLemmas.{written-magnitude}
 use Rattle.rtk_rinex.proofs.EpochLemmas.{Fits-reading_of}
 
@@ -132,7 +132,7 @@ epoch_line-line t n h small =
 
 -- ---- the first line of a text is one
 
-no_front : (front rest : List ℕ) → HasNoEnd (front ++ 10 ∷ rest) → ⊥
+pub no_front : (front rest : List ℕ) → HasNoEnd (front ++ 10 ∷ rest) → ⊥
 no_front [] rest h = All-head IsNoEnd 10 rest h refl
 no_front (x ∷ front) rest h = no_front front rest (All-tail IsNoEnd x (front ++ 10 ∷ rest) h)
 
@@ -142,7 +142,7 @@ no_line text line rest h l e =
     let inside = rw whole at h in
     no_front l.0 rest inside
 
-same_front : (f g x y : List ℕ) → HasNoEnd f → HasNoEnd g → f ++ 10 ∷ x ≡ g ++ 10 ∷ y → (f ≡ g) × (x ≡ y)
+pub same_front : (f g x y : List ℕ) → HasNoEnd f → HasNoEnd g → f ++ 10 ∷ x ≡ g ++ 10 ∷ y → (f ≡ g) × (x ≡ y)
 same_front [] [] x y h k e = (refl, cc)
 same_front [] (b ∷ g) x y h k e = absurd (let same : 10 ≡ b = ap (λ (xs : List ℕ). get_or xs 0 0) e in All-head IsNoEnd b g k (sym same))
 same_front (a ∷ f) [] x y h k e = absurd (let same : a ≡ 10 = ap (λ (xs : List ℕ). get_or xs 0 0) e in All-head IsNoEnd a f h same)

@@ -12,7 +12,8 @@ use Rattle.rtk_rinex.specs.Reading.{IsMoment, reading_of}
 use Rattle.rtk_rinex.specs.Record.{Epoch, epoch_line, satellite_line, record_text}
 use Rattle.rtk_rinex.specs.Table.{IsTableRow, IsTableEpoch, StartsAt}
 use Rattle.rtk_rinex.specs.CheckLine.{IsNextTime, IsNextSatellite}
-use Rattle.rtk_rinex.specs.CheckText.{IsLine, AreEpochs, last_satellite, last_time}
+use Rattle.rtk_rinex.specs.Lines.{IsLine}
+use Rattle.rtk_rinex.specs.CheckText.{AreEpochs, last_satellite, last_time}
 use Rattle.rtk_rinex.proofs.ReadingLemmas.{reading-reads}
 use Rattle.rtk_rinex.proofs.EpochLemmas.{epoch-shows, line-columns, length-line, one_moment}
 use Rattle.rtk_rinex.proofs.RowLemmas.{row-shows}
@@ -76,7 +77,7 @@ count-of n e h =
 
 -- ---- one list
 
-same_cons : {X : Type 0} (a b : X) (xs ys : List X) → a ≡ b → ys ≡ xs → b ∷ ys ≡ a ∷ xs
+pub same_cons : {X : Type 0} (a b : X) (xs ys : List X) → a ≡ b → ys ≡ xs → b ∷ ys ≡ a ∷ xs
 same_cons a b xs ys e f = cc
 
 pub record Goes {X : Type 0} (f : X → List ℕ) (xs ys : List X) (x y : List ℕ) : Type 0 where

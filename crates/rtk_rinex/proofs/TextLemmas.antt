@@ -37,7 +37,7 @@ header-none bytes header.Truncated h = λ t is e.
 header-none bytes header.OutOfMemory h = tt
 
 -- a header has more bytes than lines
-line_bytes : (lines : List (List ℕ)) → length lines ≤ length (flat_map (λ (line : List ℕ). line ++ 10 ∷ []) lines)
+pub line_bytes : (lines : List (List ℕ)) → length lines ≤ length (flat_map (λ (line : List ℕ). line ++ 10 ∷ []) lines)
 line_bytes [] = omega arith
 line_bytes (l ∷ lines) =
     omega (arith, line_bytes lines, length-append (l ++ 10 ∷ []) (flat_map (λ (line : List ℕ). line ++ 10 ∷ []) lines), length-append l (10 ∷ []))
@@ -76,7 +76,7 @@ no_rest n [] h e = refl
 no_rest n (a ∷ more) h e =
     absurd (some_text n a (flat_map record_text more ++ []) (h 0 a (omega arith)) (sym (append_assoc (record_text a) (flat_map record_text more) []) ∙ sym e))
 
-all_more : (n : ℕ) (xs more : List Epoch) → All (IsTableEpoch n) (xs ++ more) → All (IsTableEpoch n) more
+pub all_more : (n : ℕ) (xs more : List Epoch) → All (IsTableEpoch n) (xs ++ more) → All (IsTableEpoch n) more
 all_more n [] more h = h
 all_more n (x ∷ xs) more h = all_more n xs more (All-tail (IsTableEpoch n) x (xs ++ more) h)
 
@@ -123,7 +123,7 @@ copy n bytes rest start mid new h s first records lines none m e r =
 
 -- ---- a fault in the records
 
-rows_more : (n : ℕ) (xs more : List SatelliteRow) → All (IsTableRow n) (xs ++ more) → All (IsTableRow n) more
+pub rows_more : (n : ℕ) (xs more : List SatelliteRow) → All (IsTableRow n) (xs ++ more) → All (IsTableRow n) more
 rows_more n [] more h = h
 rows_more n (x ∷ xs) more h = rows_more n xs more (All-tail (IsTableRow n) x (xs ++ more) h)
 
@@ -150,7 +150,7 @@ behind-fault n first last before text f a y le told b h e =
     let goes = same_rows n w.rows a.rows w.rest y le (rows-all n None w.rows w.are_rows) h.rows (omega (arith, less)) (sym w.text ∙ line.1) in
     rows-fault n before text f w.rows a.rows goes.more w.rest y told w.cause h.rows h.rise goes.list goes.text less
 
-record-fault : (n first : ℕ) (last : Option ℕ) (before : ℕ) (text : List ℕ) (f : CheckFault) (a : Epoch) (y : List ℕ) → n ≤ 16 → IsTold f.cause
+pub record-fault : (n first : ℕ) (last : Option ℕ) (before : ℕ) (text : List ℕ) (f : CheckFault) (a : Epoch) (y : List ℕ) → n ≤ 16 → IsTold f.cause
     → IsFaultOfRecord n first last before text f → IsTableEpoch n a → IsNextTime first last a.time → text ≡ record_text a ++ y → ⊥
 record-fault n first last before text f a y le told b h next e =
     ⊎_elim
@@ -178,7 +178,7 @@ next-fault n first before f epochs others (a ∷ more) rest le told b h p s e t 
     (All-head (IsTableEpoch n) a more (all_more n epochs (a ∷ more) good)) (epoch-next first epochs a more start rise)
     (t ∙ append_assoc (record_text a) (flat_map record_text more) [])
 
-no_records : (n first before : ℕ) (text : List ℕ) (f : CheckFault) (others : List Epoch) → n ≤ 16 → IsTold f.cause → IsFaultOfRecords n first before text f
+pub no_records : (n first before : ℕ) (text : List ℕ) (f : CheckFault) (others : List Epoch) → n ≤ 16 → IsTold f.cause → IsFaultOfRecords n first before text f
     → All (IsTableEpoch n) others → AllPairs Earlier others → StartsAt first others → text ≡ flat_map record_text others → ⊥
 no_records n first before text f others le told r h p s e =
     let goes = same_epochs n r.epochs others r.rest le (epochs-all n first None r.epochs r.are_epochs) h (sym r.text ∙ e) in

@@ -66,3 +66,13 @@ IsFault bytes fault = IsFaultOfHeader bytes fault ⊎ IsFaultBehindHeader bytes 
 abbrev pub IsWithoutTable : List ℕ → Cause → Type 0
 IsWithoutTable bytes OutOfMemory = Unit {0}
 IsWithoutTable bytes cause = (t : Table) → IsTable t → bytes ≢ table_text t
+
+-- a text has one fault at most, the same line and cause; of the want of memory it says nothing
+abbrev pub OneFault : Type 0
+OneFault =
+    (bytes : List ℕ) (f g : CheckFault) → IsFault bytes f → IsFault bytes g → f.cause ≢ OutOfMemory → g.cause ≢ OutOfMemory → f ≡ g
+
+-- a text with a fault is that of no well-formed table
+abbrev pub FaultMeansNoTable : Type 0
+FaultMeansNoTable =
+    (bytes : List ℕ) (f : CheckFault) → IsFault bytes f → f.cause ≢ OutOfMemory → (t : Table) → IsTable t → bytes ≢ table_text t

@@ -1,22 +1,15 @@
 -- The first fault of a text that is no file of this project: the lines before it begin a file, and with it they do not.
-use Rattle.std.specs.Prelude.{◌≡◌, ◌≢◌, ◌<◌, ℕ, ◌+◌, List, [], ◌∷◌, ◌++◌, length, flat_map, All, sum_by, Option, Some, None, ◌⊎◌}
+use Rattle.std.specs.Prelude.{◌≡◌, ◌≢◌, ◌<◌, ℕ, ◌+◌, List, [], ◌∷◌, ◌++◌, length, flat_map, sum_by, Option, Some, None, ◌⊎◌}
 use Rattle.std.specs.Int.{IsInRange}
 use Rattle.rtk_rinex.specs.Reading.{IsMoment, reading_of}
 use Rattle.rtk_rinex.specs.Record.{Epoch, epoch_line, satellite_line, record_text}
 use Rattle.rtk_rinex.specs.Table.{IsTableRow, IsTableEpoch}
+use Rattle.rtk_rinex.specs.Lines.{HasNoEnd, IsLine}
 use Rattle.rtk_rinex.specs.CheckLine.{IsNextTime, IsEpochFault, IsNextSatellite, IsSatelliteFault}
 use Rattle.rtk_rinex.specs.declared.epoch_table.SatelliteRow.{SatelliteRow}
 use Rattle.rtk_rinex.specs.declared.check_fault.Cause.{Cause}
 use Rattle.rtk_rinex.specs.declared.check_fault.Cause.TheVariants.{Truncated}
 use Rattle.rtk_rinex.specs.declared.check_fault.CheckFault.{CheckFault}
-
--- no line ends in this text
-abbrev pub HasNoEnd : List ℕ → Type 0
-HasNoEnd text = All (λ x. x ≢ 10) text
-
--- a line, with the LF that ends it
-abbrev pub IsLine : List ℕ → Type 0
-IsLine line = (front : List ℕ) × HasNoEnd front × (line ≡ front ++ 10 ∷ [])
 
 -- a line is due where this text begins: the text ends before the line does, or the line has a fault
 abbrev pub BeginsWithFault : (List ℕ → Cause → Type 0) → List ℕ → Cause → Type 0

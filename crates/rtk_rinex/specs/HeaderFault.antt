@@ -1,8 +1,9 @@
 -- What is wrong with the header of a text: its first line with which no table's text begins, or the line that is not whole.
-use Rattle.std.specs.Prelude.{◌≡◌, ◌≢◌, ℕ, ◌+◌, List, [], ◌∷◌, ◌++◌, length, flat_map, All}
+use Rattle.std.specs.Prelude.{◌≡◌, ℕ, ◌+◌, List, [], ◌∷◌, ◌++◌, length, flat_map, All}
 use Rattle.rtk_rinex.specs.Reading.{IsMoment}
 use Rattle.rtk_rinex.specs.Header.{Heading, Site, IsHeading, IsSite, header_text}
 use Rattle.rtk_rinex.specs.Table.{Table, IsTable, table_text}
+use Rattle.rtk_rinex.specs.Lines.{HasNoEnd}
 use Rattle.rtk_rinex.specs.declared.header_fault.HeaderFault.{HeaderFault}
 use Rattle.rtk_rinex.specs.declared.header_fault.HeaderCause.{HeaderCause}
 use Rattle.rtk_rinex.specs.declared.header_fault.HeaderCause.TheVariants.{HeaderLine, Truncated, OutOfMemory}
@@ -24,21 +25,17 @@ BeginsTable text = (t : Table) × (rest : List ℕ) × IsTable t × (table_text 
 abbrev pub HasHeader : List ℕ → Type 0
 HasHeader text = (header : List ℕ) × (rest : List ℕ) × IsHeader header × (text ≡ header ++ rest)
 
--- what stands before the LF of a line
-abbrev pub IsLine : List ℕ → Type 0
-IsLine line = All (λ x. x ≢ 10) line
-
 -- so many lines, each ended by LF
 abbrev pub AreLines : ℕ → List ℕ → Type 0
 AreLines n text =
-    (lines : List (List ℕ)) × All IsLine lines × (length lines ≡ n) × (text ≡ flat_map (λ line. line ++ 10 ∷ []) lines)
+    (lines : List (List ℕ)) × All HasNoEnd lines × (length lines ≡ n) × (text ≡ flat_map (λ line. line ++ 10 ∷ []) lines)
 
 -- what is wrong with the next line, where `rest` stands behind the lines so far: no LF ends it; or no table's text begins
 -- with these lines and this one
 abbrev pub IsLineFault : List ℕ → List ℕ → HeaderCause → Type 0
-IsLineFault front rest Truncated = IsLine rest
+IsLineFault front rest Truncated = HasNoEnd rest
 IsLineFault front rest HeaderLine =
-    (line : List ℕ) × (more : List ℕ) × IsLine line × (rest ≡ line ++ 10 ∷ more) × ¬ (BeginsTable (front ++ line ++ 10 ∷ []))
+    (line : List ℕ) × (more : List ℕ) × HasNoEnd line × (rest ≡ line ++ 10 ∷ more) × ¬ (BeginsTable (front ++ line ++ 10 ∷ []))
 IsLineFault front rest OutOfMemory = Unit {0}
 
 -- a fault at the line behind n lines: they begin a header and are no whole one

@@ -4,7 +4,8 @@ ghost use Rattle.std.specs.Prelude.{◌≡◌, ◌≢◌, ℕ, ◌+◌, ◌<◌,
 ghost use Rattle.std.specs.Int.{IsInRange};
 ghost use Rattle.rtk_rinex.specs.declared.epoch_table.SatelliteRow.{SatelliteRow};
 ghost use Rattle.rtk_rinex.specs.Record.{satellite_line};
-ghost use Rattle.rtk_rinex.specs.CheckText.{HasNoEnd, IsLine, ReadsRows, ReadsRecord, ReadsRecords, IsFaultOfRows, IsFaultOfRecord, IsFaultOfRecords};
+ghost use Rattle.rtk_rinex.specs.Lines.{HasNoEnd, IsLine};
+ghost use Rattle.rtk_rinex.specs.CheckText.{ReadsRows, ReadsRecord, ReadsRecords, IsFaultOfRows, IsFaultOfRecord, IsFaultOfRecords};
 
 use crate::check_epoch_line::EpochStamp;
 use crate::check_fault::{Cause, CheckFault};

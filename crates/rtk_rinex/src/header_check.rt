@@ -4,7 +4,8 @@ ghost use Rattle.std.specs.Prelude.{◌≡◌, ◌≢◌, ℕ, ◌+◌, ◌*◌,
 ghost use Rattle.rtk_rinex.specs.Reading.{IsMoment};
 ghost use Rattle.rtk_rinex.specs.Header.{Heading, Site, IsHeading, IsSite, site_of, header_text};
 ghost use Rattle.rtk_rinex.specs.HeaderShown.{line_at};
-ghost use Rattle.rtk_rinex.specs.HeaderFault.{IsLine, AreLines, IsWithoutHeader, IsHeaderFault, IsOnlyHeader};
+ghost use Rattle.rtk_rinex.specs.Lines.{HasNoEnd};
+ghost use Rattle.rtk_rinex.specs.HeaderFault.{AreLines, IsWithoutHeader, IsHeaderFault, IsOnlyHeader};
 
 use crate::head::Head;
 use crate::header_fault::{HeaderCause, HeaderFault};
@@ -82,7 +83,7 @@ fn unlike_line(header: &[u8], text: &[u8]) -> Option<usize>
 
 // Where the LF stands that ends the first line.
 fn line_end(text: &[u8]) -> Option<usize>
-    ensures { MatchOption result (IsLine text.now) (λ n. IsLine (take n text.now) × (text.now ≡ take n text.now ++ 10 ∷ drop (n + 1) text.now)) }
+    ensures { MatchOption result (HasNoEnd text.now) (λ n. HasNoEnd (take n text.now) × (text.now ≡ take n text.now ++ 10 ∷ drop (n + 1) text.now)) }
 {
     for n in 0..text.len() {
         if text[n] == b'\n' {

@@ -27,7 +27,7 @@ pub use check_text::{check, text};
 pub use epoch_table::{EpochTable, Observed, SatelliteRow};
 pub use head::{Head, HeadFault};
 pub use header_text::header;
-pub use laws::{files_are_tables, records_are_of_tables};
+pub use laws::{files_are_tables, one_fault, records_are_of_tables};
 pub use record_text::record;
 
 #[cfg(test)]

@@ -1,0 +1,94 @@
+-- A text has one fault, and is then that of no well-formed table; want of memory says nothing.
+use Rattle.std.proofs.Common.{◌≡◌, ◌≢◌, ℕ, List, length, flat_map, refl, sym, ◌∙◌, ap, arith, ⊎_elim}
+use Rattle.std.specs.Prelude.{All}
+use Rattle.rtk_rinex.specs.declared.check_fault.Cause.{Cause}
+use Rattle.rtk_rinex.specs.declared.check_fault.Cause.TheVariants.{HeaderLine, Columns, Value, Order, Truncated, OutOfMemory}
+use Rattle.rtk_rinex.specs.declared.check_fault.CheckFault.{CheckFault}
+use Rattle.rtk_rinex.specs.Header.{header_text}
+use Rattle.rtk_rinex.specs.Record.{record_text}
+use Rattle.rtk_rinex.specs.Table.{Table, IsTable, IsTableEpoch, StartsAt, table_text}
+use Rattle.rtk_rinex.specs.HeaderFault.{AreLines, HasHeader}
+use Rattle.rtk_rinex.specs.CheckText.{IsFaultOfRecords}
+use Rattle.rtk_rinex.specs.CheckTable.{cause_of, IsFaultOfHeader, IsFaultBehindHeader, IsFault, OneFault, FaultMeansNoTable}
+use Rattle.rtk_rinex.proofs.HeaderSameLemmas.{IsGood}
+use Rattle.rtk_rinex.proofs.FormLemmas.{IsTold}
+use Rattle.rtk_rinex.proofs.TextLemmas.{no_records}
+use Rattle.rtk_rinex.proofs.OneRecordsLemmas.{IsSame, one_of_records}
+use Rattle.rtk_rinex.proofs.OneHeaderLemmas.{HasFaultBehind, found-behind, one_header, one_number, no_header, one_of_header}
+
+told_of : (c : Cause) → c ≢ OutOfMemory → IsTold c
+told_of HeaderLine h = tt
+told_of Columns h = tt
+told_of Value h = tt
+told_of Order h = tt
+told_of Truncated h = tt
+told_of OutOfMemory h = absurd (h refl)
+
+header_told : (bytes : List ℕ) (f : CheckFault) (a : IsFaultOfHeader bytes f) → IsTold f.cause → IsTold (cause_of a.found.cause)
+header_told bytes f a t = rw a.cause at t
+
+behind-of : (bytes : List ℕ) (f : CheckFault) (a : IsFaultOfHeader bytes f) → IsTold f.cause → HasFaultBehind a.is_fault.0 bytes a.found.cause
+behind-of bytes f a t = found-behind a.is_fault.0 bytes a.found.cause (header_told bytes f a t) a.is_fault.2
+
+has-header : (bytes : List ℕ) (f : CheckFault) → IsFaultBehindHeader bytes f → HasHeader bytes
+has-header bytes f b = (header_text b.head b.site b.first, b.rest, (b.head, b.site, b.first, b.heading, b.good_site, b.moment, refl), b.text)
+
+of_header : (bytes : List ℕ) (f g : CheckFault) → IsFaultOfHeader bytes f → IsFaultOfHeader bytes g → IsTold f.cause → IsTold g.cause → IsSame f g
+of_header bytes f g a b t u =
+    let one = one_of_header a.is_fault.0 b.is_fault.0 bytes a.found.cause b.found.cause (behind-of bytes f a t) (behind-of bytes g b u) (header_told bytes f a t) (header_told bytes g b u) in
+    (omega (arith, a.line, a.is_fault.1, b.line, b.is_fault.1, one.0), a.cause ∙ ap cause_of one.1 ∙ sym b.cause)
+
+header_or_records : (bytes : List ℕ) (f g : CheckFault) → IsFaultOfHeader bytes f → IsFaultBehindHeader bytes g → IsTold f.cause → ⊥
+header_or_records bytes f g a b t = no_header a.is_fault.0 bytes a.found.cause (header_told bytes f a t) (behind-of bytes f a t) (has-header bytes g b)
+
+of_records : (bytes : List ℕ) (f g : CheckFault) → IsFaultBehindHeader bytes f → IsFaultBehindHeader bytes g → IsTold f.cause → IsTold g.cause → IsSame f g
+of_records bytes f g a b t u =
+    let good : IsGood a.head a.site a.first = record { heading = a.heading; site = a.good_site; first = a.moment } in
+    let other : IsGood b.head b.site b.first = record { heading = b.heading; site = b.good_site; first = b.moment } in
+    let one = one_header a.head b.head a.site b.site a.first b.first a.rest b.rest good other (sym a.text ∙ b.text) in
+    let are : AreLines b.lines (header_text a.head a.site a.first) = rw one.text b.are_lines in
+    let lines : b.lines ≡ a.lines = one_number b.lines a.lines (header_text a.head a.site a.first) are a.are_lines in
+    let records : IsFaultOfRecords (length a.head.listed) a.first a.lines a.rest g = rw (← one.count, ← one.first, lines, ← one.rest) at b.records in
+    one_of_records (length a.head.listed) a.first a.lines a.rest f g a.heading.1.0.1 a.records records t u
+
+is_same : (bytes : List ℕ) (f g : CheckFault) → IsFault bytes f → IsFault bytes g → IsTold f.cause → IsTold g.cause → IsSame f g
+is_same bytes f g a b t u =
+    ⊎_elim
+    (λ head. ⊎_elim (λ other. of_header bytes f g head other t u) (λ records. absurd (header_or_records bytes f g head records t)) b)
+    (λ records. ⊎_elim (λ head. absurd (header_or_records bytes g f head records u)) (λ other. of_records bytes f g records other t u) b)
+    a
+
+abbrev fault_with : ℕ → Cause → CheckFault
+fault_with line cause = record { line = line; cause = cause }
+
+same_parts : (l m : ℕ) (c d : Cause) → l ≡ m → c ≡ d → fault_with l c ≡ fault_with m d
+same_parts l m c d e f = cc
+
+same_fault : (f g : CheckFault) → IsSame f g → f ≡ g
+same_fault f g s = same_parts f.line g.line f.cause g.cause s.0 s.1
+
+pub one-fault : OneFault
+one-fault bytes f g a b t u = same_fault f g (is_same bytes f g a b (told_of f.cause t) (told_of g.cause u))
+
+-- ---- no table
+
+table-header : (bytes : List ℕ) (u : Table) → IsTable u → bytes ≡ table_text u → HasHeader bytes
+table-header bytes u is e =
+    (header_text u.head u.site u.first, flat_map record_text u.epochs, (u.head, u.site, u.first, is.head, is.site, is.first, refl), e)
+
+records_or_table : (bytes : List ℕ) (f : CheckFault) → IsFaultBehindHeader bytes f → IsTold f.cause → (u : Table) → IsTable u → bytes ≢ table_text u
+records_or_table bytes f a told u is e =
+    let good : IsGood a.head a.site a.first = record { heading = a.heading; site = a.good_site; first = a.moment } in
+    let other : IsGood u.head u.site u.first = record { heading = is.head; site = is.site; first = is.first } in
+    let one = one_header a.head u.head a.site u.site a.first u.first a.rest (flat_map record_text u.epochs) good other (sym a.text ∙ e) in
+    let epochs : All (IsTableEpoch (length a.head.listed)) u.epochs = rw one.count is.epochs in
+    let start : StartsAt a.first u.epochs = rw one.first is.starts in
+    no_records (length a.head.listed) a.first a.lines a.rest f u.epochs a.heading.1.0.1 told a.records epochs is.rise start one.rest
+
+pub fault-none : FaultMeansNoTable
+fault-none bytes f a h u is e =
+    let told = told_of f.cause h in
+    ⊎_elim
+    (λ head. no_header head.is_fault.0 bytes head.found.cause (header_told bytes f head told) (behind-of bytes f head told) (table-header bytes u is e))
+    (λ records. records_or_table bytes f records told u is e)
+    a

@@ -1,0 +1,267 @@
+-- A text begins with one header at most; a fault of a header is one at most, and where there is one no header stands.
+use Rattle.std.proofs.Common.{◌≡◌, ℕ, ◌+◌, ◌≤◌, List, [], ◌∷◌, ◌++◌, length, take, drop, codes, refl, sym, ◌∙◌, ap, arith, subst, append_assoc, length-append, inl, inr}
+use Rattle.std.specs.Prelude.{All}
+use Rattle.std.proofs.lemmas.Bool.Decides.{leb_tells}
+use Rattle.std.proofs.lemmas.Grind.{flat_map-append}
+use Rattle.std.proofs.lemmas.List.{append-nil}
+use Rattle.std.proofs.lemmas.List.Elements.{All-nil, All-head, All-tail}
+use Rattle.rtk_obs.specs.declared.time.Civil.{Civil}
+use Rattle.rtk_obs.specs.Calendar.{Reads}
+use Rattle.rtk_rinex.specs.declared.header_fault.HeaderCause.{HeaderCause}
+use Rattle.rtk_rinex.specs.declared.header_fault.HeaderCause.TheVariants.{HeaderLine, Truncated, OutOfMemory}
+use Rattle.rtk_rinex.specs.Reading.{reading_of}
+use Rattle.rtk_rinex.specs.Header.{Heading, Site, header_line, first_text, header_text}
+use Rattle.rtk_rinex.specs.HeaderShown.{line_at}
+use Rattle.rtk_rinex.specs.Lines.{HasNoEnd}
+use Rattle.rtk_rinex.specs.HeaderFault.{AreLines, IsHeader, BeginsHeader, BeginsTable, HasHeader, IsLineFault, IsFaultBehind}
+use Rattle.rtk_rinex.specs.Table.{IsTableEpoch}
+use Rattle.rtk_rinex.specs.CheckTable.{cause_of}
+use Rattle.rtk_rinex.proofs.ReadingLemmas.{reading-reads}
+use Rattle.rtk_rinex.proofs.HeaderDigitsLemmas.{take-exact, drop-exact}
+use Rattle.rtk_rinex.proofs.HeaderShownLemmas.{first_is, one_moment}
+use Rattle.rtk_rinex.proofs.HeaderRowsLemmas.{row_ended, ended, text_of, row_count}
+use Rattle.rtk_rinex.proofs.HeaderSameLemmas.{IsGood, lines_of, length-header, line_within, in_last}
+use Rattle.rtk_rinex.proofs.HeaderVerdictLemmas.{line_front, count_shown, are_lines}
+use Rattle.rtk_rinex.proofs.LineLemmas.{no_front, same_front}
+use Rattle.rtk_rinex.proofs.OneLemmas.{Goes, same_cons}
+use Rattle.rtk_rinex.proofs.FormLemmas.{IsTold}
+use Rattle.rtk_rinex.proofs.TextLemmas.{line_bytes}
+
+-- ---- one header
+
+first_line : (h : Heading) (s : Site) (t : ℕ) → IsGood h s t
+    → line_at (9 + (lines_of h + 1)) (header_text h s t) ≡ header_line (first_text (reading_of t)) (codes "TIME OF FIRST OBS")
+first_line h s t g =
+    line_within h s t (9 + (lines_of h + 1)) g (omega arith) ∙ ap (λ (r : List ℕ). ended r) (in_last h s t 1)
+    ∙ sym (row_ended (first_text (reading_of t)) (codes "TIME OF FIRST OBS"))
+
+-- the number of codes and the first time that headers have in common which begin one text, and what stands behind them
+pub record AreAlike (h c : Heading) (s d : Site) (t u : ℕ) (x y : List ℕ) : Type 0 where
+  pub count : length h.listed ≡ length c.listed
+  pub first : t ≡ u
+  pub text : header_text h s t ≡ header_text c d u
+  pub rest : x ≡ y
+
+one_first : (h c : Heading) (s d : Site) (t u : ℕ) → IsGood h s t → IsGood c d u → lines_of h ≡ lines_of c → header_text h s t ≡ header_text c d u → t ≡ u
+one_first h c s d t u g f lines e =
+    let a = first_line h s t g in
+    let place : 9 + (lines_of c + 1) ≡ 9 + (lines_of h + 1) = omega (arith, lines) in
+    let b : line_at (9 + (lines_of h + 1)) (header_text h s t) ≡ header_line (first_text (reading_of u)) (codes "TIME OF FIRST OBS") =
+    ap (line_at (9 + (lines_of h + 1))) e ∙ ap (λ (k : ℕ). line_at k (header_text c d u)) (sym place) ∙ first_line c d u f in
+    let left = first_is (line_at (9 + (lines_of h + 1)) (header_text h s t)) _ t g.first a in
+    let right = first_is (line_at (9 + (lines_of h + 1)) (header_text h s t)) _ u f.first b in
+    let reading : reading_of u ≡ reading_of t = sym right.reading ∙ left.reading in
+    one_moment t u (reading_of t) (reading-reads t g.first) (subst (λ (c : Civil). Reads u c) reading (reading-reads u f.first))
+
+pub one_header : (h c : Heading) (s d : Site) (t u : ℕ) (x y : List ℕ) → IsGood h s t → IsGood c d u → header_text h s t ++ x ≡ header_text c d u ++ y
+    → AreAlike h c s d t u x y
+one_header h c s d t u x y g f e =
+    let a : List ℕ = header_text h s t in
+    let b : List ℕ = header_text c d u in
+    let m = length-header h s t g in
+    let n = length-header c d u f in
+    let line : line_at 9 a ≡ line_at 9 b = sym (line_front a x 9 (omega (arith, m))) ∙ ap (line_at 9) e ∙ line_front b y 9 (omega (arith, n)) in
+    let left = count_shown (line_at 9 a) h s t g refl in
+    let right = count_shown (line_at 9 a) c d u f line in
+    let count : length h.listed ≡ length c.listed = omega (arith, left, right) in
+    let lines : lines_of h ≡ lines_of c = ap (λ (k : ℕ). row_count k) count in
+    let size : length b ≡ length a = omega (arith, m, n, lines) in
+    let text : a ≡ b = sym (take-exact (length a) a x refl) ∙ ap (take (length a)) e ∙ take-exact (length a) b y size in
+    record {
+      count = count;
+      first = one_first h c s d t u g f lines text;
+      text = text;
+      rest = sym (drop-exact (length a) a x refl) ∙ ap (drop (length a)) e ∙ drop-exact (length a) b y size;
+    }
+
+-- ---- the lines of a text
+
+lines-front : (l : List ℕ) (ls : List (List ℕ)) (x : List ℕ) → text_of (l ∷ ls) ++ x ≡ l ++ 10 ∷ (text_of ls ++ x)
+lines-front l ls x = append_assoc (ended l) (text_of ls) x ∙ append_assoc l (10 ∷ []) (text_of ls ++ x)
+
+same_lines : (ls ms : List (List ℕ)) (x y : List ℕ) → All HasNoEnd ls → All HasNoEnd ms → length ls ≤ length ms → text_of ls ++ x ≡ text_of ms ++ y → Goes ended ls ms x y
+same_lines [] ms x y h g long e = record { more = ms; list = refl; text = e }
+same_lines (l ∷ ls) [] x y h g long e = absurd (omega arith)
+same_lines (l ∷ ls) (m ∷ ms) x y h g long e =
+    let one = same_front l m (text_of ls ++ x) (text_of ms ++ y) (All-head HasNoEnd l ls h) (All-head HasNoEnd m ms g)
+    (sym (lines-front l ls x) ∙ e ∙ lines-front m ms y) in
+    let rest = same_lines ls ms x y (All-tail HasNoEnd l ls h) (All-tail HasNoEnd m ms g) (omega arith) one.1 in
+    record { more = rest.more; list = same_cons l m (ls ++ rest.more) ms one.0 rest.list; text = rest.text }
+
+no_text : (more : List (List ℕ)) (x : List ℕ) → text_of more ++ x ≡ [] → length more ≡ 0
+no_text more x e =
+    let size = ap length e in
+    omega (arith, size, line_bytes more, length-append (text_of more) x)
+
+not_fewer : (n m : ℕ) (text : List ℕ) → AreLines n text → AreLines m text → n ≤ m → n ≡ m
+not_fewer n m text a b le =
+    let goes = same_lines a.0 b.0 [] [] a.1 b.1 (omega (arith, a.2, b.2, le)) (append-nil (text_of a.0) ∙ sym a.3 ∙ b.3 ∙ sym (append-nil (text_of b.0))) in
+    let none = no_text goes.more [] (sym goes.text) in
+    let size = ap length goes.list in
+    omega (arith, a.2, b.2, size, none, length-append a.0 goes.more)
+
+-- a text has one number of lines
+pub one_number : (n m : ℕ) (text : List ℕ) → AreLines n text → AreLines m text → n ≡ m
+one_number n m text a b =
+    elim (leb_tells n m) [
+      | inl low ↦ not_fewer n m text a b low.1
+      | inr high ↦ sym (not_fewer m n text b a (omega (arith, high.1)))
+    ]
+
+-- ---- the line with the fault
+
+-- behind n lines, which begin a header and are no whole one, stands a line with this fault
+pub record HasFaultBehind (n : ℕ) (bytes : List ℕ) (cause : HeaderCause) : Type 0 where
+  pub lines : List (List ℕ)
+  pub rest : List ℕ
+  pub are_lines : All HasNoEnd lines
+  pub size : length lines ≡ n
+  pub text : bytes ≡ text_of lines ++ rest
+  pub begins : BeginsHeader (text_of lines)
+  pub part : ¬ (IsHeader (text_of lines))
+  pub fault : IsLineFault (text_of lines) rest cause
+
+abbrev StandsBehind : ℕ → List ℕ → HeaderCause → Type 0
+StandsBehind n bytes cause =
+    (front : List ℕ) × (rest : List ℕ) × AreLines n front × (bytes ≡ front ++ rest) × BeginsHeader front × ¬ (IsHeader front)
+    × IsLineFault front rest cause
+
+stands : (n : ℕ) (bytes : List ℕ) (cause : HeaderCause) → StandsBehind n bytes cause → HasFaultBehind n bytes cause
+stands n bytes cause b =
+    let front : b.0 ≡ text_of b.2.0 = b.2.3 in
+    record {
+      lines = b.2.0;
+      rest = b.1;
+      are_lines = b.2.1;
+      size = b.2.2;
+      text = rw front at b.3;
+      begins = rw front at b.4;
+      part = rw front at b.5;
+      fault = rw front at b.6;
+    }
+
+pub found-behind : (n : ℕ) (bytes : List ℕ) (cause : HeaderCause) → IsTold (cause_of cause) → IsFaultBehind n bytes cause → HasFaultBehind n bytes cause
+found-behind n bytes HeaderLine told b = stands n bytes HeaderLine b
+found-behind n bytes Truncated told b = stands n bytes Truncated b
+found-behind n bytes OutOfMemory told b = absurd told
+
+-- a header is a table without epochs
+table_begins : (text x : List ℕ) → IsHeader (text ++ x) → BeginsTable text
+table_begins text x h = (
+  record { head = h.0; site = h.1; first = h.2; epochs = [] },
+  x,
+  record {
+    head = h.3;
+    site = h.4;
+    first = h.5;
+    starts = tt;
+    epochs = All-nil (IsTableEpoch (length h.0.listed));
+    rise = λ i j d low high. absurd (omega arith);
+  },
+  append-nil (header_text h.0 h.1 h.2) ∙ sym h.6,
+)
+
+-- no header goes on with the line that has the fault
+no_next : (front rest : List ℕ) (cause : HeaderCause) (l y x : List ℕ) → IsTold (cause_of cause) → IsLineFault front rest cause → HasNoEnd l
+    → rest ≡ l ++ 10 ∷ y → IsHeader ((front ++ l ++ 10 ∷ []) ++ x) → ⊥
+no_next front rest HeaderLine l y x told f is e h =
+    let same = same_front l f.0 y f.1 is f.2 (sym e ∙ f.3) in
+    f.4 (rw same.0 at (table_begins (front ++ l ++ 10 ∷ []) x h))
+no_next front rest Truncated l y x told f is e h = no_front l y (rw e at f)
+no_next front rest OutOfMemory l y x told f is e h = told
+
+more_lines : (ls ms : List (List ℕ)) → All HasNoEnd (ls ++ ms) → All HasNoEnd ms
+more_lines [] ms h = h
+more_lines (l ∷ ls) ms h = more_lines ls ms (All-tail HasNoEnd l (ls ++ ms) h)
+
+goes_on : (n : ℕ) (bytes : List ℕ) (cause : HeaderCause) (a : HasFaultBehind n bytes cause) (ms : List (List ℕ)) (l : List ℕ) (more : List (List ℕ)) (y z : List ℕ)
+    → IsTold (cause_of cause) → All HasNoEnd ms → ms ≡ a.lines ++ l ∷ more → a.rest ≡ text_of (l ∷ more) ++ y → IsHeader (text_of ms ++ z) → ⊥
+goes_on n bytes cause a ms l more y z told is e text h =
+    let good : All HasNoEnd (a.lines ++ l ∷ more) = rw e at is in
+    let line = All-head HasNoEnd l more (more_lines a.lines (l ∷ more) good) in
+    let front : List ℕ = text_of a.lines in
+    let all : text_of ms ++ z ≡ (front ++ text_of (l ∷ more)) ++ z = ap (λ (t : List ℕ). t ++ z) (ap text_of e ∙ flat_map-append ended a.lines (l ∷ more)) in
+    let split : (front ++ text_of (l ∷ more)) ++ z ≡ (front ++ l ++ 10 ∷ []) ++ (text_of more ++ z) = simp append_assoc in
+    let whole : text_of ms ++ z ≡ (front ++ l ++ 10 ∷ []) ++ (text_of more ++ z) = all ∙ split in
+    no_next front a.rest cause l (text_of more ++ y) (text_of more ++ z) told a.fault line (text ∙ lines-front l more y) (rw whole at h)
+
+-- ---- where a header has a fault, no header stands
+
+no_header_more : (n : ℕ) (bytes : List ℕ) (cause : HeaderCause) (a : HasFaultBehind n bytes cause) (ms more : List (List ℕ)) (y : List ℕ)
+    → IsTold (cause_of cause) → All HasNoEnd ms → ms ≡ a.lines ++ more → a.rest ≡ text_of more ++ y → IsHeader (text_of ms) → ⊥
+no_header_more n bytes cause a ms [] y told is e text h =
+    let same : ms ≡ a.lines = e ∙ append-nil a.lines in
+    a.part (rw same at h)
+no_header_more n bytes cause a ms (l ∷ more) y told is e text h =
+    goes_on n bytes cause a ms l more y [] told is e text (rw (append-nil (text_of ms)) h)
+
+-- a header that ends before the fault is no part of another one
+no_longer : (n : ℕ) (bytes : List ℕ) (cause : HeaderCause) (a : HasFaultBehind n bytes cause) (h : Heading) (s : Site) (t : ℕ) (ms more : List (List ℕ))
+    → IsGood h s t → header_text h s t ≡ text_of ms → a.lines ≡ ms ++ more → length more ≡ 0
+no_longer n bytes cause a h s t ms more g e list =
+    let b = a.begins.1 in
+    let x = a.begins.0 in
+    let good : IsGood b.0 b.1 b.2 = record { heading = b.3; site = b.4; first = b.5 } in
+    let text : text_of a.lines ≡ header_text h s t ++ text_of more =
+    ap text_of list ∙ flat_map-append ended ms more ∙ ap (λ (f : List ℕ). f ++ text_of more) (sym e) in
+    let whole : header_text h s t ++ (text_of more ++ x) ≡ header_text b.0 b.1 b.2 ++ [] =
+    sym (append_assoc (header_text h s t) (text_of more) x) ∙ ap (λ (f : List ℕ). f ++ x) (sym text) ∙ b.6 ∙ sym (append-nil (header_text b.0 b.1 b.2)) in
+    let one = one_header h b.0 s b.1 t b.2 (text_of more ++ x) [] g good whole in
+    no_text more x one.rest
+
+pub no_header : (n : ℕ) (bytes : List ℕ) (cause : HeaderCause) → IsTold (cause_of cause) → HasFaultBehind n bytes cause → ¬ (HasHeader bytes)
+no_header n bytes cause told a has =
+    let h = has.2.0 in
+    let s = has.2.1 in
+    let t = has.2.2 in
+    let g : IsGood h s t = record { heading = has.2.3; site = has.2.4; first = has.2.5 } in
+    let lines = are_lines h s t g in
+    let ms = lines.0 in
+    let header : header_text h s t ≡ text_of ms = lines.3 in
+    let text : bytes ≡ text_of ms ++ has.1 = has.3 ∙ ap (λ (f : List ℕ). f ++ has.1) (has.2.6 ∙ header) in
+    elim (leb_tells (length a.lines) (length ms)) [
+      | inl low ↦
+          let goes = same_lines a.lines ms a.rest has.1 a.are_lines lines.1 low.1 (sym a.text ∙ text) in
+          no_header_more n bytes cause a ms goes.more has.1 told lines.1 goes.list goes.text (h, s, t, g.heading, g.site, g.first, sym header)
+      | inr high ↦
+          let goes = same_lines ms a.lines has.1 a.rest lines.1 a.are_lines (omega (arith, high.1)) (sym text ∙ a.text) in
+          let none = no_longer n bytes cause a h s t ms goes.more g header goes.list in
+          let size = ap length goes.list in
+          omega (arith, size, none, high.1, length-append ms goes.more)
+    ]
+
+-- ---- two faults of a header
+
+one_line_cause : (front other rest : List ℕ) (c d : HeaderCause) → IsTold (cause_of c) → IsTold (cause_of d) → IsLineFault front rest c → IsLineFault other rest d → c ≡ d
+one_line_cause front other rest HeaderLine HeaderLine t u a b = refl
+one_line_cause front other rest HeaderLine Truncated t u a b = absurd (no_front a.0 a.1 (rw a.3 at b))
+one_line_cause front other rest HeaderLine OutOfMemory t u a b = absurd u
+one_line_cause front other rest Truncated HeaderLine t u a b = absurd (no_front b.0 b.1 (rw b.3 at a))
+one_line_cause front other rest Truncated Truncated t u a b = refl
+one_line_cause front other rest Truncated OutOfMemory t u a b = absurd u
+one_line_cause front other rest OutOfMemory d t u a b = absurd t
+
+behind_more : (n m : ℕ) (bytes : List ℕ) (c d : HeaderCause) (a : HasFaultBehind n bytes c) (b : HasFaultBehind m bytes d) (more : List (List ℕ))
+    → IsTold (cause_of c) → IsTold (cause_of d) → b.lines ≡ a.lines ++ more → a.rest ≡ text_of more ++ b.rest → (n ≡ m) × (c ≡ d)
+behind_more n m bytes c d a b [] t u e text =
+    let size = ap length (e ∙ append-nil a.lines) in
+    let fault : IsLineFault (text_of b.lines) a.rest d = rw text b.fault in
+    (omega (arith, size, a.size, b.size), one_line_cause (text_of a.lines) (text_of b.lines) a.rest c d t u a.fault fault)
+behind_more n m bytes c d a b (l ∷ more) t u e text =
+    absurd (goes_on n bytes c a b.lines l more b.rest b.begins.0 t b.are_lines e text b.begins.1)
+
+behind_ordered : (n m : ℕ) (bytes : List ℕ) (c d : HeaderCause) → HasFaultBehind n bytes c → HasFaultBehind m bytes d → IsTold (cause_of c) → IsTold (cause_of d)
+    → n ≤ m → (n ≡ m) × (c ≡ d)
+behind_ordered n m bytes c d a b t u le =
+    let goes = same_lines a.lines b.lines a.rest b.rest a.are_lines b.are_lines (omega (arith, a.size, b.size, le)) (sym a.text ∙ b.text) in
+    behind_more n m bytes c d a b goes.more t u goes.list goes.text
+
+pub one_of_header : (n m : ℕ) (bytes : List ℕ) (c d : HeaderCause) → HasFaultBehind n bytes c → HasFaultBehind m bytes d → IsTold (cause_of c) → IsTold (cause_of d)
+    → (n ≡ m) × (c ≡ d)
+one_of_header n m bytes c d a b t u =
+    elim (leb_tells n m) [
+      | inl low ↦ behind_ordered n m bytes c d a b t u low.1
+      | inr high ↦
+          let turned = behind_ordered m n bytes d c b a u t (omega (arith, high.1)) in
+          (sym turned.0, sym turned.1)
+    ]
