@@ -10,8 +10,8 @@ use crate::header_check::check_header;
 use crate::header_fault::{HeaderCause, HeaderFault};
 use std::alloc::{AllocError, Global};
 
-/// The longest line of a record.
-const LONGEST: usize = 772;
+/// The longest header: 17 lines of 81 bytes. A line of a record is shorter.
+const LONGEST: usize = 1_377;
 
 fn fault_of_header(fault: HeaderFault) -> CheckFault
     ensures line { result.line ≡ fault.line }
@@ -28,7 +28,7 @@ fn fault_of_header(fault: HeaderFault) -> CheckFault
     }
 }
 
-// The text of a line that is wrong may be written too, so there is room for one more.
+// The text of what is wrong may be written too, so there is room for a header or a line more.
 fn room_for(alloc: Global, bytes: &[u8]) -> Result<Vec<u8>, CheckFault>
     ensures empty { IfOk result (λ out. out.items ≡ []) }
     ensures line { IfErr result (λ f. f.line ≡ 1) }

@@ -1,6 +1,7 @@
 //! Values from outside: an example file, the limits of the columns, and heads that are refused.
 
 mod check;
+mod check_lines;
 mod header;
 mod header_check;
 mod record;

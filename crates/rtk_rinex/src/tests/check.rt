@@ -7,13 +7,13 @@ use std::alloc::Global;
 use std::test::Fail;
 
 /// The record of the example file, as the columns of its two lines.
-const EPOCH: &str = "> 2024 05 17 12 00  0.0000000  0  1\n";
+pub(super) const EPOCH: &str = "> 2024 05 17 12 00  0.0000000  0  1\n";
 
-const SATELLITE: &str =
+pub(super) const SATELLITE: &str =
     "G05  21085472.060 7 110804903.547 7        45.000    21085474.060 5  86341483.283 5        35.000\n";
 
 // The example header and these lines behind it.
-fn file(alloc: Global, lines: &[&str]) -> Result<Vec<u8>, Fail> {
+pub(super) fn file(alloc: Global, lines: &[&str]) -> Result<Vec<u8>, Fail> {
     let mut bytes = Vec::new(alloc);
     bytes.extend_from_slice(HEADER.as_bytes())?;
     for line in lines {
@@ -27,7 +27,7 @@ fn fault_of(alloc: Global, bytes: &[u8]) -> Option<CheckFault> {
     check(alloc, bytes).err()
 }
 
-fn at(line: usize, cause: Cause) -> Option<CheckFault> {
+pub(super) fn at(line: usize, cause: Cause) -> Option<CheckFault> {
     Some(CheckFault { line, cause })
 }
 
@@ -49,6 +49,10 @@ fn line_of(letter: u8) -> &'static str {
         b'E' => EPOCH,
         b'S' => SATELLITE,
         b'L' => "> 2024 05 17 12 00  0.0010000  0  2\n",
+        b'm' => "> 2024 05 17 12 00  0.0010000  0 32\n",
+        b'n' => "> 2024 05 17 12 00  0.0010000  0 33\n",
+        b'z' => "> 2100 12 31 23 59 59.9990000  0  1\n",
+        b'e' => "> 2024 05 17 12 00  0.0000000  0  1",
         b'6' => "G06         0.001\n",
         b'c' => "G05  21085472.0\n",
         b'b' => "G05 \n",
@@ -64,6 +68,12 @@ fn the_first_fault_of_a_file_is_named(rt: HostRuntime) -> Result<(), Fail> {
         ("ESLS6", None),
         ("ESES", at(17, Cause::Order)),
         ("LS6", at(15, Cause::Order)),
+        ("ESzS", None),
+        ("-", at(15, Cause::Columns)),
+        ("e", at(15, Cause::Truncated)),
+        ("ESe", at(17, Cause::Truncated)),
+        ("ESmS", at(19, Cause::Truncated)),
+        ("ESn", at(17, Cause::Columns)),
         ("E", at(16, Cause::Truncated)),
         ("Eu", at(16, Cause::Truncated)),
         ("ESLS", at(19, Cause::Truncated)),
