@@ -91,7 +91,7 @@ pub enum ToolFault {
     /// P1: a read failed.
     #[error("read failed")]
     Input,
-    /// P2: the input has more than 16,777,216 bytes.
+    /// P2: the input has more bytes than the command takes.
     #[error("input too long")]
     TooLong,
     /// P3: the input is not pairs of hex digits with blanks, tabs and line ends between.
