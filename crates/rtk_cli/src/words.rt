@@ -25,6 +25,11 @@ pub enum Job<'a> {
         /// The name of the capture; `stdin` is standard input.
         file: &'a str,
     },
+    /// `check FILE`: whether a text is one of this project's files.
+    Check {
+        /// The name of the text; `stdin` is standard input.
+        file: &'a str,
+    },
 }
 
 /// Why words that clap takes give no conversion: the first cause that holds, in this order. Displayed, it
@@ -85,7 +90,7 @@ impl From<AllocError> for WordsFault {
     }
 }
 
-/// Why a command over a capture is not done. Displayed, it is the fault line of the program.
+/// Why `show` or `check` is not done. Displayed, it is the fault line of the program.
 #[derive(Clone, Copy, Debug, PartialEq, Eq, Error)]
 pub enum ToolFault {
     /// P1: a read failed.
