@@ -51,6 +51,7 @@ Usage: rtcm2rinex <COMMAND>
 Commands:
   convert  Converts captures of one station to a RINEX 3.05 observation file
   show     Shows the messages of a capture, a line for each frame
+  check    Checks whether a file is one that convert could have written
   help     Print this message or the help of the given subcommand(s)
 
 Options:

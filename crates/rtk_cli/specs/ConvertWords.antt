@@ -3,7 +3,7 @@ use Rattle.std.specs.Prelude.{◌≡◌, ℕ, List, map}
 use Rattle.rtk_convert.specs.Settings.{Settings}
 use Rattle.rtk_cli.specs.declared.convert_words.Options.{Options}
 use Rattle.rtk_cli.specs.declared.words.Job.{Job}
-use Rattle.rtk_cli.specs.declared.words.Job.TheVariants.{Convert, Show}
+use Rattle.rtk_cli.specs.declared.words.Job.TheVariants.{Convert, Show, Check}
 use Rattle.rtk_cli.specs.CodeList.{Lists}
 use Rattle.rtk_cli.specs.MomentText.{Writes}
 
@@ -17,3 +17,4 @@ SaysSettings o s =
 abbrev pub Says : Options → List (List ℕ) → Job → Type 0
 Says o names (Convert setup links) = SaysSettings o setup × (map (λ link. link.now) links.items ≡ names)
 Says o names (Show hex file) = ⊥
+Says o names (Check file) = ⊥

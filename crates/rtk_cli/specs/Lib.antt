@@ -1,3 +1,4 @@
+pub mod CheckFile
 pub mod CodeList
 pub mod ConvertWords
 pub mod Hex

@@ -6,7 +6,7 @@ use Rattle.clap.specs.declared.error.kind.ErrorKind.{ErrorKind}
 use Rattle.clap.specs.declared.error.kind.ErrorKind.TheVariants.{DisplayHelp, DisplayVersion}
 use Rattle.rtk_convert.specs.Settings.{IsStation, IsWindow}
 use Rattle.rtk_cli.specs.declared.words.Job.{Job}
-use Rattle.rtk_cli.specs.declared.words.Job.TheVariants.{Convert, Show}
+use Rattle.rtk_cli.specs.declared.words.Job.TheVariants.{Convert, Show, Check}
 use Rattle.rtk_cli.specs.declared.words.WordsFault.{WordsFault}
 use Rattle.rtk_cli.specs.declared.words.WordsFault.TheVariants.{Clap, Bad, OutOfMemory}
 
@@ -23,6 +23,7 @@ abbrev pub IsWithinLimits : Job → Type 0
 IsWithinLimits (Convert setup links) =
     IsStation setup.station × IsWindow setup.window × AreLinks (map (λ link. link.now) links.items)
 IsWithinLimits (Show hex file) = Unit {0}
+IsWithinLimits (Check file) = Unit {0}
 
 -- a text of clap's ends the program with status 0 or 2, and nothing is said of which (this project's rule)
 abbrev pub HasStatus : WordsFault → Type 0

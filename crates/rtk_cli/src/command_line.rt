@@ -19,11 +19,9 @@ const VERSION: &str = "0.1.0";
 /// The window where none is given.
 const WINDOW: &str = "64";
 
-// The name of a capture, of any command.
-fn file<'a>(alloc: Global) -> Arg<'a> {
-    Arg::new(alloc, "FILE")
-        .help("The capture, or stdin for standard input")
-        .required(true)
+// The name of the one input of a command.
+fn file<'a>(alloc: Global, help: &'a str) -> Arg<'a> {
+    Arg::new(alloc, "FILE").help(help).required(true)
 }
 
 fn show<'a>(alloc: Global) -> Result<Command<'a>, AllocError> {
@@ -34,7 +32,13 @@ fn show<'a>(alloc: Global) -> Result<Command<'a>, AllocError> {
     Command::new(alloc, "show")
         .about("Shows the messages of a capture, a line for each frame")
         .arg(hex)?
-        .arg(file(alloc))
+        .arg(file(alloc, "The capture, or stdin for standard input"))
+}
+
+fn check<'a>(alloc: Global) -> Result<Command<'a>, AllocError> {
+    Command::new(alloc, "check")
+        .about("Checks whether a file is one that convert could have written")
+        .arg(file(alloc, "The file, or stdin for standard input"))
 }
 
 // An option of `convert` that has a value.
@@ -99,7 +103,8 @@ fn program<'a>(alloc: Global) -> Result<Command<'a>, AllocError> {
         .version(VERSION)
         .subcommand_required(true)
         .subcommand(convert(alloc)?)?
-        .subcommand(show(alloc)?)
+        .subcommand(show(alloc)?)?
+        .subcommand(check(alloc)?)
 }
 
 // The text that clap has for an error. What was asked for, as help, goes to standard output.
@@ -124,6 +129,13 @@ fn show_job<'a>(matches: &ArgMatches<'a>) -> Job<'a>
     let hex = matches.get_flag("hex");
     let file = matches.get_str("FILE").unwrap_or("");
     Job::Show { hex, file }
+}
+
+fn check_job<'a>(matches: &ArgMatches<'a>) -> Job<'a>
+    ensures { IsWithinLimits result }
+{
+    let file = matches.get_str("FILE").unwrap_or("");
+    Job::Check { file }
 }
 
 fn convert_job<'a>(alloc: Global, matches: &ArgMatches<'a>) -> Result<Job<'a>, WordsFault>
@@ -152,6 +164,7 @@ pub fn job<'a>(alloc: Global, words: &'a [&'a str]) -> Result<Job<'a>, WordsFaul
     };
     match matches.subcommand() {
         Some(("convert", convert)) => convert_job(alloc, convert),
+        Some(("check", check)) => Ok(check_job(check)),
         Some((_, show)) => Ok(show_job(show)),
         None => Ok(Job::Show {
             hex: false,

@@ -1,6 +1,7 @@
 //! The commands of the program: the words of a command line, and the work that each asks for.
 #![tactic(auto)]
 
+mod checking;
 mod code_list;
 mod command_line;
 mod convert_words;
@@ -16,6 +17,7 @@ mod showing;
 mod telling;
 mod words;
 
+pub use checking::{CHECK_LIMIT, check_file};
 pub use command_line::job;
 pub use files::{Reads, Writes};
 pub use payload_line::show_line;

@@ -14,8 +14,8 @@ fn put_number(line: &mut Vec<u8>, number: u64) -> Result<(), AllocError>
     line.extend_from_slice(Buffer::new().format(number).as_bytes())
 }
 
-// A word and the number that it names.
-fn put_named(line: &mut Vec<u8>, name: &[u8], number: u64) -> Result<(), AllocError>
+/// A word and the number that it names.
+pub fn put_named(line: &mut Vec<u8>, name: &[u8], number: u64) -> Result<(), AllocError>
     ensures { OnOk result (line.new.items ≡ line.old.items ++ name.now ++ decimal number) }
 {
     line.extend_from_slice(name)?;

@@ -1,11 +1,12 @@
 //! The program: it reads its words, opens what they name, does the work, or says why it is not done.
 ghost use Rattle.std.specs.Prelude.{◌≤◌};
 
+use crate::checking::check_file;
 use crate::command_line::job;
 use crate::converting::convert_links;
 use crate::files::{Reads, Writes};
 use crate::showing::show;
-use crate::telling::{DONE, REFUSED, fail, fail_to_open, refuse, tell};
+use crate::telling::{DONE, NOT_VALID, REFUSED, fail, fail_to_open, refuse, tell};
 use crate::words::{Job, STDIN, ToolFault, WordsFault};
 use std::env::Env;
 use std::fs::Files;
@@ -45,16 +46,36 @@ fn show_file<R: Files + Input + Print + Eprint + AllocGlobal>(rt: &R, hex: bool,
     }
 }
 
+fn check_named<R: Files + Input + Print + Eprint + AllocGlobal>(rt: &R, file: &str) -> u8
+    ensures { result ≤ NOT_VALID }
+{
+    let mut out = Writes::new(io::writer(rt));
+    let checked = if file == STDIN {
+        check_file(rt.alloc(), &mut Reads::new(rt.reader()), &mut out)
+    } else {
+        let Ok(text) = fs::open(rt, file) else {
+            return fail_to_open(rt, file);
+        };
+        check_file(rt.alloc(), &mut Reads::new(text), &mut out)
+    };
+    match checked {
+        Ok(true) => DONE,
+        Ok(false) => NOT_VALID,
+        Err(fault) => fail(rt, fault),
+    }
+}
+
 fn run_words<R: Files + Input + Print + Eprint + AllocGlobal, W: Write + Drop>(
     rt: &R,
     report: W,
     words: &[&str],
 ) -> u8
-    ensures { result ≤ REFUSED }
+    ensures { result ≤ NOT_VALID }
 {
     match job(rt.alloc(), words) {
         Ok(Job::Convert { setup, links }) => convert_links(rt, report, setup, links.as_slice()),
         Ok(Job::Show { hex, file }) => show_file(rt, hex, file),
+        Ok(Job::Check { file }) => check_named(rt, file),
         Err(WordsFault::Clap { text, status }) => tell(rt, text.as_str(), status),
         Err(WordsFault::Bad { line }) => refuse(rt, line),
         Err(WordsFault::OutOfMemory) => fail(rt, ToolFault::OutOfMemory),
@@ -62,13 +83,13 @@ fn run_words<R: Files + Input + Print + Eprint + AllocGlobal, W: Write + Drop>(
 }
 
 /// Runs the program, and answers its exit status: 0 the work is done, 1 an input or an output failed,
-/// or there was no memory, 2 the words are refused. The report of a conversion goes to `report`, which is
-/// standard error.
+/// or there was no memory, 2 the words are refused, 3 the text that `check` was asked about is none of this
+/// project's files. The report of a conversion goes to `report`, which is standard error.
 pub fn run<R: Env + Files + Input + Print + Eprint + AllocGlobal, W: Write + Drop>(
     rt: &R,
     report: W,
 ) -> u8
-    ensures { result ≤ REFUSED }
+    ensures { result ≤ NOT_VALID }
 {
     let owned = match words_of(rt) {
         Ok(owned) => owned,

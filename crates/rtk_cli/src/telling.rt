@@ -12,6 +12,9 @@ pub const FAILED: u8 = 1;
 /// The words are refused.
 pub const REFUSED: u8 = 2;
 
+/// The text is none of this project's files.
+pub const NOT_VALID: u8 = 3;
+
 /// Says why the work is not done. Where standard error is closed nobody hears it.
 pub fn fail<R: Eprint>(rt: &R, fault: ToolFault) -> u8
     ensures { result ≡ FAILED }

@@ -1,5 +1,6 @@
 //! Tests of the commands, by values from outside.
 
+mod checks;
 mod convert_refusals;
 mod convert_words;
 mod faults;

@@ -25,6 +25,11 @@ pub enum Job<'a> {
         /// The name of the capture; `stdin` is standard input.
         file: &'a str,
     },
+    /// `check FILE`: whether a text is one of this project's files.
+    Check {
+        /// The name of the text; `stdin` is standard input.
+        file: &'a str,
+    },
 }
 
 /// Why words that clap takes give no conversion: the first cause that holds, in this order. Displayed, it
@@ -85,13 +90,13 @@ impl From<AllocError> for WordsFault {
     }
 }
 
-/// Why a command over a capture is not done. Displayed, it is the fault line of the program.
+/// Why `show` or `check` is not done. Displayed, it is the fault line of the program.
 #[derive(Clone, Copy, Debug, PartialEq, Eq, Error)]
 pub enum ToolFault {
     /// P1: a read failed.
     #[error("read failed")]
     Input,
-    /// P2: the input has more than 16,777,216 bytes.
+    /// P2: the input has more bytes than the command takes.
     #[error("input too long")]
     TooLong,
     /// P3: the input is not pairs of hex digits with blanks, tabs and line ends between.

@@ -63,7 +63,7 @@ fn is_of_options(given: &Job, window: usize, names: &[&str]) -> bool {
                 && setup.window() == window
                 && are_named(links.as_slice(), names)
         }
-        Job::Show { .. } => false,
+        Job::Show { .. } | Job::Check { .. } => false,
     }
 }
 
@@ -82,7 +82,7 @@ fn is_of_station(given: &Job, station: u16, marker: &[u8]) -> bool {
                 && setup.head().marker() == marker
                 && are_named(links.as_slice(), &["a"])
         }
-        Job::Show { .. } => false,
+        Job::Show { .. } | Job::Check { .. } => false,
     }
 }
 

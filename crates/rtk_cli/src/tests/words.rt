@@ -11,6 +11,7 @@ Usage: rtcm2rinex <COMMAND>
 Commands:
   convert  Converts captures of one station to a RINEX 3.05 observation file
   show     Shows the messages of a capture, a line for each frame
+  check    Checks whether a file is one that convert could have written
   help     Print this message or the help of the given subcommand(s)
 
 Options:
@@ -31,9 +32,21 @@ Options:
   -h, --help  Print help
 ";
 
+const CHECK_HELP: &str = "\
+Checks whether a file is one that convert could have written
+
+Usage: rtcm2rinex check <FILE>
+
+Arguments:
+  <FILE>  The file, or stdin for standard input
+
+Options:
+  -h, --help  Print help
+";
+
 const NO_COMMAND: &str = "\
 error: 'rtcm2rinex' requires a subcommand but one was not provided
-  [subcommands: convert, show, help]
+  [subcommands: convert, show, check, help]
 
 Usage: rtcm2rinex <COMMAND>
 
@@ -87,7 +100,7 @@ For more information, try '--help'.
 
 #[test]
 fn texts_of_clap(rt: HostRuntime) -> Result<(), Fail> {
-    let rows: [(&[&str], u8, &str); 13] = [
+    let rows: [(&[&str], u8, &str); 14] = [
         (&["--help"], 0, HELP),
         (&["-h"], 0, HELP),
         (&["help"], 0, HELP),
@@ -95,6 +108,7 @@ fn texts_of_clap(rt: HostRuntime) -> Result<(), Fail> {
         (&["-V"], 0, "rtcm2rinex 0.1.0\n"),
         (&["show", "--help"], 0, SHOW_HELP),
         (&["help", "show"], 0, SHOW_HELP),
+        (&["check", "--help"], 0, CHECK_HELP),
         (&[], 2, NO_COMMAND),
         (&["show"], 2, NO_FILE),
         (&["show", "a", "b"], 2, TWO_FILES),

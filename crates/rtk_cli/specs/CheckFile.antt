@@ -1,0 +1,50 @@
+-- The command `check`: what it says of a text, and the line that says it. The forms of the lines are this
+-- project's rule.
+use Rattle.std.specs.Prelude.{◌≡◌, ◌≢◌, ℕ, Bool, true, false, List, [], ◌∷◌, ◌++◌, codes, decimal, Option}
+use Rattle.rtk_frame.specs.Stream.{with_more, TakesPart}
+use Rattle.rtk_rinex.specs.CheckTable.{HoldsTable, IsFault, IsWithoutTable}
+use Rattle.rtk_rinex.specs.declared.check_fault.Cause.{Cause}
+use Rattle.rtk_rinex.specs.declared.check_fault.Cause.TheVariants.{HeaderLine, Columns, Value, Order, Truncated, OutOfMemory}
+use Rattle.rtk_rinex.specs.declared.check_fault.CheckFault.{CheckFault}
+
+-- the number and the name of a cause
+abbrev pub cause_text : Cause → List ℕ
+cause_text HeaderLine = codes "C1 HeaderLine"
+cause_text Columns = codes "C2 Columns"
+cause_text Value = codes "C3 Value"
+cause_text Order = codes "C4 Order"
+cause_text Truncated = codes "C5 Truncated"
+cause_text OutOfMemory = codes "C6 OutOfMemory"
+
+-- the line of a table with so many records and satellite lines, ended by a line feed
+abbrev pub valid_text : ℕ → ℕ → List ℕ
+valid_text epochs satellites =
+    codes "valid: " ++ decimal epochs ++ codes " epochs, " ++ decimal satellites ++ codes " satellite lines" ++ 10 ∷ []
+
+-- the line of a fault, ended by a line feed
+abbrev pub fault_text : CheckFault → List ℕ
+fault_text fault = codes "line " ++ decimal fault.line ++ codes ": " ++ cause_text fault.cause ++ 10 ∷ []
+
+-- a yes: the text is that of a well-formed table, and the line tells how many records and satellite lines it has
+abbrev pub SaysYes : List ℕ → List ℕ → Type 0
+SaysYes text line =
+    (epochs : ℕ) × (satellites : ℕ) × HoldsTable text epochs satellites × (line ≡ valid_text epochs satellites)
+
+-- a no: the text is that of no well-formed table, and the line tells its first fault; want of memory is none
+abbrev pub SaysNo : List ℕ → List ℕ → Type 0
+SaysNo text line =
+    (fault : CheckFault) × IsFault text fault × (fault.cause ≢ OutOfMemory) × IsWithoutTable text fault.cause
+    × (line ≡ fault_text fault)
+
+-- the answer, and the line that says it of the text
+abbrev pub Says : List ℕ → Bool → List ℕ → Type 0
+Says text true line = SaysYes text line
+Says text false line = SaysNo text line
+
+-- the line of this answer was taken
+abbrev pub Tells : List ℕ → Bool → Option (List ℕ) → Option (List ℕ) → Type 0
+Tells text valid before after = (line : List ℕ) × Says text valid line × (after ≡ with_more before line)
+
+-- of the line of an answer a first part was taken, perhaps none or all of it
+abbrev pub TellsPart : List ℕ → Option (List ℕ) → Option (List ℕ) → Type 0
+TellsPart text before after = (valid : Bool) × (line : List ℕ) × Says text valid line × TakesPart before after line

@@ -1,0 +1,115 @@
+//! The command `check`: whether a text is one of this project's files, and which line is the first to blame.
+ghost use Rattle.std.specs.Prelude.{◌≡◌, ◌≢◌, ◌+◌, ◌≤◌, ◌++◌, Err, length, IfOk, OnOk, IfErr, IsErrOf};
+ghost use Rattle.rtk_frame.specs.Stream.{Rises};
+ghost use Rattle.rtk_cli.specs.Input.{GivesText};
+ghost use Rattle.rtk_cli.specs.CheckFile.{cause_text, valid_text, fault_text, Says, Tells, TellsPart};
+ghost use Rattle.rtk_cli.specs.declared.words.ToolFault.TheVariants.{Input, TooLong, NotHex, OutOfMemory, Output};
+
+use crate::input::read_whole;
+use crate::payload_line::put_named;
+use crate::words::ToolFault;
+use rtk_frame::{Sink, Source, write_all};
+use rtk_rinex::{Cause, CheckFault, Table, check};
+use std::alloc::{AllocError, Global};
+
+/// The most bytes of an input of `check_file`, which holds it whole.
+pub const CHECK_LIMIT: usize = 1_073_741_824;
+
+// What is said of a text, and the line that says it.
+#[derive(Drop)]
+struct Answer {
+    is_valid: bool,
+    line: Vec<u8>,
+}
+
+fn valid_line(alloc: Global, table: &Table) -> Result<Vec<u8>, AllocError>
+    ensures { IfOk result (λ line. line.items ≡ valid_text table.now.epochs table.now.satellites) }
+{
+    let mut line = Vec::new(alloc);
+    put_named(&mut line, b"valid: ", table.epochs() as u64)?;
+    put_named(&mut line, b" epochs, ", table.satellites() as u64)?;
+    line.extend_from_slice(b" satellite lines\n")?;
+    Ok(line)
+}
+
+fn put_cause(line: &mut Vec<u8>, cause: Cause) -> Result<(), AllocError>
+    ensures { OnOk result (line.new.items ≡ line.old.items ++ cause_text cause) }
+{
+    match cause {
+        Cause::HeaderLine => line.extend_from_slice(b"C1 HeaderLine"),
+        Cause::Columns => line.extend_from_slice(b"C2 Columns"),
+        Cause::Value => line.extend_from_slice(b"C3 Value"),
+        Cause::Order => line.extend_from_slice(b"C4 Order"),
+        Cause::Truncated => line.extend_from_slice(b"C5 Truncated"),
+        Cause::OutOfMemory => line.extend_from_slice(b"C6 OutOfMemory"),
+    }
+}
+
+fn fault_line(alloc: Global, fault: CheckFault) -> Result<Vec<u8>, AllocError>
+    ensures { IfOk result (λ line. line.items ≡ fault_text fault) }
+{
+    let mut line = Vec::new(alloc);
+    put_named(&mut line, b"line ", fault.line as u64)?;
+    line.extend_from_slice(b": ")?;
+    put_cause(&mut line, fault.cause)?;
+    line.push(b'\n')?;
+    Ok(line)
+}
+
+// The answer of a text.
+fn answer_of(alloc: Global, text: &[u8]) -> Result<Answer, ToolFault>
+    ensures says { IfOk result (λ answer. Says text.now answer.is_valid answer.line.items) }
+    ensures memory { IfErr result (λ fault. fault ≡ OutOfMemory) }
+{
+    let (is_valid, line) = match check(alloc, text) {
+        Ok(table) => (true, valid_line(alloc, &table)),
+        Err(fault) if fault.cause == Cause::OutOfMemory => return Err(ToolFault::OutOfMemory),
+        Err(fault) => (false, fault_line(alloc, fault)),
+    };
+    match line {
+        Ok(line) => Ok(Answer { is_valid, line }),
+        Err(_) => Err(ToolFault::OutOfMemory),
+    }
+}
+
+/// Reads an input whole and checks it: is it a text that `convert` could have written? Writes one line,
+/// `valid: E epochs, S satellite lines` or `line N: C3 Value`, which names the first line that is wrong
+/// and why. Answers whether the check said yes.
+///
+/// The line is whole before a byte of it is written, so after each fault but a failed write nothing is out.
+pub fn check_file<R: Source, W: Sink>(
+    alloc: Global,
+    reader: &mut R,
+    out: &mut W,
+) -> Result<bool, ToolFault>
+    ensures told { IfOk result (λ valid. GivesText (R.given reader.old) (R.given reader.new) (λ text.
+        (length text ≤ CHECK_LIMIT) × Tells text valid (W.taken out.old) (W.taken out.new))) }
+
+    // What is told of was read to its end.
+    ensures to_the_end { result ≢ Err Input → result ≢ Err TooLong → result ≢ Err OutOfMemory
+        → R.is_at_end reader.new }
+
+    // Each fault only where its cause is, and no call failed without its fault.
+    ensures input { IsErrOf result Input → Rises (R.failures reader.old) (R.failures reader.new) }
+    ensures no_failed_read { result ≢ Err Input → R.failures reader.new ≡ R.failures reader.old }
+    ensures too_long { IsErrOf result TooLong
+        → GivesText (R.given reader.old) (R.given reader.new) (λ text. length text ≡ CHECK_LIMIT + 1) }
+    ensures not_hex { IsErrOf result NotHex → ⊥ }
+    ensures output { IsErrOf result Output → Rises (W.failures out.old) (W.failures out.new) }
+    ensures no_failed_write { result ≢ Err Output → W.failures out.new ≡ W.failures out.old }
+
+    // Whatever the answer, so much was read at most, and so much is out.
+    ensures within { GivesText (R.given reader.old) (R.given reader.new) (λ text.
+        length text ≤ CHECK_LIMIT + 1) }
+    ensures part { IsErrOf result Output
+        → GivesText (R.given reader.old) (R.given reader.new) (λ text.
+        (length text ≤ CHECK_LIMIT) × TellsPart text (W.taken out.old) (W.taken out.new)) }
+    ensures nothing { IfErr result (λ fault. fault ≢ Output → W.taken out.new ≡ W.taken out.old) }
+{
+    let text = read_whole(alloc, reader, CHECK_LIMIT)?;
+    let answer = answer_of(alloc, text.as_slice())?;
+    if write_all(out, answer.line.as_slice()).is_err() {
+        return Err(ToolFault::Output);
+    }
+    Ok(answer.is_valid)
+}

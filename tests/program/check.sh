@@ -1,0 +1,82 @@
+#!/bin/sh
+# Runs `check` as a user does, and looks at standard output, standard error and the exit status.
+# The program is $1. Prints `ok NAME` or `FAILED NAME` for each test, and last `PASSED FAILED`, two counts.
+set -u
+root=$(cd "$(dirname "$(readlink -f "$0")")/../.." && pwd)
+program=$(readlink -f "$1")
+base=$root/examples/base.rnx
+work=$(mktemp -d)
+trap 'rm -rf "$work"' EXIT
+cd "$work" || exit 1
+
+passed=0
+failed=0
+yes='valid: 1 epochs, 1 satellite lines'
+
+# text TEXT: the text and a line feed; nothing where the text is empty
+text() {
+    if [ -n "$1" ]; then printf '%s\n' "$1"; fi
+}
+
+# expect NAME STATUS STDOUT STDERR: what the last run left, each text ended by one line feed, byte for byte
+expect() {
+    text "$3" >want_out
+    text "$4" >want_err
+    if [ "$status" = "$2" ] && cmp -s out want_out && cmp -s err want_err; then
+        echo "ok $1"
+        passed=$((passed + 1))
+    else
+        echo "FAILED $1: status $status, standard output '$(cat out)', standard error '$(cat err)'"
+        failed=$((failed + 1))
+    fi
+}
+
+# check FILE..: standard input as it is
+check() {
+    "$program" check "$@" >out 2>err
+    status=$?
+}
+
+help='Checks whether a file is one that convert could have written
+
+Usage: rtcm2rinex check <FILE>
+
+Arguments:
+  <FILE>  The file, or stdin for standard input
+
+Options:
+  -h, --help  Print help'
+
+no_file="error: the following required arguments were not provided:
+  <FILE>
+
+Usage: rtcm2rinex check <FILE>
+
+For more information, try '--help'."
+
+mkdir folder
+sed '4s/GEODETIC/GEODESIC/' "$base" >line4
+sed '16s/45.000/45.100/' "$base" >line16
+head -c -1 "$base" >cut
+
+check "$base" </dev/null;        expect yes 0 "$yes" ''
+check stdin <"$base";            expect yes_from_stdin 0 "$yes" ''
+cat "$base" | "$program" check stdin >out 2>err; status=$?
+expect yes_from_pipe 0 "$yes" ''
+check stdin </dev/null;          expect empty_text 3 'line 1: C5 Truncated' ''
+check line4 </dev/null;          expect no_header 3 'line 4: C1 HeaderLine' ''
+check line16 </dev/null;         expect no_value 3 'line 16: C3 Value' ''
+check cut </dev/null;            expect no_last_line_feed 3 'line 16: C5 Truncated' ''
+check "$root/examples/session.rnx" </dev/null
+expect yes_session 0 'valid: 20 epochs, 72 satellite lines' ''
+check "$root/examples/late.rnx" </dev/null
+expect yes_late 0 'valid: 5 epochs, 10 satellite lines' ''
+check folder </dev/null;         expect a_directory 1 '' 'rtcm2rinex: read failed'
+check nowhere </dev/null;        expect missing_file 1 '' 'rtcm2rinex: cannot open nowhere'
+check '' </dev/null;             expect empty_name 1 '' 'rtcm2rinex: cannot open '
+"$program" check "$base" >&- 2>err; status=$?; : >out
+expect closed_output 1 '' 'rtcm2rinex: write failed'
+check --help </dev/null;         expect check_help 0 "$help" ''
+check </dev/null;                expect no_file 2 '' "$no_file"
+
+echo "$passed $failed"
