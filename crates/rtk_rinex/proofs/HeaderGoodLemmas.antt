@@ -22,7 +22,7 @@ use Rattle.rtk_rinex.specs.Lines.{HasNoEnd}
 use Rattle.rtk_rinex.specs.HeaderShown.{line_at}
 use Rattle.rtk_rinex.proofs.HeaderDigitsLemmas.{take-exact, length-left, length-right}
 use Rattle.rtk_rinex.proofs.HeaderShownLemmas.{Fits, Fits-reading_of, length-fixed, IsCoordinate-height, length-seconds}
-use Rattle.rtk_rinex.proofs.HeaderRowsLemmas.{row, ended, text_of, types_head, type_row, type_rows, row_count, first_rows, last_rows, rows}
+use Rattle.rtk_rinex.proofs.HeaderRowsLemmas.{row, ended, text_of, types_head, types_line, type_rows, row_count, first_rows, last_rows, rows}
 
 -- ---- texts without LF
 
@@ -238,8 +238,8 @@ head_fits zero n h =
     (omega (arith, three), both (codes "G  ") (right 3 (decimal (3 * n))) refl (plain-right 3 (decimal (3 * n)) (plain-decimal (3 * n) (omega arith))))
 head_fits (suc j) n h = (refl, refl)
 
-types_row : (j : ℕ) (cs : List Code) → IsInRange 1 16 (length cs) → IsRow (type_row j cs)
-unfolding type_row plain
+types_row : (j : ℕ) (cs : List Code) → IsInRange 1 16 (length cs) → IsRow (types_line j cs)
+unfolding types_line plain
 types_row j cs h =
     let head : List ℕ = types_head j (length cs) in
     let shown : List ℕ = take 52 (drop (52 * j) (types cs)) in
@@ -252,7 +252,7 @@ types_row j cs h =
 types_good : (j m : ℕ) (cs : List Code) → IsInRange 1 16 (length cs) → All IsRow (type_rows j m cs)
 unfolding type_rows
 types_good j zero cs h = All-nil IsRow
-types_good j (suc m) cs h = All-cons IsRow (type_row j cs) (type_rows (suc j) m cs) (types_row j cs h) (types_good (suc j) m cs h)
+types_good j (suc m) cs h = All-cons IsRow (types_line j cs) (type_rows (suc j) m cs) (types_row j cs h) (types_good (suc j) m cs h)
 
 fixed_row : (content label : List ℕ) → length content ≤ 60 → length label ≤ 20 → list_all (λ x. not (x == 10)) content ≡ true → list_all (λ x. not (x == 10)) label ≡ true → IsRow (row content label)
 unfolding plain

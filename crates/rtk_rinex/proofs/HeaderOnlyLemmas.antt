@@ -6,7 +6,7 @@ use Rattle.rtk_rinex.specs.Columns.{fixed}
 use Rattle.rtk_rinex.specs.Reading.{reading_of}
 use Rattle.rtk_rinex.specs.Header.{Heading, Site, made_text, first_text, header_text}
 use Rattle.rtk_rinex.specs.HeaderShown.{line_at}
-use Rattle.rtk_rinex.proofs.HeaderRowsLemmas.{row, row_ended, ended, type_row, rows}
+use Rattle.rtk_rinex.proofs.HeaderRowsLemmas.{row, row_ended, ended, types_line, rows}
 use Rattle.rtk_rinex.proofs.HeaderSameLemmas.{Shows, IsGood, Agrees, lines_of, length-header, in_first, in_types, in_last, agreed, same_count, name_is}
 
 -- the lines of a header are those of a text that begins with it
@@ -33,7 +33,7 @@ same_site x₁ x₂ y₁ y₂ z₁ z₂ n₁ n₂ e₁ e₂ e₃ e₄ = cc
 
 pub only_shown : (text rest : List ℕ) (h c : Heading) (s d : Site) (t u : ℕ) → Shows text h c s d t u → IsGood h s t → text ≡ header_text h s t ++ rest
     → (h ≡ c) × (s ≡ d) × (t ≡ u)
-unfolding type_row
+unfolding types_line
 only_shown text rest h c s d t u shows g e =
     let k = 12 + lines_of h in
     let a : Agrees text h s t k = agrees h s t text rest k g e (omega arith) in

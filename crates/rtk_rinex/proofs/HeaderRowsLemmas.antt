@@ -36,13 +36,13 @@ types_head zero n = codes "G  " ++ right 3 (decimal (3 * n))
 types_head (suc j) n = codes "      "
 
 -- the line of types behind j lines of them
-unfoldable pub type_row : ℕ → List Code → List ℕ
-type_row j cs = row (types_head j (length cs) ++ take 52 (drop (52 * j) (types cs))) types_label
+unfoldable pub types_line : ℕ → List Code → List ℕ
+types_line j cs = row (types_head j (length cs) ++ take 52 (drop (52 * j) (types cs))) types_label
 
 -- m lines of types from the j-th on
 unfoldable pub type_rows : ℕ → ℕ → List Code → List (List ℕ)
 type_rows j zero cs = []
-type_rows j (suc m) cs = type_row j cs ∷ type_rows (suc j) m cs
+type_rows j (suc m) cs = types_line j cs ∷ type_rows (suc j) m cs
 
 abbrev pub row_count : ℕ → ℕ
 row_count n = (12 * n + 51) / 52
@@ -114,15 +114,15 @@ continued-none j cs h =
     let none : length text ≡ 0 = length-drop (52 * j) (types cs) ∙ omega (arith, length-types cs) in
     if_none text _ (length text == 0) refl none
 
-continued-some : (j : ℕ) (cs : List Code) → 52 * suc j < 12 * length cs → continued (suc j) cs ≡ ended (type_row (suc j) cs)
-unfolding continued type_row
+continued-some : (j : ℕ) (cs : List Code) → 52 * suc j < 12 * length cs → continued (suc j) cs ≡ ended (types_line (suc j) cs)
+unfolding continued types_line
 continued-some j cs h =
     let text : List ℕ = drop (52 * suc j) (types cs) in
     let some : 0 < length text = let e = length-drop (52 * suc j) (types cs) in omega (arith, length-types cs, e) in
     if_some text _ (length text == 0) refl some ∙ row_ended (codes "      " ++ take 52 text) types_label
 
-types_lines-are : (cs : List Code) → types_lines cs ≡ ended (type_row 0 cs) ++ continued 1 cs ++ continued 2 cs ++ continued 3 cs
-unfolding continued type_row
+types_lines-are : (cs : List Code) → types_lines cs ≡ ended (types_line 0 cs) ++ continued 1 cs ++ continued 2 cs ++ continued 3 cs
+unfolding continued types_line
 types_lines-are cs = rw (row_ended (types_head 0 (length cs) ++ take 52 (types cs)) types_label) refl
 
 text_of-types : (cs : List Code) → IsInRange 1 16 (length cs) → text_of (type_rows 0 (row_count (length cs)) cs) ≡ types_lines cs

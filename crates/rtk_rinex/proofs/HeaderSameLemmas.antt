@@ -16,7 +16,7 @@ use Rattle.rtk_rinex.specs.Header.{Heading, Site, IsHeading, IsSite, header_line
 use Rattle.rtk_rinex.specs.HeaderShown.{line_at, name_at}
 use Rattle.rtk_rinex.proofs.HeaderDigitsLemmas.{piece}
 use Rattle.rtk_rinex.proofs.HeaderShownLemmas.{line_rest, line_is}
-use Rattle.rtk_rinex.proofs.HeaderRowsLemmas.{row, row_ended, ended, types_head, type_row, type_rows, row_count, first_rows, last_rows, rows, rows_text, length-types}
+use Rattle.rtk_rinex.proofs.HeaderRowsLemmas.{row, row_ended, ended, types_head, types_line, type_rows, row_count, first_rows, last_rows, rows, rows_text, length-types}
 use Rattle.rtk_rinex.proofs.HeaderGoodLemmas.{rows_good, length-text, line_in, line_past, head_fits}
 
 -- what the lines of a text show of a header: if it has a line, the part that was read from this line is the header's
@@ -40,13 +40,13 @@ unfolding type_rows
 length-type_rows j zero cs = refl
 length-type_rows j (suc m) cs = ap suc (length-type_rows (suc j) m cs)
 
-read_type : (j m i : ℕ) (cs : List Code) → i < m → get_or (type_rows j m cs) i [] ≡ type_row (j + i) cs
+read_type : (j m i : ℕ) (cs : List Code) → i < m → get_or (type_rows j m cs) i [] ≡ types_line (j + i) cs
 unfolding type_rows
 read_type j zero i cs lt = absurd (omega arith)
-read_type j (suc m) zero cs lt = let n : j ≡ j + 0 = omega arith in ap (λ (k : ℕ). type_row k cs) n
+read_type j (suc m) zero cs lt = let n : j ≡ j + 0 = omega arith in ap (λ (k : ℕ). types_line k cs) n
 read_type j (suc m) (suc i) cs lt =
     let n : suc j + i ≡ j + suc i = omega arith in
-    read_type (suc j) m i cs (omega arith) ∙ ap (λ (k : ℕ). type_row k cs) n
+    read_type (suc j) m i cs (omega arith) ∙ ap (λ (k : ℕ). types_line k cs) n
 
 abbrev pub lines_of : Heading → ℕ
 lines_of h = row_count (length h.listed)
@@ -62,13 +62,13 @@ pub in_first : (h : Heading) (s : Site) (t k : ℕ) → k < 9 → get_or (rows h
 unfolding rows
 in_first h s t k lt = get_or-append (first_rows h s) (type_rows 0 (lines_of h) h.listed ++ last_rows t) [] k lt
 
-pub in_types : (h : Heading) (s : Site) (t j : ℕ) → j < lines_of h → get_or (rows h s t) (9 + j) [] ≡ type_row j h.listed
+pub in_types : (h : Heading) (s : Site) (t j : ℕ) → j < lines_of h → get_or (rows h s t) (9 + j) [] ≡ types_line j h.listed
 unfolding rows
 in_types h s t j lt =
     let m = length-type_rows 0 (lines_of h) h.listed in
     let n : 0 + j ≡ j = omega arith in
     get_or-append-add (first_rows h s) (type_rows 0 (lines_of h) h.listed ++ last_rows t) j []
-    ∙ get_or-append (type_rows 0 (lines_of h) h.listed) (last_rows t) [] j (omega (arith, m, lt)) ∙ read_type 0 (lines_of h) j h.listed lt ∙ ap (λ (k : ℕ). type_row k h.listed) n
+    ∙ get_or-append (type_rows 0 (lines_of h) h.listed) (last_rows t) [] j (omega (arith, m, lt)) ∙ read_type 0 (lines_of h) j h.listed lt ∙ ap (λ (k : ℕ). types_line k h.listed) n
 
 pub in_last : (h : Heading) (s : Site) (t j : ℕ) → get_or (rows h s t) (9 + (lines_of h + j)) [] ≡ get_or (last_rows t) j []
 unfolding rows
@@ -180,8 +180,8 @@ name_in front name rest head tail j r lh ln le lf =
 
 -- a text with the line that shows the first name of a code has the name where it is looked for
 pub name_is : (text : List ℕ) (cs : List Code) (i : ℕ) (e : Code) → IsInRange 1 16 (length cs) → i < length cs
-    → line_at (9 + 3 * i / 13) text ≡ ended (type_row (3 * i / 13) cs) → name_at i text ≡ name_of (get_or cs i e)
-unfolding type_row
+    → line_at (9 + 3 * i / 13) text ≡ ended (types_line (3 * i / 13) cs) → name_at i text ≡ name_of (get_or cs i e)
+unfolding types_line
 name_is text cs i e h lt line =
     let j = 3 * i / 13 in
     let r = 3 * i % 13 in
@@ -218,8 +218,8 @@ same_codes xs ys q n same =
 
 -- two lists of codes that agree in the codes that j + 1 lines show have the same line behind j lines
 types_same : (xs ys : List Code) (j : ℕ) → length xs ≡ length ys → ((i : ℕ) (e : Code) → i < length ys → 3 * i / 13 ≤ j → get_or xs i e ≡ get_or ys i e)
-    → type_row j xs ≡ type_row j ys
-unfolding type_row
+    → types_line j xs ≡ types_line j ys
+unfolding types_line
 types_same xs ys j n same =
     let q = (13 * (j + 1) + 2) / 3 in
     let front : take q xs ≡ take q ys = same_codes xs ys q n (λ i e lt low. same i e lt (omega (arith, low))) in
@@ -242,15 +242,15 @@ agreed text h s t k j g a le lt = sym (a j le) ∙ line_within h s t j g lt
 
 pub same_count : (text : List ℕ) (h c : Heading) (s d : Site) (t u k : ℕ) → Shows text h c s d t u → IsGood h s t → Agrees text h s t k → 9 ≤ k
     → length c.listed ≡ length h.listed
-unfolding type_row
+unfolding types_line
 same_count text h c s d t u k shows g a le =
     let some : 0 < lines_of h = omega (arith, g.heading.1.0) in
-    let first : line_at 9 text ≡ ended (type_row 0 h.listed) =
+    let first : line_at 9 text ≡ ended (types_line 0 h.listed) =
     agreed text h s t k 9 g a le (omega arith) ∙ ap (λ (r : List ℕ). ended r) (in_types h s t 0 some) in
     shows.count (first ∙ sym (row_ended (types_head 0 (length h.listed) ++ take 52 (types h.listed)) (codes "SYS / # / OBS TYPES")))
 
 types_agree : (text : List ℕ) (h c : Heading) (s d : Site) (t u k j : ℕ) → Shows text h c s d t u → IsGood h s t → Agrees text h s t k
-    → 9 + j ≤ k → j < lines_of h → length c.listed ≡ length h.listed → type_row j c.listed ≡ type_row j h.listed
+    → 9 + j ≤ k → j < lines_of h → length c.listed ≡ length h.listed → types_line j c.listed ≡ types_line j h.listed
 types_agree text h c s d t u k j shows g a le lt n =
     types_same c.listed h.listed j n (λ i e within low.
     shows.listed n i e within (λ m less.

@@ -13,7 +13,7 @@ use Rattle.rtk_rinex.specs.HeaderFault.{AreLines, IsHeader, BeginsHeader, Begins
 use Rattle.rtk_rinex.specs.HeaderShown.{line_at, number_at}
 use Rattle.rtk_rinex.proofs.HeaderDigitsLemmas.{take-exact, drop-exact}
 use Rattle.rtk_rinex.proofs.HeaderShownLemmas.{count_is}
-use Rattle.rtk_rinex.proofs.HeaderRowsLemmas.{row_ended, ended, text_of, types_head, type_row, row_count, rows, rows_text}
+use Rattle.rtk_rinex.proofs.HeaderRowsLemmas.{row_ended, ended, text_of, types_head, types_line, row_count, rows, rows_text}
 use Rattle.rtk_rinex.proofs.HeaderGoodLemmas.{IsRow, rows_good}
 use Rattle.rtk_rinex.proofs.HeaderSameLemmas.{IsGood, Agrees, lines_of, length-rows, length-header, line_within, in_types}
 
@@ -67,10 +67,10 @@ are_lines c d u g =
 -- ---- one number of lines
 
 pub count_shown : (line : List ℕ) (h : Heading) (s : Site) (t : ℕ) → IsGood h s t → line ≡ line_at 9 (header_text h s t) → number_at 3 3 line ≡ 3 * length h.listed
-unfolding type_row
+unfolding types_line
 count_shown line h s t g e =
     let some : 0 < lines_of h = omega (arith, g.heading.1.0) in
-    let first : line ≡ ended (type_row 0 h.listed) = e ∙ line_within h s t 9 g (omega arith) ∙ ap (λ (r : List ℕ). ended r) (in_types h s t 0 some) in
+    let first : line ≡ ended (types_line 0 h.listed) = e ∙ line_within h s t 9 g (omega arith) ∙ ap (λ (r : List ℕ). ended r) (in_types h s t 0 some) in
     count_is line (codes "SYS / # / OBS TYPES") (take 52 (types h.listed)) (length h.listed) g.heading.1.0
     (first ∙ sym (row_ended (types_head 0 (length h.listed) ++ take 52 (types h.listed)) (codes "SYS / # / OBS TYPES")))
 
