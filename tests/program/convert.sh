@@ -79,7 +79,8 @@ convert 1C,2W stdin </dev/null;                       expect empty_capture 0 emp
 
 # The file can be followed: the records of closed epochs are out while standard input is open.
 mkfifo capture
-"$program" convert --station 2003 --near $near --made $made --marker BASE --codes 1C,2W --window 2 stdin <capture >out 2>err &
+: >nothing
+"$program" convert --station 2003 --near $near --made $made --marker BASE --codes 1C,2W --window 2 nothing stdin <capture >out 2>err &
 running=$!
 exec 9>capture
 head -c 184 "$examples/late.rtcm" >&9
@@ -96,7 +97,8 @@ exec 9>&-
 wait $running
 status=$?
 mv whole_out out && mv whole_err err
-expect followed_to_its_end 0 "$examples/late.rnx" "$examples/late.report"
+sed 's/^link 1/link 2/' "$examples/late.report" >late.report
+expect followed_to_its_end 0 "$examples/late.rnx" late.report
 
 # Links that can't be opened or read: of the first kind nothing is read and nothing is out.
 mkdir folder
@@ -108,6 +110,15 @@ convert 1C stdin <folder;                             fails a_directory_as_stand
 convert 1C "$(printf '\377')" </dev/null;             fails a_link_that_is_no_text 1 'read failed'
 "$program" convert --station 2003 --near $near --made $made --marker BASE --codes 1C stdin <&- >out 2>err; status=$?
 fails closed_standard_input 1 'read failed'
+
+# A link that fails behind closed epochs: these and their report are out. Both streams in one place: the file comes first.
+convert 1C,2W --window 2 "$examples/late.rtcm" folder </dev/null
+sed -n '1,23p' "$examples/late.rnx" >part
+{ head -n 1 "$examples/late.report"; echo 'rtcm2rinex: read failed'; } >part_err
+expect a_link_that_fails_later 1 part part_err
+"$program" convert --station 2003 --near $near --made $made --marker BASE --codes 1C,2W "$base" >out 2>&1 </dev/null; status=$?
+cat "$examples/base.rnx" base.report >both; : >err
+expect file_before_report 0 both /dev/null
 
 # Our own refusals, by the first cause.
 words '' '' '' '' stdin stdin;                        fails form_of_near 2 'bad --near'

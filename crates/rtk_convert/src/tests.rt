@@ -43,15 +43,14 @@ struct Written {
     log: MemSink,
 }
 
-// A conversion of these payloads on link 0, to its end.
+// A run over one link of these payloads, to its end.
 fn converted(alloc: Global, payloads: &[&[u8]]) -> Result<Written, Fail> {
     let mut out = MemSink::new(alloc, 65_536, 65_536)?;
     let mut log = MemSink::new(alloc, 65_536, 65_536)?;
-    let mut conversion = Conversion::new(alloc, setup(2003, NOON, 2)?);
-    for payload in payloads {
-        conversion.arrive(0, *payload, &mut out, &mut log)?;
-    }
-    conversion.finish(&mut out, &mut log)?;
+    let mut readers = Vec::new(alloc);
+    readers.push(source(alloc, payloads, After::End)?)?;
+    let setup = setup(2003, NOON, 2)?;
+    run(alloc, setup, &mut readers, &mut out, &mut log, 1000)?;
     Ok(Written { out, log })
 }
 
@@ -328,5 +327,72 @@ fn faults_have_their_texts(rt: HostRuntime) -> Result<(), Fail> {
     for (fault, want) in rows {
         assert_eq!(rt; fault.to_string(alloc)?.as_str(), want);
     }
+    Ok(())
+}
+
+#[test]
+fn captures_cut_anywhere(rt: HostRuntime) -> Result<(), Fail> {
+    let alloc = rt.alloc();
+    let mut bytes = Vec::new(alloc);
+    for payload in [P, Q] {
+        bytes.extend_from_slice(&encode_frame(alloc, payload)?)?;
+    }
+    assert_eq!(rt; bytes.len(), 55);
+    for k in 0..55 {
+        let (site, report) = if k < 25 {
+            (
+                NO_SITE,
+                "frames 0\nother 0\nrefused 0\nforeign 0\ntaken 0\nrepeat 0\nconflict 0\nlate 0\nepochs 0\n",
+            )
+        } else {
+            (
+                SITE,
+                "frames 1\nother 0\nrefused 0\nforeign 0\ntaken 1\nrepeat 0\nconflict 0\nlate 0\nepochs 0\n",
+            )
+        };
+        let mut readers = Vec::new(alloc);
+        readers.push(MemSource::new(alloc, bytes.get(..k).ok_or("no part")?, 512, After::End)?)?;
+        let mut out = MemSink::new(alloc, 4096, 4096)?;
+        let mut log = MemSink::new(alloc, 4096, 4096)?;
+        let setup = setup(2003, NOON, 2)?;
+        run(alloc, setup, &mut readers, &mut out, &mut log, 3)?;
+        assert!(rt; consists_of(out.bytes(), &[TOP, site, TYPES, FIRST_AT_NOON, END]));
+        assert_eq!(rt; log.bytes(), report.as_bytes());
+    }
+    Ok(())
+}
+
+#[test]
+fn three_thousand_epochs(rt: HostRuntime) -> Result<(), Fail> {
+    let alloc = rt.alloc();
+    let mut bytes = Vec::new(alloc);
+    for i in 0u32..3000 {
+        let [a, b, c, d] = ((475_200_000 + 1000 * i) << 2).to_be_bytes(); // DF004 and two bits that are 0
+        let mut payload = Vec::from_slice(alloc, Q)?;
+        for (at, byte) in [(3, a), (4, b), (5, c), (6, d)] {
+            if let Some(place) = payload.as_mut_slice().get_mut(at) {
+                *place = byte;
+            }
+        }
+        bytes.extend_from_slice(&encode_frame(alloc, &payload)?)?;
+    }
+    let mut readers = Vec::new(alloc);
+    readers.push(MemSource::new(alloc, &bytes, 512, After::End)?)?;
+    let mut out = MemSink::new(alloc, 1_000_000, 1_000_000)?;
+    let mut log = MemSink::new(alloc, 4096, 4096)?;
+    let counts = run(
+        alloc,
+        setup(2003, NOON, 2)?,
+        &mut readers,
+        &mut out,
+        &mut log,
+        1000,
+    )?;
+    assert_eq!(rt;
+        (counts.frames, counts.taken, counts.epochs),
+        (3000, 3000, 3000)
+    );
+    let table = rtk_rinex::check(alloc, out.bytes())?;
+    assert_eq!(rt; (table.epochs(), table.satellites()), (3000, 3000));
     Ok(())
 }

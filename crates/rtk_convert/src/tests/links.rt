@@ -80,3 +80,32 @@ fn calls_on_links_are_refused_in_order(rt: HostRuntime) -> Result<(), Fail> {
     }
     Ok(())
 }
+
+#[test]
+fn a_report_that_fails_stops_the_converter(rt: HostRuntime) -> Result<(), Fail> {
+    let alloc = rt.alloc();
+    let mut out = MemSink::new(alloc, 65_536, 65_536)?;
+    let mut log = MemSink::new(alloc, 0, 1)?;
+    let mut converter = converter(alloc, 1)?;
+    let frame = encode_frame(alloc, P)?;
+    converter.feed(0, &frame, &mut out, &mut log)?;
+    let other = encode_frame(alloc, P_OF_ANOTHER_YEAR)?;
+    let stream = Stream::Log;
+    assert_eq!(rt;
+        converter.feed(0, &other, &mut out, &mut log),
+        Err(ConvertFault::Write { stream })
+    );
+    assert_eq!(rt;
+        converter.feed(0, &frame, &mut out, &mut log),
+        Err(ConvertFault::Stopped)
+    );
+    assert_eq!(rt;
+        converter.close(0, &mut out, &mut log),
+        Err(ConvertFault::Stopped)
+    );
+    assert_eq!(rt;
+        converter.finish(&mut out, &mut log),
+        Err(ConvertFault::Stopped)
+    );
+    Ok(())
+}

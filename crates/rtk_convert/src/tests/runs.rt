@@ -88,7 +88,7 @@ pub(crate) const ENDED: [Run; 5] = [
 ];
 
 /// Runs that break off.
-pub(crate) const BROKEN: [Run; 6] = [
+pub(crate) const BROKEN: [Run; 9] = [
     // A link is open after the reads that are allowed.
     Run {
         links: &[&[P, Q], &[P, Q]],
@@ -158,5 +158,46 @@ pub(crate) const BROKEN: [Run; 6] = [
         fault: Some(ConvertFault::Endless),
         file: &[TOP, NO_SITE, TYPES, FIRST_AT_NOON, END, AT_NOON, Q_LINE],
         report: "",
+    },
+    // Of two links with the same newest epoch the lower one is next.
+    Run {
+        links: &[&[Q], &[Q]],
+        after: After::Failure,
+        max_reads: 9,
+        room: (AMPLE, AMPLE),
+        log_room: AMPLE,
+        fault: Some(ConvertFault::Read { link: 0 }),
+        file: &[],
+        report: "",
+    },
+    // The link whose newest epoch is the least is next.
+    Run {
+        links: &[&[Q_1], &[Q]],
+        after: After::Failure,
+        max_reads: 9,
+        room: (AMPLE, AMPLE),
+        log_room: AMPLE,
+        fault: Some(ConvertFault::Read { link: 1 }),
+        file: &[],
+        report: "",
+    },
+    // A late message gives its link an epoch: the link without one is next.
+    Run {
+        links: &[&[Q_1, Q_2, Q_3], &[Q], &[]],
+        after: After::Failure,
+        max_reads: 9,
+        room: (AMPLE, AMPLE),
+        log_room: AMPLE,
+        fault: Some(ConvertFault::Read { link: 2 }),
+        file: &[
+            TOP,
+            NO_SITE,
+            TYPES,
+            FIRST_AFTER_NOON,
+            END,
+            AFTER_1_S,
+            Q_LINE,
+        ],
+        report: "link 2 late 1004 2024-05-17 12:00:00.000\n",
     },
 ];
