@@ -58,6 +58,12 @@ mkdir folder
 sed '4s/GEODETIC/GEODESIC/' "$base" >line4
 sed '16s/45.000/45.100/' "$base" >line16
 head -c -1 "$base" >cut
+sed -e '15,$d' -e '8s/^.\{42\}/        0.0000        0.0000        0.0000/' "$base" >no_record
+sed '9,$d' "$base" >half_header
+sed '16s/^G05/G33/' "$base" >satellite33
+sed '16s/$/ /' "$base" >blank
+sed '16s/^G05  21085472.060/G05         0.000/' "$base" >zero
+{ cat "$base"; sed '1,14d' "$base"; } >twice
 
 check "$base" </dev/null;        expect yes 0 "$yes" ''
 check stdin <"$base";            expect yes_from_stdin 0 "$yes" ''
@@ -67,6 +73,12 @@ check stdin </dev/null;          expect empty_text 3 'line 1: C5 Truncated' ''
 check line4 </dev/null;          expect no_header 3 'line 4: C1 HeaderLine' ''
 check line16 </dev/null;         expect no_value 3 'line 16: C3 Value' ''
 check cut </dev/null;            expect no_last_line_feed 3 'line 16: C5 Truncated' ''
+check no_record </dev/null;      expect no_record 0 'valid: 0 epochs, 0 satellite lines' ''
+check half_header </dev/null;    expect half_header 3 'line 9: C5 Truncated' ''
+check satellite33 </dev/null;    expect satellite_33 3 'line 16: C2 Columns' ''
+check blank </dev/null;          expect blank_at_the_end 3 'line 16: C2 Columns' ''
+check zero </dev/null;           expect zero_value 3 'line 16: C3 Value' ''
+check twice </dev/null;          expect repeated_epoch 3 'line 17: C4 Order' ''
 check "$root/examples/session.rnx" </dev/null
 expect yes_session 0 'valid: 20 epochs, 72 satellite lines' ''
 check "$root/examples/late.rnx" </dev/null
