@@ -174,14 +174,17 @@ closing-closed : (s : Settings) (h : History) (n : ℕ) → AllClosed h → IsAf
 closing-closed s h zero closed = refl
 closing-closed s h (suc n) closed = (h, closing-closed s h n closed, inr (closed n, refl))
 
-pub run-headline : {R : Type 0} (given : R → Option (List ℕ)) (s : Settings) (before after : List R) (counts : Counts) (out_old out_new log_old log_new : Option (List ℕ))
-    → RunsAs given s before after counts out_old out_new log_old log_new → RunHeadline given s before after out_old out_new log_old log_new
-run-headline given s before after counts out_old out_new log_old log_new p = (
-  p.reads,
-  p.gave,
-  headline-of s (length before) (calls_of p.reads) p.history.found out_old out_new log_old log_new
-      (p.history, p.history, calls-come-to s (length before) p.reads p.history p.comes_to, closing-closed s p.history (length before) p.closed, refl) p.out p.log,
-)
+pub run-headline : {R : Type 0} (given : R → Option (List ℕ)) (calls : R → ℕ) (is_at_end : R → Type 0) (s : Settings) (before after : List R) (counts : Counts) (out_old out_new log_old log_new : Option (List ℕ))
+    → RunsAs given calls is_at_end s before after counts out_old out_new log_old log_new → RunHeadline given calls is_at_end s before after out_old out_new log_old log_new
+run-headline given calls is_at_end s before after counts out_old out_new log_old log_new p = record {
+  reads = p.reads;
+  gave = p.gave;
+  called = p.called;
+  to_their_ends = p.at_end;
+  in_order = (p.history, p.comes_to, p.closed);
+  headline = headline-of s (length before) (calls_of p.reads) p.history.found out_old out_new log_old log_new
+      (p.history, p.history, calls-come-to s (length before) p.reads p.history p.comes_to, closing-closed s p.history (length before) p.closed, refl) p.out p.log;
+}
 
 pub if_ok-on : {T E : Type 0} (r : Result T E) {P : T → Type 0} {Q : Type 0} → ((x : T) → P x → Q) → IfOk r P → OnOk r Q
 if_ok-on (Ok x) f p = f x p

@@ -62,10 +62,10 @@ has_read-nothing given s readers out log = record {
   log = sym (with_more-nil log);
 }
 
-pub has_read-more : {R : Type 0} (given : R → Option (List ℕ)) (s : Settings) (h : History) (link : ℕ) (before mid after : List R) (reads : List Read) (new : ConverterState) (o0 o1 o2 l0 l1 l2 : Option (List ℕ))
-    → HasRead given s before mid reads h o0 o1 l0 l1 → (p : ReadsOn given s h link mid after new o1 o2 l1 l2)
+pub has_read-more : {R : Type 0} (given : R → Option (List ℕ)) (is_at_end : R → Type 0) (s : Settings) (h : History) (link : ℕ) (before mid after : List R) (reads : List Read) (new : ConverterState) (o0 o1 o2 l0 l1 l2 : Option (List ℕ))
+    → HasRead given s before mid reads h o0 o1 l0 l1 → (p : ReadsOn given is_at_end s h link mid after new o1 o2 l1 l2)
     → HasRead given s before after (read_of link p.piece ∷ reads) p.next o0 o2 l0 l2
-has_read-more given s h link before mid after reads new o0 o1 o2 l0 l1 l2 q p = record {
+has_read-more given is_at_end s h link before mid after reads new o0 o1 o2 l0 l1 l2 q p = record {
   comes_to = (h, q.comes_to, p.is_next);
   gave = gave-more given before mid after reads (read_of link p.piece) q.gave p.gave;
   out = written o0 o1 o2 (file_so_far s (arrivals h.found)) (file_so_far s (arrivals p.next.found)) q.out p.writes.out;
@@ -139,10 +139,10 @@ closing-none s h (suc n) last closed p =
       | inr stays ↦ stays.1 ∙ same
     ]
 
-pub runs-as : {R : Type 0} (given : R → Option (List ℕ)) (s : Settings) (before after : List R) (converter : ConverterState) (counts : Counts) (o0 o1 o2 l0 l1 l2 : Option (List ℕ))
-    → (p : HasReadAll given s before after converter o0 o1 l0 l1) → (last : History) → EndsAs s p.history last counts o1 o2 l1 l2
-    → RunsAs given s before after counts o0 o2 l0 l2
-runs-as given s before after converter counts o0 o1 o2 l0 l1 l2 p last e =
+pub runs-as : {R : Type 0} (given : R → Option (List ℕ)) (calls : R → ℕ) (is_at_end : R → Type 0) (s : Settings) (before after : List R) (converter : ConverterState) (counts : Counts) (o0 o1 o2 l0 l1 l2 : Option (List ℕ))
+    → (p : HasReadAll given calls is_at_end s before after converter o0 o1 l0 l1) → (last : History) → EndsAs s p.history last counts o1 o2 l1 l2
+    → RunsAs given calls is_at_end s before after counts o0 o2 l0 l2
+runs-as given calls is_at_end s before after converter counts o0 o1 o2 l0 l1 l2 p last e =
     let same = closing-none s p.history (length p.history.links) last p.closed e.closed in
     record {
       reads = p.reads;
@@ -150,20 +150,22 @@ runs-as given s before after converter counts o0 o1 o2 l0 l1 l2 p last e =
       comes_to = p.has_read.comes_to;
       closed = p.closed;
       gave = p.has_read.gave;
+      called = p.called;
+      at_end = p.at_end;
       out = written o0 o1 o2 (file_so_far s (arrivals p.history.found)) (kept_file s (arrivals last.found)) p.has_read.out e.out ∙ ap (λ (h : History). with_more o0 (kept_file s (arrivals h.found))) same;
       log = written l0 l1 l2 (lines s.window p.history.found) (report_of s last.found) p.has_read.log e.log ∙ ap (λ (h : History). with_more l0 (report_of s h.found)) same;
       counts_are = e.counts_are ∙ ap (λ (h : History). all_counts s h.found) same;
     }
 
 -- once all links were closed, the end breaks off with no frame in hand
-pub breaks-ending : {R : Type 0} (given : R → Option (List ℕ)) (s : Settings) (before after : List R) (converter : ConverterState) (o0 o1 o2 l0 l1 l2 : Option (List ℕ))
-    → (p : HasReadAll given s before after converter o0 o1 l0 l1)
+pub breaks-ending : {R : Type 0} (given : R → Option (List ℕ)) (calls : R → ℕ) (is_at_end : R → Type 0) (s : Settings) (before after : List R) (converter : ConverterState) (o0 o1 o2 l0 l1 l2 : Option (List ℕ))
+    → (p : HasReadAll given calls is_at_end s before after converter o0 o1 l0 l1)
     → ((link : ℕ) × BreaksOffClosing s p.history link o1 o2 l1 l2) ⊎ BreaksOffEnding s p.history o1 o2 l1 l2
     → BreaksOffAtEnd given s before after o0 o2 l0 l2
-breaks-ending given s before after converter o0 o1 o2 l0 l1 l2 p (inl breaks) =
+breaks-ending given calls is_at_end s before after converter o0 o1 o2 l0 l1 l2 p (inl breaks) =
     let same = closing-none s p.history breaks.0 breaks.1.mid p.closed breaks.1.closed in
     absurd (p.closed breaks.0 (subst (λ (h : History). IsOpen h breaks.0) same breaks.1.is_open))
-breaks-ending given s before after converter o0 o1 o2 l0 l1 l2 p (inr breaks) =
+breaks-ending given calls is_at_end s before after converter o0 o1 o2 l0 l1 l2 p (inr breaks) =
     let same = closing-none s p.history (length p.history.links) breaks.last p.closed breaks.closed in
     record {
       reads = p.reads;

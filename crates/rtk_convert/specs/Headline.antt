@@ -19,7 +19,8 @@ use Rattle.rtk_convert.specs.File.{file_of}
 use Rattle.rtk_convert.specs.FileOfArrivals.{site_of_stations, kept_file}
 use Rattle.rtk_convert.specs.Finding.{Found, arrivals}
 use Rattle.rtk_convert.specs.History.{History, new_history, IsOpen, IsAfterFeed}
-use Rattle.rtk_convert.specs.Reads.{Read, Gave}
+use Rattle.rtk_convert.specs.Reading.{HasCalled}
+use Rattle.rtk_convert.specs.Reads.{Read, Gave, IsHistoryOf, AllClosed, AllAtEnd}
 use Rattle.rtk_convert.specs.ReportText.{late_line}
 use Rattle.rtk_convert.specs.Settings.{Settings}
 use Rattle.rtk_convert.specs.State.{found_on}
@@ -144,7 +145,11 @@ abbrev pub calls_of : List Read → List Call
 calls_of [] = []
 calls_of (r ∷ before) = call_of r.link r.piece ∷ calls_of before
 
--- the sentence, of the pieces that the readers gave
-abbrev pub RunHeadline : {R : Type 0} → (R → Option (List ℕ)) → Settings → List R → List R → Option (List ℕ) → Option (List ℕ) → Option (List ℕ) → Option (List ℕ) → Type 0
-RunHeadline given s before after out_old out_new log_old log_new =
-    (reads : List Read) × Gave given before after reads × Headline s (length before) (calls_of reads) out_old out_new log_old log_new
+-- the sentence, of the pieces that the readers gave: to their ends, and each read of the link that was next
+pub record RunHeadline {R : Type 0} (given : R → Option (List ℕ)) (calls : R → ℕ) (is_at_end : R → Type 0) (s : Settings) (before after : List R) (out_old out_new log_old log_new : Option (List ℕ)) : Type 0 where
+  pub reads : List Read
+  pub gave : Gave given before after reads
+  pub called : HasCalled calls before after (length reads)
+  pub to_their_ends : AllAtEnd is_at_end after
+  pub in_order : (h : History) × IsHistoryOf s (length before) reads h × AllClosed h
+  pub headline : Headline s (length before) (calls_of reads) out_old out_new log_old log_new

@@ -8,21 +8,23 @@ use Rattle.rtk_convert.specs.FileOfArrivals.{kept_file, file_so_far}
 use Rattle.rtk_convert.specs.Finding.{Found, ComesTo, arrivals}
 use Rattle.rtk_convert.specs.Finish.{all_counts, report_of}
 use Rattle.rtk_convert.specs.History.{History, Finds, IsOpen, IsNextLink}
-use Rattle.rtk_convert.specs.Reading.{read_of, found_by_read, HasRead}
-use Rattle.rtk_convert.specs.Reads.{Read, IsHistoryOf, AllClosed, Gave}
+use Rattle.rtk_convert.specs.Reading.{read_of, found_by_read, HasRead, HasCalled}
+use Rattle.rtk_convert.specs.Reads.{Read, IsHistoryOf, AllClosed, AreAtEnd, AllAtEnd, Gave}
 use Rattle.rtk_convert.specs.Report.{lines}
 use Rattle.rtk_convert.specs.Settings.{Settings}
 use Rattle.rtk_convert.specs.State.{found_on}
 
 -- ---- to the end
 
--- all links were read to their end, and the file and the report of what they gave are out
-pub record RunsAs {R : Type 0} (given : R → Option (List ℕ)) (s : Settings) (before after : List R) (counts : Counts) (out_old out_new log_old log_new : Option (List ℕ)) : Type 0 where
+-- all links were read to their end, by so many calls as there are reads, and the file and the report of what they gave are out
+pub record RunsAs {R : Type 0} (given : R → Option (List ℕ)) (calls : R → ℕ) (is_at_end : R → Type 0) (s : Settings) (before after : List R) (counts : Counts) (out_old out_new log_old log_new : Option (List ℕ)) : Type 0 where
   pub reads : List Read
   pub history : History
   pub comes_to : IsHistoryOf s (length before) reads history
   pub closed : AllClosed history
   pub gave : Gave given before after reads
+  pub called : HasCalled calls before after (length reads)
+  pub at_end : AllAtEnd is_at_end after
   pub out : out_new ≡ with_more out_old (kept_file s (arrivals history.found))
   pub log : log_new ≡ with_more log_old (report_of s history.found)
   pub counts_are : counts ≡ all_counts s history.found
@@ -37,11 +39,13 @@ pub record FailsReading {R : Type 0} (given : R → Option (List ℕ)) (failures
   pub is_next : IsNextLink history link
   pub failed : (none : R) → Rises (failures (slice_index_or before link none)) (failures (slice_index_or after link none))
 
--- a link is open still; exactly the file so far and the lines of what was read are out
-pub record StaysOpen {R : Type 0} (given : R → Option (List ℕ)) (s : Settings) (before after : List R) (out_old out_new log_old log_new : Option (List ℕ)) : Type 0 where
+-- a link is open still after so many reads; exactly the file so far and the lines of what was read are out
+pub record StaysOpen {R : Type 0} (given : R → Option (List ℕ)) (is_at_end : R → Type 0) (s : Settings) (max_reads : ℕ) (before after : List R) (out_old out_new log_old log_new : Option (List ℕ)) : Type 0 where
   pub reads : List Read
   pub history : History
   pub has_read : HasRead given s before after reads history out_old out_new log_old log_new
+  pub made : length reads ≡ max_reads
+  pub at_end : AreAtEnd is_at_end after history
   pub link : ℕ
   pub is_open : IsOpen history link
 

@@ -205,6 +205,8 @@ impl Converter {
         ensures fault { self.conversion.stopped ≡ false → IfErr result IsFrameFault }
         ensures ok { IfOk result (λ counts. Ends self counts (O.taken out.old) (O.taken out.new) (L.taken log.old) (L.taken log.new)) }
         ensures err { IfErr result (λ fault. IsFrameFault fault → EndsInPart self (O.taken out.old) (O.taken out.new) (L.taken log.old) (L.taken log.new)) }
+        ensures out_same { OnOk result (O.failures out.new ≡ O.failures out.old) }
+        ensures log_same { OnOk result (L.failures log.new ≡ L.failures log.old) }
         ensures out_failed { IsErrOf result (ConvertFault.Write Stream.Out) → Rises (O.failures out.old) (O.failures out.new) }
         ensures log_failed { IsErrOf result (ConvertFault.Write Stream.Log) → Rises (L.failures log.old) (L.failures log.new) }
     {
