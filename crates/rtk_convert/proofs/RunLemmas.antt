@@ -161,7 +161,7 @@ runs-as given calls is_at_end s before after converter counts o0 o1 o2 l0 l1 l2 
 pub breaks-ending : {R : Type 0} (given : R → Option (List ℕ)) (calls : R → ℕ) (is_at_end : R → Type 0) (s : Settings) (before after : List R) (converter : ConverterState) (o0 o1 o2 l0 l1 l2 : Option (List ℕ))
     → (p : HasReadAll given calls is_at_end s before after converter o0 o1 l0 l1)
     → ((link : ℕ) × BreaksOffClosing s p.history link o1 o2 l1 l2) ⊎ BreaksOffEnding s p.history o1 o2 l1 l2
-    → BreaksOffAtEnd given s before after o0 o2 l0 l2
+    → BreaksOffAtEnd given calls is_at_end s before after o0 o2 l0 l2
 breaks-ending given calls is_at_end s before after converter o0 o1 o2 l0 l1 l2 p (inl breaks) =
     let same = closing-none s p.history breaks.0 breaks.1.mid p.closed breaks.1.closed in
     absurd (p.closed breaks.0 (subst (λ (h : History). IsOpen h breaks.0) same breaks.1.is_open))
@@ -173,6 +173,8 @@ breaks-ending given calls is_at_end s before after converter o0 o1 o2 l0 l1 l2 p
       comes_to = p.has_read.comes_to;
       closed = p.closed;
       gave = p.has_read.gave;
+      called = p.called;
+      at_end = p.at_end;
       out = subst (λ (h : History). WritesInto o0 o2 [] (file_so_far s (arrivals h.found)) (kept_file s (arrivals h.found))) same (into o0 o1 o2 _ _ _ p.has_read.out breaks.out);
       log = subst (λ (h : History). WritesInto l0 l2 [] (lines s.window h.found) (report_of s h.found)) same (into l0 l1 l2 _ _ _ p.has_read.log breaks.log);
     }

@@ -81,18 +81,20 @@ pub record IsUntouched {R : Type 0} (before after : List R) (out_old out_new log
   pub log : log_new ≡ log_old
 
 -- the run breaks off at its end: what the links gave is written, and a first part of the rest
-pub record BreaksOffAtEnd {R : Type 0} (given : R → Option (List ℕ)) (s : Settings) (before after : List R) (out_old out_new log_old log_new : Option (List ℕ)) : Type 0 where
+pub record BreaksOffAtEnd {R : Type 0} (given : R → Option (List ℕ)) (calls : R → ℕ) (is_at_end : R → Type 0) (s : Settings) (before after : List R) (out_old out_new log_old log_new : Option (List ℕ)) : Type 0 where
   pub reads : List Read
   pub history : History
   pub comes_to : IsHistoryOf s (length before) reads history
   pub closed : AllClosed history
   pub gave : Gave given before after reads
+  pub called : HasCalled calls before after (length reads)
+  pub at_end : AllAtEnd is_at_end after
   pub out : WritesInto out_old out_new [] (file_so_far s (arrivals history.found)) (kept_file s (arrivals history.found))
   pub log : WritesInto log_old log_new [] (lines s.window history.found) (report_of s history.found)
 
 -- memory was refused, or a write failed: before anything was read, at a frame, or at the end
-abbrev pub BreaksOff : {R : Type 0} → (R → Option (List ℕ)) → Settings → List R → List R → Option (List ℕ) → Option (List ℕ) → Option (List ℕ) → Option (List ℕ) → Type 0
-BreaksOff given s before after out_old out_new log_old log_new =
+abbrev pub BreaksOff : {R : Type 0} → (R → Option (List ℕ)) → (R → ℕ) → (R → Type 0) → Settings → List R → List R → Option (List ℕ) → Option (List ℕ) → Option (List ℕ) → Option (List ℕ) → Type 0
+BreaksOff given calls is_at_end s before after out_old out_new log_old log_new =
     IsUntouched before after out_old out_new log_old log_new
     ⊎ (BreaksOffReading given s before after out_old out_new log_old log_new
-    ⊎ BreaksOffAtEnd given s before after out_old out_new log_old log_new)
+    ⊎ BreaksOffAtEnd given calls is_at_end s before after out_old out_new log_old log_new)

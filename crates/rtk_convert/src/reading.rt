@@ -165,7 +165,7 @@ pub fn run<R: Source, O: Sink, L: Sink>(
     ensures log_failed { IsErrOf result (ConvertFault.Write Stream.Log) → Rises (L.failures log.old) (L.failures log.new) }
     ensures log_kept { IfErr result (λ fault. fault ≢ ConvertFault.Write Stream.Log → L.failures log.new ≡ L.failures log.old) }
     ensures breaks_off { IfErr result (λ fault. IsFrameFault fault
-        → BreaksOff R.given setup readers.old readers.new (O.taken out.old) (O.taken out.new) (L.taken log.old) (L.taken log.new)) }
+        → BreaksOff R.given R.calls R.is_at_end setup readers.old readers.new (O.taken out.old) (O.taken out.new) (L.taken log.old) (L.taken log.new)) }
     ensures read_failed { (link : ℕ) → IsErrOf result (ConvertFault.Read link)
         → FailsReading R.given R.failures setup link readers.old readers.new (O.taken out.old) (O.taken out.new) (L.taken log.old) (L.taken log.new) }
     ensures endless { IsErrOf result ConvertFault.Endless
