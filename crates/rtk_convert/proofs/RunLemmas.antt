@@ -1,5 +1,5 @@
 -- All reads of a run.
-use Rattle.std.proofs.Common.{◌≡◌, ℕ, zero, suc, inl, inr, ◌⊎◌, false, ◌<◌, List, [], ◌∷◌, ◌++◌, length, Option, refl, sym, ap, subst, ◌∙◌, arith}
+use Rattle.std.proofs.Common.{◌≡◌, ℕ, ◌+◌, zero, suc, inl, inr, ◌⊎◌, false, ◌<◌, List, [], ◌∷◌, ◌++◌, length, Option, refl, sym, ap, subst, ◌∙◌, arith}
 use Rattle.std.specs.Prelude.{slice_index_or}
 use Rattle.std.proofs.lemmas.Bool.{cases_lt}
 use Rattle.std.proofs.lemmas.List.{append_assoc, length-replicate}
@@ -15,7 +15,7 @@ use Rattle.rtk_convert.specs.FileOfArrivals.{file_so_far, kept_file}
 use Rattle.rtk_convert.specs.Finding.{arrivals}
 use Rattle.rtk_convert.specs.Finish.{all_counts, report_of}
 use Rattle.rtk_convert.specs.History.{History, LinkPast, new_history, IsOpen, IsNextLink, with_piece, with_closed}
-use Rattle.rtk_convert.specs.Reading.{read_of, ReadsOn, BreaksOffOn, FailsOn, HasRead, HasReadAll}
+use Rattle.rtk_convert.specs.Reading.{read_of, ReadsOn, BreaksOffOn, FailsOn, HasRead, HasReadAll, HasCalled}
 use Rattle.rtk_convert.specs.Reads.{Read, AllClosed, IsHistoryOf, IsAfterPiece, Gave}
 use Rattle.rtk_convert.specs.Report.{lines}
 use Rattle.rtk_convert.specs.Run.{RunsAs, BreaksOffReading, BreaksOffAtEnd, FailsReading}
@@ -77,10 +77,10 @@ has_read-more given is_at_end s h link before mid after reads new o0 o1 o2 l0 l1
 into : (a b c : Option (List ℕ)) (x y z : List ℕ) → b ≡ with_more a x → WritesInto b c x y z → WritesInto a c [] y z
 into a b c x y z p w = (x ++ w.0, w.1, w.2, w.3, w.4, w.5 ∙ ap (λ o. with_more o (w.0 ++ w.1)) p ∙ with_more-with_more a x (w.0 ++ w.1) ∙ ap (with_more a) (sym (append_assoc x w.0 w.1)))
 
-pub breaks-reading : {R : Type 0} (given : R → Option (List ℕ)) (s : Settings) (h : History) (link : ℕ) (before mid after : List R) (reads : List Read) (o0 o1 o2 l0 l1 l2 : Option (List ℕ))
-    → HasRead given s before mid reads h o0 o1 l0 l1 → IsNextLink h link → BreaksOffOn given s h link mid after o1 o2 l1 l2
-    → BreaksOffReading given s before after o0 o2 l0 l2
-breaks-reading given s h link before mid after reads o0 o1 o2 l0 l1 l2 q n p = record {
+pub breaks-reading : {R : Type 0} (given : R → Option (List ℕ)) (calls : R → ℕ) (s : Settings) (h : History) (link : ℕ) (before mid after : List R) (reads : List Read) (o0 o1 o2 l0 l1 l2 : Option (List ℕ))
+    → HasRead given s before mid reads h o0 o1 l0 l1 → IsNextLink h link → BreaksOffOn given s h link mid after o1 o2 l1 l2 → HasCalled calls before after (length reads + 1)
+    → BreaksOffReading given calls s before after o0 o2 l0 l2
+breaks-reading given calls s h link before mid after reads o0 o1 o2 l0 l1 l2 q n p called = record {
   reads = reads;
   history = h;
   comes_to = q.comes_to;
@@ -89,6 +89,7 @@ breaks-reading given s h link before mid after reads o0 o1 o2 l0 l1 l2 q n p = r
   piece = p.piece;
   few = p.few;
   gave = gave-more given before mid after reads (read_of link p.piece) q.gave p.gave;
+  called = called;
   cut = record {
     done = p.breaks.done;
     payload = p.breaks.payload;
@@ -111,10 +112,10 @@ gave-same given a b c reads p q = record {
       q.bytes k none within ∙ with_more-nil (given (slice_index_or b k none)) ∙ p.bytes k none lt;
 }
 
-pub fails-reading : {R : Type 0} (given : R → Option (List ℕ)) (failures : R → ℕ) (s : Settings) (h : History) (link : ℕ) (before mid after : List R) (reads : List Read) (o0 o1 o2 l0 l1 l2 : Option (List ℕ))
+pub fails-reading : {R : Type 0} (given : R → Option (List ℕ)) (failures calls : R → ℕ) (s : Settings) (h : History) (link : ℕ) (before mid after : List R) (reads : List Read) (o0 o1 o2 l0 l1 l2 : Option (List ℕ))
     → HasRead given s before mid reads h o0 o1 l0 l1 → IsNextLink h link → ((k : ℕ) (none : R) → failures (slice_index_or mid k none) ≡ failures (slice_index_or before k none))
-    → FailsOn given failures link mid after o1 o2 l1 l2 → FailsReading given failures s link before after o0 o2 l0 l2
-fails-reading given failures s h link before mid after reads o0 o1 o2 l0 l1 l2 q n same p = record {
+    → FailsOn given failures link mid after o1 o2 l1 l2 → HasCalled calls before after (length reads + 1) → FailsReading given failures calls s link before after o0 o2 l0 l2
+fails-reading given failures calls s h link before mid after reads o0 o1 o2 l0 l1 l2 q n same p called = record {
   reads = reads;
   history = h;
   has_read = record {
@@ -123,6 +124,7 @@ fails-reading given failures s h link before mid after reads o0 o1 o2 l0 l1 l2 q
     out = p.out ∙ q.out;
     log = p.log ∙ q.log;
   };
+  called = called;
   is_next = n;
   failed = λ none. subst (λ (x : ℕ). Rises x (failures (slice_index_or after link none))) (same link none) (p.failed none);
 }

@@ -1,5 +1,5 @@
 -- What a run does: the file and the report of what its readers gave, or how far it came.
-use Rattle.std.specs.Prelude.{◌≡◌, ◌⊎◌, ℕ, ◌≤◌, List, [], ◌∷◌, ◌++◌, length, Option, slice_index_or}
+use Rattle.std.specs.Prelude.{◌≡◌, ◌⊎◌, ℕ, ◌+◌, ◌≤◌, List, [], ◌∷◌, ◌++◌, length, Option, slice_index_or}
 use Rattle.rtk_frame.specs.Stream.{with_more, Rises}
 use Rattle.rtk_convert.specs.Converter.{WritesInto}
 use Rattle.rtk_convert.specs.declared.arrival.Finding.{Finding}
@@ -32,10 +32,11 @@ pub record RunsAs {R : Type 0} (given : R → Option (List ℕ)) (calls : R → 
 -- ---- so far as it came
 
 -- a read of a link failed; exactly the file so far and the lines of what was read before are out
-pub record FailsReading {R : Type 0} (given : R → Option (List ℕ)) (failures : R → ℕ) (s : Settings) (link : ℕ) (before after : List R) (out_old out_new log_old log_new : Option (List ℕ)) : Type 0 where
+pub record FailsReading {R : Type 0} (given : R → Option (List ℕ)) (failures calls : R → ℕ) (s : Settings) (link : ℕ) (before after : List R) (out_old out_new log_old log_new : Option (List ℕ)) : Type 0 where
   pub reads : List Read
   pub history : History
   pub has_read : HasRead given s before after reads history out_old out_new log_old log_new
+  pub called : HasCalled calls before after (length reads + 1)
   pub is_next : IsNextLink history link
   pub failed : (none : R) → Rises (failures (slice_index_or before link none)) (failures (slice_index_or after link none))
 
@@ -63,7 +64,7 @@ pub record IsCutAt (s : Settings) (link : ℕ) (payloads : List (List ℕ)) (bef
   pub log : WritesInto log_old log_new [] (lines s.window found) (lines s.window (found_on link finding ∷ found))
 
 -- the run breaks off at a frame that its last read found
-pub record BreaksOffReading {R : Type 0} (given : R → Option (List ℕ)) (s : Settings) (before after : List R) (out_old out_new log_old log_new : Option (List ℕ)) : Type 0 where
+pub record BreaksOffReading {R : Type 0} (given : R → Option (List ℕ)) (calls : R → ℕ) (s : Settings) (before after : List R) (out_old out_new log_old log_new : Option (List ℕ)) : Type 0 where
   pub reads : List Read
   pub history : History
   pub comes_to : IsHistoryOf s (length before) reads history
@@ -72,6 +73,7 @@ pub record BreaksOffReading {R : Type 0} (given : R → Option (List ℕ)) (s : 
   pub piece : List ℕ
   pub few : length piece ≤ 512
   pub gave : Gave given before after (read_of link piece ∷ reads)
+  pub called : HasCalled calls before after (length reads + 1)
   pub cut : IsCutAt s link (found_by_read link history piece) history.found out_old out_new log_old log_new
 
 -- nothing was read, and nothing is out
@@ -96,5 +98,5 @@ pub record BreaksOffAtEnd {R : Type 0} (given : R → Option (List ℕ)) (calls 
 abbrev pub BreaksOff : {R : Type 0} → (R → Option (List ℕ)) → (R → ℕ) → (R → Type 0) → Settings → List R → List R → Option (List ℕ) → Option (List ℕ) → Option (List ℕ) → Option (List ℕ) → Type 0
 BreaksOff given calls is_at_end s before after out_old out_new log_old log_new =
     IsUntouched before after out_old out_new log_old log_new
-    ⊎ (BreaksOffReading given s before after out_old out_new log_old log_new
+    ⊎ (BreaksOffReading given calls s before after out_old out_new log_old log_new
     ⊎ BreaksOffAtEnd given calls is_at_end s before after out_old out_new log_old log_new)

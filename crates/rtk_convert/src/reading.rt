@@ -105,9 +105,9 @@ fn read_all<R: Source, O: Sink, L: Sink>(
     ensures reads { sum_by R.calls readers.new ≤ sum_by R.calls readers.old + max_reads }
     ensures ok { OnOk result (HasReadAll R.given R.calls R.is_at_end converter.old.conversion.settings readers.old readers.new converter.new (O.taken out.old) (O.taken out.new) (L.taken log.old) (L.taken log.new)) }
     ensures err { IfErr result (λ fault. IsFrameFault fault
-        → BreaksOffReading R.given converter.old.conversion.settings readers.old readers.new (O.taken out.old) (O.taken out.new) (L.taken log.old) (L.taken log.new)) }
+        → BreaksOffReading R.given R.calls converter.old.conversion.settings readers.old readers.new (O.taken out.old) (O.taken out.new) (L.taken log.old) (L.taken log.new)) }
     ensures read_failed { (link : ℕ) → IsErrOf result (ConvertFault.Read link)
-        → FailsReading R.given R.failures converter.old.conversion.settings link readers.old readers.new (O.taken out.old) (O.taken out.new) (L.taken log.old) (L.taken log.new) }
+        → FailsReading R.given R.failures R.calls converter.old.conversion.settings link readers.old readers.new (O.taken out.old) (O.taken out.new) (L.taken log.old) (L.taken log.new) }
     ensures endless { IsErrOf result ConvertFault.Endless
         → StaysOpen R.given R.is_at_end converter.old.conversion.settings max_reads readers.old readers.new (O.taken out.old) (O.taken out.new) (L.taken log.old) (L.taken log.new)
         × HasCalled R.calls readers.old readers.new max_reads }
@@ -167,7 +167,7 @@ pub fn run<R: Source, O: Sink, L: Sink>(
     ensures breaks_off { IfErr result (λ fault. IsFrameFault fault
         → BreaksOff R.given R.calls R.is_at_end setup readers.old readers.new (O.taken out.old) (O.taken out.new) (L.taken log.old) (L.taken log.new)) }
     ensures read_failed { (link : ℕ) → IsErrOf result (ConvertFault.Read link)
-        → FailsReading R.given R.failures setup link readers.old readers.new (O.taken out.old) (O.taken out.new) (L.taken log.old) (L.taken log.new) }
+        → FailsReading R.given R.failures R.calls setup link readers.old readers.new (O.taken out.old) (O.taken out.new) (L.taken log.old) (L.taken log.new) }
     ensures endless { IsErrOf result ConvertFault.Endless
         → StaysOpen R.given R.is_at_end setup max_reads readers.old readers.new (O.taken out.old) (O.taken out.new) (L.taken log.old) (L.taken log.new)
         × HasCalled R.calls readers.old readers.new max_reads }

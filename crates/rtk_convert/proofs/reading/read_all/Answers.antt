@@ -1,6 +1,6 @@
-use Rattle.std.proofs.Common.{ℕ, inl, [], ◌∷◌, length, refl, sym, subst, ◌∙◌, arith}
+use Rattle.std.proofs.Common.{ℕ, ◌+◌, inl, [], ◌∷◌, length, refl, sym, subst, ◌∙◌, arith}
 use Rattle.rtk_convert.specs.History.{new_history, IsNextLink}
-use Rattle.rtk_convert.specs.Reading.{read_of, ReadsOn, BreaksOffOn}
+use Rattle.rtk_convert.specs.Reading.{read_of, ReadsOn, BreaksOffOn, HasCalled}
 use Rattle.rtk_convert.specs.Settings.{Settings}
 use Rattle.rtk_convert.proofs.EndsLemmas.{ends-new, ends-more, has-read-all}
 use Rattle.rtk_convert.proofs.NextLemmas.{are_links-length}
@@ -32,19 +32,23 @@ read_link-requires-clause-link g c =
 pub returns-in-Err-clause-err : goal.returns-in-Err-clause-err
 returns-in-Err-clause-err g c = λ frame.
     let so = c.reads.invariant.so_far in
-    breaks-reading g.R.Source.given c.args.converter.now.conversion.settings so.1 c.in-Some.link c.args.readers.now c.reads.readers c.read_link.new.readers so.0
+    breaks-reading g.R.Source.given g.R.Source.calls c.args.converter.now.conversion.settings so.1 c.in-Some.link c.args.readers.now c.reads.readers c.read_link.new.readers so.0
     (g.O.Sink.taken c.args.out.now) (g.O.Sink.taken c.reads.out) (g.O.Sink.taken c.read_link.new.out) (g.L.Sink.taken c.args.log.now) (g.L.Sink.taken c.reads.log) (g.L.Sink.taken c.read_link.new.log)
     so.2 (c.in-Some.ensures.next so.1 so.3)
     (subst (λ (s : Settings). BreaksOffOn g.R.Source.given s so.1 c.in-Some.link c.reads.readers c.read_link.new.readers (g.O.Sink.taken c.reads.out) (g.O.Sink.taken c.read_link.new.out) (g.L.Sink.taken c.reads.log) (g.L.Sink.taken c.read_link.new.log)) c.reads.invariant.settings (c.in-Err.ensures.err frame so.1 so.3))
+    (subst (λ (n : ℕ). HasCalled g.R.Source.calls c.args.readers.now c.read_link.new.readers (n + 1)) (sym so.4)
+    (called-more g.R.Source.calls c.args.readers.now c.reads.readers c.read_link.new.readers c.reads._made c.reads.invariant.called c.read_link.ensures.full c.read_link.ensures.called))
 
 pub returns-in-Err-clause-read_failed : goal.returns-in-Err-clause-read_failed
 returns-in-Err-clause-read_failed g c = λ link is_read.
     let so = c.reads.invariant.so_far in
     let n = c.in-Some.ensures.next so.1 so.3 in
     let both = c.in-Err.ensures.read_failed so.1 so.3 n.is_open link is_read in
-    fails-reading g.R.Source.given g.R.Source.failures c.args.converter.now.conversion.settings so.1 link c.args.readers.now c.reads.readers c.read_link.new.readers so.0
+    fails-reading g.R.Source.given g.R.Source.failures g.R.Source.calls c.args.converter.now.conversion.settings so.1 link c.args.readers.now c.reads.readers c.read_link.new.readers so.0
     (g.O.Sink.taken c.args.out.now) (g.O.Sink.taken c.reads.out) (g.O.Sink.taken c.read_link.new.out) (g.L.Sink.taken c.args.log.now) (g.L.Sink.taken c.reads.log) (g.L.Sink.taken c.read_link.new.log)
     so.2 (subst (λ (k : ℕ). IsNextLink so.1 k) (sym both.0) n) c.reads.invariant.reads_same both.1
+    (subst (λ (n : ℕ). HasCalled g.R.Source.calls c.args.readers.now c.read_link.new.readers (n + 1)) (sym so.4)
+    (called-more g.R.Source.calls c.args.readers.now c.reads.readers c.read_link.new.readers c.reads._made c.reads.invariant.called c.read_link.ensures.full c.read_link.ensures.called))
 
 pub reads-preserved : goal.reads-preserved
 reads-preserved g c =

@@ -1,7 +1,8 @@
 use Rattle.std.proofs.Common.{◌≡◌, ℕ, inl, inr, ◌⊎◌, length, Err, ap, subst, ◌∙◌}
 use Rattle.std.proofs.lemmas.Result.{IfErr-weaker, IfOk-weaker, IfErr-at_err}
 use Rattle.rtk_convert.specs.Converter.{EndsAs, BreaksOffClosing, BreaksOffEnding}
-use Rattle.rtk_convert.specs.declared.fault.ConvertFault.TheVariants.{Read as ReadFault, Endless}
+use Rattle.rtk_convert.specs.declared.fault.ConvertFault.TheVariants.{Write, Read as ReadFault, Endless}
+use Rattle.rtk_convert.specs.declared.fault.Stream.TheVariants.{Out, Log}
 use Rattle.rtk_convert.specs.Failure.{IsReadingFault}
 use Rattle.rtk_convert.specs.Reading.{HasReadAll}
 use Rattle.rtk_convert.specs.Run.{FailsReading, StaysOpen, BreaksOffReading}
@@ -25,12 +26,12 @@ returns-in-Err-clause-fault g c = reading-run c.in-Err.fault c.in-Err.ensures.fa
 
 pub returns-in-Err-clause-breaks_off : goal.returns-in-Err-clause-breaks_off
 returns-in-Err-clause-breaks_off g c = λ frame. inr (inl (
-    subst (λ (s : Settings). BreaksOffReading g.R.Source.given s c.args.readers.now c.read_all.new.readers (g.O.Sink.taken c.args.out.now) (g.O.Sink.taken c.read_all.new.out) (g.L.Sink.taken c.args.log.now) (g.L.Sink.taken c.read_all.new.log))
+    subst (λ (s : Settings). BreaksOffReading g.R.Source.given g.R.Source.calls s c.args.readers.now c.read_all.new.readers (g.O.Sink.taken c.args.out.now) (g.O.Sink.taken c.read_all.new.out) (g.L.Sink.taken c.args.log.now) (g.L.Sink.taken c.read_all.new.log))
     c.in_ok-converter.ensures.settings (c.in-Err.ensures.err frame)))
 
 pub returns-in-Err-clause-read_failed : goal.returns-in-Err-clause-read_failed
 returns-in-Err-clause-read_failed g c = λ link is_read.
-    subst (λ (s : Settings). FailsReading g.R.Source.given g.R.Source.failures s link c.args.readers.now c.read_all.new.readers (g.O.Sink.taken c.args.out.now) (g.O.Sink.taken c.read_all.new.out) (g.L.Sink.taken c.args.log.now) (g.L.Sink.taken c.read_all.new.log))
+    subst (λ (s : Settings). FailsReading g.R.Source.given g.R.Source.failures g.R.Source.calls s link c.args.readers.now c.read_all.new.readers (g.O.Sink.taken c.args.out.now) (g.O.Sink.taken c.read_all.new.out) (g.L.Sink.taken c.args.log.now) (g.L.Sink.taken c.read_all.new.log))
     c.in_ok-converter.ensures.settings (c.in-Err.ensures.read_failed link (let same : c.in-Err.fault ≡ ReadFault link = cc in ap Err same))
 
 pub returns-in-Err-clause-endless : goal.returns-in-Err-clause-endless
@@ -107,3 +108,9 @@ returns-clause-out_same g c = on_ok-map c.finish.result (λ same. same ∙ c.in_
 
 pub returns-clause-log_same : goal.returns-clause-log_same
 returns-clause-log_same g c = on_ok-map c.finish.result (λ same. same ∙ c.in_default.ensures.log_same) c.finish.ensures.log_same
+
+pub returns-in-Err-clause-out_failed : goal.returns-in-Err-clause-out_failed
+returns-in-Err-clause-out_failed g c = λ is_write. c.in-Err.ensures.out_failed (let same : c.in-Err.fault ≡ Write Out = cc in ap Err same)
+
+pub returns-in-Err-clause-log_failed : goal.returns-in-Err-clause-log_failed
+returns-in-Err-clause-log_failed g c = λ is_write. c.in-Err.ensures.log_failed (let same : c.in-Err.fault ≡ Write Log = cc in ap Err same)
