@@ -1,4 +1,4 @@
-use Rattle.std.proofs.Common.{◌≡◌, ℕ, ◌+◌, ◌≤◌, List, length}
+use Rattle.std.proofs.Common.{◌≡◌, ◌+◌, ◌≤◌, List, length}
 use Rattle.std.specs.Prelude.{sum_by}
 use Rattle.rtk_convert.specs.Converter.{Represents}
 use Rattle.rtk_convert.specs.History.{History}
