@@ -1,35 +1,8 @@
 #!/bin/sh
-# Runs `check` as a user does, and looks at standard output, standard error and the exit status.
-# The program is $1. Prints `ok NAME` or `FAILED NAME` for each test, and last `PASSED FAILED`, two counts.
-set -u
-root=$(cd "$(dirname "$(readlink -f "$0")")/../.." && pwd)
-program=$(readlink -f "$1")
+# Runs `check` as a user does. The program is $1.
+. "$(dirname "$(readlink -f "$0")")/common"
 base=$root/examples/base.rnx
-work=$(mktemp -d)
-trap 'rm -rf "$work"' EXIT
-cd "$work" || exit 1
-
-passed=0
-failed=0
 yes='valid: 1 epochs, 1 satellite lines'
-
-# text TEXT: the text and a line feed; nothing where the text is empty
-text() {
-    if [ -n "$1" ]; then printf '%s\n' "$1"; fi
-}
-
-# expect NAME STATUS STDOUT STDERR: what the last run left, each text ended by one line feed, byte for byte
-expect() {
-    text "$3" >want_out
-    text "$4" >want_err
-    if [ "$status" = "$2" ] && cmp -s out want_out && cmp -s err want_err; then
-        echo "ok $1"
-        passed=$((passed + 1))
-    else
-        echo "FAILED $1: status $status, standard output '$(cat out)', standard error '$(cat err)'"
-        failed=$((failed + 1))
-    fi
-}
 
 # check FILE..: standard input as it is
 check() {

@@ -1,34 +1,14 @@
 #!/bin/sh
-# Runs `convert` as a user does, and looks at standard output, standard error and the exit status.
-# The program is $1. Prints `ok NAME` or `FAILED NAME` for each test, and last `PASSED FAILED`, two counts.
-set -u
-root=$(cd "$(dirname "$(readlink -f "$0")")/../.." && pwd)
-program=$(readlink -f "$1")
+# Runs `convert` as a user does. The program is $1.
+. "$(dirname "$(readlink -f "$0")")/common"
 examples=$root/examples
-work=$(mktemp -d)
-trap 'rm -rf "$work"' EXIT
-cd "$work" || exit 1
-
-passed=0
-failed=0
 near=2024-05-17T12:00:00
 made=2024-05-17T13:00:00
-
-# expect NAME STATUS OUT ERR: what the last run left; OUT and ERR are files, compared byte for byte
-expect() {
-    if [ "$status" = "$2" ] && cmp -s out "$3" && cmp -s err "$4"; then
-        echo "ok $1"
-        passed=$((passed + 1))
-    else
-        echo "FAILED $1: status $status, standard output '$(head -c 300 out)', standard error '$(head -c 300 err)'"
-        failed=$((failed + 1))
-    fi
-}
 
 # fails NAME STATUS LINE: nothing is out, and standard error has this fault line alone
 fails() {
     printf 'rtcm2rinex: %s\n' "$3" >want_err
-    expect "$1" "$2" /dev/null want_err
+    leaves "$1" "$2" /dev/null want_err
 }
 
 # convert CODES WORD..: of station 2003 near noon, marker BASE; standard input as it is
@@ -59,23 +39,23 @@ first=$examples/session_link1.rtcm
 second=$examples/session_link2.rtcm
 
 # The captures of examples/, with the files and reports that they are due.
-convert 1C,2W "$base" </dev/null;                     expect file 0 "$examples/base.rnx" base.report
-convert 1C,2W stdin <"$base";                         expect standard_input 0 "$examples/base.rnx" base.report
-cat "$base" | { convert 1C,2W stdin; expect pipe 0 "$examples/base.rnx" base.report; echo "$passed $failed" >counts; }
+convert 1C,2W "$base" </dev/null;                     leaves file 0 "$examples/base.rnx" base.report
+convert 1C,2W stdin <"$base";                         leaves standard_input 0 "$examples/base.rnx" base.report
+cat "$base" | { convert 1C,2W stdin; leaves pipe 0 "$examples/base.rnx" base.report; echo "$passed $failed" >counts; }
 read -r passed failed <counts
-convert 1C,2W,5X "$session.rtcm" </dev/null;          expect session 0 "$session.rnx" "$session.report"
-convert 1C,2W,5X "$first" "$second" </dev/null;       expect two_links 0 "$session.rnx" "$examples/session_links.report"
-convert 1C,2W,5X "$second" "$first" </dev/null;       expect two_links_exchanged 0 "$session.rnx" "$examples/session_links.report"
-convert 1C,2W,5X stdin "$second" <"$first";           expect standard_input_and_a_file 0 "$session.rnx" "$examples/session_links.report"
-convert 1C,2W --window 2 "$examples/late.rtcm" </dev/null; expect late_epoch 0 "$examples/late.rnx" "$examples/late.report"
+convert 1C,2W,5X "$session.rtcm" </dev/null;          leaves session 0 "$session.rnx" "$session.report"
+convert 1C,2W,5X "$first" "$second" </dev/null;       leaves two_links 0 "$session.rnx" "$examples/session_links.report"
+convert 1C,2W,5X "$second" "$first" </dev/null;       leaves two_links_exchanged 0 "$session.rnx" "$examples/session_links.report"
+convert 1C,2W,5X stdin "$second" <"$first";           leaves standard_input_and_a_file 0 "$session.rnx" "$examples/session_links.report"
+convert 1C,2W --window 2 "$examples/late.rtcm" </dev/null; leaves late_epoch 0 "$examples/late.rnx" "$examples/late.report"
 
 # A file of the name stdin; an empty capture, whose file is a header with a position of zeros.
 cp "$base" stdin
-convert 1C,2W ./stdin </dev/null;                     expect file_of_the_name_stdin 0 "$examples/base.rnx" base.report
+convert 1C,2W ./stdin </dev/null;                     leaves file_of_the_name_stdin 0 "$examples/base.rnx" base.report
 sed -n '1,14p' "$examples/base.rnx" |
     sed 's/^  1114104.5999 -4850729.7108  3975521.4643/        0.0000        0.0000        0.0000/' >empty.rnx
 report 0 0 0 0 0 0 0 0 0 >empty.report
-convert 1C,2W stdin </dev/null;                       expect empty_capture 0 empty.rnx empty.report
+convert 1C,2W stdin </dev/null;                       leaves empty_capture 0 empty.rnx empty.report
 
 # The file can be followed: the records of closed epochs are out while standard input is open.
 mkfifo capture
@@ -91,14 +71,14 @@ done
 sed -n '1,20p' "$examples/late.rnx" >followed
 status=0
 mv out whole_out && mv err whole_err && cp whole_out out && cp whole_err err
-expect followed 0 followed /dev/null
+leaves followed 0 followed /dev/null
 tail -c +185 "$examples/late.rtcm" >&9
 exec 9>&-
 wait $running
 status=$?
 mv whole_out out && mv whole_err err
 sed 's/^link 1/link 2/' "$examples/late.report" >late.report
-expect followed_to_its_end 0 "$examples/late.rnx" late.report
+leaves followed_to_its_end 0 "$examples/late.rnx" late.report
 
 # Links that can't be opened or read: of the first kind nothing is read and nothing is out.
 mkdir folder
@@ -115,10 +95,10 @@ fails closed_standard_input 1 'read failed'
 convert 1C,2W --window 2 "$examples/late.rtcm" folder </dev/null
 sed -n '1,23p' "$examples/late.rnx" >part
 { head -n 1 "$examples/late.report"; echo 'rtcm2rinex: read failed'; } >part_err
-expect a_link_that_fails_later 1 part part_err
+leaves a_link_that_fails_later 1 part part_err
 "$program" convert --station 2003 --near $near --made $made --marker BASE --codes 1C,2W "$base" >out 2>&1 </dev/null; status=$?
 cat "$examples/base.rnx" base.report >both; : >err
-expect file_before_report 0 both /dev/null
+leaves file_before_report 0 both /dev/null
 
 # Our own refusals, by the first cause.
 words '' '' '' '' stdin stdin;                        fails form_of_near 2 'bad --near'
@@ -137,10 +117,10 @@ try="
 For more information, try '--help'."
 "$program" convert --station 4096 stdin >out 2>err </dev/null; status=$?
 printf '%s\n' "error: invalid value '4096' for '--station <N>': 4096 is not in 0..=4095" "$try" >want_err
-expect station_of_4096 2 /dev/null want_err
+leaves station_of_4096 2 /dev/null want_err
 "$program" convert --window 1 stdin >out 2>err </dev/null; status=$?
 printf '%s\n' "error: invalid value '1' for '--window <N>': 1 is not in 2..=4096" "$try" >want_err
-expect window_of_1 2 /dev/null want_err
+leaves window_of_1 2 /dev/null want_err
 
 # Outputs that fail: the fault line stands behind what of the report is told.
 printf 'rtcm2rinex: write failed\n' >write_failed
@@ -149,22 +129,22 @@ if [ -w /dev/full ]; then
     "$program" convert --station 2003 --near $near --made $made --marker BASE --codes 1C,2W "$base" </dev/null >/dev/full 2>err
     status=$?
     : >out
-    expect full_output 1 /dev/null told_in_full
+    leaves full_output 1 /dev/null told_in_full
     "$program" convert --station 2003 --near $near --made $made --marker BASE --codes 1C,2W stdin <"$base" >/dev/full 2>err
     status=$?
     : >out
-    expect full_output_that_is_followed 1 /dev/null write_failed
+    leaves full_output_that_is_followed 1 /dev/null write_failed
 fi
 "$program" convert --station 2003 --near $near --made $made --marker BASE --codes 1C,2W "$base" </dev/null >&- 2>err; status=$?
 : >out
-expect closed_output 1 /dev/null told_in_full
+leaves closed_output 1 /dev/null told_in_full
 "$program" convert --station 2003 --near $near --made $made --marker BASE --codes 1C,2W "$base" </dev/null >out 2>&-; status=$?
 : >err
-expect closed_standard_error 1 "$examples/base.rnx" /dev/null
+leaves closed_standard_error 1 "$examples/base.rnx" /dev/null
 
 # The command of the README.
 "$root/bin/rtcm2rinex" convert --station 2003 --near $near --made $made --marker BASE --codes 1C,2W "$base" >out 2>err </dev/null
 status=$?
-expect start_convert 0 "$examples/base.rnx" base.report
+leaves start_convert 0 "$examples/base.rnx" base.report
 
 echo "$passed $failed"

@@ -1,36 +1,9 @@
 #!/bin/sh
-# Runs the program as a user does, and looks at standard output, standard error and the exit status.
-# The program is $1. Prints `ok NAME` or `FAILED NAME` for each test, and last `PASSED FAILED`, two counts.
-set -u
-root=$(cd "$(dirname "$(readlink -f "$0")")/../.." && pwd)
-program=$(readlink -f "$1")
-work=$(mktemp -d)
-trap 'rm -rf "$work"' EXIT
-cd "$work" || exit 1
-
-passed=0
-failed=0
+# Runs `show`, and the program without a command, as a user does. The program is $1.
+. "$(dirname "$(readlink -f "$0")")/common"
 arp='1005 station 2003 x 1114104.5999 y -4850729.7108 z 3975521.4643'
 epoch='1004 station 2003 tow 475200000 satellites 1'
 hex='D3 00 13 3E D7 D3 02 02 98 0E DE EF 34 B4 BD 62 AC 09 41 98 6F 33 36 0B 98'
-
-# text TEXT: the text and a line feed; nothing where the text is empty
-text() {
-    if [ -n "$1" ]; then printf '%s\n' "$1"; fi
-}
-
-# expect NAME STATUS STDOUT STDERR: what the last run left, each text ended by one line feed, byte for byte
-expect() {
-    text "$3" >want_out
-    text "$4" >want_err
-    if [ "$status" = "$2" ] && cmp -s out want_out && cmp -s err want_err; then
-        echo "ok $1"
-        passed=$((passed + 1))
-    else
-        echo "FAILED $1: status $status, standard output '$(cat out)', standard error '$(cat err)'"
-        failed=$((failed + 1))
-    fi
-}
 
 # run WORD..: standard input as it is
 run() {
