@@ -19,7 +19,7 @@ use Rattle.rtk_convert.specs.File.{file_of}
 use Rattle.rtk_convert.specs.FileOfArrivals.{site_of_stations, kept_file}
 use Rattle.rtk_convert.specs.Finding.{Found, arrivals}
 use Rattle.rtk_convert.specs.Finish.{all_counts, report_of}
-use Rattle.rtk_convert.specs.Headline.{Call, IsAfterCall, ComeTo, FindAll, EqualKeysCarryEqualBodies, CameInTime, Content, IsStationOf, IsContentOf, CellsRise, EachOnce, IsFileOf, CameLate, IsPartOf, LateAreListed, LateChangeNothing, Headline, SetHasOneFile, call_of, calls_of, RunHeadline}
+use Rattle.rtk_convert.specs.Headline.{Call, IsAfterCall, ComeTo, FindAll, EqualKeysCarryEqualBodies, CameInTime, Content, IsStationOf, IsContentOf, CellsRise, EachOnce, IsFileOf, HasLineAfter, LateAreListed, LateChangeNothing, Headline, SetHasOneFile, call_of, calls_of, RunHeadline}
 use Rattle.rtk_convert.specs.Converter.{IsAfterClosingAll}
 use Rattle.rtk_convert.specs.declared.counts.Counts.{Counts}
 use Rattle.rtk_convert.specs.History.{History, IsOpen}
@@ -28,6 +28,7 @@ use Rattle.rtk_convert.specs.Run.{RunsAs}
 use Rattle.rtk_convert.specs.Report.{lines, frame_lines, class_lines}
 use Rattle.rtk_convert.specs.ReportText.{late_line, count_lines}
 use Rattle.rtk_convert.specs.Settings.{Settings}
+use Rattle.rtk_convert.specs.State.{found_on}
 use Rattle.rtk_convert.proofs.ArrivalLawsLemmas.{late-leave}
 
 -- ---- the file of the set
@@ -112,26 +113,26 @@ late-lines n link a before over =
     let e : class_of n a (arrivals before) ≡ LateClass = rw over refl in
     ap (λ k. class_lines link (number_of (message_of a)) (epoch_of a) k (conflicts_of n a (arrivals before))) e
 
-late-part : (s : Settings) (link : ℕ) (a : Arrival) (found : List Found) → CameLate s link a found → IsPartOf (late_line link (number_of (message_of a)) (epoch_of a)) (lines s.window found)
-late-part s link a [] p = absurd p
-late-part s link a (f ∷ before) (inl here) = (
-  lines s.window before,
+late-part : (s : Settings) (link : ℕ) (a : Arrival) (before later : List Found) → late s.window a (arrivals before) ≡ true
+    → HasLineAfter (lines s.window before) (late_line link (number_of (message_of a)) (epoch_of a)) (lines s.window (later ++ found_on link (Arrived a) ∷ before))
+late-part s link a before [] over = (
   [],
-  ap (λ (x : Found). lines s.window before ++ frame_lines s.window x.link x.finding (arrivals before)) here.0
-      ∙ ap (λ t. lines s.window before ++ t) (late-lines s.window link a before here.1 ∙ sym (append-nil (late_line link (number_of (message_of a)) (epoch_of a)))),
+  ap (λ t. lines s.window before ++ t) (late-lines s.window link a before over ∙ sym (append-nil (late_line link (number_of (message_of a)) (epoch_of a)))),
 )
-late-part s link a (f ∷ before) (inr there) =
-    let p = late-part s link a before there in
+late-part s link a before (f ∷ later) over =
+    let p = late-part s link a before later over in
+    let front = lines s.window before in
     let line = late_line link (number_of (message_of a)) (epoch_of a) in
-    let more = frame_lines s.window f.link f.finding (arrivals before) in
-    (p.0, p.1 ++ more, ap (λ t. t ++ more) p.2 ∙ append_assoc p.0 (line ++ p.1) more ∙ ap (λ t. p.0 ++ t) (append_assoc line p.1 more))
+    let more = frame_lines s.window f.link f.finding (arrivals (later ++ found_on link (Arrived a) ∷ before)) in
+    (p.0 ++ more, ap (λ t. t ++ more) p.1 ∙ append_assoc front (line ++ p.0) more ∙ ap (λ t. front ++ t) (append_assoc line p.0 more))
 
 pub late-listed : (s : Settings) (found : List Found) (log_old log_new : Option (List ℕ)) → log_new ≡ with_more log_old (report_of s found) → LateAreListed s found log_old log_new
-late-listed s found log_old log_new w link a p =
-    let part = late-part s link a found p in
+late-listed s found log_old log_new w link a before p =
+    let front = lines s.window before in
     let line = late_line link (number_of (message_of a)) (epoch_of a) in
     let more = count_lines (all_counts s found) in
-    (report_of s found, w, (part.0, part.1 ++ more, ap (λ t. t ++ more) part.2 ∙ append_assoc part.0 (line ++ part.1) more ∙ ap (λ t. part.0 ++ t) (append_assoc line part.1 more)))
+    let part : HasLineAfter front line (lines s.window found) = subst (λ (fs : List Found). HasLineAfter front line (lines s.window fs)) (sym p.0.1) (late-part s link a before p.0.0 p.1) in
+    (report_of s found, w, (part.0 ++ more, ap (λ t. t ++ more) part.1 ∙ append_assoc front (line ++ part.0) more ∙ ap (λ t. front ++ t) (append_assoc line part.0 more)))
 
 pub late-nothing : (s : Settings) (found : List Found) → LateChangeNothing s found
 late-nothing s found =
@@ -174,14 +175,17 @@ closing-closed : (s : Settings) (h : History) (n : ℕ) → AllClosed h → IsAf
 closing-closed s h zero closed = refl
 closing-closed s h (suc n) closed = (h, closing-closed s h n closed, inr (closed n, refl))
 
-pub run-headline : {R : Type 0} (given : R → Option (List ℕ)) (s : Settings) (before after : List R) (counts : Counts) (out_old out_new log_old log_new : Option (List ℕ))
-    → RunsAs given s before after counts out_old out_new log_old log_new → RunHeadline given s before after out_old out_new log_old log_new
-run-headline given s before after counts out_old out_new log_old log_new p = (
-  p.reads,
-  p.gave,
-  headline-of s (length before) (calls_of p.reads) p.history.found out_old out_new log_old log_new
-      (p.history, p.history, calls-come-to s (length before) p.reads p.history p.comes_to, closing-closed s p.history (length before) p.closed, refl) p.out p.log,
-)
+pub run-headline : {R : Type 0} (given : R → Option (List ℕ)) (calls : R → ℕ) (is_at_end : R → Type 0) (s : Settings) (before after : List R) (counts : Counts) (out_old out_new log_old log_new : Option (List ℕ))
+    → RunsAs given calls is_at_end s before after counts out_old out_new log_old log_new → RunHeadline given calls is_at_end s before after out_old out_new log_old log_new
+run-headline given calls is_at_end s before after counts out_old out_new log_old log_new p = record {
+  reads = p.reads;
+  gave = p.gave;
+  called = p.called;
+  to_their_ends = p.at_end;
+  in_order = (p.history, p.comes_to, p.closed);
+  headline = headline-of s (length before) (calls_of p.reads) p.history.found out_old out_new log_old log_new
+      (p.history, p.history, calls-come-to s (length before) p.reads p.history p.comes_to, closing-closed s p.history (length before) p.closed, refl) p.out p.log;
+}
 
 pub if_ok-on : {T E : Type 0} (r : Result T E) {P : T → Type 0} {Q : Type 0} → ((x : T) → P x → Q) → IfOk r P → OnOk r Q
 if_ok-on (Ok x) f p = f x p

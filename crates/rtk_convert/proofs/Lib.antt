@@ -19,6 +19,7 @@ pub mod ClosingLemmas
 pub mod NextLemmas
 pub mod ReadLemmas
 pub mod RunLemmas
+pub mod EndsLemmas
 pub mod HeadlineLemmas
 pub mod CallsLemmas
 pub mod HistoryLemmas

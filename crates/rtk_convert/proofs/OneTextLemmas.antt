@@ -16,7 +16,8 @@ use Rattle.rtk_collect.specs.Accepted.{kept, cells_at, closed}
 use Rattle.rtk_collect.specs.Answer.{Class, LateClass, TakenClass, class_of, class_of_cells, class_in_time, conflicts_of, conflicts_with}
 use Rattle.rtk_collect.proofs.LateLemmas.{closed-only-grow, kept-late}
 use Rattle.rtk_collect.proofs.OpeningLemmas.{opening-conflicts-not, closed-length, held-length}
-use Rattle.rtk_convert.specs.declared.arrival.Finding.TheVariants.{Arrived}
+use Rattle.rtk_convert.specs.declared.arrival.Finding.{Finding}
+use Rattle.rtk_convert.specs.declared.arrival.Finding.TheVariants.{OtherMessage, Refused, Foreign, Arrived}
 use Rattle.rtk_convert.specs.FileOfArrivals.{file_so_far}
 use Rattle.rtk_convert.specs.Finding.{IsFindingOf, ComesTo, Found, arrivals}
 use Rattle.rtk_convert.specs.Report.{class_lines, cell_lines, frame_lines, lines}
@@ -79,3 +80,10 @@ one-arrived s link payload a before comes = elim (one-text s link a (arrivals be
   | inl same ↦ inl same
   | inr none ↦ inr (ap (λ (t : List ℕ). lines s.window before ++ t) none ∙ append-nil (lines s.window before))
 ]
+
+-- and so does each frame: those of no arrival leave the file
+pub one-added : (s : Settings) (payload : List ℕ) (f : Finding) (link : ℕ) (before : List Found) → ComesTo s payload f → AddsToOne s (found_on link f) before
+one-added s payload OtherMessage link before comes = inl refl
+one-added s payload (Refused fault) link before comes = inl refl
+one-added s payload Foreign link before comes = inl refl
+one-added s payload (Arrived a) link before comes = one-arrived s link payload a before comes

@@ -12,7 +12,7 @@ use Rattle.rtk_convert.specs.Failure.{IsFrameFault, IsReadFault}
 use Rattle.rtk_convert.specs.Finding.{Found}
 use Rattle.rtk_convert.specs.Converter.{ConverterState, AreLinks, link_refusal, refusal, Represents, WritesOn, BreaksOffAt}
 use Rattle.rtk_convert.specs.History.{History, LinkPast, IsOpen, IsNextLink, IsAfterFeed, IsAfterClose, fed_on, found_by_piece, found_by_close}
-use Rattle.rtk_convert.specs.Reading.{read_of, found_by_read, ReadsOn, BreaksOffOn, AnyAtGreatest, HasCalled}
+use Rattle.rtk_convert.specs.Reading.{read_of, found_by_read, ReadsOn, BreaksOffOn, AnyAtGreatest, HasCalled, SameFailures}
 use Rattle.rtk_convert.specs.Reads.{Read, piece_on, bytes_of, IsAfterPiece, Gave}
 use Rattle.rtk_convert.specs.Settings.{Settings}
 
@@ -93,6 +93,15 @@ gave-more given a b c reads r p q = record {
       ∙ with_more-with_more (given (slice_index_or a k none)) (bytes_of k reads) (piece_on k r);
 }
 
+-- ---- a read that did not fail
+
+pub no-failed : {R E : Type 0} (given : R → Option (List ℕ)) (failures calls : R → ℕ) (before after : List R) (link count : ℕ) (buf : List ℕ)
+    → ReadsOne {R = R} {E = E} given failures calls before after link (Ok count) buf → SameFailures failures before after
+no-failed given failures calls before after link count buf read = λ k none. elim (cases_eq k link) [
+  | inl same ↦ subst (λ (i : ℕ). failures (slice_index_or after i none) ≡ failures (slice_index_or before i none)) (sym same) (read.fails none)
+  | inr other ↦ ap failures (read.others k none other)
+]
+
 -- ---- what a read comes to
 
 after-some : (s : Settings) (h : History) (link : ℕ) (piece : List ℕ) (next : History) → 0 < length piece → IsAfterFeed s h link piece next → IsAfterPiece s h link piece next
@@ -103,12 +112,12 @@ found-some : (link : ℕ) (h : History) (piece : List ℕ) → 0 < length piece 
 found-some link h [] some = absurd (omega arith)
 found-some link h (x ∷ piece) some = refl
 
-pub reads-piece : {R E : Type 0} (given : R → Option (List ℕ)) (failures calls : R → ℕ) (s : Settings) (h : History) (link count : ℕ) (before after : List R) (buf : List ℕ)
+pub reads-piece : {R E : Type 0} (given : R → Option (List ℕ)) (is_at_end : R → Type 0) (failures calls : R → ℕ) (s : Settings) (h : History) (link count : ℕ) (before after : List R) (buf : List ℕ)
     (new : ConverterState) (out_old out_new log_old log_new : Option (List ℕ)) → count ≢ 0 → count ≤ length buf → length buf ≡ 512 → IsNextLink h link
     → ReadsOne {R = R} {E = E} given failures calls before after link (Ok count) buf
     → ((next : History) × IsAfterFeed s h link (take count buf) next × Represents new next × WritesOn s h.found next.found out_old out_new log_old log_new)
-    → ReadsOn given s h link before after new out_old out_new log_old log_new
-reads-piece given failures calls s h link count before after buf new out_old out_new log_old log_new some bound room is_next read fed =
+    → ReadsOn given is_at_end s h link before after new out_old out_new log_old log_new
+reads-piece given is_at_end failures calls s h link count before after buf new out_old out_new log_old log_new some bound room is_next read fed =
     let long = length-take-le count buf bound in
     record {
       piece = take count buf;
@@ -119,20 +128,24 @@ reads-piece given failures calls s h link count before after buf new out_old out
         after = after-some s h link (take count buf) fed.0 (omega (arith, long, some)) fed.1;
       };
       gave = gave-read given failures calls before after link count buf read;
+      others = read.others;
+      at_end = λ none empty. let l = ap length empty in absurd (some (omega (arith, l, long)));
       represents = fed.2;
       writes = fed.3;
     }
 
-pub reads-end : {R E : Type 0} (given : R → Option (List ℕ)) (failures calls : R → ℕ) (s : Settings) (h : History) (link count : ℕ) (before after : List R) (buf : List ℕ)
+pub reads-end : {R E : Type 0} (given : R → Option (List ℕ)) (is_at_end : R → Type 0) (failures calls : R → ℕ) (s : Settings) (h : History) (link count : ℕ) (before after : List R) (buf : List ℕ)
     (new : ConverterState) (out_old out_new log_old log_new : Option (List ℕ)) → count ≡ 0 → IsNextLink h link
-    → ReadsOne {R = R} {E = E} given failures calls before after link (Ok count) buf
+    → ReadsOne {R = R} {E = E} given failures calls before after link (Ok count) buf → ((none : R) → is_at_end (slice_index_or after link none))
     → ((next : History) × IsAfterClose s h link next × Represents new next × WritesOn s h.found next.found out_old out_new log_old log_new)
-    → ReadsOn given s h link before after new out_old out_new log_old log_new
-reads-end given failures calls s h link count before after buf new out_old out_new log_old log_new none is_next read closed = record {
+    → ReadsOn given is_at_end s h link before after new out_old out_new log_old log_new
+reads-end given is_at_end failures calls s h link count before after buf new out_old out_new log_old log_new none is_next read ended closed = record {
   piece = [];
   next = closed.0;
   is_next = record { link = is_next; few = omega arith; after = closed.1 };
   gave = subst (λ (n : ℕ). Gave given before after (read_of link (take n buf) ∷ [])) none (gave-read given failures calls before after link count buf read);
+  others = read.others;
+  at_end = λ x _. ended x;
   represents = closed.2;
   writes = closed.3;
 }

@@ -1,5 +1,5 @@
 -- All reads of a run.
-use Rattle.std.proofs.Common.{◌≡◌, ℕ, zero, suc, inl, inr, ◌⊎◌, false, ◌<◌, List, [], ◌∷◌, ◌++◌, length, Option, refl, sym, ap, subst, ◌∙◌, arith}
+use Rattle.std.proofs.Common.{◌≡◌, ℕ, ◌+◌, zero, suc, inl, inr, ◌⊎◌, false, ◌<◌, List, [], ◌∷◌, ◌++◌, length, Option, refl, sym, ap, subst, ◌∙◌, arith}
 use Rattle.std.specs.Prelude.{slice_index_or}
 use Rattle.std.proofs.lemmas.Bool.{cases_lt}
 use Rattle.std.proofs.lemmas.List.{append_assoc, length-replicate}
@@ -15,7 +15,7 @@ use Rattle.rtk_convert.specs.FileOfArrivals.{file_so_far, kept_file}
 use Rattle.rtk_convert.specs.Finding.{arrivals}
 use Rattle.rtk_convert.specs.Finish.{all_counts, report_of}
 use Rattle.rtk_convert.specs.History.{History, LinkPast, new_history, IsOpen, IsNextLink, with_piece, with_closed}
-use Rattle.rtk_convert.specs.Reading.{read_of, ReadsOn, BreaksOffOn, FailsOn, HasRead, HasReadAll}
+use Rattle.rtk_convert.specs.Reading.{read_of, ReadsOn, BreaksOffOn, FailsOn, HasRead, HasReadAll, HasCalled}
 use Rattle.rtk_convert.specs.Reads.{Read, AllClosed, IsHistoryOf, IsAfterPiece, Gave}
 use Rattle.rtk_convert.specs.Report.{lines}
 use Rattle.rtk_convert.specs.Run.{RunsAs, BreaksOffReading, BreaksOffAtEnd, FailsReading}
@@ -62,10 +62,10 @@ has_read-nothing given s readers out log = record {
   log = sym (with_more-nil log);
 }
 
-pub has_read-more : {R : Type 0} (given : R → Option (List ℕ)) (s : Settings) (h : History) (link : ℕ) (before mid after : List R) (reads : List Read) (new : ConverterState) (o0 o1 o2 l0 l1 l2 : Option (List ℕ))
-    → HasRead given s before mid reads h o0 o1 l0 l1 → (p : ReadsOn given s h link mid after new o1 o2 l1 l2)
+pub has_read-more : {R : Type 0} (given : R → Option (List ℕ)) (is_at_end : R → Type 0) (s : Settings) (h : History) (link : ℕ) (before mid after : List R) (reads : List Read) (new : ConverterState) (o0 o1 o2 l0 l1 l2 : Option (List ℕ))
+    → HasRead given s before mid reads h o0 o1 l0 l1 → (p : ReadsOn given is_at_end s h link mid after new o1 o2 l1 l2)
     → HasRead given s before after (read_of link p.piece ∷ reads) p.next o0 o2 l0 l2
-has_read-more given s h link before mid after reads new o0 o1 o2 l0 l1 l2 q p = record {
+has_read-more given is_at_end s h link before mid after reads new o0 o1 o2 l0 l1 l2 q p = record {
   comes_to = (h, q.comes_to, p.is_next);
   gave = gave-more given before mid after reads (read_of link p.piece) q.gave p.gave;
   out = written o0 o1 o2 (file_so_far s (arrivals h.found)) (file_so_far s (arrivals p.next.found)) q.out p.writes.out;
@@ -77,10 +77,10 @@ has_read-more given s h link before mid after reads new o0 o1 o2 l0 l1 l2 q p = 
 into : (a b c : Option (List ℕ)) (x y z : List ℕ) → b ≡ with_more a x → WritesInto b c x y z → WritesInto a c [] y z
 into a b c x y z p w = (x ++ w.0, w.1, w.2, w.3, w.4, w.5 ∙ ap (λ o. with_more o (w.0 ++ w.1)) p ∙ with_more-with_more a x (w.0 ++ w.1) ∙ ap (with_more a) (sym (append_assoc x w.0 w.1)))
 
-pub breaks-reading : {R : Type 0} (given : R → Option (List ℕ)) (s : Settings) (h : History) (link : ℕ) (before mid after : List R) (reads : List Read) (o0 o1 o2 l0 l1 l2 : Option (List ℕ))
-    → HasRead given s before mid reads h o0 o1 l0 l1 → IsNextLink h link → BreaksOffOn given s h link mid after o1 o2 l1 l2
-    → BreaksOffReading given s before after o0 o2 l0 l2
-breaks-reading given s h link before mid after reads o0 o1 o2 l0 l1 l2 q n p = record {
+pub breaks-reading : {R : Type 0} (given : R → Option (List ℕ)) (calls : R → ℕ) (s : Settings) (h : History) (link : ℕ) (before mid after : List R) (reads : List Read) (o0 o1 o2 l0 l1 l2 : Option (List ℕ))
+    → HasRead given s before mid reads h o0 o1 l0 l1 → IsNextLink h link → BreaksOffOn given s h link mid after o1 o2 l1 l2 → HasCalled calls before after (length reads + 1)
+    → BreaksOffReading given calls s before after o0 o2 l0 l2
+breaks-reading given calls s h link before mid after reads o0 o1 o2 l0 l1 l2 q n p called = record {
   reads = reads;
   history = h;
   comes_to = q.comes_to;
@@ -89,6 +89,7 @@ breaks-reading given s h link before mid after reads o0 o1 o2 l0 l1 l2 q n p = r
   piece = p.piece;
   few = p.few;
   gave = gave-more given before mid after reads (read_of link p.piece) q.gave p.gave;
+  called = called;
   cut = record {
     done = p.breaks.done;
     payload = p.breaks.payload;
@@ -111,10 +112,10 @@ gave-same given a b c reads p q = record {
       q.bytes k none within ∙ with_more-nil (given (slice_index_or b k none)) ∙ p.bytes k none lt;
 }
 
-pub fails-reading : {R : Type 0} (given : R → Option (List ℕ)) (failures : R → ℕ) (s : Settings) (h : History) (link : ℕ) (before mid after : List R) (reads : List Read) (o0 o1 o2 l0 l1 l2 : Option (List ℕ))
+pub fails-reading : {R : Type 0} (given : R → Option (List ℕ)) (failures calls : R → ℕ) (s : Settings) (h : History) (link : ℕ) (before mid after : List R) (reads : List Read) (o0 o1 o2 l0 l1 l2 : Option (List ℕ))
     → HasRead given s before mid reads h o0 o1 l0 l1 → IsNextLink h link → ((k : ℕ) (none : R) → failures (slice_index_or mid k none) ≡ failures (slice_index_or before k none))
-    → FailsOn given failures link mid after o1 o2 l1 l2 → FailsReading given failures s link before after o0 o2 l0 l2
-fails-reading given failures s h link before mid after reads o0 o1 o2 l0 l1 l2 q n same p = record {
+    → FailsOn given failures link mid after o1 o2 l1 l2 → HasCalled calls before after (length reads + 1) → FailsReading given failures calls s link before after o0 o2 l0 l2
+fails-reading given failures calls s h link before mid after reads o0 o1 o2 l0 l1 l2 q n same p called = record {
   reads = reads;
   history = h;
   has_read = record {
@@ -123,6 +124,7 @@ fails-reading given failures s h link before mid after reads o0 o1 o2 l0 l1 l2 q
     out = p.out ∙ q.out;
     log = p.log ∙ q.log;
   };
+  called = called;
   is_next = n;
   failed = λ none. subst (λ (x : ℕ). Rises x (failures (slice_index_or after link none))) (same link none) (p.failed none);
 }
@@ -139,10 +141,10 @@ closing-none s h (suc n) last closed p =
       | inr stays ↦ stays.1 ∙ same
     ]
 
-pub runs-as : {R : Type 0} (given : R → Option (List ℕ)) (s : Settings) (before after : List R) (converter : ConverterState) (counts : Counts) (o0 o1 o2 l0 l1 l2 : Option (List ℕ))
-    → (p : HasReadAll given s before after converter o0 o1 l0 l1) → (last : History) → EndsAs s p.history last counts o1 o2 l1 l2
-    → RunsAs given s before after counts o0 o2 l0 l2
-runs-as given s before after converter counts o0 o1 o2 l0 l1 l2 p last e =
+pub runs-as : {R : Type 0} (given : R → Option (List ℕ)) (calls : R → ℕ) (is_at_end : R → Type 0) (s : Settings) (before after : List R) (converter : ConverterState) (counts : Counts) (o0 o1 o2 l0 l1 l2 : Option (List ℕ))
+    → (p : HasReadAll given calls is_at_end s before after converter o0 o1 l0 l1) → (last : History) → EndsAs s p.history last counts o1 o2 l1 l2
+    → RunsAs given calls is_at_end s before after counts o0 o2 l0 l2
+runs-as given calls is_at_end s before after converter counts o0 o1 o2 l0 l1 l2 p last e =
     let same = closing-none s p.history (length p.history.links) last p.closed e.closed in
     record {
       reads = p.reads;
@@ -150,20 +152,22 @@ runs-as given s before after converter counts o0 o1 o2 l0 l1 l2 p last e =
       comes_to = p.has_read.comes_to;
       closed = p.closed;
       gave = p.has_read.gave;
+      called = p.called;
+      at_end = p.at_end;
       out = written o0 o1 o2 (file_so_far s (arrivals p.history.found)) (kept_file s (arrivals last.found)) p.has_read.out e.out ∙ ap (λ (h : History). with_more o0 (kept_file s (arrivals h.found))) same;
       log = written l0 l1 l2 (lines s.window p.history.found) (report_of s last.found) p.has_read.log e.log ∙ ap (λ (h : History). with_more l0 (report_of s h.found)) same;
       counts_are = e.counts_are ∙ ap (λ (h : History). all_counts s h.found) same;
     }
 
 -- once all links were closed, the end breaks off with no frame in hand
-pub breaks-ending : {R : Type 0} (given : R → Option (List ℕ)) (s : Settings) (before after : List R) (converter : ConverterState) (o0 o1 o2 l0 l1 l2 : Option (List ℕ))
-    → (p : HasReadAll given s before after converter o0 o1 l0 l1)
+pub breaks-ending : {R : Type 0} (given : R → Option (List ℕ)) (calls : R → ℕ) (is_at_end : R → Type 0) (s : Settings) (before after : List R) (converter : ConverterState) (o0 o1 o2 l0 l1 l2 : Option (List ℕ))
+    → (p : HasReadAll given calls is_at_end s before after converter o0 o1 l0 l1)
     → ((link : ℕ) × BreaksOffClosing s p.history link o1 o2 l1 l2) ⊎ BreaksOffEnding s p.history o1 o2 l1 l2
-    → BreaksOffAtEnd given s before after o0 o2 l0 l2
-breaks-ending given s before after converter o0 o1 o2 l0 l1 l2 p (inl breaks) =
+    → BreaksOffAtEnd given calls is_at_end s before after o0 o2 l0 l2
+breaks-ending given calls is_at_end s before after converter o0 o1 o2 l0 l1 l2 p (inl breaks) =
     let same = closing-none s p.history breaks.0 breaks.1.mid p.closed breaks.1.closed in
     absurd (p.closed breaks.0 (subst (λ (h : History). IsOpen h breaks.0) same breaks.1.is_open))
-breaks-ending given s before after converter o0 o1 o2 l0 l1 l2 p (inr breaks) =
+breaks-ending given calls is_at_end s before after converter o0 o1 o2 l0 l1 l2 p (inr breaks) =
     let same = closing-none s p.history (length p.history.links) breaks.last p.closed breaks.closed in
     record {
       reads = p.reads;
@@ -171,6 +175,8 @@ breaks-ending given s before after converter o0 o1 o2 l0 l1 l2 p (inr breaks) =
       comes_to = p.has_read.comes_to;
       closed = p.closed;
       gave = p.has_read.gave;
+      called = p.called;
+      at_end = p.at_end;
       out = subst (λ (h : History). WritesInto o0 o2 [] (file_so_far s (arrivals h.found)) (kept_file s (arrivals h.found))) same (into o0 o1 o2 _ _ _ p.has_read.out breaks.out);
       log = subst (λ (h : History). WritesInto l0 l2 [] (lines s.window h.found) (report_of s h.found)) same (into l0 l1 l2 _ _ _ p.has_read.log breaks.log);
     }

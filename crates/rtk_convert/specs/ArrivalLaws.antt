@@ -10,6 +10,7 @@ use Rattle.rtk_convert.specs.File.{first_time, header_of}
 use Rattle.rtk_convert.specs.FileOfArrivals.{site_of_kept, kept_file, file_so_far}
 use Rattle.rtk_convert.specs.Finding.{ComesTo, Found, arrivals}
 use Rattle.rtk_convert.specs.Settings.{Settings, IsSettings}
+use Rattle.rtk_convert.specs.State.{found_on, AddsToOne}
 
 -- two lists of consistent arrivals with one set of those in time have one file
 abbrev pub OneSetHasOneFile : Type 0
@@ -60,3 +61,7 @@ HasPayload s f = (payload : List ℕ) × ComesTo s payload f.finding
 abbrev pub KeptFileIsTable : Type 0
 KeptFileIsTable =
     (s : Settings) (found : List Found) → IsSettings s → All (HasPayload s) found → (t : Table) × IsTable t × (kept_file s (arrivals found) ≡ table_text t)
+
+-- what a frame adds goes to the file or to the report, never to both
+abbrev pub FrameAddsToOne : Type 0
+FrameAddsToOne = (s : Settings) (payload : List ℕ) (f : Finding) (link : ℕ) (before : List Found) → ComesTo s payload f → AddsToOne s (found_on link f) before

@@ -19,7 +19,9 @@ use Rattle.rtk_convert.specs.File.{file_of}
 use Rattle.rtk_convert.specs.FileOfArrivals.{site_of_stations, kept_file}
 use Rattle.rtk_convert.specs.Finding.{Found, arrivals}
 use Rattle.rtk_convert.specs.History.{History, new_history, IsOpen, IsAfterFeed}
-use Rattle.rtk_convert.specs.Reads.{Read, Gave}
+use Rattle.rtk_convert.specs.Reading.{HasCalled}
+use Rattle.rtk_convert.specs.Reads.{Read, Gave, IsHistoryOf, AllClosed, AllAtEnd}
+use Rattle.rtk_convert.specs.Report.{lines}
 use Rattle.rtk_convert.specs.ReportText.{late_line}
 use Rattle.rtk_convert.specs.Settings.{Settings}
 use Rattle.rtk_convert.specs.State.{found_on}
@@ -97,17 +99,18 @@ IsWritten before after IsText = (text : List ℕ) × (after ≡ with_more before
 
 -- ---- "late arrivals are listed"
 
--- a message came on a link too late
-abbrev pub CameLate : Settings → ℕ → Arrival → List Found → Type 0
-CameLate s link a [] = ⊥
-CameLate s link a (f ∷ before) = ((f ≡ found_on link (Arrived a)) × (late s.window a (arrivals before) ≡ true)) ⊎ CameLate s link a before
+-- behind the frames before it a message came on a link, too late
+abbrev pub CameLate : Settings → List Found → ℕ → Arrival → List Found → Type 0
+CameLate s found link a before = ((later : List Found) × (found ≡ later ++ found_on link (Arrived a) ∷ before)) × (late s.window a (arrivals before) ≡ true)
 
-abbrev pub IsPartOf : List ℕ → List ℕ → Type 0
-IsPartOf line text = (front : List ℕ) × (rest : List ℕ) × (text ≡ front ++ (line ++ rest))
+-- a text has a line right behind others
+abbrev pub HasLineAfter : List ℕ → List ℕ → List ℕ → Type 0
+HasLineAfter others line text = (rest : List ℕ) × (text ≡ others ++ (line ++ rest))
 
+-- each has its own line, right behind the lines of the frames before it
 abbrev pub LateAreListed : Settings → List Found → Option (List ℕ) → Option (List ℕ) → Type 0
-LateAreListed s found log_old log_new = (link : ℕ) (a : Arrival) → CameLate s link a found
-    → IsWritten log_old log_new (IsPartOf (late_line link (number_of (message_of a)) (epoch_of a)))
+LateAreListed s found log_old log_new = (link : ℕ) (a : Arrival) (before : List Found) → CameLate s found link a before
+    → IsWritten log_old log_new (HasLineAfter (lines s.window before) (late_line link (number_of (message_of a)) (epoch_of a)))
 
 -- ---- "and change nothing"
 
@@ -144,7 +147,11 @@ abbrev pub calls_of : List Read → List Call
 calls_of [] = []
 calls_of (r ∷ before) = call_of r.link r.piece ∷ calls_of before
 
--- the sentence, of the pieces that the readers gave
-abbrev pub RunHeadline : {R : Type 0} → (R → Option (List ℕ)) → Settings → List R → List R → Option (List ℕ) → Option (List ℕ) → Option (List ℕ) → Option (List ℕ) → Type 0
-RunHeadline given s before after out_old out_new log_old log_new =
-    (reads : List Read) × Gave given before after reads × Headline s (length before) (calls_of reads) out_old out_new log_old log_new
+-- the sentence, of the pieces that the readers gave: to their ends, and each read of the link that was next
+pub record RunHeadline {R : Type 0} (given : R → Option (List ℕ)) (calls : R → ℕ) (is_at_end : R → Type 0) (s : Settings) (before after : List R) (out_old out_new log_old log_new : Option (List ℕ)) : Type 0 where
+  pub reads : List Read
+  pub gave : Gave given before after reads
+  pub called : HasCalled calls before after (length reads)
+  pub to_their_ends : AllAtEnd is_at_end after
+  pub in_order : (h : History) × IsHistoryOf s (length before) reads h × AllClosed h
+  pub headline : Headline s (length before) (calls_of reads) out_old out_new log_old log_new

@@ -1,11 +1,11 @@
 -- The steps of a run: what one read comes to, and what all reads so far have come to.
-use Rattle.std.specs.Prelude.{◌≡◌, ◌⊎◌, ℕ, ◌+◌, ◌<◌, ◌≤◌, List, [], ◌∷◌, length, Option, slice_index_or, sum_by}
+use Rattle.std.specs.Prelude.{◌≡◌, ◌≢◌, ◌⊎◌, ℕ, ◌+◌, ◌<◌, ◌≤◌, List, [], ◌∷◌, length, Option, slice_index_or, sum_by}
 use Rattle.rtk_frame.specs.Stream.{greatest_count, with_more, Rises}
 use Rattle.rtk_convert.specs.Converter.{ConverterState, Represents, WritesOn, BreaksOffAt}
 use Rattle.rtk_convert.specs.FileOfArrivals.{file_so_far}
 use Rattle.rtk_convert.specs.Finding.{arrivals}
 use Rattle.rtk_convert.specs.History.{History, fed_on, found_by_piece, found_by_close}
-use Rattle.rtk_convert.specs.Reads.{Read, IsNextRead, IsHistoryOf, AllClosed, Gave}
+use Rattle.rtk_convert.specs.Reads.{Read, IsNextRead, IsHistoryOf, AllClosed, AllAtEnd, Gave}
 use Rattle.rtk_convert.specs.Report.{lines}
 use Rattle.rtk_convert.specs.Settings.{Settings}
 
@@ -18,12 +18,14 @@ abbrev pub found_by_read : ℕ → History → List ℕ → List (List ℕ)
 found_by_read link h [] = found_by_close (fed_on link h.links)
 found_by_read link h (x ∷ piece) = found_by_piece (fed_on link h.links) (x ∷ piece)
 
--- one more read, of a link: its bytes are taken, and what they find is written
-pub record ReadsOn {R : Type 0} (given : R → Option (List ℕ)) (s : Settings) (h : History) (link : ℕ) (before after : List R) (new : ConverterState) (out_old out_new log_old log_new : Option (List ℕ)) : Type 0 where
+-- one more read, of a link: its bytes are taken, and what they find is written; one that gave none has met the end
+pub record ReadsOn {R : Type 0} (given : R → Option (List ℕ)) (is_at_end : R → Type 0) (s : Settings) (h : History) (link : ℕ) (before after : List R) (new : ConverterState) (out_old out_new log_old log_new : Option (List ℕ)) : Type 0 where
   pub piece : List ℕ
   pub next : History
   pub is_next : IsNextRead s h (read_of link piece) next
   pub gave : Gave given before after (read_of link piece ∷ [])
+  pub others : (k : ℕ) (none : R) → k ≢ link → slice_index_or after k none ≡ slice_index_or before k none
+  pub at_end : (none : R) → piece ≡ [] → is_at_end (slice_index_or after link none)
   pub represents : Represents new next
   pub writes : WritesOn s h.found next.found out_old out_new log_old log_new
 
@@ -48,6 +50,10 @@ pub record FailsOn {R : Type 0} (given : R → Option (List ℕ)) (failures : R 
   pub out : out_new ≡ out_old
   pub log : log_new ≡ log_old
 
+-- the counts of failed reads are as they were
+abbrev pub SameFailures : {R : Type 0} → (R → ℕ) → List R → List R → Type 0
+SameFailures {R} failures before after = (k : ℕ) (none : R) → failures (slice_index_or after k none) ≡ failures (slice_index_or before k none)
+
 -- ---- how many reads were made, by the counts of calls
 
 -- one of the counts stands at its greatest value
@@ -60,10 +66,12 @@ HasCalled calls before after n = (sum_by calls after ≡ sum_by calls before + n
 
 -- ---- all reads
 
--- all links were read to their end
-pub record HasReadAll {R : Type 0} (given : R → Option (List ℕ)) (s : Settings) (before after : List R) (new : ConverterState) (out_old out_new log_old log_new : Option (List ℕ)) : Type 0 where
+-- all links were read to their end, by so many calls as there are reads
+pub record HasReadAll {R : Type 0} (given : R → Option (List ℕ)) (calls : R → ℕ) (is_at_end : R → Type 0) (s : Settings) (before after : List R) (new : ConverterState) (out_old out_new log_old log_new : Option (List ℕ)) : Type 0 where
   pub reads : List Read
   pub history : History
   pub has_read : HasRead given s before after reads history out_old out_new log_old log_new
   pub closed : AllClosed history
+  pub called : HasCalled calls before after (length reads)
+  pub at_end : AllAtEnd is_at_end after
   pub represents : Represents new history

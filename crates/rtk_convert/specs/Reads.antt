@@ -29,6 +29,16 @@ IsHistoryOf s links (r ∷ before) h = (old : History) × IsHistoryOf s links be
 abbrev pub AllClosed : History → Type 0
 AllClosed h = (link : ℕ) → ¬ (IsOpen h link)
 
+-- ---- the ends of the readers
+
+-- the reader of each link that is closed has met its end
+abbrev pub AreAtEnd : {R : Type 0} → (R → Type 0) → List R → History → Type 0
+AreAtEnd {R} is_at_end readers h = (k : ℕ) (none : R) → k < length readers → ¬ (IsOpen h k) → is_at_end (slice_index_or readers k none)
+
+-- all readers have met their ends
+abbrev pub AllAtEnd : {R : Type 0} → (R → Type 0) → List R → Type 0
+AllAtEnd {R} is_at_end readers = (k : ℕ) (none : R) → k < length readers → is_at_end (slice_index_or readers k none)
+
 -- ---- what the readers gave
 
 abbrev pub piece_on : ℕ → Read → List ℕ

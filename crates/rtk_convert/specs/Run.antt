@@ -1,5 +1,5 @@
 -- What a run does: the file and the report of what its readers gave, or how far it came.
-use Rattle.std.specs.Prelude.{◌≡◌, ◌⊎◌, ℕ, ◌≤◌, List, [], ◌∷◌, ◌++◌, length, Option, slice_index_or}
+use Rattle.std.specs.Prelude.{◌≡◌, ◌⊎◌, ℕ, ◌+◌, ◌≤◌, List, [], ◌∷◌, ◌++◌, length, Option, slice_index_or}
 use Rattle.rtk_frame.specs.Stream.{with_more, Rises}
 use Rattle.rtk_convert.specs.Converter.{WritesInto}
 use Rattle.rtk_convert.specs.declared.arrival.Finding.{Finding}
@@ -8,21 +8,23 @@ use Rattle.rtk_convert.specs.FileOfArrivals.{kept_file, file_so_far}
 use Rattle.rtk_convert.specs.Finding.{Found, ComesTo, arrivals}
 use Rattle.rtk_convert.specs.Finish.{all_counts, report_of}
 use Rattle.rtk_convert.specs.History.{History, Finds, IsOpen, IsNextLink}
-use Rattle.rtk_convert.specs.Reading.{read_of, found_by_read, HasRead}
-use Rattle.rtk_convert.specs.Reads.{Read, IsHistoryOf, AllClosed, Gave}
+use Rattle.rtk_convert.specs.Reading.{read_of, found_by_read, HasRead, HasCalled}
+use Rattle.rtk_convert.specs.Reads.{Read, IsHistoryOf, AllClosed, AreAtEnd, AllAtEnd, Gave}
 use Rattle.rtk_convert.specs.Report.{lines}
 use Rattle.rtk_convert.specs.Settings.{Settings}
 use Rattle.rtk_convert.specs.State.{found_on}
 
 -- ---- to the end
 
--- all links were read to their end, and the file and the report of what they gave are out
-pub record RunsAs {R : Type 0} (given : R → Option (List ℕ)) (s : Settings) (before after : List R) (counts : Counts) (out_old out_new log_old log_new : Option (List ℕ)) : Type 0 where
+-- all links were read to their end, by so many calls as there are reads, and the file and the report of what they gave are out
+pub record RunsAs {R : Type 0} (given : R → Option (List ℕ)) (calls : R → ℕ) (is_at_end : R → Type 0) (s : Settings) (before after : List R) (counts : Counts) (out_old out_new log_old log_new : Option (List ℕ)) : Type 0 where
   pub reads : List Read
   pub history : History
   pub comes_to : IsHistoryOf s (length before) reads history
   pub closed : AllClosed history
   pub gave : Gave given before after reads
+  pub called : HasCalled calls before after (length reads)
+  pub at_end : AllAtEnd is_at_end after
   pub out : out_new ≡ with_more out_old (kept_file s (arrivals history.found))
   pub log : log_new ≡ with_more log_old (report_of s history.found)
   pub counts_are : counts ≡ all_counts s history.found
@@ -30,18 +32,21 @@ pub record RunsAs {R : Type 0} (given : R → Option (List ℕ)) (s : Settings) 
 -- ---- so far as it came
 
 -- a read of a link failed; exactly the file so far and the lines of what was read before are out
-pub record FailsReading {R : Type 0} (given : R → Option (List ℕ)) (failures : R → ℕ) (s : Settings) (link : ℕ) (before after : List R) (out_old out_new log_old log_new : Option (List ℕ)) : Type 0 where
+pub record FailsReading {R : Type 0} (given : R → Option (List ℕ)) (failures calls : R → ℕ) (s : Settings) (link : ℕ) (before after : List R) (out_old out_new log_old log_new : Option (List ℕ)) : Type 0 where
   pub reads : List Read
   pub history : History
   pub has_read : HasRead given s before after reads history out_old out_new log_old log_new
+  pub called : HasCalled calls before after (length reads + 1)
   pub is_next : IsNextLink history link
   pub failed : (none : R) → Rises (failures (slice_index_or before link none)) (failures (slice_index_or after link none))
 
--- a link is open still; exactly the file so far and the lines of what was read are out
-pub record StaysOpen {R : Type 0} (given : R → Option (List ℕ)) (s : Settings) (before after : List R) (out_old out_new log_old log_new : Option (List ℕ)) : Type 0 where
+-- a link is open still after so many reads; exactly the file so far and the lines of what was read are out
+pub record StaysOpen {R : Type 0} (given : R → Option (List ℕ)) (is_at_end : R → Type 0) (s : Settings) (max_reads : ℕ) (before after : List R) (out_old out_new log_old log_new : Option (List ℕ)) : Type 0 where
   pub reads : List Read
   pub history : History
   pub has_read : HasRead given s before after reads history out_old out_new log_old log_new
+  pub made : length reads ≡ max_reads
+  pub at_end : AreAtEnd is_at_end after history
   pub link : ℕ
   pub is_open : IsOpen history link
 
@@ -59,7 +64,7 @@ pub record IsCutAt (s : Settings) (link : ℕ) (payloads : List (List ℕ)) (bef
   pub log : WritesInto log_old log_new [] (lines s.window found) (lines s.window (found_on link finding ∷ found))
 
 -- the run breaks off at a frame that its last read found
-pub record BreaksOffReading {R : Type 0} (given : R → Option (List ℕ)) (s : Settings) (before after : List R) (out_old out_new log_old log_new : Option (List ℕ)) : Type 0 where
+pub record BreaksOffReading {R : Type 0} (given : R → Option (List ℕ)) (calls : R → ℕ) (s : Settings) (before after : List R) (out_old out_new log_old log_new : Option (List ℕ)) : Type 0 where
   pub reads : List Read
   pub history : History
   pub comes_to : IsHistoryOf s (length before) reads history
@@ -68,6 +73,7 @@ pub record BreaksOffReading {R : Type 0} (given : R → Option (List ℕ)) (s : 
   pub piece : List ℕ
   pub few : length piece ≤ 512
   pub gave : Gave given before after (read_of link piece ∷ reads)
+  pub called : HasCalled calls before after (length reads + 1)
   pub cut : IsCutAt s link (found_by_read link history piece) history.found out_old out_new log_old log_new
 
 -- nothing was read, and nothing is out
@@ -77,18 +83,20 @@ pub record IsUntouched {R : Type 0} (before after : List R) (out_old out_new log
   pub log : log_new ≡ log_old
 
 -- the run breaks off at its end: what the links gave is written, and a first part of the rest
-pub record BreaksOffAtEnd {R : Type 0} (given : R → Option (List ℕ)) (s : Settings) (before after : List R) (out_old out_new log_old log_new : Option (List ℕ)) : Type 0 where
+pub record BreaksOffAtEnd {R : Type 0} (given : R → Option (List ℕ)) (calls : R → ℕ) (is_at_end : R → Type 0) (s : Settings) (before after : List R) (out_old out_new log_old log_new : Option (List ℕ)) : Type 0 where
   pub reads : List Read
   pub history : History
   pub comes_to : IsHistoryOf s (length before) reads history
   pub closed : AllClosed history
   pub gave : Gave given before after reads
+  pub called : HasCalled calls before after (length reads)
+  pub at_end : AllAtEnd is_at_end after
   pub out : WritesInto out_old out_new [] (file_so_far s (arrivals history.found)) (kept_file s (arrivals history.found))
   pub log : WritesInto log_old log_new [] (lines s.window history.found) (report_of s history.found)
 
 -- memory was refused, or a write failed: before anything was read, at a frame, or at the end
-abbrev pub BreaksOff : {R : Type 0} → (R → Option (List ℕ)) → Settings → List R → List R → Option (List ℕ) → Option (List ℕ) → Option (List ℕ) → Option (List ℕ) → Type 0
-BreaksOff given s before after out_old out_new log_old log_new =
+abbrev pub BreaksOff : {R : Type 0} → (R → Option (List ℕ)) → (R → ℕ) → (R → Type 0) → Settings → List R → List R → Option (List ℕ) → Option (List ℕ) → Option (List ℕ) → Option (List ℕ) → Type 0
+BreaksOff given calls is_at_end s before after out_old out_new log_old log_new =
     IsUntouched before after out_old out_new log_old log_new
-    ⊎ (BreaksOffReading given s before after out_old out_new log_old log_new
-    ⊎ BreaksOffAtEnd given s before after out_old out_new log_old log_new)
+    ⊎ (BreaksOffReading given calls s before after out_old out_new log_old log_new
+    ⊎ BreaksOffAtEnd given calls is_at_end s before after out_old out_new log_old log_new)

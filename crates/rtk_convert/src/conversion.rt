@@ -1,6 +1,6 @@
 //! What all links together have come to: one found frame at a time.
 
-ghost use Rattle.std.specs.Prelude.{◌≡◌, ◌↔◌, [], true, false, List, Err, OnOk, OnErr, IsErrOf, IfOk, IfErr};
+ghost use Rattle.std.specs.Prelude.{◌≡◌, ◌≢◌, ◌↔◌, [], true, false, List, Err, OnOk, OnErr, IsErrOf, IfOk, IfErr};
 ghost use Rattle.rtk_frame.specs.Stream.{Rises};
 ghost use Rattle.rtk_convert.specs.Failure.{IsFrameFault};
 ghost use Rattle.rtk_convert.specs.Finish.{Finishes, FinishesInPart};
@@ -106,7 +106,9 @@ impl Conversion {
         ensures out_same { OnOk result (O.failures out.new ≡ O.failures out.old) }
         ensures log_same { OnOk result (L.failures log.new ≡ L.failures log.old) }
         ensures out_failed { IsErrOf result (ConvertFault.Write Stream.Out) → Rises (O.failures out.old) (O.failures out.new) }
+        ensures out_kept { IfErr result (λ fault. fault ≢ ConvertFault.Write Stream.Out → O.failures out.new ≡ O.failures out.old) }
         ensures log_failed { IsErrOf result (ConvertFault.Write Stream.Log) → Rises (L.failures log.old) (L.failures log.new) }
+        ensures log_kept { IfErr result (λ fault. fault ≢ ConvertFault.Write Stream.Log → L.failures log.new ≡ L.failures log.old) }
     {
         if self.stopped {
             return Err(ConvertFault::Stopped);
@@ -142,7 +144,9 @@ impl Conversion {
         ensures out_same { OnOk result (O.failures out.new ≡ O.failures out.old) }
         ensures log_same { OnOk result (L.failures log.new ≡ L.failures log.old) }
         ensures out_failed { IsErrOf result (ConvertFault.Write Stream.Out) → Rises (O.failures out.old) (O.failures out.new) }
+        ensures out_kept { IfErr result (λ fault. fault ≢ ConvertFault.Write Stream.Out → O.failures out.new ≡ O.failures out.old) }
         ensures log_failed { IsErrOf result (ConvertFault.Write Stream.Log) → Rises (L.failures log.old) (L.failures log.new) }
+        ensures log_kept { IfErr result (λ fault. fault ≢ ConvertFault.Write Stream.Log → L.failures log.new ≡ L.failures log.old) }
     {
         self.counts.frames = self.counts.frames.saturating_add(1);
         match find(&self.setup, payload) {
@@ -193,7 +197,9 @@ impl Conversion {
         ensures out_same { OnOk result (O.failures out.new ≡ O.failures out.old) }
         ensures log_same { OnOk result (L.failures log.new ≡ L.failures log.old) }
         ensures out_failed { IsErrOf result (ConvertFault.Write Stream.Out) → Rises (O.failures out.old) (O.failures out.new) }
+        ensures out_kept { IfErr result (λ fault. fault ≢ ConvertFault.Write Stream.Out → O.failures out.new ≡ O.failures out.old) }
         ensures log_failed { IsErrOf result (ConvertFault.Write Stream.Log) → Rises (L.failures log.old) (L.failures log.new) }
+        ensures log_kept { IfErr result (λ fault. fault ≢ ConvertFault.Write Stream.Log → L.failures log.new ≡ L.failures log.old) }
     {
         let number = dated.message().number();
         let epoch = dated.epoch();
@@ -232,8 +238,12 @@ impl Conversion {
         ensures ok { IfOk result (λ counts. Finishes self counts (O.taken out.old) (O.taken out.new) (L.taken log.old) (L.taken log.new)) }
         ensures err { OnErr result (self.stopped ≡ false → FinishesInPart self (O.taken out.old) (O.taken out.new) (L.taken log.old) (L.taken log.new)) }
         ensures fault { self.stopped ≡ false → IfErr result IsFrameFault }
+        ensures out_same { OnOk result (O.failures out.new ≡ O.failures out.old) }
+        ensures log_same { OnOk result (L.failures log.new ≡ L.failures log.old) }
         ensures out_failed { IsErrOf result (ConvertFault.Write Stream.Out) → Rises (O.failures out.old) (O.failures out.new) }
+        ensures out_kept { IfErr result (λ fault. fault ≢ ConvertFault.Write Stream.Out → O.failures out.new ≡ O.failures out.old) }
         ensures log_failed { IsErrOf result (ConvertFault.Write Stream.Log) → Rises (L.failures log.old) (L.failures log.new) }
+        ensures log_kept { IfErr result (λ fault. fault ≢ ConvertFault.Write Stream.Log → L.failures log.new ≡ L.failures log.old) }
     {
         if self.stopped {
             return Err(ConvertFault::Stopped);

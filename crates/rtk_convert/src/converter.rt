@@ -1,6 +1,6 @@
 //! Pieces of 1 to 16 links, in any order, to one file.
 
-ghost use Rattle.std.specs.Prelude.{◌≡◌, ◌<◌, ◌↔◌, [], true, false, None, length, replicate, OnOk, OnErr, IsErrOf, IfOk, IfErr, IfSome, Decides};
+ghost use Rattle.std.specs.Prelude.{◌≡◌, ◌≢◌, ◌<◌, ◌↔◌, [], true, false, None, length, replicate, OnOk, OnErr, IsErrOf, IfOk, IfErr, IfSome, Decides};
 ghost use Rattle.rtk_frame.specs.ScannerState.{scan};
 ghost use Rattle.rtk_frame.specs.Stream.{Rises};
 ghost use Rattle.rtk_convert.specs.Converter.{IsLinkCount, Represents, refusal, Feeds, FeedsInPart, Closes, ClosesInPart, ClosesAll, ClosesAllInPart, Ends, EndsInPart};
@@ -140,7 +140,9 @@ impl Converter {
         ensures out_same { OnOk result (O.failures out.new ≡ O.failures out.old) }
         ensures log_same { OnOk result (L.failures log.new ≡ L.failures log.old) }
         ensures out_failed { IsErrOf result (ConvertFault.Write Stream.Out) → Rises (O.failures out.old) (O.failures out.new) }
+        ensures out_kept { IfErr result (λ fault. fault ≢ ConvertFault.Write Stream.Out → O.failures out.new ≡ O.failures out.old) }
         ensures log_failed { IsErrOf result (ConvertFault.Write Stream.Log) → Rises (L.failures log.old) (L.failures log.new) }
+        ensures log_kept { IfErr result (λ fault. fault ≢ ConvertFault.Write Stream.Log → L.failures log.new ≡ L.failures log.old) }
     {
         if let Some(fault) = self.refusal(link) {
             return Err(fault);
@@ -166,7 +168,9 @@ impl Converter {
         ensures out_same { OnOk result (O.failures out.new ≡ O.failures out.old) }
         ensures log_same { OnOk result (L.failures log.new ≡ L.failures log.old) }
         ensures out_failed { IsErrOf result (ConvertFault.Write Stream.Out) → Rises (O.failures out.old) (O.failures out.new) }
+        ensures out_kept { IfErr result (λ fault. fault ≢ ConvertFault.Write Stream.Out → O.failures out.new ≡ O.failures out.old) }
         ensures log_failed { IsErrOf result (ConvertFault.Write Stream.Log) → Rises (L.failures log.old) (L.failures log.new) }
+        ensures log_kept { IfErr result (λ fault. fault ≢ ConvertFault.Write Stream.Log → L.failures log.new ≡ L.failures log.old) }
     {
         if let Some(fault) = self.refusal(link) {
             return Err(fault);
@@ -185,7 +189,9 @@ impl Converter {
         ensures out_same { OnOk result (O.failures out.new ≡ O.failures out.old) }
         ensures log_same { OnOk result (L.failures log.new ≡ L.failures log.old) }
         ensures out_failed { IsErrOf result (ConvertFault.Write Stream.Out) → Rises (O.failures out.old) (O.failures out.new) }
+        ensures out_kept { IfErr result (λ fault. fault ≢ ConvertFault.Write Stream.Out → O.failures out.new ≡ O.failures out.old) }
         ensures log_failed { IsErrOf result (ConvertFault.Write Stream.Log) → Rises (L.failures log.old) (L.failures log.new) }
+        ensures log_kept { IfErr result (λ fault. fault ≢ ConvertFault.Write Stream.Log → L.failures log.new ≡ L.failures log.old) }
     {
         'links: for link in 0..self.links.len() {
             if self.refusal(link).is_some() {
@@ -205,8 +211,12 @@ impl Converter {
         ensures fault { self.conversion.stopped ≡ false → IfErr result IsFrameFault }
         ensures ok { IfOk result (λ counts. Ends self counts (O.taken out.old) (O.taken out.new) (L.taken log.old) (L.taken log.new)) }
         ensures err { IfErr result (λ fault. IsFrameFault fault → EndsInPart self (O.taken out.old) (O.taken out.new) (L.taken log.old) (L.taken log.new)) }
+        ensures out_same { OnOk result (O.failures out.new ≡ O.failures out.old) }
+        ensures log_same { OnOk result (L.failures log.new ≡ L.failures log.old) }
         ensures out_failed { IsErrOf result (ConvertFault.Write Stream.Out) → Rises (O.failures out.old) (O.failures out.new) }
+        ensures out_kept { IfErr result (λ fault. fault ≢ ConvertFault.Write Stream.Out → O.failures out.new ≡ O.failures out.old) }
         ensures log_failed { IsErrOf result (ConvertFault.Write Stream.Log) → Rises (L.failures log.old) (L.failures log.new) }
+        ensures log_kept { IfErr result (λ fault. fault ≢ ConvertFault.Write Stream.Log → L.failures log.new ≡ L.failures log.old) }
     {
         if self.conversion.is_stopped() {
             return Err(ConvertFault::Stopped);

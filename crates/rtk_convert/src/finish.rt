@@ -1,6 +1,6 @@
 //! The end of a file: the epochs that are still open close, rising.
 
-ghost use Rattle.std.specs.Prelude.{◌≡◌, length, OnOk, OnErr, IfErr, IsErrOf};
+ghost use Rattle.std.specs.Prelude.{◌≡◌, ◌≢◌, length, OnOk, OnErr, IfErr, IsErrOf};
 ghost use Rattle.rtk_frame.specs.Stream.{Rises};
 ghost use Rattle.rtk_rinex.specs.Header.{site_of};
 ghost use Rattle.rtk_convert.specs.Failure.{IsOutFault};
@@ -29,6 +29,7 @@ pub(crate) fn close_left<O: Sink>(
     ensures err { OnErr result (ClosesInPart setup.now (site_of position.now) records.old left.old.sets (O.taken out.old) (O.taken out.new)) }
     ensures same { OnOk result (O.failures out.new ≡ O.failures out.old) }
     ensures failed { IsErrOf result (ConvertFault.Write Stream.Out) → Rises (O.failures out.old) (O.failures out.new) }
+    ensures kept { IfErr result (λ fault. fault ≢ ConvertFault.Write Stream.Out → O.failures out.new ≡ O.failures out.old) }
     ensures fault { IfErr result IsOutFault }
 {
     'left: while let Some(set) = left.next_left() {

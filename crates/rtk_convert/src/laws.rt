@@ -1,6 +1,6 @@
 //! Laws on the file of a set of messages, whatever arrivals the set came from.
 
-ghost use Rattle.rtk_convert.specs.ArrivalLaws.{OneSetHasOneFile, LateLeaveFile, SoFarBegins, HeaderIsFinal, OthersLeaveFile, KeptFileIsTable};
+ghost use Rattle.rtk_convert.specs.ArrivalLaws.{OneSetHasOneFile, LateLeaveFile, SoFarBegins, HeaderIsFinal, OthersLeaveFile, KeptFileIsTable, FrameAddsToOne};
 ghost use Rattle.rtk_convert.specs.FileLaws.{FileIsTable};
 ghost use Rattle.rtk_convert.specs.HistoryLaws.{ComesToOne, FeedsToOne, ClosesToOne, EndsAtOne};
 
@@ -39,4 +39,9 @@ pub fn one_history_of_calls()
     ensures feed { FeedsToOne }
     ensures close { ClosesToOne }
     ensures end { EndsAtOne }
+{}
+
+/// What a frame adds goes to the file or to the report, never to both.
+pub fn frames_add_to_one()
+    ensures { FrameAddsToOne }
 {}

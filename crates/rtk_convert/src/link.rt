@@ -1,6 +1,6 @@
 //! One link: its scanner and the newest epoch that came on it.
 
-ghost use Rattle.std.specs.Prelude.{◌≡◌, ◌≤◌, ◌++◌, length, true, false, OnOk, OnErr, IsErrOf, IfErr};
+ghost use Rattle.std.specs.Prelude.{◌≡◌, ◌≢◌, ◌≤◌, ◌++◌, length, true, false, OnOk, OnErr, IsErrOf, IfErr};
 ghost use Rattle.rtk_frame.specs.Frames.{final_frames, frames, payloads, pending};
 ghost use Rattle.rtk_frame.specs.Stream.{Rises};
 ghost use Rattle.rtk_convert.specs.Failure.{IsFrameFault};
@@ -59,7 +59,9 @@ impl Link {
         ensures out_same { OnOk result (O.failures out.new ≡ O.failures out.old) }
         ensures log_same { OnOk result (L.failures log.new ≡ L.failures log.old) }
         ensures out_failed { IsErrOf result (ConvertFault.Write Stream.Out) → Rises (O.failures out.old) (O.failures out.new) }
+        ensures out_kept { IfErr result (λ fault. fault ≢ ConvertFault.Write Stream.Out → O.failures out.new ≡ O.failures out.old) }
         ensures log_failed { IsErrOf result (ConvertFault.Write Stream.Log) → Rises (L.failures log.old) (L.failures log.new) }
+        ensures log_kept { IfErr result (λ fault. fault ≢ ConvertFault.Write Stream.Log → L.failures log.new ≡ L.failures log.old) }
     {
         let mut at = 0;
         'frames: loop {
@@ -97,7 +99,9 @@ impl Link {
         ensures out_same { OnOk result (O.failures out.new ≡ O.failures out.old) }
         ensures log_same { OnOk result (L.failures log.new ≡ L.failures log.old) }
         ensures out_failed { IsErrOf result (ConvertFault.Write Stream.Out) → Rises (O.failures out.old) (O.failures out.new) }
+        ensures out_kept { IfErr result (λ fault. fault ≢ ConvertFault.Write Stream.Out → O.failures out.new ≡ O.failures out.old) }
         ensures log_failed { IsErrOf result (ConvertFault.Write Stream.Log) → Rises (L.failures log.old) (L.failures log.new) }
+        ensures log_kept { IfErr result (λ fault. fault ≢ ConvertFault.Write Stream.Log → L.failures log.new ≡ L.failures log.old) }
     {
         'frames: while let Some(payload) = self.scanner.rest() {
             match conversion.arrive(number, payload, out, log) {

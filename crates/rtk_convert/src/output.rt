@@ -1,6 +1,6 @@
 //! What is written to the file: records, and the header before the first one or at the end.
 
-ghost use Rattle.std.specs.Prelude.{◌≡◌, ◌++◌, length, OnOk, OnErr, IfOk, IfErr, IsErrOf, false};
+ghost use Rattle.std.specs.Prelude.{◌≡◌, ◌≢◌, ◌++◌, length, OnOk, OnErr, IfOk, IfErr, IsErrOf, false};
 ghost use Rattle.rtk_convert.specs.Failure.{IsOutFault};
 ghost use Rattle.rtk_frame.specs.Stream.{with_more, Rises, TakesPart};
 ghost use Rattle.rtk_rinex.specs.Header.{site_of};
@@ -62,6 +62,7 @@ pub(crate) fn put_record<O: Sink>(
     ensures part { TakesPart (O.taken out.old) (O.taken out.new) (closing_text setup.now (site_of position.now) table.now.time header_out (record_text table.now)) }
     ensures same { OnOk result (O.failures out.new ≡ O.failures out.old) }
     ensures failed { IsErrOf result (ConvertFault.Write Stream.Out) → Rises (O.failures out.old) (O.failures out.new) }
+    ensures kept { IfErr result (λ fault. fault ≢ ConvertFault.Write Stream.Out → O.failures out.new ≡ O.failures out.old) }
     ensures fault { IfErr result IsOutFault }
 {
     let Ok(text) = record(alloc, setup.head(), table) else {
@@ -93,6 +94,7 @@ pub(crate) fn put_last_header<O: Sink>(
     ensures part { TakesPart (O.taken out.old) (O.taken out.new) (header_before setup.now (site_of position.now) setup.now.near header_out) }
     ensures same { OnOk result (O.failures out.new ≡ O.failures out.old) }
     ensures failed { IsErrOf result (ConvertFault.Write Stream.Out) → Rises (O.failures out.old) (O.failures out.new) }
+    ensures kept { IfErr result (λ fault. fault ≢ ConvertFault.Write Stream.Out → O.failures out.new ≡ O.failures out.old) }
     ensures fault { IfErr result IsOutFault }
 {
     if header_out {

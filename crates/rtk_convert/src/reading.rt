@@ -1,12 +1,12 @@
 //! A run: reads from all links, each time from the one that is behind the others.
 
-ghost use Rattle.std.specs.Prelude.{◌≡◌, ◌↔◌, ◌<◌, ◌≤◌, ◌+◌, ℕ, length, sum_by, slice_index_or, Decides, MatchOption, IfSome, OnOk, IfOk, IfErr, IsErrOf};
+ghost use Rattle.std.specs.Prelude.{◌≡◌, ◌≢◌, ◌↔◌, ◌<◌, ◌≤◌, ◌+◌, ℕ, length, sum_by, Decides, MatchOption, IfSome, OnOk, IfOk, IfErr, IsErrOf};
 ghost use Rattle.rtk_frame.specs.Stream.{Rises};
 ghost use Rattle.rtk_convert.specs.Converter.{IsLinkCount, Represents};
 ghost use Rattle.rtk_convert.specs.Failure.{IsFrameFault, IsReadFault, IsReadingFault, IsRunFault};
 ghost use Rattle.rtk_convert.specs.Headline.{RunHeadline};
 ghost use Rattle.rtk_convert.specs.History.{History, new_history, IsOpen, IsUpTo, IsNextLink};
-ghost use Rattle.rtk_convert.specs.Reading.{ReadsOn, BreaksOffOn, FailsOn, HasReadAll, AnyAtGreatest, HasCalled};
+ghost use Rattle.rtk_convert.specs.Reading.{ReadsOn, BreaksOffOn, FailsOn, HasReadAll, AnyAtGreatest, HasCalled, SameFailures};
 ghost use Rattle.rtk_convert.specs.Reads.{AllClosed};
 ghost use Rattle.rtk_convert.specs.Run.{RunsAs, FailsReading, StaysOpen, BreaksOffReading, BreaksOff};
 
@@ -68,15 +68,17 @@ fn read_link<R: Source, O: Sink, L: Sink>(
     ensures called { HasCalled R.calls readers.old readers.new 1 }
     ensures full { AnyAtGreatest R.calls readers.old → AnyAtGreatest R.calls readers.new }
     ensures ok { OnOk result ((h : History) → Represents converter.old h → IsNextLink h link
-        → ReadsOn R.given converter.old.conversion.settings h link readers.old readers.new converter.new (O.taken out.old) (O.taken out.new) (L.taken log.old) (L.taken log.new)) }
+        → ReadsOn R.given R.is_at_end converter.old.conversion.settings h link readers.old readers.new converter.new (O.taken out.old) (O.taken out.new) (L.taken log.old) (L.taken log.new)) }
     ensures err { IfErr result (λ fault. IsFrameFault fault → (h : History) → Represents converter.old h
         → BreaksOffOn R.given converter.old.conversion.settings h link readers.old readers.new (O.taken out.old) (O.taken out.new) (L.taken log.old) (L.taken log.new)) }
     ensures read_failed { (h : History) → Represents converter.old h → IsOpen h link → (k : ℕ) → IsErrOf result (ConvertFault.Read k)
         → (k ≡ link) × FailsOn R.given R.failures k readers.old readers.new (O.taken out.old) (O.taken out.new) (L.taken log.old) (L.taken log.new) }
     ensures fault { IfErr result (λ fault. (h : History) → Represents converter.old h → IsOpen h link → IsReadFault fault) }
     ensures out_failed { IsErrOf result (ConvertFault.Write Stream.Out) → Rises (O.failures out.old) (O.failures out.new) }
+    ensures out_kept { IfErr result (λ fault. fault ≢ ConvertFault.Write Stream.Out → O.failures out.new ≡ O.failures out.old) }
     ensures log_failed { IsErrOf result (ConvertFault.Write Stream.Log) → Rises (L.failures log.old) (L.failures log.new) }
-    ensures reads_same { OnOk result ((k : ℕ) (none : R) → R.failures (slice_index_or readers.new k none) ≡ R.failures (slice_index_or readers.old k none)) }
+    ensures log_kept { IfErr result (λ fault. fault ≢ ConvertFault.Write Stream.Log → L.failures log.new ≡ L.failures log.old) }
+    ensures no_failed_read { ((k : ℕ) → ¬ (IsErrOf result (ConvertFault.Read k))) → SameFailures R.failures readers.old readers.new }
     ensures out_same { OnOk result (O.failures out.new ≡ O.failures out.old) }
     ensures log_same { OnOk result (L.failures log.new ≡ L.failures log.old) }
 {
@@ -101,17 +103,20 @@ fn read_all<R: Source, O: Sink, L: Sink>(
     requires fresh { Represents converter.old (new_history (length readers.old)) }
     ensures settings { converter.new.conversion.settings ≡ converter.old.conversion.settings }
     ensures reads { sum_by R.calls readers.new ≤ sum_by R.calls readers.old + max_reads }
-    ensures ok { OnOk result (HasReadAll R.given converter.old.conversion.settings readers.old readers.new converter.new (O.taken out.old) (O.taken out.new) (L.taken log.old) (L.taken log.new)) }
+    ensures ok { OnOk result (HasReadAll R.given R.calls R.is_at_end converter.old.conversion.settings readers.old readers.new converter.new (O.taken out.old) (O.taken out.new) (L.taken log.old) (L.taken log.new)) }
     ensures err { IfErr result (λ fault. IsFrameFault fault
-        → BreaksOffReading R.given converter.old.conversion.settings readers.old readers.new (O.taken out.old) (O.taken out.new) (L.taken log.old) (L.taken log.new)) }
+        → BreaksOffReading R.given R.calls converter.old.conversion.settings readers.old readers.new (O.taken out.old) (O.taken out.new) (L.taken log.old) (L.taken log.new)) }
     ensures read_failed { (link : ℕ) → IsErrOf result (ConvertFault.Read link)
-        → FailsReading R.given R.failures converter.old.conversion.settings link readers.old readers.new (O.taken out.old) (O.taken out.new) (L.taken log.old) (L.taken log.new) }
+        → FailsReading R.given R.failures R.calls converter.old.conversion.settings link readers.old readers.new (O.taken out.old) (O.taken out.new) (L.taken log.old) (L.taken log.new) }
     ensures endless { IsErrOf result ConvertFault.Endless
-        → StaysOpen R.given converter.old.conversion.settings readers.old readers.new (O.taken out.old) (O.taken out.new) (L.taken log.old) (L.taken log.new)
+        → StaysOpen R.given R.is_at_end converter.old.conversion.settings max_reads readers.old readers.new (O.taken out.old) (O.taken out.new) (L.taken log.old) (L.taken log.new)
         × HasCalled R.calls readers.old readers.new max_reads }
     ensures fault { IfErr result IsReadingFault }
+    ensures no_failed_read { ((link : ℕ) → ¬ (IsErrOf result (ConvertFault.Read link))) → SameFailures R.failures readers.old readers.new }
     ensures out_failed { IsErrOf result (ConvertFault.Write Stream.Out) → Rises (O.failures out.old) (O.failures out.new) }
+    ensures out_kept { IfErr result (λ fault. fault ≢ ConvertFault.Write Stream.Out → O.failures out.new ≡ O.failures out.old) }
     ensures log_failed { IsErrOf result (ConvertFault.Write Stream.Log) → Rises (L.failures log.old) (L.failures log.new) }
+    ensures log_kept { IfErr result (λ fault. fault ≢ ConvertFault.Write Stream.Log → L.failures log.new ≡ L.failures log.old) }
     ensures out_same { OnOk result (O.failures out.new ≡ O.failures out.old) }
     ensures log_same { OnOk result (L.failures log.new ≡ L.failures log.old) }
 {
@@ -152,18 +157,24 @@ pub fn run<R: Source, O: Sink, L: Sink>(
 ) -> Result<Counts, ConvertFault>
     ensures setup { IsErrOf result ConvertFault.Setup ↔ ¬ (IsLinkCount (length readers.old)) }
     ensures fault { IfErr result IsRunFault }
-    ensures headline { OnOk result (RunHeadline R.given setup readers.old readers.new (O.taken out.old) (O.taken out.new) (L.taken log.old) (L.taken log.new)) }
-    ensures ok { IfOk result (λ counts. RunsAs R.given setup readers.old readers.new counts (O.taken out.old) (O.taken out.new) (L.taken log.old) (L.taken log.new)) }
+    ensures headline { OnOk result (RunHeadline R.given R.calls R.is_at_end setup readers.old readers.new (O.taken out.old) (O.taken out.new) (L.taken log.old) (L.taken log.new)) }
+    ensures ok { IfOk result (λ counts. RunsAs R.given R.calls R.is_at_end setup readers.old readers.new counts (O.taken out.old) (O.taken out.new) (L.taken log.old) (L.taken log.new)) }
     ensures reads { sum_by R.calls readers.new ≤ sum_by R.calls readers.old + max_reads }
     ensures out_failed { IsErrOf result (ConvertFault.Write Stream.Out) → Rises (O.failures out.old) (O.failures out.new) }
+    ensures out_kept { IfErr result (λ fault. fault ≢ ConvertFault.Write Stream.Out → O.failures out.new ≡ O.failures out.old) }
     ensures log_failed { IsErrOf result (ConvertFault.Write Stream.Log) → Rises (L.failures log.old) (L.failures log.new) }
+    ensures log_kept { IfErr result (λ fault. fault ≢ ConvertFault.Write Stream.Log → L.failures log.new ≡ L.failures log.old) }
     ensures breaks_off { IfErr result (λ fault. IsFrameFault fault
-        → BreaksOff R.given setup readers.old readers.new (O.taken out.old) (O.taken out.new) (L.taken log.old) (L.taken log.new)) }
+        → BreaksOff R.given R.calls R.is_at_end setup readers.old readers.new (O.taken out.old) (O.taken out.new) (L.taken log.old) (L.taken log.new)) }
     ensures read_failed { (link : ℕ) → IsErrOf result (ConvertFault.Read link)
-        → FailsReading R.given R.failures setup link readers.old readers.new (O.taken out.old) (O.taken out.new) (L.taken log.old) (L.taken log.new) }
+        → FailsReading R.given R.failures R.calls setup link readers.old readers.new (O.taken out.old) (O.taken out.new) (L.taken log.old) (L.taken log.new) }
     ensures endless { IsErrOf result ConvertFault.Endless
-        → StaysOpen R.given setup readers.old readers.new (O.taken out.old) (O.taken out.new) (L.taken log.old) (L.taken log.new)
+        → StaysOpen R.given R.is_at_end setup max_reads readers.old readers.new (O.taken out.old) (O.taken out.new) (L.taken log.old) (L.taken log.new)
         × HasCalled R.calls readers.old readers.new max_reads }
+    ensures untouched { IsErrOf result ConvertFault.Setup → (readers.new ≡ readers.old) × (out.new ≡ out.old) × (log.new ≡ log.old) }
+    ensures no_failed_read { ((link : ℕ) → ¬ (IsErrOf result (ConvertFault.Read link))) → SameFailures R.failures readers.old readers.new }
+    ensures out_same { OnOk result (O.failures out.new ≡ O.failures out.old) }
+    ensures log_same { OnOk result (L.failures log.new ≡ L.failures log.old) }
 {
     let mut converter = Converter::new(alloc, setup, readers.len())?;
     if let Err(fault) = read_all(&mut converter, readers, out, log, max_reads) {

@@ -1,6 +1,6 @@
 //! The records of the epochs that are closed, one after another.
 
-ghost use Rattle.std.specs.Prelude.{◌≡◌, ℕ, ◌<◌, [], ◌∷◌, List, All, false, is_some, OnOk, IfErr, IsErrOf};
+ghost use Rattle.std.specs.Prelude.{◌≡◌, ◌≢◌, ℕ, ◌<◌, [], ◌∷◌, List, All, false, is_some, OnOk, IfErr, IsErrOf};
 ghost use Rattle.rtk_obs.specs.Cell.{IsInRange};
 ghost use Rattle.rtk_obs.specs.declared.code.Code.{Code};
 ghost use Rattle.rtk_collect.specs.EpochCells.{EpochCells};
@@ -93,6 +93,7 @@ impl Records {
         ensures later { OnOk result ((later : ℕ) → epoch < later → AllBelow self.new.tracks later) }
         ensures same { OnOk result (O.failures out.new ≡ O.failures out.old) }
         ensures failed { IsErrOf result (ConvertFault.Write Stream.Out) → Rises (O.failures out.old) (O.failures out.new) }
+        ensures kept { IfErr result (λ fault. fault ≢ ConvertFault.Write Stream.Out → O.failures out.new ≡ O.failures out.old) }
         ensures fault { IfErr result IsOutFault }
     {
         let listed = setup.head().codes();

@@ -1,5 +1,5 @@
 //! Where bytes come from and where they go: the two traits, their fault, and two calls over them.
-ghost use Rattle.std.specs.Prelude.{◌≡◌, ◌≤◌, ◌<◌, List, ℕ, Option, Ok, length, take, is_err, OnOk, OnErr};
+ghost use Rattle.std.specs.Prelude.{◌≡◌, ◌≤◌, ◌<◌, List, ℕ, Option, Ok, length, take, slice_index_or, is_err, OnOk, OnErr};
 ghost use Rattle.rtk_frame.specs.Stream.{moved_count, with_more, count_after, failures_after, is_failed_write, Rises, TakesPart, ReadsOne};
 
 use thiserror::Error;
@@ -70,7 +70,8 @@ pub fn write_all<W: Sink>(sink: &mut W, bytes: &[u8]) -> Result<(), StreamFault>
     Ok(())
 }
 
-/// Reads once, from one of many sources; the others stay as they are.
+/// Reads once, from one of many sources; the others stay as they are. A read with room that gave
+/// nothing is the end of the source that was read.
 pub fn read_one<R: Source>(
     sources: &mut [R],
     link: usize,
@@ -79,6 +80,7 @@ pub fn read_one<R: Source>(
     requires link { link < length sources.old }
     ensures bound { moved_count result ≤ length buf.new }
     ensures read { ReadsOne R.given R.failures R.calls sources.old sources.new link result buf.new }
+    ensures at_end { (none : R) → 0 < length buf.old → result ≡ Ok 0 → R.is_at_end (slice_index_or sources.new link none) }
 {
     sources[link].read(buf)
 }

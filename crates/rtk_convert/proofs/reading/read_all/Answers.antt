@@ -1,7 +1,8 @@
-use Rattle.std.proofs.Common.{ℕ, inl, [], ◌∷◌, length, refl, sym, subst, ◌∙◌, arith}
+use Rattle.std.proofs.Common.{ℕ, ◌+◌, inl, [], ◌∷◌, length, refl, sym, subst, ◌∙◌, arith}
 use Rattle.rtk_convert.specs.History.{new_history, IsNextLink}
-use Rattle.rtk_convert.specs.Reading.{read_of, ReadsOn, BreaksOffOn}
+use Rattle.rtk_convert.specs.Reading.{read_of, ReadsOn, BreaksOffOn, HasCalled}
 use Rattle.rtk_convert.specs.Settings.{Settings}
+use Rattle.rtk_convert.proofs.EndsLemmas.{ends-new, ends-more, has-read-all}
 use Rattle.rtk_convert.proofs.NextLemmas.{are_links-length}
 use Rattle.rtk_convert.proofs.ReadLemmas.{called-more}
 use Rattle.rtk_convert.proofs.RunLemmas.{length-links, has_read-nothing, has_read-more, breaks-reading, fails-reading}
@@ -9,7 +10,7 @@ use Rattle.rtk_convert.proofs.reading.read_all.Goals as goal
 
 pub reads-init : goal.reads-init
 reads-init g c = record {
-  so_far = ([], new_history (length c.args.readers.now), has_read-nothing g.R.Source.given c.args.converter.now.conversion.settings c.args.readers.now (g.O.Sink.taken c.args.out.now) (g.L.Sink.taken c.args.log.now), c.requires.fresh);
+  so_far = ([], new_history (length c.args.readers.now), has_read-nothing g.R.Source.given c.args.converter.now.conversion.settings c.args.readers.now (g.O.Sink.taken c.args.out.now) (g.L.Sink.taken c.args.log.now), c.requires.fresh, refl, ends-new g.R.Source.is_at_end c.args.readers.now);
   settings = refl;
   room = refl;
   made = omega arith;
@@ -31,39 +32,58 @@ read_link-requires-clause-link g c =
 pub returns-in-Err-clause-err : goal.returns-in-Err-clause-err
 returns-in-Err-clause-err g c = λ frame.
     let so = c.reads.invariant.so_far in
-    breaks-reading g.R.Source.given c.args.converter.now.conversion.settings so.1 c.in-Some.link c.args.readers.now c.reads.readers c.read_link.new.readers so.0
+    breaks-reading g.R.Source.given g.R.Source.calls c.args.converter.now.conversion.settings so.1 c.in-Some.link c.args.readers.now c.reads.readers c.read_link.new.readers so.0
     (g.O.Sink.taken c.args.out.now) (g.O.Sink.taken c.reads.out) (g.O.Sink.taken c.read_link.new.out) (g.L.Sink.taken c.args.log.now) (g.L.Sink.taken c.reads.log) (g.L.Sink.taken c.read_link.new.log)
     so.2 (c.in-Some.ensures.next so.1 so.3)
     (subst (λ (s : Settings). BreaksOffOn g.R.Source.given s so.1 c.in-Some.link c.reads.readers c.read_link.new.readers (g.O.Sink.taken c.reads.out) (g.O.Sink.taken c.read_link.new.out) (g.L.Sink.taken c.reads.log) (g.L.Sink.taken c.read_link.new.log)) c.reads.invariant.settings (c.in-Err.ensures.err frame so.1 so.3))
+    (subst (λ (n : ℕ). HasCalled g.R.Source.calls c.args.readers.now c.read_link.new.readers (n + 1)) (sym so.4)
+    (called-more g.R.Source.calls c.args.readers.now c.reads.readers c.read_link.new.readers c.reads._made c.reads.invariant.called c.read_link.ensures.full c.read_link.ensures.called))
 
 pub returns-in-Err-clause-read_failed : goal.returns-in-Err-clause-read_failed
 returns-in-Err-clause-read_failed g c = λ link is_read.
     let so = c.reads.invariant.so_far in
     let n = c.in-Some.ensures.next so.1 so.3 in
     let both = c.in-Err.ensures.read_failed so.1 so.3 n.is_open link is_read in
-    fails-reading g.R.Source.given g.R.Source.failures c.args.converter.now.conversion.settings so.1 link c.args.readers.now c.reads.readers c.read_link.new.readers so.0
+    fails-reading g.R.Source.given g.R.Source.failures g.R.Source.calls c.args.converter.now.conversion.settings so.1 link c.args.readers.now c.reads.readers c.read_link.new.readers so.0
     (g.O.Sink.taken c.args.out.now) (g.O.Sink.taken c.reads.out) (g.O.Sink.taken c.read_link.new.out) (g.L.Sink.taken c.args.log.now) (g.L.Sink.taken c.reads.log) (g.L.Sink.taken c.read_link.new.log)
     so.2 (subst (λ (k : ℕ). IsNextLink so.1 k) (sym both.0) n) c.reads.invariant.reads_same both.1
+    (subst (λ (n : ℕ). HasCalled g.R.Source.calls c.args.readers.now c.read_link.new.readers (n + 1)) (sym so.4)
+    (called-more g.R.Source.calls c.args.readers.now c.reads.readers c.read_link.new.readers c.reads._made c.reads.invariant.called c.read_link.ensures.full c.read_link.ensures.called))
 
 pub reads-preserved : goal.reads-preserved
 reads-preserved g c =
     let so = c.reads.invariant.so_far in
-    let p : ReadsOn g.R.Source.given c.args.converter.now.conversion.settings so.1 c.in-Some.link c.reads.readers c.read_link.new.readers c.read_link.new.converter (g.O.Sink.taken c.reads.out) (g.O.Sink.taken c.read_link.new.out) (g.L.Sink.taken c.reads.log) (g.L.Sink.taken c.read_link.new.log) =
-    subst (λ (s : Settings). ReadsOn g.R.Source.given s so.1 c.in-Some.link c.reads.readers c.read_link.new.readers c.read_link.new.converter (g.O.Sink.taken c.reads.out) (g.O.Sink.taken c.read_link.new.out) (g.L.Sink.taken c.reads.log) (g.L.Sink.taken c.read_link.new.log)) c.reads.invariant.settings
+    let p : ReadsOn g.R.Source.given g.R.Source.is_at_end c.args.converter.now.conversion.settings so.1 c.in-Some.link c.reads.readers c.read_link.new.readers c.read_link.new.converter (g.O.Sink.taken c.reads.out) (g.O.Sink.taken c.read_link.new.out) (g.L.Sink.taken c.reads.log) (g.L.Sink.taken c.read_link.new.log) =
+    subst (λ (s : Settings). ReadsOn g.R.Source.given g.R.Source.is_at_end s so.1 c.in-Some.link c.reads.readers c.read_link.new.readers c.read_link.new.converter (g.O.Sink.taken c.reads.out) (g.O.Sink.taken c.read_link.new.out) (g.L.Sink.taken c.reads.log) (g.L.Sink.taken c.read_link.new.log)) c.reads.invariant.settings
     (c.in_default-read_link.ensures.ok so.1 so.3 (c.in-Some.ensures.next so.1 so.3)) in
     record {
       so_far = (
         read_of c.in-Some.link p.piece ∷ so.0,
         p.next,
-        has_read-more g.R.Source.given c.args.converter.now.conversion.settings so.1 c.in-Some.link c.args.readers.now c.reads.readers c.read_link.new.readers so.0 c.read_link.new.converter
+        has_read-more g.R.Source.given g.R.Source.is_at_end c.args.converter.now.conversion.settings so.1 c.in-Some.link c.args.readers.now c.reads.readers c.read_link.new.readers so.0 c.read_link.new.converter
             (g.O.Sink.taken c.args.out.now) (g.O.Sink.taken c.reads.out) (g.O.Sink.taken c.read_link.new.out) (g.L.Sink.taken c.args.log.now) (g.L.Sink.taken c.reads.log) (g.L.Sink.taken c.read_link.new.log) so.2 p,
         p.represents,
+        (let made = so.4 in omega (arith, made)),
+        ends-more g.R.Source.given g.R.Source.is_at_end c.args.converter.now.conversion.settings so.1 c.in-Some.link c.reads.readers c.read_link.new.readers c.read_link.new.converter
+            (g.O.Sink.taken c.reads.out) (g.O.Sink.taken c.read_link.new.out) (g.L.Sink.taken c.reads.log) (g.L.Sink.taken c.read_link.new.log) p so.5,
       );
       settings = c.read_link.ensures.settings ∙ c.reads.invariant.settings;
       room = c.read_link.auto.buf ∙ c.reads.invariant.room;
       made = let one = c.read_link.ensures.reads in let all = c.reads.invariant.made in omega (arith, one, all);
       called = called-more g.R.Source.calls c.args.readers.now c.reads.readers c.read_link.new.readers c.reads._made c.reads.invariant.called c.read_link.ensures.full c.read_link.ensures.called;
-      reads_same = λ k none. c.in_default-read_link.ensures.reads_same k none ∙ c.reads.invariant.reads_same k none;
+      reads_same = λ k none. c.in_default-read_link.ensures.no_failed_read (λ link e. cc) k none ∙ c.reads.invariant.reads_same k none;
       out_same = c.in_default-read_link.ensures.out_same ∙ c.reads.invariant.out_same;
       log_same = c.in_default-read_link.ensures.log_same ∙ c.reads.invariant.log_same;
     }
+
+pub returns-in_default-clause-ok : goal.returns-in_default-clause-ok
+returns-in_default-clause-ok g c =
+    let so = c.reads.invariant.so_far in
+    has-read-all g.R.Source.given g.R.Source.calls g.R.Source.is_at_end c.args.converter.now.conversion.settings c.args.readers.now c.reads.readers so.0 so.1 c.reads._made c.reads.converter
+    (g.O.Sink.taken c.args.out.now) (g.O.Sink.taken c.reads.out) (g.L.Sink.taken c.args.log.now) (g.L.Sink.taken c.reads.log) so.2 so.3 so.4 so.5 c.reads.invariant.called (c.in_default.ensures.next so.1 so.3)
+
+pub returns-in-None-clause-ok : goal.returns-in-None-clause-ok
+returns-in-None-clause-ok g c =
+    let so = c.reads.invariant.so_far in
+    has-read-all g.R.Source.given g.R.Source.calls g.R.Source.is_at_end c.args.converter.now.conversion.settings c.args.readers.now c.reads.readers so.0 so.1 c.reads._made c.reads.converter
+    (g.O.Sink.taken c.args.out.now) (g.O.Sink.taken c.reads.out) (g.L.Sink.taken c.args.log.now) (g.L.Sink.taken c.reads.log) so.2 so.3 so.4 so.5 c.reads.invariant.called (c.in-None.ensures.next so.1 so.3)

@@ -1,9 +1,9 @@
-use Rattle.std.proofs.Common.{◌≡◌, false, sym, subst}
+use Rattle.std.proofs.Common.{◌≡◌, false, sym, subst, ◌∙◌}
 use Rattle.rtk_convert.specs.Converter.{ConverterState, Ends}
 use Rattle.rtk_convert.specs.Failure.{IsFrameFault}
 use Rattle.rtk_convert.specs.Finish.{Finishes, FinishesInPart}
 use Rattle.rtk_convert.proofs.ClosingLemmas.{ends, ends-part}
-use Rattle.rtk_convert.proofs.WritingLemmas.{if_ok-map, if_err-map}
+use Rattle.rtk_convert.proofs.WritingLemmas.{on_ok-map, if_ok-map, if_err-map}
 use Rattle.rtk_convert.proofs.converter.Converter.finish.Goals as goal
 
 pub returns-clause-ok : goal.returns-clause-ok
@@ -24,3 +24,9 @@ returns-clause-err g c =
     c.in_default.ensures.settings c.in_default.ensures.ok
     (subst (λ (s : ConverterState). FinishesInPart s.conversion (g.O.Sink.taken c.close_all.new.out) (g.O.Sink.taken c.finish.new.out) (g.L.Sink.taken c.close_all.new.log) (g.L.Sink.taken c.finish.new.log)) c.closing.view_is (part going)))
     c.finish.ensures.err
+
+pub returns-clause-out_same : goal.returns-clause-out_same
+returns-clause-out_same g c = on_ok-map c.finish.result (λ same. same ∙ c.in_default.ensures.out_same) c.finish.ensures.out_same
+
+pub returns-clause-log_same : goal.returns-clause-log_same
+returns-clause-log_same g c = on_ok-map c.finish.result (λ same. same ∙ c.in_default.ensures.log_same) c.finish.ensures.log_same
