@@ -8,7 +8,7 @@ use Rattle.rtk_frame.proofs.StreamLemmas.{with_more-nil}
 use Rattle.rtk_convert.specs.declared.fault.ConvertFault.{ConvertFault}
 use Rattle.rtk_convert.specs.declared.fault.ConvertFault.TheVariants.{NoLink, LinkClosed}
 use Rattle.rtk_convert.specs.declared.link.Link.{Link}
-use Rattle.rtk_convert.specs.CallLaws.{IsRefused, IsAnswered, AreAnswered, CallsKeepPromise}
+use Rattle.rtk_convert.specs.CallLaws.{IsRefused, IsAnswered, AreAnswered, CallsKeepPromise, CallsWriteKept}
 use Rattle.rtk_convert.specs.Converter.{ConverterState, AreLinks, link_refusal, refusal, Represents, WritesOn, EndsAs, IsAfterClosingAll}
 use Rattle.rtk_convert.specs.FileOfArrivals.{kept_file, file_so_far}
 use Rattle.rtk_convert.specs.Finding.{Found, arrivals}
@@ -123,11 +123,20 @@ come s links first [] now o0 o1 l0 l1 r e p = record {
 come s links first (call ∷ before) now o0 o1 l0 l1 r e p =
     one-more s links call before p.0 now o0 p.1 o1 l0 p.2 l1 (come s links first before p.0 o0 p.1 l0 p.2 r e p.3) p.5 p.4
 
-pub calls-keep-promise : CallsKeepPromise
-calls-keep-promise s links first now calls counts o0 o1 o2 l0 l1 l2 r e p ends =
-    let c = come s links first calls now o0 o1 l0 l1 r e p in
-    let end = subst (λ (t : Settings). (last : History) × EndsAs t c.history last counts o1 o2 l1 l2) c.settings (ends c.history c.represents) in
+pub calls-write-kept : CallsWriteKept
+calls-write-kept s links calls counts o0 o2 l0 l2 p =
+    let c = come s links p.first calls p.now o0 p.out l0 p.log p.is_new p.settings p.answered in
+    let end = subst (λ (t : Settings). (last : History) × EndsAs t c.history last counts p.out o2 p.log l2) c.settings (p.ended c.history c.represents) in
     let few = length-calls s links calls c.history c.come_to in
-    headline-of s links calls end.0.found o0 o2 l0 l2 (c.history, end.0, c.come_to, subst (λ (n : ℕ). IsAfterClosingAll s c.history n end.0) few end.1.closed, refl)
-    (written o0 o1 o2 (file_so_far s (arrivals c.history.found)) (kept_file s (arrivals end.0.found)) c.out_is end.1.out)
-    (written l0 l1 l2 (lines s.window c.history.found) (report_of s end.0.found) c.log_is end.1.log)
+    record {
+      found = end.0.found;
+      of_all_pieces = (c.history, end.0, c.come_to, subst (λ (n : ℕ). IsAfterClosingAll s c.history n end.0) few end.1.closed, refl);
+      out = written o0 p.out o2 (file_so_far s (arrivals c.history.found)) (kept_file s (arrivals end.0.found)) c.out_is end.1.out;
+      log = written l0 p.log l2 (lines s.window c.history.found) (report_of s end.0.found) c.log_is end.1.log;
+      counts_are = end.1.counts_are;
+    }
+
+pub calls-keep-promise : CallsKeepPromise
+calls-keep-promise s links calls counts o0 o2 l0 l2 p =
+    let w = calls-write-kept s links calls counts o0 o2 l0 l2 p in
+    headline-of s links calls w.found o0 o2 l0 l2 w.of_all_pieces w.out w.log

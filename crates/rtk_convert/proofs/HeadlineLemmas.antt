@@ -30,6 +30,7 @@ use Rattle.rtk_convert.specs.ReportText.{late_line, count_lines}
 use Rattle.rtk_convert.specs.Settings.{Settings}
 use Rattle.rtk_convert.specs.State.{found_on}
 use Rattle.rtk_convert.proofs.ArrivalLawsLemmas.{late-leave}
+use Rattle.rtk_convert.proofs.PayloadLemmas.{calls-table}
 
 -- ---- the file of the set
 
@@ -153,6 +154,7 @@ headline-of s links calls found out_old out_new log_old log_new all out log = re
   found = found;
   of_all_pieces = all;
   file_of_the_set = λ good. (kept_file s (arrivals found), out, file-of-set s found good);
+  file_of_a_table = λ settings. (kept_file s (arrivals found), out, calls-table s links calls found settings all);
   late_are_listed = late-listed s found log_old log_new log;
   late_change_nothing = late-nothing s found;
 }

@@ -20,6 +20,7 @@ pub mod NextLemmas
 pub mod ReadLemmas
 pub mod RunLemmas
 pub mod EndsLemmas
+pub mod PayloadLemmas
 pub mod HeadlineLemmas
 pub mod CallsLemmas
 pub mod HistoryLemmas

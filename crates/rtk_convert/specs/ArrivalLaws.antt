@@ -3,10 +3,10 @@ use Rattle.std.specs.Prelude.{◌≡◌, ◌↔◌, ℕ, List, [], ◌∷◌, �
 use Rattle.rtk_collect.specs.Arrival.{Arrival}
 use Rattle.rtk_collect.specs.Accepted.{kept, closed, IsTaken, IsConsistent}
 use Rattle.rtk_collect.specs.Laws.{without_late}
-use Rattle.rtk_rinex.specs.Table.{Table, IsTable, table_text}
 use Rattle.rtk_convert.specs.declared.arrival.Finding.{Finding}
 use Rattle.rtk_convert.specs.declared.arrival.Finding.TheVariants.{OtherMessage, Refused, Foreign, Arrived}
 use Rattle.rtk_convert.specs.File.{first_time, header_of}
+use Rattle.rtk_convert.specs.FileLaws.{IsTextOfTable}
 use Rattle.rtk_convert.specs.FileOfArrivals.{site_of_kept, kept_file, file_so_far}
 use Rattle.rtk_convert.specs.Finding.{ComesTo, Found, arrivals}
 use Rattle.rtk_convert.specs.Settings.{Settings, IsSettings}
@@ -60,7 +60,7 @@ HasPayload s f = (payload : List ℕ) × ComesTo s payload f.finding
 -- the file of found frames, whatever their payloads, is the text of a well-formed table, which the checker accepts
 abbrev pub KeptFileIsTable : Type 0
 KeptFileIsTable =
-    (s : Settings) (found : List Found) → IsSettings s → All (HasPayload s) found → (t : Table) × IsTable t × (kept_file s (arrivals found) ≡ table_text t)
+    (s : Settings) (found : List Found) → IsSettings s → All (HasPayload s) found → IsTextOfTable (kept_file s (arrivals found))
 
 -- what a frame adds goes to the file or to the report, never to both
 abbrev pub FrameAddsToOne : Type 0

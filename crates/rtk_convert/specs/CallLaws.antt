@@ -1,11 +1,16 @@
--- The promise for any list of calls, by the contracts of `feed`, `close` and `finish`.
+-- The promise for any list of calls, and what they write, by the contracts of `feed`, `close` and `finish`.
 use Rattle.std.specs.Prelude.{◌≡◌, ◌⊎◌, ℕ, List, [], ◌∷◌, Option, None, Some}
+use Rattle.rtk_frame.specs.Stream.{with_more}
 use Rattle.rtk_convert.specs.declared.counts.Counts.{Counts}
 use Rattle.rtk_convert.specs.declared.fault.ConvertFault.TheVariants.{NoLink, LinkClosed}
 use Rattle.rtk_convert.specs.Converter.{ConverterState, Represents, refusal, Feeds, Closes, Ends}
-use Rattle.rtk_convert.specs.Headline.{Call, Feed, Close, Headline}
+use Rattle.rtk_convert.specs.FileLaws.{IsTextOfTable}
+use Rattle.rtk_convert.specs.FileOfArrivals.{kept_file}
+use Rattle.rtk_convert.specs.Finding.{Found, arrivals}
+use Rattle.rtk_convert.specs.Finish.{all_counts, report_of}
+use Rattle.rtk_convert.specs.Headline.{Call, Feed, Close, FindAll, Headline}
 use Rattle.rtk_convert.specs.History.{new_history}
-use Rattle.rtk_convert.specs.Settings.{Settings}
+use Rattle.rtk_convert.specs.Settings.{Settings, IsSettings}
 
 -- a call is refused, since there is no such link or it is closed, and nothing comes of it
 pub record IsRefused (old : ConverterState) (link : ℕ) (new : ConverterState) (out_old out_new log_old log_new : Option (List ℕ)) : Type 0 where
@@ -28,9 +33,38 @@ AreAnswered first (call ∷ before) now out_old out_new log_old log_new =
     (mid : ConverterState) × (out : Option (List ℕ)) × (log : Option (List ℕ)) × AreAnswered first before mid out_old out log_old log
     × IsAnswered mid call now out out_new log log_new × (now.conversion.settings ≡ mid.conversion.settings)
 
--- any calls on a new converter, and then its end, keep the promise
+-- any calls on a new converter, and then its end, which answers the counts
+pub record IsConversionBy (s : Settings) (links : ℕ) (calls : List Call) (counts : Counts) (out_old out_new log_old log_new : Option (List ℕ)) : Type 0 where
+  pub first : ConverterState
+  pub now : ConverterState
+  pub out : Option (List ℕ)
+  pub log : Option (List ℕ)
+  pub is_new : Represents first (new_history links)
+  pub settings : first.conversion.settings ≡ s
+  pub answered : AreAnswered first calls now out_old out log_old log
+  pub ended : Ends now counts out out_new log log_new
+
+-- they keep the promise
 abbrev pub CallsKeepPromise : Type 0
 CallsKeepPromise =
-    (s : Settings) (links : ℕ) (first now : ConverterState) (calls : List Call) (counts : Counts) (out_old out out_new log_old log log_new : Option (List ℕ))
-    → Represents first (new_history links) → first.conversion.settings ≡ s → AreAnswered first calls now out_old out log_old log
-    → Ends now counts out out_new log log_new → Headline s links calls out_old out_new log_old log_new
+    (s : Settings) (links : ℕ) (calls : List Call) (counts : Counts) (out_old out_new log_old log_new : Option (List ℕ))
+    → IsConversionBy s links calls counts out_old out_new log_old log_new → Headline s links calls out_old out_new log_old log_new
+
+-- whatever bodies equal keys carry, the file written is that of what is kept, of each key the first that came while its
+-- epoch was open; the report and the counts are those of all frames found, each counted in one class
+pub record WritesKept (s : Settings) (links : ℕ) (calls : List Call) (counts : Counts) (out_old out_new log_old log_new : Option (List ℕ)) : Type 0 where
+  pub found : List Found
+  pub of_all_pieces : FindAll s links calls found
+  pub out : out_new ≡ with_more out_old (kept_file s (arrivals found))
+  pub log : log_new ≡ with_more log_old (report_of s found)
+  pub counts_are : counts ≡ all_counts s found
+
+-- such calls write this
+abbrev pub CallsWriteKept : Type 0
+CallsWriteKept =
+    (s : Settings) (links : ℕ) (calls : List Call) (counts : Counts) (out_old out_new log_old log_new : Option (List ℕ))
+    → IsConversionBy s links calls counts out_old out_new log_old log_new → WritesKept s links calls counts out_old out_new log_old log_new
+
+-- of good settings, the file of all frames that any calls find is the text of a well-formed table
+abbrev pub CallsComeToTable : Type 0
+CallsComeToTable = (s : Settings) (links : ℕ) (calls : List Call) (found : List Found) → IsSettings s → FindAll s links calls found → IsTextOfTable (kept_file s (arrivals found))

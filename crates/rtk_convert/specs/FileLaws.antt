@@ -22,8 +22,12 @@ pub record IsGoodEpoch (e : EpochCells) : Type 0 where
   pub time : IsMoment e.epoch
   pub cells : All IsInRange e.cells
 
--- the file of every set is the text of a well-formed table, which the checker accepts
+-- a text is that of a well-formed table, which the checker accepts
+abbrev pub IsTextOfTable : List ℕ → Type 0
+IsTextOfTable text = (t : Table) × IsTable t × (text ≡ table_text t)
+
+-- so is the file of every set
 abbrev pub FileIsTable : Type 0
 FileIsTable =
     (s : Settings) (site : Site) (epochs : List EpochCells) → IsSettings s → IsSite site → Fall epochs → All IsGoodEpoch epochs
-    → (t : Table) × IsTable t × (file_of s site epochs ≡ table_text t)
+    → IsTextOfTable (file_of s site epochs)

@@ -16,6 +16,7 @@ use Rattle.rtk_collect.specs.Search.{Falls}
 use Rattle.rtk_convert.specs.declared.arrival.Finding.TheVariants.{Arrived}
 use Rattle.rtk_convert.specs.Converter.{IsAfterClosing, IsAfterClosingAll}
 use Rattle.rtk_convert.specs.File.{file_of}
+use Rattle.rtk_convert.specs.FileLaws.{IsTextOfTable}
 use Rattle.rtk_convert.specs.FileOfArrivals.{site_of_stations, kept_file}
 use Rattle.rtk_convert.specs.Finding.{Found, arrivals}
 use Rattle.rtk_convert.specs.History.{History, new_history, IsOpen, IsAfterFeed}
@@ -23,7 +24,7 @@ use Rattle.rtk_convert.specs.Reading.{HasCalled}
 use Rattle.rtk_convert.specs.Reads.{Read, Gave, IsHistoryOf, AllClosed, AllAtEnd}
 use Rattle.rtk_convert.specs.Report.{lines}
 use Rattle.rtk_convert.specs.ReportText.{late_line}
-use Rattle.rtk_convert.specs.Settings.{Settings}
+use Rattle.rtk_convert.specs.Settings.{Settings, IsSettings}
 use Rattle.rtk_convert.specs.State.{found_on}
 
 -- ---- "for every list of pieces fed over any links"
@@ -122,12 +123,13 @@ pub record LateChangeNothing (s : Settings) (found : List Found) : Type 0 where
   pub same_set : (a : Arrival) → IsTaken s.window a (without_late s.window (arrivals found)) ↔ CameInTime s found a
   pub same_file : kept_file s (without_late s.window (arrivals found)) ≡ kept_file s (arrivals found)
 
--- ---- the whole sentence
+-- ---- the whole sentence; and with good settings, as every setup's are, the file written is one that the checker accepts
 
 pub record Headline (s : Settings) (links : ℕ) (calls : List Call) (out_old out_new log_old log_new : Option (List ℕ)) : Type 0 where
   pub found : List Found
   pub of_all_pieces : FindAll s links calls found
   pub file_of_the_set : EqualKeysCarryEqualBodies s found → IsWritten out_old out_new (IsFileOf s (CameInTime s found))
+  pub file_of_a_table : IsSettings s → IsWritten out_old out_new IsTextOfTable
   pub late_are_listed : LateAreListed s found log_old log_new
   pub late_change_nothing : LateChangeNothing s found
 
