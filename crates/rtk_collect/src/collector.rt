@@ -1,26 +1,19 @@
 //! The collector: a window over the epochs of one station's messages.
 
-ghost use Rattle.std.specs.Prelude.{◌≡◌, ◌≤◌, List, [], length, IfOk, OnErr, None, All};
-ghost use Rattle.rtk_message.specs.Arp1005 as arp1005_spec;
-ghost use Rattle.rtk_message.specs.Arp1006 as arp1006_spec;
-ghost use Rattle.rtk_obs.specs.Cell.{IsInRange};
-ghost use Rattle.rtk_message.specs.declared.message.Message.TheVariants.{Arp1005 as MessageArp1005, Arp1006 as MessageArp1006};
-ghost use Rattle.rtk_collect.specs.Arrival.{Arrival, At};
-ghost use Rattle.rtk_collect.specs.Observed.{IsAnswerOf, Observes, WouldTake};
-ghost use Rattle.rtk_collect.specs.Collector.{Window, Represents};
+ghost use Rattle.std.specs.Prelude.{◌≡◌, ◌≤◌, List, [], length, IfOk, OnErr, None};
+ghost use Rattle.rtk_collect.specs.Arrival.{Arrival};
+ghost use Rattle.rtk_collect.specs.Collector.{Represents};
 ghost use Rattle.rtk_collect.specs.Position.{IsPosition, IsPositionOf};
 ghost use Rattle.rtk_collect.specs.Offered.{Meets, ClosesBelow, ClosesLeast, LeastNeverFalls, WouldBeTaken};
 
 use crate::dated::Dated;
-use crate::epoch_set::{EpochSet, Joined};
 use crate::left::Left;
 use crate::offers::Offer;
-use crate::stations::{Stations, offer_station, position};
-use crate::window::{close_least, has_epoch, join_at, open_at, place};
-use rtk_message::{Arp1005, Arp1006, Message};
-use rtk_obs::{CellEntry, GpsMs, Position, cells_1004, cells_1074};
+use crate::open_epochs::OpenEpochs;
+use arrayvec::ArrayVec;
+use rtk_message::Message;
+use rtk_obs::{CellEntry, Position, put_cells_1004, put_cells_1074};
 use std::alloc::{AllocError, Global};
-use std::collections::VecDeque;
 use std::marker::Model;
 
 /// A window over the greatest epochs of one station's messages, with their kept cells, and the
@@ -29,21 +22,18 @@ use std::marker::Model;
 /// It holds at most as many epochs as it has places, each with at most 1,024 cells.
 #[derive(Drop)]
 pub struct Collector {
-    alloc: Global,
-    window: usize,
-    sets: VecDeque<EpochSet>,
-    stations: Stations,
+    epochs: OpenEpochs,
+    // Room for the cells of the message in hand.
+    room: ArrayVec<CellEntry, 64>,
 }
 
 // Clauses see the window: its places, its epochs from the greatest on, the 1005 and the 1006.
 impl Model for Collector {
-    ghost use Rattle.rtk_collect.specs.Collector.{Window, IsWindow};
+    ghost use Rattle.rtk_collect.specs.Collector.{Window};
 
     ghost Value = { Window };
 
-    ghost view = { λ c. record { size = c.window; sets = c.sets.items; arp1005 = c.stations.arp1005; arp1006 = c.stations.arp1006 } };
-
-    ghost invariant = { λ c. IsWindow (record { size = c.window; sets = c.sets.items; arp1005 = c.stations.arp1005; arp1006 = c.stations.arp1006 }) };
+    ghost view = { λ c. c.epochs };
 }
 
 impl Collector {
@@ -54,13 +44,8 @@ impl Collector {
         ensures { result ≡ record { size = window; sets = []; arp1005 = None; arp1006 = None } }
     {
         Collector {
-            alloc,
-            window,
-            sets: VecDeque::new(alloc),
-            stations: Stations {
-                arp1005: None,
-                arp1006: None,
-            },
+            epochs: OpenEpochs::new(alloc, window),
+            room: ArrayVec::new(),
         }
     }
 
@@ -82,73 +67,17 @@ impl Collector {
         match &dated.message {
             Message::Obs1004(message) => {
                 let Some(epoch) = epoch else { unreachable!() };
-                self.offer_cells(epoch, cells_1004(message).as_slice())
+                put_cells_1004(message, &mut self.room);
+                self.epochs.offer_cells(epoch, self.room.as_slice())
             }
-            Message::Arp1005(message) => Ok(self.offer_1005(*message)),
-            Message::Arp1006(message) => Ok(self.offer_1006(*message)),
+            Message::Arp1005(message) => Ok(self.epochs.offer_1005(*message)),
+            Message::Arp1006(message) => Ok(self.epochs.offer_1006(*message)),
             Message::Msm1074(message) => {
                 let Some(epoch) = epoch else { unreachable!() };
-                self.offer_cells(epoch, cells_1074(message).as_slice())
+                put_cells_1074(message, &mut self.room);
+                self.epochs.offer_cells(epoch, self.room.as_slice())
             }
         }
-    }
-
-    // Takes a 1005, if it is the first and the window isn't full. It takes no memory.
-    fn offer_1005(&mut self, message: Arp1005) -> Offer
-        requires { arp1005_spec.IsValid message }
-        ensures size { self.new.size ≡ self.old.size }
-        ensures bound { length self.new.sets ≤ self.new.size }
-        ensures sets { self.new.sets ≡ self.old.sets }
-        ensures answer { Meets self.old (At None (MessageArp1005 message)) result self.new }
-        ensures closed { ClosesBelow result self.new.sets }
-        ensures least_closes { ClosesLeast self.old.size self.old.sets result }
-    {
-        let full = self.sets.len() == self.window;
-        offer_station(&mut self.stations.arp1005, message, full)
-    }
-
-    // Takes a 1006, if it is the first and the window isn't full. It takes no memory.
-    fn offer_1006(&mut self, message: Arp1006) -> Offer
-        requires { arp1006_spec.IsValid message }
-        ensures size { self.new.size ≡ self.old.size }
-        ensures bound { length self.new.sets ≤ self.new.size }
-        ensures sets { self.new.sets ≡ self.old.sets }
-        ensures answer { Meets self.old (At None (MessageArp1006 message)) result self.new }
-        ensures closed { ClosesBelow result self.new.sets }
-        ensures least_closes { ClosesLeast self.old.size self.old.sets result }
-    {
-        let full = self.sets.len() == self.window;
-        offer_station(&mut self.stations.arp1006, message, full)
-    }
-
-    // Takes the new cells of an epoch, or opens it.
-    fn offer_cells(&mut self, epoch: GpsMs, cells: &[CellEntry]) -> Result<Offer, AllocError>
-        requires few { length cells.now ≤ 64 }
-        requires range { All IsInRange cells.now }
-        ensures size { self.new.size ≡ self.old.size }
-        ensures bound { length self.new.sets ≤ self.new.size }
-        ensures answer { IfOk result (λ offer. Observes self.old epoch cells.now offer self.new) }
-        ensures closed { IfOk result (λ offer. ClosesBelow offer self.new.sets) }
-        ensures least_closes { IfOk result (λ offer. ClosesLeast self.old.size self.old.sets offer) }
-        ensures least { LeastNeverFalls self.old self.new }
-        ensures err { OnErr result (self.new ≡ self.old) }
-        ensures refused { OnErr result (WouldTake self.old epoch cells.now) }
-    {
-        let at = place(&self.sets, epoch);
-        if has_epoch(&self.sets, at, epoch) {
-            let Ok(joined) = join_at(&mut self.sets, at, cells) else {
-                return Err(AllocError);
-            };
-            return Ok(answer_of(joined));
-        }
-        if at == self.window {
-            return Ok(Offer::Late);
-        }
-        let Ok(conflicts) = open_at(&mut self.sets, at, self.alloc, epoch, cells) else {
-            return Err(AllocError);
-        };
-        let closed = close_least(&mut self.sets, self.window);
-        Ok(Offer::Taken { closed, conflicts })
     }
 
     /// The position of the first 1006, else of the first 1005, else zeros, with the height of the
@@ -157,7 +86,7 @@ impl Collector {
         ensures position { IsPosition self.now.arp1005 self.now.arp1006 result }
         ensures kept { (before : List Arrival) → Represents self.now before → IsPositionOf self.now.size before result }
     {
-        position(self.stations)
+        self.epochs.station()
     }
 
     /// Ends the collection: the epochs of the window are left.
@@ -166,23 +95,6 @@ impl Collector {
         ensures arp1005 { result.arp1005 ≡ self.arp1005 }
         ensures arp1006 { result.arp1006 ≡ self.arp1006 }
     {
-        Left::new(self.sets, self.stations)
+        self.epochs.close()
     }
-}
-
-// What became of cells that joined an epoch of the window.
-fn answer_of(joined: Joined) -> Offer
-    ensures { IsAnswerOf joined.fresh joined.conflicts result }
-{
-    let conflicts = joined.conflicts;
-    if joined.fresh > 0 {
-        return Offer::Taken {
-            closed: None,
-            conflicts,
-        };
-    }
-    if conflicts.is_empty() {
-        return Offer::Repeat;
-    }
-    Offer::Conflict { conflicts }
 }

@@ -9,6 +9,7 @@ mod laws;
 mod left;
 mod merging;
 mod offers;
+mod open_epochs;
 mod stations;
 mod window;
 

@@ -1,6 +1,6 @@
 -- The cells of a 1074: how many there are, the widths of their fields, and the ranges of their values.
 use Rattle.std.proofs.Common.{◌≡◌, ℕ, zero, suc, ◌+◌, ◌*◌, ◌^◌, ◌<◌, ◌≤◌, [], ◌∷◌, ◌++◌, List, length, take, get_or, map, Option, Some, None, refl, sym, ◌∙◌, subst, arith, nat_eq, true, false, Bool, cond, count_ones}
-use Rattle.std.specs.Prelude.{IfSome, option_to_list}
+use Rattle.std.specs.Prelude.{IfSome}
 use Rattle.std.specs.List.{All, AllByRecursion}
 use Rattle.std.proofs.lemmas.List.{length-map}
 use Rattle.std.proofs.lemmas.List.Elements.{All-from_recursion, All-get_or}
@@ -146,6 +146,20 @@ cells_in_range m h =
     (λ k s below. in_range_if (is_satellite (satellite_in (satellites_of m) s)) (satellite_in (satellites_of m) s) (coded_entry m k s.row (satellite_in (satellites_of m) s) (code_of_signal s.signal)) refl
     (λ is. coded_in_range m k s.row (satellite_in (satellites_of m) s) (code_of_signal s.signal) is (cnr_fits m h))))
 
-pub at_most_one : (o : Option CellEntry) → length (option_to_list o) ≤ 1
-at_most_one None = omega arith
-at_most_one (Some e) = omega arith
+-- ---- a slot has one entry at most
+
+coded_few : (m : Msm1074) (k row satellite : ℕ) (code : Option Code) → length (coded_entry m k row satellite code) ≤ 1
+coded_few m k row satellite None = omega arith
+coded_few m k row satellite (Some code) = omega arith
+
+few_if : (b : Bool) (es : List CellEntry) → length es ≤ 1 → length (cond b es []) ≤ 1
+few_if true es few = few
+few_if false es few = omega arith
+
+pub at_most_one : (m : Msm1074) (k : ℕ) (s : Slot) → length (slot_entry m k s) ≤ 1
+at_most_one m k s =
+    few_if (is_satellite (satellite_in (satellites_of m) s)) (coded_entry m k s.row (satellite_in (satellites_of m) s) (code_of_signal s.signal))
+    (coded_few m k s.row (satellite_in (satellites_of m) s) (code_of_signal s.signal))
+
+pub few_cells : (m : Msm1074) → IsValid m → length (cells_of_1074 m) ≤ 64
+few_cells m h = omega (arith, join_from-length (slot_entry m) 1 (at_most_one m) 0 (slots_of m), few_slots m h)

@@ -1,6 +1,6 @@
 //! The cells of a 1004.
 
-ghost use Rattle.std.specs.Prelude.{◌≡◌, ◌^◌, ◌≤◌, ◌<◌, not, ◌&&◌, length, negsuc, unsigned_abs};
+ghost use Rattle.std.specs.Prelude.{◌≡◌, ◌^◌, ◌≤◌, ◌<◌, not, ◌&&◌, [], length, negsuc, unsigned_abs};
 ghost use Rattle.std.specs.List.{All, list_any};
 ghost use Rattle.rtk_message.specs.Obs1004.{IsValid};
 ghost use Rattle.rtk_obs.specs.Cell.{is_satellite, entry_of, IsInRange, AreDistinct};
@@ -160,31 +160,44 @@ fn is_used(others: &[Satellite], number: u8) -> bool
     is_gps(number) && !has_entry(others, number)
 }
 
-// The cells of the satellites of a 1004.
-fn satellite_cells(satellites: &[Satellite]) -> ArrayVec<CellEntry, 62>
+// Adds the cells of the satellites of a 1004.
+fn push_satellites(found: &mut ArrayVec<CellEntry, 64>, satellites: &[Satellite])
+    requires empty { found.old.items ≡ [] }
     requires few { length satellites.now ≤ 31 }
     requires fields { All HasWidths satellites.now }
-    ensures cells { result.items ≡ cells_of_1004 satellites.now }
-    ensures few { length result.items ≤ 62 }
+    ensures cells { found.new.items ≡ cells_of_1004 satellites.now }
+    ensures few { length found.new.items ≤ 62 }
 {
-    let mut found = ArrayVec::new();
     for (i, satellite) in satellites.iter().enumerate() {
         if is_used(&satellites[..i], satellite.satellite) {
             found.push(l1_entry(satellite));
             found.push(l2_entry(satellite));
         }
     }
-    found
+}
+
+/// Puts the cells of a 1004 into a list, in place of what it has: see `cells_1004`.
+pub fn put_cells_1004(message: &Obs1004, found: &mut ArrayVec<CellEntry, 64>)
+    requires { IsValid message.now }
+    ensures cells { found.new.items ≡ cells_of_1004 message.now.satellites }
+    ensures ranges { All IsInRange found.new.items }
+    ensures distinct { AreDistinct found.new.items }
+    ensures few { length found.new.items ≤ 62 }
+{
+    found.clear();
+    push_satellites(found, message.satellites.as_slice());
 }
 
 /// The cells of a 1004 in the order of the message: those of L1 and L2 of each satellite from 1 to
 /// 32, by its first entry.
-pub fn cells_1004(message: &Obs1004) -> ArrayVec<CellEntry, 62>
+pub fn cells_1004(message: &Obs1004) -> ArrayVec<CellEntry, 64>
     requires { IsValid message.now }
     ensures cells { result.items ≡ cells_of_1004 message.now.satellites }
     ensures ranges { All IsInRange result.items }
     ensures distinct { AreDistinct result.items }
     ensures few { length result.items ≤ 62 }
 {
-    satellite_cells(message.satellites.as_slice())
+    let mut found = ArrayVec::new();
+    put_cells_1004(message, &mut found);
+    found
 }

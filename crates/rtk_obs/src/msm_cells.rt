@@ -1,6 +1,6 @@
 //! The cells of a 1074.
 
-ghost use Rattle.std.specs.Prelude.{◌≡◌, ◌+◌, ◌^◌, ◌≤◌, ◌<◌, ◌++◌, length, slice_index, option_to_list, IfSome, negsuc, unsigned_abs};
+ghost use Rattle.std.specs.Prelude.{◌≡◌, ◌+◌, ◌^◌, ◌≤◌, ◌<◌, ◌++◌, [], length, slice_index, IfSome, negsuc, unsigned_abs};
 ghost use Rattle.std.specs.List.{All};
 ghost use Rattle.rtk_message.specs.Msm1074.{IsValid, satellites, cells};
 ghost use Rattle.rtk_obs.specs.Cell.{IsInRange, AreDistinct};
@@ -32,7 +32,7 @@ const STRENGTH_STEP: u32 = 1000;
 #[derive(Clone, Copy, Default)]
 struct Slot {
     /// The place of the satellite among those of the message, from 0.
-    row: usize,
+    row: u8,
     /// The signal identifier (DF395).
     signal: u8,
 }
@@ -61,7 +61,7 @@ fn signal_code(signal: u8) -> Option<Code>
 }
 
 // Adds the cells of a row of the cell mask.
-fn push_row(slots: &mut ArrayVec<Slot, 64>, signals: &[u8], row: usize, bits: u32)
+fn push_row(slots: &mut ArrayVec<Slot, 64>, signals: &[u8], row: u8, bits: u32)
     requires few { length signals.now ≤ 32 }
     requires fits { bits < 2 ^ length signals.now }
     requires room { length slots.old.items + length (row_slots signals.now row bits) ≤ 64 }
@@ -94,7 +94,7 @@ fn slots(message: &Msm1074) -> ArrayVec<Slot, 64>
     let rows = message.cell_mask.as_slice();
     let mut slots = ArrayVec::new();
     for (row, bits) in rows.iter().enumerate() {
-        push_row(&mut slots, signals, row, *bits);
+        push_row(&mut slots, signals, row as u8, *bits);
     }
     slots
 }
@@ -190,53 +190,60 @@ fn msm_cell(message: &Msm1074, cell: usize, row: usize, band: Band) -> Cell
     }
 }
 
-// The entry of a cell, where its satellite is 1 to 32 and its signal has a code.
-fn slot_cell(message: &Msm1074, numbers: &[u8], cell: usize, slot: Slot) -> Option<CellEntry>
+// Adds the cell with this place, where its satellite is 1 to 32 and its signal has a code.
+fn push_cell(
+    found: &mut ArrayVec<CellEntry, 64>,
+    message: &Msm1074,
+    numbers: &[u8],
+    cell: usize,
+    slot: Slot,
+)
     requires valid { IsValid message.now }
     requires numbers { numbers.now ≡ satellites_of message.now }
     requires cell { cell < cells message.now }
     requires row { slot.row < satellites message.now.header }
-    ensures { option_to_list result ≡ slot_entry message.now cell slot }
+    requires room { length found.old.items < 64 }
+    ensures { found.new.items ≡ found.old.items ++ slot_entry message.now cell slot }
 {
-    let satellite = numbers[slot.row];
+    let row = usize::from(slot.row);
+    let satellite = numbers[row];
     if !is_gps(satellite) {
-        return None;
+        return;
     }
-    match signal_code(slot.signal) {
-        Some(code) => Some(CellEntry {
+    if let Some(code) = signal_code(slot.signal) {
+        found.push(CellEntry {
             satellite,
             code,
-            cell: msm_cell(message, cell, slot.row, code.band()),
-        }),
-        None => None,
+            cell: msm_cell(message, cell, row, code.band()),
+        });
     }
 }
 
-// Adds an entry, if there is one.
-fn push_entry(found: &mut ArrayVec<CellEntry, 64>, entry: Option<CellEntry>)
-    requires { length found.old.items < 64 }
-    ensures { found.new.items ≡ found.old.items ++ option_to_list entry }
-{
-    if let Some(entry) = entry {
-        found.push(entry);
-    }
-}
-
-// The cells of the message whose satellite and signal RINEX has.
-fn coded_cells(message: &Msm1074) -> ArrayVec<CellEntry, 64>
-    requires { IsValid message.now }
-    ensures { result.items ≡ cells_of_1074 message.now }
+// Adds the cells of the message whose satellite and signal RINEX has.
+fn push_cells(found: &mut ArrayVec<CellEntry, 64>, message: &Msm1074)
+    requires valid { IsValid message.now }
+    requires empty { found.old.items ≡ [] }
+    ensures { found.new.items ≡ cells_of_1074 message.now }
 {
     let number_list = places_of_bits(message.header.satellite_mask, 64);
     let numbers = number_list.as_slice();
     let slot_list = slots(message);
     let slots = slot_list.as_slice();
-    let mut found = ArrayVec::new();
     for (cell, slot) in slots.iter().enumerate() {
-        let entry = slot_cell(message, numbers, cell, *slot);
-        push_entry(&mut found, entry);
+        push_cell(found, message, numbers, cell, *slot);
     }
-    found
+}
+
+/// Puts the cells of a 1074 into a list, in place of what it has: see `cells_1074`.
+pub fn put_cells_1074(message: &Msm1074, found: &mut ArrayVec<CellEntry, 64>)
+    requires { IsValid message.now }
+    ensures cells { found.new.items ≡ cells_of_1074 message.now }
+    ensures ranges { All IsInRange found.new.items }
+    ensures distinct { AreDistinct found.new.items }
+    ensures few { length found.new.items ≤ 64 }
+{
+    found.clear();
+    push_cells(found, message);
 }
 
 /// The cells of a 1074 in the order of the message: those of satellites from 1 to 32 and of the
@@ -248,5 +255,7 @@ pub fn cells_1074(message: &Msm1074) -> ArrayVec<CellEntry, 64>
     ensures distinct { AreDistinct result.items }
     ensures few { length result.items ≤ 64 }
 {
-    coded_cells(message)
+    let mut found = ArrayVec::new();
+    put_cells_1074(message, &mut found);
+    found
 }

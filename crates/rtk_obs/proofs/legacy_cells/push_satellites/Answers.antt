@@ -2,7 +2,7 @@ use Rattle.std.proofs.Common.{arith}
 use Rattle.std.proofs.lemmas.Grind.{common_steps}
 use Rattle.rtk_obs.specs.LegacyCells.{first_entries}
 use Rattle.rtk_obs.proofs.LegacyLemmas.{cells-used, cells-unused}
-use Rattle.rtk_obs.proofs.legacy_cells.satellite_cells.Goals as goal
+use Rattle.rtk_obs.proofs.legacy_cells.push_satellites.Goals as goal
 
 pub loop-i-init : goal.loop-i-init
 unfolding first_entries

@@ -7,7 +7,7 @@ use Rattle.rtk_collect.specs.Offered.{ClosesLeast, LeastNeverFalls}
 use Rattle.rtk_collect.proofs.JoinsLemmas.{leading-length}
 use Rattle.rtk_collect.proofs.OffersLemmas.{length-insert}
 use Rattle.rtk_collect.proofs.WindowLemmas.{Branch, open-branch, late-branch, new-branch, fresh-taken, new-taken}
-use Rattle.rtk_collect.proofs.collector.Collector.offer_cells.Goals as goal
+use Rattle.rtk_collect.proofs.open_epochs.OpenEpochs.offer_cells.Goals as goal
 
 pub open_at-requires-clause-within : goal.open_at-requires-clause-within
 open_at-requires-clause-within c = let h = leading-length c.args.epoch c.self.inside.sets.items in omega (arith, c.place-at.ensures)

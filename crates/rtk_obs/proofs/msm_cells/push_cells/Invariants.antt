@@ -1,7 +1,7 @@
 use Rattle.std.proofs.Common.{◌≡◌, ◌≤◌, length, take}
 use Rattle.rtk_obs.specs.Mask.{join_from}
 use Rattle.rtk_obs.specs.MsmCells.{slot_entry}
-use Rattle.rtk_obs.proofs.msm_cells.coded_cells.Given as goal
+use Rattle.rtk_obs.proofs.msm_cells.push_cells.Given as goal
 
 abbrev pub invariant-loop-cell : goal.invariant-loop-cell
 invariant-loop-cell l = record {

@@ -1,6 +1,6 @@
 use Rattle.std.proofs.Common.{◌≡◌, ◌≤◌, ◌*◌, length, take}
 use Rattle.rtk_obs.specs.LegacyCells.{cells_of_1004}
-use Rattle.rtk_obs.proofs.legacy_cells.satellite_cells.Given as goal
+use Rattle.rtk_obs.proofs.legacy_cells.push_satellites.Given as goal
 
 abbrev pub invariant-loop-i : goal.invariant-loop-i
 invariant-loop-i l = record {

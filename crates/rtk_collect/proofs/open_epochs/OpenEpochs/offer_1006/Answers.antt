@@ -6,7 +6,7 @@ use Rattle.rtk_collect.specs.Arrival.{At}
 use Rattle.rtk_collect.specs.Collector.{Window}
 use Rattle.rtk_collect.specs.Offered.{Meets}
 use Rattle.rtk_collect.proofs.StationLemmas.{full-is, slot-parts, slot-fits, other-stays}
-use Rattle.rtk_collect.proofs.collector.Collector.offer_1006.Goals as goal
+use Rattle.rtk_collect.proofs.open_epochs.OpenEpochs.offer_1006.Goals as goal
 
 pub invariant_of-self : goal.invariant_of-self
 invariant_of-self c = record {
