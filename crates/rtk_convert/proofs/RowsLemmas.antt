@@ -38,11 +38,11 @@ any-same : (f g : Code → Option Observed) (listed : List Code) → ((c : Code)
 any-same f g [] h = refl
 any-same f g (c ∷ listed) h = rw (h c, any-same f g listed h) refl
 
-row_of : ℕ → List Observed → SatelliteRow
+-- the row of a satellite
+abbrev pub row_of : ℕ → List Observed → SatelliteRow
 row_of satellite observed = record { satellite = satellite; observed = record { items = observed } }
 
 row-same : (f g : ℕ → Code → Option Observed) (listed : List Code) (s : ℕ) → ((c : Code) → f s c ≡ g s c) → row_if_any f listed s ≡ row_if_any g listed s
-unfolding row_of
 row-same f g listed s h =
     ap (λ (b : Bool). if b then row_with f listed s ∷ [] else []) (any-same (f s) (g s) listed h)
     ∙ ap (λ (xs : List Observed). if (list_any (λ c. is_some (g s c)) listed) then row_of s xs ∷ [] else []) (observed-same (f s) (g s) listed h)

@@ -1,5 +1,5 @@
 -- The last phases that a Tracks has, as epochs are closed one after another.
-use Rattle.std.specs.Prelude.{◌≡◌, ℕ, List, Option, Some, None, IfSome, slice_index_or}
+use Rattle.std.specs.Prelude.{◌≡◌, ◌==◌, ℕ, Bool, List, Option, Some, None, IfSome, slice_index_or}
 use Rattle.rtk_obs.specs.declared.cell.Cell.{Cell}
 use Rattle.rtk_obs.specs.declared.cell.CellEntry.{CellEntry}
 use Rattle.rtk_obs.specs.declared.code.Code.{Code}
@@ -47,3 +47,11 @@ MayShow tracks shown epoch =
 -- the strengths shown are such as messages give
 abbrev pub AreStrengths : List (Option Observed) → Type 0
 AreStrengths shown = (k : ℕ) → IfSome (slice_index_or shown k None) (λ o. IsStrength o.strength_millidbhz)
+
+-- no place shows anything
+abbrev pub ShowsNothing : List (Option Observed) → Type 0
+ShowsNothing shown = (k : ℕ) → slice_index_or shown k None ≡ None
+
+-- the place is that of a cell's satellite and code
+abbrev pub is_at : ℕ → CellEntry → Bool
+is_at k e = k == place_of_signal e.satellite e.code

@@ -14,33 +14,40 @@ ghost use Rattle.rtk_convert.specs.Records.{Follows};
 
 use crate::fault::{ConvertFault, Stream};
 use crate::output::put_record;
-use crate::rows::fill_table;
+use crate::rows::{PLACES, fill_table};
 use crate::setup::Setup;
 use rtk_frame::Sink;
 use rtk_obs::{CellEntry, GpsMs, Position, Tracks};
-use rtk_rinex::EpochTable;
+use rtk_rinex::{EpochTable, Observed};
 use std::alloc::Global;
 use std::marker::Model;
 
 /// What is known of the closed epochs: the last phases, whether the header is out, and how many
 /// records are.
 ///
-/// The table is kept from epoch to epoch, since it is large.
+/// The table is kept from epoch to epoch, and so is the room for what its cells show: both are
+/// large, and a local would be cleared as a whole each time that its function is called.
 #[derive(Drop)]
 pub(crate) struct Records {
     tracks: Tracks,
+    shown: [Option<Observed>; PLACES],
     table: EpochTable,
     header_out: bool,
     count: u64,
 }
 
-// Clauses see all but the table, which is filled anew for each epoch.
+// Clauses see all but the table, which is filled anew for each epoch, and the room, in which
+// nothing is left of an epoch.
 impl Model for Records {
+    ghost use Rattle.std.specs.Prelude.{◌≡◌, length};
+    ghost use Rattle.rtk_convert.specs.LastPhases.{ShowsNothing};
     ghost use Rattle.rtk_convert.specs.Records.{Closed};
 
     ghost Value = { Closed };
 
     ghost view = { λ r. record { tracks = r.tracks; header_out = r.header_out; count = r.count } };
+
+    ghost invariant = { λ r. (length r.shown ≡ 512) × ShowsNothing r.shown };
 }
 
 impl Records {
@@ -51,6 +58,7 @@ impl Records {
     {
         Records {
             tracks: Tracks::new(),
+            shown: [None; PLACES],
             table: EpochTable::new(any),
             header_out: false,
             count: 0,
@@ -97,7 +105,14 @@ impl Records {
         ensures fault { IfErr result IsOutFault }
     {
         let listed = setup.head().codes();
-        fill_table(&mut self.tracks, epoch, cells, listed, &mut self.table);
+        fill_table(
+            &mut self.tracks,
+            &mut self.shown,
+            epoch,
+            cells,
+            listed,
+            &mut self.table,
+        );
         let table = &self.table;
         let has_record = put_record(alloc, setup, position, self.header_out, table, out)?;
         if !has_record {

@@ -1,6 +1,7 @@
 //! What the satellites of an epoch show, and the rows in which it stands.
 
 ghost use Rattle.std.specs.Prelude.{◌≡◌, ◌<◌, ◌≤◌, [], ◌∷◌, ◌++◌, length, All};
+ghost use Rattle.rtk_rinex.specs.declared.epoch_table.SatelliteRow.{SatelliteRow};
 
 use arrayvec::ArrayVec;
 use rtk_obs::GpsMs;
@@ -31,24 +32,39 @@ pub struct SatelliteRow {
 /// An epoch with the rows of its satellites, rising; a contract sees its `Epoch`.
 ///
 /// The strengths are those of the messages: 250 to 63,750 thousandths of a dB-Hz in steps of 250.
+/// The places of the rows behind `count` keep what an earlier epoch left there, since a table is
+/// used for one epoch after another, and to blank its rows takes as long as to fill them.
 #[derive(Drop)]
 pub struct EpochTable {
     time: GpsMs,
-    rows: ArrayVec<SatelliteRow, 32>,
+    rows: [SatelliteRow; 32],
+    count: usize,
 }
 
 impl Model for EpochTable {
+    ghost use Rattle.std.specs.Prelude.{◌≡◌, ◌≤◌, length, take};
     ghost use Rattle.rtk_rinex.specs.Record.{Epoch, IsEpoch};
 
     ghost Value = { Epoch };
 
-    ghost view = { λ t. record { time = t.time; rows = t.rows.items } };
+    ghost view = { λ t. record { time = t.time; rows = take t.count t.rows } };
 
-    ghost invariant = { λ t. IsEpoch (record { time = t.time; rows = t.rows.items }) };
+    ghost invariant = { λ t. (t.count ≤ 32) × (length t.rows ≡ 32) × IsEpoch (record { time = t.time; rows = take t.count t.rows }) };
+}
+
+// Writes a row over another one.
+fn put_row(row: &mut SatelliteRow, satellite: u8, observed: &[Observed])
+    requires { length observed.now ≤ 16 }
+    ensures { row.new ≡ record { satellite = satellite; observed = record { items = observed.now } } }
+{
+    row.satellite = satellite;
+    row.observed.clear();
+    for shown in observed {
+        row.observed.push(*shown);
+    }
 }
 
 impl EpochTable {
-    ghost use Rattle.rtk_rinex.specs.declared.epoch_table.SatelliteRow.{SatelliteRow};
     ghost use Rattle.rtk_rinex.specs.Record.{Epoch, IsEpoch, IsRow};
 
     /// The table of an epoch without satellites.
@@ -57,7 +73,8 @@ impl EpochTable {
     {
         EpochTable {
             time,
-            rows: ArrayVec::new(),
+            rows: Default::default(),
+            count: 0,
         }
     }
 
@@ -65,7 +82,7 @@ impl EpochTable {
     pub fn restart(&mut self, time: GpsMs)
         ensures { self.new ≡ record { time = time; rows = [] } }
     {
-        self.rows.clear();
+        self.count = 0;
         self.time = time;
     }
 
@@ -76,7 +93,20 @@ impl EpochTable {
         requires room { length self.old.rows < 32 }
         ensures { self.new ≡ record { time = self.old.time; rows = self.old.rows ++ row ∷ [] } }
     {
-        self.rows.push(row);
+        self.rows[self.count] = row;
+        self.count += 1;
+    }
+
+    /// Adds the same row, written where it stays.
+    pub fn push_row(&mut self, satellite: u8, observed: &[Observed])
+        requires few { length observed.now ≤ 16 }
+        requires good { IsRow (record { satellite = satellite; observed = record { items = observed.now } }) }
+        requires later { All (λ r. r.satellite < satellite) self.old.rows }
+        requires room { length self.old.rows < 32 }
+        ensures { self.new ≡ record { time = self.old.time; rows = self.old.rows ++ record { satellite = satellite; observed = record { items = observed.now } } ∷ [] } }
+    {
+        put_row(&mut self.rows[self.count], satellite, observed);
+        self.count += 1;
     }
 
     /// The moment of the epoch.
@@ -92,6 +122,6 @@ impl EpochTable {
         ensures good { IsEpoch self.now }
         ensures few { length result.now ≤ 32 }
     {
-        self.rows.as_slice()
+        &self.rows[..self.count]
     }
 }

@@ -10,4 +10,5 @@ invariant-loop-before l = record {
   rows : l.table.rows ≡ rows_to (shown_at l.shown) l.listed l.before;
   rise : All (λ r. r.satellite ≤ l.before) l.table.rows;
   room : length l.table.rows ≤ l.before;
+  width : length l.observed ≡ length l.listed;
 }

@@ -1,7 +1,8 @@
-use Rattle.std.proofs.Common.{Option, refl, sym, subst}
+use Rattle.std.proofs.Common.{Option, None, refl, sym, subst}
 use Rattle.rtk_obs.specs.declared.track.Track.{Track}
 use Rattle.rtk_obs.specs.Tracks.{IsLater}
 use Rattle.rtk_convert.specs.File.{first_time, record_count}
+use Rattle.rtk_convert.proofs.PlacesLemmas.{get_or-replicate}
 use Rattle.rtk_convert.proofs.records.Records.new.Goals as goal
 
 pub returns-clause-follows : goal.returns-clause-follows
@@ -10,3 +11,6 @@ returns-clause-follows c = λ listed. record { phases = c.new.ensures.represents
 
 pub returns-clause-below : goal.returns-clause-below
 returns-clause-below c = λ epoch s k hs. subst (λ (o : Option Track). IsLater o epoch) (sym (c.new.ensures.represents.last s k hs)) tt
+
+pub invariant_of-result : goal.invariant_of-result
+invariant_of-result c = (refl, λ k. get_or-replicate 512 k None)
