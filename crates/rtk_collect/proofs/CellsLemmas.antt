@@ -281,6 +281,12 @@ pub merge-conflicts : (i : ℕ) (d : CellEntry) (cells kept new : List CellEntry
 merge-conflicts i d cells kept new some now all l e n h =
     append_assoc some _ _ ∙ ap (λ t. some ++ t) (rw (e, ← n) (ap (λ t. conflicts t kept) (sym (drop-at i d cells l)))) ∙ h
 
+-- where a cell is kept under its key
+pub kept-conflicts : (i : ℕ) (d x : CellEntry) (cells kept : List CellEntry) (some now all : List SatelliteCode) → i < length cells → Rises kept → cell_under (key (get_or cells i d)) kept ≡ Some x
+    → conflict (get_or cells i d) (Some x) ≡ now → some ++ conflicts (drop i cells) kept ≡ all → (some ++ now) ++ conflicts (drop (i + 1) cells) kept ≡ all
+kept-conflicts i d x cells kept some now all l r u n h =
+    merge-conflicts i d cells kept kept some now all l (sym (with_cell-sets (get_or cells i d) x kept r u)) (ap (conflict (get_or cells i d)) u ∙ n) h
+
 pub merge-room : (i : ℕ) (d : CellEntry) (cells kept new : List CellEntry) (cap cap' : ℕ) → i < length cells → Rises kept → new ≡ with_cell (get_or cells i d) kept
     → length kept + fresh (drop i cells) kept ≤ cap → cap ≤ cap' → length new + fresh (drop (i + 1) cells) new ≤ cap'
 merge-room i d cells kept new cap cap' l r e h k =

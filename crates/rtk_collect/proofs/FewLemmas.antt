@@ -1,5 +1,5 @@
 -- How many cells an epoch has, and which epochs are kept.
-use Rattle.std.proofs.Common.{◌≡◌, ℕ, suc, ◌≤◌, Bool, true, false, cond, List, [], ◌∷◌, ◌++◌, length, Option, None, Some, refl, ap, sym, ◌∙◌, map, take, arith, inl, inr, subst, filter}
+use Rattle.std.proofs.Common.{◌≡◌, ℕ, suc, ◌≤◌, Bool, true, false, cond, List, [], ◌∷◌, ◌++◌, length, get_or, Option, None, Some, refl, ap, sym, ◌∙◌, map, take, arith, inl, inr, subst, filter, All}
 use Rattle.std.specs.List.{flat_map, AllByRecursion}
 use Rattle.std.proofs.lemmas.Bool.{cases_order, cases_Bool}
 use Rattle.std.proofs.lemmas.Bool.Decides.{nat_tests}
@@ -18,7 +18,7 @@ use Rattle.rtk_obs.proofs.MsmLemmas.{satellite_in}
 use Rattle.rtk_collect.specs.Key.{Rises}
 use Rattle.rtk_collect.specs.EpochCells.{EpochCells}
 use Rattle.rtk_collect.specs.Arrival.{Arrival, At, cells_of}
-use Rattle.rtk_collect.specs.Late.{late}
+use Rattle.rtk_collect.specs.Late.{epochs, late}
 use Rattle.rtk_collect.specs.Accepted.{kept, with_arrival}
 use Rattle.rtk_collect.specs.Laws.{KeptAreFew, KeptAreGreatest}
 use Rattle.rtk_collect.proofs.CellsLemmas.{HasSatellite, satellites-few, with_cells-rises, with_cells-each}

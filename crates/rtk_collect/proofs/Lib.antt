@@ -11,6 +11,7 @@ pub mod MembersLemmas
 pub mod SetsLemmas
 pub mod EqualityLemmas
 pub mod RisingLemmas
+pub mod MergesLemmas
 pub mod PreferredLemmas
 pub mod DatedLemmas
 pub mod PositionLemmas

@@ -6,7 +6,7 @@ ghost use Rattle.rtk_collect.specs.Key.{Rises};
 ghost use Rattle.rtk_collect.specs.EpochCells.{joined, fresh, conflicts};
 
 use crate::conflicts::Conflicts;
-use crate::merging::{count_fresh, merge, rises};
+use crate::merging::{compare, interleave, merge, rises};
 use rtk_obs::{CellEntry, GpsMs};
 use std::alloc::{AllocError, Global};
 use std::marker::Model;
@@ -90,11 +90,41 @@ impl EpochSet {
                 conflicts: Conflicts::new(),
             });
         }
-        let fresh = count_fresh(cells, &self.cells);
+        let found = compare(cells, &self.cells);
+        let fresh = found.fresh;
+        if fresh == 0 {
+            return Ok(found);
+        }
+        if rises(cells) {
+            return self.join_rising(cells, fresh);
+        }
         if let Err(_) = self.cells.reserve(fresh) {
             return Err(AllocError);
         }
         let conflicts = merge(&mut self.cells, cells);
         Ok(Joined { fresh, conflicts })
+    }
+
+    // Takes cells whose keys rise, of which so many are new.
+    fn join_rising(&mut self, cells: &[CellEntry], count: usize) -> Result<Joined, AllocError>
+        requires few { length cells.now ≤ 64 }
+        requires range { All IsInRange cells.now }
+        requires rising { Rises cells.now }
+        requires count { count ≡ fresh cells.now self.old.cells }
+        ensures set { IfOk result (λ j. self.new ≡ joined cells.now self.old) }
+        ensures fresh { IfOk result (λ j. j.fresh ≡ count) }
+        ensures conflicts { IfOk result (λ j. j.conflicts ≡ conflicts cells.now self.old.cells) }
+        ensures err { OnErr result (self.new ≡ self.old) }
+    {
+        let alloc = *self.cells.allocator();
+        let Ok(mut all) = Vec::with_capacity(alloc, self.cells.len() + count) else {
+            return Err(AllocError);
+        };
+        let conflicts = interleave(&self.cells, cells, &mut all);
+        self.cells = all;
+        Ok(Joined {
+            fresh: count,
+            conflicts,
+        })
     }
 }

@@ -1,11 +1,12 @@
 //! The cells of a message join those of their epoch.
 
-ghost use Rattle.std.specs.Prelude.{◌≡◌, ◌≤◌, ◌+◌, [], ◌∷◌, length, vec_len, vec_capacity, IsTrue, if◌then◌else◌};
+ghost use Rattle.std.specs.Prelude.{◌≡◌, ◌≢◌, ◌≤◌, ◌<◌, ◌+◌, [], ◌∷◌, ◌++◌, not, length, slice_index_or, vec_len, vec_capacity, IsTrue, if◌then◌else◌};
 ghost use Rattle.rtk_collect.specs.Key.{key, Rises};
 ghost use Rattle.rtk_collect.specs.EpochCells.{with_cell, with_cells, cell_under, fresh, conflict, conflicts};
 ghost use Rattle.rtk_collect.specs.Search.{lower};
 
 use crate::conflicts::{Conflicts, SatelliteCode};
+use crate::epoch_set::Joined;
 use rtk_obs::{CellEntry, CellSource};
 
 // The place of a cell in the order of an epoch: by satellite, code and kind of message.
@@ -33,21 +34,32 @@ pub(crate) fn rises(cells: &[CellEntry]) -> bool
     true
 }
 
-/// How many of the cells have a key under which none is kept.
-pub(crate) fn count_fresh(cells: &[CellEntry], kept: &[CellEntry]) -> usize
+/// How many of the cells have a key under which none is kept; where none has, also which conflict.
+pub(crate) fn compare(cells: &[CellEntry], kept: &[CellEntry]) -> Joined
     requires rises { Rises kept.now }
-    ensures { result ≡ fresh cells.now kept.now }
+    requires few { length cells.now ≤ 64 }
+    ensures fresh { result.fresh ≡ fresh cells.now kept.now }
+    ensures conflicts { result.fresh ≡ 0 → result.conflicts ≡ conflicts cells.now kept.now }
 {
+    let mut conflicts = Conflicts::new();
     let mut count = 0;
     let mut at = 0;
     for cell in cells {
         let key = key_of(cell);
         at = seek(kept, at, key);
-        if cell_at(kept, at, key).is_none() {
-            count += 1;
+        match cell_at(kept, at, key) {
+            None => count += 1,
+            Some(first) => {
+                if first.cell != cell.cell {
+                    conflicts.push(name_of(cell));
+                }
+            }
         }
     }
-    count
+    Joined {
+        fresh: count,
+        conflicts,
+    }
 }
 
 /// Adds the cells whose keys are new, for which there is room, and says which conflict.
@@ -63,13 +75,96 @@ pub(crate) fn merge(kept: &mut Vec<CellEntry>, cells: &[CellEntry]) -> Conflicts
     for cell in cells {
         at = seek(kept, at, key_of(cell));
         if put(kept, at, *cell) {
-            conflicts.push(SatelliteCode {
-                satellite: cell.satellite,
-                code: cell.code,
-            });
+            conflicts.push(name_of(cell));
         }
     }
     conflicts
+}
+
+/// Puts the cells, whose keys rise, and the kept ones into a list that has room for them, in the
+/// order of their keys, and says which conflict.
+pub(crate) fn interleave(
+    kept: &[CellEntry],
+    cells: &[CellEntry],
+    all: &mut Vec<CellEntry>,
+) -> Conflicts
+    requires rises { Rises kept.now }
+    requires rising { Rises cells.now }
+    requires few { length cells.now ≤ 64 }
+    requires empty { all.old.items ≡ [] }
+    requires room { length kept.now + fresh cells.now kept.now ≤ vec_capacity all.old }
+    ensures items { all.new.items ≡ with_cells cells.now kept.now }
+    ensures conflicts { result ≡ conflicts cells.now kept.now }
+{
+    let mut conflicts = Conflicts::new();
+    let mut at = 0;
+    let mut next = 0;
+    while next < cells.len() {
+        let cell = &cells[next];
+        let wanted = key_of(cell);
+        if has_lesser(kept, at, wanted) {
+            append(all, &kept[at]);
+            at += 1;
+            continue;
+        }
+        next += 1;
+        if !has_key(kept, at, wanted) {
+            append(all, cell);
+            continue;
+        }
+        if kept[at].cell != cell.cell {
+            conflicts.push(name_of(cell));
+        }
+    }
+    append_all(all, &kept[at..]);
+    conflicts
+}
+
+// Adds a cell behind the others, for which there is room.
+fn append(all: &mut Vec<CellEntry>, cell: &CellEntry)
+    requires { length all.old.items < vec_capacity all.old }
+    ensures items { all.new.items ≡ all.old.items ++ cell.now ∷ [] }
+    ensures capacity { vec_capacity all.old ≤ vec_capacity all.new }
+{
+    let Ok(()) = all.push(*cell) else {
+        unreachable!()
+    };
+}
+
+// Adds cells behind the others, for which there is room.
+fn append_all(all: &mut Vec<CellEntry>, cells: &[CellEntry])
+    requires { length all.old.items + length cells.now ≤ vec_capacity all.old }
+    ensures { all.new.items ≡ all.old.items ++ cells.now }
+{
+    let Ok(()) = all.extend_from_slice(cells) else {
+        unreachable!()
+    };
+}
+
+// The satellite and the code of a cell.
+fn name_of(entry: &CellEntry) -> SatelliteCode
+    ensures { result ≡ record { satellite = entry.now.satellite; code = entry.now.code } }
+{
+    SatelliteCode {
+        satellite: entry.satellite,
+        code: entry.code,
+    }
+}
+
+// Has the cell at a place a lesser key?
+fn has_lesser(kept: &[CellEntry], at: usize, wanted: usize) -> bool
+    ensures yes { IsTrue result → (at < length kept.now) × ((d : CellEntry) → key (slice_index_or kept.now at d) < wanted) }
+    ensures no { IsTrue (not result) → at < length kept.now → ((d : CellEntry) → wanted ≤ key (slice_index_or kept.now at d)) }
+{
+    at < kept.len() && key_of(&kept[at]) < wanted
+}
+
+// Has the cell at a place this key?
+fn has_key(kept: &[CellEntry], at: usize, wanted: usize) -> bool
+    ensures yes { IsTrue result → (at < length kept.now) × ((d : CellEntry) → key (slice_index_or kept.now at d) ≡ wanted) }
+    ensures no { IsTrue (not result) → at < length kept.now → ((d : CellEntry) → key (slice_index_or kept.now at d) ≢ wanted) }
+{
+    at < kept.len() && key_of(&kept[at]) == wanted
 }
 
 // Adds a cell at its place if its key is new, and says whether it conflicts.

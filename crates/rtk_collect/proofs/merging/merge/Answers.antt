@@ -29,7 +29,7 @@ loop-cell-preserved c =
       | then-put w ↦
           let n = rw w.if-put.true at c.put.ensures.conflict in
           let f = merge-conflicts i any_cell cells kept new c.loop-cell.conflicts _ _ l p n c.loop-cell.invariant.conflicts in
-          record { at = omega arith; rises = rises; room = room; few = rw (w.conflicts-is, w.push.ensures) (push-few c.loop-cell.conflicts _ i c.loop-cell.invariant.few); items = items; conflicts = rw (w.conflicts-is, w.push.ensures) f }
+          record { at = omega arith; rises = rises; room = room; few = rw (w.conflicts-is, w.push.ensures) (push-few c.loop-cell.conflicts _ i c.loop-cell.invariant.few); items = items; conflicts = rw (w.conflicts-is, w.push.ensures, w.name_of.ensures) f }
       | else-put w ↦
           let n = rw w.if-put.false at c.put.ensures.conflict in
           let f = merge-conflicts i any_cell cells kept new c.loop-cell.conflicts _ _ l p n c.loop-cell.invariant.conflicts in

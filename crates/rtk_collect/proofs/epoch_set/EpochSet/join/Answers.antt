@@ -3,7 +3,7 @@ use Rattle.rtk_obs.specs.declared.cell.CellEntry.{CellEntry}
 use Rattle.rtk_obs.specs.Cell.{IsInRange}
 use Rattle.rtk_collect.specs.EpochCells.{EpochCells, joined, fresh, conflicts}
 use Rattle.rtk_collect.proofs.RisingLemmas.{no-cells, alone}
-use Rattle.rtk_collect.proofs.CellsLemmas.{with_cells-rises, with_cells-all}
+use Rattle.rtk_collect.proofs.CellsLemmas.{with_cells-rises, with_cells-all, with_cells-none}
 use Rattle.rtk_collect.proofs.epoch_set.EpochSet.join.Goals as goal
 
 pub invariant_of-self-2 : goal.invariant_of-self-2
@@ -34,3 +34,12 @@ pub returns-then-rises-clause-conflicts : goal.returns-then-rises-clause-conflic
 returns-then-rises-clause-conflicts c =
     let a = alone c.args.cells.now c.self.inside.cells.items (no-cells c.self.inside.cells.items _ c.self.inside.cells.ok.0 (sym c.is_empty.ensures ∙ c.if-is_empty.true)) (c.if-rises.ensures refl) in
     subst (λ (s : EpochCells). c.new.result ≡ conflicts c.args.cells.now s.cells) c.self.view_is (c.new.ensures ∙ a.conflicts)
+
+-- no key is new
+
+pub returns-then-fresh-eq0-clause-set : goal.returns-then-fresh-eq0-clause-set
+returns-then-fresh-eq0-clause-set c =
+    let f = rw c.deref.ensures.value at c.compare-found.ensures.fresh in
+    let none : fresh c.args.cells.now c.self.inside.cells.items ≡ 0 = omega (arith, f, c.if-fresh-eq0.true) in
+    subst (λ (s : EpochCells). s ≡ joined c.args.cells.now s) c.self.view_is
+    (ap (λ (t : List CellEntry). record { epoch = c.self.inside.epoch; cells = t }) (sym (with_cells-none c.args.cells.now c.self.inside.cells.items c.self.invariant.0 none)))

@@ -1,0 +1,47 @@
+use Rattle.std.proofs.Common.{◌+◌, ◌∙◌, Some, refl, sym, ap, rules, arith, drop, get_or}
+use Rattle.std.proofs.lemmas.List.{append-nil}
+use Rattle.rtk_collect.specs.EpochCells.{one_more, fresh, conflicts}
+use Rattle.rtk_collect.proofs.CellsLemmas.{any_cell, fresh-step, lower-length, push-few, conflict-is, kept-conflicts}
+use Rattle.rtk_collect.proofs.EqualityLemmas.{sources-same}
+use Rattle.rtk_collect.proofs.merging.compare.Goals as goal
+use Rattle.rtk_collect.proofs.merging.compare.Goals.{in-None, in-Some+then-ne, in-Some+else-ne}
+
+pub loop-cell-preserved : goal.loop-cell-preserved
+loop-cell-preserved c =
+    let i = c.loop-cell.cell-index in
+    let cells = c.args.cells.now in
+    let kept = c.args.kept.now in
+    let l = c.loop-cell-test.true in
+    let inv = c.loop-cell.invariant in
+    let cell = get_or cells i any_cell in
+    let rest = fresh (drop (i + 1) cells) kept in
+    let low = lower-length c.key_of-key.result kept in
+    let o = rw c.key_of-key.ensures at c.cell_at.ensures in
+    let f = fresh-step i any_cell c.cell_at.result cells kept l o in
+    elim c.match-cell_at.branch [
+      | in-None w ↦
+          let n = ap (λ t. one_more t rest) w.in-None.is in
+          record { at = omega arith; bound = omega (arith, w.count-is, inv.bound); count = omega (arith, w.count-is, inv.count, f, n); few = rw w.conflicts-is (omega (arith, inv.few)); conflicts = λ e. absurd (omega (arith, w.count-is, e)) }
+      | in-Some+then-ne w ↦
+          let first = w.in-Some.first in
+          let n = ap (λ t. one_more t rest) w.in-Some.is in
+          let told = rw w.if-ne.true at (conflict-is cell first (Some first) w.ne.result refl (rw (sources-same first.cell.source cell.cell.source) at w.ne.ensures)) in
+          record {
+            at = omega arith;
+            bound = omega (arith, w.count-is, inv.bound);
+            count = omega (arith, w.count-is, inv.count, f, n);
+            few = rw (w.conflicts-is, w.push.ensures) (push-few c.loop-cell.conflicts _ i inv.few);
+            conflicts = λ e. rw (w.conflicts-is, w.push.ensures, w.name_of.ensures) (kept-conflicts i any_cell first cells kept c.loop-cell.conflicts _ (conflicts cells kept) l c.requires.rises (sym o ∙ w.in-Some.is) told (inv.conflicts (omega (arith, w.count-is, e))));
+          }
+      | in-Some+else-ne w ↦
+          let first = w.in-Some.first in
+          let n = ap (λ t. one_more t rest) w.in-Some.is in
+          let told = rw w.if-ne.false at (conflict-is cell first (Some first) w.ne.result refl (rw (sources-same first.cell.source cell.cell.source) at w.ne.ensures)) in
+          record {
+            at = omega arith;
+            bound = omega (arith, w.count-is, inv.bound);
+            count = omega (arith, w.count-is, inv.count, f, n);
+            few = rw w.conflicts-is (omega (arith, inv.few));
+            conflicts = λ e. rw (w.conflicts-is, ← append-nil c.loop-cell.conflicts) (kept-conflicts i any_cell first cells kept c.loop-cell.conflicts _ (conflicts cells kept) l c.requires.rises (sym o ∙ w.in-Some.is) told (inv.conflicts (omega (arith, w.count-is, e))));
+          }
+    ]
