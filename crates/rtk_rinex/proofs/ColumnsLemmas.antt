@@ -1,5 +1,5 @@
 -- Digits, one at a time, and texts behind blanks.
-use Rattle.std.proofs.Common.{◌≡◌, ℕ, ◌+◌, ◌-◌, ◌/◌, ◌^◌, ◌<◌, ◌≤◌, ◌∷◌, ◌++◌, List, length, decimal, replicate, take, set, ap, arith, refl, length-append, append_assoc}
+use Rattle.std.proofs.Common.{◌≡◌, ℕ, ◌+◌, ◌-◌, ◌/◌, ◌%◌, ◌^◌, ◌<◌, ◌≤◌, ◌∷◌, [], ◌++◌, List, length, decimal, replicate, take, set, ap, ◌∙◌, arith, refl, length-append, append_assoc}
 use Rattle.std.proofs.lemmas.Fmt.{decimal_step, decimal_digit}
 use Rattle.std.proofs.lemmas.List.{length-replicate, take-replicate, replicate-append-replicate}
 use Rattle.std.proofs.Math.Seq.{set-append_seam}
@@ -8,6 +8,19 @@ use Rattle.rtk_rinex.specs.Columns.{right}
 -- from 10 on a number has the digits of its tenth and one more
 pub length-decimal-more : (n : ℕ) → 10 ≤ n → n < 2 ^ 64 → length (decimal n) ≡ length (decimal (n / 10)) + 1
 length-decimal-more n h fits = omega (arith, simp length-append at (ap length (decimal_step n h fits)))
+
+-- from 100 on it has the digits of its hundredth and two more
+pub decimal-two : (n : ℕ) → 100 ≤ n → n < 2 ^ 64 → decimal n ≡ decimal (n / 100) ++ (48 + (n % 100) / 10) ∷ (48 + (n % 100) % 10) ∷ []
+decimal-two n h fits =
+    let rest : n / 10 / 10 ≡ n / 100 = omega arith in
+    let first : (n / 10) % 10 ≡ (n % 100) / 10 = omega arith in
+    let second : n % 10 ≡ (n % 100) % 10 = omega arith in
+    let front : decimal (n / 10) ≡ decimal (n / 100) ++ (48 + (n % 100) / 10) ∷ [] = rw (rest, first) at (decimal_step (n / 10) (omega arith) (omega arith)) in
+    decimal_step n (omega arith) fits ∙ ap (λ (d : ℕ). decimal (n / 10) ++ (48 + d) ∷ []) second
+    ∙ ap (λ (ds : List ℕ). ds ++ (48 + (n % 100) % 10) ∷ []) front ∙ append_assoc (decimal (n / 100)) _ _
+
+pub length-decimal-two : (n : ℕ) → 100 ≤ n → n < 2 ^ 64 → length (decimal n) ≡ length (decimal (n / 100)) + 2
+length-decimal-two n h fits = omega (arith, simp length-append at (ap length (decimal-two n h fits)))
 
 pub length-decimal-one : (n : ℕ) → n < 10 → length (decimal n) ≡ 1
 length-decimal-one n h = ap length (decimal_digit n h)

@@ -24,6 +24,14 @@ pub fn put_decimal(field: &mut [u8], number: u64) -> usize
 {
     let mut rest = number;
     let mut at = field.len();
+    // A division waits for the one before it, so one by 100 is worth two by 10.
+    while rest >= 100 {
+        let two = (rest % 100) as u8;
+        rest /= 100;
+        at -= 2;
+        field[at + 1] = b'0' + two % 10;
+        field[at] = b'0' + two / 10;
+    }
     while rest >= 10 {
         at -= 1;
         field[at] = b'0' + (rest % 10) as u8;
