@@ -1,6 +1,7 @@
 //! Laws on the file of a set of messages, whatever arrivals it came from, and on what calls find.
 
 ghost use Rattle.rtk_convert.specs.ArrivalLaws.{OneSetHasOneFile, LateLeaveFile, SoFarBegins, HeaderIsFinal, OthersLeaveFile, KeptFileIsTable, FrameAddsToOne};
+ghost use Rattle.rtk_convert.specs.CountLaws.{EachFrameInOneClass};
 ghost use Rattle.rtk_convert.specs.FileLaws.{FileIsTable};
 ghost use Rattle.rtk_convert.specs.HistoryLaws.{ComesToOne, FeedsToOne, ClosesToOne, EndsAtOne, CallsFindOne};
 
@@ -46,4 +47,10 @@ pub fn one_history_of_calls()
 /// What a frame adds goes to the file or to the report, never to both.
 pub fn frames_add_to_one()
     ensures { FrameAddsToOne }
+{}
+
+/// Each found frame is counted in one class: of fewer than 2^64 the count of frames is their
+/// number, and so is the sum of the seven counts behind it.
+pub fn each_frame_in_one_class()
+    ensures { EachFrameInOneClass }
 {}
