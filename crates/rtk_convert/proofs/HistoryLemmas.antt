@@ -1,7 +1,8 @@
--- A call comes to one history.
+-- A call comes to one history, and any calls find one list of frames.
 use Rattle.std.proofs.Common.{◌≡◌, ℕ, zero, suc, List, [], ◌∷◌, inl, inr, ap, sym, subst, ◌∙◌}
 use Rattle.rtk_convert.specs.Converter.{IsAfterClosing, IsAfterClosingAll}
 use Rattle.rtk_convert.specs.Finding.{Found}
+use Rattle.rtk_convert.specs.Headline.{Call, Feed, Close, IsAfterCall, ComeTo, FindAll}
 use Rattle.rtk_convert.specs.History.{LinkPast, History, Finds, IsAfterFeed, IsAfterClose}
 use Rattle.rtk_convert.specs.Settings.{Settings}
 use Rattle.rtk_convert.specs.State.{found_on}
@@ -34,3 +35,22 @@ ends-once s h zero a b p q = p ∙ sym q
 ends-once s h (suc n) a b (m, before, p) (m', before', q) =
     let same : m' ≡ m = ends-once s h n m' m before' before in
     closing-once s m n a b p (subst (λ (x : History). IsAfterClosing s x n b) same q)
+
+call-once : (s : Settings) (h : History) (call : Call) (a b : History) → IsAfterCall s h call a → IsAfterCall s h call b → a ≡ b
+call-once s h (Feed link piece) a b (inl p) (inl q) = feeds-once s h link piece a b p.1 q.1
+call-once s h (Feed link piece) a b (inl p) (inr q) = absurd (q.0 p.0)
+call-once s h (Feed link piece) a b (inr p) (inl q) = absurd (p.0 q.0)
+call-once s h (Feed link piece) a b (inr p) (inr q) = p.1 ∙ sym q.1
+call-once s h (Close link) a b p q = closing-once s h link a b p q
+
+come-once : (s : Settings) (links : ℕ) (calls : List Call) (a b : History) → ComeTo s links calls a → ComeTo s links calls b → a ≡ b
+come-once s links [] a b p q = p ∙ sym q
+come-once s links (call ∷ before) a b (m, came, p) (m', came', q) =
+    let same : m' ≡ m = come-once s links before m' m came' came in
+    call-once s m call a b p (subst (λ (x : History). IsAfterCall s x call b) same q)
+
+pub found-once : (s : Settings) (links : ℕ) (calls : List Call) (one other : List Found) → FindAll s links calls one → FindAll s links calls other → one ≡ other
+found-once s links calls one other (h, last, came, closed, is) (h', last', came', closed', is') =
+    let same : h' ≡ h = come-once s links calls h' h came' came in
+    let end : last ≡ last' = ends-once s h links last last' closed (subst (λ (x : History). IsAfterClosingAll s x links last') same closed') in
+    is ∙ ap (λ (x : History). x.found) end ∙ sym is'

@@ -24,3 +24,4 @@ pub mod PayloadLemmas
 pub mod HeadlineLemmas
 pub mod CallsLemmas
 pub mod HistoryLemmas
+pub mod CountLemmas

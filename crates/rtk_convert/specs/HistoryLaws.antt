@@ -1,8 +1,9 @@
--- Laws: a payload comes to one finding, and so a call to one history.
+-- Laws: a payload comes to one finding, so a call to one history, and any calls find one list of frames.
 use Rattle.std.specs.Prelude.{◌≡◌, ℕ, List}
 use Rattle.rtk_convert.specs.declared.arrival.Finding.{Finding}
 use Rattle.rtk_convert.specs.Converter.{IsAfterClosingAll}
-use Rattle.rtk_convert.specs.Finding.{ComesTo}
+use Rattle.rtk_convert.specs.Finding.{ComesTo, Found}
+use Rattle.rtk_convert.specs.Headline.{Call, FindAll}
 use Rattle.rtk_convert.specs.History.{History, IsAfterFeed, IsAfterClose}
 use Rattle.rtk_convert.specs.Settings.{Settings}
 
@@ -17,3 +18,7 @@ ClosesToOne = (s : Settings) (h : History) (link : ℕ) (a b : History) → IsAf
 
 abbrev pub EndsAtOne : Type 0
 EndsAtOne = (s : Settings) (h : History) (links : ℕ) (a b : History) → IsAfterClosingAll s h links a → IsAfterClosingAll s h links b → a ≡ b
+
+-- so what is said of the frames that calls find is said of one list, wherever it is said
+abbrev pub CallsFindOne : Type 0
+CallsFindOne = (s : Settings) (links : ℕ) (calls : List Call) (one other : List Found) → FindAll s links calls one → FindAll s links calls other → one ≡ other

@@ -15,6 +15,7 @@ pub mod Report
 pub mod State
 pub mod Offering
 pub mod Finish
+pub mod CountLaws
 pub mod ArrivalLaws
 pub mod History
 pub mod Converter

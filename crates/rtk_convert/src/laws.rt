@@ -1,8 +1,9 @@
-//! Laws on the file of a set of messages, whatever arrivals the set came from.
+//! Laws on the file of a set of messages, whatever arrivals it came from, and on what calls find.
 
 ghost use Rattle.rtk_convert.specs.ArrivalLaws.{OneSetHasOneFile, LateLeaveFile, SoFarBegins, HeaderIsFinal, OthersLeaveFile, KeptFileIsTable, FrameAddsToOne};
+ghost use Rattle.rtk_convert.specs.CountLaws.{EachFrameInOneClass};
 ghost use Rattle.rtk_convert.specs.FileLaws.{FileIsTable};
-ghost use Rattle.rtk_convert.specs.HistoryLaws.{ComesToOne, FeedsToOne, ClosesToOne, EndsAtOne};
+ghost use Rattle.rtk_convert.specs.HistoryLaws.{ComesToOne, FeedsToOne, ClosesToOne, EndsAtOne, CallsFindOne};
 
 use rtk_collect::{late_arrivals_change_nothing, set_decides};
 use rtk_rinex::files_are_tables;
@@ -33,15 +34,23 @@ pub fn file_only_grows()
     ensures header { HeaderIsFinal }
 {}
 
-/// A payload comes to one finding, so each call on a link comes to one history.
+/// A payload comes to one finding, so each call on a link comes to one history, and any calls find
+/// one list of frames.
 pub fn one_history_of_calls()
     ensures finding { ComesToOne }
     ensures feed { FeedsToOne }
     ensures close { ClosesToOne }
     ensures end { EndsAtOne }
+    ensures all { CallsFindOne }
 {}
 
 /// What a frame adds goes to the file or to the report, never to both.
 pub fn frames_add_to_one()
     ensures { FrameAddsToOne }
+{}
+
+/// Each found frame is counted in one class: of fewer than 2^64 the count of frames is their
+/// number, and so is the sum of the seven counts behind it.
+pub fn each_frame_in_one_class()
+    ensures { EachFrameInOneClass }
 {}

@@ -22,7 +22,8 @@ pub use counts::Counts;
 pub use fault::{ConvertFault, Stream};
 pub use headline::{calls_come_to_table, calls_keep_promise, set_has_one_file};
 pub use laws::{
-    file_laws, file_only_grows, frames_add_to_one, one_history_of_calls, set_decides_file,
+    each_frame_in_one_class, file_laws, file_only_grows, frames_add_to_one, one_history_of_calls,
+    set_decides_file,
 };
 pub use reading::run;
 pub use setup::{Setup, SetupFault};

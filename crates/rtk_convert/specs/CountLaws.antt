@@ -1,0 +1,19 @@
+-- A law on the counts of found frames, newest first.
+use Rattle.std.specs.Prelude.{◌≡◌, ◌<◌, ◌+◌, ◌^◌, ℕ, List, length}
+use Rattle.rtk_convert.specs.declared.counts.Counts.{Counts}
+use Rattle.rtk_convert.specs.Finding.{Found}
+use Rattle.rtk_convert.specs.Finish.{all_counts}
+use Rattle.rtk_convert.specs.Settings.{Settings}
+
+-- the sum of the seven counts that tell what became of frames
+abbrev pub in_classes : Counts → ℕ
+in_classes c = c.other + c.refused + c.foreign + c.taken + c.repeat + c.conflict + c.late
+
+-- these counts are of so many frames, each in one of the seven
+pub record AreCountsOf (frames : ℕ) (c : Counts) : Type 0 where
+  pub frames_are : c.frames ≡ frames
+  pub classes_are : in_classes c ≡ frames
+
+-- so are the counts of found frames, where a count can hold their number
+abbrev pub EachFrameInOneClass : Type 0
+EachFrameInOneClass = (s : Settings) (found : List Found) → length found < 2 ^ 64 → AreCountsOf (length found) (all_counts s found)
