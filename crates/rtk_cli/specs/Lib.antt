@@ -1,6 +1,7 @@
 pub mod CheckFile
 pub mod CodeList
 pub mod ConvertWords
+pub mod Converting
 pub mod Hex
 pub mod Input
 pub mod MomentText

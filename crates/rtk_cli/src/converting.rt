@@ -1,10 +1,14 @@
 //! The command `convert`: opens the captures, converts them, and says how it went.
-ghost use Rattle.std.specs.Prelude.{◌≡◌, ◌≤◌};
+ghost use Rattle.std.specs.Prelude.{◌≡◌, ◌≤◌, ◌+◌, sum_by, IfOk, IsErrOf};
+ghost use Rattle.std.specs.Io.Buffered.{reader_capacity};
+ghost use Rattle.rtk_convert.specs.Reading.{HasCalled};
+ghost use Rattle.rtk_cli.specs.Converting.{most_reads, read_at_once};
 
 use crate::files::{Link, Reads, Writes};
 use crate::telling::{DONE, FAILED, REFUSED, fail, fail_to_open, refuse};
 use crate::words::{BadWords, STDIN, ToolFault};
 use rtk_convert::{ConvertFault, Counts, Setup};
+use rtk_frame::{Sink, Source};
 use std::alloc::Global;
 use std::fs::Files;
 use std::io::{BufReader, BufWriter, Write};
@@ -33,7 +37,9 @@ enum OpenFault<'a> {
 fn open_link<'a, R: Files + Input + AllocGlobal>(
     rt: &R,
     name: &'a str,
-) -> Result<Reader<R>, OpenFault<'a>> {
+) -> Result<Reader<R>, OpenFault<'a>>
+    ensures { IfOk result (λ link. reader_capacity link.inner ≡ read_at_once) }
+{
     let link = if name == STDIN {
         Link::Stdin(rt.reader())
     } else {
@@ -75,8 +81,22 @@ fn sink<W: Write + Drop>(
     }
 }
 
-// The exit status of a conversion that was done or broke off, and its fault line.
-fn end<R: Eprint>(rt: &R, done: Result<Counts, ConvertFault>, is_out: bool) -> u8
+// Converts what the links give, by a billion reads at most.
+fn convert<R: Source, O: Sink, L: Sink>(
+    alloc: Global,
+    setup: Setup,
+    links: &mut [R],
+    out: &mut O,
+    log: &mut L,
+) -> Result<Counts, ConvertFault>
+    ensures reads { sum_by R.calls links.new ≤ sum_by R.calls links.old + most_reads }
+    ensures endless { IsErrOf result ConvertFault.Endless → HasCalled R.calls links.old links.new most_reads }
+{
+    rtk_convert::run(alloc, setup, links, out, log, MOST_READS)
+}
+
+/// The exit status of a conversion that was done or broke off, and its fault line.
+pub fn end<R: Eprint>(rt: &R, done: Result<Counts, ConvertFault>, is_out: bool) -> u8
     ensures { result ≤ REFUSED }
 {
     match done {
@@ -120,14 +140,7 @@ pub fn convert_links<R: Files + Input + Print + Eprint + AllocGlobal, W: Write +
     let Ok(mut log) = sink(rt.alloc(), room, report) else {
         return fail(rt, ToolFault::OutOfMemory);
     };
-    let done = rtk_convert::run(
-        rt.alloc(),
-        setup,
-        links.as_mut_slice(),
-        &mut out,
-        &mut log,
-        MOST_READS,
-    );
+    let done = convert(rt.alloc(), setup, links.as_mut_slice(), &mut out, &mut log);
     let is_file_out = out.flush().is_ok();
     let is_report_out = log.flush().is_ok();
     end(rt, done, is_file_out && is_report_out)

@@ -34,6 +34,7 @@ impl<R: Read> Reads<R> {
     /// A source over a reader, before its first call.
     pub fn new(inner: R) -> Reads<R>
         ensures no_call { (result.made ≡ 0) × (result.failed ≡ 0) × (result.ended ≡ false) }
+        ensures inner { result.inner ≡ inner }
     {
         Reads {
             inner,

@@ -3,6 +3,7 @@
 mod checks;
 mod convert_refusals;
 mod convert_words;
+mod ends;
 mod faults;
 mod lines;
 mod long;
