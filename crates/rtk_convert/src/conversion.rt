@@ -114,13 +114,9 @@ impl Conversion {
             return Err(ConvertFault::Stopped);
         }
         self.stopped = true;
-        match self.take(link, payload, out, log) {
-            Ok(epoch) => {
-                self.stopped = false;
-                Ok(epoch)
-            }
-            Err(fault) => Err(fault),
-        }
+        let epoch = self.take(link, payload, out, log)?;
+        self.stopped = false;
+        Ok(epoch)
     }
 
     // Takes the payload of a frame. Whether it has stopped is left as it is.
@@ -163,17 +159,13 @@ impl Conversion {
                 let Ok(line) = report::refused(self.alloc, link, fault) else {
                     return Err(ConvertFault::OutOfMemory);
                 };
-                match put_lines(log, &line) {
-                    Ok(()) => Ok(None),
-                    Err(fault) => Err(fault),
-                }
+                put_lines(log, &line)?;
+                Ok(None)
             }
             Finding::Arrived(dated) => {
                 let epoch = dated.epoch();
-                match self.offer(link, dated, out, log) {
-                    Ok(()) => Ok(epoch),
-                    Err(fault) => Err(fault),
-                }
+                self.offer(link, dated, out, log)?;
+                Ok(epoch)
             }
         }
     }
@@ -215,13 +207,9 @@ impl Conversion {
         };
         let position = self.collector.station();
         let (epoch, cells) = (set.epoch(), set.cells());
-        match self
-            .records
-            .close(self.alloc, &self.setup, &position, epoch, cells, out)
-        {
-            Ok(()) => put_lines(log, &lines),
-            Err(fault) => Err(fault),
-        }
+        self.records
+            .close(self.alloc, &self.setup, &position, epoch, cells, out)?;
+        put_lines(log, &lines)
     }
 }
 
@@ -252,21 +240,15 @@ impl Conversion {
         let position = self.collector.station();
         let mut records = self.records;
         let mut left = self.collector.close();
-        if let Err(fault) = close_left(alloc, &setup, &position, &mut records, &mut left, out) {
-            return Err(fault);
-        }
-        if let Err(fault) = put_last_header(alloc, &setup, &position, records.header_out(), out) {
-            return Err(fault);
-        }
+        close_left(alloc, &setup, &position, &mut records, &mut left, out)?;
+        put_last_header(alloc, &setup, &position, records.header_out(), out)?;
         let mut counts = self.counts;
         counts.epochs = records.count();
         let Ok(lines) = report::counts(alloc, &counts) else {
             return Err(ConvertFault::OutOfMemory);
         };
-        match put_lines(log, &lines) {
-            Ok(()) => Ok(counts),
-            Err(fault) => Err(fault),
-        }
+        put_lines(log, &lines)?;
+        Ok(counts)
     }
 }
 

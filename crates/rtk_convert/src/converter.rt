@@ -70,9 +70,7 @@ impl Converter {
         if links < 1 || links > 16 {
             return Err(ConvertFault::Setup);
         }
-        let Ok(links) = new_links(alloc, links) else {
-            return Err(ConvertFault::OutOfMemory);
-        };
+        let links = new_links(alloc, links)?;
         Ok(Converter {
             conversion: Conversion::new(alloc, setup),
             links,
@@ -197,9 +195,7 @@ impl Converter {
             if self.refusal(link).is_some() {
                 continue;
             }
-            if let Err(fault) = self.close(link, out, log) {
-                return Err(fault);
-            }
+            self.close(link, out, log)?;
         }
         Ok(())
     }
@@ -222,9 +218,7 @@ impl Converter {
             return Err(ConvertFault::Stopped);
         }
         let mut closing = self;
-        if let Err(fault) = closing.close_all(out, log) {
-            return Err(fault);
-        }
+        closing.close_all(out, log)?;
         closing.conversion.finish(out, log)
     }
 }

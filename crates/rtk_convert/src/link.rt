@@ -70,10 +70,8 @@ impl Link {
             let Answer::Found(payload) = fed.answer else {
                 return Ok(());
             };
-            match conversion.arrive(number, payload, out, log) {
-                Ok(epoch) => self.newest = later(epoch, self.newest),
-                Err(fault) => return Err(fault),
-            }
+            let epoch = conversion.arrive(number, payload, out, log)?;
+            self.newest = later(epoch, self.newest);
         }
     }
 
@@ -104,10 +102,8 @@ impl Link {
         ensures log_kept { IfErr result (λ fault. fault ≢ ConvertFault.Write Stream.Log → L.failures log.new ≡ L.failures log.old) }
     {
         'frames: while let Some(payload) = self.scanner.rest() {
-            match conversion.arrive(number, payload, out, log) {
-                Ok(epoch) => self.newest = later(epoch, self.newest),
-                Err(fault) => return Err(fault),
-            }
+            let epoch = conversion.arrive(number, payload, out, log)?;
+            self.newest = later(epoch, self.newest);
         }
         Ok(())
     }

@@ -125,9 +125,7 @@ fn read_all<R: Source, O: Sink, L: Sink>(
         let Some(link) = next_link(converter) else {
             return Ok(());
         };
-        if let Err(fault) = read_link(converter, link, readers, &mut buf, out, log) {
-            return Err(fault);
-        }
+        read_link(converter, link, readers, &mut buf, out, log)?;
     }
     match next_link(converter) {
         None => Ok(()),

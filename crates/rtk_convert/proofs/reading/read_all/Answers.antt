@@ -1,4 +1,5 @@
-use Rattle.std.proofs.Common.{ℕ, ◌+◌, inl, [], ◌∷◌, length, refl, sym, subst, ◌∙◌, arith}
+use Rattle.std.proofs.Common.{ℕ, ◌+◌, inl, [], ◌∷◌, length, Err, refl, sym, ap, subst, ◌∙◌, arith}
+use Rattle.std.proofs.lemmas.Result.{err_from_is_err_and}
 use Rattle.rtk_convert.specs.History.{new_history, IsNextLink}
 use Rattle.rtk_convert.specs.Reading.{read_of, ReadsOn, BreaksOffOn, HasCalled}
 use Rattle.rtk_convert.specs.Settings.{Settings}
@@ -29,21 +30,24 @@ read_link-requires-clause-link g c =
     let lt = c.in-Some.ensures.within in
     omega (arith, a, b, d, lt)
 
-pub returns-in-Err-clause-err : goal.returns-in-Err-clause-err
-returns-in-Err-clause-err g c = λ frame.
+pub returns-in_err-read_link-clause-err : goal.returns-in_err-read_link-clause-err
+returns-in_err-read_link-clause-err g c =
+    let p = err_from_is_err_and c.from_residual.result c.from_residual.ensures.1 in
+    rw (p.1, p.2) (λ frame.
     let so = c.reads.invariant.so_far in
     breaks-reading g.R.Source.given g.R.Source.calls c.args.converter.now.conversion.settings so.1 c.in-Some.link c.args.readers.now c.reads.readers c.read_link.new.readers so.0
     (g.O.Sink.taken c.args.out.now) (g.O.Sink.taken c.reads.out) (g.O.Sink.taken c.read_link.new.out) (g.L.Sink.taken c.args.log.now) (g.L.Sink.taken c.reads.log) (g.L.Sink.taken c.read_link.new.log)
     so.2 (c.in-Some.ensures.next so.1 so.3)
-    (subst (λ (s : Settings). BreaksOffOn g.R.Source.given s so.1 c.in-Some.link c.reads.readers c.read_link.new.readers (g.O.Sink.taken c.reads.out) (g.O.Sink.taken c.read_link.new.out) (g.L.Sink.taken c.reads.log) (g.L.Sink.taken c.read_link.new.log)) c.reads.invariant.settings (c.in-Err.ensures.err frame so.1 so.3))
+    (subst (λ (s : Settings). BreaksOffOn g.R.Source.given s so.1 c.in-Some.link c.reads.readers c.read_link.new.readers (g.O.Sink.taken c.reads.out) (g.O.Sink.taken c.read_link.new.out) (g.L.Sink.taken c.reads.log) (g.L.Sink.taken c.read_link.new.log)) c.reads.invariant.settings (c.in_err-read_link.ensures.err frame so.1 so.3))
     (subst (λ (n : ℕ). HasCalled g.R.Source.calls c.args.readers.now c.read_link.new.readers (n + 1)) (sym so.4)
-    (called-more g.R.Source.calls c.args.readers.now c.reads.readers c.read_link.new.readers c.reads._made c.reads.invariant.called c.read_link.ensures.full c.read_link.ensures.called))
+    (called-more g.R.Source.calls c.args.readers.now c.reads.readers c.read_link.new.readers c.reads._made c.reads.invariant.called c.read_link.ensures.full c.read_link.ensures.called)))
 
-pub returns-in-Err-clause-read_failed : goal.returns-in-Err-clause-read_failed
-returns-in-Err-clause-read_failed g c = λ link is_read.
+pub returns-in_err-read_link-clause-read_failed : goal.returns-in_err-read_link-clause-read_failed
+returns-in_err-read_link-clause-read_failed g c = λ link is_read.
+    let p = err_from_is_err_and c.from_residual.result c.from_residual.ensures.1 in
     let so = c.reads.invariant.so_far in
     let n = c.in-Some.ensures.next so.1 so.3 in
-    let both = c.in-Err.ensures.read_failed so.1 so.3 n.is_open link is_read in
+    let both = c.in_err-read_link.ensures.read_failed so.1 so.3 n.is_open link (sym (p.1 ∙ ap Err p.2) ∙ is_read) in
     fails-reading g.R.Source.given g.R.Source.failures g.R.Source.calls c.args.converter.now.conversion.settings so.1 link c.args.readers.now c.reads.readers c.read_link.new.readers so.0
     (g.O.Sink.taken c.args.out.now) (g.O.Sink.taken c.reads.out) (g.O.Sink.taken c.read_link.new.out) (g.L.Sink.taken c.args.log.now) (g.L.Sink.taken c.reads.log) (g.L.Sink.taken c.read_link.new.log)
     so.2 (subst (λ (k : ℕ). IsNextLink so.1 k) (sym both.0) n) c.reads.invariant.reads_same both.1
@@ -55,7 +59,7 @@ reads-preserved g c =
     let so = c.reads.invariant.so_far in
     let p : ReadsOn g.R.Source.given g.R.Source.is_at_end c.args.converter.now.conversion.settings so.1 c.in-Some.link c.reads.readers c.read_link.new.readers c.read_link.new.converter (g.O.Sink.taken c.reads.out) (g.O.Sink.taken c.read_link.new.out) (g.L.Sink.taken c.reads.log) (g.L.Sink.taken c.read_link.new.log) =
     subst (λ (s : Settings). ReadsOn g.R.Source.given g.R.Source.is_at_end s so.1 c.in-Some.link c.reads.readers c.read_link.new.readers c.read_link.new.converter (g.O.Sink.taken c.reads.out) (g.O.Sink.taken c.read_link.new.out) (g.L.Sink.taken c.reads.log) (g.L.Sink.taken c.read_link.new.log)) c.reads.invariant.settings
-    (c.in_default-read_link.ensures.ok so.1 so.3 (c.in-Some.ensures.next so.1 so.3)) in
+    (c.in_ok-read_link.ensures.ok so.1 so.3 (c.in-Some.ensures.next so.1 so.3)) in
     record {
       so_far = (
         read_of c.in-Some.link p.piece ∷ so.0,
@@ -71,9 +75,9 @@ reads-preserved g c =
       room = c.read_link.auto.buf ∙ c.reads.invariant.room;
       made = let one = c.read_link.ensures.reads in let all = c.reads.invariant.made in omega (arith, one, all);
       called = called-more g.R.Source.calls c.args.readers.now c.reads.readers c.read_link.new.readers c.reads._made c.reads.invariant.called c.read_link.ensures.full c.read_link.ensures.called;
-      reads_same = λ k none. c.in_default-read_link.ensures.no_failed_read (λ link e. cc) k none ∙ c.reads.invariant.reads_same k none;
-      out_same = c.in_default-read_link.ensures.out_same ∙ c.reads.invariant.out_same;
-      log_same = c.in_default-read_link.ensures.log_same ∙ c.reads.invariant.log_same;
+      reads_same = λ k none. c.in_ok-read_link.ensures.no_failed_read (λ link e. cc) k none ∙ c.reads.invariant.reads_same k none;
+      out_same = c.in_ok-read_link.ensures.out_same ∙ c.reads.invariant.out_same;
+      log_same = c.in_ok-read_link.ensures.log_same ∙ c.reads.invariant.log_same;
     }
 
 pub returns-in_default-clause-ok : goal.returns-in_default-clause-ok

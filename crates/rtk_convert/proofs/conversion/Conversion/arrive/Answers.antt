@@ -1,21 +1,22 @@
 use Rattle.std.proofs.Common.{true, false, sym, subst}
 use Rattle.rtk_convert.specs.State.{State, IsAhead, Arrives, BreaksOff}
 use Rattle.rtk_convert.proofs.ArriveLemmas.{state, arrives-still, breaks-still}
+use Rattle.rtk_convert.proofs.WritingLemmas.{on_err-from}
 use Rattle.rtk_convert.proofs.conversion.Conversion.arrive.Goals as goal
 
-pub returns-in-Ok-clause-ok : goal.returns-in-Ok-clause-ok
-returns-in-Ok-clause-ok g c =
+pub returns-clause-ok : goal.returns-clause-ok
+returns-clause-ok g c =
     subst (λ (x : State). Arrives x c.args.link c.args.payload.now (state c.self-2.inside.setup c.self-2.inside.collector c.self-2.inside.records c.self-2.inside.counts false) (g.O.Sink.taken c.args.out.now) (g.O.Sink.taken c.take.new.out) (g.L.Sink.taken c.args.log.now) (g.L.Sink.taken c.take.new.log)) c.self.view_is
     (arrives-still c.self.inside.setup c.self-2.inside.setup c.self.inside.collector c.self-2.inside.collector c.self.inside.records c.self-2.inside.records c.self.inside.counts c.self-2.inside.counts true c.self-2.inside.stopped c.self.inside.stopped false c.args.link c.args.payload.now (g.O.Sink.taken c.args.out.now) (g.O.Sink.taken c.take.new.out) (g.L.Sink.taken c.args.log.now) (g.L.Sink.taken c.take.new.log)
-    (subst (λ (x : State). Arrives (state c.self.inside.setup c.self.inside.collector c.self.inside.records c.self.inside.counts true) c.args.link c.args.payload.now x (g.O.Sink.taken c.args.out.now) (g.O.Sink.taken c.take.new.out) (g.L.Sink.taken c.args.log.now) (g.L.Sink.taken c.take.new.log)) (sym c.self-2.view_is) c.in-Ok.ensures.ok))
+    (subst (λ (x : State). Arrives (state c.self.inside.setup c.self.inside.collector c.self.inside.records c.self.inside.counts true) c.args.link c.args.payload.now x (g.O.Sink.taken c.args.out.now) (g.O.Sink.taken c.take.new.out) (g.L.Sink.taken c.args.log.now) (g.L.Sink.taken c.take.new.log)) (sym c.self-2.view_is) c.in_ok-epoch.ensures.ok))
 
-pub invariant_of-self-in-Ok : goal.invariant_of-self-in-Ok
-invariant_of-self-in-Ok g c = record {
+pub invariant_of-self-2 : goal.invariant_of-self-2
+invariant_of-self-2 g c = record {
   places = c.self-2.invariant.places;
-  ahead = λ going. subst (λ (x : State). IsAhead x.window x.closed) (sym c.self-2.view_is) c.in-Ok.ensures.ahead;
+  ahead = λ going. subst (λ (x : State). IsAhead x.window x.closed) (sym c.self-2.view_is) c.in_ok-epoch.ensures.ahead;
 }
 
-pub returns-in-Err-clause-err : goal.returns-in-Err-clause-err
-returns-in-Err-clause-err g c = λ going.
+pub returns-in_err-epoch-clause-err : goal.returns-in_err-epoch-clause-err
+returns-in_err-epoch-clause-err g c = on_err-from c.from_residual.result (λ going.
     subst (λ (x : State). BreaksOff x c.args.link c.args.payload.now (g.O.Sink.taken c.args.out.now) (g.O.Sink.taken c.take.new.out) (g.L.Sink.taken c.args.log.now) (g.L.Sink.taken c.take.new.log)) c.self.view_is
-    (breaks-still c.self.inside.setup c.self.inside.collector c.self.inside.records c.self.inside.counts true c.self.inside.stopped c.args.link c.args.payload.now (g.O.Sink.taken c.args.out.now) (g.O.Sink.taken c.take.new.out) (g.L.Sink.taken c.args.log.now) (g.L.Sink.taken c.take.new.log) c.in-Err.ensures.err)
+    (breaks-still c.self.inside.setup c.self.inside.collector c.self.inside.records c.self.inside.counts true c.self.inside.stopped c.args.link c.args.payload.now (g.O.Sink.taken c.args.out.now) (g.O.Sink.taken c.take.new.out) (g.L.Sink.taken c.args.log.now) (g.L.Sink.taken c.take.new.log) c.in_err-epoch.ensures.err))

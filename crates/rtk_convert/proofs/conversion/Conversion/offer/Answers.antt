@@ -49,16 +49,16 @@ close-requires-clause-later g c =
     let some : closed_by c.in-Ok.offer ≡ Some e = sym c.closed_by.ensures ∙ c.in-Some.is ∙ ap Some same in
     ahead-closes c.self.inside.collector c.self.inside.records c.in-Ok.offer e some c.in-Ok.ensures.least_closes (subst (λ (x : State). IsAhead x.window x.closed) (sym c.self.view_is) c.requires.ahead)
 
-pub returns-in-Ok-close-clause-ahead : goal.returns-in-Ok-close-clause-ahead
-returns-in-Ok-close-clause-ahead g c =
+pub returns-clause-ahead : goal.returns-clause-ahead
+returns-clause-ahead g c =
     let e : EpochCells = record { epoch = c.epoch-epoch-2.result; cells = c.cells-cells.result.now } in
     let same : c.in-Some.set ≡ e =
     ap (λ (t : ℕ). record c.in-Some.set { epoch = t }) (sym c.epoch-epoch-2.ensures) ∙ ap (λ xs. record { epoch = c.epoch-epoch-2.result; cells = xs }) (sym c.cells-cells.ensures.value) in
     let some : closed_by c.in-Ok.offer ≡ Some e = sym c.closed_by.ensures ∙ c.in-Some.is ∙ ap Some same in
-    on_ok-map c.put_lines-in-Ok-close.result (λ wrote. ahead-after c.self.inside.collector c.offer.new.self c.close.new.self c.in-Ok.offer e some c.in-Ok.ensures.least_closes c.in-Ok.ensures.closed c.offer.ensures.least (c.in-Ok-close.ensures.later (suc e.epoch) (omega arith))) c.put_lines-in-Ok-close.ensures.all
+    on_ok-map c.put_lines-2.result (λ wrote. ahead-after c.self.inside.collector c.offer.new.self c.close.new.self c.in-Ok.offer e some c.in-Ok.ensures.least_closes c.in-Ok.ensures.closed c.offer.ensures.least (c.in_ok-close.ensures.later (suc e.epoch) (omega arith))) c.put_lines-2.ensures.all
 
-pub returns-in-Ok-close-clause-ok : goal.returns-in-Ok-close-clause-ok
-returns-in-Ok-close-clause-ok g c =
+pub returns-clause-ok : goal.returns-clause-ok
+returns-clause-ok g c =
     let text : c.in-Ok-offered.lines.items ≡ offer_lines c.args.link (number_of (message_of c.args.dated)) (epoch_of c.args.dated) c.in-Ok.offer =
     c.in-Ok-offered.ensures ∙ ap (λ (n : ℕ). offer_lines c.args.link n c.epoch-epoch.result c.in-Ok.offer) (c.number-number.ensures ∙ ap number_of c.message.ensures.value)
     ∙ ap (λ (e : Option ℕ). offer_lines c.args.link (number_of (message_of c.args.dated)) e c.in-Ok.offer) c.epoch-epoch.ensures.value in
@@ -67,26 +67,26 @@ returns-in-Ok-close-clause-ok g c =
     ap (λ (t : ℕ). record c.in-Some.set { epoch = t }) (sym c.epoch-epoch-2.ensures) ∙ ap (λ xs. record { epoch = c.epoch-epoch-2.result; cells = xs }) (sym c.cells-cells.ensures.value) in
     let some : closed_by c.in-Ok.offer ≡ Some e = sym c.closed_by.ensures ∙ c.in-Some.is ∙ ap Some same in
     let size = c.in-Ok.ensures.size ∙ c.self.invariant.places in
-    on_ok-map c.put_lines-in-Ok-close.result (λ wrote. subst (λ (x : State). Takes x c.args.link c.args.dated (state c.self.inside.setup c.offer.new.self c.close.new.self c.count.new.counts c.self.inside.stopped) (g.O.Sink.taken c.args.out.now) (g.O.Sink.taken c.close.new.out) (g.L.Sink.taken c.args.log.now) (g.L.Sink.taken c.put_lines-in-Ok-close.new.log)) c.self.view_is (takes-some-closed c.self.inside.setup c.self.inside.collector c.offer.new.self c.self.inside.records c.close.new.self c.self.inside.counts c.count.new.counts c.self.inside.stopped c.self.inside.stopped c.args.link c.args.dated c.in-Ok.offer e c.station-position.result (g.O.Sink.taken c.args.out.now) (g.O.Sink.taken c.close.new.out) (g.L.Sink.taken c.args.log.now) (g.L.Sink.taken c.put_lines-in-Ok-close.new.log) c.self.invariant.places size some c.in-Ok.ensures.answer c.station-position.ensures.kept c.count.ensures c.in-Ok-close.ensures.follows c.in-Ok-close.ensures.all (wrote ∙ ap (with_more (g.L.Sink.taken c.args.log.now)) (c.deref-in-Ok-close.ensures.value ∙ text)))) c.put_lines-in-Ok-close.ensures.all
-
-pub returns-in-Ok-close-clause-err : goal.returns-in-Ok-close-clause-err
-returns-in-Ok-close-clause-err g c =
-    let text : c.in-Ok-offered.lines.items ≡ offer_lines c.args.link (number_of (message_of c.args.dated)) (epoch_of c.args.dated) c.in-Ok.offer =
-    c.in-Ok-offered.ensures ∙ ap (λ (n : ℕ). offer_lines c.args.link n c.epoch-epoch.result c.in-Ok.offer) (c.number-number.ensures ∙ ap number_of c.message.ensures.value)
-    ∙ ap (λ (e : Option ℕ). offer_lines c.args.link (number_of (message_of c.args.dated)) e c.in-Ok.offer) c.epoch-epoch.ensures.value in
-    let e : EpochCells = record { epoch = c.epoch-epoch-2.result; cells = c.cells-cells.result.now } in
-    let same : c.in-Some.set ≡ e =
-    ap (λ (t : ℕ). record c.in-Some.set { epoch = t }) (sym c.epoch-epoch-2.ensures) ∙ ap (λ xs. record { epoch = c.epoch-epoch-2.result; cells = xs }) (sym c.cells-cells.ensures.value) in
-    let some : closed_by c.in-Ok.offer ≡ Some e = sym c.closed_by.ensures ∙ c.in-Some.is ∙ ap Some same in
-    let size = c.in-Ok.ensures.size ∙ c.self.invariant.places in
-    on_err-from c.put_lines-in-Ok-close.result (subst (λ (x : State). TakesInPart x c.args.link c.args.dated (g.O.Sink.taken c.args.out.now) (g.O.Sink.taken c.close.new.out) (g.L.Sink.taken c.args.log.now) (g.L.Sink.taken c.put_lines-in-Ok-close.new.log)) c.self.view_is (part-lines c.self.inside.setup c.self.inside.collector c.offer.new.self c.self.inside.records c.close.new.self c.self.inside.counts c.count.new.counts c.self.inside.stopped c.self.inside.stopped c.args.link c.args.dated c.in-Ok.offer (g.O.Sink.taken c.args.out.now) (g.O.Sink.taken c.close.new.out) (g.L.Sink.taken c.args.log.now) (g.L.Sink.taken c.put_lines-in-Ok-close.new.log) c.self.invariant.places c.in-Ok.ensures.answer (takes-some-closed c.self.inside.setup c.self.inside.collector c.offer.new.self c.self.inside.records c.close.new.self c.self.inside.counts c.count.new.counts c.self.inside.stopped c.self.inside.stopped c.args.link c.args.dated c.in-Ok.offer e c.station-position.result (g.O.Sink.taken c.args.out.now) (g.O.Sink.taken c.close.new.out) (g.L.Sink.taken c.args.log.now) (with_more (g.L.Sink.taken c.args.log.now) (offer_lines c.args.link (number_of (message_of c.args.dated)) (epoch_of c.args.dated) c.in-Ok.offer)) c.self.invariant.places size some c.in-Ok.ensures.answer c.station-position.ensures.kept c.count.ensures c.in-Ok-close.ensures.follows c.in-Ok-close.ensures.all refl)
-    (subst (λ (t : List ℕ). TakesPart (g.L.Sink.taken c.args.log.now) (g.L.Sink.taken c.put_lines-in-Ok-close.new.log) t) (c.deref-in-Ok-close.ensures.value ∙ text) c.put_lines-in-Ok-close.ensures.part)))
+    on_ok-map c.put_lines-2.result (λ wrote. subst (λ (x : State). Takes x c.args.link c.args.dated (state c.self.inside.setup c.offer.new.self c.close.new.self c.count.new.counts c.self.inside.stopped) (g.O.Sink.taken c.args.out.now) (g.O.Sink.taken c.close.new.out) (g.L.Sink.taken c.args.log.now) (g.L.Sink.taken c.put_lines-2.new.log)) c.self.view_is (takes-some-closed c.self.inside.setup c.self.inside.collector c.offer.new.self c.self.inside.records c.close.new.self c.self.inside.counts c.count.new.counts c.self.inside.stopped c.self.inside.stopped c.args.link c.args.dated c.in-Ok.offer e c.station-position.result (g.O.Sink.taken c.args.out.now) (g.O.Sink.taken c.close.new.out) (g.L.Sink.taken c.args.log.now) (g.L.Sink.taken c.put_lines-2.new.log) c.self.invariant.places size some c.in-Ok.ensures.answer c.station-position.ensures.kept c.count.ensures c.in_ok-close.ensures.follows c.in_ok-close.ensures.all (wrote ∙ ap (with_more (g.L.Sink.taken c.args.log.now)) (c.deref-2.ensures.value ∙ text)))) c.put_lines-2.ensures.all
 
 pub returns-clause-err : goal.returns-clause-err
 returns-clause-err g c =
+    let text : c.in-Ok-offered.lines.items ≡ offer_lines c.args.link (number_of (message_of c.args.dated)) (epoch_of c.args.dated) c.in-Ok.offer =
+    c.in-Ok-offered.ensures ∙ ap (λ (n : ℕ). offer_lines c.args.link n c.epoch-epoch.result c.in-Ok.offer) (c.number-number.ensures ∙ ap number_of c.message.ensures.value)
+    ∙ ap (λ (e : Option ℕ). offer_lines c.args.link (number_of (message_of c.args.dated)) e c.in-Ok.offer) c.epoch-epoch.ensures.value in
     let e : EpochCells = record { epoch = c.epoch-epoch-2.result; cells = c.cells-cells.result.now } in
     let same : c.in-Some.set ≡ e =
     ap (λ (t : ℕ). record c.in-Some.set { epoch = t }) (sym c.epoch-epoch-2.ensures) ∙ ap (λ xs. record { epoch = c.epoch-epoch-2.result; cells = xs }) (sym c.cells-cells.ensures.value) in
     let some : closed_by c.in-Ok.offer ≡ Some e = sym c.closed_by.ensures ∙ c.in-Some.is ∙ ap Some same in
     let size = c.in-Ok.ensures.size ∙ c.self.invariant.places in
-    subst (λ (x : State). TakesInPart x c.args.link c.args.dated (g.O.Sink.taken c.args.out.now) (g.O.Sink.taken c.close.new.out) (g.L.Sink.taken c.args.log.now) (g.L.Sink.taken c.args.log.now)) c.self.view_is (part-record c.self.inside.setup c.self.inside.collector c.offer.new.self c.self.inside.records c.self.inside.counts c.self.inside.stopped c.args.link c.args.dated c.in-Ok.offer e c.station-position.result (g.O.Sink.taken c.args.out.now) (g.O.Sink.taken c.close.new.out) (g.L.Sink.taken c.args.log.now) c.self.invariant.places size some c.in-Ok.ensures.answer c.station-position.ensures.kept c.close.ensures.part)
+    on_err-from c.put_lines-2.result (subst (λ (x : State). TakesInPart x c.args.link c.args.dated (g.O.Sink.taken c.args.out.now) (g.O.Sink.taken c.close.new.out) (g.L.Sink.taken c.args.log.now) (g.L.Sink.taken c.put_lines-2.new.log)) c.self.view_is (part-lines c.self.inside.setup c.self.inside.collector c.offer.new.self c.self.inside.records c.close.new.self c.self.inside.counts c.count.new.counts c.self.inside.stopped c.self.inside.stopped c.args.link c.args.dated c.in-Ok.offer (g.O.Sink.taken c.args.out.now) (g.O.Sink.taken c.close.new.out) (g.L.Sink.taken c.args.log.now) (g.L.Sink.taken c.put_lines-2.new.log) c.self.invariant.places c.in-Ok.ensures.answer (takes-some-closed c.self.inside.setup c.self.inside.collector c.offer.new.self c.self.inside.records c.close.new.self c.self.inside.counts c.count.new.counts c.self.inside.stopped c.self.inside.stopped c.args.link c.args.dated c.in-Ok.offer e c.station-position.result (g.O.Sink.taken c.args.out.now) (g.O.Sink.taken c.close.new.out) (g.L.Sink.taken c.args.log.now) (with_more (g.L.Sink.taken c.args.log.now) (offer_lines c.args.link (number_of (message_of c.args.dated)) (epoch_of c.args.dated) c.in-Ok.offer)) c.self.invariant.places size some c.in-Ok.ensures.answer c.station-position.ensures.kept c.count.ensures c.in_ok-close.ensures.follows c.in_ok-close.ensures.all refl)
+    (subst (λ (t : List ℕ). TakesPart (g.L.Sink.taken c.args.log.now) (g.L.Sink.taken c.put_lines-2.new.log) t) (c.deref-2.ensures.value ∙ text) c.put_lines-2.ensures.part)))
+
+pub returns-in_err-close-clause-err : goal.returns-in_err-close-clause-err
+returns-in_err-close-clause-err g c =
+    let e : EpochCells = record { epoch = c.epoch-epoch-2.result; cells = c.cells-cells.result.now } in
+    let same : c.in-Some.set ≡ e =
+    ap (λ (t : ℕ). record c.in-Some.set { epoch = t }) (sym c.epoch-epoch-2.ensures) ∙ ap (λ xs. record { epoch = c.epoch-epoch-2.result; cells = xs }) (sym c.cells-cells.ensures.value) in
+    let some : closed_by c.in-Ok.offer ≡ Some e = sym c.closed_by.ensures ∙ c.in-Some.is ∙ ap Some same in
+    let size = c.in-Ok.ensures.size ∙ c.self.invariant.places in
+    on_err-from c.from_residual.result (subst (λ (x : State). TakesInPart x c.args.link c.args.dated (g.O.Sink.taken c.args.out.now) (g.O.Sink.taken c.close.new.out) (g.L.Sink.taken c.args.log.now) (g.L.Sink.taken c.args.log.now)) c.self.view_is (part-record c.self.inside.setup c.self.inside.collector c.offer.new.self c.self.inside.records c.self.inside.counts c.self.inside.stopped c.args.link c.args.dated c.in-Ok.offer e c.station-position.result (g.O.Sink.taken c.args.out.now) (g.O.Sink.taken c.close.new.out) (g.L.Sink.taken c.args.log.now) c.self.invariant.places size some c.in-Ok.ensures.answer c.station-position.ensures.kept c.close.ensures.part))

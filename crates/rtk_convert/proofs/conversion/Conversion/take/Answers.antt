@@ -5,7 +5,7 @@ use Rattle.rtk_convert.specs.Finding.{ComesTo}
 use Rattle.rtk_convert.specs.Report.{refused_line, one_frame_more}
 use Rattle.rtk_convert.specs.State.{State, IsAhead, Arrives, BreaksOff}
 use Rattle.rtk_convert.proofs.ArriveLemmas.{state, arrives-arrived, breaks-arrived, arrives-other, arrives-refused, breaks-refused}
-use Rattle.rtk_convert.proofs.WritingLemmas.{takes-none}
+use Rattle.rtk_convert.proofs.WritingLemmas.{takes-none, on_err-from}
 use Rattle.rtk_convert.proofs.conversion.Conversion.take.Goals as goal
 
 pub returns-in_default-clause-err : goal.returns-in_default-clause-err
@@ -20,30 +20,30 @@ returns-in-OtherMessage-clause-ok g c =
     ∙ ap (λ (n : ℕ). record (one_frame_more c.self.inside.counts) { other = n }) c.saturating_add-self-inside-in-OtherMessage.ensures in
     subst (λ (x : State). Arrives x c.args.link c.args.payload.now (state c.self.inside.setup c.self.inside.collector c.self.inside.records (record (record c.self.inside.counts { frames = c.saturating_add-self-inside.result }) { other = c.saturating_add-self-inside-in-OtherMessage.result }) c.self.inside.stopped) (g.O.Sink.taken c.args.out.now) (g.O.Sink.taken c.args.out.now) (g.L.Sink.taken c.args.log.now) (g.L.Sink.taken c.args.log.now)) c.self.view_is (arrives-other c.self.inside.setup c.self.inside.collector c.self.inside.records c.self.inside.counts (record (record c.self.inside.counts { frames = c.saturating_add-self-inside.result }) { other = c.saturating_add-self-inside-in-OtherMessage.result }) c.self.inside.stopped c.self.inside.stopped c.args.link c.args.payload.now (g.O.Sink.taken c.args.out.now) (g.L.Sink.taken c.args.log.now) comes counts)
 
-pub returns-in-Ok-put_lines-clause-ahead : goal.returns-in-Ok-put_lines-clause-ahead
-returns-in-Ok-put_lines-clause-ahead g c = subst (λ (x : State). IsAhead x.window x.closed) (sym c.self.view_is) c.requires.ahead
+pub returns-in_ok-put_lines-in-Refused-clause-ahead : goal.returns-in_ok-put_lines-in-Refused-clause-ahead
+returns-in_ok-put_lines-in-Refused-clause-ahead g c = subst (λ (x : State). IsAhead x.window x.closed) (sym c.self.view_is) c.requires.ahead
 
-pub returns-in-Ok-put_lines-clause-ok : goal.returns-in-Ok-put_lines-clause-ok
-returns-in-Ok-put_lines-clause-ok g c =
+pub returns-in_ok-put_lines-in-Refused-clause-ok : goal.returns-in_ok-put_lines-in-Refused-clause-ok
+returns-in_ok-put_lines-in-Refused-clause-ok g c =
     let comes = subst (λ (f : Finding). ComesTo c.self.inside.setup c.args.payload.now f) c.in-Refused.is c.find.ensures in
     let counts = ap (λ (n : ℕ). record (record c.self.inside.counts { frames = n }) { refused = c.saturating_add-self-inside-in-Refused.result }) c.saturating_add-self-inside.ensures
     ∙ ap (λ (n : ℕ). record (one_frame_more c.self.inside.counts) { refused = n }) c.saturating_add-self-inside-in-Refused.ensures in
-    subst (λ (x : State). Arrives x c.args.link c.args.payload.now (state c.self.inside.setup c.self.inside.collector c.self.inside.records (record (record c.self.inside.counts { frames = c.saturating_add-self-inside.result }) { refused = c.saturating_add-self-inside-in-Refused.result }) c.self.inside.stopped) (g.O.Sink.taken c.args.out.now) (g.O.Sink.taken c.args.out.now) (g.L.Sink.taken c.args.log.now) (g.L.Sink.taken c.put_lines.new.log)) c.self.view_is (arrives-refused c.self.inside.setup c.self.inside.collector c.self.inside.records c.self.inside.counts (record (record c.self.inside.counts { frames = c.saturating_add-self-inside.result }) { refused = c.saturating_add-self-inside-in-Refused.result }) c.self.inside.stopped c.self.inside.stopped c.args.link c.args.payload.now c.in-Refused.fault (g.O.Sink.taken c.args.out.now) (g.L.Sink.taken c.args.log.now) (g.L.Sink.taken c.put_lines.new.log) comes counts (c.in-Ok-put_lines.ensures.all ∙ ap (with_more (g.L.Sink.taken c.args.log.now)) (c.deref.ensures.value ∙ c.in-Ok.ensures)))
+    subst (λ (x : State). Arrives x c.args.link c.args.payload.now (state c.self.inside.setup c.self.inside.collector c.self.inside.records (record (record c.self.inside.counts { frames = c.saturating_add-self-inside.result }) { refused = c.saturating_add-self-inside-in-Refused.result }) c.self.inside.stopped) (g.O.Sink.taken c.args.out.now) (g.O.Sink.taken c.args.out.now) (g.L.Sink.taken c.args.log.now) (g.L.Sink.taken c.put_lines.new.log)) c.self.view_is (arrives-refused c.self.inside.setup c.self.inside.collector c.self.inside.records c.self.inside.counts (record (record c.self.inside.counts { frames = c.saturating_add-self-inside.result }) { refused = c.saturating_add-self-inside-in-Refused.result }) c.self.inside.stopped c.self.inside.stopped c.args.link c.args.payload.now c.in-Refused.fault (g.O.Sink.taken c.args.out.now) (g.L.Sink.taken c.args.log.now) (g.L.Sink.taken c.put_lines.new.log) comes counts (c.in_ok-put_lines-in-Refused.ensures.all ∙ ap (with_more (g.L.Sink.taken c.args.log.now)) (c.deref.ensures.value ∙ c.in-Ok.ensures)))
 
-pub returns-in-Refused-clause-err : goal.returns-in-Refused-clause-err
-returns-in-Refused-clause-err g c =
+pub returns-in_err-put_lines-in-Refused-clause-err : goal.returns-in_err-put_lines-in-Refused-clause-err
+returns-in_err-put_lines-in-Refused-clause-err g c =
     let comes = subst (λ (f : Finding). ComesTo c.self.inside.setup c.args.payload.now f) c.in-Refused.is c.find.ensures in
-    subst (λ (x : State). BreaksOff x c.args.link c.args.payload.now (g.O.Sink.taken c.args.out.now) (g.O.Sink.taken c.args.out.now) (g.L.Sink.taken c.args.log.now) (g.L.Sink.taken c.put_lines.new.log)) c.self.view_is (breaks-refused c.self.inside.setup c.self.inside.collector c.self.inside.records c.self.inside.counts c.self.inside.stopped c.args.link c.args.payload.now c.in-Refused.fault (g.O.Sink.taken c.args.out.now) (g.L.Sink.taken c.args.log.now) (g.L.Sink.taken c.put_lines.new.log) comes (subst (λ (t : List ℕ). TakesPart (g.L.Sink.taken c.args.log.now) (g.L.Sink.taken c.put_lines.new.log) t) (c.deref.ensures.value ∙ c.in-Ok.ensures) c.put_lines.ensures.part))
+    on_err-from c.from_residual.result (subst (λ (x : State). BreaksOff x c.args.link c.args.payload.now (g.O.Sink.taken c.args.out.now) (g.O.Sink.taken c.args.out.now) (g.L.Sink.taken c.args.log.now) (g.L.Sink.taken c.put_lines.new.log)) c.self.view_is (breaks-refused c.self.inside.setup c.self.inside.collector c.self.inside.records c.self.inside.counts c.self.inside.stopped c.args.link c.args.payload.now c.in-Refused.fault (g.O.Sink.taken c.args.out.now) (g.L.Sink.taken c.args.log.now) (g.L.Sink.taken c.put_lines.new.log) comes (subst (λ (t : List ℕ). TakesPart (g.L.Sink.taken c.args.log.now) (g.L.Sink.taken c.put_lines.new.log) t) (c.deref.ensures.value ∙ c.in-Ok.ensures) c.put_lines.ensures.part)))
 
-pub returns-in-Ok-offer-clause-ok : goal.returns-in-Ok-offer-clause-ok
-returns-in-Ok-offer-clause-ok g c =
+pub returns-in_ok-offer-in-Arrived-clause-ok : goal.returns-in_ok-offer-in-Arrived-clause-ok
+returns-in_ok-offer-in-Arrived-clause-ok g c =
     let comes = subst (λ (f : Finding). ComesTo c.self.inside.setup c.args.payload.now f) c.in-Arrived.is c.find.ensures in
-    subst (λ (x : State). Arrives x c.args.link c.args.payload.now c.offer.new.self (g.O.Sink.taken c.args.out.now) (g.O.Sink.taken c.offer.new.out) (g.L.Sink.taken c.args.log.now) (g.L.Sink.taken c.offer.new.log)) c.self.view_is (arrives-arrived c.self.inside.setup c.self.inside.collector c.self.inside.records c.offer.new.self c.self.inside.counts (record c.self.inside.counts { frames = c.saturating_add-self-inside.result }) c.self.inside.stopped c.self.inside.stopped c.args.link c.args.payload.now c.in-Arrived.dated (g.O.Sink.taken c.args.out.now) (g.O.Sink.taken c.offer.new.out) (g.L.Sink.taken c.args.log.now) (g.L.Sink.taken c.offer.new.log) comes (ap (λ (n : ℕ). record c.self.inside.counts { frames = n }) c.saturating_add-self-inside.ensures) c.offer.ensures.settings c.in-Ok-offer.ensures.ok)
+    subst (λ (x : State). Arrives x c.args.link c.args.payload.now c.offer.new.self (g.O.Sink.taken c.args.out.now) (g.O.Sink.taken c.offer.new.out) (g.L.Sink.taken c.args.log.now) (g.L.Sink.taken c.offer.new.log)) c.self.view_is (arrives-arrived c.self.inside.setup c.self.inside.collector c.self.inside.records c.offer.new.self c.self.inside.counts (record c.self.inside.counts { frames = c.saturating_add-self-inside.result }) c.self.inside.stopped c.self.inside.stopped c.args.link c.args.payload.now c.in-Arrived.dated (g.O.Sink.taken c.args.out.now) (g.O.Sink.taken c.offer.new.out) (g.L.Sink.taken c.args.log.now) (g.L.Sink.taken c.offer.new.log) comes (ap (λ (n : ℕ). record c.self.inside.counts { frames = n }) c.saturating_add-self-inside.ensures) c.offer.ensures.settings c.in_ok-offer-in-Arrived.ensures.ok)
 
-pub returns-clause-err : goal.returns-clause-err
-returns-clause-err g c =
+pub returns-in_err-offer-in-Arrived-clause-err : goal.returns-in_err-offer-in-Arrived-clause-err
+returns-in_err-offer-in-Arrived-clause-err g c =
     let comes = subst (λ (f : Finding). ComesTo c.self.inside.setup c.args.payload.now f) c.in-Arrived.is c.find.ensures in
-    subst (λ (x : State). BreaksOff x c.args.link c.args.payload.now (g.O.Sink.taken c.args.out.now) (g.O.Sink.taken c.offer.new.out) (g.L.Sink.taken c.args.log.now) (g.L.Sink.taken c.offer.new.log)) c.self.view_is (breaks-arrived c.self.inside.setup c.self.inside.collector c.self.inside.records c.self.inside.counts (record c.self.inside.counts { frames = c.saturating_add-self-inside.result }) c.self.inside.stopped c.self.inside.stopped c.args.link c.args.payload.now c.in-Arrived.dated (g.O.Sink.taken c.args.out.now) (g.O.Sink.taken c.offer.new.out) (g.L.Sink.taken c.args.log.now) (g.L.Sink.taken c.offer.new.log) comes c.in-Err-offer.ensures.err)
+    on_err-from c.from_residual-in_err-offer-in-Arrived.result (subst (λ (x : State). BreaksOff x c.args.link c.args.payload.now (g.O.Sink.taken c.args.out.now) (g.O.Sink.taken c.offer.new.out) (g.L.Sink.taken c.args.log.now) (g.L.Sink.taken c.offer.new.log)) c.self.view_is (breaks-arrived c.self.inside.setup c.self.inside.collector c.self.inside.records c.self.inside.counts (record c.self.inside.counts { frames = c.saturating_add-self-inside.result }) c.self.inside.stopped c.self.inside.stopped c.args.link c.args.payload.now c.in-Arrived.dated (g.O.Sink.taken c.args.out.now) (g.O.Sink.taken c.offer.new.out) (g.L.Sink.taken c.args.log.now) (g.L.Sink.taken c.offer.new.log) comes c.in_err-offer-in-Arrived.ensures.err))
 
 pub returns-in-OtherMessage-clause-ahead : goal.returns-in-OtherMessage-clause-ahead
 returns-in-OtherMessage-clause-ahead g c = subst (λ (x : State). IsAhead x.window x.closed) (sym c.self.view_is) c.requires.ahead

@@ -2,6 +2,7 @@ use Rattle.std.proofs.lemmas.Grind.{common_steps}
 use Rattle.std.proofs.Common.{◌≡◌, ◌+◌, ℕ, length, None, suc, refl, sym, subst, ◌∙◌, arith}
 use Rattle.rtk_convert.specs.Converter.{ConverterState, refusal}
 use Rattle.rtk_convert.proofs.ClosingLemmas.{ClosesSome, some-refused, none-given, closes-none, closes-past, closes-next, closes-off, closes-all}
+use Rattle.rtk_convert.proofs.WritingLemmas.{on_err-from}
 use Rattle.rtk_convert.proofs.converter.Converter.close_all.Goals as goal
 
 pub links-init : goal.links-init
@@ -33,24 +34,24 @@ links-preserved g c =
     let next : suc c.links.link ≡ c.links.link + 1 = omega arith in
     let none : refusal c.links.self c.links.link ≡ None = none-given c.refusal.result (refusal c.links.self c.links.link) c.refusal.ensures (sym c.is_some.ensures ∙ c.if-is_some.false) in
     record {
-      going = c.in_default.ensures.going;
+      going = c.in_ok-close.ensures.going;
       settings = c.close.ensures.settings ∙ i.settings;
-      out_same = c.in_default.ensures.out_same ∙ i.out_same;
-      log_same = c.in_default.ensures.log_same ∙ i.log_same;
+      out_same = c.in_ok-close.ensures.out_same ∙ i.out_same;
+      log_same = c.in_ok-close.ensures.log_same ∙ i.log_same;
       closed = λ h r. subst (λ (n : ℕ). ClosesSome c.args.self.now h n c.close.new.self (g.O.Sink.taken c.args.out.now) (g.O.Sink.taken c.close.new.out) (g.L.Sink.taken c.args.log.now) (g.L.Sink.taken c.close.new.log)) next
           (closes-next c.args.self.now c.links.self c.close.new.self h c.links.link (g.O.Sink.taken c.args.out.now) (g.O.Sink.taken c.links.out) (g.O.Sink.taken c.close.new.out) (g.L.Sink.taken c.args.log.now) (g.L.Sink.taken c.links.log) (g.L.Sink.taken c.close.new.log)
-          i.settings none (i.closed h r) c.in_default.ensures.ok);
+          i.settings none (i.closed h r) c.in_ok-close.ensures.ok);
     }
 
-pub returns-in-Err-clause-err : goal.returns-in-Err-clause-err
-returns-in-Err-clause-err g c =
+pub returns-in_err-close-clause-err : goal.returns-in_err-close-clause-err
+returns-in_err-close-clause-err g c =
     let i = c.links.invariant in
     let none : refusal c.links.self c.links.link ≡ None = none-given c.refusal.result (refusal c.links.self c.links.link) c.refusal.ensures (sym c.is_some.ensures ∙ c.if-is_some.false) in
-    λ h r. (
+    on_err-from c.from_residual.result (λ h r. (
       c.links.link,
       closes-off c.args.self.now c.links.self h c.links.link (g.O.Sink.taken c.args.out.now) (g.O.Sink.taken c.links.out) (g.O.Sink.taken c.close.new.out) (g.L.Sink.taken c.args.log.now) (g.L.Sink.taken c.links.log) (g.L.Sink.taken c.close.new.log)
-          i.settings none (i.closed h r) (c.in-Err.ensures.err (c.in-Err.ensures.fault none)),
-    )
+          i.settings none (i.closed h r) (c.in_err-close.ensures.err (c.in_err-close.ensures.fault none)),
+    ))
 
 pub returns-clause-ok : goal.returns-clause-ok
 returns-clause-ok g c =

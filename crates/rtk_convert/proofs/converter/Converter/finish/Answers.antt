@@ -12,21 +12,21 @@ returns-clause-ok g c =
     (λ counts. Finishes c.closing.inside.conversion counts (g.O.Sink.taken c.close_all.new.out) (g.O.Sink.taken c.finish.new.out) (g.L.Sink.taken c.close_all.new.log) (g.L.Sink.taken c.finish.new.log))
     (λ counts. Ends c.args.self counts (g.O.Sink.taken c.args.out.now) (g.O.Sink.taken c.finish.new.out) (g.L.Sink.taken c.args.log.now) (g.L.Sink.taken c.finish.new.log))
     (λ counts f. ends c.args.self c.close_all.new.self counts (g.O.Sink.taken c.args.out.now) (g.O.Sink.taken c.close_all.new.out) (g.O.Sink.taken c.finish.new.out) (g.L.Sink.taken c.args.log.now) (g.L.Sink.taken c.close_all.new.log) (g.L.Sink.taken c.finish.new.log)
-    c.in_default.ensures.settings c.in_default.ensures.ok
+    c.in_ok-close_all.ensures.settings c.in_ok-close_all.ensures.ok
     (subst (λ (s : ConverterState). Finishes s.conversion counts (g.O.Sink.taken c.close_all.new.out) (g.O.Sink.taken c.finish.new.out) (g.L.Sink.taken c.close_all.new.log) (g.L.Sink.taken c.finish.new.log)) c.closing.view_is f))
     c.finish.ensures.ok
 
 pub returns-clause-err : goal.returns-clause-err
 returns-clause-err g c =
-    let going : c.closing.inside.conversion.stopped ≡ false = subst (λ (s : ConverterState). s.conversion.stopped ≡ false) (sym c.closing.view_is) c.in_default.ensures.going in
+    let going : c.closing.inside.conversion.stopped ≡ false = subst (λ (s : ConverterState). s.conversion.stopped ≡ false) (sym c.closing.view_is) c.in_ok-close_all.ensures.going in
     if_err-map c.finish.result IsFrameFault
     (λ part. ends-part c.args.self c.close_all.new.self (g.O.Sink.taken c.args.out.now) (g.O.Sink.taken c.close_all.new.out) (g.O.Sink.taken c.finish.new.out) (g.L.Sink.taken c.args.log.now) (g.L.Sink.taken c.close_all.new.log) (g.L.Sink.taken c.finish.new.log)
-    c.in_default.ensures.settings c.in_default.ensures.ok
+    c.in_ok-close_all.ensures.settings c.in_ok-close_all.ensures.ok
     (subst (λ (s : ConverterState). FinishesInPart s.conversion (g.O.Sink.taken c.close_all.new.out) (g.O.Sink.taken c.finish.new.out) (g.L.Sink.taken c.close_all.new.log) (g.L.Sink.taken c.finish.new.log)) c.closing.view_is (part going)))
     c.finish.ensures.err
 
 pub returns-clause-out_same : goal.returns-clause-out_same
-returns-clause-out_same g c = on_ok-map c.finish.result (λ same. same ∙ c.in_default.ensures.out_same) c.finish.ensures.out_same
+returns-clause-out_same g c = on_ok-map c.finish.result (λ same. same ∙ c.in_ok-close_all.ensures.out_same) c.finish.ensures.out_same
 
 pub returns-clause-log_same : goal.returns-clause-log_same
-returns-clause-log_same g c = on_ok-map c.finish.result (λ same. same ∙ c.in_default.ensures.log_same) c.finish.ensures.log_same
+returns-clause-log_same g c = on_ok-map c.finish.result (λ same. same ∙ c.in_ok-close_all.ensures.log_same) c.finish.ensures.log_same

@@ -1,5 +1,6 @@
 use Rattle.std.proofs.Common.{◌++◌, [], ◌∷◌, refl, ◌∙◌}
 use Rattle.rtk_convert.proofs.GatheringLemmas.{gathers-none, gathers-more, breaks-off, finds-left}
+use Rattle.rtk_convert.proofs.WritingLemmas.{on_err-from}
 use Rattle.rtk_convert.proofs.link.Link.close.Goals as goal
 
 pub frames-init : goal.frames-init
@@ -17,26 +18,26 @@ frames-preserved g c =
     let holds = c.rest.follows.holds-at-none in
     let s = finds-left c.args.self.now.scanner.pending c.frames.self.scanner.pending i.taken.0 c.in-Some.payload c.rest.follows.lender-at-none i.taken.1 (rw c.in-Some.is at holds.2) in
     record {
-      going = c.in-Ok.ensures.going;
+      going = c.in_ok-epoch.ensures.going;
       settings = c.arrive.ensures.settings ∙ i.settings;
-      out_same = c.in-Ok.ensures.out_same ∙ i.out_same;
-      log_same = c.in-Ok.ensures.log_same ∙ i.log_same;
+      out_same = c.in_ok-epoch.ensures.out_same ∙ i.out_same;
+      log_same = c.in_ok-epoch.ensures.log_same ∙ i.log_same;
       taken = (
         i.taken.0 ++ c.in-Some.payload.now ∷ [],
         s.taken,
-        gathers-more c.args.conversion.now c.frames.conversion c.arrive.new.self c.args.number i.taken.0 c.in-Some.payload.now c.in-Ok.epoch c.args.self.now.newest c.frames.self.newest c.later-self.result
+        gathers-more c.args.conversion.now c.frames.conversion c.arrive.new.self c.args.number i.taken.0 c.in-Some.payload.now c.in_ok-epoch.epoch c.args.self.now.newest c.frames.self.newest c.later-self.result
             (g.O.Sink.taken c.args.out.now) (g.O.Sink.taken c.frames.out) (g.O.Sink.taken c.arrive.new.out)
             (g.L.Sink.taken c.args.log.now) (g.L.Sink.taken c.frames.log) (g.L.Sink.taken c.arrive.new.log)
-            i.settings i.taken.2 c.in-Ok.ensures.ok c.in-Ok.ensures.epoch c.later-self.ensures,
+            i.settings i.taken.2 c.in_ok-epoch.ensures.ok c.in_ok-epoch.ensures.epoch c.later-self.ensures,
       );
     }
 
-pub returns-in-Err-clause-err : goal.returns-in-Err-clause-err
-returns-in-Err-clause-err g c =
+pub returns-in_err-epoch-clause-err : goal.returns-in_err-epoch-clause-err
+returns-in_err-epoch-clause-err g c =
     let i = c.frames.invariant in
     let holds = c.rest.follows.holds-at-none in
     let s = finds-left c.args.self.now.scanner.pending c.frames.self.scanner.pending i.taken.0 c.in-Some.payload c.rest.follows.lender-at-none i.taken.1 (rw c.in-Some.is at holds.2) in
-    breaks-off c.args.conversion.now c.frames.conversion c.args.number _ i.taken.0 _ c.in-Some.payload.now c.args.self.now.newest c.frames.self.newest
+    on_err-from c.from_residual.result (breaks-off c.args.conversion.now c.frames.conversion c.args.number _ i.taken.0 _ c.in-Some.payload.now c.args.self.now.newest c.frames.self.newest
     (g.O.Sink.taken c.args.out.now) (g.O.Sink.taken c.frames.out) (g.O.Sink.taken c.arrive.new.out)
     (g.L.Sink.taken c.args.log.now) (g.L.Sink.taken c.frames.log) (g.L.Sink.taken c.arrive.new.log)
-    i.settings s.split i.taken.2 (c.in-Err.ensures.err i.going)
+    i.settings s.split i.taken.2 (c.in_err-epoch.ensures.err i.going))
