@@ -23,6 +23,3 @@ pub use laws::{
 };
 pub use left::Left;
 pub use offers::Offer;
-
-#[cfg(test)]
-mod tests;

@@ -1,5 +1,6 @@
 //! Values from outside: payloads by the tables of fields, and the files and reports that they come to.
 
+mod asking;
 mod links;
 mod payloads;
 mod rows;

@@ -7,15 +7,9 @@ mod frame;
 pub mod laws;
 mod lending;
 mod memory;
-#[cfg(test)]
-mod plain;
 mod scanner;
 mod search;
 mod stream;
-#[cfg(test)]
-mod stream_tests;
-#[cfg(test)]
-mod tests;
 
 pub use checksum::crc24q;
 pub use frame::{FrameFault, encode_frame};

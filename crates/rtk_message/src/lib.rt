@@ -30,6 +30,3 @@ pub use message::Message;
 pub use msm1074::{Msm1074, MsmHeader};
 pub use obs1004::Obs1004;
 pub use satellites::{Satellite, Satellites};
-
-#[cfg(test)]
-mod tests;

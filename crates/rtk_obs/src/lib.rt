@@ -31,6 +31,3 @@ pub use rounding::{round_div, rounded_is_unique};
 pub use time::{Civil, GpsMs, LAST_MS};
 pub use track::{Digits, Track};
 pub use tracks::{Tracks, tracks_laws};
-
-#[cfg(test)]
-mod tests;

@@ -1,0 +1,149 @@
+//! Values from outside: the example message of the standard, and tables of two's complement.
+
+use rtk_bits::{BitReader, BitWriter};
+use std::test::Fail;
+
+// The payload of the message 1005 that RTCM 10403.3 gives as its example.
+const EXAMPLE_1005: [u8; 19] = [
+    0x3e, 0xd7, 0xd3, 0x02, 0x02, 0x98, 0x0e, 0xde, 0xef, 0x34, 0xb4, 0xbd, 0x62, 0xac, 0x09, 0x41,
+    0x98, 0x6f, 0x33,
+];
+
+#[test]
+fn fields_of_the_example_are_read(rt: HostRuntime) {
+    let mut reader = BitReader::new(&EXAMPLE_1005);
+    assert_eq!(rt; reader.remaining(), 152);
+    assert_eq!(rt; reader.take_u(12), Some(1005), "DF002, message number");
+    assert_eq!(rt; reader.take_u(12), Some(2003), "DF003, station");
+    assert_eq!(rt; reader.take_u(6), Some(0), "DF021, ITRF realization year");
+    assert_eq!(rt; reader.take_u(1), Some(1), "DF022, GPS");
+    assert_eq!(rt; reader.take_u(3), Some(0), "DF023, DF024, DF141");
+    assert_eq!(rt; reader.take_i(38), Some(11_141_045_999), "DF025, X");
+    assert_eq!(rt; reader.take_u(2), Some(0), "DF142, DF001");
+    assert_eq!(rt; reader.take_i(38), Some(-48_507_297_108), "DF026, Y");
+    assert_eq!(rt; reader.take_u(2), Some(0), "DF364");
+    assert_eq!(rt; reader.take_i(38), Some(39_755_214_643), "DF027, Z");
+    assert_eq!(rt; reader.remaining(), 0);
+    assert_eq!(rt; reader.take_u(1), None);
+}
+
+#[test]
+fn fields_of_the_example_are_written(rt: HostRuntime) -> Result<(), Fail> {
+    let mut writer = BitWriter::new(rt.alloc());
+    writer.put_u(12, 1005)?;
+    writer.put_u(12, 2003)?;
+    writer.put_u(6, 0)?;
+    writer.put_u(1, 1)?;
+    writer.put_u(3, 0)?;
+    writer.put_i(38, 11_141_045_999)?;
+    writer.put_u(2, 0)?;
+    writer.put_i(38, -48_507_297_108)?;
+    writer.put_u(2, 0)?;
+    writer.put_i(38, 39_755_214_643)?;
+    assert_eq!(rt; writer.finish().as_slice(), EXAMPLE_1005.as_slice());
+    Ok(())
+}
+
+#[test]
+fn twos_complement_is_read(rt: HostRuntime) {
+    let rows = [
+        (1, [0x00, 0, 0, 0, 0, 0, 0, 0], 0),
+        (1, [0x80, 0, 0, 0, 0, 0, 0, 0], -1),
+        (4, [0x70, 0, 0, 0, 0, 0, 0, 0], 7),
+        (4, [0x80, 0, 0, 0, 0, 0, 0, 0], -8),
+        (8, [0x7f, 0, 0, 0, 0, 0, 0, 0], 127),
+        (8, [0x80, 0, 0, 0, 0, 0, 0, 0], -128),
+        (14, [0x80, 0x00, 0, 0, 0, 0, 0, 0], -8192), // DF017, no pseudorange difference
+        (15, [0x80, 0x00, 0, 0, 0, 0, 0, 0], -16_384), // DF400, no fine range
+        (20, [0x80, 0x00, 0x00, 0, 0, 0, 0, 0], -524_288), // DF012, no phase range
+        (22, [0x80, 0x00, 0x00, 0, 0, 0, 0, 0], -2_097_152), // DF401, no fine phase
+        (32, [0x7f, 0xff, 0xff, 0xff, 0, 0, 0, 0], 2_147_483_647),
+        (32, [0x80, 0x00, 0x00, 0x00, 0, 0, 0, 0], -2_147_483_648),
+        (
+            64,
+            [0x7f, 0xff, 0xff, 0xff, 0xff, 0xff, 0xff, 0xff],
+            9_223_372_036_854_775_807,
+        ),
+        (
+            64,
+            [0x80, 0x00, 0x00, 0x00, 0x00, 0x00, 0x00, 0x00],
+            -9_223_372_036_854_775_808,
+        ),
+    ];
+    for (width, bytes, number) in rows {
+        assert!(rt; 1 <= width && width <= 64);
+        assert_eq!(rt;
+            BitReader::new(&bytes).take_i(width),
+            Some(number),
+            "{width} bits"
+        );
+    }
+}
+
+#[test]
+fn twos_complement_is_written(rt: HostRuntime) -> Result<(), Fail> {
+    let mut writer = BitWriter::new(rt.alloc());
+    writer.put_i(4, -1)?;
+    assert_eq!(rt; writer.finish().as_slice(), [0xf0].as_slice());
+
+    let mut writer = BitWriter::new(rt.alloc());
+    writer.put_i(1, -1)?;
+    writer.put_i(7, 63)?;
+    writer.put_i(4, -8)?;
+    writer.put_i(64, -9_223_372_036_854_775_808)?;
+    writer.put_i(4, 7)?;
+    assert_eq!(rt;
+        writer.finish().as_slice(),
+        [0xbf, 0x88, 0, 0, 0, 0, 0, 0, 0, 0x07].as_slice()
+    );
+    Ok(())
+}
+
+#[test]
+fn ones_are_minus_one_at_every_width(rt: HostRuntime) {
+    for width in 1..65 {
+        let mut reader = BitReader::new(&[0xff; 9]);
+        assert_eq!(rt; reader.take_u(3), Some(7));
+        assert_eq!(rt; reader.take_i(width), Some(-1), "{width} bits");
+    }
+}
+
+#[test]
+fn a_field_ends_in_a_ninth_byte(rt: HostRuntime) -> Result<(), Fail> {
+    let bytes = [0x01, 0x23, 0x45, 0x67, 0x89, 0xab, 0xcd, 0xef, 0x01];
+    let mut reader = BitReader::new(&bytes);
+    assert_eq!(rt; reader.take_u(4), Some(0x0));
+    assert_eq!(rt; reader.take_u(64), Some(0x1234_5678_9abc_def0));
+    assert_eq!(rt; reader.take_u(4), Some(0x1));
+
+    let mut writer = BitWriter::new(rt.alloc());
+    writer.put_u(4, 0x0)?;
+    writer.put_u(64, 0x1234_5678_9abc_def0)?;
+    writer.put_u(4, 0x1)?;
+    assert_eq!(rt; writer.finish().as_slice(), bytes.as_slice());
+    Ok(())
+}
+
+#[test]
+fn too_few_bits_are_left_alone(rt: HostRuntime) {
+    let mut reader = BitReader::new(&[0x3e, 0xd7, 0xd3]);
+    assert_eq!(rt; reader.take_u(25), None);
+    assert_eq!(rt; reader.take_i(64), None);
+    assert_eq!(rt; reader.remaining(), 24);
+    assert_eq!(rt; reader.take_u(24), Some(0x003e_d7d3));
+}
+
+#[test]
+fn the_last_byte_is_filled_with_zeros(rt: HostRuntime) -> Result<(), Fail> {
+    let mut writer = BitWriter::new(rt.alloc());
+    writer.put_u(12, 1005)?;
+    writer.put_u(12, 2003)?;
+    assert_eq!(rt; writer.finish().as_slice(), [0x3e, 0xd7, 0xd3].as_slice());
+
+    let mut writer = BitWriter::new(rt.alloc());
+    writer.put_u(12, 1005)?;
+    assert_eq!(rt; writer.finish().as_slice(), [0x3e, 0xd0].as_slice());
+
+    assert_eq!(rt; BitWriter::new(rt.alloc()).finish().len(), 0);
+    Ok(())
+}

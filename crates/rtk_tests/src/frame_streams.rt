@@ -1,0 +1,89 @@
+//! Sources and sinks over memory: what each call answers, counted by hand.
+
+use rtk_frame::{After, MemSink, MemSource, Sink, Source, StreamFault, read_one, write_all};
+use std::test::Fail;
+
+#[test]
+fn a_source_gives_its_bytes_two_at_a_time_and_then_what_comes_after(
+    rt: HostRuntime,
+) -> Result<(), Fail> {
+    let rows = [
+        (After::End, Ok(0), [5, 4, 9, 9]),
+        (After::Failure, Err(StreamFault), [5, 4, 9, 9]),
+        (After::Zeros, Ok(2), [0, 0, 9, 9]),
+    ];
+    for (after, behind, last) in rows {
+        let mut source = MemSource::new(rt.alloc(), &[1, 2, 3, 4, 5], 2, after)?;
+        let mut buf = [9; 4];
+        for (count, bytes) in [(2, [1, 2, 9, 9]), (2, [3, 4, 9, 9]), (1, [5, 4, 9, 9])] {
+            assert_eq!(rt; source.read(&mut buf), Ok(count), "{after:?}");
+            assert_eq!(rt; buf, bytes, "{after:?}");
+        }
+        for _ in 0..3 {
+            assert_eq!(rt; source.read(&mut buf), behind, "{after:?}");
+            assert_eq!(rt; buf, last, "{after:?}");
+        }
+    }
+    Ok(())
+}
+
+#[test]
+fn a_read_gives_no_more_than_its_buffer_has_room_for(rt: HostRuntime) -> Result<(), Fail> {
+    let mut source = MemSource::new(rt.alloc(), &[1, 2, 3], 2, After::Zeros)?;
+    let mut buf = [9; 2];
+    assert_eq!(rt; source.read(&mut buf[..1]), Ok(1));
+    assert_eq!(rt; source.read(&mut buf[..0]), Ok(0));
+    assert_eq!(rt; buf, [1, 9]);
+    assert_eq!(rt; source.read(&mut buf), Ok(2));
+    assert_eq!(rt; buf, [2, 3]);
+    assert_eq!(rt; source.read(&mut buf[..1]), Ok(1));
+    assert_eq!(rt; buf, [0, 3]);
+    Ok(())
+}
+
+#[test]
+fn a_sink_takes_its_room_and_then_fails(rt: HostRuntime) -> Result<(), Fail> {
+    let mut sink = MemSink::new(rt.alloc(), 10, 4)?;
+    assert_eq!(rt; sink.write(b"station"), Ok(4));
+    assert_eq!(rt; sink.write(b"ion"), Ok(3));
+    assert_eq!(rt; sink.write(b""), Ok(0));
+    assert_eq!(rt; sink.write(b" 2003"), Ok(3));
+    assert_eq!(rt; sink.write(b"03"), Err(StreamFault));
+    assert_eq!(rt; sink.write(b""), Ok(0));
+    assert_eq!(rt; sink.bytes(), b"station 20".as_slice());
+    Ok(())
+}
+
+#[test]
+fn write_all_writes_by_single_bytes_up_to_a_failure(rt: HostRuntime) -> Result<(), Fail> {
+    let mut sink = MemSink::new(rt.alloc(), 10, 1)?;
+    assert_eq!(rt; write_all(&mut sink, b"stat"), Ok(()));
+    assert_eq!(rt; sink.bytes(), b"stat".as_slice());
+    assert_eq!(rt; write_all(&mut sink, b"ion 2003"), Err(StreamFault));
+    assert_eq!(rt; sink.bytes(), b"station 20".as_slice());
+    assert_eq!(rt; write_all(&mut sink, b"03"), Err(StreamFault));
+    assert_eq!(rt; write_all(&mut sink, b""), Ok(()));
+    assert_eq!(rt; sink.bytes(), b"station 20".as_slice());
+    Ok(())
+}
+
+#[test]
+fn read_one_reads_the_source_named_and_no_other(rt: HostRuntime) -> Result<(), Fail> {
+    let first = MemSource::new(rt.alloc(), &[1, 2, 3], 3, After::End)?;
+    let second = MemSource::new(rt.alloc(), &[7, 8], 3, After::Failure)?;
+    let mut sources = [first, second];
+    let mut buf = [9; 4];
+    let rows = [
+        (1, Ok(2), [7, 8, 9, 9]),
+        (0, Ok(3), [1, 2, 3, 9]),
+        (1, Err(StreamFault), [1, 2, 3, 9]),
+        (0, Ok(0), [1, 2, 3, 9]),
+    ];
+    for (link, count, bytes) in rows {
+        let sources = sources.as_mut_slice();
+        assert!(rt; link < sources.len());
+        assert_eq!(rt; read_one(sources, link, &mut buf), count, "link {link}");
+        assert_eq!(rt; buf, bytes, "link {link}");
+    }
+    Ok(())
+}

@@ -1,0 +1,15 @@
+//! Tests of the crates below the text, each module named after the crate that it tests.
+#![tactic(auto)]
+
+#[cfg(test)]
+mod bits;
+#[cfg(test)]
+mod collect;
+#[cfg(test)]
+mod frame;
+#[cfg(test)]
+mod frame_streams;
+#[cfg(test)]
+mod message;
+#[cfg(test)]
+mod obs;
