@@ -41,6 +41,7 @@ second=$examples/session_link2.rtcm
 # The captures of examples/, with the files and reports that they are due.
 convert 1C,2W "$base" </dev/null;                     leaves file 0 "$examples/base.rnx" base.report
 convert 1C,2W stdin <"$base";                         leaves standard_input 0 "$examples/base.rnx" base.report
+convert 1C,2W --window 2 stdin <"$base";              leaves window_of_2 0 "$examples/base.rnx" base.report
 cat "$base" | { convert 1C,2W stdin; leaves pipe 0 "$examples/base.rnx" base.report; echo "$passed $failed" >counts; }
 read -r passed failed <counts
 convert 1C,2W,5X "$session.rtcm" </dev/null;          leaves session 0 "$session.rnx" "$session.report"
@@ -84,6 +85,8 @@ leaves followed_to_its_end 0 "$examples/late.rnx" late.report
 mkdir folder
 convert 1C nowhere "$base" </dev/null;                fails missing_link 1 'cannot open nowhere'
 convert 1C "$base" nowhere </dev/null;                fails missing_link_behind_another 1 'cannot open nowhere'
+{ convert 1C stdin nowhere; cat >rest; } <"$base";    fails missing_link_behind_standard_input 1 'cannot open nowhere'
+cp rest out; : >err; status=0;                        leaves nothing_read_before_all_links_are_open 0 "$base" /dev/null
 convert 1C '' </dev/null;                             fails empty_name 1 'cannot open '
 convert 1C folder </dev/null;                         fails a_directory 1 'read failed'
 convert 1C stdin <folder;                             fails a_directory_as_standard_input 1 'read failed'

@@ -141,7 +141,7 @@ pub(crate) const EPOCHS: [Row; 10] = [
 ];
 
 /// Late, refused and other messages.
-pub(crate) const REPORTS: [Row; 6] = [
+pub(crate) const REPORTS: [Row; 7] = [
     // A station message after two epochs is late.
     Row {
         payloads: &[Q, Q_1, P],
@@ -192,7 +192,23 @@ pub(crate) const REPORTS: [Row; 6] = [
         file: &[TOP, NO_SITE, TYPES, FIRST_AT_NOON, END],
         report: "link 1 refused M5 1074\nlink 1 refused M4 1004\nlink 1 refused M1 -\nframes 3\nother 0\nrefused 3\nforeign 0\ntaken 0\nrepeat 0\nconflict 0\nlate 0\nepochs 0\n",
     },
-    // Epochs far ahead of the others make these late; a payload that is cut short is refused.
+    // Epochs far ahead of the others make these late.
+    Row {
+        payloads: &[Q_LATER_WEEK, Q_LATER_WEEK_1, Q],
+        file: &[
+            TOP,
+            NO_SITE,
+            TYPES,
+            FIRST_LATER,
+            END,
+            "> 2024 05 20 03 46 40.0000000  0  1\n",
+            Q_LINE,
+            "> 2024 05 20 03 46 41.0000000  0  1\n",
+            Q_LINE,
+        ],
+        report: "link 1 late 1004 2024-05-17 12:00:00.000\nframes 3\nother 0\nrefused 0\nforeign 0\ntaken 2\nrepeat 0\nconflict 0\nlate 1\nepochs 2\n",
+    },
+    // The same to the millisecond; a payload that is cut short is refused.
     Row {
         payloads: &[Q_LATER_WEEK, Q_LATER_WEEK_1, Q_127_891, P_CUT_SHORT],
         file: &[
