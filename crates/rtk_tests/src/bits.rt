@@ -9,22 +9,34 @@ const EXAMPLE_1005: [u8; 19] = [
     0x98, 0x6f, 0x33,
 ];
 
+// The fields of the example in their order: whether they are signed, their bits, their numbers.
+const FIELDS_1005: [(&str, bool, usize, i64); 10] = [
+    ("DF002, message number", false, 12, 1005),
+    ("DF003, station", false, 12, 2003),
+    ("DF021, ITRF realization year", false, 6, 0),
+    ("DF022, GPS", false, 1, 1),
+    ("DF023, DF024, DF141", false, 3, 0),
+    ("DF025, X", true, 38, 11_141_045_999),
+    ("DF142, DF001", false, 2, 0),
+    ("DF026, Y", true, 38, -48_507_297_108),
+    ("DF364", false, 2, 0),
+    ("DF027, Z", true, 38, 39_755_214_643),
+];
+
 #[test]
 fn fields_of_the_example_are_read(rt: HostRuntime) {
     let mut reader = BitReader::new(&EXAMPLE_1005);
     assert_eq!(rt; reader.remaining(), 152);
-    assert_eq!(rt; reader.take_u(12), Some(1005), "DF002, message number");
-    assert_eq!(rt; reader.take_u(12), Some(2003), "DF003, station");
-    assert_eq!(rt; reader.take_u(6), Some(0), "DF021, ITRF realization year");
-    assert_eq!(rt; reader.take_u(1), Some(1), "DF022, GPS");
-    assert_eq!(rt; reader.take_u(3), Some(0), "DF023, DF024, DF141");
-    assert_eq!(rt; reader.take_i(38), Some(11_141_045_999), "DF025, X");
-    assert_eq!(rt; reader.take_u(2), Some(0), "DF142, DF001");
-    assert_eq!(rt; reader.take_i(38), Some(-48_507_297_108), "DF026, Y");
-    assert_eq!(rt; reader.take_u(2), Some(0), "DF364");
-    assert_eq!(rt; reader.take_i(38), Some(39_755_214_643), "DF027, Z");
-    assert_eq!(rt; reader.remaining(), 0);
-    assert_eq!(rt; reader.take_u(1), None);
+    for (name, is_signed, width, number) in FIELDS_1005 {
+        assert!(rt; 1 <= width && width <= 64);
+        let field = if is_signed {
+            reader.take_i(width)
+        } else {
+            reader.take_u(width).map(|field| field as i64)
+        };
+        assert_eq!(rt; field, Some(number), "{name}");
+    }
+    assert_eq!(rt; (reader.remaining(), reader.take_u(1)), (0, None));
 }
 
 #[test]

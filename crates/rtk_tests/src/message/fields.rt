@@ -88,16 +88,38 @@ fn columns_go_satellite_by_satellite(rt: HostRuntime) -> Result<(), Fail> {
         return Err("no 1074".into());
     };
     // The first bit of a mask stands for identifier 1, the first of a row for the first signal.
-    assert_eq!(rt; read.header.satellite_mask, 1 << 59 | 1 << 57);
-    assert_eq!(rt; read.header.signal_mask, 1 << 30 | 1 << 22);
-    assert_eq!(rt; read.cell_mask.as_slice(), [0b10, 0b01].as_slice());
-    assert_eq!(rt; read.rough_ms.as_slice(), [70, 71].as_slice());
-    assert_eq!(rt; read.rough_fraction.as_slice(), [512, 513].as_slice());
-    assert_eq!(rt; read.fine_range.as_slice(), [100, -100].as_slice());
-    assert_eq!(rt; read.fine_phase.as_slice(), [1000, -1000].as_slice());
-    assert_eq!(rt; read.lock_indicator.as_slice(), [9, 10].as_slice());
-    assert_eq!(rt; read.half_cycle.as_slice(), [true, false].as_slice());
-    assert_eq!(rt; read.cnr.as_slice(), [40, 41].as_slice());
+    assert_eq!(rt;
+        (read.header.satellite_mask, read.header.signal_mask),
+        (1 << 59 | 1 << 57, 1 << 30 | 1 << 22)
+    );
+    assert_eq!(rt;
+        (
+            read.cell_mask.as_slice(),
+            read.rough_ms.as_slice(),
+            read.rough_fraction.as_slice()
+        ),
+        (
+            [0b10, 0b01].as_slice(),
+            [70, 71].as_slice(),
+            [512, 513].as_slice()
+        )
+    );
+    assert_eq!(rt;
+        (
+            read.fine_range.as_slice(),
+            read.fine_phase.as_slice(),
+            read.lock_indicator.as_slice()
+        ),
+        (
+            [100, -100].as_slice(),
+            [1000, -1000].as_slice(),
+            [9, 10].as_slice()
+        )
+    );
+    assert_eq!(rt;
+        (read.half_cycle.as_slice(), read.cnr.as_slice()),
+        ([true, false].as_slice(), [40, 41].as_slice())
+    );
     // Both cells are satellite 5's: the mask is 11 00 in place of 10 01.
     let mut one_row = TWO_CELLS;
     one_row[21] = 0x62;
