@@ -25,12 +25,17 @@ const NO_RANGE: i16 = -8192;
 fn check_left(rt: &impl Abort, collector: Collector, want: &[(u8, CellSource)]) {
     let mut left = collector.close();
     let set = left.next_left().expect(rt, "an epoch");
-    assert_eq!(rt; set.epoch().ms(), NOON);
-    assert_eq!(rt; set.cells().len(), want.len());
+    assert_eq!(rt; (set.epoch().ms(), set.cells().len()), (NOON, want.len()));
     for (entry, (satellite, source)) in set.cells().iter().zip(want) {
-        assert_eq!(rt; (entry.satellite, entry.code), (*satellite, Code::C1C));
-        assert_eq!(rt; entry.cell.source, *source);
-        assert_eq!(rt; entry.cell.strength_millidbhz, None);
+        assert_eq!(rt;
+            (
+                entry.satellite,
+                entry.code,
+                entry.cell.source,
+                entry.cell.strength_millidbhz
+            ),
+            (*satellite, Code::C1C, *source, None)
+        );
     }
     assert!(rt; left.next_left().is_none());
 }
