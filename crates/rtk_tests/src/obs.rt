@@ -1,23 +1,13 @@
 //! Values from the standards and from other programs.
 
-ghost use Rattle.std.specs.Prelude.{◌≡◌, ◌≤◌};
-ghost use Rattle.rtk_obs.specs.declared.time.TheConstants.{LAST_MS};
-
 mod digits;
 mod legacy;
 mod msm;
 
+use crate::moments::at;
 use rtk_obs::*;
 
 const NOON: u64 = 1_399_982_400_000; // 2024-05-17 12:00:00.000
-
-// The moment with this number of milliseconds.
-fn at(ms: u64) -> GpsMs
-    requires { ms ≤ LAST_MS }
-    ensures { result ≡ ms }
-{
-    GpsMs::new(ms).unwrap()
-}
 
 fn reading(date: (u16, u8, u8), time: (u8, u8, u8), millisecond: u16) -> Civil {
     Civil {

@@ -2,7 +2,7 @@
 
 ghost use Rattle.std.specs.Prelude.{◌≤◌};
 
-use super::at;
+use crate::moments::at;
 use rtk_obs::{Cell, CellSource, Code, Digits, Tracks, rolled};
 
 const NOON: u64 = 1_399_982_400_000; // 2024-05-17 12:00:00.000
