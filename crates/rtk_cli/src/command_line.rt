@@ -24,11 +24,13 @@ fn file<'a>(alloc: Global, help: &'a str) -> Arg<'a> {
     Arg::new(alloc, "FILE").help(help).required(true)
 }
 
+// A word with two hyphens. The prover takes a minute for a call of `long`, so this one is the only one.
+fn flag<'a>(alloc: Global, name: &'a str, help: &'a str) -> Arg<'a> {
+    Arg::new(alloc, name).long(name).help(help)
+}
+
 fn show<'a>(alloc: Global) -> Result<Command<'a>, AllocError> {
-    let hex = Arg::new(alloc, "hex")
-        .long("hex")
-        .help("The capture is hex text")
-        .action(ArgAction::SetTrue);
+    let hex = flag(alloc, "hex", "The capture is hex text").action(ArgAction::SetTrue);
     Command::new(alloc, "show")
         .about("Shows the messages of a capture, a line for each frame")
         .arg(hex)?
@@ -43,10 +45,7 @@ fn check<'a>(alloc: Global) -> Result<Command<'a>, AllocError> {
 
 // An option of `convert` that has a value.
 fn option<'a>(alloc: Global, name: &'a str, value: &'a str, help: &'a str) -> Arg<'a> {
-    Arg::new(alloc, name)
-        .long(name)
-        .value_name(value)
-        .help(help)
+    flag(alloc, name, help).value_name(value)
 }
 
 fn convert<'a>(alloc: Global) -> Result<Command<'a>, AllocError> {

@@ -95,8 +95,9 @@ fn convert<R: Source, O: Sink, L: Sink>(
     rtk_convert::run(alloc, setup, links, out, log, MOST_READS)
 }
 
-/// The exit status of a conversion that was done or broke off, and its fault line.
-pub fn end<R: Eprint>(rt: &R, done: Result<Counts, ConvertFault>, is_out: bool) -> u8
+/// The exit status of a conversion that was done or broke off and whose output is out or not; the fault line
+/// goes to standard error.
+pub fn conversion_status<R: Eprint>(rt: &R, done: Result<Counts, ConvertFault>, is_out: bool) -> u8
     ensures { result ≤ REFUSED }
 {
     match done {
@@ -143,5 +144,5 @@ pub fn convert_links<R: Files + Input + Print + Eprint + AllocGlobal, W: Write +
     let done = convert(rt.alloc(), setup, links.as_mut_slice(), &mut out, &mut log);
     let is_file_out = out.flush().is_ok();
     let is_report_out = log.flush().is_ok();
-    end(rt, done, is_file_out && is_report_out)
+    conversion_status(rt, done, is_file_out && is_report_out)
 }

@@ -115,8 +115,8 @@ LateAreListed s found log_old log_new = (link : ℕ) (a : Arrival) (before : Lis
 
 -- ---- "and change nothing"
 
--- with the late arrivals deleted each other one is late or not as before, none that stays is late, and the set and the
--- file are the same
+-- with the late arrivals deleted a further arrival is late or not as before, none that stays is late, and the set and
+-- the file are the same
 pub record LateChangeNothing (s : Settings) (found : List Found) : Type 0 where
   pub others : (a : Arrival) → late s.window a (without_late s.window (arrivals found)) ≡ late s.window a (arrivals found)
   pub none_late : AreInTime s.window (without_late s.window (arrivals found))

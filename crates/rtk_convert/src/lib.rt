@@ -27,6 +27,3 @@ pub use laws::{
 };
 pub use reading::run;
 pub use setup::{Setup, SetupFault};
-
-#[cfg(test)]
-mod tests;

@@ -86,18 +86,7 @@ impl EpochTable {
         self.time = time;
     }
 
-    /// Adds the row of a satellite that is greater than those before.
-    pub fn push(&mut self, row: SatelliteRow)
-        requires good { IsRow row }
-        requires later { All (λ r. r.satellite < row.satellite) self.old.rows }
-        requires room { length self.old.rows < 32 }
-        ensures { self.new ≡ record { time = self.old.time; rows = self.old.rows ++ row ∷ [] } }
-    {
-        self.rows[self.count] = row;
-        self.count += 1;
-    }
-
-    /// Adds the same row, written where it stays.
+    /// Adds the row of a satellite that is greater than those before, written where it stays.
     pub fn push_row(&mut self, satellite: u8, observed: &[Observed])
         requires few { length observed.now ≤ 16 }
         requires good { IsRow (record { satellite = satellite; observed = record { items = observed.now } }) }

@@ -29,6 +29,3 @@ pub use head::{Head, HeadFault};
 pub use header_text::header;
 pub use laws::{files_are_tables, one_fault, records_are_of_tables};
 pub use record_text::record;
-
-#[cfg(test)]
-mod tests;

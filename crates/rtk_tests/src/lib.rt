@@ -1,10 +1,14 @@
-//! Tests of the crates below the text, each module named after the crate that it tests.
+//! The tests of all crates, each module named after the crate that it tests.
 #![tactic(auto)]
 
 #[cfg(test)]
 mod bits;
 #[cfg(test)]
+mod cli;
+#[cfg(test)]
 mod collect;
+#[cfg(test)]
+mod convert;
 #[cfg(test)]
 mod frame;
 #[cfg(test)]
@@ -14,3 +18,5 @@ mod message;
 pub mod moments;
 #[cfg(test)]
 mod obs;
+#[cfg(test)]
+mod rinex;

@@ -2,7 +2,7 @@
 
 use super::payloads::*;
 use super::texts::*;
-use crate::fault::{ConvertFault, Stream};
+use rtk_convert::{ConvertFault, Stream};
 use rtk_frame::After;
 
 /// What a run is given, and what it comes to. The window has two epochs.

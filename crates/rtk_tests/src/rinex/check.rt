@@ -1,8 +1,7 @@
 //! Tests of texts that are checked.
 
 use super::header::HEADER;
-use crate::check_fault::{Cause, CheckFault};
-use crate::check_text::{check, text};
+use rtk_rinex::{Cause, CheckFault, check, text};
 use std::alloc::Global;
 use std::test::Fail;
 
@@ -62,6 +61,15 @@ fn line_of(letter: u8) -> &'static str {
     }
 }
 
+// The example header and the lines that these letters stand for.
+fn file_of(alloc: Global, letters: &str) -> Result<Vec<u8>, Fail> {
+    let mut bytes = file(alloc, &[])?;
+    for letter in letters.as_bytes() {
+        bytes.extend_from_slice(line_of(*letter).as_bytes())?;
+    }
+    Ok(bytes)
+}
+
 #[test]
 fn the_first_fault_of_a_file_is_named(rt: HostRuntime) -> Result<(), Fail> {
     let rows = [
@@ -89,14 +97,15 @@ fn the_first_fault_of_a_file_is_named(rt: HostRuntime) -> Result<(), Fail> {
         ("EcEx", at(16, Cause::Value)),
     ];
     for (letters, want) in rows {
-        let mut bytes = file(rt.alloc(), [].as_slice())?;
-        for letter in letters.as_bytes() {
-            bytes.extend_from_slice(line_of(*letter).as_bytes())?;
-        }
+        let bytes = file_of(rt.alloc(), letters)?;
         assert_eq!(rt; fault_of(rt.alloc(), bytes.as_slice()), want, "{letters}");
     }
-    assert_eq!(rt; fault_of(rt.alloc(), b""), at(1, Cause::Truncated));
     Ok(())
+}
+
+#[test]
+fn an_empty_text_is_truncated(rt: HostRuntime) {
+    assert_eq!(rt; fault_of(rt.alloc(), b""), at(1, Cause::Truncated));
 }
 
 #[test]

@@ -1,6 +1,6 @@
 //! `show` where more is read and written than at once: reads of 4,096 bytes, writes of 65,536.
 
-use crate::{ToolFault, show};
+use rtk_cli::{ToolFault, show};
 use rtk_frame::{After, MemSink, MemSource};
 use std::alloc::{AllocError, Global};
 use std::test::Fail;

@@ -1,4 +1,4 @@
-//! Values from outside: payloads by the tables of fields, and the files and reports that they come to.
+//! Payloads by the tables of fields, and the files and reports that they come to.
 
 mod asking;
 mod links;
@@ -7,14 +7,12 @@ mod rows;
 mod runs;
 mod texts;
 
-use crate::conversion::Conversion;
-use crate::fault::{ConvertFault, Stream};
-use crate::reading::run;
-use crate::setup::{Setup, SetupFault};
+use crate::rinex::{MADE, NOON, moment};
 use payloads::*;
 use rows::{EPOCHS, PARTS, PHASES, REPORTS, Row};
+use rtk_convert::{ConvertFault, Setup, SetupFault, Stream, run};
 use rtk_frame::{After, MemSink, MemSource, encode_frame};
-use rtk_obs::{Code, GpsMs};
+use rtk_obs::Code;
 use rtk_rinex::Head;
 use runs::{BROKEN, ENDED, Run};
 use std::alloc::Global;
@@ -22,15 +20,7 @@ use std::process::Abort;
 use std::test::Fail;
 use texts::*;
 
-const NOON: u64 = 1_399_982_400_000; // 2024-05-17 12:00:00.000
-
-const MADE: u64 = 1_399_986_000_000; // 2024-05-17 13:00:00.000
-
 const CODES: [Code; 2] = [Code::C1C, Code::C2W];
-
-fn moment(ms: u64) -> Result<GpsMs, Fail> {
-    Ok(GpsMs::new(ms).ok_or("no moment")?)
-}
 
 fn setup(station: u16, near: u64, window: usize) -> Result<Setup, Fail> {
     let head = Head::new(b"BASE", &CODES, moment(MADE)?)?;
@@ -127,78 +117,6 @@ fn phases_have_their_digits_and_rolls(rt: HostRuntime) -> Result<(), Fail> {
     check(&rt, rt.alloc(), &PHASES)
 }
 
-#[test]
-fn records_go_out_as_epochs_close(rt: HostRuntime) -> Result<(), Fail> {
-    let alloc = rt.alloc();
-    let mut out = MemSink::new(alloc, 65_536, 1)?;
-    let mut log = MemSink::new(alloc, 65_536, 7)?;
-    let mut conversion = Conversion::new(alloc, setup(2003, NOON, 2)?);
-    conversion.arrive(0, Q, &mut out, &mut log)?;
-    conversion.arrive(0, Q_1, &mut out, &mut log)?;
-    assert_eq!(rt; out.bytes().len(), 0);
-    conversion.arrive(0, Q_2, &mut out, &mut log)?;
-    let file = [TOP, NO_SITE, TYPES, FIRST_AT_NOON, END, AT_NOON, Q_LINE];
-    assert!(rt; consists_of(out.bytes(), &file));
-    conversion.arrive(1, Q, &mut out, &mut log)?;
-    assert!(rt; consists_of(out.bytes(), &file));
-    assert_eq!(rt;
-        log.bytes(),
-        b"link 2 late 1004 2024-05-17 12:00:00.000\n".as_slice()
-    );
-    Ok(())
-}
-
-#[test]
-fn nothing_goes_out_before_a_record(rt: HostRuntime) -> Result<(), Fail> {
-    let alloc = rt.alloc();
-    let mut out = MemSink::new(alloc, 65_536, 65_536)?;
-    let mut log = MemSink::new(alloc, 65_536, 65_536)?;
-    let mut conversion = Conversion::new(alloc, setup(2003, NOON, 2)?);
-    for payload in [SATELLITE_40, Q_1, Q_2] {
-        conversion.arrive(0, payload, &mut out, &mut log)?;
-    }
-    assert_eq!(rt; out.bytes().len(), 0);
-    conversion.arrive(0, Q_3, &mut out, &mut log)?;
-    let file = [
-        TOP,
-        NO_SITE,
-        TYPES,
-        FIRST_AFTER_NOON,
-        END,
-        AFTER_1_S,
-        Q_LINE,
-    ];
-    assert!(rt; consists_of(out.bytes(), &file));
-    Ok(())
-}
-
-#[test]
-fn a_conversion_that_broke_off_stays_stopped(rt: HostRuntime) -> Result<(), Fail> {
-    let alloc = rt.alloc();
-    let mut out = MemSink::new(alloc, 65_536, 65_536)?;
-    let mut log = MemSink::new(alloc, 10, 65_536)?;
-    let mut conversion = Conversion::new(alloc, setup(2003, NOON, 2)?);
-    conversion.arrive(0, P, &mut out, &mut log)?;
-    let fault = ConvertFault::Write {
-        stream: Stream::Log,
-    };
-    assert_eq!(rt;
-        conversion.arrive(0, P_OF_ANOTHER_YEAR, &mut out, &mut log),
-        Err(fault)
-    );
-    assert_eq!(rt; log.bytes(), b"link 1 con".as_slice());
-    assert_eq!(rt;
-        conversion.arrive(0, Q, &mut out, &mut log),
-        Err(ConvertFault::Stopped)
-    );
-    assert_eq!(rt;
-        conversion.finish(&mut out, &mut log),
-        Err(ConvertFault::Stopped)
-    );
-    assert_eq!(rt; out.bytes().len(), 0);
-    Ok(())
-}
-
 // A source of the frames of these payloads.
 fn source(alloc: Global, payloads: &[&[u8]], after: After) -> Result<MemSource, Fail> {
     let mut bytes = Vec::new(alloc);
@@ -265,41 +183,6 @@ fn a_run_has_1_to_16_links(rt: HostRuntime) -> Result<(), Fail> {
         let answer = run(alloc, setup, &mut readers, &mut out, &mut log, 100);
         assert_eq!(rt; answer.err(), Some(ConvertFault::Setup));
     }
-    Ok(())
-}
-
-#[test]
-fn a_full_file_keeps_its_first_part(rt: HostRuntime) -> Result<(), Fail> {
-    let alloc = rt.alloc();
-    let mut out = MemSink::new(alloc, 100, 65_536)?;
-    let mut log = MemSink::new(alloc, 65_536, 65_536)?;
-    let mut conversion = Conversion::new(alloc, setup(2003, NOON, 2)?);
-    conversion.arrive(0, Q, &mut out, &mut log)?;
-    conversion.arrive(0, Q_1, &mut out, &mut log)?;
-    let fault = ConvertFault::Write {
-        stream: Stream::Out,
-    };
-    assert_eq!(rt; conversion.arrive(0, Q_2, &mut out, &mut log), Err(fault));
-    assert_eq!(rt; out.bytes(), &TOP.as_bytes()[..100]);
-    assert_eq!(rt; log.bytes().len(), 0);
-    Ok(())
-}
-
-#[test]
-fn a_full_report_leaves_the_whole_file(rt: HostRuntime) -> Result<(), Fail> {
-    let alloc = rt.alloc();
-    let mut out = MemSink::new(alloc, 65_536, 65_536)?;
-    let mut log = MemSink::new(alloc, 10, 65_536)?;
-    let mut conversion = Conversion::new(alloc, setup(2003, NOON, 2)?);
-    conversion.arrive(0, P, &mut out, &mut log)?;
-    conversion.arrive(0, Q, &mut out, &mut log)?;
-    let fault = ConvertFault::Write {
-        stream: Stream::Log,
-    };
-    assert_eq!(rt; conversion.finish(&mut out, &mut log), Err(fault));
-    let file = [TOP, SITE, TYPES, FIRST_AT_NOON, END, AT_NOON, Q_LINE];
-    assert!(rt; consists_of(out.bytes(), &file));
-    assert_eq!(rt; log.bytes(), b"frames 2\no".as_slice());
     Ok(())
 }
 

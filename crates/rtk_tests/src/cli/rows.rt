@@ -1,7 +1,7 @@
 //! `show` over whole captures, as bytes and as hex text.
 ghost use Rattle.std.specs.Prelude.{◌≤◌};
 
-use crate::{ToolFault, show};
+use rtk_cli::{ToolFault, show};
 use rtk_frame::{After, MemSink, MemSource};
 use std::alloc::{AllocError, Global};
 use std::test::Fail;

@@ -1,18 +1,14 @@
 //! Tests of headers that are read back.
 
 use super::header::HEADER;
-use super::{CODES, MADE, NOON};
-use crate::header_check::check_header;
-use crate::header_fault::{HeaderCause, HeaderFault};
+use rtk_rinex::{Cause, CheckFault, check};
 use std::alloc::Global;
 use std::test::Fail;
 
-// The line that is wrong and why, or the number of lines of the header.
-fn answer(alloc: Global, text: &[u8]) -> (usize, Option<HeaderCause>) {
-    match check_header(&mut Vec::new(alloc), text) {
-        Ok(read) => (read.lines, None),
-        Err(HeaderFault { line, cause }) => (line, Some(cause)),
-    }
+// The line that is wrong and why, or nothing.
+fn fault_of(alloc: Global, text: &[u8]) -> Option<(usize, Cause)> {
+    let CheckFault { line, cause } = check(alloc, text).err()?;
+    Some((line, cause))
 }
 
 // The example header with other bytes at a column of a line, both from 1.
@@ -36,22 +32,6 @@ fn with_types(alloc: Global, lines: &[&str]) -> Result<Vec<u8>, Fail> {
     }
     text.extend_from_slice(HEADER.as_bytes().get(10 * 81..).ok_or("short")?)?;
     Ok(text)
-}
-
-#[test]
-fn the_example_header_is_read_back(rt: HostRuntime) -> Result<(), Fail> {
-    let mut out = Vec::new(rt.alloc());
-    let Ok(read) = check_header(&mut out, HEADER.as_bytes()) else {
-        return Err("refused".into());
-    };
-    assert_eq!(rt; std::str::from_utf8(out.as_slice())?, HEADER);
-    assert_eq!(rt; (read.lines, read.used), (14, 14 * 81));
-    assert!(rt; read.head.marker() == b"BASE".as_slice());
-    assert!(rt; read.head.codes() == &CODES[..2]);
-    assert_eq!(rt; (read.head.made().ms(), read.first.ms()), (MADE, NOON));
-    let place = (read.position.x, read.position.y, read.position.z);
-    assert_eq!(rt; place, (11_141_045_999, -48_507_297_108, 39_755_214_643));
-    Ok(())
 }
 
 #[test]
@@ -82,8 +62,8 @@ fn each_line_is_compared(rt: HostRuntime) -> Result<(), Fail> {
     for (line, column, bytes) in rows {
         let text = broken(rt.alloc(), line, column, bytes)?;
         assert_eq!(rt;
-            answer(rt.alloc(), text.as_slice()),
-            (usize::from(line), Some(HeaderCause::HeaderLine))
+            fault_of(rt.alloc(), text.as_slice()),
+            Some((usize::from(line), Cause::HeaderLine))
         );
     }
     Ok(())
@@ -95,12 +75,17 @@ fn a_header_that_ends_early_is_truncated(rt: HostRuntime) -> Result<(), Fail> {
         for column in [0, 40, 80] {
             let text = HEADER.as_bytes().get(..81 * line + column).ok_or("short")?;
             assert_eq!(rt;
-                answer(rt.alloc(), text),
-                (line + 1, Some(HeaderCause::Truncated))
+                fault_of(rt.alloc(), text),
+                Some((line + 1, Cause::Truncated))
             );
         }
     }
     Ok(())
+}
+
+// The fault of a line of the header.
+fn at(line: usize) -> Option<(usize, Cause)> {
+    Some((line, Cause::HeaderLine))
 }
 
 const FIVE: &str = "G   15 C1C L1C S1C C2W L2W S2W C2X L2X S2X C5X L5X S5X C1P  ";
@@ -113,38 +98,37 @@ const REST: &str = "       L1P S1P                                              
 
 #[test]
 fn observation_types_are_read_over_all_their_lines(rt: HostRuntime) -> Result<(), Fail> {
-    let c1 = Some(HeaderCause::HeaderLine);
-    let rows: [(&[&str], (usize, Option<HeaderCause>)); 8] = [
-        (&[FIVE, REST], (15, None)),
+    let rows: [(&[&str], Option<(usize, Cause)>); 8] = [
+        (&[FIVE, REST], None),
         (
             &[
                 NINE,
                 MORE,
                 "       S2S                                                  ",
             ],
-            (16, None),
+            None,
         ),
         // a code that stands before, or that there is none of
         (
             &["G    6 C1C L1C S1C C1C L1C S1C                              "],
-            (10, c1),
+            at(10),
         ),
         (
             &["G    6 C1C L1C S1C C1Y L1Y S1Y                              "],
-            (10, c1),
+            at(10),
         ),
         (
             &["G   51 C1C L1C S1C C2W L2W S2W C2X L2X S2X C5X L5X S5X C1P  "],
-            (10, c1),
+            at(10),
         ),
         // the further line is due, has another code, or repeats one
-        (&[FIVE], (11, c1)),
+        (&[FIVE], at(11)),
         (
             &[
                 FIVE,
                 "       L1C S1C                                              ",
             ],
-            (11, c1),
+            at(11),
         ),
         (
             &[
@@ -152,12 +136,12 @@ fn observation_types_are_read_over_all_their_lines(rt: HostRuntime) -> Result<()
                 MORE,
                 "       S2L                                                  ",
             ],
-            (12, c1),
+            at(12),
         ),
     ];
     for (lines, want) in rows {
         let text = with_types(rt.alloc(), lines)?;
-        assert_eq!(rt; answer(rt.alloc(), text.as_slice()), want);
+        assert_eq!(rt; fault_of(rt.alloc(), text.as_slice()), want);
     }
     Ok(())
 }

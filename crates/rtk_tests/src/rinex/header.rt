@@ -1,9 +1,8 @@
 //! Tests of heads and of the header.
 
 use super::{CODES, MADE, NOON, moment, part};
-use crate::head::{Head, HeadFault};
-use crate::header_text::header;
 use rtk_obs::{Code, Position};
+use rtk_rinex::{Head, HeadFault, header};
 use std::alloc::Global;
 use std::fmt::Write;
 use std::test::Fail;
@@ -30,14 +29,26 @@ fn position(x: i64, y: i64, z: i64, height: u16) -> Result<Position, Fail> {
     Ok(Position::new(x, y, z, height).ok_or("no position")?)
 }
 
+/// The marker, the codes and the moment of making of a head.
+type Parts<'a> = (&'a [u8], &'a [Code], u64);
+
+fn header_made(
+    alloc: Global,
+    (marker, codes, made): Parts,
+    position: &Position,
+    first: u64,
+) -> Result<Vec<u8>, Fail> {
+    let head = Head::new(marker, codes, moment(made)?)?;
+    Ok(header(alloc, &head, position, moment(first)?)?)
+}
+
 fn header_of(
     marker: &[u8],
     codes: &[Code],
     position: &Position,
     alloc: Global,
 ) -> Result<Vec<u8>, Fail> {
-    let head = Head::new(marker, codes, moment(MADE)?)?;
-    Ok(header(alloc, &head, position, moment(NOON)?)?)
+    header_made(alloc, (marker, codes, MADE), position, NOON)
 }
 
 #[test]
@@ -49,20 +60,25 @@ fn the_example_header_is_written(rt: HostRuntime) -> Result<(), Fail> {
 }
 
 #[test]
-fn markers_and_moments_fill_their_columns(rt: HostRuntime) -> Result<(), Fail> {
-    let markers = [
+fn markers_fill_their_columns(rt: HostRuntime) -> Result<(), Fail> {
+    let lines = [
         "B                                                           MARKER NAME         ",
         "A marker of sixty bytes, from column 1 to column 60 -------|MARKER NAME         ",
     ];
-    for (want, bytes) in markers.into_iter().zip([1, 60]) {
+    let place = position(0, 0, 0, 0)?;
+    for (want, bytes) in lines.into_iter().zip([1, 60]) {
         let marker = want.as_bytes().get(..bytes).ok_or("no marker")?;
-        // 2024-05-17 13:24:56.000
-        let head = Head::new(marker, &CODES[..2], moment(1_399_987_496_000)?)?;
-        let text = header(rt.alloc(), &head, &position(0, 0, 0, 0)?, moment(0)?)?;
+        let text = header_of(marker, &CODES[..2], &place, rt.alloc())?;
         assert_eq!(rt; part(&text, 2 * 81, 2 * 81 + 80)?, want);
-        assert_eq!(rt; part(&text, 81 + 40, 81 + 60)?, "20240517 132456 UTC ");
     }
-    let moments = [
+    Ok(())
+}
+
+#[test]
+fn moments_fill_their_columns(rt: HostRuntime) -> Result<(), Fail> {
+    // made at 2024-05-17 13:24:56.000
+    let head = (b"BASE".as_slice(), &CODES[..2], 1_399_987_496_000);
+    let rows = [
         (
             0,
             "  1980     1     6     0     0    0.0000000     GPS         ",
@@ -76,10 +92,11 @@ fn markers_and_moments_fill_their_columns(rt: HostRuntime) -> Result<(), Fail> {
             "  2100    12    31    23    59   59.9990000     GPS         ",
         ),
     ];
-    let head = Head::new(b"BASE", &CODES[..2], moment(1_399_987_496_000)?)?;
-    for (first, want) in moments {
-        let text = header(rt.alloc(), &head, &position(0, 0, 0, 0)?, moment(first)?)?;
+    let place = position(0, 0, 0, 0)?;
+    for (first, want) in rows {
+        let text = header_made(rt.alloc(), head, &place, first)?;
         assert_eq!(rt; part(&text, 11 * 81, 11 * 81 + 60)?, want);
+        assert_eq!(rt; part(&text, 81 + 40, 81 + 60)?, "20240517 132456 UTC ");
     }
     Ok(())
 }
@@ -202,46 +219,57 @@ fn thirteen_observation_types_stand_on_a_line(rt: HostRuntime) -> Result<(), Fai
     Ok(())
 }
 
+fn refusal((marker, codes, made): Parts) -> Result<Option<HeadFault>, Fail> {
+    Ok(Head::new(marker, codes, moment(made)?).err())
+}
+
+fn is_kept((marker, codes, made): Parts) -> Result<bool, Fail> {
+    let head = Head::new(marker, codes, moment(made)?)?;
+    Ok(head.marker() == marker && head.codes() == codes && head.made().ms() == made)
+}
+
+#[test]
+fn heads_keep_their_parts(rt: HostRuntime) -> Result<(), Fail> {
+    let sixty = [b'x'; 60];
+    let rows: [Parts; 4] = [
+        (b"B", &CODES[..2], MADE),
+        (sixty.as_slice(), &CODES[..2], MADE),
+        (b"two words ~!", &CODES[..2], MADE),
+        (b"BASE", CODES.as_slice(), MADE),
+    ];
+    for parts in rows {
+        assert!(rt; is_kept(parts)?);
+    }
+    Ok(())
+}
+
 #[test]
 fn heads_are_refused_in_order(rt: HostRuntime) -> Result<(), Fail> {
-    let sixty = [b'x'; 60];
     let longer = [b'x'; 61];
     let good = &CODES[..2];
     let twice: &[Code] = &[Code::C1C, Code::C1C];
     let mut more = [Code::C1C; 17];
     more[1..].copy_from_slice(CODES.as_slice());
     let apart: &[Code] = &[Code::C1C, Code::C2W, Code::C1C];
-    let rows: [(&[u8], &[Code], u64, Result<(), HeadFault>); 19] = [
-        (b"B", good, MADE, Ok(())),
-        (sixty.as_slice(), good, MADE, Ok(())),
-        (b"two words ~!", good, MADE, Ok(())),
-        (b"BASE", CODES.as_slice(), MADE, Ok(())),
-        (b"", good, MADE, Err(HeadFault::Marker)),
-        (b" ", good, MADE, Err(HeadFault::Marker)),
-        (longer.as_slice(), good, MADE, Err(HeadFault::Marker)),
-        (b" X", good, MADE, Err(HeadFault::Marker)),
-        (b"X ", good, MADE, Err(HeadFault::Marker)),
-        (b"X\x1fY", good, MADE, Err(HeadFault::Marker)),
-        (b"X\x7fY", good, MADE, Err(HeadFault::Marker)),
-        (b" X", twice, MADE + 1, Err(HeadFault::Marker)),
-        (b"BASE", twice, MADE, Err(HeadFault::Codes)),
-        (b"BASE", apart, MADE, Err(HeadFault::Codes)),
-        (b"BASE", &[], MADE, Err(HeadFault::Codes)),
-        (b"BASE", more.as_slice(), MADE, Err(HeadFault::Codes)),
-        (b"BASE", twice, MADE + 1, Err(HeadFault::Codes)),
-        (b"BASE", good, MADE + 1, Err(HeadFault::Made)),
-        (b"BASE", good, MADE + 999, Err(HeadFault::Made)),
+    let rows: [(Parts, HeadFault); 15] = [
+        ((b"", good, MADE), HeadFault::Marker),
+        ((b" ", good, MADE), HeadFault::Marker),
+        ((longer.as_slice(), good, MADE), HeadFault::Marker),
+        ((b" X", good, MADE), HeadFault::Marker),
+        ((b"X ", good, MADE), HeadFault::Marker),
+        ((b"X\x1fY", good, MADE), HeadFault::Marker),
+        ((b"X\x7fY", good, MADE), HeadFault::Marker),
+        ((b" X", twice, MADE + 1), HeadFault::Marker),
+        ((b"BASE", twice, MADE), HeadFault::Codes),
+        ((b"BASE", apart, MADE), HeadFault::Codes),
+        ((b"BASE", &[], MADE), HeadFault::Codes),
+        ((b"BASE", more.as_slice(), MADE), HeadFault::Codes),
+        ((b"BASE", twice, MADE + 1), HeadFault::Codes),
+        ((b"BASE", good, MADE + 1), HeadFault::Made),
+        ((b"BASE", good, MADE + 999), HeadFault::Made),
     ];
-    for (marker, codes, made, want) in rows {
-        match Head::new(marker, codes, moment(made)?) {
-            Ok(head) => {
-                assert_eq!(rt; want, Ok(()));
-                assert!(rt; head.marker() == marker);
-                assert!(rt; head.codes() == codes);
-                assert_eq!(rt; head.made().ms(), made);
-            }
-            Err(fault) => assert_eq!(rt; want, Err(fault)),
-        }
+    for (parts, want) in rows {
+        assert_eq!(rt; refusal(parts)?, Some(want));
     }
     Ok(())
 }

@@ -1,5 +1,5 @@
 use Rattle.std.proofs.Common.{◌≡◌, length, All, ◌<◌, ◌+◌}
-use Rattle.rtk_rinex.proofs.tests.record.ten_satellites_are_counted_in_three_columns.Given as goal
+use Rattle.rtk_tests.proofs.rinex.record.ten_satellites_are_counted_in_three_columns.Given as goal
 
 abbrev pub invariant-loop-satellite : goal.invariant-loop-satellite
 invariant-loop-satellite g l =

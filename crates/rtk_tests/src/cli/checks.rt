@@ -1,6 +1,6 @@
 //! `check` over files that are and are not this project's, and over sources and sinks that fail.
 
-use crate::{Job, ToolFault, check_file, job};
+use rtk_cli::{Job, ToolFault, check_file, job};
 use rtk_frame::{After, MemSink, MemSource};
 use std::alloc::{AllocError, Global};
 use std::test::Fail;

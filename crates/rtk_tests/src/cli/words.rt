@@ -1,6 +1,6 @@
 //! The command line: what the words give, and the texts of clap.
 
-use crate::{Job, WordsFault, job};
+use rtk_cli::{Job, WordsFault, job};
 use std::test::Fail;
 
 const HELP: &str = "\

@@ -1,14 +1,9 @@
 //! Tests of the record of an epoch.
 
-ghost use Rattle.std.specs.Prelude.{◌≡◌, length, All, ◌<◌, ◌≤◌};
-ghost use Rattle.std.specs.Int.{IsInRange};
-ghost use Rattle.rtk_rinex.specs.Record.{IsRow, IsStrength};
+ghost use Rattle.rtk_rinex.specs.Record.{IsStrength};
 
 use super::{CODES, MADE, NOON, moment, part};
-use crate::epoch_table::{EpochTable, Observed, SatelliteRow};
-use crate::head::Head;
-use crate::record_text::record;
-use arrayvec::ArrayVec;
+use rtk_rinex::{EpochTable, Head, Observed, record};
 use std::test::Fail;
 
 /// The record of the example file: range and phase of two codes, 45 and 35 dB-Hz.
@@ -16,22 +11,6 @@ const RECORD: &str = concat!(
     "> 2024 05 17 12 00  0.0000000  0  1\n",
     "G05  21085472.060 7 110804903.547 7        45.000    21085474.060 5  86341483.283 5        35.000\n",
 );
-
-// A row of one code.
-fn row(satellite: u8, observed: Observed) -> SatelliteRow
-    requires satellite { IsInRange 1 32 satellite }
-    requires strength { IsStrength observed.strength_millidbhz }
-    ensures good { IsRow result }
-    ensures satellite { result.satellite ≡ satellite }
-    ensures width { length result.observed.items ≡ 1 }
-{
-    let mut cells = ArrayVec::new();
-    cells.push(observed);
-    SatelliteRow {
-        satellite,
-        observed: cells,
-    }
-}
 
 // What a code shows, of a strength in quarters of a dB-Hz; of 0 there is none.
 fn observed(range: Option<i64>, phase: Option<i64>, quarters: u8, lock: (bool, bool)) -> Observed
@@ -52,15 +31,11 @@ fn observed(range: Option<i64>, phase: Option<i64>, quarters: u8, lock: (bool, b
 
 #[test]
 fn the_example_record_is_written(rt: HostRuntime) -> Result<(), Fail> {
-    let mut cells = ArrayVec::new();
     let lock = (false, false);
-    cells.push(observed(Some(21_085_472_060), Some(110_804_903_547), 180, lock));
-    cells.push(observed(Some(21_085_474_060), Some(86_341_483_283), 140, lock));
+    let first = observed(Some(21_085_472_060), Some(110_804_903_547), 180, lock);
+    let second = observed(Some(21_085_474_060), Some(86_341_483_283), 140, lock);
     let mut table = EpochTable::new(moment(NOON)?);
-    table.push(SatelliteRow {
-        satellite: 5,
-        observed: cells,
-    });
+    table.push_row(5, &[first, second]);
     let head = Head::new(b"BASE", &CODES[..2], moment(MADE)?)?;
     let text = record(rt.alloc(), &head, &table)?;
     assert_eq!(rt; std::str::from_utf8(text.as_slice())?, RECORD);
@@ -83,7 +58,10 @@ fn observations_are_written_in_their_limits(rt: HostRuntime) -> Result<(), Fail>
     let head = Head::new(b"BASE", &CODES[..1], moment(MADE)?)?;
     for (value, field) in rows {
         let mut table = EpochTable::new(moment(NOON)?);
-        table.push(row(7, observed(Some(value), Some(value), 120, (false, false))));
+        table.push_row(
+            7,
+            &[observed(Some(value), Some(value), 120, (false, false))],
+        );
         let text = record(rt.alloc(), &head, &table)?;
         assert_eq!(rt; part(&text, 36, 39)?, "G07");
         assert_eq!(rt; part(&text, 39, 55)?, field, "range {value}");
@@ -129,7 +107,7 @@ fn digits_of_strength_and_loss_of_lock(rt: HostRuntime) -> Result<(), Fail> {
     let head = Head::new(b"BASE", &CODES[..1], moment(MADE)?)?;
     for ((range, phase, quarters, lock), line) in shown.into_iter().zip(lines) {
         let mut table = EpochTable::new(moment(NOON)?);
-        table.push(row(7, observed(range, phase, quarters, lock)));
+        table.push_row(7, &[observed(range, phase, quarters, lock)]);
         let text = record(rt.alloc(), &head, &table)?;
         assert_eq!(rt; text.len(), 36 + line.len() + 1);
         assert_eq!(rt; part(&text, 36, 36 + line.len())?, line);
@@ -146,16 +124,16 @@ fn satellites_without_an_observation_are_left_out(rt: HostRuntime) -> Result<(),
     let outside = observed(Some(0), Some(10_000_000_000_000), 0, (true, false));
     let mut table = EpochTable::new(moment(NOON)?);
     assert_eq!(rt; record(rt.alloc(), &head, &table)?.len(), 0);
-    table.push(row(3, none));
+    table.push_row(3, &[none]);
     assert_eq!(rt; record(rt.alloc(), &head, &table)?.len(), 0);
-    table.push(row(4, outside));
+    table.push_row(4, &[outside]);
     assert_eq!(rt; record(rt.alloc(), &head, &table)?.len(), 0);
     // 2024-12-31 23:58:07.006
     table.restart(moment(1_419_724_687_006)?);
-    table.push(row(1, range));
-    table.push(row(3, outside));
-    table.push(row(31, none));
-    table.push(row(32, strength));
+    table.push_row(1, &[range]);
+    table.push_row(3, &[outside]);
+    table.push_row(31, &[none]);
+    table.push_row(32, &[strength]);
     let text = record(rt.alloc(), &head, &table)?;
     let want = concat!(
         "> 2024 12 31 23 58  7.0060000  0  2\n",
@@ -174,7 +152,7 @@ fn ten_satellites_are_counted_in_three_columns(rt: HostRuntime) -> Result<(), Fa
     // 2024-12-31 23:59:59.999
     let mut table = EpochTable::new(moment(1_419_724_799_999)?);
     for satellite in 1..11 {
-        table.push(row(satellite, observed(Some(1_000), None, 0, (false, false))));
+        table.push_row(satellite, &[observed(Some(1_000), None, 0, (false, false))]);
     }
     let text = record(rt.alloc(), &head, &table)?;
     assert_eq!(rt; text.len(), 36 + 10 * 18);

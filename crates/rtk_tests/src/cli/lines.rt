@@ -1,6 +1,6 @@
 //! The line of a payload. The payloads were put together from the field tables of RTCM 10403.3.
 
-use crate::show_line;
+use rtk_cli::show_line;
 use std::test::Fail;
 
 // A payload in hex, and its line.

@@ -2,7 +2,7 @@
 ghost use Rattle.std.specs.Prelude.{◌≡◌, None, true};
 
 use super::{NOON, setup};
-use crate::reading::run;
+use rtk_convert::run;
 use rtk_frame::{MemSink, Source, StreamFault};
 use std::test::Fail;
 

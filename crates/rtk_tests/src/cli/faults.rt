@@ -1,6 +1,6 @@
 //! `show` over sources and sinks that fail, and over inputs that it refuses.
 
-use crate::{SHOW_LIMIT, ToolFault, show};
+use rtk_cli::{SHOW_LIMIT, ToolFault, show};
 use rtk_frame::{After, MemSink, MemSource};
 use std::test::Fail;
 

@@ -1,8 +1,7 @@
 //! Tests of whole lines behind a good header, of a larger file, and of the texts of faults.
 
 use super::check::{EPOCH, SATELLITE, at, file};
-use crate::check_fault::{Cause, CheckFault};
-use crate::check_text::check;
+use rtk_rinex::{Cause, CheckFault, check};
 use std::test::Fail;
 
 #[test]

@@ -1,6 +1,6 @@
 //! How a conversion ends: the exit status and the fault line.
 
-use crate::converting::end;
+use rtk_cli::conversion_status;
 use rtk_convert::{ConvertFault, Counts, Stream};
 use std::cell::RefCell;
 use std::fmt::Display;
@@ -96,7 +96,7 @@ fn statuses_and_lines(rt: HostRuntime) -> Result<(), Fail> {
         let told = Told {
             text: RefCell::new(String::new(rt.alloc())),
         };
-        assert_eq!(rt; end(&told, done, is_out), status, "{line}");
+        assert_eq!(rt; conversion_status(&told, done, is_out), status, "{line}");
         let text = told.text.into_inner();
         assert_eq!(rt; text.as_str(), line);
     }

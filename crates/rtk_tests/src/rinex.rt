@@ -1,4 +1,4 @@
-//! Values from outside: an example file, the limits of the columns, and heads that are refused.
+//! An example file, the limits of the columns, and heads and files that are refused.
 
 mod check;
 mod check_lines;
@@ -9,11 +9,11 @@ mod record;
 use rtk_obs::{Code, GpsMs};
 use std::test::Fail;
 
-const NOON: u64 = 1_399_982_400_000; // 2024-05-17 12:00:00.000
+pub const NOON: u64 = 1_399_982_400_000; // 2024-05-17 12:00:00.000
 
-const MADE: u64 = 1_399_986_000_000; // 2024-05-17 13:00:00.000
+pub const MADE: u64 = 1_399_986_000_000; // 2024-05-17 13:00:00.000
 
-const CODES: [Code; 16] = [
+pub const CODES: [Code; 16] = [
     Code::C1C,
     Code::C2W,
     Code::C2X,
@@ -32,7 +32,7 @@ const CODES: [Code; 16] = [
     Code::C2D,
 ];
 
-fn moment(ms: u64) -> Result<GpsMs, Fail> {
+pub fn moment(ms: u64) -> Result<GpsMs, Fail> {
     Ok(GpsMs::new(ms).ok_or("no moment")?)
 }
 

@@ -1,6 +1,6 @@
 //! The words of `convert` that give a conversion.
 
-use crate::{Job, job};
+use rtk_cli::{Job, job};
 use rtk_obs::Code;
 use std::alloc::Global;
 use std::test::Fail;

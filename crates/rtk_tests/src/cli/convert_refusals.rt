@@ -1,6 +1,6 @@
 //! The words of `convert` that give no conversion: our own refusals in their order, and clap's texts.
 
-use crate::{BadWords, WordsFault, job};
+use rtk_cli::{BadWords, WordsFault, job};
 use std::test::Fail;
 
 const NEAR: &str = "2024-05-17T12:00:00";
