@@ -115,7 +115,7 @@ words $near $made X 1C 1 2 3 4 5 6 7 8 9 10 11 12 13 14 15 16 17; fails seventee
 words 1980-01-06T00:00:00 $made X 1C nowhere;         fails reference_out_of_range 2 'bad --near'
 words $near $made -X 1C nowhere;                      fails marker_with_a_hyphen 1 'cannot open nowhere'
 
-# clap's refusals; the whole texts stand in rtk_tests.
+# clap's refusals; the whole texts stand in rtk_tests_file.
 try="
 For more information, try '--help'."
 "$program" convert --station 4096 stdin >out 2>err </dev/null; status=$?

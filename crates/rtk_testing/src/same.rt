@@ -1,0 +1,47 @@
+//! Comparisons of a test. They are calls and no `assert_eq!`, since each of those costs the proof of a test some
+//! seconds and a call nearly nothing.
+
+ghost use Rattle.std.specs.Prelude.{◌≡◌, true, IfOk};
+
+use std::fmt::{Debug, Display};
+use std::test::Fail;
+
+/// A test goes on where what it got is what it wants, and fails with both where not.
+pub fn same<T: PartialEq + Debug>(got: &T, want: &T) -> Result<(), Fail>
+    ensures { IfOk result (λ _. T.eq got.now want.now ≡ true) }
+{
+    if got == want {
+        Ok(())
+    } else {
+        Err(Fail::new(format_args!("{got:?}, and not {want:?}")))
+    }
+}
+
+/// As `same`, in this row of a table.
+pub fn same_of<R: Display + Drop, T: PartialEq + Debug>(row: R, got: &T, want: &T) -> Result<(), Fail>
+    ensures { IfOk result (λ _. T.eq got.now want.now ≡ true) }
+{
+    if got == want {
+        Ok(())
+    } else {
+        Err(Fail::new(format_args!("{row}: {got:?}, and not {want:?}")))
+    }
+}
+
+/// A test goes on where this holds, and fails where not.
+pub fn holds(is: bool) -> Result<(), Fail>
+    ensures { IfOk result (λ _. is ≡ true) }
+{
+    if is { Ok(()) } else { Err(Fail::new("what should hold does not")) }
+}
+
+/// As `holds`, in this row of a table.
+pub fn holds_of<R: Display + Drop>(row: R, is: bool) -> Result<(), Fail>
+    ensures { IfOk result (λ _. is ≡ true) }
+{
+    if is {
+        Ok(())
+    } else {
+        Err(Fail::new(format_args!("{row}: what should hold does not")))
+    }
+}

@@ -1,0 +1,105 @@
+//! How a conversion ends: the exit status and the fault line.
+
+use rtk_cli::conversion_status;
+use rtk_convert::{ConvertFault, Counts, Stream};
+use rtk_testing::same::{same, same_of};
+use std::cell::RefCell;
+use std::fmt::Display;
+use std::io;
+use std::io::ErrorKind;
+use std::test::Fail;
+
+/// Keeps what standard error is told.
+#[derive(Drop)]
+struct Told {
+    text: RefCell<String>,
+}
+
+impl Told {
+    fn add<D: Display + Drop>(&self, value: D, line_end: &str) -> io::Result<()> {
+        let refused = io::Error::from(ErrorKind::OutOfMemory);
+        let Ok(mut text) = self.text.try_borrow_mut() else {
+            return Err(refused);
+        };
+        match write!(text, "{value}{line_end}") {
+            Ok(()) => Ok(()),
+            Err(_) => Err(refused),
+        }
+    }
+}
+
+impl Eprint for Told {
+    fn eprint<D: Display + Drop>(&self, value: D) -> io::Result<()> {
+        self.add(value, "")
+    }
+
+    fn eprintln<D: Display + Drop>(&self, value: D) -> io::Result<()> {
+        self.add(value, "\n")
+    }
+}
+
+// A conversion of nothing that was found.
+const NOTHING: Counts = Counts {
+    frames: 0,
+    other: 0,
+    refused: 0,
+    foreign: 0,
+    taken: 0,
+    repeat: 0,
+    conflict: 0,
+    late: 0,
+    epochs: 0,
+};
+
+// What a conversion came to, whether its file and its report are out, and what is told.
+const ENDS: [(Result<Counts, ConvertFault>, bool, u8, &str); 7] = [
+    (Ok(NOTHING), true, 0, ""),
+    (Ok(NOTHING), false, 1, "rtcm2rinex: write failed\n"),
+    (
+        Err(ConvertFault::OutOfMemory),
+        true,
+        1,
+        "rtcm2rinex: out of memory\n",
+    ),
+    (
+        Err(ConvertFault::Write {
+            stream: Stream::Out,
+        }),
+        true,
+        1,
+        "rtcm2rinex: write failed\n",
+    ),
+    (
+        Err(ConvertFault::Write {
+            stream: Stream::Log,
+        }),
+        true,
+        1,
+        "rtcm2rinex: write failed\n",
+    ),
+    (
+        Err(ConvertFault::Read { link: 1 }),
+        true,
+        1,
+        "rtcm2rinex: read failed\n",
+    ),
+    (
+        Err(ConvertFault::Endless),
+        true,
+        1,
+        "rtcm2rinex: input does not end\n",
+    ),
+];
+
+#[test]
+fn statuses_and_lines(rt: HostRuntime) -> Result<(), Fail> {
+    for (done, is_out, status, line) in ENDS {
+        let told = Told {
+            text: RefCell::new(String::new(rt.alloc())),
+        };
+        same_of(line, &conversion_status(&told, done, is_out), &status)?;
+        let text = told.text.into_inner();
+        same(&text.as_str(), &line)?;
+    }
+    Ok(())
+}

@@ -1,0 +1,106 @@
+//! `show` over sources and sinks that fail, and over inputs that it refuses.
+
+use rtk_cli::{SHOW_LIMIT, ToolFault, show};
+use rtk_frame::{After, MemSink, MemSource};
+use rtk_testing::same::same;
+use std::test::Fail;
+
+// Two frames: a 1005 and a message of another number.
+const CAPTURE: &str = "D300133ED7D30202980EDEEF34B4BD62AC0941986F33360B98D300023FB0D71D73";
+
+const LINES: &str = "1005 station 2003 x 1114104.5999 y -4850729.7108 z 3975521.4643\n1019 other\n";
+
+// Each read fails in turn, of bytes and of hex text: nothing is out.
+#[test]
+fn each_read_fails(rt: HostRuntime) -> Result<(), Fail> {
+    let bytes = hex::decode(rt.alloc(), CAPTURE).ok_or("hex")?;
+    for (input, hex) in [(bytes.as_slice(), false), (CAPTURE.as_bytes(), true)] {
+        for n in 0..=input.len() {
+            let mut reader = MemSource::new(rt.alloc(), &input[..n], 1, After::Failure)?;
+            let mut out = MemSink::new(rt.alloc(), 100, 100)?;
+            let answer = show(rt.alloc(), &mut reader, &mut out, hex);
+            same(&answer, &Err(ToolFault::Input))?;
+            same(&out.bytes().len(), &0)?;
+        }
+    }
+    Ok(())
+}
+
+// Each write fails in turn: what was taken before is out.
+#[test]
+fn each_write_fails(rt: HostRuntime) -> Result<(), Fail> {
+    let bytes = hex::decode(rt.alloc(), CAPTURE).ok_or("hex")?;
+    for room in 0..LINES.len() {
+        for per_write in [1, 10, 1000] {
+            let mut reader = MemSource::new(rt.alloc(), bytes.as_slice(), 512, After::End)?;
+            let mut out = MemSink::new(rt.alloc(), room, per_write)?;
+            let answer = show(rt.alloc(), &mut reader, &mut out, false);
+            same(&answer, &Err(ToolFault::Output))?;
+            same(&out.bytes(), &&LINES.as_bytes()[..room])?;
+        }
+    }
+    Ok(())
+}
+
+// A sink with just the room.
+#[test]
+fn room_for_all_lines(rt: HostRuntime) -> Result<(), Fail> {
+    let bytes = hex::decode(rt.alloc(), CAPTURE).ok_or("hex")?;
+    let mut reader = MemSource::new(rt.alloc(), bytes.as_slice(), 512, After::End)?;
+    let mut out = MemSink::new(rt.alloc(), LINES.len(), 1)?;
+    same(&show(rt.alloc(), &mut reader, &mut out, false), &Ok(2))?;
+    same(&out.bytes(), &LINES.as_bytes())
+}
+
+// Texts that are no pairs of hex digits. Nothing is out, though a whole frame stands before.
+#[test]
+fn texts_that_are_not_hex(rt: HostRuntime) -> Result<(), Fail> {
+    let texts = [
+        "D3 0",
+        "D300133ED7D30202980EDEEF34B4BD62AC0941986F33360B98 0",
+        "D300133ED7D30202980EDEEF34B4BD62AC0941986F33360B98 0G",
+        "D300133ED7D30202980EDEEF34B4BD62AC0941986F33360B98 0x00",
+        "D3,00",
+        "D3\u{b}00",
+        "D3\u{a0}00",
+    ];
+    for text in texts {
+        let mut reader = MemSource::new(rt.alloc(), text.as_bytes(), 512, After::End)?;
+        let mut out = MemSink::new(rt.alloc(), 100, 100)?;
+        let answer = show(rt.alloc(), &mut reader, &mut out, true);
+        same(&answer, &Err(ToolFault::NotHex))?;
+        same(&out.bytes().len(), &0)?;
+    }
+    Ok(())
+}
+
+// An endless source: one byte more than the limit is too long, whether or not it is hex.
+#[test]
+fn one_byte_over_the_limit(rt: HostRuntime) -> Result<(), Fail> {
+    same(&SHOW_LIMIT, &16_777_216)?;
+    for hex in [false, true] {
+        let mut reader = MemSource::new(rt.alloc(), b"", 16_777_216, After::Zeros)?;
+        let mut out = MemSink::new(rt.alloc(), 100, 100)?;
+        let answer = show(rt.alloc(), &mut reader, &mut out, hex);
+        same(&answer, &Err(ToolFault::TooLong))?;
+        same(&out.bytes().len(), &0)?;
+    }
+    Ok(())
+}
+
+// The fault lines of the program.
+#[test]
+fn texts_of_faults(rt: HostRuntime) -> Result<(), Fail> {
+    let rows = [
+        (ToolFault::Input, "read failed"),
+        (ToolFault::TooLong, "input too long"),
+        (ToolFault::NotHex, "input is not hex"),
+        (ToolFault::OutOfMemory, "out of memory"),
+        (ToolFault::Output, "write failed"),
+    ];
+    for (fault, want) in rows {
+        let text = fault.to_string(rt.alloc())?;
+        same(&text.as_str(), &want)?;
+    }
+    Ok(())
+}

@@ -1,0 +1,60 @@
+//! `show` where more is read and written than at once: reads of 4,096 bytes, writes of 65,536.
+
+use rtk_cli::{ToolFault, show};
+use rtk_frame::{After, MemSink, MemSource};
+use rtk_testing::same::{holds, same};
+use std::alloc::{AllocError, Global};
+use std::test::Fail;
+
+// The frame of a message of another number, in hex, and its line of 11 bytes.
+const FRAME: &str = "D300023FB0D71D73";
+
+const LINE: &str = "1019 other\n";
+
+// Eight thousand times the same.
+fn repeated(alloc: Global, piece: &str) -> Result<Vec<u8>, AllocError> {
+    let mut all = Vec::new(alloc);
+    for _ in 0..8_000 {
+        all.extend_from_slice(piece.as_bytes())?;
+    }
+    Ok(all)
+}
+
+// Of 88,000 bytes as many are out as the sink had room for.
+#[test]
+fn sinks_that_fill(rt: HostRuntime) -> Result<(), Fail> {
+    let text = repeated(rt.alloc(), FRAME)?;
+    let lines = repeated(rt.alloc(), LINE)?;
+    let capture = hex::decode(rt.alloc(), text.as_slice()).ok_or("hex")?;
+    for (input, hex) in [(capture.as_slice(), false), (text.as_slice(), true)] {
+        for room in [0usize, 65_535, 65_536, 70_000, 87_999, 88_000] {
+            let want = if room < 88_000 {
+                Err(ToolFault::Output)
+            } else {
+                Ok(8_000)
+            };
+            let mut reader = MemSource::new(rt.alloc(), input, 100_000, After::End)?;
+            let mut out = MemSink::new(rt.alloc(), room, 100_000)?;
+            same(&show(rt.alloc(), &mut reader, &mut out, hex), &want)?;
+            same(&out.bytes().len(), &room)?;
+            holds(lines.as_slice().starts_with(out.bytes()))?;
+        }
+    }
+    Ok(())
+}
+
+// Of a source that fails behind so many bytes nothing is shown, though whole frames stand before.
+#[test]
+fn sources_that_fail(rt: HostRuntime) -> Result<(), Fail> {
+    let text = repeated(rt.alloc(), FRAME)?;
+    let mut capture = hex::decode(rt.alloc(), text.as_slice()).ok_or("hex")?;
+    for count in [10_000usize, 4_097, 4_096, 4_095] {
+        capture.truncate(count);
+        let mut reader = MemSource::new(rt.alloc(), capture.as_slice(), 100_000, After::Failure)?;
+        let mut out = MemSink::new(rt.alloc(), 100, 100)?;
+        let answer = show(rt.alloc(), &mut reader, &mut out, false);
+        same(&answer, &Err(ToolFault::Input))?;
+        same(&out.bytes().len(), &0)?;
+    }
+    Ok(())
+}

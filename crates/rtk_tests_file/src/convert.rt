@@ -1,0 +1,280 @@
+//! Payloads by the tables of fields, and the files and reports that they come to.
+
+mod asking;
+mod links;
+mod payloads;
+mod rows;
+mod runs;
+mod texts;
+
+use crate::rinex::{MADE, NOON, moment};
+use payloads::*;
+use rows::{EPOCHS, PARTS, PHASES, REPORTS, Row};
+use rtk_convert::{ConvertFault, Setup, SetupFault, Stream, run};
+use rtk_frame::{After, MemSink, MemSource, encode_frame};
+use rtk_obs::Code;
+use rtk_rinex::Head;
+use rtk_testing::same::{holds, same};
+use runs::{BROKEN, ENDED, Run};
+use std::alloc::Global;
+use std::test::Fail;
+use texts::*;
+
+const CODES: [Code; 2] = [Code::C1C, Code::C2W];
+
+fn setup(station: u16, near: u64, window: usize) -> Result<Setup, Fail> {
+    let head = Head::new(b"BASE", &CODES, moment(MADE)?)?;
+    Ok(Setup::new(station, moment(near)?, head, window)?)
+}
+
+/// What was written to the file and to the report.
+#[derive(Drop)]
+struct Written {
+    out: MemSink,
+    log: MemSink,
+}
+
+// A run over one link of these payloads, to its end.
+fn converted(alloc: Global, payloads: &[&[u8]]) -> Result<Written, Fail> {
+    let mut out = MemSink::new(alloc, 65_536, 65_536)?;
+    let mut log = MemSink::new(alloc, 65_536, 65_536)?;
+    let mut readers = Vec::new(alloc);
+    readers.push(source(alloc, payloads, After::End)?)?;
+    let setup = setup(2003, NOON, 2)?;
+    run(alloc, setup, &mut readers, &mut out, &mut log, 1000)?;
+    Ok(Written { out, log })
+}
+
+// Do these parts, one behind another, make the text?
+fn consists_of(text: &[u8], parts: &[&str]) -> bool {
+    let mut rest = text;
+    for part in parts {
+        let Some(next) = rest.strip_prefix(part.as_bytes()) else {
+            return false;
+        };
+        rest = next;
+    }
+    rest.is_empty()
+}
+
+#[test]
+fn bad_setups_are_refused_in_order() -> Result<(), Fail> {
+    let rows = [
+        (4096, 604_799_999, 1, SetupFault::Station),
+        (2003, 604_799_999, 1, SetupFault::Near),
+        (2003, 3_786_480_000_000, 2, SetupFault::Near), // 2100-01-01 00:00:00.000
+        (2003, NOON, 1, SetupFault::Window),
+        (2003, NOON, 4097, SetupFault::Window),
+    ];
+    for (station, near, window, want) in rows {
+        let head = Head::new(b"BASE", &CODES, moment(MADE)?)?;
+        match Setup::new(station, moment(near)?, head, window) {
+            Ok(_) => return Err("a bad setup".into()),
+            Err(fault) => same(&fault, &want)?,
+        }
+    }
+    Ok(())
+}
+
+#[test]
+fn the_limits_of_a_setup_are_good() -> Result<(), Fail> {
+    for (station, near, window) in [(0, 604_800_000, 2), (4095, 3_786_479_999_999, 4096)] {
+        let setup = setup(station, near, window)?;
+        same(&setup.station(), &station)?;
+        same(&setup.near().ms(), &near)?;
+        same(&setup.window(), &window)?;
+        same(&setup.head().codes(), &CODES.as_slice())?;
+    }
+    Ok(())
+}
+
+fn check(alloc: Global, rows: &[Row]) -> Result<(), Fail> {
+    for row in rows {
+        let written = converted(alloc, row.payloads)?;
+        holds(consists_of(written.out.bytes(), row.file))?;
+        same(&written.log.bytes(), &row.report.as_bytes())?;
+    }
+    Ok(())
+}
+
+#[test]
+fn epochs_come_to_their_records(rt: HostRuntime) -> Result<(), Fail> {
+    check(rt.alloc(), &EPOCHS)
+}
+
+#[test]
+fn messages_come_to_their_report(rt: HostRuntime) -> Result<(), Fail> {
+    check(rt.alloc(), &REPORTS)
+}
+
+#[test]
+fn split_epochs_are_merged(rt: HostRuntime) -> Result<(), Fail> {
+    check(rt.alloc(), &PARTS)
+}
+
+#[test]
+fn phases_have_their_digits_and_rolls(rt: HostRuntime) -> Result<(), Fail> {
+    check(rt.alloc(), &PHASES)
+}
+
+// A source of the frames of these payloads.
+fn source(alloc: Global, payloads: &[&[u8]], after: After) -> Result<MemSource, Fail> {
+    let mut bytes = Vec::new(alloc);
+    for payload in payloads {
+        let frame = encode_frame(alloc, *payload)?;
+        bytes.extend_from_slice(&frame)?;
+    }
+    Ok(MemSource::new(alloc, &bytes, 512, after)?)
+}
+
+fn check_run(alloc: Global, row: &Run) -> Result<(), Fail> {
+    let mut readers = Vec::new(alloc);
+    for payloads in row.links {
+        readers.push(source(alloc, *payloads, row.after)?)?;
+    }
+    let (room, per_write) = row.room;
+    if per_write == 0 {
+        return Err("a sink that takes nothing".into());
+    }
+    let mut out = MemSink::new(alloc, room, per_write)?;
+    let mut log = MemSink::new(alloc, row.log_room, 65_536)?;
+    let setup = setup(2003, NOON, 2)?;
+    let answer = run(
+        alloc,
+        setup,
+        &mut readers,
+        &mut out,
+        &mut log,
+        row.max_reads,
+    );
+    same(&answer.err(), &row.fault)?;
+    holds(consists_of(out.bytes(), row.file))?;
+    same(&log.bytes(), &row.report.as_bytes())
+}
+
+#[test]
+fn runs_come_to_their_end(rt: HostRuntime) -> Result<(), Fail> {
+    for row in &ENDED {
+        check_run(rt.alloc(), row)?;
+    }
+    Ok(())
+}
+
+#[test]
+fn runs_that_break_off_leave_what_came_before(rt: HostRuntime) -> Result<(), Fail> {
+    for row in &BROKEN {
+        check_run(rt.alloc(), row)?;
+    }
+    Ok(())
+}
+
+#[test]
+fn a_run_has_1_to_16_links(rt: HostRuntime) -> Result<(), Fail> {
+    for links in [0u8, 17] {
+        let alloc = rt.alloc();
+        let mut readers = Vec::new(alloc);
+        for _ in 0..links {
+            readers.push(source(alloc, &[], After::End)?)?;
+        }
+        let mut out = MemSink::new(alloc, 1, 1)?;
+        let mut log = MemSink::new(alloc, 1, 1)?;
+        let setup = setup(2003, NOON, 2)?;
+        let answer = run(alloc, setup, &mut readers, &mut out, &mut log, 100);
+        same(&answer.err(), &Some(ConvertFault::Setup))?;
+    }
+    Ok(())
+}
+
+#[test]
+fn faults_have_their_texts(rt: HostRuntime) -> Result<(), Fail> {
+    let alloc = rt.alloc();
+    let stream = Stream::Out;
+    let rows = [
+        (ConvertFault::Setup, "V1 not 1 to 16 links"),
+        (ConvertFault::NoLink, "V2 no such link"),
+        (ConvertFault::LinkClosed, "V3 the link is closed"),
+        (ConvertFault::OutOfMemory, "V4 out of memory"),
+        (ConvertFault::Write { stream }, "V5 a write failed"),
+        (ConvertFault::Read { link: 1 }, "V6 reading link 1 failed"),
+        (ConvertFault::Endless, "V7 the input does not end"),
+        (ConvertFault::Stopped, "V8 stopped"),
+    ];
+    for (fault, want) in rows {
+        same(&fault.to_string(alloc)?.as_str(), &want)?;
+    }
+    let rows = [
+        (SetupFault::Station, "S1 bad station"),
+        (SetupFault::Near, "S2 bad reference"),
+        (SetupFault::Window, "S3 bad window"),
+    ];
+    for (fault, want) in rows {
+        same(&fault.to_string(alloc)?.as_str(), &want)?;
+    }
+    Ok(())
+}
+
+#[test]
+fn captures_cut_anywhere(rt: HostRuntime) -> Result<(), Fail> {
+    let alloc = rt.alloc();
+    let mut bytes = Vec::new(alloc);
+    for payload in [P, Q] {
+        bytes.extend_from_slice(&encode_frame(alloc, payload)?)?;
+    }
+    same(&bytes.len(), &55)?;
+    for k in 0..55 {
+        let (site, report) = if k < 25 {
+            (
+                NO_SITE,
+                "frames 0\nother 0\nrefused 0\nforeign 0\ntaken 0\nrepeat 0\nconflict 0\nlate 0\nepochs 0\n",
+            )
+        } else {
+            (
+                SITE,
+                "frames 1\nother 0\nrefused 0\nforeign 0\ntaken 1\nrepeat 0\nconflict 0\nlate 0\nepochs 0\n",
+            )
+        };
+        let mut readers = Vec::new(alloc);
+        readers.push(MemSource::new(alloc, bytes.get(..k).ok_or("no part")?, 512, After::End)?)?;
+        let mut out = MemSink::new(alloc, 4096, 4096)?;
+        let mut log = MemSink::new(alloc, 4096, 4096)?;
+        let setup = setup(2003, NOON, 2)?;
+        run(alloc, setup, &mut readers, &mut out, &mut log, 3)?;
+        holds(consists_of(out.bytes(), &[TOP, site, TYPES, FIRST_AT_NOON, END]))?;
+        same(&log.bytes(), &report.as_bytes())?;
+    }
+    Ok(())
+}
+
+#[test]
+fn three_thousand_epochs(rt: HostRuntime) -> Result<(), Fail> {
+    let alloc = rt.alloc();
+    let mut bytes = Vec::new(alloc);
+    for i in 0u32..3000 {
+        let [a, b, c, d] = ((475_200_000 + 1000 * i) << 2).to_be_bytes(); // DF004 and two bits that are 0
+        let mut payload = Vec::from_slice(alloc, Q)?;
+        for (at, byte) in [(3, a), (4, b), (5, c), (6, d)] {
+            if let Some(place) = payload.as_mut_slice().get_mut(at) {
+                *place = byte;
+            }
+        }
+        bytes.extend_from_slice(&encode_frame(alloc, &payload)?)?;
+    }
+    let mut readers = Vec::new(alloc);
+    readers.push(MemSource::new(alloc, &bytes, 512, After::End)?)?;
+    let mut out = MemSink::new(alloc, 1_000_000, 1_000_000)?;
+    let mut log = MemSink::new(alloc, 4096, 4096)?;
+    let counts = run(
+        alloc,
+        setup(2003, NOON, 2)?,
+        &mut readers,
+        &mut out,
+        &mut log,
+        1000,
+    )?;
+    same(
+        &(counts.frames, counts.taken, counts.epochs),
+        &(3000, 3000, 3000),
+    )?;
+    let table = rtk_rinex::check(alloc, out.bytes())?;
+    same(&(table.epochs(), table.satellites()), &(3000, 3000))
+}

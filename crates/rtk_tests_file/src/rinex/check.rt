@@ -1,0 +1,182 @@
+//! Tests of texts that are checked.
+
+use super::header::HEADER;
+use rtk_rinex::{Cause, CheckFault, check, text};
+use rtk_testing::same::{holds, same, same_of};
+use std::alloc::Global;
+use std::test::Fail;
+
+/// The record of the example file, as the columns of its two lines.
+pub(super) const EPOCH: &str = "> 2024 05 17 12 00  0.0000000  0  1\n";
+
+pub(super) const SATELLITE: &str =
+    "G05  21085472.060 7 110804903.547 7        45.000    21085474.060 5  86341483.283 5        35.000\n";
+
+// The example header and these lines behind it.
+pub(super) fn file(alloc: Global, lines: &[&str]) -> Result<Vec<u8>, Fail> {
+    let mut bytes = Vec::new(alloc);
+    bytes.extend_from_slice(HEADER.as_bytes())?;
+    for line in lines {
+        bytes.extend_from_slice(line.as_bytes())?;
+    }
+    Ok(bytes)
+}
+
+// The fault of a text, or nothing.
+fn fault_of(alloc: Global, bytes: &[u8]) -> Option<CheckFault> {
+    check(alloc, bytes).err()
+}
+
+pub(super) fn at(line: usize, cause: Cause) -> Option<CheckFault> {
+    Some(CheckFault { line, cause })
+}
+
+#[test]
+fn the_example_file_is_read_and_written_again(rt: HostRuntime) -> Result<(), Fail> {
+    let bytes = file(rt.alloc(), [EPOCH, SATELLITE].as_slice())?;
+    let table = check(rt.alloc(), bytes.as_slice())?;
+    same(&(table.epochs(), table.satellites()), &(1, 1))?;
+    let again = text(rt.alloc(), &table)?;
+    holds(again.as_slice() == bytes.as_slice())?;
+    let header = check(rt.alloc(), HEADER.as_bytes())?;
+    same(&(header.epochs(), header.satellites()), &(0, 0))
+}
+
+// The line that a letter stands for.
+fn line_of(letter: u8) -> &'static str {
+    match letter {
+        b'E' => EPOCH,
+        b'S' => SATELLITE,
+        b'L' => "> 2024 05 17 12 00  0.0010000  0  2\n",
+        b'm' => "> 2024 05 17 12 00  0.0010000  0 32\n",
+        b'n' => "> 2024 05 17 12 00  0.0010000  0 33\n",
+        b'z' => "> 2100 12 31 23 59 59.9990000  0  1\n",
+        b'e' => "> 2024 05 17 12 00  0.0000000  0  1",
+        b'6' => "G06         0.001\n",
+        b'c' => "G05  21085472.0\n",
+        b'b' => "G05 \n",
+        b'x' => "G33\n",
+        b'u' => "G05  21085472.060",
+        _ => "\n",
+    }
+}
+
+// The example header and the lines that these letters stand for.
+fn file_of(alloc: Global, letters: &str) -> Result<Vec<u8>, Fail> {
+    let mut bytes = file(alloc, &[])?;
+    for letter in letters.as_bytes() {
+        bytes.extend_from_slice(line_of(*letter).as_bytes())?;
+    }
+    Ok(bytes)
+}
+
+#[test]
+fn the_first_fault_of_a_file_is_named(rt: HostRuntime) -> Result<(), Fail> {
+    let rows = [
+        ("ESLS6", None),
+        ("ESES", at(17, Cause::Order)),
+        ("LS6", at(15, Cause::Order)),
+        ("ESzS", None),
+        ("-", at(15, Cause::Columns)),
+        ("e", at(15, Cause::Truncated)),
+        ("ESe", at(17, Cause::Truncated)),
+        ("ESmS", at(19, Cause::Truncated)),
+        ("ESn", at(17, Cause::Columns)),
+        ("E", at(16, Cause::Truncated)),
+        ("Eu", at(16, Cause::Truncated)),
+        ("ESLS", at(19, Cause::Truncated)),
+        ("ESL6S", at(19, Cause::Order)),
+        ("ESL66", at(19, Cause::Order)),
+        ("ES6", at(17, Cause::Columns)),
+        ("ES-", at(17, Cause::Columns)),
+        ("E-", at(16, Cause::Columns)),
+        ("Eb", at(16, Cause::Columns)),
+        ("Ec", at(16, Cause::Value)),
+        // an order fault before a value fault, and of two lines the first
+        ("ESLSc", at(19, Cause::Order)),
+        ("EcEx", at(16, Cause::Value)),
+    ];
+    for (letters, want) in rows {
+        let bytes = file_of(rt.alloc(), letters)?;
+        same_of(letters, &fault_of(rt.alloc(), bytes.as_slice()), &want)?;
+    }
+    Ok(())
+}
+
+#[test]
+fn an_empty_text_is_truncated(rt: HostRuntime) -> Result<(), Fail> {
+    same(&fault_of(rt.alloc(), b""), &at(1, Cause::Truncated))
+}
+
+#[test]
+fn each_column_of_an_epoch_line_is_read(rt: HostRuntime) -> Result<(), Fail> {
+    let lines = [
+        "> 2024 05 17 12 00  0.0000000  0  0\n",
+        "> 2024 05 17 12 00  0.0000000  0 33\n",
+        "> 2024 05 17 12 00  0.0000000  0 01\n",
+        "> 2024 05 17 12 00  0.0000001  0  1\n",
+        "> 2024 05 17 12 00 00.0000000  0  1\n",
+        "> 2024 05 17 12 00 60.0000000  0  1\n",
+        "> 2024 05 17 24 00  0.0000000  0  1\n",
+        "> 2024 02 30 12 00  0.0000000  0  1\n",
+        "> 2101 01 01 12 00  0.0000000  0  1\n",
+        "> 2024  5 17 12 00  0.0000000  0  1\n",
+        "> 2024 05 17 12 00  0.0000000  1  1\n",
+        "> 2024 05 17 12 00  0.0000000  0  1 \n",
+        "> 2024 05 17 12 00  0.0000000\n",
+        "x 2024 05 17 12 00  0.0000000  0  1\n",
+    ];
+    for line in lines {
+        let bytes = file(rt.alloc(), [line, SATELLITE].as_slice())?;
+        same_of(
+            line,
+            &fault_of(rt.alloc(), bytes.as_slice()),
+            &at(15, Cause::Columns),
+        )?;
+    }
+    Ok(())
+}
+
+#[test]
+fn each_column_of_a_satellite_line_is_read(rt: HostRuntime) -> Result<(), Fail> {
+    // the place of a change, what stands there, and the fault
+    let rows = [
+        (0, "g", Cause::Columns),
+        (1, "3", Cause::Columns),
+        (1, " ", Cause::Columns),
+        (2, "x", Cause::Columns),
+        (96, " ", Cause::Columns),
+        (3, "0", Cause::Value),
+        (4, "x", Cause::Value),
+        (13, ",", Cause::Value),
+        (16, " ", Cause::Value),
+        (17, "1", Cause::Value),
+        (18, "8", Cause::Value),
+        (18, " ", Cause::Value),
+        (33, "4", Cause::Value),
+        (33, "0", Cause::Value),
+        (34, "6", Cause::Value),
+        (49, "7", Cause::Value),
+        (50, "7", Cause::Value),
+        (46, "1", Cause::Value),
+        (48, "1", Cause::Value),
+        (44, "9", Cause::Value),
+        (3, "         0.000", Cause::Value),
+        (3, "        -0.000", Cause::Value),
+        (3, "              ", Cause::Value),
+        (35, "         0.000", Cause::Value),
+    ];
+    for (place, new, cause) in rows {
+        let line = SATELLITE.as_bytes();
+        let mut bytes = file(rt.alloc(), [EPOCH].as_slice())?;
+        bytes.extend_from_slice(line.get(..place).ok_or("no front")?)?;
+        bytes.extend_from_slice(new.as_bytes())?;
+        bytes.extend_from_slice(line.get(place + new.len()..).ok_or("no end")?)?;
+        same_of(
+            format_args!("{place} {new}"),
+            &fault_of(rt.alloc(), bytes.as_slice()),
+            &at(16, cause),
+        )?;
+    }
+    Ok(())
+}

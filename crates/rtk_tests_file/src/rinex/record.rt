@@ -1,0 +1,166 @@
+//! Tests of the record of an epoch.
+
+ghost use Rattle.rtk_rinex.specs.Record.{IsStrength};
+
+use super::{CODES, MADE, NOON, moment, part};
+use rtk_rinex::{EpochTable, Head, Observed, record};
+use rtk_testing::same::{same, same_of};
+use std::test::Fail;
+
+/// The record of the example file: range and phase of two codes, 45 and 35 dB-Hz.
+const RECORD: &str = concat!(
+    "> 2024 05 17 12 00  0.0000000  0  1\n",
+    "G05  21085472.060 7 110804903.547 7        45.000    21085474.060 5  86341483.283 5        35.000\n",
+);
+
+// What a code shows, of a strength in quarters of a dB-Hz; of 0 there is none.
+fn observed(range: Option<i64>, phase: Option<i64>, quarters: u8, lock: (bool, bool)) -> Observed
+    ensures { IsStrength result.strength_millidbhz }
+{
+    Observed {
+        range_mm: range,
+        phase_millicycles: phase,
+        strength_millidbhz: if quarters > 0 {
+            Some(250 * u32::from(quarters))
+        } else {
+            None
+        },
+        slip: lock.0,
+        half: lock.1,
+    }
+}
+
+#[test]
+fn the_example_record_is_written(rt: HostRuntime) -> Result<(), Fail> {
+    let lock = (false, false);
+    let first = observed(Some(21_085_472_060), Some(110_804_903_547), 180, lock);
+    let second = observed(Some(21_085_474_060), Some(86_341_483_283), 140, lock);
+    let mut table = EpochTable::new(moment(NOON)?);
+    table.push_row(5, &[first, second]);
+    let head = Head::new(b"BASE", &CODES[..2], moment(MADE)?)?;
+    let text = record(rt.alloc(), &head, &table)?;
+    same(&std::str::from_utf8(text.as_slice())?, &RECORD)?;
+    // an epoch line of 36 bytes and a satellite line of at most 100; taken at once
+    same(&text.capacity(), &136)
+}
+
+#[test]
+fn observations_are_written_in_their_limits(rt: HostRuntime) -> Result<(), Fail> {
+    let rows = [
+        (9_999_999_999_999, "9999999999.999 5"),
+        (10_000_000_000_000, "                "),
+        (-999_999_999_999, "-999999999.999 5"),
+        (-1_000_000_000_000, "                "),
+        (0, "                "),
+        (1, "         0.001 5"),
+        (-1, "        -0.001 5"),
+    ];
+    let head = Head::new(b"BASE", &CODES[..1], moment(MADE)?)?;
+    for (value, field) in rows {
+        let mut table = EpochTable::new(moment(NOON)?);
+        table.push_row(
+            7,
+            &[observed(Some(value), Some(value), 120, (false, false))],
+        );
+        let text = record(rt.alloc(), &head, &table)?;
+        same(&part(&text, 36, 39)?, &"G07")?;
+        same_of(format_args!("range {value}"), &part(&text, 39, 55)?, &field)?;
+        same_of(format_args!("phase {value}"), &part(&text, 55, 71)?, &field)?;
+        same(&part(&text, 71, text.len())?, &"        30.000\n")?;
+    }
+    Ok(())
+}
+
+#[test]
+fn digits_of_strength_and_loss_of_lock(rt: HostRuntime) -> Result<(), Fail> {
+    let range = Some(1_000);
+    let phase = Some(-1_234);
+    let (no, slip, half, both) = ((false, false), (true, false), (false, true), (true, true));
+    let shown: [(Option<i64>, Option<i64>, u8, (bool, bool)); 12] = [
+        (None, phase, 0, no),
+        (None, phase, 0, slip),
+        (None, phase, 0, half),
+        (None, phase, 0, both),
+        (range, None, 0, both),
+        (None, None, 180, both),
+        (None, phase, 180, both),
+        (range, phase, 1, no),
+        (range, phase, 20, no),
+        (range, phase, 215, no),
+        (range, phase, 216, no),
+        (range, phase, 255, half),
+    ];
+    let lines = [
+        "G07                        -1.234",
+        "G07                        -1.2341",
+        "G07                        -1.2342",
+        "G07                        -1.2343",
+        "G07         1.000",
+        "G07                                        45.000",
+        "G07                        -1.23437        45.000",
+        "G07         1.000 1        -1.234 1         0.250",
+        "G07         1.000 1        -1.234 1         5.000",
+        "G07         1.000 8        -1.234 8        53.750",
+        "G07         1.000 9        -1.234 9        54.000",
+        "G07         1.000 9        -1.23429        63.750",
+    ];
+    let head = Head::new(b"BASE", &CODES[..1], moment(MADE)?)?;
+    for ((range, phase, quarters, lock), line) in shown.into_iter().zip(lines) {
+        let mut table = EpochTable::new(moment(NOON)?);
+        table.push_row(7, &[observed(range, phase, quarters, lock)]);
+        let text = record(rt.alloc(), &head, &table)?;
+        same(&text.len(), &(36 + line.len() + 1))?;
+        same(&part(&text, 36, 36 + line.len())?, &line)?;
+    }
+    Ok(())
+}
+
+#[test]
+fn satellites_without_an_observation_are_left_out(rt: HostRuntime) -> Result<(), Fail> {
+    let head = Head::new(b"BASE", &CODES[..1], moment(MADE)?)?;
+    let none = observed(None, None, 0, (false, false));
+    let range = observed(Some(20_000_000_000), None, 0, (false, false));
+    let strength = observed(None, None, 120, (false, false));
+    let outside = observed(Some(0), Some(10_000_000_000_000), 0, (true, false));
+    let mut table = EpochTable::new(moment(NOON)?);
+    same(&record(rt.alloc(), &head, &table)?.len(), &0)?;
+    table.push_row(3, &[none]);
+    same(&record(rt.alloc(), &head, &table)?.len(), &0)?;
+    table.push_row(4, &[outside]);
+    same(&record(rt.alloc(), &head, &table)?.len(), &0)?;
+    // 2024-12-31 23:58:07.006
+    table.restart(moment(1_419_724_687_006)?);
+    table.push_row(1, &[range]);
+    table.push_row(3, &[outside]);
+    table.push_row(31, &[none]);
+    table.push_row(32, &[strength]);
+    let text = record(rt.alloc(), &head, &table)?;
+    let want = concat!(
+        "> 2024 12 31 23 58  7.0060000  0  2\n",
+        "G01  20000000.000\n",
+        "G32                                        30.000\n",
+    );
+    same(&std::str::from_utf8(text.as_slice())?, &want)?;
+    // an epoch line of 36 bytes and two satellite lines of at most 52; taken at once
+    same(&text.capacity(), &140)
+}
+
+#[test]
+fn ten_satellites_are_counted_in_three_columns(rt: HostRuntime) -> Result<(), Fail> {
+    let head = Head::new(b"BASE", &CODES[..1], moment(MADE)?)?;
+    // 2024-12-31 23:59:59.999
+    let mut table = EpochTable::new(moment(1_419_724_799_999)?);
+    for satellite in 1..11 {
+        table.push_row(satellite, &[observed(Some(1_000), None, 0, (false, false))]);
+    }
+    let text = record(rt.alloc(), &head, &table)?;
+    same(&text.len(), &(36 + 10 * 18))?;
+    same(
+        &part(&text, 0, 36)?,
+        &"> 2024 12 31 23 59 59.9990000  0 10\n",
+    )?;
+    same(
+        &part(&text, 36 + 9 * 18, 36 + 10 * 18)?,
+        &"G10         1.000\n",
+    )
+}

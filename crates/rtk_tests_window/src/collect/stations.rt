@@ -1,0 +1,78 @@
+//! What becomes of station messages, and the position from them.
+
+use super::Answer::{Conflict, Late, Repeat, Taken};
+use super::{P, Q, check, legacy, read};
+use rtk_collect::Collector;
+use rtk_obs::Position;
+use rtk_testing::same::{holds, same};
+use std::test::*;
+
+// P with another ITRF realization year (DF021): 1.
+const OTHER_YEAR: [u8; 19] = [
+    0x3e, 0xd7, 0xd3, 0x06, 0x02, 0x98, 0x0e, 0xde, 0xef, 0x34, 0xb4, 0xbd, 0x62, 0xac, 0x09, 0x41,
+    0x98, 0x6f, 0x33,
+];
+
+// P as a 1006 with a height of 1.5000.
+const P_WITH_HEIGHT: [u8; 21] = [
+    0x3e, 0xe7, 0xd3, 0x02, 0x02, 0x98, 0x0e, 0xde, 0xef, 0x34, 0xb4, 0xbd, 0x62, 0xac, 0x09, 0x41,
+    0x98, 0x6f, 0x33, 0x3a, 0x98,
+];
+
+// A 1006 of another place: x 1.0000, y -2.0000, z 3.0000, with a height of 1.2345.
+const ELSEWHERE: [u8; 21] = [
+    0x3e, 0xe7, 0xd3, 0x02, 0x00, 0x00, 0x00, 0x27, 0x10, 0x3f, 0xff, 0xff, 0xb1, 0xe0, 0x00, 0x00,
+    0x00, 0x75, 0x30, 0x30, 0x39,
+];
+
+// Whether a position is that of P, with this height.
+fn is_p(position: Position, height: u16) -> bool {
+    position.x == 11_141_045_999
+        && position.y == -48_507_297_108
+        && position.z == 39_755_214_643
+        && position.height == height
+}
+
+#[test]
+fn a_station_message_is_late_after_as_many_epochs_as_places(rt: HostRuntime) -> Result<(), Fail> {
+    let mut collector = Collector::new(rt.alloc(), 2);
+    check(&mut collector, legacy(&[Q], 0), 1, Taken, &[])?;
+    check(&mut collector, legacy(&[Q], 0), 2, Taken, &[])?;
+    check(&mut collector, read(&P)?, 0, Late, &[])?;
+    let zeros = collector.station();
+    holds(zeros.x == 0 && zeros.y == 0 && zeros.z == 0 && zeros.height == 0)?;
+    let mut collector = Collector::new(rt.alloc(), 2);
+    check(&mut collector, legacy(&[Q], 0), 1, Taken, &[])?;
+    check(&mut collector, read(&P)?, 0, Taken, &[])?;
+    check(&mut collector, legacy(&[Q], 0), 2, Taken, &[])?;
+    check(&mut collector, read(&P)?, 0, Repeat, &[])?;
+    check(&mut collector, read(&OTHER_YEAR)?, 0, Late, &[])?;
+    check(&mut collector, read(&P_WITH_HEIGHT)?, 0, Late, &[])?;
+    holds(is_p(collector.station(), 0))
+}
+
+#[test]
+fn the_first_station_message_of_its_number_stays(rt: HostRuntime) -> Result<(), Fail> {
+    let mut collector = Collector::new(rt.alloc(), 2);
+    check(&mut collector, read(&P)?, 0, Taken, &[])?;
+    check(&mut collector, read(&OTHER_YEAR)?, 0, Conflict, &[])?;
+    holds(is_p(collector.station(), 0))?;
+    check(&mut collector, read(&P_WITH_HEIGHT)?, 0, Taken, &[])?;
+    holds(is_p(collector.station(), 15_000))?;
+    holds(is_p(collector.close().station(), 15_000))
+}
+
+#[test]
+fn the_position_is_that_of_the_first_1006(rt: HostRuntime) -> Result<(), Fail> {
+    let mut collector = Collector::new(rt.alloc(), 2);
+    check(&mut collector, read(&P)?, 0, Taken, &[])?;
+    check(&mut collector, read(&ELSEWHERE)?, 0, Taken, &[])?;
+    check(&mut collector, read(&P_WITH_HEIGHT)?, 0, Conflict, &[])?;
+    check(&mut collector, legacy(&[Q], 0), 1, Taken, &[])?;
+    check(&mut collector, legacy(&[Q], 0), 2, Taken, &[])?;
+    check(&mut collector, read(&ELSEWHERE)?, 0, Repeat, &[])?;
+    check(&mut collector, read(&P_WITH_HEIGHT)?, 0, Late, &[])?;
+    let position = collector.station();
+    holds(position.x == 10_000 && position.y == -20_000 && position.z == 30_000)?;
+    same(&position.height, &12_345)
+}

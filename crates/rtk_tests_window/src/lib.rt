@@ -1,0 +1,15 @@
+//! The tests of the crates from bytes to the window, each module named after the crate that it tests.
+#![tactic(auto)]
+
+#[cfg(test)]
+mod bits;
+#[cfg(test)]
+mod collect;
+#[cfg(test)]
+mod frame;
+#[cfg(test)]
+mod frame_streams;
+#[cfg(test)]
+mod message;
+#[cfg(test)]
+mod obs;
