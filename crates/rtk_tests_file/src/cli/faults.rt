@@ -13,7 +13,7 @@ const LINES: &str = "1005 station 2003 x 1114104.5999 y -4850729.7108 z 3975521.
 // Each read fails in turn, of bytes and of hex text: nothing is out.
 #[test]
 fn each_read_fails(rt: HostRuntime) -> Result<(), Fail> {
-    let bytes = hex::decode(rt.alloc(), CAPTURE).ok_or("hex")?;
+    let bytes = hex::decode(rt.alloc(), CAPTURE)?;
     for (input, hex) in [(bytes.as_slice(), false), (CAPTURE.as_bytes(), true)] {
         for n in 0..=input.len() {
             let mut reader = MemSource::new(rt.alloc(), &input[..n], 1, After::Failure)?;
@@ -29,7 +29,7 @@ fn each_read_fails(rt: HostRuntime) -> Result<(), Fail> {
 // Each write fails in turn: what was taken before is out.
 #[test]
 fn each_write_fails(rt: HostRuntime) -> Result<(), Fail> {
-    let bytes = hex::decode(rt.alloc(), CAPTURE).ok_or("hex")?;
+    let bytes = hex::decode(rt.alloc(), CAPTURE)?;
     for room in 0..LINES.len() {
         for per_write in [1, 10, 1000] {
             let mut reader = MemSource::new(rt.alloc(), bytes.as_slice(), 512, After::End)?;
@@ -45,7 +45,7 @@ fn each_write_fails(rt: HostRuntime) -> Result<(), Fail> {
 // A sink with just the room.
 #[test]
 fn room_for_all_lines(rt: HostRuntime) -> Result<(), Fail> {
-    let bytes = hex::decode(rt.alloc(), CAPTURE).ok_or("hex")?;
+    let bytes = hex::decode(rt.alloc(), CAPTURE)?;
     let mut reader = MemSource::new(rt.alloc(), bytes.as_slice(), 512, After::End)?;
     let mut out = MemSink::new(rt.alloc(), LINES.len(), 1)?;
     same(&show(rt.alloc(), &mut reader, &mut out, false), &Ok(2))?;

@@ -106,7 +106,7 @@ fn captures_as_hex_and_as_bytes(rt: HostRuntime) -> Result<(), Fail> {
                 digits.push(*byte)?;
             }
         }
-        let bytes = hex::decode(rt.alloc(), digits.as_slice()).ok_or("hex")?;
+        let bytes = hex::decode(rt.alloc(), digits.as_slice())?;
         for per_read in [1usize, 5, 100_000] {
             let (out, answer) = shown(rt.alloc(), text.as_bytes(), per_read, true)?;
             same(&answer, &Ok(count))?;
