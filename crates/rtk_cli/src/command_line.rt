@@ -24,16 +24,19 @@ fn file<'a>(alloc: Global, help: &'a str) -> Arg<'a> {
     Arg::new(alloc, "FILE").help(help).required(true)
 }
 
-// A word with two hyphens. The prover takes a minute for a call of `long`, so this one is the only one.
+// An argument by its name with two hyphens.
 fn flag<'a>(alloc: Global, name: &'a str, help: &'a str) -> Arg<'a> {
     Arg::new(alloc, name).long(name).help(help)
 }
 
+fn hex<'a>(alloc: Global) -> Arg<'a> {
+    flag(alloc, "hex", "The capture is hex text").action(ArgAction::SetTrue)
+}
+
 fn show<'a>(alloc: Global) -> Result<Command<'a>, AllocError> {
-    let hex = flag(alloc, "hex", "The capture is hex text").action(ArgAction::SetTrue);
     Command::new(alloc, "show")
         .about("Shows the messages of a capture, a line for each frame")
-        .arg(hex)?
+        .arg(hex(alloc))?
         .arg(file(alloc, "The capture, or stdin for standard input"))
 }
 
@@ -43,64 +46,81 @@ fn check<'a>(alloc: Global) -> Result<Command<'a>, AllocError> {
         .arg(file(alloc, "The file, or stdin for standard input"))
 }
 
-// An option of `convert` that has a value.
+// An option of `convert` that has a value. Each has a function of its own, since the check of a function that builds
+// them all takes minutes.
 fn option<'a>(alloc: Global, name: &'a str, value: &'a str, help: &'a str) -> Arg<'a> {
     flag(alloc, name, help).value_name(value)
 }
 
-fn convert<'a>(alloc: Global) -> Result<Command<'a>, AllocError> {
-    let station = option(alloc, "station", "N", "The reference station, 0 to 4095")
+fn station<'a>(alloc: Global) -> Arg<'a> {
+    option(alloc, "station", "N", "The reference station, 0 to 4095")
         .required(true)
-        .value_parser(value_parser!(u16).range(0..=4095));
-    let near = option(
-        alloc,
-        "near",
-        "T",
-        "A GPS time within half a week of all messages",
-    )
-    .required(true);
-    let made = option(
-        alloc,
-        "made",
-        "T",
-        "The UTC time that the file shows as its making",
-    )
-    .required(true);
-    let marker = option(alloc, "marker", "NAME", "The marker's name")
+        .value_parser(value_parser!(u16).range(0..=4095))
+}
+
+fn near<'a>(alloc: Global) -> Arg<'a> {
+    let help = "A GPS time within half a week of all messages";
+    option(alloc, "near", "T", help).required(true)
+}
+
+fn made<'a>(alloc: Global) -> Arg<'a> {
+    let help = "The UTC time that the file shows as its making";
+    option(alloc, "made", "T", help).required(true)
+}
+
+fn marker<'a>(alloc: Global) -> Arg<'a> {
+    option(alloc, "marker", "NAME", "The marker's name")
         .required(true)
-        .allow_hyphen_values(true);
-    let codes = option(alloc, "codes", "LIST", "The observation codes, as 1C,2W").required(true);
-    let window = option(
-        alloc,
-        "window",
-        "N",
-        "How many epochs are kept open, 2 to 4096",
-    )
-    .default_value(WINDOW)
-    .value_parser(value_parser!(u16).range(2..=4096));
-    let links = Arg::new(alloc, "LINK")
+        .allow_hyphen_values(true)
+}
+
+fn codes<'a>(alloc: Global) -> Arg<'a> {
+    option(alloc, "codes", "LIST", "The observation codes, as 1C,2W").required(true)
+}
+
+fn window<'a>(alloc: Global) -> Arg<'a> {
+    let help = "How many epochs are kept open, 2 to 4096";
+    option(alloc, "window", "N", help)
+        .default_value(WINDOW)
+        .value_parser(value_parser!(u16).range(2..=4096))
+}
+
+fn links<'a>(alloc: Global) -> Arg<'a> {
+    Arg::new(alloc, "LINK")
         .help("The captures, 1 to 16; stdin is standard input")
         .required(true)
         .action(ArgAction::Append)
-        .num_args(1..);
+        .num_args(1..)
+}
+
+fn convert<'a>(alloc: Global) -> Result<Command<'a>, AllocError> {
     Command::new(alloc, "convert")
         .about("Converts captures of one station to a RINEX 3.05 observation file")
-        .arg(station)?
-        .arg(near)?
-        .arg(made)?
-        .arg(marker)?
-        .arg(codes)?
-        .arg(window)?
-        .arg(links)
+        .arg(station(alloc))?
+        .arg(near(alloc))?
+        .arg(made(alloc))?
+        .arg(marker(alloc))?
+        .arg(codes(alloc))?
+        .arg(window(alloc))?
+        .arg(links(alloc))
+}
+
+fn named<'a>(alloc: Global) -> Result<Command<'a>, AllocError> {
+    Command::new(alloc, NAME).bin_name(NAME)
+}
+
+fn described<'a>(alloc: Global) -> Result<Command<'a>, AllocError> {
+    Ok(
+        named(alloc)?
+            .no_binary_name(true)
+            .about("RTCM 3 observation streams to RINEX 3.05")
+            .version(VERSION)
+            .subcommand_required(true),
+    )
 }
 
 fn program<'a>(alloc: Global) -> Result<Command<'a>, AllocError> {
-    Command::new(alloc, NAME)
-        .bin_name(NAME)?
-        .no_binary_name(true)
-        .about("RTCM 3 observation streams to RINEX 3.05")
-        .version(VERSION)
-        .subcommand_required(true)
+    described(alloc)?
         .subcommand(convert(alloc)?)?
         .subcommand(show(alloc)?)?
         .subcommand(check(alloc)?)
