@@ -109,6 +109,38 @@ fn msm(satellite: u8) -> Result<Message, Fail> {
     read(&payload)
 }
 
+/// A message that is offered.
+#[derive(Clone, Copy)]
+enum Offered {
+    /// A 1004 of these satellites, with a smoothing interval (DF008) of 0.
+    Legacy(&'static [Satellite]),
+    /// The same with a smoothing interval of 1.
+    Smoothed(&'static [Satellite]),
+    /// A 1074 with a cell of this satellite.
+    Msm(u8),
+    Payload(&'static [u8]),
+}
+
+fn message_of(offered: Offered) -> Result<Message, Fail> {
+    match offered {
+        Offered::Legacy(entries) => Ok(legacy(entries, 0)),
+        Offered::Smoothed(entries) => Ok(legacy(entries, 1)),
+        Offered::Msm(satellite) => msm(satellite),
+        Offered::Payload(payload) => read(payload),
+    }
+}
+
+/// A message, its second after noon, what becomes of it, and the cells that conflict.
+type Step = (Offered, u32, Answer, &'static [SatelliteCode]);
+
+fn check_all(collector: &mut Collector, steps: &[Step]) -> Result<(), Fail> {
+    for (offered, seconds, want, conflicting) in steps {
+        let message = message_of(*offered)?;
+        check(collector, message, *seconds, *want, *conflicting)?;
+    }
+    Ok(())
+}
+
 // Offers a message at so many seconds after noon: the answer is this one, with these conflicting cells.
 fn check(
     collector: &mut Collector,

@@ -1,12 +1,14 @@
 //! How the cells of messages join their epoch, and which conflict.
 
 use super::Answer::{Conflict, Repeat, Taken};
-use super::{NOON, P, Q, check, legacy, msm, read};
+use super::Offered::{Legacy, Msm, Payload, Smoothed};
+use super::{NOON, P, Q, Step, check_all};
 use rtk_collect::{Collector, SatelliteCode};
 use rtk_message::Satellite;
 use rtk_obs::{CellSource, Code};
 use rtk_testing::same::{holds, same};
-use std::test::*;
+use std::alloc::Global;
+use std::test::Fail;
 
 // A 1074 with satellites 5 and 7, where the cell of satellite 5 has a carrier-to-noise ratio (DF403) of 40.
 const BOTH: [u8; 38] = [
@@ -44,30 +46,48 @@ const C1C_OF_5: SatelliteCode = SatelliteCode {
     code: Code::C1C,
 };
 
+// The steps in a window of two epochs, of which the first is left.
+fn check_joined(alloc: Global, steps: &[Step], want: &[(u8, CellSource)]) -> Result<(), Fail> {
+    let mut collector = Collector::new(alloc, 2);
+    check_all(&mut collector, steps)?;
+    check_left(collector, want)
+}
+
+const BOTH_LEFT: [(u8, CellSource); 2] = [(5, CellSource::Msm), (7, CellSource::Msm)];
+
+const FIRST_5: [Step; 2] = [(Msm(5), 0, Taken, &[]), (Msm(7), 0, Taken, &[])];
+
+const FIRST_7: [Step; 2] = [(Msm(7), 0, Taken, &[]), (Msm(5), 0, Taken, &[])];
+
+// The first cell stays, and what conflicts is said beside what is new.
+const CONFLICT_BESIDE_NEW: [Step; 2] = [
+    (Msm(5), 0, Taken, &[]),
+    (Payload(&BOTH), 0, Taken, &[C1C_OF_5]),
+];
+
 #[test]
 fn the_parts_of_an_epoch_join_in_any_order(rt: HostRuntime) -> Result<(), Fail> {
-    for (first, second) in [(5, 7), (7, 5)] {
-        let mut collector = Collector::new(rt.alloc(), 2);
-        check(&mut collector, msm(first)?, 0, Taken, &[])?;
-        check(&mut collector, msm(second)?, 0, Taken, &[])?;
-        check_left(collector, &[(5, CellSource::Msm), (7, CellSource::Msm)])?;
+    for steps in [&FIRST_5, &FIRST_7, &CONFLICT_BESIDE_NEW] {
+        check_joined(rt.alloc(), steps, &BOTH_LEFT)?;
     }
-    // The first cell stays, and what conflicts is said beside what is new.
+    Ok(())
+}
+
+const ONLY_L1: Satellite = Satellite {
+    l1_cnr: 0,
+    l2_range_difference: NO_RANGE,
+    l2_phase_difference: NO_PHASE,
+    l2_cnr: 0,
+    ..Q
+};
+
+const MSM_AFTER_LEGACY: [Step; 2] = [(Legacy(&[ONLY_L1]), 0, Taken, &[]), (Msm(5), 0, Taken, &[])];
+
+// A cell of a 1074 stands beside one of a 1004, and before it.
+#[test]
+fn cells_of_a_1074_stand_before_those_of_a_1004(rt: HostRuntime) -> Result<(), Fail> {
     let mut collector = Collector::new(rt.alloc(), 2);
-    check(&mut collector, msm(5)?, 0, Taken, &[])?;
-    check(&mut collector, read(&BOTH)?, 0, Taken, &[C1C_OF_5])?;
-    check_left(collector, &[(5, CellSource::Msm), (7, CellSource::Msm)])?;
-    // A cell of a 1074 stands beside one of a 1004, and before it.
-    let mut collector = Collector::new(rt.alloc(), 2);
-    let only_l1 = Satellite {
-        l1_cnr: 0,
-        l2_range_difference: NO_RANGE,
-        l2_phase_difference: NO_PHASE,
-        l2_cnr: 0,
-        ..Q
-    };
-    check(&mut collector, legacy(&[only_l1], 0), 0, Taken, &[])?;
-    check(&mut collector, msm(5)?, 0, Taken, &[])?;
+    check_all(&mut collector, &MSM_AFTER_LEGACY)?;
     let mut left = collector.close();
     let set = left.next_left().ok_or("an epoch")?;
     let sources = [CellSource::Msm, CellSource::Legacy, CellSource::Legacy];
@@ -78,81 +98,91 @@ fn the_parts_of_an_epoch_join_in_any_order(rt: HostRuntime) -> Result<(), Fail> 
     Ok(())
 }
 
+const STRONGER: Satellite = Satellite { l1_cnr: 181, ..Q };
+
+const SEVEN: Satellite = Satellite { satellite: 7, ..Q };
+
+const STRONGER_SEVEN: Satellite = Satellite {
+    satellite: 7,
+    l1_cnr: 181,
+    ..Q
+};
+
+const C1C_OF_7: SatelliteCode = SatelliteCode {
+    satellite: 7,
+    code: Code::C1C,
+};
+
+const CONFLICTS: [Step; 5] = [
+    (Payload(&P), 0, Taken, &[]),
+    (Legacy(&[Q]), 0, Taken, &[]),
+    (Legacy(&[STRONGER]), 0, Conflict, &[C1C_OF_5]),
+    (Legacy(&[SEVEN]), 0, Taken, &[]),
+    (
+        Legacy(&[STRONGER_SEVEN, STRONGER]),
+        0,
+        Conflict,
+        &[C1C_OF_7, C1C_OF_5],
+    ),
+];
+
 #[test]
 fn conflicts_stand_in_the_order_of_the_message(rt: HostRuntime) -> Result<(), Fail> {
     let mut collector = Collector::new(rt.alloc(), 2);
-    check(&mut collector, read(&P)?, 0, Taken, &[])?;
-    check(&mut collector, legacy(&[Q], 0), 0, Taken, &[])?;
-    let stronger = Satellite { l1_cnr: 181, ..Q };
-    check(
-        &mut collector,
-        legacy(&[stronger], 0),
-        0,
-        Conflict,
-        &[C1C_OF_5],
-    )?;
-    let seven = Satellite { satellite: 7, ..Q };
-    let changed = Satellite {
-        l1_cnr: 181,
-        ..seven
-    };
-    let conflicting = [
-        SatelliteCode {
-            satellite: 7,
-            code: Code::C1C,
-        },
-        C1C_OF_5,
-    ];
-    check(&mut collector, legacy(&[seven], 0), 0, Taken, &[])?;
-    check(
-        &mut collector,
-        legacy(&[changed, stronger], 0),
-        0,
-        Conflict,
-        &conflicting,
-    )
+    check_all(&mut collector, &CONFLICTS)
 }
+
+// Without a phase L1 has no values, so its range makes no difference.
+const BLANK: Satellite = Satellite {
+    l1_phase_difference: NO_PHASE,
+    l2_range_difference: NO_RANGE,
+    l2_phase_difference: NO_PHASE,
+    ..Q
+};
+
+const FARTHER: Satellite = Satellite {
+    l1_range: 5_000_001,
+    l1_phase_difference: NO_PHASE,
+    l2_range_difference: NO_RANGE,
+    l2_phase_difference: NO_PHASE,
+    ..Q
+};
+
+const OTHER_FIELDS: [Step; 4] = [
+    (Legacy(&[Q]), 0, Taken, &[]),
+    (Smoothed(&[Q]), 0, Repeat, &[]),
+    (Legacy(&[BLANK]), 1, Taken, &[]),
+    (Legacy(&[FARTHER]), 1, Repeat, &[]),
+];
+
+const L2_ALONE: Satellite = Satellite {
+    l1_phase_difference: NO_PHASE,
+    ..Q
+};
+
+// The same range and phase on L2, from another DF011 and another offset (DF018).
+const OTHER_OFFSET: Satellite = Satellite {
+    l1_range: 5_000_001,
+    l1_phase_difference: NO_PHASE,
+    l2_range_difference: 99,
+    l2_phase_difference: -40,
+    ..Q
+};
+
+const C2W_OF_5: SatelliteCode = SatelliteCode {
+    satellite: 5,
+    code: Code::C2W,
+};
+
+const OFFSETS: [Step; 2] = [
+    (Legacy(&[L2_ALONE]), 0, Taken, &[]),
+    (Legacy(&[OTHER_OFFSET]), 0, Conflict, &[C2W_OF_5]),
+];
 
 #[test]
 fn cells_decide_and_other_fields_do_not(rt: HostRuntime) -> Result<(), Fail> {
     let mut collector = Collector::new(rt.alloc(), 2);
-    check(&mut collector, legacy(&[Q], 0), 0, Taken, &[])?;
-    check(&mut collector, legacy(&[Q], 1), 0, Repeat, &[])?;
-    // Without a phase L1 has no values, so its range makes no difference.
-    let blank = Satellite {
-        l1_phase_difference: NO_PHASE,
-        l2_range_difference: NO_RANGE,
-        l2_phase_difference: NO_PHASE,
-        ..Q
-    };
-    let farther = Satellite {
-        l1_range: 5_000_001,
-        ..blank
-    };
-    check(&mut collector, legacy(&[blank], 0), 1, Taken, &[])?;
-    check(&mut collector, legacy(&[farther], 0), 1, Repeat, &[])?;
-    // The same range and phase on L2, from another DF011 and another offset (DF018).
-    let first = Satellite {
-        l1_phase_difference: NO_PHASE,
-        ..Q
-    };
-    let second = Satellite {
-        l1_range: 5_000_001,
-        l2_range_difference: 99,
-        l2_phase_difference: -40,
-        ..first
-    };
-    let conflicting = [SatelliteCode {
-        satellite: 5,
-        code: Code::C2W,
-    }];
+    check_all(&mut collector, &OTHER_FIELDS)?;
     let mut collector = Collector::new(rt.alloc(), 2);
-    check(&mut collector, legacy(&[first], 0), 0, Taken, &[])?;
-    check(
-        &mut collector,
-        legacy(&[second], 0),
-        0,
-        Conflict,
-        &conflicting,
-    )
+    check_all(&mut collector, &OFFSETS)
 }

@@ -1,7 +1,8 @@
 //! Which epochs are late, opened and closed.
 
 use super::Answer::{Closes, Conflict, Late, Repeat, Taken};
-use super::{Answer, NOON, Q, check, legacy, msm, read};
+use super::Offered::{self, Legacy, Msm, Payload};
+use super::{Answer, NOON, Q, Step, check, check_all, legacy, message_of};
 use rtk_collect::{Collector, SatelliteCode};
 use rtk_message::Satellite;
 use rtk_obs::Code;
@@ -18,28 +19,28 @@ fn check_seconds(alloc: Global, offers: &[(u32, Answer)]) -> Result<(), Fail> {
     Ok(())
 }
 
+const WINDOWS: [&[(u32, Answer)]; 6] = [
+    &[(1, Taken), (2, Taken), (3, Closes(1)), (1, Late)],
+    &[(1, Taken), (3, Taken), (2, Closes(1))],
+    &[(3, Taken), (2, Taken), (1, Late)],
+    &[
+        (1, Taken),
+        (1, Repeat),
+        (2, Taken),
+        (2, Repeat),
+        (1, Repeat),
+    ],
+    // An epoch far ahead keeps its place.
+    &[(1000, Taken), (1, Taken), (2, Closes(1)), (3, Closes(2))],
+    &[(1000, Taken), (1001, Taken), (1, Late)],
+];
+
 #[test]
 fn an_arrival_is_late_after_as_many_greater_epochs_as_places(rt: HostRuntime) -> Result<(), Fail> {
-    let alloc = rt.alloc();
-    check_seconds(alloc, &[(1, Taken), (2, Taken), (3, Closes(1)), (1, Late)])?;
-    check_seconds(alloc, &[(1, Taken), (3, Taken), (2, Closes(1))])?;
-    check_seconds(alloc, &[(3, Taken), (2, Taken), (1, Late)])?;
-    check_seconds(
-        alloc,
-        &[
-            (1, Taken),
-            (1, Repeat),
-            (2, Taken),
-            (2, Repeat),
-            (1, Repeat),
-        ],
-    )?;
-    // An epoch far ahead keeps its place.
-    check_seconds(
-        alloc,
-        &[(1000, Taken), (1, Taken), (2, Closes(1)), (3, Closes(2))],
-    )?;
-    check_seconds(alloc, &[(1000, Taken), (1001, Taken), (1, Late)])
+    for offers in WINDOWS {
+        check_seconds(rt.alloc(), offers)?;
+    }
+    Ok(())
 }
 
 // A 1074 without satellites and signals: DF394 and DF395 are 0.
@@ -48,23 +49,32 @@ const NO_SATELLITES: [u8; 22] = [
     0x00, 0x00, 0x00, 0x00, 0x00, 0x00,
 ];
 
+// Without cells: a 1004 and a 1074 without satellites, and a 1074 of a satellite that gives none.
+const EMPTY: [Offered; 3] = [Legacy(&[]), Payload(&NO_SATELLITES), Msm(40)];
+
+const BEHIND_EMPTY: [Step; 3] = [
+    (Legacy(&[Q]), 2, Taken, &[]),
+    (Legacy(&[Q]), 3, Closes(1), &[]),
+    (Msm(5), 1, Late, &[]),
+];
+
 #[test]
 fn a_message_without_cells_opens_its_epoch(rt: HostRuntime) -> Result<(), Fail> {
-    for satellite in [0, 1, 40] {
-        let empty = || match satellite {
-            0 => Ok(legacy(&[], 0)),
-            1 => read(&NO_SATELLITES),
-            _ => msm(satellite),
-        };
+    for empty in EMPTY {
         let mut collector = Collector::new(rt.alloc(), 2);
-        check(&mut collector, empty()?, 1, Taken, &[])?;
-        check(&mut collector, empty()?, 1, Repeat, &[])?;
-        check(&mut collector, legacy(&[Q], 0), 2, Taken, &[])?;
-        check(&mut collector, legacy(&[Q], 0), 3, Closes(1), &[])?;
-        check(&mut collector, msm(5)?, 1, Late, &[])?;
+        for want in [Taken, Repeat] {
+            check(&mut collector, message_of(empty)?, 1, want, &[])?;
+        }
+        check_all(&mut collector, &BEHIND_EMPTY)?;
     }
     Ok(())
 }
+
+const FULL: [Step; 3] = [
+    (Legacy(&[Q]), 4096, Closes(0), &[]),
+    (Legacy(&[Q]), 0, Late, &[]),
+    (Legacy(&[Q]), 1, Repeat, &[]),
+];
 
 #[test]
 fn a_window_of_4096_closes_its_least_epoch(rt: HostRuntime) -> Result<(), Fail> {
@@ -72,9 +82,7 @@ fn a_window_of_4096_closes_its_least_epoch(rt: HostRuntime) -> Result<(), Fail> 
     for seconds in 0..4096 {
         check(&mut collector, legacy(&[Q], 0), seconds, Taken, &[])?;
     }
-    check(&mut collector, legacy(&[Q], 0), 4096, Closes(0), &[])?;
-    check(&mut collector, legacy(&[Q], 0), 0, Late, &[])?;
-    check(&mut collector, legacy(&[Q], 0), 1, Repeat, &[])
+    check_all(&mut collector, &FULL)
 }
 
 // A random list for a window of three places, answered by another program that keeps the whole history:
@@ -140,13 +148,15 @@ fn a_random_list_is_answered_as_by_the_whole_history(rt: HostRuntime) -> Result<
             conflicting,
         )?;
     }
+    check_random_left(collector)
+}
+
+// The epochs that are left, with the strength of 1C of their satellites from 1 on.
+const RANDOM_LEFT: [(u64, &[u32]); 3] = [(7, &[45_000, 45_250]), (8, &[45_000]), (9, &[45_000])];
+
+fn check_random_left(collector: Collector) -> Result<(), Fail> {
     let mut left = collector.close();
-    // The epochs that are left, with the strength of 1C of their satellites from 1 on.
-    for (seconds, strengths) in [
-        (7, [45_000, 45_250].as_slice()),
-        (8, &[45_000]),
-        (9, &[45_000]),
-    ] {
+    for (seconds, strengths) in RANDOM_LEFT {
         let set = left.next_left().ok_or("three epochs")?;
         same(&set.epoch().ms(), &(NOON + 1000 * seconds))?;
         same(&set.cells().len(), &(2 * strengths.len()))?;

@@ -1,7 +1,8 @@
 //! What becomes of station messages, and the position from them.
 
 use super::Answer::{Conflict, Late, Repeat, Taken};
-use super::{P, Q, check, legacy, read};
+use super::Offered::{Legacy, Payload};
+use super::{P, Q, Step, check_all};
 use rtk_collect::Collector;
 use rtk_obs::Position;
 use rtk_testing::same::{holds, same};
@@ -33,45 +34,61 @@ fn is_p(position: Position, height: u16) -> bool {
         && position.height == height
 }
 
+const BEHIND_TWO_EPOCHS: [Step; 3] = [
+    (Legacy(&[Q]), 1, Taken, &[]),
+    (Legacy(&[Q]), 2, Taken, &[]),
+    (Payload(&P), 0, Late, &[]),
+];
+
+const BEHIND_ONE_EPOCH: [Step; 6] = [
+    (Legacy(&[Q]), 1, Taken, &[]),
+    (Payload(&P), 0, Taken, &[]),
+    (Legacy(&[Q]), 2, Taken, &[]),
+    (Payload(&P), 0, Repeat, &[]),
+    (Payload(&OTHER_YEAR), 0, Late, &[]),
+    (Payload(&P_WITH_HEIGHT), 0, Late, &[]),
+];
+
 #[test]
 fn a_station_message_is_late_after_as_many_epochs_as_places(rt: HostRuntime) -> Result<(), Fail> {
     let mut collector = Collector::new(rt.alloc(), 2);
-    check(&mut collector, legacy(&[Q], 0), 1, Taken, &[])?;
-    check(&mut collector, legacy(&[Q], 0), 2, Taken, &[])?;
-    check(&mut collector, read(&P)?, 0, Late, &[])?;
+    check_all(&mut collector, &BEHIND_TWO_EPOCHS)?;
     let zeros = collector.station();
     holds(zeros.x == 0 && zeros.y == 0 && zeros.z == 0 && zeros.height == 0)?;
     let mut collector = Collector::new(rt.alloc(), 2);
-    check(&mut collector, legacy(&[Q], 0), 1, Taken, &[])?;
-    check(&mut collector, read(&P)?, 0, Taken, &[])?;
-    check(&mut collector, legacy(&[Q], 0), 2, Taken, &[])?;
-    check(&mut collector, read(&P)?, 0, Repeat, &[])?;
-    check(&mut collector, read(&OTHER_YEAR)?, 0, Late, &[])?;
-    check(&mut collector, read(&P_WITH_HEIGHT)?, 0, Late, &[])?;
+    check_all(&mut collector, &BEHIND_ONE_EPOCH)?;
     holds(is_p(collector.station(), 0))
 }
+
+const OF_ITS_NUMBER: [Step; 2] = [
+    (Payload(&P), 0, Taken, &[]),
+    (Payload(&OTHER_YEAR), 0, Conflict, &[]),
+];
 
 #[test]
 fn the_first_station_message_of_its_number_stays(rt: HostRuntime) -> Result<(), Fail> {
     let mut collector = Collector::new(rt.alloc(), 2);
-    check(&mut collector, read(&P)?, 0, Taken, &[])?;
-    check(&mut collector, read(&OTHER_YEAR)?, 0, Conflict, &[])?;
+    check_all(&mut collector, &OF_ITS_NUMBER)?;
     holds(is_p(collector.station(), 0))?;
-    check(&mut collector, read(&P_WITH_HEIGHT)?, 0, Taken, &[])?;
+    check_all(&mut collector, &[(Payload(&P_WITH_HEIGHT), 0, Taken, &[])])?;
     holds(is_p(collector.station(), 15_000))?;
     holds(is_p(collector.close().station(), 15_000))
 }
 
+const ELSEWHERE_FIRST: [Step; 7] = [
+    (Payload(&P), 0, Taken, &[]),
+    (Payload(&ELSEWHERE), 0, Taken, &[]),
+    (Payload(&P_WITH_HEIGHT), 0, Conflict, &[]),
+    (Legacy(&[Q]), 1, Taken, &[]),
+    (Legacy(&[Q]), 2, Taken, &[]),
+    (Payload(&ELSEWHERE), 0, Repeat, &[]),
+    (Payload(&P_WITH_HEIGHT), 0, Late, &[]),
+];
+
 #[test]
 fn the_position_is_that_of_the_first_1006(rt: HostRuntime) -> Result<(), Fail> {
     let mut collector = Collector::new(rt.alloc(), 2);
-    check(&mut collector, read(&P)?, 0, Taken, &[])?;
-    check(&mut collector, read(&ELSEWHERE)?, 0, Taken, &[])?;
-    check(&mut collector, read(&P_WITH_HEIGHT)?, 0, Conflict, &[])?;
-    check(&mut collector, legacy(&[Q], 0), 1, Taken, &[])?;
-    check(&mut collector, legacy(&[Q], 0), 2, Taken, &[])?;
-    check(&mut collector, read(&ELSEWHERE)?, 0, Repeat, &[])?;
-    check(&mut collector, read(&P_WITH_HEIGHT)?, 0, Late, &[])?;
+    check_all(&mut collector, &ELSEWHERE_FIRST)?;
     let position = collector.station();
     holds(position.x == 10_000 && position.y == -20_000 && position.z == 30_000)?;
     same(&position.height, &12_345)
