@@ -57,16 +57,18 @@ fn consists_of(text: &[u8], parts: &[&str]) -> bool {
     rest.is_empty()
 }
 
+// A station, a reference, a window, and the fault.
+const SETUPS: [(u16, u64, usize, SetupFault); 5] = [
+    (4096, 604_799_999, 1, SetupFault::Station),
+    (2003, 604_799_999, 1, SetupFault::Near),
+    (2003, 3_786_480_000_000, 2, SetupFault::Near), // 2100-01-01 00:00:00.000
+    (2003, NOON, 1, SetupFault::Window),
+    (2003, NOON, 4097, SetupFault::Window),
+];
+
 #[test]
 fn bad_setups_are_refused_in_order() -> Result<(), Fail> {
-    let rows = [
-        (4096, 604_799_999, 1, SetupFault::Station),
-        (2003, 604_799_999, 1, SetupFault::Near),
-        (2003, 3_786_480_000_000, 2, SetupFault::Near), // 2100-01-01 00:00:00.000
-        (2003, NOON, 1, SetupFault::Window),
-        (2003, NOON, 4097, SetupFault::Window),
-    ];
-    for (station, near, window, want) in rows {
+    for (station, near, window, want) in SETUPS {
         let head = Head::new(b"BASE", &CODES, moment(MADE)?)?;
         match Setup::new(station, moment(near)?, head, window) {
             Ok(_) => return Err("a bad setup".into()),
@@ -185,29 +187,37 @@ fn a_run_has_1_to_16_links(rt: HostRuntime) -> Result<(), Fail> {
     Ok(())
 }
 
+// The faults of a conversion and their texts.
+const FAULTS: [(ConvertFault, &str); 8] = [
+    (ConvertFault::Setup, "V1 not 1 to 16 links"),
+    (ConvertFault::NoLink, "V2 no such link"),
+    (ConvertFault::LinkClosed, "V3 the link is closed"),
+    (ConvertFault::OutOfMemory, "V4 out of memory"),
+    (
+        ConvertFault::Write {
+            stream: Stream::Out,
+        },
+        "V5 a write failed",
+    ),
+    (ConvertFault::Read { link: 1 }, "V6 reading link 1 failed"),
+    (ConvertFault::Endless, "V7 the input does not end"),
+    (ConvertFault::Stopped, "V8 stopped"),
+];
+
+// The faults of a setup and their texts.
+const SETUP_FAULTS: [(SetupFault, &str); 3] = [
+    (SetupFault::Station, "S1 bad station"),
+    (SetupFault::Near, "S2 bad reference"),
+    (SetupFault::Window, "S3 bad window"),
+];
+
 #[test]
 fn faults_have_their_texts(rt: HostRuntime) -> Result<(), Fail> {
     let alloc = rt.alloc();
-    let stream = Stream::Out;
-    let rows = [
-        (ConvertFault::Setup, "V1 not 1 to 16 links"),
-        (ConvertFault::NoLink, "V2 no such link"),
-        (ConvertFault::LinkClosed, "V3 the link is closed"),
-        (ConvertFault::OutOfMemory, "V4 out of memory"),
-        (ConvertFault::Write { stream }, "V5 a write failed"),
-        (ConvertFault::Read { link: 1 }, "V6 reading link 1 failed"),
-        (ConvertFault::Endless, "V7 the input does not end"),
-        (ConvertFault::Stopped, "V8 stopped"),
-    ];
-    for (fault, want) in rows {
+    for (fault, want) in FAULTS {
         same(&fault.to_string(alloc)?.as_str(), &want)?;
     }
-    let rows = [
-        (SetupFault::Station, "S1 bad station"),
-        (SetupFault::Near, "S2 bad reference"),
-        (SetupFault::Window, "S3 bad window"),
-    ];
-    for (fault, want) in rows {
+    for (fault, want) in SETUP_FAULTS {
         same(&fault.to_string(alloc)?.as_str(), &want)?;
     }
     Ok(())

@@ -22,13 +22,10 @@ pub(super) fn file(alloc: Global, lines: &[&str]) -> Result<Vec<u8>, Fail> {
     Ok(bytes)
 }
 
-// The fault of a text, or nothing.
-fn fault_of(alloc: Global, bytes: &[u8]) -> Option<CheckFault> {
-    check(alloc, bytes).err()
-}
-
-pub(super) fn at(line: usize, cause: Cause) -> Option<CheckFault> {
-    Some(CheckFault { line, cause })
+// The line that is wrong and why, or nothing.
+pub(super) fn fault_of(alloc: Global, bytes: &[u8]) -> Option<(usize, Cause)> {
+    let CheckFault { line, cause } = check(alloc, bytes).err()?;
+    Some((line, cause))
 }
 
 #[test]
@@ -70,33 +67,35 @@ fn file_of(alloc: Global, letters: &str) -> Result<Vec<u8>, Fail> {
     Ok(bytes)
 }
 
+// Lines by their letters, and the fault.
+const FAULTS: [(&str, Option<(usize, Cause)>); 21] = [
+    ("ESLS6", None),
+    ("ESES", Some((17, Cause::Order))),
+    ("LS6", Some((15, Cause::Order))),
+    ("ESzS", None),
+    ("-", Some((15, Cause::Columns))),
+    ("e", Some((15, Cause::Truncated))),
+    ("ESe", Some((17, Cause::Truncated))),
+    ("ESmS", Some((19, Cause::Truncated))),
+    ("ESn", Some((17, Cause::Columns))),
+    ("E", Some((16, Cause::Truncated))),
+    ("Eu", Some((16, Cause::Truncated))),
+    ("ESLS", Some((19, Cause::Truncated))),
+    ("ESL6S", Some((19, Cause::Order))),
+    ("ESL66", Some((19, Cause::Order))),
+    ("ES6", Some((17, Cause::Columns))),
+    ("ES-", Some((17, Cause::Columns))),
+    ("E-", Some((16, Cause::Columns))),
+    ("Eb", Some((16, Cause::Columns))),
+    ("Ec", Some((16, Cause::Value))),
+    // an order fault before a value fault, and of two lines the first
+    ("ESLSc", Some((19, Cause::Order))),
+    ("EcEx", Some((16, Cause::Value))),
+];
+
 #[test]
 fn the_first_fault_of_a_file_is_named(rt: HostRuntime) -> Result<(), Fail> {
-    let rows = [
-        ("ESLS6", None),
-        ("ESES", at(17, Cause::Order)),
-        ("LS6", at(15, Cause::Order)),
-        ("ESzS", None),
-        ("-", at(15, Cause::Columns)),
-        ("e", at(15, Cause::Truncated)),
-        ("ESe", at(17, Cause::Truncated)),
-        ("ESmS", at(19, Cause::Truncated)),
-        ("ESn", at(17, Cause::Columns)),
-        ("E", at(16, Cause::Truncated)),
-        ("Eu", at(16, Cause::Truncated)),
-        ("ESLS", at(19, Cause::Truncated)),
-        ("ESL6S", at(19, Cause::Order)),
-        ("ESL66", at(19, Cause::Order)),
-        ("ES6", at(17, Cause::Columns)),
-        ("ES-", at(17, Cause::Columns)),
-        ("E-", at(16, Cause::Columns)),
-        ("Eb", at(16, Cause::Columns)),
-        ("Ec", at(16, Cause::Value)),
-        // an order fault before a value fault, and of two lines the first
-        ("ESLSc", at(19, Cause::Order)),
-        ("EcEx", at(16, Cause::Value)),
-    ];
-    for (letters, want) in rows {
+    for (letters, want) in FAULTS {
         let bytes = file_of(rt.alloc(), letters)?;
         same_of(letters, &fault_of(rt.alloc(), bytes.as_slice()), &want)?;
     }
@@ -105,68 +104,71 @@ fn the_first_fault_of_a_file_is_named(rt: HostRuntime) -> Result<(), Fail> {
 
 #[test]
 fn an_empty_text_is_truncated(rt: HostRuntime) -> Result<(), Fail> {
-    same(&fault_of(rt.alloc(), b""), &at(1, Cause::Truncated))
+    same(&fault_of(rt.alloc(), b""), &Some((1, Cause::Truncated)))
 }
+
+// Epoch lines with a bad column.
+const EPOCH_LINES: [&str; 14] = [
+    "> 2024 05 17 12 00  0.0000000  0  0\n",
+    "> 2024 05 17 12 00  0.0000000  0 33\n",
+    "> 2024 05 17 12 00  0.0000000  0 01\n",
+    "> 2024 05 17 12 00  0.0000001  0  1\n",
+    "> 2024 05 17 12 00 00.0000000  0  1\n",
+    "> 2024 05 17 12 00 60.0000000  0  1\n",
+    "> 2024 05 17 24 00  0.0000000  0  1\n",
+    "> 2024 02 30 12 00  0.0000000  0  1\n",
+    "> 2101 01 01 12 00  0.0000000  0  1\n",
+    "> 2024  5 17 12 00  0.0000000  0  1\n",
+    "> 2024 05 17 12 00  0.0000000  1  1\n",
+    "> 2024 05 17 12 00  0.0000000  0  1 \n",
+    "> 2024 05 17 12 00  0.0000000\n",
+    "x 2024 05 17 12 00  0.0000000  0  1\n",
+];
 
 #[test]
 fn each_column_of_an_epoch_line_is_read(rt: HostRuntime) -> Result<(), Fail> {
-    let lines = [
-        "> 2024 05 17 12 00  0.0000000  0  0\n",
-        "> 2024 05 17 12 00  0.0000000  0 33\n",
-        "> 2024 05 17 12 00  0.0000000  0 01\n",
-        "> 2024 05 17 12 00  0.0000001  0  1\n",
-        "> 2024 05 17 12 00 00.0000000  0  1\n",
-        "> 2024 05 17 12 00 60.0000000  0  1\n",
-        "> 2024 05 17 24 00  0.0000000  0  1\n",
-        "> 2024 02 30 12 00  0.0000000  0  1\n",
-        "> 2101 01 01 12 00  0.0000000  0  1\n",
-        "> 2024  5 17 12 00  0.0000000  0  1\n",
-        "> 2024 05 17 12 00  0.0000000  1  1\n",
-        "> 2024 05 17 12 00  0.0000000  0  1 \n",
-        "> 2024 05 17 12 00  0.0000000\n",
-        "x 2024 05 17 12 00  0.0000000  0  1\n",
-    ];
-    for line in lines {
+    for line in EPOCH_LINES {
         let bytes = file(rt.alloc(), [line, SATELLITE].as_slice())?;
         same_of(
             line,
             &fault_of(rt.alloc(), bytes.as_slice()),
-            &at(15, Cause::Columns),
+            &Some((15, Cause::Columns)),
         )?;
     }
     Ok(())
 }
 
+// the place of a change, what stands there, and the fault
+const CHANGES: [(usize, &str, Cause); 24] = [
+    (0, "g", Cause::Columns),
+    (1, "3", Cause::Columns),
+    (1, " ", Cause::Columns),
+    (2, "x", Cause::Columns),
+    (96, " ", Cause::Columns),
+    (3, "0", Cause::Value),
+    (4, "x", Cause::Value),
+    (13, ",", Cause::Value),
+    (16, " ", Cause::Value),
+    (17, "1", Cause::Value),
+    (18, "8", Cause::Value),
+    (18, " ", Cause::Value),
+    (33, "4", Cause::Value),
+    (33, "0", Cause::Value),
+    (34, "6", Cause::Value),
+    (49, "7", Cause::Value),
+    (50, "7", Cause::Value),
+    (46, "1", Cause::Value),
+    (48, "1", Cause::Value),
+    (44, "9", Cause::Value),
+    (3, "         0.000", Cause::Value),
+    (3, "        -0.000", Cause::Value),
+    (3, "              ", Cause::Value),
+    (35, "         0.000", Cause::Value),
+];
+
 #[test]
 fn each_column_of_a_satellite_line_is_read(rt: HostRuntime) -> Result<(), Fail> {
-    // the place of a change, what stands there, and the fault
-    let rows = [
-        (0, "g", Cause::Columns),
-        (1, "3", Cause::Columns),
-        (1, " ", Cause::Columns),
-        (2, "x", Cause::Columns),
-        (96, " ", Cause::Columns),
-        (3, "0", Cause::Value),
-        (4, "x", Cause::Value),
-        (13, ",", Cause::Value),
-        (16, " ", Cause::Value),
-        (17, "1", Cause::Value),
-        (18, "8", Cause::Value),
-        (18, " ", Cause::Value),
-        (33, "4", Cause::Value),
-        (33, "0", Cause::Value),
-        (34, "6", Cause::Value),
-        (49, "7", Cause::Value),
-        (50, "7", Cause::Value),
-        (46, "1", Cause::Value),
-        (48, "1", Cause::Value),
-        (44, "9", Cause::Value),
-        (3, "         0.000", Cause::Value),
-        (3, "        -0.000", Cause::Value),
-        (3, "              ", Cause::Value),
-        (35, "         0.000", Cause::Value),
-    ];
-    for (place, new, cause) in rows {
+    for (place, new, cause) in CHANGES {
         let line = SATELLITE.as_bytes();
         let mut bytes = file(rt.alloc(), [EPOCH].as_slice())?;
         bytes.extend_from_slice(line.get(..place).ok_or("no front")?)?;
@@ -175,7 +177,7 @@ fn each_column_of_a_satellite_line_is_read(rt: HostRuntime) -> Result<(), Fail> 
         same_of(
             format_args!("{place} {new}"),
             &fault_of(rt.alloc(), bytes.as_slice()),
-            &at(16, cause),
+            &Some((16, cause)),
         )?;
     }
     Ok(())

@@ -74,26 +74,28 @@ fn markers_fill_their_columns(rt: HostRuntime) -> Result<(), Fail> {
     Ok(())
 }
 
+// Times of the first observation, and their columns.
+const FIRST_TIMES: [(u64, &str); 3] = [
+    (
+        0,
+        "  1980     1     6     0     0    0.0000000     GPS         ",
+    ),
+    (
+        1_419_724_687_006,
+        "  2024    12    31    23    58    7.0060000     GPS         ",
+    ),
+    (
+        3_818_015_999_999,
+        "  2100    12    31    23    59   59.9990000     GPS         ",
+    ),
+];
+
 #[test]
 fn moments_fill_their_columns(rt: HostRuntime) -> Result<(), Fail> {
     // made at 2024-05-17 13:24:56.000
     let head = (b"BASE".as_slice(), &CODES[..2], 1_399_987_496_000);
-    let rows = [
-        (
-            0,
-            "  1980     1     6     0     0    0.0000000     GPS         ",
-        ),
-        (
-            1_419_724_687_006,
-            "  2024    12    31    23    58    7.0060000     GPS         ",
-        ),
-        (
-            3_818_015_999_999,
-            "  2100    12    31    23    59   59.9990000     GPS         ",
-        ),
-    ];
     let place = position(0, 0, 0, 0)?;
-    for (first, want) in rows {
+    for (first, want) in FIRST_TIMES {
         let text = header_made(rt.alloc(), head, &place, first)?;
         same(&part(&text, 11 * 81, 11 * 81 + 60)?, &want)?;
         same(&part(&text, 81 + 40, 81 + 60)?, &"20240517 132456 UTC ")?;
@@ -101,37 +103,37 @@ fn moments_fill_their_columns(rt: HostRuntime) -> Result<(), Fail> {
     Ok(())
 }
 
+// Coordinates and a height, and their columns.
+const POSITIONS: [(i64, i64, i64, u16, &str, &str); 3] = [
+    (
+        11_141_045_999,
+        -48_507_297_108,
+        39_755_214_643,
+        15_000,
+        "  1114104.5999 -4850729.7108  3975521.4643",
+        "        1.5000",
+    ),
+    (
+        -137_438_953_472,
+        -137_438_953_472,
+        -137_438_953_472,
+        65_535,
+        "-13743895.3472-13743895.3472-13743895.3472",
+        "        6.5535",
+    ),
+    (
+        137_438_953_471,
+        -1,
+        1,
+        1,
+        " 13743895.3471       -0.0001        0.0001",
+        "        0.0001",
+    ),
+];
+
 #[test]
 fn heights_and_coordinates_fill_their_columns(rt: HostRuntime) -> Result<(), Fail> {
-    let least = -(1i64 << 37);
-    let greatest = (1i64 << 37) - 1;
-    let rows = [
-        (
-            11_141_045_999,
-            -48_507_297_108,
-            39_755_214_643,
-            15_000,
-            "  1114104.5999 -4850729.7108  3975521.4643",
-            "        1.5000",
-        ),
-        (
-            least,
-            least,
-            least,
-            65_535,
-            "-13743895.3472-13743895.3472-13743895.3472",
-            "        6.5535",
-        ),
-        (
-            greatest,
-            -1,
-            1,
-            1,
-            " 13743895.3471       -0.0001        0.0001",
-            "        0.0001",
-        ),
-    ];
-    for (x, y, z, height, coordinates, shown) in rows {
+    for (x, y, z, height, coordinates, shown) in POSITIONS {
         let text = header_of(
             b"BASE",
             &CODES[..2],
@@ -144,70 +146,72 @@ fn heights_and_coordinates_fill_their_columns(rt: HostRuntime) -> Result<(), Fai
     Ok(())
 }
 
+// How many codes, their lines, and the lines.
+const TYPES: [(usize, u8, &str); 7] = [
+    (
+        1,
+        1,
+        concat!(
+            "G    3 C1C L1C S1C                                          SYS / # / OBS TYPES \n",
+        ),
+    ),
+    (
+        4,
+        1,
+        concat!(
+            "G   12 C1C L1C S1C C2W L2W S2W C2X L2X S2X C5X L5X S5X      SYS / # / OBS TYPES \n",
+        ),
+    ),
+    (
+        5,
+        2,
+        concat!(
+            "G   15 C1C L1C S1C C2W L2W S2W C2X L2X S2X C5X L5X S5X C1P  SYS / # / OBS TYPES \n",
+            "       L1P S1P                                              SYS / # / OBS TYPES \n",
+        ),
+    ),
+    (
+        8,
+        2,
+        concat!(
+            "G   24 C1C L1C S1C C2W L2W S2W C2X L2X S2X C5X L5X S5X C1P  SYS / # / OBS TYPES \n",
+            "       L1P S1P C1W L1W S1W C2C L2C S2C C2P L2P S2P          SYS / # / OBS TYPES \n",
+        ),
+    ),
+    (
+        9,
+        3,
+        concat!(
+            "G   27 C1C L1C S1C C2W L2W S2W C2X L2X S2X C5X L5X S5X C1P  SYS / # / OBS TYPES \n",
+            "       L1P S1P C1W L1W S1W C2C L2C S2C C2P L2P S2P C2S L2S  SYS / # / OBS TYPES \n",
+            "       S2S                                                  SYS / # / OBS TYPES \n",
+        ),
+    ),
+    (
+        13,
+        3,
+        concat!(
+            "G   39 C1C L1C S1C C2W L2W S2W C2X L2X S2X C5X L5X S5X C1P  SYS / # / OBS TYPES \n",
+            "       L1P S1P C1W L1W S1W C2C L2C S2C C2P L2P S2P C2S L2S  SYS / # / OBS TYPES \n",
+            "       S2S C2L L2L S2L C5I L5I S5I C5Q L5Q S5Q C1S L1S S1S  SYS / # / OBS TYPES \n",
+        ),
+    ),
+    (
+        16,
+        4,
+        concat!(
+            "G   48 C1C L1C S1C C2W L2W S2W C2X L2X S2X C5X L5X S5X C1P  SYS / # / OBS TYPES \n",
+            "       L1P S1P C1W L1W S1W C2C L2C S2C C2P L2P S2P C2S L2S  SYS / # / OBS TYPES \n",
+            "       S2S C2L L2L S2L C5I L5I S5I C5Q L5Q S5Q C1S L1S S1S  SYS / # / OBS TYPES \n",
+            "       C1L L1L S1L C1X L1X S1X C2D L2D S2D                  SYS / # / OBS TYPES \n",
+        ),
+    ),
+];
+
 #[test]
 fn thirteen_observation_types_stand_on_a_line(rt: HostRuntime) -> Result<(), Fail> {
-    let rows: [(usize, u8, &str); 7] = [
-        (
-            1,
-            1,
-            concat!(
-                "G    3 C1C L1C S1C                                          SYS / # / OBS TYPES \n",
-            ),
-        ),
-        (
-            4,
-            1,
-            concat!(
-                "G   12 C1C L1C S1C C2W L2W S2W C2X L2X S2X C5X L5X S5X      SYS / # / OBS TYPES \n",
-            ),
-        ),
-        (
-            5,
-            2,
-            concat!(
-                "G   15 C1C L1C S1C C2W L2W S2W C2X L2X S2X C5X L5X S5X C1P  SYS / # / OBS TYPES \n",
-                "       L1P S1P                                              SYS / # / OBS TYPES \n",
-            ),
-        ),
-        (
-            8,
-            2,
-            concat!(
-                "G   24 C1C L1C S1C C2W L2W S2W C2X L2X S2X C5X L5X S5X C1P  SYS / # / OBS TYPES \n",
-                "       L1P S1P C1W L1W S1W C2C L2C S2C C2P L2P S2P          SYS / # / OBS TYPES \n",
-            ),
-        ),
-        (
-            9,
-            3,
-            concat!(
-                "G   27 C1C L1C S1C C2W L2W S2W C2X L2X S2X C5X L5X S5X C1P  SYS / # / OBS TYPES \n",
-                "       L1P S1P C1W L1W S1W C2C L2C S2C C2P L2P S2P C2S L2S  SYS / # / OBS TYPES \n",
-                "       S2S                                                  SYS / # / OBS TYPES \n",
-            ),
-        ),
-        (
-            13,
-            3,
-            concat!(
-                "G   39 C1C L1C S1C C2W L2W S2W C2X L2X S2X C5X L5X S5X C1P  SYS / # / OBS TYPES \n",
-                "       L1P S1P C1W L1W S1W C2C L2C S2C C2P L2P S2P C2S L2S  SYS / # / OBS TYPES \n",
-                "       S2S C2L L2L S2L C5I L5I S5I C5Q L5Q S5Q C1S L1S S1S  SYS / # / OBS TYPES \n",
-            ),
-        ),
-        (
-            16,
-            4,
-            concat!(
-                "G   48 C1C L1C S1C C2W L2W S2W C2X L2X S2X C5X L5X S5X C1P  SYS / # / OBS TYPES \n",
-                "       L1P S1P C1W L1W S1W C2C L2C S2C C2P L2P S2P C2S L2S  SYS / # / OBS TYPES \n",
-                "       S2S C2L L2L S2L C5I L5I S5I C5Q L5Q S5Q C1S L1S S1S  SYS / # / OBS TYPES \n",
-                "       C1L L1L S1L C1X L1X S1X C2D L2D S2D                  SYS / # / OBS TYPES \n",
-            ),
-        ),
-    ];
     let place = position(0, 0, 0, 0)?;
-    for (count, lines, want) in rows {
+    for (count, lines, want) in TYPES {
         let codes = CODES.as_slice().get(..count).ok_or("codes")?;
         let text = header_of(b"BASE", codes, &place, rt.alloc())?;
         let end = 9 * 81 + usize::from(lines) * 81;
