@@ -18,7 +18,11 @@ pub fn same<T: PartialEq + Debug>(got: &T, want: &T) -> Result<(), Fail>
 }
 
 /// As `same`, in this row of a table.
-pub fn same_of<R: Display + Drop, T: PartialEq + Debug>(row: R, got: &T, want: &T) -> Result<(), Fail>
+pub fn same_of<R: Display + Drop, T: PartialEq + Debug>(
+    row: R,
+    got: &T,
+    want: &T,
+) -> Result<(), Fail>
     ensures { IfOk result (λ _. T.eq got.now want.now ≡ true) }
 {
     if got == want {
@@ -32,7 +36,11 @@ pub fn same_of<R: Display + Drop, T: PartialEq + Debug>(row: R, got: &T, want: &
 pub fn holds(is: bool) -> Result<(), Fail>
     ensures { IfOk result (λ _. is ≡ true) }
 {
-    if is { Ok(()) } else { Err(Fail::new("what should hold does not")) }
+    if is {
+        Ok(())
+    } else {
+        Err(Fail::new("what should hold does not"))
+    }
 }
 
 /// As `holds`, in this row of a table.
