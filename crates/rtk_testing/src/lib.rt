@@ -1,5 +1,4 @@
-//! What the tests are written with: moments by their numbers, and comparisons whose failure ends a test.
+//! What the tests are written with: comparisons whose failure ends a test.
 #![tactic(auto)]
 
-pub mod moments;
 pub mod same;

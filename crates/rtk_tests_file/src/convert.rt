@@ -7,7 +7,8 @@ mod rows;
 mod runs;
 mod texts;
 
-use crate::rinex::{MADE, NOON, moment};
+use crate::moments::moment;
+use crate::rinex::{MADE, NOON};
 use payloads::*;
 use rows::{EPOCHS, PARTS, PHASES, REPORTS, Row};
 use rtk_convert::{ConvertFault, Setup, SetupFault, Stream, run};

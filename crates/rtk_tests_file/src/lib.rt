@@ -5,5 +5,6 @@
 mod cli;
 #[cfg(test)]
 mod convert;
+pub mod moments;
 #[cfg(test)]
 mod rinex;

@@ -6,7 +6,7 @@ mod header;
 mod header_check;
 mod record;
 
-use rtk_obs::{Code, GpsMs};
+use rtk_obs::Code;
 use std::test::Fail;
 
 pub const NOON: u64 = 1_399_982_400_000; // 2024-05-17 12:00:00.000
@@ -31,10 +31,6 @@ pub const CODES: [Code; 16] = [
     Code::C1X,
     Code::C2D,
 ];
-
-pub fn moment(ms: u64) -> Result<GpsMs, Fail> {
-    Ok(GpsMs::new(ms).ok_or("no moment")?)
-}
 
 // The bytes of a text from a column on, as far as another one.
 fn part(text: &Vec<u8>, from: usize, to: usize) -> Result<&str, Fail> {

@@ -11,5 +11,6 @@ mod frame;
 mod frame_streams;
 #[cfg(test)]
 mod message;
+pub mod moments;
 #[cfg(test)]
 mod obs;

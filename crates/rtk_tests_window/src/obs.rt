@@ -4,8 +4,8 @@ mod digits;
 mod legacy;
 mod msm;
 
+use crate::moments::at;
 use rtk_obs::*;
-use rtk_testing::moments::at;
 use rtk_testing::same::{holds, holds_of, same, same_of};
 use std::test::Fail;
 

@@ -1,6 +1,7 @@
 //! Tests of heads and of the header.
 
-use super::{CODES, MADE, NOON, moment, part};
+use super::{CODES, MADE, NOON, part};
+use crate::moments::moment;
 use rtk_obs::{Code, Position};
 use rtk_rinex::{Head, HeadFault, header};
 use rtk_testing::same::{holds, same};

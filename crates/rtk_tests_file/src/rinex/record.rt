@@ -2,7 +2,8 @@
 
 ghost use Rattle.rtk_rinex.specs.Record.{IsStrength};
 
-use super::{CODES, MADE, NOON, moment, part};
+use super::{CODES, MADE, NOON, part};
+use crate::moments::moment;
 use rtk_rinex::{EpochTable, Head, Observed, record};
 use rtk_testing::same::{same, same_of};
 use std::test::Fail;

@@ -2,8 +2,8 @@
 
 ghost use Rattle.std.specs.Prelude.{◌≤◌};
 
+use crate::moments::at;
 use rtk_obs::{Cell, CellSource, Code, Digits, Tracks, rolled};
-use rtk_testing::moments::at;
 use rtk_testing::same::{holds, same_of};
 use std::test::Fail;
 
