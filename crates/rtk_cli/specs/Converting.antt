@@ -1,5 +1,8 @@
--- What `convert` takes of its links. Both numbers are this project's rule.
-use Rattle.std.specs.Prelude.{ℕ, ◌*◌}
+-- What `convert` takes of its links, and the status that it ends with. All numbers are this project's rule.
+use Rattle.std.specs.Prelude.{ℕ, ◌*◌, Bool, true, false, Result, Ok, Err}
+use Rattle.rtk_convert.specs.declared.counts.Counts.{Counts}
+use Rattle.rtk_convert.specs.declared.fault.ConvertFault.{ConvertFault}
+use Rattle.rtk_convert.specs.declared.fault.ConvertFault.TheVariants.{Setup, NoLink, LinkClosed, OutOfMemory, Write, Read, Endless, Stopped}
 
 -- the most reads of a conversion: 1,000,000,000
 abbrev pub most_reads : ℕ
@@ -8,3 +11,22 @@ most_reads = 1000000000
 -- so many bytes are read ahead of a link at once: 64 times the 512 that a conversion asks for
 abbrev pub read_at_once : ℕ
 read_at_once = 64 * 512
+
+-- the exit status after a fault: 1 where memory, a write, a read or the end of an input is wanting, 2 where the
+-- conversion itself is refused
+abbrev pub status_of_fault : ConvertFault → ℕ
+status_of_fault Setup = 2
+status_of_fault NoLink = 2
+status_of_fault LinkClosed = 2
+status_of_fault OutOfMemory = 1
+status_of_fault (Write stream) = 1
+status_of_fault (Read link) = 1
+status_of_fault Endless = 1
+status_of_fault Stopped = 2
+
+-- the exit status of a conversion that was done or broke off, and of which all that it wrote is out or not: 0 where
+-- it was done and all is out, 1 where it was done and not all is out
+abbrev pub status_of : Result Counts ConvertFault → Bool → ℕ
+status_of (Ok counts) true = 0
+status_of (Ok counts) false = 1
+status_of (Err fault) is_out = status_of_fault fault

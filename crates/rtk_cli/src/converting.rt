@@ -1,8 +1,8 @@
 //! The command `convert`: opens the captures, converts them, and says how it went.
-ghost use Rattle.std.specs.Prelude.{◌≡◌, ◌≤◌, ◌+◌, ℕ, sum_by, true, false, IfOk, IfErr, IsErrOf};
+ghost use Rattle.std.specs.Prelude.{◌≡◌, ◌≤◌, ◌+◌, sum_by, IfOk, IsErrOf};
 ghost use Rattle.std.specs.Io.Buffered.{reader_capacity};
 ghost use Rattle.rtk_convert.specs.Reading.{HasCalled};
-ghost use Rattle.rtk_cli.specs.Converting.{most_reads, read_at_once};
+ghost use Rattle.rtk_cli.specs.Converting.{most_reads, read_at_once, status_of};
 
 use crate::files::{Link, Reads, Writes};
 use crate::telling::{DONE, FAILED, REFUSED, fail, fail_to_open, refuse};
@@ -98,14 +98,7 @@ fn convert<R: Source, O: Sink, L: Sink>(
 /// The exit status of a conversion that was done or broke off and whose output is out or not; the fault line
 /// goes to standard error.
 pub fn conversion_status<R: Eprint>(rt: &R, done: Result<Counts, ConvertFault>, is_out: bool) -> u8
-    ensures bound { result ≤ REFUSED }
-    ensures done { IfOk done (λ _. is_out ≡ true → result ≡ DONE) }
-    ensures not_out { IfOk done (λ _. is_out ≡ false → result ≡ FAILED) }
-    ensures not_done { IfErr done (λ _. 1 ≤ result) }
-    ensures memory { IsErrOf done ConvertFault.OutOfMemory → result ≡ FAILED }
-    ensures write { (stream : _) → IsErrOf done (ConvertFault.Write stream) → result ≡ FAILED }
-    ensures read { (link : ℕ) → IsErrOf done (ConvertFault.Read link) → result ≡ FAILED }
-    ensures endless { IsErrOf done ConvertFault.Endless → result ≡ FAILED }
+    ensures { result ≡ status_of done is_out }
 {
     match done {
         Ok(_) if is_out => DONE,

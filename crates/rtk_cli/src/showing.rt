@@ -1,5 +1,5 @@
 //! The command `show`: a line for each frame of a capture.
-ghost use Rattle.std.specs.Prelude.{◌≡◌, ◌≢◌, ◌+◌, ◌≤◌, ◌++◌, ℕ, Some, Err, [], length, IfOk, OnOk, IfErr, IsErrOf, IsNone, IsSome, IsSomeAnd};
+ghost use Rattle.std.specs.Prelude.{◌≡◌, ◌≢◌, ◌+◌, ◌≤◌, Some, Err, [], length, IfOk, OnOk, IfErr, IsErrOf, IsNone, IsSome, IsSomeAnd};
 ghost use Rattle.rtk_frame.specs.Frames.{frames};
 ghost use Rattle.rtk_frame.specs.Stream.{Rises, with_more, TakesPart};
 ghost use Rattle.rtk_cli.specs.Input.{GivesText, capture_of};

@@ -1,4 +1,6 @@
 //! What the tests are written with: comparisons whose failure ends a test.
 #![tactic(auto)]
 
-pub mod same;
+mod comparing;
+
+pub use comparing::{holds, holds_of, same, same_of};

@@ -1,21 +1,22 @@
 //! Payloads by the tables of fields, and the files and reports that they come to.
 
 mod asking;
+mod cell_rows;
 mod links;
 mod payloads;
 mod rows;
 mod runs;
 mod texts;
 
-use crate::moments::moment;
-use crate::rinex::{MADE, NOON};
+use crate::moments::{MADE, NOON, moment};
+use cell_rows::{PARTS, PHASES};
 use payloads::*;
-use rows::{EPOCHS, PARTS, PHASES, REPORTS, Row};
-use rtk_convert::{ConvertFault, Setup, SetupFault, Stream, run};
+use rows::{EPOCHS, REPORTS, Row};
+use rtk_convert::{ConvertFault, Counts, Setup, SetupFault, Stream, run};
 use rtk_frame::{After, MemSink, MemSource, encode_frame};
 use rtk_obs::Code;
 use rtk_rinex::Head;
-use rtk_testing::same::{holds, same};
+use rtk_testing::{holds, same};
 use runs::{BROKEN, ENDED, Run};
 use std::alloc::Global;
 use std::test::Fail;
@@ -35,15 +36,28 @@ struct Written {
     log: MemSink,
 }
 
-// A run over one link of these payloads, to its end.
-fn converted(alloc: Global, payloads: &[&[u8]]) -> Result<Written, Fail> {
-    let mut out = MemSink::new(alloc, 65_536, 65_536)?;
-    let mut log = MemSink::new(alloc, 65_536, 65_536)?;
-    let mut readers = Vec::new(alloc);
-    readers.push(source(alloc, payloads, After::End)?)?;
+// A run over these links for the station of the payloads, with a window of two epochs.
+fn run_links(
+    alloc: Global,
+    mut links: Vec<MemSource>,
+    written: &mut Written,
+    max_reads: u64,
+) -> Result<Result<Counts, ConvertFault>, Fail> {
     let setup = setup(2003, NOON, 2)?;
-    run(alloc, setup, &mut readers, &mut out, &mut log, 1000)?;
-    Ok(Written { out, log })
+    let Written { out, log } = written;
+    Ok(run(alloc, setup, &mut links, out, log, max_reads))
+}
+
+// A run over one link of these bytes, to its end.
+fn converted(alloc: Global, bytes: &[u8], max_reads: u64) -> Result<(Counts, Written), Fail> {
+    let mut written = Written {
+        out: MemSink::new(alloc, 1_000_000, 1_000_000)?,
+        log: MemSink::new(alloc, 65_536, 65_536)?,
+    };
+    let mut links = Vec::new(alloc);
+    links.push(MemSource::new(alloc, bytes, 512, After::End)?)?;
+    let counts = run_links(alloc, links, &mut written, max_reads)??;
+    Ok((counts, written))
 }
 
 // Do these parts, one behind another, make the text?
@@ -93,7 +107,7 @@ fn the_limits_of_a_setup_are_good() -> Result<(), Fail> {
 
 fn check(alloc: Global, rows: &[Row]) -> Result<(), Fail> {
     for row in rows {
-        let written = converted(alloc, row.payloads)?;
+        let (_, written) = converted(alloc, &framed(alloc, row.payloads)?, 1000)?;
         holds(consists_of(written.out.bytes(), row.file))?;
         same(&written.log.bytes(), &row.report.as_bytes())?;
     }
@@ -120,39 +134,40 @@ fn phases_have_their_digits_and_rolls(rt: HostRuntime) -> Result<(), Fail> {
     check(rt.alloc(), &PHASES)
 }
 
-// A source of the frames of these payloads.
-fn source(alloc: Global, payloads: &[&[u8]], after: After) -> Result<MemSource, Fail> {
+// The frames of these payloads.
+fn framed(alloc: Global, payloads: &[&[u8]]) -> Result<Vec<u8>, Fail> {
     let mut bytes = Vec::new(alloc);
     for payload in payloads {
         let frame = encode_frame(alloc, *payload)?;
         bytes.extend_from_slice(&frame)?;
     }
-    Ok(MemSource::new(alloc, &bytes, 512, after)?)
+    Ok(bytes)
+}
+
+// A source of each of these links.
+fn sources(alloc: Global, links: &[&[&[u8]]], after: After) -> Result<Vec<MemSource>, Fail> {
+    let mut sources = Vec::new(alloc);
+    for payloads in links {
+        let bytes = framed(alloc, *payloads)?;
+        sources.push(MemSource::new(alloc, &bytes, 512, after)?)?;
+    }
+    Ok(sources)
 }
 
 fn check_run(alloc: Global, row: &Run) -> Result<(), Fail> {
-    let mut readers = Vec::new(alloc);
-    for payloads in row.links {
-        readers.push(source(alloc, *payloads, row.after)?)?;
-    }
     let (room, per_write) = row.room;
     if per_write == 0 {
         return Err("a sink that takes nothing".into());
     }
-    let mut out = MemSink::new(alloc, room, per_write)?;
-    let mut log = MemSink::new(alloc, row.log_room, 65_536)?;
-    let setup = setup(2003, NOON, 2)?;
-    let answer = run(
-        alloc,
-        setup,
-        &mut readers,
-        &mut out,
-        &mut log,
-        row.max_reads,
-    );
+    let mut written = Written {
+        out: MemSink::new(alloc, room, per_write)?,
+        log: MemSink::new(alloc, row.log_room, 65_536)?,
+    };
+    let links = sources(alloc, row.links, row.after)?;
+    let answer = run_links(alloc, links, &mut written, row.max_reads)?;
     same(&answer.err(), &row.fault)?;
-    holds(consists_of(out.bytes(), row.file))?;
-    same(&log.bytes(), &row.report.as_bytes())
+    holds(consists_of(written.out.bytes(), row.file))?;
+    same(&written.log.bytes(), &row.report.as_bytes())
 }
 
 #[test]
@@ -173,16 +188,14 @@ fn runs_that_break_off_leave_what_came_before(rt: HostRuntime) -> Result<(), Fai
 
 #[test]
 fn a_run_has_1_to_16_links(rt: HostRuntime) -> Result<(), Fail> {
-    for links in [0u8, 17] {
-        let alloc = rt.alloc();
-        let mut readers = Vec::new(alloc);
-        for _ in 0..links {
-            readers.push(source(alloc, &[], After::End)?)?;
-        }
-        let mut out = MemSink::new(alloc, 1, 1)?;
-        let mut log = MemSink::new(alloc, 1, 1)?;
-        let setup = setup(2003, NOON, 2)?;
-        let answer = run(alloc, setup, &mut readers, &mut out, &mut log, 100);
+    let alloc = rt.alloc();
+    for links in [[].as_slice(), [[].as_slice(); 17].as_slice()] {
+        let mut written = Written {
+            out: MemSink::new(alloc, 1, 1)?,
+            log: MemSink::new(alloc, 1, 1)?,
+        };
+        let links = sources(alloc, links, After::End)?;
+        let answer = run_links(alloc, links, &mut written, 100)?;
         same(&answer.err(), &Some(ConvertFault::Setup))?;
     }
     Ok(())
@@ -224,34 +237,32 @@ fn faults_have_their_texts(rt: HostRuntime) -> Result<(), Fail> {
     Ok(())
 }
 
+// The file and the report of a capture that ends within its first frame, and within its second.
+const CUT_IN_FIRST: (&[&str], &str) = (
+    &[TOP, NO_SITE, TYPES, FIRST_AT_NOON, END],
+    "frames 0\nother 0\nrefused 0\nforeign 0\ntaken 0\nrepeat 0\nconflict 0\nlate 0\nepochs 0\n",
+);
+
+const CUT_IN_SECOND: (&[&str], &str) = (
+    &[TOP, SITE, TYPES, FIRST_AT_NOON, END],
+    "frames 1\nother 0\nrefused 0\nforeign 0\ntaken 1\nrepeat 0\nconflict 0\nlate 0\nepochs 0\n",
+);
+
 #[test]
 fn captures_cut_anywhere(rt: HostRuntime) -> Result<(), Fail> {
     let alloc = rt.alloc();
-    let mut bytes = Vec::new(alloc);
-    for payload in [P, Q] {
-        bytes.extend_from_slice(&encode_frame(alloc, payload)?)?;
-    }
+    let bytes = framed(alloc, &[P, Q])?;
     same(&bytes.len(), &55)?;
     for k in 0..55 {
-        let (site, report) = if k < 25 {
-            (
-                NO_SITE,
-                "frames 0\nother 0\nrefused 0\nforeign 0\ntaken 0\nrepeat 0\nconflict 0\nlate 0\nepochs 0\n",
-            )
+        let row = if k < 25 {
+            &CUT_IN_FIRST
         } else {
-            (
-                SITE,
-                "frames 1\nother 0\nrefused 0\nforeign 0\ntaken 1\nrepeat 0\nconflict 0\nlate 0\nepochs 0\n",
-            )
+            &CUT_IN_SECOND
         };
-        let mut readers = Vec::new(alloc);
-        readers.push(MemSource::new(alloc, bytes.get(..k).ok_or("no part")?, 512, After::End)?)?;
-        let mut out = MemSink::new(alloc, 4096, 4096)?;
-        let mut log = MemSink::new(alloc, 4096, 4096)?;
-        let setup = setup(2003, NOON, 2)?;
-        run(alloc, setup, &mut readers, &mut out, &mut log, 3)?;
-        holds(consists_of(out.bytes(), &[TOP, site, TYPES, FIRST_AT_NOON, END]))?;
-        same(&log.bytes(), &report.as_bytes())?;
+        let part = bytes.get(..k).ok_or("no part")?;
+        let (_, written) = converted(alloc, part, 3)?;
+        holds(consists_of(written.out.bytes(), row.0))?;
+        same(&written.log.bytes(), &row.1.as_bytes())?;
     }
     Ok(())
 }
@@ -270,22 +281,11 @@ fn three_thousand_epochs(rt: HostRuntime) -> Result<(), Fail> {
         }
         bytes.extend_from_slice(&encode_frame(alloc, &payload)?)?;
     }
-    let mut readers = Vec::new(alloc);
-    readers.push(MemSource::new(alloc, &bytes, 512, After::End)?)?;
-    let mut out = MemSink::new(alloc, 1_000_000, 1_000_000)?;
-    let mut log = MemSink::new(alloc, 4096, 4096)?;
-    let counts = run(
-        alloc,
-        setup(2003, NOON, 2)?,
-        &mut readers,
-        &mut out,
-        &mut log,
-        1000,
-    )?;
+    let (counts, written) = converted(alloc, &bytes, 1000)?;
     same(
         &(counts.frames, counts.taken, counts.epochs),
         &(3000, 3000, 3000),
     )?;
-    let table = rtk_rinex::check(alloc, out.bytes())?;
+    let table = rtk_rinex::check(alloc, written.out.bytes())?;
     same(&(table.epochs(), table.satellites()), &(3000, 3000))
 }

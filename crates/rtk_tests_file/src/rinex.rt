@@ -9,10 +9,6 @@ mod record;
 use rtk_obs::Code;
 use std::test::Fail;
 
-pub const NOON: u64 = 1_399_982_400_000; // 2024-05-17 12:00:00.000
-
-pub const MADE: u64 = 1_399_986_000_000; // 2024-05-17 13:00:00.000
-
 pub const CODES: [Code; 16] = [
     Code::C1C,
     Code::C2W,

@@ -1,7 +1,7 @@
 //! Values from outside: the example message of the standard, and tables of two's complement.
 
 use rtk_bits::{BitReader, BitWriter};
-use rtk_testing::same::{holds, same, same_of};
+use rtk_testing::{holds, same, same_of};
 use std::test::Fail;
 
 // The payload of the message 1005 that RTCM 10403.3 gives as its example.

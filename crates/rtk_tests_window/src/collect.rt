@@ -4,14 +4,12 @@ mod cells;
 mod epochs;
 mod stations;
 
-use rtk_collect::{Collector, Dated, Offer, SatelliteCode};
+use crate::moments::NOON;
+use rtk_collect::{Collector, Dated, EpochSet, Left, Offer, SatelliteCode};
 use rtk_message::{Message, Obs1004, Satellite, Satellites, decode};
 use rtk_obs::GpsMs;
-use rtk_testing::same::{holds, same, same_of};
+use rtk_testing::{holds, same, same_of};
 use std::test::*;
-
-/// 2024-05-17 12:00:00.000.
-const NOON: u64 = 1_399_982_400_000;
 
 // A 1005 of station 2003: x 1114104.5999, y -4850729.7108, z 3975521.4643.
 const P: [u8; 19] = [
@@ -118,6 +116,7 @@ enum Offered {
     Smoothed(&'static [Satellite]),
     /// A 1074 with a cell of this satellite.
     Msm(u8),
+    /// The message that this payload decodes to.
     Payload(&'static [u8]),
 }
 
@@ -158,4 +157,8 @@ fn check(
     let offer = collector.offer(Dated::new(message, epoch))?;
     same_of(format_args!("second {seconds}"), &answer_to(&offer), &want)?;
     same(&conflicts(&offer), &conflicting)
+}
+
+fn next_left(left: &mut Left) -> Result<EpochSet, Fail> {
+    Ok(left.next_left().ok_or("no epoch is left")?)
 }

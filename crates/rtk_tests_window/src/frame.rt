@@ -6,7 +6,7 @@ mod plain;
 
 use plain::{checksum_bit_by_bit, frames_of};
 use rtk_frame::{Answer, FrameFault, Scanner, crc24q, encode_frame, next_frame};
-use rtk_testing::same::{holds, holds_of, same, same_of};
+use rtk_testing::{holds, holds_of, same, same_of};
 use std::alloc::{AllocError, Global};
 use std::test::Fail;
 
@@ -16,6 +16,15 @@ const FRAME: [u8; 25] = [
     0xD3, 0x00, 0x13, 0x3E, 0xD7, 0xD3, 0x02, 0x02, 0x98, 0x0E, 0xDE, 0xEF, 0x34, 0xB4, 0xBD, 0x62,
     0xAC, 0x09, 0x41, 0x98, 0x6F, 0x33, 0x36, 0x0B, 0x98,
 ];
+
+/// Its payload.
+const PAYLOAD: [u8; 19] = [
+    0x3E, 0xD7, 0xD3, 0x02, 0x02, 0x98, 0x0E, 0xDE, 0xEF, 0x34, 0xB4, 0xBD, 0x62, 0xAC, 0x09, 0x41,
+    0x98, 0x6F, 0x33,
+];
+
+/// The longest payload, of zeros.
+const LONGEST: [u8; 1023] = [0; 1023];
 
 /// The same frame with another last byte.
 const SPOILT: [u8; 25] = [
@@ -117,6 +126,17 @@ fn feed_in_pieces(
     Ok((found, count))
 }
 
+// Appends the payloads of the frames that are left.
+fn add_rest(found: &mut Vec<u8>, scanner: &mut Scanner) -> Result<(), AllocError> {
+    for _ in 0..10 {
+        let Some(payload) = scanner.rest() else {
+            break;
+        };
+        found.extend_from_slice(payload)?;
+    }
+    Ok(())
+}
+
 #[test]
 fn known_checksums() -> Result<(), Fail> {
     same(&crc24q(b"123456789"), &0xCDE703)?;
@@ -124,42 +144,83 @@ fn known_checksums() -> Result<(), Fail> {
     same(&crc24q(&FRAME[..22]), &0x360B98)
 }
 
+// Payloads, and the frames that hold them.
+const FRAMES: [(&[u8], &[u8]); 2] = [(&PAYLOAD, &FRAME), (&[], &[0xD3, 0, 0, 0x47, 0xEA, 0x4B])];
+
 #[test]
 fn frames_are_written(rt: HostRuntime) -> Result<(), Fail> {
-    let known = encode_frame(rt.alloc(), &FRAME[3..22])?;
-    holds(known.as_slice() == &FRAME[..])?;
-    let empty = encode_frame(rt.alloc(), &[])?;
-    holds(empty.as_slice() == &[0xD3, 0, 0, 0x47, 0xEA, 0x4B][..])?;
-    let longest = encode_frame(rt.alloc(), &[0; 1023])?;
+    for (payload, frame) in FRAMES {
+        same(&encode_frame(rt.alloc(), payload)?.as_slice(), &frame)?;
+    }
+    Ok(())
+}
+
+#[test]
+fn a_payload_has_at_most_1023_bytes(rt: HostRuntime) -> Result<(), Fail> {
+    let longest = encode_frame(rt.alloc(), &LONGEST)?;
     same(&longest.len(), &1029)?;
     holds(longest.as_slice().starts_with(&[0xD3, 0x03, 0xFF, 0]))?;
     let longer = encode_frame(rt.alloc(), &[0; 1024]);
     holds(matches!(longer, Err(FrameFault::TooLong)))
 }
 
+// The next frame of the text stands at this place and is that of the standard.
+fn check_found(text: &[u8], place: usize) -> Result<(), Fail> {
+    let Some(found) = next_frame(text, 0) else {
+        return Err(Fail::new(format_args!("no frame at {place}")));
+    };
+    same(&(found.place, found.payload), &(place, PAYLOAD.as_slice()))
+}
+
 #[test]
 fn the_next_frame_of_a_text(rt: HostRuntime) -> Result<(), Fail> {
     for text in &TEXTS {
         let bytes = bytes_of(rt.alloc(), text)?;
-        match next_frame(bytes.as_slice(), 0) {
-            Some(found) => {
-                same(&found.place, &text.place)?;
-                holds(found.payload == &FRAME[3..22])?;
-            }
-            None => holds_of(text.place, false)?,
-        }
-        holds(next_frame(bytes.as_slice(), bytes.len()).is_none())?;
+        check_found(bytes.as_slice(), text.place)?;
+        holds_of(
+            text.place,
+            next_frame(bytes.as_slice(), bytes.len()).is_none(),
+        )?;
     }
-    holds(next_frame(&FRAME, 1).is_none() && next_frame(&SPOILT, 0).is_none())?;
-    // without a payload; the reserved bits may be set
-    for text in [
-        [0xD3, 0, 0, 0x47, 0xEA, 0x4B],
-        [0xD3, 0xFC, 0, 0x32, 0xC2, 0x4F],
-    ] {
+    Ok(())
+}
+
+#[test]
+fn texts_without_a_frame() -> Result<(), Fail> {
+    holds(next_frame(&FRAME, 1).is_none())?;
+    holds(next_frame(&SPOILT, 0).is_none())
+}
+
+// Frames without a payload; the reserved bits may be set.
+const EMPTY: [[u8; 6]; 2] = [
+    [0xD3, 0, 0, 0x47, 0xEA, 0x4B],
+    [0xD3, 0xFC, 0, 0x32, 0xC2, 0x4F],
+];
+
+#[test]
+fn frames_without_a_payload() -> Result<(), Fail> {
+    for text in EMPTY {
         let found = next_frame(&text, 0);
         holds(matches!(found, Some(found) if found.place == 0 && found.payload.is_empty()))?;
     }
     Ok(())
+}
+
+// In pieces of this size the text gives the frame of the standard and no other, by `feed` or by `rest`.
+fn check_in_pieces(alloc: Global, text: &Text, bytes: &[u8], size: usize) -> Result<(), Fail>
+    requires { 0 < size }
+{
+    let mut scanner = Scanner::new(alloc)?;
+    let (mut found, count) = feed_in_pieces(alloc, &mut scanner, bytes, size)?;
+    same_of(
+        format_args!("place {}, pieces of {size}", text.place),
+        &count,
+        &usize::from(text.fed),
+    )?;
+    holds(!scanner.ended())?;
+    add_rest(&mut found, &mut scanner)?;
+    same_of(text.place, &found.as_slice(), &PAYLOAD.as_slice())?;
+    holds(scanner.rest().is_none() && scanner.ended())
 }
 
 #[test]
@@ -167,23 +228,7 @@ fn the_same_frame_in_pieces(rt: HostRuntime) -> Result<(), Fail> {
     for text in &TEXTS {
         let bytes = bytes_of(rt.alloc(), text)?;
         for size in [1usize, 7, 512, 10000] {
-            let mut scanner = Scanner::new(rt.alloc())?;
-            let (fed, count) = feed_in_pieces(rt.alloc(), &mut scanner, bytes.as_slice(), size)?;
-            let want = if text.fed { 1usize } else { 0 };
-            same_of(
-                format_args!("place {}, pieces of {size}", text.place),
-                &count,
-                &want,
-            )?;
-            holds(!scanner.ended())?;
-            if text.fed {
-                holds(fed.as_slice() == &FRAME[3..22])?;
-            } else {
-                holds(matches!(scanner.rest(), Some(payload) if payload == &FRAME[3..22]))?;
-            }
-            holds(scanner.rest().is_none())?;
-            holds(scanner.rest().is_none())?;
-            holds(scanner.ended())?;
+            check_in_pieces(rt.alloc(), text, bytes.as_slice(), size)?;
         }
     }
     Ok(())
@@ -197,36 +242,38 @@ fn a_frame_cut_in_two(rt: HostRuntime) -> Result<(), Fail> {
         same(&first.used, &cut)?;
         holds(matches!(first.answer, Answer::Hungry))?;
         let second = scanner.feed(&FRAME[cut..]);
-        holds(matches!(second.answer, Answer::Found(payload) if payload == &FRAME[3..22]))?;
+        holds(matches!(second.answer, Answer::Found(payload) if payload == PAYLOAD.as_slice()))?;
     }
     Ok(())
+}
+
+// All bytes of the text are used, and no frame is found.
+fn check_hungry(alloc: Global, text: &Text, used: usize) -> Result<(), Fail> {
+    let bytes = bytes_of(alloc, text)?;
+    let mut scanner = Scanner::new(alloc)?;
+    let fed = scanner.feed(bytes.as_slice());
+    same(&fed.used, &used)?;
+    holds(matches!(fed.answer, Answer::Hungry))
 }
 
 #[test]
 fn hungry_only_where_all_is_used(rt: HostRuntime) -> Result<(), Fail> {
-    for (text, used) in [(&TEXTS[1], 28usize), (&TEXTS[5], 925)] {
-        let bytes = bytes_of(rt.alloc(), text)?;
-        let mut scanner = Scanner::new(rt.alloc())?;
-        let fed = scanner.feed(bytes.as_slice());
-        same(&fed.used, &used)?;
-        holds(matches!(fed.answer, Answer::Hungry))?;
-    }
-    Ok(())
+    check_hungry(rt.alloc(), &TEXTS[1], 28)?;
+    check_hungry(rt.alloc(), &TEXTS[5], 925)
 }
 
 #[test]
 fn the_longest_frame_byte_by_byte(rt: HostRuntime) -> Result<(), Fail> {
-    let frame = encode_frame(rt.alloc(), &[0; 1023])?;
-    let mut scanner = Scanner::new(rt.alloc())?;
-    let [first @ .., last] = frame.as_slice() else {
+    let frame = encode_frame(rt.alloc(), &LONGEST)?;
+    let Some((last, first)) = frame.as_slice().split_last() else {
         return Err("no bytes".into());
     };
     same(&first.len(), &1028)?;
+    let mut scanner = Scanner::new(rt.alloc())?;
     let (_, count) = feed_in_pieces(rt.alloc(), &mut scanner, first, 1)?;
     same(&count, &0)?;
     let fed = scanner.feed(&[*last]);
-    holds(matches!(fed.answer, Answer::Found(payload) if payload == &[0; 1023][..]))?;
-    Ok(())
+    holds(matches!(fed.answer, Answer::Found(payload) if payload == LONGEST.as_slice()))
 }
 
 /// The place and the length of the payload of each frame of a text, and the payloads, one behind
@@ -246,30 +293,50 @@ fn frames_by_search(
     Ok((frames, payloads))
 }
 
-#[test]
-fn the_plain_program_does_the_same(rt: HostRuntime) -> Result<(), Fail> {
-    let mut bytes = Vec::new(rt.alloc());
+// All texts, one behind another.
+fn all_texts(alloc: Global) -> Result<Vec<u8>, AllocError> {
+    let mut bytes = Vec::new(alloc);
     for text in &TEXTS {
-        let more = bytes_of(rt.alloc(), text)?;
+        let more = bytes_of(alloc, text)?;
         bytes.extend_from_slice(more.as_slice())?;
     }
+    Ok(bytes)
+}
+
+// The checksums of the pieces of a text.
+fn check_checksums(text: &[u8], size: usize) -> Result<(), Fail>
+    requires { 0 < size }
+{
+    for piece in text.chunks(size) {
+        same(&crc24q(piece), &checksum_bit_by_bit(piece))?;
+    }
+    Ok(())
+}
+
+// The payloads that a scanner gives of a text in pieces, one behind another.
+fn payloads_in_pieces(alloc: Global, text: &[u8], size: usize) -> Result<Vec<u8>, Fail>
+    requires { 0 < size }
+{
+    let mut scanner = Scanner::new(alloc)?;
+    let (mut found, _) = feed_in_pieces(alloc, &mut scanner, text, size)?;
+    add_rest(&mut found, &mut scanner)?;
+    Ok(found)
+}
+
+#[test]
+fn the_plain_program_does_the_same(rt: HostRuntime) -> Result<(), Fail> {
+    let bytes = all_texts(rt.alloc())?;
     let text = bytes.as_slice();
     for size in [1usize, 7, 8, 9, 70, 1000] {
-        for part in text.chunks(size) {
-            same(&crc24q(part), &checksum_bit_by_bit(part))?;
-        }
+        check_checksums(text, size)?;
     }
     let (frames, payloads) = frames_by_search(rt.alloc(), text)?;
     holds(frames == frames_of(rt.alloc(), text)?)?;
     for size in [1usize, 5, 512] {
-        let mut scanner = Scanner::new(rt.alloc())?;
-        let (mut found, _) = feed_in_pieces(rt.alloc(), &mut scanner, text, size)?;
-        for _ in 0..10 {
-            if let Some(payload) = scanner.rest() {
-                found.extend_from_slice(payload)?;
-            }
-        }
-        holds_of(format_args!("pieces of {size}"), found == payloads)?;
+        holds_of(
+            size,
+            payloads_in_pieces(rt.alloc(), text, size)? == payloads,
+        )?;
     }
     Ok(())
 }

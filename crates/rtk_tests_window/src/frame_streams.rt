@@ -1,7 +1,7 @@
 //! Sources and sinks over memory: what each call answers, counted by hand.
 
 use rtk_frame::{After, MemSink, MemSource, Sink, Source, StreamFault, read_one, write_all};
-use rtk_testing::same::{holds, same, same_of};
+use rtk_testing::{holds, same, same_of};
 use std::test::Fail;
 
 #[test]

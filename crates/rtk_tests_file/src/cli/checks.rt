@@ -2,7 +2,7 @@
 
 use rtk_cli::{Job, ToolFault, check_file, job};
 use rtk_frame::{After, MemSink, MemSource};
-use rtk_testing::same::{holds, same};
+use rtk_testing::{holds, same, same_of};
 use std::alloc::{AllocError, Global};
 use std::test::Fail;
 
@@ -40,34 +40,46 @@ const ZERO: &str =
 
 const YES: &str = "valid: 1 epochs, 1 satellite lines\n";
 
-fn joined(alloc: Global, lines: &[&str]) -> Result<Vec<u8>, AllocError> {
+// The first lines of the file and another one behind them.
+fn text_of(alloc: Global, count: usize, other: &str) -> Result<Vec<u8>, AllocError> {
     let mut text = Vec::new(alloc);
-    for line in lines {
+    for line in LINES.iter().take(count) {
         text.extend_from_slice(line.as_bytes())?;
     }
+    text.extend_from_slice(other.as_bytes())?;
     Ok(text)
 }
 
-// The first lines of the file and another line behind them, and what is said of this text.
+// What `check` answers to a text, and what a sink with so much room holds then.
+fn checked(
+    alloc: Global,
+    text: &[u8],
+    after: After,
+    room: usize,
+) -> Result<(Result<bool, ToolFault>, MemSink), Fail> {
+    let mut reader = MemSource::new(alloc, text, 512, after)?;
+    let mut out = MemSink::new(alloc, room, 7)?;
+    let answer = check_file(alloc, &mut reader, &mut out);
+    Ok((answer, out))
+}
+
+// So many lines and another one, the answer, and what is said.
+const ANSWERS: [(usize, &str, bool, &str); 7] = [
+    (15, SATELLITE, true, YES),
+    (0, "", false, "line 1: C5 Truncated\n"),
+    (8, "", false, "line 9: C5 Truncated\n"),
+    (3, "GEODETIC\n", false, "line 4: C1 HeaderLine\n"),
+    (15, OTHER, false, "line 16: C2 Columns\n"),
+    (15, ZERO, false, "line 16: C3 Value\n"),
+    (16, EPOCH, false, "line 17: C4 Order\n"),
+];
+
 #[test]
 fn line_of_each_answer(rt: HostRuntime) -> Result<(), Fail> {
-    let lines = LINES;
-    let rows: [(&[&str], &str, bool, &str); 7] = [
-        (&lines[..15], SATELLITE, true, YES),
-        (&lines[..0], "", false, "line 1: C5 Truncated\n"),
-        (&lines[..8], "", false, "line 9: C5 Truncated\n"),
-        (&lines[..3], "GEODETIC\n", false, "line 4: C1 HeaderLine\n"),
-        (&lines[..15], OTHER, false, "line 16: C2 Columns\n"),
-        (&lines[..15], ZERO, false, "line 16: C3 Value\n"),
-        (&lines[..16], EPOCH, false, "line 17: C4 Order\n"),
-    ];
-    for (first, other, want, line) in rows {
-        let mut text = joined(rt.alloc(), first)?;
-        text.extend_from_slice(other.as_bytes())?;
-        let mut reader = MemSource::new(rt.alloc(), text.as_slice(), 512, After::End)?;
-        let mut out = MemSink::new(rt.alloc(), 100, 7)?;
-        let answer = check_file(rt.alloc(), &mut reader, &mut out);
-        same(&answer, &Ok(want))?;
+    for (count, other, want, line) in ANSWERS {
+        let text = text_of(rt.alloc(), count, other)?;
+        let (answer, out) = checked(rt.alloc(), text.as_slice(), After::End, 100)?;
+        same_of(line, &answer, &Ok(want))?;
         same(&out.bytes(), &line.as_bytes())?;
     }
     Ok(())
@@ -76,10 +88,8 @@ fn line_of_each_answer(rt: HostRuntime) -> Result<(), Fail> {
 // Of a source that fails behind the whole text nothing is said.
 #[test]
 fn failed_read(rt: HostRuntime) -> Result<(), Fail> {
-    let text = joined(rt.alloc(), &LINES)?;
-    let mut reader = MemSource::new(rt.alloc(), text.as_slice(), 512, After::Failure)?;
-    let mut out = MemSink::new(rt.alloc(), 100, 100)?;
-    let answer = check_file(rt.alloc(), &mut reader, &mut out);
+    let text = text_of(rt.alloc(), 16, "")?;
+    let (answer, out) = checked(rt.alloc(), text.as_slice(), After::Failure, 100)?;
     same(&answer, &Err(ToolFault::Input))?;
     same(&out.bytes().len(), &0)
 }
@@ -87,12 +97,10 @@ fn failed_read(rt: HostRuntime) -> Result<(), Fail> {
 // A sink that takes so many bytes and then fails has a first part of the line.
 #[test]
 fn failed_write(rt: HostRuntime) -> Result<(), Fail> {
-    let text = joined(rt.alloc(), &LINES)?;
+    let text = text_of(rt.alloc(), 16, "")?;
     for room in [0usize, 10, 34] {
-        let mut reader = MemSource::new(rt.alloc(), text.as_slice(), 512, After::End)?;
-        let mut out = MemSink::new(rt.alloc(), room, 7)?;
-        let answer = check_file(rt.alloc(), &mut reader, &mut out);
-        same(&answer, &Err(ToolFault::Output))?;
+        let (answer, out) = checked(rt.alloc(), text.as_slice(), After::End, room)?;
+        same_of(room, &answer, &Err(ToolFault::Output))?;
         same(&out.bytes().len(), &room)?;
         holds(YES.as_bytes().starts_with(out.bytes()))?;
     }
@@ -101,9 +109,8 @@ fn failed_write(rt: HostRuntime) -> Result<(), Fail> {
 
 #[test]
 fn words_of_check(rt: HostRuntime) -> Result<(), Fail> {
-    match job(rt.alloc(), &["check", "base.rnx"]) {
-        Ok(Job::Check { file }) => same(&file, &"base.rnx")?,
-        _ => holds(false)?,
-    }
-    Ok(())
+    let Ok(Job::Check { file }) = job(rt.alloc(), &["check", "base.rnx"]) else {
+        return Err("no check".into());
+    };
+    same(&file, &"base.rnx")
 }

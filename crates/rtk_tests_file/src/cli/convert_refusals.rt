@@ -1,7 +1,8 @@
 //! The words of `convert` that give no conversion: our own refusals in their order, and clap's texts.
 
 use rtk_cli::{BadWords, WordsFault, job};
-use rtk_testing::same::{holds, holds_of, same, same_of};
+use rtk_testing::{same, same_of};
+use std::alloc::{AllocError, Global};
 use std::test::Fail;
 
 const NEAR: &str = "2024-05-17T12:00:00";
@@ -83,22 +84,32 @@ const BAD: [(&[&str], BadWords); 17] = [
     ),
 ];
 
+// The words that give these values and links.
+fn words_of<'a>(alloc: Global, values: &[&'a str]) -> Result<Vec<&'a str>, AllocError> {
+    let mut words = Vec::new(alloc);
+    words.extend_from_slice(&["convert", "--station", "2003"])?;
+    for (name, value) in NAMES.iter().zip(values) {
+        words.push(*name)?;
+        words.push(*value)?;
+    }
+    for link in values.iter().skip(4) {
+        words.push(*link)?;
+    }
+    Ok(words)
+}
+
+fn check_refused(alloc: Global, words: &[&str], want: BadWords) -> Result<(), Fail> {
+    let Err(WordsFault::Bad { line }) = job(alloc, words) else {
+        return Err(Fail::new(format_args!("{words:?}: not refused")));
+    };
+    same_of(format_args!("{words:?}"), &line, &want)
+}
+
 #[test]
 fn bad_words_in_their_order(rt: HostRuntime) -> Result<(), Fail> {
     for (values, want) in BAD {
-        let mut words = Vec::new(rt.alloc());
-        words.extend_from_slice(&["convert", "--station", "2003"])?;
-        for (name, value) in NAMES.iter().zip(values) {
-            words.push(*name)?;
-            words.push(*value)?;
-        }
-        for link in values.iter().skip(4) {
-            words.push(*link)?;
-        }
-        match job(rt.alloc(), words.as_slice()) {
-            Err(WordsFault::Bad { line }) => same_of(format_args!("{values:?}"), &line, &want)?,
-            _ => holds_of(format_args!("{values:?}"), false)?,
-        }
+        let words = words_of(rt.alloc(), values)?;
+        check_refused(rt.alloc(), words.as_slice(), want)?;
     }
     Ok(())
 }
@@ -210,13 +221,11 @@ fn texts_of_clap(rt: HostRuntime) -> Result<(), Fail> {
         ),
     ];
     for (words, want_status, want) in rows {
-        match job(rt.alloc(), words) {
-            Err(WordsFault::Clap { text, status }) => {
-                same(&text.as_str(), &want)?;
-                same(&status, &want_status)?;
-            }
-            _ => holds(false)?,
-        }
+        let Err(WordsFault::Clap { text, status }) = job(rt.alloc(), words) else {
+            return Err(Fail::new(format_args!("{words:?}: no text of clap's")));
+        };
+        same(&text.as_str(), &want)?;
+        same(&status, &want_status)?;
     }
     Ok(())
 }

@@ -1,12 +1,11 @@
 //! The words of `convert` that give a conversion.
 
+use crate::moments::NOON;
 use rtk_cli::{Job, job};
 use rtk_obs::Code;
-use rtk_testing::same::holds_of;
+use rtk_testing::holds_of;
 use std::alloc::Global;
 use std::test::Fail;
-
-const NOON: u64 = 1_399_982_400_000; // 2024-05-17 12:00:00.000
 
 const OPTIONS: [&str; 11] = [
     "convert",

@@ -2,7 +2,7 @@
 
 use rtk_cli::conversion_status;
 use rtk_convert::{ConvertFault, Counts, Stream};
-use rtk_testing::same::{same, same_of};
+use rtk_testing::{same, same_of};
 use std::cell::RefCell;
 use std::fmt::Display;
 use std::io;
@@ -52,7 +52,7 @@ const NOTHING: Counts = Counts {
 };
 
 // What a conversion came to, whether its file and its report are out, and what is told.
-const ENDS: [(Result<Counts, ConvertFault>, bool, u8, &str); 7] = [
+const ENDS: [(Result<Counts, ConvertFault>, bool, u8, &str); 9] = [
     (Ok(NOTHING), true, 0, ""),
     (Ok(NOTHING), false, 1, "rtcm2rinex: write failed\n"),
     (
@@ -84,11 +84,18 @@ const ENDS: [(Result<Counts, ConvertFault>, bool, u8, &str); 7] = [
         "rtcm2rinex: read failed\n",
     ),
     (
+        Err(ConvertFault::Read { link: 1 }),
+        false,
+        1,
+        "rtcm2rinex: read failed\n",
+    ),
+    (
         Err(ConvertFault::Endless),
         true,
         1,
         "rtcm2rinex: input does not end\n",
     ),
+    (Err(ConvertFault::Setup), true, 2, "rtcm2rinex: bad links\n"),
 ];
 
 #[test]

@@ -2,7 +2,7 @@
 
 use rtk_cli::{SHOW_LIMIT, ToolFault, show};
 use rtk_frame::{After, MemSink, MemSource};
-use rtk_testing::same::same;
+use rtk_testing::same;
 use std::test::Fail;
 
 // Two frames: a 1005 and a message of another number.

@@ -1,7 +1,7 @@
 //! The line of a payload. The payloads were put together from the field tables of RTCM 10403.3.
 
 use rtk_cli::show_line;
-use rtk_testing::same::same;
+use rtk_testing::same;
 use std::test::Fail;
 
 // A payload in hex, and its line.

@@ -2,7 +2,7 @@
 
 use rtk_cli::{ToolFault, show};
 use rtk_frame::{After, MemSink, MemSource};
-use rtk_testing::same::{holds, same};
+use rtk_testing::{holds, same};
 use std::alloc::{AllocError, Global};
 use std::test::Fail;
 

@@ -2,7 +2,7 @@
 
 use rtk_cli::{BadWords, Job, WordsFault, job};
 use rtk_obs::Code;
-use rtk_testing::same::holds_of;
+use rtk_testing::holds_of;
 use std::alloc::Global;
 use std::test::Fail;
 

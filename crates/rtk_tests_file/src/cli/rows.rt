@@ -3,7 +3,7 @@ ghost use Rattle.std.specs.Prelude.{◌≤◌};
 
 use rtk_cli::{ToolFault, show};
 use rtk_frame::{After, MemSink, MemSource};
-use rtk_testing::same::same;
+use rtk_testing::same;
 use std::alloc::{AllocError, Global};
 use std::test::Fail;
 

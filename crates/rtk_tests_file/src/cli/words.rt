@@ -1,7 +1,7 @@
 //! The command line: what the words give, and the texts of clap.
 
 use rtk_cli::{Job, WordsFault, job};
-use rtk_testing::same::{holds, holds_of, same};
+use rtk_testing::same;
 use std::test::Fail;
 
 const HELP: &str = "\
@@ -118,13 +118,11 @@ fn texts_of_clap(rt: HostRuntime) -> Result<(), Fail> {
         (&["shew", "a"], 2, NO_SUCH_COMMAND),
     ];
     for (words, want_status, want) in rows {
-        match job(rt.alloc(), words) {
-            Err(WordsFault::Clap { text, status }) => {
-                same(&text.as_str(), &want)?;
-                same(&status, &want_status)?;
-            }
-            _ => holds(false)?,
-        }
+        let Err(WordsFault::Clap { text, status }) = job(rt.alloc(), words) else {
+            return Err(Fail::new(format_args!("{words:?}: no text of clap's")));
+        };
+        same(&text.as_str(), &want)?;
+        same(&status, &want_status)?;
     }
     Ok(())
 }
@@ -139,13 +137,11 @@ fn words_of_show(rt: HostRuntime) -> Result<(), Fail> {
         (&["show", "--", "--hex"], false, "--hex"),
     ];
     for (words, want_hex, want_file) in rows {
-        match job(rt.alloc(), words) {
-            Ok(Job::Show { hex, file }) => {
-                same(&hex, &want_hex)?;
-                same(&file, &want_file)?;
-            }
-            _ => holds_of(want_file, false)?,
-        }
+        let Ok(Job::Show { hex, file }) = job(rt.alloc(), words) else {
+            return Err(Fail::new(format_args!("{words:?}: nothing to show")));
+        };
+        same(&hex, &want_hex)?;
+        same(&file, &want_file)?;
     }
     Ok(())
 }

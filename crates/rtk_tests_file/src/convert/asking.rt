@@ -1,10 +1,11 @@
 //! How many bytes a run asks for at a time.
 ghost use Rattle.std.specs.Prelude.{◌≡◌, None, true};
 
-use super::{NOON, setup};
+use super::setup;
+use crate::moments::NOON;
 use rtk_convert::run;
 use rtk_frame::{MemSink, Source, StreamFault};
-use rtk_testing::same::same;
+use rtk_testing::same;
 use std::test::Fail;
 
 /// A source that has so many bytes, gives at most `per_read` of them for each read, and notes how

@@ -1,12 +1,14 @@
 //! Frames that come on links, in whole and in part.
 
 use super::payloads::*;
+use super::runs::EXAMPLE;
 use super::texts::*;
-use super::{NOON, consists_of, setup};
+use super::{consists_of, setup};
+use crate::moments::{NOON, moment};
 use rtk_convert::{ConvertFault, Converter, Stream};
 use rtk_frame::{MemSink, encode_frame};
 use rtk_obs::GpsMs;
-use rtk_testing::same::{holds, same};
+use rtk_testing::{holds, same};
 use std::alloc::Global;
 use std::test::Fail;
 
@@ -101,7 +103,7 @@ fn records_go_out_as_epochs_close(rt: HostRuntime) -> Result<(), Fail> {
         let file = [TOP, NO_SITE, TYPES, first, END, epoch, Q_LINE];
         holds(consists_of(converting.out.bytes(), &file))?;
         same(&converting.log.bytes(), &report.as_bytes())?;
-        same(&converting.newest(0), &GpsMs::new(newest))?;
+        same(&converting.newest(0), &Some(moment(newest)?))?;
     }
     Ok(())
 }
@@ -139,7 +141,8 @@ fn calls_on_links_are_refused_in_order(rt: HostRuntime) -> Result<(), Fail> {
     }
     let (fault, out, log) = converting.finish();
     same(&fault, &Some(ConvertFault::Stopped))?;
-    same(&out.bytes(), &&TOP.as_bytes()[..100])?;
+    same(&out.bytes().len(), &100)?;
+    holds(TOP.as_bytes().starts_with(out.bytes()))?;
     holds(log.bytes().is_empty())
 }
 
@@ -193,7 +196,6 @@ fn a_full_report_leaves_the_whole_file(rt: HostRuntime) -> Result<(), Fail> {
     let (fault, out, log) = converting.finish();
     let stream = Stream::Log;
     same(&fault, &Some(ConvertFault::Write { stream }))?;
-    let file = [TOP, SITE, TYPES, FIRST_AT_NOON, END, AT_NOON, Q_LINE];
-    holds(consists_of(out.bytes(), &file))?;
+    holds(consists_of(out.bytes(), &EXAMPLE))?;
     same(&log.bytes(), &b"frames 2\no".as_slice())
 }

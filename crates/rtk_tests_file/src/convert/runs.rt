@@ -23,7 +23,7 @@ pub(crate) struct Run {
 
 const AMPLE: usize = 4096;
 
-const EXAMPLE: [&str; 7] = [TOP, SITE, TYPES, FIRST_AT_NOON, END, AT_NOON, Q_LINE];
+pub(crate) const EXAMPLE: [&str; 7] = [TOP, SITE, TYPES, FIRST_AT_NOON, END, AT_NOON, Q_LINE];
 
 const EXAMPLE_REPORT: &str =
     "frames 2\nother 0\nrefused 0\nforeign 0\ntaken 2\nrepeat 0\nconflict 0\nlate 0\nepochs 1\n";

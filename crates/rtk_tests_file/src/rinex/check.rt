@@ -2,7 +2,7 @@
 
 use super::header::HEADER;
 use rtk_rinex::{Cause, CheckFault, check, text};
-use rtk_testing::same::{holds, same, same_of};
+use rtk_testing::{holds, same, same_of};
 use std::alloc::Global;
 use std::test::Fail;
 

@@ -2,7 +2,7 @@
 
 use super::check::{EPOCH, SATELLITE, fault_of, file};
 use rtk_rinex::{Cause, CheckFault, check};
-use rtk_testing::same::{same, same_of};
+use rtk_testing::{same, same_of};
 use std::test::Fail;
 
 // Satellite lines at the limits of their values, and the fault.

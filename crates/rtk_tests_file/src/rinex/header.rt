@@ -1,10 +1,10 @@
 //! Tests of heads and of the header.
 
-use super::{CODES, MADE, NOON, part};
-use crate::moments::moment;
+use super::{CODES, part};
+use crate::moments::{MADE, NOON, moment};
 use rtk_obs::{Code, Position};
 use rtk_rinex::{Head, HeadFault, header};
-use rtk_testing::same::{holds, same};
+use rtk_testing::{holds, same};
 use std::alloc::Global;
 use std::fmt::Write;
 use std::test::Fail;

@@ -3,7 +3,7 @@
 use super::check::fault_of;
 use super::header::HEADER;
 use rtk_rinex::Cause;
-use rtk_testing::same::same;
+use rtk_testing::same;
 use std::alloc::Global;
 use std::test::Fail;
 

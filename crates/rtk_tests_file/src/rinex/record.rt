@@ -2,10 +2,10 @@
 
 ghost use Rattle.rtk_rinex.specs.Record.{IsStrength};
 
-use super::{CODES, MADE, NOON, part};
-use crate::moments::moment;
+use super::{CODES, part};
+use crate::moments::{MADE, NOON, moment};
 use rtk_rinex::{EpochTable, Head, Observed, record};
-use rtk_testing::same::{same, same_of};
+use rtk_testing::{same, same_of};
 use std::test::Fail;
 
 /// The record of the example file: range and phase of two codes, 45 and 35 dB-Hz.

@@ -2,11 +2,11 @@
 
 use super::Answer::{Conflict, Repeat, Taken};
 use super::Offered::{Legacy, Msm, Payload, Smoothed};
-use super::{NOON, P, Q, Step, check_all};
-use rtk_collect::{Collector, SatelliteCode};
+use super::{NOON, P, Q, Step, check_all, next_left};
+use rtk_collect::{Collector, EpochSet, SatelliteCode};
 use rtk_message::Satellite;
 use rtk_obs::{CellSource, Code};
-use rtk_testing::same::{holds, same};
+use rtk_testing::{holds, same};
 use std::alloc::Global;
 use std::test::Fail;
 
@@ -22,10 +22,8 @@ const NO_PHASE: i32 = -524_288;
 
 const NO_RANGE: i16 = -8192;
 
-// One epoch is left, with cells of 1C of these satellites and kinds of message, and no strength.
-fn check_left(collector: Collector, want: &[(u8, CellSource)]) -> Result<(), Fail> {
-    let mut left = collector.close();
-    let set = left.next_left().ok_or("an epoch")?;
+// An epoch at noon has cells of 1C of these satellites and kinds of message, and no strength.
+fn check_cells(set: &EpochSet, want: &[(u8, CellSource)]) -> Result<(), Fail> {
     same(&(set.epoch().ms(), set.cells().len()), &(NOON, want.len()))?;
     for (entry, (satellite, source)) in set.cells().iter().zip(want) {
         same(
@@ -38,6 +36,13 @@ fn check_left(collector: Collector, want: &[(u8, CellSource)]) -> Result<(), Fai
             &(*satellite, Code::C1C, *source, None),
         )?;
     }
+    Ok(())
+}
+
+// One epoch is left, with these cells.
+fn check_left(collector: Collector, want: &[(u8, CellSource)]) -> Result<(), Fail> {
+    let mut left = collector.close();
+    check_cells(&next_left(&mut left)?, want)?;
     holds(left.next_left().is_none())
 }
 
@@ -46,7 +51,7 @@ const C1C_OF_5: SatelliteCode = SatelliteCode {
     code: Code::C1C,
 };
 
-// The steps in a window of two epochs, of which the first is left.
+// The steps in a window of two epochs; one epoch is left, with these cells.
 fn check_joined(alloc: Global, steps: &[Step], want: &[(u8, CellSource)]) -> Result<(), Fail> {
     let mut collector = Collector::new(alloc, 2);
     check_all(&mut collector, steps)?;
@@ -89,7 +94,7 @@ fn cells_of_a_1074_stand_before_those_of_a_1004(rt: HostRuntime) -> Result<(), F
     let mut collector = Collector::new(rt.alloc(), 2);
     check_all(&mut collector, &MSM_AFTER_LEGACY)?;
     let mut left = collector.close();
-    let set = left.next_left().ok_or("an epoch")?;
+    let set = next_left(&mut left)?;
     let sources = [CellSource::Msm, CellSource::Legacy, CellSource::Legacy];
     same(&set.cells().len(), &sources.len())?;
     for (entry, source) in set.cells().iter().zip(sources) {

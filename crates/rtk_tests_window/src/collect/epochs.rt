@@ -2,11 +2,11 @@
 
 use super::Answer::{Closes, Conflict, Late, Repeat, Taken};
 use super::Offered::{self, Legacy, Msm, Payload};
-use super::{Answer, NOON, Q, Step, check, check_all, legacy, message_of};
-use rtk_collect::{Collector, SatelliteCode};
+use super::{Answer, NOON, Q, Step, check, check_all, legacy, next_left};
+use rtk_collect::{Collector, EpochSet, SatelliteCode};
 use rtk_message::Satellite;
 use rtk_obs::Code;
-use rtk_testing::same::{holds, same};
+use rtk_testing::{holds, same};
 use std::alloc::Global;
 use std::test::*;
 
@@ -19,6 +19,7 @@ fn check_seconds(alloc: Global, offers: &[(u32, Answer)]) -> Result<(), Fail> {
     Ok(())
 }
 
+// Lists of offers, each by its seconds after noon and the answer to it.
 const WINDOWS: [&[(u32, Answer)]; 6] = [
     &[(1, Taken), (2, Taken), (3, Closes(1)), (1, Late)],
     &[(1, Taken), (3, Taken), (2, Closes(1))],
@@ -62,14 +63,16 @@ const BEHIND_EMPTY: [Step; 3] = [
 fn a_message_without_cells_opens_its_epoch(rt: HostRuntime) -> Result<(), Fail> {
     for empty in EMPTY {
         let mut collector = Collector::new(rt.alloc(), 2);
-        for want in [Taken, Repeat] {
-            check(&mut collector, message_of(empty)?, 1, want, &[])?;
-        }
+        check_all(
+            &mut collector,
+            &[(empty, 1, Taken, &[]), (empty, 1, Repeat, &[])],
+        )?;
         check_all(&mut collector, &BEHIND_EMPTY)?;
     }
     Ok(())
 }
 
+// What a window of 4,096 places answers once they are taken by the epochs from 0 s to 4,095 s.
 const FULL: [Step; 3] = [
     (Legacy(&[Q]), 4096, Closes(0), &[]),
     (Legacy(&[Q]), 0, Late, &[]),
@@ -151,18 +154,27 @@ fn a_random_list_is_answered_as_by_the_whole_history(rt: HostRuntime) -> Result<
     check_random_left(collector)
 }
 
-// The epochs that are left, with the strength of 1C of their satellites from 1 on.
-const RANDOM_LEFT: [(u64, &[u32]); 3] = [(7, &[45_000, 45_250]), (8, &[45_000]), (9, &[45_000])];
+// The epochs that are left, by their milliseconds after noon, with the strength of 1C of their satellites from
+// 1 on.
+const RANDOM_LEFT: [(u64, &[u32]); 3] = [
+    (7000, &[45_000, 45_250]),
+    (8000, &[45_000]),
+    (9000, &[45_000]),
+];
+
+fn check_strengths(set: &EpochSet, after_noon: u64, strengths: &[u32]) -> Result<(), Fail> {
+    same(&set.epoch().ms().wrapping_sub(NOON), &after_noon)?;
+    same(&set.cells().len(), &strengths.len().saturating_mul(2))?;
+    for (entry, strength) in set.cells().iter().step_by(2).zip(strengths) {
+        same(&entry.cell.strength_millidbhz, &Some(*strength))?;
+    }
+    Ok(())
+}
 
 fn check_random_left(collector: Collector) -> Result<(), Fail> {
     let mut left = collector.close();
-    for (seconds, strengths) in RANDOM_LEFT {
-        let set = left.next_left().ok_or("three epochs")?;
-        same(&set.epoch().ms(), &(NOON + 1000 * seconds))?;
-        same(&set.cells().len(), &(2 * strengths.len()))?;
-        for (entry, strength) in set.cells().iter().step_by(2).zip(strengths) {
-            same(&entry.cell.strength_millidbhz, &Some(*strength))?;
-        }
+    for (after_noon, strengths) in RANDOM_LEFT {
+        check_strengths(&next_left(&mut left)?, after_noon, strengths)?;
     }
     holds(left.next_left().is_none())
 }

@@ -5,7 +5,7 @@ use super::Offered::{Legacy, Payload};
 use super::{P, Q, Step, check_all};
 use rtk_collect::Collector;
 use rtk_obs::Position;
-use rtk_testing::same::{holds, same};
+use rtk_testing::same;
 use std::test::*;
 
 // P with another ITRF realization year (DF021): 1.
@@ -26,12 +26,13 @@ const ELSEWHERE: [u8; 21] = [
     0x00, 0x75, 0x30, 0x30, 0x39,
 ];
 
-// Whether a position is that of P, with this height.
-fn is_p(position: Position, height: u16) -> bool {
-    position.x == 11_141_045_999
-        && position.y == -48_507_297_108
-        && position.z == 39_755_214_643
-        && position.height == height
+// The position of P, with this height.
+fn of_p(height: u16) -> Option<Position> {
+    Position::new(11_141_045_999, -48_507_297_108, 39_755_214_643, height)
+}
+
+fn check_station(collector: &Collector, want: Option<Position>) -> Result<(), Fail> {
+    same(&Some(collector.station()), &want)
 }
 
 const BEHIND_TWO_EPOCHS: [Step; 3] = [
@@ -53,11 +54,10 @@ const BEHIND_ONE_EPOCH: [Step; 6] = [
 fn a_station_message_is_late_after_as_many_epochs_as_places(rt: HostRuntime) -> Result<(), Fail> {
     let mut collector = Collector::new(rt.alloc(), 2);
     check_all(&mut collector, &BEHIND_TWO_EPOCHS)?;
-    let zeros = collector.station();
-    holds(zeros.x == 0 && zeros.y == 0 && zeros.z == 0 && zeros.height == 0)?;
+    check_station(&collector, Position::new(0, 0, 0, 0))?;
     let mut collector = Collector::new(rt.alloc(), 2);
     check_all(&mut collector, &BEHIND_ONE_EPOCH)?;
-    holds(is_p(collector.station(), 0))
+    check_station(&collector, of_p(0))
 }
 
 const OF_ITS_NUMBER: [Step; 2] = [
@@ -69,10 +69,10 @@ const OF_ITS_NUMBER: [Step; 2] = [
 fn the_first_station_message_of_its_number_stays(rt: HostRuntime) -> Result<(), Fail> {
     let mut collector = Collector::new(rt.alloc(), 2);
     check_all(&mut collector, &OF_ITS_NUMBER)?;
-    holds(is_p(collector.station(), 0))?;
+    check_station(&collector, of_p(0))?;
     check_all(&mut collector, &[(Payload(&P_WITH_HEIGHT), 0, Taken, &[])])?;
-    holds(is_p(collector.station(), 15_000))?;
-    holds(is_p(collector.close().station(), 15_000))
+    check_station(&collector, of_p(15_000))?;
+    same(&Some(collector.close().station()), &of_p(15_000))
 }
 
 const ELSEWHERE_FIRST: [Step; 7] = [
@@ -89,7 +89,5 @@ const ELSEWHERE_FIRST: [Step; 7] = [
 fn the_position_is_that_of_the_first_1006(rt: HostRuntime) -> Result<(), Fail> {
     let mut collector = Collector::new(rt.alloc(), 2);
     check_all(&mut collector, &ELSEWHERE_FIRST)?;
-    let position = collector.station();
-    holds(position.x == 10_000 && position.y == -20_000 && position.z == 30_000)?;
-    same(&position.height, &12_345)
+    check_station(&collector, Position::new(10_000, -20_000, 30_000, 12_345))
 }

@@ -2,7 +2,7 @@
 
 use super::payloads::*;
 use rtk_message::*;
-use rtk_testing::same::{same, same_of};
+use rtk_testing::{same, same_of};
 use std::test::*;
 
 #[test]

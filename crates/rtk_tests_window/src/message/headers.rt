@@ -1,7 +1,7 @@
 //! The order of the small fields before the observations: no two of one width have the same values in all rows.
 
 use rtk_message::*;
-use rtk_testing::same::{holds, holds_of, same};
+use rtk_testing::{holds, holds_of, same};
 use std::test::*;
 
 // A point with the least Z and no indicator set.

@@ -2,7 +2,7 @@
 
 use super::payloads::*;
 use rtk_message::*;
-use rtk_testing::same::{holds, same, same_of};
+use rtk_testing::{holds, same, same_of};
 use std::test::*;
 
 #[test]

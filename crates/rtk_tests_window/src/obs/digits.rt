@@ -2,12 +2,10 @@
 
 ghost use Rattle.std.specs.Prelude.{◌≤◌};
 
-use crate::moments::at;
+use crate::moments::{NOON, at};
 use rtk_obs::{Cell, CellSource, Code, Digits, Tracks, rolled};
-use rtk_testing::same::{holds, same_of};
+use rtk_testing::{holds, same_of};
 use std::test::Fail;
-
-const NOON: u64 = 1_399_982_400_000; // 2024-05-17 12:00:00.000
 
 // A phase of a 1004.
 fn legacy(lock_time_ms: u32, offset: i32) -> Cell {

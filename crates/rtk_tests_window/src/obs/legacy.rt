@@ -2,7 +2,7 @@
 
 use rtk_message::{Layout, Obs1004, Satellite, Satellites};
 use rtk_obs::{Cell, CellEntry, CellSource, Code, cells_1004};
-use rtk_testing::same::{holds, holds_of, same, same_of};
+use rtk_testing::{holds, holds_of, same, same_of};
 use std::test::Fail;
 
 // Satellite 5 with DF014 70, DF011 5,000,000, and DF012, DF017 and DF018.
@@ -75,7 +75,7 @@ fn cells_of(satellite: Satellite) -> Result<(CellEntry, CellEntry), Fail> {
 
 // Exact fractions, rounded.
 #[test]
-fn legacy_values(rt: HostRuntime) -> Result<(), Fail> {
+fn legacy_values() -> Result<(), Fail> {
     let rows = [
         (
             (0, 100, 0),
@@ -105,7 +105,7 @@ fn legacy_values(rt: HostRuntime) -> Result<(), Fail> {
 
 // The invalid marks of DF012, DF017 and DF018.
 #[test]
-fn legacy_invalid_marks(rt: HostRuntime) -> Result<(), Fail> {
+fn legacy_invalid_marks() -> Result<(), Fail> {
     let phase = Some(86_341_483_283);
     let range = Some(21_085_474_060);
     let l1_range = Some(21_085_472_060);
@@ -132,7 +132,7 @@ fn legacy_invalid_marks(rt: HostRuntime) -> Result<(), Fail> {
 
 // The codes of DF010 and DF016; a CNR of 0.
 #[test]
-fn legacy_codes(rt: HostRuntime) -> Result<(), Fail> {
+fn legacy_codes() -> Result<(), Fail> {
     let rows = [
         (false, 0, Code::C1C, Code::C2X),
         (true, 1, Code::C1P, Code::C2P),

@@ -4,7 +4,7 @@ ghost use Rattle.std.specs.Prelude.{◌≤◌};
 
 use rtk_message::{Column, Layout, Msm1074, MsmHeader};
 use rtk_obs::{Cell, CellSource, Code, cells_1074};
-use rtk_testing::same::{holds, same, same_of};
+use rtk_testing::{holds, same, same_of};
 use std::test::Fail;
 
 fn column<T: Copy + Default>(value: T, count: usize) -> Column<T>
@@ -110,7 +110,7 @@ fn msm_cell(signal: u32, fields: MsmFields) -> Result<Cell, Fail>
 
 // Each band (signals 2, 8, 22), a tie, the least and greatest fine values; exact fractions, rounded.
 #[test]
-fn msm_values(rt: HostRuntime) -> Result<(), Fail> {
+fn msm_values() -> Result<(), Fail> {
     let rows = [
         (2, 512, (0, 0), 21_135_368_289, 111_067_110_000),
         (2, 256, (0, 0), 21_060_420_175, 110_673_255_000),
@@ -140,7 +140,7 @@ fn msm_values(rt: HostRuntime) -> Result<(), Fail> {
 
 // The invalid marks of DF397, DF400 and DF401; a CNR of 0 and other bits.
 #[test]
-fn msm_invalid_marks(rt: HostRuntime) -> Result<(), Fail> {
+fn msm_invalid_marks() -> Result<(), Fail> {
     let range = Some(21_135_368_289);
     let phase = Some(111_067_110_000);
     let rows = [

@@ -1,14 +1,15 @@
 //! Comparisons of a test. They are calls and no `assert_eq!`, since each of those costs the proof of a test some
 //! seconds and a call nearly nothing.
 
-ghost use Rattle.std.specs.Prelude.{◌≡◌, true, IfOk};
+ghost use Rattle.std.specs.Prelude.{◌≡◌, true, false, IfOk, IfErr};
 
 use std::fmt::{Debug, Display};
 use std::test::Fail;
 
 /// A test goes on where what it got is what it wants, and fails with both where not.
 pub fn same<T: PartialEq + Debug>(got: &T, want: &T) -> Result<(), Fail>
-    ensures { IfOk result (λ _. T.eq got.now want.now ≡ true) }
+    ensures equal { IfOk result (λ _. T.eq got.now want.now ≡ true) }
+    ensures other { IfErr result (λ _. T.eq got.now want.now ≡ false) }
 {
     if got == want {
         Ok(())
@@ -23,7 +24,8 @@ pub fn same_of<R: Display + Drop, T: PartialEq + Debug>(
     got: &T,
     want: &T,
 ) -> Result<(), Fail>
-    ensures { IfOk result (λ _. T.eq got.now want.now ≡ true) }
+    ensures equal { IfOk result (λ _. T.eq got.now want.now ≡ true) }
+    ensures other { IfErr result (λ _. T.eq got.now want.now ≡ false) }
 {
     if got == want {
         Ok(())
@@ -34,7 +36,8 @@ pub fn same_of<R: Display + Drop, T: PartialEq + Debug>(
 
 /// A test goes on where this holds, and fails where not.
 pub fn holds(is: bool) -> Result<(), Fail>
-    ensures { IfOk result (λ _. is ≡ true) }
+    ensures so { IfOk result (λ _. is ≡ true) }
+    ensures not_so { IfErr result (λ _. is ≡ false) }
 {
     if is {
         Ok(())
@@ -45,7 +48,8 @@ pub fn holds(is: bool) -> Result<(), Fail>
 
 /// As `holds`, in this row of a table.
 pub fn holds_of<R: Display + Drop>(row: R, is: bool) -> Result<(), Fail>
-    ensures { IfOk result (λ _. is ≡ true) }
+    ensures so { IfOk result (λ _. is ≡ true) }
+    ensures not_so { IfErr result (λ _. is ≡ false) }
 {
     if is {
         Ok(())
