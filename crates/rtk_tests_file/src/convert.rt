@@ -189,12 +189,15 @@ fn runs_that_break_off_leave_what_came_before(rt: HostRuntime) -> Result<(), Fai
 #[test]
 fn a_run_has_1_to_16_links(rt: HostRuntime) -> Result<(), Fail> {
     let alloc = rt.alloc();
-    for links in [[].as_slice(), [[].as_slice(); 17].as_slice()] {
+    for count in [0u8, 17] {
+        let mut links = Vec::new(alloc);
+        for _ in 0..count {
+            links.push(MemSource::new(alloc, &[], 512, After::End)?)?;
+        }
         let mut written = Written {
             out: MemSink::new(alloc, 1, 1)?,
             log: MemSink::new(alloc, 1, 1)?,
         };
-        let links = sources(alloc, links, After::End)?;
         let answer = run_links(alloc, links, &mut written, 100)?;
         same(&answer.err(), &Some(ConvertFault::Setup))?;
     }

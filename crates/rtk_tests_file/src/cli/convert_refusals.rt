@@ -2,7 +2,7 @@
 
 use rtk_cli::{BadWords, WordsFault, job};
 use rtk_testing::{same, same_of};
-use std::alloc::{AllocError, Global};
+use std::alloc::Global;
 use std::test::Fail;
 
 const NEAR: &str = "2024-05-17T12:00:00";
@@ -84,32 +84,28 @@ const BAD: [(&[&str], BadWords); 17] = [
     ),
 ];
 
-// The words that give these values and links.
-fn words_of<'a>(alloc: Global, values: &[&'a str]) -> Result<Vec<&'a str>, AllocError> {
-    let mut words = Vec::new(alloc);
-    words.extend_from_slice(&["convert", "--station", "2003"])?;
-    for (name, value) in NAMES.iter().zip(values) {
-        words.push(*name)?;
-        words.push(*value)?;
+// What is wrong with words, where clap takes them and they are refused.
+fn refusal(alloc: Global, words: &[&str]) -> Option<BadWords> {
+    match job(alloc, words) {
+        Err(WordsFault::Bad { line }) => Some(line),
+        _ => None,
     }
-    for link in values.iter().skip(4) {
-        words.push(*link)?;
-    }
-    Ok(words)
-}
-
-fn check_refused(alloc: Global, words: &[&str], want: BadWords) -> Result<(), Fail> {
-    let Err(WordsFault::Bad { line }) = job(alloc, words) else {
-        return Err(Fail::new(format_args!("{words:?}: not refused")));
-    };
-    same_of(format_args!("{words:?}"), &line, &want)
 }
 
 #[test]
 fn bad_words_in_their_order(rt: HostRuntime) -> Result<(), Fail> {
     for (values, want) in BAD {
-        let words = words_of(rt.alloc(), values)?;
-        check_refused(rt.alloc(), words.as_slice(), want)?;
+        let mut words = Vec::new(rt.alloc());
+        words.extend_from_slice(&["convert", "--station", "2003"])?;
+        for (name, value) in NAMES.iter().zip(values) {
+            words.push(*name)?;
+            words.push(*value)?;
+        }
+        for link in values.iter().skip(4) {
+            words.push(*link)?;
+        }
+        let refused = refusal(rt.alloc(), words.as_slice());
+        same_of(format_args!("{values:?}"), &refused, &Some(want))?;
     }
     Ok(())
 }

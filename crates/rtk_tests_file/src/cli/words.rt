@@ -119,7 +119,7 @@ fn texts_of_clap(rt: HostRuntime) -> Result<(), Fail> {
     ];
     for (words, want_status, want) in rows {
         let Err(WordsFault::Clap { text, status }) = job(rt.alloc(), words) else {
-            return Err(Fail::new(format_args!("{words:?}: no text of clap's")));
+            return Err("no text of clap's".into());
         };
         same(&text.as_str(), &want)?;
         same(&status, &want_status)?;

@@ -84,32 +84,74 @@ const EMPTY: [Coming; 4] = [
     (0, Q_3, true),
 ];
 
+/// Payloads that come, the file and the report that are written then, and the newest epoch of link 0.
+struct Closing {
+    payloads: &'static [Coming],
+    file: &'static [&'static str],
+    report: &'static str,
+    newest: u64,
+}
+
+const CLOSINGS: [Closing; 2] = [
+    Closing {
+        payloads: &LATE,
+        file: &[TOP, NO_SITE, TYPES, FIRST_AT_NOON, END, AT_NOON, Q_LINE],
+        report: "link 2 late 1004 2024-05-17 12:00:00.000\n",
+        newest: NOON + 2000,
+    },
+    Closing {
+        payloads: &EMPTY,
+        file: &[
+            TOP,
+            NO_SITE,
+            TYPES,
+            FIRST_AFTER_NOON,
+            END,
+            AFTER_1_S,
+            Q_LINE,
+        ],
+        report: "",
+        newest: NOON + 3000,
+    },
+];
+
+// Feeds the payloads: after each the file has bytes or none.
+fn check_coming(
+    alloc: Global,
+    converting: &mut Converting,
+    payloads: &[Coming],
+) -> Result<(), Fail> {
+    for (link, payload, is_out) in payloads {
+        same(&converting.feed(alloc, *link, *payload)?, &None)?;
+        same(&converting.out.bytes().is_empty(), &!*is_out)?;
+    }
+    Ok(())
+}
+
 #[test]
 fn records_go_out_as_epochs_close(rt: HostRuntime) -> Result<(), Fail> {
     let alloc = rt.alloc();
-    let late_line = "link 2 late 1004 2024-05-17 12:00:00.000\n";
-    let rows = [
-        (LATE, FIRST_AT_NOON, AT_NOON, late_line, NOON + 2000),
-        (EMPTY, FIRST_AFTER_NOON, AFTER_1_S, "", NOON + 3000),
-    ];
-    for (frames, first, epoch, report, newest) in rows {
+    for row in &CLOSINGS {
         let out = MemSink::new(alloc, 65_536, 1)?;
         let log = MemSink::new(alloc, 65_536, 7)?;
         let mut converting = Converting::new(alloc, out, log)?;
-        for (link, payload, is_out) in frames {
-            same(&converting.feed(alloc, link, payload)?, &None)?;
-            same(&converting.out.bytes().is_empty(), &!is_out)?;
-        }
-        let file = [TOP, NO_SITE, TYPES, first, END, epoch, Q_LINE];
-        holds(consists_of(converting.out.bytes(), &file))?;
-        same(&converting.log.bytes(), &report.as_bytes())?;
-        same(&converting.newest(0), &Some(moment(newest)?))?;
+        check_coming(alloc, &mut converting, row.payloads)?;
+        holds(consists_of(converting.out.bytes(), row.file))?;
+        same(&converting.log.bytes(), &row.report.as_bytes())?;
+        same(&converting.newest(0), &Some(moment(row.newest)?))?;
     }
     Ok(())
 }
 
 /// A payload that comes on a link, and what is wrong with it.
 type Refused = (usize, &'static [u8], Option<ConvertFault>);
+
+fn check_feeds(alloc: Global, converting: &mut Converting, frames: &[Refused]) -> Result<(), Fail> {
+    for (link, payload, want) in frames {
+        same(&converting.feed(alloc, *link, *payload)?, want)?;
+    }
+    Ok(())
+}
 
 // The first link is closed, and the file takes 100 bytes.
 const CALLS: [Refused; 6] = [
@@ -133,12 +175,11 @@ fn calls_on_links_are_refused_in_order(rt: HostRuntime) -> Result<(), Fail> {
     let out = MemSink::new(alloc, 100, 65_536)?;
     let log = MemSink::new(alloc, 65_536, 65_536)?;
     let mut converting = Converting::new(alloc, out, log)?;
-    for want in [None, Some(ConvertFault::LinkClosed)] {
-        same(&converting.close(0), &want)?;
-    }
-    for (link, payload, want) in CALLS {
-        same(&converting.feed(alloc, link, payload)?, &want)?;
-    }
+    same(
+        &(converting.close(0), converting.close(0)),
+        &(None, Some(ConvertFault::LinkClosed)),
+    )?;
+    check_feeds(alloc, &mut converting, &CALLS)?;
     let (fault, out, log) = converting.finish();
     same(&fault, &Some(ConvertFault::Stopped))?;
     same(&out.bytes().len(), &100)?;
@@ -174,9 +215,7 @@ fn a_report_that_fails_stops_the_converter(rt: HostRuntime) -> Result<(), Fail> 
     let out = MemSink::new(alloc, 65_536, 65_536)?;
     let log = MemSink::new(alloc, 10, 65_536)?;
     let mut converting = Converting::new(alloc, out, log)?;
-    for (link, payload, want) in CONFLICT {
-        same(&converting.feed(alloc, link, payload)?, &want)?;
-    }
+    check_feeds(alloc, &mut converting, &CONFLICT)?;
     same(&converting.close(0), &Some(ConvertFault::Stopped))?;
     let (fault, out, log) = converting.finish();
     same(&fault, &Some(ConvertFault::Stopped))?;
@@ -190,9 +229,7 @@ fn a_full_report_leaves_the_whole_file(rt: HostRuntime) -> Result<(), Fail> {
     let out = MemSink::new(alloc, 65_536, 65_536)?;
     let log = MemSink::new(alloc, 10, 65_536)?;
     let mut converting = Converting::new(alloc, out, log)?;
-    for payload in [P, Q] {
-        same(&converting.feed(alloc, 0, payload)?, &None)?;
-    }
+    check_feeds(alloc, &mut converting, &[(0, P, None), (0, Q, None)])?;
     let (fault, out, log) = converting.finish();
     let stream = Stream::Log;
     same(&fault, &Some(ConvertFault::Write { stream }))?;

@@ -6,6 +6,7 @@ use super::{CODES, part};
 use crate::moments::{MADE, NOON, moment};
 use rtk_rinex::{EpochTable, Head, Observed, record};
 use rtk_testing::{same, same_of};
+use std::alloc::Global;
 use std::test::Fail;
 
 /// The record of the example file: range and phase of two codes, 45 and 35 dB-Hz.
@@ -45,25 +46,32 @@ fn the_example_record_is_written(rt: HostRuntime) -> Result<(), Fail> {
     same(&text.capacity(), &136)
 }
 
+// The record of satellite 7 with one code.
+fn record_of_7(alloc: Global, observed: Observed) -> Result<Vec<u8>, Fail>
+    requires { IsStrength observed.strength_millidbhz }
+{
+    let head = Head::new(b"BASE", &CODES[..1], moment(MADE)?)?;
+    let mut table = EpochTable::new(moment(NOON)?);
+    table.push_row(7, &[observed]);
+    Ok(record(alloc, &head, &table)?)
+}
+
+// A range or a phase, and its columns.
+const FIELDS: [(i64, &str); 7] = [
+    (9_999_999_999_999, "9999999999.999 5"),
+    (10_000_000_000_000, "                "),
+    (-999_999_999_999, "-999999999.999 5"),
+    (-1_000_000_000_000, "                "),
+    (0, "                "),
+    (1, "         0.001 5"),
+    (-1, "        -0.001 5"),
+];
+
 #[test]
 fn observations_are_written_in_their_limits(rt: HostRuntime) -> Result<(), Fail> {
-    let rows = [
-        (9_999_999_999_999, "9999999999.999 5"),
-        (10_000_000_000_000, "                "),
-        (-999_999_999_999, "-999999999.999 5"),
-        (-1_000_000_000_000, "                "),
-        (0, "                "),
-        (1, "         0.001 5"),
-        (-1, "        -0.001 5"),
-    ];
-    let head = Head::new(b"BASE", &CODES[..1], moment(MADE)?)?;
-    for (value, field) in rows {
-        let mut table = EpochTable::new(moment(NOON)?);
-        table.push_row(
-            7,
-            &[observed(Some(value), Some(value), 120, (false, false))],
-        );
-        let text = record(rt.alloc(), &head, &table)?;
+    for (value, field) in FIELDS {
+        let shown = observed(Some(value), Some(value), 120, (false, false));
+        let text = record_of_7(rt.alloc(), shown)?;
         same(&part(&text, 36, 39)?, &"G07")?;
         same_of(format_args!("range {value}"), &part(&text, 39, 55)?, &field)?;
         same_of(format_args!("phase {value}"), &part(&text, 55, 71)?, &field)?;
@@ -72,46 +80,99 @@ fn observations_are_written_in_their_limits(rt: HostRuntime) -> Result<(), Fail>
     Ok(())
 }
 
+const RANGE: Option<i64> = Some(1_000);
+
+const PHASE: Option<i64> = Some(-1_234);
+
+/// What is shown: range, phase, strength in quarters of a dB-Hz, slip and half cycle, and its line.
+type Shown = (Option<i64>, Option<i64>, u8, (bool, bool), &'static str);
+
+const SHOWN: [Shown; 12] = [
+    (
+        None,
+        PHASE,
+        0,
+        (false, false),
+        "G07                        -1.234\n",
+    ),
+    (
+        None,
+        PHASE,
+        0,
+        (true, false),
+        "G07                        -1.2341\n",
+    ),
+    (
+        None,
+        PHASE,
+        0,
+        (false, true),
+        "G07                        -1.2342\n",
+    ),
+    (
+        None,
+        PHASE,
+        0,
+        (true, true),
+        "G07                        -1.2343\n",
+    ),
+    (RANGE, None, 0, (true, true), "G07         1.000\n"),
+    (
+        None,
+        None,
+        180,
+        (true, true),
+        "G07                                        45.000\n",
+    ),
+    (
+        None,
+        PHASE,
+        180,
+        (true, true),
+        "G07                        -1.23437        45.000\n",
+    ),
+    (
+        RANGE,
+        PHASE,
+        1,
+        (false, false),
+        "G07         1.000 1        -1.234 1         0.250\n",
+    ),
+    (
+        RANGE,
+        PHASE,
+        20,
+        (false, false),
+        "G07         1.000 1        -1.234 1         5.000\n",
+    ),
+    (
+        RANGE,
+        PHASE,
+        215,
+        (false, false),
+        "G07         1.000 8        -1.234 8        53.750\n",
+    ),
+    (
+        RANGE,
+        PHASE,
+        216,
+        (false, false),
+        "G07         1.000 9        -1.234 9        54.000\n",
+    ),
+    (
+        RANGE,
+        PHASE,
+        255,
+        (false, true),
+        "G07         1.000 9        -1.23429        63.750\n",
+    ),
+];
+
 #[test]
 fn digits_of_strength_and_loss_of_lock(rt: HostRuntime) -> Result<(), Fail> {
-    let range = Some(1_000);
-    let phase = Some(-1_234);
-    let (no, slip, half, both) = ((false, false), (true, false), (false, true), (true, true));
-    let shown: [(Option<i64>, Option<i64>, u8, (bool, bool)); 12] = [
-        (None, phase, 0, no),
-        (None, phase, 0, slip),
-        (None, phase, 0, half),
-        (None, phase, 0, both),
-        (range, None, 0, both),
-        (None, None, 180, both),
-        (None, phase, 180, both),
-        (range, phase, 1, no),
-        (range, phase, 20, no),
-        (range, phase, 215, no),
-        (range, phase, 216, no),
-        (range, phase, 255, half),
-    ];
-    let lines = [
-        "G07                        -1.234",
-        "G07                        -1.2341",
-        "G07                        -1.2342",
-        "G07                        -1.2343",
-        "G07         1.000",
-        "G07                                        45.000",
-        "G07                        -1.23437        45.000",
-        "G07         1.000 1        -1.234 1         0.250",
-        "G07         1.000 1        -1.234 1         5.000",
-        "G07         1.000 8        -1.234 8        53.750",
-        "G07         1.000 9        -1.234 9        54.000",
-        "G07         1.000 9        -1.23429        63.750",
-    ];
-    let head = Head::new(b"BASE", &CODES[..1], moment(MADE)?)?;
-    for ((range, phase, quarters, lock), line) in shown.into_iter().zip(lines) {
-        let mut table = EpochTable::new(moment(NOON)?);
-        table.push_row(7, &[observed(range, phase, quarters, lock)]);
-        let text = record(rt.alloc(), &head, &table)?;
-        same(&text.len(), &(36 + line.len() + 1))?;
-        same(&part(&text, 36, 36 + line.len())?, &line)?;
+    for (range, phase, quarters, lock, line) in SHOWN {
+        let text = record_of_7(rt.alloc(), observed(range, phase, quarters, lock))?;
+        same(&part(&text, 36, text.len())?, &line)?;
     }
     Ok(())
 }
