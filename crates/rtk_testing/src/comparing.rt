@@ -39,11 +39,7 @@ pub fn holds(is: bool) -> Result<(), Fail>
     ensures so { IfOk result (λ _. is ≡ true) }
     ensures not_so { IfErr result (λ _. is ≡ false) }
 {
-    if is {
-        Ok(())
-    } else {
-        Err(Fail::new("what should hold does not"))
-    }
+    same(&is, &true)
 }
 
 /// As `holds`, in this row of a table.
@@ -51,9 +47,5 @@ pub fn holds_of<R: Display + Drop>(row: R, is: bool) -> Result<(), Fail>
     ensures so { IfOk result (λ _. is ≡ true) }
     ensures not_so { IfErr result (λ _. is ≡ false) }
 {
-    if is {
-        Ok(())
-    } else {
-        Err(Fail::new(format_args!("{row}: what should hold does not")))
-    }
+    same_of(row, &is, &true)
 }
