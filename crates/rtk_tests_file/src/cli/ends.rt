@@ -52,7 +52,7 @@ const NOTHING: Counts = Counts {
 };
 
 // What a conversion came to, whether its file and its report are out, and what is told.
-const ENDS: [(Result<Counts, ConvertFault>, bool, u8, &str); 9] = [
+const ENDS: [(Result<Counts, ConvertFault>, bool, u8, &str); 12] = [
     (Ok(NOTHING), true, 0, ""),
     (Ok(NOTHING), false, 1, "rtcm2rinex: write failed\n"),
     (
@@ -96,6 +96,24 @@ const ENDS: [(Result<Counts, ConvertFault>, bool, u8, &str); 9] = [
         "rtcm2rinex: input does not end\n",
     ),
     (Err(ConvertFault::Setup), true, 2, "rtcm2rinex: bad links\n"),
+    (
+        Err(ConvertFault::NoLink),
+        true,
+        2,
+        "rtcm2rinex: bad links\n",
+    ),
+    (
+        Err(ConvertFault::LinkClosed),
+        true,
+        2,
+        "rtcm2rinex: bad links\n",
+    ),
+    (
+        Err(ConvertFault::Stopped),
+        true,
+        2,
+        "rtcm2rinex: bad links\n",
+    ),
 ];
 
 #[test]
