@@ -62,6 +62,8 @@ check '' </dev/null;             expect empty_name 1 '' 'rtcm2rinex: cannot open
 "$program" check "$base" >&- 2>err; status=$?; : >out
 expect closed_output 1 '' 'rtcm2rinex: write failed'
 check --help </dev/null;         expect check_help 0 "$help" ''
+"$program" help check >out 2>err </dev/null; status=$?
+expect help_check 0 "$help" ''
 check </dev/null;                expect no_file 2 '' "$no_file"
 
 echo "$passed $failed"

@@ -103,27 +103,118 @@ leaves a_link_that_fails_later 1 part part_err
 cat "$examples/base.rnx" base.report >both; : >err
 leaves file_before_report 0 both /dev/null
 
-# Our own refusals, by the first cause.
+# Our own refusals. Where more than one word is bad the first cause counts: the forms of the times, the codes' names, the
+# marker, the list of codes, the links, and last a reference near which nothing is dated.
+sixteen='1C,1P,1W,1S,1L,1X,2C,2D,2P,2W,2S,2L,2X,5I,5Q,5X'
 words '' '' '' '' stdin stdin;                        fails form_of_near 2 'bad --near'
 words 2024-02-30T00:00:00 $made BASE 1C,2W x;         fails no_such_day 2 'bad --near'
-words $near 2024-05-17 BASE 1C,9Z x;                  fails form_of_made 2 'bad --made'
+words 2101-01-01T00:00:00 '' BASE 1C x;               fails year_2101 2 'bad --near'
+words $near '' '' '' stdin stdin;                     fails form_of_made 2 'bad --made'
+words $near 2024-05-17 BASE 1C,9Z x;                  fails date_alone 2 'bad --made'
+words $near $made '' '' stdin stdin;                  fails no_code 2 'bad --codes'
 words $near $made ' X' 1C,9Z x;                       fails unknown_code 2 'bad --codes'
 words $near $made ' X' 1C,1C stdin stdin;             fails marker 2 'bad --marker'
+words $near $made '' 1C,1C stdin stdin;               fails empty_marker 2 'bad --marker'
+words $near $made 'Bäse' 1C x;                        fails marker_beyond_ascii 2 'bad --marker'
 words $near $made X 1C,1C stdin stdin;                fails repeated_code 2 'bad --codes'
+words $near $made X 1C,2W,1C stdin stdin;             fails repeated_first_code 2 'bad --codes'
+words $near $made X $sixteen,1C x;                    fails seventeen_codes 2 'bad --codes'
+words $near $made X $sixteen nowhere;                 fails sixteen_codes 1 'cannot open nowhere'
 words 1980-01-06T00:00:00 $made X 1C stdin stdin;     fails standard_input_twice 2 'bad links'
+words $near $made X 1C stdin a stdin;                 fails standard_input_twice_apart 2 'bad links'
 words $near $made X 1C 1 2 3 4 5 6 7 8 9 10 11 12 13 14 15 16 17; fails seventeen_links 2 'bad links'
+words $near $made X 1C nowhere 2 3 4 5 6 7 8 9 10 11 12 13 14 15 16; fails sixteen_links 1 'cannot open nowhere'
 words 1980-01-06T00:00:00 $made X 1C nowhere;         fails reference_out_of_range 2 'bad --near'
-words $near $made -X 1C nowhere;                      fails marker_with_a_hyphen 1 'cannot open nowhere'
+words 1980-01-12T23:59:59 $made X 1C nowhere;         fails reference_too_early 2 'bad --near'
+words 1980-01-13T00:00:00 $made X 1C nowhere;         fails earliest_reference 1 'cannot open nowhere'
+words 2100-01-01T00:00:00 $made X 1C nowhere;         fails reference_too_late 2 'bad --near'
+words 2099-12-31T23:59:59 $made X 1C nowhere;         fails latest_reference 1 'cannot open nowhere'
 
-# clap's refusals; the whole texts stand in rtk_tests_file.
+# Texts that write no moment, and texts that list no codes.
+for text in 2024-05-17 '2024-05-17 12:00:00' 2024-05-17t12:00:00 2024-05-17T12:00:00Z 2024-05-17T12:00:0 \
+    2024-5-17T12:00:00 2024-05-17T12-00-00 +024-05-17T12:00:00 2024-05-17T1:200:00 2024-05-17T12:00:0/ \
+    2024-05-17T12:00:0: 2024-02-30T00:00:00 2023-02-29T00:00:00 2024-13-01T00:00:00 2024-00-01T00:00:00 \
+    2024-05-17T24:00:00 2024-05-17T12:60:00 2024-05-17T13:00:60 2016-12-31T23:59:60 1980-01-05T23:59:59 \
+    2101-01-01T00:00:00; do
+    words $near "$text" BASE 1C x
+    fails "made_$text" 2 'bad --made'
+done
+for text in , 1 1C, ,1C 1C,,2W 1c '1C 2W' '1C, 2W' 1C,9Z 1CC 1C,2; do
+    words $near $made BASE "$text" x
+    fails "codes_$text" 2 'bad --codes'
+done
+
+# The same of good texts, of an empty capture: the making and the types stand in the header.
+# header NAME MADE MARKER TYPES: the file is the empty one with these
+header() {
+    sed -e "2s/20240517 130000/$2/" -e "3s/^BASE.*MARKER/$(printf '%-60s' "$3")MARKER/" \
+        -e "10s/^.*SYS/$(printf '%-60s' "$4")SYS/" empty.rnx >want_out
+    leaves "$1" 0 want_out empty.report
+}
+words $near 1980-01-06T00:00:00 BASE 1C nothing;      header first_making '19800106 000000' BASE 'G    3 C1C L1C S1C'
+words $near 2024-02-29T23:59:59 BASE 5X,2W nothing;   header leap_day '20240229 235959' BASE 'G    6 C5X L5X S5X C2W L2W S2W'
+words $near 2100-12-31T23:59:59 BASE 1C,2D,1P nothing
+header last_making '21001231 235959' BASE 'G    9 C1C L1C S1C C2D L2D S2D C1P L1P S1P'
+
+# A marker may begin with a hyphen; numbers may have a sign and zeros before them; an option stands with its value or
+# before it, before or behind the links.
+sed '3s/^BASE/-X  /' "$examples/base.rnx" >hyphen.rnx
+"$program" convert "$base" --station=+2003 --near=$near --made=$made --marker -X --codes=1C,2W >out 2>err </dev/null; status=$?
+leaves options_behind_the_link 0 hyphen.rnx base.report
+sed '3s/^BASE /-X - /' "$examples/base.rnx" >hyphens.rnx
+"$program" convert --station 002003 --near $near --made $made '--marker=-X -' --codes 1C,2W "$base" >out 2>err </dev/null; status=$?
+leaves zeros_before_the_station 0 hyphens.rnx base.report
+"$program" convert --station 4095 --near $near --made $made --marker --codes --codes 2D nothing >out 2>err </dev/null; status=$?
+header marker_of_an_option '20240517 130000' --codes 'G    3 C2D L2D S2D'
+
+# clap's texts.
+usage='Usage: rtcm2rinex convert [OPTIONS] --station <N> --near <T> --made <T> --marker <NAME> --codes <LIST> <LINK>...'
+help="Converts captures of one station to a RINEX 3.05 observation file
+
+$usage
+
+Arguments:
+  <LINK>...  The captures, 1 to 16; stdin is standard input
+
+Options:
+      --station <N>    The reference station, 0 to 4095
+      --near <T>       A GPS time within half a week of all messages
+      --made <T>       The UTC time that the file shows as its making
+      --marker <NAME>  The marker's name
+      --codes <LIST>   The observation codes, as 1C,2W
+      --window <N>     How many epochs are kept open, 2 to 4096 [default: 64]
+  -h, --help           Print help"
 try="
 For more information, try '--help'."
-"$program" convert --station 4096 stdin >out 2>err </dev/null; status=$?
-printf '%s\n' "error: invalid value '4096' for '--station <N>': 4096 is not in 0..=4095" "$try" >want_err
-leaves station_of_4096 2 /dev/null want_err
-"$program" convert --window 1 stdin >out 2>err </dev/null; status=$?
-printf '%s\n' "error: invalid value '1' for '--window <N>': 1 is not in 2..=4096" "$try" >want_err
-leaves window_of_1 2 /dev/null want_err
+
+# run WORD..
+run() {
+    "$program" "$@" >out 2>err </dev/null
+    status=$?
+}
+
+# bad_value NAME OPTION VALUE WHY
+bad_value() {
+    run convert "$2" "$3" a
+    expect "$1" 2 '' "error: invalid value '$3' for '$2 <N>': $4
+$try"
+}
+
+run convert --help;                                   expect convert_help 0 "$help" ''
+run help convert;                                     expect help_convert 0 "$help" ''
+words '' '' '' '';                                    expect no_link 2 '' "error: the following required arguments were not provided:
+  <LINK>...
+
+Usage: rtcm2rinex convert --station <N> --near <T> --made <T> --marker <NAME> --codes <LIST> <LINK>...
+$try"
+run convert --station 1 --station 1 a;                expect station_twice 2 '' "error: the argument '--station <N>' cannot be used multiple times
+
+$usage
+$try"
+bad_value station_of_4096 --station 4096 '4096 is not in 0..=4095'
+bad_value station_of_no_digits --station x 'invalid digit found in string'
+bad_value window_of_1 --window 1 '1 is not in 2..=4096'
+bad_value window_of_4097 --window 4097 '4097 is not in 2..=4096'
 
 # Outputs that fail: the fault line stands behind what of the report is told.
 printf 'rtcm2rinex: write failed\n' >write_failed

@@ -45,15 +45,40 @@ Options:
 try="
 For more information, try '--help'."
 
+no_command="error: 'rtcm2rinex' requires a subcommand but one was not provided
+  [subcommands: convert, show, check, help]
+
+Usage: rtcm2rinex <COMMAND>
+$try"
+
+no_such_command="error: unrecognized subcommand 'shew'
+
+  tip: a similar subcommand exists: 'show'
+
+Usage: rtcm2rinex <COMMAND>
+$try"
+
 no_file="error: the following required arguments were not provided:
   <FILE>
 
 Usage: rtcm2rinex show <FILE>
 $try"
 
+two_files="error: unexpected argument 'b' found
+
+Usage: rtcm2rinex show [OPTIONS] <FILE>
+$try"
+
 hex_twice="error: the argument '--hex' cannot be used multiple times
 
 Usage: rtcm2rinex show [OPTIONS] <FILE>
+$try"
+
+like_hex="error: unexpected argument '--hax' found
+
+  tip: a similar argument exists: '--hex'
+
+Usage: rtcm2rinex show --hex <FILE>
 $try"
 
 unknown_option="error: unexpected argument '--frob' found
@@ -78,7 +103,10 @@ for _ in 1 2 3 4 5 6 7 8 9 10 11 12 13 14 15 16; do cat frames frames >twice; mv
 
 run show --hex stdin <arp.hex;            expect hex_from_stdin 0 "$arp" ''
 run show --hex arp.hex </dev/null;        expect hex_from_file 0 "$arp" ''
+run show arp.hex --hex </dev/null;        expect hex_behind_the_file 0 "$arp" ''
 run show arp.rtcm </dev/null;             expect bytes_from_file 0 "$arp" ''
+cp arp.rtcm ./--hex
+run show -- --hex </dev/null;             expect file_of_the_name_of_an_option 0 "$arp" ''
 cat arp.rtcm | "$program" show stdin >out 2>err; status=$?
 expect bytes_from_pipe 0 "$arp" ''
 run show ./stdin </dev/null;              expect no_file_of_the_name_stdin 1 '' 'rtcm2rinex: cannot open ./stdin'
@@ -123,8 +151,12 @@ run show --help </dev/null;               expect show_help 0 "$show_help" ''
 run help show </dev/null;                 expect help_show 0 "$show_help" ''
 run --version </dev/null;                 expect version 0 'rtcm2rinex 0.1.0' ''
 run -V </dev/null;                        expect version_in_short 0 'rtcm2rinex 0.1.0' ''
+run </dev/null;                           expect no_command 2 '' "$no_command"
+run shew a </dev/null;                    expect no_such_command 2 '' "$no_such_command"
 run show </dev/null;                      expect no_file 2 '' "$no_file"
+run show a b </dev/null;                  expect two_files 2 '' "$two_files"
 run show --hex --hex arp.hex </dev/null;  expect hex_twice 2 '' "$hex_twice"
+run show --hax a </dev/null;              expect like_hex 2 '' "$like_hex"
 run --frob </dev/null;                    expect unknown_option 2 '' "$unknown_option"
 
 # The captures of examples/ by the command of the README, which passes words, streams and status on.

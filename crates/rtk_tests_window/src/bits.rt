@@ -10,8 +10,11 @@ const EXAMPLE_1005: [u8; 19] = [
     0x98, 0x6f, 0x33,
 ];
 
-// The fields of the example in their order: whether they are signed, their bits, their numbers.
-const FIELDS_1005: [(&str, bool, usize, i64); 10] = [
+/// A field of a message: its name, whether it is signed, its bits and its number.
+type Field = (&'static str, bool, usize, i64);
+
+// The fields of the example in their order.
+const FIELDS_1005: [Field; 10] = [
     ("DF002, message number", false, 12, 1005),
     ("DF003, station", false, 12, 2003),
     ("DF021, ITRF realization year", false, 6, 0),
@@ -24,19 +27,24 @@ const FIELDS_1005: [(&str, bool, usize, i64); 10] = [
     ("DF027, Z", true, 38, 39_755_214_643),
 ];
 
+// Reads the fields one after another.
+fn check_fields(reader: &mut BitReader, fields: &[Field]) -> Result<(), Fail> {
+    for (name, is_signed, width, number) in fields {
+        holds(1 <= *width && *width <= 64)?;
+        if *is_signed {
+            same_of(*name, &reader.take_i(*width), &Some(*number))?;
+        } else {
+            same_of(*name, &reader.take_u(*width), &Some(number.unsigned_abs()))?;
+        }
+    }
+    Ok(())
+}
+
 #[test]
 fn fields_of_the_example_are_read() -> Result<(), Fail> {
     let mut reader = BitReader::new(&EXAMPLE_1005);
     same(&reader.remaining(), &152)?;
-    for (name, is_signed, width, number) in FIELDS_1005 {
-        holds(1 <= width && width <= 64)?;
-        let field = if is_signed {
-            reader.take_i(width)
-        } else {
-            reader.take_u(width).map(|field| field as i64)
-        };
-        same_of(name, &field, &Some(number))?;
-    }
+    check_fields(&mut reader, &FIELDS_1005)?;
     same(&(reader.remaining(), reader.take_u(1)), &(0, None))
 }
 
@@ -56,38 +64,38 @@ fn fields_of_the_example_are_written(rt: HostRuntime) -> Result<(), Fail> {
     same(&writer.finish().as_slice(), &EXAMPLE_1005.as_slice())
 }
 
+// A width, the bytes whose first bits it takes, and the number.
+const TWOS_COMPLEMENT: [(usize, [u8; 8], i64); 14] = [
+    (1, [0x00, 0, 0, 0, 0, 0, 0, 0], 0),
+    (1, [0x80, 0, 0, 0, 0, 0, 0, 0], -1),
+    (4, [0x70, 0, 0, 0, 0, 0, 0, 0], 7),
+    (4, [0x80, 0, 0, 0, 0, 0, 0, 0], -8),
+    (8, [0x7f, 0, 0, 0, 0, 0, 0, 0], 127),
+    (8, [0x80, 0, 0, 0, 0, 0, 0, 0], -128),
+    (14, [0x80, 0x00, 0, 0, 0, 0, 0, 0], -8192), // DF017, no pseudorange difference
+    (15, [0x80, 0x00, 0, 0, 0, 0, 0, 0], -16_384), // DF400, no fine range
+    (20, [0x80, 0x00, 0x00, 0, 0, 0, 0, 0], -524_288), // DF012, no phase range
+    (22, [0x80, 0x00, 0x00, 0, 0, 0, 0, 0], -2_097_152), // DF401, no fine phase
+    (32, [0x7f, 0xff, 0xff, 0xff, 0, 0, 0, 0], 2_147_483_647),
+    (32, [0x80, 0x00, 0x00, 0x00, 0, 0, 0, 0], -2_147_483_648),
+    (
+        64,
+        [0x7f, 0xff, 0xff, 0xff, 0xff, 0xff, 0xff, 0xff],
+        9_223_372_036_854_775_807,
+    ),
+    (
+        64,
+        [0x80, 0x00, 0x00, 0x00, 0x00, 0x00, 0x00, 0x00],
+        -9_223_372_036_854_775_808,
+    ),
+];
+
 #[test]
 fn twos_complement_is_read() -> Result<(), Fail> {
-    let rows = [
-        (1, [0x00, 0, 0, 0, 0, 0, 0, 0], 0),
-        (1, [0x80, 0, 0, 0, 0, 0, 0, 0], -1),
-        (4, [0x70, 0, 0, 0, 0, 0, 0, 0], 7),
-        (4, [0x80, 0, 0, 0, 0, 0, 0, 0], -8),
-        (8, [0x7f, 0, 0, 0, 0, 0, 0, 0], 127),
-        (8, [0x80, 0, 0, 0, 0, 0, 0, 0], -128),
-        (14, [0x80, 0x00, 0, 0, 0, 0, 0, 0], -8192), // DF017, no pseudorange difference
-        (15, [0x80, 0x00, 0, 0, 0, 0, 0, 0], -16_384), // DF400, no fine range
-        (20, [0x80, 0x00, 0x00, 0, 0, 0, 0, 0], -524_288), // DF012, no phase range
-        (22, [0x80, 0x00, 0x00, 0, 0, 0, 0, 0], -2_097_152), // DF401, no fine phase
-        (32, [0x7f, 0xff, 0xff, 0xff, 0, 0, 0, 0], 2_147_483_647),
-        (32, [0x80, 0x00, 0x00, 0x00, 0, 0, 0, 0], -2_147_483_648),
-        (
-            64,
-            [0x7f, 0xff, 0xff, 0xff, 0xff, 0xff, 0xff, 0xff],
-            9_223_372_036_854_775_807,
-        ),
-        (
-            64,
-            [0x80, 0x00, 0x00, 0x00, 0x00, 0x00, 0x00, 0x00],
-            -9_223_372_036_854_775_808,
-        ),
-    ];
-    for (width, bytes, number) in rows {
-        holds(1 <= width && width <= 64)?;
-        same_of(
-            format_args!("{width} bits"),
-            &BitReader::new(&bytes).take_i(width),
-            &Some(number),
+    for (width, bytes, number) in TWOS_COMPLEMENT {
+        check_fields(
+            &mut BitReader::new(&bytes),
+            &[("first bits", true, width, number)],
         )?;
     }
     Ok(())
@@ -125,19 +133,26 @@ fn ones_are_minus_one_at_every_width() -> Result<(), Fail> {
     Ok(())
 }
 
-#[test]
-fn a_field_ends_in_a_ninth_byte(rt: HostRuntime) -> Result<(), Fail> {
-    let bytes = [0x01, 0x23, 0x45, 0x67, 0x89, 0xab, 0xcd, 0xef, 0x01];
-    let mut reader = BitReader::new(&bytes);
-    same(&reader.take_u(4), &Some(0x0))?;
-    same(&reader.take_u(64), &Some(0x1234_5678_9abc_def0))?;
-    same(&reader.take_u(4), &Some(0x1))?;
+const NINE_BYTES: [u8; 9] = [0x01, 0x23, 0x45, 0x67, 0x89, 0xab, 0xcd, 0xef, 0x01];
 
+const INTO_NINTH_BYTE: [Field; 3] = [
+    ("first bits", false, 4, 0x0),
+    ("bits into the ninth byte", false, 64, 0x1234_5678_9abc_def0),
+    ("last bits", false, 4, 0x1),
+];
+
+#[test]
+fn a_field_ends_in_a_ninth_byte() -> Result<(), Fail> {
+    check_fields(&mut BitReader::new(&NINE_BYTES), &INTO_NINTH_BYTE)
+}
+
+#[test]
+fn a_field_is_written_into_a_ninth_byte(rt: HostRuntime) -> Result<(), Fail> {
     let mut writer = BitWriter::new(rt.alloc());
     writer.put_u(4, 0x0)?;
     writer.put_u(64, 0x1234_5678_9abc_def0)?;
     writer.put_u(4, 0x1)?;
-    same(&writer.finish().as_slice(), &bytes.as_slice())
+    same(&writer.finish().as_slice(), &NINE_BYTES.as_slice())
 }
 
 #[test]

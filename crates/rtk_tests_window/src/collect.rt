@@ -160,5 +160,8 @@ fn check(
 }
 
 fn next_left(left: &mut Left) -> Result<EpochSet, Fail> {
-    Ok(left.next_left().ok_or("no epoch is left")?)
+    match left.next_left() {
+        Some(set) => Ok(set),
+        None => Err("no epoch is left".into()),
+    }
 }

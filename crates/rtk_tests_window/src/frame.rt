@@ -2,9 +2,6 @@
 
 ghost use Rattle.std.specs.Prelude.{◌≡◌, ◌<◌, false};
 
-mod plain;
-
-use plain::{checksum_bit_by_bit, frames_of};
 use rtk_frame::{Answer, FrameFault, Scanner, crc24q, encode_frame, next_frame};
 use rtk_testing::{holds, holds_of, same, same_of};
 use std::alloc::{AllocError, Global};
@@ -274,69 +271,4 @@ fn the_longest_frame_byte_by_byte(rt: HostRuntime) -> Result<(), Fail> {
     same(&count, &0)?;
     let fed = scanner.feed(&[*last]);
     holds(matches!(fed.answer, Answer::Found(payload) if payload == LONGEST.as_slice()))
-}
-
-/// The place and the length of the payload of each frame of a text, and the payloads, one behind
-/// another.
-fn frames_by_search(
-    alloc: Global,
-    text: &[u8],
-) -> Result<(Vec<(usize, usize)>, Vec<u8>), AllocError> {
-    let mut frames = Vec::new(alloc);
-    let mut payloads = Vec::new(alloc);
-    let mut from = 0usize;
-    while let Some(found) = next_frame(text, from) {
-        frames.push((found.place, found.payload.len()))?;
-        payloads.extend_from_slice(found.payload)?;
-        from = found.place + (found.payload.len() + 6);
-    }
-    Ok((frames, payloads))
-}
-
-// All texts, one behind another.
-fn all_texts(alloc: Global) -> Result<Vec<u8>, AllocError> {
-    let mut bytes = Vec::new(alloc);
-    for text in &TEXTS {
-        let more = bytes_of(alloc, text)?;
-        bytes.extend_from_slice(more.as_slice())?;
-    }
-    Ok(bytes)
-}
-
-// The checksums of the pieces of a text.
-fn check_checksums(text: &[u8], size: usize) -> Result<(), Fail>
-    requires { 0 < size }
-{
-    for piece in text.chunks(size) {
-        same(&crc24q(piece), &checksum_bit_by_bit(piece))?;
-    }
-    Ok(())
-}
-
-// The payloads that a scanner gives of a text in pieces, one behind another.
-fn payloads_in_pieces(alloc: Global, text: &[u8], size: usize) -> Result<Vec<u8>, Fail>
-    requires { 0 < size }
-{
-    let mut scanner = Scanner::new(alloc)?;
-    let (mut found, _) = feed_in_pieces(alloc, &mut scanner, text, size)?;
-    add_rest(&mut found, &mut scanner)?;
-    Ok(found)
-}
-
-#[test]
-fn the_plain_program_does_the_same(rt: HostRuntime) -> Result<(), Fail> {
-    let bytes = all_texts(rt.alloc())?;
-    let text = bytes.as_slice();
-    for size in [1usize, 7, 8, 9, 70, 1000] {
-        check_checksums(text, size)?;
-    }
-    let (frames, payloads) = frames_by_search(rt.alloc(), text)?;
-    holds(frames == frames_of(rt.alloc(), text)?)?;
-    for size in [1usize, 5, 512] {
-        holds_of(
-            size,
-            payloads_in_pieces(rt.alloc(), text, size)? == payloads,
-        )?;
-    }
-    Ok(())
 }

@@ -74,25 +74,6 @@ fn gives(alloc: Global, words: &[&str], window: usize, names: &[&str]) -> bool {
     is_of_options(&given, window, names)
 }
 
-// A conversion of this station, marker and one link, `a`.
-fn is_of_station(given: &Job, station: u16, marker: &[u8]) -> bool {
-    match given {
-        Job::Convert { setup, links } => {
-            setup.station() == station
-                && setup.head().marker() == marker
-                && are_named(links.as_slice(), &["a"])
-        }
-        Job::Show { .. } | Job::Check { .. } => false,
-    }
-}
-
-fn gives_station(alloc: Global, words: &[&str], station: u16, marker: &[u8]) -> bool {
-    let Ok(given) = job(alloc, words) else {
-        return false;
-    };
-    is_of_station(&given, station, marker)
-}
-
 #[test]
 fn conversions(rt: HostRuntime) -> Result<(), Fail> {
     for (behind, window, names) in ROWS {
@@ -102,70 +83,6 @@ fn conversions(rt: HostRuntime) -> Result<(), Fail> {
         holds_of(
             format_args!("window {window}"),
             gives(rt.alloc(), words.as_slice(), window, names),
-        )?;
-    }
-    Ok(())
-}
-
-// A marker may begin with a hyphen; numbers may have a sign and zeros before them; an option stands with
-// its value or before it, before or behind the links.
-#[test]
-fn forms_of_options(rt: HostRuntime) -> Result<(), Fail> {
-    let rows: [(&[&str], u16, &[u8]); 3] = [
-        (
-            &[
-                "convert",
-                "a",
-                "--station=+7",
-                "--near=2024-05-17T12:00:00",
-                "--made=2024-05-17T13:00:00",
-                "--marker",
-                "-X",
-                "--codes=1C",
-            ],
-            7,
-            b"-X",
-        ),
-        (
-            &[
-                "convert",
-                "--station",
-                "007",
-                "--near",
-                "2024-05-17T12:00:00",
-                "--made",
-                "2024-05-17T13:00:00",
-                "--marker=-X -",
-                "--codes",
-                "5X",
-                "a",
-            ],
-            7,
-            b"-X -",
-        ),
-        (
-            &[
-                "convert",
-                "--station",
-                "4095",
-                "--near",
-                "2099-12-31T23:59:59",
-                "--made",
-                "1980-01-06T00:00:00",
-                "--marker",
-                "--codes",
-                "--codes",
-                "2D",
-                "a",
-            ],
-            4095,
-            b"--codes",
-        ),
-    ];
-    for (words, station, marker) in rows {
-        holds_of(
-            format_args!("station {station}"),
-            gives_station(rt.alloc(), words, station, marker),
         )?;
     }
     Ok(())

@@ -1,6 +1,7 @@
 //! `show` over sources and sinks that fail, and over inputs that it refuses.
 
-use rtk_cli::{SHOW_LIMIT, ToolFault, show};
+use super::shown;
+use rtk_cli::{SHOW_LIMIT, ToolFault};
 use rtk_frame::{After, MemSink, MemSource};
 use rtk_testing::same;
 use std::test::Fail;
@@ -16,9 +17,8 @@ fn each_read_fails(rt: HostRuntime) -> Result<(), Fail> {
     let bytes = hex::decode(rt.alloc(), CAPTURE)?;
     for (input, hex) in [(bytes.as_slice(), false), (CAPTURE.as_bytes(), true)] {
         for n in 0..=input.len() {
-            let mut reader = MemSource::new(rt.alloc(), &input[..n], 1, After::Failure)?;
-            let mut out = MemSink::new(rt.alloc(), 100, 100)?;
-            let answer = show(rt.alloc(), &mut reader, &mut out, hex);
+            let reader = MemSource::new(rt.alloc(), &input[..n], 1, After::Failure)?;
+            let (answer, out) = shown(rt.alloc(), reader, MemSink::new(rt.alloc(), 100, 100)?, hex);
             same(&answer, &Err(ToolFault::Input))?;
             same(&out.bytes().len(), &0)?;
         }
@@ -32,9 +32,9 @@ fn each_write_fails(rt: HostRuntime) -> Result<(), Fail> {
     let bytes = hex::decode(rt.alloc(), CAPTURE)?;
     for room in 0..LINES.len() {
         for per_write in [1, 10, 1000] {
-            let mut reader = MemSource::new(rt.alloc(), bytes.as_slice(), 512, After::End)?;
-            let mut out = MemSink::new(rt.alloc(), room, per_write)?;
-            let answer = show(rt.alloc(), &mut reader, &mut out, false);
+            let reader = MemSource::new(rt.alloc(), bytes.as_slice(), 512, After::End)?;
+            let sink = MemSink::new(rt.alloc(), room, per_write)?;
+            let (answer, out) = shown(rt.alloc(), reader, sink, false);
             same(&answer, &Err(ToolFault::Output))?;
             same(&out.bytes(), &&LINES.as_bytes()[..room])?;
         }
@@ -46,28 +46,35 @@ fn each_write_fails(rt: HostRuntime) -> Result<(), Fail> {
 #[test]
 fn room_for_all_lines(rt: HostRuntime) -> Result<(), Fail> {
     let bytes = hex::decode(rt.alloc(), CAPTURE)?;
-    let mut reader = MemSource::new(rt.alloc(), bytes.as_slice(), 512, After::End)?;
-    let mut out = MemSink::new(rt.alloc(), LINES.len(), 1)?;
-    same(&show(rt.alloc(), &mut reader, &mut out, false), &Ok(2))?;
+    let reader = MemSource::new(rt.alloc(), bytes.as_slice(), 512, After::End)?;
+    let sink = MemSink::new(rt.alloc(), LINES.len(), 1)?;
+    let (answer, out) = shown(rt.alloc(), reader, sink, false);
+    same(&answer, &Ok(2))?;
     same(&out.bytes(), &LINES.as_bytes())
 }
 
-// Texts that are no pairs of hex digits. Nothing is out, though a whole frame stands before.
+// Texts that are no pairs of hex digits.
+const NOT_HEX: [&str; 7] = [
+    "D3 0",
+    "D300133ED7D30202980EDEEF34B4BD62AC0941986F33360B98 0",
+    "D300133ED7D30202980EDEEF34B4BD62AC0941986F33360B98 0G",
+    "D300133ED7D30202980EDEEF34B4BD62AC0941986F33360B98 0x00",
+    "D3,00",
+    "D3\u{b}00",
+    "D3\u{a0}00",
+];
+
+// Nothing is out, though a whole frame stands before.
 #[test]
 fn texts_that_are_not_hex(rt: HostRuntime) -> Result<(), Fail> {
-    let texts = [
-        "D3 0",
-        "D300133ED7D30202980EDEEF34B4BD62AC0941986F33360B98 0",
-        "D300133ED7D30202980EDEEF34B4BD62AC0941986F33360B98 0G",
-        "D300133ED7D30202980EDEEF34B4BD62AC0941986F33360B98 0x00",
-        "D3,00",
-        "D3\u{b}00",
-        "D3\u{a0}00",
-    ];
-    for text in texts {
-        let mut reader = MemSource::new(rt.alloc(), text.as_bytes(), 512, After::End)?;
-        let mut out = MemSink::new(rt.alloc(), 100, 100)?;
-        let answer = show(rt.alloc(), &mut reader, &mut out, true);
+    for text in NOT_HEX {
+        let reader = MemSource::new(rt.alloc(), text.as_bytes(), 512, After::End)?;
+        let (answer, out) = shown(
+            rt.alloc(),
+            reader,
+            MemSink::new(rt.alloc(), 100, 100)?,
+            true,
+        );
         same(&answer, &Err(ToolFault::NotHex))?;
         same(&out.bytes().len(), &0)?;
     }
@@ -79,9 +86,8 @@ fn texts_that_are_not_hex(rt: HostRuntime) -> Result<(), Fail> {
 fn one_byte_over_the_limit(rt: HostRuntime) -> Result<(), Fail> {
     same(&SHOW_LIMIT, &16_777_216)?;
     for hex in [false, true] {
-        let mut reader = MemSource::new(rt.alloc(), b"", 16_777_216, After::Zeros)?;
-        let mut out = MemSink::new(rt.alloc(), 100, 100)?;
-        let answer = show(rt.alloc(), &mut reader, &mut out, hex);
+        let reader = MemSource::new(rt.alloc(), b"", 16_777_216, After::Zeros)?;
+        let (answer, out) = shown(rt.alloc(), reader, MemSink::new(rt.alloc(), 100, 100)?, hex);
         same(&answer, &Err(ToolFault::TooLong))?;
         same(&out.bytes().len(), &0)?;
     }
@@ -89,16 +95,17 @@ fn one_byte_over_the_limit(rt: HostRuntime) -> Result<(), Fail> {
 }
 
 // The fault lines of the program.
+const TEXTS: [(ToolFault, &str); 5] = [
+    (ToolFault::Input, "read failed"),
+    (ToolFault::TooLong, "input too long"),
+    (ToolFault::NotHex, "input is not hex"),
+    (ToolFault::OutOfMemory, "out of memory"),
+    (ToolFault::Output, "write failed"),
+];
+
 #[test]
 fn texts_of_faults(rt: HostRuntime) -> Result<(), Fail> {
-    let rows = [
-        (ToolFault::Input, "read failed"),
-        (ToolFault::TooLong, "input too long"),
-        (ToolFault::NotHex, "input is not hex"),
-        (ToolFault::OutOfMemory, "out of memory"),
-        (ToolFault::Output, "write failed"),
-    ];
-    for (fault, want) in rows {
+    for (fault, want) in TEXTS {
         let text = fault.to_string(rt.alloc())?;
         same(&text.as_str(), &want)?;
     }

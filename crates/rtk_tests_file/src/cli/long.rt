@@ -1,6 +1,7 @@
 //! `show` where more is read and written than at once: reads of 4,096 bytes, writes of 65,536.
 
-use rtk_cli::{ToolFault, show};
+use super::shown;
+use rtk_cli::ToolFault;
 use rtk_frame::{After, MemSink, MemSource};
 use rtk_testing::{holds, same};
 use std::alloc::{AllocError, Global};
@@ -33,9 +34,10 @@ fn sinks_that_fill(rt: HostRuntime) -> Result<(), Fail> {
             } else {
                 Ok(8_000)
             };
-            let mut reader = MemSource::new(rt.alloc(), input, 100_000, After::End)?;
-            let mut out = MemSink::new(rt.alloc(), room, 100_000)?;
-            same(&show(rt.alloc(), &mut reader, &mut out, hex), &want)?;
+            let reader = MemSource::new(rt.alloc(), input, 100_000, After::End)?;
+            let sink = MemSink::new(rt.alloc(), room, 100_000)?;
+            let (answer, out) = shown(rt.alloc(), reader, sink, hex);
+            same(&answer, &want)?;
             same(&out.bytes().len(), &room)?;
             holds(lines.as_slice().starts_with(out.bytes()))?;
         }
@@ -50,9 +52,9 @@ fn sources_that_fail(rt: HostRuntime) -> Result<(), Fail> {
     let mut capture = hex::decode(rt.alloc(), text.as_slice())?;
     for count in [10_000usize, 4_097, 4_096, 4_095] {
         capture.truncate(count);
-        let mut reader = MemSource::new(rt.alloc(), capture.as_slice(), 100_000, After::Failure)?;
-        let mut out = MemSink::new(rt.alloc(), 100, 100)?;
-        let answer = show(rt.alloc(), &mut reader, &mut out, false);
+        let reader = MemSource::new(rt.alloc(), capture.as_slice(), 100_000, After::Failure)?;
+        let sink = MemSink::new(rt.alloc(), 100, 100)?;
+        let (answer, out) = shown(rt.alloc(), reader, sink, false);
         same(&answer, &Err(ToolFault::Input))?;
         same(&out.bytes().len(), &0)?;
     }

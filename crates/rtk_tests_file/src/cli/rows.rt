@@ -1,10 +1,8 @@
 //! `show` over whole captures, as bytes and as hex text.
-ghost use Rattle.std.specs.Prelude.{◌≤◌};
-
-use rtk_cli::{ToolFault, show};
+use super::shown;
 use rtk_frame::{After, MemSink, MemSource};
 use rtk_testing::same;
-use std::alloc::{AllocError, Global};
+use std::alloc::Global;
 use std::test::Fail;
 
 const ARP: &str = "1005 station 2003 x 1114104.5999 y -4850729.7108 z 3975521.4643\n";
@@ -82,39 +80,34 @@ const CAPTURES: [(&str, u64, &str); 17] = [
     (" \t\r\n", 0, ""),
 ];
 
-// What is shown of an input that a source gives in such pieces, and the answer.
-fn shown(
-    alloc: Global,
-    input: &[u8],
-    per_read: usize,
-    hex: bool,
-) -> Result<(MemSink, Result<u64, ToolFault>), AllocError>
-    requires { 1 ≤ per_read }
-{
-    let mut reader = MemSource::new(alloc, input, per_read, After::End)?;
-    let mut out = MemSink::new(alloc, 1000, 7)?;
-    let answer = show(alloc, &mut reader, &mut out, hex);
-    Ok((out, answer))
+// The bytes of the hex digits of a text.
+fn bytes_of(alloc: Global, text: &str) -> Result<Vec<u8>, Fail> {
+    let mut digits = Vec::new(alloc);
+    for byte in text.as_bytes() {
+        if byte.is_ascii_hexdigit() {
+            digits.push(*byte)?;
+        }
+    }
+    Ok(hex::decode(alloc, digits.as_slice())?)
+}
+
+// Shows the input in pieces of 1 and 5 bytes and whole: so many lines, and these.
+fn check_shown(alloc: Global, input: &[u8], hex: bool, count: u64, want: &str) -> Result<(), Fail> {
+    for per_read in [1usize, 5, 100_000] {
+        let reader = MemSource::new(alloc, input, per_read, After::End)?;
+        let (answer, out) = shown(alloc, reader, MemSink::new(alloc, 1000, 7)?, hex);
+        same(&answer, &Ok(count))?;
+        same(&out.bytes(), &want.as_bytes())?;
+    }
+    Ok(())
 }
 
 #[test]
 fn captures_as_hex_and_as_bytes(rt: HostRuntime) -> Result<(), Fail> {
     for (text, count, want) in CAPTURES {
-        let mut digits = Vec::new(rt.alloc());
-        for byte in text.as_bytes() {
-            if byte.is_ascii_hexdigit() {
-                digits.push(*byte)?;
-            }
-        }
-        let bytes = hex::decode(rt.alloc(), digits.as_slice())?;
-        for per_read in [1usize, 5, 100_000] {
-            let (out, answer) = shown(rt.alloc(), text.as_bytes(), per_read, true)?;
-            same(&answer, &Ok(count))?;
-            same(&out.bytes(), &want.as_bytes())?;
-            let (out, answer) = shown(rt.alloc(), bytes.as_slice(), per_read, false)?;
-            same(&answer, &Ok(count))?;
-            same(&out.bytes(), &want.as_bytes())?;
-        }
+        check_shown(rt.alloc(), text.as_bytes(), true, count, want)?;
+        let bytes = bytes_of(rt.alloc(), text)?;
+        check_shown(rt.alloc(), bytes.as_slice(), false, count, want)?;
     }
     Ok(())
 }

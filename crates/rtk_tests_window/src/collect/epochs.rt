@@ -3,9 +3,9 @@
 use super::Answer::{Closes, Conflict, Late, Repeat, Taken};
 use super::Offered::{self, Legacy, Msm, Payload};
 use super::{Answer, NOON, Q, Step, check, check_all, legacy, next_left};
-use rtk_collect::{Collector, EpochSet, SatelliteCode};
+use rtk_collect::{Collector, SatelliteCode};
 use rtk_message::Satellite;
-use rtk_obs::Code;
+use rtk_obs::{CellEntry, Code};
 use rtk_testing::{holds, same};
 use std::alloc::Global;
 use std::test::*;
@@ -162,10 +162,9 @@ const RANDOM_LEFT: [(u64, &[u32]); 3] = [
     (9000, &[45_000]),
 ];
 
-fn check_strengths(set: &EpochSet, after_noon: u64, strengths: &[u32]) -> Result<(), Fail> {
-    same(&set.epoch().ms().wrapping_sub(NOON), &after_noon)?;
-    same(&set.cells().len(), &strengths.len().saturating_mul(2))?;
-    for (entry, strength) in set.cells().iter().step_by(2).zip(strengths) {
+fn check_strengths(cells: &[CellEntry], strengths: &[u32]) -> Result<(), Fail> {
+    same(&cells.len(), &strengths.len().saturating_mul(2))?;
+    for (entry, strength) in cells.iter().step_by(2).zip(strengths) {
         same(&entry.cell.strength_millidbhz, &Some(*strength))?;
     }
     Ok(())
@@ -174,7 +173,9 @@ fn check_strengths(set: &EpochSet, after_noon: u64, strengths: &[u32]) -> Result
 fn check_random_left(collector: Collector) -> Result<(), Fail> {
     let mut left = collector.close();
     for (after_noon, strengths) in RANDOM_LEFT {
-        check_strengths(&next_left(&mut left)?, after_noon, strengths)?;
+        let set = next_left(&mut left)?;
+        same(&set.epoch().ms().wrapping_sub(NOON), &after_noon)?;
+        check_strengths(set.cells(), strengths)?;
     }
     holds(left.next_left().is_none())
 }

@@ -5,7 +5,7 @@ use super::Offered::{Legacy, Payload};
 use super::{P, Q, Step, check_all};
 use rtk_collect::Collector;
 use rtk_obs::Position;
-use rtk_testing::same;
+use rtk_testing::holds;
 use std::test::*;
 
 // P with another ITRF realization year (DF021): 1.
@@ -32,7 +32,8 @@ fn of_p(height: u16) -> Option<Position> {
 }
 
 fn check_station(collector: &Collector, want: Option<Position>) -> Result<(), Fail> {
-    same(&Some(collector.station()), &want)
+    let station = collector.station();
+    holds(want == Some(station))
 }
 
 const BEHIND_TWO_EPOCHS: [Step; 3] = [
@@ -72,7 +73,7 @@ fn the_first_station_message_of_its_number_stays(rt: HostRuntime) -> Result<(), 
     check_station(&collector, of_p(0))?;
     check_all(&mut collector, &[(Payload(&P_WITH_HEIGHT), 0, Taken, &[])])?;
     check_station(&collector, of_p(15_000))?;
-    same(&Some(collector.close().station()), &of_p(15_000))
+    holds(of_p(15_000) == Some(collector.close().station()))
 }
 
 const ELSEWHERE_FIRST: [Step; 7] = [

@@ -81,63 +81,53 @@ fn observations_have_their_fields() -> Result<(), Fail> {
     )
 }
 
+fn read_1074(payload: &[u8]) -> Result<Msm1074, Fail> {
+    match decode(payload) {
+        Ok(Message::Msm1074(read)) => Ok(read),
+        _ => Err("no 1074".into()),
+    }
+}
+
+// The first bit of a mask stands for identifier 1, the first of a row for the first signal.
 #[test]
-fn columns_go_satellite_by_satellite() -> Result<(), Fail> {
-    let Ok(Message::Msm1074(read)) = decode(&TWO_CELLS) else {
-        return Err("no 1074".into());
-    };
-    // The first bit of a mask stands for identifier 1, the first of a row for the first signal.
+fn masks_begin_with_their_first_identifier() -> Result<(), Fail> {
+    let read = read_1074(&TWO_CELLS)?;
     same(
         &(read.header.satellite_mask, read.header.signal_mask),
         &(1 << 59 | 1 << 57, 1 << 30 | 1 << 22),
     )?;
-    same(
-        &(
-            read.cell_mask.as_slice(),
-            read.rough_ms.as_slice(),
-            read.rough_fraction.as_slice(),
-        ),
-        &(
-            [0b10, 0b01].as_slice(),
-            [70, 71].as_slice(),
-            [512, 513].as_slice(),
-        ),
-    )?;
-    same(
-        &(
-            read.fine_range.as_slice(),
-            read.fine_phase.as_slice(),
-            read.lock_indicator.as_slice(),
-        ),
-        &(
-            [100, -100].as_slice(),
-            [1000, -1000].as_slice(),
-            [9, 10].as_slice(),
-        ),
-    )?;
-    same(
-        &(read.half_cycle.as_slice(), read.cnr.as_slice()),
-        &([true, false].as_slice(), [40, 41].as_slice()),
-    )?;
+    same(&read.cell_mask.as_slice(), &[0b10, 0b01].as_slice())?;
     // Both cells are satellite 5's: the mask is 11 00 in place of 10 01.
     let mut one_row = TWO_CELLS;
     one_row[21] = 0x62;
-    let Ok(Message::Msm1074(read)) = decode(&one_row) else {
-        return Err("no 1074".into());
-    };
+    let read = read_1074(&one_row)?;
     same(&read.cell_mask.as_slice(), &[0b11, 0b00].as_slice())
 }
 
 #[test]
+fn columns_go_satellite_by_satellite() -> Result<(), Fail> {
+    let read = read_1074(&TWO_CELLS)?;
+    same(&read.rough_ms.as_slice(), &[70, 71].as_slice())?;
+    same(&read.rough_fraction.as_slice(), &[512, 513].as_slice())?;
+    same(&read.fine_range.as_slice(), &[100, -100].as_slice())?;
+    same(&read.fine_phase.as_slice(), &[1000, -1000].as_slice())?;
+    same(&read.lock_indicator.as_slice(), &[9, 10].as_slice())?;
+    same(&read.half_cycle.as_slice(), &[true, false].as_slice())?;
+    same(&read.cnr.as_slice(), &[40, 41].as_slice())
+}
+
+// A station, a coordinate, and whether a 1005 has room for both.
+const FITTING: [(u16, i64, bool); 5] = [
+    (4095, 137_438_953_471, true),
+    (4095, 137_438_953_472, false),
+    (4095, -137_438_953_472, true),
+    (4095, -137_438_953_473, false),
+    (4096, 0, false),
+];
+
+#[test]
 fn what_does_not_fit_is_told() -> Result<(), Fail> {
-    let rows = [
-        (4095, 137_438_953_471, true),
-        (4095, 137_438_953_472, false),
-        (4095, -137_438_953_472, true),
-        (4095, -137_438_953_473, false),
-        (4096, 0, false),
-    ];
-    for (station, x, want) in rows {
+    for (station, x, want) in FITTING {
         let point = Arp1005 {
             station,
             x,

@@ -20,31 +20,50 @@ const NO_INDICATOR: Arp1005 = Arp1005 {
     z: -137_438_953_472,
 };
 
-const POINTS: [Arp1005; 3] = [
-    Arp1005 {
-        realization_year: 33,
-        gps: true,
-        galileo: true,
-        single_oscillator: true,
-        quarter_cycle: 1,
-        ..NO_INDICATOR
-    },
-    Arp1005 {
-        realization_year: 2,
-        glonass: true,
-        galileo: true,
-        reserved: true,
-        quarter_cycle: 2,
-        ..NO_INDICATOR
-    },
-    Arp1005 {
-        realization_year: 4,
-        reference_station: true,
-        single_oscillator: true,
-        reserved: true,
-        quarter_cycle: 3,
-        ..NO_INDICATOR
-    },
+// Points, each behind its payload as a 1006 with a height of 4.0000. That of the 1005 has another number and no height.
+const POINTS: [([u8; 21], Arp1005); 3] = [
+    (
+        [
+            0x3e, 0xe0, 0x01, 0x86, 0xbf, 0xff, 0xff, 0xff, 0xff, 0x80, 0x00, 0x00, 0x00, 0x02,
+            0x60, 0x00, 0x00, 0x00, 0x00, 0x9c, 0x40,
+        ],
+        Arp1005 {
+            realization_year: 33,
+            gps: true,
+            galileo: true,
+            single_oscillator: true,
+            quarter_cycle: 1,
+            ..NO_INDICATOR
+        },
+    ),
+    (
+        [
+            0x3e, 0xe0, 0x01, 0x09, 0xbf, 0xff, 0xff, 0xff, 0xff, 0x40, 0x00, 0x00, 0x00, 0x02,
+            0xa0, 0x00, 0x00, 0x00, 0x00, 0x9c, 0x40,
+        ],
+        Arp1005 {
+            realization_year: 2,
+            glonass: true,
+            galileo: true,
+            reserved: true,
+            quarter_cycle: 2,
+            ..NO_INDICATOR
+        },
+    ),
+    (
+        [
+            0x3e, 0xe0, 0x01, 0x10, 0x7f, 0xff, 0xff, 0xff, 0xff, 0xc0, 0x00, 0x00, 0x00, 0x02,
+            0xe0, 0x00, 0x00, 0x00, 0x00, 0x9c, 0x40,
+        ],
+        Arp1005 {
+            realization_year: 4,
+            reference_station: true,
+            single_oscillator: true,
+            reserved: true,
+            quarter_cycle: 3,
+            ..NO_INDICATOR
+        },
+    ),
 ];
 
 fn with_height(point: Arp1005, height: u16) -> Arp1006 {
@@ -67,31 +86,7 @@ fn with_height(point: Arp1005, height: u16) -> Arp1006 {
 
 #[test]
 fn fields_of_station_messages_have_their_places() -> Result<(), Fail> {
-    // Each payload is of a 1006. That of the 1005 has another number and no height.
-    let rows = [
-        (
-            [
-                0x3e, 0xe0, 0x01, 0x86, 0xbf, 0xff, 0xff, 0xff, 0xff, 0x80, 0x00, 0x00, 0x00, 0x02,
-                0x60, 0x00, 0x00, 0x00, 0x00, 0x9c, 0x40,
-            ],
-            POINTS[0],
-        ),
-        (
-            [
-                0x3e, 0xe0, 0x01, 0x09, 0xbf, 0xff, 0xff, 0xff, 0xff, 0x40, 0x00, 0x00, 0x00, 0x02,
-                0xa0, 0x00, 0x00, 0x00, 0x00, 0x9c, 0x40,
-            ],
-            POINTS[1],
-        ),
-        (
-            [
-                0x3e, 0xe0, 0x01, 0x10, 0x7f, 0xff, 0xff, 0xff, 0xff, 0xc0, 0x00, 0x00, 0x00, 0x02,
-                0xe0, 0x00, 0x00, 0x00, 0x00, 0x9c, 0x40,
-            ],
-            POINTS[2],
-        ),
-    ];
-    for (payload, point) in rows {
+    for (payload, point) in POINTS {
         holds(decode(&payload) == Ok(Message::Arp1006(with_height(point, 40_000))))?;
         let mut without_height = payload;
         without_height[1] = 0xd0;
@@ -100,19 +95,21 @@ fn fields_of_station_messages_have_their_places() -> Result<(), Fail> {
     Ok(())
 }
 
+// The header of a 1004 without satellites, and its fields.
+const HEADERS_1004: [([u8; 8], (u16, u32, bool, bool, u8)); 2] = [
+    (
+        [0x3e, 0xc0, 0x02, 0x00, 0x00, 0x00, 0x06, 0x05],
+        (2, 1, true, false, 5),
+    ),
+    (
+        [0x3e, 0xc0, 0x03, 0x00, 0x00, 0x00, 0x08, 0x0a],
+        (3, 2, false, true, 2),
+    ),
+];
+
 #[test]
 fn header_fields_of_a_1004_have_their_places() -> Result<(), Fail> {
-    let rows = [
-        (
-            [0x3e, 0xc0, 0x02, 0x00, 0x00, 0x00, 0x06, 0x05],
-            (2, 1, true, false, 5),
-        ),
-        (
-            [0x3e, 0xc0, 0x03, 0x00, 0x00, 0x00, 0x08, 0x0a],
-            (3, 2, false, true, 2),
-        ),
-    ];
-    for (payload, (station, tow, synchronous, smoothing, smoothing_interval)) in rows {
+    for (payload, (station, tow, synchronous, smoothing, smoothing_interval)) in HEADERS_1004 {
         let message = Obs1004 {
             station,
             tow,

@@ -5,30 +5,37 @@ use rtk_message::*;
 use rtk_testing::{holds, same, same_of};
 use std::test::*;
 
+// A 1004 without satellites, and one at the last moment of a week.
+const NONE_1004: [u8; 8] = [0x3e, 0xc7, 0xd3, 0x71, 0x4b, 0xe8, 0x00, 0x00];
+
+const LAST_MOMENT: [u8; 8] = [0x3e, 0xc7, 0xd3, 0x90, 0x32, 0x0f, 0xfc, 0x00];
+
+const NOON: Option<u32> = Some(475_200_000);
+
+const END_OF_WEEK: Option<u32> = Some(604_799_999);
+
+// A payload, its message number, its station and its time of week in ms.
+const PAYLOADS: [(&[u8], u16, u16, Option<u32>); 15] = [
+    (&POINT_1005, 1005, 2003, None),
+    (&POINT_1006, 1006, 2003, None),
+    (&NONE_1004, 1004, 2003, NOON),
+    (&ONE_SATELLITE, 1004, 2003, NOON),
+    (&TWO_SATELLITES, 1004, 2003, NOON),
+    (&LAST_MOMENT, 1004, 2003, END_OF_WEEK),
+    (&ONE_CELL, 1074, 2003, NOON),
+    (&TWO_CELLS, 1074, 2003, NOON),
+    (&NO_SATELLITE, 1074, 2003, NOON),
+    (&NO_SIGNAL, 1074, 2003, NOON),
+    (&NO_CELL, 1074, 2003, NOON),
+    (&ONES_1004, 1004, 4095, END_OF_WEEK),
+    (&ONES_1005, 1005, 4095, None),
+    (&ONES_1006, 1006, 4095, None),
+    (&ONES_1074, 1074, 4095, END_OF_WEEK),
+];
+
 #[test]
 fn payloads_are_read_and_written_again(rt: HostRuntime) -> Result<(), Fail> {
-    let no_satellite = [0x3e, 0xc7, 0xd3, 0x71, 0x4b, 0xe8, 0x00, 0x00];
-    let last_moment = [0x3e, 0xc7, 0xd3, 0x90, 0x32, 0x0f, 0xfc, 0x00];
-    let noon = Some(475_200_000);
-    let end_of_week = Some(604_799_999);
-    let rows: [(&[u8], u16, u16, Option<u32>); 15] = [
-        (&POINT_1005, 1005, 2003, None),
-        (&POINT_1006, 1006, 2003, None),
-        (&no_satellite, 1004, 2003, noon),
-        (&ONE_SATELLITE, 1004, 2003, noon),
-        (&TWO_SATELLITES, 1004, 2003, noon),
-        (&last_moment, 1004, 2003, end_of_week),
-        (&ONE_CELL, 1074, 2003, noon),
-        (&TWO_CELLS, 1074, 2003, noon),
-        (&NO_SATELLITE, 1074, 2003, noon),
-        (&NO_SIGNAL, 1074, 2003, noon),
-        (&NO_CELL, 1074, 2003, noon),
-        (&ONES_1004, 1004, 4095, end_of_week),
-        (&ONES_1005, 1005, 4095, None),
-        (&ONES_1006, 1006, 4095, None),
-        (&ONES_1074, 1074, 4095, end_of_week),
-    ];
-    for (payload, number, station, tow) in rows {
+    for (payload, number, station, tow) in PAYLOADS {
         let message = decode(payload).ok().ok_or("no message")?;
         same(
             &(message.number(), message.station(), message.tow()),

@@ -97,20 +97,21 @@ fn loss_of_lock() -> Result<(), Fail> {
 }
 
 // Half of 1500 cycles is 285,440.5 units of 0.0005 m on L1 and 366,315.3 on L2.
+const OFFSETS: [(Code, i32, i32, i64); 9] = [
+    (Code::C1C, 0, 285_440, 0),
+    (Code::C1C, 0, 285_441, -1),
+    (Code::C1P, 0, -285_440, 0),
+    (Code::C1P, 0, -285_441, 1),
+    (Code::C2W, 0, 366_315, 0),
+    (Code::C2W, 0, 366_316, -1),
+    (Code::C2X, 0, -366_315, 0),
+    (Code::C2D, 0, -366_316, 1),
+    (Code::C1C, 300_000, -270_881, 1),
+];
+
 #[test]
 fn rolls_of_offsets() -> Result<(), Fail> {
-    let rows = [
-        (Code::C1C, 0, 285_440, 0),
-        (Code::C1C, 0, 285_441, -1),
-        (Code::C1P, 0, -285_440, 0),
-        (Code::C1P, 0, -285_441, 1),
-        (Code::C2W, 0, 366_315, 0),
-        (Code::C2W, 0, 366_316, -1),
-        (Code::C2X, 0, -366_315, 0),
-        (Code::C2D, 0, -366_316, 1),
-        (Code::C1C, 300_000, -270_881, 1),
-    ];
-    for (code, first, second, rolls) in rows {
+    for (code, first, second, rolls) in OFFSETS {
         let (_, digits) = after(code, legacy(5000, first), legacy(6000, second));
         same_of(
             format_args!("{code:?} {second}"),
@@ -154,19 +155,20 @@ fn digits_of_a_third_phase() -> Result<(), Fail> {
     Ok(())
 }
 
-// The limits of F14.3, in thousandths.
+// A phase in thousandths of a cycle, rolls of 1500 cycles, and the sum, where F14.3 has room for it.
+const ROLLED: [(i64, i64, Option<i64>); 7] = [
+    (9_999_999_999_999, 0, Some(9_999_999_999_999)),
+    (9_999_999_999_999, 1, None),
+    (-999_999_999_999, 0, Some(-999_999_999_999)),
+    (-999_999_999_999, -1, None),
+    (110_804_191_802, 1, Some(110_805_691_802)),
+    (110_804_191_802, -2, Some(110_801_191_802)),
+    (i64::MAX, i64::MAX, None),
+];
+
 #[test]
 fn rolled_phases() -> Result<(), Fail> {
-    let rows = [
-        (9_999_999_999_999, 0, Some(9_999_999_999_999)),
-        (9_999_999_999_999, 1, None),
-        (-999_999_999_999, 0, Some(-999_999_999_999)),
-        (-999_999_999_999, -1, None),
-        (110_804_191_802, 1, Some(110_805_691_802)),
-        (110_804_191_802, -2, Some(110_801_191_802)),
-        (i64::MAX, i64::MAX, None),
-    ];
-    for (phase, rolls, want) in rows {
+    for (phase, rolls, want) in ROLLED {
         same_of(
             format_args!("{phase} and {rolls} rolls"),
             &rolled(phase, rolls),

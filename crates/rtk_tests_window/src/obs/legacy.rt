@@ -73,27 +73,28 @@ fn cells_of(satellite: Satellite) -> Result<(CellEntry, CellEntry), Fail> {
     Ok((cells[0], cells[1]))
 }
 
-// Exact fractions, rounded.
+// DF012, DF017 and DF018; the phase on L1; range and phase on L2. Exact fractions, rounded.
+const VALUES: [((i32, i16, i32), i64, (i64, i64)); 3] = [
+    (
+        (0, 100, 0),
+        110_804_903_547,
+        (21_085_474_060, 86_341_483_283),
+    ),
+    (
+        (300_000, -100, -524_287),
+        110_805_691_802,
+        (21_085_470_060, 86_340_409_849),
+    ),
+    (
+        (-270_881, 100, 0),
+        110_804_191_802,
+        (21_085_474_060, 86_341_483_283),
+    ),
+];
+
 #[test]
 fn legacy_values() -> Result<(), Fail> {
-    let rows = [
-        (
-            (0, 100, 0),
-            110_804_903_547,
-            (21_085_474_060, 86_341_483_283),
-        ),
-        (
-            (300_000, -100, -524_287),
-            110_805_691_802,
-            (21_085_470_060, 86_340_409_849),
-        ),
-        (
-            (-270_881, 100, 0),
-            110_804_191_802,
-            (21_085_474_060, 86_341_483_283),
-        ),
-    ];
-    for ((a, b, c), phase, (l2_range, l2_phase)) in rows {
+    for ((a, b, c), phase, (l2_range, l2_phase)) in VALUES {
         let (first, second) = cells_of(satellite_5(a, b, c))?;
         let want = l1(Some(21_085_472_060), Some(phase), Some(a));
         same_of(format_args!("DF012 {a}"), &first.cell, &want)?;
@@ -130,16 +131,18 @@ fn legacy_invalid_marks() -> Result<(), Fail> {
     Ok(())
 }
 
+// DF010 and DF016, and their codes.
+const CODES: [(bool, u8, Code, Code); 4] = [
+    (false, 0, Code::C1C, Code::C2X),
+    (true, 1, Code::C1P, Code::C2P),
+    (false, 2, Code::C1C, Code::C2D),
+    (true, 3, Code::C1P, Code::C2W),
+];
+
 // The codes of DF010 and DF016; a CNR of 0.
 #[test]
 fn legacy_codes() -> Result<(), Fail> {
-    let rows = [
-        (false, 0, Code::C1C, Code::C2X),
-        (true, 1, Code::C1P, Code::C2P),
-        (false, 2, Code::C1C, Code::C2D),
-        (true, 3, Code::C1P, Code::C2W),
-    ];
-    for (l1_code, l2_code, want_l1, want_l2) in rows {
+    for (l1_code, l2_code, want_l1, want_l2) in CODES {
         let satellite = Satellite {
             l1_code,
             l2_code,
@@ -161,13 +164,15 @@ fn legacy_codes() -> Result<(), Fail> {
     Ok(())
 }
 
+// A second satellite, and how many cells the message gives.
+const SATELLITES: [(u8, usize); 6] = [(0, 2), (1, 4), (5, 2), (32, 4), (33, 2), (63, 2)];
+
 // Of a satellite that stands twice the first entry counts; satellites outside 1 to 32 give no cell.
 #[test]
 fn legacy_satellites() -> Result<(), Fail> {
     let first = satellite_5(0, 100, 0);
     let again = satellite_5(-524_288, -8192, -524_288);
-    let rows = [(0, 2), (1, 4), (5, 2), (32, 4), (33, 2), (63, 2)];
-    for (satellite, count) in rows {
+    for (satellite, count) in SATELLITES {
         let message = message_of(first, Satellite { satellite, ..again });
         holds(message.fits())?;
         let cells = cells_1004(&message);

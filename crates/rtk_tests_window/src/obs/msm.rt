@@ -109,24 +109,25 @@ fn msm_cell(signal: u32, fields: MsmFields) -> Result<Cell, Fail>
 }
 
 // Each band (signals 2, 8, 22), a tie, the least and greatest fine values; exact fractions, rounded.
+const VALUES: [(u32, u16, (i16, i32), i64, i64); 7] = [
+    (2, 512, (0, 0), 21_135_368_289, 111_067_110_000),
+    (2, 256, (0, 0), 21_060_420_175, 110_673_255_000),
+    (8, 512, (0, 0), 21_135_368_289, 86_545_800_000),
+    (22, 512, (0, 0), 21_135_368_289, 82_939_725_000),
+    (2, 512, (1024, 32_768), 21_135_386_587, 111_067_206_156),
+    (
+        8,
+        512,
+        (-16_383, -2_097_151),
+        21_135_075_541,
+        86_541_004_690,
+    ),
+    (22, 512, (16_383, 2_097_151), 21_135_661_037, 82_944_320_506),
+];
+
 #[test]
 fn msm_values() -> Result<(), Fail> {
-    let rows = [
-        (2, 512, (0, 0), 21_135_368_289, 111_067_110_000),
-        (2, 256, (0, 0), 21_060_420_175, 110_673_255_000),
-        (8, 512, (0, 0), 21_135_368_289, 86_545_800_000),
-        (22, 512, (0, 0), 21_135_368_289, 82_939_725_000),
-        (2, 512, (1024, 32_768), 21_135_386_587, 111_067_206_156),
-        (
-            8,
-            512,
-            (-16_383, -2_097_151),
-            21_135_075_541,
-            86_541_004_690,
-        ),
-        (22, 512, (16_383, 2_097_151), 21_135_661_037, 82_944_320_506),
-    ];
-    for (signal, fraction, fine, range, phase) in rows {
+    for (signal, fraction, fine, range, phase) in VALUES {
         holds(1 <= signal && signal <= 32)?;
         let got = msm_cell(signal, fields((70, fraction), fine))?;
         same_of(
@@ -170,6 +171,25 @@ fn msm_invalid_marks() -> Result<(), Fail> {
     same(&msm_cell(2, silent)?, &want)
 }
 
+// The strengths of the signals that have a code.
+const SIGNALS: [(u32, Code); 15] = [
+    (2000, Code::C1C),
+    (3000, Code::C1P),
+    (4000, Code::C1W),
+    (8000, Code::C2C),
+    (9000, Code::C2P),
+    (10_000, Code::C2W),
+    (15_000, Code::C2S),
+    (16_000, Code::C2L),
+    (17_000, Code::C2X),
+    (22_000, Code::C5I),
+    (23_000, Code::C5Q),
+    (24_000, Code::C5X),
+    (30_000, Code::C1S),
+    (31_000, Code::C1L),
+    (32_000, Code::C1X),
+];
+
 // All 32 signals of one satellite, the cell of signal n with a CNR of n: fifteen have a code.
 #[test]
 fn msm_signals() -> Result<(), Fail> {
@@ -183,26 +203,9 @@ fn msm_signals() -> Result<(), Fail> {
         )
     };
     holds(message.fits())?;
-    let want = [
-        (2000, Code::C1C),
-        (3000, Code::C1P),
-        (4000, Code::C1W),
-        (8000, Code::C2C),
-        (9000, Code::C2P),
-        (10_000, Code::C2W),
-        (15_000, Code::C2S),
-        (16_000, Code::C2L),
-        (17_000, Code::C2X),
-        (22_000, Code::C5I),
-        (23_000, Code::C5Q),
-        (24_000, Code::C5X),
-        (30_000, Code::C1S),
-        (31_000, Code::C1L),
-        (32_000, Code::C1X),
-    ];
     let cells = cells_1074(&message);
     same(&cells.len(), &15)?;
-    for (entry, (strength, code)) in cells.as_slice().iter().zip(want) {
+    for (entry, (strength, code)) in cells.as_slice().iter().zip(SIGNALS) {
         same(
             &(entry.code, entry.cell.strength_millidbhz),
             &(code, Some(strength)),
@@ -210,6 +213,13 @@ fn msm_signals() -> Result<(), Fail> {
     }
     Ok(())
 }
+
+// Satellite, code, range and strength of each cell.
+const MASKED: [(u8, Code, i64, u32); 3] = [
+    (1, Code::C2W, 449_688_687, 1000),
+    (32, Code::C1C, 749_481_145, 2000),
+    (32, Code::C2W, 749_481_145, 3000),
+];
 
 // Satellites 1, 32 and 33 (the first bit of a mask is identifier 1) and signals 2 and 10; the first
 // satellite has the second signal, the second both, the third the first.
@@ -230,14 +240,9 @@ fn msm_masks() -> Result<(), Fail> {
         )
     };
     holds(message.fits())?;
-    let want = [
-        (1, Code::C2W, 449_688_687, 1000),
-        (32, Code::C1C, 749_481_145, 2000),
-        (32, Code::C2W, 749_481_145, 3000),
-    ];
     let cells = cells_1074(&message);
     same(&cells.len(), &3)?;
-    for (entry, (satellite, code, range, strength)) in cells.as_slice().iter().zip(want) {
+    for (entry, (satellite, code, range, strength)) in cells.as_slice().iter().zip(MASKED) {
         let got = (
             entry.satellite,
             entry.code,
