@@ -93,13 +93,18 @@ fn links<'a>(alloc: Global) -> Arg<'a> {
         .num_args(1..)
 }
 
-fn convert<'a>(alloc: Global) -> Result<Command<'a>, AllocError> {
+// What each conversion is told. The words stand in two functions, since the check of one that takes them all is long.
+fn told<'a>(alloc: Global) -> Result<Command<'a>, AllocError> {
     Command::new(alloc, "convert")
         .about("Converts captures of one station to a RINEX 3.05 observation file")
         .arg(station(alloc))?
         .arg(near(alloc))?
         .arg(made(alloc))?
-        .arg(marker(alloc))?
+        .arg(marker(alloc))
+}
+
+fn convert<'a>(alloc: Global) -> Result<Command<'a>, AllocError> {
+    told(alloc)?
         .arg(codes(alloc))?
         .arg(window(alloc))?
         .arg(links(alloc))

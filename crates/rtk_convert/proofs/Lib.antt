@@ -6,6 +6,7 @@ pub mod TableLemmas
 pub mod KeptTableLemmas
 pub mod RecordsLemmas
 pub mod WritingLemmas
+pub mod HandedLemmas
 pub mod SoFarLemmas
 pub mod AnswersLemmas
 pub mod AheadLemmas

@@ -9,7 +9,7 @@ use Rattle.rtk_convert.specs.Converter.{IsLinkCount, ConverterState, WritesInto,
 use Rattle.rtk_convert.specs.declared.counts.Counts.{Counts}
 use Rattle.rtk_convert.specs.declared.fault.ConvertFault.{ConvertFault}
 use Rattle.rtk_convert.specs.declared.fault.ConvertFault.TheVariants.{Setup, NoLink, LinkClosed, OutOfMemory, Write, Read as ReadFault, Endless, Stopped}
-use Rattle.rtk_convert.specs.Failure.{IsFrameFault, IsReadingFault, IsRunFault}
+use Rattle.rtk_convert.specs.Failure.{IsFrameFault, IsReadFault, IsReadingFault, IsRunFault}
 use Rattle.rtk_convert.specs.File.{records}
 use Rattle.rtk_convert.specs.FileOfArrivals.{file_so_far, kept_file}
 use Rattle.rtk_convert.specs.Finding.{arrivals}
@@ -199,6 +199,16 @@ reading-run (Write stream) p = p
 reading-run (ReadFault link) p = p
 reading-run Endless p = p
 reading-run Stopped p = p
+
+pub read-reading : (fault : ConvertFault) → IsReadFault fault → IsReadingFault fault
+read-reading Setup p = p
+read-reading NoLink p = p
+read-reading LinkClosed p = p
+read-reading OutOfMemory p = p
+read-reading (Write stream) p = p
+read-reading (ReadFault link) p = p
+read-reading Endless p = tt
+read-reading Stopped p = p
 
 pub frame-run : (fault : ConvertFault) → IsFrameFault fault → IsRunFault fault
 frame-run Setup p = tt

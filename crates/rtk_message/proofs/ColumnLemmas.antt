@@ -63,12 +63,20 @@ ones-few w (n ∷ ns) fit =
 -- ---- values taken at once
 
 -- no more than as many as 57 bits hold
-pub at_once : (width fields : ℕ) → fields ≤ 57 / width → fields * width ≤ 57
-at_once width fields few = le_trans (mul-le-mul_right width few) (div-mul-le_self 57 width)
+pub at_once : (width fields : ℕ) → fields ≤ 57 / width → width * fields ≤ 57
+at_once width fields few =
+    let all = le_trans (mul-le-mul_right width few) (div-mul-le_self 57 width) in
+    omega (arith, all)
 
 -- 57 bits hold one
 pub some_at_once : (width : ℕ) → 1 ≤ width → width ≤ 57 → 1 ≤ 57 / width
 some_at_once width some most = le-div 1 57 width (omega arith) (omega arith)
+
+-- some fields of some width have some bits
+pub some_bits : (width fields : ℕ) → 1 ≤ width → 1 ≤ fields → 1 ≤ width * fields
+some_bits width fields wide some =
+    let product : width * 1 ≤ width * fields = mul-le-mul_left width some in
+    omega (arith, wide, product)
 
 -- there is room for them, by a test of the length n
 pub room_left : (fields n so_far count : ℕ) → fields ≤ count - n → n ≡ so_far → so_far ≤ count → so_far + fields ≤ count
@@ -82,7 +90,7 @@ pub rest_is : (k so_far count : ℕ) → k ≡ so_far → so_far ≤ count → c
 rest_is k so_far count is some = omega arith
 
 -- they are still there
-pub enough_left : (width so_far fields count total left : ℕ) → so_far + fields ≤ count → width * count ≤ total → total ≡ width * so_far + left → fields * width ≤ left
+pub enough_left : (width so_far fields count total left : ℕ) → so_far + fields ≤ count → width * count ≤ total → total ≡ width * so_far + left → width * fields ≤ left
 enough_left width so_far fields count total left room enough e =
     let product : width * (so_far + fields) ≤ width * count = mul-le-mul_left width room in
     omega (arith, product)

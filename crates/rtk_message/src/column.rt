@@ -123,13 +123,13 @@ fn read_fields<T: FieldValue>(
 )
     requires room { length column.old + fields ≤ 64 }
     requires width { T.IsWidth width }
-    requires some { (1 ≤ width) × (1 ≤ fields) × (fields * width ≤ 64) }
-    requires enough { fields * width ≤ length reader.old }
+    requires some { (1 ≤ width) × (1 ≤ fields) × (width * fields ≤ 64) }
+    requires enough { width * fields ≤ length reader.old }
     ensures fields { (from : List Bool) → TakesAll (map (T.field width) column.old) from reader.old → TakesAll (map (T.field width) column.new) from reader.new }
     ensures count { length column.new ≡ length column.old + fields }
     ensures left { length reader.old ≡ width * fields + length reader.new }
 {
-    let mut word = next_word(reader, fields * width);
+    let mut word = next_word(reader, width * fields);
     push_fields(column, &mut word, fields, width);
 }
 

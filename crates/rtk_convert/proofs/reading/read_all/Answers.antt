@@ -1,12 +1,13 @@
 use Rattle.std.proofs.Common.{ℕ, ◌+◌, inl, [], ◌∷◌, length, Err, refl, sym, ap, subst, ◌∙◌, arith}
-use Rattle.std.proofs.lemmas.Result.{err_from_is_err_and}
+use Rattle.std.proofs.lemmas.Result.{err_from_is_err_and, IfErr-at_err}
+use Rattle.rtk_convert.specs.Failure.{IsReadFault}
 use Rattle.rtk_convert.specs.History.{new_history, IsNextLink}
 use Rattle.rtk_convert.specs.Reading.{read_of, ReadsOn, BreaksOffOn, HasCalled}
 use Rattle.rtk_convert.specs.Settings.{Settings}
 use Rattle.rtk_convert.proofs.EndsLemmas.{ends-new, ends-more, has-read-all}
 use Rattle.rtk_convert.proofs.NextLemmas.{are_links-length}
 use Rattle.rtk_convert.proofs.ReadLemmas.{called-more}
-use Rattle.rtk_convert.proofs.RunLemmas.{length-links, has_read-nothing, has_read-more, breaks-reading, fails-reading}
+use Rattle.rtk_convert.proofs.RunLemmas.{length-links, has_read-nothing, has_read-more, breaks-reading, fails-reading, read-reading}
 use Rattle.rtk_convert.proofs.reading.read_all.Goals as goal
 
 pub reads-init : goal.reads-init
@@ -91,3 +92,60 @@ returns-in-None-clause-ok g c =
     let so = c.reads.invariant.so_far in
     has-read-all g.R.Source.given g.R.Source.calls g.R.Source.is_at_end c.args.converter.now.conversion.settings c.args.readers.now c.reads.readers so.0 so.1 c.reads._made c.reads.converter
     (g.O.Sink.taken c.args.out.now) (g.O.Sink.taken c.reads.out) (g.L.Sink.taken c.args.log.now) (g.L.Sink.taken c.reads.log) so.2 so.3 so.4 so.5 c.reads.invariant.called (c.in-None.ensures.next so.1 so.3)
+
+pub returns-in_err-read_link-clause-settings : goal.returns-in_err-read_link-clause-settings
+returns-in_err-read_link-clause-settings g c = c.read_link.ensures.settings ∙ c.reads.invariant.settings
+
+pub returns-in_err-read_link-clause-ok : goal.returns-in_err-read_link-clause-ok
+returns-in_err-read_link-clause-ok g c =
+    let p = err_from_is_err_and c.from_residual.result c.from_residual.ensures.1 in
+    rw p.1 tt
+
+pub returns-in_err-read_link-clause-endless : goal.returns-in_err-read_link-clause-endless
+returns-in_err-read_link-clause-endless g c = λ is_endless.
+    let p = err_from_is_err_and c.from_residual.result c.from_residual.ensures.1 in
+    let so = c.reads.invariant.so_far in
+    let n = c.in-Some.ensures.next so.1 so.3 in
+    absurd (IfErr-at_err IsReadFault is_endless (rw (p.1, p.2) (c.in_err-read_link.ensures.fault so.1 so.3 n.is_open)))
+
+pub returns-in_err-read_link-clause-fault : goal.returns-in_err-read_link-clause-fault
+returns-in_err-read_link-clause-fault g c =
+    let p = err_from_is_err_and c.from_residual.result c.from_residual.ensures.1 in
+    let so = c.reads.invariant.so_far in
+    let n = c.in-Some.ensures.next so.1 so.3 in
+    rw (p.1, p.2) (read-reading _ (c.in_err-read_link.ensures.fault so.1 so.3 n.is_open))
+
+pub returns-in_err-read_link-clause-no_failed_read : goal.returns-in_err-read_link-clause-no_failed_read
+returns-in_err-read_link-clause-no_failed_read g c = λ none k same.
+    let p = err_from_is_err_and c.from_residual.result c.from_residual.ensures.1 in
+    c.in_err-read_link.ensures.no_failed_read (λ link is. none link (p.1 ∙ ap Err p.2 ∙ is)) k same ∙ c.reads.invariant.reads_same k same
+
+pub returns-in_err-read_link-clause-out_failed : goal.returns-in_err-read_link-clause-out_failed
+returns-in_err-read_link-clause-out_failed g c = λ is.
+    let p = err_from_is_err_and c.from_residual.result c.from_residual.ensures.1 in
+    rw (← c.reads.invariant.out_same) (c.in_err-read_link.ensures.out_failed (sym (p.1 ∙ ap Err p.2) ∙ is))
+
+pub returns-in_err-read_link-clause-out_kept : goal.returns-in_err-read_link-clause-out_kept
+returns-in_err-read_link-clause-out_kept g c =
+    let p = err_from_is_err_and c.from_residual.result c.from_residual.ensures.1 in
+    rw (p.1, p.2) (λ other. c.in_err-read_link.ensures.out_kept other ∙ c.reads.invariant.out_same)
+
+pub returns-in_err-read_link-clause-log_failed : goal.returns-in_err-read_link-clause-log_failed
+returns-in_err-read_link-clause-log_failed g c = λ is.
+    let p = err_from_is_err_and c.from_residual.result c.from_residual.ensures.1 in
+    rw (← c.reads.invariant.log_same) (c.in_err-read_link.ensures.log_failed (sym (p.1 ∙ ap Err p.2) ∙ is))
+
+pub returns-in_err-read_link-clause-log_kept : goal.returns-in_err-read_link-clause-log_kept
+returns-in_err-read_link-clause-log_kept g c =
+    let p = err_from_is_err_and c.from_residual.result c.from_residual.ensures.1 in
+    rw (p.1, p.2) (λ other. c.in_err-read_link.ensures.log_kept other ∙ c.reads.invariant.log_same)
+
+pub returns-in_err-read_link-clause-out_same : goal.returns-in_err-read_link-clause-out_same
+returns-in_err-read_link-clause-out_same g c =
+    let p = err_from_is_err_and c.from_residual.result c.from_residual.ensures.1 in
+    rw p.1 tt
+
+pub returns-in_err-read_link-clause-log_same : goal.returns-in_err-read_link-clause-log_same
+returns-in_err-read_link-clause-log_same g c =
+    let p = err_from_is_err_and c.from_residual.result c.from_residual.ensures.1 in
+    rw p.1 tt

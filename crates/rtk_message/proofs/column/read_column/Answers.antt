@@ -9,7 +9,7 @@ read_fields-requires g c =
     let most = 57 / width in
     let so_far = length c.loop-column.column in
     let some = some_at_once width c.requires.some.0 c.requires.some.1 in
-    let bits : most * width ≤ 57 = at_once width most (le_refl most) in
+    let bits : width * most ≤ 57 = at_once width most (le_refl most) in
     let room : so_far + most ≤ c.args.count = room_left most c.len.result so_far c.args.count c.loop-column-test.true c.len.ensures.value c.loop-column.invariant.some in
     let enough = enough_left width so_far most c.args.count _ _ room c.requires.enough c.loop-column.invariant.left in
     (search rules, (omega (arith, room, c.requires.few), (c.requires.width, ((c.requires.some.0, some, omega (arith, bits)), enough))))
@@ -33,7 +33,7 @@ read_fields-requires-then-rest-gt0 g c =
     let so_far = length c.loop-column.column in
     let before = c.loop-column.invariant in
     let few : rest ≤ 57 / width = fewer_left (57 / width) c.len.result c.len-2.result so_far c.args.count c.loop-column-test.false c.len.ensures.value c.len-2.ensures.value in
-    let bits : rest * width ≤ 57 = at_once width rest few in
+    let bits : width * rest ≤ 57 = at_once width rest few in
     let all : c.args.count ≡ so_far + rest = rest_is c.len-2.result so_far c.args.count c.len-2.ensures.value before.some in
     let room : so_far + rest ≤ c.args.count = omega (arith, all) in
     let enough = enough_left width so_far rest c.args.count _ _ room c.requires.enough before.left in

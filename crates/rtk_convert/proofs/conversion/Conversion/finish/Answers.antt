@@ -1,7 +1,9 @@
-use Rattle.std.proofs.Common.{ℕ, Bool, List, refl, sym, ap, subst, ◌∙◌}
+use Rattle.std.proofs.Common.{ℕ, Bool, List, Err, refl, sym, ap, subst, ◌∙◌}
+use Rattle.std.proofs.lemmas.Result.{err_from_is_err_and, IfErr-at_err}
 use Rattle.rtk_collect.specs.EpochCells.{EpochCells}
 use Rattle.rtk_frame.specs.Stream.{with_more, TakesPart}
 use Rattle.rtk_rinex.specs.Header.{site_of}
+use Rattle.rtk_convert.specs.Failure.{IsOutFault}
 use Rattle.rtk_convert.specs.FilePrefix.{header_before}
 use Rattle.rtk_convert.specs.Finish.{AllAbove, Closes, ClosesInPart, Finishes, FinishesInPart}
 use Rattle.rtk_convert.specs.ReportText.{count_lines}
@@ -10,6 +12,7 @@ use Rattle.rtk_convert.proofs.AheadLemmas.{ahead-all}
 use Rattle.rtk_convert.proofs.FinishLemmas.{finishes, finish-part-records, finish-part-header, finish-part-counts}
 use Rattle.rtk_convert.proofs.ArriveLemmas.{state}
 use Rattle.rtk_convert.proofs.WritingLemmas.{takes-none, on_err-from}
+use Rattle.rtk_convert.proofs.HandedLemmas.{one-fault, out-frame, log-frame, log-out, log-kept}
 use Rattle.rtk_convert.proofs.conversion.Conversion.finish.Goals as goal
 
 pub close_left-requires : goal.close_left-requires
@@ -48,3 +51,76 @@ returns-in_err-put_lines-clause-err g c =
     let closes = subst (λ (xs : List EpochCells). Closes c.self.inside.setup (site_of c.station-position.result) c.self.inside.records xs c.close_left.new.records (g.O.Sink.taken c.args.out.now) (g.O.Sink.taken c.close_left.new.out)) c.close-left.ensures.sets c.in_ok-close_left.ensures.ok in
     on_err-from c.from_residual-in_err-put_lines.result (λ going. subst (λ (x : State). FinishesInPart x (g.O.Sink.taken c.args.out.now) (g.O.Sink.taken c.put_last_header.new.out) (g.L.Sink.taken c.args.log.now) (g.L.Sink.taken c.put_lines.new.log)) c.self.view_is
     (finish-part-counts (state c.self.inside.setup c.self.inside.collector c.self.inside.records c.self.inside.counts c.self.inside.stopped) (record c.self.inside.counts { epochs = c.count.result }) (g.O.Sink.taken c.args.out.now) (g.O.Sink.taken c.put_last_header.new.out) (g.L.Sink.taken c.args.log.now) (g.L.Sink.taken c.put_lines.new.log) (finishes c.self.inside.setup c.self.inside.collector c.self.inside.records c.close_left.new.records c.self.inside.counts (record c.self.inside.counts { epochs = c.count.result }) c.self.inside.stopped c.station-position.result (g.O.Sink.taken c.args.out.now) (g.O.Sink.taken c.close_left.new.out) (g.O.Sink.taken c.put_last_header.new.out) (g.L.Sink.taken c.args.log.now) (with_more (g.L.Sink.taken c.args.log.now) (count_lines (record c.self.inside.counts { epochs = c.count.result }))) c.self.invariant.places c.station-position.ensures.kept closes (c.in_ok-put_last_header.ensures.all ∙ ap (λ (b : Bool). with_more (g.O.Sink.taken c.close_left.new.out) (header_before c.self.inside.setup (site_of c.station-position.result) c.self.inside.setup.near b)) c.header_out.ensures) (ap (λ (n : ℕ). record c.self.inside.counts { epochs = n }) c.count.ensures) refl) (subst (λ (t : List ℕ). TakesPart (g.L.Sink.taken c.args.log.now) (g.L.Sink.taken c.put_lines.new.log) t) (c.deref.ensures.value ∙ c.in-Ok.ensures) c.put_lines.ensures.part)))
+
+pub returns-in_err-close_left-clause-fault : goal.returns-in_err-close_left-clause-fault
+returns-in_err-close_left-clause-fault g c = λ going.
+    let p = err_from_is_err_and c.from_residual.result c.from_residual.ensures.1 in
+    rw (p.1, p.2) (out-frame _ c.in_err-close_left.ensures.fault)
+
+pub returns-in_err-close_left-clause-out_failed : goal.returns-in_err-close_left-clause-out_failed
+returns-in_err-close_left-clause-out_failed g c = λ is.
+    let p = err_from_is_err_and c.from_residual.result c.from_residual.ensures.1 in
+    c.in_err-close_left.ensures.failed (ap Err (one-fault (p.1 ∙ ap Err p.2) is))
+
+pub returns-in_err-close_left-clause-out_kept : goal.returns-in_err-close_left-clause-out_kept
+returns-in_err-close_left-clause-out_kept g c =
+    let p = err_from_is_err_and c.from_residual.result c.from_residual.ensures.1 in
+    rw (p.1, p.2) c.in_err-close_left.ensures.kept
+
+pub returns-in_err-close_left-clause-log_failed : goal.returns-in_err-close_left-clause-log_failed
+returns-in_err-close_left-clause-log_failed g c = λ is.
+    let p = err_from_is_err_and c.from_residual.result c.from_residual.ensures.1 in
+    absurd (IfErr-at_err IsOutFault is (rw (p.1, p.2) c.in_err-close_left.ensures.fault))
+
+pub returns-in_err-close_left-clause-log_kept : goal.returns-in_err-close_left-clause-log_kept
+returns-in_err-close_left-clause-log_kept g c =
+    let p = err_from_is_err_and c.from_residual.result c.from_residual.ensures.1 in
+    rw p.1 (λ other. refl)
+
+pub returns-in_err-put_last_header-clause-fault : goal.returns-in_err-put_last_header-clause-fault
+returns-in_err-put_last_header-clause-fault g c = λ going.
+    let p = err_from_is_err_and c.from_residual-in_err-put_last_header.result c.from_residual-in_err-put_last_header.ensures.1 in
+    rw (p.1, p.2) (out-frame _ c.in_err-put_last_header.ensures.fault)
+
+pub returns-in_err-put_last_header-clause-out_failed : goal.returns-in_err-put_last_header-clause-out_failed
+returns-in_err-put_last_header-clause-out_failed g c = λ is.
+    let p = err_from_is_err_and c.from_residual-in_err-put_last_header.result c.from_residual-in_err-put_last_header.ensures.1 in
+    rw (← c.in_ok-close_left.ensures.same) (c.in_err-put_last_header.ensures.failed (ap Err (one-fault (p.1 ∙ ap Err p.2) is)))
+
+pub returns-in_err-put_last_header-clause-out_kept : goal.returns-in_err-put_last_header-clause-out_kept
+returns-in_err-put_last_header-clause-out_kept g c =
+    let p = err_from_is_err_and c.from_residual-in_err-put_last_header.result c.from_residual-in_err-put_last_header.ensures.1 in
+    rw (p.1, p.2) (λ other. c.in_err-put_last_header.ensures.kept other ∙ c.in_ok-close_left.ensures.same)
+
+pub returns-in_err-put_last_header-clause-log_failed : goal.returns-in_err-put_last_header-clause-log_failed
+returns-in_err-put_last_header-clause-log_failed g c = λ is.
+    let p = err_from_is_err_and c.from_residual-in_err-put_last_header.result c.from_residual-in_err-put_last_header.ensures.1 in
+    absurd (IfErr-at_err IsOutFault is (rw (p.1, p.2) c.in_err-put_last_header.ensures.fault))
+
+pub returns-in_err-put_last_header-clause-log_kept : goal.returns-in_err-put_last_header-clause-log_kept
+returns-in_err-put_last_header-clause-log_kept g c =
+    let p = err_from_is_err_and c.from_residual-in_err-put_last_header.result c.from_residual-in_err-put_last_header.ensures.1 in
+    rw p.1 (λ other. refl)
+
+pub returns-in_err-put_lines-clause-fault : goal.returns-in_err-put_lines-clause-fault
+returns-in_err-put_lines-clause-fault g c = λ going.
+    let p = err_from_is_err_and c.from_residual-in_err-put_lines.result c.from_residual-in_err-put_lines.ensures.1 in
+    log-frame c.from_residual-in_err-put_lines.result (rw (p.1, p.2) c.in_err-put_lines.ensures.fault)
+
+pub returns-in_err-put_lines-clause-out_failed : goal.returns-in_err-put_lines-clause-out_failed
+returns-in_err-put_lines-clause-out_failed g c = λ is.
+    let p = err_from_is_err_and c.from_residual-in_err-put_lines.result c.from_residual-in_err-put_lines.ensures.1 in
+    log-out c.from_residual-in_err-put_lines.result (rw (p.1, p.2) c.in_err-put_lines.ensures.fault) is
+
+pub returns-in_err-put_lines-clause-out_kept : goal.returns-in_err-put_lines-clause-out_kept
+returns-in_err-put_lines-clause-out_kept g c =
+    let p = err_from_is_err_and c.from_residual-in_err-put_lines.result c.from_residual-in_err-put_lines.ensures.1 in
+    rw p.1 (λ other. c.in_ok-put_last_header.ensures.same ∙ c.in_ok-close_left.ensures.same)
+
+pub returns-in_err-put_lines-clause-log_failed : goal.returns-in_err-put_lines-clause-log_failed
+returns-in_err-put_lines-clause-log_failed g c = λ is. c.in_err-put_lines.ensures.failed
+
+pub returns-in_err-put_lines-clause-log_kept : goal.returns-in_err-put_lines-clause-log_kept
+returns-in_err-put_lines-clause-log_kept g c =
+    let p = err_from_is_err_and c.from_residual-in_err-put_lines.result c.from_residual-in_err-put_lines.ensures.1 in
+    log-kept c.from_residual-in_err-put_lines.result _ (rw (p.1, p.2) c.in_err-put_lines.ensures.fault)

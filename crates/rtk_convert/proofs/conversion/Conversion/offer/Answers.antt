@@ -1,14 +1,19 @@
-use Rattle.std.proofs.Common.{◌≡◌, ℕ, suc, arith, List, Option, None, Some, refl, sym, ap, subst, ◌∙◌}
+use Rattle.std.proofs.Common.{◌≡◌, ℕ, suc, arith, List, Option, None, Some, Err, refl, sym, ap, subst, ◌∙◌}
+use Rattle.std.proofs.lemmas.Result.{err_from_is_err_and, IfErr-at_err}
 use Rattle.rtk_message.specs.Decoded.{number_of}
 use Rattle.rtk_collect.specs.EpochCells.{EpochCells}
 use Rattle.rtk_collect.specs.Arrival.{epoch_of, message_of}
 use Rattle.rtk_frame.specs.Stream.{with_more, TakesPart}
+use Rattle.rtk_convert.specs.declared.fault.ConvertFault.TheVariants.{Write}
+use Rattle.rtk_convert.specs.declared.fault.Stream.TheVariants.{Out}
+use Rattle.rtk_convert.specs.Failure.{IsOutFault}
 use Rattle.rtk_convert.specs.Offering.{closed_by, Takes, TakesInPart}
 use Rattle.rtk_convert.specs.Report.{offer_lines}
 use Rattle.rtk_convert.specs.State.{State, IsAhead}
 use Rattle.rtk_convert.proofs.AheadLemmas.{ahead-stays, ahead-closes, ahead-after}
 use Rattle.rtk_convert.proofs.ArriveLemmas.{state, takes-none-closed, takes-some-closed, part-nothing, part-record, part-lines}
 use Rattle.rtk_convert.proofs.WritingLemmas.{on_ok-map, on_err-from}
+use Rattle.rtk_convert.proofs.HandedLemmas.{one-fault, out-frame, log-frame, log-out, log-log, log-kept, kept-any}
 use Rattle.rtk_convert.proofs.conversion.Conversion.offer.Goals as goal
 
 pub returns-in_default-clause-err : goal.returns-in_default-clause-err
@@ -90,3 +95,58 @@ returns-in_err-close-clause-err g c =
     let some : closed_by c.in-Ok.offer ≡ Some e = sym c.closed_by.ensures ∙ c.in-Some.is ∙ ap Some same in
     let size = c.in-Ok.ensures.size ∙ c.self.invariant.places in
     on_err-from c.from_residual.result (subst (λ (x : State). TakesInPart x c.args.link c.args.dated (g.O.Sink.taken c.args.out.now) (g.O.Sink.taken c.close.new.out) (g.L.Sink.taken c.args.log.now) (g.L.Sink.taken c.args.log.now)) c.self.view_is (part-record c.self.inside.setup c.self.inside.collector c.offer.new.self c.self.inside.records c.self.inside.counts c.self.inside.stopped c.args.link c.args.dated c.in-Ok.offer e c.station-position.result (g.O.Sink.taken c.args.out.now) (g.O.Sink.taken c.close.new.out) (g.L.Sink.taken c.args.log.now) c.self.invariant.places size some c.in-Ok.ensures.answer c.station-position.ensures.kept c.close.ensures.part))
+
+pub returns-in_default-closed_by-clause-fault : goal.returns-in_default-closed_by-clause-fault
+returns-in_default-closed_by-clause-fault g c = log-frame c.put_lines.result c.put_lines.ensures.fault
+
+pub returns-in_default-closed_by-clause-out_failed : goal.returns-in_default-closed_by-clause-out_failed
+returns-in_default-closed_by-clause-out_failed g c = λ is. log-out c.put_lines.result c.put_lines.ensures.fault is
+
+pub returns-in_default-closed_by-clause-out_kept : goal.returns-in_default-closed_by-clause-out_kept
+returns-in_default-closed_by-clause-out_kept g c = kept-any c.put_lines.result (Write Out) refl
+
+pub returns-in_default-closed_by-clause-log_failed : goal.returns-in_default-closed_by-clause-log_failed
+returns-in_default-closed_by-clause-log_failed g c = λ is. log-log c.put_lines.result c.put_lines.ensures.failed is
+
+pub returns-in_default-closed_by-clause-log_kept : goal.returns-in_default-closed_by-clause-log_kept
+returns-in_default-closed_by-clause-log_kept g c = log-kept c.put_lines.result _ c.put_lines.ensures.fault
+
+pub returns-in_err-close-clause-fault : goal.returns-in_err-close-clause-fault
+returns-in_err-close-clause-fault g c =
+    let p = err_from_is_err_and c.from_residual.result c.from_residual.ensures.1 in
+    rw (p.1, p.2) (out-frame _ c.in_err-close.ensures.fault)
+
+pub returns-in_err-close-clause-out_failed : goal.returns-in_err-close-clause-out_failed
+returns-in_err-close-clause-out_failed g c = λ is.
+    let p = err_from_is_err_and c.from_residual.result c.from_residual.ensures.1 in
+    c.in_err-close.ensures.failed (ap Err (one-fault (p.1 ∙ ap Err p.2) is))
+
+pub returns-in_err-close-clause-out_kept : goal.returns-in_err-close-clause-out_kept
+returns-in_err-close-clause-out_kept g c =
+    let p = err_from_is_err_and c.from_residual.result c.from_residual.ensures.1 in
+    rw (p.1, p.2) c.in_err-close.ensures.kept
+
+pub returns-in_err-close-clause-log_failed : goal.returns-in_err-close-clause-log_failed
+returns-in_err-close-clause-log_failed g c = λ is.
+    let p = err_from_is_err_and c.from_residual.result c.from_residual.ensures.1 in
+    absurd (IfErr-at_err IsOutFault is (rw (p.1, p.2) c.in_err-close.ensures.fault))
+
+pub returns-in_err-close-clause-log_kept : goal.returns-in_err-close-clause-log_kept
+returns-in_err-close-clause-log_kept g c =
+    let p = err_from_is_err_and c.from_residual.result c.from_residual.ensures.1 in
+    rw p.1 (λ other. refl)
+
+pub returns-clause-fault : goal.returns-clause-fault
+returns-clause-fault g c = log-frame c.put_lines-2.result c.put_lines-2.ensures.fault
+
+pub returns-clause-out_failed : goal.returns-clause-out_failed
+returns-clause-out_failed g c = λ is. log-out c.put_lines-2.result c.put_lines-2.ensures.fault is
+
+pub returns-clause-out_kept : goal.returns-clause-out_kept
+returns-clause-out_kept g c = kept-any c.put_lines-2.result (Write Out) c.in_ok-close.ensures.same
+
+pub returns-clause-log_failed : goal.returns-clause-log_failed
+returns-clause-log_failed g c = λ is. log-log c.put_lines-2.result c.put_lines-2.ensures.failed is
+
+pub returns-clause-log_kept : goal.returns-clause-log_kept
+returns-clause-log_kept g c = log-kept c.put_lines-2.result _ c.put_lines-2.ensures.fault

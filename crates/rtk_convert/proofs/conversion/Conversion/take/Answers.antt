@@ -1,4 +1,5 @@
-use Rattle.std.proofs.Common.{ℕ, List, sym, ap, subst, ◌∙◌}
+use Rattle.std.proofs.Common.{ℕ, List, Err, refl, sym, ap, subst, ◌∙◌}
+use Rattle.std.proofs.lemmas.Result.{err_from_is_err_and}
 use Rattle.rtk_frame.specs.Stream.{with_more, TakesPart}
 use Rattle.rtk_convert.specs.declared.arrival.Finding.{Finding}
 use Rattle.rtk_convert.specs.Finding.{ComesTo}
@@ -6,6 +7,7 @@ use Rattle.rtk_convert.specs.Report.{refused_line, one_frame_more}
 use Rattle.rtk_convert.specs.State.{State, IsAhead, Arrives, BreaksOff}
 use Rattle.rtk_convert.proofs.ArriveLemmas.{state, arrives-arrived, breaks-arrived, arrives-other, arrives-refused, breaks-refused}
 use Rattle.rtk_convert.proofs.WritingLemmas.{takes-none, on_err-from}
+use Rattle.rtk_convert.proofs.HandedLemmas.{one-fault, log-frame, log-out, log-kept}
 use Rattle.rtk_convert.proofs.conversion.Conversion.take.Goals as goal
 
 pub returns-in_default-clause-err : goal.returns-in_default-clause-err
@@ -47,3 +49,51 @@ returns-in_err-offer-in-Arrived-clause-err g c =
 
 pub returns-in-OtherMessage-clause-ahead : goal.returns-in-OtherMessage-clause-ahead
 returns-in-OtherMessage-clause-ahead g c = subst (λ (x : State). IsAhead x.window x.closed) (sym c.self.view_is) c.requires.ahead
+
+pub returns-in_err-put_lines-in-Refused-clause-fault : goal.returns-in_err-put_lines-in-Refused-clause-fault
+returns-in_err-put_lines-in-Refused-clause-fault g c =
+    let p = err_from_is_err_and c.from_residual.result c.from_residual.ensures.1 in
+    log-frame c.from_residual.result (rw (p.1, p.2) c.in_err-put_lines-in-Refused.ensures.fault)
+
+pub returns-in_err-put_lines-in-Refused-clause-out_failed : goal.returns-in_err-put_lines-in-Refused-clause-out_failed
+returns-in_err-put_lines-in-Refused-clause-out_failed g c = λ is.
+    let p = err_from_is_err_and c.from_residual.result c.from_residual.ensures.1 in
+    log-out c.from_residual.result (rw (p.1, p.2) c.in_err-put_lines-in-Refused.ensures.fault) is
+
+pub returns-in_err-put_lines-in-Refused-clause-out_kept : goal.returns-in_err-put_lines-in-Refused-clause-out_kept
+returns-in_err-put_lines-in-Refused-clause-out_kept g c =
+    let p = err_from_is_err_and c.from_residual.result c.from_residual.ensures.1 in
+    rw p.1 (λ other. refl)
+
+pub returns-in_err-put_lines-in-Refused-clause-log_failed : goal.returns-in_err-put_lines-in-Refused-clause-log_failed
+returns-in_err-put_lines-in-Refused-clause-log_failed g c = λ is. c.in_err-put_lines-in-Refused.ensures.failed
+
+pub returns-in_err-put_lines-in-Refused-clause-log_kept : goal.returns-in_err-put_lines-in-Refused-clause-log_kept
+returns-in_err-put_lines-in-Refused-clause-log_kept g c =
+    let p = err_from_is_err_and c.from_residual.result c.from_residual.ensures.1 in
+    log-kept c.from_residual.result _ (rw (p.1, p.2) c.in_err-put_lines-in-Refused.ensures.fault)
+
+pub returns-in_err-offer-in-Arrived-clause-fault : goal.returns-in_err-offer-in-Arrived-clause-fault
+returns-in_err-offer-in-Arrived-clause-fault g c =
+    let p = err_from_is_err_and c.from_residual-in_err-offer-in-Arrived.result c.from_residual-in_err-offer-in-Arrived.ensures.1 in
+    rw (p.1, p.2) c.in_err-offer-in-Arrived.ensures.fault
+
+pub returns-in_err-offer-in-Arrived-clause-out_failed : goal.returns-in_err-offer-in-Arrived-clause-out_failed
+returns-in_err-offer-in-Arrived-clause-out_failed g c = λ is.
+    let p = err_from_is_err_and c.from_residual-in_err-offer-in-Arrived.result c.from_residual-in_err-offer-in-Arrived.ensures.1 in
+    c.in_err-offer-in-Arrived.ensures.out_failed (ap Err (one-fault (p.1 ∙ ap Err p.2) is))
+
+pub returns-in_err-offer-in-Arrived-clause-out_kept : goal.returns-in_err-offer-in-Arrived-clause-out_kept
+returns-in_err-offer-in-Arrived-clause-out_kept g c =
+    let p = err_from_is_err_and c.from_residual-in_err-offer-in-Arrived.result c.from_residual-in_err-offer-in-Arrived.ensures.1 in
+    rw (p.1, p.2) c.in_err-offer-in-Arrived.ensures.out_kept
+
+pub returns-in_err-offer-in-Arrived-clause-log_failed : goal.returns-in_err-offer-in-Arrived-clause-log_failed
+returns-in_err-offer-in-Arrived-clause-log_failed g c = λ is.
+    let p = err_from_is_err_and c.from_residual-in_err-offer-in-Arrived.result c.from_residual-in_err-offer-in-Arrived.ensures.1 in
+    c.in_err-offer-in-Arrived.ensures.log_failed (ap Err (one-fault (p.1 ∙ ap Err p.2) is))
+
+pub returns-in_err-offer-in-Arrived-clause-log_kept : goal.returns-in_err-offer-in-Arrived-clause-log_kept
+returns-in_err-offer-in-Arrived-clause-log_kept g c =
+    let p = err_from_is_err_and c.from_residual-in_err-offer-in-Arrived.result c.from_residual-in_err-offer-in-Arrived.ensures.1 in
+    rw (p.1, p.2) c.in_err-offer-in-Arrived.ensures.log_kept
