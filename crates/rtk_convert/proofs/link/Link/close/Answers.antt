@@ -1,6 +1,8 @@
-use Rattle.std.proofs.Common.{◌++◌, [], ◌∷◌, refl, ◌∙◌}
+use Rattle.std.proofs.Common.{ap, Err, ◌++◌, [], ◌∷◌, refl, ◌∙◌}
+use Rattle.std.proofs.lemmas.Result.{err_from_is_err_and}
 use Rattle.rtk_convert.proofs.GatheringLemmas.{gathers-none, gathers-more, breaks-off, finds-left}
 use Rattle.rtk_convert.proofs.WritingLemmas.{on_err-from}
+use Rattle.rtk_convert.proofs.HandedLemmas.{one-fault}
 use Rattle.rtk_convert.proofs.link.Link.close.Goals as goal
 
 pub frames-init : goal.frames-init
@@ -41,3 +43,28 @@ returns-in_err-epoch-clause-err g c =
     (g.O.Sink.taken c.args.out.now) (g.O.Sink.taken c.frames.out) (g.O.Sink.taken c.arrive.new.out)
     (g.L.Sink.taken c.args.log.now) (g.L.Sink.taken c.frames.log) (g.L.Sink.taken c.arrive.new.log)
     i.settings s.split i.taken.2 (c.in_err-epoch.ensures.err i.going))
+
+pub returns-in_err-epoch-clause-fault : goal.returns-in_err-epoch-clause-fault
+returns-in_err-epoch-clause-fault g c =
+    let p = err_from_is_err_and c.from_residual.result c.from_residual.ensures.1 in
+    rw (p.1, p.2) (c.in_err-epoch.ensures.fault c.frames.invariant.going)
+
+pub returns-in_err-epoch-clause-out_failed : goal.returns-in_err-epoch-clause-out_failed
+returns-in_err-epoch-clause-out_failed g c = λ is.
+    let p = err_from_is_err_and c.from_residual.result c.from_residual.ensures.1 in
+    rw (← c.frames.invariant.out_same) (c.in_err-epoch.ensures.out_failed (ap Err (one-fault (p.1 ∙ ap Err p.2) is)))
+
+pub returns-in_err-epoch-clause-out_kept : goal.returns-in_err-epoch-clause-out_kept
+returns-in_err-epoch-clause-out_kept g c =
+    let p = err_from_is_err_and c.from_residual.result c.from_residual.ensures.1 in
+    rw (p.1, p.2) (λ other. c.in_err-epoch.ensures.out_kept other ∙ c.frames.invariant.out_same)
+
+pub returns-in_err-epoch-clause-log_failed : goal.returns-in_err-epoch-clause-log_failed
+returns-in_err-epoch-clause-log_failed g c = λ is.
+    let p = err_from_is_err_and c.from_residual.result c.from_residual.ensures.1 in
+    rw (← c.frames.invariant.log_same) (c.in_err-epoch.ensures.log_failed (ap Err (one-fault (p.1 ∙ ap Err p.2) is)))
+
+pub returns-in_err-epoch-clause-log_kept : goal.returns-in_err-epoch-clause-log_kept
+returns-in_err-epoch-clause-log_kept g c =
+    let p = err_from_is_err_and c.from_residual.result c.from_residual.ensures.1 in
+    rw (p.1, p.2) (λ other. c.in_err-epoch.ensures.log_kept other ∙ c.frames.invariant.log_same)
