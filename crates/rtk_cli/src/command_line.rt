@@ -93,7 +93,7 @@ fn links<'a>(alloc: Global) -> Arg<'a> {
         .num_args(1..)
 }
 
-// What each conversion is told. The words stand in two functions, since the check of one that takes them all is long.
+// What each conversion is told. The words stand in two functions, for the same reason as each option has its own.
 fn told<'a>(alloc: Global) -> Result<Command<'a>, AllocError> {
     Command::new(alloc, "convert")
         .about("Converts captures of one station to a RINEX 3.05 observation file")
@@ -111,24 +111,26 @@ fn convert<'a>(alloc: Global) -> Result<Command<'a>, AllocError> {
 }
 
 fn named<'a>(alloc: Global) -> Result<Command<'a>, AllocError> {
-    Command::new(alloc, NAME).bin_name(NAME)
+    Command::new(alloc, NAME)
+        .about("RTCM 3 observation streams to RINEX 3.05")
+        .version(VERSION)
+        .bin_name(NAME)
 }
 
-fn described<'a>(alloc: Global) -> Result<Command<'a>, AllocError> {
-    Ok(
-        named(alloc)?
-            .no_binary_name(true)
-            .about("RTCM 3 observation streams to RINEX 3.05")
-            .version(VERSION)
-            .subcommand_required(true),
-    )
+// The program takes its commands one by one: the check of a function that takes them all is long.
+fn converting<'a>(alloc: Global) -> Result<Command<'a>, AllocError> {
+    named(alloc)?
+        .no_binary_name(true)
+        .subcommand_required(true)
+        .subcommand(convert(alloc)?)
+}
+
+fn converting_and_showing<'a>(alloc: Global) -> Result<Command<'a>, AllocError> {
+    converting(alloc)?.subcommand(show(alloc)?)
 }
 
 fn program<'a>(alloc: Global) -> Result<Command<'a>, AllocError> {
-    described(alloc)?
-        .subcommand(convert(alloc)?)?
-        .subcommand(show(alloc)?)?
-        .subcommand(check(alloc)?)
+    converting_and_showing(alloc)?.subcommand(check(alloc)?)
 }
 
 // The text that clap has for an error. What was asked for, as help, goes to standard output.

@@ -10,15 +10,18 @@ mod rows;
 
 use rtk_cli::{ToolFault, show};
 use rtk_frame::{MemSink, MemSource};
+use rtk_testing::same;
 use std::alloc::Global;
+use std::test::Fail;
 
-// What `show` answers over these streams, and the sink with what it took.
-fn shown(
+// Over these streams `show` answers this, and this is out.
+fn check_shown(
     alloc: Global,
     mut reader: MemSource,
     mut out: MemSink,
     hex: bool,
-) -> (Result<u64, ToolFault>, MemSink) {
+    want: (Result<u64, ToolFault>, &[u8]),
+) -> Result<(), Fail> {
     let answer = show(alloc, &mut reader, &mut out, hex);
-    (answer, out)
+    same(&(answer, out.bytes()), &want)
 }

@@ -1,5 +1,7 @@
 //! Payloads by the tables of fields, and the files and reports that they come to.
 
+ghost use Rattle.std.specs.Prelude.{◌<◌};
+
 mod asking;
 mod cell_rows;
 mod links;
@@ -61,7 +63,7 @@ fn converted(alloc: Global, bytes: &[u8], max_reads: u64) -> Result<(Counts, Wri
 }
 
 // Do these parts, one behind another, make the text?
-fn consists_of(text: &[u8], parts: &[&str]) -> bool {
+pub(crate) fn consists_of(text: &[u8], parts: &[&str]) -> bool {
     let mut rest = text;
     for part in parts {
         let Some(next) = rest.strip_prefix(part.as_bytes()) else {
@@ -70,6 +72,12 @@ fn consists_of(text: &[u8], parts: &[&str]) -> bool {
         rest = next;
     }
     rest.is_empty()
+}
+
+// The file that was written consists of these parts, and the report is this one.
+fn check_file(written: &Written, file: &[&str], report: &str) -> Result<(), Fail> {
+    holds(consists_of(written.out.bytes(), file))?;
+    same(&written.log.bytes(), &report.as_bytes())
 }
 
 // A station, a reference, a window, and the fault.
@@ -108,8 +116,7 @@ fn the_limits_of_a_setup_are_good() -> Result<(), Fail> {
 fn check(alloc: Global, rows: &[Row]) -> Result<(), Fail> {
     for row in rows {
         let (_, written) = converted(alloc, &framed(alloc, row.payloads)?, 1000)?;
-        holds(consists_of(written.out.bytes(), row.file))?;
-        same(&written.log.bytes(), &row.report.as_bytes())?;
+        check_file(&written, row.file, row.report)?;
     }
     Ok(())
 }
@@ -166,8 +173,7 @@ fn check_run(alloc: Global, row: &Run) -> Result<(), Fail> {
     let links = sources(alloc, row.links, row.after)?;
     let answer = run_links(alloc, links, &mut written, row.max_reads)?;
     same(&answer.err(), &row.fault)?;
-    holds(consists_of(written.out.bytes(), row.file))?;
-    same(&written.log.bytes(), &row.report.as_bytes())
+    check_file(&written, row.file, row.report)
 }
 
 #[test]
@@ -263,26 +269,31 @@ fn captures_cut_anywhere(rt: HostRuntime) -> Result<(), Fail> {
             &CUT_IN_SECOND
         };
         let part = bytes.get(..k).ok_or("no part")?;
-        let (_, written) = converted(alloc, part, 3)?;
-        holds(consists_of(written.out.bytes(), row.0))?;
-        same(&written.log.bytes(), &row.1.as_bytes())?;
+        check_file(&converted(alloc, part, 3)?.1, row.0, row.1)?;
     }
     Ok(())
+}
+
+// The frame of the epoch so many seconds after noon.
+fn frame_after(alloc: Global, seconds: u32) -> Result<Vec<u8>, Fail>
+    requires { seconds < 3000 }
+{
+    let [a, b, c, d] = ((475_200_000 + 1000 * seconds) << 2).to_be_bytes(); // DF004 and two bits that are 0
+    let mut payload = Vec::from_slice(alloc, Q)?;
+    for (at, byte) in [(3, a), (4, b), (5, c), (6, d)] {
+        if let Some(place) = payload.as_mut_slice().get_mut(at) {
+            *place = byte;
+        }
+    }
+    Ok(encode_frame(alloc, &payload)?)
 }
 
 #[test]
 fn three_thousand_epochs(rt: HostRuntime) -> Result<(), Fail> {
     let alloc = rt.alloc();
     let mut bytes = Vec::new(alloc);
-    for i in 0u32..3000 {
-        let [a, b, c, d] = ((475_200_000 + 1000 * i) << 2).to_be_bytes(); // DF004 and two bits that are 0
-        let mut payload = Vec::from_slice(alloc, Q)?;
-        for (at, byte) in [(3, a), (4, b), (5, c), (6, d)] {
-            if let Some(place) = payload.as_mut_slice().get_mut(at) {
-                *place = byte;
-            }
-        }
-        bytes.extend_from_slice(&encode_frame(alloc, &payload)?)?;
+    for seconds in 0u32..3000 {
+        bytes.extend_from_slice(&frame_after(alloc, seconds)?)?;
     }
     let (counts, written) = converted(alloc, &bytes, 1000)?;
     same(

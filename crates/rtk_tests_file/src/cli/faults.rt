@@ -1,6 +1,6 @@
 //! `show` over sources and sinks that fail, and over inputs that it refuses.
 
-use super::shown;
+use super::check_shown;
 use rtk_cli::{SHOW_LIMIT, ToolFault};
 use rtk_frame::{After, MemSink, MemSource};
 use rtk_testing::same;
@@ -18,9 +18,9 @@ fn each_read_fails(rt: HostRuntime) -> Result<(), Fail> {
     for (input, hex) in [(bytes.as_slice(), false), (CAPTURE.as_bytes(), true)] {
         for n in 0..=input.len() {
             let reader = MemSource::new(rt.alloc(), &input[..n], 1, After::Failure)?;
-            let (answer, out) = shown(rt.alloc(), reader, MemSink::new(rt.alloc(), 100, 100)?, hex);
-            same(&answer, &Err(ToolFault::Input))?;
-            same(&out.bytes().len(), &0)?;
+            let sink = MemSink::new(rt.alloc(), 100, 100)?;
+            let want = (Err(ToolFault::Input), b"".as_slice());
+            check_shown(rt.alloc(), reader, sink, hex, want)?;
         }
     }
     Ok(())
@@ -34,9 +34,8 @@ fn each_write_fails(rt: HostRuntime) -> Result<(), Fail> {
         for per_write in [1, 10, 1000] {
             let reader = MemSource::new(rt.alloc(), bytes.as_slice(), 512, After::End)?;
             let sink = MemSink::new(rt.alloc(), room, per_write)?;
-            let (answer, out) = shown(rt.alloc(), reader, sink, false);
-            same(&answer, &Err(ToolFault::Output))?;
-            same(&out.bytes(), &&LINES.as_bytes()[..room])?;
+            let want = (Err(ToolFault::Output), &LINES.as_bytes()[..room]);
+            check_shown(rt.alloc(), reader, sink, false, want)?;
         }
     }
     Ok(())
@@ -48,9 +47,7 @@ fn room_for_all_lines(rt: HostRuntime) -> Result<(), Fail> {
     let bytes = hex::decode(rt.alloc(), CAPTURE)?;
     let reader = MemSource::new(rt.alloc(), bytes.as_slice(), 512, After::End)?;
     let sink = MemSink::new(rt.alloc(), LINES.len(), 1)?;
-    let (answer, out) = shown(rt.alloc(), reader, sink, false);
-    same(&answer, &Ok(2))?;
-    same(&out.bytes(), &LINES.as_bytes())
+    check_shown(rt.alloc(), reader, sink, false, (Ok(2), LINES.as_bytes()))
 }
 
 // Texts that are no pairs of hex digits.
@@ -69,14 +66,9 @@ const NOT_HEX: [&str; 7] = [
 fn texts_that_are_not_hex(rt: HostRuntime) -> Result<(), Fail> {
     for text in NOT_HEX {
         let reader = MemSource::new(rt.alloc(), text.as_bytes(), 512, After::End)?;
-        let (answer, out) = shown(
-            rt.alloc(),
-            reader,
-            MemSink::new(rt.alloc(), 100, 100)?,
-            true,
-        );
-        same(&answer, &Err(ToolFault::NotHex))?;
-        same(&out.bytes().len(), &0)?;
+        let sink = MemSink::new(rt.alloc(), 100, 100)?;
+        let want = (Err(ToolFault::NotHex), b"".as_slice());
+        check_shown(rt.alloc(), reader, sink, true, want)?;
     }
     Ok(())
 }
@@ -87,9 +79,9 @@ fn one_byte_over_the_limit(rt: HostRuntime) -> Result<(), Fail> {
     same(&SHOW_LIMIT, &16_777_216)?;
     for hex in [false, true] {
         let reader = MemSource::new(rt.alloc(), b"", 16_777_216, After::Zeros)?;
-        let (answer, out) = shown(rt.alloc(), reader, MemSink::new(rt.alloc(), 100, 100)?, hex);
-        same(&answer, &Err(ToolFault::TooLong))?;
-        same(&out.bytes().len(), &0)?;
+        let sink = MemSink::new(rt.alloc(), 100, 100)?;
+        let want = (Err(ToolFault::TooLong), b"".as_slice());
+        check_shown(rt.alloc(), reader, sink, hex, want)?;
     }
     Ok(())
 }

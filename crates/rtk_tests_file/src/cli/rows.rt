@@ -1,5 +1,5 @@
 //! `show` over whole captures, as bytes and as hex text.
-use super::shown;
+use super::check_shown;
 use rtk_frame::{After, MemSink, MemSource};
 use rtk_testing::same;
 use std::alloc::Global;
@@ -92,12 +92,17 @@ fn bytes_of(alloc: Global, text: &str) -> Result<Vec<u8>, Fail> {
 }
 
 // Shows the input in pieces of 1 and 5 bytes and whole: so many lines, and these.
-fn check_shown(alloc: Global, input: &[u8], hex: bool, count: u64, want: &str) -> Result<(), Fail> {
+fn check_pieces(
+    alloc: Global,
+    input: &[u8],
+    hex: bool,
+    count: u64,
+    want: &str,
+) -> Result<(), Fail> {
     for per_read in [1usize, 5, 100_000] {
         let reader = MemSource::new(alloc, input, per_read, After::End)?;
-        let (answer, out) = shown(alloc, reader, MemSink::new(alloc, 1000, 7)?, hex);
-        same(&answer, &Ok(count))?;
-        same(&out.bytes(), &want.as_bytes())?;
+        let sink = MemSink::new(alloc, 1000, 7)?;
+        check_shown(alloc, reader, sink, hex, (Ok(count), want.as_bytes()))?;
     }
     Ok(())
 }
@@ -105,9 +110,9 @@ fn check_shown(alloc: Global, input: &[u8], hex: bool, count: u64, want: &str) -
 #[test]
 fn captures_as_hex_and_as_bytes(rt: HostRuntime) -> Result<(), Fail> {
     for (text, count, want) in CAPTURES {
-        check_shown(rt.alloc(), text.as_bytes(), true, count, want)?;
+        check_pieces(rt.alloc(), text.as_bytes(), true, count, want)?;
         let bytes = bytes_of(rt.alloc(), text)?;
-        check_shown(rt.alloc(), bytes.as_slice(), false, count, want)?;
+        check_pieces(rt.alloc(), bytes.as_slice(), false, count, want)?;
     }
     Ok(())
 }

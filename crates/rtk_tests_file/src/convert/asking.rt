@@ -6,6 +6,7 @@ use crate::moments::NOON;
 use rtk_convert::run;
 use rtk_frame::{MemSink, Source, StreamFault};
 use rtk_testing::same;
+use std::alloc::Global;
 use std::test::Fail;
 
 /// A source that has so many bytes, gives at most `per_read` of them for each read, and notes how
@@ -45,31 +46,42 @@ impl Source for Noting {
     }
 }
 
-// Of 1,200 bytes on each of two links; a link is read to its end.
+// Two sources of 1,200 bytes.
+fn two_sources(alloc: Global, per_read: usize) -> Result<Vec<Noting>, Fail> {
+    let mut sources = Vec::new(alloc);
+    for _ in 0..2u8 {
+        sources.push(Noting {
+            left: 1200,
+            per_read,
+            asked: Vec::new(alloc),
+            calls: 0,
+            failed: 0,
+            ended: false,
+        })?;
+    }
+    Ok(sources)
+}
+
+// A run over these sources, to their end.
+fn run_over(alloc: Global, readers: &mut [Noting]) -> Result<(), Fail> {
+    let mut out = MemSink::new(alloc, 4096, 4096)?;
+    let mut log = MemSink::new(alloc, 4096, 4096)?;
+    let setup = setup(2003, NOON, 2)?;
+    run(alloc, setup, readers, &mut out, &mut log, 100)?;
+    Ok(())
+}
+
+// So many reads, and how many bytes each asked for.
+const ASKED: [(usize, &[usize]); 3] = [(100, &[512; 13]), (512, &[512; 4]), (1000, &[512; 4])];
+
+// A link is read to its end.
 #[test]
 fn a_run_asks_for_512_bytes(rt: HostRuntime) -> Result<(), Fail> {
-    let alloc = rt.alloc();
-    for (per_read, reads) in [(100, 13), (512, 4), (1000, 4)] {
-        let mut readers = Vec::new(alloc);
-        for _ in 0..2u8 {
-            readers.push(Noting {
-                left: 1200,
-                per_read,
-                asked: Vec::new(alloc),
-                calls: 0,
-                failed: 0,
-                ended: false,
-            })?;
-        }
-        let mut out = MemSink::new(alloc, 4096, 4096)?;
-        let mut log = MemSink::new(alloc, 4096, 4096)?;
-        let setup = setup(2003, NOON, 2)?;
-        run(alloc, setup, &mut readers, &mut out, &mut log, 100)?;
+    for (per_read, want) in ASKED {
+        let mut readers = two_sources(rt.alloc(), per_read)?;
+        run_over(rt.alloc(), &mut readers)?;
         for reader in &readers {
-            same(&reader.asked.len(), &reads)?;
-            for asked in &reader.asked {
-                same(asked, &512)?;
-            }
+            same(&reader.asked.as_slice(), &want)?;
         }
     }
     Ok(())

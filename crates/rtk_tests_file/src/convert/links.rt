@@ -1,5 +1,7 @@
 //! Frames that come on links, in whole and in part.
 
+ghost use Rattle.std.specs.Prelude.{◌≤◌};
+
 use super::payloads::*;
 use super::runs::EXAMPLE;
 use super::texts::*;
@@ -12,6 +14,9 @@ use rtk_testing::{holds, same};
 use std::alloc::Global;
 use std::test::Fail;
 
+// Room for a whole file and a whole report.
+const WHOLE: usize = 65_536;
+
 /// A converter of two links, for the station of the payloads and a window of two epochs, with its
 /// file and its report.
 #[derive(Drop)]
@@ -22,12 +27,14 @@ struct Converting {
 }
 
 impl Converting {
-    fn new(alloc: Global, out: MemSink, log: MemSink) -> Result<Converting, Fail> {
-        let converter = Converter::new(alloc, setup(2003, NOON, 2)?, 2)?;
+    // The file and the report have so much room, and take so much for each write.
+    fn new(alloc: Global, room: (usize, usize), writes: (usize, usize)) -> Result<Converting, Fail>
+        requires { (1 ≤ writes.0) × (1 ≤ writes.1) }
+    {
         Ok(Converting {
-            converter,
-            out,
-            log,
+            converter: Converter::new(alloc, setup(2003, NOON, 2)?, 2)?,
+            out: MemSink::new(alloc, room.0, writes.0)?,
+            log: MemSink::new(alloc, room.1, writes.1)?,
         })
     }
 
@@ -128,17 +135,21 @@ fn check_coming(
     Ok(())
 }
 
+fn check_closing(alloc: Global, row: &Closing) -> Result<(), Fail> {
+    let newest = Some(moment(row.newest)?);
+    let mut converting = Converting::new(alloc, (WHOLE, WHOLE), (1, 7))?;
+    check_coming(alloc, &mut converting, row.payloads)?;
+    holds(consists_of(converting.out.bytes(), row.file))?;
+    same(
+        &(converting.log.bytes(), converting.newest(0)),
+        &(row.report.as_bytes(), newest),
+    )
+}
+
 #[test]
 fn records_go_out_as_epochs_close(rt: HostRuntime) -> Result<(), Fail> {
-    let alloc = rt.alloc();
     for row in &CLOSINGS {
-        let out = MemSink::new(alloc, 65_536, 1)?;
-        let log = MemSink::new(alloc, 65_536, 7)?;
-        let mut converting = Converting::new(alloc, out, log)?;
-        check_coming(alloc, &mut converting, row.payloads)?;
-        holds(consists_of(converting.out.bytes(), row.file))?;
-        same(&converting.log.bytes(), &row.report.as_bytes())?;
-        same(&converting.newest(0), &Some(moment(row.newest)?))?;
+        check_closing(rt.alloc(), row)?;
     }
     Ok(())
 }
@@ -172,19 +183,18 @@ const CALLS: [Refused; 6] = [
 #[test]
 fn calls_on_links_are_refused_in_order(rt: HostRuntime) -> Result<(), Fail> {
     let alloc = rt.alloc();
-    let out = MemSink::new(alloc, 100, 65_536)?;
-    let log = MemSink::new(alloc, 65_536, 65_536)?;
-    let mut converting = Converting::new(alloc, out, log)?;
+    let mut converting = Converting::new(alloc, (100, WHOLE), (WHOLE, WHOLE))?;
     same(
         &(converting.close(0), converting.close(0)),
         &(None, Some(ConvertFault::LinkClosed)),
     )?;
     check_feeds(alloc, &mut converting, &CALLS)?;
     let (fault, out, log) = converting.finish();
-    same(&fault, &Some(ConvertFault::Stopped))?;
-    same(&out.bytes().len(), &100)?;
-    holds(TOP.as_bytes().starts_with(out.bytes()))?;
-    holds(log.bytes().is_empty())
+    let top = TOP.as_bytes().get(..100).ok_or("no top")?;
+    same(
+        &(fault, out.bytes(), log.bytes()),
+        &(Some(ConvertFault::Stopped), top, b"".as_slice()),
+    )
 }
 
 #[test]
@@ -212,27 +222,25 @@ const CONFLICT: [Refused; 3] = [
 #[test]
 fn a_report_that_fails_stops_the_converter(rt: HostRuntime) -> Result<(), Fail> {
     let alloc = rt.alloc();
-    let out = MemSink::new(alloc, 65_536, 65_536)?;
-    let log = MemSink::new(alloc, 10, 65_536)?;
-    let mut converting = Converting::new(alloc, out, log)?;
+    let mut converting = Converting::new(alloc, (WHOLE, 10), (WHOLE, WHOLE))?;
     check_feeds(alloc, &mut converting, &CONFLICT)?;
-    same(&converting.close(0), &Some(ConvertFault::Stopped))?;
+    let closed = converting.close(0);
     let (fault, out, log) = converting.finish();
-    same(&fault, &Some(ConvertFault::Stopped))?;
-    holds(out.bytes().is_empty())?;
-    same(&log.bytes(), &b"link 1 con".as_slice())
+    let stopped = Some(ConvertFault::Stopped);
+    same(
+        &(closed, fault, out.bytes(), log.bytes()),
+        &(stopped, stopped, b"".as_slice(), b"link 1 con".as_slice()),
+    )
 }
 
 #[test]
 fn a_full_report_leaves_the_whole_file(rt: HostRuntime) -> Result<(), Fail> {
     let alloc = rt.alloc();
-    let out = MemSink::new(alloc, 65_536, 65_536)?;
-    let log = MemSink::new(alloc, 10, 65_536)?;
-    let mut converting = Converting::new(alloc, out, log)?;
+    let mut converting = Converting::new(alloc, (WHOLE, 10), (WHOLE, WHOLE))?;
     check_feeds(alloc, &mut converting, &[(0, P, None), (0, Q, None)])?;
     let (fault, out, log) = converting.finish();
     let stream = Stream::Log;
-    same(&fault, &Some(ConvertFault::Write { stream }))?;
-    holds(consists_of(out.bytes(), &EXAMPLE))?;
-    same(&log.bytes(), &b"frames 2\no".as_slice())
+    let failed = Some(ConvertFault::Write { stream });
+    same(&(fault, log.bytes()), &(failed, b"frames 2\no".as_slice()))?;
+    holds(consists_of(out.bytes(), &EXAMPLE))
 }

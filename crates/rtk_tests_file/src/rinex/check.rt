@@ -1,5 +1,7 @@
 //! Tests of texts that are checked.
 
+ghost use Rattle.std.specs.Prelude.{◌<◌};
+
 use super::header::HEADER;
 use rtk_rinex::{Cause, CheckFault, check, text};
 use rtk_testing::{holds, same, same_of};
@@ -166,14 +168,22 @@ const CHANGES: [(usize, &str, Cause); 24] = [
     (35, "         0.000", Cause::Value),
 ];
 
+// The example file with other bytes at a place of its satellite line.
+fn changed(alloc: Global, place: usize, new: &str) -> Result<Vec<u8>, Fail>
+    requires { place < 100 }
+{
+    let line = SATELLITE.as_bytes();
+    let mut bytes = file(alloc, [EPOCH].as_slice())?;
+    bytes.extend_from_slice(line.get(..place).ok_or("no front")?)?;
+    bytes.extend_from_slice(new.as_bytes())?;
+    bytes.extend_from_slice(line.get(place + new.len()..).ok_or("no end")?)?;
+    Ok(bytes)
+}
+
 #[test]
 fn each_column_of_a_satellite_line_is_read(rt: HostRuntime) -> Result<(), Fail> {
     for (place, new, cause) in CHANGES {
-        let line = SATELLITE.as_bytes();
-        let mut bytes = file(rt.alloc(), [EPOCH].as_slice())?;
-        bytes.extend_from_slice(line.get(..place).ok_or("no front")?)?;
-        bytes.extend_from_slice(new.as_bytes())?;
-        bytes.extend_from_slice(line.get(place + new.len()..).ok_or("no end")?)?;
+        let bytes = changed(rt.alloc(), place, new)?;
         same_of(
             format_args!("{place} {new}"),
             &fault_of(rt.alloc(), bytes.as_slice()),

@@ -98,8 +98,11 @@ fn moments_fill_their_columns(rt: HostRuntime) -> Result<(), Fail> {
     let place = position(0, 0, 0, 0)?;
     for (first, want) in FIRST_TIMES {
         let text = header_made(rt.alloc(), head, &place, first)?;
-        same(&part(&text, 11 * 81, 11 * 81 + 60)?, &want)?;
-        same(&part(&text, 81 + 40, 81 + 60)?, &"20240517 132456 UTC ")?;
+        let columns = (
+            part(&text, 11 * 81, 11 * 81 + 60)?,
+            part(&text, 81 + 40, 81 + 60)?,
+        );
+        same(&columns, &(want, "20240517 132456 UTC "))?;
     }
     Ok(())
 }
@@ -135,14 +138,13 @@ const POSITIONS: [(i64, i64, i64, u16, &str, &str); 3] = [
 #[test]
 fn heights_and_coordinates_fill_their_columns(rt: HostRuntime) -> Result<(), Fail> {
     for (x, y, z, height, coordinates, shown) in POSITIONS {
-        let text = header_of(
-            b"BASE",
-            &CODES[..2],
-            &position(x, y, z, height)?,
-            rt.alloc(),
-        )?;
-        same(&part(&text, 7 * 81, 7 * 81 + 42)?, &coordinates)?;
-        same(&part(&text, 8 * 81, 8 * 81 + 14)?, &shown)?;
+        let place = position(x, y, z, height)?;
+        let text = header_of(b"BASE", &CODES[..2], &place, rt.alloc())?;
+        let columns = (
+            part(&text, 7 * 81, 7 * 81 + 42)?,
+            part(&text, 8 * 81, 8 * 81 + 14)?,
+        );
+        same(&columns, &(coordinates, shown))?;
     }
     Ok(())
 }
@@ -216,10 +218,11 @@ fn thirteen_observation_types_stand_on_a_line(rt: HostRuntime) -> Result<(), Fai
         let codes = CODES.as_slice().get(..count).ok_or("codes")?;
         let text = header_of(b"BASE", codes, &place, rt.alloc())?;
         let end = 9 * 81 + usize::from(lines) * 81;
-        same(&text.len(), &(end + 4 * 81))?;
-        same(&part(&text, 9 * 81, end)?, &want)?;
         // 17 lines at most, of 80 columns and a line feed; taken at once
-        same(&text.capacity(), &1377)?;
+        same(
+            &(text.len(), text.capacity(), part(&text, 9 * 81, end)?),
+            &(end + 4 * 81, 1377, want),
+        )?;
     }
     Ok(())
 }

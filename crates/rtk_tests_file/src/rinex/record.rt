@@ -1,11 +1,12 @@
 //! Tests of the record of an epoch.
 
-ghost use Rattle.rtk_rinex.specs.Record.{IsStrength};
+ghost use Rattle.rtk_rinex.specs.Record.{IsStrength, HasWidth};
 
 use super::{CODES, part};
+use crate::convert::consists_of;
 use crate::moments::{MADE, NOON, moment};
 use rtk_rinex::{EpochTable, Head, Observed, record};
-use rtk_testing::{same, same_of};
+use rtk_testing::{holds, same, same_of};
 use std::alloc::Global;
 use std::test::Fail;
 
@@ -46,14 +47,21 @@ fn the_example_record_is_written(rt: HostRuntime) -> Result<(), Fail> {
     same(&text.capacity(), &136)
 }
 
+// The record of a table of one code.
+fn record_of(alloc: Global, table: &EpochTable) -> Result<Vec<u8>, Fail>
+    requires { HasWidth 1 table.now.rows }
+{
+    let head = Head::new(b"BASE", &CODES[..1], moment(MADE)?)?;
+    Ok(record(alloc, &head, table)?)
+}
+
 // The record of satellite 7 with one code.
 fn record_of_7(alloc: Global, observed: Observed) -> Result<Vec<u8>, Fail>
     requires { IsStrength observed.strength_millidbhz }
 {
-    let head = Head::new(b"BASE", &CODES[..1], moment(MADE)?)?;
     let mut table = EpochTable::new(moment(NOON)?);
     table.push_row(7, &[observed]);
-    Ok(record(alloc, &head, &table)?)
+    record_of(alloc, &table)
 }
 
 // A range or a phase, and its columns.
@@ -72,10 +80,9 @@ fn observations_are_written_in_their_limits(rt: HostRuntime) -> Result<(), Fail>
     for (value, field) in FIELDS {
         let shown = observed(Some(value), Some(value), 120, (false, false));
         let text = record_of_7(rt.alloc(), shown)?;
-        same(&part(&text, 36, 39)?, &"G07")?;
-        same_of(format_args!("range {value}"), &part(&text, 39, 55)?, &field)?;
-        same_of(format_args!("phase {value}"), &part(&text, 55, 71)?, &field)?;
-        same(&part(&text, 71, text.len())?, &"        30.000\n")?;
+        let line = text.as_slice().get(36..).ok_or("no line")?;
+        let is_good = consists_of(line, &["G07", field, field, "        30.000\n"]);
+        same_of(value, &is_good, &true)?;
     }
     Ok(())
 }
@@ -177,52 +184,81 @@ fn digits_of_strength_and_loss_of_lock(rt: HostRuntime) -> Result<(), Fail> {
     Ok(())
 }
 
+// Neither a slip nor a half cycle.
+const LOCKED: (bool, bool) = (false, false);
+
+// A range and a phase that have no columns.
+fn outside() -> Observed
+    ensures { IsStrength result.strength_millidbhz }
+{
+    observed(Some(0), Some(10_000_000_000_000), 0, (true, false))
+}
+
+#[test]
+fn an_epoch_without_an_observation_has_no_record(rt: HostRuntime) -> Result<(), Fail> {
+    let mut table = EpochTable::new(moment(NOON)?);
+    holds(record_of(rt.alloc(), &table)?.is_empty())?;
+    table.push_row(3, &[observed(None, None, 0, LOCKED)]);
+    holds(record_of(rt.alloc(), &table)?.is_empty())?;
+    table.push_row(4, &[outside()]);
+    holds(record_of(rt.alloc(), &table)?.is_empty())
+}
+
+// An epoch line of 36 bytes and two satellite lines of at most 52.
 #[test]
 fn satellites_without_an_observation_are_left_out(rt: HostRuntime) -> Result<(), Fail> {
-    let head = Head::new(b"BASE", &CODES[..1], moment(MADE)?)?;
-    let none = observed(None, None, 0, (false, false));
-    let range = observed(Some(20_000_000_000), None, 0, (false, false));
-    let strength = observed(None, None, 120, (false, false));
-    let outside = observed(Some(0), Some(10_000_000_000_000), 0, (true, false));
-    let mut table = EpochTable::new(moment(NOON)?);
-    same(&record(rt.alloc(), &head, &table)?.len(), &0)?;
-    table.push_row(3, &[none]);
-    same(&record(rt.alloc(), &head, &table)?.len(), &0)?;
-    table.push_row(4, &[outside]);
-    same(&record(rt.alloc(), &head, &table)?.len(), &0)?;
     // 2024-12-31 23:58:07.006
-    table.restart(moment(1_419_724_687_006)?);
-    table.push_row(1, &[range]);
-    table.push_row(3, &[outside]);
-    table.push_row(31, &[none]);
-    table.push_row(32, &[strength]);
-    let text = record(rt.alloc(), &head, &table)?;
+    let mut table = EpochTable::new(moment(1_419_724_687_006)?);
+    table.push_row(1, &[observed(Some(20_000_000_000), None, 0, LOCKED)]);
+    table.push_row(3, &[outside()]);
+    table.push_row(31, &[observed(None, None, 0, LOCKED)]);
+    table.push_row(32, &[observed(None, None, 120, LOCKED)]);
     let want = concat!(
         "> 2024 12 31 23 58  7.0060000  0  2\n",
         "G01  20000000.000\n",
         "G32                                        30.000\n",
     );
-    same(&std::str::from_utf8(text.as_slice())?, &want)?;
-    // an epoch line of 36 bytes and two satellite lines of at most 52; taken at once
-    same(&text.capacity(), &140)
+    let text = record_of(rt.alloc(), &table)?;
+    same(&(text.as_slice(), text.capacity()), &(want.as_bytes(), 140))
 }
 
 #[test]
+fn a_table_begins_again(rt: HostRuntime) -> Result<(), Fail> {
+    let mut table = EpochTable::new(moment(NOON)?);
+    table.push_row(5, &[observed(Some(1_000), None, 0, LOCKED)]);
+    // 2024-12-31 23:58:07.006
+    table.restart(moment(1_419_724_687_006)?);
+    table.push_row(2, &[observed(Some(1_000), None, 0, LOCKED)]);
+    let want = concat!(
+        "> 2024 12 31 23 58  7.0060000  0  1\n",
+        "G02         1.000\n",
+    );
+    let text = record_of(rt.alloc(), &table)?;
+    same(&text.as_slice(), &want.as_bytes())
+}
+
+// The record of ten satellites.
+const TEN: &str = concat!(
+    "> 2024 12 31 23 59 59.9990000  0 10\n",
+    "G01         1.000\n",
+    "G02         1.000\n",
+    "G03         1.000\n",
+    "G04         1.000\n",
+    "G05         1.000\n",
+    "G06         1.000\n",
+    "G07         1.000\n",
+    "G08         1.000\n",
+    "G09         1.000\n",
+    "G10         1.000\n",
+);
+
+#[test]
 fn ten_satellites_are_counted_in_three_columns(rt: HostRuntime) -> Result<(), Fail> {
-    let head = Head::new(b"BASE", &CODES[..1], moment(MADE)?)?;
     // 2024-12-31 23:59:59.999
     let mut table = EpochTable::new(moment(1_419_724_799_999)?);
     for satellite in 1..11 {
-        table.push_row(satellite, &[observed(Some(1_000), None, 0, (false, false))]);
+        table.push_row(satellite, &[observed(Some(1_000), None, 0, LOCKED)]);
     }
-    let text = record(rt.alloc(), &head, &table)?;
-    same(&text.len(), &(36 + 10 * 18))?;
-    same(
-        &part(&text, 0, 36)?,
-        &"> 2024 12 31 23 59 59.9990000  0 10\n",
-    )?;
-    same(
-        &part(&text, 36 + 9 * 18, 36 + 10 * 18)?,
-        &"G10         1.000\n",
-    )
+    let text = record_of(rt.alloc(), &table)?;
+    same(&text.as_slice(), &TEN.as_bytes())
 }

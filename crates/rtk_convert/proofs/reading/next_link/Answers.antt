@@ -1,4 +1,4 @@
-use Rattle.std.proofs.Common.{ℕ, Option, subst, arith}
+use Rattle.std.proofs.Common.{ℕ, Option, subst, arith, rules}
 use Rattle.rtk_convert.proofs.NextLemmas.{NextBelow, next-closed, next-first, next-end, are_links-length}
 use Rattle.rtk_convert.proofs.reading.next_link.Goals as goal
 
@@ -16,3 +16,6 @@ loop-link-preserved-in_default c = record {
 
 pub returns-clause-next : goal.returns-clause-next
 returns-clause-next c = λ h r. next-end h c.loop-link.link c.loop-link.next (let e = are_links-length c.args.converter.now.links h.links 0 h.found r.links in let a = c.links-link-end.ensures in let b = c.loop-link-test.false in let d = c.loop-link.auto.link-end in omega (arith, e)) (c.loop-link.invariant.next h r)
+
+pub loop-link-preserved : goal.loop-link-preserved
+loop-link-preserved c = search rules

@@ -1,4 +1,4 @@
-use Rattle.std.proofs.Common.{ℕ, ◌+◌, inl, [], ◌∷◌, length, Err, refl, sym, ap, subst, ◌∙◌, arith}
+use Rattle.std.proofs.Common.{ℕ, ◌+◌, inl, [], ◌∷◌, length, Err, refl, sym, ap, subst, ◌∙◌, arith, rules}
 use Rattle.std.proofs.lemmas.Result.{err_from_is_err_and, IfErr-at_err}
 use Rattle.rtk_convert.specs.Failure.{IsReadFault}
 use Rattle.rtk_convert.specs.History.{new_history, IsNextLink}
@@ -149,3 +149,6 @@ pub returns-in_err-read_link-clause-log_same : goal.returns-in_err-read_link-cla
 returns-in_err-read_link-clause-log_same g c =
     let p = err_from_is_err_and c.from_residual.result c.from_residual.ensures.1 in
     rw p.1 tt
+
+pub returns-in-Some-next_link-clause-endless : goal.returns-in-Some-next_link-clause-endless
+returns-in-Some-next_link-clause-endless g c = search rules

@@ -1,4 +1,4 @@
-use Rattle.std.proofs.Common.{[], ◌∷◌, ◌++◌, None, arith, refl, sym, length-append}
+use Rattle.std.proofs.Common.{[], ◌∷◌, ◌++◌, None, arith, refl, sym, length-append, rules}
 use Rattle.rtk_rinex.specs.Record.{satellite_line}
 use Rattle.rtk_rinex.specs.CheckText.{last_satellite}
 use Rattle.rtk_rinex.proofs.CheckLemmas.{last_satellite-more, rows-more, text-more, out-more, nothing-more, satellite-fault}
@@ -47,3 +47,9 @@ loop-k-preserved c =
       sym (last_satellite-more None r.rows row),
       omega (arith, l.invariant.2, line.2),
     )
+
+pub returns-clause-rows : goal.returns-clause-rows
+returns-clause-rows c = search rules
+
+pub returns-clause-len : goal.returns-clause-len
+returns-clause-len c = search rules

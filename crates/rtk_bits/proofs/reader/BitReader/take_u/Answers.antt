@@ -1,4 +1,4 @@
-use Rattle.std.proofs.Common.{arith, ap, drop, length, refl}
+use Rattle.std.proofs.Common.{arith, ap, drop, length, refl, rules}
 use Rattle.std.proofs.lemmas.List.{take_rest}
 use Rattle.rtk_bits.specs.Bits.{bits}
 use Rattle.rtk_bits.proofs.ReaderLemmas.{length-left, left-rest}
@@ -27,3 +27,6 @@ returns-clause-field c =
     rw (← c.self.view_is, take_rest, left-rest c.self.inside.rest.now c.self.inside.skip c.args.width (omega arith))
     ((taken_u (drop c.self.inside.skip (bits c.self.inside.rest.now)) c.args.width c.field_at-number.result
     (omega (arith, length-left c.self.inside.rest.now c.self.inside.skip)) c.field_at-number.ensures).1)
+
+pub returns-then-self-end-clause-short : goal.returns-then-self-end-clause-short
+returns-then-self-end-clause-short c = search rules

@@ -1,4 +1,4 @@
-use Rattle.std.proofs.Common.{◌≡◌, ◌<◌, List, arith, refl, sym, ap, ◌∙◌, subst, length}
+use Rattle.std.proofs.Common.{◌≡◌, ◌<◌, List, arith, refl, sym, ap, ◌∙◌, subst, length, rules}
 use Rattle.rtk_obs.specs.declared.cell.CellEntry.{CellEntry}
 use Rattle.rtk_obs.specs.Cell.{IsInRange}
 use Rattle.rtk_collect.specs.EpochCells.{EpochCells, joined, fresh, conflicts}
@@ -43,3 +43,6 @@ returns-then-fresh-eq0-clause-set c =
     let none : fresh c.args.cells.now c.self.inside.cells.items ≡ 0 = omega (arith, f, c.if-fresh-eq0.true) in
     subst (λ (s : EpochCells). s ≡ joined c.args.cells.now s) c.self.view_is
     (ap (λ (t : List CellEntry). record { epoch = c.self.inside.epoch; cells = t }) (sym (with_cells-none c.args.cells.now c.self.inside.cells.items c.self.invariant.0 none)))
+
+pub merge-conflicts-requires-clause-room : goal.merge-conflicts-requires-clause-room
+merge-conflicts-requires-clause-room c = search rules

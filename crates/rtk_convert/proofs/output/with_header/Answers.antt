@@ -1,0 +1,5 @@
+use Rattle.std.proofs.Common.{rules}
+use Rattle.rtk_convert.proofs.output.with_header.Goals as goal
+
+pub returns : goal.returns
+returns c = search rules

@@ -1,0 +1,5 @@
+use Rattle.std.proofs.Common.{rules}
+use Rattle.rtk_obs.proofs.legacy_cells.l2_cell.Goals as goal
+
+pub returns : goal.returns
+returns c = search rules

@@ -1,0 +1,5 @@
+use Rattle.std.proofs.Common.{rules}
+use Rattle.rtk_rinex.proofs.check_epoch_line.is_end_from.Goals as goal
+
+pub returns : goal.returns
+returns c = search rules
