@@ -1,4 +1,4 @@
-use Rattle.std.proofs.Common.{◌++◌, ◌∙◌, ◌≤◌, ◌+◌, List, ℕ, ap, take, length, arith}
+use Rattle.std.proofs.Common.{◌++◌, ◌∙◌, ◌≤◌, ◌+◌, List, ℕ, ap, take, length, arith, rules}
 use Rattle.std.proofs.lemmas.Grind.{common_steps}
 use Rattle.rtk_frame.specs.Stream.{with_more}
 use Rattle.rtk_frame.proofs.StreamLemmas.{with_more-with_more}
@@ -14,3 +14,6 @@ returns-then-is_err-clause-within g c =
           ∙ with_more-with_more (g.R.Source.given c.args.reader.now) c.loop-piece.bytes.items more,
       few,
     )
+
+pub returns-then-count-eq0-clause-to_the_end : goal.returns-then-count-eq0-clause-to_the_end
+returns-then-count-eq0-clause-to_the_end g c = search rules depth 5 fits 300

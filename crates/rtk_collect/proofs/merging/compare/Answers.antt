@@ -1,4 +1,4 @@
-use Rattle.std.proofs.Common.{◌+◌, ◌∙◌, Some, refl, sym, ap, rules, arith, drop, get_or}
+use Rattle.std.proofs.Common.{◌+◌, ◌∙◌, Some, refl, sym, ap, arith, drop, get_or}
 use Rattle.std.proofs.lemmas.List.{append-nil}
 use Rattle.rtk_collect.specs.EpochCells.{one_more, fresh, conflicts}
 use Rattle.rtk_collect.proofs.CellsLemmas.{any_cell, fresh-step, lower-length, push-few, conflict-is, kept-conflicts}

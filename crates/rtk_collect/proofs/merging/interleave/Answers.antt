@@ -1,10 +1,8 @@
-use Rattle.std.proofs.Common.{◌≡◌, ◌<◌, ◌≤◌, ap, sym, ◌∙◌, arith, length, get_or, Some, refl, subst}
+use Rattle.std.proofs.Common.{sym, ◌∙◌, arith, get_or, Some, refl}
 use Rattle.std.proofs.lemmas.List.{append-nil}
-use Rattle.rtk_collect.specs.declared.conflicts.SatelliteCode.{SatelliteCode}
-use Rattle.rtk_collect.specs.EpochCells.{conflict}
 use Rattle.rtk_collect.proofs.CellsLemmas.{any_cell, push-few, conflict-is}
 use Rattle.rtk_collect.proofs.EqualityLemmas.{sources-same}
-use Rattle.rtk_collect.proofs.MergesLemmas.{Merges, put-kept, put-new, put-same}
+use Rattle.rtk_collect.proofs.MergesLemmas.{put-kept, put-new, put-same}
 use Rattle.rtk_collect.proofs.merging.interleave.Goals as goal
 
 pub loop-next-preserved-then-has_lesser : goal.loop-next-preserved-then-has_lesser

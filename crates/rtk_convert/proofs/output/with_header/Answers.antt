@@ -2,4 +2,4 @@ use Rattle.std.proofs.Common.{rules}
 use Rattle.rtk_convert.proofs.output.with_header.Goals as goal
 
 pub returns : goal.returns
-returns c = search rules
+returns c = search rules depth 5 fits 300

@@ -18,4 +18,4 @@ pub returns-clause-next : goal.returns-clause-next
 returns-clause-next c = λ h r. next-end h c.loop-link.link c.loop-link.next (let e = are_links-length c.args.converter.now.links h.links 0 h.found r.links in let a = c.links-link-end.ensures in let b = c.loop-link-test.false in let d = c.loop-link.auto.link-end in omega (arith, e)) (c.loop-link.invariant.next h r)
 
 pub loop-link-preserved : goal.loop-link-preserved
-loop-link-preserved c = search rules
+loop-link-preserved c = search rules depth 5 fits 300

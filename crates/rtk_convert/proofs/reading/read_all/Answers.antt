@@ -151,4 +151,4 @@ returns-in_err-read_link-clause-log_same g c =
     rw p.1 tt
 
 pub returns-in-Some-next_link-clause-endless : goal.returns-in-Some-next_link-clause-endless
-returns-in-Some-next_link-clause-endless g c = search rules
+returns-in-Some-next_link-clause-endless g c = search rules depth 5 fits 300

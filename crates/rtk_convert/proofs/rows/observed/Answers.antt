@@ -2,4 +2,4 @@ use Rattle.std.proofs.Common.{rules}
 use Rattle.rtk_convert.proofs.rows.observed.Goals as goal
 
 pub returns : goal.returns
-returns c = search rules
+returns c = search rules depth 5 fits 300

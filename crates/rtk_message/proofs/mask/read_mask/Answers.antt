@@ -13,7 +13,7 @@ loop-preserved c =
     })
 
 pub returns-then-signals-gt0-clause-fields : goal.returns-then-signals-gt0-clause-fields
-returns-then-signals-gt0-clause-fields c = search rules
+returns-then-signals-gt0-clause-fields c = search rules depth 5 fits 300
 
 pub returns-then-signals-gt0-clause-count : goal.returns-then-signals-gt0-clause-count
-returns-then-signals-gt0-clause-count c = search rules
+returns-then-signals-gt0-clause-count c = search rules depth 5 fits 300

@@ -2,4 +2,4 @@ use Rattle.std.proofs.Common.{rules}
 use Rattle.rtk_obs.proofs.cell.is_gps.Goals as goal
 
 pub returns-then-satellite-ge1 : goal.returns-then-satellite-ge1
-returns-then-satellite-ge1 c = search rules
+returns-then-satellite-ge1 c = search rules depth 5 fits 300

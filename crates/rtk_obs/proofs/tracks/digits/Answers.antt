@@ -2,4 +2,4 @@ use Rattle.std.proofs.Common.{rules}
 use Rattle.rtk_obs.proofs.tracks.digits.Goals as goal
 
 pub returns-then-is_none-clause-value : goal.returns-then-is_none-clause-value
-returns-then-is_none-clause-value c = search rules
+returns-then-is_none-clause-value c = search rules depth 5 fits 300

@@ -12,4 +12,4 @@ returns-clause-next c =
     rw same at (c.is_next_satellite.ensures.0 c.if-not-is_next_satellite.false)
 
 pub returns-in_default-found-clause-fault : goal.returns-in_default-found-clause-fault
-returns-in_default-found-clause-fault c = search rules
+returns-in_default-found-clause-fault c = search rules depth 5 fits 300

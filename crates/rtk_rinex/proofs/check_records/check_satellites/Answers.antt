@@ -49,7 +49,7 @@ loop-k-preserved c =
     )
 
 pub returns-clause-rows : goal.returns-clause-rows
-returns-clause-rows c = search rules
+returns-clause-rows c = search rules depth 5 fits 300
 
 pub returns-clause-len : goal.returns-clause-len
-returns-clause-len c = search rules
+returns-clause-len c = search rules depth 5 fits 300

@@ -29,4 +29,4 @@ returns-clause-field c =
     (omega (arith, length-left c.self.inside.rest.now c.self.inside.skip)) c.field_at-number.ensures).1)
 
 pub returns-then-self-end-clause-short : goal.returns-then-self-end-clause-short
-returns-then-self-end-clause-short c = search rules
+returns-then-self-end-clause-short c = search rules depth 5 fits 300

@@ -45,4 +45,4 @@ returns-then-fresh-eq0-clause-set c =
     (ap (λ (t : List CellEntry). record { epoch = c.self.inside.epoch; cells = t }) (sym (with_cells-none c.args.cells.now c.self.inside.cells.items c.self.invariant.0 none)))
 
 pub merge-conflicts-requires-clause-room : goal.merge-conflicts-requires-clause-room
-merge-conflicts-requires-clause-room c = search rules
+merge-conflicts-requires-clause-room c = search rules depth 5 fits 300

@@ -2,4 +2,4 @@ use Rattle.std.proofs.Common.{rules}
 use Rattle.rtk_message.proofs.obs1004.Obs1004Layout.fits.Goals as goal
 
 pub returns : goal.returns
-returns c = search rules
+returns c = search rules depth 5 fits 300
