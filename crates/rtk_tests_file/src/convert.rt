@@ -91,7 +91,7 @@ const SETUPS: [(u16, u64, usize, SetupFault); 5] = [
 
 #[test]
 fn bad_setups_are_refused_in_order() -> Result<(), Fail> {
-    for (station, near, window, want) in SETUPS {
+    for &(station, near, window, want) in &SETUPS {
         let head = Head::new(b"BASE", &CODES, moment(MADE)?)?;
         match Setup::new(station, moment(near)?, head, window) {
             Ok(_) => return Err("a bad setup".into()),
@@ -103,7 +103,7 @@ fn bad_setups_are_refused_in_order() -> Result<(), Fail> {
 
 #[test]
 fn the_limits_of_a_setup_are_good() -> Result<(), Fail> {
-    for (station, near, window) in [(0, 604_800_000, 2), (4095, 3_786_479_999_999, 4096)] {
+    for &(station, near, window) in &[(0, 604_800_000, 2), (4095, 3_786_479_999_999, 4096)] {
         let setup = setup(station, near, window)?;
         same(&setup.station(), &station)?;
         same(&setup.near().ms(), &near)?;
@@ -195,7 +195,7 @@ fn runs_that_break_off_leave_what_came_before(rt: HostRuntime) -> Result<(), Fai
 #[test]
 fn a_run_has_1_to_16_links(rt: HostRuntime) -> Result<(), Fail> {
     let alloc = rt.alloc();
-    for count in [0u8, 17] {
+    for &count in &[0u8, 17] {
         let mut links = Vec::new(alloc);
         for _ in 0..count {
             links.push(MemSource::new(alloc, &[], 512, After::End)?)?;
@@ -237,10 +237,10 @@ const SETUP_FAULTS: [(SetupFault, &str); 3] = [
 #[test]
 fn faults_have_their_texts(rt: HostRuntime) -> Result<(), Fail> {
     let alloc = rt.alloc();
-    for (fault, want) in FAULTS {
+    for &(fault, want) in &FAULTS {
         same(&fault.to_string(alloc)?.as_str(), &want)?;
     }
-    for (fault, want) in SETUP_FAULTS {
+    for &(fault, want) in &SETUP_FAULTS {
         same(&fault.to_string(alloc)?.as_str(), &want)?;
     }
     Ok(())
@@ -280,7 +280,7 @@ fn frame_after(alloc: Global, seconds: u32) -> Result<Vec<u8>, Fail>
 {
     let [a, b, c, d] = ((475_200_000 + 1000 * seconds) << 2).to_be_bytes(); // DF004 and two bits that are 0
     let mut payload = Vec::from_slice(alloc, Q)?;
-    for (at, byte) in [(3, a), (4, b), (5, c), (6, d)] {
+    for &(at, byte) in &[(3, a), (4, b), (5, c), (6, d)] {
         if let Some(place) = payload.as_mut_slice().get_mut(at) {
             *place = byte;
         }

@@ -92,7 +92,7 @@ const TWOS_COMPLEMENT: [(usize, [u8; 8], i64); 14] = [
 
 #[test]
 fn twos_complement_is_read() -> Result<(), Fail> {
-    for (width, bytes, number) in TWOS_COMPLEMENT {
+    for &(width, bytes, number) in &TWOS_COMPLEMENT {
         check_fields(
             &mut BitReader::new(&bytes),
             &[("first bits", true, width, number)],

@@ -146,7 +146,7 @@ const FRAMES: [(&[u8], &[u8]); 2] = [(&PAYLOAD, &FRAME), (&[], &[0xD3, 0, 0, 0x4
 
 #[test]
 fn frames_are_written(rt: HostRuntime) -> Result<(), Fail> {
-    for (payload, frame) in FRAMES {
+    for &(payload, frame) in &FRAMES {
         same(&encode_frame(rt.alloc(), payload)?.as_slice(), &frame)?;
     }
     Ok(())
@@ -196,7 +196,7 @@ const EMPTY: [[u8; 6]; 2] = [
 
 #[test]
 fn frames_without_a_payload() -> Result<(), Fail> {
-    for text in EMPTY {
+    for &text in &EMPTY {
         let found = next_frame(&text, 0);
         holds(matches!(found, Some(found) if found.place == 0 && found.payload.is_empty()))?;
     }
@@ -224,7 +224,7 @@ fn check_in_pieces(alloc: Global, text: &Text, bytes: &[u8], size: usize) -> Res
 fn the_same_frame_in_pieces(rt: HostRuntime) -> Result<(), Fail> {
     for text in &TEXTS {
         let bytes = bytes_of(rt.alloc(), text)?;
-        for size in [1usize, 7, 512, 10000] {
+        for &size in &[1usize, 7, 512, 10000] {
             check_in_pieces(rt.alloc(), text, bytes.as_slice(), size)?;
         }
     }

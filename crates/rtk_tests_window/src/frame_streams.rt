@@ -18,10 +18,10 @@ const BEHIND_FIVE_BYTES: [(After, Result<usize, StreamFault>, [u8; 4]); 3] = [
 fn a_source_gives_its_bytes_two_at_a_time_and_then_what_comes_after(
     rt: HostRuntime,
 ) -> Result<(), Fail> {
-    for (after, behind, last) in BEHIND_FIVE_BYTES {
+    for &(after, behind, last) in &BEHIND_FIVE_BYTES {
         let mut source = MemSource::new(rt.alloc(), &[1, 2, 3, 4, 5], 2, after)?;
         let mut buf = [9; 4];
-        for (count, bytes) in PAIRS {
+        for &(count, bytes) in &PAIRS {
             same_of(
                 format_args!("{after:?}"),
                 &source.read(&mut buf),
@@ -44,7 +44,7 @@ const ROOMS: [(usize, [u8; 2]); 4] = [(1, [1, 9]), (0, [1, 9]), (2, [2, 3]), (1,
 fn a_read_gives_no_more_than_its_buffer_has_room_for(rt: HostRuntime) -> Result<(), Fail> {
     let mut source = MemSource::new(rt.alloc(), &[1, 2, 3], 2, After::Zeros)?;
     let mut buf = [9; 2];
-    for (room, bytes) in ROOMS {
+    for &(room, bytes) in &ROOMS {
         holds(room <= 2)?;
         same_of(
             format_args!("room {room}"),
@@ -69,7 +69,7 @@ const WRITES: [(&str, Result<usize, StreamFault>); 6] = [
 #[test]
 fn a_sink_takes_its_room_and_then_fails(rt: HostRuntime) -> Result<(), Fail> {
     let mut sink = MemSink::new(rt.alloc(), 10, 4)?;
-    for (text, count) in WRITES {
+    for &(text, count) in &WRITES {
         same_of(text, &sink.write(text.as_bytes()), &count)?;
     }
     same(&sink.bytes(), &b"station 20".as_slice())
@@ -86,7 +86,7 @@ const WHOLE_WRITES: [(&str, Result<(), StreamFault>, &str); 4] = [
 #[test]
 fn write_all_writes_by_single_bytes_up_to_a_failure(rt: HostRuntime) -> Result<(), Fail> {
     let mut sink = MemSink::new(rt.alloc(), 10, 1)?;
-    for (text, answer, taken) in WHOLE_WRITES {
+    for &(text, answer, taken) in &WHOLE_WRITES {
         same_of(text, &write_all(&mut sink, text.as_bytes()), &answer)?;
         same_of(text, &sink.bytes(), &taken.as_bytes())?;
     }
@@ -107,7 +107,7 @@ fn read_one_reads_the_source_named_and_no_other(rt: HostRuntime) -> Result<(), F
     let second = MemSource::new(rt.alloc(), &[7, 8], 3, After::Failure)?;
     let mut sources = [first, second];
     let mut buf = [9; 4];
-    for (link, count, bytes) in READS {
+    for &(link, count, bytes) in &READS {
         let sources = sources.as_mut_slice();
         holds(link < sources.len())?;
         same_of(

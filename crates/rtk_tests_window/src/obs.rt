@@ -41,7 +41,7 @@ fn known_moments() -> Result<(), Fail> {
             3_818_015_999_999,
         ),
     ];
-    for (want, ms) in rows {
+    for &(want, ms) in &rows {
         holds(ms <= LAST_MS)?;
         let time = at(ms);
         same_of(ms, &(civil(time), of_civil(want)), &(want, Some(time)))?;
@@ -68,7 +68,7 @@ fn readings_of_no_moment() -> Result<(), Fail> {
         reading((2024, 5, 17), (0, 0, 60), 0),
         reading((2024, 5, 17), (0, 0, 0), 1000),
     ];
-    for row in rows {
+    for &row in &rows {
         holds_of(format_args!("{row:?}"), of_civil(row).is_none())?;
     }
     Ok(())
@@ -87,7 +87,7 @@ const DATES: [(u64, u32, u64); 7] = [
 
 #[test]
 fn times_of_week_are_dated_near_the_reference() -> Result<(), Fail> {
-    for (near, tow, want) in DATES {
+    for &(near, tow, want) in &DATES {
         holds(near <= LAST_MS)?;
         same_of(
             format_args!("time of week {tow}"),
@@ -154,7 +154,7 @@ const QUOTIENTS: [(i128, i128, i128); 9] = [
 
 #[test]
 fn ties_go_away_from_zero() -> Result<(), Fail> {
-    for (n, d, want) in QUOTIENTS {
+    for &(n, d, want) in &QUOTIENTS {
         same_of(format_args!("{n} / {d}"), &round_div(n, d), &want)?;
     }
     Ok(())
@@ -182,7 +182,7 @@ const CODES: [(&[u8; 2], Code, u32); 16] = [
 
 #[test]
 fn names_and_carriers_of_codes() -> Result<(), Fail> {
-    for (name, code, carrier) in CODES {
+    for &(name, code, carrier) in &CODES {
         let got = (
             Code::from_name(name.as_slice()),
             code.name(),
@@ -211,7 +211,7 @@ const COORDINATES: [(i64, i64, i64, bool); 4] = [
 
 #[test]
 fn coordinates_fit_38_bits() -> Result<(), Fail> {
-    for (x, y, z, fits) in COORDINATES {
+    for &(x, y, z, fits) in &COORDINATES {
         match Position::new(x, y, z, 65_535) {
             Some(p) => same(&(p.x, p.y, p.z, p.height, true), &(x, y, z, 65_535, fits))?,
             None => holds_of(format_args!("{x} {y} {z}"), !fits)?,

@@ -52,7 +52,7 @@ fn failed_read(rt: HostRuntime) -> Result<(), Fail> {
 // A sink that takes so many bytes and then fails has a first part of the line.
 #[test]
 fn failed_write(rt: HostRuntime) -> Result<(), Fail> {
-    for room in [0usize, 10, 34] {
+    for &room in &[0usize, 10, 34] {
         let (answer, out) = checked(rt.alloc(), TEXT.as_bytes(), After::End, room)?;
         same_of(room, &answer, &Err(ToolFault::Output))?;
         same(&out.bytes().len(), &room)?;

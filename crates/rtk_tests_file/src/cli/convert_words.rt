@@ -76,7 +76,7 @@ fn gives(alloc: Global, words: &[&str], window: usize, names: &[&str]) -> bool {
 
 #[test]
 fn conversions(rt: HostRuntime) -> Result<(), Fail> {
-    for (behind, window, names) in ROWS {
+    for &(behind, window, names) in &ROWS {
         let mut words = Vec::new(rt.alloc());
         words.extend_from_slice(&OPTIONS)?;
         words.extend_from_slice(behind)?;

@@ -118,7 +118,7 @@ const ENDS: [(Result<Counts, ConvertFault>, bool, u8, &str); 12] = [
 
 #[test]
 fn statuses_and_lines(rt: HostRuntime) -> Result<(), Fail> {
-    for (done, is_out, status, line) in ENDS {
+    for &(done, is_out, status, line) in &ENDS {
         let told = Told {
             text: RefCell::new(String::new(rt.alloc())),
         };

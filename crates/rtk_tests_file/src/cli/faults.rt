@@ -15,7 +15,7 @@ const LINES: &str = "1005 station 2003 x 1114104.5999 y -4850729.7108 z 3975521.
 #[test]
 fn each_read_fails(rt: HostRuntime) -> Result<(), Fail> {
     let bytes = hex::decode(rt.alloc(), CAPTURE)?;
-    for (input, hex) in [(bytes.as_slice(), false), (CAPTURE.as_bytes(), true)] {
+    for &(input, hex) in &[(bytes.as_slice(), false), (CAPTURE.as_bytes(), true)] {
         for n in 0..=input.len() {
             let reader = MemSource::new(rt.alloc(), &input[..n], 1, After::Failure)?;
             let sink = MemSink::new(rt.alloc(), 100, 100)?;
@@ -31,7 +31,7 @@ fn each_read_fails(rt: HostRuntime) -> Result<(), Fail> {
 fn each_write_fails(rt: HostRuntime) -> Result<(), Fail> {
     let bytes = hex::decode(rt.alloc(), CAPTURE)?;
     for room in 0..LINES.len() {
-        for per_write in [1, 10, 1000] {
+        for &per_write in &[1, 10, 1000] {
             let reader = MemSource::new(rt.alloc(), bytes.as_slice(), 512, After::End)?;
             let sink = MemSink::new(rt.alloc(), room, per_write)?;
             let want = (Err(ToolFault::Output), &LINES.as_bytes()[..room]);
@@ -64,7 +64,7 @@ const NOT_HEX: [&str; 7] = [
 // Nothing is out, though a whole frame stands before.
 #[test]
 fn texts_that_are_not_hex(rt: HostRuntime) -> Result<(), Fail> {
-    for text in NOT_HEX {
+    for &text in &NOT_HEX {
         let reader = MemSource::new(rt.alloc(), text.as_bytes(), 512, After::End)?;
         let sink = MemSink::new(rt.alloc(), 100, 100)?;
         let want = (Err(ToolFault::NotHex), b"".as_slice());
@@ -77,7 +77,7 @@ fn texts_that_are_not_hex(rt: HostRuntime) -> Result<(), Fail> {
 #[test]
 fn one_byte_over_the_limit(rt: HostRuntime) -> Result<(), Fail> {
     same(&SHOW_LIMIT, &16_777_216)?;
-    for hex in [false, true] {
+    for &hex in &[false, true] {
         let reader = MemSource::new(rt.alloc(), b"", 16_777_216, After::Zeros)?;
         let sink = MemSink::new(rt.alloc(), 100, 100)?;
         let want = (Err(ToolFault::TooLong), b"".as_slice());
@@ -97,7 +97,7 @@ const TEXTS: [(ToolFault, &str); 5] = [
 
 #[test]
 fn texts_of_faults(rt: HostRuntime) -> Result<(), Fail> {
-    for (fault, want) in TEXTS {
+    for &(fault, want) in &TEXTS {
         let text = fault.to_string(rt.alloc())?;
         same(&text.as_str(), &want)?;
     }

@@ -26,8 +26,8 @@ fn sinks_that_fill(rt: HostRuntime) -> Result<(), Fail> {
     let text = repeated(rt.alloc(), FRAME)?;
     let lines = repeated(rt.alloc(), LINE)?;
     let capture = hex::decode(rt.alloc(), text.as_slice())?;
-    for (input, hex) in [(capture.as_slice(), false), (text.as_slice(), true)] {
-        for room in [0usize, 65_535, 65_536, 70_000, 87_999, 88_000] {
+    for &(input, hex) in &[(capture.as_slice(), false), (text.as_slice(), true)] {
+        for &room in &[0usize, 65_535, 65_536, 70_000, 87_999, 88_000] {
             let answer = if room < 88_000 {
                 Err(ToolFault::Output)
             } else {
@@ -47,7 +47,7 @@ fn sinks_that_fill(rt: HostRuntime) -> Result<(), Fail> {
 fn sources_that_fail(rt: HostRuntime) -> Result<(), Fail> {
     let text = repeated(rt.alloc(), FRAME)?;
     let mut capture = hex::decode(rt.alloc(), text.as_slice())?;
-    for count in [10_000usize, 4_097, 4_096, 4_095] {
+    for &count in &[10_000usize, 4_097, 4_096, 4_095] {
         capture.truncate(count);
         let reader = MemSource::new(rt.alloc(), capture.as_slice(), 100_000, After::Failure)?;
         let sink = MemSink::new(rt.alloc(), 100, 100)?;

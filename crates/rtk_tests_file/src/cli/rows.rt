@@ -99,7 +99,7 @@ fn check_pieces(
     count: u64,
     want: &str,
 ) -> Result<(), Fail> {
-    for per_read in [1usize, 5, 100_000] {
+    for &per_read in &[1usize, 5, 100_000] {
         let reader = MemSource::new(alloc, input, per_read, After::End)?;
         let sink = MemSink::new(alloc, 1000, 7)?;
         check_shown(alloc, reader, sink, hex, (Ok(count), want.as_bytes()))?;
@@ -109,7 +109,7 @@ fn check_pieces(
 
 #[test]
 fn captures_as_hex_and_as_bytes(rt: HostRuntime) -> Result<(), Fail> {
-    for (text, count, want) in CAPTURES {
+    for &(text, count, want) in &CAPTURES {
         check_pieces(rt.alloc(), text.as_bytes(), true, count, want)?;
         let bytes = bytes_of(rt.alloc(), text)?;
         check_pieces(rt.alloc(), bytes.as_slice(), false, count, want)?;

@@ -77,7 +77,7 @@ const ASKED: [(usize, &[usize]); 3] = [(100, &[512; 13]), (512, &[512; 4]), (100
 // A link is read to its end.
 #[test]
 fn a_run_asks_for_512_bytes(rt: HostRuntime) -> Result<(), Fail> {
-    for (per_read, want) in ASKED {
+    for &(per_read, want) in &ASKED {
         let mut readers = two_sources(rt.alloc(), per_read)?;
         run_over(rt.alloc(), &mut readers)?;
         for reader in &readers {

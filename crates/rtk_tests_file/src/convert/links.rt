@@ -199,7 +199,7 @@ fn calls_on_links_are_refused_in_order(rt: HostRuntime) -> Result<(), Fail> {
 
 #[test]
 fn a_converter_has_1_to_16_links(rt: HostRuntime) -> Result<(), Fail> {
-    for links in [0, 17] {
+    for &links in &[0, 17] {
         let refused = Converter::new(rt.alloc(), setup(2003, NOON, 2)?, links);
         holds(matches!(refused, Err(ConvertFault::Setup)))?;
     }

@@ -97,7 +97,7 @@ const FAULTS: [(&str, Option<(usize, Cause)>); 21] = [
 
 #[test]
 fn the_first_fault_of_a_file_is_named(rt: HostRuntime) -> Result<(), Fail> {
-    for (letters, want) in FAULTS {
+    for &(letters, want) in &FAULTS {
         let bytes = file_of(rt.alloc(), letters)?;
         same_of(letters, &fault_of(rt.alloc(), bytes.as_slice()), &want)?;
     }
@@ -129,7 +129,7 @@ const EPOCH_LINES: [&str; 14] = [
 
 #[test]
 fn each_column_of_an_epoch_line_is_read(rt: HostRuntime) -> Result<(), Fail> {
-    for line in EPOCH_LINES {
+    for &line in &EPOCH_LINES {
         let bytes = file(rt.alloc(), [line, SATELLITE].as_slice())?;
         same_of(
             line,
@@ -182,7 +182,7 @@ fn changed(alloc: Global, place: usize, new: &str) -> Result<Vec<u8>, Fail>
 
 #[test]
 fn each_column_of_a_satellite_line_is_read(rt: HostRuntime) -> Result<(), Fail> {
-    for (place, new, cause) in CHANGES {
+    for &(place, new, cause) in &CHANGES {
         let bytes = changed(rt.alloc(), place, new)?;
         same_of(
             format_args!("{place} {new}"),

@@ -42,7 +42,7 @@ const SATELLITE_LINES: [(&str, Option<(usize, Cause)>); 16] = [
 
 #[test]
 fn limits_of_a_satellite_line(rt: HostRuntime) -> Result<(), Fail> {
-    for (line, want) in SATELLITE_LINES {
+    for &(line, want) in &SATELLITE_LINES {
         let bytes = file(rt.alloc(), [EPOCH, line, "\n"].as_slice())?;
         same_of(line, &fault_of(rt.alloc(), bytes.as_slice()), &want)?;
     }
@@ -59,7 +59,7 @@ const ENDS: [(&str, Cause); 4] = [
 
 #[test]
 fn longest_satellite_line(rt: HostRuntime) -> Result<(), Fail> {
-    for (end, cause) in ENDS {
+    for &(end, cause) in &ENDS {
         let line = SATELLITE.get(..97).ok_or("a short line")?;
         let bytes = file(rt.alloc(), [EPOCH, line, end, "\n"].as_slice())?;
         same_of(
@@ -97,7 +97,7 @@ const TEXTS: [(Cause, &str); 6] = [
 
 #[test]
 fn faults_of_a_text_have_their_texts(rt: HostRuntime) -> Result<(), Fail> {
-    for (cause, want) in TEXTS {
+    for &(cause, want) in &TEXTS {
         let fault = CheckFault { line: 16, cause };
         same(&fault.to_string(rt.alloc())?.as_str(), &want)?;
     }

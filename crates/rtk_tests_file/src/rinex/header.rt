@@ -96,7 +96,7 @@ fn moments_fill_their_columns(rt: HostRuntime) -> Result<(), Fail> {
     // made at 2024-05-17 13:24:56.000
     let head = (b"BASE".as_slice(), &CODES[..2], 1_399_987_496_000);
     let place = position(0, 0, 0, 0)?;
-    for (first, want) in FIRST_TIMES {
+    for &(first, want) in &FIRST_TIMES {
         let text = header_made(rt.alloc(), head, &place, first)?;
         let columns = (
             part(&text, 11 * 81, 11 * 81 + 60)?,
@@ -137,7 +137,7 @@ const POSITIONS: [(i64, i64, i64, u16, &str, &str); 3] = [
 
 #[test]
 fn heights_and_coordinates_fill_their_columns(rt: HostRuntime) -> Result<(), Fail> {
-    for (x, y, z, height, coordinates, shown) in POSITIONS {
+    for &(x, y, z, height, coordinates, shown) in &POSITIONS {
         let place = position(x, y, z, height)?;
         let text = header_of(b"BASE", &CODES[..2], &place, rt.alloc())?;
         let columns = (
@@ -214,7 +214,7 @@ const TYPES: [(usize, u8, &str); 7] = [
 #[test]
 fn thirteen_observation_types_stand_on_a_line(rt: HostRuntime) -> Result<(), Fail> {
     let place = position(0, 0, 0, 0)?;
-    for (count, lines, want) in TYPES {
+    for &(count, lines, want) in &TYPES {
         let codes = CODES.as_slice().get(..count).ok_or("codes")?;
         let text = header_of(b"BASE", codes, &place, rt.alloc())?;
         let end = 9 * 81 + usize::from(lines) * 81;
@@ -245,7 +245,7 @@ fn heads_keep_their_parts() -> Result<(), Fail> {
         (b"two words ~!", &CODES[..2], MADE),
         (b"BASE", CODES.as_slice(), MADE),
     ];
-    for parts in rows {
+    for &parts in &rows {
         holds(is_kept(parts)?)?;
     }
     Ok(())
@@ -276,7 +276,7 @@ fn heads_are_refused_in_order() -> Result<(), Fail> {
         ((b"BASE", good, MADE + 1), HeadFault::Made),
         ((b"BASE", good, MADE + 999), HeadFault::Made),
     ];
-    for (parts, want) in rows {
+    for &(parts, want) in &rows {
         same(&refusal(parts)?, &Some(want))?;
     }
     Ok(())
@@ -285,7 +285,7 @@ fn heads_are_refused_in_order() -> Result<(), Fail> {
 #[test]
 fn the_texts_of_the_faults_name_them(rt: HostRuntime) -> Result<(), Fail> {
     let mut text = String::new(rt.alloc());
-    for fault in [HeadFault::Marker, HeadFault::Codes, HeadFault::Made] {
+    for &fault in &[HeadFault::Marker, HeadFault::Codes, HeadFault::Made] {
         write!(text, "{fault};")?;
     }
     same(

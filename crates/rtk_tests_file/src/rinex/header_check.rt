@@ -57,7 +57,7 @@ const BROKEN: [(u8, u8, &[u8]); 21] = [
 
 #[test]
 fn each_line_is_compared(rt: HostRuntime) -> Result<(), Fail> {
-    for (line, column, bytes) in BROKEN {
+    for &(line, column, bytes) in &BROKEN {
         let text = broken(rt.alloc(), line, column, bytes)?;
         same(
             &fault_of(rt.alloc(), text.as_slice()),
@@ -70,7 +70,7 @@ fn each_line_is_compared(rt: HostRuntime) -> Result<(), Fail> {
 #[test]
 fn a_header_that_ends_early_is_truncated(rt: HostRuntime) -> Result<(), Fail> {
     for line in 0..14 {
-        for column in [0, 40, 80] {
+        for &column in &[0, 40, 80] {
             let text = HEADER.as_bytes().get(..81 * line + column).ok_or("short")?;
             same(
                 &fault_of(rt.alloc(), text),
@@ -134,7 +134,7 @@ const TYPES: [(&[&str], Option<(usize, Cause)>); 8] = [
 
 #[test]
 fn observation_types_are_read_over_all_their_lines(rt: HostRuntime) -> Result<(), Fail> {
-    for (lines, want) in TYPES {
+    for &(lines, want) in &TYPES {
         let text = with_types(rt.alloc(), lines)?;
         same(&fault_of(rt.alloc(), text.as_slice()), &want)?;
     }

@@ -77,7 +77,7 @@ const FIELDS: [(i64, &str); 7] = [
 
 #[test]
 fn observations_are_written_in_their_limits(rt: HostRuntime) -> Result<(), Fail> {
-    for (value, field) in FIELDS {
+    for &(value, field) in &FIELDS {
         let shown = observed(Some(value), Some(value), 120, (false, false));
         let text = record_of_7(rt.alloc(), shown)?;
         let line = text.as_slice().get(36..).ok_or("no line")?;
@@ -177,7 +177,7 @@ const SHOWN: [Shown; 12] = [
 
 #[test]
 fn digits_of_strength_and_loss_of_lock(rt: HostRuntime) -> Result<(), Fail> {
-    for (range, phase, quarters, lock, line) in SHOWN {
+    for &(range, phase, quarters, lock, line) in &SHOWN {
         let text = record_of_7(rt.alloc(), observed(range, phase, quarters, lock))?;
         same(&part(&text, 36, text.len())?, &line)?;
     }

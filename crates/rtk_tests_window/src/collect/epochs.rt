@@ -38,7 +38,7 @@ const WINDOWS: [&[(u32, Answer)]; 6] = [
 
 #[test]
 fn an_arrival_is_late_after_as_many_greater_epochs_as_places(rt: HostRuntime) -> Result<(), Fail> {
-    for offers in WINDOWS {
+    for &offers in &WINDOWS {
         check_seconds(rt.alloc(), offers)?;
     }
     Ok(())
@@ -61,7 +61,7 @@ const BEHIND_EMPTY: [Step; 3] = [
 
 #[test]
 fn a_message_without_cells_opens_its_epoch(rt: HostRuntime) -> Result<(), Fail> {
-    for empty in EMPTY {
+    for &empty in &EMPTY {
         let mut collector = Collector::new(rt.alloc(), 2);
         check_all(
             &mut collector,
@@ -128,7 +128,7 @@ const RANDOM: [(u32, u8, u8, Answer); 32] = [
 #[test]
 fn a_random_list_is_answered_as_by_the_whole_history(rt: HostRuntime) -> Result<(), Fail> {
     let mut collector = Collector::new(rt.alloc(), 3);
-    for (seconds, satellite, l1_cnr, want) in RANDOM {
+    for &(seconds, satellite, l1_cnr, want) in &RANDOM {
         let conflicting = [SatelliteCode {
             satellite,
             code: Code::C1C,
@@ -172,7 +172,7 @@ fn check_strengths(cells: &[CellEntry], strengths: &[u32]) -> Result<(), Fail> {
 
 fn check_random_left(collector: Collector) -> Result<(), Fail> {
     let mut left = collector.close();
-    for (after_noon, strengths) in RANDOM_LEFT {
+    for &(after_noon, strengths) in &RANDOM_LEFT {
         let set = next_left(&mut left)?;
         same(&set.epoch().ms().wrapping_sub(NOON), &after_noon)?;
         check_strengths(set.cells(), strengths)?;

@@ -35,7 +35,7 @@ fn faults_come_in_their_order() -> Result<(), Fail> {
         (&POINT_1005[..18], SHORT_1005),
         (&POINT_1006[..20], SHORT_1006),
     ];
-    for (payload, want) in rows {
+    for &(payload, want) in &rows {
         same_of(
             format_args!("{} bytes", payload.len()),
             &decode(payload).err(),
@@ -60,7 +60,7 @@ fn faults_of_a_1074_come_in_their_order() -> Result<(), Fail> {
         (&ONE_CELL[..22], short),
         (&ONE_CELL[..29], short),
     ];
-    for (payload, want) in rows {
+    for &(payload, want) in &rows {
         same_of(
             format_args!("{} bytes", payload.len()),
             &decode(payload).err(),
@@ -92,7 +92,7 @@ const TEXTS: [(DecodeFault, &str); 5] = [
 
 #[test]
 fn faults_have_texts(rt: HostRuntime) -> Result<(), Fail> {
-    for (fault, want) in TEXTS {
+    for &(fault, want) in &TEXTS {
         let text = format!(in rt.alloc(); "{fault}")?;
         same(&text.as_str(), &want)?;
     }

@@ -127,7 +127,7 @@ const FITTING: [(u16, i64, bool); 5] = [
 
 #[test]
 fn what_does_not_fit_is_told() -> Result<(), Fail> {
-    for (station, x, want) in FITTING {
+    for &(station, x, want) in &FITTING {
         let point = Arp1005 {
             station,
             x,

@@ -86,7 +86,7 @@ fn with_height(point: Arp1005, height: u16) -> Arp1006 {
 
 #[test]
 fn fields_of_station_messages_have_their_places() -> Result<(), Fail> {
-    for (payload, point) in POINTS {
+    for &(payload, point) in &POINTS {
         holds(decode(&payload) == Ok(Message::Arp1006(with_height(point, 40_000))))?;
         let mut without_height = payload;
         without_height[1] = 0xd0;

@@ -35,7 +35,7 @@ const PAYLOADS: [(&[u8], u16, u16, Option<u32>); 15] = [
 
 #[test]
 fn payloads_are_read_and_written_again(rt: HostRuntime) -> Result<(), Fail> {
-    for (payload, number, station, tow) in PAYLOADS {
+    for &(payload, number, station, tow) in &PAYLOADS {
         let message = decode(payload).ok().ok_or("no message")?;
         same(
             &(message.number(), message.station(), message.tow()),

@@ -4,7 +4,7 @@ ghost use Rattle.std.specs.Prelude.{◌≤◌};
 
 use crate::moments::{NOON, at};
 use rtk_obs::{Cell, CellSource, Code, Digits, Tracks, rolled};
-use rtk_testing::{holds, same_of};
+use rtk_testing::{holds, same, same_of};
 use std::test::Fail;
 
 // A phase of a 1004.
@@ -84,7 +84,7 @@ fn loss_of_lock() -> Result<(), Fail> {
         // a roll, but for the slip
         (legacy(5000, 300_000), legacy(0, -270_881), (true, false)),
     ];
-    for (first, second, (slip, half)) in rows {
+    for &(first, second, (slip, half)) in &rows {
         let (early, late) = after(Code::C1C, first, second);
         same_of(
             format_args!("the first phase"),
@@ -111,7 +111,7 @@ const OFFSETS: [(Code, i32, i32, i64); 9] = [
 
 #[test]
 fn rolls_of_offsets() -> Result<(), Fail> {
-    for (code, first, second, rolls) in OFFSETS {
+    for &(code, first, second, rolls) in &OFFSETS {
         let (_, digits) = after(code, legacy(5000, first), legacy(6000, second));
         same_of(
             format_args!("{code:?} {second}"),
@@ -143,7 +143,7 @@ fn digits_of_a_third_phase() -> Result<(), Fail> {
         (before, 5, rolled, rolled, (false, false, 1)),
         (before, 5, rolled, back, (false, false, 0)),
     ];
-    for (first, other, between, third, want) in rows {
+    for &(first, other, between, third, want) in &rows {
         holds(1 <= other && other <= 32)?;
         let digits = after_both(first, other, between, third);
         same_of(
@@ -168,12 +168,8 @@ const ROLLED: [(i64, i64, Option<i64>); 7] = [
 
 #[test]
 fn rolled_phases() -> Result<(), Fail> {
-    for (phase, rolls, want) in ROLLED {
-        same_of(
-            format_args!("{phase} and {rolls} rolls"),
-            &rolled(phase, rolls),
-            &want,
-        )?;
+    for &(phase, rolls, want) in &ROLLED {
+        same(&(phase, rolls, rolled(phase, rolls)), &(phase, rolls, want))?;
     }
     Ok(())
 }

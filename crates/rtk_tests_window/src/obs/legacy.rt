@@ -94,7 +94,7 @@ const VALUES: [((i32, i16, i32), i64, (i64, i64)); 3] = [
 
 #[test]
 fn legacy_values() -> Result<(), Fail> {
-    for ((a, b, c), phase, (l2_range, l2_phase)) in VALUES {
+    for &((a, b, c), phase, (l2_range, l2_phase)) in &VALUES {
         let (first, second) = cells_of(satellite_5(a, b, c))?;
         let want = l1(Some(21_085_472_060), Some(phase), Some(a));
         same_of(format_args!("DF012 {a}"), &first.cell, &want)?;
@@ -120,7 +120,7 @@ fn legacy_invalid_marks() -> Result<(), Fail> {
         ((0, -8192, 0), valid, l2(None, phase, Some(0))),
         ((0, 100, -524_288), valid, l2(range, None, None)),
     ];
-    for ((a, b, c), first, second) in rows {
+    for &((a, b, c), first, second) in &rows {
         let cells = cells_of(satellite_5(a, b, c))?;
         same_of(
             format_args!("{a} {b} {c}"),
@@ -142,7 +142,7 @@ const CODES: [(bool, u8, Code, Code); 4] = [
 // The codes of DF010 and DF016; a CNR of 0.
 #[test]
 fn legacy_codes() -> Result<(), Fail> {
-    for (l1_code, l2_code, want_l1, want_l2) in CODES {
+    for &(l1_code, l2_code, want_l1, want_l2) in &CODES {
         let satellite = Satellite {
             l1_code,
             l2_code,
@@ -172,7 +172,7 @@ const SATELLITES: [(u8, usize); 6] = [(0, 2), (1, 4), (5, 2), (32, 4), (33, 2), 
 fn legacy_satellites() -> Result<(), Fail> {
     let first = satellite_5(0, 100, 0);
     let again = satellite_5(-524_288, -8192, -524_288);
-    for (satellite, count) in SATELLITES {
+    for &(satellite, count) in &SATELLITES {
         let message = message_of(first, Satellite { satellite, ..again });
         holds(message.fits())?;
         let cells = cells_1004(&message);

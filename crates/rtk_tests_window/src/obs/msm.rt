@@ -127,7 +127,7 @@ const VALUES: [(u32, u16, (i16, i32), i64, i64); 7] = [
 
 #[test]
 fn msm_values() -> Result<(), Fail> {
-    for (signal, fraction, fine, range, phase) in VALUES {
+    for &(signal, fraction, fine, range, phase) in &VALUES {
         holds(1 <= signal && signal <= 32)?;
         let got = msm_cell(signal, fields((70, fraction), fine))?;
         same_of(
@@ -149,7 +149,7 @@ fn msm_invalid_marks() -> Result<(), Fail> {
         ((70, 512), (-16_384, 0), cell(None, phase)),
         ((70, 512), (0, -2_097_152), cell(range, None)),
     ];
-    for (rough, fine, want) in rows {
+    for &(rough, fine, want) in &rows {
         same_of(
             format_args!("{rough:?} {fine:?}"),
             &msm_cell(2, fields(rough, fine))?,

@@ -1,4 +1,4 @@
-use Rattle.std.proofs.Common.{◌≡◌, ℕ, ◌+◌, ◌*◌, ◌∷◌, [], ◌++◌, None, Some, arith, sym, ap, subst, ◌∙◌}
+use Rattle.std.proofs.Common.{◌≡◌, ℕ, ◌+◌, ◌*◌, ◌∷◌, [], ◌++◌, None, Some, arith, sym, ap, subst, ◌∙◌, rules}
 use Rattle.std.specs.Prelude.{is_some, slice_index_or, slice_set}
 use Rattle.rtk_obs.specs.Tracks.{place_of_signal}
 use Rattle.rtk_convert.specs.LastPhases.{IsThrough, MayShow}
@@ -26,3 +26,6 @@ returns-clause-later c =
     subst (λ (k : ℕ). MayShow c.step-digits.new.self (slice_set c.args.shown.now k (Some c.observed.result)) c.args.epoch) at
     (may-more c.args.tracks.now c.step-digits.new.self c.args.shown.now c.args.epoch c.args.entry.now c.observed.result
     c.requires.range.satellite c.requires.places c.step-digits.ensures.others c.requires.later)
+
+pub step-digits-requires-clause-later : goal.step-digits-requires-clause-later
+step-digits-requires-clause-later c = search rules depth 5 fits 300
