@@ -77,8 +77,8 @@ const LINES: [(&str, &str); 17] = [
 
 #[test]
 fn line_of_each_payload(rt: HostRuntime) -> Result<(), Fail> {
-    for (payload, want) in &LINES {
-        let payload = hex::decode(rt.alloc(), *payload)?;
+    for &(payload, want) in &LINES {
+        let payload = hex::decode(rt.alloc(), payload)?;
         let line = show_line(rt.alloc(), payload.as_slice())?;
         same(&line.as_slice(), &want.as_bytes())?;
     }
