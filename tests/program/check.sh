@@ -66,4 +66,4 @@ check --help </dev/null;         expect check_help 0 "$help" ''
 expect help_check 0 "$help" ''
 check </dev/null;                expect no_file 2 '' "$no_file"
 
-echo "$passed $failed"
+ends 22

@@ -4,6 +4,7 @@
 examples=$root/examples
 near=2024-05-17T12:00:00
 made=2024-05-17T13:00:00
+options="--station 2003 --near $near --made $made --marker BASE"
 
 # fails NAME STATUS LINE: nothing is out, and standard error has this fault line alone
 fails() {
@@ -15,7 +16,7 @@ fails() {
 convert() {
     codes=$1
     shift
-    "$program" convert --station 2003 --near $near --made $made --marker BASE --codes "$codes" "$@" >out 2>err
+    "$program" convert $options --codes "$codes" "$@" >out 2>err
     status=$?
 }
 
@@ -42,8 +43,9 @@ second=$examples/session_link2.rtcm
 convert 1C,2W "$base" </dev/null;                     leaves file 0 "$examples/base.rnx" base.report
 convert 1C,2W stdin <"$base";                         leaves standard_input 0 "$examples/base.rnx" base.report
 convert 1C,2W --window 2 stdin <"$base";              leaves window_of_2 0 "$examples/base.rnx" base.report
-cat "$base" | { convert 1C,2W stdin; leaves pipe 0 "$examples/base.rnx" base.report; echo "$passed $failed" >counts; }
-read -r passed failed <counts
+mkfifo pipe
+cat "$base" >pipe &
+convert 1C,2W stdin <pipe;                            leaves pipe 0 "$examples/base.rnx" base.report
 convert 1C,2W,5X "$session.rtcm" </dev/null;          leaves session 0 "$session.rnx" "$session.report"
 convert 1C,2W,5X "$first" "$second" </dev/null;       leaves two_links 0 "$session.rnx" "$examples/session_links.report"
 convert 1C,2W,5X "$second" "$first" </dev/null;       leaves two_links_exchanged 0 "$session.rnx" "$examples/session_links.report"
@@ -61,11 +63,11 @@ convert 1C,2W stdin </dev/null;                       leaves empty_capture 0 emp
 # The file can be followed: the records of closed epochs are out while standard input is open.
 mkfifo capture
 : >nothing
-"$program" convert --station 2003 --near $near --made $made --marker BASE --codes 1C,2W --window 2 nothing stdin <capture >out 2>err &
+"$program" convert $options --codes 1C,2W --window 2 nothing stdin <capture >out 2>err &
 running=$!
 exec 9>capture
 head -c 184 "$examples/late.rtcm" >&9
-for _ in 1 2 3 4 5 6 7 8 9 10; do
+for _ in $(seq 100); do
     [ "$(wc -l <out)" -ge 20 ] && break
     sleep 0.2
 done
@@ -91,7 +93,7 @@ convert 1C '' </dev/null;                             fails empty_name 1 'cannot
 convert 1C folder </dev/null;                         fails a_directory 1 'read failed'
 convert 1C stdin <folder;                             fails a_directory_as_standard_input 1 'read failed'
 convert 1C "$(printf '\377')" </dev/null;             fails a_link_that_is_no_text 1 'read failed'
-"$program" convert --station 2003 --near $near --made $made --marker BASE --codes 1C stdin <&- >out 2>err; status=$?
+"$program" convert $options --codes 1C stdin <&- >out 2>err; status=$?
 fails closed_standard_input 1 'read failed'
 
 # A link that fails behind closed epochs: these and their report are out. Both streams in one place: the file comes first.
@@ -99,7 +101,7 @@ convert 1C,2W --window 2 "$examples/late.rtcm" folder </dev/null
 sed -n '1,23p' "$examples/late.rnx" >part
 { head -n 1 "$examples/late.report"; echo 'rtcm2rinex: read failed'; } >part_err
 leaves a_link_that_fails_later 1 part part_err
-"$program" convert --station 2003 --near $near --made $made --marker BASE --codes 1C,2W "$base" >out 2>&1 </dev/null; status=$?
+"$program" convert $options --codes 1C,2W "$base" >out 2>&1 </dev/null; status=$?
 cat "$examples/base.rnx" base.report >both; : >err
 leaves file_before_report 0 both /dev/null
 
@@ -219,26 +221,22 @@ bad_value window_of_4097 --window 4097 '4097 is not in 2..=4096'
 # Outputs that fail: the fault line stands behind what of the report is told.
 printf 'rtcm2rinex: write failed\n' >write_failed
 cat base.report write_failed >told_in_full
-if [ -w /dev/full ]; then
-    "$program" convert --station 2003 --near $near --made $made --marker BASE --codes 1C,2W "$base" </dev/null >/dev/full 2>err
-    status=$?
-    : >out
-    leaves full_output 1 /dev/null told_in_full
-    "$program" convert --station 2003 --near $near --made $made --marker BASE --codes 1C,2W stdin <"$base" >/dev/full 2>err
-    status=$?
-    : >out
-    leaves full_output_that_is_followed 1 /dev/null write_failed
-fi
-"$program" convert --station 2003 --near $near --made $made --marker BASE --codes 1C,2W "$base" </dev/null >&- 2>err; status=$?
+"$program" convert $options --codes 1C,2W "$base" </dev/null >/dev/full 2>err; status=$?
+: >out
+leaves full_output 1 /dev/null told_in_full
+"$program" convert $options --codes 1C,2W stdin <"$base" >/dev/full 2>err; status=$?
+: >out
+leaves full_output_that_is_followed 1 /dev/null write_failed
+"$program" convert $options --codes 1C,2W "$base" </dev/null >&- 2>err; status=$?
 : >out
 leaves closed_output 1 /dev/null told_in_full
-"$program" convert --station 2003 --near $near --made $made --marker BASE --codes 1C,2W "$base" </dev/null >out 2>&-; status=$?
+"$program" convert $options --codes 1C,2W "$base" </dev/null >out 2>&-; status=$?
 : >err
 leaves closed_standard_error 1 "$examples/base.rnx" /dev/null
 
 # The command of the README.
-"$root/bin/rtcm2rinex" convert --station 2003 --near $near --made $made --marker BASE --codes 1C,2W "$base" >out 2>err </dev/null
+"$root/bin/rtcm2rinex" convert $options --codes 1C,2W "$base" >out 2>err </dev/null
 status=$?
 leaves start_convert 0 "$examples/base.rnx" base.report
 
-echo "$passed $failed"
+ends 99
