@@ -1,6 +1,6 @@
 -- The promise of a conversion.
-use Rattle.std.proofs.Common.{◌≡◌, ℕ, zero, suc, inl, inr, true, List, [], ◌∷◌, ◌++◌, length, Option, None, Some, Result, Ok, Err, refl, sym, ap, subst, ◌∙◌, append_assoc}
-use Rattle.std.specs.Prelude.{◌↔◌, IfOk, OnOk}
+use Rattle.std.proofs.Common.{◌≡◌, ℕ, zero, suc, inl, inr, true, List, [], ◌∷◌, ◌++◌, length, Option, None, Some, refl, sym, ap, subst, ◌∙◌, append_assoc}
+use Rattle.std.specs.Prelude.{◌↔◌}
 use Rattle.std.proofs.lemmas.List.{append-nil}
 use Rattle.rtk_frame.specs.Stream.{with_more}
 use Rattle.rtk_message.specs.declared.message.Message.{Message}
@@ -178,17 +178,16 @@ closing-closed s h zero closed = refl
 closing-closed s h (suc n) closed = (h, closing-closed s h n closed, inr (closed n, refl))
 
 pub run-headline : {R : Type 0} (given : R → Option (List ℕ)) (calls : R → ℕ) (is_at_end : R → Type 0) (s : Settings) (before after : List R) (counts : Counts) (out_old out_new log_old log_new : Option (List ℕ))
-    → RunsAs given calls is_at_end s before after counts out_old out_new log_old log_new → RunHeadline given calls is_at_end s before after out_old out_new log_old log_new
-run-headline given calls is_at_end s before after counts out_old out_new log_old log_new p = record {
-  reads = p.reads;
-  gave = p.gave;
-  called = p.called;
-  to_their_ends = p.at_end;
-  in_order = (p.history, p.comes_to, p.closed);
-  headline = headline-of s (length before) (calls_of p.reads) p.history.found out_old out_new log_old log_new
-      (p.history, p.history, calls-come-to s (length before) p.reads p.history p.comes_to, closing-closed s p.history (length before) p.closed, refl) p.out p.log;
-}
-
-pub if_ok-on : {T E : Type 0} (r : Result T E) {P : T → Type 0} {Q : Type 0} → ((x : T) → P x → Q) → IfOk r P → OnOk r Q
-if_ok-on (Ok x) f p = f x p
-if_ok-on (Err e) f p = tt
+    → RunsAs given calls is_at_end s before after counts out_old out_new log_old log_new → RunHeadline given calls is_at_end s before after counts out_old out_new log_old log_new
+run-headline given calls is_at_end s before after counts out_old out_new log_old log_new p =
+    let all : FindAll s (length before) (calls_of p.reads) p.history.found =
+    (p.history, p.history, calls-come-to s (length before) p.reads p.history p.comes_to, closing-closed s p.history (length before) p.closed, refl) in
+    record {
+      reads = p.reads;
+      gave = p.gave;
+      called = p.called;
+      to_their_ends = p.at_end;
+      in_order = (p.history, p.comes_to, p.closed);
+      headline = headline-of s (length before) (calls_of p.reads) p.history.found out_old out_new log_old log_new all p.out p.log;
+      kept = record { found = p.history.found; of_all_pieces = all; out = p.out; log = p.log; counts_are = p.counts_are };
+    }

@@ -1,9 +1,10 @@
--- A call comes to one history, and any calls find one list of frames.
-use Rattle.std.proofs.Common.{◌≡◌, ℕ, zero, suc, List, [], ◌∷◌, inl, inr, ap, sym, subst, ◌∙◌}
+-- A call comes to one history, and any calls find one list of frames; one link is next, and reads come to one history.
+use Rattle.std.proofs.Common.{◌≡◌, ℕ, ◌<◌, arith, zero, suc, List, [], ◌∷◌, inl, inr, ap, sym, subst, ◌∙◌}
 use Rattle.rtk_convert.specs.Converter.{IsAfterClosing, IsAfterClosingAll}
 use Rattle.rtk_convert.specs.Finding.{Found}
 use Rattle.rtk_convert.specs.Headline.{Call, Feed, Close, IsAfterCall, ComeTo, FindAll}
-use Rattle.rtk_convert.specs.History.{LinkPast, History, Finds, IsAfterFeed, IsAfterClose}
+use Rattle.rtk_convert.specs.History.{LinkPast, History, Finds, IsAfterFeed, IsAfterClose, IsNextLink}
+use Rattle.rtk_convert.specs.Reads.{Read, IsAfterPiece, IsHistoryOf}
 use Rattle.rtk_convert.specs.Settings.{Settings}
 use Rattle.rtk_convert.specs.State.{found_on}
 use Rattle.rtk_convert.specs.declared.arrival.Finding.{Finding}
@@ -54,3 +55,21 @@ found-once s links calls one other (h, last, came, closed, is) (h', last', came'
     let same : h' ≡ h = come-once s links calls h' h came' came in
     let end : last ≡ last' = ends-once s h links last last' closed (subst (λ (x : History). IsAfterClosingAll s x links last') same closed') in
     is ∙ ap (λ (x : History). x.found) end ∙ sym is'
+
+-- ---- the order of reading
+
+pub next-once : (h : History) (a b : ℕ) → IsNextLink h a → IsNextLink h b → a ≡ b
+next-once h a b p q =
+    let not_below : ¬ (a < b) = λ lt. q.lowest a lt p.is_open (p.least b q.is_open) in
+    let not_above : ¬ (b < a) = λ lt. p.lowest b lt q.is_open (q.least a p.is_open) in
+    omega (arith, not_below, not_above)
+
+piece-once : (s : Settings) (h : History) (link : ℕ) (piece : List ℕ) (a b : History) → IsAfterPiece s h link piece a → IsAfterPiece s h link piece b → a ≡ b
+piece-once s h link [] a b p q = closes-once s h link a b p q
+piece-once s h link (x ∷ piece) a b p q = feeds-once s h link (x ∷ piece) a b p q
+
+pub reads-once : (s : Settings) (links : ℕ) (reads : List Read) (a b : History) → IsHistoryOf s links reads a → IsHistoryOf s links reads b → a ≡ b
+reads-once s links [] a b p q = p ∙ sym q
+reads-once s links (r ∷ before) a b (m, came, p) (m', came', q) =
+    let same : m' ≡ m = reads-once s links before m' m came' came in
+    piece-once s m r.link r.piece a b p.after (subst (λ (x : History). IsAfterPiece s x r.link r.piece b) same q.after)

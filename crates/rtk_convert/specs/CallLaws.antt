@@ -1,14 +1,12 @@
 -- The promise for any list of calls, and what they write, by the contracts of `feed`, `close` and `finish`.
 use Rattle.std.specs.Prelude.{◌≡◌, ◌⊎◌, ℕ, List, [], ◌∷◌, Option, None, Some}
-use Rattle.rtk_frame.specs.Stream.{with_more}
 use Rattle.rtk_convert.specs.declared.counts.Counts.{Counts}
 use Rattle.rtk_convert.specs.declared.fault.ConvertFault.TheVariants.{NoLink, LinkClosed}
 use Rattle.rtk_convert.specs.Converter.{ConverterState, Represents, refusal, Feeds, Closes, Ends}
 use Rattle.rtk_convert.specs.FileLaws.{IsTextOfTable}
 use Rattle.rtk_convert.specs.FileOfArrivals.{kept_file}
 use Rattle.rtk_convert.specs.Finding.{Found, arrivals}
-use Rattle.rtk_convert.specs.Finish.{all_counts, report_of}
-use Rattle.rtk_convert.specs.Headline.{Call, Feed, Close, FindAll, Headline}
+use Rattle.rtk_convert.specs.Headline.{Call, Feed, Close, FindAll, Headline, WritesKept}
 use Rattle.rtk_convert.specs.History.{new_history}
 use Rattle.rtk_convert.specs.Settings.{Settings, IsSettings}
 
@@ -50,16 +48,7 @@ CallsKeepPromise =
     (s : Settings) (links : ℕ) (calls : List Call) (counts : Counts) (out_old out_new log_old log_new : Option (List ℕ))
     → IsConversionBy s links calls counts out_old out_new log_old log_new → Headline s links calls out_old out_new log_old log_new
 
--- whatever bodies equal keys carry, the file written is that of what is kept, of each key the first that came while its
--- epoch was open; the report and the counts are those of all frames found, each counted in one class
-pub record WritesKept (s : Settings) (links : ℕ) (calls : List Call) (counts : Counts) (out_old out_new log_old log_new : Option (List ℕ)) : Type 0 where
-  pub found : List Found
-  pub of_all_pieces : FindAll s links calls found
-  pub out : out_new ≡ with_more out_old (kept_file s (arrivals found))
-  pub log : log_new ≡ with_more log_old (report_of s found)
-  pub counts_are : counts ≡ all_counts s found
-
--- such calls write this
+-- such calls write what is kept
 abbrev pub CallsWriteKept : Type 0
 CallsWriteKept =
     (s : Settings) (links : ℕ) (calls : List Call) (counts : Counts) (out_old out_new log_old log_new : Option (List ℕ))

@@ -14,11 +14,13 @@ use Rattle.rtk_collect.specs.Late.{late}
 use Rattle.rtk_collect.specs.Laws.{without_late, AreInTime, IsKept, HasEpoch}
 use Rattle.rtk_collect.specs.Search.{Falls}
 use Rattle.rtk_convert.specs.declared.arrival.Finding.TheVariants.{Arrived}
+use Rattle.rtk_convert.specs.declared.counts.Counts.{Counts}
 use Rattle.rtk_convert.specs.Converter.{IsAfterClosing, IsAfterClosingAll}
 use Rattle.rtk_convert.specs.File.{file_of}
 use Rattle.rtk_convert.specs.FileLaws.{IsTextOfTable}
 use Rattle.rtk_convert.specs.FileOfArrivals.{site_of_stations, kept_file}
 use Rattle.rtk_convert.specs.Finding.{Found, arrivals}
+use Rattle.rtk_convert.specs.Finish.{all_counts, report_of}
 use Rattle.rtk_convert.specs.History.{History, new_history, IsOpen, IsAfterFeed}
 use Rattle.rtk_convert.specs.Reading.{HasCalled}
 use Rattle.rtk_convert.specs.Reads.{Read, Gave, IsHistoryOf, AllClosed, AllAtEnd}
@@ -53,10 +55,11 @@ FindAll s links calls found = (h : History) × (last : History) × ComeTo s link
 abbrev pub EqualKeysCarryEqualBodies : Settings → List Found → Type 0
 EqualKeysCarryEqualBodies s found = IsConsistent s.window (arrivals found)
 
--- ---- "the set of messages that came at least once while their epoch was open"
+-- ---- "the file written is byte for byte"
 
-abbrev pub CameInTime : Settings → List Found → Arrival → Type 0
-CameInTime s found a = IsTaken s.window a (arrivals found)
+-- such a text was written, behind what was written before
+abbrev pub IsWritten : Option (List ℕ) → Option (List ℕ) → (List ℕ → Type 0) → Type 0
+IsWritten before after IsText = (text : List ℕ) × (after ≡ with_more before text) × IsText text
 
 -- ---- "the file of the set"
 
@@ -77,6 +80,11 @@ pub record IsContentOf (set : Arrival → Type 0) (c : Content) : Type 0 where
   pub arp1005 : IsStationOf set 1005 c.arp1005
   pub arp1006 : IsStationOf set 1006 c.arp1006
 
+-- ---- "the set of messages that came at least once while their epoch was open"
+
+abbrev pub CameInTime : Settings → List Found → Arrival → Type 0
+CameInTime s found a = IsTaken s.window a (arrivals found)
+
 -- ---- "each taken once"
 
 abbrev pub CellsRise : List EpochCells → Type 0
@@ -91,12 +99,6 @@ pub record EachOnce (c : Content) : Type 0 where
 -- the text of a set: the header, and the records of its epochs, rising
 abbrev pub IsFileOf : Settings → (Arrival → Type 0) → List ℕ → Type 0
 IsFileOf s set text = (c : Content) × IsContentOf set c × EachOnce c × (text ≡ file_of s (site_of_stations c.arp1005 c.arp1006) c.epochs)
-
--- ---- "the file written is byte for byte"
-
--- such a text was written, behind what was written before
-abbrev pub IsWritten : Option (List ℕ) → Option (List ℕ) → (List ℕ → Type 0) → Type 0
-IsWritten before after IsText = (text : List ℕ) × (after ≡ with_more before text) × IsText text
 
 -- ---- "late arrivals are listed"
 
@@ -133,6 +135,17 @@ pub record Headline (s : Settings) (links : ℕ) (calls : List Call) (out_old ou
   pub late_are_listed : LateAreListed s found log_old log_new
   pub late_change_nothing : LateChangeNothing s found
 
+-- ---- without the premise on keys
+
+-- whatever bodies equal keys carry, the file written is that of what is kept, of each key the first that came while its
+-- epoch was open; the report and the counts are those of all frames found, each counted in one class
+pub record WritesKept (s : Settings) (links : ℕ) (calls : List Call) (counts : Counts) (out_old out_new log_old log_new : Option (List ℕ)) : Type 0 where
+  pub found : List Found
+  pub of_all_pieces : FindAll s links calls found
+  pub out : out_new ≡ with_more out_old (kept_file s (arrivals found))
+  pub log : log_new ≡ with_more log_old (report_of s found)
+  pub counts_are : counts ≡ all_counts s found
+
 -- a set has one file, whatever the frames are in which it came
 abbrev pub SetHasOneFile : Type 0
 SetHasOneFile = (s : Settings) (one other : List Found) (first second : List ℕ) → ((a : Arrival) → CameInTime s one a ↔ CameInTime s other a)
@@ -149,11 +162,13 @@ abbrev pub calls_of : List Read → List Call
 calls_of [] = []
 calls_of (r ∷ before) = call_of r.link r.piece ∷ calls_of before
 
--- the sentence, of the pieces that the readers gave: to their ends, and each read of the link that was next
-pub record RunHeadline {R : Type 0} (given : R → Option (List ℕ)) (calls : R → ℕ) (is_at_end : R → Type 0) (s : Settings) (before after : List R) (out_old out_new log_old log_new : Option (List ℕ)) : Type 0 where
+-- the sentence, of the pieces that the readers gave: to their ends, and each read of the link that was next; and of the
+-- same pieces what is kept, the report and the counts
+pub record RunHeadline {R : Type 0} (given : R → Option (List ℕ)) (calls : R → ℕ) (is_at_end : R → Type 0) (s : Settings) (before after : List R) (counts : Counts) (out_old out_new log_old log_new : Option (List ℕ)) : Type 0 where
   pub reads : List Read
   pub gave : Gave given before after reads
   pub called : HasCalled calls before after (length reads)
   pub to_their_ends : AllAtEnd is_at_end after
   pub in_order : (h : History) × IsHistoryOf s (length before) reads h × AllClosed h
   pub headline : Headline s (length before) (calls_of reads) out_old out_new log_old log_new
+  pub kept : WritesKept s (length before) (calls_of reads) counts out_old out_new log_old log_new

@@ -1,10 +1,12 @@
--- Laws: a payload comes to one finding, so a call to one history, and any calls find one list of frames.
+-- Laws: a payload comes to one finding, so a call to one history, and any calls find one list of frames; one link is next,
+-- so reads come to one history. All of it is this project's rule.
 use Rattle.std.specs.Prelude.{◌≡◌, ℕ, List}
 use Rattle.rtk_convert.specs.declared.arrival.Finding.{Finding}
 use Rattle.rtk_convert.specs.Converter.{IsAfterClosingAll}
 use Rattle.rtk_convert.specs.Finding.{ComesTo, Found}
 use Rattle.rtk_convert.specs.Headline.{Call, FindAll}
-use Rattle.rtk_convert.specs.History.{History, IsAfterFeed, IsAfterClose}
+use Rattle.rtk_convert.specs.History.{History, IsAfterFeed, IsAfterClose, IsNextLink}
+use Rattle.rtk_convert.specs.Reads.{Read, IsHistoryOf}
 use Rattle.rtk_convert.specs.Settings.{Settings}
 
 abbrev pub ComesToOne : Type 0
@@ -22,3 +24,11 @@ EndsAtOne = (s : Settings) (h : History) (links : ℕ) (a b : History) → IsAft
 -- so what is said of the frames that calls find is said of one list, wherever it is said
 abbrev pub CallsFindOne : Type 0
 CallsFindOne = (s : Settings) (links : ℕ) (calls : List Call) (one other : List Found) → FindAll s links calls one → FindAll s links calls other → one ≡ other
+
+-- the order of reading is a function of the history
+abbrev pub NextIsOne : Type 0
+NextIsOne = (h : History) (one other : ℕ) → IsNextLink h one → IsNextLink h other → one ≡ other
+
+-- so the reads that were made fix the history, and with it the link that is read next
+abbrev pub ReadsComeToOne : Type 0
+ReadsComeToOne = (s : Settings) (links : ℕ) (reads : List Read) (a b : History) → IsHistoryOf s links reads a → IsHistoryOf s links reads b → a ≡ b

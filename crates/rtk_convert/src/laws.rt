@@ -3,7 +3,7 @@
 ghost use Rattle.rtk_convert.specs.ArrivalLaws.{OneSetHasOneFile, LateLeaveFile, SoFarBegins, HeaderIsFinal, OthersLeaveFile, KeptFileIsTable, FrameAddsToOne};
 ghost use Rattle.rtk_convert.specs.CountLaws.{EachFrameInOneClass};
 ghost use Rattle.rtk_convert.specs.FileLaws.{FileIsTable};
-ghost use Rattle.rtk_convert.specs.HistoryLaws.{ComesToOne, FeedsToOne, ClosesToOne, EndsAtOne, CallsFindOne};
+ghost use Rattle.rtk_convert.specs.HistoryLaws.{ComesToOne, FeedsToOne, ClosesToOne, EndsAtOne, CallsFindOne, NextIsOne, ReadsComeToOne};
 
 use rtk_collect::{late_arrivals_change_nothing, set_decides};
 use rtk_rinex::files_are_tables;
@@ -35,13 +35,16 @@ pub fn file_only_grows()
 {}
 
 /// A payload comes to one finding, so each call on a link comes to one history, and any calls find
-/// one list of frames.
+/// one list of frames. One link is next at most, and reads come to one history: so the order of
+/// reading is a function of the history.
 pub fn one_history_of_calls()
     ensures finding { ComesToOne }
     ensures feed { FeedsToOne }
     ensures close { ClosesToOne }
     ensures end { EndsAtOne }
     ensures all { CallsFindOne }
+    ensures next { NextIsOne }
+    ensures reads { ReadsComeToOne }
 {}
 
 /// What a frame adds goes to the file or to the report, never to both.

@@ -155,7 +155,7 @@ pub fn run<R: Source, O: Sink, L: Sink>(
 ) -> Result<Counts, ConvertFault>
     ensures setup { IsErrOf result ConvertFault.Setup ↔ ¬ (IsLinkCount (length readers.old)) }
     ensures fault { IfErr result IsRunFault }
-    ensures headline { OnOk result (RunHeadline R.given R.calls R.is_at_end setup readers.old readers.new (O.taken out.old) (O.taken out.new) (L.taken log.old) (L.taken log.new)) }
+    ensures headline { IfOk result (λ counts. RunHeadline R.given R.calls R.is_at_end setup readers.old readers.new counts (O.taken out.old) (O.taken out.new) (L.taken log.old) (L.taken log.new)) }
     ensures ok { IfOk result (λ counts. RunsAs R.given R.calls R.is_at_end setup readers.old readers.new counts (O.taken out.old) (O.taken out.new) (L.taken log.old) (L.taken log.new)) }
     ensures reads { sum_by R.calls readers.new ≤ sum_by R.calls readers.old + max_reads }
     ensures out_failed { IsErrOf result (ConvertFault.Write Stream.Out) → Rises (O.failures out.old) (O.failures out.new) }

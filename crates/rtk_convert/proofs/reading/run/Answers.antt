@@ -7,7 +7,7 @@ use Rattle.rtk_convert.specs.Failure.{IsReadingFault}
 use Rattle.rtk_convert.specs.Reading.{HasReadAll}
 use Rattle.rtk_convert.specs.Run.{FailsReading, StaysOpen, BreaksOffReading}
 use Rattle.rtk_convert.specs.Settings.{Settings}
-use Rattle.rtk_convert.proofs.HeadlineLemmas.{if_ok-on, run-headline}
+use Rattle.rtk_convert.proofs.HeadlineLemmas.{run-headline}
 use Rattle.rtk_convert.proofs.WritingLemmas.{on_ok-map}
 use Rattle.rtk_convert.proofs.RunLemmas.{runs-as, breaks-ending, links-few, reading-run, frame-run}
 use Rattle.rtk_convert.proofs.reading.run.Goals as goal
@@ -67,7 +67,7 @@ returns-clause-headline g c =
     let all : HasReadAll g.R.Source.given g.R.Source.calls g.R.Source.is_at_end c.args.setup c.args.readers.now c.read_all.new.readers c.read_all.new.converter (g.O.Sink.taken c.args.out.now) (g.O.Sink.taken c.read_all.new.out) (g.L.Sink.taken c.args.log.now) (g.L.Sink.taken c.read_all.new.log) =
     subst (λ (s : Settings). HasReadAll g.R.Source.given g.R.Source.calls g.R.Source.is_at_end s c.args.readers.now c.read_all.new.readers c.read_all.new.converter (g.O.Sink.taken c.args.out.now) (g.O.Sink.taken c.read_all.new.out) (g.L.Sink.taken c.args.log.now) (g.L.Sink.taken c.read_all.new.log))
     c.in_ok-converter.ensures.settings c.in_default.ensures.ok in
-    if_ok-on c.finish.result (λ counts ends.
+    IfOk-weaker c.finish.result _ _ (λ counts ends.
     let e = ends all.history all.represents in
     run-headline g.R.Source.given g.R.Source.calls g.R.Source.is_at_end c.args.setup c.args.readers.now c.read_all.new.readers counts (g.O.Sink.taken c.args.out.now) (g.O.Sink.taken c.finish.new.out) (g.L.Sink.taken c.args.log.now) (g.L.Sink.taken c.finish.new.log)
     (runs-as g.R.Source.given g.R.Source.calls g.R.Source.is_at_end c.args.setup c.args.readers.now c.read_all.new.readers c.read_all.new.converter counts
