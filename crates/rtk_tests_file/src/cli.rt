@@ -1,4 +1,5 @@
-//! Tests of the commands, by values from outside. What the words give and what clap says of them is tested by the program.
+//! Tests of the commands, by values from outside. What words are refused and what clap
+//! says of them is tested by the program.
 
 mod checks;
 mod convert_words;

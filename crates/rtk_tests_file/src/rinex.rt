@@ -1,6 +1,6 @@
 //! An example file, the limits of the columns, and heads and files that are refused.
 
-mod check;
+pub(crate) mod check;
 mod check_lines;
 mod header;
 mod header_check;

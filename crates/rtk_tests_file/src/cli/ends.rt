@@ -1,5 +1,6 @@
 //! How a conversion ends: the exit status and the fault line.
 
+use crate::convert::NOTHING;
 use rtk_cli::conversion_status;
 use rtk_convert::{ConvertFault, Counts, Stream};
 use rtk_testing::{same, same_of};
@@ -37,19 +38,6 @@ impl Eprint for Told {
         self.add(value, "\n")
     }
 }
-
-// A conversion of nothing that was found.
-const NOTHING: Counts = Counts {
-    frames: 0,
-    other: 0,
-    refused: 0,
-    foreign: 0,
-    taken: 0,
-    repeat: 0,
-    conflict: 0,
-    late: 0,
-    epochs: 0,
-};
 
 // What a conversion came to, whether its file and its report are out, and what is told.
 const ENDS: [(Result<Counts, ConvertFault>, bool, u8, &str); 12] = [

@@ -71,7 +71,7 @@ fn run_over(alloc: Global, readers: &mut [Noting]) -> Result<(), Fail> {
     Ok(())
 }
 
-// So many reads, and how many bytes each asked for.
+// How many bytes a read gives at most, and how many each read asks for.
 const ASKED: [(usize, &[usize]); 3] = [(100, &[512; 13]), (512, &[512; 4]), (1000, &[512; 4])];
 
 // A link is read to its end.

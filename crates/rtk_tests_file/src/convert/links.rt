@@ -10,7 +10,7 @@ use crate::moments::{NOON, moment};
 use rtk_convert::{ConvertFault, Converter, Stream};
 use rtk_frame::{MemSink, encode_frame};
 use rtk_obs::GpsMs;
-use rtk_testing::{holds, same};
+use rtk_testing::{holds, same, same_of};
 use std::alloc::Global;
 use std::test::Fail;
 
@@ -77,24 +77,40 @@ impl Converting {
     }
 }
 
-/// A payload that comes on a link, and whether the file has bytes then.
-type Coming = (usize, &'static [u8], bool);
+/// A payload that comes on a link, and the whole file then.
+type Coming = (usize, &'static [u8], &'static [&'static str]);
+
+const NOON_CLOSED: [&str; 7] = [TOP, NO_SITE, TYPES, FIRST_AT_NOON, END, AT_NOON, Q_LINE];
 
 // The last one is late.
-const LATE: [Coming; 4] = [(0, Q, false), (0, Q_1, false), (0, Q_2, true), (1, Q, true)];
+const LATE: [Coming; 4] = [
+    (0, Q, &[]),
+    (0, Q_1, &[]),
+    (0, Q_2, &NOON_CLOSED),
+    (0, Q, &NOON_CLOSED),
+];
+
+const AFTER_1_S_CLOSED: [&str; 7] = [
+    TOP,
+    NO_SITE,
+    TYPES,
+    FIRST_AFTER_NOON,
+    END,
+    AFTER_1_S,
+    Q_LINE,
+];
 
 // Satellite 40 is none of GPS, so that its epoch has no record.
 const EMPTY: [Coming; 4] = [
-    (0, SATELLITE_40, false),
-    (0, Q_1, false),
-    (0, Q_2, false),
-    (0, Q_3, true),
+    (0, SATELLITE_40, &[]),
+    (0, Q_1, &[]),
+    (0, Q_2, &[]),
+    (0, Q_3, &AFTER_1_S_CLOSED),
 ];
 
-/// Payloads that come, the file and the report that are written then, and the newest epoch of link 0.
+/// Payloads that come with the files then, and at last the report and the newest epoch of link 0.
 struct Closing {
     payloads: &'static [Coming],
-    file: &'static [&'static str],
     report: &'static str,
     newest: u64,
 }
@@ -102,35 +118,25 @@ struct Closing {
 const CLOSINGS: [Closing; 2] = [
     Closing {
         payloads: &LATE,
-        file: &[TOP, NO_SITE, TYPES, FIRST_AT_NOON, END, AT_NOON, Q_LINE],
-        report: "link 2 late 1004 2024-05-17 12:00:00.000\n",
+        report: "link 1 late 1004 2024-05-17 12:00:00.000\n",
         newest: NOON + 2000,
     },
     Closing {
         payloads: &EMPTY,
-        file: &[
-            TOP,
-            NO_SITE,
-            TYPES,
-            FIRST_AFTER_NOON,
-            END,
-            AFTER_1_S,
-            Q_LINE,
-        ],
         report: "",
         newest: NOON + 3000,
     },
 ];
 
-// Feeds the payloads: after each the file has bytes or none.
+// Feeds the payloads, and looks at the file after each.
 fn check_coming(
     alloc: Global,
     converting: &mut Converting,
     payloads: &[Coming],
 ) -> Result<(), Fail> {
-    for (link, payload, is_out) in payloads {
+    for (link, payload, file) in payloads {
         same(&converting.feed(alloc, *link, *payload)?, &None)?;
-        same(&converting.out.bytes().is_empty(), &!*is_out)?;
+        holds(consists_of(converting.out.bytes(), *file))?;
     }
     Ok(())
 }
@@ -139,7 +145,6 @@ fn check_closing(alloc: Global, row: &Closing) -> Result<(), Fail> {
     let newest = Some(moment(row.newest)?);
     let mut converting = Converting::new(alloc, (WHOLE, WHOLE), (1, 7))?;
     check_coming(alloc, &mut converting, row.payloads)?;
-    holds(consists_of(converting.out.bytes(), row.file))?;
     same(
         &(converting.log.bytes(), converting.newest(0)),
         &(row.report.as_bytes(), newest),
@@ -154,10 +159,10 @@ fn records_go_out_as_epochs_close(rt: HostRuntime) -> Result<(), Fail> {
     Ok(())
 }
 
-/// A payload that comes on a link, and what is wrong with it.
-type Refused = (usize, &'static [u8], Option<ConvertFault>);
+/// A payload that comes on a link, and what is wrong with it, or nothing.
+type Fed = (usize, &'static [u8], Option<ConvertFault>);
 
-fn check_feeds(alloc: Global, converting: &mut Converting, frames: &[Refused]) -> Result<(), Fail> {
+fn check_feeds(alloc: Global, converting: &mut Converting, frames: &[Fed]) -> Result<(), Fail> {
     for (link, payload, want) in frames {
         same(&converting.feed(alloc, *link, *payload)?, want)?;
     }
@@ -165,7 +170,7 @@ fn check_feeds(alloc: Global, converting: &mut Converting, frames: &[Refused]) -
 }
 
 // The first link is closed, and the file takes 100 bytes.
-const CALLS: [Refused; 6] = [
+const CALLS: [Fed; 6] = [
     (2, Q, Some(ConvertFault::NoLink)),
     (0, Q, Some(ConvertFault::LinkClosed)),
     (1, Q, None),
@@ -199,15 +204,21 @@ fn calls_on_links_are_refused_in_order(rt: HostRuntime) -> Result<(), Fail> {
 
 #[test]
 fn a_converter_has_1_to_16_links(rt: HostRuntime) -> Result<(), Fail> {
-    for &links in &[0, 17] {
-        let refused = Converter::new(rt.alloc(), setup(2003, NOON, 2)?, links);
-        holds(matches!(refused, Err(ConvertFault::Setup)))?;
+    for &(links, want) in &[(0, 0), (1, 1), (16, 16), (17, 0)] {
+        let got = match Converter::new(rt.alloc(), setup(2003, NOON, 2)?, links) {
+            Ok(converter) => converter.links(),
+            Err(fault) => {
+                same(&fault, &ConvertFault::Setup)?;
+                0
+            }
+        };
+        same_of(links, &got, &want)?;
     }
     Ok(())
 }
 
-// The report takes 10 bytes.
-const CONFLICT: [Refused; 3] = [
+// No report can be written.
+const CONFLICT: [Fed; 3] = [
     (0, P, None),
     (
         0,
@@ -222,14 +233,14 @@ const CONFLICT: [Refused; 3] = [
 #[test]
 fn a_report_that_fails_stops_the_converter(rt: HostRuntime) -> Result<(), Fail> {
     let alloc = rt.alloc();
-    let mut converting = Converting::new(alloc, (WHOLE, 10), (WHOLE, WHOLE))?;
+    let mut converting = Converting::new(alloc, (WHOLE, 0), (WHOLE, WHOLE))?;
     check_feeds(alloc, &mut converting, &CONFLICT)?;
     let closed = converting.close(0);
     let (fault, out, log) = converting.finish();
     let stopped = Some(ConvertFault::Stopped);
     same(
         &(closed, fault, out.bytes(), log.bytes()),
-        &(stopped, stopped, b"".as_slice(), b"link 1 con".as_slice()),
+        &(stopped, stopped, b"".as_slice(), b"".as_slice()),
     )
 }
 

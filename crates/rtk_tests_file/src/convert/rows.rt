@@ -11,19 +11,7 @@ pub(crate) struct Row {
 }
 
 /// Positions, cells and closed epochs.
-pub(crate) const EPOCHS: [Row; 10] = [
-    // The example: a position and an epoch.
-    Row {
-        payloads: &[P, Q],
-        file: &[TOP, SITE, TYPES, FIRST_AT_NOON, END, AT_NOON, Q_LINE],
-        report: "frames 2\nother 0\nrefused 0\nforeign 0\ntaken 2\nrepeat 0\nconflict 0\nlate 0\nepochs 1\n",
-    },
-    // Nothing was found.
-    Row {
-        payloads: &[],
-        file: &[TOP, NO_SITE, TYPES, FIRST_AT_NOON, END],
-        report: "frames 0\nother 0\nrefused 0\nforeign 0\ntaken 0\nrepeat 0\nconflict 0\nlate 0\nepochs 0\n",
-    },
+pub(crate) const EPOCHS: [Row; 8] = [
     // A 1006 gives the height too.
     Row {
         payloads: &[P_WITH_HEIGHT, Q],
@@ -140,8 +128,8 @@ pub(crate) const EPOCHS: [Row; 10] = [
     },
 ];
 
-/// Late, refused and other messages.
-pub(crate) const REPORTS: [Row; 7] = [
+/// Late, conflicting and refused messages.
+pub(crate) const REPORTS: [Row; 6] = [
     // A station message after two epochs is late.
     Row {
         payloads: &[Q, Q_1, P],
@@ -179,12 +167,6 @@ pub(crate) const REPORTS: [Row; 7] = [
         payloads: &[P, P_OF_ANOTHER_YEAR],
         file: &[TOP, SITE, TYPES, FIRST_AT_NOON, END],
         report: "link 1 conflict 1005 -\nframes 2\nother 0\nrefused 0\nforeign 0\ntaken 1\nrepeat 0\nconflict 1\nlate 0\nepochs 0\n",
-    },
-    // Other messages and other stations are counted.
-    Row {
-        payloads: &[OTHER_NUMBER, P_OF_STATION_7],
-        file: &[TOP, NO_SITE, TYPES, FIRST_AT_NOON, END],
-        report: "frames 2\nother 1\nrefused 0\nforeign 1\ntaken 0\nrepeat 0\nconflict 0\nlate 0\nepochs 0\n",
     },
     // Refused payloads are listed with their fault.
     Row {

@@ -1,8 +1,9 @@
 //! Runs over several links, with what each comes to.
 
+use super::NOTHING;
 use super::payloads::*;
 use super::texts::*;
-use rtk_convert::{ConvertFault, Stream};
+use rtk_convert::{ConvertFault, Counts, Stream};
 use rtk_frame::After;
 
 /// What a run is given, and what it comes to. The window has two epochs.
@@ -16,7 +17,7 @@ pub(crate) struct Run {
     pub(crate) room: (usize, usize),
     /// How many bytes `log` takes.
     pub(crate) log_room: usize,
-    pub(crate) fault: Option<ConvertFault>,
+    pub(crate) answer: Result<Counts, ConvertFault>,
     pub(crate) file: &'static [&'static str],
     pub(crate) report: &'static str,
 }
@@ -28,6 +29,13 @@ pub(crate) const EXAMPLE: [&str; 7] = [TOP, SITE, TYPES, FIRST_AT_NOON, END, AT_
 const EXAMPLE_REPORT: &str =
     "frames 2\nother 0\nrefused 0\nforeign 0\ntaken 2\nrepeat 0\nconflict 0\nlate 0\nepochs 1\n";
 
+const EXAMPLE_COUNTS: Counts = Counts {
+    frames: 2,
+    taken: 2,
+    epochs: 1,
+    ..NOTHING
+};
+
 /// Runs that come to their end.
 pub(crate) const ENDED: [Run; 5] = [
     // An empty link.
@@ -37,7 +45,7 @@ pub(crate) const ENDED: [Run; 5] = [
         max_reads: 1,
         room: (AMPLE, AMPLE),
         log_room: AMPLE,
-        fault: None,
+        answer: Ok(NOTHING),
         file: &[TOP, NO_SITE, TYPES, FIRST_AT_NOON, END],
         report: "frames 0\nother 0\nrefused 0\nforeign 0\ntaken 0\nrepeat 0\nconflict 0\nlate 0\nepochs 0\n",
     },
@@ -48,7 +56,7 @@ pub(crate) const ENDED: [Run; 5] = [
         max_reads: 100,
         room: (AMPLE, AMPLE),
         log_room: AMPLE,
-        fault: None,
+        answer: Ok(EXAMPLE_COUNTS),
         file: &EXAMPLE,
         report: EXAMPLE_REPORT,
     },
@@ -59,7 +67,7 @@ pub(crate) const ENDED: [Run; 5] = [
         max_reads: 2,
         room: (AMPLE, 1),
         log_room: AMPLE,
-        fault: None,
+        answer: Ok(EXAMPLE_COUNTS),
         file: &EXAMPLE,
         report: EXAMPLE_REPORT,
     },
@@ -70,7 +78,13 @@ pub(crate) const ENDED: [Run; 5] = [
         max_reads: 4,
         room: (AMPLE, AMPLE),
         log_room: AMPLE,
-        fault: None,
+        answer: Ok(Counts {
+            frames: 4,
+            taken: 2,
+            repeat: 2,
+            epochs: 1,
+            ..NOTHING
+        }),
         file: &EXAMPLE,
         report: "frames 4\nother 0\nrefused 0\nforeign 0\ntaken 2\nrepeat 2\nconflict 0\nlate 0\nepochs 1\n",
     },
@@ -81,7 +95,12 @@ pub(crate) const ENDED: [Run; 5] = [
         max_reads: 2,
         room: (AMPLE, AMPLE),
         log_room: AMPLE,
-        fault: None,
+        answer: Ok(Counts {
+            frames: 2,
+            other: 1,
+            foreign: 1,
+            ..NOTHING
+        }),
         file: &[TOP, NO_SITE, TYPES, FIRST_AT_NOON, END],
         report: "frames 2\nother 1\nrefused 0\nforeign 1\ntaken 0\nrepeat 0\nconflict 0\nlate 0\nepochs 0\n",
     },
@@ -96,18 +115,18 @@ pub(crate) const BROKEN: [Run; 9] = [
         max_reads: 3,
         room: (AMPLE, AMPLE),
         log_room: AMPLE,
-        fault: Some(ConvertFault::Endless),
+        answer: Err(ConvertFault::Endless),
         file: &[],
         report: "",
     },
-    // No read is allowed.
+    // No read is allowed; a first one would fail.
     Run {
-        links: &[&[P, Q], &[P, Q]],
-        after: After::End,
+        links: &[&[], &[]],
+        after: After::Failure,
         max_reads: 0,
         room: (AMPLE, AMPLE),
         log_room: AMPLE,
-        fault: Some(ConvertFault::Endless),
+        answer: Err(ConvertFault::Endless),
         file: &[],
         report: "",
     },
@@ -118,7 +137,7 @@ pub(crate) const BROKEN: [Run; 9] = [
         max_reads: 4,
         room: (AMPLE, AMPLE),
         log_room: AMPLE,
-        fault: Some(ConvertFault::Read { link: 1 }),
+        answer: Err(ConvertFault::Read { link: 1 }),
         file: &[],
         report: "",
     },
@@ -129,7 +148,7 @@ pub(crate) const BROKEN: [Run; 9] = [
         max_reads: 100,
         room: (10, AMPLE),
         log_room: AMPLE,
-        fault: Some(ConvertFault::Write {
+        answer: Err(ConvertFault::Write {
             stream: Stream::Out,
         }),
         file: &["     3.05 "],
@@ -142,7 +161,7 @@ pub(crate) const BROKEN: [Run; 9] = [
         max_reads: 100,
         room: (AMPLE, AMPLE),
         log_room: 0,
-        fault: Some(ConvertFault::Write {
+        answer: Err(ConvertFault::Write {
             stream: Stream::Log,
         }),
         file: &EXAMPLE,
@@ -155,7 +174,7 @@ pub(crate) const BROKEN: [Run; 9] = [
         max_reads: 3,
         room: (AMPLE, AMPLE),
         log_room: AMPLE,
-        fault: Some(ConvertFault::Endless),
+        answer: Err(ConvertFault::Endless),
         file: &[TOP, NO_SITE, TYPES, FIRST_AT_NOON, END, AT_NOON, Q_LINE],
         report: "",
     },
@@ -166,7 +185,7 @@ pub(crate) const BROKEN: [Run; 9] = [
         max_reads: 9,
         room: (AMPLE, AMPLE),
         log_room: AMPLE,
-        fault: Some(ConvertFault::Read { link: 0 }),
+        answer: Err(ConvertFault::Read { link: 0 }),
         file: &[],
         report: "",
     },
@@ -177,7 +196,7 @@ pub(crate) const BROKEN: [Run; 9] = [
         max_reads: 9,
         room: (AMPLE, AMPLE),
         log_room: AMPLE,
-        fault: Some(ConvertFault::Read { link: 1 }),
+        answer: Err(ConvertFault::Read { link: 1 }),
         file: &[],
         report: "",
     },
@@ -188,7 +207,7 @@ pub(crate) const BROKEN: [Run; 9] = [
         max_reads: 9,
         room: (AMPLE, AMPLE),
         log_room: AMPLE,
-        fault: Some(ConvertFault::Read { link: 2 }),
+        answer: Err(ConvertFault::Read { link: 2 }),
         file: &[
             TOP,
             NO_SITE,
