@@ -4,5 +4,5 @@
 use std::process::ExitCode;
 
 fn main(rt: HostRuntime) -> ExitCode {
-    ExitCode::from(rtk_cli::run(&rt, rt.stderr()))
+    ExitCode::from(rtk_cli::run_program(&rt, rt.stderr()))
 }

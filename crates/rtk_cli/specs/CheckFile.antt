@@ -22,8 +22,8 @@ valid_text epochs satellites =
     codes "valid: " ++ decimal epochs ++ codes " epochs, " ++ decimal satellites ++ codes " satellite lines" ++ 10 ∷ []
 
 -- the line of a fault, ended by a line feed
-abbrev pub fault_text : CheckFault → List ℕ
-fault_text fault = codes "line " ++ decimal fault.line ++ codes ": " ++ cause_text fault.cause ++ 10 ∷ []
+abbrev pub check_fault_text : CheckFault → List ℕ
+check_fault_text fault = codes "line " ++ decimal fault.line ++ codes ": " ++ cause_text fault.cause ++ 10 ∷ []
 
 -- a yes: the text is that of a well-formed table, and the line tells how many records and satellite lines it has
 abbrev pub SaysYes : List ℕ → List ℕ → Type 0
@@ -34,17 +34,17 @@ SaysYes text line =
 abbrev pub SaysNo : List ℕ → List ℕ → Type 0
 SaysNo text line =
     (fault : CheckFault) × IsFault text fault × (fault.cause ≢ OutOfMemory) × IsWithoutTable text fault.cause
-    × (line ≡ fault_text fault)
+    × (line ≡ check_fault_text fault)
 
 -- the answer, and the line that says it of the text
-abbrev pub Says : List ℕ → Bool → List ℕ → Type 0
-Says text true line = SaysYes text line
-Says text false line = SaysNo text line
+abbrev pub SaysVerdict : List ℕ → Bool → List ℕ → Type 0
+SaysVerdict text true line = SaysYes text line
+SaysVerdict text false line = SaysNo text line
 
 -- the line of this answer was taken
 abbrev pub Tells : List ℕ → Bool → Option (List ℕ) → Option (List ℕ) → Type 0
-Tells text valid before after = (line : List ℕ) × Says text valid line × (after ≡ with_more before line)
+Tells text valid before after = (line : List ℕ) × SaysVerdict text valid line × (after ≡ with_more before line)
 
 -- of the line of an answer a first part was taken, perhaps none or all of it
 abbrev pub TellsPart : List ℕ → Option (List ℕ) → Option (List ℕ) → Type 0
-TellsPart text before after = (valid : Bool) × (line : List ℕ) × Says text valid line × TakesPart before after line
+TellsPart text before after = (valid : Bool) × (line : List ℕ) × SaysVerdict text valid line × TakesPart before after line

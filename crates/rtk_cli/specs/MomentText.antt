@@ -17,5 +17,5 @@ HasDigits c =
     × (c.millisecond ≡ 0)
 
 -- the text writes a moment: it is that of the moment's reading, which has a whole second
-abbrev pub Writes : List ℕ → ℕ → Type 0
-Writes text t = (c : Civil) × Reads t c × HasDigits c × (text ≡ moment_text c)
+abbrev pub WritesMoment : List ℕ → ℕ → Type 0
+WritesMoment text t = (c : Civil) × Reads t c × HasDigits c × (text ≡ moment_text c)

@@ -18,12 +18,12 @@ use Rattle.rtk_message.specs.Decoded.{Decodes}
 use Rattle.rtk_message.specs.Msm1074.{satellites, signals, cells}
 
 -- a point and four digits: the part of a whole metre, of a number of 0.0001 m
-abbrev pub decimals : ℕ → List ℕ
-decimals n = 46 ∷ (48 + n / 1000 % 10) ∷ (48 + n / 100 % 10) ∷ (48 + n / 10 % 10) ∷ (48 + n % 10) ∷ []
+abbrev pub four_decimals : ℕ → List ℕ
+four_decimals n = 46 ∷ (48 + n / 1000 % 10) ∷ (48 + n / 100 % 10) ∷ (48 + n / 10 % 10) ∷ (48 + n % 10) ∷ []
 
 -- a length in 0.0001 m, written in metres: the whole metres without padding, and four decimals
 unfoldable pub metres : ℕ → List ℕ
-metres n = decimal (n / 10000) ++ decimals n
+metres n = decimal (n / 10000) ++ four_decimals n
 
 -- a coordinate in 0.0001 m: a minus sign where it is negative, and its length
 unfoldable pub coordinate : ℤ → List ℕ
@@ -61,17 +61,17 @@ message_text (Of1074 m) = text_1074 m
 
 -- a payload that is no message: the number of another message, or the fault's number and that of the
 -- message, where there is one
-abbrev pub fault_text : DecodeFault → List ℕ
-fault_text NoNumber = codes "refused M1 -"
-fault_text (Other number) = decimal number ++ codes " other"
-fault_text (Short number) = codes "refused M3 " ++ decimal number
-fault_text (EpochRange number) = codes "refused M4 " ++ decimal number
-fault_text TooManyCells = codes "refused M5 1074"
+abbrev pub unread_text : DecodeFault → List ℕ
+unread_text NoNumber = codes "refused M1 -"
+unread_text (Other number) = decimal number ++ codes " other"
+unread_text (Short number) = codes "refused M3 " ++ decimal number
+unread_text (EpochRange number) = codes "refused M4 " ++ decimal number
+unread_text TooManyCells = codes "refused M5 1074"
 
 -- either is ended by a line feed
 abbrev pub line_of : Result Message DecodeFault → List ℕ
 line_of (Ok m) = message_text m ++ 10 ∷ []
-line_of (Err fault) = fault_text fault ++ 10 ∷ []
+line_of (Err fault) = unread_text fault ++ 10 ∷ []
 
 -- the line of a payload is that of what it decodes to
 abbrev pub IsLineOf : List ℕ → List ℕ → Type 0

@@ -4,7 +4,7 @@ use Rattle.std.specs.Int.{IsInRange}
 use Rattle.std.specs.Cmp.Lexicographic.{pointwise}
 use Rattle.clap.specs.declared.error.kind.ErrorKind.{ErrorKind}
 use Rattle.clap.specs.declared.error.kind.ErrorKind.TheVariants.{DisplayHelp, DisplayVersion}
-use Rattle.rtk_convert.specs.Settings.{IsStation, IsWindow}
+use Rattle.rtk_convert.specs.Setup.{IsStation, IsWindow}
 use Rattle.rtk_cli.specs.declared.words.Job.{Job}
 use Rattle.rtk_cli.specs.declared.words.Job.TheVariants.{Convert, Show, Check}
 use Rattle.rtk_cli.specs.declared.words.WordsFault.{WordsFault}
@@ -15,13 +15,13 @@ abbrev pub is_stdin : List ℕ → Bool
 is_stdin word = pointwise nat_eq word (codes "stdin")
 
 -- the links of a conversion: 1 to 16, and standard input at most once (this project's rule)
-abbrev pub AreLinks : List (List ℕ) → Type 0
-AreLinks links = IsInRange 1 16 (length links) × (count_by is_stdin links ≤ 1)
+abbrev pub AreLinkNames : List (List ℕ) → Type 0
+AreLinkNames links = IsInRange 1 16 (length links) × (count_by is_stdin links ≤ 1)
 
 -- a conversion is of a station, a window and links within their limits
 abbrev pub IsWithinLimits : Job → Type 0
 IsWithinLimits (Convert setup links) =
-    IsStation setup.station × IsWindow setup.window × AreLinks (map (λ link. link.now) links.items)
+    IsStation setup.station × IsWindow setup.window × AreLinkNames (map (λ link. link.now) links.items)
 IsWithinLimits (Show hex file) = Unit {0}
 IsWithinLimits (Check file) = Unit {0}
 

@@ -1,8 +1,8 @@
 //! The command `check`: whether a text is one of this project's files, and which line is the first to blame.
 ghost use Rattle.std.specs.Prelude.{◌≡◌, ◌≢◌, ◌+◌, ◌≤◌, ◌++◌, Err, length, IfOk, OnOk, IfErr, IsErrOf};
-ghost use Rattle.rtk_frame.specs.Stream.{Rises};
+ghost use Rattle.rtk_frame.specs.Stream.{CountRises};
 ghost use Rattle.rtk_cli.specs.Input.{GivesText};
-ghost use Rattle.rtk_cli.specs.CheckFile.{cause_text, valid_text, fault_text, Says, Tells, TellsPart};
+ghost use Rattle.rtk_cli.specs.CheckFile.{cause_text, valid_text, check_fault_text, SaysVerdict, Tells, TellsPart};
 ghost use Rattle.rtk_cli.specs.declared.words.ToolFault.TheVariants.{Input, TooLong, NotHex, OutOfMemory, Output};
 
 use crate::input::read_whole;
@@ -46,7 +46,7 @@ fn put_cause(line: &mut Vec<u8>, cause: Cause) -> Result<(), AllocError>
 }
 
 fn fault_line(alloc: Global, fault: CheckFault) -> Result<Vec<u8>, AllocError>
-    ensures { IfOk result (λ line. line.items ≡ fault_text fault) }
+    ensures { IfOk result (λ line. line.items ≡ check_fault_text fault) }
 {
     let mut line = Vec::new(alloc);
     put_named(&mut line, b"line ", fault.line as u64)?;
@@ -58,7 +58,7 @@ fn fault_line(alloc: Global, fault: CheckFault) -> Result<Vec<u8>, AllocError>
 
 // The answer of a text.
 fn answer_of(alloc: Global, text: &[u8]) -> Result<Answer, ToolFault>
-    ensures says { IfOk result (λ answer. Says text.now answer.is_valid answer.line.items) }
+    ensures says { IfOk result (λ answer. SaysVerdict text.now answer.is_valid answer.line.items) }
     ensures memory { IfErr result (λ fault. fault ≡ OutOfMemory) }
 {
     let (is_valid, line) = match check(alloc, text) {
@@ -90,12 +90,12 @@ pub fn check_file<R: Source, W: Sink>(
         → R.is_at_end reader.new }
 
     // Each fault only where its cause is, and no call failed without its fault.
-    ensures input { IsErrOf result Input → Rises (R.failures reader.old) (R.failures reader.new) }
+    ensures input { IsErrOf result Input → CountRises (R.failures reader.old) (R.failures reader.new) }
     ensures no_failed_read { result ≢ Err Input → R.failures reader.new ≡ R.failures reader.old }
     ensures too_long { IsErrOf result TooLong
         → GivesText (R.given reader.old) (R.given reader.new) (λ text. length text ≡ CHECK_LIMIT + 1) }
     ensures not_hex { IsErrOf result NotHex → ⊥ }
-    ensures output { IsErrOf result Output → Rises (W.failures out.old) (W.failures out.new) }
+    ensures output { IsErrOf result Output → CountRises (W.failures out.old) (W.failures out.new) }
     ensures no_failed_write { result ≢ Err Output → W.failures out.new ≡ W.failures out.old }
 
     // Whatever the answer, so much was read at most, and so much is out.

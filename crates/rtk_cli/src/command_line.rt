@@ -94,7 +94,7 @@ fn links<'a>(alloc: Global) -> Arg<'a> {
 }
 
 // What each conversion is told. The words stand in two functions, for the same reason as each option has its own.
-fn told<'a>(alloc: Global) -> Result<Command<'a>, AllocError> {
+fn required_options<'a>(alloc: Global) -> Result<Command<'a>, AllocError> {
     Command::new(alloc, "convert")
         .about("Converts captures of one station to a RINEX 3.05 observation file")
         .arg(station(alloc))?
@@ -104,13 +104,13 @@ fn told<'a>(alloc: Global) -> Result<Command<'a>, AllocError> {
 }
 
 fn convert<'a>(alloc: Global) -> Result<Command<'a>, AllocError> {
-    told(alloc)?
+    required_options(alloc)?
         .arg(codes(alloc))?
         .arg(window(alloc))?
         .arg(links(alloc))
 }
 
-fn named<'a>(alloc: Global) -> Result<Command<'a>, AllocError> {
+fn root<'a>(alloc: Global) -> Result<Command<'a>, AllocError> {
     Command::new(alloc, NAME)
         .about("RTCM 3 observation streams to RINEX 3.05")
         .version(VERSION)
@@ -118,19 +118,19 @@ fn named<'a>(alloc: Global) -> Result<Command<'a>, AllocError> {
 }
 
 // The program takes its commands one by one: the check of a function that takes them all is long.
-fn converting<'a>(alloc: Global) -> Result<Command<'a>, AllocError> {
-    named(alloc)?
+fn with_convert<'a>(alloc: Global) -> Result<Command<'a>, AllocError> {
+    root(alloc)?
         .no_binary_name(true)
         .subcommand_required(true)
         .subcommand(convert(alloc)?)
 }
 
-fn converting_and_showing<'a>(alloc: Global) -> Result<Command<'a>, AllocError> {
-    converting(alloc)?.subcommand(show(alloc)?)
+fn with_show<'a>(alloc: Global) -> Result<Command<'a>, AllocError> {
+    with_convert(alloc)?.subcommand(show(alloc)?)
 }
 
 fn program<'a>(alloc: Global) -> Result<Command<'a>, AllocError> {
-    converting_and_showing(alloc)?.subcommand(check(alloc)?)
+    with_show(alloc)?.subcommand(check(alloc)?)
 }
 
 // The text that clap has for an error. What was asked for, as help, goes to standard output.

@@ -1,8 +1,8 @@
 //! The words of `convert`: what its options and links say.
 ghost use Rattle.std.specs.Prelude.{◌≡◌, map, IfOk, IfErr, MatchOption};
-ghost use Rattle.rtk_cli.specs.ConvertWords.{Says};
+ghost use Rattle.rtk_cli.specs.ConvertWords.{SaysConversion};
 ghost use Rattle.rtk_cli.specs.declared.words.WordsFault.TheVariants.{Bad};
-ghost use Rattle.rtk_cli.specs.Words.{AreLinks, HasStatus, IsWithinLimits};
+ghost use Rattle.rtk_cli.specs.Words.{AreLinkNames, HasStatus, IsWithinLimits};
 
 use crate::code_list::codes_of;
 use crate::moment_text::moment_of;
@@ -36,7 +36,7 @@ pub fn conversion<'a>(
     options: &Options,
     names: &[&'a str],
 ) -> Result<Job<'a>, WordsFault>
-    ensures said { IfOk result (Says options.now (map (λ name. name.now) names.now)) }
+    ensures said { IfOk result (SaysConversion options.now (map (λ name. name.now) names.now)) }
     ensures limits { IfOk result IsWithinLimits }
     ensures status { IfErr result HasStatus }
 {
@@ -84,8 +84,8 @@ fn line_of_setup(fault: SetupFault) -> BadWords {
 
 /// The links that words name; `None` exactly where they are not 1 to 16, or standard input stands twice.
 pub fn links_of<'a>(names: &[&'a str]) -> Option<ArrayVec<&'a str, 16>>
-    ensures { MatchOption result (¬ (AreLinks (map (λ n. n.now) names.now)))
-        (λ links. (links.items ≡ names.now) × AreLinks (map (λ n. n.now) names.now)) }
+    ensures { MatchOption result (¬ (AreLinkNames (map (λ n. n.now) names.now)))
+        (λ links. (links.items ≡ names.now) × AreLinkNames (map (λ n. n.now) names.now)) }
 {
     let standard = names.iter().filter(|name| **name == STDIN).count();
     if names.is_empty() || standard > 1 {

@@ -1,11 +1,11 @@
 //! The command `convert`: opens the captures, converts them, and says how it went.
 ghost use Rattle.std.specs.Prelude.{◌≡◌, ◌≤◌, ◌+◌, sum_by, IfOk, IsErrOf};
 ghost use Rattle.std.specs.Io.Buffered.{reader_capacity};
-ghost use Rattle.rtk_convert.specs.Reading.{HasCalled};
+ghost use Rattle.rtk_convert.specs.ReadSteps.{HasCalled};
 ghost use Rattle.rtk_cli.specs.Converting.{most_reads, read_at_once, status_of};
 
-use crate::files::{Link, Reads, Writes};
-use crate::telling::{DONE, FAILED, REFUSED, fail, fail_to_open, refuse};
+use crate::files::{Capture, Reads, Writes};
+use crate::exit_status::{DONE, FAILED, REFUSED, fail, fail_to_open, refuse};
 use crate::words::{BadWords, STDIN, ToolFault};
 use rtk_convert::{ConvertFault, Counts, Setup};
 use rtk_frame::{Sink, Source};
@@ -25,7 +25,7 @@ const GATHERED: usize = 65_536;
 const MOST_READS: u64 = 1_000_000_000;
 
 /// A link of the program: a file or standard input, read ahead.
-type Reader<R> = Reads<BufReader<Link<<R as Files>::File, <R as Input>::Reader>>>;
+type Reader<R> = Reads<BufReader<Capture<<R as Files>::File, <R as Input>::Reader>>>;
 
 // Why the links are not open.
 enum OpenFault<'a> {
@@ -41,12 +41,12 @@ fn open_link<'a, R: Files + Input + AllocGlobal>(
     ensures { IfOk result (λ link. reader_capacity link.inner ≡ read_at_once) }
 {
     let link = if name == STDIN {
-        Link::Stdin(rt.reader())
+        Capture::Stdin(rt.reader())
     } else {
         let Ok(file) = fs::open(rt, name) else {
             return Err(OpenFault::NotOpened { name });
         };
-        Link::File(file)
+        Capture::File(file)
     };
     match BufReader::with_capacity(rt.alloc(), READ_AT_ONCE, link) {
         Ok(reader) => Ok(Reads::new(reader)),

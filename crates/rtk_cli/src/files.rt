@@ -7,16 +7,16 @@ use std::io::{Read, Write};
 
 /// A capture of the program: a file, or standard input.
 #[derive(Drop)]
-pub enum Link<F: Read + Drop, I: Read + Drop> {
+pub enum Capture<F: Read + Drop, I: Read + Drop> {
     File(F),
     Stdin(I),
 }
 
-impl<F: Read + Drop, I: Read + Drop> Read for Link<F, I> {
+impl<F: Read + Drop, I: Read + Drop> Read for Capture<F, I> {
     fn read(&mut self, buf: &mut [u8]) -> io::Result<usize> {
         match self {
-            Link::File(file) => file.read(buf),
-            Link::Stdin(stdin) => stdin.read(buf),
+            Capture::File(file) => file.read(buf),
+            Capture::Stdin(stdin) => stdin.read(buf),
         }
     }
 }

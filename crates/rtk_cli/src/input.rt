@@ -1,6 +1,6 @@
 //! Reading an input whole.
 ghost use Rattle.std.specs.Prelude.{◌≡◌, ◌≢◌, ◌+◌, ◌≤◌, length, Err, IfOk, OnOk, IsErrOf};
-ghost use Rattle.rtk_frame.specs.Stream.{Rises};
+ghost use Rattle.rtk_frame.specs.Stream.{CountRises};
 ghost use Rattle.rtk_cli.specs.Input.{GivesText};
 ghost use Rattle.rtk_cli.specs.declared.words.ToolFault.TheVariants.{Input, TooLong, NotHex, Output};
 
@@ -22,7 +22,7 @@ pub fn read_whole<R: Source>(
         (text ≡ bytes.items) × (length text ≤ limit))) }
     ensures to_the_end { OnOk result (R.is_at_end reader.new) }
     ensures no_fault { result ≢ Err Input → R.failures reader.new ≡ R.failures reader.old }
-    ensures input { IsErrOf result Input → Rises (R.failures reader.old) (R.failures reader.new) }
+    ensures input { IsErrOf result Input → CountRises (R.failures reader.old) (R.failures reader.new) }
     ensures too_long { IsErrOf result TooLong
         → GivesText (R.given reader.old) (R.given reader.new) (λ text. length text ≡ limit + 1) }
     ensures within { GivesText (R.given reader.old) (R.given reader.new) (λ text.

@@ -2,7 +2,7 @@
 ghost use Rattle.std.specs.Prelude.{◌≡◌, ◌≢◌, ℕ, ◌+◌, ◌/◌, ◌%◌, ◌<◌, ◌≤◌, MatchOption};
 ghost use Rattle.rtk_obs.specs.declared.time.Civil.{Civil};
 ghost use Rattle.rtk_obs.specs.declared.time.TheConstants.{LAST_MS};
-ghost use Rattle.rtk_cli.specs.MomentText.{moment_text, HasDigits, Writes};
+ghost use Rattle.rtk_cli.specs.MomentText.{moment_text, HasDigits, WritesMoment};
 
 use rtk_obs::{Civil, GpsMs, of_civil};
 
@@ -72,7 +72,7 @@ fn reading_of(text: &[u8]) -> Option<Civil>
 /// exactly where the text is no such text, the day or the time of day doesn't exist, or the moment lies
 /// outside `GpsMs`.
 pub fn moment_of(text: &[u8]) -> Option<GpsMs>
-    ensures { MatchOption result ((t : ℕ) → t ≤ LAST_MS → ¬ (Writes text.now t)) (λ t. Writes text.now t) }
+    ensures { MatchOption result ((t : ℕ) → t ≤ LAST_MS → ¬ (WritesMoment text.now t)) (λ t. WritesMoment text.now t) }
 {
     let Some(reading) = reading_of(text) else {
         return None;

@@ -2,7 +2,7 @@
 ghost use Rattle.std.specs.Prelude.{◌≡◌, ◌++◌, ◌∷◌, [], List, ℕ, decimal, IfOk, OnOk};
 ghost use Rattle.rtk_message.specs.Decoded.{IsValid};
 ghost use Rattle.rtk_message.specs.Msm1074.{HasLengths};
-ghost use Rattle.rtk_cli.specs.Shown.{decimals, metres, coordinate, point, text_1004, text_1005, text_1006, text_1074, message_text, fault_text, IsLineOf};
+ghost use Rattle.rtk_cli.specs.Shown.{four_decimals, metres, coordinate, point, text_1004, text_1005, text_1006, text_1074, message_text, unread_text, IsLineOf};
 
 use itoa::Buffer;
 use rtk_message::{Arp1005, Arp1006, DecodeFault, Message, Msm1074, Obs1004, decode};
@@ -23,7 +23,7 @@ pub fn put_named(line: &mut Vec<u8>, name: &[u8], number: u64) -> Result<(), All
 }
 
 fn decimals_of(magnitude: u64) -> [u8; 5]
-    ensures { result ≡ decimals magnitude }
+    ensures { result ≡ four_decimals magnitude }
 {
     let digit = |place: u64| b'0' + (magnitude / place % 10) as u8;
     [b'.', digit(1000), digit(100), digit(10), digit(1)]
@@ -115,7 +115,7 @@ fn put_message(line: &mut Vec<u8>, message: &Message) -> Result<(), AllocError>
 }
 
 fn put_fault(line: &mut Vec<u8>, fault: DecodeFault) -> Result<(), AllocError>
-    ensures { OnOk result (line.new.items ≡ line.old.items ++ fault_text fault) }
+    ensures { OnOk result (line.new.items ≡ line.old.items ++ unread_text fault) }
 {
     match fault {
         DecodeFault::NoNumber => line.extend_from_slice(b"refused M1 -"),

@@ -6,7 +6,7 @@ use crate::command_line::job;
 use crate::converting::convert_links;
 use crate::files::{Reads, Writes};
 use crate::showing::show;
-use crate::telling::{DONE, NOT_VALID, REFUSED, fail, fail_to_open, refuse, tell};
+use crate::exit_status::{DONE, NOT_VALID, REFUSED, fail, fail_to_open, refuse, tell};
 use crate::words::{Job, STDIN, ToolFault, WordsFault};
 use std::env::Env;
 use std::fs::Files;
@@ -85,7 +85,7 @@ fn run_words<R: Files + Input + Print + Eprint + AllocGlobal, W: Write + Drop>(
 /// Runs the program, and answers its exit status: 0 the work is done, 1 an input or an output failed,
 /// or there was no memory, 2 the words are refused, 3 the text that `check` was asked about is none of this
 /// project's files. The report of a conversion goes to `report`, which is standard error.
-pub fn run<R: Env + Files + Input + Print + Eprint + AllocGlobal, W: Write + Drop>(
+pub fn run_program<R: Env + Files + Input + Print + Eprint + AllocGlobal, W: Write + Drop>(
     rt: &R,
     report: W,
 ) -> u8

@@ -1,7 +1,7 @@
 //! The command `show`: a line for each frame of a capture.
 ghost use Rattle.std.specs.Prelude.{◌≡◌, ◌≢◌, ◌+◌, ◌≤◌, Some, Err, [], length, IfOk, OnOk, IfErr, IsErrOf, IsNone, IsSome, IsSomeAnd};
 ghost use Rattle.rtk_frame.specs.Frames.{frames};
-ghost use Rattle.rtk_frame.specs.Stream.{Rises, with_more, TakesPart};
+ghost use Rattle.rtk_frame.specs.Stream.{CountRises, with_more, TakesPart};
 ghost use Rattle.rtk_cli.specs.Input.{GivesText, capture_of};
 ghost use Rattle.rtk_cli.specs.Show.{ShowsPartOf, IsBeforeOutput};
 ghost use Rattle.rtk_cli.specs.Shown.{Shows, ShowsPart};
@@ -41,7 +41,7 @@ fn flush<W: Sink>(out: &mut W, lines: &mut Vec<u8>) -> Result<(), ToolFault>
     ensures no_fault { OnOk result (W.failures out.new ≡ W.failures out.old) }
     ensures part { TakesPart (W.taken out.old) (W.taken out.new) lines.old.items }
     ensures output { IfErr result (λ fault. fault ≡ Output) }
-    ensures failed { IsErrOf result Output → Rises (W.failures out.old) (W.failures out.new) }
+    ensures failed { IsErrOf result Output → CountRises (W.failures out.old) (W.failures out.new) }
 {
     if write_all(out, lines.as_slice()).is_err() {
         return Err(ToolFault::Output);
@@ -56,7 +56,7 @@ fn show_capture<W: Sink>(alloc: Global, capture: &[u8], out: &mut W) -> Result<u
     ensures count { IfOk result (λ count. count ≡ length (frames capture.now)) }
     ensures no_fault { result ≢ Err Output → W.failures out.new ≡ W.failures out.old }
     ensures part { ShowsPart capture.now (W.taken out.old) (W.taken out.new) }
-    ensures output { IsErrOf result Output → Rises (W.failures out.old) (W.failures out.new) }
+    ensures output { IsErrOf result Output → CountRises (W.failures out.old) (W.failures out.new) }
     ensures else_memory { IfErr result (λ fault. fault ≢ Output → fault ≡ OutOfMemory) }
 {
     frames_of_a_text();
@@ -97,14 +97,14 @@ pub fn show<R: Source, W: Sink>(
         → R.is_at_end reader.new }
 
     // Each fault only where its cause is, and no call failed without its fault.
-    ensures input { IsErrOf result Input → Rises (R.failures reader.old) (R.failures reader.new) }
+    ensures input { IsErrOf result Input → CountRises (R.failures reader.old) (R.failures reader.new) }
     ensures no_failed_read { result ≢ Err Input → R.failures reader.new ≡ R.failures reader.old }
     ensures too_long { IsErrOf result TooLong
         → GivesText (R.given reader.old) (R.given reader.new) (λ text. length text ≡ SHOW_LIMIT + 1) }
     ensures not_hex { IsErrOf result NotHex
         → GivesText (R.given reader.old) (R.given reader.new) (λ text.
         (length text ≤ SHOW_LIMIT) × IsNone (capture_of hex text)) }
-    ensures output { IsErrOf result Output → Rises (W.failures out.old) (W.failures out.new) }
+    ensures output { IsErrOf result Output → CountRises (W.failures out.old) (W.failures out.new) }
     ensures no_failed_write { result ≢ Err Output → W.failures out.new ≡ W.failures out.old }
     ensures output_of_capture { IsErrOf result Output
         → GivesText (R.given reader.old) (R.given reader.new) (λ text.

@@ -7,17 +7,17 @@ use Rattle.std.specs.List.{insert}
 use Rattle.rtk_obs.specs.declared.cell.CellEntry.{CellEntry}
 use Rattle.std.specs.Prelude.{◌&&◌}
 use Rattle.rtk_message.specs.declared.message.Message.{Message}
-use Rattle.rtk_collect.specs.EpochCells.{EpochCells, joined}
+use Rattle.rtk_collect.specs.EpochSet.{EpochSetView, joined}
 use Rattle.rtk_collect.specs.Arrival.{Arrival, At, cells_of}
 use Rattle.rtk_collect.specs.Late.{with_epoch, epochs, greater, late}
 use Rattle.rtk_collect.specs.Accepted.{no_cells, with_arrival, kept, cells_at}
-use Rattle.rtk_collect.specs.Search.{Below, Falls, leading}
+use Rattle.rtk_collect.specs.Search.{FirstIsBelow, EpochsFall, leading}
 
 -- an epoch with the cells of one message
-abbrev pub opened : ℕ → List CellEntry → EpochCells
+abbrev pub opened : ℕ → List CellEntry → EpochSetView
 opened e cells = joined cells (no_cells e)
 
-abbrev pub keys : List EpochCells → List ℕ
+abbrev pub keys : List EpochSetView → List ℕ
 keys [] = []
 keys (x ∷ xs) = x.epoch ∷ keys xs
 
@@ -63,16 +63,16 @@ with_epoch-falls e (x ∷ xs) h = elim (cases_order x e) [
   ]
 ]
 
-pub with_arrival-new : (e : ℕ) (cs : List CellEntry) (x : EpochCells) (xs : List EpochCells) → x.epoch < e → with_arrival e cs (x ∷ xs) ≡ opened e cs ∷ x ∷ xs
+pub with_arrival-new : (e : ℕ) (cs : List CellEntry) (x : EpochSetView) (xs : List EpochSetView) → x.epoch < e → with_arrival e cs (x ∷ xs) ≡ opened e cs ∷ x ∷ xs
 with_arrival-new e cs x xs h = rw (lt-ltb x.epoch e h) refl
 
-pub with_arrival-below : (e : ℕ) (cs : List CellEntry) (x : EpochCells) (xs : List EpochCells) → e < x.epoch → with_arrival e cs (x ∷ xs) ≡ x ∷ with_arrival e cs xs
+pub with_arrival-below : (e : ℕ) (cs : List CellEntry) (x : EpochSetView) (xs : List EpochSetView) → e < x.epoch → with_arrival e cs (x ∷ xs) ≡ x ∷ with_arrival e cs xs
 with_arrival-below e cs x xs h = rw (le-ltb x.epoch e (omega arith), lt-ltb e x.epoch h) refl
 
-pub with_arrival-same : (e : ℕ) (cs : List CellEntry) (x : EpochCells) (xs : List EpochCells) → e ≡ x.epoch → with_arrival e cs (x ∷ xs) ≡ joined cs x ∷ xs
+pub with_arrival-same : (e : ℕ) (cs : List CellEntry) (x : EpochSetView) (xs : List EpochSetView) → e ≡ x.epoch → with_arrival e cs (x ∷ xs) ≡ joined cs x ∷ xs
 with_arrival-same e cs x xs h = rw (le-ltb x.epoch e (omega arith), le-ltb e x.epoch (omega arith)) refl
 
-pub keys-with_arrival : (e : ℕ) (cs : List CellEntry) (xs : List EpochCells) → keys (with_arrival e cs xs) ≡ with_epoch e (keys xs)
+pub keys-with_arrival : (e : ℕ) (cs : List CellEntry) (xs : List EpochSetView) → keys (with_arrival e cs xs) ≡ with_epoch e (keys xs)
 keys-with_arrival e cs [] = refl
 keys-with_arrival e cs (x ∷ xs) = elim (cases_order x.epoch e) [
   | inl same ↦ rw (with_arrival-same e cs x xs (sym same), with_epoch-same e x.epoch (keys xs) (sym same)) refl
@@ -87,7 +87,7 @@ leadingN-take zero e xs = grind arith
 leadingN-take (suc n) e [] = grind arith
 leadingN-take (suc n) e (x ∷ xs) = grind (arith, leadingN-take n e xs)
 
-pub leadingN-keys : (e : ℕ) (xs : List EpochCells) → leadingN e (keys xs) ≡ leading e xs
+pub leadingN-keys : (e : ℕ) (xs : List EpochSetView) → leadingN e (keys xs) ≡ leading e xs
 leadingN-keys e [] = refl
 leadingN-keys e (x ∷ xs) = rw (leadingN-keys e xs) refl
 
@@ -122,7 +122,7 @@ take-with_epoch (suc n) e (x ∷ xs) = elim (cases_order x e) [
   ]
 ]
 
-pub keys-take : (n : ℕ) (xs : List EpochCells) → keys (take n xs) ≡ take n (keys xs)
+pub keys-take : (n : ℕ) (xs : List EpochSetView) → keys (take n xs) ≡ take n (keys xs)
 keys-take zero xs = refl
 keys-take (suc n) [] = refl
 keys-take (suc n) (x ∷ xs) = ap (λ t. x.epoch ∷ t) (keys-take n xs)
@@ -185,7 +185,7 @@ same_greatest n (At (Some e) m ∷ before) = elim (cases_lt (leadingN e (epochs 
   | inr over ↦ rw (is-late n e m before over) (same_greatest n before ∙ sym (take-with_epoch-late n e (epochs before) over))
 ]
 
-pub with_arrival-under : (e : ℕ) (cs : List CellEntry) (x : EpochCells) (xs : List EpochCells) → e < x.epoch → Below x.epoch xs → Below x.epoch (with_arrival e cs xs)
+pub with_arrival-under : (e : ℕ) (cs : List CellEntry) (x : EpochSetView) (xs : List EpochSetView) → e < x.epoch → FirstIsBelow x.epoch xs → FirstIsBelow x.epoch (with_arrival e cs xs)
 with_arrival-under e cs x [] h b = h
 with_arrival-under e cs x (y ∷ ys) h b = elim (cases_order y.epoch e) [
   | inl same ↦ rw (with_arrival-same e cs y ys (sym same)) b
@@ -195,7 +195,7 @@ with_arrival-under e cs x (y ∷ ys) h b = elim (cases_order y.epoch e) [
   ]
 ]
 
-pub with_arrival-falls : (e : ℕ) (cs : List CellEntry) (xs : List EpochCells) → Falls xs → Falls (with_arrival e cs xs)
+pub with_arrival-falls : (e : ℕ) (cs : List CellEntry) (xs : List EpochSetView) → EpochsFall xs → EpochsFall (with_arrival e cs xs)
 with_arrival-falls e cs [] h = (tt, tt)
 with_arrival-falls e cs (x ∷ xs) h = elim (cases_order x.epoch e) [
   | inl same ↦ rw (with_arrival-same e cs x xs (sym same)) h
@@ -205,7 +205,7 @@ with_arrival-falls e cs (x ∷ xs) h = elim (cases_order x.epoch e) [
   ]
 ]
 
-pub kept-falls : (n : ℕ) (arrivals : List Arrival) → Falls (kept n arrivals)
+pub kept-falls : (n : ℕ) (arrivals : List Arrival) → EpochsFall (kept n arrivals)
 kept-falls n [] = tt
 kept-falls n (At None m ∷ before) = kept-falls n before
 kept-falls n (At (Some e) m ∷ before) = elim (cases_lt (leadingN e (epochs before)) n) [
@@ -213,7 +213,7 @@ kept-falls n (At (Some e) m ∷ before) = elim (cases_lt (leadingN e (epochs bef
   | inr over ↦ rw (is-late n e m before over) (kept-falls n before)
 ]
 
-pub take-with_arrival : (n e : ℕ) (cs : List CellEntry) (xs : List EpochCells) → take n (with_arrival e cs xs) ≡ take n (with_arrival e cs (take n xs))
+pub take-with_arrival : (n e : ℕ) (cs : List CellEntry) (xs : List EpochSetView) → take n (with_arrival e cs xs) ≡ take n (with_arrival e cs (take n xs))
 take-with_arrival zero e cs xs = refl
 take-with_arrival (suc n) e cs [] = refl
 take-with_arrival (suc n) e cs (x ∷ xs) = elim (cases_order x.epoch e) [
@@ -224,7 +224,7 @@ take-with_arrival (suc n) e cs (x ∷ xs) = elim (cases_order x.epoch e) [
   ]
 ]
 
-pub drop-with_arrival : (n e : ℕ) (cs : List CellEntry) (xs : List EpochCells) → leading e xs < n → drop n (with_arrival e cs xs) ≡ drop n (with_arrival e cs (take n xs)) ++ drop n xs
+pub drop-with_arrival : (n e : ℕ) (cs : List CellEntry) (xs : List EpochSetView) → leading e xs < n → drop n (with_arrival e cs xs) ≡ drop n (with_arrival e cs (take n xs)) ++ drop n xs
 drop-with_arrival zero e cs xs h = grind arith
 drop-with_arrival (suc n) e cs [] h = sym (append-nil _)
 drop-with_arrival (suc n) e cs (x ∷ xs) h = elim (cases_order x.epoch e) [
@@ -237,29 +237,29 @@ drop-with_arrival (suc n) e cs (x ∷ xs) h = elim (cases_order x.epoch e) [
 
 -- the epochs that are greater than one, from what is held
 
-pub leading-sets : (n e : ℕ) (sets : List EpochCells) (arrivals : List Arrival) → sets ≡ take n (kept n arrivals) → leading e sets ≡ min n (leadingN e (epochs arrivals))
+pub leading-sets : (n e : ℕ) (sets : List EpochSetView) (arrivals : List Arrival) → sets ≡ take n (kept n arrivals) → leading e sets ≡ min n (leadingN e (epochs arrivals))
 leading-sets n e sets arrivals h = rw (h, ← leadingN-keys e (take n (kept n arrivals)), keys-take, same_greatest n arrivals) (leadingN-take n e (epochs arrivals))
 
-pub sets-late : (n e : ℕ) (sets : List EpochCells) (before : List Arrival) → sets ≡ take n (kept n before) → n ≤ leading e sets → n ≤ leadingN e (epochs before)
+pub sets-late : (n e : ℕ) (sets : List EpochSetView) (before : List Arrival) → sets ≡ take n (kept n before) → n ≤ leading e sets → n ≤ leadingN e (epochs before)
 sets-late n e sets before h l = grind (arith, leading-sets n e sets before h)
 
-pub sets-open : (n e : ℕ) (sets : List EpochCells) (before : List Arrival) → sets ≡ take n (kept n before) → leading e sets < n → leadingN e (epochs before) < n
+pub sets-open : (n e : ℕ) (sets : List EpochSetView) (before : List Arrival) → sets ≡ take n (kept n before) → leading e sets < n → leadingN e (epochs before) < n
 sets-open n e sets before h l = grind (arith, leading-sets n e sets before h)
 
 -- where an epoch stands
 
-pub below-none : (e : ℕ) (x : EpochCells) (xs : List EpochCells) → Falls (x ∷ xs) → x.epoch < e → cells_at e (x ∷ xs) ≡ None
+pub below-none : (e : ℕ) (x : EpochSetView) (xs : List EpochSetView) → EpochsFall (x ∷ xs) → x.epoch < e → cells_at e (x ∷ xs) ≡ None
 below-none e x [] f h = rw (ne_eqb e x.epoch (λ q. omega arith)) refl
 below-none e x (y ∷ ys) f h = rw (ne_eqb e x.epoch (λ q. omega arith)) (below-none e y ys f.1 (omega (arith, f.0)))
 
-pub found-cells : (e : ℕ) (d : EpochCells) (xs : List EpochCells) → leading e xs < length xs → (get_or xs (leading e xs) d).epoch ≡ e → cells_at e xs ≡ Some (get_or xs (leading e xs) d).cells
+pub found-cells : (e : ℕ) (d : EpochSetView) (xs : List EpochSetView) → leading e xs < length xs → (get_or xs (leading e xs) d).epoch ≡ e → cells_at e xs ≡ Some (get_or xs (leading e xs) d).cells
 found-cells e d [] l h = grind arith
 found-cells e d (x ∷ xs) l h = elim (cases_lt e x.epoch) [
   | inl below ↦ rw (lt-ltb e x.epoch below, ne_eqb e x.epoch (λ q. omega arith)) (found-cells e d xs (let q = rw (lt-ltb e x.epoch below) at l in omega arith) (rw (lt-ltb e x.epoch below) at h))
   | inr over ↦ let q = rw (le-ltb e x.epoch over) at h in rw (le-ltb e x.epoch over, eq-eqb e x.epoch (sym q)) refl
 ]
 
-pub absent-cells : (e : ℕ) (d : EpochCells) (xs : List EpochCells) → Falls xs → (leading e xs < length xs → (get_or xs (leading e xs) d).epoch ≢ e) → cells_at e xs ≡ None
+pub absent-cells : (e : ℕ) (d : EpochSetView) (xs : List EpochSetView) → EpochsFall xs → (leading e xs < length xs → (get_or xs (leading e xs) d).epoch ≢ e) → cells_at e xs ≡ None
 absent-cells e d [] f h = refl
 absent-cells e d (x ∷ xs) f h = elim (cases_order e x.epoch) [
   | inl same ↦ absurd (rw (le-ltb e x.epoch (omega arith)) at h (omega arith) (sym same))
@@ -269,7 +269,7 @@ absent-cells e d (x ∷ xs) f h = elim (cases_order e x.epoch) [
   ]
 ]
 
-pub cells_at-take : (n e : ℕ) (b : List CellEntry) (xs : List EpochCells) → cells_at e (take n xs) ≡ Some b → cells_at e xs ≡ Some b
+pub cells_at-take : (n e : ℕ) (b : List CellEntry) (xs : List EpochSetView) → cells_at e (take n xs) ≡ Some b → cells_at e xs ≡ Some b
 cells_at-take zero e b xs h = cc
 cells_at-take (suc n) e b [] h = h
 cells_at-take (suc n) e b (x ∷ xs) h = elim (cases_eq e x.epoch) [
@@ -277,7 +277,7 @@ cells_at-take (suc n) e b (x ∷ xs) h = elim (cases_eq e x.epoch) [
   | inr other ↦ rw (ne_eqb e x.epoch other) (cells_at-take n e b xs (rw (ne_eqb e x.epoch other) at h))
 ]
 
-pub cells_at-none : (n e : ℕ) (xs : List EpochCells) → Falls xs → leading e xs < n → cells_at e (take n xs) ≡ None → cells_at e xs ≡ None
+pub cells_at-none : (n e : ℕ) (xs : List EpochSetView) → EpochsFall xs → leading e xs < n → cells_at e (take n xs) ≡ None → cells_at e xs ≡ None
 cells_at-none zero e xs f l h = grind arith
 cells_at-none (suc n) e [] f l h = refl
 cells_at-none (suc n) e (x ∷ xs) f l h = elim (cases_order e x.epoch) [
@@ -289,7 +289,7 @@ cells_at-none (suc n) e (x ∷ xs) f l h = elim (cases_order e x.epoch) [
 ]
 
 -- cells join the epoch that is there
-pub with_arrival-found : (e : ℕ) (cs : List CellEntry) (d : EpochCells) (xs : List EpochCells) → leading e xs < length xs → (get_or xs (leading e xs) d).epoch ≡ e
+pub with_arrival-found : (e : ℕ) (cs : List CellEntry) (d : EpochSetView) (xs : List EpochSetView) → leading e xs < length xs → (get_or xs (leading e xs) d).epoch ≡ e
     → with_arrival e cs xs ≡ set xs (leading e xs) (joined cs (get_or xs (leading e xs) d))
 with_arrival-found e cs d [] l h = grind arith
 with_arrival-found e cs d (x ∷ xs) l h = elim (cases_lt e x.epoch) [
@@ -297,7 +297,7 @@ with_arrival-found e cs d (x ∷ xs) l h = elim (cases_lt e x.epoch) [
   | inr over ↦ let q = rw (le-ltb e x.epoch over) at h in rw (with_arrival-same e cs x xs (sym q), le-ltb e x.epoch over) refl
 ]
 
-pub with_arrival-absent : (e : ℕ) (cs : List CellEntry) (xs : List EpochCells) → cells_at e xs ≡ None → with_arrival e cs xs ≡ insert xs (leading e xs) (opened e cs)
+pub with_arrival-absent : (e : ℕ) (cs : List CellEntry) (xs : List EpochSetView) → cells_at e xs ≡ None → with_arrival e cs xs ≡ insert xs (leading e xs) (opened e cs)
 with_arrival-absent e cs [] h = refl
 with_arrival-absent e cs (x ∷ xs) h = elim (cases_order e x.epoch) [
   | inl same ↦ let q = rw (eq-eqb e x.epoch same) at h in cc
@@ -308,7 +308,7 @@ with_arrival-absent e cs (x ∷ xs) h = elim (cases_order e x.epoch) [
 ]
 
 -- no new cell: nothing changes
-pub set-same : (i : ℕ) (d : EpochCells) (xs : List EpochCells) → set xs i (get_or xs i d) ≡ xs
+pub set-same : (i : ℕ) (d : EpochSetView) (xs : List EpochSetView) → set xs i (get_or xs i d) ≡ xs
 set-same zero d [] = refl
 set-same (suc i) d [] = refl
 set-same zero d (x ∷ xs) = refl

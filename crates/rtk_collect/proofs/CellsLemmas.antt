@@ -10,13 +10,13 @@ use Rattle.rtk_obs.specs.Cell.{IsSatellite, IsInRange}
 use Rattle.rtk_obs.specs.declared.cell.CellEntry.{CellEntry}
 use Rattle.rtk_obs.specs.declared.cell.CellSource.TheVariants.{Legacy}
 use Rattle.rtk_obs.specs.declared.code.Code.TheVariants.{C1C}
-use Rattle.rtk_collect.specs.declared.conflicts.SatelliteCode.{SatelliteCode}
+use Rattle.rtk_collect.specs.declared.offer.SatelliteCode.{SatelliteCode}
 use Rattle.std.specs.Prelude.{◌*◌, not}
 use Rattle.rtk_obs.specs.Code.{place_of}
 use Rattle.rtk_collect.specs.Equal.{equal_cells}
-use Rattle.rtk_collect.specs.Key.{key, key_at, rank_of, Above, Rises}
+use Rattle.rtk_collect.specs.Key.{key, key_at, rank_of, Above, KeysRise}
 use Rattle.rtk_collect.proofs.EqualityLemmas.{place-less, rank-less}
-use Rattle.rtk_collect.specs.EpochCells.{with_cell, with_cells, cell_under, one_more, fresh, conflict, conflicts}
+use Rattle.rtk_collect.specs.EpochSet.{with_cell, with_cells, cell_under, one_more, fresh, conflict, conflicts}
 use Rattle.rtk_collect.specs.Search.{lower}
 
 -- some cell, where a list wants one
@@ -47,7 +47,7 @@ with_cell-above c x (y ∷ ys) h b = elim (cases_order (key c) (key y)) [
   ]
 ]
 
-pub with_cell-rises : (c : CellEntry) (xs : List CellEntry) → Rises xs → Rises (with_cell c xs)
+pub with_cell-rises : (c : CellEntry) (xs : List CellEntry) → KeysRise xs → KeysRise (with_cell c xs)
 with_cell-rises c [] h = (tt, tt)
 with_cell-rises c (x ∷ xs) h = elim (cases_order (key c) (key x)) [
   | inl same ↦ rw (with_cell-same c x xs same) h
@@ -57,7 +57,7 @@ with_cell-rises c (x ∷ xs) h = elim (cases_order (key c) (key x)) [
   ]
 ]
 
-pub with_cells-rises : (cells kept : List CellEntry) → Rises kept → Rises (with_cells cells kept)
+pub with_cells-rises : (cells kept : List CellEntry) → KeysRise kept → KeysRise (with_cells cells kept)
 with_cells-rises [] kept h = h
 with_cells-rises (c ∷ more) kept h = with_cells-rises more (with_cell c kept) (with_cell-rises c kept h)
 
@@ -70,12 +70,12 @@ lower-length k (x ∷ xs) = elim (cases_lt (key x) k) [
   | inr here ↦ rw (le-ltb (key x) k here) (omega arith)
 ]
 
-pub above-all : (k : ℕ) (xs : List CellEntry) → Above k xs → Rises xs → (i : ℕ) (d : CellEntry) → i < length xs → k < key (get_or xs i d)
+pub above-all : (k : ℕ) (xs : List CellEntry) → Above k xs → KeysRise xs → (i : ℕ) (d : CellEntry) → i < length xs → k < key (get_or xs i d)
 above-all k [] a r i d l = grind arith
 above-all k (x ∷ xs) a r zero d l = a
 above-all k (x ∷ xs) a r (suc i) d l = let h : key x < key (get_or xs i d) = above-all (key x) xs r.0 r.1 i d (omega arith) in omega (arith, a)
 
-pub lower-past : (k i : ℕ) (d : CellEntry) (xs : List CellEntry) → Rises xs → i < length xs → key (get_or xs i d) < k → i < lower k xs
+pub lower-past : (k i : ℕ) (d : CellEntry) (xs : List CellEntry) → KeysRise xs → i < length xs → key (get_or xs i d) < k → i < lower k xs
 lower-past k i d [] r l h = grind arith
 lower-past k zero d (x ∷ xs) r l h = rw (lt-ltb (key x) k h) (omega arith)
 lower-past k (suc i) d (x ∷ xs) r l h =
@@ -93,7 +93,7 @@ lower-stop k (suc i) d (x ∷ xs) l h = elim (cases_lt (key x) k) [
 
 -- where a cell stands
 
-pub above-none : (k : ℕ) (x : CellEntry) (xs : List CellEntry) → Rises (x ∷ xs) → k < key x → cell_under k (x ∷ xs) ≡ None
+pub above-none : (k : ℕ) (x : CellEntry) (xs : List CellEntry) → KeysRise (x ∷ xs) → k < key x → cell_under k (x ∷ xs) ≡ None
 above-none k x [] f h = rw (ne_eqb k (key x) (λ q. omega arith)) refl
 above-none k x (y ∷ ys) f h = rw (ne_eqb k (key x) (λ q. omega arith)) (above-none k y ys f.1 (omega (arith, f.0)))
 
@@ -104,7 +104,7 @@ found-cell k d (x ∷ xs) l h = elim (cases_lt (key x) k) [
   | inr here ↦ let q = rw (le-ltb (key x) k here) at h in rw (le-ltb (key x) k here, eq-eqb k (key x) (sym q)) refl
 ]
 
-pub absent-cell : (k : ℕ) (d : CellEntry) (xs : List CellEntry) → Rises xs → (lower k xs < length xs → key (get_or xs (lower k xs) d) ≢ k) → cell_under k xs ≡ None
+pub absent-cell : (k : ℕ) (d : CellEntry) (xs : List CellEntry) → KeysRise xs → (lower k xs < length xs → key (get_or xs (lower k xs) d) ≢ k) → cell_under k xs ≡ None
 absent-cell k d [] f h = refl
 absent-cell k d (x ∷ xs) f h = elim (cases_order k (key x)) [
   | inl same ↦ absurd (rw (le-ltb (key x) k (omega arith)) at h (omega arith) (sym same))
@@ -119,15 +119,15 @@ found-here k i d xs at l same =
     let here : get_or xs i d ≡ get_or xs (lower k xs) d = ap (λ t. get_or xs t d) at in
     found-cell k d xs (omega arith) (sym (ap key here) ∙ same) ∙ ap Some (sym here)
 
-pub absent-here : (k i : ℕ) (d : CellEntry) (xs : List CellEntry) → Rises xs → i ≡ lower k xs → key (get_or xs i d) ≢ k → cell_under k xs ≡ None
+pub absent-here : (k i : ℕ) (d : CellEntry) (xs : List CellEntry) → KeysRise xs → i ≡ lower k xs → key (get_or xs i d) ≢ k → cell_under k xs ≡ None
 absent-here k i d xs f at other =
     let here : get_or xs i d ≡ get_or xs (lower k xs) d = ap (λ t. get_or xs t d) at in
     absent-cell k d xs f (λ l q. other (ap key here ∙ q))
 
-pub absent-past : (k i : ℕ) (xs : List CellEntry) → Rises xs → i ≡ lower k xs → length xs ≤ i → cell_under k xs ≡ None
+pub absent-past : (k i : ℕ) (xs : List CellEntry) → KeysRise xs → i ≡ lower k xs → length xs ≤ i → cell_under k xs ≡ None
 absent-past k i xs f at l = absent-cell k (any_cell) xs f (λ m. absurd (omega arith))
 
-pub with_cell-sets : (c x : CellEntry) (xs : List CellEntry) → Rises xs → cell_under (key c) xs ≡ Some x → with_cell c xs ≡ xs
+pub with_cell-sets : (c x : CellEntry) (xs : List CellEntry) → KeysRise xs → cell_under (key c) xs ≡ Some x → with_cell c xs ≡ xs
 with_cell-sets c x [] f h = cc
 with_cell-sets c x (y ∷ ys) f h = elim (cases_order (key c) (key y)) [
   | inl same ↦ with_cell-same c y ys same
@@ -148,7 +148,7 @@ with_cell-absent c (x ∷ xs) h = elim (cases_order (key c) (key x)) [
 ]
 
 -- the first cell under a key stays
-pub with_cell-keeps : (k : ℕ) (c v : CellEntry) (xs : List CellEntry) → Rises xs → cell_under k xs ≡ Some v → cell_under k (with_cell c xs) ≡ Some v
+pub with_cell-keeps : (k : ℕ) (c v : CellEntry) (xs : List CellEntry) → KeysRise xs → cell_under k xs ≡ Some v → cell_under k (with_cell c xs) ≡ Some v
 with_cell-keeps k c v [] f h = cc
 with_cell-keeps k c v (x ∷ xs) f h = elim (cases_order (key c) (key x)) [
   | inl same ↦ rw (with_cell-same c x xs same) h
@@ -164,7 +164,7 @@ with_cell-keeps k c v (x ∷ xs) f h = elim (cases_order (key c) (key x)) [
   ]
 ]
 
-pub with_cells-keeps : (k : ℕ) (v : CellEntry) (cells kept : List CellEntry) → Rises kept → cell_under k kept ≡ Some v → cell_under k (with_cells cells kept) ≡ Some v
+pub with_cells-keeps : (k : ℕ) (v : CellEntry) (cells kept : List CellEntry) → KeysRise kept → cell_under k kept ≡ Some v → cell_under k (with_cells cells kept) ≡ Some v
 with_cells-keeps k v [] kept f h = h
 with_cells-keeps k v (c ∷ more) kept f h = with_cells-keeps k v more (with_cell c kept) (with_cell-rises c kept f) (with_cell-keeps k c v kept f h)
 
@@ -176,7 +176,7 @@ one_more-le None (Some x) m n h l = omega arith
 one_more-le (Some x) None m n h l = let q = h x refl in cc
 one_more-le (Some x) (Some y) m n h l = l
 
-pub fresh-less : (c : CellEntry) (more kept : List CellEntry) → Rises kept → fresh more (with_cell c kept) ≤ fresh more kept
+pub fresh-less : (c : CellEntry) (more kept : List CellEntry) → KeysRise kept → fresh more (with_cell c kept) ≤ fresh more kept
 fresh-less c [] kept f = omega arith
 fresh-less c (x ∷ more) kept f = one_more-le (cell_under (key x) kept) (cell_under (key x) (with_cell c kept)) _ _ (λ v h. with_cell-keeps (key x) c v kept f h) (fresh-less c more kept f)
 
@@ -185,7 +185,7 @@ length-insert c zero xs l = refl
 length-insert c (suc i) [] l = grind arith
 length-insert c (suc i) (x ∷ xs) l = ap suc (length-insert c i xs (omega arith))
 
-pub room-step : (c : CellEntry) (o : Option CellEntry) (more kept : List CellEntry) → Rises kept → cell_under (key c) kept ≡ o → length (with_cell c kept) + fresh more (with_cell c kept) ≤ length kept + one_more o (fresh more kept)
+pub room-step : (c : CellEntry) (o : Option CellEntry) (more kept : List CellEntry) → KeysRise kept → cell_under (key c) kept ≡ o → length (with_cell c kept) + fresh more (with_cell c kept) ≤ length kept + one_more o (fresh more kept)
 room-step c None more kept f h =
     let l : fresh more (with_cell c kept) ≤ fresh more kept = fresh-less c more kept f in
     let n : length (with_cell c kept) ≡ suc (length kept) = ap length (with_cell-absent c kept h) ∙ length-insert c (lower (key c) kept) kept (lower-length (key c) kept) in
@@ -193,21 +193,21 @@ room-step c None more kept f h =
 room-step c (Some x) more kept f h = rw (with_cell-sets c x kept f h) (omega arith)
 
 -- no new cell, no change
-none-step : (c : CellEntry) (o : Option CellEntry) (more kept : List CellEntry) → Rises kept → cell_under (key c) kept ≡ o → one_more o (fresh more kept) ≡ 0
+none-step : (c : CellEntry) (o : Option CellEntry) (more kept : List CellEntry) → KeysRise kept → cell_under (key c) kept ≡ o → one_more o (fresh more kept) ≡ 0
     → (fresh more kept ≡ 0 → with_cells more kept ≡ kept) → with_cells more (with_cell c kept) ≡ kept
 none-step c None more kept f e h rest = absurd (omega arith)
 none-step c (Some x) more kept f e h rest = rw (with_cell-sets c x kept f e) (rest h)
 
-pub with_cells-none : (cells kept : List CellEntry) → Rises kept → fresh cells kept ≡ 0 → with_cells cells kept ≡ kept
+pub with_cells-none : (cells kept : List CellEntry) → KeysRise kept → fresh cells kept ≡ 0 → with_cells cells kept ≡ kept
 with_cells-none [] kept f h = refl
 with_cells-none (c ∷ more) kept f h = none-step c (cell_under (key c) kept) more kept f refl h (with_cells-none more kept f)
 
 -- the steps of the code
 
-pub seek-from : (k i : ℕ) (d : CellEntry) (xs : List CellEntry) → Rises xs → i ≤ length xs → 0 < i → key (get_or xs (i - 1) d) < k → i ≤ lower k xs
+pub seek-from : (k i : ℕ) (d : CellEntry) (xs : List CellEntry) → KeysRise xs → i ≤ length xs → 0 < i → key (get_or xs (i - 1) d) < k → i ≤ lower k xs
 seek-from k i d xs r l p h = let q : i - 1 < lower k xs = lower-past k (i - 1) d xs r (omega arith) h in omega arith
 
-pub seek-next : (k i : ℕ) (d : CellEntry) (xs : List CellEntry) → Rises xs → i < length xs → key (get_or xs i d) < k → i + 1 ≤ lower k xs
+pub seek-next : (k i : ℕ) (d : CellEntry) (xs : List CellEntry) → KeysRise xs → i < length xs → key (get_or xs i d) < k → i + 1 ≤ lower k xs
 seek-next k i d xs r l h = let q : i < lower k xs = lower-past k i d xs r l h in omega arith
 
 pub seek-ends : (k i : ℕ) (d : CellEntry) (xs : List CellEntry) → i ≤ lower k xs → i < length xs → k ≤ key (get_or xs i d) → i ≡ lower k xs
@@ -240,10 +240,10 @@ fresh-length (c ∷ more) kept = more-length (cell_under (key c) kept) _ _ (fres
 pub record Step (kept new : List CellEntry) (c : CellEntry) (more : List CellEntry) (cap : ℕ) : Type 0 where
   pub items : with_cells more new ≡ with_cells (c ∷ more) kept
   pub conflicts : conflicts (c ∷ more) kept ≡ conflict c (cell_under (key c) kept) ++ conflicts more new
-  pub rises : Rises new
+  pub rises : KeysRise new
   pub room : length new + fresh more new ≤ cap
 
-pub step : (kept new : List CellEntry) (c : CellEntry) (more : List CellEntry) (cap : ℕ) → Rises kept → new ≡ with_cell c kept → length kept + fresh (c ∷ more) kept ≤ cap → Step kept new c more cap
+pub step : (kept new : List CellEntry) (c : CellEntry) (more : List CellEntry) (cap : ℕ) → KeysRise kept → new ≡ with_cell c kept → length kept + fresh (c ∷ more) kept ≤ cap → Step kept new c more cap
 step kept new c more cap r e room =
     let q : length (with_cell c kept) + fresh more (with_cell c kept) ≤ length kept + one_more (cell_under (key c) kept) (fresh more kept) = room-step c (cell_under (key c) kept) more kept r refl in
     record {
@@ -282,12 +282,12 @@ merge-conflicts i d cells kept new some now all l e n h =
     append_assoc some _ _ ∙ ap (λ t. some ++ t) (rw (e, ← n) (ap (λ t. conflicts t kept) (sym (drop-at i d cells l)))) ∙ h
 
 -- where a cell is kept under its key
-pub kept-conflicts : (i : ℕ) (d x : CellEntry) (cells kept : List CellEntry) (some now all : List SatelliteCode) → i < length cells → Rises kept → cell_under (key (get_or cells i d)) kept ≡ Some x
+pub kept-conflicts : (i : ℕ) (d x : CellEntry) (cells kept : List CellEntry) (some now all : List SatelliteCode) → i < length cells → KeysRise kept → cell_under (key (get_or cells i d)) kept ≡ Some x
     → conflict (get_or cells i d) (Some x) ≡ now → some ++ conflicts (drop i cells) kept ≡ all → (some ++ now) ++ conflicts (drop (i + 1) cells) kept ≡ all
 kept-conflicts i d x cells kept some now all l r u n h =
     merge-conflicts i d cells kept kept some now all l (sym (with_cell-sets (get_or cells i d) x kept r u)) (ap (conflict (get_or cells i d)) u ∙ n) h
 
-pub merge-room : (i : ℕ) (d : CellEntry) (cells kept new : List CellEntry) (cap cap' : ℕ) → i < length cells → Rises kept → new ≡ with_cell (get_or cells i d) kept
+pub merge-room : (i : ℕ) (d : CellEntry) (cells kept new : List CellEntry) (cap cap' : ℕ) → i < length cells → KeysRise kept → new ≡ with_cell (get_or cells i d) kept
     → length kept + fresh (drop i cells) kept ≤ cap → cap ≤ cap' → length new + fresh (drop (i + 1) cells) new ≤ cap'
 merge-room i d cells kept new cap cap' l r e h k =
     let s = step kept new (get_or cells i d) (drop (i + 1) cells) cap r e (rw (drop-at i d cells l) at h) in omega (arith, s.room)
@@ -325,7 +325,7 @@ above-from : (k : ℕ) (xs : List CellEntry) → Above k xs → From (suc k) xs
 above-from k [] h = tt
 above-from k (x ∷ xs) h = omega (arith, h)
 
-keys-fit : (low top : ℕ) (xs : List CellEntry) → low ≤ top → Rises xs → From low xs → AllByRecursion (λ c. key c < top) xs → length xs + low ≤ top
+keys-fit : (low top : ℕ) (xs : List CellEntry) → low ≤ top → KeysRise xs → From low xs → AllByRecursion (λ c. key c < top) xs → length xs + low ≤ top
 keys-fit low top [] l r f h = omega arith
 keys-fit low top (x ∷ xs) l r f h =
     let k : key x < top = h.0 in
@@ -357,12 +357,12 @@ range-satellites [] h = tt
 range-satellites (x ∷ xs) h = (h.0.satellite, range-satellites xs h.1)
 
 -- an epoch has at most 32 satellites with 16 codes of 2 kinds of message
-pub satellites-few : (xs : List CellEntry) → Rises xs → AllByRecursion HasSatellite xs → length xs ≤ 1024
+pub satellites-few : (xs : List CellEntry) → KeysRise xs → AllByRecursion HasSatellite xs → length xs ≤ 1024
 satellites-few xs r a =
     let f : length xs + 32 ≤ 1056 = keys-fit 32 1056 xs (omega arith) r (low-from xs a) (high-all xs a) in
     omega arith
 
-pub cells-few : (xs : List CellEntry) → Rises xs → All IsInRange xs → length xs ≤ 1024
+pub cells-few : (xs : List CellEntry) → KeysRise xs → All IsInRange xs → length xs ≤ 1024
 cells-few xs r h = satellites-few xs r (range-satellites xs (recursion_from_All IsInRange xs h))
 
 -- the parts of a key

@@ -4,7 +4,7 @@ use Rattle.std.specs.List.{flat_map, AllByRecursion}
 use Rattle.std.proofs.lemmas.Bool.{cases_order, cases_Bool}
 use Rattle.std.proofs.lemmas.Bool.Decides.{nat_tests}
 use Rattle.std.proofs.lemmas.List.Elements.{All-from_recursion}
-use Rattle.rtk_message.specs.declared.satellites.Satellite.{Satellite}
+use Rattle.rtk_message.specs.declared.obs1004.Satellite.{Satellite}
 use Rattle.rtk_message.specs.declared.msm1074.Msm1074.{Msm1074}
 use Rattle.rtk_message.specs.declared.message.Message.{Message}
 use Rattle.rtk_message.specs.declared.message.Message.TheVariants.{Obs1004, Arp1005, Arp1006, Msm1074 as Msm}
@@ -15,8 +15,8 @@ use Rattle.rtk_obs.specs.Mask.{join_from}
 use Rattle.rtk_obs.specs.LegacyCells.{first_entries, satellite_entries}
 use Rattle.rtk_obs.specs.MsmCells.{satellites_of, slots_of, coded_entry, slot_entry, code_of_signal, cells_of_1074}
 use Rattle.rtk_obs.proofs.MsmLemmas.{satellite_in}
-use Rattle.rtk_collect.specs.Key.{Rises}
-use Rattle.rtk_collect.specs.EpochCells.{EpochCells}
+use Rattle.rtk_collect.specs.Key.{KeysRise}
+use Rattle.rtk_collect.specs.EpochSet.{EpochSetView}
 use Rattle.rtk_collect.specs.Arrival.{Arrival, At, cells_of}
 use Rattle.rtk_collect.specs.Late.{epochs, late}
 use Rattle.rtk_collect.specs.Accepted.{kept, with_arrival}
@@ -69,10 +69,10 @@ of-message (Msm m) = of-msm m
 
 -- so are those that are kept, and their keys rise
 
-abbrev IsGood : EpochCells → Type 0
-IsGood x = Rises x.cells × AllByRecursion HasSatellite x.cells
+abbrev IsGood : EpochSetView → Type 0
+IsGood x = KeysRise x.cells × AllByRecursion HasSatellite x.cells
 
-arrival-good : (e : ℕ) (cs : List CellEntry) (xs : List EpochCells) → AllByRecursion HasSatellite cs → AllByRecursion IsGood xs → AllByRecursion IsGood (with_arrival e cs xs)
+arrival-good : (e : ℕ) (cs : List CellEntry) (xs : List EpochSetView) → AllByRecursion HasSatellite cs → AllByRecursion IsGood xs → AllByRecursion IsGood (with_arrival e cs xs)
 arrival-good e cs [] a h = ((with_cells-rises cs [] tt, with_cells-each HasSatellite cs [] a tt), tt)
 arrival-good e cs (y ∷ ys) a h = elim (cases_order y.epoch e) [
   | inl same ↦ subst (AllByRecursion IsGood) (sym (with_arrival-same e cs y ys (sym same))) ((with_cells-rises cs y.cells h.0.0, with_cells-each HasSatellite cs y.cells a h.0.1), h.1)
@@ -90,16 +90,16 @@ kept-good n (At (Some e) m ∷ before) = elim (cases_Bool (late n (At (Some e) m
   | inr fresh ↦ subst (AllByRecursion IsGood) (sym (kept-new n e m before fresh)) (arrival-good e (cells_of m) (kept n before) (of-message m) (kept-good n before))
 ]
 
-good-few : (xs : List EpochCells) → AllByRecursion IsGood xs → AllByRecursion (λ (x : EpochCells). length x.cells ≤ 1024) xs
+good-few : (xs : List EpochSetView) → AllByRecursion IsGood xs → AllByRecursion (λ (x : EpochSetView). length x.cells ≤ 1024) xs
 good-few [] h = tt
 good-few (x ∷ xs) h = (satellites-few x.cells h.0.0 h.0.1, good-few xs h.1)
 
 pub kept-are-few : KeptAreFew
-kept-are-few n arrivals = All-from_recursion (λ (x : EpochCells). length x.cells ≤ 1024) (kept n arrivals) (good-few (kept n arrivals) (kept-good n arrivals))
+kept-are-few n arrivals = All-from_recursion (λ (x : EpochSetView). length x.cells ≤ 1024) (kept n arrivals) (good-few (kept n arrivals) (kept-good n arrivals))
 
 -- the greatest
 
-epochs-keys : (xs : List EpochCells) → map (λ (x : EpochCells). x.epoch) xs ≡ keys xs
+epochs-keys : (xs : List EpochSetView) → map (λ (x : EpochSetView). x.epoch) xs ≡ keys xs
 epochs-keys [] = refl
 epochs-keys (x ∷ xs) = ap (λ t. x.epoch ∷ t) (epochs-keys xs)
 

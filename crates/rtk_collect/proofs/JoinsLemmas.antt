@@ -6,26 +6,26 @@ use Rattle.std.proofs.lemmas.Grind.{common_steps}
 use Rattle.std.proofs.Math.Seq.{drop-nil, take-append_seam, drop-append_seam}
 use Rattle.rtk_obs.specs.declared.cell.CellEntry.{CellEntry}
 use Rattle.rtk_message.specs.declared.message.Message.{Message}
-use Rattle.rtk_collect.specs.EpochCells.{EpochCells}
+use Rattle.rtk_collect.specs.EpochSet.{EpochSetView}
 use Rattle.rtk_collect.specs.Arrival.{Arrival, At, cells_of}
 use Rattle.rtk_collect.specs.Late.{epochs, greater, late}
 use Rattle.rtk_collect.specs.Accepted.{no_cells, with_arrival, kept, cells_at, closed}
-use Rattle.rtk_collect.specs.Search.{Falls, leading}
+use Rattle.rtk_collect.specs.Search.{EpochsFall, leading}
 use Rattle.rtk_collect.proofs.ArrivalsLemmas.{keys, leadingN, leadingN-take, leadingN-keys, keys-take, epochs-fall, greater-leading, late-true, late-false, is-late, is-open, same_greatest, kept-falls, take-with_arrival, drop-with_arrival, leading-sets, sets-late, sets-open, cells_at-take, cells_at-none}
 
 -- the closed epochs are those behind the n greatest
 
-pub under : (x : EpochCells) (xs : List EpochCells) → Falls (x ∷ xs) → (k : ℕ) (d : EpochCells) → k < length xs → (get_or xs k d).epoch < x.epoch
+pub under : (x : EpochSetView) (xs : List EpochSetView) → EpochsFall (x ∷ xs) → (k : ℕ) (d : EpochSetView) → k < length xs → (get_or xs k d).epoch < x.epoch
 under x [] f k d l = grind arith
 under x (y ∷ ys) f zero d l = f.0
 under x (y ∷ ys) f (suc k) d l = let h : (get_or ys k d).epoch < y.epoch = under y ys f.1 k d (omega arith) in omega (arith, f.0)
 
-pub leading-at : (k : ℕ) (d : EpochCells) (xs : List EpochCells) → Falls xs → k < length xs → leading (get_or xs k d).epoch xs ≡ k
+pub leading-at : (k : ℕ) (d : EpochSetView) (xs : List EpochSetView) → EpochsFall xs → k < length xs → leading (get_or xs k d).epoch xs ≡ k
 leading-at k d [] f l = grind arith
 leading-at zero d (x ∷ xs) f l = rw (le-ltb x.epoch x.epoch (omega arith)) refl
 leading-at (suc k) d (x ∷ xs) f l = rw (lt-ltb (get_or xs k d).epoch x.epoch (under x xs f k d (omega arith)), leading-at k d xs f.1 (omega arith)) refl
 
-pub filter-drop : (p : EpochCells → Bool) (n i : ℕ) (d : EpochCells) (xs : List EpochCells) → ((k : ℕ) → k < length xs → p (get_or xs k d) ≡ nat_le n (i + k)) → filter p xs ≡ drop (n - i) xs
+pub filter-drop : (p : EpochSetView → Bool) (n i : ℕ) (d : EpochSetView) (xs : List EpochSetView) → ((k : ℕ) → k < length xs → p (get_or xs k d) ≡ nat_le n (i + k)) → filter p xs ≡ drop (n - i) xs
 filter-drop p n i d [] h = sym (drop-nil (n - i))
 filter-drop p n i d (x ∷ xs) h =
     let rest : filter p xs ≡ drop (n - suc i) xs = filter-drop p n (suc i) d xs (λ k l. h (suc k) (omega arith) ∙ ap (λ t. nat_le n t) (omega arith)) in
@@ -44,7 +44,7 @@ filter-drop p n i d (x ∷ xs) h =
 pub same-le : (n a b : ℕ) → min n a ≡ min n b → nat_le n a ≡ nat_le n b
 same-le n a b h = grind (arith, le-leb, lt-leb)
 
-pub closed-test : (n k : ℕ) (d : EpochCells) (arrivals : List Arrival) → k < length (kept n arrivals) → nat_le n (greater (Some (get_or (kept n arrivals) k d).epoch) (epochs arrivals)) ≡ nat_le n (0 + k)
+pub closed-test : (n k : ℕ) (d : EpochSetView) (arrivals : List Arrival) → k < length (kept n arrivals) → nat_le n (greater (Some (get_or (kept n arrivals) k d).epoch) (epochs arrivals)) ≡ nat_le n (0 + k)
 closed-test n k d arrivals h =
     let e : ℕ = (get_or (kept n arrivals) k d).epoch in
     let g : greater (Some e) (epochs arrivals) ≡ leadingN e (epochs arrivals) = greater-leading e (epochs arrivals) (epochs-fall arrivals) in
@@ -53,20 +53,20 @@ closed-test n k d arrivals h =
     ∙ ap (min n) (leadingN-keys e (kept n arrivals) ∙ leading-at k d (kept n arrivals) (kept-falls n arrivals) h) in
     rw g (same-le n (leadingN e (epochs arrivals)) (0 + k) (t ∙ ap (min n) (omega arith)))
 
-pub closed-drop : (n : ℕ) (d : EpochCells) (arrivals : List Arrival) → closed n arrivals ≡ drop n (kept n arrivals)
+pub closed-drop : (n : ℕ) (d : EpochSetView) (arrivals : List Arrival) → closed n arrivals ≡ drop n (kept n arrivals)
 closed-drop n d arrivals = filter-drop (λ x. nat_le n (greater (Some x.epoch) (epochs arrivals))) n 0 d (kept n arrivals) (λ k h. closed-test n k d arrivals h) ∙ ap (λ t. drop t (kept n arrivals)) (omega arith)
 
-pub falls-take : (n : ℕ) (xs : List EpochCells) → Falls xs → Falls (take n xs)
+pub falls-take : (n : ℕ) (xs : List EpochSetView) → EpochsFall xs → EpochsFall (take n xs)
 falls-take zero xs f = tt
 falls-take (suc n) [] f = tt
 falls-take (suc zero) (x ∷ xs) f = (tt, tt)
 falls-take (suc (suc n)) (x ∷ []) f = (tt, tt)
 falls-take (suc (suc n)) (x ∷ y ∷ ys) f = (f.0, falls-take (suc n) (y ∷ ys) f.1)
 
-pub leading-take : (n e : ℕ) (xs : List EpochCells) → leading e (take n xs) ≡ min n (leading e xs)
+pub leading-take : (n e : ℕ) (xs : List EpochSetView) → leading e (take n xs) ≡ min n (leading e xs)
 leading-take n e xs = sym (leadingN-keys e (take n xs)) ∙ ap (leadingN e) (keys-take n xs) ∙ leadingN-take n e (keys xs) ∙ ap (min n) (leadingN-keys e xs)
 
-pub leading-length : (e : ℕ) (xs : List EpochCells) → leading e xs ≤ length xs
+pub leading-length : (e : ℕ) (xs : List EpochSetView) → leading e xs ≤ length xs
 leading-length e [] = omega arith
 leading-length e (x ∷ xs) = elim (cases_lt e x.epoch) [
   | inl below ↦ rw (lt-ltb e x.epoch below) (let h : leading e xs ≤ length xs = leading-length e xs in omega arith)
@@ -86,18 +86,18 @@ leading-kept n e before h =
     grind arith
 
 -- an observation that is not late, from what is held
-pub record Joins (n e : ℕ) (m : Message) (before : List Arrival) (new : List EpochCells) (closes : Option EpochCells) : Type 0 where
+pub record Joins (n e : ℕ) (m : Message) (before : List Arrival) (new : List EpochSetView) (closes : Option EpochSetView) : Type 0 where
   pub not_late : late n (At (Some e) m) before ≡ false
   pub holds : new ≡ take n (kept n (At (Some e) m ∷ before))
   pub closing : closed n (At (Some e) m ∷ before) ≡ option_to_list closes ++ closed n before
 
-pub offer-joins : (n e : ℕ) (m : Message) (sets items new : List EpochCells) (before : List Arrival) (closes : Option EpochCells) → sets ≡ take n (kept n before) → leading e sets < n
+pub offer-joins : (n e : ℕ) (m : Message) (sets items new : List EpochSetView) (before : List Arrival) (closes : Option EpochSetView) → sets ≡ take n (kept n before) → leading e sets < n
     → items ≡ with_arrival e (cells_of m) sets → take n items ≡ new → drop n items ≡ option_to_list closes → Joins n e m before new closes
 offer-joins n e m sets items new before closes h l put front back =
     let fresh : leadingN e (epochs before) < n = sets-open n e sets before h l in
-    let K : List EpochCells = kept n before in
+    let K : List EpochSetView = kept n before in
     let same : leading e K < n = leading-kept n e before fresh in
-    let d : EpochCells = no_cells 0 in
+    let d : EpochSetView = no_cells 0 in
     let now : kept n (At (Some e) m ∷ before) ≡ with_arrival e (cells_of m) K = is-open n e m before fresh in
     record {
       not_late = late-false n e m before fresh;
@@ -107,26 +107,26 @@ offer-joins n e m sets items new before closes h l put front back =
           ∙ ap (λ t. t ++ drop n K) back ∙ ap (λ t. option_to_list closes ++ t) (sym (closed-drop n d before));
     }
 
-pub offer-late : (n e : ℕ) (m : Message) (sets : List EpochCells) (before : List Arrival) → sets ≡ take n (kept n before) → leading e sets ≡ n
+pub offer-late : (n e : ℕ) (m : Message) (sets : List EpochSetView) (before : List Arrival) → sets ≡ take n (kept n before) → leading e sets ≡ n
     → (late n (At (Some e) m) before ≡ true) × (sets ≡ take n (kept n (At (Some e) m ∷ before))) × (closed n (At (Some e) m ∷ before) ≡ closed n before)
 offer-late n e m sets before h l =
     let over : n ≤ leadingN e (epochs before) = sets-late n e sets before h (omega arith) in
-    let d : EpochCells = no_cells 0 in (
+    let d : EpochSetView = no_cells 0 in (
       late-true n e m before over,
       h ∙ ap (take n) (sym (is-late n e m before over)),
       closed-drop n d (At (Some e) m ∷ before) ∙ ap (drop n) (is-late n e m before over) ∙ sym (closed-drop n d before),
     )
 
 -- what is held of an epoch is what is kept of it
-pub kept-found : (n e : ℕ) (b : List CellEntry) (sets : List EpochCells) (before : List Arrival) → sets ≡ take n (kept n before) → cells_at e sets ≡ Some b → cells_at e (kept n before) ≡ Some b
+pub kept-found : (n e : ℕ) (b : List CellEntry) (sets : List EpochSetView) (before : List Arrival) → sets ≡ take n (kept n before) → cells_at e sets ≡ Some b → cells_at e (kept n before) ≡ Some b
 kept-found n e b sets before h f = cells_at-take n e b (kept n before) (rw h at f)
 
-pub kept-none : (n e : ℕ) (sets : List EpochCells) (before : List Arrival) → sets ≡ take n (kept n before) → leading e sets < n → cells_at e sets ≡ None → cells_at e (kept n before) ≡ None
+pub kept-none : (n e : ℕ) (sets : List EpochSetView) (before : List Arrival) → sets ≡ take n (kept n before) → leading e sets < n → cells_at e sets ≡ None → cells_at e (kept n before) ≡ None
 kept-none n e sets before h l f = cells_at-none n e (kept n before) (kept-falls n before) (leading-kept n e before (sets-open n e sets before h l)) (rw h at f)
 
 -- the search for a place by halves
 
-pub leading-past : (e i : ℕ) (d : EpochCells) (xs : List EpochCells) → Falls xs → i < length xs → e < (get_or xs i d).epoch → i < leading e xs
+pub leading-past : (e i : ℕ) (d : EpochSetView) (xs : List EpochSetView) → EpochsFall xs → i < length xs → e < (get_or xs i d).epoch → i < leading e xs
 leading-past e i d [] f l h = grind arith
 leading-past e zero d (x ∷ xs) f l h = rw (lt-ltb e x.epoch h) (omega arith)
 leading-past e (suc i) d (x ∷ xs) f l h =
@@ -134,7 +134,7 @@ leading-past e (suc i) d (x ∷ xs) f l h =
     let p : i < leading e xs = leading-past e i d xs f.1 (omega arith) h in
     rw (lt-ltb e x.epoch (omega arith)) (omega arith)
 
-pub leading-stop : (e i : ℕ) (d : EpochCells) (xs : List EpochCells) → i < length xs → (get_or xs i d).epoch ≤ e → leading e xs ≤ i
+pub leading-stop : (e i : ℕ) (d : EpochSetView) (xs : List EpochSetView) → i < length xs → (get_or xs i d).epoch ≤ e → leading e xs ≤ i
 leading-stop e i d [] l h = grind arith
 leading-stop e zero d (x ∷ xs) l h = rw (le-ltb e x.epoch h) (omega arith)
 leading-stop e (suc i) d (x ∷ xs) l h = elim (cases_lt e x.epoch) [

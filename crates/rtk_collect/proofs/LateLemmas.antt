@@ -7,13 +7,13 @@ use Rattle.std.proofs.lemmas.List.{length-take}
 use Rattle.rtk_message.specs.declared.message.Message.{Message}
 use Rattle.rtk_message.specs.Decoded.{number_of}
 use Rattle.rtk_collect.specs.Equal.{equal_stations}
-use Rattle.rtk_collect.specs.EpochCells.{EpochCells}
+use Rattle.rtk_collect.specs.EpochSet.{EpochSetView}
 use Rattle.rtk_collect.specs.Arrival.{Arrival, At, cells_of}
 use Rattle.rtk_collect.specs.Late.{epochs, with_epoch, late}
 use Rattle.rtk_collect.specs.Accepted.{no_cells, station, first, kept, closed, with_arrival, IsTaken}
 use Rattle.rtk_collect.specs.Slot.{is_first}
-use Rattle.rtk_collect.specs.Search.{Falls}
-use Rattle.rtk_collect.specs.Laws.{without_late, AreInTime, LateChangeNothing, ClosedOnlyGrow, ClosedFall, ClosedAfter, ExcusedIsKept, StationsAreFinal}
+use Rattle.rtk_collect.specs.Search.{EpochsFall}
+use Rattle.rtk_collect.specs.Laws.{without_late, AreInTime, LateArrivalsChangeNothing, ClosedOnlyGrow, ClosedFall, ClosedAfter, ExcusedIsKept, StationsAreFinal}
 use Rattle.rtk_collect.proofs.ArrivalsLemmas.{leadingN, leadingN-take, late-leading, is-late, is-open, take-with_epoch, take-with_epoch-late, keys, same_greatest, kept-falls, drop-with_arrival}
 use Rattle.rtk_collect.proofs.JoinsLemmas.{same-le, closed-drop, whole, leading-kept}
 use Rattle.rtk_collect.proofs.StationLemmas.{length-keys, and-none, excused-is}
@@ -115,15 +115,15 @@ without-taken n a (x ∷ before) =
       )
     ]
 
-pub late-change-nothing : LateChangeNothing
+pub late-change-nothing : LateArrivalsChangeNothing
 late-change-nothing n arrivals = ((λ a. without-late n a arrivals), in-time n arrivals, (λ a. without-taken n a arrivals), without-kept n arrivals, (λ k. without-station n k arrivals))
 
 -- closed epochs
 
-one-grows : (n : ℕ) (a : Arrival) (before : List Arrival) → (more : List EpochCells) × (closed n (a ∷ before) ≡ more ++ closed n before)
+one-grows : (n : ℕ) (a : Arrival) (before : List Arrival) → (more : List EpochSetView) × (closed n (a ∷ before) ≡ more ++ closed n before)
 one-grows n (At None m) before = ([], refl)
 one-grows n (At (Some e) m) before =
-    let d : EpochCells = no_cells 0 in
+    let d : EpochSetView = no_cells 0 in
     elim (cases_lt (leadingN e (epochs before)) n) [
       | inl fresh ↦ (
         drop n (with_arrival e (cells_of m) (take n (kept n before))),
@@ -140,13 +140,13 @@ closed-only-grow n (a ∷ later) before =
     let s = one-grows n a (later ++ before) in
     (s.0 ++ r.0, s.1 ∙ ap (λ t. s.0 ++ t) r.1 ∙ sym (append_assoc s.0 r.0 (closed n before)))
 
-falls-drop : (n : ℕ) (xs : List EpochCells) → Falls xs → Falls (drop n xs)
+falls-drop : (n : ℕ) (xs : List EpochSetView) → EpochsFall xs → EpochsFall (drop n xs)
 falls-drop zero xs f = f
 falls-drop (suc n) [] f = tt
 falls-drop (suc n) (x ∷ xs) f = falls-drop n xs f.1
 
 pub closed-fall : ClosedFall
-closed-fall n arrivals = subst Falls (sym (closed-drop n (no_cells 0) arrivals)) (falls-drop n (kept n arrivals) (kept-falls n arrivals))
+closed-fall n arrivals = subst EpochsFall (sym (closed-drop n (no_cells 0) arrivals)) (falls-drop n (kept n arrivals) (kept-falls n arrivals))
 
 pub closed-after : ClosedAfter
 closed-after n arrivals = elim (cases_lt (length (epochs arrivals)) n) [

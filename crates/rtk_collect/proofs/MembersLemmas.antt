@@ -7,7 +7,7 @@ use Rattle.rtk_message.specs.declared.message.Message.{Message}
 use Rattle.rtk_message.specs.Decoded.{number_of}
 use Rattle.rtk_obs.specs.declared.cell.CellEntry.{CellEntry}
 use Rattle.rtk_collect.specs.Key.{key}
-use Rattle.rtk_collect.specs.EpochCells.{EpochCells, with_cell, with_cells}
+use Rattle.rtk_collect.specs.EpochSet.{EpochSetView, with_cell, with_cells}
 use Rattle.rtk_collect.specs.Arrival.{Arrival, At, cells_of}
 use Rattle.rtk_collect.specs.Late.{late}
 use Rattle.rtk_collect.specs.Accepted.{station, first, kept, with_arrival, IsTaken, AmongCells, IsTakenCell, IsConsistent}
@@ -74,45 +74,45 @@ cells-joined c (y ∷ more) xs m = elim m [
 
 -- members of the kept epochs
 
-with_arrival-kept : (e : ℕ) (x : CellEntry) (f : ℕ) (cs : List CellEntry) (xs : List EpochCells) → IsKept e x (with_arrival f cs xs) → ((f ≡ e) × AmongCells x cs) ⊎ IsKept e x xs
+with_arrival-kept : (e : ℕ) (x : CellEntry) (f : ℕ) (cs : List CellEntry) (xs : List EpochSetView) → IsKept e x (with_arrival f cs xs) → ((f ≡ e) × AmongCells x cs) ⊎ IsKept e x xs
 with_arrival-kept e x f cs [] m = elim m [
   | inl h ↦ elim (with_cells-among x cs [] h.1) [ inl a ↦ inl (h.0, a) | inr r ↦ absurd r ]
   | inr r ↦ absurd r
 ]
 with_arrival-kept e x f cs (y ∷ ys) m = elim (cases_order y.epoch f) [
-  | inl same ↦ elim (subst (λ (t : List EpochCells). IsKept e x t) (with_arrival-same f cs y ys (sym same)) m) [
+  | inl same ↦ elim (subst (λ (t : List EpochSetView). IsKept e x t) (with_arrival-same f cs y ys (sym same)) m) [
     | inl h ↦ elim (with_cells-among x cs y.cells h.1) [ inl a ↦ inl (sym same ∙ h.0, a) | inr r ↦ inr (inl (h.0, r)) ]
     | inr r ↦ inr (inr r)
   ]
   | inr more ↦ elim more [
-    | inl new ↦ elim (subst (λ (t : List EpochCells). IsKept e x t) (with_arrival-new f cs y ys new) m) [
+    | inl new ↦ elim (subst (λ (t : List EpochSetView). IsKept e x t) (with_arrival-new f cs y ys new) m) [
       | inl h ↦ elim (with_cells-among x cs [] h.1) [ inl a ↦ inl (h.0, a) | inr r ↦ absurd r ]
       | inr r ↦ inr r
     ]
-    | inr below ↦ elim (subst (λ (t : List EpochCells). IsKept e x t) (with_arrival-below f cs y ys below) m) [
+    | inr below ↦ elim (subst (λ (t : List EpochSetView). IsKept e x t) (with_arrival-below f cs y ys below) m) [
       | inl h ↦ inr (inl h)
       | inr r ↦ elim (with_arrival-kept e x f cs ys r) [ inl a ↦ inl a | inr s ↦ inr (inr s) ]
     ]
   ]
 ]
 
-kept-with_arrival : (e : ℕ) (x : CellEntry) (f : ℕ) (cs : List CellEntry) (xs : List EpochCells) → IsKept e x xs → IsKept e x (with_arrival f cs xs)
+kept-with_arrival : (e : ℕ) (x : CellEntry) (f : ℕ) (cs : List CellEntry) (xs : List EpochSetView) → IsKept e x xs → IsKept e x (with_arrival f cs xs)
 kept-with_arrival e x f cs [] m = absurd m
 kept-with_arrival e x f cs (y ∷ ys) m = elim (cases_order y.epoch f) [
-  | inl same ↦ subst (λ (t : List EpochCells). IsKept e x t) (sym (with_arrival-same f cs y ys (sym same))) (elim m [ inl h ↦ inl (h.0, among-with_cells x cs y.cells h.1) | inr r ↦ inr r ])
+  | inl same ↦ subst (λ (t : List EpochSetView). IsKept e x t) (sym (with_arrival-same f cs y ys (sym same))) (elim m [ inl h ↦ inl (h.0, among-with_cells x cs y.cells h.1) | inr r ↦ inr r ])
   | inr more ↦ elim more [
-    | inl new ↦ subst (λ (t : List EpochCells). IsKept e x t) (sym (with_arrival-new f cs y ys new)) (inr m)
-    | inr below ↦ subst (λ (t : List EpochCells). IsKept e x t) (sym (with_arrival-below f cs y ys below)) (elim m [ inl h ↦ inl h | inr r ↦ inr (kept-with_arrival e x f cs ys r) ])
+    | inl new ↦ subst (λ (t : List EpochSetView). IsKept e x t) (sym (with_arrival-new f cs y ys new)) (inr m)
+    | inr below ↦ subst (λ (t : List EpochSetView). IsKept e x t) (sym (with_arrival-below f cs y ys below)) (elim m [ inl h ↦ inl h | inr r ↦ inr (kept-with_arrival e x f cs ys r) ])
   ]
 ]
 
-arrival-joined : (c : CellEntry) (e : ℕ) (cs : List CellEntry) (xs : List EpochCells) → AmongCells c cs → (d : CellEntry) × IsKept e d (with_arrival e cs xs) × (key d ≡ key c)
+arrival-joined : (c : CellEntry) (e : ℕ) (cs : List CellEntry) (xs : List EpochSetView) → AmongCells c cs → (d : CellEntry) × IsKept e d (with_arrival e cs xs) × (key d ≡ key c)
 arrival-joined c e cs [] m = let j = cells-joined c cs [] m in (j.0, inl (refl, j.1), j.2)
 arrival-joined c e cs (y ∷ ys) m = elim (cases_order y.epoch e) [
-  | inl same ↦ let j = cells-joined c cs y.cells m in (j.0, subst (λ (t : List EpochCells). IsKept e j.0 t) (sym (with_arrival-same e cs y ys (sym same))) (inl (same, j.1)), j.2)
+  | inl same ↦ let j = cells-joined c cs y.cells m in (j.0, subst (λ (t : List EpochSetView). IsKept e j.0 t) (sym (with_arrival-same e cs y ys (sym same))) (inl (same, j.1)), j.2)
   | inr more ↦ elim more [
-    | inl new ↦ let j = cells-joined c cs [] m in (j.0, subst (λ (t : List EpochCells). IsKept e j.0 t) (sym (with_arrival-new e cs y ys new)) (inl (refl, j.1)), j.2)
-    | inr below ↦ let j = arrival-joined c e cs ys m in (j.0, subst (λ (t : List EpochCells). IsKept e j.0 t) (sym (with_arrival-below e cs y ys below)) (inr j.1), j.2)
+    | inl new ↦ let j = cells-joined c cs [] m in (j.0, subst (λ (t : List EpochSetView). IsKept e j.0 t) (sym (with_arrival-new e cs y ys new)) (inl (refl, j.1)), j.2)
+    | inr below ↦ let j = arrival-joined c e cs ys m in (j.0, subst (λ (t : List EpochSetView). IsKept e j.0 t) (sym (with_arrival-below e cs y ys below)) (inr j.1), j.2)
   ]
 ]
 
@@ -191,7 +191,7 @@ taken-kept n e c (At (Some f) o ∷ before) agree t =
 
 -- the epochs that were opened
 
-has-arrival : (e f : ℕ) (cs : List CellEntry) (xs : List EpochCells) → HasEpoch e (with_arrival f cs xs) → (f ≡ e) ⊎ HasEpoch e xs
+has-arrival : (e f : ℕ) (cs : List CellEntry) (xs : List EpochSetView) → HasEpoch e (with_arrival f cs xs) → (f ≡ e) ⊎ HasEpoch e xs
 has-arrival e f cs [] m = m
 has-arrival e f cs (y ∷ ys) m = elim (cases_order y.epoch f) [
   | inl same ↦ inr (subst (HasEpoch e) (with_arrival-same f cs y ys (sym same)) m)
@@ -204,7 +204,7 @@ has-arrival e f cs (y ∷ ys) m = elim (cases_order y.epoch f) [
   ]
 ]
 
-arrival-has : (e f : ℕ) (cs : List CellEntry) (xs : List EpochCells) → (f ≡ e) ⊎ HasEpoch e xs → HasEpoch e (with_arrival f cs xs)
+arrival-has : (e f : ℕ) (cs : List CellEntry) (xs : List EpochSetView) → (f ≡ e) ⊎ HasEpoch e xs → HasEpoch e (with_arrival f cs xs)
 arrival-has e f cs [] m = m
 arrival-has e f cs (y ∷ ys) m = elim (cases_order y.epoch f) [
   | inl same ↦ subst (HasEpoch e) (sym (with_arrival-same f cs y ys (sym same))) (elim m [ inl a ↦ inl (same ∙ a) | inr r ↦ r ])

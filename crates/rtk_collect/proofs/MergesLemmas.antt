@@ -3,9 +3,9 @@ use Rattle.std.proofs.Common.{◌≡◌, ℕ, zero, suc, ◌+◌, ◌<◌, ◌�
 use Rattle.std.proofs.lemmas.Bool.{ne_eqb, eq-eqb}
 use Rattle.std.proofs.lemmas.List.{append-nil, length-append}
 use Rattle.rtk_obs.specs.declared.cell.CellEntry.{CellEntry}
-use Rattle.rtk_collect.specs.declared.conflicts.SatelliteCode.{SatelliteCode}
-use Rattle.rtk_collect.specs.Key.{key, Above, Rises}
-use Rattle.rtk_collect.specs.EpochCells.{with_cell, with_cells, cell_under, one_more, fresh, conflict, conflicts}
+use Rattle.rtk_collect.specs.declared.offer.SatelliteCode.{SatelliteCode}
+use Rattle.rtk_collect.specs.Key.{key, Above, KeysRise}
+use Rattle.rtk_collect.specs.EpochSet.{with_cell, with_cells, cell_under, one_more, fresh, conflict, conflicts}
 use Rattle.rtk_collect.proofs.CellsLemmas.{with_cell-new, with_cell-past, with_cell-same, above-none, drop-at}
 
 -- ---- a kept cell with a lesser key than all that join
@@ -14,17 +14,17 @@ above-less : (k l : ℕ) (xs : List CellEntry) → k < l → Above l xs → Abov
 above-less k l [] h a = tt
 above-less k l (x ∷ xs) h a = omega (arith, h, a)
 
-past-cells : (x : CellEntry) (cells xs : List CellEntry) → Above (key x) cells → Rises cells → with_cells cells (x ∷ xs) ≡ x ∷ with_cells cells xs
+past-cells : (x : CellEntry) (cells xs : List CellEntry) → Above (key x) cells → KeysRise cells → with_cells cells (x ∷ xs) ≡ x ∷ with_cells cells xs
 past-cells x [] xs a r = refl
 past-cells x (c ∷ more) xs a r = ap (with_cells more) (with_cell-past c x xs a) ∙ past-cells x more (with_cell c xs) (above-less (key x) (key c) more a r.0) r.1
 
-past-conflicts : (x : CellEntry) (cells xs : List CellEntry) → Above (key x) cells → Rises cells → conflicts cells (x ∷ xs) ≡ conflicts cells xs
+past-conflicts : (x : CellEntry) (cells xs : List CellEntry) → Above (key x) cells → KeysRise cells → conflicts cells (x ∷ xs) ≡ conflicts cells xs
 past-conflicts x [] xs a r = refl
 past-conflicts x (c ∷ more) xs a r =
     rw (ne_eqb (key c) (key x) (λ q. omega (arith, a)), with_cell-past c x xs a)
     (ap (λ t. conflict c (cell_under (key c) xs) ++ t) (past-conflicts x more (with_cell c xs) (above-less (key x) (key c) more a r.0) r.1))
 
-past-fresh : (x : CellEntry) (cells xs : List CellEntry) → Above (key x) cells → Rises cells → fresh cells (x ∷ xs) ≡ fresh cells xs
+past-fresh : (x : CellEntry) (cells xs : List CellEntry) → Above (key x) cells → KeysRise cells → fresh cells (x ∷ xs) ≡ fresh cells xs
 past-fresh x [] xs a r = refl
 past-fresh x (c ∷ more) xs a r =
     rw (ne_eqb (key c) (key x) (λ q. omega (arith, a)))
@@ -36,7 +36,7 @@ first-cell : (c : CellEntry) (held : List CellEntry) → Above (key c) held → 
 first-cell c [] a = refl
 first-cell c (x ∷ xs) a = with_cell-new c x xs a
 
-first-none : (c : CellEntry) (held : List CellEntry) → Above (key c) held → Rises held → cell_under (key c) held ≡ None
+first-none : (c : CellEntry) (held : List CellEntry) → Above (key c) held → KeysRise held → cell_under (key c) held ≡ None
 first-none c [] a r = refl
 first-none c (x ∷ xs) a r = above-none (key c) x xs r a
 
@@ -54,10 +54,10 @@ pub record Merges (cells kept all rest held : List CellEntry) (found : List Sate
   pub items : all ++ with_cells rest held ≡ with_cells cells kept
   pub conflicts : found ++ conflicts rest held ≡ conflicts cells kept
   pub room : length all + (length held + fresh rest held) ≤ cap
-  pub rising : Rises rest
-  pub rises : Rises held
+  pub rising : KeysRise rest
+  pub rises : KeysRise held
 
-pub merges-first : (cells kept all : List CellEntry) (found : List SatelliteCode) (cap : ℕ) → all ≡ [] → found ≡ [] → Rises cells → Rises kept
+pub merges-first : (cells kept all : List CellEntry) (found : List SatelliteCode) (cap : ℕ) → all ≡ [] → found ≡ [] → KeysRise cells → KeysRise kept
     → length kept + fresh cells kept ≤ cap → Merges cells kept all (drop 0 cells) (drop 0 kept) found cap
 merges-first cells kept all found cap e f rising rises room = record {
   items = rw e refl;

@@ -5,42 +5,42 @@ use Rattle.std.proofs.lemmas.Bool.{lt-ltb, le-ltb}
 use Rattle.std.specs.List.{insert}
 use Rattle.rtk_message.specs.declared.message.Message.{Message}
 use Rattle.rtk_obs.specs.declared.cell.CellEntry.{CellEntry}
-use Rattle.rtk_collect.specs.declared.conflicts.SatelliteCode.{SatelliteCode}
-use Rattle.rtk_collect.specs.EpochCells.{EpochCells, joined, fresh, conflicts}
+use Rattle.rtk_collect.specs.declared.offer.SatelliteCode.{SatelliteCode}
+use Rattle.rtk_collect.specs.EpochSet.{EpochSetView, joined, fresh, conflicts}
 use Rattle.rtk_collect.specs.Arrival.{Arrival, At, cells_of}
 use Rattle.rtk_collect.specs.Late.{late}
 use Rattle.rtk_collect.specs.Accepted.{with_arrival, kept, cells_at}
-use Rattle.rtk_collect.specs.Search.{Falls, leading}
+use Rattle.rtk_collect.specs.Search.{EpochsFall, leading}
 use Rattle.rtk_collect.specs.Answer.{Class, LateClass, TakenClass, RepeatClass, ConflictClass, class_by, class_of_cells, class_in_time, class_of, conflicts_with, conflicts_of}
 use Rattle.rtk_collect.proofs.ArrivalsLemmas.{opened, with_arrival-found, with_arrival-absent, with_arrival-falls, found-cells, absent-cells}
 use Rattle.rtk_collect.proofs.JoinsLemmas.{leading-length, Joins, offer-joins, whole, kept-found, kept-none}
 
-pub length-set : (i : ℕ) (v : EpochCells) (xs : List EpochCells) → length (set xs i v) ≡ length xs
+pub length-set : (i : ℕ) (v : EpochSetView) (xs : List EpochSetView) → length (set xs i v) ≡ length xs
 length-set zero v [] = refl
 length-set (suc i) v [] = refl
 length-set zero v (x ∷ xs) = refl
 length-set (suc i) v (x ∷ xs) = ap suc (length-set i v xs)
 
-pub length-insert : (v : EpochCells) (i : ℕ) (xs : List EpochCells) → i ≤ length xs → length (insert xs i v) ≡ suc (length xs)
+pub length-insert : (v : EpochSetView) (i : ℕ) (xs : List EpochSetView) → i ≤ length xs → length (insert xs i v) ≡ suc (length xs)
 length-insert v zero xs l = refl
 length-insert v (suc i) [] l = grind arith
 length-insert v (suc i) (x ∷ xs) l = ap suc (length-insert v i xs (omega arith))
 
 -- an epoch that is held, after the cells of a message
-pub record OpenStep (n e : ℕ) (cs : List CellEntry) (sets new : List EpochCells) (b : List CellEntry) : Type 0 where
+pub record OpenStep (n e : ℕ) (cs : List CellEntry) (sets new : List EpochSetView) (b : List CellEntry) : Type 0 where
   pub put : new ≡ with_arrival e cs sets
-  pub falls : Falls new
+  pub falls : EpochsFall new
   pub len : length new ≤ n
   pub same_len : length new ≡ length sets
   pub less : leading e sets < n
   pub cells : cells_at e sets ≡ Some b
 
-pub open-step : (n e at : ℕ) (cs : List CellEntry) (d : EpochCells) (sets new : List EpochCells) → Falls sets → length sets ≤ n → at ≡ leading e sets → at < length sets
+pub open-step : (n e at : ℕ) (cs : List CellEntry) (d : EpochSetView) (sets new : List EpochSetView) → EpochsFall sets → length sets ≤ n → at ≡ leading e sets → at < length sets
     → (get_or sets at d).epoch ≡ e → new ≡ set sets at (joined cs (get_or sets at d)) → OpenStep n e cs sets new (get_or sets at d).cells
 open-step n e at cs d sets new f small place l same is =
     let l' : leading e sets < length sets = omega arith in
     let there : get_or sets at d ≡ get_or sets (leading e sets) d = ap (λ t. get_or sets t d) place in
-    let same' : (get_or sets (leading e sets) d).epoch ≡ e = ap (λ (t : EpochCells). t.epoch) (sym there) ∙ same in
+    let same' : (get_or sets (leading e sets) d).epoch ≡ e = ap (λ (t : EpochSetView). t.epoch) (sym there) ∙ same in
     let put : new ≡ with_arrival e cs sets = is ∙ ap (λ t. set sets t (joined cs (get_or sets t d))) place ∙ sym (with_arrival-found e cs d sets l' same') in
     record {
       put = put;
@@ -48,7 +48,7 @@ open-step n e at cs d sets new f small place l same is =
       len = rw (is, length-set) small;
       same_len = rw (is, length-set) refl;
       less = omega arith;
-      cells = found-cells e d sets l' same' ∙ ap (λ (t : EpochCells). Some t.cells) (sym there);
+      cells = found-cells e d sets l' same' ∙ ap (λ (t : EpochSetView). Some t.cells) (sym there);
     }
 
 pub class-taken : (n e : ℕ) (m : Message) (before : List Arrival) → late n (At (Some e) m) before ≡ false → class_in_time n (At (Some e) m) before ≡ TakenClass → class_of n (At (Some e) m) before ≡ TakenClass
@@ -76,12 +76,12 @@ by-some [] h = absurd (h refl)
 by-some (c ∷ cs) h = refl
 
 -- what the answer says of what is kept
-pub record OpenParts (n e : ℕ) (m : Message) (before : List Arrival) (new : List EpochCells) (b : List CellEntry) : Type 0 where
+pub record OpenParts (n e : ℕ) (m : Message) (before : List Arrival) (new : List EpochSetView) (b : List CellEntry) : Type 0 where
   pub joins : Joins n e m before new None
   pub class : (c : Class) → class_of_cells (cells_of m) (Some b) ≡ c → class_of n (At (Some e) m) before ≡ c
   pub same : conflicts (cells_of m) b ≡ conflicts_of n (At (Some e) m) before
 
-pub open-parts : (n e : ℕ) (m : Message) (sets new : List EpochCells) (b : List CellEntry) (before : List Arrival) → OpenStep n e (cells_of m) sets new b → sets ≡ take n (kept n before) → OpenParts n e m before new b
+pub open-parts : (n e : ℕ) (m : Message) (sets new : List EpochSetView) (b : List CellEntry) (before : List Arrival) → OpenStep n e (cells_of m) sets new b → sets ≡ take n (kept n before) → OpenParts n e m before new b
 open-parts n e m sets new b before s h =
     let k : cells_at e (kept n before) ≡ Some b = kept-found n e b sets before h s.cells in
     let j : Joins n e m before new None = offer-joins n e m sets new new before None h s.less s.put (whole n new s.len).0 (whole n new s.len).1 in
@@ -92,13 +92,13 @@ open-parts n e m sets new b before s h =
     }
 
 -- an epoch that is not held yet
-pub record NewStep (n e : ℕ) (cs : List CellEntry) (sets items : List EpochCells) : Type 0 where
+pub record NewStep (n e : ℕ) (cs : List CellEntry) (sets items : List EpochSetView) : Type 0 where
   pub put : items ≡ with_arrival e cs sets
-  pub falls : Falls items
+  pub falls : EpochsFall items
   pub less : leading e sets < n
   pub none : cells_at e sets ≡ None
 
-pub new-step : (n e at : ℕ) (cs : List CellEntry) (d : EpochCells) (sets items : List EpochCells) → Falls sets → length sets ≤ n → at ≡ leading e sets → at ≢ n
+pub new-step : (n e at : ℕ) (cs : List CellEntry) (d : EpochSetView) (sets items : List EpochSetView) → EpochsFall sets → length sets ≤ n → at ≡ leading e sets → at ≢ n
     → (at < length sets → (get_or sets at d).epoch ≢ e) → items ≡ insert sets at (opened e cs) → NewStep n e cs sets items
 new-step n e at cs d sets items f small place other absent is =
     let none : cells_at e sets ≡ None = absent-cells e d sets f (λ l q. absent (omega arith) (ap (λ t. (get_or sets t d).epoch) place ∙ q)) in
@@ -111,12 +111,12 @@ new-step n e at cs d sets items f small place other absent is =
       none = none;
     }
 
-pub record NewParts (n e : ℕ) (m : Message) (before : List Arrival) (new : List EpochCells) (closes : Option EpochCells) : Type 0 where
+pub record NewParts (n e : ℕ) (m : Message) (before : List Arrival) (new : List EpochSetView) (closes : Option EpochSetView) : Type 0 where
   pub joins : Joins n e m before new closes
   pub class : class_of n (At (Some e) m) before ≡ TakenClass
   pub same : conflicts (cells_of m) [] ≡ conflicts_of n (At (Some e) m) before
 
-pub new-parts : (n e : ℕ) (m : Message) (sets items new : List EpochCells) (before : List Arrival) (closes : Option EpochCells) → NewStep n e (cells_of m) sets items → sets ≡ take n (kept n before)
+pub new-parts : (n e : ℕ) (m : Message) (sets items new : List EpochSetView) (before : List Arrival) (closes : Option EpochSetView) → NewStep n e (cells_of m) sets items → sets ≡ take n (kept n before)
     → take n items ≡ new → drop n items ≡ option_to_list closes → NewParts n e m before new closes
 new-parts n e m sets items new before closes s h front back =
     let k : cells_at e (kept n before) ≡ None = kept-none n e sets before h s.less s.none in

@@ -11,11 +11,11 @@ use Rattle.rtk_obs.specs.declared.cell.CellEntry.{CellEntry}
 use Rattle.rtk_obs.specs.Cell.{AreDifferentSignals, AreDistinct}
 use Rattle.rtk_obs.proofs.DistinctLemmas.{Pairs, cells_of_1004-distinct, cells_of_1074-distinct}
 use Rattle.rtk_collect.specs.Key.{key}
-use Rattle.rtk_collect.specs.EpochCells.{EpochCells, with_cell, cell_under, conflict, conflicts}
+use Rattle.rtk_collect.specs.EpochSet.{EpochSetView, with_cell, cell_under, conflict, conflicts}
 use Rattle.rtk_collect.specs.Arrival.{Arrival, At, cells_of}
 use Rattle.rtk_collect.specs.Late.{epochs}
 use Rattle.rtk_collect.specs.Accepted.{no_cells, with_arrival, kept, cells_at, closed}
-use Rattle.rtk_collect.specs.Search.{Falls}
+use Rattle.rtk_collect.specs.Search.{EpochsFall}
 use Rattle.rtk_collect.specs.Answer.{conflicts_with}
 use Rattle.rtk_collect.specs.Laws.{OpeningConflictsNot, ClosingConflictsNot}
 use Rattle.rtk_collect.proofs.EqualityLemmas.{keys-are-distinct}
@@ -67,7 +67,7 @@ opening-conflicts-not (Msm1074 m) valid = distinct-none (cells_of (Msm1074 m)) (
 
 -- a message that closes an epoch opens one
 
-length-held : (e : ℕ) (cs b : List CellEntry) (xs : List EpochCells) → Falls xs → cells_at e xs ≡ Some b → length (with_arrival e cs xs) ≡ length xs
+length-held : (e : ℕ) (cs b : List CellEntry) (xs : List EpochSetView) → EpochsFall xs → cells_at e xs ≡ Some b → length (with_arrival e cs xs) ≡ length xs
 length-held e cs b [] f h = cc
 length-held e cs b (x ∷ xs) f h = elim (cases_order x.epoch e) [
   | inl same ↦ ap length (with_arrival-same e cs x xs (sym same))
@@ -86,7 +86,7 @@ held-length n e m b before h = elim (cases_lt (leadingN e (epochs before)) n) [
   | inr over ↦ ap length (is-late n e m before over)
 ]
 
-found-by : (n e : ℕ) (m : Message) (before : List Arrival) (set : EpochCells) (o : Option (List CellEntry)) → IsValid m → cells_at e (kept n before) ≡ o
+found-by : (n e : ℕ) (m : Message) (before : List Arrival) (set : EpochSetView) (o : Option (List CellEntry)) → IsValid m → cells_at e (kept n before) ≡ o
     → closed n (At (Some e) m ∷ before) ≡ set ∷ closed n before → conflicts_with (cells_of m) o ≡ []
 found-by n e m before set None valid h grew = opening-conflicts-not m valid
 found-by n e m before set (Some b) valid h grew =

@@ -6,8 +6,8 @@ use Rattle.rtk_obs.specs.declared.code.Code.{Code}
 use Rattle.rtk_obs.specs.declared.cell.CellEntry.{CellEntry}
 use Rattle.rtk_obs.specs.declared.cell.CellSource.{CellSource}
 use Rattle.rtk_obs.specs.declared.cell.CellSource.TheVariants.{Legacy, Msm}
-use Rattle.rtk_collect.specs.Key.{key, key_at, rank_of, Rises}
-use Rattle.rtk_collect.specs.EpochCells.{cell_under, preferred, cell_of}
+use Rattle.rtk_collect.specs.Key.{key, key_at, rank_of, KeysRise}
+use Rattle.rtk_collect.specs.EpochSet.{cell_under, preferred, cell_of}
 use Rattle.rtk_collect.specs.Laws.{FirstIsPreferred}
 use Rattle.rtk_collect.proofs.CellsLemmas.{above-none}
 use Rattle.rtk_collect.proofs.EqualityLemmas.{parts-one, place-less, rank-less}
@@ -32,7 +32,7 @@ under-here k x xs h = rw (eq-eqb k (key x) h) refl
 under-past : (k : ℕ) (x : CellEntry) (xs : List CellEntry) → k ≢ key x → cell_under k (x ∷ xs) ≡ cell_under k xs
 under-past k x xs h = rw (ne_eqb k (key x) h) refl
 
-here : (s : ℕ) (c : Code) (x : CellEntry) (xs : List CellEntry) → Rises (x ∷ xs) → s ≡ x.satellite → place_of c ≡ place_of x.code → (k : CellSource) → x.cell.source ≡ k → Some x ≡ cell_of s c (x ∷ xs)
+here : (s : ℕ) (c : Code) (x : CellEntry) (xs : List CellEntry) → KeysRise (x ∷ xs) → s ≡ x.satellite → place_of c ≡ place_of x.code → (k : CellSource) → x.cell.source ≡ k → Some x ≡ cell_of s c (x ∷ xs)
 here s c x xs r one two Msm e =
     let q : key_at s c Msm ≡ key x = ap (key_at s c) (sym e) ∙ key-is s c x one two in
     sym (ap (λ o. preferred o (cell_under (key_at s c Legacy) (x ∷ xs))) (under-here (key_at s c Msm) x xs q))

@@ -3,32 +3,32 @@ use Rattle.std.proofs.Common.{◌≡◌, ℕ, ◌<◌, List, [], ◌∷◌, Opti
 use Rattle.std.proofs.lemmas.Bool.{cases_order, cases_Bool}
 use Rattle.rtk_message.specs.declared.message.Message.{Message}
 use Rattle.rtk_obs.specs.declared.cell.CellEntry.{CellEntry}
-use Rattle.rtk_collect.specs.Key.{key, Rises}
-use Rattle.rtk_collect.specs.EpochCells.{EpochCells}
+use Rattle.rtk_collect.specs.Key.{key, KeysRise}
+use Rattle.rtk_collect.specs.EpochSet.{EpochSetView}
 use Rattle.rtk_collect.specs.Arrival.{Arrival, At, cells_of}
 use Rattle.rtk_collect.specs.Late.{late}
 use Rattle.rtk_collect.specs.Accepted.{kept, station, with_arrival, IsTaken, AmongCells, IsTakenCell, IsConsistent}
-use Rattle.rtk_collect.specs.Search.{Falls}
+use Rattle.rtk_collect.specs.Search.{EpochsFall}
 use Rattle.rtk_collect.specs.Laws.{HasEpoch, IsKept, SetDecides}
 use Rattle.rtk_collect.proofs.CellsLemmas.{with_cells-rises}
 use Rattle.rtk_collect.proofs.ArrivalsLemmas.{kept-falls, with_arrival-new, with_arrival-below, with_arrival-same}
 use Rattle.rtk_collect.proofs.MembersLemmas.{kept-are-taken}
 use Rattle.rtk_collect.proofs.LateLemmas.{kept-late, kept-new}
 
-among-above : (c x : CellEntry) (xs : List CellEntry) → Rises (x ∷ xs) → AmongCells c xs → key x < key c
+among-above : (c x : CellEntry) (xs : List CellEntry) → KeysRise (x ∷ xs) → AmongCells c xs → key x < key c
 among-above c x [] f m = absurd m
 among-above c x (y ∷ ys) f m = elim m [
   | inl e ↦ subst (λ (t : CellEntry). key x < key t) (sym e) f.0
   | inr r ↦ let h : key y < key c = among-above c y ys f.1 r in omega (arith, f.0)
 ]
 
-tail-cells : (x y : CellEntry) (xs ys : List CellEntry) → Rises (x ∷ xs) → x ≡ y → ((c : CellEntry) → AmongCells c (x ∷ xs) → AmongCells c (y ∷ ys)) → (c : CellEntry) → AmongCells c xs → AmongCells c ys
+tail-cells : (x y : CellEntry) (xs ys : List CellEntry) → KeysRise (x ∷ xs) → x ≡ y → ((c : CellEntry) → AmongCells c (x ∷ xs) → AmongCells c (y ∷ ys)) → (c : CellEntry) → AmongCells c xs → AmongCells c ys
 tail-cells x y xs ys f e h c m = elim (h c (inr m)) [
   | inl q ↦ let l : key x < key c = among-above c x xs f m in let k : key c ≡ key x = ap key (q ∙ sym e) in absurd (omega arith)
   | inr r ↦ r
 ]
 
-head-cells : (x y : CellEntry) (xs ys : List CellEntry) → Rises (x ∷ xs) → Rises (y ∷ ys) → AmongCells x (y ∷ ys) → AmongCells y (x ∷ xs) → x ≡ y
+head-cells : (x y : CellEntry) (xs ys : List CellEntry) → KeysRise (x ∷ xs) → KeysRise (y ∷ ys) → AmongCells x (y ∷ ys) → AmongCells y (x ∷ xs) → x ≡ y
 head-cells x y xs ys f g m k = elim m [
   | inl e ↦ e
   | inr r ↦ elim k [
@@ -37,7 +37,7 @@ head-cells x y xs ys f g m k = elim m [
   ]
 ]
 
-rises-same : (xs ys : List CellEntry) → Rises xs → Rises ys → ((c : CellEntry) → AmongCells c xs → AmongCells c ys) → ((c : CellEntry) → AmongCells c ys → AmongCells c xs) → xs ≡ ys
+rises-same : (xs ys : List CellEntry) → KeysRise xs → KeysRise ys → ((c : CellEntry) → AmongCells c xs → AmongCells c ys) → ((c : CellEntry) → AmongCells c ys → AmongCells c xs) → xs ≡ ys
 rises-same [] [] f g h k = refl
 rises-same [] (y ∷ ys) f g h k = absurd (k y (inl refl))
 rises-same (x ∷ xs) [] f g h k = absurd (h x (inl refl))
@@ -46,40 +46,40 @@ rises-same (x ∷ xs) (y ∷ ys) f g h k =
     let t : xs ≡ ys = rises-same xs ys f.1 g.1 (tail-cells x y xs ys f e h) (tail-cells y x ys xs g (sym e) k) in
     ap (λ z. z ∷ xs) e ∙ ap (λ z. y ∷ z) t
 
-abbrev pub AllRise : List EpochCells → Type 0
+abbrev pub AllRise : List EpochSetView → Type 0
 AllRise [] = Unit {0}
-AllRise (x ∷ xs) = Rises x.cells × AllRise xs
+AllRise (x ∷ xs) = KeysRise x.cells × AllRise xs
 
-has-below : (e : ℕ) (x : EpochCells) (xs : List EpochCells) → Falls (x ∷ xs) → HasEpoch e xs → e < x.epoch
+has-below : (e : ℕ) (x : EpochSetView) (xs : List EpochSetView) → EpochsFall (x ∷ xs) → HasEpoch e xs → e < x.epoch
 has-below e x [] f m = absurd m
 has-below e x (y ∷ ys) f m = elim m [
   | inl q ↦ omega (arith, f.0)
   | inr r ↦ let h : e < y.epoch = has-below e y ys f.1 r in omega (arith, f.0)
 ]
 
-kept-has : (e : ℕ) (c : CellEntry) (xs : List EpochCells) → IsKept e c xs → HasEpoch e xs
+kept-has : (e : ℕ) (c : CellEntry) (xs : List EpochSetView) → IsKept e c xs → HasEpoch e xs
 kept-has e c [] m = absurd m
 kept-has e c (x ∷ xs) m = elim m [ inl h ↦ inl h.0 | inr r ↦ inr (kept-has e c xs r) ]
 
-head-kept : (c : CellEntry) (x y : EpochCells) (ys : List EpochCells) → Falls (y ∷ ys) → x.epoch ≡ y.epoch → IsKept x.epoch c (y ∷ ys) → AmongCells c y.cells
+head-kept : (c : CellEntry) (x y : EpochSetView) (ys : List EpochSetView) → EpochsFall (y ∷ ys) → x.epoch ≡ y.epoch → IsKept x.epoch c (y ∷ ys) → AmongCells c y.cells
 head-kept c x y ys f e m = elim m [
   | inl h ↦ h.1
   | inr r ↦ let l : x.epoch < y.epoch = has-below x.epoch y ys f (kept-has x.epoch c ys r) in absurd (omega arith)
 ]
 
-tail-has : (x y : EpochCells) (xs ys : List EpochCells) → Falls (x ∷ xs) → x.epoch ≡ y.epoch → ((e : ℕ) → HasEpoch e (x ∷ xs) → HasEpoch e (y ∷ ys)) → (e : ℕ) → HasEpoch e xs → HasEpoch e ys
+tail-has : (x y : EpochSetView) (xs ys : List EpochSetView) → EpochsFall (x ∷ xs) → x.epoch ≡ y.epoch → ((e : ℕ) → HasEpoch e (x ∷ xs) → HasEpoch e (y ∷ ys)) → (e : ℕ) → HasEpoch e xs → HasEpoch e ys
 tail-has x y xs ys f q h e m = elim (h e (inr m)) [
   | inl s ↦ let l : e < x.epoch = has-below e x xs f m in absurd (omega arith)
   | inr r ↦ r
 ]
 
-tail-kept : (x y : EpochCells) (xs ys : List EpochCells) → Falls (x ∷ xs) → x.epoch ≡ y.epoch → ((e : ℕ) (c : CellEntry) → IsKept e c (x ∷ xs) → IsKept e c (y ∷ ys)) → (e : ℕ) (c : CellEntry) → IsKept e c xs → IsKept e c ys
+tail-kept : (x y : EpochSetView) (xs ys : List EpochSetView) → EpochsFall (x ∷ xs) → x.epoch ≡ y.epoch → ((e : ℕ) (c : CellEntry) → IsKept e c (x ∷ xs) → IsKept e c (y ∷ ys)) → (e : ℕ) (c : CellEntry) → IsKept e c xs → IsKept e c ys
 tail-kept x y xs ys f q h e c m = elim (h e c (inr m)) [
   | inl s ↦ let l : e < x.epoch = has-below e x xs f (kept-has e c xs m) in let s0 = s.0 in absurd (omega arith)
   | inr r ↦ r
 ]
 
-same-first : (x y : EpochCells) (xs ys : List EpochCells) → Falls (x ∷ xs) → Falls (y ∷ ys) → HasEpoch x.epoch (y ∷ ys) → HasEpoch y.epoch (x ∷ xs) → x.epoch ≡ y.epoch
+same-first : (x y : EpochSetView) (xs ys : List EpochSetView) → EpochsFall (x ∷ xs) → EpochsFall (y ∷ ys) → HasEpoch x.epoch (y ∷ ys) → HasEpoch y.epoch (x ∷ xs) → x.epoch ≡ y.epoch
 same-first x y xs ys f g m k = elim m [
   | inl e ↦ sym e
   | inr r ↦ elim k [
@@ -88,10 +88,10 @@ same-first x y xs ys f g m k = elim m [
   ]
 ]
 
-same-open : (x y : EpochCells) → x.epoch ≡ y.epoch → x.cells ≡ y.cells → x ≡ y
+same-open : (x y : EpochSetView) → x.epoch ≡ y.epoch → x.cells ≡ y.cells → x ≡ y
 same-open x y e c = ap (λ t. record { epoch = t; cells = x.cells }) e ∙ ap (λ t. record { epoch = y.epoch; cells = t }) c
 
-pub kept-same : (xs ys : List EpochCells) → Falls xs → Falls ys → AllRise xs → AllRise ys → ((e : ℕ) → HasEpoch e xs → HasEpoch e ys) → ((e : ℕ) → HasEpoch e ys → HasEpoch e xs)
+pub kept-same : (xs ys : List EpochSetView) → EpochsFall xs → EpochsFall ys → AllRise xs → AllRise ys → ((e : ℕ) → HasEpoch e xs → HasEpoch e ys) → ((e : ℕ) → HasEpoch e ys → HasEpoch e xs)
     → ((e : ℕ) (c : CellEntry) → IsKept e c xs → IsKept e c ys) → ((e : ℕ) (c : CellEntry) → IsKept e c ys → IsKept e c xs) → xs ≡ ys
 kept-same [] [] f g r s h k u v = refl
 kept-same [] (y ∷ ys) f g r s h k u v = absurd (k y.epoch (inl refl))
@@ -102,7 +102,7 @@ kept-same (x ∷ xs) (y ∷ ys) f g r s h k u v =
     let t : xs ≡ ys = kept-same xs ys f.1 g.1 r.1 s.1 (tail-has x y xs ys f e h) (tail-has y x ys xs g (sym e) k) (tail-kept x y xs ys f e u) (tail-kept y x ys xs g (sym e) v) in
     ap (λ z. z ∷ xs) (same-open x y e c) ∙ ap (λ z. y ∷ z) t
 
-arrival-rise : (e : ℕ) (cs : List CellEntry) (xs : List EpochCells) → AllRise xs → AllRise (with_arrival e cs xs)
+arrival-rise : (e : ℕ) (cs : List CellEntry) (xs : List EpochSetView) → AllRise xs → AllRise (with_arrival e cs xs)
 arrival-rise e cs [] h = (with_cells-rises cs [] tt, tt)
 arrival-rise e cs (y ∷ ys) h = elim (cases_order y.epoch e) [
   | inl same ↦ subst AllRise (sym (with_arrival-same e cs y ys (sym same))) (with_cells-rises cs y.cells h.0, h.1)

@@ -6,23 +6,23 @@ use Rattle.std.proofs.lemmas.Bool.{lt-ltb, le-ltb, le-leb, lt-leb, cases_lt, cas
 use Rattle.std.proofs.lemmas.List.{length-take}
 use Rattle.rtk_message.specs.declared.message.Message.{Message}
 use Rattle.rtk_message.specs.Decoded.{number_of}
-use Rattle.rtk_collect.specs.declared.offers.Offer.{Offer}
-use Rattle.rtk_collect.specs.declared.offers.Offer.TheVariants.{Taken, Conflict, Repeat, Late}
-use Rattle.rtk_collect.specs.EpochCells.{EpochCells}
+use Rattle.rtk_collect.specs.declared.offer.Offer.{Offer}
+use Rattle.rtk_collect.specs.declared.offer.Offer.TheVariants.{Taken, Conflict, Repeat, Late}
+use Rattle.rtk_collect.specs.EpochSet.{EpochSetView}
 use Rattle.rtk_collect.specs.Equal.{equal_stations}
 use Rattle.rtk_collect.specs.Arrival.{Arrival, At}
 use Rattle.rtk_collect.specs.Late.{with_epoch, epochs, First, first_of, first_with, is_repeat_of, is_excused, late}
 use Rattle.rtk_collect.specs.Accepted.{station, first, kept, closed}
-use Rattle.rtk_collect.specs.Answer.{Class, LateClass, TakenClass, RepeatClass, ConflictClass, class_of_station, class_of, Answers}
-use Rattle.rtk_collect.specs.Slot.{is_first, SlotMeets}
+use Rattle.rtk_collect.specs.Answer.{Class, LateClass, TakenClass, RepeatClass, ConflictClass, class_of_station, class_of, IsRightAnswer}
+use Rattle.rtk_collect.specs.Slot.{is_first, AnswersStationMessage}
 use Rattle.rtk_collect.proofs.ArrivalsLemmas.{keys, same_greatest, with_epoch-new, with_epoch-below, with_epoch-same}
 
-pub length-keys : (xs : List EpochCells) → length (keys xs) ≡ length xs
+pub length-keys : (xs : List EpochSetView) → length (keys xs) ≡ length xs
 length-keys [] = refl
 length-keys (x ∷ xs) = ap suc (length-keys xs)
 
 -- whether n epochs have come, from what is held
-pub full-is : (n : ℕ) (sets : List EpochCells) (before : List Arrival) → sets ≡ take n (kept n before) → eqb (length sets) n ≡ nat_le n (length (epochs before))
+pub full-is : (n : ℕ) (sets : List EpochSetView) (before : List Arrival) → sets ≡ take n (kept n before) → eqb (length sets) n ≡ nat_le n (length (epochs before))
 full-is n sets before h =
     let a : length sets ≡ min n (length (kept n before)) = ap length h ∙ length-take n (kept n before) in
     let b : min n (length (keys (kept n before))) ≡ min n (length (epochs before)) = sym (length-take n (keys (kept n before))) ∙ ap length (same_greatest n before) ∙ length-take n (epochs before) in
@@ -137,7 +137,7 @@ module _ {T : Type 0} (wrap : T → Message) (eq : T → T → Bool) (same_eq : 
   ClassOf (Conflict found) c = (c ≡ ConflictClass) × (found ≡ [])
   ClassOf Repeat c = c ≡ RepeatClass
 
-  slot-class : (slot new : Option T) (m : T) (full : Bool) (offer : Offer) → SlotMeets eq slot m full offer new → ClassOf offer (class_here full slot m) × (option_map wrap new ≡ kept_here full slot m)
+  slot-class : (slot new : Option T) (m : T) (full : Bool) (offer : Offer) → AnswersStationMessage eq slot m full offer new → ClassOf offer (class_here full slot m) × (option_map wrap new ≡ kept_here full slot m)
   slot-class slot new m full Late h = (rw (h.0, h.1) refl, ap (option_map wrap) h.2 ∙ rw (h.0, h.1) refl)
   slot-class slot new m full (Taken out found) h = ((rw (h.0, h.1) refl, h.3, h.4), ap (option_map wrap) h.2 ∙ rw (h.0, h.1) refl)
   slot-class None new m full (Conflict found) h = absurd h
@@ -145,18 +145,18 @@ module _ {T : Type 0} (wrap : T → Message) (eq : T → T → Bool) (same_eq : 
   slot-class None new m full Repeat h = let q = h.0 in cc
   slot-class (Some x) new m full Repeat h = (rw (h.0, and-none full, same_eq x m, h.0) refl, ap (option_map wrap) h.1 ∙ rw (h.0, and-none full) refl)
 
-  answers-from : (n : ℕ) (m : T) (before : List Arrival) (offer : Offer) → ClassOf offer (class_of n (At None (wrap m)) before) → Answers n (At None (wrap m)) before offer
+  answers-from : (n : ℕ) (m : T) (before : List Arrival) (offer : Offer) → ClassOf offer (class_of n (At None (wrap m)) before) → IsRightAnswer n (At None (wrap m)) before offer
   answers-from n m before Late h = (h, refl)
   answers-from n m before (Taken out found) h = (h.0, h.2, ap (λ o. option_to_list o ++ closed n before) (sym h.1))
   answers-from n m before (Conflict found) h = (h.0, h.1, refl)
   answers-from n m before Repeat h = (h, refl)
 
   pub record StationStep (n k : ℕ) (m : T) (before : List Arrival) (offer : Offer) (slot : Option T) : Type 0 where
-    pub answers : Answers n (At None (wrap m)) before offer
+    pub answers : IsRightAnswer n (At None (wrap m)) before offer
     pub after : option_map wrap slot ≡ station n k (At None (wrap m) ∷ before)
 
   pub slot-parts : (n k : ℕ) (m : T) (slot new : Option T) (full : Bool) (offer : Offer) (before : List Arrival) → number_of (wrap m) ≡ k → option_map wrap slot ≡ station n k before
-      → full ≡ nat_le n (length (epochs before)) → SlotMeets eq slot m full offer new → StationStep n k m before offer new
+      → full ≡ nat_le n (length (epochs before)) → AnswersStationMessage eq slot m full offer new → StationStep n k m before offer new
   slot-parts n k m slot new full offer before num s f h =
       let p = slot-class slot new m full offer h in
       let s' : station n (number_of (wrap m)) before ≡ option_map wrap slot = ap (λ t. station n t before) num ∙ sym s in
@@ -177,7 +177,7 @@ pub other-stays : (n k : ℕ) (m : Message) (before : List Arrival) → number_o
 other-stays n k m before h = ap (λ b. if b && not (late n (At None m) before) then first (station n k before) m else station n k before) (ne_eqb (number_of m) k h)
 
 -- the fields of the kept one fit, where those of the offered one do
-pub slot-fits : {T : Type 0} (eq : T → T → Bool) (P : T → Type 0) (slot new : Option T) (m : T) (full : Bool) (offer : Offer) → SlotMeets eq slot m full offer new → ForSome slot P → P m → ForSome new P
+pub slot-fits : {T : Type 0} (eq : T → T → Bool) (P : T → Type 0) (slot new : Option T) (m : T) (full : Bool) (offer : Offer) → AnswersStationMessage eq slot m full offer new → ForSome slot P → P m → ForSome new P
 slot-fits eq P slot new m full Late h f p = subst (λ o. ForSome o P) (sym h.2) f
 slot-fits eq P slot new m full (Taken out found) h f p = subst (λ o. ForSome o P) (sym h.2) (λ x e. subst P (ap (λ o. unwrap_or o x) e) p)
 slot-fits eq P None new m full (Conflict found) h f p = absurd h

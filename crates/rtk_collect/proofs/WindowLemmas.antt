@@ -7,15 +7,15 @@ use Rattle.std.proofs.lemmas.List.{length-append, append-nil}
 use Rattle.std.proofs.lemmas.List.Elements.{All-from_recursion, recursion_from_All}
 use Rattle.rtk_message.specs.declared.message.Message.{Message}
 use Rattle.rtk_obs.specs.declared.cell.CellEntry.{CellEntry}
-use Rattle.rtk_collect.specs.declared.conflicts.SatelliteCode.{SatelliteCode}
-use Rattle.rtk_collect.specs.declared.offers.Offer.{Offer}
-use Rattle.rtk_collect.specs.declared.offers.Offer.TheVariants.{Taken, Conflict, Repeat, Late}
-use Rattle.rtk_collect.specs.EpochCells.{EpochCells, joined, fresh, conflicts}
+use Rattle.rtk_collect.specs.declared.offer.SatelliteCode.{SatelliteCode}
+use Rattle.rtk_collect.specs.declared.offer.Offer.{Offer}
+use Rattle.rtk_collect.specs.declared.offer.Offer.TheVariants.{Taken, Conflict, Repeat, Late}
+use Rattle.rtk_collect.specs.EpochSet.{EpochSetView, joined, fresh, conflicts}
 use Rattle.rtk_collect.specs.Arrival.{Arrival, At, cells_of}
 use Rattle.rtk_collect.specs.Accepted.{with_arrival, kept, cells_at, closed}
 use Rattle.rtk_collect.specs.Late.{epochs}
-use Rattle.rtk_collect.specs.Search.{Falls, leading}
-use Rattle.rtk_collect.specs.Answer.{Answers, TakenClass, RepeatClass, ConflictClass, class_of_cells, class_of}
+use Rattle.rtk_collect.specs.Search.{EpochsFall, leading}
+use Rattle.rtk_collect.specs.Answer.{IsRightAnswer, TakenClass, RepeatClass, ConflictClass, class_of_cells, class_of}
 use Rattle.rtk_collect.specs.Observed.{IsAnswerOf}
 use Rattle.rtk_collect.specs.Offered.{ClosesBelow, ClosesLeast, NotBelow}
 use Rattle.rtk_collect.proofs.ArrivalsLemmas.{leadingN, late-false, sets-open, found-cells, absent-cells, opened, with_arrival-new, with_arrival-below, with_arrival-same}
@@ -23,10 +23,10 @@ use Rattle.rtk_collect.proofs.JoinsLemmas.{leading-length, kept-found, kept-none
 use Rattle.rtk_collect.proofs.OffersLemmas.{length-insert, class-is, OpenStep, open-step, OpenParts, open-parts, NewStep, new-step, NewParts, new-parts, class-late, cells-taken, cells-stale, by-none, by-some}
 
 -- each epoch is at least so great
-abbrev AtLeast : ℕ → List EpochCells → Type 0
-AtLeast e xs = AllByRecursion (λ (x : EpochCells). e ≤ x.epoch) xs
+abbrev AtLeast : ℕ → List EpochSetView → Type 0
+AtLeast e xs = AllByRecursion (λ (x : EpochSetView). e ≤ x.epoch) xs
 
-least-with : (e f : ℕ) (cs : List CellEntry) (xs : List EpochCells) → e ≤ f → AtLeast e xs → AtLeast e (with_arrival f cs xs)
+least-with : (e f : ℕ) (cs : List CellEntry) (xs : List EpochSetView) → e ≤ f → AtLeast e xs → AtLeast e (with_arrival f cs xs)
 least-with e f cs [] l h = (l, tt)
 least-with e f cs (x ∷ xs) l h = elim (cases_order x.epoch f) [
   | inl same ↦ rw (with_arrival-same f cs x xs (sym same)) h
@@ -37,61 +37,61 @@ least-with e f cs (x ∷ xs) l h = elim (cases_order x.epoch f) [
 ]
 
 -- an epoch that is not below all is at least the least
-least-of : (e f : ℕ) (xs : List EpochCells) → leading f xs < length xs → AtLeast e xs → e ≤ f
+least-of : (e f : ℕ) (xs : List EpochSetView) → leading f xs < length xs → AtLeast e xs → e ≤ f
 least-of e f [] l h = grind arith
 least-of e f (x ∷ xs) l h = elim (cases_lt f x.epoch) [
   | inl below ↦ least-of e f xs (let q = rw (lt-ltb f x.epoch below) at l in omega arith) h.1
   | inr over ↦ omega (arith, h.0)
 ]
 
-least-front : (e : ℕ) (front back : List EpochCells) → AtLeast e (front ++ back) → AtLeast e front
+least-front : (e : ℕ) (front back : List EpochSetView) → AtLeast e (front ++ back) → AtLeast e front
 least-front e [] back h = tt
 least-front e (x ∷ front) back h = (h.0, least-front e front back h.1)
 
-pub falls-front : (front back : List EpochCells) → Falls (front ++ back) → Falls front
+pub falls-front : (front back : List EpochSetView) → EpochsFall (front ++ back) → EpochsFall front
 falls-front [] back f = tt
 falls-front (x ∷ []) back f = (tt, tt)
 falls-front (x ∷ y ∷ front) back f = (f.0, falls-front (y ∷ front) back f.1)
 
 -- the last of falling epochs is less than all others
-last-below : (front : List EpochCells) (s : EpochCells) → Falls (front ++ s ∷ []) → AllByRecursion (λ (x : EpochCells). s.epoch < x.epoch) front
+last-below : (front : List EpochSetView) (s : EpochSetView) → EpochsFall (front ++ s ∷ []) → AllByRecursion (λ (x : EpochSetView). s.epoch < x.epoch) front
 last-below [] s f = tt
 last-below (x ∷ []) s f = (f.0, tt)
 last-below (x ∷ y ∷ front) s f = let h = last-below (y ∷ front) s f.1 in (omega (arith, h.0, f.0), h)
 
-pub closes-below : (front : List EpochCells) (closes : Option EpochCells) (found : List SatelliteCode) → Falls (front ++ option_to_list closes) → ClosesBelow (Taken closes found) front
+pub closes-below : (front : List EpochSetView) (closes : Option EpochSetView) (found : List SatelliteCode) → EpochsFall (front ++ option_to_list closes) → ClosesBelow (Taken closes found) front
 closes-below front None found f = tt
-closes-below front (Some s) found f = All-from_recursion (λ (x : EpochCells). s.epoch < x.epoch) front (last-below front s f)
+closes-below front (Some s) found f = All-from_recursion (λ (x : EpochSetView). s.epoch < x.epoch) front (last-below front s f)
 
-pub least-is : (front : List EpochCells) (o : Option EpochCells) → Falls (front ++ option_to_list o) → IfSome o (λ s. All (λ (x : EpochCells). s.epoch < x.epoch) front)
+pub least-is : (front : List EpochSetView) (o : Option EpochSetView) → EpochsFall (front ++ option_to_list o) → IfSome o (λ s. All (λ (x : EpochSetView). s.epoch < x.epoch) front)
 least-is front None f = tt
-least-is front (Some s) f = All-from_recursion (λ (x : EpochCells). s.epoch < x.epoch) front (last-below front s f)
+least-is front (Some s) f = All-from_recursion (λ (x : EpochSetView). s.epoch < x.epoch) front (last-below front s f)
 
 -- the last epoch is at least each bound under all
-last-least : (e : ℕ) (front : List EpochCells) (s : EpochCells) → AtLeast e (front ++ s ∷ []) → e ≤ s.epoch
+last-least : (e : ℕ) (front : List EpochSetView) (s : EpochSetView) → AtLeast e (front ++ s ∷ []) → e ≤ s.epoch
 last-least e [] s h = h.0
 last-least e (x ∷ front) s h = last-least e front s h.1
 
-pub last-not-below : (sets front : List EpochCells) (s : EpochCells) → sets ≡ front ++ s ∷ [] → NotBelow s sets
-last-not-below sets front s split e h = last-least e front s (subst (AtLeast e) split (recursion_from_All (λ (t : EpochCells). e ≤ t.epoch) sets h))
+pub last-not-below : (sets front : List EpochSetView) (s : EpochSetView) → sets ≡ front ++ s ∷ [] → NotBelow s sets
+last-not-below sets front s split e h = last-least e front s (subst (AtLeast e) split (recursion_from_All (λ (t : EpochSetView). e ≤ t.epoch) sets h))
 
-pub left-not-below : (sets front : List EpochCells) (o : Option EpochCells) → sets ≡ front ++ option_to_list o → IfSome o (λ s. NotBelow s sets)
+pub left-not-below : (sets front : List EpochSetView) (o : Option EpochSetView) → sets ≡ front ++ option_to_list o → IfSome o (λ s. NotBelow s sets)
 left-not-below sets front None split = tt
 left-not-below sets front (Some s) split = last-not-below sets front s split
 
-abbrev rest : List EpochCells → List EpochCells
+abbrev rest : List EpochSetView → List EpochSetView
 rest [] = []
 rest (x ∷ xs) = xs
 
 -- what stands last after a new epoch in front of it stood last before
-insert-last : (sets : List EpochCells) (i : ℕ) (v : EpochCells) (new : List EpochCells) (s : EpochCells) → i < length sets → insert sets i v ≡ new ++ s ∷ [] → (front : List EpochCells) × (sets ≡ front ++ s ∷ [])
+insert-last : (sets : List EpochSetView) (i : ℕ) (v : EpochSetView) (new : List EpochSetView) (s : EpochSetView) → i < length sets → insert sets i v ≡ new ++ s ∷ [] → (front : List EpochSetView) × (sets ≡ front ++ s ∷ [])
 insert-last [] i v new s l e = absurd (omega arith)
 insert-last (x ∷ xs) zero v [] s l e = let q = ap length e in absurd (omega arith)
 insert-last (x ∷ xs) zero v (y ∷ ys) s l e = (ys, ap rest e)
 insert-last (x ∷ xs) (suc i) v [] s l e = let q : insert xs i v ≡ [] = ap rest e in let p : suc (length xs) ≡ 0 = sym (length-insert v i xs (omega arith)) ∙ ap length q in absurd (omega arith)
 insert-last (x ∷ xs) (suc i) v (y ∷ ys) s l e = let h = insert-last xs i v ys s (omega arith) (ap rest e) in (x ∷ h.0, ap (λ t. x ∷ t) h.1)
 
-new-least : (n i : ℕ) (sets items new : List EpochCells) (v : EpochCells) (closes : Option EpochCells) (found : List SatelliteCode) → length sets ≤ n → i < n → items ≡ insert sets i v
+new-least : (n i : ℕ) (sets items new : List EpochSetView) (v : EpochSetView) (closes : Option EpochSetView) (found : List SatelliteCode) → length sets ≤ n → i < n → items ≡ insert sets i v
     → length items ≡ suc (length sets) → items ≡ new ++ option_to_list closes → length new ≡ min n (length items) → ClosesLeast n sets (Taken closes found)
 new-least n i sets items new v None found small l is grew split len = tt
 new-least n i sets items new v (Some s) found small l is grew split len =
@@ -100,7 +100,7 @@ new-least n i sets items new v (Some s) found small l is grew split len =
     let last = insert-last sets i v new s (omega arith) (sym is ∙ split) in
     (full, last, last-not-below sets last.0 s last.1)
 
-open-least : (n count : ℕ) (found : List SatelliteCode) (offer : Offer) (sets : List EpochCells) → IsAnswerOf count found offer → ClosesLeast n sets offer
+open-least : (n count : ℕ) (found : List SatelliteCode) (offer : Offer) (sets : List EpochSetView) → IsAnswerOf count found offer → ClosesLeast n sets offer
 open-least n count found Late sets a = tt
 open-least n count found (Taken None listed) sets a = tt
 open-least n count found (Taken (Some s) listed) sets a = let q = a.1 in cc
@@ -110,18 +110,18 @@ open-least n count found Repeat sets a = tt
 -- where memory is refused
 
 -- some cell of a message is new in an epoch of the window
-pub fresh-taken : (n e at : ℕ) (cs : List CellEntry) (d : EpochCells) (sets : List EpochCells) → length sets ≤ n → at ≡ leading e sets → at < length sets → (get_or sets at d).epoch ≡ e
+pub fresh-taken : (n e at : ℕ) (cs : List CellEntry) (d : EpochSetView) (sets : List EpochSetView) → length sets ≤ n → at ≡ leading e sets → at < length sets → (get_or sets at d).epoch ≡ e
     → 0 < fresh cs (get_or sets at d).cells → (m : Message) → cells_of m ≡ cs → (before : List Arrival) → sets ≡ take n (kept n before) → class_of n (At (Some e) m) before ≡ TakenClass
 fresh-taken n e at cs d sets small place l same more m k before h =
     let b : List CellEntry = (get_or sets at d).cells in
     let there : get_or sets at d ≡ get_or sets (leading e sets) d = ap (λ t. get_or sets t d) place in
-    let found : cells_at e sets ≡ Some b = found-cells e d sets (omega arith) (ap (λ (t : EpochCells). t.epoch) (sym there) ∙ same) ∙ ap (λ (t : EpochCells). Some t.cells) (sym there) in
+    let found : cells_at e sets ≡ Some b = found-cells e d sets (omega arith) (ap (λ (t : EpochSetView). t.epoch) (sym there) ∙ same) ∙ ap (λ (t : EpochSetView). Some t.cells) (sym there) in
     let inside : leadingN e (epochs before) < n = sets-open n e sets before h (omega arith) in
     class-is n e m before TakenClass (late-false n e m before inside)
     (ap (class_of_cells (cells_of m)) (kept-found n e b sets before h found) ∙ cells-taken (cells_of m) b (fresh cs b) (ap (λ t. fresh t b) (sym k)) more)
 
 -- a message opens its epoch
-pub new-taken : (n e at : ℕ) (cs : List CellEntry) (d : EpochCells) (sets : List EpochCells) → Falls sets → length sets ≤ n → at ≡ leading e sets → at ≢ n → (at < length sets → (get_or sets at d).epoch ≢ e)
+pub new-taken : (n e at : ℕ) (cs : List CellEntry) (d : EpochSetView) (sets : List EpochSetView) → EpochsFall sets → length sets ≤ n → at ≡ leading e sets → at ≢ n → (at < length sets → (get_or sets at d).epoch ≢ e)
     → (m : Message) → cells_of m ≡ cs → (before : List Arrival) → sets ≡ take n (kept n before) → class_of n (At (Some e) m) before ≡ TakenClass
 new-taken n e at cs d sets f small place other absent m k before h =
     let l : leading e sets ≤ length sets = leading-length e sets in
@@ -129,7 +129,7 @@ new-taken n e at cs d sets f small place other absent m k before h =
     let none : cells_at e sets ≡ None = absent-cells e d sets f (λ l q. absent (omega arith) (ap (λ t. (get_or sets t d).epoch) place ∙ q)) in
     class-is n e m before TakenClass (late-false n e m before (sets-open n e sets before h less)) (ap (class_of_cells (cells_of m)) (kept-none n e sets before h less none))
 
-split-parts : (n : ℕ) (all front back : List EpochCells) → all ≡ front ++ back → length front ≡ min n (length all) → (take n all ≡ front) × (drop n all ≡ back)
+split-parts : (n : ℕ) (all front back : List EpochSetView) → all ≡ front ++ back → length front ≡ min n (length all) → (take n all ≡ front) × (drop n all ≡ back)
 split-parts n all front back e l = elim (cases_lt (length all) n) [
   | inl less ↦
       let q : length all ≡ length front + length back = ap length e ∙ length-append front back in
@@ -139,29 +139,29 @@ split-parts n all front back e l = elim (cases_lt (length all) n) [
   | inr over ↦ parts n all front back e (omega arith)
 ]
   where
-    no-length : (xs : List EpochCells) → length xs ≡ 0 → xs ≡ []
+    no-length : (xs : List EpochSetView) → length xs ≡ 0 → xs ≡ []
     no-length [] h = refl
     no-length (x ∷ xs) h = absurd (omega arith)
 
 -- what an observation leaves, and the right answer whatever came before
-pub record Branch (n e : ℕ) (cs : List CellEntry) (sets new : List EpochCells) (offer : Offer) : Type 0 where
+pub record Branch (n e : ℕ) (cs : List CellEntry) (sets new : List EpochSetView) (offer : Offer) : Type 0 where
   pub len : length new ≤ n
-  pub falls : Falls new
+  pub falls : EpochsFall new
   pub answer : (m : Message) → cells_of m ≡ cs → (before : List Arrival) → sets ≡ take n (kept n before)
-      → Answers n (At (Some e) m) before offer × (new ≡ take n (kept n (At (Some e) m ∷ before)))
+      → IsRightAnswer n (At (Some e) m) before offer × (new ≡ take n (kept n (At (Some e) m ∷ before)))
   pub below : ClosesBelow offer new
   pub least_closes : ClosesLeast n sets offer
-  pub least : length sets ≡ n → (length new ≡ n) × ((x : ℕ) → All (λ (s : EpochCells). x ≤ s.epoch) sets → All (λ (s : EpochCells). x ≤ s.epoch) new)
+  pub least : length sets ≡ n → (length new ≡ n) × ((x : ℕ) → All (λ (s : EpochSetView). x ≤ s.epoch) sets → All (λ (s : EpochSetView). x ≤ s.epoch) new)
 
-open-below : (count : ℕ) (found : List SatelliteCode) (offer : Offer) (new : List EpochCells) → IsAnswerOf count found offer → ClosesBelow offer new
+open-below : (count : ℕ) (found : List SatelliteCode) (offer : Offer) (new : List EpochSetView) → IsAnswerOf count found offer → ClosesBelow offer new
 open-below count found Late new a = absurd a
 open-below count found (Taken None listed) new a = tt
 open-below count found (Taken (Some s) listed) new a = let q = a.1 in cc
 open-below count found (Conflict listed) new a = tt
 open-below count found Repeat new a = tt
 
-open-answers : (n e : ℕ) (m : Message) (before : List Arrival) (new : List EpochCells) (b : List CellEntry) (count : ℕ) (found : List SatelliteCode) (offer : Offer) → OpenParts n e m before new b
-    → count ≡ fresh (cells_of m) b → found ≡ conflicts (cells_of m) b → IsAnswerOf count found offer → Answers n (At (Some e) m) before offer
+open-answers : (n e : ℕ) (m : Message) (before : List Arrival) (new : List EpochSetView) (b : List CellEntry) (count : ℕ) (found : List SatelliteCode) (offer : Offer) → OpenParts n e m before new b
+    → count ≡ fresh (cells_of m) b → found ≡ conflicts (cells_of m) b → IsAnswerOf count found offer → IsRightAnswer n (At (Some e) m) before offer
 open-answers n e m before new b count found Late p c f a = absurd a
 open-answers n e m before new b count found (Taken out listed) p c f a =
     (p.class TakenClass (cells-taken (cells_of m) b count c a.0), a.2 ∙ f ∙ p.same, p.joins.closing ∙ ap (λ o. option_to_list o ++ closed n before) (sym a.1))
@@ -170,7 +170,7 @@ open-answers n e m before new b count found (Conflict listed) p c f a =
 open-answers n e m before new b count found Repeat p c f a =
     (p.class RepeatClass (cells-stale (cells_of m) b count c (omega (arith, a.0)) ∙ by-none (conflicts (cells_of m) b) (sym f ∙ a.1)), p.joins.closing)
 
-pub open-branch : (n e at : ℕ) (cs : List CellEntry) (d : EpochCells) (sets new : List EpochCells) (count : ℕ) (found : List SatelliteCode) (offer : Offer) → Falls sets → length sets ≤ n
+pub open-branch : (n e at : ℕ) (cs : List CellEntry) (d : EpochSetView) (sets new : List EpochSetView) (count : ℕ) (found : List SatelliteCode) (offer : Offer) → EpochsFall sets → length sets ≤ n
     → at ≡ leading e sets → at < length sets → (get_or sets at d).epoch ≡ e → new ≡ set sets at (joined cs (get_or sets at d))
     → count ≡ fresh cs (get_or sets at d).cells → found ≡ conflicts cs (get_or sets at d).cells → IsAnswerOf count found offer → Branch n e cs sets new offer
 open-branch n e at cs d sets new count found offer f small place l same is c g a =
@@ -187,13 +187,13 @@ open-branch n e at cs d sets new count found offer f small place l same is c g a
       least = λ full. (
         s.same_len ∙ full,
         λ x h.
-            let r : AtLeast x sets = recursion_from_All (λ (t : EpochCells). x ≤ t.epoch) sets h in
+            let r : AtLeast x sets = recursion_from_All (λ (t : EpochSetView). x ≤ t.epoch) sets h in
             let w : AtLeast x (with_arrival e cs sets) = least-with x e cs sets (least-of x e sets (omega arith) r) r in
-            All-from_recursion (λ (t : EpochCells). x ≤ t.epoch) new (subst (AtLeast x) (sym s.put) w),
+            All-from_recursion (λ (t : EpochSetView). x ≤ t.epoch) new (subst (AtLeast x) (sym s.put) w),
       );
     }
 
-pub late-branch : (n e at : ℕ) (cs : List CellEntry) (sets : List EpochCells) → Falls sets → length sets ≤ n → at ≡ leading e sets → at ≡ n → Branch n e cs sets sets Late
+pub late-branch : (n e at : ℕ) (cs : List CellEntry) (sets : List EpochSetView) → EpochsFall sets → length sets ≤ n → at ≡ leading e sets → at ≡ n → Branch n e cs sets sets Late
 late-branch n e at cs sets f small place full =
     record {
       len = small;
@@ -204,12 +204,12 @@ late-branch n e at cs sets f small place full =
       least = λ all. (all, λ x h. h);
     }
 
-pub new-branch : (n e at : ℕ) (cs : List CellEntry) (d : EpochCells) (sets items new : List EpochCells) (closes : Option EpochCells) (found : List SatelliteCode) → Falls sets → length sets ≤ n
+pub new-branch : (n e at : ℕ) (cs : List CellEntry) (d : EpochSetView) (sets items new : List EpochSetView) (closes : Option EpochSetView) (found : List SatelliteCode) → EpochsFall sets → length sets ≤ n
     → at ≡ leading e sets → at ≢ n → (at < length sets → (get_or sets at d).epoch ≢ e) → items ≡ insert sets at (opened e cs) → length items ≡ suc (length sets)
     → items ≡ new ++ option_to_list closes → length new ≡ min n (length items) → found ≡ conflicts cs [] → Branch n e cs sets new (Taken closes found)
 new-branch n e at cs d sets items new closes found f small place other absent is grew split len g =
     let s : NewStep n e cs sets items = new-step n e at cs d sets items f small place other absent is in
-    let fall : Falls (new ++ option_to_list closes) = subst Falls split s.falls in
+    let fall : EpochsFall (new ++ option_to_list closes) = subst EpochsFall split s.falls in
     let both : (take n items ≡ new) × (drop n items ≡ option_to_list closes) = split-parts n items new (option_to_list closes) split len in
     record {
       len = omega arith;
@@ -223,9 +223,9 @@ new-branch n e at cs d sets items new closes found f small place other absent is
       least = λ full. (
         omega arith,
         λ x h.
-            let r : AtLeast x sets = recursion_from_All (λ (t : EpochCells). x ≤ t.epoch) sets h in
+            let r : AtLeast x sets = recursion_from_All (λ (t : EpochSetView). x ≤ t.epoch) sets h in
             let l : leading e sets < n = s.less in
             let w : AtLeast x (with_arrival e cs sets) = least-with x e cs sets (least-of x e sets (omega arith) r) r in
-            All-from_recursion (λ (t : EpochCells). x ≤ t.epoch) new (least-front x new (option_to_list closes) (subst (AtLeast x) split (subst (AtLeast x) (sym s.put) w))),
+            All-from_recursion (λ (t : EpochSetView). x ≤ t.epoch) new (least-front x new (option_to_list closes) (subst (AtLeast x) split (subst (AtLeast x) (sym s.put) w))),
       );
     }

@@ -5,7 +5,7 @@ use Rattle.rtk_message.specs.Decoded.{number_of}
 use Rattle.rtk_obs.specs.declared.cell.CellEntry.{CellEntry}
 use Rattle.rtk_collect.specs.Arrival.{Arrival, At, cells_of}
 use Rattle.rtk_collect.specs.Key.{key}
-use Rattle.rtk_collect.specs.EpochCells.{EpochCells, joined}
+use Rattle.rtk_collect.specs.EpochSet.{EpochSetView, joined}
 use Rattle.rtk_collect.specs.Late.{epochs, greater, late}
 
 -- the first message stays
@@ -20,27 +20,27 @@ station n k (At (Some e) m ∷ before) = station n k before
 station n k (At None m ∷ before) = if (number_of m == k) && not (late n (At None m) before) then first (station n k before) m else station n k before
 
 -- an epoch without cells
-abbrev pub no_cells : ℕ → EpochCells
+abbrev pub no_cells : ℕ → EpochSetView
 no_cells e = record { epoch = e; cells = [] }
 
 -- cells join their epoch, or open it, among epochs that fall
-abbrev pub with_arrival : ℕ → List CellEntry → List EpochCells → List EpochCells
+abbrev pub with_arrival : ℕ → List CellEntry → List EpochSetView → List EpochSetView
 with_arrival e cells [] = joined cells (no_cells e) ∷ []
 with_arrival e cells (x ∷ xs) = if nat_lt x.epoch e then joined cells (no_cells e) ∷ x ∷ xs else (if nat_lt e x.epoch then x ∷ with_arrival e cells xs else joined cells x ∷ xs)
 
 -- the epochs that were opened by an observation that was not late, falling, each with the first cell under each key
-abbrev pub kept : ℕ → List Arrival → List EpochCells
+abbrev pub kept : ℕ → List Arrival → List EpochSetView
 kept n [] = []
 kept n (At None m ∷ before) = kept n before
 kept n (At (Some e) m ∷ before) = if late n (At (Some e) m) before then kept n before else with_arrival e (cells_of m) (kept n before)
 
 -- the cells of an epoch, if it is open
-abbrev pub cells_at : ℕ → List EpochCells → Option (List CellEntry)
+abbrev pub cells_at : ℕ → List EpochSetView → Option (List CellEntry)
 cells_at e [] = None
 cells_at e (x ∷ xs) = if e == x.epoch then Some x.cells else cells_at e xs
 
 -- the kept epochs that are closed: at least n distinct greater ones have come
-abbrev pub closed : ℕ → List Arrival → List EpochCells
+abbrev pub closed : ℕ → List Arrival → List EpochSetView
 closed n arrivals = filter (λ x. nat_le n (greater (Some x.epoch) (epochs arrivals))) (kept n arrivals)
 
 -- an arrival that was not late

@@ -3,12 +3,12 @@ use Rattle.std.specs.Prelude.{◌≡◌, ℕ, List, [], ◌∷◌, ◌++◌, nat
 use Rattle.rtk_message.specs.declared.message.Message.{Message}
 use Rattle.rtk_message.specs.Decoded.{number_of}
 use Rattle.rtk_obs.specs.declared.cell.CellEntry.{CellEntry}
-use Rattle.rtk_collect.specs.declared.conflicts.SatelliteCode.{SatelliteCode}
-use Rattle.rtk_collect.specs.declared.offers.Offer.{Offer}
-use Rattle.rtk_collect.specs.declared.offers.Offer.TheVariants.{Taken, Conflict, Repeat, Late}
+use Rattle.rtk_collect.specs.declared.offer.SatelliteCode.{SatelliteCode}
+use Rattle.rtk_collect.specs.declared.offer.Offer.{Offer}
+use Rattle.rtk_collect.specs.declared.offer.Offer.TheVariants.{Taken, Conflict, Repeat, Late}
 use Rattle.rtk_collect.specs.Arrival.{Arrival, At, cells_of}
 use Rattle.rtk_collect.specs.Equal.{equal_stations}
-use Rattle.rtk_collect.specs.EpochCells.{fresh, conflicts}
+use Rattle.rtk_collect.specs.EpochSet.{fresh, conflicts}
 use Rattle.rtk_collect.specs.Late.{late}
 use Rattle.rtk_collect.specs.Accepted.{station, kept, cells_at, closed}
 
@@ -53,8 +53,8 @@ conflicts_of n (At None m) before = []
 conflicts_of n (At (Some e) m) before = conflicts_with (cells_of m) (cells_at e (kept n before))
 
 -- the right answer to an arrival after those before it. Only one that is taken closes an epoch
-abbrev pub Answers : ℕ → Arrival → List Arrival → Offer → Type 0
-Answers n a before Late = (class_of n a before ≡ LateClass) × (closed n (a ∷ before) ≡ closed n before)
-Answers n a before (Taken done found) = (class_of n a before ≡ TakenClass) × (found ≡ conflicts_of n a before) × (closed n (a ∷ before) ≡ option_to_list done ++ closed n before)
-Answers n a before (Conflict found) = (class_of n a before ≡ ConflictClass) × (found ≡ conflicts_of n a before) × (closed n (a ∷ before) ≡ closed n before)
-Answers n a before Repeat = (class_of n a before ≡ RepeatClass) × (closed n (a ∷ before) ≡ closed n before)
+abbrev pub IsRightAnswer : ℕ → Arrival → List Arrival → Offer → Type 0
+IsRightAnswer n a before Late = (class_of n a before ≡ LateClass) × (closed n (a ∷ before) ≡ closed n before)
+IsRightAnswer n a before (Taken done found) = (class_of n a before ≡ TakenClass) × (found ≡ conflicts_of n a before) × (closed n (a ∷ before) ≡ option_to_list done ++ closed n before)
+IsRightAnswer n a before (Conflict found) = (class_of n a before ≡ ConflictClass) × (found ≡ conflicts_of n a before) × (closed n (a ∷ before) ≡ closed n before)
+IsRightAnswer n a before Repeat = (class_of n a before ≡ RepeatClass) × (closed n (a ∷ before) ≡ closed n before)

@@ -6,41 +6,41 @@ use Rattle.std.specs.Option.{ForSome}
 use Rattle.rtk_message.specs.declared.message.Message.TheVariants.{Arp1005, Arp1006}
 use Rattle.rtk_message.specs.Arp1005 as arp1005_spec
 use Rattle.rtk_message.specs.Arp1006 as arp1006_spec
-use Rattle.rtk_collect.specs.Search.{Falls}
-use Rattle.rtk_collect.specs.EpochCells.{EpochCells}
+use Rattle.rtk_collect.specs.Search.{EpochsFall}
+use Rattle.rtk_collect.specs.EpochSet.{EpochSetView}
 use Rattle.rtk_collect.specs.Arrival.{Arrival}
 use Rattle.rtk_collect.specs.Accepted.{station, kept}
 
 -- a window of so many epochs: the greatest ones, falling, and the first 1005 and 1006
-pub record Window : Type 0 where
+pub record CollectorView : Type 0 where
   pub size : ℕ
-  pub sets : List EpochCells
+  pub sets : List EpochSetView
   pub arp1005 : Option Message1005
   pub arp1006 : Option Message1006
 
 -- two to 4,096 places, and at most so many epochs; station messages whose fields fit
-pub record IsWindow (w : Window) : Type 0 where
+pub record IsCollectorView (w : CollectorView) : Type 0 where
   pub low : 2 ≤ w.size
   pub high : w.size ≤ 4096
   pub few : length w.sets ≤ w.size
-  pub falls : Falls w.sets
+  pub falls : EpochsFall w.sets
   pub fits_1005 : ForSome w.arp1005 arp1005_spec.IsValid
   pub fits_1006 : ForSome w.arp1006 arp1006_spec.IsValid
 
 -- a window holds what is kept of these arrivals
-pub record Represents (w : Window) (arrivals : List Arrival) : Type 0 where
+pub record RepresentsArrivals (w : CollectorView) (arrivals : List Arrival) : Type 0 where
   pub sets : w.sets ≡ take w.size (kept w.size arrivals)
   pub arp1005 : option_map Arp1005 w.arp1005 ≡ station w.size 1005 arrivals
   pub arp1006 : option_map Arp1006 w.arp1006 ≡ station w.size 1006 arrivals
 
 -- what is left of a window at its end
-pub record Remainder : Type 0 where
-  pub sets : List EpochCells
+pub record LeftView : Type 0 where
+  pub sets : List EpochSetView
   pub arp1005 : Option Message1005
   pub arp1006 : Option Message1006
 
 -- the epochs fall, and the fields of the station messages fit
-pub record IsRemainder (r : Remainder) : Type 0 where
-  pub falls : Falls r.sets
+pub record IsLeftView (r : LeftView) : Type 0 where
+  pub falls : EpochsFall r.sets
   pub fits_1005 : ForSome r.arp1005 arp1005_spec.IsValid
   pub fits_1006 : ForSome r.arp1006 arp1006_spec.IsValid

@@ -25,6 +25,6 @@ Above k [] = Unit {0}
 Above k (x ∷ xs) = k < key x
 
 -- the keys rise
-abbrev pub Rises : List CellEntry → Type 0
-Rises [] = Unit {0}
-Rises (x ∷ xs) = Above (key x) xs × Rises xs
+abbrev pub KeysRise : List CellEntry → Type 0
+KeysRise [] = Unit {0}
+KeysRise (x ∷ xs) = Above (key x) xs × KeysRise xs

@@ -8,16 +8,16 @@ use Rattle.rtk_message.specs.Decoded.{number_of, IsValid}
 use Rattle.rtk_obs.specs.declared.cell.Cell.{Cell}
 use Rattle.rtk_obs.specs.declared.cell.CellEntry.{CellEntry}
 use Rattle.rtk_obs.specs.declared.code.Code.{Code}
-use Rattle.rtk_collect.specs.declared.conflicts.SatelliteCode.{SatelliteCode}
-use Rattle.rtk_collect.specs.declared.offers.Offer.TheVariants.{Taken}
-use Rattle.rtk_collect.specs.Key.{key, Rises}
-use Rattle.rtk_collect.specs.Search.{Falls}
+use Rattle.rtk_collect.specs.declared.offer.SatelliteCode.{SatelliteCode}
+use Rattle.rtk_collect.specs.declared.offer.Offer.TheVariants.{Taken}
+use Rattle.rtk_collect.specs.Key.{key, KeysRise}
+use Rattle.rtk_collect.specs.Search.{EpochsFall}
 use Rattle.rtk_collect.specs.Equal.{equal_cells, equal_1005, equal_1006, equal_stations}
-use Rattle.rtk_collect.specs.EpochCells.{EpochCells, cell_of, first_cell, conflicts}
+use Rattle.rtk_collect.specs.EpochSet.{EpochSetView, cell_of, first_entry, conflicts}
 use Rattle.rtk_collect.specs.Slot.{is_first}
 use Rattle.rtk_collect.specs.Arrival.{Arrival, At, message_of, cells_of}
 use Rattle.rtk_collect.specs.Late.{epochs, is_excused, late}
-use Rattle.rtk_collect.specs.Answer.{Answers}
+use Rattle.rtk_collect.specs.Answer.{IsRightAnswer}
 use Rattle.rtk_collect.specs.Accepted.{station, kept, closed, IsTaken, AmongCells, IsTakenCell, IsConsistent}
 
 -- the arrivals without those that are late
@@ -32,8 +32,8 @@ AreInTime n (a ∷ before) = (late n a before ≡ false) × AreInTime n before
 
 -- with all late arrivals deleted each further one is late or not as before, none that stays is late,
 -- the set of those that were not late is the same, and so is what is kept
-abbrev pub LateChangeNothing : Type 0
-LateChangeNothing = (n : ℕ) (arrivals : List Arrival) → ((a : Arrival) → late n a (without_late n arrivals) ≡ late n a arrivals)
+abbrev pub LateArrivalsChangeNothing : Type 0
+LateArrivalsChangeNothing = (n : ℕ) (arrivals : List Arrival) → ((a : Arrival) → late n a (without_late n arrivals) ≡ late n a arrivals)
     × AreInTime n (without_late n arrivals)
     × ((a : Arrival) → IsTaken n a (without_late n arrivals) ↔ IsTaken n a arrivals)
     × (kept n (without_late n arrivals) ≡ kept n arrivals)
@@ -41,11 +41,11 @@ LateChangeNothing = (n : ℕ) (arrivals : List Arrival) → ((a : Arrival) → l
 
 -- further arrivals leave the closed epochs with their cells as they are, and add others before them
 abbrev pub ClosedOnlyGrow : Type 0
-ClosedOnlyGrow = (n : ℕ) (later before : List Arrival) → (more : List EpochCells) × (closed n (later ++ before) ≡ more ++ closed n before)
+ClosedOnlyGrow = (n : ℕ) (later before : List Arrival) → (more : List EpochSetView) × (closed n (later ++ before) ≡ more ++ closed n before)
 
 -- the closed epochs fall: each that closes is greater than those that were closed before
 abbrev pub ClosedFall : Type 0
-ClosedFall = (n : ℕ) (arrivals : List Arrival) → Falls (closed n arrivals)
+ClosedFall = (n : ℕ) (arrivals : List Arrival) → EpochsFall (closed n arrivals)
 
 -- an epoch is closed only once n observation epochs have come
 abbrev pub ClosedAfter : Type 0
@@ -65,12 +65,12 @@ StationsAreFinal = (n : ℕ) (before : List Arrival) → n ≤ length (epochs be
     → ((m : Message) → late n (At None m) before ≡ not (is_kept n m before)) × ((a : Arrival) (k : ℕ) → station n k (a ∷ before) ≡ station n k before)
 
 -- a kept cell of an epoch
-abbrev pub IsKept : ℕ → CellEntry → List EpochCells → Type 0
+abbrev pub IsKept : ℕ → CellEntry → List EpochSetView → Type 0
 IsKept e c [] = ⊥
 IsKept e c (x ∷ xs) = ((x.epoch ≡ e) × AmongCells c x.cells) ⊎ IsKept e c xs
 
 -- an epoch stands among these
-abbrev pub HasEpoch : ℕ → List EpochCells → Type 0
+abbrev pub HasEpoch : ℕ → List EpochSetView → Type 0
 HasEpoch e [] = ⊥
 HasEpoch e (x ∷ xs) = (x.epoch ≡ e) ⊎ HasEpoch e xs
 
@@ -103,8 +103,8 @@ OpeningConflictsNot = (m : Message) → IsValid m → conflicts (cells_of m) [] 
 
 -- a message that closes an epoch opens one, so none of its cells conflicts
 abbrev pub ClosingConflictsNot : Type 0
-ClosingConflictsNot = (n : ℕ) (a : Arrival) (before : List Arrival) (set : EpochCells) (found : List SatelliteCode) → IsValid (message_of a)
-    → Answers n a before (Taken (Some set) found) → found ≡ []
+ClosingConflictsNot = (n : ℕ) (a : Arrival) (before : List Arrival) (set : EpochSetView) (found : List SatelliteCode) → IsValid (message_of a)
+    → IsRightAnswer n a before (Taken (Some set) found) → found ≡ []
 
 -- two cells have one key exactly where satellite, code and kind of message are the same
 abbrev pub KeysAreDistinct : Type 0
@@ -112,7 +112,7 @@ KeysAreDistinct = (c d : CellEntry) → (key c ≡ key d) ↔ ((c.satellite ≡ 
 
 -- where keys rise, the first cell of a satellite and code is that of a 1074, if there is one, else that of a 1004
 abbrev pub FirstIsPreferred : Type 0
-FirstIsPreferred = (satellite : ℕ) (code : Code) (cells : List CellEntry) → Rises cells → first_cell satellite code cells ≡ cell_of satellite code cells
+FirstIsPreferred = (satellite : ℕ) (code : Code) (cells : List CellEntry) → KeysRise cells → first_entry satellite code cells ≡ cell_of satellite code cells
 
 -- bodies are equal exactly where they are the same
 abbrev pub EqualityDecides : Type 0

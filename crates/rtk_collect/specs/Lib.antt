@@ -1,6 +1,6 @@
 pub mod Key
 pub mod Equal
-pub mod EpochCells
+pub mod EpochSet
 pub mod Arrival
 pub mod Late
 pub mod Accepted

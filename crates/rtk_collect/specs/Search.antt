@@ -2,7 +2,7 @@
 use Rattle.std.specs.Prelude.{ℕ, suc, ◌<◌, List, [], ◌∷◌, nat_lt, if◌then◌else◌}
 use Rattle.rtk_obs.specs.declared.cell.CellEntry.{CellEntry}
 use Rattle.rtk_collect.specs.Key.{key}
-use Rattle.rtk_collect.specs.EpochCells.{EpochCells}
+use Rattle.rtk_collect.specs.EpochSet.{EpochSetView}
 
 -- how many first cells have a lesser key
 abbrev pub lower : ℕ → List CellEntry → ℕ
@@ -10,16 +10,16 @@ lower k [] = 0
 lower k (x ∷ xs) = if nat_lt (key x) k then suc (lower k xs) else 0
 
 -- the first of the epochs, if there is one, is less
-abbrev pub Below : ℕ → List EpochCells → Type 0
-Below e [] = Unit {0}
-Below e (x ∷ xs) = x.epoch < e
+abbrev pub FirstIsBelow : ℕ → List EpochSetView → Type 0
+FirstIsBelow e [] = Unit {0}
+FirstIsBelow e (x ∷ xs) = x.epoch < e
 
 -- the epochs fall
-abbrev pub Falls : List EpochCells → Type 0
-Falls [] = Unit {0}
-Falls (x ∷ xs) = Below x.epoch xs × Falls xs
+abbrev pub EpochsFall : List EpochSetView → Type 0
+EpochsFall [] = Unit {0}
+EpochsFall (x ∷ xs) = FirstIsBelow x.epoch xs × EpochsFall xs
 
 -- how many first epochs are greater
-abbrev pub leading : ℕ → List EpochCells → ℕ
+abbrev pub leading : ℕ → List EpochSetView → ℕ
 leading e [] = 0
 leading e (x ∷ xs) = if nat_lt e x.epoch then suc (leading e xs) else 0

@@ -2,13 +2,13 @@
 
 ghost use Rattle.std.specs.Prelude.{◌≡◌, ◌≤◌, List, [], length, IfOk, OnErr, None};
 ghost use Rattle.rtk_collect.specs.Arrival.{Arrival};
-ghost use Rattle.rtk_collect.specs.Collector.{Represents};
+ghost use Rattle.rtk_collect.specs.Collector.{RepresentsArrivals};
 ghost use Rattle.rtk_collect.specs.Position.{IsPosition, IsPositionOf};
-ghost use Rattle.rtk_collect.specs.Offered.{Meets, ClosesBelow, ClosesLeast, LeastNeverFalls, WouldBeTaken};
+ghost use Rattle.rtk_collect.specs.Offered.{AnswersArrival, ClosesBelow, ClosesLeast, LeastNeverFalls, WouldBeTaken};
 
 use crate::dated::Dated;
 use crate::left::Left;
-use crate::offers::Offer;
+use crate::offer::Offer;
 use crate::open_epochs::OpenEpochs;
 use arrayvec::ArrayVec;
 use rtk_message::Message;
@@ -29,9 +29,9 @@ pub struct Collector {
 
 // Clauses see the window: its places, its epochs from the greatest on, the 1005 and the 1006.
 impl Model for Collector {
-    ghost use Rattle.rtk_collect.specs.Collector.{Window};
+    ghost use Rattle.rtk_collect.specs.Collector.{CollectorView};
 
-    ghost Value = { Window };
+    ghost Value = { CollectorView };
 
     ghost view = { λ c. c.epochs };
 }
@@ -56,7 +56,7 @@ impl Collector {
     pub fn offer(&mut self, dated: Dated) -> Result<Offer, AllocError>
         ensures size { self.new.size ≡ self.old.size }
         ensures bound { length self.new.sets ≤ self.new.size }
-        ensures answer { IfOk result (λ offer. Meets self.old dated offer self.new) }
+        ensures answer { IfOk result (λ offer. AnswersArrival self.old dated offer self.new) }
         ensures closed { IfOk result (λ offer. ClosesBelow offer self.new.sets) }
         ensures least_closes { IfOk result (λ offer. ClosesLeast self.old.size self.old.sets offer) }
         ensures least { LeastNeverFalls self.old self.new }
@@ -84,7 +84,7 @@ impl Collector {
     /// 1006, else zero.
     pub fn station(&self) -> Position
         ensures position { IsPosition self.now.arp1005 self.now.arp1006 result }
-        ensures kept { (before : List Arrival) → Represents self.now before → IsPositionOf self.now.size before result }
+        ensures kept { (before : List Arrival) → RepresentsArrivals self.now before → IsPositionOf self.now.size before result }
     {
         self.epochs.station()
     }

@@ -2,11 +2,11 @@
 
 ghost use Rattle.std.specs.Prelude.{◌≡◌, ◌<◌, ◌≤◌, [], length, IfOk, OnErr, All};
 ghost use Rattle.rtk_obs.specs.Cell.{IsInRange};
-ghost use Rattle.rtk_collect.specs.Key.{Rises};
-ghost use Rattle.rtk_collect.specs.EpochCells.{joined, fresh, conflicts};
+ghost use Rattle.rtk_collect.specs.Key.{KeysRise};
+ghost use Rattle.rtk_collect.specs.EpochSet.{joined, fresh, conflicts};
 
-use crate::conflicts::Conflicts;
 use crate::merging::{compare, interleave, merge, rises};
+use crate::offer::Conflicts;
 use rtk_obs::{CellEntry, GpsMs};
 use std::alloc::{AllocError, Global};
 use std::marker::Model;
@@ -24,15 +24,15 @@ pub struct EpochSet {
 // Clauses see the epoch in ms and the list of cells.
 impl Model for EpochSet {
     ghost use Rattle.std.specs.Prelude.{List, All};
-    ghost use Rattle.rtk_collect.specs.EpochCells.{EpochCells};
-    ghost use Rattle.rtk_collect.specs.Key.{Rises};
+    ghost use Rattle.rtk_collect.specs.EpochSet.{EpochSetView};
+    ghost use Rattle.rtk_collect.specs.Key.{KeysRise};
     ghost use Rattle.rtk_obs.specs.Cell.{IsInRange};
 
-    ghost Value = { EpochCells };
+    ghost Value = { EpochSetView };
 
     ghost view = { λ s. record { epoch = s.epoch; cells = s.cells.items } };
 
-    ghost invariant = { λ s. Rises s.cells.items × All IsInRange s.cells.items };
+    ghost invariant = { λ s. KeysRise s.cells.items × All IsInRange s.cells.items };
 }
 
 /// How many cells of a message were new, and which conflict.
@@ -63,7 +63,7 @@ impl EpochSet {
     /// The cells.
     pub fn cells(&self) -> &[CellEntry]
         ensures value { result.now ≡ self.now.cells }
-        ensures rises { Rises result.now }
+        ensures rises { KeysRise result.now }
         ensures range { All IsInRange result.now }
         ensures few { length result.now ≤ 1024 }
     {
@@ -109,7 +109,7 @@ impl EpochSet {
     fn join_rising(&mut self, cells: &[CellEntry], count: usize) -> Result<Joined, AllocError>
         requires few { length cells.now ≤ 64 }
         requires range { All IsInRange cells.now }
-        requires rising { Rises cells.now }
+        requires rising { KeysRise cells.now }
         requires count { count ≡ fresh cells.now self.old.cells }
         ensures set { IfOk result (λ j. self.new ≡ joined cells.now self.old) }
         ensures fresh { IfOk result (λ j. j.fresh ≡ count) }

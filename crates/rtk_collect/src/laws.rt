@@ -1,10 +1,10 @@
 //! Laws over the definitions: what late arrivals, repeats and the order of arrivals change.
 
-ghost use Rattle.rtk_collect.specs.Laws.{LateChangeNothing, ClosedOnlyGrow, ClosedFall, ClosedAfter, FirstIsPreferred, ExcusedIsKept, StationsAreFinal, KeptAreTaken, SetDecides, KeptAreFew, KeptAreGreatest, OpeningConflictsNot, ClosingConflictsNot, KeysAreDistinct, EqualityDecides};
+ghost use Rattle.rtk_collect.specs.Laws.{LateArrivalsChangeNothing, ClosedOnlyGrow, ClosedFall, ClosedAfter, FirstIsPreferred, ExcusedIsKept, StationsAreFinal, KeptAreTaken, SetDecides, KeptAreFew, KeptAreGreatest, OpeningConflictsNot, ClosingConflictsNot, KeysAreDistinct, EqualityDecides};
 
 /// With all late arrivals deleted each other one is late or not as before, and what is kept is the same.
 pub fn late_arrivals_change_nothing()
-    ensures { LateChangeNothing }
+    ensures { LateArrivalsChangeNothing }
 {}
 
 /// Closed epochs only grow in number, each greater than those before, and none is closed before the window was full.

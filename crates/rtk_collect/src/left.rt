@@ -1,7 +1,7 @@
 //! What is left of a window at its end.
 
 ghost use Rattle.std.specs.Prelude.{◌≡◌, ◌<◌, [], ◌∷◌, ◌++◌, IfSome, IfNone, All};
-ghost use Rattle.rtk_collect.specs.Collector.{IsRemainder};
+ghost use Rattle.rtk_collect.specs.Collector.{IsLeftView};
 ghost use Rattle.rtk_collect.specs.Offered.{NotBelow};
 ghost use Rattle.rtk_collect.specs.Position.{IsPosition};
 
@@ -20,18 +20,18 @@ pub struct Left {
 
 // Clauses see the epochs that are left, from the greatest on, the 1005 and the 1006.
 impl Model for Left {
-    ghost use Rattle.rtk_collect.specs.Collector.{Remainder, IsRemainder};
+    ghost use Rattle.rtk_collect.specs.Collector.{LeftView, IsLeftView};
 
-    ghost Value = { Remainder };
+    ghost Value = { LeftView };
 
     ghost view = { λ l. record { sets = l.sets.items; arp1005 = l.stations.arp1005; arp1006 = l.stations.arp1006 } };
 
-    ghost invariant = { λ l. IsRemainder (record { sets = l.sets.items; arp1005 = l.stations.arp1005; arp1006 = l.stations.arp1006 }) };
+    ghost invariant = { λ l. IsLeftView (record { sets = l.sets.items; arp1005 = l.stations.arp1005; arp1006 = l.stations.arp1006 }) };
 }
 
 impl Left {
     pub(crate) fn new(sets: VecDeque<EpochSet>, stations: Stations) -> Left
-        requires { IsRemainder (record { sets = sets.items; arp1005 = stations.arp1005; arp1006 = stations.arp1006 }) }
+        requires { IsLeftView (record { sets = sets.items; arp1005 = stations.arp1005; arp1006 = stations.arp1006 }) }
         ensures { result ≡ record { sets = sets.items; arp1005 = stations.arp1005; arp1006 = stations.arp1006 } }
     {
         Left { sets, stations }

@@ -1,12 +1,12 @@
 //! The cells of a message join those of their epoch.
 
 ghost use Rattle.std.specs.Prelude.{◌≡◌, ◌≢◌, ◌≤◌, ◌<◌, ◌+◌, [], ◌∷◌, ◌++◌, not, length, slice_index_or, vec_len, vec_capacity, IsTrue, if◌then◌else◌};
-ghost use Rattle.rtk_collect.specs.Key.{key, Rises};
-ghost use Rattle.rtk_collect.specs.EpochCells.{with_cell, with_cells, cell_under, fresh, conflict, conflicts};
+ghost use Rattle.rtk_collect.specs.Key.{key, KeysRise};
+ghost use Rattle.rtk_collect.specs.EpochSet.{with_cell, with_cells, cell_under, fresh, conflict, conflicts};
 ghost use Rattle.rtk_collect.specs.Search.{lower};
 
-use crate::conflicts::{Conflicts, SatelliteCode};
 use crate::epoch_set::Joined;
+use crate::offer::{Conflicts, SatelliteCode};
 use rtk_obs::{CellEntry, CellSource};
 
 // The place of a cell in the order of an epoch: by satellite, code and kind of message.
@@ -22,7 +22,7 @@ fn key_of(entry: &CellEntry) -> usize
 
 /// Whether the keys of the cells rise.
 pub(crate) fn rises(cells: &[CellEntry]) -> bool
-    ensures { IsTrue result → Rises cells.now }
+    ensures { IsTrue result → KeysRise cells.now }
 {
     let mut at = 1;
     while at < cells.len() {
@@ -36,7 +36,7 @@ pub(crate) fn rises(cells: &[CellEntry]) -> bool
 
 /// How many of the cells have a key under which none is kept; where none has, also which conflict.
 pub(crate) fn compare(cells: &[CellEntry], kept: &[CellEntry]) -> Joined
-    requires rises { Rises kept.now }
+    requires rises { KeysRise kept.now }
     requires few { length cells.now ≤ 64 }
     ensures fresh { result.fresh ≡ fresh cells.now kept.now }
     ensures conflicts { result.fresh ≡ 0 → result.conflicts ≡ conflicts cells.now kept.now }
@@ -64,7 +64,7 @@ pub(crate) fn compare(cells: &[CellEntry], kept: &[CellEntry]) -> Joined
 
 /// Adds the cells whose keys are new, for which there is room, and says which conflict.
 pub(crate) fn merge(kept: &mut Vec<CellEntry>, cells: &[CellEntry]) -> Conflicts
-    requires rises { Rises kept.old.items }
+    requires rises { KeysRise kept.old.items }
     requires few { length cells.now ≤ 64 }
     requires room { vec_len kept.old + fresh cells.now kept.old.items ≤ vec_capacity kept.old }
     ensures items { kept.new.items ≡ with_cells cells.now kept.old.items }
@@ -88,8 +88,8 @@ pub(crate) fn interleave(
     cells: &[CellEntry],
     all: &mut Vec<CellEntry>,
 ) -> Conflicts
-    requires rises { Rises kept.now }
-    requires rising { Rises cells.now }
+    requires rises { KeysRise kept.now }
+    requires rising { KeysRise cells.now }
     requires few { length cells.now ≤ 64 }
     requires empty { all.old.items ≡ [] }
     requires room { length kept.now + fresh cells.now kept.now ≤ vec_capacity all.old }
@@ -169,7 +169,7 @@ fn has_key(kept: &[CellEntry], at: usize, wanted: usize) -> bool
 
 // Adds a cell at its place if its key is new, and says whether it conflicts.
 fn put(kept: &mut Vec<CellEntry>, at: usize, entry: CellEntry) -> bool
-    requires rises { Rises kept.old.items }
+    requires rises { KeysRise kept.old.items }
     requires place { at ≡ lower (key entry) kept.old.items }
     requires room { vec_len kept.old + fresh (entry ∷ []) kept.old.items ≤ vec_capacity kept.old }
     ensures items { kept.new.items ≡ with_cell entry kept.old.items }
@@ -188,7 +188,7 @@ fn put(kept: &mut Vec<CellEntry>, at: usize, entry: CellEntry) -> bool
 // The place of a key: how many cells have a lesser one. The search begins at a guess.
 fn seek(kept: &[CellEntry], guess: usize, key: usize) -> usize
     requires guess { guess ≤ length kept.now }
-    requires rises { Rises kept.now }
+    requires rises { KeysRise kept.now }
     ensures { result ≡ lower key kept.now }
 {
     let mut at = guess;
@@ -203,7 +203,7 @@ fn seek(kept: &[CellEntry], guess: usize, key: usize) -> usize
 
 // The cell with a key, from its place.
 fn cell_at(kept: &[CellEntry], at: usize, key: usize) -> Option<CellEntry>
-    requires rises { Rises kept.now }
+    requires rises { KeysRise kept.now }
     requires place { at ≡ lower key kept.now }
     ensures { result ≡ cell_under key kept.now }
 {

@@ -6,14 +6,14 @@ ghost use Rattle.rtk_message.specs.Arp1006 as arp1006_spec;
 ghost use Rattle.rtk_obs.specs.Cell.{IsInRange};
 ghost use Rattle.rtk_message.specs.declared.message.Message.TheVariants.{Arp1005 as MessageArp1005, Arp1006 as MessageArp1006};
 ghost use Rattle.rtk_collect.specs.Arrival.{Arrival, At};
-ghost use Rattle.rtk_collect.specs.Observed.{IsAnswerOf, Observes, WouldTake};
-ghost use Rattle.rtk_collect.specs.Collector.{Window, Represents};
+ghost use Rattle.rtk_collect.specs.Observed.{IsAnswerOf, AnswersCells, WouldTakeCells};
+ghost use Rattle.rtk_collect.specs.Collector.{CollectorView, RepresentsArrivals};
 ghost use Rattle.rtk_collect.specs.Position.{IsPosition, IsPositionOf};
-ghost use Rattle.rtk_collect.specs.Offered.{Meets, ClosesBelow, ClosesLeast, LeastNeverFalls};
+ghost use Rattle.rtk_collect.specs.Offered.{AnswersArrival, ClosesBelow, ClosesLeast, LeastNeverFalls};
 
 use crate::epoch_set::{EpochSet, Joined};
 use crate::left::Left;
-use crate::offers::Offer;
+use crate::offer::Offer;
 use crate::stations::{Stations, offer_station, position};
 use crate::window::{close_least, has_epoch, join_at, open_at, place};
 use rtk_message::{Arp1005, Arp1006};
@@ -33,13 +33,13 @@ pub(crate) struct OpenEpochs {
 
 // Clauses see the window: its places, its epochs from the greatest on, the 1005 and the 1006.
 impl Model for OpenEpochs {
-    ghost use Rattle.rtk_collect.specs.Collector.{Window, IsWindow};
+    ghost use Rattle.rtk_collect.specs.Collector.{CollectorView, IsCollectorView};
 
-    ghost Value = { Window };
+    ghost Value = { CollectorView };
 
     ghost view = { λ c. record { size = c.window; sets = c.sets.items; arp1005 = c.stations.arp1005; arp1006 = c.stations.arp1006 } };
 
-    ghost invariant = { λ c. IsWindow (record { size = c.window; sets = c.sets.items; arp1005 = c.stations.arp1005; arp1006 = c.stations.arp1006 }) };
+    ghost invariant = { λ c. IsCollectorView (record { size = c.window; sets = c.sets.items; arp1005 = c.stations.arp1005; arp1006 = c.stations.arp1006 }) };
 }
 
 impl OpenEpochs {
@@ -66,7 +66,7 @@ impl OpenEpochs {
         ensures size { self.new.size ≡ self.old.size }
         ensures bound { length self.new.sets ≤ self.new.size }
         ensures sets { self.new.sets ≡ self.old.sets }
-        ensures answer { Meets self.old (At None (MessageArp1005 message)) result self.new }
+        ensures answer { AnswersArrival self.old (At None (MessageArp1005 message)) result self.new }
         ensures closed { ClosesBelow result self.new.sets }
         ensures least_closes { ClosesLeast self.old.size self.old.sets result }
     {
@@ -80,7 +80,7 @@ impl OpenEpochs {
         ensures size { self.new.size ≡ self.old.size }
         ensures bound { length self.new.sets ≤ self.new.size }
         ensures sets { self.new.sets ≡ self.old.sets }
-        ensures answer { Meets self.old (At None (MessageArp1006 message)) result self.new }
+        ensures answer { AnswersArrival self.old (At None (MessageArp1006 message)) result self.new }
         ensures closed { ClosesBelow result self.new.sets }
         ensures least_closes { ClosesLeast self.old.size self.old.sets result }
     {
@@ -98,12 +98,12 @@ impl OpenEpochs {
         requires range { All IsInRange cells.now }
         ensures size { self.new.size ≡ self.old.size }
         ensures bound { length self.new.sets ≤ self.new.size }
-        ensures answer { IfOk result (λ offer. Observes self.old epoch cells.now offer self.new) }
+        ensures answer { IfOk result (λ offer. AnswersCells self.old epoch cells.now offer self.new) }
         ensures closed { IfOk result (λ offer. ClosesBelow offer self.new.sets) }
         ensures least_closes { IfOk result (λ offer. ClosesLeast self.old.size self.old.sets offer) }
         ensures least { LeastNeverFalls self.old self.new }
         ensures err { OnErr result (self.new ≡ self.old) }
-        ensures refused { OnErr result (WouldTake self.old epoch cells.now) }
+        ensures refused { OnErr result (WouldTakeCells self.old epoch cells.now) }
     {
         let at = place(&self.sets, epoch);
         if has_epoch(&self.sets, at, epoch) {
@@ -125,7 +125,7 @@ impl OpenEpochs {
     /// The position of the first 1006, else of the first 1005, else zeros.
     pub(crate) fn station(&self) -> Position
         ensures position { IsPosition self.now.arp1005 self.now.arp1006 result }
-        ensures kept { (before : List Arrival) → Represents self.now before → IsPositionOf self.now.size before result }
+        ensures kept { (before : List Arrival) → RepresentsArrivals self.now before → IsPositionOf self.now.size before result }
     {
         position(self.stations)
     }

@@ -1,15 +1,14 @@
 //! The first 1005 and 1006 of a station, and the position from them.
 
-ghost use Rattle.std.specs.Prelude.{◌≡◌};
-ghost use Rattle.std.specs.Option.{ForSome};
 ghost use Rattle.rtk_message.specs.Arp1005 as arp1005_spec;
 ghost use Rattle.rtk_message.specs.Arp1006 as arp1006_spec;
+ghost use Rattle.std.specs.Prelude.{◌≡◌};
+ghost use Rattle.std.specs.Option.{ForSome};
 ghost use Rattle.rtk_obs.specs.PositionFields.{HasFields};
 ghost use Rattle.rtk_collect.specs.Position.{IsPosition};
-ghost use Rattle.rtk_collect.specs.Slot.{SlotMeets};
+ghost use Rattle.rtk_collect.specs.Slot.{AnswersStationMessage};
 
-use crate::conflicts::Conflicts;
-use crate::offers::Offer;
+use crate::offer::{Conflicts, Offer};
 use rtk_message::{Arp1005, Arp1006};
 use rtk_obs::Position;
 
@@ -26,7 +25,7 @@ pub(crate) fn offer_station<T: PartialEq + Copy>(
     message: T,
     full: bool,
 ) -> Offer
-    ensures { SlotMeets T.eq slot.old message full result slot.new }
+    ensures { AnswersStationMessage T.eq slot.old message full result slot.new }
 {
     if let Some(first) = *slot {
         if first == message {

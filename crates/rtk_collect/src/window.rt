@@ -3,19 +3,19 @@
 ghost use Rattle.std.specs.Prelude.{◌≡◌, ◌≢◌, ◌<◌, ◌≤◌, ◌+◌, ◌++◌, [], not, min, IsTrue, length, IfOk, OnErr, OnOk, All, slice_index_or, slice_set, option_to_list};
 ghost use Rattle.std.specs.List.{insert};
 ghost use Rattle.rtk_obs.specs.Cell.{IsInRange};
-ghost use Rattle.rtk_collect.specs.EpochCells.{EpochCells, joined, fresh, conflicts};
+ghost use Rattle.rtk_collect.specs.EpochSet.{EpochSetView, joined, fresh, conflicts};
 ghost use Rattle.rtk_collect.specs.Accepted.{no_cells};
-ghost use Rattle.rtk_collect.specs.Search.{leading, Falls};
+ghost use Rattle.rtk_collect.specs.Search.{leading, EpochsFall};
 
-use crate::conflicts::Conflicts;
 use crate::epoch_set::{EpochSet, Joined};
+use crate::offer::Conflicts;
 use rtk_obs::{CellEntry, GpsMs};
 use std::alloc::{AllocError, Global};
 use std::collections::VecDeque;
 
 /// How many epochs of the window are greater.
 pub(crate) fn place(sets: &VecDeque<EpochSet>, epoch: GpsMs) -> usize
-    requires { Falls sets.now.items }
+    requires { EpochsFall sets.now.items }
     ensures { result ≡ leading epoch sets.now.items }
 {
     let mut low = 0;
@@ -34,8 +34,8 @@ pub(crate) fn place(sets: &VecDeque<EpochSet>, epoch: GpsMs) -> usize
 /// Whether the window has an epoch, from its place.
 pub(crate) fn has_epoch(sets: &VecDeque<EpochSet>, at: usize, epoch: GpsMs) -> bool
     requires place { at ≡ leading epoch sets.now.items }
-    ensures found { IsTrue result → (at < length sets.now.items) × ((d : EpochCells) → (slice_index_or sets.now.items at d).epoch ≡ epoch) }
-    ensures absent { IsTrue (not result) → (at < length sets.now.items) → ((d : EpochCells) → (slice_index_or sets.now.items at d).epoch ≢ epoch) }
+    ensures found { IsTrue result → (at < length sets.now.items) × ((d : EpochSetView) → (slice_index_or sets.now.items at d).epoch ≡ epoch) }
+    ensures absent { IsTrue (not result) → (at < length sets.now.items) → ((d : EpochSetView) → (slice_index_or sets.now.items at d).epoch ≢ epoch) }
 {
     at < sets.len() && sets[at].epoch() == epoch
 }
@@ -49,11 +49,11 @@ pub(crate) fn join_at(
     requires within { at < length sets.old.items }
     requires few { length cells.now ≤ 64 }
     requires range { All IsInRange cells.now }
-    ensures items { (d : EpochCells) → IfOk result (λ _. sets.new.items ≡ slice_set sets.old.items at (joined cells.now (slice_index_or sets.old.items at d))) }
-    ensures fresh { (d : EpochCells) → IfOk result (λ j. j.fresh ≡ fresh cells.now (slice_index_or sets.old.items at d).cells) }
-    ensures conflicts { (d : EpochCells) → IfOk result (λ j. j.conflicts ≡ conflicts cells.now (slice_index_or sets.old.items at d).cells) }
+    ensures items { (d : EpochSetView) → IfOk result (λ _. sets.new.items ≡ slice_set sets.old.items at (joined cells.now (slice_index_or sets.old.items at d))) }
+    ensures fresh { (d : EpochSetView) → IfOk result (λ j. j.fresh ≡ fresh cells.now (slice_index_or sets.old.items at d).cells) }
+    ensures conflicts { (d : EpochSetView) → IfOk result (λ j. j.conflicts ≡ conflicts cells.now (slice_index_or sets.old.items at d).cells) }
     ensures err { OnErr result (sets.new.items ≡ sets.old.items) }
-    ensures refused { (d : EpochCells) → OnErr result (0 < fresh cells.now (slice_index_or sets.old.items at d).cells) }
+    ensures refused { (d : EpochSetView) → OnErr result (0 < fresh cells.now (slice_index_or sets.old.items at d).cells) }
 {
     let set = &mut sets[at];
     set.join(cells)

@@ -4,57 +4,57 @@ use Rattle.std.specs.Prelude.{is_some, unwrap_or}
 use Rattle.std.proofs.lemmas.List.{append-nil, take-append-drop}
 use Rattle.rtk_message.specs.declared.message.Message.{Message}
 use Rattle.rtk_obs.specs.declared.code.Code.{Code}
-use Rattle.rtk_collect.specs.EpochCells.{EpochCells}
+use Rattle.rtk_collect.specs.EpochSet.{EpochSetView}
 use Rattle.rtk_collect.specs.Arrival.{Arrival}
 use Rattle.rtk_collect.specs.Accepted.{station, kept, closed}
-use Rattle.rtk_collect.specs.Laws.{without_late, SetDecides, LateChangeNothing}
+use Rattle.rtk_collect.specs.Laws.{without_late, SetDecides, LateArrivalsChangeNothing}
 use Rattle.rtk_collect.proofs.JoinsLemmas.{closed-drop}
 use Rattle.rtk_collect.proofs.LateLemmas.{closed-only-grow, closed-after}
-use Rattle.rtk_rinex.specs.Header.{Site, header_text}
-use Rattle.rtk_convert.specs.declared.arrival.Finding.{Finding}
-use Rattle.rtk_convert.specs.declared.arrival.Finding.TheVariants.{OtherMessage, Refused, Foreign, Arrived}
+use Rattle.rtk_rinex.specs.Header.{PositionView, header_text}
+use Rattle.rtk_convert.specs.declared.frame_class.FrameClass.{FrameClass}
+use Rattle.rtk_convert.specs.declared.frame_class.FrameClass.TheVariants.{OtherMessage, Refused, Foreign, Dated}
 use Rattle.rtk_convert.specs.ArrivalLaws.{OneSetHasOneFile, LateLeaveFile, Begins, SoFarBegins, HeaderIsFinal, and_if_arrived, only_arrived, OthersLeaveFile}
 use Rattle.rtk_convert.specs.File.{record_of, first_time, file_of}
 use Rattle.rtk_convert.specs.FilePrefix.{closed_text, header_before}
 use Rattle.rtk_convert.specs.FileOfArrivals.{site_of_stations, site_of_kept, kept_file, file_so_far}
-use Rattle.rtk_convert.specs.Finding.{Found, and_arrived, arrivals}
-use Rattle.rtk_convert.specs.Settings.{Settings}
+use Rattle.rtk_convert.specs.FrameClass.{Found, and_arrived, arrivals}
+use Rattle.rtk_convert.specs.Setup.{SetupView}
 use Rattle.rtk_convert.proofs.FileLemmas.{first-kept, first_time-drop, closed-grows, file-closed}
 use Rattle.rtk_convert.proofs.SoFarLemmas.{so_far-is, so_far-grows, site-final}
 
 -- one set of epochs and one pair of station messages have one file
-same-file : (s : Settings) (first second : List Arrival) → kept s.window first ≡ kept s.window second
+same-file : (s : SetupView) (first second : List Arrival) → kept s.window first ≡ kept s.window second
     → ((k : ℕ) → station s.window k first ≡ station s.window k second) → kept_file s first ≡ kept_file s second
 same-file s first second sets stations =
-    ap (λ (x : List EpochCells). file_of s (site_of_kept s.window first) x) sets
+    ap (λ (x : List EpochSetView). file_of s (site_of_kept s.window first) x) sets
     ∙ ap (λ (m : Option Message). file_of s (site_of_stations m (station s.window 1006 first)) (kept s.window second)) (stations 1005)
     ∙ ap (λ (m : Option Message). file_of s (site_of_stations (station s.window 1005 second) m) (kept s.window second)) (stations 1006)
 
 pub one-file : SetDecides → OneSetHasOneFile
 one-file law s first second good also same = let h = law s.window first second good also same in same-file s first second h.0 h.1
 
-pub late-leave : LateChangeNothing → LateLeaveFile
+pub late-leave : LateArrivalsChangeNothing → LateLeaveFile
 late-leave law s before = let h = law s.window before in same-file s (without_late s.window before) before h.3 h.4
 
 -- ---- the file so far
 
-pub grows : (s : Settings) (later before : List Arrival) → Begins (file_so_far s before) (file_so_far s (later ++ before))
+pub grows : (s : SetupView) (later before : List Arrival) → Begins (file_so_far s before) (file_so_far s (later ++ before))
 grows s [] before = ([], sym (append-nil (file_so_far s before)))
 grows s (a ∷ later) before =
     let first = grows s later before in
     let next = so_far-grows s a (later ++ before) in
     (first.0 ++ next.0, next.1 ∙ ap (λ (x : List ℕ). x ++ next.0) first.1 ∙ append_assoc (file_so_far s before) first.0 next.0)
 
-no_cells : EpochCells
+no_cells : EpochSetView
 no_cells = record { epoch = 0; cells = [] }
 
 -- the file so far begins the whole file
-whole : (s : Settings) (before : List Arrival) → Begins (file_so_far s before) (kept_file s before)
+whole : (s : SetupView) (before : List Arrival) → Begins (file_so_far s before) (kept_file s before)
 whole s before =
     let site = site_of_kept s.window before in
-    let all : List EpochCells = kept s.window before in
+    let all : List EpochSetView = kept s.window before in
     let split : take s.window all ++ closed s.window before ≡ all =
-    ap (λ (x : List EpochCells). take s.window all ++ x) (closed-drop s.window no_cells before) ∙ take-append-drop s.window all in
+    ap (λ (x : List EpochSetView). take s.window all ++ x) (closed-drop s.window no_cells before) ∙ take-append-drop s.window all in
     let more = closed-grows s site (take s.window all) (closed s.window before) in
     let last : List ℕ = header_before s site s.near (is_some (first_time s.heading.listed all)) in (
       more.0 ++ last,
@@ -71,17 +71,17 @@ so_far-begins s later before =
 
 -- ---- the header
 
-first_time-more : (listed : List Code) (more below : List EpochCells) (t : ℕ) → first_time listed below ≡ Some t → first_time listed (more ++ below) ≡ Some t
+first_time-more : (listed : List Code) (more below : List EpochSetView) (t : ℕ) → first_time listed below ≡ Some t → first_time listed (more ++ below) ≡ Some t
 unfolding first_time
 first_time-more listed [] below t h = h
 first_time-more listed (e ∷ more) below t h =
     first-kept (first_time listed (more ++ below)) e.epoch t (record_of listed e (more ++ below)) (first_time-more listed more below t h)
 
-first_time-kept : (s : Settings) (before : List Arrival) (t : ℕ) → first_time s.heading.listed (closed s.window before) ≡ Some t → first_time s.heading.listed (kept s.window before) ≡ Some t
+first_time-kept : (s : SetupView) (before : List Arrival) (t : ℕ) → first_time s.heading.listed (closed s.window before) ≡ Some t → first_time s.heading.listed (kept s.window before) ≡ Some t
 first_time-kept s before t h =
     first_time-drop s.window s.heading.listed (kept s.window before) t (ap (first_time s.heading.listed) (sym (closed-drop s.window no_cells before)) ∙ h)
 
-none-closed : (listed : List Code) (xs : List EpochCells) (t : ℕ) → first_time listed xs ≡ Some t → xs ≡ [] → ⊥
+none-closed : (listed : List Code) (xs : List EpochSetView) (t : ℕ) → first_time listed xs ≡ Some t → xs ≡ [] → ⊥
 unfolding first_time
 none-closed listed [] t h e = cc
 none-closed listed (x ∷ xs) t h e = cc
@@ -96,16 +96,16 @@ header-final s a before t h =
       | inr full ↦ site-final s.window a before full
     ] in
     ap (λ (o : Option ℕ). header_text s.heading (site_of_kept s.window (a ∷ before)) (unwrap_or o s.near)) (first_time-kept s (a ∷ before) t after)
-    ∙ ap (λ (x : Site). header_text s.heading x t) site
+    ∙ ap (λ (x : PositionView). header_text s.heading x t) site
     ∙ ap (λ (o : Option ℕ). header_text s.heading (site_of_kept s.window before) (unwrap_or o s.near)) (sym (first_time-kept s before t h))
 
 -- ---- frames that are no arrivals
 
-others-step : (f : Found) (x : Finding) (before : List Found) → f.finding ≡ x → arrivals (and_if_arrived f x before) ≡ and_arrived x (arrivals before)
+others-step : (f : Found) (x : FrameClass) (before : List Found) → f.finding ≡ x → arrivals (and_if_arrived f x before) ≡ and_arrived x (arrivals before)
 others-step f OtherMessage before h = refl
 others-step f (Refused fault) before h = refl
 others-step f Foreign before h = refl
-others-step f (Arrived a) before h = ap (λ (x : Finding). and_arrived x (arrivals before)) h
+others-step f (Dated a) before h = ap (λ (x : FrameClass). and_arrived x (arrivals before)) h
 
 others-same : (found : List Found) → arrivals (only_arrived found) ≡ arrivals found
 others-same [] = refl

@@ -9,52 +9,52 @@ use Rattle.rtk_message.specs.declared.arp1006.Arp1006.{Arp1006 as Message1006}
 use Rattle.rtk_message.specs.declared.fault.DecodeFault.{DecodeFault}
 use Rattle.rtk_message.specs.Decoded.{number_of}
 use Rattle.rtk_obs.specs.declared.position.Position.{Position}
-use Rattle.rtk_collect.specs.declared.offers.Offer.{Offer}
-use Rattle.rtk_collect.specs.EpochCells.{EpochCells}
+use Rattle.rtk_collect.specs.declared.offer.Offer.{Offer}
+use Rattle.rtk_collect.specs.EpochSet.{EpochSetView}
 use Rattle.rtk_collect.specs.Arrival.{Arrival, epoch_of, message_of}
 use Rattle.rtk_collect.specs.Accepted.{station, closed}
-use Rattle.rtk_collect.specs.Answer.{Answers, class_of}
-use Rattle.rtk_collect.specs.Collector.{Window, Represents as HoldsKept}
-use Rattle.rtk_collect.specs.Offered.{Meets}
+use Rattle.rtk_collect.specs.Answer.{IsRightAnswer, class_of}
+use Rattle.rtk_collect.specs.Collector.{CollectorView, RepresentsArrivals}
+use Rattle.rtk_collect.specs.Offered.{AnswersArrival}
 use Rattle.rtk_collect.specs.Position.{IsPosition, IsPositionOf}
 use Rattle.rtk_frame.specs.Stream.{with_more, TakesPart, count_after}
 use Rattle.rtk_frame.proofs.StreamLemmas.{with_more-nil}
-use Rattle.rtk_rinex.specs.Header.{Site, site_of}
-use Rattle.rtk_convert.specs.declared.arrival.Finding.TheVariants.{OtherMessage, Refused, Foreign, Arrived}
+use Rattle.rtk_rinex.specs.Header.{PositionView, position_view}
+use Rattle.rtk_convert.specs.declared.frame_class.FrameClass.TheVariants.{OtherMessage, Refused, Foreign, Dated}
 use Rattle.rtk_convert.specs.declared.counts.Counts.{Counts}
 use Rattle.rtk_convert.specs.File.{first_time, record_of}
 use Rattle.rtk_convert.specs.FilePrefix.{closing_text}
 use Rattle.rtk_convert.specs.FileOfArrivals.{site_of_stations, site_of_kept, file_so_far}
-use Rattle.rtk_convert.specs.Finding.{ComesTo, Found, arrivals}
-use Rattle.rtk_convert.specs.Offering.{closed_by, Takes, TakesInPart}
-use Rattle.rtk_convert.specs.Records.{Closed, Follows}
+use Rattle.rtk_convert.specs.FrameClass.{IsClassOfPayload, Found, arrivals}
+use Rattle.rtk_convert.specs.AddedMessage.{closed_by, AddsMessage, AddsMessageInPart}
+use Rattle.rtk_convert.specs.Records.{RecordsView, HasClosed}
 use Rattle.rtk_convert.specs.Report.{offer_lines, frame_lines, refused_line, lines, counted_as, counted_offer, one_frame_more, frame_counts}
-use Rattle.rtk_convert.specs.Settings.{Settings}
-use Rattle.rtk_convert.specs.State.{State, Arrives, BreaksOff}
+use Rattle.rtk_convert.specs.Setup.{SetupView}
+use Rattle.rtk_convert.specs.Conversion.{ConversionView, AcceptsFrame, BreaksOffAtFrame}
 use Rattle.rtk_convert.proofs.AnswersLemmas.{answer-lines, answer-counts, answer-closed}
 use Rattle.rtk_convert.proofs.OneTextLemmas.{one-arrived}
 use Rattle.rtk_convert.proofs.SoFarLemmas.{so_far-stays, so_far-closes, so_far-grows}
 use Rattle.rtk_convert.proofs.WritingLemmas.{writes-none, writes-text, part-text, part-none, part-all, takes-none}
 
-abbrev pub state : Settings → Window → Closed → Counts → Bool → State
+abbrev pub state : SetupView → CollectorView → RecordsView → Counts → Bool → ConversionView
 state s w c k b = record { settings = s; window = w; closed = c; counts = k; stopped = b }
 
 -- ---- the site
 
-abbrev site_with : ℤ → ℤ → ℤ → ℕ → Site
+abbrev site_with : ℤ → ℤ → ℤ → ℕ → PositionView
 site_with x y z h = record { x = x; y = y; z = z; height = h }
 
 fields-same : (x y z : ℤ) (h : ℕ) (x' y' z' : ℤ) (h' : ℕ) → x ≡ x' → y ≡ y' → z ≡ z' → h ≡ h' → site_with x y z h ≡ site_with x' y' z' h'
 fields-same x y z h x' y' z' h' ex ey ez eh = cc
 
 site-same : (short : Option Message1005) (tall : Option Message1006) (p : Position) → IsPosition short tall p
-    → site_of p ≡ site_of_stations (option_map Arp1005 short) (option_map Arp1006 tall)
+    → position_view p ≡ site_of_stations (option_map Arp1005 short) (option_map Arp1006 tall)
 site-same short (Some m) p h = fields-same p.x p.y p.z p.height m.x m.y m.z m.height h.0 h.1 h.2 h.3
 site-same (Some m) None p h = fields-same p.x p.y p.z p.height m.x m.y m.z 0 h.0 h.1 h.2 h.3
 site-same None None p h = fields-same p.x p.y p.z p.height (pos 0) (pos 0) (pos 0) 0 h.0 h.1 h.2 h.3
 
-pub site-kept : (n : ℕ) (w : Window) (arrivals : List Arrival) (p : Position) → w.size ≡ n → HoldsKept w arrivals → IsPositionOf w.size arrivals p
-    → site_of p ≡ site_of_kept n arrivals
+pub site-kept : (n : ℕ) (w : CollectorView) (arrivals : List Arrival) (p : Position) → w.size ≡ n → RepresentsArrivals w arrivals → IsPositionOf w.size arrivals p
+    → position_view p ≡ site_of_kept n arrivals
 site-kept n w arrivals p size holds is =
     site-same w.arp1005 w.arp1006 p (is w.arp1005 w.arp1006 holds.arp1005 holds.arp1006)
     ∙ ap (λ (m : Option Message). site_of_stations m (option_map Arp1006 w.arp1006)) (holds.arp1005 ∙ ap (λ (k : ℕ). station k 1005 arrivals) size)
@@ -63,45 +63,45 @@ site-kept n w arrivals p size holds is =
 -- ---- an arrival
 
 -- it closes no epoch
-pub takes-none-closed : (s : Settings) (w w' : Window) (c : Closed) (k k' : Counts) (b b' : Bool) (link : ℕ) (a : Arrival) (offer : Offer) (o l l' : Option (List ℕ))
-    → w.size ≡ s.window → closed_by offer ≡ None → Meets w a offer w' → k' ≡ counted_offer offer k
-    → l' ≡ with_more l (offer_lines link (number_of (message_of a)) (epoch_of a) offer) → Takes (state s w c k b) link a (state s w' c k' b') o o l l'
+pub takes-none-closed : (s : SetupView) (w w' : CollectorView) (c : RecordsView) (k k' : Counts) (b b' : Bool) (link : ℕ) (a : Arrival) (offer : Offer) (o l l' : Option (List ℕ))
+    → w.size ≡ s.window → closed_by offer ≡ None → AnswersArrival w a offer w' → k' ≡ counted_offer offer k
+    → l' ≡ with_more l (offer_lines link (number_of (message_of a)) (epoch_of a) offer) → AddsMessage (state s w c k b) link a (state s w' c k' b') o o l l'
 takes-none-closed s w w' c k k' b b' link a offer o l l' size none meets counts wrote = λ before after.
     let m = meets before after.window in
-    let answer : Answers s.window a before offer = subst (λ (n : ℕ). Answers n a before offer) size m.0 in
-    let same : closed s.window (a ∷ before) ≡ closed s.window before = answer-closed s.window a before offer answer ∙ ap (λ (d : Option EpochCells). option_to_list d ++ closed s.window before) none in
+    let answer : IsRightAnswer s.window a before offer = subst (λ (n : ℕ). IsRightAnswer n a before offer) size m.0 in
+    let same : closed s.window (a ∷ before) ≡ closed s.window before = answer-closed s.window a before offer answer ∙ ap (λ (d : Option EpochSetView). option_to_list d ++ closed s.window before) none in
     record {
-      after = record { window = m.1; closed = subst (λ (xs : List EpochCells). Follows c s.heading.listed xs) (sym same) after.closed };
+      after = record { window = m.1; closed = subst (λ (xs : List EpochSetView). HasClosed c s.heading.listed xs) (sym same) after.closed };
       counts = counts ∙ answer-counts s.window a before offer k answer;
       out = writes-none o (file_so_far s before) (file_so_far s (a ∷ before)) (so_far-stays s a before same);
       log = wrote ∙ ap (with_more l) (sym (answer-lines s.window link a before offer answer));
     }
 
 -- what closing an epoch writes
-abbrev pub closing : Settings → Site → EpochCells → List EpochCells → List ℕ
+abbrev pub closing : SetupView → PositionView → EpochSetView → List EpochSetView → List ℕ
 closing s site e below = closing_text s site e.epoch (is_some (first_time s.heading.listed below)) (record_of s.heading.listed e below)
 
-closing-text : (s : Settings) (w w' : Window) (a : Arrival) (offer : Offer) (e : EpochCells) (p : Position) (before : List Arrival) → w.size ≡ s.window → w'.size ≡ s.window
-    → closed_by offer ≡ Some e → Answers s.window a before offer → HoldsKept w' (a ∷ before) → ((before : List Arrival) → HoldsKept w' before → IsPositionOf w'.size before p)
-    → file_so_far s (a ∷ before) ≡ file_so_far s before ++ closing s (site_of p) e (closed s.window before)
+closing-text : (s : SetupView) (w w' : CollectorView) (a : Arrival) (offer : Offer) (e : EpochSetView) (p : Position) (before : List Arrival) → w.size ≡ s.window → w'.size ≡ s.window
+    → closed_by offer ≡ Some e → IsRightAnswer s.window a before offer → RepresentsArrivals w' (a ∷ before) → ((before : List Arrival) → RepresentsArrivals w' before → IsPositionOf w'.size before p)
+    → file_so_far s (a ∷ before) ≡ file_so_far s before ++ closing s (position_view p) e (closed s.window before)
 closing-text s w w' a offer e p before size size' some answer holds position =
-    so_far-closes s a e before (answer-closed s.window a before offer answer ∙ ap (λ (d : Option EpochCells). option_to_list d ++ closed s.window before) some)
-    ∙ ap (λ (x : Site). file_so_far s before ++ closing s x e (closed s.window before)) (sym (site-kept s.window w' (a ∷ before) p size' holds (position (a ∷ before) holds)))
+    so_far-closes s a e before (answer-closed s.window a before offer answer ∙ ap (λ (d : Option EpochSetView). option_to_list d ++ closed s.window before) some)
+    ∙ ap (λ (x : PositionView). file_so_far s before ++ closing s x e (closed s.window before)) (sym (site-kept s.window w' (a ∷ before) p size' holds (position (a ∷ before) holds)))
 
 -- it closes an epoch
-pub takes-some-closed : (s : Settings) (w w' : Window) (c c' : Closed) (k k' : Counts) (b b' : Bool) (link : ℕ) (a : Arrival) (offer : Offer) (e : EpochCells) (p : Position) (o o' l l' : Option (List ℕ))
-    → w.size ≡ s.window → w'.size ≡ s.window → closed_by offer ≡ Some e → Meets w a offer w' → ((before : List Arrival) → HoldsKept w' before → IsPositionOf w'.size before p) → k' ≡ counted_offer offer k
-    → ((below : List EpochCells) → Follows c s.heading.listed below → Follows c' s.heading.listed (e ∷ below))
-    → ((below : List EpochCells) → Follows c s.heading.listed below → o' ≡ with_more o (closing s (site_of p) e below))
-    → l' ≡ with_more l (offer_lines link (number_of (message_of a)) (epoch_of a) offer) → Takes (state s w c k b) link a (state s w' c' k' b') o o' l l'
+pub takes-some-closed : (s : SetupView) (w w' : CollectorView) (c c' : RecordsView) (k k' : Counts) (b b' : Bool) (link : ℕ) (a : Arrival) (offer : Offer) (e : EpochSetView) (p : Position) (o o' l l' : Option (List ℕ))
+    → w.size ≡ s.window → w'.size ≡ s.window → closed_by offer ≡ Some e → AnswersArrival w a offer w' → ((before : List Arrival) → RepresentsArrivals w' before → IsPositionOf w'.size before p) → k' ≡ counted_offer offer k
+    → ((below : List EpochSetView) → HasClosed c s.heading.listed below → HasClosed c' s.heading.listed (e ∷ below))
+    → ((below : List EpochSetView) → HasClosed c s.heading.listed below → o' ≡ with_more o (closing s (position_view p) e below))
+    → l' ≡ with_more l (offer_lines link (number_of (message_of a)) (epoch_of a) offer) → AddsMessage (state s w c k b) link a (state s w' c' k' b') o o' l l'
 takes-some-closed s w w' c c' k k' b b' link a offer e p o o' l l' size size' some meets position counts follows out wrote = λ before after.
     let m = meets before after.window in
-    let answer : Answers s.window a before offer = subst (λ (n : ℕ). Answers n a before offer) size m.0 in
-    let closes : closed s.window (a ∷ before) ≡ e ∷ closed s.window before = answer-closed s.window a before offer answer ∙ ap (λ (d : Option EpochCells). option_to_list d ++ closed s.window before) some in
+    let answer : IsRightAnswer s.window a before offer = subst (λ (n : ℕ). IsRightAnswer n a before offer) size m.0 in
+    let closes : closed s.window (a ∷ before) ≡ e ∷ closed s.window before = answer-closed s.window a before offer answer ∙ ap (λ (d : Option EpochSetView). option_to_list d ++ closed s.window before) some in
     record {
-      after = record { window = m.1; closed = subst (λ (xs : List EpochCells). Follows c' s.heading.listed xs) (sym closes) (follows (closed s.window before) after.closed) };
+      after = record { window = m.1; closed = subst (λ (xs : List EpochSetView). HasClosed c' s.heading.listed xs) (sym closes) (follows (closed s.window before) after.closed) };
       counts = counts ∙ answer-counts s.window a before offer k answer;
-      out = writes-text o o' (file_so_far s before) (file_so_far s (a ∷ before)) (closing s (site_of p) e (closed s.window before))
+      out = writes-text o o' (file_so_far s before) (file_so_far s (a ∷ before)) (closing s (position_view p) e (closed s.window before))
           (closing-text s w w' a offer e p before size size' some answer m.1 position) (out (closed s.window before) after.closed);
       log = wrote ∙ ap (with_more l) (sym (answer-lines s.window link a before offer answer));
     }
@@ -109,32 +109,32 @@ takes-some-closed s w w' c c' k k' b b' link a offer e p o o' l l' size size' so
 -- ---- it breaks off
 
 -- nothing was written
-pub part-nothing : (s : Settings) (w : Window) (c : Closed) (k : Counts) (b : Bool) (link : ℕ) (a : Arrival) (o l : Option (List ℕ)) → TakesInPart (state s w c k b) link a o o l l
+pub part-nothing : (s : SetupView) (w : CollectorView) (c : RecordsView) (k : Counts) (b : Bool) (link : ℕ) (a : Arrival) (o l : Option (List ℕ)) → AddsMessageInPart (state s w c k b) link a o o l l
 part-nothing s w c k b link a o l = λ before after.
     let g = so_far-grows s a before in
-    record { out = part-none o (file_so_far s before) (file_so_far s (a ∷ before)) g.0 g.1; log = takes-none l (frame_lines s.window link (Arrived a) before) }
+    record { out = part-none o (file_so_far s before) (file_so_far s (a ∷ before)) g.0 g.1; log = takes-none l (frame_lines s.window link (Dated a) before) }
 
 -- in its record
-pub part-record : (s : Settings) (w w' : Window) (c : Closed) (k : Counts) (b : Bool) (link : ℕ) (a : Arrival) (offer : Offer) (e : EpochCells) (p : Position) (o o' l : Option (List ℕ))
-    → w.size ≡ s.window → w'.size ≡ s.window → closed_by offer ≡ Some e → Meets w a offer w' → ((before : List Arrival) → HoldsKept w' before → IsPositionOf w'.size before p)
-    → ((below : List EpochCells) → Follows c s.heading.listed below → TakesPart o o' (closing s (site_of p) e below))
-    → TakesInPart (state s w c k b) link a o o' l l
+pub part-record : (s : SetupView) (w w' : CollectorView) (c : RecordsView) (k : Counts) (b : Bool) (link : ℕ) (a : Arrival) (offer : Offer) (e : EpochSetView) (p : Position) (o o' l : Option (List ℕ))
+    → w.size ≡ s.window → w'.size ≡ s.window → closed_by offer ≡ Some e → AnswersArrival w a offer w' → ((before : List Arrival) → RepresentsArrivals w' before → IsPositionOf w'.size before p)
+    → ((below : List EpochSetView) → HasClosed c s.heading.listed below → TakesPart o o' (closing s (position_view p) e below))
+    → AddsMessageInPart (state s w c k b) link a o o' l l
 part-record s w w' c k b link a offer e p o o' l size size' some meets position out = λ before after.
     let m = meets before after.window in
-    let answer : Answers s.window a before offer = subst (λ (n : ℕ). Answers n a before offer) size m.0 in
+    let answer : IsRightAnswer s.window a before offer = subst (λ (n : ℕ). IsRightAnswer n a before offer) size m.0 in
     record {
-      out = part-text o o' (file_so_far s before) (file_so_far s (a ∷ before)) (closing s (site_of p) e (closed s.window before))
+      out = part-text o o' (file_so_far s before) (file_so_far s (a ∷ before)) (closing s (position_view p) e (closed s.window before))
           (closing-text s w w' a offer e p before size size' some answer m.1 position) (out (closed s.window before) after.closed);
-      log = takes-none l (frame_lines s.window link (Arrived a) before);
+      log = takes-none l (frame_lines s.window link (Dated a) before);
     }
 
 -- in its lines
-pub part-lines : (s : Settings) (w w' : Window) (c c' : Closed) (k k' : Counts) (b b' : Bool) (link : ℕ) (a : Arrival) (offer : Offer) (o o' l l' : Option (List ℕ)) → w.size ≡ s.window → Meets w a offer w'
-    → Takes (state s w c k b) link a (state s w' c' k' b') o o' l (with_more l (offer_lines link (number_of (message_of a)) (epoch_of a) offer))
-    → TakesPart l l' (offer_lines link (number_of (message_of a)) (epoch_of a) offer) → TakesInPart (state s w c k b) link a o o' l l'
+pub part-lines : (s : SetupView) (w w' : CollectorView) (c c' : RecordsView) (k k' : Counts) (b b' : Bool) (link : ℕ) (a : Arrival) (offer : Offer) (o o' l l' : Option (List ℕ)) → w.size ≡ s.window → AnswersArrival w a offer w'
+    → AddsMessage (state s w c k b) link a (state s w' c' k' b') o o' l (with_more l (offer_lines link (number_of (message_of a)) (epoch_of a) offer))
+    → TakesPart l l' (offer_lines link (number_of (message_of a)) (epoch_of a) offer) → AddsMessageInPart (state s w c k b) link a o o' l l'
 part-lines s w w' c c' k k' b b' link a offer o o' l l' size meets takes part = λ before after.
     let m = meets before after.window in
-    let answer : Answers s.window a before offer = subst (λ (n : ℕ). Answers n a before offer) size m.0 in
+    let answer : IsRightAnswer s.window a before offer = subst (λ (n : ℕ). IsRightAnswer n a before offer) size m.0 in
     let t = takes before after in
     record {
       out = part-all o o' (file_so_far s before) (file_so_far s (a ∷ before)) t.out;
@@ -143,41 +143,41 @@ part-lines s w w' c c' k k' b b' link a offer o o' l l' size meets takes part = 
 
 -- ---- a frame
 
-pub arrives-arrived : (s : Settings) (w : Window) (c : Closed) (new : State) (k k₁ : Counts) (b b₁ : Bool) (link : ℕ) (payload : List ℕ) (a : Arrival) (o o' l l' : Option (List ℕ))
-    → ComesTo s payload (Arrived a) → k₁ ≡ one_frame_more k → new.settings ≡ s → Takes (state s w c k₁ b₁) link a new o o' l l'
-    → Arrives (state s w c k b) link payload new o o' l l'
+pub arrives-arrived : (s : SetupView) (w : CollectorView) (c : RecordsView) (new : ConversionView) (k k₁ : Counts) (b b₁ : Bool) (link : ℕ) (payload : List ℕ) (a : Arrival) (o o' l l' : Option (List ℕ))
+    → IsClassOfPayload s payload (Dated a) → k₁ ≡ one_frame_more k → new.settings ≡ s → AddsMessage (state s w c k₁ b₁) link a new o o' l l'
+    → AcceptsFrame (state s w c k b) link payload new o o' l l'
 arrives-arrived s w c new k k₁ b b₁ link payload a o o' l l' comes frames settings takes = λ before rep.
     let t = takes (arrivals before) (record { window = rep.window; closed = rep.closed }) in
-    let found : List Found = record { link = link; finding = Arrived a } ∷ before in (
-      Arrived a,
+    let found : List Found = record { link = link; finding = Dated a } ∷ before in (
+      Dated a,
       comes,
       record {
         represents = record {
           window = t.after.window;
           closed = t.after.closed;
-          counts = t.counts ∙ ap (counted_as (class_of s.window a (arrivals before))) (frames ∙ ap one_frame_more rep.counts) ∙ ap (λ (x : Settings). frame_counts x.window found) (sym settings);
+          counts = t.counts ∙ ap (counted_as (class_of s.window a (arrivals before))) (frames ∙ ap one_frame_more rep.counts) ∙ ap (λ (x : SetupView). frame_counts x.window found) (sym settings);
         };
         out = t.out;
-        log = writes-text l l' (lines s.window before) (lines s.window found) (frame_lines s.window link (Arrived a) (arrivals before)) refl t.log;
+        log = writes-text l l' (lines s.window before) (lines s.window found) (frame_lines s.window link (Dated a) (arrivals before)) refl t.log;
         one = one-arrived s link payload a before comes;
       },
     )
 
-pub breaks-arrived : (s : Settings) (w : Window) (c : Closed) (k k₁ : Counts) (b b₁ : Bool) (link : ℕ) (payload : List ℕ) (a : Arrival) (o o' l l' : Option (List ℕ))
-    → ComesTo s payload (Arrived a) → TakesInPart (state s w c k₁ b₁) link a o o' l l' → BreaksOff (state s w c k b) link payload o o' l l'
+pub breaks-arrived : (s : SetupView) (w : CollectorView) (c : RecordsView) (k k₁ : Counts) (b b₁ : Bool) (link : ℕ) (payload : List ℕ) (a : Arrival) (o o' l l' : Option (List ℕ))
+    → IsClassOfPayload s payload (Dated a) → AddsMessageInPart (state s w c k₁ b₁) link a o o' l l' → BreaksOffAtFrame (state s w c k b) link payload o o' l l'
 breaks-arrived s w c k k₁ b b₁ link payload a o o' l l' comes takes = λ before rep.
     let t = takes (arrivals before) (record { window = rep.window; closed = rep.closed }) in (
-      Arrived a,
+      Dated a,
       comes,
       record {
         out = t.out;
-        log = part-text l l' (lines s.window before) (lines s.window (record { link = link; finding = Arrived a } ∷ before)) (frame_lines s.window link (Arrived a) (arrivals before)) refl t.log;
+        log = part-text l l' (lines s.window before) (lines s.window (record { link = link; finding = Dated a } ∷ before)) (frame_lines s.window link (Dated a) (arrivals before)) refl t.log;
         one = one-arrived s link payload a before comes;
       },
     )
 
-pub arrives-other : (s : Settings) (w : Window) (c : Closed) (k k' : Counts) (b b' : Bool) (link : ℕ) (payload : List ℕ) (o l : Option (List ℕ)) → ComesTo s payload OtherMessage
-    → k' ≡ record (one_frame_more k) { other = count_after k.other } → Arrives (state s w c k b) link payload (state s w c k' b') o o l l
+pub arrives-other : (s : SetupView) (w : CollectorView) (c : RecordsView) (k k' : Counts) (b b' : Bool) (link : ℕ) (payload : List ℕ) (o l : Option (List ℕ)) → IsClassOfPayload s payload OtherMessage
+    → k' ≡ record (one_frame_more k) { other = count_after k.other } → AcceptsFrame (state s w c k b) link payload (state s w c k' b') o o l l
 arrives-other s w c k k' b b' link payload o l comes counts = λ before rep. (
   OtherMessage,
   comes,
@@ -189,8 +189,8 @@ arrives-other s w c k k' b b' link payload o l comes counts = λ before rep. (
   },
 )
 
-pub arrives-foreign : (s : Settings) (w : Window) (c : Closed) (k k' : Counts) (b b' : Bool) (link : ℕ) (payload : List ℕ) (o l : Option (List ℕ)) → ComesTo s payload Foreign
-    → k' ≡ record (one_frame_more k) { foreign = count_after k.foreign } → Arrives (state s w c k b) link payload (state s w c k' b') o o l l
+pub arrives-foreign : (s : SetupView) (w : CollectorView) (c : RecordsView) (k k' : Counts) (b b' : Bool) (link : ℕ) (payload : List ℕ) (o l : Option (List ℕ)) → IsClassOfPayload s payload Foreign
+    → k' ≡ record (one_frame_more k) { foreign = count_after k.foreign } → AcceptsFrame (state s w c k b) link payload (state s w c k' b') o o l l
 arrives-foreign s w c k k' b b' link payload o l comes counts = λ before rep. (
   Foreign,
   comes,
@@ -202,8 +202,8 @@ arrives-foreign s w c k k' b b' link payload o l comes counts = λ before rep. (
   },
 )
 
-pub arrives-refused : (s : Settings) (w : Window) (c : Closed) (k k' : Counts) (b b' : Bool) (link : ℕ) (payload : List ℕ) (fault : DecodeFault) (o l l' : Option (List ℕ)) → ComesTo s payload (Refused fault)
-    → k' ≡ record (one_frame_more k) { refused = count_after k.refused } → l' ≡ with_more l (refused_line link fault) → Arrives (state s w c k b) link payload (state s w c k' b') o o l l'
+pub arrives-refused : (s : SetupView) (w : CollectorView) (c : RecordsView) (k k' : Counts) (b b' : Bool) (link : ℕ) (payload : List ℕ) (fault : DecodeFault) (o l l' : Option (List ℕ)) → IsClassOfPayload s payload (Refused fault)
+    → k' ≡ record (one_frame_more k) { refused = count_after k.refused } → l' ≡ with_more l (refused_line link fault) → AcceptsFrame (state s w c k b) link payload (state s w c k' b') o o l l'
 arrives-refused s w c k k' b b' link payload fault o l l' comes counts wrote = λ before rep. (
   Refused fault,
   comes,
@@ -215,8 +215,8 @@ arrives-refused s w c k k' b b' link payload fault o l l' comes counts wrote = �
   },
 )
 
-pub breaks-refused : (s : Settings) (w : Window) (c : Closed) (k : Counts) (b : Bool) (link : ℕ) (payload : List ℕ) (fault : DecodeFault) (o l l' : Option (List ℕ)) → ComesTo s payload (Refused fault)
-    → TakesPart l l' (refused_line link fault) → BreaksOff (state s w c k b) link payload o o l l'
+pub breaks-refused : (s : SetupView) (w : CollectorView) (c : RecordsView) (k : Counts) (b : Bool) (link : ℕ) (payload : List ℕ) (fault : DecodeFault) (o l l' : Option (List ℕ)) → IsClassOfPayload s payload (Refused fault)
+    → TakesPart l l' (refused_line link fault) → BreaksOffAtFrame (state s w c k b) link payload o o l l'
 breaks-refused s w c k b link payload fault o l l' comes part = λ before rep. (
   Refused fault,
   comes,
@@ -229,20 +229,20 @@ breaks-refused s w c k b link payload fault o l l' comes part = λ before rep. (
 
 -- ---- a new conversion
 
-empty_window : ℕ → Window
+empty_window : ℕ → CollectorView
 empty_window n = record { size = n; sets = []; arp1005 = None; arp1006 = None }
 
-holds-empty : (n : ℕ) → HoldsKept (empty_window n) []
+holds-empty : (n : ℕ) → RepresentsArrivals (empty_window n) []
 unfolding empty_window
 holds-empty n = record { sets = sym (take-nil n); arp1005 = refl; arp1006 = refl }
 
-pub holds-new : (w : Window) (n : ℕ) → w ≡ record { size = n; sets = []; arp1005 = None; arp1006 = None } → HoldsKept w []
+pub holds-new : (w : CollectorView) (n : ℕ) → w ≡ record { size = n; sets = []; arp1005 = None; arp1006 = None } → RepresentsArrivals w []
 unfolding empty_window
-holds-new w n e = subst (λ (x : Window). HoldsKept x []) (sym e) (holds-empty n)
+holds-new w n e = subst (λ (x : CollectorView). RepresentsArrivals x []) (sym e) (holds-empty n)
 
 -- whether it has stopped is no part of what it represents
-pub arrives-still : (s s' : Settings) (w w' : Window) (c c' : Closed) (k k' : Counts) (b b' d d' : Bool) (link : ℕ) (payload : List ℕ) (o o' l l' : Option (List ℕ))
-    → Arrives (state s w c k b) link payload (state s' w' c' k' b') o o' l l' → Arrives (state s w c k d) link payload (state s' w' c' k' d') o o' l l'
+pub arrives-still : (s s' : SetupView) (w w' : CollectorView) (c c' : RecordsView) (k k' : Counts) (b b' d d' : Bool) (link : ℕ) (payload : List ℕ) (o o' l l' : Option (List ℕ))
+    → AcceptsFrame (state s w c k b) link payload (state s' w' c' k' b') o o' l l' → AcceptsFrame (state s w c k d) link payload (state s' w' c' k' d') o o' l l'
 arrives-still s s' w w' c c' k k' b b' d d' link payload o o' l l' arrives = λ before rep.
     let t = arrives before (record { window = rep.window; closed = rep.closed; counts = rep.counts }) in (
       t.0,
@@ -255,8 +255,8 @@ arrives-still s s' w w' c c' k k' b b' d d' link payload o o' l l' arrives = λ 
       },
     )
 
-pub breaks-still : (s : Settings) (w : Window) (c : Closed) (k : Counts) (b d : Bool) (link : ℕ) (payload : List ℕ) (o o' l l' : Option (List ℕ))
-    → BreaksOff (state s w c k b) link payload o o' l l' → BreaksOff (state s w c k d) link payload o o' l l'
+pub breaks-still : (s : SetupView) (w : CollectorView) (c : RecordsView) (k : Counts) (b d : Bool) (link : ℕ) (payload : List ℕ) (o o' l l' : Option (List ℕ))
+    → BreaksOffAtFrame (state s w c k b) link payload o o' l l' → BreaksOffAtFrame (state s w c k d) link payload o o' l l'
 breaks-still s w c k b d link payload o o' l l' breaks = λ before rep.
     let t = breaks before (record { window = rep.window; closed = rep.closed; counts = rep.counts }) in (
       t.0,

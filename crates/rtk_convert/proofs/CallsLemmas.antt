@@ -9,14 +9,14 @@ use Rattle.rtk_convert.specs.declared.fault.ConvertFault.{ConvertFault}
 use Rattle.rtk_convert.specs.declared.fault.ConvertFault.TheVariants.{NoLink, LinkClosed}
 use Rattle.rtk_convert.specs.declared.link.Link.{Link}
 use Rattle.rtk_convert.specs.CallLaws.{IsRefused, IsAnswered, AreAnswered, CallsKeepPromise, CallsWriteKept}
-use Rattle.rtk_convert.specs.Converter.{ConverterState, AreLinks, link_refusal, refusal, Represents, WritesOn, EndsAs, IsAfterClosingAll}
+use Rattle.rtk_convert.specs.Converter.{ConverterView, RepresentLinks, link_refusal, refusal, RepresentsHistory, WritesOn, FinishesConverterAs, IsAfterClosingAll}
 use Rattle.rtk_convert.specs.FileOfArrivals.{kept_file, file_so_far}
-use Rattle.rtk_convert.specs.Finding.{Found, arrivals}
+use Rattle.rtk_convert.specs.FrameClass.{Found, arrivals}
 use Rattle.rtk_convert.specs.Finish.{report_of}
-use Rattle.rtk_convert.specs.Headline.{Call, Feed, Close, IsAfterCall, ComeTo}
+use Rattle.rtk_convert.specs.Headline.{Call, Feed, Close, IsAfterCall, CallsComeTo}
 use Rattle.rtk_convert.specs.History.{History, LinkPast, IsOpen, IsAfterFeed, IsAfterClose, new_history}
 use Rattle.rtk_convert.specs.Report.{lines}
-use Rattle.rtk_convert.specs.Settings.{Settings}
+use Rattle.rtk_convert.specs.Setup.{SetupView}
 use Rattle.rtk_convert.proofs.HeadlineLemmas.{headline-of}
 use Rattle.rtk_convert.proofs.ReadLemmas.{open-goes}
 use Rattle.rtk_convert.proofs.RunLemmas.{length-with_piece, length-with_closed, so_far-nothing, written}
@@ -26,7 +26,7 @@ use Rattle.rtk_convert.proofs.RunLemmas.{length-with_piece, length-with_closed, 
 if_ended : Bool → Option ConvertFault
 if_ended b = if b then Some LinkClosed else None
 
-goes-link : (ls : List Link) (ps : List LinkPast) (n : ℕ) (found : List Found) (link : ℕ) → AreLinks ls ps n found
+goes-link : (ls : List Link) (ps : List LinkPast) (n : ℕ) (found : List Found) (link : ℕ) → RepresentLinks ls ps n found
     → link_refusal (slice_get ls link) ≡ None → (fed : List ℕ) × (slice_get ps link ≡ Some (record { fed = fed; is_closed = false }))
 unfolding if_ended
 goes-link [] [] n found link are is = absurd (cc)
@@ -38,43 +38,43 @@ goes-link (l ∷ ls) (p ∷ ps) n found zero are is = elim (cases_Bool l.scanner
 ]
 goes-link (l ∷ ls) (p ∷ ps) n found (suc link) are is = goes-link ls ps (suc n) found link are.1 is
 
-goes-open : (c : ConverterState) (h : History) (link : ℕ) → Represents c h → refusal c link ≡ None → IsOpen h link
+goes-open : (c : ConverterView) (h : History) (link : ℕ) → RepresentsHistory c h → refusal c link ≡ None → IsOpen h link
 goes-open c h link r e =
     let f : link_refusal (slice_get c.links link) ≡ None = rw r.going at e in
     goes-link c.links h.links 0 h.found link r.links f
 
-refused-closed : (c : ConverterState) (h : History) (link : ℕ) (fault : ConvertFault) → Represents c h → refusal c link ≡ Some fault → IsOpen h link → ⊥
+refused-closed : (c : ConverterView) (h : History) (link : ℕ) (fault : ConvertFault) → RepresentsHistory c h → refusal c link ≡ Some fault → IsOpen h link → ⊥
 refused-closed c h link fault r e o = let f = open-goes c h link r o in let g : None ≡ Some fault = sym f ∙ e in cc
 
-not-open : (c : ConverterState) (h : History) (link : ℕ) → Represents c h → (refusal c link ≡ Some NoLink) ⊎ (refusal c link ≡ Some LinkClosed) → IsOpen h link → ⊥
+not-open : (c : ConverterView) (h : History) (link : ℕ) → RepresentsHistory c h → (refusal c link ≡ Some NoLink) ⊎ (refusal c link ≡ Some LinkClosed) → IsOpen h link → ⊥
 not-open c h link r (inl e) = refused-closed c h link NoLink r e
 not-open c h link r (inr e) = refused-closed c h link LinkClosed r e
 
 -- ---- how many links there are
 
-length-call : (s : Settings) (h : History) (call : Call) (next : History) → IsAfterCall s h call next → length next.links ≡ length h.links
+length-call : (s : SetupView) (h : History) (call : Call) (next : History) → IsAfterCall s h call next → length next.links ≡ length h.links
 length-call s h (Feed link piece) next (inl p) = ap length p.1.links ∙ length-with_piece link piece h.links
 length-call s h (Feed link piece) next (inr p) = ap (λ (x : History). length x.links) p.1
 length-call s h (Close link) next (inl p) = ap length p.1.links ∙ length-with_closed link h.links
 length-call s h (Close link) next (inr p) = ap (λ (x : History). length x.links) p.1
 
-length-calls : (s : Settings) (links : ℕ) (calls : List Call) (h : History) → ComeTo s links calls h → length h.links ≡ links
+length-calls : (s : SetupView) (links : ℕ) (calls : List Call) (h : History) → CallsComeTo s links calls h → length h.links ≡ links
 length-calls s links [] h p = ap (λ (x : History). length x.links) p ∙ length-replicate links (record { fed = []; is_closed = false })
 length-calls s links (c ∷ before) h p = length-call s p.0 c h p.2 ∙ length-calls s links before p.0 p.1
 
 -- ---- what calls come to
 
-pub record HasCome (s : Settings) (links : ℕ) (calls : List Call) (now : ConverterState) (out_old out log_old log : Option (List ℕ)) : Type 0 where
+pub record HasCome (s : SetupView) (links : ℕ) (calls : List Call) (now : ConverterView) (out_old out log_old log : Option (List ℕ)) : Type 0 where
   pub history : History
-  pub come_to : ComeTo s links calls history
-  pub represents : Represents now history
+  pub come_to : CallsComeTo s links calls history
+  pub represents : RepresentsHistory now history
   pub settings : now.conversion.settings ≡ s
   pub out_is : out ≡ with_more out_old (file_so_far s (arrivals history.found))
   pub log_is : log ≡ with_more log_old (lines s.window history.found)
 
 -- one more that is taken
-taken : (s : Settings) (links : ℕ) (call : Call) (before : List Call) (mid now : ConverterState) (o0 o1 o2 l0 l1 l2 : Option (List ℕ)) → (p : HasCome s links before mid o0 o1 l0 l1)
-    → now.conversion.settings ≡ mid.conversion.settings → (next : History) → IsAfterCall s p.history call next → Represents now next
+taken : (s : SetupView) (links : ℕ) (call : Call) (before : List Call) (mid now : ConverterView) (o0 o1 o2 l0 l1 l2 : Option (List ℕ)) → (p : HasCome s links before mid o0 o1 l0 l1)
+    → now.conversion.settings ≡ mid.conversion.settings → (next : History) → IsAfterCall s p.history call next → RepresentsHistory now next
     → WritesOn s p.history.found next.found o1 o2 l1 l2 → HasCome s links (call ∷ before) now o0 o2 l0 l2
 taken s links call before mid now o0 o1 o2 l0 l1 l2 p same next after represents w = record {
   history = next;
@@ -86,37 +86,37 @@ taken s links call before mid now o0 o1 o2 l0 l1 l2 p same next after represents
 }
 
 -- one more that is refused
-refused : (s : Settings) (links : ℕ) (call : Call) (before : List Call) (link : ℕ) (mid now : ConverterState) (o0 o1 o2 l0 l1 l2 : Option (List ℕ)) → (p : HasCome s links before mid o0 o1 l0 l1)
+refused : (s : SetupView) (links : ℕ) (call : Call) (before : List Call) (link : ℕ) (mid now : ConverterView) (o0 o1 o2 l0 l1 l2 : Option (List ℕ)) → (p : HasCome s links before mid o0 o1 l0 l1)
     → IsRefused mid link now o1 o2 l1 l2 → IsAfterCall s p.history call p.history → HasCome s links (call ∷ before) now o0 o2 l0 l2
 refused s links call before link mid now o0 o1 o2 l0 l1 l2 p q after = record {
   history = p.history;
   come_to = (p.history, p.come_to, after);
-  represents = subst (λ (c : ConverterState). Represents c p.history) (sym q.same) p.represents;
-  settings = ap (λ (c : ConverterState). c.conversion.settings) q.same ∙ p.settings;
+  represents = subst (λ (c : ConverterView). RepresentsHistory c p.history) (sym q.same) p.represents;
+  settings = ap (λ (c : ConverterView). c.conversion.settings) q.same ∙ p.settings;
   out_is = q.out ∙ p.out_is;
   log_is = q.log ∙ p.log_is;
 }
 
-one-more : (s : Settings) (links : ℕ) (call : Call) (before : List Call) (mid now : ConverterState) (o0 o1 o2 l0 l1 l2 : Option (List ℕ)) → HasCome s links before mid o0 o1 l0 l1
+one-more : (s : SetupView) (links : ℕ) (call : Call) (before : List Call) (mid now : ConverterView) (o0 o1 o2 l0 l1 l2 : Option (List ℕ)) → HasCome s links before mid o0 o1 l0 l1
     → now.conversion.settings ≡ mid.conversion.settings → IsAnswered mid call now o1 o2 l1 l2 → HasCome s links (call ∷ before) now o0 o2 l0 l2
 one-more s links (Feed link piece) before mid now o0 o1 o2 l0 l1 l2 p same (inl q) =
-    let fed = subst (λ (t : Settings). (next : History) × IsAfterFeed t p.history link piece next × Represents now next × WritesOn t p.history.found next.found o1 o2 l1 l2) p.settings (q.1 p.history p.represents) in
+    let fed = subst (λ (t : SetupView). (next : History) × IsAfterFeed t p.history link piece next × RepresentsHistory now next × WritesOn t p.history.found next.found o1 o2 l1 l2) p.settings (q.1 p.history p.represents) in
     taken s links (Feed link piece) before mid now o0 o1 o2 l0 l1 l2 p same fed.0 (inl (goes-open mid p.history link p.represents q.0, fed.1)) fed.2 fed.3
 one-more s links (Feed link piece) before mid now o0 o1 o2 l0 l1 l2 p same (inr q) =
     refused s links (Feed link piece) before link mid now o0 o1 o2 l0 l1 l2 p q (inr (not-open mid p.history link p.represents q.why, refl))
 one-more s links (Close link) before mid now o0 o1 o2 l0 l1 l2 p same (inl q) =
-    let closed = subst (λ (t : Settings). (next : History) × IsAfterClose t p.history link next × Represents now next × WritesOn t p.history.found next.found o1 o2 l1 l2) p.settings (q.1 p.history p.represents) in
+    let closed = subst (λ (t : SetupView). (next : History) × IsAfterClose t p.history link next × RepresentsHistory now next × WritesOn t p.history.found next.found o1 o2 l1 l2) p.settings (q.1 p.history p.represents) in
     taken s links (Close link) before mid now o0 o1 o2 l0 l1 l2 p same closed.0 (inl (goes-open mid p.history link p.represents q.0, closed.1)) closed.2 closed.3
 one-more s links (Close link) before mid now o0 o1 o2 l0 l1 l2 p same (inr q) =
     refused s links (Close link) before link mid now o0 o1 o2 l0 l1 l2 p q (inr (not-open mid p.history link p.represents q.why, refl))
 
-come : (s : Settings) (links : ℕ) (first : ConverterState) (calls : List Call) (now : ConverterState) (o0 o1 l0 l1 : Option (List ℕ)) → Represents first (new_history links) → first.conversion.settings ≡ s
+come : (s : SetupView) (links : ℕ) (first : ConverterView) (calls : List Call) (now : ConverterView) (o0 o1 l0 l1 : Option (List ℕ)) → RepresentsHistory first (new_history links) → first.conversion.settings ≡ s
     → AreAnswered first calls now o0 o1 l0 l1 → HasCome s links calls now o0 o1 l0 l1
 come s links first [] now o0 o1 l0 l1 r e p = record {
   history = new_history links;
   come_to = refl;
-  represents = subst (λ (c : ConverterState). Represents c (new_history links)) (sym p.0) r;
-  settings = ap (λ (c : ConverterState). c.conversion.settings) p.0 ∙ e;
+  represents = subst (λ (c : ConverterView). RepresentsHistory c (new_history links)) (sym p.0) r;
+  settings = ap (λ (c : ConverterView). c.conversion.settings) p.0 ∙ e;
   out_is = p.1 ∙ sym (with_more-nil o0) ∙ ap (with_more o0) (sym (so_far-nothing s));
   log_is = p.2 ∙ sym (with_more-nil l0);
 }
@@ -126,7 +126,7 @@ come s links first (call ∷ before) now o0 o1 l0 l1 r e p =
 pub calls-write-kept : CallsWriteKept
 calls-write-kept s links calls counts o0 o2 l0 l2 p =
     let c = come s links p.first calls p.now o0 p.out l0 p.log p.is_new p.settings p.answered in
-    let end = subst (λ (t : Settings). (last : History) × EndsAs t c.history last counts p.out o2 p.log l2) c.settings (p.ended c.history c.represents) in
+    let end = subst (λ (t : SetupView). (last : History) × FinishesConverterAs t c.history last counts p.out o2 p.log l2) c.settings (p.ended c.history c.represents) in
     let few = length-calls s links calls c.history c.come_to in
     record {
       found = end.0.found;

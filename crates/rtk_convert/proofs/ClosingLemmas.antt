@@ -3,14 +3,14 @@ use Rattle.std.proofs.Common.{◌≡◌, ℕ, suc, true, false, List, ◌++◌, 
 use Rattle.std.specs.Prelude.{is_some}
 use Rattle.rtk_frame.specs.Stream.{with_more}
 use Rattle.rtk_frame.proofs.StreamLemmas.{with_more-with_more}
-use Rattle.rtk_convert.specs.Converter.{ConverterState, Represents, WritesOn, WritesInto, BreaksOffAfter, BreaksOffAt, Closes, ClosesInPart, ClosesAll, ClosesAllInPart, BreaksOffClosing, IsAfterClosingAll, Ends, EndsInPart, refusal}
+use Rattle.rtk_convert.specs.Converter.{ConverterView, RepresentsHistory, WritesOn, WritesInto, BreaksOffAfter, BreaksOffAt, ClosesLink, ClosesLinkInPart, ClosesAllLinks, ClosesAllLinksInPart, BreaksOffClosing, IsAfterClosingAll, FinishesConverter, FinishesConverterInPart, refusal}
 use Rattle.rtk_convert.specs.FileOfArrivals.{kept_file, file_so_far}
-use Rattle.rtk_convert.specs.Finding.{Found, arrivals}
-use Rattle.rtk_convert.specs.Finish.{Finishes, FinishesInPart, all_counts, report_of}
+use Rattle.rtk_convert.specs.FrameClass.{Found, arrivals}
+use Rattle.rtk_convert.specs.Finish.{FinishesConversion, FinishesConversionInPart, all_counts, report_of}
 use Rattle.rtk_convert.specs.History.{History, IsAfterClose, fed_on, found_by_close}
 use Rattle.rtk_convert.specs.Report.{lines}
-use Rattle.rtk_convert.specs.Settings.{Settings}
-use Rattle.rtk_convert.specs.Writing.{Writes, WritesPart}
+use Rattle.rtk_convert.specs.Setup.{SetupView}
+use Rattle.rtk_convert.specs.Writing.{WritesRest, WritesPartOfRest}
 use Rattle.rtk_convert.specs.declared.counts.Counts.{Counts}
 use Rattle.rtk_convert.specs.declared.fault.ConvertFault.{ConvertFault}
 use Rattle.rtk_convert.proofs.GatheringLemmas.{writes-into}
@@ -18,10 +18,10 @@ use Rattle.rtk_convert.proofs.ConverterLemmas.{are-many, accepted-open, open-acc
 use Rattle.rtk_convert.proofs.WritingLemmas.{writes-none, writes-on}
 
 -- what was written, and then what was written on
-pub goes-on : (s : Settings) (first mid last : List Found) (o0 o1 o2 l0 l1 l2 : Option (List ℕ)) → WritesOn s first mid o0 o1 l0 l1 → WritesOn s mid last o1 o2 l1 l2 → WritesOn s first last o0 o2 l0 l2
+pub goes-on : (s : SetupView) (first mid last : List Found) (o0 o1 o2 l0 l1 l2 : Option (List ℕ)) → WritesOn s first mid o0 o1 l0 l1 → WritesOn s mid last o1 o2 l1 l2 → WritesOn s first last o0 o2 l0 l2
 goes-on s first mid last o0 o1 o2 l0 l1 l2 p q = record { out = writes-on o0 o1 o2 _ _ _ p.out q.out; log = writes-on l0 l1 l2 _ _ _ p.log q.log }
 
-into-on : (a b c : Option (List ℕ)) (w x y z : List ℕ) → Writes a b w x → WritesInto b c x y z → WritesInto a c w y z
+into-on : (a b c : Option (List ℕ)) (w x y z : List ℕ) → WritesRest a b w x → WritesInto b c x y z → WritesInto a c w y z
 into-on a b c w x y z p q = (
   p.0 ++ q.0,
   q.1,
@@ -32,7 +32,7 @@ into-on a b c w x y z p q = (
 )
 
 -- a call that breaks off behind what was written
-pub breaks-after : (s : Settings) (link : ℕ) (payloads : List (List ℕ)) (first before : List Found) (o0 o1 o2 l0 l1 l2 : Option (List ℕ))
+pub breaks-after : (s : SetupView) (link : ℕ) (payloads : List (List ℕ)) (first before : List Found) (o0 o1 o2 l0 l1 l2 : Option (List ℕ))
     → WritesOn s first before o0 o1 l0 l1 → BreaksOffAt s link payloads before o1 o2 l1 l2 → BreaksOffAfter s link payloads first before o0 o2 l0 l2
 breaks-after s link payloads first before o0 o1 o2 l0 l1 l2 p b = record {
   done = b.done;
@@ -57,13 +57,13 @@ none-given None o e none = sym e
 none-given (Some fault) o e none = absurd cc
 
 -- so many links were closed
-pub record ClosesSome (old : ConverterState) (h : History) (count : ℕ) (now : ConverterState) (o o' l l' : Option (List ℕ)) : Type 0 where
+pub record ClosesSome (old : ConverterView) (h : History) (count : ℕ) (now : ConverterView) (o o' l l' : Option (List ℕ)) : Type 0 where
   pub mid : History
   pub closed : IsAfterClosingAll old.conversion.settings h count mid
-  pub represents : Represents now mid
+  pub represents : RepresentsHistory now mid
   pub writes : WritesOn old.conversion.settings h.found mid.found o o' l l'
 
-pub closes-none : (old : ConverterState) (h : History) (o l : Option (List ℕ)) → Represents old h → ClosesSome old h 0 old o o l l
+pub closes-none : (old : ConverterView) (h : History) (o l : Option (List ℕ)) → RepresentsHistory old h → ClosesSome old h 0 old o o l l
 closes-none old h o l r = record {
   mid = h;
   closed = refl;
@@ -72,7 +72,7 @@ closes-none old h o l r = record {
 }
 
 -- the next is closed already
-pub closes-past : (old now : ConverterState) (h : History) (i : ℕ) (o o' l l' : Option (List ℕ)) → (refusal now i ≡ None → ⊥)
+pub closes-past : (old now : ConverterView) (h : History) (i : ℕ) (o o' l l' : Option (List ℕ)) → (refusal now i ≡ None → ⊥)
     → ClosesSome old h i now o o' l l' → ClosesSome old h (suc i) now o o' l l'
 closes-past old now h i o o' l l' refused c = record {
   mid = c.mid;
@@ -82,31 +82,31 @@ closes-past old now h i o o' l l' refused c = record {
 }
 
 -- the next is closed now
-pub closes-next : (old now new : ConverterState) (h : History) (i : ℕ) (o o1 o2 l l1 l2 : Option (List ℕ)) → now.conversion.settings ≡ old.conversion.settings → refusal now i ≡ None
-    → ClosesSome old h i now o o1 l l1 → Closes now i new o1 o2 l1 l2 → ClosesSome old h (suc i) new o o2 l l2
+pub closes-next : (old now new : ConverterView) (h : History) (i : ℕ) (o o1 o2 l l1 l2 : Option (List ℕ)) → now.conversion.settings ≡ old.conversion.settings → refusal now i ≡ None
+    → ClosesSome old h i now o o1 l l1 → ClosesLink now i new o1 o2 l1 l2 → ClosesSome old h (suc i) new o o2 l l2
 closes-next old now new h i o o1 o2 l l1 l2 settings none c closes =
     let (next, after, represents, writes) = closes c.mid c.represents in
     record {
       mid = next;
-      closed = (c.mid, c.closed, inl (accepted-open now c.mid i c.represents none, subst (λ (s : Settings). IsAfterClose s c.mid i next) settings after));
+      closed = (c.mid, c.closed, inl (accepted-open now c.mid i c.represents none, subst (λ (s : SetupView). IsAfterClose s c.mid i next) settings after));
       represents = represents;
-      writes = goes-on old.conversion.settings h.found c.mid.found next.found o o1 o2 l l1 l2 c.writes (subst (λ (s : Settings). WritesOn s c.mid.found next.found o1 o2 l1 l2) settings writes);
+      writes = goes-on old.conversion.settings h.found c.mid.found next.found o o1 o2 l l1 l2 c.writes (subst (λ (s : SetupView). WritesOn s c.mid.found next.found o1 o2 l1 l2) settings writes);
     }
 
 -- its closing breaks off
-pub closes-off : (old now : ConverterState) (h : History) (i : ℕ) (o o1 o2 l l1 l2 : Option (List ℕ)) → now.conversion.settings ≡ old.conversion.settings → refusal now i ≡ None
-    → ClosesSome old h i now o o1 l l1 → ClosesInPart now i o1 o2 l1 l2 → BreaksOffClosing old.conversion.settings h i o o2 l l2
+pub closes-off : (old now : ConverterView) (h : History) (i : ℕ) (o o1 o2 l l1 l2 : Option (List ℕ)) → now.conversion.settings ≡ old.conversion.settings → refusal now i ≡ None
+    → ClosesSome old h i now o o1 l l1 → ClosesLinkInPart now i o1 o2 l1 l2 → BreaksOffClosing old.conversion.settings h i o o2 l l2
 closes-off old now h i o o1 o2 l l1 l2 settings none c part = record {
   mid = c.mid;
   closed = c.closed;
   is_open = accepted-open now c.mid i c.represents none;
   breaks = breaks-after old.conversion.settings i (found_by_close (fed_on i c.mid.links)) h.found c.mid.found o o1 o2 l l1 l2 c.writes
-      (subst (λ (s : Settings). BreaksOffAt s i (found_by_close (fed_on i c.mid.links)) c.mid.found o1 o2 l1 l2) settings (part c.mid c.represents));
+      (subst (λ (s : SetupView). BreaksOffAt s i (found_by_close (fed_on i c.mid.links)) c.mid.found o1 o2 l1 l2) settings (part c.mid c.represents));
 }
 
 -- all are closed
-pub closes-all : (old now : ConverterState) (count : ℕ) (o o' l l' : Option (List ℕ)) → count ≡ length old.links
-    → ((h : History) → Represents old h → ClosesSome old h count now o o' l l') → ClosesAll old now o o' l l'
+pub closes-all : (old now : ConverterView) (count : ℕ) (o o' l l' : Option (List ℕ)) → count ≡ length old.links
+    → ((h : History) → RepresentsHistory old h → ClosesSome old h count now o o' l l') → ClosesAllLinks old now o o' l l'
 closes-all old now count o o' l l' all c = λ h r.
     let some = c h r in
     let many : count ≡ length h.links = all ∙ are-many old.links h.links 0 h.found r.links in
@@ -114,31 +114,31 @@ closes-all old now count o o' l l' all c = λ h r.
 
 -- ---- the end
 
-pub ends : (old closed : ConverterState) (counts : Counts) (o o1 o2 l l1 l2 : Option (List ℕ)) → closed.conversion.settings ≡ old.conversion.settings
-    → ClosesAll old closed o o1 l l1 → Finishes closed.conversion counts o1 o2 l1 l2 → Ends old counts o o2 l l2
+pub ends : (old closed : ConverterView) (counts : Counts) (o o1 o2 l l1 l2 : Option (List ℕ)) → closed.conversion.settings ≡ old.conversion.settings
+    → ClosesAllLinks old closed o o1 l l1 → FinishesConversion closed.conversion counts o1 o2 l1 l2 → FinishesConverter old counts o o2 l l2
 ends old closed counts o o1 o2 l l1 l2 settings all finishes = λ h r.
     let (last, after, represents, writes) = all h r in
     let f = finishes last.found represents.found in (
       last,
       record {
         closed = after;
-        counts_are = f.counts_are ∙ ap (λ (s : Settings). all_counts s last.found) settings;
-        out = writes-on o o1 o2 _ _ _ writes.out (subst (λ (s : Settings). Writes o1 o2 (file_so_far s (arrivals last.found)) (kept_file s (arrivals last.found))) settings f.out);
-        log = writes-on l l1 l2 _ _ _ writes.log (subst (λ (s : Settings). Writes l1 l2 (lines s.window last.found) (report_of s last.found)) settings f.log);
+        counts_are = f.counts_are ∙ ap (λ (s : SetupView). all_counts s last.found) settings;
+        out = writes-on o o1 o2 _ _ _ writes.out (subst (λ (s : SetupView). WritesRest o1 o2 (file_so_far s (arrivals last.found)) (kept_file s (arrivals last.found))) settings f.out);
+        log = writes-on l l1 l2 _ _ _ writes.log (subst (λ (s : SetupView). WritesRest l1 l2 (lines s.window last.found) (report_of s last.found)) settings f.log);
       },
     )
 
-pub ends-closing : (old : ConverterState) (o o' l l' : Option (List ℕ)) → ClosesAllInPart old o o' l l' → EndsInPart old o o' l l'
+pub ends-closing : (old : ConverterView) (o o' l l' : Option (List ℕ)) → ClosesAllLinksInPart old o o' l l' → FinishesConverterInPart old o o' l l'
 ends-closing old o o' l l' part = λ h r. inl (part h r)
 
-pub ends-part : (old closed : ConverterState) (o o1 o2 l l1 l2 : Option (List ℕ)) → closed.conversion.settings ≡ old.conversion.settings
-    → ClosesAll old closed o o1 l l1 → FinishesInPart closed.conversion o1 o2 l1 l2 → EndsInPart old o o2 l l2
+pub ends-part : (old closed : ConverterView) (o o1 o2 l l1 l2 : Option (List ℕ)) → closed.conversion.settings ≡ old.conversion.settings
+    → ClosesAllLinks old closed o o1 l l1 → FinishesConversionInPart closed.conversion o1 o2 l1 l2 → FinishesConverterInPart old o o2 l l2
 ends-part old closed o o1 o2 l l1 l2 settings all part = λ h r.
     let (last, after, represents, writes) = all h r in
     let f = part last.found represents.found in
     inr (record {
       last = last;
       closed = after;
-      out = writes-into o o1 o2 _ _ _ writes.out (subst (λ (s : Settings). WritesPart o1 o2 (file_so_far s (arrivals last.found)) (kept_file s (arrivals last.found))) settings f.out);
-      log = writes-into l l1 l2 _ _ _ writes.log (subst (λ (s : Settings). WritesPart l1 l2 (lines s.window last.found) (report_of s last.found)) settings f.log);
+      out = writes-into o o1 o2 _ _ _ writes.out (subst (λ (s : SetupView). WritesPartOfRest o1 o2 (file_so_far s (arrivals last.found)) (kept_file s (arrivals last.found))) settings f.out);
+      log = writes-into l l1 l2 _ _ _ writes.log (subst (λ (s : SetupView). WritesPartOfRest l1 l2 (lines s.window last.found) (report_of s last.found)) settings f.log);
     })

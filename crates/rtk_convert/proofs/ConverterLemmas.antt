@@ -4,26 +4,26 @@ use Rattle.std.proofs.lemmas.Grind.{common_steps}
 use Rattle.std.specs.Prelude.{slice_get, Decides}
 use Rattle.rtk_frame.specs.Frames.{Frame, final_frames, frames, payloads, pending}
 use Rattle.rtk_frame.specs.Frames as spec
-use Rattle.rtk_frame.specs.ScannerState.{scan}
+use Rattle.rtk_frame.specs.ScannerView.{scanner_view}
 use Rattle.rtk_frame.proofs.FirstFrame.{final_payloads_cut, payloads_cut}
 use Rattle.rtk_frame.proofs.Pieces.{pending_cut}
-use Rattle.rtk_convert.specs.Converter.{ConverterState, IsLink, AreLinks, Represents, BreaksOffAt, Feeds, FeedsInPart, Closes, ClosesInPart, link_refusal, refusal}
-use Rattle.rtk_convert.specs.Finding.{Found}
-use Rattle.rtk_convert.specs.Gathering.{Gathers, GathersInPart}
+use Rattle.rtk_convert.specs.Converter.{ConverterView, RepresentsLink, RepresentLinks, RepresentsHistory, BreaksOffAt, FeedsPiece, FeedsPieceInPart, ClosesLink, ClosesLinkInPart, link_refusal, refusal}
+use Rattle.rtk_convert.specs.FrameClass.{Found}
+use Rattle.rtk_convert.specs.LinkFrames.{AddsFrames, AddsFramesInPart}
 use Rattle.rtk_convert.specs.History.{LinkPast, History, Finds, IsOpen, fed_on, with_piece, with_closed, found_by_piece, found_by_close, newest_on}
-use Rattle.rtk_convert.specs.Settings.{Settings}
-use Rattle.rtk_convert.specs.State.{State, found_on}
-use Rattle.rtk_convert.specs.declared.arrival.Finding.{Finding}
+use Rattle.rtk_convert.specs.Setup.{SetupView}
+use Rattle.rtk_convert.specs.Conversion.{ConversionView, found_on}
+use Rattle.rtk_convert.specs.declared.frame_class.FrameClass.{FrameClass}
 use Rattle.rtk_convert.specs.declared.fault.ConvertFault.{ConvertFault}
 use Rattle.rtk_convert.specs.declared.fault.ConvertFault.TheVariants.{LinkClosed, Stopped}
 use Rattle.rtk_convert.specs.declared.link.Link.{Link}
 
-abbrev pub converter : State → List Link → ConverterState
+abbrev pub converter : ConversionView → List Link → ConverterView
 converter conversion links = record { conversion = conversion; links = links }
 
 -- ---- a link and its past
 
-pub are-many : (ls : List Link) (ps : List LinkPast) (n : ℕ) (found : List Found) → AreLinks ls ps n found → length ls ≡ length ps
+pub are-many : (ls : List Link) (ps : List LinkPast) (n : ℕ) (found : List Found) → RepresentLinks ls ps n found → length ls ≡ length ps
 are-many [] [] n found a = refl
 are-many [] (p ∷ ps) n found a = absurd a
 are-many (l ∷ ls) [] n found a = absurd a
@@ -34,21 +34,21 @@ pub record AtLink (l : Link) (i k : ℕ) (ps : List LinkPast) (found : List Foun
   pub past : LinkPast
   pub there : slice_get ps i ≡ Some past
   pub fed : fed_on i ps ≡ past.fed
-  pub is : IsLink l past k found
+  pub is : RepresentsLink l past k found
 
-pub link-at : (i k n : ℕ) (l : Link) (ls : List Link) (ps : List LinkPast) (found : List Found) → AreLinks ls ps n found → slice_get ls i ≡ Some l → k ≡ n + i → AtLink l i k ps found
+pub link-at : (i k n : ℕ) (l : Link) (ls : List Link) (ps : List LinkPast) (found : List Found) → RepresentLinks ls ps n found → slice_get ls i ≡ Some l → k ≡ n + i → AtLink l i k ps found
 link-at i k n l [] ps found a e number = absurd cc
 link-at i k n l (x ∷ xs) [] found a e number = absurd a
 link-at zero k n l (x ∷ xs) (p ∷ ps) found a e number =
     let first : k ≡ n = omega arith in
     let same : x ≡ l = cc in
-    record { past = p; there = refl; fed = refl; is = subst (λ (m : ℕ). IsLink l p m found) (sym first) (subst (λ (y : Link). IsLink y p n found) same a.0) }
+    record { past = p; there = refl; fed = refl; is = subst (λ (m : ℕ). RepresentsLink l p m found) (sym first) (subst (λ (y : Link). RepresentsLink y p n found) same a.0) }
 link-at (suc i) k n l (x ∷ xs) (p ∷ ps) found a e number =
     let other = link-at i k (suc n) l xs ps found a.1 e (omega arith) in
     record { past = other.past; there = other.there; fed = other.fed; is = other.is }
 
 -- the past of a number, and its link
-pub past-at : (i n : ℕ) (p : LinkPast) (ls : List Link) (ps : List LinkPast) (found : List Found) → AreLinks ls ps n found → slice_get ps i ≡ Some p
+pub past-at : (i n : ℕ) (p : LinkPast) (ls : List Link) (ps : List LinkPast) (found : List Found) → RepresentLinks ls ps n found → slice_get ps i ≡ Some p
     → (l : Link) × (slice_get ls i ≡ Some l) × (l.scanner.ended ≡ p.is_closed)
 past-at i n p ls [] found a e = absurd cc
 past-at i n p [] (q ∷ ps) found a e = absurd a
@@ -65,12 +65,12 @@ some-same x y e = cc
 none-some : (x : Link) → None ≡ Some x → ⊥
 none-some x e = cc
 
-pub is-open : (i : ℕ) (l : Link) (ls : List Link) (h : History) → AreLinks ls h.links 0 h.found → slice_get ls i ≡ Some l → l.scanner.ended ≡ false → IsOpen h i
+pub is-open : (i : ℕ) (l : Link) (ls : List Link) (h : History) → RepresentLinks ls h.links 0 h.found → slice_get ls i ≡ Some l → l.scanner.ended ≡ false → IsOpen h i
 is-open i l ls h a e unended =
     let at = link-at i i 0 l ls h.links h.found a e (omega arith) in
     (at.past.fed, at.there ∙ ap (λ (b : Bool). Some (record at.past { is_closed = b })) (sym at.is.closed ∙ unended))
 
-pub not-ended : (i : ℕ) (ls : List Link) (h : History) → AreLinks ls h.links 0 h.found → IsOpen h i → (l : Link) × (slice_get ls i ≡ Some l) × (l.scanner.ended ≡ false)
+pub not-ended : (i : ℕ) (ls : List Link) (h : History) → RepresentLinks ls h.links 0 h.found → IsOpen h i → (l : Link) × (slice_get ls i ≡ Some l) × (l.scanner.ended ≡ false)
 not-ended i ls h a (fed, there) = past-at i 0 (record { fed = fed; is_closed = false }) ls h.links h.found a there
 
 ended-not : (b : Bool) → b ≡ false → not b ≡ true
@@ -80,7 +80,7 @@ not-ended-is : (b : Bool) → not b ≡ true → b ≡ false
 not-ended-is true e = absurd cc
 not-ended-is false e = refl
 
-pub decides-open : (i : ℕ) (l : Link) (ls : List Link) (h : History) → AreLinks ls h.links 0 h.found → slice_get ls i ≡ Some l → Decides (not l.scanner.ended) (IsOpen h i)
+pub decides-open : (i : ℕ) (l : Link) (ls : List Link) (h : History) → RepresentLinks ls h.links 0 h.found → slice_get ls i ≡ Some l → Decides (not l.scanner.ended) (IsOpen h i)
 decides-open i l ls h a e = (
   λ b. is-open i l ls h a e (not-ended-is l.scanner.ended b),
   λ unended.
@@ -94,7 +94,7 @@ past-end [] i le = refl
 past-end (l ∷ ls) zero le = absurd (omega arith)
 past-end (l ∷ ls) (suc i) le = past-end ls i (omega arith)
 
-pub decides-none : (i : ℕ) (ls : List Link) (h : History) → AreLinks ls h.links 0 h.found → length ls ≤ i → Decides false (IsOpen h i)
+pub decides-none : (i : ℕ) (ls : List Link) (h : History) → RepresentLinks ls h.links 0 h.found → length ls ≤ i → Decides false (IsOpen h i)
 decides-none i ls h a le = (
   λ b. absurd cc,
   λ unended.
@@ -102,7 +102,7 @@ decides-none i ls h a le = (
       absurd (none-some x (sym (past-end ls i le) ∙ there)),
 )
 
-pub record IsAccepted (c : ConverterState) (link : ℕ) : Type 0 where
+pub record IsAccepted (c : ConverterView) (link : ℕ) : Type 0 where
   pub going : c.conversion.stopped ≡ false
   pub is_open : (l : Link) → slice_get c.links link ≡ Some l → l.scanner.ended ≡ false
 
@@ -114,7 +114,7 @@ none-closed : (ended : Bool) → (if ended then Some LinkClosed else None) ≡ N
 none-closed true e = absurd cc
 none-closed false e = refl
 
-pub accepted : (c : ConverterState) (link : ℕ) → refusal c link ≡ None → IsAccepted c link
+pub accepted : (c : ConverterView) (link : ℕ) → refusal c link ≡ None → IsAccepted c link
 accepted c link e =
     let r = none-refused c.conversion.stopped (link_refusal (slice_get c.links link)) e in
     record {
@@ -133,15 +133,15 @@ within-list [] link e = absurd cc
 within-list (l ∷ ls) zero e = omega arith
 within-list (l ∷ ls) (suc link) e = let rest = within-list ls link e in omega arith
 
-pub accepted-within : (c : ConverterState) (link : ℕ) → refusal c link ≡ None → link < length c.links
+pub accepted-within : (c : ConverterView) (link : ℕ) → refusal c link ≡ None → link < length c.links
 accepted-within c link e = within-list c.links link (none-refused c.conversion.stopped (link_refusal (slice_get c.links link)) e).1
 
-pub accepted-open : (c : ConverterState) (h : History) (link : ℕ) → Represents c h → refusal c link ≡ None → IsOpen h link
+pub accepted-open : (c : ConverterView) (h : History) (link : ℕ) → RepresentsHistory c h → refusal c link ≡ None → IsOpen h link
 accepted-open c h link r none =
     let (l, there) = some-there c.links link (accepted-within c link none) in
     is-open link l c.links h r.links there ((accepted c link none).is_open l there)
 
-pub open-accepted : (c : ConverterState) (h : History) (link : ℕ) → Represents c h → IsOpen h link → refusal c link ≡ None
+pub open-accepted : (c : ConverterView) (h : History) (link : ℕ) → RepresentsHistory c h → IsOpen h link → refusal c link ≡ None
 open-accepted c h link r unended =
     let (l, there, ended) = not-ended link c.links h r.links unended in
     ap (λ (b : Bool). if b then Some Stopped else link_refusal (slice_get c.links link)) r.going
@@ -161,14 +161,14 @@ found-left fed = ap (drop (length (final_frames fed))) (payloads_cut fed) ∙ dr
 
 -- ---- the other links
 
-passes : (link k : ℕ) (f : Finding) (found : List Found) → k ≢ link → newest_on k (found_on link f ∷ found) ≡ newest_on k found
+passes : (link k : ℕ) (f : FrameClass) (found : List Found) → k ≢ link → newest_on k (found_on link f ∷ found) ≡ newest_on k found
 passes link k f found other = grind (arith, common_steps)
 
-pub others-newest : (s : Settings) (link k : ℕ) (ps : List (List ℕ)) (before after : List Found) → k ≢ link → Finds s link ps before after → newest_on k after ≡ newest_on k before
+pub others-newest : (s : SetupView) (link k : ℕ) (ps : List (List ℕ)) (before after : List Found) → k ≢ link → Finds s link ps before after → newest_on k after ≡ newest_on k before
 others-newest s link k [] before after other found = ap (newest_on k) found
 others-newest s link k (p ∷ ps) before after other (f, comes, more) = others-newest s link k ps (found_on link f ∷ before) after other more ∙ passes link k f before other
 
-links-later : (ls : List Link) (ps : List LinkPast) (n : ℕ) (before after : List Found) → ((k : ℕ) → n ≤ k → newest_on k after ≡ newest_on k before) → AreLinks ls ps n before → AreLinks ls ps n after
+links-later : (ls : List Link) (ps : List LinkPast) (n : ℕ) (before after : List Found) → ((k : ℕ) → n ≤ k → newest_on k after ≡ newest_on k before) → RepresentLinks ls ps n before → RepresentLinks ls ps n after
 links-later [] [] n before after same a = a
 links-later [] (p ∷ ps) n before after same a = a
 links-later (l ∷ ls) [] n before after same a = a
@@ -177,16 +177,16 @@ links-later (l ∷ ls) (p ∷ ps) n before after same a = (
   links-later ls ps (suc n) before after (λ k le. same k (omega arith)) a.1,
 )
 
-pub links-fed : (i k n : ℕ) (piece : List ℕ) (l new : Link) (ls : List Link) (ps : List LinkPast) (before after : List Found) → AreLinks ls ps n before → slice_get ls i ≡ Some l → k ≡ n + i
-    → ((p : LinkPast) → IsLink l p k before → IsLink new (record { fed = p.fed ++ piece; is_closed = p.is_closed }) k after) → ((j : ℕ) → j ≢ k → newest_on j after ≡ newest_on j before)
-    → AreLinks (set ls i new) (with_piece i piece ps) n after
+pub links-fed : (i k n : ℕ) (piece : List ℕ) (l new : Link) (ls : List Link) (ps : List LinkPast) (before after : List Found) → RepresentLinks ls ps n before → slice_get ls i ≡ Some l → k ≡ n + i
+    → ((p : LinkPast) → RepresentsLink l p k before → RepresentsLink new (record { fed = p.fed ++ piece; is_closed = p.is_closed }) k after) → ((j : ℕ) → j ≢ k → newest_on j after ≡ newest_on j before)
+    → RepresentLinks (set ls i new) (with_piece i piece ps) n after
 links-fed i k n piece l new [] ps before after a e number changed same = absurd cc
 links-fed i k n piece l new (x ∷ xs) [] before after a e number changed same = absurd a
 links-fed zero k n piece l new (x ∷ xs) (p ∷ ps) before after a e number changed same =
     let first : k ≡ n = omega arith in
     let here : x ≡ l = cc in (
-      subst (λ (m : ℕ). IsLink new (record { fed = p.fed ++ piece; is_closed = p.is_closed }) m after) first
-          (changed p (subst (λ (m : ℕ). IsLink l p m before) (sym first) (subst (λ (y : Link). IsLink y p n before) here a.0))),
+      subst (λ (m : ℕ). RepresentsLink new (record { fed = p.fed ++ piece; is_closed = p.is_closed }) m after) first
+          (changed p (subst (λ (m : ℕ). RepresentsLink l p m before) (sym first) (subst (λ (y : Link). RepresentsLink y p n before) here a.0))),
       links-later xs ps (suc n) before after (λ j le. same j (λ q. omega arith)) a.1,
     )
 links-fed (suc i) k n piece l new (x ∷ xs) (p ∷ ps) before after a e number changed same = (
@@ -194,16 +194,16 @@ links-fed (suc i) k n piece l new (x ∷ xs) (p ∷ ps) before after a e number 
   links-fed i k (suc n) piece l new xs ps before after a.1 e (omega arith) changed same,
 )
 
-pub links-closed : (i k n : ℕ) (l new : Link) (ls : List Link) (ps : List LinkPast) (before after : List Found) → AreLinks ls ps n before → slice_get ls i ≡ Some l → k ≡ n + i
-    → ((p : LinkPast) → IsLink l p k before → IsLink new (record { fed = p.fed; is_closed = true }) k after) → ((j : ℕ) → j ≢ k → newest_on j after ≡ newest_on j before)
-    → AreLinks (set ls i new) (with_closed i ps) n after
+pub links-closed : (i k n : ℕ) (l new : Link) (ls : List Link) (ps : List LinkPast) (before after : List Found) → RepresentLinks ls ps n before → slice_get ls i ≡ Some l → k ≡ n + i
+    → ((p : LinkPast) → RepresentsLink l p k before → RepresentsLink new (record { fed = p.fed; is_closed = true }) k after) → ((j : ℕ) → j ≢ k → newest_on j after ≡ newest_on j before)
+    → RepresentLinks (set ls i new) (with_closed i ps) n after
 links-closed i k n l new [] ps before after a e number changed same = absurd cc
 links-closed i k n l new (x ∷ xs) [] before after a e number changed same = absurd a
 links-closed zero k n l new (x ∷ xs) (p ∷ ps) before after a e number changed same =
     let first : k ≡ n = omega arith in
     let here : x ≡ l = cc in (
-      subst (λ (m : ℕ). IsLink new (record { fed = p.fed; is_closed = true }) m after) first
-          (changed p (subst (λ (m : ℕ). IsLink l p m before) (sym first) (subst (λ (y : Link). IsLink y p n before) here a.0))),
+      subst (λ (m : ℕ). RepresentsLink new (record { fed = p.fed; is_closed = true }) m after) first
+          (changed p (subst (λ (m : ℕ). RepresentsLink l p m before) (sym first) (subst (λ (y : Link). RepresentsLink y p n before) here a.0))),
       links-later xs ps (suc n) before after (λ j le. same j (λ q. omega arith)) a.1,
     )
 links-closed (suc i) k n l new (x ∷ xs) (p ∷ ps) before after a e number changed same = (
@@ -217,16 +217,16 @@ nothing-waits : pending [] ≡ []
 unfolding spec.pending_from
 nothing-waits = refl
 
-pub links-new : (count n : ℕ) → AreLinks (replicate count (record { scanner = scan [] false; newest = None })) (replicate count (record { fed = []; is_closed = false })) n []
+pub links-new : (count n : ℕ) → RepresentLinks (replicate count (record { scanner = scanner_view [] false; newest = None })) (replicate count (record { fed = []; is_closed = false })) n []
 links-new zero n = tt
 links-new (suc count) n = (record { closed = refl; waiting = λ q. sym nothing-waits; newest = refl }, links-new count (suc n))
 
 -- ---- a piece
 
-pub feeds : (old : ConverterState) (conversion : State) (i : ℕ) (piece : List ℕ) (l new : Link) (o o' w w' : Option (List ℕ))
+pub feeds : (old : ConverterView) (conversion : ConversionView) (i : ℕ) (piece : List ℕ) (l new : Link) (o o' w w' : Option (List ℕ))
     → slice_get old.links i ≡ Some l → l.scanner.ended ≡ false → conversion.stopped ≡ false → new.scanner.ended ≡ false → new.scanner.pending ≡ pending (l.scanner.pending ++ piece)
-    → Gathers old.conversion i (payloads (final_frames (l.scanner.pending ++ piece))) conversion l.newest new.newest o o' w w'
-    → Feeds old i piece (record { conversion = conversion; links = set old.links i new }) o o' w w'
+    → AddsFrames old.conversion i (payloads (final_frames (l.scanner.pending ++ piece))) conversion l.newest new.newest o o' w w'
+    → FeedsPiece old i piece (record { conversion = conversion; links = set old.links i new }) o o' w w'
 feeds old conversion i piece l new o o' w w' there unended going still waits gathers = λ h r.
     let at = link-at i i 0 l old.links h.links h.found r.links there (omega arith) in
     let is_open : at.past.is_closed ≡ false = sym at.is.closed ∙ unended in
@@ -249,9 +249,9 @@ feeds old conversion i piece l new o o' w w' there unended going still waits gat
       g.writes,
     )
 
-pub feeds-part : (old : ConverterState) (i : ℕ) (piece : List ℕ) (l : Link) (o o' w w' : Option (List ℕ))
+pub feeds-part : (old : ConverterView) (i : ℕ) (piece : List ℕ) (l : Link) (o o' w w' : Option (List ℕ))
     → slice_get old.links i ≡ Some l → l.scanner.ended ≡ false
-    → GathersInPart old.conversion i (payloads (final_frames (l.scanner.pending ++ piece))) o o' w w' → FeedsInPart old i piece o o' w w'
+    → AddsFramesInPart old.conversion i (payloads (final_frames (l.scanner.pending ++ piece))) o o' w w' → FeedsPieceInPart old i piece o o' w w'
 feeds-part old i piece l o o' w w' there unended gathers = λ h r.
     let at = link-at i i 0 l old.links h.links h.found r.links there (omega arith) in
     let is_open : at.past.is_closed ≡ false = sym at.is.closed ∙ unended in
@@ -261,10 +261,10 @@ feeds-part old i piece l o o' w w' there unended gathers = λ h r.
 
 -- ---- a close
 
-pub closes : (old : ConverterState) (conversion : State) (i : ℕ) (l new : Link) (o o' w w' : Option (List ℕ))
+pub closes : (old : ConverterView) (conversion : ConversionView) (i : ℕ) (l new : Link) (o o' w w' : Option (List ℕ))
     → slice_get old.links i ≡ Some l → l.scanner.ended ≡ false → conversion.stopped ≡ false → new.scanner.ended ≡ true
-    → Gathers old.conversion i (payloads (frames l.scanner.pending)) conversion l.newest new.newest o o' w w'
-    → Closes old i (record { conversion = conversion; links = set old.links i new }) o o' w w'
+    → AddsFrames old.conversion i (payloads (frames l.scanner.pending)) conversion l.newest new.newest o o' w w'
+    → ClosesLink old i (record { conversion = conversion; links = set old.links i new }) o o' w w'
 closes old conversion i l new o o' w w' there unended going ended gathers = λ h r.
     let at = link-at i i 0 l old.links h.links h.found r.links there (omega arith) in
     let is_open : at.past.is_closed ≡ false = sym at.is.closed ∙ unended in
@@ -283,9 +283,9 @@ closes old conversion i l new o o' w w' there unended going ended gathers = λ h
       g.writes,
     )
 
-pub closes-part : (old : ConverterState) (i : ℕ) (l : Link) (o o' w w' : Option (List ℕ))
+pub closes-part : (old : ConverterView) (i : ℕ) (l : Link) (o o' w w' : Option (List ℕ))
     → slice_get old.links i ≡ Some l → l.scanner.ended ≡ false
-    → GathersInPart old.conversion i (payloads (frames l.scanner.pending)) o o' w w' → ClosesInPart old i o o' w w'
+    → AddsFramesInPart old.conversion i (payloads (frames l.scanner.pending)) o o' w w' → ClosesLinkInPart old i o o' w w'
 closes-part old i l o o' w w' there unended gathers = λ h r.
     let at = link-at i i 0 l old.links h.links h.found r.links there (omega arith) in
     let is_open : at.past.is_closed ≡ false = sym at.is.closed ∙ unended in

@@ -3,11 +3,11 @@ use Rattle.std.proofs.Common.{◌≡◌, ℕ, suc, ◌<◌, ◌^◌, List, [], �
 use Rattle.rtk_frame.specs.Stream.{count_after}
 use Rattle.rtk_collect.specs.Arrival.{Arrival}
 use Rattle.rtk_collect.specs.Answer.{Class, LateClass, TakenClass, RepeatClass, ConflictClass, class_of}
-use Rattle.rtk_convert.specs.declared.arrival.Finding.{Finding}
-use Rattle.rtk_convert.specs.declared.arrival.Finding.TheVariants.{OtherMessage, Refused, Foreign, Arrived}
+use Rattle.rtk_convert.specs.declared.frame_class.FrameClass.{FrameClass}
+use Rattle.rtk_convert.specs.declared.frame_class.FrameClass.TheVariants.{OtherMessage, Refused, Foreign, Dated}
 use Rattle.rtk_convert.specs.declared.counts.Counts.{Counts}
 use Rattle.rtk_convert.specs.CountLaws.{in_classes, AreCountsOf, EachFrameInOneClass}
-use Rattle.rtk_convert.specs.Finding.{Found, arrivals}
+use Rattle.rtk_convert.specs.FrameClass.{Found, arrivals}
 use Rattle.rtk_convert.specs.Report.{counted_as, counted, one_frame_more, frame_counts}
 
 -- a count that is part of a number below its greatest value goes up by one
@@ -21,12 +21,12 @@ class-more TakenClass frames c sum few = omega (arith, sum, one-more c.taken fra
 class-more RepeatClass frames c sum few = omega (arith, sum, one-more c.repeat frames (omega (arith, sum)) few)
 class-more ConflictClass frames c sum few = omega (arith, sum, one-more c.conflict frames (omega (arith, sum)) few)
 
-finding-more : (n : ℕ) (f : Finding) (before : List Arrival) (frames : ℕ) (c : Counts) → in_classes c ≡ frames → suc frames < 2 ^ 64
+finding-more : (n : ℕ) (f : FrameClass) (before : List Arrival) (frames : ℕ) (c : Counts) → in_classes c ≡ frames → suc frames < 2 ^ 64
     → in_classes (counted n f before c) ≡ suc frames
 finding-more n OtherMessage before frames c sum few = omega (arith, sum, one-more c.other frames (omega (arith, sum)) few)
 finding-more n (Refused fault) before frames c sum few = omega (arith, sum, one-more c.refused frames (omega (arith, sum)) few)
 finding-more n Foreign before frames c sum few = omega (arith, sum, one-more c.foreign frames (omega (arith, sum)) few)
-finding-more n (Arrived a) before frames c sum few = class-more (class_of n a before) frames c sum few
+finding-more n (Dated a) before frames c sum few = class-more (class_of n a before) frames c sum few
 
 -- which leaves the count of all frames
 class-frames : (class : Class) (c : Counts) → (counted_as class c).frames ≡ c.frames
@@ -35,11 +35,11 @@ class-frames TakenClass c = refl
 class-frames RepeatClass c = refl
 class-frames ConflictClass c = refl
 
-finding-frames : (n : ℕ) (f : Finding) (before : List Arrival) (c : Counts) → (counted n f before c).frames ≡ c.frames
+finding-frames : (n : ℕ) (f : FrameClass) (before : List Arrival) (c : Counts) → (counted n f before c).frames ≡ c.frames
 finding-frames n OtherMessage before c = refl
 finding-frames n (Refused fault) before c = refl
 finding-frames n Foreign before c = refl
-finding-frames n (Arrived a) before c = class-frames (class_of n a before) c
+finding-frames n (Dated a) before c = class-frames (class_of n a before) c
 
 counts-of : (n : ℕ) (found : List Found) → length found < 2 ^ 64 → AreCountsOf (length found) (frame_counts n found)
 counts-of n [] few = record { frames_are = refl; classes_are = refl }

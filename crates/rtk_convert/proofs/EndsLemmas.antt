@@ -2,11 +2,11 @@
 use Rattle.std.proofs.Common.{◌≡◌, ◌≢◌, ℕ, zero, suc, inl, inr, ◌<◌, ◌++◌, false, List, [], ◌∷◌, length, replicate, Option, None, Some, refl, sym, ap, subst, arith}
 use Rattle.std.specs.Prelude.{slice_index_or, slice_get}
 use Rattle.std.proofs.lemmas.Bool.{cases_eq}
-use Rattle.rtk_convert.specs.Converter.{ConverterState, Represents}
+use Rattle.rtk_convert.specs.Converter.{ConverterView, RepresentsHistory}
 use Rattle.rtk_convert.specs.History.{History, LinkPast, new_history, IsOpen, with_piece, with_closed}
-use Rattle.rtk_convert.specs.Reading.{ReadsOn, HasRead, HasReadAll, HasCalled}
-use Rattle.rtk_convert.specs.Reads.{Read, AllClosed, AreAtEnd, IsAfterPiece}
-use Rattle.rtk_convert.specs.Settings.{Settings}
+use Rattle.rtk_convert.specs.ReadSteps.{ReadsLink, HasRead, HasReadAll, HasCalled}
+use Rattle.rtk_convert.specs.ReadHistory.{Read, AllClosed, AreAtEnd, IsAfterPiece}
+use Rattle.rtk_convert.specs.Setup.{SetupView}
 
 abbrev OpenAt : List LinkPast → ℕ → Type 0
 OpenAt ps k = (fed : List ℕ) × (slice_get ps k ≡ Some (record { fed = fed; is_closed = false }))
@@ -33,12 +33,12 @@ close-open zero (suc k) (q ∷ ps) other p = p
 close-open (suc link) zero (q ∷ ps) other p = p
 close-open (suc link) (suc k) (q ∷ ps) other p = close-open link k ps (λ e. other (ap suc e)) p
 
-stays-open : (s : Settings) (h : History) (link : ℕ) (piece : List ℕ) (next : History) (k : ℕ) → IsAfterPiece s h link piece next → k ≢ link → IsOpen h k → IsOpen next k
+stays-open : (s : SetupView) (h : History) (link : ℕ) (piece : List ℕ) (next : History) (k : ℕ) → IsAfterPiece s h link piece next → k ≢ link → IsOpen h k → IsOpen next k
 stays-open s h link [] next k after other o = subst (λ (ps : List LinkPast). OpenAt ps k) (sym after.links) (close-open link k h.links other o)
 stays-open s h link (x ∷ piece) next k after other o = subst (λ (ps : List LinkPast). OpenAt ps k) (sym after.links) (piece-open link k (x ∷ piece) h.links o)
 
 -- a read that closes its link gave nothing
-closed-by-none : (s : Settings) (h : History) (link : ℕ) (piece : List ℕ) (next : History) → IsAfterPiece s h link piece next → IsOpen h link → ¬ (IsOpen next link) → piece ≡ []
+closed-by-none : (s : SetupView) (h : History) (link : ℕ) (piece : List ℕ) (next : History) → IsAfterPiece s h link piece next → IsOpen h link → ¬ (IsOpen next link) → piece ≡ []
 closed-by-none s h link [] next after o closed = refl
 closed-by-none s h link (x ∷ piece) next after o closed = absurd (closed (subst (λ (ps : List LinkPast). OpenAt ps link) (sym after.links) (piece-open link link (x ∷ piece) h.links o)))
 
@@ -52,8 +52,8 @@ get-replicate (suc n) (suc k) p lt = get-replicate n k p (omega arith)
 pub ends-new : {R : Type 0} (is_at_end : R → Type 0) (readers : List R) → AreAtEnd is_at_end readers (new_history (length readers))
 ends-new is_at_end readers = λ k none lt closed. absurd (closed ([], get-replicate (length readers) k (record { fed = []; is_closed = false }) lt))
 
-pub ends-more : {R : Type 0} (given : R → Option (List ℕ)) (is_at_end : R → Type 0) (s : Settings) (h : History) (link : ℕ) (mid after : List R) (new : ConverterState) (o1 o2 l1 l2 : Option (List ℕ))
-    → (p : ReadsOn given is_at_end s h link mid after new o1 o2 l1 l2) → AreAtEnd is_at_end mid h → AreAtEnd is_at_end after p.next
+pub ends-more : {R : Type 0} (given : R → Option (List ℕ)) (is_at_end : R → Type 0) (s : SetupView) (h : History) (link : ℕ) (mid after : List R) (new : ConverterView) (o1 o2 l1 l2 : Option (List ℕ))
+    → (p : ReadsLink given is_at_end s h link mid after new o1 o2 l1 l2) → AreAtEnd is_at_end mid h → AreAtEnd is_at_end after p.next
 ends-more {R} given is_at_end s h link mid after new o1 o2 l1 l2 p ends = λ k none lt closed. elim (cases_eq k link) [
   | inl same ↦ subst (λ (i : ℕ). is_at_end (slice_index_or after i none)) (sym same)
       (p.at_end none (closed-by-none s h link p.piece p.next p.is_next.after p.is_next.link.is_open (subst (λ (i : ℕ). ¬ (IsOpen p.next i)) same closed)))
@@ -63,8 +63,8 @@ ends-more {R} given is_at_end s h link mid after new o1 o2 l1 l2 p ends = λ k n
 
 -- ---- after the last read
 
-pub has-read-all : {R : Type 0} (given : R → Option (List ℕ)) (calls : R → ℕ) (is_at_end : R → Type 0) (s : Settings) (before after : List R) (reads : List Read) (h : History) (n : ℕ) (new : ConverterState) (o0 o1 l0 l1 : Option (List ℕ))
-    → HasRead given s before after reads h o0 o1 l0 l1 → Represents new h → length reads ≡ n → AreAtEnd is_at_end after h → HasCalled calls before after n → AllClosed h
+pub has-read-all : {R : Type 0} (given : R → Option (List ℕ)) (calls : R → ℕ) (is_at_end : R → Type 0) (s : SetupView) (before after : List R) (reads : List Read) (h : History) (n : ℕ) (new : ConverterView) (o0 o1 l0 l1 : Option (List ℕ))
+    → HasRead given s before after reads h o0 o1 l0 l1 → RepresentsHistory new h → length reads ≡ n → AreAtEnd is_at_end after h → HasCalled calls before after n → AllClosed h
     → HasReadAll given calls is_at_end s before after new o0 o1 l0 l1
 has-read-all given calls is_at_end s before after reads h n new o0 o1 l0 l1 read r made ends called closed = record {
   reads = reads;

@@ -3,17 +3,17 @@ use Rattle.std.proofs.Common.{◌≡◌, ◌≢◌, ℕ, zero, suc, List, [], �
 use Rattle.std.specs.Prelude.{unwrap_or, is_some}
 use Rattle.std.proofs.lemmas.List.{append-nil}
 use Rattle.rtk_obs.specs.declared.code.Code.{Code}
-use Rattle.rtk_collect.specs.EpochCells.{EpochCells}
-use Rattle.rtk_rinex.specs.Header.{Site, header_text}
-use Rattle.rtk_convert.specs.Settings.{Settings}
+use Rattle.rtk_collect.specs.EpochSet.{EpochSetView}
+use Rattle.rtk_rinex.specs.Header.{PositionView, header_text}
+use Rattle.rtk_convert.specs.Setup.{SetupView}
 use Rattle.rtk_convert.specs.File.{record_of, records, first_or, first_time, header_of, file_of}
 use Rattle.rtk_convert.specs.FilePrefix.{unless_empty, so_far, with_header, closed_text, header_before, closing_text}
 
-pub records-more : (listed : List Code) (e : EpochCells) (below : List EpochCells) → records listed (e ∷ below) ≡ records listed below ++ record_of listed e below
+pub records-more : (listed : List Code) (e : EpochSetView) (below : List EpochSetView) → records listed (e ∷ below) ≡ records listed below ++ record_of listed e below
 unfolding records
 records-more listed e below = refl
 
-pub first_time-more : (listed : List Code) (e : EpochCells) (below : List EpochCells) → first_time listed (e ∷ below) ≡ first_or (first_time listed below) e.epoch (record_of listed e below)
+pub first_time-more : (listed : List Code) (e : EpochSetView) (below : List EpochSetView) → first_time listed (e ∷ below) ≡ first_or (first_time listed below) e.epoch (record_of listed e below)
 unfolding first_time
 first_time-more listed e below = refl
 
@@ -27,7 +27,7 @@ none-step None e before [] h f = append-nil before ∙ h refl
 none-step None e before (x ∷ text) h f = cc
 
 -- without a first time there is no record
-pub no-records : (listed : List Code) (epochs : List EpochCells) → first_time listed epochs ≡ None → records listed epochs ≡ []
+pub no-records : (listed : List Code) (epochs : List EpochSetView) → first_time listed epochs ≡ None → records listed epochs ≡ []
 unfolding records first_time
 no-records listed [] h = refl
 no-records listed (e ∷ below) h = none-step (first_time listed below) e.epoch (records listed below) (record_of listed e below) (no-records listed below) h
@@ -39,7 +39,7 @@ some-step None e t [] (x ∷ text) h f k = cc
 some-step None e t (y ∷ before) text h f k = cc
 
 -- with one there is
-pub some-records : (listed : List Code) (epochs : List EpochCells) (t : ℕ) → first_time listed epochs ≡ Some t → records listed epochs ≢ []
+pub some-records : (listed : List Code) (epochs : List EpochSetView) (t : ℕ) → first_time listed epochs ≡ Some t → records listed epochs ≢ []
 unfolding records first_time
 some-records listed [] t h = cc
 some-records listed (e ∷ below) t h = some-step (first_time listed below) e.epoch t (records listed below) (record_of listed e below) (λ u. some-records listed below u) h
@@ -49,7 +49,7 @@ first-kept None e t text h = cc
 first-kept (Some u) e t text h = h
 
 -- later epochs leave the first time
-pub first_time-drop : (n : ℕ) (listed : List Code) (epochs : List EpochCells) (t : ℕ) → first_time listed (drop n epochs) ≡ Some t → first_time listed epochs ≡ Some t
+pub first_time-drop : (n : ℕ) (listed : List Code) (epochs : List EpochSetView) (t : ℕ) → first_time listed (drop n epochs) ≡ Some t → first_time listed epochs ≡ Some t
 unfolding first_time
 first_time-drop zero listed epochs t h = h
 first_time-drop (suc n) listed [] t h = h
@@ -59,7 +59,7 @@ not-empty : (xs text : List ℕ) → xs ≢ [] → unless_empty xs text ≡ text
 not-empty [] text h = absurd (h refl)
 not-empty (x ∷ xs) text h = refl
 
-so_far-step : (s : Settings) (p : Site) (all_epochs closed : List EpochCells) (o : Option ℕ) → first_time s.heading.listed closed ≡ o
+so_far-step : (s : SetupView) (p : PositionView) (all_epochs closed : List EpochSetView) (o : Option ℕ) → first_time s.heading.listed closed ≡ o
     → ((t : ℕ) → first_time s.heading.listed closed ≡ Some t → first_time s.heading.listed all_epochs ≡ Some t)
     → so_far s p all_epochs closed ≡ with_header s p o (records s.heading.listed closed)
 so_far-step s p all_epochs closed None q up = rw (no-records s.heading.listed closed q) refl
@@ -68,11 +68,11 @@ so_far-step s p all_epochs closed (Some t) q up =
     ∙ ap (λ (o : Option ℕ). header_text s.heading p (unwrap_or o s.near) ++ records s.heading.listed closed) (up t q)
 
 -- the file so far is that of the closed epochs alone
-pub so_far-closed : (n : ℕ) (s : Settings) (p : Site) (epochs : List EpochCells) → so_far s p epochs (drop n epochs) ≡ closed_text s p (drop n epochs)
+pub so_far-closed : (n : ℕ) (s : SetupView) (p : PositionView) (epochs : List EpochSetView) → so_far s p epochs (drop n epochs) ≡ closed_text s p (drop n epochs)
 so_far-closed n s p epochs =
     so_far-step s p epochs (drop n epochs) (first_time s.heading.listed (drop n epochs)) refl (λ t h. first_time-drop n s.heading.listed epochs t h)
 
-closed-step : (s : Settings) (p : Site) (e : ℕ) (before text : List ℕ) (o : Option ℕ) → (o ≡ None → before ≡ [])
+closed-step : (s : SetupView) (p : PositionView) (e : ℕ) (before text : List ℕ) (o : Option ℕ) → (o ≡ None → before ≡ [])
     → with_header s p (first_or o e text) (before ++ text) ≡ with_header s p o before ++ closing_text s p e (is_some o) text
 closed-step s p e before [] None h = refl
 closed-step s p e before (x ∷ text) None h = rw (h refl) refl
@@ -80,30 +80,30 @@ closed-step s p e before [] (Some t) h = rw append-nil (sym (append-nil (header_
 closed-step s p e before (x ∷ text) (Some t) h = sym (append_assoc (header_text s.heading p t) before (x ∷ text))
 
 -- what one more closed epoch adds
-pub closed-more : (s : Settings) (p : Site) (e : EpochCells) (below : List EpochCells)
+pub closed-more : (s : SetupView) (p : PositionView) (e : EpochSetView) (below : List EpochSetView)
     → closed_text s p (e ∷ below) ≡ closed_text s p below ++ closing_text s p e.epoch (is_some (first_time s.heading.listed below)) (record_of s.heading.listed e below)
 unfolding records first_time
 closed-more s p e below = closed-step s p e.epoch (records s.heading.listed below) (record_of s.heading.listed e below) (first_time s.heading.listed below) (no-records s.heading.listed below)
 
 -- more closed epochs only add
-pub closed-grows : (s : Settings) (p : Site) (more closed : List EpochCells) → (rest : List ℕ) × (closed_text s p (more ++ closed) ≡ closed_text s p closed ++ rest)
+pub closed-grows : (s : SetupView) (p : PositionView) (more closed : List EpochSetView) → (rest : List ℕ) × (closed_text s p (more ++ closed) ≡ closed_text s p closed ++ rest)
 closed-grows s p [] closed = ([], sym (append-nil (closed_text s p closed)))
 closed-grows s p (e ∷ more) closed =
     let before = closed-grows s p more closed in
     let t : List ℕ = closing_text s p e.epoch (is_some (first_time s.heading.listed (more ++ closed))) (record_of s.heading.listed e (more ++ closed)) in
     (before.0 ++ t, closed-more s p e (more ++ closed) ∙ ap (λ (x : List ℕ). x ++ t) before.1 ∙ append_assoc (closed_text s p closed) before.0 t)
 
-file-step : (s : Settings) (p : Site) (text : List ℕ) (o : Option ℕ) → (o ≡ None → text ≡ [])
+file-step : (s : SetupView) (p : PositionView) (text : List ℕ) (o : Option ℕ) → (o ≡ None → text ≡ [])
     → header_text s.heading p (unwrap_or o s.near) ++ text ≡ with_header s p o text ++ header_before s p s.near (is_some o)
 file-step s p text None h = rw (h refl, append-nil) refl
 file-step s p text (Some t) h = sym (append-nil (header_text s.heading p t ++ text))
 
 -- the whole file: what is out once all its epochs are closed, and the header if there was no record
-pub file-closed : (s : Settings) (p : Site) (epochs : List EpochCells)
+pub file-closed : (s : SetupView) (p : PositionView) (epochs : List EpochSetView)
     → file_of s p epochs ≡ closed_text s p epochs ++ header_before s p s.near (is_some (first_time s.heading.listed epochs))
 file-closed s p epochs = file-step s p (records s.heading.listed epochs) (first_time s.heading.listed epochs) (no-records s.heading.listed epochs)
 
 -- without a closed epoch nothing is out, whatever the site
-pub closed-none : (s : Settings) (p q : Site) → closed_text s p [] ≡ closed_text s q []
+pub closed-none : (s : SetupView) (p q : PositionView) → closed_text s p [] ≡ closed_text s q []
 unfolding first_time records
 closed-none s p q = refl

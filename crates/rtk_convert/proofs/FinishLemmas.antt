@@ -3,26 +3,26 @@ use Rattle.std.proofs.Common.{◌≡◌, ℕ, Bool, List, [], ◌∷◌, ◌++�
 use Rattle.std.specs.Prelude.{is_some}
 use Rattle.std.proofs.lemmas.List.{append-nil, take-append-drop}
 use Rattle.rtk_obs.specs.declared.position.Position.{Position}
-use Rattle.rtk_collect.specs.EpochCells.{EpochCells}
+use Rattle.rtk_collect.specs.EpochSet.{EpochSetView}
 use Rattle.rtk_collect.specs.Arrival.{Arrival}
 use Rattle.rtk_collect.specs.Accepted.{kept, closed}
-use Rattle.rtk_collect.specs.Collector.{Window, Represents as HoldsKept}
+use Rattle.rtk_collect.specs.Collector.{CollectorView, RepresentsArrivals}
 use Rattle.rtk_collect.specs.Position.{IsPositionOf}
 use Rattle.rtk_collect.proofs.JoinsLemmas.{closed-drop}
 use Rattle.rtk_frame.specs.Stream.{with_more, TakesPart}
-use Rattle.rtk_rinex.specs.Header.{Site, site_of}
+use Rattle.rtk_rinex.specs.Header.{PositionView, position_view}
 use Rattle.rtk_convert.specs.declared.counts.Counts.{Counts}
 use Rattle.rtk_convert.specs.File.{first_time, file_of, record_count}
 use Rattle.rtk_convert.specs.FilePrefix.{closed_text, header_before}
 use Rattle.rtk_convert.specs.FileOfArrivals.{kept_file, file_so_far}
-use Rattle.rtk_convert.specs.Finding.{Found, arrivals}
-use Rattle.rtk_convert.specs.Finish.{Closes, ClosesInPart, all_counts, report_of, Finishes, FinishesInPart}
-use Rattle.rtk_convert.specs.Records.{Closed, Follows}
+use Rattle.rtk_convert.specs.FrameClass.{Found, arrivals}
+use Rattle.rtk_convert.specs.Finish.{ClosesEpochs, ClosesEpochsInPart, all_counts, report_of, FinishesConversion, FinishesConversionInPart}
+use Rattle.rtk_convert.specs.Records.{RecordsView, HasClosed}
 use Rattle.rtk_convert.specs.Report.{lines, frame_counts}
 use Rattle.rtk_convert.specs.ReportText.{count_lines}
-use Rattle.rtk_convert.specs.Settings.{Settings}
-use Rattle.rtk_convert.specs.State.{State}
-use Rattle.rtk_convert.specs.Writing.{Writes, WritesPart}
+use Rattle.rtk_convert.specs.Setup.{SetupView}
+use Rattle.rtk_convert.specs.Conversion.{ConversionView}
+use Rattle.rtk_convert.specs.Writing.{WritesRest, WritesPartOfRest}
 use Rattle.rtk_convert.proofs.FileLemmas.{closed-more, closed-grows, file-closed}
 use Rattle.rtk_convert.proofs.SoFarLemmas.{so_far-is}
 use Rattle.rtk_convert.proofs.ArriveLemmas.{state, closing, site-kept}
@@ -30,19 +30,19 @@ use Rattle.rtk_convert.proofs.AnswersLemmas.{any_epoch}
 use Rattle.rtk_convert.proofs.WritingLemmas.{writes-none, writes-text, writes-on, part-text, part-none, part-all, part-longer, part-on}
 
 -- some of the epochs that were left have closed
-pub record SomeClosed (s : Settings) (site : Site) (held now : List EpochCells) (first last : Closed) (o o' : Option (List ℕ)) : Type 0 where
-  pub gone : List EpochCells
+pub record SomeClosed (s : SetupView) (site : PositionView) (held now : List EpochSetView) (first last : RecordsView) (o o' : Option (List ℕ)) : Type 0 where
+  pub gone : List EpochSetView
   pub split : held ≡ now ++ gone
-  pub wrote : (below : List EpochCells) → Follows first s.heading.listed below
-      → Follows last s.heading.listed (gone ++ below) × Writes o o' (closed_text s site below) (closed_text s site (gone ++ below))
+  pub wrote : (below : List EpochSetView) → HasClosed first s.heading.listed below
+      → HasClosed last s.heading.listed (gone ++ below) × WritesRest o o' (closed_text s site below) (closed_text s site (gone ++ below))
 
-pub some-none : (s : Settings) (site : Site) (held : List EpochCells) (c : Closed) (o : Option (List ℕ)) → SomeClosed s site held held c c o o
+pub some-none : (s : SetupView) (site : PositionView) (held : List EpochSetView) (c : RecordsView) (o : Option (List ℕ)) → SomeClosed s site held held c c o o
 some-none s site held c o = record { gone = []; split = sym (append-nil held); wrote = λ below f. (f, writes-none o _ _ refl) }
 
-pub some-more : (s : Settings) (site : Site) (held now next : List EpochCells) (e : EpochCells) (first last last' : Closed) (o o' o'' : Option (List ℕ))
+pub some-more : (s : SetupView) (site : PositionView) (held now next : List EpochSetView) (e : EpochSetView) (first last last' : RecordsView) (o o' o'' : Option (List ℕ))
     → SomeClosed s site held now first last o o' → now ≡ next ++ e ∷ []
-    → ((below : List EpochCells) → Follows last s.heading.listed below → Follows last' s.heading.listed (e ∷ below))
-    → ((below : List EpochCells) → Follows last s.heading.listed below → o'' ≡ with_more o' (closing s site e below))
+    → ((below : List EpochSetView) → HasClosed last s.heading.listed below → HasClosed last' s.heading.listed (e ∷ below))
+    → ((below : List EpochSetView) → HasClosed last s.heading.listed below → o'' ≡ with_more o' (closing s site e below))
     → SomeClosed s site held next first last' o o''
 some-more s site held now next e first last last' o o' o'' l cut follows out = record {
   gone = e ∷ l.gone;
@@ -54,23 +54,23 @@ some-more s site held now next e first last last' o o' o'' l cut follows out = r
       );
 }
 
-pub some-all : (s : Settings) (site : Site) (held now : List EpochCells) (first last : Closed) (o o' : Option (List ℕ)) → SomeClosed s site held now first last o o' → now ≡ []
-    → Closes s site first held last o o'
+pub some-all : (s : SetupView) (site : PositionView) (held now : List EpochSetView) (first last : RecordsView) (o o' : Option (List ℕ)) → SomeClosed s site held now first last o o' → now ≡ []
+    → ClosesEpochs s site first held last o o'
 some-all s site held now first last o o' l none = λ below f.
     let w = l.wrote below f in
     let all : held ≡ l.gone = l.split ∙ ap (λ t. t ++ l.gone) none in
     record {
-      follows = subst (λ (t : List EpochCells). Follows last s.heading.listed (t ++ below)) (sym all) w.0;
-      out = subst (λ (t : List EpochCells). Writes o o' (closed_text s site below) (closed_text s site (t ++ below))) (sym all) w.1;
+      follows = subst (λ (t : List EpochSetView). HasClosed last s.heading.listed (t ++ below)) (sym all) w.0;
+      out = subst (λ (t : List EpochSetView). WritesRest o o' (closed_text s site below) (closed_text s site (t ++ below))) (sym all) w.1;
     }
 
-pub some-part : (s : Settings) (site : Site) (held now next : List EpochCells) (e : EpochCells) (first last : Closed) (o o' o'' : Option (List ℕ))
+pub some-part : (s : SetupView) (site : PositionView) (held now next : List EpochSetView) (e : EpochSetView) (first last : RecordsView) (o o' o'' : Option (List ℕ))
     → SomeClosed s site held now first last o o' → now ≡ next ++ e ∷ []
-    → ((below : List EpochCells) → Follows last s.heading.listed below → TakesPart o' o'' (closing s site e below))
-    → ClosesInPart s site first held o o''
+    → ((below : List EpochSetView) → HasClosed last s.heading.listed below → TakesPart o' o'' (closing s site e below))
+    → ClosesEpochsInPart s site first held o o''
 some-part s site held now next e first last o o' o'' l cut part = λ below f.
     let w = l.wrote below f in
-    let rest : List EpochCells = l.gone ++ below in
+    let rest : List EpochSetView = l.gone ++ below in
     let g = closed-grows s site next (e ∷ rest) in
     let all : held ++ below ≡ next ++ (e ∷ rest) =
     ap (λ t. t ++ below) (l.split ∙ ap (λ t. t ++ l.gone) cut) ∙ append_assoc (next ++ e ∷ []) l.gone below ∙ append_assoc next (e ∷ []) rest in
@@ -79,27 +79,27 @@ some-part s site held now next e first last o o' o'' l cut part = λ below f.
 
 -- ---- the whole file
 
-kept-all : (s : Settings) (w : Window) (A : List Arrival) → w.size ≡ s.window → HoldsKept w A → w.sets ++ closed s.window A ≡ kept s.window A
+kept-all : (s : SetupView) (w : CollectorView) (A : List Arrival) → w.size ≡ s.window → RepresentsArrivals w A → w.sets ++ closed s.window A ≡ kept s.window A
 kept-all s w A size holds =
     ap (λ t. t ++ closed s.window A) (holds.sets ∙ ap (λ (n : ℕ). take n (kept n A)) size)
     ∙ ap (λ t. take s.window (kept s.window A) ++ t) (closed-drop s.window any_epoch A)
     ∙ take-append-drop s.window (kept s.window A)
 
-so_far-text : (s : Settings) (w : Window) (A : List Arrival) (p : Position) → w.size ≡ s.window → HoldsKept w A → IsPositionOf w.size A p
-    → file_so_far s A ≡ closed_text s (site_of p) (closed s.window A)
-so_far-text s w A p size holds is = so_far-is s A ∙ ap (λ (x : Site). closed_text s x (closed s.window A)) (sym (site-kept s.window w A p size holds is))
+so_far-text : (s : SetupView) (w : CollectorView) (A : List Arrival) (p : Position) → w.size ≡ s.window → RepresentsArrivals w A → IsPositionOf w.size A p
+    → file_so_far s A ≡ closed_text s (position_view p) (closed s.window A)
+so_far-text s w A p size holds is = so_far-is s A ∙ ap (λ (x : PositionView). closed_text s x (closed s.window A)) (sym (site-kept s.window w A p size holds is))
 
-file-text : (s : Settings) (w : Window) (A : List Arrival) (p : Position) → w.size ≡ s.window → HoldsKept w A → IsPositionOf w.size A p
-    → kept_file s A ≡ closed_text s (site_of p) (w.sets ++ closed s.window A) ++ header_before s (site_of p) s.near (is_some (first_time s.heading.listed (w.sets ++ closed s.window A)))
+file-text : (s : SetupView) (w : CollectorView) (A : List Arrival) (p : Position) → w.size ≡ s.window → RepresentsArrivals w A → IsPositionOf w.size A p
+    → kept_file s A ≡ closed_text s (position_view p) (w.sets ++ closed s.window A) ++ header_before s (position_view p) s.near (is_some (first_time s.heading.listed (w.sets ++ closed s.window A)))
 file-text s w A p size holds is =
-    ap (λ (x : Site). file_of s x (kept s.window A)) (sym (site-kept s.window w A p size holds is))
-    ∙ ap (file_of s (site_of p)) (sym (kept-all s w A size holds))
-    ∙ file-closed s (site_of p) (w.sets ++ closed s.window A)
+    ap (λ (x : PositionView). file_of s x (kept s.window A)) (sym (site-kept s.window w A p size holds is))
+    ∙ ap (file_of s (position_view p)) (sym (kept-all s w A size holds))
+    ∙ file-closed s (position_view p) (w.sets ++ closed s.window A)
 
-pub finishes : (s : Settings) (w : Window) (c c' : Closed) (k k' : Counts) (b : Bool) (p : Position) (o o' o'' l l' : Option (List ℕ)) → w.size ≡ s.window
-    → ((before : List Arrival) → HoldsKept w before → IsPositionOf w.size before p) → Closes s (site_of p) c w.sets c' o o'
-    → o'' ≡ with_more o' (header_before s (site_of p) s.near c'.header_out) → k' ≡ record k { epochs = c'.count } → l' ≡ with_more l (count_lines k')
-    → Finishes (state s w c k b) k' o o'' l l'
+pub finishes : (s : SetupView) (w : CollectorView) (c c' : RecordsView) (k k' : Counts) (b : Bool) (p : Position) (o o' o'' l l' : Option (List ℕ)) → w.size ≡ s.window
+    → ((before : List Arrival) → RepresentsArrivals w before → IsPositionOf w.size before p) → ClosesEpochs s (position_view p) c w.sets c' o o'
+    → o'' ≡ with_more o' (header_before s (position_view p) s.near c'.header_out) → k' ≡ record k { epochs = c'.count } → l' ≡ with_more l (count_lines k')
+    → FinishesConversion (state s w c k b) k' o o'' l l'
 finishes s w c c' k k' b p o o' o'' l l' size position closes header counts wrote = λ found rep.
     let A : List Arrival = arrivals found in
     let is = position A rep.window in
@@ -110,47 +110,47 @@ finishes s w c c' k k' b p o o' o'' l l' size position closes header counts wrot
     ∙ ap (λ (n : ℕ). record (frame_counts s.window found) { epochs = n }) (t.follows.count ∙ ap (record_count s.heading.listed) all) in
     record {
       counts_are = same;
-      out = writes-on o o' o'' (file_so_far s A) (closed_text s (site_of p) (w.sets ++ closed s.window A)) (kept_file s A)
+      out = writes-on o o' o'' (file_so_far s A) (closed_text s (position_view p) (w.sets ++ closed s.window A)) (kept_file s A)
           (t.out.0, t.out.1 ∙ ap (λ x. x ++ t.out.0) (sym (so_far-text s w A p size rep.window is)), t.out.2)
-          (_, file-text s w A p size rep.window is, header ∙ ap (λ (x : Bool). with_more o' (header_before s (site_of p) s.near x)) t.follows.header_out);
+          (_, file-text s w A p size rep.window is, header ∙ ap (λ (x : Bool). with_more o' (header_before s (position_view p) s.near x)) t.follows.header_out);
       log = writes-text l l' (lines s.window found) (report_of s found) (count_lines (all_counts s found)) refl (wrote ∙ ap (λ (x : Counts). with_more l (count_lines x)) same);
     }
 
 -- ---- it breaks off
 
-log-none : (s : Settings) (found : List Found) (l : Option (List ℕ)) → WritesPart l l (lines s.window found) (report_of s found)
+log-none : (s : SetupView) (found : List Found) (l : Option (List ℕ)) → WritesPartOfRest l l (lines s.window found) (report_of s found)
 log-none s found l = part-none l (lines s.window found) (report_of s found) (count_lines (all_counts s found)) refl
 
 -- in a record
-pub finish-part-records : (s : Settings) (w : Window) (c : Closed) (k : Counts) (b : Bool) (p : Position) (o o' l : Option (List ℕ)) → w.size ≡ s.window
-    → ((before : List Arrival) → HoldsKept w before → IsPositionOf w.size before p) → ClosesInPart s (site_of p) c w.sets o o' → FinishesInPart (state s w c k b) o o' l l
+pub finish-part-records : (s : SetupView) (w : CollectorView) (c : RecordsView) (k : Counts) (b : Bool) (p : Position) (o o' l : Option (List ℕ)) → w.size ≡ s.window
+    → ((before : List Arrival) → RepresentsArrivals w before → IsPositionOf w.size before p) → ClosesEpochsInPart s (position_view p) c w.sets o o' → FinishesConversionInPart (state s w c k b) o o' l l
 finish-part-records s w c k b p o o' l size position closes = λ found rep.
     let A : List Arrival = arrivals found in
     let is = position A rep.window in
     record {
-      out = subst (λ (x : List ℕ). WritesPart o o' x (kept_file s A)) (sym (so_far-text s w A p size rep.window is))
-          (part-longer o o' (closed_text s (site_of p) (closed s.window A)) (closed_text s (site_of p) (w.sets ++ closed s.window A)) (kept_file s A) _ (file-text s w A p size rep.window is) (closes (closed s.window A) rep.closed));
+      out = subst (λ (x : List ℕ). WritesPartOfRest o o' x (kept_file s A)) (sym (so_far-text s w A p size rep.window is))
+          (part-longer o o' (closed_text s (position_view p) (closed s.window A)) (closed_text s (position_view p) (w.sets ++ closed s.window A)) (kept_file s A) _ (file-text s w A p size rep.window is) (closes (closed s.window A) rep.closed));
       log = log-none s found l;
     }
 
 -- in the last header
-pub finish-part-header : (s : Settings) (w : Window) (c c' : Closed) (k : Counts) (b : Bool) (p : Position) (o o' o'' l : Option (List ℕ)) → w.size ≡ s.window
-    → ((before : List Arrival) → HoldsKept w before → IsPositionOf w.size before p) → Closes s (site_of p) c w.sets c' o o'
-    → TakesPart o' o'' (header_before s (site_of p) s.near c'.header_out) → FinishesInPart (state s w c k b) o o'' l l
+pub finish-part-header : (s : SetupView) (w : CollectorView) (c c' : RecordsView) (k : Counts) (b : Bool) (p : Position) (o o' o'' l : Option (List ℕ)) → w.size ≡ s.window
+    → ((before : List Arrival) → RepresentsArrivals w before → IsPositionOf w.size before p) → ClosesEpochs s (position_view p) c w.sets c' o o'
+    → TakesPart o' o'' (header_before s (position_view p) s.near c'.header_out) → FinishesConversionInPart (state s w c k b) o o'' l l
 finish-part-header s w c c' k b p o o' o'' l size position closes part = λ found rep.
     let A : List Arrival = arrivals found in
     let is = position A rep.window in
     let t = closes (closed s.window A) rep.closed in
     record {
-      out = part-on o o' o'' (file_so_far s A) (closed_text s (site_of p) (w.sets ++ closed s.window A)) (kept_file s A)
+      out = part-on o o' o'' (file_so_far s A) (closed_text s (position_view p) (w.sets ++ closed s.window A)) (kept_file s A)
           (t.out.0, t.out.1 ∙ ap (λ x. x ++ t.out.0) (sym (so_far-text s w A p size rep.window is)), t.out.2)
-          (part-text o' o'' (closed_text s (site_of p) (w.sets ++ closed s.window A)) (kept_file s A) _ (file-text s w A p size rep.window is)
-          (subst (λ (x : Bool). TakesPart o' o'' (header_before s (site_of p) s.near x)) t.follows.header_out part));
+          (part-text o' o'' (closed_text s (position_view p) (w.sets ++ closed s.window A)) (kept_file s A) _ (file-text s w A p size rep.window is)
+          (subst (λ (x : Bool). TakesPart o' o'' (header_before s (position_view p) s.near x)) t.follows.header_out part));
       log = log-none s found l;
     }
 
 -- in the counts
-pub finish-part-counts : (old : State) (k : Counts) (o o' l l' : Option (List ℕ)) → Finishes old k o o' l (with_more l (count_lines k)) → TakesPart l l' (count_lines k) → FinishesInPart old o o' l l'
+pub finish-part-counts : (old : ConversionView) (k : Counts) (o o' l l' : Option (List ℕ)) → FinishesConversion old k o o' l (with_more l (count_lines k)) → TakesPart l l' (count_lines k) → FinishesConversionInPart old o o' l l'
 finish-part-counts old k o o' l l' whole part = λ found rep.
     let t = whole found rep in
     record {

@@ -11,22 +11,22 @@ use Rattle.rtk_obs.specs.Dating.{IsDated}
 use Rattle.rtk_collect.specs.Arrival.{Arrival, At}
 use Rattle.rtk_frame.specs.Frames.{final_frames, frames, payloads, pending}
 use Rattle.rtk_frame.specs.Scanner.{FedAnswer, RestAnswer}
-use Rattle.rtk_frame.specs.ScannerState.{Scan}
+use Rattle.rtk_frame.specs.ScannerView.{ScannerView}
 use Rattle.rtk_frame.specs.Stream.{with_more}
 use Rattle.rtk_frame.specs.declared.scanner.Answer.TheVariants.{Found, Hungry}
 use Rattle.rtk_frame.proofs.FirstFrame.{after_found, first_payloads}
 use Rattle.rtk_frame.proofs.StreamLemmas.{with_more-with_more}
 use Rattle.rtk_convert.specs.Converter.{WritesInto}
 use Rattle.rtk_convert.specs.FileOfArrivals.{file_so_far}
-use Rattle.rtk_convert.specs.Finding.{IsEpochOf, IsDatedMessage, IsFindingOf, ComesTo, Found as FoundFrame, arrivals}
-use Rattle.rtk_convert.specs.Gathering.{Gathers, GathersInPart}
+use Rattle.rtk_convert.specs.FrameClass.{IsEpochOf, IsDatedMessage, IsClassOfReading, IsClassOfPayload, Found as FoundFrame, arrivals}
+use Rattle.rtk_convert.specs.LinkFrames.{AddsFrames, AddsFramesInPart}
 use Rattle.rtk_convert.specs.History.{Finds, IsEpochIn, epoch_found, later_of, newest_on}
 use Rattle.rtk_convert.specs.Report.{lines}
-use Rattle.rtk_convert.specs.Settings.{Settings}
-use Rattle.rtk_convert.specs.State.{State, found_on, Arrives, BreaksOff}
-use Rattle.rtk_convert.specs.Writing.{Writes, WritesPart}
-use Rattle.rtk_convert.specs.declared.arrival.Finding.{Finding}
-use Rattle.rtk_convert.specs.declared.arrival.Finding.TheVariants.{OtherMessage, Refused, Foreign, Arrived}
+use Rattle.rtk_convert.specs.Setup.{SetupView}
+use Rattle.rtk_convert.specs.Conversion.{ConversionView, found_on, AcceptsFrame, BreaksOffAtFrame}
+use Rattle.rtk_convert.specs.Writing.{WritesRest, WritesPartOfRest}
+use Rattle.rtk_convert.specs.declared.frame_class.FrameClass.{FrameClass}
+use Rattle.rtk_convert.specs.declared.frame_class.FrameClass.TheVariants.{OtherMessage, Refused, Foreign, Dated}
 use Rattle.rtk_convert.proofs.WritingLemmas.{writes-none, writes-on}
 
 -- ---- a payload comes to one finding
@@ -54,38 +54,38 @@ epoch-once near (Some tow) None b p q = absurd p
 epoch-once near (Some tow) (Some t) None p q = absurd q
 epoch-once near (Some tow) (Some t) (Some u) p q = ap Some (dated-once near tow t u p q)
 
-message-once : (s : Settings) (m : Message) (a b : Arrival) → IsDatedMessage s m a → IsDatedMessage s m b → a ≡ b
+message-once : (s : SetupView) (m : Message) (a b : Arrival) → IsDatedMessage s m a → IsDatedMessage s m b → a ≡ b
 message-once s m (At e x) (At f y) p q =
     let messages : x ≡ y = p.0 ∙ sym q.0 in
     let epochs : e ≡ f = epoch-once s.near (tow_of m) e f p.1 q.1 in
     cc
 
-finding-once : (s : Settings) (r : Result Message DecodeFault) (f g : Finding) → IsFindingOf s r f → IsFindingOf s r g → f ≡ g
+finding-once : (s : SetupView) (r : Result Message DecodeFault) (f g : FrameClass) → IsClassOfReading s r f → IsClassOfReading s r g → f ≡ g
 finding-once s (Err fault) f g p q = p ∙ sym q
 finding-once s (Ok m) OtherMessage g p q = absurd p
 finding-once s (Ok m) (Refused fault) g p q = absurd p
 finding-once s (Ok m) Foreign OtherMessage p q = absurd q
 finding-once s (Ok m) Foreign (Refused fault) p q = absurd q
 finding-once s (Ok m) Foreign Foreign p q = refl
-finding-once s (Ok m) Foreign (Arrived b) p q = absurd (p q.0)
-finding-once s (Ok m) (Arrived a) OtherMessage p q = absurd q
-finding-once s (Ok m) (Arrived a) (Refused fault) p q = absurd q
-finding-once s (Ok m) (Arrived a) Foreign p q = absurd (q p.0)
-finding-once s (Ok m) (Arrived a) (Arrived b) p q = ap Arrived (message-once s m a b p.1 q.1)
+finding-once s (Ok m) Foreign (Dated b) p q = absurd (p q.0)
+finding-once s (Ok m) (Dated a) OtherMessage p q = absurd q
+finding-once s (Ok m) (Dated a) (Refused fault) p q = absurd q
+finding-once s (Ok m) (Dated a) Foreign p q = absurd (q p.0)
+finding-once s (Ok m) (Dated a) (Dated b) p q = ap Dated (message-once s m a b p.1 q.1)
 
-pub comes-once : (s : Settings) (payload : List ℕ) (f g : Finding) → ComesTo s payload f → ComesTo s payload g → f ≡ g
+pub comes-once : (s : SetupView) (payload : List ℕ) (f g : FrameClass) → IsClassOfPayload s payload f → IsClassOfPayload s payload g → f ≡ g
 comes-once s payload f g (r, decodes, is) (r', decodes', is') =
     let same : r' ≡ r = decodes-once (bits payload) r' r decodes' decodes in
-    finding-once s r f g is (subst (λ (x : Result Message DecodeFault). IsFindingOf s x g) same is')
+    finding-once s r f g is (subst (λ (x : Result Message DecodeFault). IsClassOfReading s x g) same is')
 
 -- ---- one frame more
 
-pub finds-more : (s : Settings) (link : ℕ) (done : List (List ℕ)) (payload : List ℕ) (f : Finding) (before mid : List FoundFrame)
-    → Finds s link done before mid → ComesTo s payload f → Finds s link (done ++ payload ∷ []) before (found_on link f ∷ mid)
+pub finds-more : (s : SetupView) (link : ℕ) (done : List (List ℕ)) (payload : List ℕ) (f : FrameClass) (before mid : List FoundFrame)
+    → Finds s link done before mid → IsClassOfPayload s payload f → Finds s link (done ++ payload ∷ []) before (found_on link f ∷ mid)
 finds-more s link [] payload f before mid found comes = (f, comes, ap (λ (t : List FoundFrame). found_on link f ∷ t) found)
 finds-more s link (p ∷ ps) payload f before mid (g, here, more) comes = (g, here, finds-more s link ps payload f (found_on link g ∷ before) mid more comes)
 
-pub gathers-none : (old : State) (link : ℕ) (n : Option ℕ) (o l : Option (List ℕ)) → Gathers old link [] old n n o o l l
+pub gathers-none : (old : ConversionView) (link : ℕ) (n : Option ℕ) (o l : Option (List ℕ)) → AddsFrames old link [] old n n o o l l
 gathers-none old link n o l = λ before represents. (
   before,
   record {
@@ -96,38 +96,38 @@ gathers-none old link n o l = λ before represents. (
   },
 )
 
-newest-more : (link : ℕ) (f : Finding) (found : List FoundFrame) → newest_on link (found_on link f ∷ found) ≡ later_of (epoch_found f) (newest_on link found)
+newest-more : (link : ℕ) (f : FrameClass) (found : List FoundFrame) → newest_on link (found_on link f ∷ found) ≡ later_of (epoch_found f) (newest_on link found)
 newest-more link f found = grind (arith, common_steps)
 
-pub gathers-more : (old mid new : State) (link : ℕ) (done : List (List ℕ)) (payload : List ℕ) (epoch n0 n1 n2 : Option ℕ) (o0 o1 o2 l0 l1 l2 : Option (List ℕ))
-    → mid.settings ≡ old.settings → Gathers old link done mid n0 n1 o0 o1 l0 l1 → Arrives mid link payload new o1 o2 l1 l2 → IsEpochIn mid.settings payload epoch → n2 ≡ later_of epoch n1
-    → Gathers old link (done ++ payload ∷ []) new n0 n2 o0 o2 l0 l2
+pub gathers-more : (old mid new : ConversionView) (link : ℕ) (done : List (List ℕ)) (payload : List ℕ) (epoch n0 n1 n2 : Option ℕ) (o0 o1 o2 l0 l1 l2 : Option (List ℕ))
+    → mid.settings ≡ old.settings → AddsFrames old link done mid n0 n1 o0 o1 l0 l1 → AcceptsFrame mid link payload new o1 o2 l1 l2 → IsEpochIn mid.settings payload epoch → n2 ≡ later_of epoch n1
+    → AddsFrames old link (done ++ payload ∷ []) new n0 n2 o0 o2 l0 l2
 gathers-more old mid new link done payload epoch n0 n1 n2 o0 o1 o2 l0 l1 l2 settings gathers arrives is newest = λ before represents.
     let (found, g) = gathers before represents in
     let (f, comes, a) = arrives found g.represents in
     let same : is.0 ≡ f = comes-once mid.settings payload is.0 f is.1 comes in
-    let out = subst (λ (s : Settings). Writes o1 o2 (file_so_far s (arrivals found)) (file_so_far s (arrivals (found_on link f ∷ found)))) settings a.out in
-    let log = subst (λ (s : Settings). Writes l1 l2 (lines s.window found) (lines s.window (found_on link f ∷ found))) settings a.log in (
+    let out = subst (λ (s : SetupView). WritesRest o1 o2 (file_so_far s (arrivals found)) (file_so_far s (arrivals (found_on link f ∷ found)))) settings a.out in
+    let log = subst (λ (s : SetupView). WritesRest l1 l2 (lines s.window found) (lines s.window (found_on link f ∷ found))) settings a.log in (
       found_on link f ∷ found,
       record {
-        finds = finds-more old.settings link done payload f before found g.finds (subst (λ (s : Settings). ComesTo s payload f) settings comes);
+        finds = finds-more old.settings link done payload f before found g.finds (subst (λ (s : SetupView). IsClassOfPayload s payload f) settings comes);
         represents = a.represents;
         newest = λ e. newest ∙ ap (λ (t : Option ℕ). later_of t n1) (is.2 ∙ ap epoch_found same) ∙ ap (later_of (epoch_found f)) (g.newest e) ∙ sym (newest-more link f found);
         writes = record { out = writes-on o0 o1 o2 _ _ _ g.writes.out out; log = writes-on l0 l1 l2 _ _ _ g.writes.log log };
       },
     )
 
-pub writes-into : (a b c : Option (List ℕ)) (x y z : List ℕ) → Writes a b x y → WritesPart b c y z → WritesInto a c x y z
+pub writes-into : (a b c : Option (List ℕ)) (x y z : List ℕ) → WritesRest a b x y → WritesPartOfRest b c y z → WritesInto a c x y z
 writes-into a b c x y z p q = (p.0, q.0, q.1, p.1, q.2, q.3 ∙ ap (λ t. with_more t q.0) p.2 ∙ with_more-with_more a p.0 q.0)
 
-pub breaks-off : (old mid : State) (link : ℕ) (all done left : List (List ℕ)) (payload : List ℕ) (n0 n1 : Option ℕ) (o0 o1 o2 l0 l1 l2 : Option (List ℕ))
-    → mid.settings ≡ old.settings → all ≡ done ++ (payload ∷ left) → Gathers old link done mid n0 n1 o0 o1 l0 l1 → BreaksOff mid link payload o1 o2 l1 l2
-    → GathersInPart old link all o0 o2 l0 l2
+pub breaks-off : (old mid : ConversionView) (link : ℕ) (all done left : List (List ℕ)) (payload : List ℕ) (n0 n1 : Option ℕ) (o0 o1 o2 l0 l1 l2 : Option (List ℕ))
+    → mid.settings ≡ old.settings → all ≡ done ++ (payload ∷ left) → AddsFrames old link done mid n0 n1 o0 o1 l0 l1 → BreaksOffAtFrame mid link payload o1 o2 l1 l2
+    → AddsFramesInPart old link all o0 o2 l0 l2
 breaks-off old mid link all done left payload n0 n1 o0 o1 o2 l0 l1 l2 settings split gathers breaks = λ before represents.
     let (found, g) = gathers before represents in
     let (f, comes, b) = breaks found g.represents in
-    let out = subst (λ (s : Settings). WritesPart o1 o2 (file_so_far s (arrivals found)) (file_so_far s (arrivals (found_on link f ∷ found)))) settings b.out in
-    let log = subst (λ (s : Settings). WritesPart l1 l2 (lines s.window found) (lines s.window (found_on link f ∷ found))) settings b.log in
+    let out = subst (λ (s : SetupView). WritesPartOfRest o1 o2 (file_so_far s (arrivals found)) (file_so_far s (arrivals (found_on link f ∷ found)))) settings b.out in
+    let log = subst (λ (s : SetupView). WritesPartOfRest l1 l2 (lines s.window found) (lines s.window (found_on link f ∷ found))) settings b.log in
     record {
       done = done;
       payload = payload;
@@ -136,7 +136,7 @@ breaks-off old mid link all done left payload n0 n1 o0 o1 o2 l0 l1 l2 settings s
       found = found;
       finds = g.finds;
       finding = f;
-      comes = subst (λ (s : Settings). ComesTo s payload f) settings comes;
+      comes = subst (λ (s : SetupView). IsClassOfPayload s payload f) settings comes;
       out = writes-into o0 o1 o2 _ _ _ g.writes.out out;
       log = writes-into l0 l1 l2 _ _ _ g.writes.log log;
     }
@@ -154,7 +154,7 @@ pub record FindsNext (s0 p s1 s2 : List ℕ) (at next : ℕ) (done : List (List 
   pub within : next ≤ length p
   pub smaller : length s2 + (length p - next) < length s1 + (length p - at)
 
-pub finds-next : (s0 p s1 : List ℕ) (at used : ℕ) (done : List (List ℕ)) (payload : Bor (List ℕ)) (scan : Scan)
+pub finds-next : (s0 p s1 : List ℕ) (at used : ℕ) (done : List (List ℕ)) (payload : Bor (List ℕ)) (scan : ScannerView)
     → at ≤ length p → used ≤ length (take (length p - at) (drop at p))
     → payloads (final_frames (s0 ++ p)) ≡ done ++ payloads (final_frames (s1 ++ drop at p)) → pending (s0 ++ p) ≡ pending (s1 ++ drop at p)
     → FedAnswer s1 (take (length p - at) (drop at p)) used (Found payload) scan
@@ -180,7 +180,7 @@ pub record FindsNoMore (s0 p s2 : List ℕ) (done : List (List ℕ)) : Type 0 wh
   pub all : payloads (final_frames (s0 ++ p)) ≡ done
   pub waiting : s2 ≡ pending (s0 ++ p)
 
-pub finds-no-more : (s0 p s1 : List ℕ) (at used : ℕ) (done : List (List ℕ)) (scan : Scan)
+pub finds-no-more : (s0 p s1 : List ℕ) (at used : ℕ) (done : List (List ℕ)) (scan : ScannerView)
     → payloads (final_frames (s0 ++ p)) ≡ done ++ payloads (final_frames (s1 ++ drop at p)) → pending (s0 ++ p) ≡ pending (s1 ++ drop at p)
     → FedAnswer s1 (take (length p - at) (drop at p)) used Hungry scan
     → FindsNoMore s0 p scan.pending done
@@ -197,7 +197,7 @@ pub record FindsLeft (s0 s1 s2 : List ℕ) (done : List (List ℕ)) (payload : L
   pub taken : payloads (frames s0) ≡ (done ++ payload ∷ []) ++ payloads (frames s2)
   pub smaller : length s2 < length s1
 
-pub finds-left : (s0 s1 : List ℕ) (done : List (List ℕ)) (payload : Bor (List ℕ)) (scan : Scan)
+pub finds-left : (s0 s1 : List ℕ) (done : List (List ℕ)) (payload : Bor (List ℕ)) (scan : ScannerView)
     → payloads (frames s0) ≡ done ++ payloads (frames s1) → RestAnswer s1 (Some payload) scan → FindsLeft s0 s1 scan.pending done payload.now
 finds-left s0 s1 done payload scan whole answer =
     let split = whole ∙ ap (λ t. done ++ t) (first_payloads s1 payload.now scan.pending answer.0) in

@@ -8,40 +8,40 @@ use Rattle.rtk_message.specs.Decoded.{number_of}
 use Rattle.rtk_collect.specs.Arrival.{Arrival, At, epoch_of, message_of}
 use Rattle.rtk_collect.specs.Accepted.{kept, station}
 use Rattle.rtk_collect.specs.Answer.{class_of, conflicts_of, LateClass}
-use Rattle.rtk_collect.specs.EpochCells.{EpochCells}
+use Rattle.rtk_collect.specs.EpochSet.{EpochSetView}
 use Rattle.rtk_collect.specs.Late.{late}
 use Rattle.rtk_collect.proofs.ArrivalsLemmas.{kept-falls}
 use Rattle.rtk_collect.proofs.LateLemmas.{late-change-nothing}
 use Rattle.rtk_collect.proofs.MembersLemmas.{kept-are-taken}
 use Rattle.rtk_collect.proofs.SetsLemmas.{AllRise, kept-same, kept-rise}
-use Rattle.rtk_convert.specs.declared.arrival.Finding.TheVariants.{Arrived}
+use Rattle.rtk_convert.specs.declared.frame_class.FrameClass.TheVariants.{Dated}
 use Rattle.rtk_convert.specs.File.{file_of}
 use Rattle.rtk_convert.specs.FileOfArrivals.{site_of_stations, kept_file}
-use Rattle.rtk_convert.specs.Finding.{Found, arrivals}
+use Rattle.rtk_convert.specs.FrameClass.{Found, arrivals}
 use Rattle.rtk_convert.specs.Finish.{all_counts, report_of}
-use Rattle.rtk_convert.specs.Headline.{Call, IsAfterCall, ComeTo, FindAll, EqualKeysCarryEqualBodies, CameInTime, Content, IsStationOf, IsContentOf, CellsRise, EachOnce, IsFileOf, HasLineAfter, LateAreListed, LateChangeNothing, Headline, SetHasOneFile, call_of, calls_of, RunHeadline}
+use Rattle.rtk_convert.specs.Headline.{Call, IsAfterCall, CallsComeTo, FindAll, EqualKeysCarryEqualBodies, CameInTime, Content, IsStationOf, IsContentOf, CellsRise, EachOnce, IsFileOf, HasLineAfter, LateAreListed, LateChangeNothing, Headline, SetHasOneFile, call_of, calls_of, RunHeadline}
 use Rattle.rtk_convert.specs.Converter.{IsAfterClosingAll}
 use Rattle.rtk_convert.specs.declared.counts.Counts.{Counts}
 use Rattle.rtk_convert.specs.History.{History, IsOpen}
-use Rattle.rtk_convert.specs.Reads.{Read, IsAfterPiece, IsNextRead, IsHistoryOf, AllClosed}
+use Rattle.rtk_convert.specs.ReadHistory.{Read, IsAfterPiece, IsNextRead, IsHistoryOf, AllClosed}
 use Rattle.rtk_convert.specs.Run.{RunsAs}
 use Rattle.rtk_convert.specs.Report.{lines, frame_lines, class_lines}
 use Rattle.rtk_convert.specs.ReportText.{late_line, count_lines}
-use Rattle.rtk_convert.specs.Settings.{Settings}
-use Rattle.rtk_convert.specs.State.{found_on}
+use Rattle.rtk_convert.specs.Setup.{SetupView}
+use Rattle.rtk_convert.specs.Conversion.{found_on}
 use Rattle.rtk_convert.proofs.ArrivalLawsLemmas.{late-leave}
 use Rattle.rtk_convert.proofs.PayloadLemmas.{calls-table}
 
 -- ---- the file of the set
 
-content : Settings → List Found → Content
+content : SetupView → List Found → Content
 content s found = record {
   epochs = kept s.window (arrivals found);
   arp1005 = station s.window 1005 (arrivals found);
   arp1006 = station s.window 1006 (arrivals found);
 }
 
-station-of : (s : Settings) (found : List Found) (number : ℕ) → EqualKeysCarryEqualBodies s found → IsStationOf (CameInTime s found) number (station s.window number (arrivals found))
+station-of : (s : SetupView) (found : List Found) (number : ℕ) → EqualKeysCarryEqualBodies s found → IsStationOf (CameInTime s found) number (station s.window number (arrivals found))
 station-of s found number good =
     let law = kept-are-taken s.window (arrivals found) in
     λ m. (
@@ -49,7 +49,7 @@ station-of s found number good =
       λ p. subst (λ (k : ℕ). station s.window k (arrivals found) ≡ Some m) p.1 ((law.3 good).1 m p.0),
     )
 
-content-of : (s : Settings) (found : List Found) → EqualKeysCarryEqualBodies s found → IsContentOf (CameInTime s found) (content s found)
+content-of : (s : SetupView) (found : List Found) → EqualKeysCarryEqualBodies s found → IsContentOf (CameInTime s found) (content s found)
 unfolding content
 content-of s found good =
     let law = kept-are-taken s.window (arrivals found) in
@@ -60,19 +60,19 @@ content-of s found good =
       arp1006 = station-of s found 1006 good;
     }
 
-rise : (xs : List EpochCells) → AllRise xs → CellsRise xs
+rise : (xs : List EpochSetView) → AllRise xs → CellsRise xs
 rise [] p = tt
 rise (x ∷ xs) p = (p.0, rise xs p.1)
 
-rise-back : (xs : List EpochCells) → CellsRise xs → AllRise xs
+rise-back : (xs : List EpochSetView) → CellsRise xs → AllRise xs
 rise-back [] p = tt
 rise-back (x ∷ xs) p = (p.0, rise-back xs p.1)
 
-each-once : (s : Settings) (found : List Found) → EachOnce (content s found)
+each-once : (s : SetupView) (found : List Found) → EachOnce (content s found)
 unfolding content
 each-once s found = record { epochs = kept-falls s.window (arrivals found); cells = rise (kept s.window (arrivals found)) (kept-rise s.window (arrivals found)) }
 
-pub file-of-set : (s : Settings) (found : List Found) → EqualKeysCarryEqualBodies s found → IsFileOf s (CameInTime s found) (kept_file s (arrivals found))
+pub file-of-set : (s : SetupView) (found : List Found) → EqualKeysCarryEqualBodies s found → IsFileOf s (CameInTime s found) (kept_file s (arrivals found))
 unfolding content
 file-of-set s found good = (content s found, content-of s found good, each-once s found, refl)
 
@@ -87,7 +87,7 @@ same-station : (set other : Arrival → Type 0) (number : ℕ) (a b : Option Mes
 same-station set other number a b same p q =
     same-option a b (λ m e. let h = (p m).0 e in (q m).1 ((same (At None m)).0 h.0, h.1)) (λ m e. let h = (q m).0 e in (p m).1 ((same (At None m)).1 h.0, h.1))
 
-same-file-of : (s : Settings) (set other : Arrival → Type 0) (first second : List ℕ) → ((x : Arrival) → set x ↔ other x) → IsFileOf s set first → IsFileOf s other second → first ≡ second
+same-file-of : (s : SetupView) (set other : Arrival → Type 0) (first second : List ℕ) → ((x : Arrival) → set x ↔ other x) → IsFileOf s set first → IsFileOf s other second → first ≡ second
 same-file-of s set other first second same p q =
     let c : Content = p.0 in
     let d : Content = q.0 in
@@ -100,7 +100,7 @@ same-file-of s set other first second same p q =
     let b = same-station set other 1006 c.arp1006 d.arp1006 same p.1.arp1006 q.1.arp1006 in
     p.3 ∙ ap (λ (m : Option Message). file_of s (site_of_stations m c.arp1006) c.epochs) a
     ∙ ap (λ (m : Option Message). file_of s (site_of_stations d.arp1005 m) c.epochs) b
-    ∙ ap (λ (xs : List EpochCells). file_of s (site_of_stations d.arp1005 d.arp1006) xs) epochs
+    ∙ ap (λ (xs : List EpochSetView). file_of s (site_of_stations d.arp1005 d.arp1006) xs) epochs
     ∙ sym q.3
 
 pub set-has-one-file : SetHasOneFile
@@ -109,13 +109,13 @@ set-has-one-file s one other first second same p q = same-file-of s (CameInTime 
 -- ---- late arrivals
 
 late-lines : (n link : ℕ) (a : Arrival) (before : List Found) → late n a (arrivals before) ≡ true
-    → frame_lines n link (Arrived a) (arrivals before) ≡ late_line link (number_of (message_of a)) (epoch_of a)
+    → frame_lines n link (Dated a) (arrivals before) ≡ late_line link (number_of (message_of a)) (epoch_of a)
 late-lines n link a before over =
     let e : class_of n a (arrivals before) ≡ LateClass = rw over refl in
     ap (λ k. class_lines link (number_of (message_of a)) (epoch_of a) k (conflicts_of n a (arrivals before))) e
 
-late-part : (s : Settings) (link : ℕ) (a : Arrival) (before later : List Found) → late s.window a (arrivals before) ≡ true
-    → HasLineAfter (lines s.window before) (late_line link (number_of (message_of a)) (epoch_of a)) (lines s.window (later ++ found_on link (Arrived a) ∷ before))
+late-part : (s : SetupView) (link : ℕ) (a : Arrival) (before later : List Found) → late s.window a (arrivals before) ≡ true
+    → HasLineAfter (lines s.window before) (late_line link (number_of (message_of a)) (epoch_of a)) (lines s.window (later ++ found_on link (Dated a) ∷ before))
 late-part s link a before [] over = (
   [],
   ap (λ t. lines s.window before ++ t) (late-lines s.window link a before over ∙ sym (append-nil (late_line link (number_of (message_of a)) (epoch_of a)))),
@@ -124,10 +124,10 @@ late-part s link a before (f ∷ later) over =
     let p = late-part s link a before later over in
     let front = lines s.window before in
     let line = late_line link (number_of (message_of a)) (epoch_of a) in
-    let more = frame_lines s.window f.link f.finding (arrivals (later ++ found_on link (Arrived a) ∷ before)) in
+    let more = frame_lines s.window f.link f.finding (arrivals (later ++ found_on link (Dated a) ∷ before)) in
     (p.0 ++ more, ap (λ t. t ++ more) p.1 ∙ append_assoc front (line ++ p.0) more ∙ ap (λ t. front ++ t) (append_assoc line p.0 more))
 
-pub late-listed : (s : Settings) (found : List Found) (log_old log_new : Option (List ℕ)) → log_new ≡ with_more log_old (report_of s found) → LateAreListed s found log_old log_new
+pub late-listed : (s : SetupView) (found : List Found) (log_old log_new : Option (List ℕ)) → log_new ≡ with_more log_old (report_of s found) → LateAreListed s found log_old log_new
 late-listed s found log_old log_new w link a before p =
     let front = lines s.window before in
     let line = late_line link (number_of (message_of a)) (epoch_of a) in
@@ -135,7 +135,7 @@ late-listed s found log_old log_new w link a before p =
     let part : HasLineAfter front line (lines s.window found) = subst (λ (fs : List Found). HasLineAfter front line (lines s.window fs)) (sym p.0.1) (late-part s link a before p.0.0 p.1) in
     (report_of s found, w, (part.0 ++ more, ap (λ t. t ++ more) part.1 ∙ append_assoc front (line ++ part.0) more ∙ ap (λ t. front ++ t) (append_assoc line part.0 more)))
 
-pub late-nothing : (s : Settings) (found : List Found) → LateChangeNothing s found
+pub late-nothing : (s : SetupView) (found : List Found) → LateChangeNothing s found
 late-nothing s found =
     let law = late-change-nothing s.window (arrivals found) in
     record {
@@ -147,7 +147,7 @@ late-nothing s found =
 
 -- ---- the whole sentence
 
-pub headline-of : (s : Settings) (links : ℕ) (calls : List Call) (found : List Found) (out_old out_new log_old log_new : Option (List ℕ)) → FindAll s links calls found
+pub headline-of : (s : SetupView) (links : ℕ) (calls : List Call) (found : List Found) (out_old out_new log_old log_new : Option (List ℕ)) → FindAll s links calls found
     → out_new ≡ with_more out_old (kept_file s (arrivals found)) → log_new ≡ with_more log_old (report_of s found)
     → Headline s links calls out_old out_new log_old log_new
 headline-of s links calls found out_old out_new log_old log_new all out log = record {
@@ -161,23 +161,23 @@ headline-of s links calls found out_old out_new log_old log_new all out log = re
 
 -- ---- the calls of a run
 
-call-step : (s : Settings) (h : History) (link : ℕ) (piece : List ℕ) (next : History) → IsOpen h link → IsAfterPiece s h link piece next → IsAfterCall s h (call_of link piece) next
+call-step : (s : SetupView) (h : History) (link : ℕ) (piece : List ℕ) (next : History) → IsOpen h link → IsAfterPiece s h link piece next → IsAfterCall s h (call_of link piece) next
 call-step s h link [] next is_open after = inl (is_open, after)
 call-step s h link (x ∷ piece) next is_open after = inl (is_open, after)
 
-call-of : (s : Settings) (h : History) (r : Read) (next : History) → IsNextRead s h r next → IsAfterCall s h (call_of r.link r.piece) next
+call-of : (s : SetupView) (h : History) (r : Read) (next : History) → IsNextRead s h r next → IsAfterCall s h (call_of r.link r.piece) next
 call-of s h r next p = call-step s h r.link r.piece next p.link.is_open p.after
 
-pub calls-come-to : (s : Settings) (links : ℕ) (reads : List Read) (h : History) → IsHistoryOf s links reads h → ComeTo s links (calls_of reads) h
+pub calls-come-to : (s : SetupView) (links : ℕ) (reads : List Read) (h : History) → IsHistoryOf s links reads h → CallsComeTo s links (calls_of reads) h
 calls-come-to s links [] h p = p
 calls-come-to s links (r ∷ before) h p = (p.0, calls-come-to s links before p.0 p.1, call-of s p.0 r h p.2)
 
 -- links that are closed are left so at the end
-closing-closed : (s : Settings) (h : History) (n : ℕ) → AllClosed h → IsAfterClosingAll s h n h
+closing-closed : (s : SetupView) (h : History) (n : ℕ) → AllClosed h → IsAfterClosingAll s h n h
 closing-closed s h zero closed = refl
 closing-closed s h (suc n) closed = (h, closing-closed s h n closed, inr (closed n, refl))
 
-pub run-headline : {R : Type 0} (given : R → Option (List ℕ)) (calls : R → ℕ) (is_at_end : R → Type 0) (s : Settings) (before after : List R) (counts : Counts) (out_old out_new log_old log_new : Option (List ℕ))
+pub run-headline : {R : Type 0} (given : R → Option (List ℕ)) (calls : R → ℕ) (is_at_end : R → Type 0) (s : SetupView) (before after : List R) (counts : Counts) (out_old out_new log_old log_new : Option (List ℕ))
     → RunsAs given calls is_at_end s before after counts out_old out_new log_old log_new → RunHeadline given calls is_at_end s before after counts out_old out_new log_old log_new
 run-headline given calls is_at_end s before after counts out_old out_new log_old log_new p =
     let all : FindAll s (length before) (calls_of p.reads) p.history.found =

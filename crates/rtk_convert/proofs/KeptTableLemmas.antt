@@ -17,24 +17,24 @@ use Rattle.rtk_obs.specs.Dating.{IsReference}
 use Rattle.rtk_obs.specs.Position.{IsCoordinate}
 use Rattle.rtk_obs.proofs.LegacyLemmas.{fields_of_valid, cells_in_range as cells_in_range-1004}
 use Rattle.rtk_obs.proofs.MsmLemmas.{cells_in_range as cells_in_range-1074}
-use Rattle.rtk_collect.specs.EpochCells.{EpochCells, joined}
-use Rattle.rtk_collect.specs.Search.{Below, Falls}
+use Rattle.rtk_collect.specs.EpochSet.{EpochSetView, joined}
+use Rattle.rtk_collect.specs.Search.{FirstIsBelow, EpochsFall}
 use Rattle.rtk_collect.specs.Arrival.{Arrival, At, cells_of}
 use Rattle.rtk_collect.specs.Late.{late}
 use Rattle.rtk_collect.specs.Accepted.{first, station, no_cells, with_arrival, kept}
 use Rattle.rtk_collect.proofs.CellsLemmas.{with_cells-all}
 use Rattle.rtk_collect.proofs.ArrivalsLemmas.{with_arrival-new, with_arrival-below, with_arrival-same, kept-falls}
 use Rattle.rtk_collect.proofs.LateLemmas.{kept-late, kept-new}
-use Rattle.rtk_rinex.specs.Header.{IsSite}
+use Rattle.rtk_rinex.specs.Header.{IsPositionView}
 use Rattle.rtk_rinex.specs.Reading.{IsMoment}
 use Rattle.rtk_rinex.specs.Table.{FilesAreTables}
-use Rattle.rtk_convert.specs.declared.arrival.Finding.{Finding}
-use Rattle.rtk_convert.specs.declared.arrival.Finding.TheVariants.{OtherMessage, Refused, Foreign, Arrived}
+use Rattle.rtk_convert.specs.declared.frame_class.FrameClass.{FrameClass}
+use Rattle.rtk_convert.specs.declared.frame_class.FrameClass.TheVariants.{OtherMessage, Refused, Foreign, Dated}
 use Rattle.rtk_convert.specs.ArrivalLaws.{HasPayload, KeptFileIsTable}
 use Rattle.rtk_convert.specs.FileLaws.{IsAbove, Fall, IsGoodEpoch}
 use Rattle.rtk_convert.specs.FileOfArrivals.{no_site, site_of_1005, site_of_stations, site_of_kept}
-use Rattle.rtk_convert.specs.Finding.{IsEpochOf, IsFindingOf, ComesTo, Found, and_arrived, arrivals}
-use Rattle.rtk_convert.specs.Settings.{Settings}
+use Rattle.rtk_convert.specs.FrameClass.{IsEpochOf, IsClassOfReading, IsClassOfPayload, Found, and_arrived, arrivals}
+use Rattle.rtk_convert.specs.Setup.{SetupView}
 use Rattle.rtk_convert.proofs.TableLemmas.{file-is_table}
 
 -- ---- arrivals of payloads are valid, and their epochs are moments
@@ -52,7 +52,7 @@ timed near (Some w) (Some t) r h = let before = h.before in let to = r.to in ome
 timed near None (Some t) r h = absurd h
 timed near (Some w) None r h = absurd h
 
-good-by : (s : Settings) (payload : List ℕ) (r : Result Message DecodeFault) (e : Option ℕ) (m : Message) → IsReference s.near → Decodes (bits payload) r → IsFindingOf s r (Arrived (At e m))
+good-by : (s : SetupView) (payload : List ℕ) (r : Result Message DecodeFault) (e : Option ℕ) (m : Message) → IsReference s.near → Decodes (bits payload) r → IsClassOfReading s r (Dated (At e m))
     → IsGoodArrival (At e m)
 good-by s payload (Ok x) e m near d f = (subst IsValid (sym f.1.0) d.message.valid, timed s.near (tow_of x) e near f.1.1)
 good-by s payload (Err NoNumber) e m near d f = cc
@@ -61,13 +61,13 @@ good-by s payload (Err (Short number)) e m near d f = cc
 good-by s payload (Err (EpochRange number)) e m near d f = cc
 good-by s payload (Err TooManyCells) e m near d f = cc
 
-and-good : (s : Settings) (f : Finding) (before : List Arrival) → IsReference s.near → (payload : List ℕ) → ComesTo s payload f → AllByRecursion IsGoodArrival before → AllByRecursion IsGoodArrival (and_arrived f before)
+and-good : (s : SetupView) (f : FrameClass) (before : List Arrival) → IsReference s.near → (payload : List ℕ) → IsClassOfPayload s payload f → AllByRecursion IsGoodArrival before → AllByRecursion IsGoodArrival (and_arrived f before)
 and-good s OtherMessage before near payload c h = h
 and-good s (Refused fault) before near payload c h = h
 and-good s Foreign before near payload c h = h
-and-good s (Arrived (At e m)) before near payload c h = (good-by s payload c.0 e m near c.1 c.2, h)
+and-good s (Dated (At e m)) before near payload c h = (good-by s payload c.0 e m near c.1 c.2, h)
 
-arrivals-good : (s : Settings) (found : List Found) → IsReference s.near → AllByRecursion (HasPayload s) found → AllByRecursion IsGoodArrival (arrivals found)
+arrivals-good : (s : SetupView) (found : List Found) → IsReference s.near → AllByRecursion (HasPayload s) found → AllByRecursion IsGoodArrival (arrivals found)
 arrivals-good s [] near h = tt
 arrivals-good s (f ∷ before) near h = and-good s f.finding (arrivals before) near h.0.0 h.0.1 (arrivals-good s before near h.1)
 
@@ -79,13 +79,13 @@ cells-good (Arp1005 m) v = All-nil IsInRange
 cells-good (Arp1006 m) v = All-nil IsInRange
 cells-good (Msm1074 m) v = cells_in_range-1074 m v
 
-joined-good : (cs : List CellEntry) (x : EpochCells) → All IsInRange cs → IsGoodEpoch x → IsGoodEpoch (joined cs x)
+joined-good : (cs : List CellEntry) (x : EpochSetView) → All IsInRange cs → IsGoodEpoch x → IsGoodEpoch (joined cs x)
 joined-good cs x h g = record { time = g.time; cells = with_cells-all IsInRange cs x.cells h g.cells }
 
 opened-good : (e : ℕ) (cs : List CellEntry) → IsMoment e → All IsInRange cs → IsGoodEpoch (joined cs (no_cells e))
 opened-good e cs m h = joined-good cs (no_cells e) h (record { time = m; cells = All-nil IsInRange })
 
-with_arrival-good : (e : ℕ) (cs : List CellEntry) (xs : List EpochCells) → IsMoment e → All IsInRange cs → AllByRecursion IsGoodEpoch xs → AllByRecursion IsGoodEpoch (with_arrival e cs xs)
+with_arrival-good : (e : ℕ) (cs : List CellEntry) (xs : List EpochSetView) → IsMoment e → All IsInRange cs → AllByRecursion IsGoodEpoch xs → AllByRecursion IsGoodEpoch (with_arrival e cs xs)
 with_arrival-good e cs [] m h g = (opened-good e cs m h, tt)
 with_arrival-good e cs (x ∷ xs) m h g = elim (cases_order x.epoch e) [
   | inl same ↦ subst (AllByRecursion IsGoodEpoch) (sym (with_arrival-same e cs x xs (sym same))) (joined-good cs x h g.0, g.1)
@@ -103,11 +103,11 @@ kept-good n (At (Some e) m ∷ before) h = elim (cases_Bool (late n (At (Some e)
   | inr fresh ↦ subst (AllByRecursion IsGoodEpoch) (sym (kept-new n e m before fresh)) (with_arrival-good e (cells_of m) (kept n before) h.0.1 (cells-good m h.0.0) (kept-good n before h.1))
 ]
 
-below-above : (e : ℕ) (xs : List EpochCells) → Below e xs → IsAbove e xs
+below-above : (e : ℕ) (xs : List EpochSetView) → FirstIsBelow e xs → IsAbove e xs
 below-above e [] h = tt
 below-above e (x ∷ xs) h = h
 
-falls-fall : (xs : List EpochCells) → Falls xs → Fall xs
+falls-fall : (xs : List EpochSetView) → EpochsFall xs → Fall xs
 falls-fall [] f = tt
 falls-fall (x ∷ xs) f = (below-above x.epoch xs f.0, falls-fall xs f.1)
 
@@ -133,18 +133,18 @@ FitsField v = (negsuc 137438953471 ≤ℤ v) × (v <ℤ pos 137438953472)
 coordinate : (v : ℤ) → FitsField v → IsCoordinate v
 coordinate v h = let l = h.1 in record { least = h.0; greatest = omega (arith, ints, l) }
 
-zeros-good : IsSite no_site
+zeros-good : IsPositionView no_site
 zeros-good =
     let zero : IsCoordinate (pos 0) = record { least = omega (arith, ints); greatest = omega (arith, ints) } in (zero, zero, zero, omega arith)
 
-site_of_1005-good : (o : Option Message) → IfValid o → IsSite (site_of_1005 o)
+site_of_1005-good : (o : Option Message) → IfValid o → IsPositionView (site_of_1005 o)
 site_of_1005-good None v = zeros-good
 site_of_1005-good (Some (Obs1004 m)) v = zeros-good
 site_of_1005-good (Some (Arp1005 m)) v = (coordinate m.x v.1.1.1.1.1.1.0, coordinate m.y v.1.1.1.1.1.1.1.1.1.0, coordinate m.z v.1.1.1.1.1.1.1.1.1.1.1.0, omega arith)
 site_of_1005-good (Some (Arp1006 m)) v = zeros-good
 site_of_1005-good (Some (Msm1074 m)) v = zeros-good
 
-site-good : (short tall : Option Message) → IfValid short → IfValid tall → IsSite (site_of_stations short tall)
+site-good : (short tall : Option Message) → IfValid short → IfValid tall → IsPositionView (site_of_stations short tall)
 site-good short None s t = site_of_1005-good short s
 site-good short (Some (Obs1004 m)) s t = site_of_1005-good short s
 site-good short (Some (Arp1005 m)) s t = site_of_1005-good short s

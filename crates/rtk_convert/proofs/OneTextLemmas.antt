@@ -9,25 +9,25 @@ use Rattle.rtk_message.specs.declared.fault.DecodeFault.{DecodeFault}
 use Rattle.rtk_message.specs.declared.fault.DecodeFault.TheVariants.{NoNumber, Other, Short, EpochRange, TooManyCells}
 use Rattle.rtk_message.specs.Decoded.{Decodes, IsValid, number_of}
 use Rattle.rtk_obs.specs.declared.cell.CellEntry.{CellEntry}
-use Rattle.rtk_collect.specs.EpochCells.{EpochCells}
+use Rattle.rtk_collect.specs.EpochSet.{EpochSetView}
 use Rattle.rtk_collect.specs.Arrival.{Arrival, At, cells_of, message_of}
 use Rattle.rtk_collect.specs.Late.{late}
 use Rattle.rtk_collect.specs.Accepted.{kept, cells_at, closed}
 use Rattle.rtk_collect.specs.Answer.{Class, LateClass, TakenClass, class_of, class_of_cells, class_in_time, conflicts_of, conflicts_with}
 use Rattle.rtk_collect.proofs.LateLemmas.{closed-only-grow, kept-late}
 use Rattle.rtk_collect.proofs.OpeningLemmas.{opening-conflicts-not, closed-length, held-length}
-use Rattle.rtk_convert.specs.declared.arrival.Finding.{Finding}
-use Rattle.rtk_convert.specs.declared.arrival.Finding.TheVariants.{OtherMessage, Refused, Foreign, Arrived}
+use Rattle.rtk_convert.specs.declared.frame_class.FrameClass.{FrameClass}
+use Rattle.rtk_convert.specs.declared.frame_class.FrameClass.TheVariants.{OtherMessage, Refused, Foreign, Dated}
 use Rattle.rtk_convert.specs.FileOfArrivals.{file_so_far}
-use Rattle.rtk_convert.specs.Finding.{IsFindingOf, ComesTo, Found, arrivals}
+use Rattle.rtk_convert.specs.FrameClass.{IsClassOfReading, IsClassOfPayload, Found, arrivals}
 use Rattle.rtk_convert.specs.Report.{class_lines, cell_lines, frame_lines, lines}
-use Rattle.rtk_convert.specs.Settings.{Settings}
-use Rattle.rtk_convert.specs.State.{found_on, AddsToOne}
+use Rattle.rtk_convert.specs.Setup.{SetupView}
+use Rattle.rtk_convert.specs.Conversion.{found_on, AddsToOne}
 use Rattle.rtk_convert.proofs.SoFarLemmas.{so_far-stays}
 
 -- ---- an arrival holds a valid message
 
-valid-by : (s : Settings) (payload : List ℕ) (r : Result Message DecodeFault) (e : Option ℕ) (m : Message) → Decodes (bits payload) r → IsFindingOf s r (Arrived (At e m)) → IsValid m
+valid-by : (s : SetupView) (payload : List ℕ) (r : Result Message DecodeFault) (e : Option ℕ) (m : Message) → Decodes (bits payload) r → IsClassOfReading s r (Dated (At e m)) → IsValid m
 valid-by s payload (Ok x) e m d f = subst IsValid (sym f.1.0) d.message.valid
 valid-by s payload (Err NoNumber) e m d f = cc
 valid-by s payload (Err (Other number)) e m d f = cc
@@ -35,12 +35,12 @@ valid-by s payload (Err (Short number)) e m d f = cc
 valid-by s payload (Err (EpochRange number)) e m d f = cc
 valid-by s payload (Err TooManyCells) e m d f = cc
 
-comes-valid : (s : Settings) (payload : List ℕ) (a : Arrival) → ComesTo s payload (Arrived a) → IsValid (message_of a)
+comes-valid : (s : SetupView) (payload : List ℕ) (a : Arrival) → IsClassOfPayload s payload (Dated a) → IsValid (message_of a)
 comes-valid s payload (At e m) c = valid-by s payload c.0 e m c.1 c.2
 
 -- ---- no epoch closes where as many are kept as before
 
-same-length : (more xs all : List EpochCells) → all ≡ more ++ xs → length all ≡ length xs → all ≡ xs
+same-length : (more xs all : List EpochSetView) → all ≡ more ++ xs → length all ≡ length xs → all ≡ xs
 same-length [] xs all e l = e
 same-length (x ∷ more) xs all e l = let k = ap length e ∙ length-append (x ∷ more) xs in absurd (omega arith)
 
@@ -51,14 +51,14 @@ closed-same n a before h =
 
 -- ---- an arrival
 
-abbrev One : Settings → ℕ → Arrival → List Arrival → Type 0
-One s link a before = (file_so_far s (a ∷ before) ≡ file_so_far s before) ⊎ (frame_lines s.window link (Arrived a) before ≡ [])
+abbrev One : SetupView → ℕ → Arrival → List Arrival → Type 0
+One s link a before = (file_so_far s (a ∷ before) ≡ file_so_far s before) ⊎ (frame_lines s.window link (Dated a) before ≡ [])
 
-stays : (s : Settings) (link : ℕ) (a : Arrival) (before : List Arrival) → length (kept s.window (a ∷ before)) ≡ length (kept s.window before) → One s link a before
+stays : (s : SetupView) (link : ℕ) (a : Arrival) (before : List Arrival) → length (kept s.window (a ∷ before)) ≡ length (kept s.window before) → One s link a before
 stays s link a before h = inl (so_far-stays s a before (closed-same s.window a before h))
 
 -- observations that come in time: their epoch is open, or they open it and conflict with nothing
-one-in-time : (s : Settings) (link e : ℕ) (m : Message) (before : List Arrival) (o : Option (List CellEntry)) → IsValid m → late s.window (At (Some e) m) before ≡ false → cells_at e (kept s.window before) ≡ o
+one-in-time : (s : SetupView) (link e : ℕ) (m : Message) (before : List Arrival) (o : Option (List CellEntry)) → IsValid m → late s.window (At (Some e) m) before ≡ false → cells_at e (kept s.window before) ≡ o
     → One s link (At (Some e) m) before
 one-in-time s link e m before None valid fresh none =
     let class : class_of s.window (At (Some e) m) before ≡ TakenClass =
@@ -67,7 +67,7 @@ one-in-time s link e m before None valid fresh none =
     ∙ ap (cell_lines link (number_of m) (Some e)) (ap (conflicts_with (cells_of m)) none ∙ opening-conflicts-not m valid))
 one-in-time s link e m before (Some b) valid fresh held = stays s link (At (Some e) m) before (held-length s.window e m b before held)
 
-one-text : (s : Settings) (link : ℕ) (a : Arrival) (before : List Arrival) → IsValid (message_of a) → One s link a before
+one-text : (s : SetupView) (link : ℕ) (a : Arrival) (before : List Arrival) → IsValid (message_of a) → One s link a before
 one-text s link (At None m) before valid = stays s link (At None m) before refl
 one-text s link (At (Some e) m) before valid = elim (cases_Bool (late s.window (At (Some e) m) before)) [
   | inl over ↦ stays s link (At (Some e) m) before (ap length (kept-late s.window e m before over))
@@ -75,15 +75,15 @@ one-text s link (At (Some e) m) before valid = elim (cases_Bool (late s.window (
 ]
 
 -- a payload that comes to an arrival adds to one text at most
-pub one-arrived : (s : Settings) (link : ℕ) (payload : List ℕ) (a : Arrival) (before : List Found) → ComesTo s payload (Arrived a) → AddsToOne s (found_on link (Arrived a)) before
+pub one-arrived : (s : SetupView) (link : ℕ) (payload : List ℕ) (a : Arrival) (before : List Found) → IsClassOfPayload s payload (Dated a) → AddsToOne s (found_on link (Dated a)) before
 one-arrived s link payload a before comes = elim (one-text s link a (arrivals before) (comes-valid s payload a comes)) [
   | inl same ↦ inl same
   | inr none ↦ inr (ap (λ (t : List ℕ). lines s.window before ++ t) none ∙ append-nil (lines s.window before))
 ]
 
 -- and so does each frame: those of no arrival leave the file
-pub one-added : (s : Settings) (payload : List ℕ) (f : Finding) (link : ℕ) (before : List Found) → ComesTo s payload f → AddsToOne s (found_on link f) before
+pub one-added : (s : SetupView) (payload : List ℕ) (f : FrameClass) (link : ℕ) (before : List Found) → IsClassOfPayload s payload f → AddsToOne s (found_on link f) before
 one-added s payload OtherMessage link before comes = inl refl
 one-added s payload (Refused fault) link before comes = inl refl
 one-added s payload Foreign link before comes = inl refl
-one-added s payload (Arrived a) link before comes = one-arrived s link payload a before comes
+one-added s payload (Dated a) link before comes = one-arrived s link payload a before comes

@@ -6,34 +6,34 @@ use Rattle.rtk_rinex.proofs.TableLemmas.{file-is_shown}
 use Rattle.rtk_convert.specs.ArrivalLaws.{HasPayload}
 use Rattle.rtk_convert.specs.CallLaws.{CallsComeToTable}
 use Rattle.rtk_convert.specs.Converter.{IsAfterClosing, IsAfterClosingAll}
-use Rattle.rtk_convert.specs.Finding.{Found}
-use Rattle.rtk_convert.specs.Headline.{Call, Feed, Close, IsAfterCall, ComeTo}
+use Rattle.rtk_convert.specs.FrameClass.{Found}
+use Rattle.rtk_convert.specs.Headline.{Call, Feed, Close, IsAfterCall, CallsComeTo}
 use Rattle.rtk_convert.specs.History.{History, Finds, found_by_piece, found_by_close, fed_on}
-use Rattle.rtk_convert.specs.Settings.{Settings}
-use Rattle.rtk_convert.specs.State.{found_on}
+use Rattle.rtk_convert.specs.Setup.{SetupView}
+use Rattle.rtk_convert.specs.Conversion.{found_on}
 use Rattle.rtk_convert.proofs.KeptTableLemmas.{kept-file-is_table}
 
-abbrev HavePayloads : Settings → List Found → Type 0
+abbrev HavePayloads : SetupView → List Found → Type 0
 HavePayloads s found = AllByRecursion (HasPayload s) found
 
-finds-payloads : (s : Settings) (link : ℕ) (payloads : List (List ℕ)) (before after : List Found) → Finds s link payloads before after → HavePayloads s before → HavePayloads s after
+finds-payloads : (s : SetupView) (link : ℕ) (payloads : List (List ℕ)) (before after : List Found) → Finds s link payloads before after → HavePayloads s before → HavePayloads s after
 finds-payloads s link [] before after p have = subst (HavePayloads s) (sym p) have
 finds-payloads s link (payload ∷ rest) before after p have = finds-payloads s link rest (found_on link p.0 ∷ before) after p.2 ((payload, p.1), have)
 
-closing-payloads : (s : Settings) (h : History) (link : ℕ) (next : History) → IsAfterClosing s h link next → HavePayloads s h.found → HavePayloads s next.found
+closing-payloads : (s : SetupView) (h : History) (link : ℕ) (next : History) → IsAfterClosing s h link next → HavePayloads s h.found → HavePayloads s next.found
 closing-payloads s h link next (inl p) have = finds-payloads s link (found_by_close (fed_on link h.links)) h.found next.found p.1.found have
 closing-payloads s h link next (inr p) have = subst (λ (x : History). HavePayloads s x.found) (sym p.1) have
 
-call-payloads : (s : Settings) (h : History) (call : Call) (next : History) → IsAfterCall s h call next → HavePayloads s h.found → HavePayloads s next.found
+call-payloads : (s : SetupView) (h : History) (call : Call) (next : History) → IsAfterCall s h call next → HavePayloads s h.found → HavePayloads s next.found
 call-payloads s h (Feed link piece) next (inl p) have = finds-payloads s link (found_by_piece (fed_on link h.links) piece) h.found next.found p.1.found have
 call-payloads s h (Feed link piece) next (inr p) have = subst (λ (x : History). HavePayloads s x.found) (sym p.1) have
 call-payloads s h (Close link) next p have = closing-payloads s h link next p have
 
-come-payloads : (s : Settings) (links : ℕ) (calls : List Call) (h : History) → ComeTo s links calls h → HavePayloads s h.found
+come-payloads : (s : SetupView) (links : ℕ) (calls : List Call) (h : History) → CallsComeTo s links calls h → HavePayloads s h.found
 come-payloads s links [] h p = subst (λ (x : History). HavePayloads s x.found) (sym p) tt
 come-payloads s links (c ∷ before) h p = call-payloads s p.0 c h p.2 (come-payloads s links before p.0 p.1)
 
-end-payloads : (s : Settings) (h : History) (n : ℕ) (last : History) → IsAfterClosingAll s h n last → HavePayloads s h.found → HavePayloads s last.found
+end-payloads : (s : SetupView) (h : History) (n : ℕ) (last : History) → IsAfterClosingAll s h n last → HavePayloads s h.found → HavePayloads s last.found
 end-payloads s h zero last p have = subst (λ (x : History). HavePayloads s x.found) (sym p) have
 end-payloads s h (suc n) last p have = closing-payloads s p.0 n last p.2 (end-payloads s h n p.0 p.1 have)
 

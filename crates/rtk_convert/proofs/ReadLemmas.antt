@@ -9,12 +9,12 @@ use Rattle.rtk_convert.specs.declared.fault.ConvertFault.{ConvertFault}
 use Rattle.rtk_convert.specs.declared.fault.ConvertFault.TheVariants.{Setup, NoLink, LinkClosed, OutOfMemory, Write, Read as ReadFault, Endless, Stopped}
 use Rattle.rtk_convert.specs.declared.link.Link.{Link}
 use Rattle.rtk_convert.specs.Failure.{IsFrameFault, IsReadFault}
-use Rattle.rtk_convert.specs.Finding.{Found}
-use Rattle.rtk_convert.specs.Converter.{ConverterState, AreLinks, link_refusal, refusal, Represents, WritesOn, BreaksOffAt}
+use Rattle.rtk_convert.specs.FrameClass.{Found}
+use Rattle.rtk_convert.specs.Converter.{ConverterView, RepresentLinks, link_refusal, refusal, RepresentsHistory, WritesOn, BreaksOffAt}
 use Rattle.rtk_convert.specs.History.{History, LinkPast, IsOpen, IsNextLink, IsAfterFeed, IsAfterClose, fed_on, found_by_piece, found_by_close}
-use Rattle.rtk_convert.specs.Reading.{read_of, found_by_read, ReadsOn, BreaksOffOn, AnyAtGreatest, HasCalled, SameFailures}
-use Rattle.rtk_convert.specs.Reads.{Read, piece_on, bytes_of, IsAfterPiece, Gave}
-use Rattle.rtk_convert.specs.Settings.{Settings}
+use Rattle.rtk_convert.specs.ReadSteps.{read_of, found_by_read, ReadsLink, BreaksOffAfterRead, AnyAtGreatest, HasCalled, SameFailures}
+use Rattle.rtk_convert.specs.ReadHistory.{Read, piece_on, bytes_of, IsAfterPiece, Gave}
+use Rattle.rtk_convert.specs.Setup.{SetupView}
 
 -- ---- the counts of calls
 
@@ -104,7 +104,7 @@ no-failed given failures calls before after link count buf read = λ k none. eli
 
 -- ---- what a read comes to
 
-after-some : (s : Settings) (h : History) (link : ℕ) (piece : List ℕ) (next : History) → 0 < length piece → IsAfterFeed s h link piece next → IsAfterPiece s h link piece next
+after-some : (s : SetupView) (h : History) (link : ℕ) (piece : List ℕ) (next : History) → 0 < length piece → IsAfterFeed s h link piece next → IsAfterPiece s h link piece next
 after-some s h link [] next some after = absurd (omega arith)
 after-some s h link (x ∷ piece) next some after = after
 
@@ -112,11 +112,11 @@ found-some : (link : ℕ) (h : History) (piece : List ℕ) → 0 < length piece 
 found-some link h [] some = absurd (omega arith)
 found-some link h (x ∷ piece) some = refl
 
-pub reads-piece : {R E : Type 0} (given : R → Option (List ℕ)) (is_at_end : R → Type 0) (failures calls : R → ℕ) (s : Settings) (h : History) (link count : ℕ) (before after : List R) (buf : List ℕ)
-    (new : ConverterState) (out_old out_new log_old log_new : Option (List ℕ)) → count ≢ 0 → count ≤ length buf → length buf ≡ 512 → IsNextLink h link
+pub reads-piece : {R E : Type 0} (given : R → Option (List ℕ)) (is_at_end : R → Type 0) (failures calls : R → ℕ) (s : SetupView) (h : History) (link count : ℕ) (before after : List R) (buf : List ℕ)
+    (new : ConverterView) (out_old out_new log_old log_new : Option (List ℕ)) → count ≢ 0 → count ≤ length buf → length buf ≡ 512 → IsNextLink h link
     → ReadsOne {R = R} {E = E} given failures calls before after link (Ok count) buf
-    → ((next : History) × IsAfterFeed s h link (take count buf) next × Represents new next × WritesOn s h.found next.found out_old out_new log_old log_new)
-    → ReadsOn given is_at_end s h link before after new out_old out_new log_old log_new
+    → ((next : History) × IsAfterFeed s h link (take count buf) next × RepresentsHistory new next × WritesOn s h.found next.found out_old out_new log_old log_new)
+    → ReadsLink given is_at_end s h link before after new out_old out_new log_old log_new
 reads-piece given is_at_end failures calls s h link count before after buf new out_old out_new log_old log_new some bound room is_next read fed =
     let long = length-take-le count buf bound in
     record {
@@ -134,11 +134,11 @@ reads-piece given is_at_end failures calls s h link count before after buf new o
       writes = fed.3;
     }
 
-pub reads-end : {R E : Type 0} (given : R → Option (List ℕ)) (is_at_end : R → Type 0) (failures calls : R → ℕ) (s : Settings) (h : History) (link count : ℕ) (before after : List R) (buf : List ℕ)
-    (new : ConverterState) (out_old out_new log_old log_new : Option (List ℕ)) → count ≡ 0 → IsNextLink h link
+pub reads-end : {R E : Type 0} (given : R → Option (List ℕ)) (is_at_end : R → Type 0) (failures calls : R → ℕ) (s : SetupView) (h : History) (link count : ℕ) (before after : List R) (buf : List ℕ)
+    (new : ConverterView) (out_old out_new log_old log_new : Option (List ℕ)) → count ≡ 0 → IsNextLink h link
     → ReadsOne {R = R} {E = E} given failures calls before after link (Ok count) buf → ((none : R) → is_at_end (slice_index_or after link none))
-    → ((next : History) × IsAfterClose s h link next × Represents new next × WritesOn s h.found next.found out_old out_new log_old log_new)
-    → ReadsOn given is_at_end s h link before after new out_old out_new log_old log_new
+    → ((next : History) × IsAfterClose s h link next × RepresentsHistory new next × WritesOn s h.found next.found out_old out_new log_old log_new)
+    → ReadsLink given is_at_end s h link before after new out_old out_new log_old log_new
 reads-end given is_at_end failures calls s h link count before after buf new out_old out_new log_old log_new none is_next read ended closed = record {
   piece = [];
   next = closed.0;
@@ -150,11 +150,11 @@ reads-end given is_at_end failures calls s h link count before after buf new out
   writes = closed.3;
 }
 
-pub breaks-piece : {R E : Type 0} (given : R → Option (List ℕ)) (failures calls : R → ℕ) (s : Settings) (h : History) (link count : ℕ) (before after : List R) (buf : List ℕ)
+pub breaks-piece : {R E : Type 0} (given : R → Option (List ℕ)) (failures calls : R → ℕ) (s : SetupView) (h : History) (link count : ℕ) (before after : List R) (buf : List ℕ)
     (out_old out_new log_old log_new : Option (List ℕ)) → count ≢ 0 → count ≤ length buf → length buf ≡ 512
     → ReadsOne {R = R} {E = E} given failures calls before after link (Ok count) buf
     → BreaksOffAt s link (found_by_piece (fed_on link h.links) (take count buf)) h.found out_old out_new log_old log_new
-    → BreaksOffOn given s h link before after out_old out_new log_old log_new
+    → BreaksOffAfterRead given s h link before after out_old out_new log_old log_new
 breaks-piece given failures calls s h link count before after buf out_old out_new log_old log_new some bound room read breaks =
     let long = length-take-le count buf bound in
     record {
@@ -164,11 +164,11 @@ breaks-piece given failures calls s h link count before after buf out_old out_ne
       breaks = subst (λ (ps : List (List ℕ)). BreaksOffAt s link ps h.found out_old out_new log_old log_new) (sym (found-some link h (take count buf) (omega (arith, long, some)))) breaks;
     }
 
-pub breaks-end : {R E : Type 0} (given : R → Option (List ℕ)) (failures calls : R → ℕ) (s : Settings) (h : History) (link count : ℕ) (before after : List R) (buf : List ℕ)
+pub breaks-end : {R E : Type 0} (given : R → Option (List ℕ)) (failures calls : R → ℕ) (s : SetupView) (h : History) (link count : ℕ) (before after : List R) (buf : List ℕ)
     (out_old out_new log_old log_new : Option (List ℕ)) → count ≡ 0
     → ReadsOne {R = R} {E = E} given failures calls before after link (Ok count) buf
     → BreaksOffAt s link (found_by_close (fed_on link h.links)) h.found out_old out_new log_old log_new
-    → BreaksOffOn given s h link before after out_old out_new log_old log_new
+    → BreaksOffAfterRead given s h link before after out_old out_new log_old log_new
 breaks-end given failures calls s h link count before after buf out_old out_new log_old log_new none read breaks = record {
   piece = [];
   few = omega arith;
@@ -192,7 +192,7 @@ frame-read (ReadFault link) p = absurd p
 frame-read Endless p = p
 frame-read Stopped p = p
 
-link-goes : (ls : List Link) (ps : List LinkPast) (n : ℕ) (found : List Found) (link : ℕ) (fed : List ℕ) → AreLinks ls ps n found
+link-goes : (ls : List Link) (ps : List LinkPast) (n : ℕ) (found : List Found) (link : ℕ) (fed : List ℕ) → RepresentLinks ls ps n found
     → slice_get ps link ≡ Some (record { fed = fed; is_closed = false }) → link_refusal (slice_get ls link) ≡ None
 link-goes [] [] n found link fed are is = absurd (cc)
 link-goes [] (p ∷ ps) n found link fed are is = absurd are
@@ -202,7 +202,7 @@ link-goes (l ∷ ls) (p ∷ ps) n found zero fed are is =
     rw e refl
 link-goes (l ∷ ls) (p ∷ ps) n found (suc link) fed are is = link-goes ls ps (suc n) found link fed are.1 is
 
-pub open-goes : (c : ConverterState) (h : History) (link : ℕ) → Represents c h → IsOpen h link → refusal c link ≡ None
+pub open-goes : (c : ConverterView) (h : History) (link : ℕ) → RepresentsHistory c h → IsOpen h link → refusal c link ≡ None
 open-goes c h link r o = rw r.going (link-goes c.links h.links 0 h.found link o.0 r.links o.1)
 
 -- so its call breaks off only for memory or a write

@@ -12,7 +12,7 @@ use Rattle.rtk_obs.specs.Cell.{IsSatellite}
 use Rattle.rtk_rinex.specs.declared.epoch_table.Observed.{Observed}
 use Rattle.rtk_rinex.specs.declared.epoch_table.SatelliteRow.{SatelliteRow}
 use Rattle.rtk_obs.specs.Tracks.{place_of_signal}
-use Rattle.rtk_rinex.specs.Record.{Epoch, HasWidth, IsRow, IsStrength}
+use Rattle.rtk_rinex.specs.Record.{EpochTableView, HasWidth, IsRow, IsStrengthOrNone}
 use Rattle.rtk_convert.specs.LastPhases.{shown_at, AreStrengths}
 use Rattle.rtk_convert.specs.Rows.{or_nothing, row_with, row_if_any, rows_to, table_with}
 
@@ -54,10 +54,10 @@ rows_to-same f g listed (suc n) le h =
     ap (λ (xs : List SatelliteRow). xs ++ row_if_any f listed (suc n)) (rows_to-same f g listed n (omega arith) h)
     ∙ ap (λ (xs : List SatelliteRow). rows_to g listed n ++ xs) (row-same f g listed (suc n) (λ c. h (suc n) c (omega arith, omega arith)))
 
-table_at : ℕ → List SatelliteRow → Epoch
+table_at : ℕ → List SatelliteRow → EpochTableView
 table_at epoch rows = record { time = epoch; rows = rows }
 
-pub table-same : (t : Epoch) (epoch : ℕ) (f g : ℕ → Code → Option Observed) (listed : List Code) → t.time ≡ epoch → t.rows ≡ rows_to f listed 32
+pub table-same : (t : EpochTableView) (epoch : ℕ) (f g : ℕ → Code → Option Observed) (listed : List Code) → t.time ≡ epoch → t.rows ≡ rows_to f listed 32
     → ((s : ℕ) (c : Code) → IsSatellite s → f s c ≡ g s c) → t ≡ table_with epoch g listed
 unfolding table_at
 table-same t epoch f g listed time rows h =
@@ -80,7 +80,7 @@ all-rows P f listed (suc n) le h =
 pub rows-width : (f : ℕ → Code → Option Observed) (listed : List Code) → HasWidth (length listed) (rows_to f listed 32)
 rows-width f listed = all-rows (λ r. length r.observed.items ≡ length listed) f listed 32 (omega arith) (λ s hs m. length-map listed (λ code. or_nothing (f s code)))
 
-strength-of : (o : Option Observed) → IfSome o (λ x. IsStrength x.strength_millidbhz) → IsStrength (or_nothing o).strength_millidbhz
+strength-of : (o : Option Observed) → IfSome o (λ x. IsStrengthOrNone x.strength_millidbhz) → IsStrengthOrNone (or_nothing o).strength_millidbhz
 strength-of None h = tt
 strength-of (Some o) h = h
 
@@ -88,7 +88,7 @@ strength-of (Some o) h = h
 pub row-good : (shown : List (Option Observed)) (listed : List Code) (s : ℕ) → IsSatellite s → AreStrengths shown → IsRow (row_with (shown_at shown) listed s)
 row-good shown listed s hs are = record {
   satellite = (hs.0, hs.1);
-  strengths = All-map (λ (o : Observed). IsStrength o.strength_millidbhz) (λ code. or_nothing (shown_at shown s code)) listed
+  strengths = All-map (λ (o : Observed). IsStrengthOrNone o.strength_millidbhz) (λ code. or_nothing (shown_at shown s code)) listed
       (λ k d h. strength-of (shown_at shown s (get_or listed k d)) (are (place_of_signal s (get_or listed k d))));
 }
 

@@ -3,24 +3,24 @@ use Rattle.std.proofs.Common.{◌≡◌, ℕ, ◌+◌, zero, suc, inl, inr, ◌�
 use Rattle.std.specs.Prelude.{slice_index_or}
 use Rattle.std.proofs.lemmas.Bool.{cases_lt}
 use Rattle.std.proofs.lemmas.List.{append_assoc, length-replicate}
-use Rattle.rtk_frame.specs.Stream.{with_more, Rises}
+use Rattle.rtk_frame.specs.Stream.{with_more, CountRises}
 use Rattle.rtk_frame.proofs.StreamLemmas.{with_more-nil, with_more-with_more}
-use Rattle.rtk_convert.specs.Converter.{IsLinkCount, ConverterState, WritesInto, IsAfterClosingAll, EndsAs, BreaksOffClosing, BreaksOffEnding}
+use Rattle.rtk_convert.specs.Converter.{IsLinkCount, ConverterView, WritesInto, IsAfterClosingAll, FinishesConverterAs, BreaksOffClosing, BreaksOffFinishing}
 use Rattle.rtk_convert.specs.declared.counts.Counts.{Counts}
 use Rattle.rtk_convert.specs.declared.fault.ConvertFault.{ConvertFault}
 use Rattle.rtk_convert.specs.declared.fault.ConvertFault.TheVariants.{Setup, NoLink, LinkClosed, OutOfMemory, Write, Read as ReadFault, Endless, Stopped}
 use Rattle.rtk_convert.specs.Failure.{IsFrameFault, IsReadFault, IsReadingFault, IsRunFault}
 use Rattle.rtk_convert.specs.File.{records}
 use Rattle.rtk_convert.specs.FileOfArrivals.{file_so_far, kept_file}
-use Rattle.rtk_convert.specs.Finding.{arrivals}
+use Rattle.rtk_convert.specs.FrameClass.{arrivals}
 use Rattle.rtk_convert.specs.Finish.{all_counts, report_of}
 use Rattle.rtk_convert.specs.History.{History, LinkPast, new_history, IsOpen, IsNextLink, with_piece, with_closed}
-use Rattle.rtk_convert.specs.Reading.{read_of, ReadsOn, BreaksOffOn, FailsOn, HasRead, HasReadAll, HasCalled}
-use Rattle.rtk_convert.specs.Reads.{Read, AllClosed, IsHistoryOf, IsAfterPiece, Gave}
+use Rattle.rtk_convert.specs.ReadSteps.{read_of, ReadsLink, BreaksOffAfterRead, FailsRead, HasRead, HasReadAll, HasCalled}
+use Rattle.rtk_convert.specs.ReadHistory.{Read, AllClosed, IsHistoryOf, IsAfterPiece, Gave}
 use Rattle.rtk_convert.specs.Report.{lines}
 use Rattle.rtk_convert.specs.Run.{RunsAs, BreaksOffReading, BreaksOffAtEnd, FailsReading}
-use Rattle.rtk_convert.specs.Settings.{Settings}
-use Rattle.rtk_convert.specs.Writing.{Writes}
+use Rattle.rtk_convert.specs.Setup.{SetupView}
+use Rattle.rtk_convert.specs.Writing.{WritesRest}
 use Rattle.rtk_convert.proofs.ReadLemmas.{gave-none, gave-more}
 
 -- ---- how many links there are
@@ -35,25 +35,25 @@ length-with_closed k [] = refl
 length-with_closed zero (p ∷ ps) = refl
 length-with_closed (suc k) (p ∷ ps) = ap suc (length-with_closed k ps)
 
-length-after : (s : Settings) (h : History) (link : ℕ) (piece : List ℕ) (next : History) → IsAfterPiece s h link piece next → length next.links ≡ length h.links
+length-after : (s : SetupView) (h : History) (link : ℕ) (piece : List ℕ) (next : History) → IsAfterPiece s h link piece next → length next.links ≡ length h.links
 length-after s h link [] next after = ap length after.links ∙ length-with_closed link h.links
 length-after s h link (x ∷ piece) next after = ap length after.links ∙ length-with_piece link (x ∷ piece) h.links
 
-pub length-links : (s : Settings) (links : ℕ) (reads : List Read) (h : History) → IsHistoryOf s links reads h → length h.links ≡ links
+pub length-links : (s : SetupView) (links : ℕ) (reads : List Read) (h : History) → IsHistoryOf s links reads h → length h.links ≡ links
 length-links s links [] h p = ap (λ (x : History). length x.links) p ∙ length-replicate links (record { fed = []; is_closed = false })
 length-links s links (r ∷ before) h p = length-after s p.0 r.link r.piece h p.2.after ∙ length-links s links before p.0 p.1
 
 -- ---- what is out
 
-pub so_far-nothing : (s : Settings) → file_so_far s [] ≡ []
+pub so_far-nothing : (s : SetupView) → file_so_far s [] ≡ []
 unfolding records
 so_far-nothing s = refl
 
 -- what was written on, after all that was out before
-pub written : (a b c : Option (List ℕ)) (x y : List ℕ) → b ≡ with_more a x → Writes b c x y → c ≡ with_more a y
+pub written : (a b c : Option (List ℕ)) (x y : List ℕ) → b ≡ with_more a x → WritesRest b c x y → c ≡ with_more a y
 written a b c x y p w = w.2 ∙ ap (λ o. with_more o w.0) p ∙ with_more-with_more a x w.0 ∙ ap (with_more a) (sym w.1)
 
-pub has_read-nothing : {R : Type 0} (given : R → Option (List ℕ)) (s : Settings) (readers : List R) (out log : Option (List ℕ))
+pub has_read-nothing : {R : Type 0} (given : R → Option (List ℕ)) (s : SetupView) (readers : List R) (out log : Option (List ℕ))
     → HasRead given s readers readers [] (new_history (length readers)) out out log log
 has_read-nothing given s readers out log = record {
   comes_to = refl;
@@ -62,8 +62,8 @@ has_read-nothing given s readers out log = record {
   log = sym (with_more-nil log);
 }
 
-pub has_read-more : {R : Type 0} (given : R → Option (List ℕ)) (is_at_end : R → Type 0) (s : Settings) (h : History) (link : ℕ) (before mid after : List R) (reads : List Read) (new : ConverterState) (o0 o1 o2 l0 l1 l2 : Option (List ℕ))
-    → HasRead given s before mid reads h o0 o1 l0 l1 → (p : ReadsOn given is_at_end s h link mid after new o1 o2 l1 l2)
+pub has_read-more : {R : Type 0} (given : R → Option (List ℕ)) (is_at_end : R → Type 0) (s : SetupView) (h : History) (link : ℕ) (before mid after : List R) (reads : List Read) (new : ConverterView) (o0 o1 o2 l0 l1 l2 : Option (List ℕ))
+    → HasRead given s before mid reads h o0 o1 l0 l1 → (p : ReadsLink given is_at_end s h link mid after new o1 o2 l1 l2)
     → HasRead given s before after (read_of link p.piece ∷ reads) p.next o0 o2 l0 l2
 has_read-more given is_at_end s h link before mid after reads new o0 o1 o2 l0 l1 l2 q p = record {
   comes_to = (h, q.comes_to, p.is_next);
@@ -77,8 +77,8 @@ has_read-more given is_at_end s h link before mid after reads new o0 o1 o2 l0 l1
 into : (a b c : Option (List ℕ)) (x y z : List ℕ) → b ≡ with_more a x → WritesInto b c x y z → WritesInto a c [] y z
 into a b c x y z p w = (x ++ w.0, w.1, w.2, w.3, w.4, w.5 ∙ ap (λ o. with_more o (w.0 ++ w.1)) p ∙ with_more-with_more a x (w.0 ++ w.1) ∙ ap (with_more a) (sym (append_assoc x w.0 w.1)))
 
-pub breaks-reading : {R : Type 0} (given : R → Option (List ℕ)) (calls : R → ℕ) (s : Settings) (h : History) (link : ℕ) (before mid after : List R) (reads : List Read) (o0 o1 o2 l0 l1 l2 : Option (List ℕ))
-    → HasRead given s before mid reads h o0 o1 l0 l1 → IsNextLink h link → BreaksOffOn given s h link mid after o1 o2 l1 l2 → HasCalled calls before after (length reads + 1)
+pub breaks-reading : {R : Type 0} (given : R → Option (List ℕ)) (calls : R → ℕ) (s : SetupView) (h : History) (link : ℕ) (before mid after : List R) (reads : List Read) (o0 o1 o2 l0 l1 l2 : Option (List ℕ))
+    → HasRead given s before mid reads h o0 o1 l0 l1 → IsNextLink h link → BreaksOffAfterRead given s h link mid after o1 o2 l1 l2 → HasCalled calls before after (length reads + 1)
     → BreaksOffReading given calls s before after o0 o2 l0 l2
 breaks-reading given calls s h link before mid after reads o0 o1 o2 l0 l1 l2 q n p called = record {
   reads = reads;
@@ -112,9 +112,9 @@ gave-same given a b c reads p q = record {
       q.bytes k none within ∙ with_more-nil (given (slice_index_or b k none)) ∙ p.bytes k none lt;
 }
 
-pub fails-reading : {R : Type 0} (given : R → Option (List ℕ)) (failures calls : R → ℕ) (s : Settings) (h : History) (link : ℕ) (before mid after : List R) (reads : List Read) (o0 o1 o2 l0 l1 l2 : Option (List ℕ))
+pub fails-reading : {R : Type 0} (given : R → Option (List ℕ)) (failures calls : R → ℕ) (s : SetupView) (h : History) (link : ℕ) (before mid after : List R) (reads : List Read) (o0 o1 o2 l0 l1 l2 : Option (List ℕ))
     → HasRead given s before mid reads h o0 o1 l0 l1 → IsNextLink h link → ((k : ℕ) (none : R) → failures (slice_index_or mid k none) ≡ failures (slice_index_or before k none))
-    → FailsOn given failures link mid after o1 o2 l1 l2 → HasCalled calls before after (length reads + 1) → FailsReading given failures calls s link before after o0 o2 l0 l2
+    → FailsRead given failures link mid after o1 o2 l1 l2 → HasCalled calls before after (length reads + 1) → FailsReading given failures calls s link before after o0 o2 l0 l2
 fails-reading given failures calls s h link before mid after reads o0 o1 o2 l0 l1 l2 q n same p called = record {
   reads = reads;
   history = h;
@@ -126,13 +126,13 @@ fails-reading given failures calls s h link before mid after reads o0 o1 o2 l0 l
   };
   called = called;
   is_next = n;
-  failed = λ none. subst (λ (x : ℕ). Rises x (failures (slice_index_or after link none))) (same link none) (p.failed none);
+  failed = λ none. subst (λ (x : ℕ). CountRises x (failures (slice_index_or after link none))) (same link none) (p.failed none);
 }
 
 -- ---- the end
 
 -- closed links are left as they are
-pub closing-none : (s : Settings) (h : History) (n : ℕ) (last : History) → AllClosed h → IsAfterClosingAll s h n last → last ≡ h
+pub closing-none : (s : SetupView) (h : History) (n : ℕ) (last : History) → AllClosed h → IsAfterClosingAll s h n last → last ≡ h
 closing-none s h zero last closed p = p
 closing-none s h (suc n) last closed p =
     let same = closing-none s h n p.0 closed p.1 in
@@ -141,8 +141,8 @@ closing-none s h (suc n) last closed p =
       | inr stays ↦ stays.1 ∙ same
     ]
 
-pub runs-as : {R : Type 0} (given : R → Option (List ℕ)) (calls : R → ℕ) (is_at_end : R → Type 0) (s : Settings) (before after : List R) (converter : ConverterState) (counts : Counts) (o0 o1 o2 l0 l1 l2 : Option (List ℕ))
-    → (p : HasReadAll given calls is_at_end s before after converter o0 o1 l0 l1) → (last : History) → EndsAs s p.history last counts o1 o2 l1 l2
+pub runs-as : {R : Type 0} (given : R → Option (List ℕ)) (calls : R → ℕ) (is_at_end : R → Type 0) (s : SetupView) (before after : List R) (converter : ConverterView) (counts : Counts) (o0 o1 o2 l0 l1 l2 : Option (List ℕ))
+    → (p : HasReadAll given calls is_at_end s before after converter o0 o1 l0 l1) → (last : History) → FinishesConverterAs s p.history last counts o1 o2 l1 l2
     → RunsAs given calls is_at_end s before after counts o0 o2 l0 l2
 runs-as given calls is_at_end s before after converter counts o0 o1 o2 l0 l1 l2 p last e =
     let same = closing-none s p.history (length p.history.links) last p.closed e.closed in
@@ -160,9 +160,9 @@ runs-as given calls is_at_end s before after converter counts o0 o1 o2 l0 l1 l2 
     }
 
 -- once all links were closed, the end breaks off with no frame in hand
-pub breaks-ending : {R : Type 0} (given : R → Option (List ℕ)) (calls : R → ℕ) (is_at_end : R → Type 0) (s : Settings) (before after : List R) (converter : ConverterState) (o0 o1 o2 l0 l1 l2 : Option (List ℕ))
+pub breaks-ending : {R : Type 0} (given : R → Option (List ℕ)) (calls : R → ℕ) (is_at_end : R → Type 0) (s : SetupView) (before after : List R) (converter : ConverterView) (o0 o1 o2 l0 l1 l2 : Option (List ℕ))
     → (p : HasReadAll given calls is_at_end s before after converter o0 o1 l0 l1)
-    → ((link : ℕ) × BreaksOffClosing s p.history link o1 o2 l1 l2) ⊎ BreaksOffEnding s p.history o1 o2 l1 l2
+    → ((link : ℕ) × BreaksOffClosing s p.history link o1 o2 l1 l2) ⊎ BreaksOffFinishing s p.history o1 o2 l1 l2
     → BreaksOffAtEnd given calls is_at_end s before after o0 o2 l0 l2
 breaks-ending given calls is_at_end s before after converter o0 o1 o2 l0 l1 l2 p (inl breaks) =
     let same = closing-none s p.history breaks.0 breaks.1.mid p.closed breaks.1.closed in

@@ -2,27 +2,27 @@
 use Rattle.std.proofs.Common.{◌≡◌, ℕ, ◌≤◌, List, [], ◌∷◌, ◌++◌, drop, length, Option, ap, sym, ◌∙◌, inl, inr}
 use Rattle.std.specs.Prelude.{is_some}
 use Rattle.rtk_message.specs.declared.message.Message.{Message}
-use Rattle.rtk_collect.specs.EpochCells.{EpochCells}
+use Rattle.rtk_collect.specs.EpochSet.{EpochSetView}
 use Rattle.rtk_collect.specs.Arrival.{Arrival}
 use Rattle.rtk_collect.specs.Late.{epochs}
 use Rattle.rtk_collect.specs.Accepted.{station, kept, closed}
 use Rattle.rtk_collect.proofs.JoinsLemmas.{closed-drop}
 use Rattle.rtk_collect.proofs.LateLemmas.{closed-only-grow, closed-after, stations-are-final}
-use Rattle.rtk_rinex.specs.Header.{Site}
-use Rattle.rtk_convert.specs.Settings.{Settings}
+use Rattle.rtk_rinex.specs.Header.{PositionView}
+use Rattle.rtk_convert.specs.Setup.{SetupView}
 use Rattle.rtk_convert.specs.File.{record_of, first_time}
 use Rattle.rtk_convert.specs.FilePrefix.{so_far, closed_text, closing_text}
 use Rattle.rtk_convert.specs.FileOfArrivals.{site_of_stations, site_of_kept, file_so_far}
 use Rattle.rtk_convert.proofs.FileLemmas.{so_far-closed, closed-more, closed-grows, closed-none}
 
-any_epoch : EpochCells
+any_epoch : EpochSetView
 any_epoch = record { epoch = 0; cells = [] }
 
 -- the file so far, from the closed epochs alone
-pub so_far-is : (s : Settings) (arrivals : List Arrival) → file_so_far s arrivals ≡ closed_text s (site_of_kept s.window arrivals) (closed s.window arrivals)
+pub so_far-is : (s : SetupView) (arrivals : List Arrival) → file_so_far s arrivals ≡ closed_text s (site_of_kept s.window arrivals) (closed s.window arrivals)
 so_far-is s arrivals =
     let same : closed s.window arrivals ≡ drop s.window (kept s.window arrivals) = closed-drop s.window any_epoch arrivals in
-    ap (λ (c : List EpochCells). so_far s (site_of_kept s.window arrivals) (kept s.window arrivals) c) same
+    ap (λ (c : List EpochSetView). so_far s (site_of_kept s.window arrivals) (kept s.window arrivals) c) same
     ∙ so_far-closed s.window s (site_of_kept s.window arrivals) (kept s.window arrivals)
     ∙ ap (closed_text s (site_of_kept s.window arrivals)) (sym same)
 
@@ -33,20 +33,20 @@ site-final n a before h =
     ∙ ap (λ (m : Option Message). site_of_stations (station n 1005 before) m) (final.1 a 1006)
 
 -- the header is final once an epoch is closed
-pub text-final : (s : Settings) (a : Arrival) (before : List Arrival)
+pub text-final : (s : SetupView) (a : Arrival) (before : List Arrival)
     → closed_text s (site_of_kept s.window (a ∷ before)) (closed s.window before) ≡ closed_text s (site_of_kept s.window before) (closed s.window before)
 text-final s a before = elim (closed-after s.window before) [
   | inl none ↦ ap (closed_text s (site_of_kept s.window (a ∷ before))) none ∙ closed-none s (site_of_kept s.window (a ∷ before)) (site_of_kept s.window before) ∙ ap (closed_text s (site_of_kept s.window before)) (sym none)
-  | inr full ↦ ap (λ (p : Site). closed_text s p (closed s.window before)) (site-final s.window a before full)
+  | inr full ↦ ap (λ (p : PositionView). closed_text s p (closed s.window before)) (site-final s.window a before full)
 ]
 
 -- an arrival that closes no epoch
-pub so_far-stays : (s : Settings) (a : Arrival) (before : List Arrival) → closed s.window (a ∷ before) ≡ closed s.window before → file_so_far s (a ∷ before) ≡ file_so_far s before
+pub so_far-stays : (s : SetupView) (a : Arrival) (before : List Arrival) → closed s.window (a ∷ before) ≡ closed s.window before → file_so_far s (a ∷ before) ≡ file_so_far s before
 so_far-stays s a before h =
     so_far-is s (a ∷ before) ∙ ap (closed_text s (site_of_kept s.window (a ∷ before))) h ∙ text-final s a before ∙ sym (so_far-is s before)
 
 -- one that closes an epoch
-pub so_far-closes : (s : Settings) (a : Arrival) (e : EpochCells) (before : List Arrival) → closed s.window (a ∷ before) ≡ e ∷ closed s.window before
+pub so_far-closes : (s : SetupView) (a : Arrival) (e : EpochSetView) (before : List Arrival) → closed s.window (a ∷ before) ≡ e ∷ closed s.window before
     → file_so_far s (a ∷ before) ≡ file_so_far s before
     ++ closing_text s (site_of_kept s.window (a ∷ before)) e.epoch (is_some (first_time s.heading.listed (closed s.window before))) (record_of s.heading.listed e (closed s.window before))
 so_far-closes s a e before h =
@@ -56,7 +56,7 @@ so_far-closes s a e before h =
     ∙ ap (λ (x : List ℕ). x ++ more) (text-final s a before ∙ sym (so_far-is s before))
 
 -- the file so far only grows
-pub so_far-grows : (s : Settings) (a : Arrival) (before : List Arrival) → (rest : List ℕ) × (file_so_far s (a ∷ before) ≡ file_so_far s before ++ rest)
+pub so_far-grows : (s : SetupView) (a : Arrival) (before : List Arrival) → (rest : List ℕ) × (file_so_far s (a ∷ before) ≡ file_so_far s before ++ rest)
 so_far-grows s a before =
     let site = site_of_kept s.window (a ∷ before) in
     let g = closed-only-grow s.window (a ∷ []) before in

@@ -11,12 +11,12 @@ use Rattle.rtk_obs.specs.declared.cell.Cell.{Cell}
 use Rattle.rtk_obs.specs.declared.cell.CellEntry.{CellEntry}
 use Rattle.rtk_obs.specs.declared.cell.CellSource.TheVariants.{Legacy, Msm}
 use Rattle.rtk_obs.specs.declared.track.Track.{Track}
-use Rattle.rtk_obs.specs.Cell.{IsInRange as IsEntry, IsStrength as IsGiven}
-use Rattle.rtk_collect.specs.EpochCells.{EpochCells}
+use Rattle.rtk_obs.specs.Cell.{IsInRange as IsEntry, IsStrengthOrNone as IsGiven}
+use Rattle.rtk_collect.specs.EpochSet.{EpochSetView}
 use Rattle.rtk_rinex.specs.declared.epoch_table.Observed.{Observed}
 use Rattle.rtk_rinex.specs.Reading.{IsMoment}
 use Rattle.rtk_rinex.specs.Header.{header_text}
-use Rattle.rtk_rinex.specs.Record.{Epoch, IsStrength, IsRow, IsEpoch, HasWidth, record_text}
+use Rattle.rtk_rinex.specs.Record.{EpochTableView, IsStrengthOrNone, IsRow, IsEpochTableView, HasWidth, record_text}
 use Rattle.rtk_rinex.specs.Table.{StartsAt, with_record, shown_table, FilesAreTables}
 use Rattle.rtk_convert.specs.Rows.{is_signal, last_phase_of, first_cell, cell_at, in_turn, is_from, observed_after, observed_at, or_nothing, table_of}
 use Rattle.rtk_convert.specs.File.{record_of, records, first_or, first_time}
@@ -24,11 +24,11 @@ use Rattle.rtk_convert.specs.FileLaws.{IsAbove, Fall, IsGoodEpoch, FileIsTable}
 use Rattle.rtk_convert.proofs.RowsLemmas.{all-rows, rows-width, rows_to-rise}
 
 -- the tables of the epochs, rising
-tables : List Code → List EpochCells → List Epoch
+tables : List Code → List EpochSetView → List EpochTableView
 tables listed [] = []
 tables listed (e ∷ below) = tables listed below ++ table_of listed e below ∷ []
 
-tables-text : (listed : List Code) (epochs : List EpochCells) → flat_map record_text (tables listed epochs) ≡ records listed epochs
+tables-text : (listed : List Code) (epochs : List EpochSetView) → flat_map record_text (tables listed epochs) ≡ records listed epochs
 unfolding tables records
 tables-text listed [] = refl
 tables-text listed (e ∷ below) =
@@ -38,21 +38,21 @@ tables-text listed (e ∷ below) =
 
 -- ---- the first time
 
-first_of : List Epoch → Option ℕ
+first_of : List EpochTableView → Option ℕ
 first_of [] = None
 first_of (e ∷ epochs) = Some e.time
 
-has_record : Epoch → Bool
+has_record : EpochTableView → Bool
 has_record e = nat_lt 0 (length (record_text e))
 
-first-step : (o : Option ℕ) (xs : List Epoch) (e : Epoch) (text : List ℕ) → o ≡ first_of xs → record_text e ≡ text
+first-step : (o : Option ℕ) (xs : List EpochTableView) (e : EpochTableView) (text : List ℕ) → o ≡ first_of xs → record_text e ≡ text
     → first_or o e.time text ≡ first_of (xs ++ filter has_record (e ∷ []))
 unfolding first_of has_record
 first-step o [] e [] h k = rw (h, k) refl
 first-step o [] e (x ∷ text) h k = let some : nat_lt 0 (suc (length text)) ≡ true = grind (arith, nat_tests) in rw (h, k, some) refl
 first-step o (y ∷ xs) e text h k = rw h refl
 
-first-same : (listed : List Code) (epochs : List EpochCells) → first_time listed epochs ≡ first_of (with_record (tables listed epochs))
+first-same : (listed : List Code) (epochs : List EpochSetView) → first_time listed epochs ≡ first_of (with_record (tables listed epochs))
 unfolding first_time tables first_of has_record
 first-same listed [] = refl
 first-same listed (e ∷ below) =
@@ -61,14 +61,14 @@ first-same listed (e ∷ below) =
 
 -- ---- the epochs are good
 
-entry-strength : (o : Option ℕ) → IfSome o IsGiven → IsStrength o
+entry-strength : (o : Option ℕ) → IfSome o IsGiven → IsStrengthOrNone o
 entry-strength None h = tt
 entry-strength (Some s) h = ((h.least, h.greatest), h.step)
 
 abbrev HasStrength : Option Cell → Type 0
-HasStrength o = IfSome o (λ c. IsStrength c.strength_millidbhz)
+HasStrength o = IfSome o (λ c. IsStrengthOrNone c.strength_millidbhz)
 
-strength-if : (b : Bool) (c : Cell) (o : Option Cell) → IsStrength c.strength_millidbhz → HasStrength o → HasStrength (cond b (Some c) o)
+strength-if : (b : Bool) (c : Cell) (o : Option Cell) → IsStrengthOrNone c.strength_millidbhz → HasStrength o → HasStrength (cond b (Some c) o)
 strength-if true c o h k = h
 strength-if false c o h k = k
 
@@ -92,19 +92,19 @@ cell-strength cells s c h =
     first-strength (in_turn cells) s c
     (All-append IsEntry (filter (is_from Msm) cells) (filter (is_from Legacy) cells) (all-kept IsEntry (is_from Msm) cells h) (all-kept IsEntry (is_from Legacy) cells h))
 
-observed-strength : (last : Option Track) (code : Code) (epoch : ℕ) (o : Option Cell) → HasStrength o → IsStrength (or_nothing (observed_after last code epoch o)).strength_millidbhz
+observed-strength : (last : Option Track) (code : Code) (epoch : ℕ) (o : Option Cell) → HasStrength o → IsStrengthOrNone (or_nothing (observed_after last code epoch o)).strength_millidbhz
 observed-strength last code epoch None h = tt
 observed-strength last code epoch (Some c) h = h
 
-table-rows : (listed : List Code) (e : EpochCells) (below : List EpochCells) → All IsEntry e.cells → All IsRow (table_of listed e below).rows
+table-rows : (listed : List Code) (e : EpochSetView) (below : List EpochSetView) → All IsEntry e.cells → All IsRow (table_of listed e below).rows
 table-rows listed e below h = all-rows IsRow (observed_at e below) listed 32 (omega arith)
     (λ s hs m. record {
       satellite = (hs.0, hs.1);
-      strengths = All-map (λ (o : Observed). IsStrength o.strength_millidbhz) (λ code. or_nothing (observed_at e below s code)) listed
+      strengths = All-map (λ (o : Observed). IsStrengthOrNone o.strength_millidbhz) (λ code. or_nothing (observed_at e below s code)) listed
           (λ k d l. observed-strength (last_phase_of below s (get_or listed k d)) (get_or listed k d) e.epoch (cell_at e.cells s (get_or listed k d)) (cell-strength e.cells s (get_or listed k d) h));
     })
 
-table-good : (listed : List Code) (e : EpochCells) (below : List EpochCells) → IsGoodEpoch e → IsEpoch (table_of listed e below)
+table-good : (listed : List Code) (e : EpochSetView) (below : List EpochSetView) → IsGoodEpoch e → IsEpochTableView (table_of listed e below)
 table-good listed e below good = record {
   time = good.time;
   rows = table-rows listed e below good.cells;
@@ -112,36 +112,36 @@ table-good listed e below good = record {
 }
 
 -- what each table has, all have
-all-tables : (P : Epoch → Type 0) (listed : List Code) → ((e : EpochCells) (below : List EpochCells) → IsGoodEpoch e → P (table_of listed e below))
-    → (epochs : List EpochCells) → All IsGoodEpoch epochs → All P (tables listed epochs)
+all-tables : (P : EpochTableView → Type 0) (listed : List Code) → ((e : EpochSetView) (below : List EpochSetView) → IsGoodEpoch e → P (table_of listed e below))
+    → (epochs : List EpochSetView) → All IsGoodEpoch epochs → All P (tables listed epochs)
 unfolding tables
 all-tables P listed f [] h = All-nil P
 all-tables P listed f (e ∷ below) h =
     All-append P (tables listed below) (table_of listed e below ∷ []) (all-tables P listed f below (All-tail IsGoodEpoch e below h))
     (All-cons P (table_of listed e below) [] (f e below (All-head IsGoodEpoch e below h)) (All-nil P))
 
-tables-below : (listed : List Code) (bound : ℕ) (epochs : List EpochCells) → IsAbove bound epochs → Fall epochs → All (λ (x : Epoch). x.time < bound) (tables listed epochs)
+tables-below : (listed : List Code) (bound : ℕ) (epochs : List EpochSetView) → IsAbove bound epochs → Fall epochs → All (λ (x : EpochTableView). x.time < bound) (tables listed epochs)
 unfolding tables
-tables-below listed bound [] a f = All-nil (λ (x : Epoch). x.time < bound)
+tables-below listed bound [] a f = All-nil (λ (x : EpochTableView). x.time < bound)
 tables-below listed bound (e ∷ below) a f =
-    All-append (λ (x : Epoch). x.time < bound) (tables listed below) (table_of listed e below ∷ [])
-    (All-weaker (λ (x : Epoch). x.time < e.epoch) (λ (x : Epoch). x.time < bound) (λ x h. omega arith) (tables listed below) (tables-below listed e.epoch below f.0 f.1))
-    (All-cons (λ (x : Epoch). x.time < bound) (table_of listed e below) [] a (All-nil (λ (x : Epoch). x.time < bound)))
+    All-append (λ (x : EpochTableView). x.time < bound) (tables listed below) (table_of listed e below ∷ [])
+    (All-weaker (λ (x : EpochTableView). x.time < e.epoch) (λ (x : EpochTableView). x.time < bound) (λ x h. omega arith) (tables listed below) (tables-below listed e.epoch below f.0 f.1))
+    (All-cons (λ (x : EpochTableView). x.time < bound) (table_of listed e below) [] a (All-nil (λ (x : EpochTableView). x.time < bound)))
 
-tables-rise : (listed : List Code) (epochs : List EpochCells) → Fall epochs → AllPairs (λ a b. a.time < b.time) (tables listed epochs)
+tables-rise : (listed : List Code) (epochs : List EpochSetView) → Fall epochs → AllPairs (λ a b. a.time < b.time) (tables listed epochs)
 unfolding tables
 tables-rise listed [] f = λ i j d h k. absurd (omega arith)
 tables-rise listed (e ∷ below) f =
-    all_pairs_push (λ (a b : Epoch). a.time < b.time) (tables listed below) (table_of listed e below) (tables-rise listed below f.1) (tables-below listed e.epoch below f.0 f.1)
+    all_pairs_push (λ (a b : EpochTableView). a.time < b.time) (tables listed below) (table_of listed e below) (tables-rise listed below f.1) (tables-below listed e.epoch below f.0 f.1)
 
 -- ---- the table
 
-first-moment : (near : ℕ) (xs : List Epoch) → IsMoment near → All IsEpoch xs → IsMoment (unwrap_or (first_of xs) near)
+first-moment : (near : ℕ) (xs : List EpochTableView) → IsMoment near → All IsEpochTableView xs → IsMoment (unwrap_or (first_of xs) near)
 unfolding first_of
 first-moment near [] m h = m
-first-moment near (e ∷ xs) m h = let good : IsEpoch e = All-head IsEpoch e xs h in good.time
+first-moment near (e ∷ xs) m h = let good : IsEpochTableView e = All-head IsEpochTableView e xs h in good.time
 
-starts : (near : ℕ) (xs : List Epoch) → StartsAt (unwrap_or (first_of xs) near) xs
+starts : (near : ℕ) (xs : List EpochTableView) → StartsAt (unwrap_or (first_of xs) near) xs
 unfolding first_of
 starts near [] = tt
 starts near (e ∷ xs) = refl
@@ -149,14 +149,14 @@ starts near (e ∷ xs) = refl
 pub file-is_table : FilesAreTables → FileIsTable
 unfolding has_record
 file-is_table law s site epochs settings good_site fall good =
-    let xs : List Epoch = tables s.heading.listed epochs in
-    let some : List Epoch = with_record xs in
+    let xs : List EpochTableView = tables s.heading.listed epochs in
+    let some : List EpochTableView = with_record xs in
     let first : ℕ = unwrap_or (first_of some) s.near in
     let near : IsMoment s.near = let to = settings.1.to in omega arith in
-    let all : All IsEpoch xs = all-tables IsEpoch s.heading.listed (table-good s.heading.listed) epochs good in
-    let widths : All (λ (e : Epoch). HasWidth (length s.heading.listed) e.rows) xs =
-    all-tables (λ (e : Epoch). HasWidth (length s.heading.listed) e.rows) s.heading.listed (λ e below g. rows-width (observed_at e below) s.heading.listed) epochs good in
-    let shown = law s.heading site first xs settings.2 good_site (first-moment s.near some near (all-kept IsEpoch has_record xs all)) all widths (tables-rise s.heading.listed epochs fall) (starts s.near some) in (
+    let all : All IsEpochTableView xs = all-tables IsEpochTableView s.heading.listed (table-good s.heading.listed) epochs good in
+    let widths : All (λ (e : EpochTableView). HasWidth (length s.heading.listed) e.rows) xs =
+    all-tables (λ (e : EpochTableView). HasWidth (length s.heading.listed) e.rows) s.heading.listed (λ e below g. rows-width (observed_at e below) s.heading.listed) epochs good in
+    let shown = law s.heading site first xs settings.2 good_site (first-moment s.near some near (all-kept IsEpochTableView has_record xs all)) all widths (tables-rise s.heading.listed epochs fall) (starts s.near some) in (
       shown_table s.heading site first xs,
       shown.table,
       ap (λ (o : Option ℕ). header_text s.heading site (unwrap_or o s.near) ++ records s.heading.listed epochs) (first-same s.heading.listed epochs)

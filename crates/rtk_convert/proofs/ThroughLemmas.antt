@@ -12,7 +12,7 @@ use Rattle.rtk_obs.specs.Rollover.{last_after, digits_since, track_of, last_phas
 use Rattle.rtk_obs.specs.Cell.{IsSatellite}
 use Rattle.rtk_obs.specs.Tracks.{IsLater, track_at, place_of_signal}
 use Rattle.rtk_rinex.specs.declared.epoch_table.Observed.{Observed}
-use Rattle.rtk_rinex.specs.Record.{IsStrength}
+use Rattle.rtk_rinex.specs.Record.{IsStrengthOrNone}
 use Rattle.rtk_convert.specs.Rows.{is_signal, first_cell, observed_with, observed_after, and_below}
 use Rattle.rtk_convert.specs.LastPhases.{shown_at, track_after, IsThrough, MayShow, AreStrengths}
 use Rattle.rtk_convert.proofs.PlacesLemmas.{by_eq, same_signal, same_test, other_signal, place_inside}
@@ -107,11 +107,11 @@ may-more new after shown epoch e o he len others may s c hs free =
     (λ ne. subst (λ (t : Option Track). IsLater t epoch) (sym (others s c ne))
     (may s c hs (sym (get_or-set_other shown (place_of_signal e.satellite e.code) (place_of_signal s c) (Some o) None ne) ∙ free)))
 
-pub strengths-more : (shown : List (Option Observed)) (at : ℕ) (o : Observed) → at < length shown → IsStrength o.strength_millidbhz → AreStrengths shown → AreStrengths (set shown at (Some o))
+pub strengths-more : (shown : List (Option Observed)) (at : ℕ) (o : Observed) → at < length shown → IsStrengthOrNone o.strength_millidbhz → AreStrengths shown → AreStrengths (set shown at (Some o))
 strengths-more shown at o inside good are k =
     by_eq k at
-    (λ q. subst (λ (x : Option Observed). IfSome x (λ y. IsStrength y.strength_millidbhz)) (sym (ap (λ (i : ℕ). get_or (set shown at (Some o)) i None) q ∙ get_or-set_same shown at (Some o) None inside)) good)
-    (λ ne. subst (λ (x : Option Observed). IfSome x (λ y. IsStrength y.strength_millidbhz)) (sym (get_or-set_other shown at k (Some o) None ne)) (are k))
+    (λ q. subst (λ (x : Option Observed). IfSome x (λ y. IsStrengthOrNone y.strength_millidbhz)) (sym (ap (λ (i : ℕ). get_or (set shown at (Some o)) i None) q ∙ get_or-set_same shown at (Some o) None inside)) good)
+    (λ ne. subst (λ (x : Option Observed). IfSome x (λ y. IsStrengthOrNone y.strength_millidbhz)) (sym (get_or-set_other shown at k (Some o) None ne)) (are k))
 
 -- ---- a whole epoch
 

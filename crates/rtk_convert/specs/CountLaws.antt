@@ -1,9 +1,9 @@
 -- A law on the counts of found frames, newest first.
 use Rattle.std.specs.Prelude.{◌≡◌, ◌<◌, ◌+◌, ◌^◌, ℕ, List, length}
 use Rattle.rtk_convert.specs.declared.counts.Counts.{Counts}
-use Rattle.rtk_convert.specs.Finding.{Found}
+use Rattle.rtk_convert.specs.FrameClass.{Found}
 use Rattle.rtk_convert.specs.Finish.{all_counts}
-use Rattle.rtk_convert.specs.Settings.{Settings}
+use Rattle.rtk_convert.specs.Setup.{SetupView}
 
 -- the sum of the seven counts that tell what became of frames
 abbrev pub in_classes : Counts → ℕ
@@ -16,4 +16,4 @@ pub record AreCountsOf (frames : ℕ) (c : Counts) : Type 0 where
 
 -- so are the counts of found frames, where a count can hold their number
 abbrev pub EachFrameInOneClass : Type 0
-EachFrameInOneClass = (s : Settings) (found : List Found) → length found < 2 ^ 64 → AreCountsOf (length found) (all_counts s found)
+EachFrameInOneClass = (s : SetupView) (found : List Found) → length found < 2 ^ 64 → AreCountsOf (length found) (all_counts s found)

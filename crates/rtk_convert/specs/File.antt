@@ -3,19 +3,19 @@
 use Rattle.std.specs.Prelude.{ℕ, List, [], ◌∷◌, ◌++◌, Option, None, Some, unwrap_or}
 use Rattle.rtk_obs.specs.declared.code.Code.{Code}
 use Rattle.rtk_frame.specs.Stream.{count_after}
-use Rattle.rtk_collect.specs.EpochCells.{EpochCells}
-use Rattle.rtk_rinex.specs.Header.{Site, header_text}
+use Rattle.rtk_collect.specs.EpochSet.{EpochSetView}
+use Rattle.rtk_rinex.specs.Header.{PositionView, header_text}
 use Rattle.rtk_rinex.specs.Record.{record_text}
 use Rattle.rtk_convert.specs.Rows.{table_of}
-use Rattle.rtk_convert.specs.Settings.{Settings}
+use Rattle.rtk_convert.specs.Setup.{SetupView}
 
 -- the record of an epoch, given the epochs below it; empty where no listed observation is written
 -- (a phase may be rolled to 0 or outside the limits, so this depends on the epochs below)
-abbrev pub record_of : List Code → EpochCells → List EpochCells → List ℕ
+abbrev pub record_of : List Code → EpochSetView → List EpochSetView → List ℕ
 record_of listed e below = record_text (table_of listed e below)
 
 -- the records of all epochs, rising
-unfoldable pub records : List Code → List EpochCells → List ℕ
+unfoldable pub records : List Code → List EpochSetView → List ℕ
 records listed [] = []
 records listed (e ∷ below) = records listed below ++ record_of listed e below
 
@@ -26,16 +26,16 @@ first_or None epoch [] = None
 first_or None epoch (x ∷ text) = Some epoch
 
 -- the least epoch that has a record
-unfoldable pub first_time : List Code → List EpochCells → Option ℕ
+unfoldable pub first_time : List Code → List EpochSetView → Option ℕ
 first_time listed [] = None
 first_time listed (e ∷ below) = first_or (first_time listed below) e.epoch (record_of listed e below)
 
 -- the header: its first time is that of the first record, else the reference
-abbrev pub header_of : Settings → Site → List EpochCells → List ℕ
+abbrev pub header_of : SetupView → PositionView → List EpochSetView → List ℕ
 header_of s site epochs = header_text s.heading site (unwrap_or (first_time s.heading.listed epochs) s.near)
 
 -- the file: the header, then the records of all epochs, rising
-abbrev pub file_of : Settings → Site → List EpochCells → List ℕ
+abbrev pub file_of : SetupView → PositionView → List EpochSetView → List ℕ
 file_of s site epochs = header_of s site epochs ++ records s.heading.listed epochs
 
 abbrev pub one_more_if_any : List ℕ → ℕ → ℕ
@@ -43,6 +43,6 @@ one_more_if_any [] n = n
 one_more_if_any (x ∷ text) n = count_after n
 
 -- how many epochs have a record; a count stays at its greatest value
-unfoldable pub record_count : List Code → List EpochCells → ℕ
+unfoldable pub record_count : List Code → List EpochSetView → ℕ
 record_count listed [] = 0
 record_count listed (e ∷ below) = one_more_if_any (record_of listed e below) (record_count listed below)

@@ -8,26 +8,26 @@ use Rattle.rtk_message.specs.Decoded.{number_of}
 use Rattle.rtk_obs.specs.declared.cell.CellEntry.{CellEntry}
 use Rattle.rtk_collect.specs.Arrival.{Arrival, At, epoch_of, message_of, cells_of}
 use Rattle.rtk_collect.specs.Accepted.{kept, IsTaken, AmongCells, IsConsistent}
-use Rattle.rtk_collect.specs.EpochCells.{EpochCells}
-use Rattle.rtk_collect.specs.Key.{Rises}
+use Rattle.rtk_collect.specs.EpochSet.{EpochSetView}
+use Rattle.rtk_collect.specs.Key.{KeysRise}
 use Rattle.rtk_collect.specs.Late.{late}
 use Rattle.rtk_collect.specs.Laws.{without_late, AreInTime, IsKept, HasEpoch}
-use Rattle.rtk_collect.specs.Search.{Falls}
-use Rattle.rtk_convert.specs.declared.arrival.Finding.TheVariants.{Arrived}
+use Rattle.rtk_collect.specs.Search.{EpochsFall}
+use Rattle.rtk_convert.specs.declared.frame_class.FrameClass.TheVariants.{Dated}
 use Rattle.rtk_convert.specs.declared.counts.Counts.{Counts}
 use Rattle.rtk_convert.specs.Converter.{IsAfterClosing, IsAfterClosingAll}
 use Rattle.rtk_convert.specs.File.{file_of}
 use Rattle.rtk_convert.specs.FileLaws.{IsTextOfTable}
 use Rattle.rtk_convert.specs.FileOfArrivals.{site_of_stations, kept_file}
-use Rattle.rtk_convert.specs.Finding.{Found, arrivals}
+use Rattle.rtk_convert.specs.FrameClass.{Found, arrivals}
 use Rattle.rtk_convert.specs.Finish.{all_counts, report_of}
 use Rattle.rtk_convert.specs.History.{History, new_history, IsOpen, IsAfterFeed}
-use Rattle.rtk_convert.specs.Reading.{HasCalled}
-use Rattle.rtk_convert.specs.Reads.{Read, Gave, IsHistoryOf, AllClosed, AllAtEnd}
+use Rattle.rtk_convert.specs.ReadSteps.{HasCalled}
+use Rattle.rtk_convert.specs.ReadHistory.{Read, Gave, IsHistoryOf, AllClosed, AllAtEnd}
 use Rattle.rtk_convert.specs.Report.{lines}
 use Rattle.rtk_convert.specs.ReportText.{late_line}
-use Rattle.rtk_convert.specs.Settings.{Settings, IsSettings}
-use Rattle.rtk_convert.specs.State.{found_on}
+use Rattle.rtk_convert.specs.Setup.{SetupView, IsSetupView}
+use Rattle.rtk_convert.specs.Conversion.{found_on}
 
 -- ---- "for every list of pieces fed over any links"
 
@@ -37,22 +37,22 @@ pub data Call : Type 0 where
   Close : (link : ℕ) → Call
 
 -- the history after a call; one on a link that is closed, or that there is not, is refused, and nothing comes of it
-abbrev pub IsAfterCall : Settings → History → Call → History → Type 0
+abbrev pub IsAfterCall : SetupView → History → Call → History → Type 0
 IsAfterCall s h (Feed link piece) next = (IsOpen h link × IsAfterFeed s h link piece next) ⊎ ((IsOpen h link → ⊥) × (next ≡ h))
 IsAfterCall s h (Close link) next = IsAfterClosing s h link next
 
 -- the history that calls come to, newest first: whatever they feed, in whatever order
-abbrev pub ComeTo : Settings → ℕ → List Call → History → Type 0
-ComeTo s links [] h = h ≡ new_history links
-ComeTo s links (c ∷ before) h = (old : History) × ComeTo s links before old × IsAfterCall s old c h
+abbrev pub CallsComeTo : SetupView → ℕ → List Call → History → Type 0
+CallsComeTo s links [] h = h ≡ new_history links
+CallsComeTo s links (c ∷ before) h = (old : History) × CallsComeTo s links before old × IsAfterCall s old c h
 
 -- all frames that calls find, and the end that closes the links which are open
-abbrev pub FindAll : Settings → ℕ → List Call → List Found → Type 0
-FindAll s links calls found = (h : History) × (last : History) × ComeTo s links calls h × IsAfterClosingAll s h links last × (found ≡ last.found)
+abbrev pub FindAll : SetupView → ℕ → List Call → List Found → Type 0
+FindAll s links calls found = (h : History) × (last : History) × CallsComeTo s links calls h × IsAfterClosingAll s h links last × (found ≡ last.found)
 
 -- ---- "provided equal keys carry equal bodies"
 
-abbrev pub EqualKeysCarryEqualBodies : Settings → List Found → Type 0
+abbrev pub EqualKeysCarryEqualBodies : SetupView → List Found → Type 0
 EqualKeysCarryEqualBodies s found = IsConsistent s.window (arrivals found)
 
 -- ---- "the file written is byte for byte"
@@ -65,7 +65,7 @@ IsWritten before after IsText = (text : List ℕ) × (after ≡ with_more before
 
 -- what a file shows: epochs, each with its cells, and station messages
 pub record Content : Type 0 where
-  pub epochs : List EpochCells
+  pub epochs : List EpochSetView
   pub arp1005 : Option Message
   pub arp1006 : Option Message
 
@@ -82,36 +82,36 @@ pub record IsContentOf (set : Arrival → Type 0) (c : Content) : Type 0 where
 
 -- ---- "the set of messages that came at least once while their epoch was open"
 
-abbrev pub CameInTime : Settings → List Found → Arrival → Type 0
+abbrev pub CameInTime : SetupView → List Found → Arrival → Type 0
 CameInTime s found a = IsTaken s.window a (arrivals found)
 
 -- ---- "each taken once"
 
-abbrev pub CellsRise : List EpochCells → Type 0
+abbrev pub CellsRise : List EpochSetView → Type 0
 CellsRise [] = Unit {0}
-CellsRise (x ∷ below) = Rises x.cells × CellsRise below
+CellsRise (x ∷ below) = KeysRise x.cells × CellsRise below
 
 -- no epoch stands twice, for they fall; and under a key no two cells of an epoch, for the keys rise
 pub record EachOnce (c : Content) : Type 0 where
-  pub epochs : Falls c.epochs
+  pub epochs : EpochsFall c.epochs
   pub cells : CellsRise c.epochs
 
 -- the text of a set: the header, and the records of its epochs, rising
-abbrev pub IsFileOf : Settings → (Arrival → Type 0) → List ℕ → Type 0
+abbrev pub IsFileOf : SetupView → (Arrival → Type 0) → List ℕ → Type 0
 IsFileOf s set text = (c : Content) × IsContentOf set c × EachOnce c × (text ≡ file_of s (site_of_stations c.arp1005 c.arp1006) c.epochs)
 
 -- ---- "late arrivals are listed"
 
 -- behind the frames before it a message came on a link, too late
-abbrev pub CameLate : Settings → List Found → ℕ → Arrival → List Found → Type 0
-CameLate s found link a before = ((later : List Found) × (found ≡ later ++ found_on link (Arrived a) ∷ before)) × (late s.window a (arrivals before) ≡ true)
+abbrev pub CameLate : SetupView → List Found → ℕ → Arrival → List Found → Type 0
+CameLate s found link a before = ((later : List Found) × (found ≡ later ++ found_on link (Dated a) ∷ before)) × (late s.window a (arrivals before) ≡ true)
 
 -- a text has a line right behind others
 abbrev pub HasLineAfter : List ℕ → List ℕ → List ℕ → Type 0
 HasLineAfter others line text = (rest : List ℕ) × (text ≡ others ++ (line ++ rest))
 
 -- each has its own line, right behind the lines of the frames before it
-abbrev pub LateAreListed : Settings → List Found → Option (List ℕ) → Option (List ℕ) → Type 0
+abbrev pub LateAreListed : SetupView → List Found → Option (List ℕ) → Option (List ℕ) → Type 0
 LateAreListed s found log_old log_new = (link : ℕ) (a : Arrival) (before : List Found) → CameLate s found link a before
     → IsWritten log_old log_new (HasLineAfter (lines s.window before) (late_line link (number_of (message_of a)) (epoch_of a)))
 
@@ -119,7 +119,7 @@ LateAreListed s found log_old log_new = (link : ℕ) (a : Arrival) (before : Lis
 
 -- with the late arrivals deleted a further arrival is late or not as before, none that stays is late, and the set and
 -- the file are the same
-pub record LateChangeNothing (s : Settings) (found : List Found) : Type 0 where
+pub record LateChangeNothing (s : SetupView) (found : List Found) : Type 0 where
   pub others : (a : Arrival) → late s.window a (without_late s.window (arrivals found)) ≡ late s.window a (arrivals found)
   pub none_late : AreInTime s.window (without_late s.window (arrivals found))
   pub same_set : (a : Arrival) → IsTaken s.window a (without_late s.window (arrivals found)) ↔ CameInTime s found a
@@ -127,11 +127,11 @@ pub record LateChangeNothing (s : Settings) (found : List Found) : Type 0 where
 
 -- ---- the whole sentence; and with good settings, as every setup's are, the file written is one that the checker accepts
 
-pub record Headline (s : Settings) (links : ℕ) (calls : List Call) (out_old out_new log_old log_new : Option (List ℕ)) : Type 0 where
+pub record Headline (s : SetupView) (links : ℕ) (calls : List Call) (out_old out_new log_old log_new : Option (List ℕ)) : Type 0 where
   pub found : List Found
   pub of_all_pieces : FindAll s links calls found
   pub file_of_the_set : EqualKeysCarryEqualBodies s found → IsWritten out_old out_new (IsFileOf s (CameInTime s found))
-  pub file_of_a_table : IsSettings s → IsWritten out_old out_new IsTextOfTable
+  pub file_of_a_table : IsSetupView s → IsWritten out_old out_new IsTextOfTable
   pub late_are_listed : LateAreListed s found log_old log_new
   pub late_change_nothing : LateChangeNothing s found
 
@@ -139,7 +139,7 @@ pub record Headline (s : Settings) (links : ℕ) (calls : List Call) (out_old ou
 
 -- whatever bodies equal keys carry, the file written is that of what is kept, of each key the first that came while its
 -- epoch was open; the report and the counts are those of all frames found, each counted in one class
-pub record WritesKept (s : Settings) (links : ℕ) (calls : List Call) (counts : Counts) (out_old out_new log_old log_new : Option (List ℕ)) : Type 0 where
+pub record WritesKept (s : SetupView) (links : ℕ) (calls : List Call) (counts : Counts) (out_old out_new log_old log_new : Option (List ℕ)) : Type 0 where
   pub found : List Found
   pub of_all_pieces : FindAll s links calls found
   pub out : out_new ≡ with_more out_old (kept_file s (arrivals found))
@@ -148,7 +148,7 @@ pub record WritesKept (s : Settings) (links : ℕ) (calls : List Call) (counts :
 
 -- a set has one file, whatever the frames are in which it came
 abbrev pub SetHasOneFile : Type 0
-SetHasOneFile = (s : Settings) (one other : List Found) (first second : List ℕ) → ((a : Arrival) → CameInTime s one a ↔ CameInTime s other a)
+SetHasOneFile = (s : SetupView) (one other : List Found) (first second : List ℕ) → ((a : Arrival) → CameInTime s one a ↔ CameInTime s other a)
     → IsFileOf s (CameInTime s one) first → IsFileOf s (CameInTime s other) second → first ≡ second
 
 -- ---- of a run
@@ -164,7 +164,7 @@ calls_of (r ∷ before) = call_of r.link r.piece ∷ calls_of before
 
 -- the sentence, of the pieces that the readers gave: to their ends, and each read of the link that was next; and of the
 -- same pieces what is kept, the report and the counts
-pub record RunHeadline {R : Type 0} (given : R → Option (List ℕ)) (calls : R → ℕ) (is_at_end : R → Type 0) (s : Settings) (before after : List R) (counts : Counts) (out_old out_new log_old log_new : Option (List ℕ)) : Type 0 where
+pub record RunHeadline {R : Type 0} (given : R → Option (List ℕ)) (calls : R → ℕ) (is_at_end : R → Type 0) (s : SetupView) (before after : List R) (counts : Counts) (out_old out_new log_old log_new : Option (List ℕ)) : Type 0 where
   pub reads : List Read
   pub gave : Gave given before after reads
   pub called : HasCalled calls before after (length reads)

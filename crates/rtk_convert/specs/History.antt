@@ -2,11 +2,11 @@
 use Rattle.std.specs.Prelude.{◌≡◌, ℕ, zero, suc, ◌<◌, ◌≤◌, ◌==◌, if◌then◌else◌, Bool, true, false, List, [], ◌∷◌, ◌++◌, length, drop, max, replicate, slice_get, Option, None, Some}
 use Rattle.rtk_frame.specs.Frames.{frames, final_frames, payloads}
 use Rattle.rtk_collect.specs.Arrival.{epoch_of}
-use Rattle.rtk_convert.specs.declared.arrival.Finding.{Finding}
-use Rattle.rtk_convert.specs.declared.arrival.Finding.TheVariants.{OtherMessage, Refused, Foreign, Arrived}
-use Rattle.rtk_convert.specs.Finding.{Found, ComesTo}
-use Rattle.rtk_convert.specs.Settings.{Settings}
-use Rattle.rtk_convert.specs.State.{found_on}
+use Rattle.rtk_convert.specs.declared.frame_class.FrameClass.{FrameClass}
+use Rattle.rtk_convert.specs.declared.frame_class.FrameClass.TheVariants.{OtherMessage, Refused, Foreign, Dated}
+use Rattle.rtk_convert.specs.FrameClass.{Found, IsClassOfPayload}
+use Rattle.rtk_convert.specs.Setup.{SetupView}
+use Rattle.rtk_convert.specs.Conversion.{found_on}
 
 -- the bytes that were fed on a link, and whether it is closed
 pub record LinkPast : Type 0 where
@@ -33,9 +33,9 @@ abbrev pub found_by_close : List ℕ → List (List ℕ)
 found_by_close fed = drop (length (final_frames fed)) (payloads (frames fed))
 
 -- frames with these payloads are found on a link, one after another, after those before
-abbrev pub Finds : Settings → ℕ → List (List ℕ) → List Found → List Found → Type 0
+abbrev pub Finds : SetupView → ℕ → List (List ℕ) → List Found → List Found → Type 0
 Finds s link [] before after = after ≡ before
-Finds s link (p ∷ ps) before after = (f : Finding) × ComesTo s p f × Finds s link ps (found_on link f ∷ before) after
+Finds s link (p ∷ ps) before after = (f : FrameClass) × IsClassOfPayload s p f × Finds s link ps (found_on link f ∷ before) after
 
 -- ---- links
 
@@ -62,27 +62,27 @@ abbrev pub IsOpen : History → ℕ → Type 0
 IsOpen h link = (fed : List ℕ) × (slice_get h.links link ≡ Some (record { fed = fed; is_closed = false }))
 
 -- the history with a piece more on an open link
-pub record IsAfterFeed (s : Settings) (h : History) (link : ℕ) (piece : List ℕ) (next : History) : Type 0 where
+pub record IsAfterFeed (s : SetupView) (h : History) (link : ℕ) (piece : List ℕ) (next : History) : Type 0 where
   pub links : next.links ≡ with_piece link piece h.links
   pub found : Finds s link (found_by_piece (fed_on link h.links) piece) h.found next.found
 
 -- the history with an open link closed
-pub record IsAfterClose (s : Settings) (h : History) (link : ℕ) (next : History) : Type 0 where
+pub record IsAfterClose (s : SetupView) (h : History) (link : ℕ) (next : History) : Type 0 where
   pub links : next.links ≡ with_closed link h.links
   pub found : Finds s link (found_by_close (fed_on link h.links)) h.found next.found
 
 -- ---- the newest epoch of a link
 
 -- the observation epoch of a message of the chosen station
-abbrev pub epoch_found : Finding → Option ℕ
+abbrev pub epoch_found : FrameClass → Option ℕ
 epoch_found OtherMessage = None
 epoch_found (Refused fault) = None
 epoch_found Foreign = None
-epoch_found (Arrived a) = epoch_of a
+epoch_found (Dated a) = epoch_of a
 
 -- the same of the payload of a frame
-abbrev pub IsEpochIn : Settings → List ℕ → Option ℕ → Type 0
-IsEpochIn s payload epoch = (f : Finding) × ComesTo s payload f × (epoch ≡ epoch_found f)
+abbrev pub IsEpochIn : SetupView → List ℕ → Option ℕ → Type 0
+IsEpochIn s payload epoch = (f : FrameClass) × IsClassOfPayload s payload f × (epoch ≡ epoch_found f)
 
 -- the greater of two epochs
 abbrev pub later_of : Option ℕ → Option ℕ → Option ℕ

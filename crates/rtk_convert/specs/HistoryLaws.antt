@@ -1,29 +1,29 @@
 -- Laws: a payload comes to one finding, so a call to one history, and any calls find one list of frames; one link is next,
 -- so reads come to one history. All of it is this project's rule.
 use Rattle.std.specs.Prelude.{◌≡◌, ℕ, List}
-use Rattle.rtk_convert.specs.declared.arrival.Finding.{Finding}
+use Rattle.rtk_convert.specs.declared.frame_class.FrameClass.{FrameClass}
 use Rattle.rtk_convert.specs.Converter.{IsAfterClosingAll}
-use Rattle.rtk_convert.specs.Finding.{ComesTo, Found}
+use Rattle.rtk_convert.specs.FrameClass.{IsClassOfPayload, Found}
 use Rattle.rtk_convert.specs.Headline.{Call, FindAll}
 use Rattle.rtk_convert.specs.History.{History, IsAfterFeed, IsAfterClose, IsNextLink}
-use Rattle.rtk_convert.specs.Reads.{Read, IsHistoryOf}
-use Rattle.rtk_convert.specs.Settings.{Settings}
+use Rattle.rtk_convert.specs.ReadHistory.{Read, IsHistoryOf}
+use Rattle.rtk_convert.specs.Setup.{SetupView}
 
 abbrev pub ComesToOne : Type 0
-ComesToOne = (s : Settings) (payload : List ℕ) (f g : Finding) → ComesTo s payload f → ComesTo s payload g → f ≡ g
+ComesToOne = (s : SetupView) (payload : List ℕ) (f g : FrameClass) → IsClassOfPayload s payload f → IsClassOfPayload s payload g → f ≡ g
 
 abbrev pub FeedsToOne : Type 0
-FeedsToOne = (s : Settings) (h : History) (link : ℕ) (piece : List ℕ) (a b : History) → IsAfterFeed s h link piece a → IsAfterFeed s h link piece b → a ≡ b
+FeedsToOne = (s : SetupView) (h : History) (link : ℕ) (piece : List ℕ) (a b : History) → IsAfterFeed s h link piece a → IsAfterFeed s h link piece b → a ≡ b
 
 abbrev pub ClosesToOne : Type 0
-ClosesToOne = (s : Settings) (h : History) (link : ℕ) (a b : History) → IsAfterClose s h link a → IsAfterClose s h link b → a ≡ b
+ClosesToOne = (s : SetupView) (h : History) (link : ℕ) (a b : History) → IsAfterClose s h link a → IsAfterClose s h link b → a ≡ b
 
 abbrev pub EndsAtOne : Type 0
-EndsAtOne = (s : Settings) (h : History) (links : ℕ) (a b : History) → IsAfterClosingAll s h links a → IsAfterClosingAll s h links b → a ≡ b
+EndsAtOne = (s : SetupView) (h : History) (links : ℕ) (a b : History) → IsAfterClosingAll s h links a → IsAfterClosingAll s h links b → a ≡ b
 
 -- so what is said of the frames that calls find is said of one list, wherever it is said
 abbrev pub CallsFindOne : Type 0
-CallsFindOne = (s : Settings) (links : ℕ) (calls : List Call) (one other : List Found) → FindAll s links calls one → FindAll s links calls other → one ≡ other
+CallsFindOne = (s : SetupView) (links : ℕ) (calls : List Call) (one other : List Found) → FindAll s links calls one → FindAll s links calls other → one ≡ other
 
 -- the order of reading is a function of the history
 abbrev pub NextIsOne : Type 0
@@ -31,4 +31,4 @@ NextIsOne = (h : History) (one other : ℕ) → IsNextLink h one → IsNextLink 
 
 -- so the reads that were made fix the history, and with it the link that is read next
 abbrev pub ReadsComeToOne : Type 0
-ReadsComeToOne = (s : Settings) (links : ℕ) (reads : List Read) (a b : History) → IsHistoryOf s links reads a → IsHistoryOf s links reads b → a ≡ b
+ReadsComeToOne = (s : SetupView) (links : ℕ) (reads : List Read) (a b : History) → IsHistoryOf s links reads a → IsHistoryOf s links reads b → a ≡ b

@@ -9,13 +9,13 @@ use Rattle.rtk_obs.specs.Slip.{epoch_cell}
 use Rattle.rtk_obs.specs.Rollover.{last_after}
 use Rattle.rtk_obs.specs.Cell.{IsSatellite}
 use Rattle.rtk_obs.specs.Tracks.{IsLater, track_at, place_of_signal}
-use Rattle.rtk_collect.specs.EpochCells.{EpochCells}
+use Rattle.rtk_collect.specs.EpochSet.{EpochSetView}
 use Rattle.rtk_rinex.specs.declared.epoch_table.Observed.{Observed}
-use Rattle.rtk_rinex.specs.Record.{IsStrength}
+use Rattle.rtk_rinex.specs.Record.{IsStrengthOrNone}
 use Rattle.rtk_convert.specs.Rows.{first_cell, last_phase_of, observed_after}
 
 -- each satellite and code has its last phase at these epochs
-abbrev pub HasLastPhases : List (Option Track) → List EpochCells → Type 0
+abbrev pub HasLastPhases : List (Option Track) → List EpochSetView → Type 0
 HasLastPhases tracks epochs =
     (satellite : ℕ) (code : Code) → IsSatellite satellite → track_at tracks satellite code ≡ last_phase_of epochs satellite code
 
@@ -46,7 +46,7 @@ MayShow tracks shown epoch =
 
 -- the strengths shown are such as messages give
 abbrev pub AreStrengths : List (Option Observed) → Type 0
-AreStrengths shown = (k : ℕ) → IfSome (slice_index_or shown k None) (λ o. IsStrength o.strength_millidbhz)
+AreStrengths shown = (k : ℕ) → IfSome (slice_index_or shown k None) (λ o. IsStrengthOrNone o.strength_millidbhz)
 
 -- no place shows anything
 abbrev pub ShowsNothing : List (Option Observed) → Type 0

@@ -2,11 +2,11 @@
 use Rattle.std.specs.Prelude.{◌≡◌, ℕ, Bool, List, Option, is_some}
 use Rattle.rtk_obs.specs.declared.code.Code.{Code}
 use Rattle.rtk_obs.specs.declared.track.Track.{Track}
-use Rattle.rtk_collect.specs.EpochCells.{EpochCells}
+use Rattle.rtk_collect.specs.EpochSet.{EpochSetView}
 use Rattle.rtk_convert.specs.File.{first_time, record_count}
 use Rattle.rtk_convert.specs.LastPhases.{HasLastPhases}
 
-pub record Closed : Type 0 where
+pub record RecordsView : Type 0 where
   -- the last phase of each satellite and code
   pub tracks : List (Option Track)
   -- the header is out
@@ -15,7 +15,7 @@ pub record Closed : Type 0 where
   pub count : ℕ
 
 -- these are the closed epochs, falling: the header is out once one of them has a record
-pub record Follows (c : Closed) (listed : List Code) (epochs : List EpochCells) : Type 0 where
+pub record HasClosed (c : RecordsView) (listed : List Code) (epochs : List EpochSetView) : Type 0 where
   pub phases : HasLastPhases c.tracks epochs
   pub header_out : c.header_out ≡ is_some (first_time listed epochs)
   pub count : c.count ≡ record_count listed epochs

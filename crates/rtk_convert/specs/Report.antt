@@ -4,14 +4,14 @@ use Rattle.rtk_frame.specs.Stream.{count_after}
 use Rattle.rtk_message.specs.declared.fault.DecodeFault.{DecodeFault}
 use Rattle.rtk_message.specs.declared.fault.DecodeFault.TheVariants.{NoNumber, Other, Short, EpochRange, TooManyCells}
 use Rattle.rtk_message.specs.Decoded.{number_of}
-use Rattle.rtk_collect.specs.declared.conflicts.SatelliteCode.{SatelliteCode}
-use Rattle.rtk_collect.specs.declared.offers.Offer.{Offer}
-use Rattle.rtk_collect.specs.declared.offers.Offer.TheVariants.{Taken, Conflict, Repeat, Late}
+use Rattle.rtk_collect.specs.declared.offer.SatelliteCode.{SatelliteCode}
+use Rattle.rtk_collect.specs.declared.offer.Offer.{Offer}
+use Rattle.rtk_collect.specs.declared.offer.Offer.TheVariants.{Taken, Conflict, Repeat, Late}
 use Rattle.rtk_collect.specs.Arrival.{Arrival, epoch_of, message_of}
 use Rattle.rtk_collect.specs.Answer.{Class, LateClass, TakenClass, RepeatClass, ConflictClass, class_of, conflicts_of}
-use Rattle.rtk_convert.specs.Finding.{Found, arrivals}
-use Rattle.rtk_convert.specs.declared.arrival.Finding.{Finding}
-use Rattle.rtk_convert.specs.declared.arrival.Finding.TheVariants.{OtherMessage, Refused, Foreign, Arrived}
+use Rattle.rtk_convert.specs.FrameClass.{Found, arrivals}
+use Rattle.rtk_convert.specs.declared.frame_class.FrameClass.{FrameClass}
+use Rattle.rtk_convert.specs.declared.frame_class.FrameClass.TheVariants.{OtherMessage, Refused, Foreign, Dated}
 use Rattle.rtk_convert.specs.ReportText.{link_text, late_line, conflict_line, cell_conflict_line}
 use Rattle.rtk_convert.specs.declared.counts.Counts.{Counts}
 
@@ -54,11 +54,11 @@ offer_lines link number epoch Repeat = []
 offer_lines link number epoch (Conflict cells) = conflict_lines link number epoch cells
 
 -- the lines of a found frame, after the arrivals before it, in a window of n epochs
-abbrev pub frame_lines : ℕ → ℕ → Finding → List Arrival → List ℕ
+abbrev pub frame_lines : ℕ → ℕ → FrameClass → List Arrival → List ℕ
 frame_lines n link OtherMessage before = []
 frame_lines n link (Refused fault) before = refused_line link fault
 frame_lines n link Foreign before = []
-frame_lines n link (Arrived a) before = class_lines link (number_of (message_of a)) (epoch_of a) (class_of n a before) (conflicts_of n a before)
+frame_lines n link (Dated a) before = class_lines link (number_of (message_of a)) (epoch_of a) (class_of n a before) (conflicts_of n a before)
 
 -- the lines of all found frames, in order
 abbrev pub lines : ℕ → List Found → List ℕ
@@ -84,11 +84,11 @@ counted_offer (Conflict cells) c = counted_as ConflictClass c
 counted_offer Repeat c = counted_as RepeatClass c
 
 -- each frame is in exactly one of the seven counts
-abbrev pub counted : ℕ → Finding → List Arrival → Counts → Counts
+abbrev pub counted : ℕ → FrameClass → List Arrival → Counts → Counts
 counted n OtherMessage before c = record c { other = count_after c.other }
 counted n (Refused fault) before c = record c { refused = count_after c.refused }
 counted n Foreign before c = record c { foreign = count_after c.foreign }
-counted n (Arrived a) before c = counted_as (class_of n a before) c
+counted n (Dated a) before c = counted_as (class_of n a before) c
 
 abbrev pub one_frame_more : Counts → Counts
 one_frame_more c = record c { frames = count_after c.frames }

@@ -22,16 +22,16 @@ abbrev pub link_text : ℕ → List ℕ
 link_text link = codes "link " ++ decimal (link + 1)
 
 -- a link, a message number and an epoch, as in: link 2 late 1074 2024-05-17 12:00:00.000
-abbrev pub message_text : ℕ → List ℕ → ℕ → Option ℕ → List ℕ
-message_text link what number epoch = link_text link ++ what ++ decimal number ++ 32 ∷ epoch_text epoch
+abbrev pub arrival_text : ℕ → List ℕ → ℕ → Option ℕ → List ℕ
+arrival_text link what number epoch = link_text link ++ what ++ decimal number ++ 32 ∷ epoch_text epoch
 
 -- a message that came too late
 abbrev pub late_line : ℕ → ℕ → Option ℕ → List ℕ
-late_line link number epoch = message_text link (codes " late ") number epoch ++ 10 ∷ []
+late_line link number epoch = arrival_text link (codes " late ") number epoch ++ 10 ∷ []
 
 -- a station message that differs from the one before
 abbrev pub conflict_line : ℕ → ℕ → List ℕ
-conflict_line link number = message_text link (codes " conflict ") number None ++ 10 ∷ []
+conflict_line link number = arrival_text link (codes " conflict ") number None ++ 10 ∷ []
 
 -- a satellite and a code, as in: G05 1C
 unfoldable pub signal_text : ℕ → Code → List ℕ
@@ -40,7 +40,7 @@ signal_text satellite code = codes " G" ++ last_digits 2 satellite ++ 32 ∷ nam
 -- a cell that differs from the one before, as in: link 1 conflict 1074 2024-05-17 12:00:00.000 G05 1C
 abbrev pub cell_conflict_line : ℕ → ℕ → ℕ → ℕ → Code → List ℕ
 cell_conflict_line link number epoch satellite code =
-    message_text link (codes " conflict ") number (Some epoch) ++ signal_text satellite code ++ 10 ∷ []
+    arrival_text link (codes " conflict ") number (Some epoch) ++ signal_text satellite code ++ 10 ∷ []
 
 abbrev pub count_line : List ℕ → ℕ → List ℕ
 count_line name count = name ++ decimal count ++ 10 ∷ []

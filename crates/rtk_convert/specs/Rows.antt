@@ -11,10 +11,10 @@ use Rattle.rtk_obs.specs.declared.track.Digits.{Digits}
 use Rattle.rtk_obs.specs.Code.{place_of, band_of}
 use Rattle.rtk_obs.specs.Slip.{EpochCell, epoch_cell, is_same_source}
 use Rattle.rtk_obs.specs.Rollover.{last_phase, digits_since, rolled_phase}
-use Rattle.rtk_collect.specs.EpochCells.{EpochCells}
+use Rattle.rtk_collect.specs.EpochSet.{EpochSetView}
 use Rattle.rtk_rinex.specs.declared.epoch_table.Observed.{Observed}
 use Rattle.rtk_rinex.specs.declared.epoch_table.SatelliteRow.{SatelliteRow}
-use Rattle.rtk_rinex.specs.Record.{Epoch}
+use Rattle.rtk_rinex.specs.Record.{EpochTableView}
 
 -- ---- the cell of a satellite and code (this project's rule)
 
@@ -42,13 +42,13 @@ and_below epoch None below = below
 and_below epoch (Some cell) below = epoch_cell epoch cell ∷ below
 
 -- the cells of a satellite and code at these epochs, be the code listed or not
-abbrev pub cells_of : List EpochCells → ℕ → Code → List EpochCell
-cells_of [] satellite code = []
-cells_of (e ∷ below) satellite code = and_below e.epoch (cell_at e.cells satellite code) (cells_of below satellite code)
+abbrev pub cells_at_epochs : List EpochSetView → ℕ → Code → List EpochCell
+cells_at_epochs [] satellite code = []
+cells_at_epochs (e ∷ below) satellite code = and_below e.epoch (cell_at e.cells satellite code) (cells_at_epochs below satellite code)
 
 -- the last phase of a satellite and code at these epochs
-abbrev pub last_phase_of : List EpochCells → ℕ → Code → Option Track
-last_phase_of below satellite code = last_phase (band_of code) (cells_of below satellite code)
+abbrev pub last_phase_of : List EpochSetView → ℕ → Code → Option Track
+last_phase_of below satellite code = last_phase (band_of code) (cells_at_epochs below satellite code)
 
 -- ---- what is shown of it (RINEX 3.05, Table A3)
 
@@ -67,7 +67,7 @@ observed_after last code epoch None = None
 observed_after last code epoch (Some c) = Some (observed_with c (digits_since (band_of code) last (epoch_cell epoch c)))
 
 -- what a satellite and code show at an epoch, given the epochs below
-abbrev pub observed_at : EpochCells → List EpochCells → ℕ → Code → Option Observed
+abbrev pub observed_at : EpochSetView → List EpochSetView → ℕ → Code → Option Observed
 observed_at e below satellite code = observed_after (last_phase_of below satellite code) code e.epoch (cell_at e.cells satellite code)
 
 -- ---- the table
@@ -93,9 +93,9 @@ unfoldable pub rows_to : (ℕ → Code → Option Observed) → List Code → �
 rows_to shown listed zero = []
 rows_to shown listed (suc n) = rows_to shown listed n ++ row_if_any shown listed (suc n)
 
-abbrev pub table_with : ℕ → (ℕ → Code → Option Observed) → List Code → Epoch
+abbrev pub table_with : ℕ → (ℕ → Code → Option Observed) → List Code → EpochTableView
 table_with epoch shown listed = record { time = epoch; rows = rows_to shown listed 32 }
 
 -- the table of an epoch for the listed codes, given the epochs below it
-abbrev pub table_of : List Code → EpochCells → List EpochCells → Epoch
+abbrev pub table_of : List Code → EpochSetView → List EpochSetView → EpochTableView
 table_of listed e below = table_with e.epoch (observed_at e below) listed

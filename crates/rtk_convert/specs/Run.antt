@@ -1,23 +1,23 @@
 -- What a run does: the file and the report of what its readers gave, or how far it came.
 use Rattle.std.specs.Prelude.{◌≡◌, ◌⊎◌, ℕ, ◌+◌, ◌≤◌, List, [], ◌∷◌, ◌++◌, length, Option, slice_index_or}
-use Rattle.rtk_frame.specs.Stream.{with_more, Rises}
+use Rattle.rtk_frame.specs.Stream.{with_more, CountRises}
 use Rattle.rtk_convert.specs.Converter.{WritesInto}
-use Rattle.rtk_convert.specs.declared.arrival.Finding.{Finding}
+use Rattle.rtk_convert.specs.declared.frame_class.FrameClass.{FrameClass}
 use Rattle.rtk_convert.specs.declared.counts.Counts.{Counts}
 use Rattle.rtk_convert.specs.FileOfArrivals.{kept_file, file_so_far}
-use Rattle.rtk_convert.specs.Finding.{Found, ComesTo, arrivals}
+use Rattle.rtk_convert.specs.FrameClass.{Found, IsClassOfPayload, arrivals}
 use Rattle.rtk_convert.specs.Finish.{all_counts, report_of}
 use Rattle.rtk_convert.specs.History.{History, Finds, IsOpen, IsNextLink}
-use Rattle.rtk_convert.specs.Reading.{read_of, found_by_read, HasRead, HasCalled}
-use Rattle.rtk_convert.specs.Reads.{Read, IsHistoryOf, AllClosed, AreAtEnd, AllAtEnd, Gave}
+use Rattle.rtk_convert.specs.ReadSteps.{read_of, found_by_read, HasRead, HasCalled}
+use Rattle.rtk_convert.specs.ReadHistory.{Read, IsHistoryOf, AllClosed, AreAtEnd, AllAtEnd, Gave}
 use Rattle.rtk_convert.specs.Report.{lines}
-use Rattle.rtk_convert.specs.Settings.{Settings}
-use Rattle.rtk_convert.specs.State.{found_on}
+use Rattle.rtk_convert.specs.Setup.{SetupView}
+use Rattle.rtk_convert.specs.Conversion.{found_on}
 
 -- ---- to the end
 
 -- all links were read to their end, by so many calls as there are reads, and the file and the report of what they gave are out
-pub record RunsAs {R : Type 0} (given : R → Option (List ℕ)) (calls : R → ℕ) (is_at_end : R → Type 0) (s : Settings) (before after : List R) (counts : Counts) (out_old out_new log_old log_new : Option (List ℕ)) : Type 0 where
+pub record RunsAs {R : Type 0} (given : R → Option (List ℕ)) (calls : R → ℕ) (is_at_end : R → Type 0) (s : SetupView) (before after : List R) (counts : Counts) (out_old out_new log_old log_new : Option (List ℕ)) : Type 0 where
   pub reads : List Read
   pub history : History
   pub comes_to : IsHistoryOf s (length before) reads history
@@ -32,16 +32,16 @@ pub record RunsAs {R : Type 0} (given : R → Option (List ℕ)) (calls : R → 
 -- ---- so far as it came
 
 -- a read of a link failed; exactly the file so far and the lines of what was read before are out
-pub record FailsReading {R : Type 0} (given : R → Option (List ℕ)) (failures calls : R → ℕ) (s : Settings) (link : ℕ) (before after : List R) (out_old out_new log_old log_new : Option (List ℕ)) : Type 0 where
+pub record FailsReading {R : Type 0} (given : R → Option (List ℕ)) (failures calls : R → ℕ) (s : SetupView) (link : ℕ) (before after : List R) (out_old out_new log_old log_new : Option (List ℕ)) : Type 0 where
   pub reads : List Read
   pub history : History
   pub has_read : HasRead given s before after reads history out_old out_new log_old log_new
   pub called : HasCalled calls before after (length reads + 1)
   pub is_next : IsNextLink history link
-  pub failed : (none : R) → Rises (failures (slice_index_or before link none)) (failures (slice_index_or after link none))
+  pub failed : (none : R) → CountRises (failures (slice_index_or before link none)) (failures (slice_index_or after link none))
 
 -- a link is open still after so many reads; exactly the file so far and the lines of what was read are out
-pub record StaysOpen {R : Type 0} (given : R → Option (List ℕ)) (is_at_end : R → Type 0) (s : Settings) (max_reads : ℕ) (before after : List R) (out_old out_new log_old log_new : Option (List ℕ)) : Type 0 where
+pub record StaysOpen {R : Type 0} (given : R → Option (List ℕ)) (is_at_end : R → Type 0) (s : SetupView) (max_reads : ℕ) (before after : List R) (out_old out_new log_old log_new : Option (List ℕ)) : Type 0 where
   pub reads : List Read
   pub history : History
   pub has_read : HasRead given s before after reads history out_old out_new log_old log_new
@@ -51,20 +51,20 @@ pub record StaysOpen {R : Type 0} (given : R → Option (List ℕ)) (is_at_end :
   pub is_open : IsOpen history link
 
 -- of the frames that a read finds, those before the one in hand are written, and a first part of what that one adds
-pub record IsCutAt (s : Settings) (link : ℕ) (payloads : List (List ℕ)) (before : List Found) (out_old out_new log_old log_new : Option (List ℕ)) : Type 0 where
+pub record IsCutAt (s : SetupView) (link : ℕ) (payloads : List (List ℕ)) (before : List Found) (out_old out_new log_old log_new : Option (List ℕ)) : Type 0 where
   pub done : List (List ℕ)
   pub payload : List ℕ
   pub left : List (List ℕ)
   pub split : payloads ≡ done ++ payload ∷ left
   pub found : List Found
   pub finds : Finds s link done before found
-  pub finding : Finding
-  pub comes : ComesTo s payload finding
+  pub finding : FrameClass
+  pub comes : IsClassOfPayload s payload finding
   pub out : WritesInto out_old out_new [] (file_so_far s (arrivals found)) (file_so_far s (arrivals (found_on link finding ∷ found)))
   pub log : WritesInto log_old log_new [] (lines s.window found) (lines s.window (found_on link finding ∷ found))
 
 -- the run breaks off at a frame that its last read found
-pub record BreaksOffReading {R : Type 0} (given : R → Option (List ℕ)) (calls : R → ℕ) (s : Settings) (before after : List R) (out_old out_new log_old log_new : Option (List ℕ)) : Type 0 where
+pub record BreaksOffReading {R : Type 0} (given : R → Option (List ℕ)) (calls : R → ℕ) (s : SetupView) (before after : List R) (out_old out_new log_old log_new : Option (List ℕ)) : Type 0 where
   pub reads : List Read
   pub history : History
   pub comes_to : IsHistoryOf s (length before) reads history
@@ -83,7 +83,7 @@ pub record IsUntouched {R : Type 0} (before after : List R) (out_old out_new log
   pub log : log_new ≡ log_old
 
 -- the run breaks off at its end: what the links gave is written, and a first part of the rest
-pub record BreaksOffAtEnd {R : Type 0} (given : R → Option (List ℕ)) (calls : R → ℕ) (is_at_end : R → Type 0) (s : Settings) (before after : List R) (out_old out_new log_old log_new : Option (List ℕ)) : Type 0 where
+pub record BreaksOffAtEnd {R : Type 0} (given : R → Option (List ℕ)) (calls : R → ℕ) (is_at_end : R → Type 0) (s : SetupView) (before after : List R) (out_old out_new log_old log_new : Option (List ℕ)) : Type 0 where
   pub reads : List Read
   pub history : History
   pub comes_to : IsHistoryOf s (length before) reads history
@@ -95,8 +95,8 @@ pub record BreaksOffAtEnd {R : Type 0} (given : R → Option (List ℕ)) (calls 
   pub log : WritesInto log_old log_new [] (lines s.window history.found) (report_of s history.found)
 
 -- memory was refused, or a write failed: before anything was read, at a frame, or at the end
-abbrev pub BreaksOff : {R : Type 0} → (R → Option (List ℕ)) → (R → ℕ) → (R → Type 0) → Settings → List R → List R → Option (List ℕ) → Option (List ℕ) → Option (List ℕ) → Option (List ℕ) → Type 0
-BreaksOff given calls is_at_end s before after out_old out_new log_old log_new =
+abbrev pub BreaksOffRun : {R : Type 0} → (R → Option (List ℕ)) → (R → ℕ) → (R → Type 0) → SetupView → List R → List R → Option (List ℕ) → Option (List ℕ) → Option (List ℕ) → Option (List ℕ) → Type 0
+BreaksOffRun given calls is_at_end s before after out_old out_new log_old log_new =
     IsUntouched before after out_old out_new log_old log_new
     ⊎ (BreaksOffReading given calls s before after out_old out_new log_old log_new
     ⊎ BreaksOffAtEnd given calls is_at_end s before after out_old out_new log_old log_new)

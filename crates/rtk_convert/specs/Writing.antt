@@ -3,9 +3,9 @@ use Rattle.std.specs.Prelude.{◌≡◌, ℕ, List, ◌++◌, Option}
 use Rattle.rtk_frame.specs.Stream.{with_more}
 
 -- what the second text has past the first
-abbrev pub Writes : Option (List ℕ) → Option (List ℕ) → List ℕ → List ℕ → Type 0
-Writes before after first second = (more : List ℕ) × (second ≡ first ++ more) × (after ≡ with_more before more)
+abbrev pub WritesRest : Option (List ℕ) → Option (List ℕ) → List ℕ → List ℕ → Type 0
+WritesRest before after first second = (more : List ℕ) × (second ≡ first ++ more) × (after ≡ with_more before more)
 
 -- a first part of that, perhaps none or all of it
-abbrev pub WritesPart : Option (List ℕ) → Option (List ℕ) → List ℕ → List ℕ → Type 0
-WritesPart before after first second = (more : List ℕ) × (rest : List ℕ) × (second ≡ first ++ (more ++ rest)) × (after ≡ with_more before more)
+abbrev pub WritesPartOfRest : Option (List ℕ) → Option (List ℕ) → List ℕ → List ℕ → Type 0
+WritesPartOfRest before after first second = (more : List ℕ) × (rest : List ℕ) × (second ≡ first ++ (more ++ rest)) × (after ≡ with_more before more)

@@ -1,20 +1,19 @@
 //! What all links together have come to: one found frame at a time.
 
 ghost use Rattle.std.specs.Prelude.{◌≡◌, ◌≢◌, ◌↔◌, [], true, false, List, Err, OnOk, OnErr, IsErrOf, IfOk, IfErr};
-ghost use Rattle.rtk_frame.specs.Stream.{Rises};
+ghost use Rattle.rtk_frame.specs.Stream.{CountRises};
 ghost use Rattle.rtk_convert.specs.Failure.{IsFrameFault};
-ghost use Rattle.rtk_convert.specs.Finish.{Finishes, FinishesInPart};
+ghost use Rattle.rtk_convert.specs.Finish.{FinishesConversion, FinishesConversionInPart};
 ghost use Rattle.rtk_convert.specs.History.{IsEpochIn};
-ghost use Rattle.rtk_convert.specs.Offering.{Takes, TakesInPart, closed_by};
+ghost use Rattle.rtk_convert.specs.AddedMessage.{AddsMessage, AddsMessageInPart, closed_by};
 ghost use Rattle.rtk_convert.specs.Report.{counted_offer};
-ghost use Rattle.rtk_convert.specs.State.{Represents, IsAhead, Arrives, BreaksOff, HasCause};
+ghost use Rattle.rtk_convert.specs.Conversion.{RepresentsFound, IsAhead, AcceptsFrame, BreaksOffAtFrame, HasCause};
 
-use crate::arrival::{Finding, find};
 use crate::counts::Counts;
 use crate::fault::{ConvertFault, Stream};
-use crate::finish::close_left;
+use crate::frame_class::{FrameClass, classify};
 use crate::output::{put_last_header, put_lines};
-use crate::records::Records;
+use crate::records::{close_left, Records};
 use crate::report;
 use crate::setup::Setup;
 use rtk_collect::{Collector, Dated, EpochSet, Offer};
@@ -38,19 +37,19 @@ pub(crate) struct Conversion {
 }
 
 impl Model for Conversion {
-    ghost use Rattle.rtk_convert.specs.State.{State, IsState};
+    ghost use Rattle.rtk_convert.specs.Conversion.{ConversionView, IsConversionView};
 
-    ghost Value = { State };
+    ghost Value = { ConversionView };
 
     ghost view = { λ c. record { settings = c.setup; window = c.collector; closed = c.records; counts = c.counts; stopped = c.stopped } };
 
-    ghost invariant = { λ c. IsState (record { settings = c.setup; window = c.collector; closed = c.records; counts = c.counts; stopped = c.stopped }) };
+    ghost invariant = { λ c. IsConversionView (record { settings = c.setup; window = c.collector; closed = c.records; counts = c.counts; stopped = c.stopped }) };
 }
 
 impl Conversion {
     /// Nothing was found yet. It takes no memory.
     pub(crate) fn new(alloc: Global, setup: Setup) -> Conversion
-        ensures represents { Represents result [] }
+        ensures represents { RepresentsFound result [] }
         ensures settings { result.settings ≡ setup }
         ensures going { result.stopped ≡ false }
     {
@@ -86,7 +85,7 @@ impl Conversion {
     /// Takes the payload of a frame that was found on a link, counted from 0: writes the record of
     /// the epoch that it closes to `out`, and its lines to `log`. Answers its epoch, if it is an
     /// observation of the chosen station, be it late or not.
-    pub(crate) fn arrive<O: Sink, L: Sink>(
+    pub(crate) fn accept_frame<O: Sink, L: Sink>(
         &mut self,
         link: u8,
         payload: &[u8],
@@ -99,28 +98,28 @@ impl Conversion {
         ensures going { OnOk result (self.new.stopped ≡ false) }
         ensures halts { OnErr result (self.new.stopped ≡ true) }
         ensures epoch { IfOk result (λ epoch. IsEpochIn self.old.settings payload.now epoch) }
-        ensures ok { OnOk result (Arrives self.old link payload.now self.new (O.taken out.old) (O.taken out.new) (L.taken log.old) (L.taken log.new)) }
-        ensures err { OnErr result (self.old.stopped ≡ false → BreaksOff self.old link payload.now (O.taken out.old) (O.taken out.new) (L.taken log.old) (L.taken log.new)) }
+        ensures ok { OnOk result (AcceptsFrame self.old link payload.now self.new (O.taken out.old) (O.taken out.new) (L.taken log.old) (L.taken log.new)) }
+        ensures err { OnErr result (self.old.stopped ≡ false → BreaksOffAtFrame self.old link payload.now (O.taken out.old) (O.taken out.new) (L.taken log.old) (L.taken log.new)) }
         ensures fault { self.old.stopped ≡ false → IfErr result IsFrameFault }
         ensures cause { OnErr result (self.old.stopped ≡ false → HasCause self.old.settings payload.now) }
         ensures out_same { OnOk result (O.failures out.new ≡ O.failures out.old) }
         ensures log_same { OnOk result (L.failures log.new ≡ L.failures log.old) }
-        ensures out_failed { IsErrOf result (ConvertFault.Write Stream.Out) → Rises (O.failures out.old) (O.failures out.new) }
+        ensures out_failed { IsErrOf result (ConvertFault.Write Stream.Out) → CountRises (O.failures out.old) (O.failures out.new) }
         ensures out_kept { IfErr result (λ fault. fault ≢ ConvertFault.Write Stream.Out → O.failures out.new ≡ O.failures out.old) }
-        ensures log_failed { IsErrOf result (ConvertFault.Write Stream.Log) → Rises (L.failures log.old) (L.failures log.new) }
+        ensures log_failed { IsErrOf result (ConvertFault.Write Stream.Log) → CountRises (L.failures log.old) (L.failures log.new) }
         ensures log_kept { IfErr result (λ fault. fault ≢ ConvertFault.Write Stream.Log → L.failures log.new ≡ L.failures log.old) }
     {
         if self.stopped {
             return Err(ConvertFault::Stopped);
         }
         self.stopped = true;
-        let epoch = self.take(link, payload, out, log)?;
+        let epoch = self.handle_payload(link, payload, out, log)?;
         self.stopped = false;
         Ok(epoch)
     }
 
     // Takes the payload of a frame. Whether it has stopped is left as it is.
-    fn take<O: Sink, L: Sink>(
+    fn handle_payload<O: Sink, L: Sink>(
         &mut self,
         link: u8,
         payload: &[u8],
@@ -133,28 +132,28 @@ impl Conversion {
         ensures stopped { self.new.stopped ≡ true }
         ensures ahead { OnOk result (IsAhead self.new.window self.new.closed) }
         ensures epoch { IfOk result (λ epoch. IsEpochIn self.old.settings payload.now epoch) }
-        ensures ok { OnOk result (Arrives self.old link payload.now self.new (O.taken out.old) (O.taken out.new) (L.taken log.old) (L.taken log.new)) }
-        ensures err { OnErr result (BreaksOff self.old link payload.now (O.taken out.old) (O.taken out.new) (L.taken log.old) (L.taken log.new)) }
+        ensures ok { OnOk result (AcceptsFrame self.old link payload.now self.new (O.taken out.old) (O.taken out.new) (L.taken log.old) (L.taken log.new)) }
+        ensures err { OnErr result (BreaksOffAtFrame self.old link payload.now (O.taken out.old) (O.taken out.new) (L.taken log.old) (L.taken log.new)) }
         ensures fault { IfErr result IsFrameFault }
         ensures cause { OnErr result (HasCause self.old.settings payload.now) }
         ensures out_same { OnOk result (O.failures out.new ≡ O.failures out.old) }
         ensures log_same { OnOk result (L.failures log.new ≡ L.failures log.old) }
-        ensures out_failed { IsErrOf result (ConvertFault.Write Stream.Out) → Rises (O.failures out.old) (O.failures out.new) }
+        ensures out_failed { IsErrOf result (ConvertFault.Write Stream.Out) → CountRises (O.failures out.old) (O.failures out.new) }
         ensures out_kept { IfErr result (λ fault. fault ≢ ConvertFault.Write Stream.Out → O.failures out.new ≡ O.failures out.old) }
-        ensures log_failed { IsErrOf result (ConvertFault.Write Stream.Log) → Rises (L.failures log.old) (L.failures log.new) }
+        ensures log_failed { IsErrOf result (ConvertFault.Write Stream.Log) → CountRises (L.failures log.old) (L.failures log.new) }
         ensures log_kept { IfErr result (λ fault. fault ≢ ConvertFault.Write Stream.Log → L.failures log.new ≡ L.failures log.old) }
     {
         self.counts.frames = self.counts.frames.saturating_add(1);
-        match find(&self.setup, payload) {
-            Finding::OtherMessage => {
+        match classify(&self.setup, payload) {
+            FrameClass::OtherMessage => {
                 self.counts.other = self.counts.other.saturating_add(1);
                 Ok(None)
             }
-            Finding::Foreign => {
+            FrameClass::Foreign => {
                 self.counts.foreign = self.counts.foreign.saturating_add(1);
                 Ok(None)
             }
-            Finding::Refused(fault) => {
+            FrameClass::Refused(fault) => {
                 self.counts.refused = self.counts.refused.saturating_add(1);
                 let Ok(line) = report::refused(self.alloc, link, fault) else {
                     return Err(ConvertFault::OutOfMemory);
@@ -162,16 +161,16 @@ impl Conversion {
                 put_lines(log, &line)?;
                 Ok(None)
             }
-            Finding::Arrived(dated) => {
+            FrameClass::Dated(dated) => {
                 let epoch = dated.epoch();
-                self.offer(link, dated, out, log)?;
+                self.handle_message(link, dated, out, log)?;
                 Ok(epoch)
             }
         }
     }
 
     // Offers a message to the window.
-    fn offer<O: Sink, L: Sink>(
+    fn handle_message<O: Sink, L: Sink>(
         &mut self,
         link: u8,
         dated: Dated,
@@ -183,14 +182,14 @@ impl Conversion {
         ensures settings { self.new.settings ≡ self.old.settings }
         ensures stopped { self.new.stopped ≡ true }
         ensures ahead { OnOk result (IsAhead self.new.window self.new.closed) }
-        ensures ok { OnOk result (Takes self.old link dated self.new (O.taken out.old) (O.taken out.new) (L.taken log.old) (L.taken log.new)) }
-        ensures err { OnErr result (TakesInPart self.old link dated (O.taken out.old) (O.taken out.new) (L.taken log.old) (L.taken log.new)) }
+        ensures ok { OnOk result (AddsMessage self.old link dated self.new (O.taken out.old) (O.taken out.new) (L.taken log.old) (L.taken log.new)) }
+        ensures err { OnErr result (AddsMessageInPart self.old link dated (O.taken out.old) (O.taken out.new) (L.taken log.old) (L.taken log.new)) }
         ensures fault { IfErr result IsFrameFault }
         ensures out_same { OnOk result (O.failures out.new ≡ O.failures out.old) }
         ensures log_same { OnOk result (L.failures log.new ≡ L.failures log.old) }
-        ensures out_failed { IsErrOf result (ConvertFault.Write Stream.Out) → Rises (O.failures out.old) (O.failures out.new) }
+        ensures out_failed { IsErrOf result (ConvertFault.Write Stream.Out) → CountRises (O.failures out.old) (O.failures out.new) }
         ensures out_kept { IfErr result (λ fault. fault ≢ ConvertFault.Write Stream.Out → O.failures out.new ≡ O.failures out.old) }
-        ensures log_failed { IsErrOf result (ConvertFault.Write Stream.Log) → Rises (L.failures log.old) (L.failures log.new) }
+        ensures log_failed { IsErrOf result (ConvertFault.Write Stream.Log) → CountRises (L.failures log.old) (L.failures log.new) }
         ensures log_kept { IfErr result (λ fault. fault ≢ ConvertFault.Write Stream.Log → L.failures log.new ≡ L.failures log.old) }
     {
         let number = dated.message().number();
@@ -223,14 +222,14 @@ impl Conversion {
     ) -> Result<Counts, ConvertFault>
         ensures stopped { (result ≡ Err ConvertFault.Stopped) ↔ (self.stopped ≡ true) }
         ensures still { self.stopped ≡ true → (out.new ≡ out.old) × (log.new ≡ log.old) }
-        ensures ok { IfOk result (λ counts. Finishes self counts (O.taken out.old) (O.taken out.new) (L.taken log.old) (L.taken log.new)) }
-        ensures err { OnErr result (self.stopped ≡ false → FinishesInPart self (O.taken out.old) (O.taken out.new) (L.taken log.old) (L.taken log.new)) }
+        ensures ok { IfOk result (λ counts. FinishesConversion self counts (O.taken out.old) (O.taken out.new) (L.taken log.old) (L.taken log.new)) }
+        ensures err { OnErr result (self.stopped ≡ false → FinishesConversionInPart self (O.taken out.old) (O.taken out.new) (L.taken log.old) (L.taken log.new)) }
         ensures fault { self.stopped ≡ false → IfErr result IsFrameFault }
         ensures out_same { OnOk result (O.failures out.new ≡ O.failures out.old) }
         ensures log_same { OnOk result (L.failures log.new ≡ L.failures log.old) }
-        ensures out_failed { IsErrOf result (ConvertFault.Write Stream.Out) → Rises (O.failures out.old) (O.failures out.new) }
+        ensures out_failed { IsErrOf result (ConvertFault.Write Stream.Out) → CountRises (O.failures out.old) (O.failures out.new) }
         ensures out_kept { IfErr result (λ fault. fault ≢ ConvertFault.Write Stream.Out → O.failures out.new ≡ O.failures out.old) }
-        ensures log_failed { IsErrOf result (ConvertFault.Write Stream.Log) → Rises (L.failures log.old) (L.failures log.new) }
+        ensures log_failed { IsErrOf result (ConvertFault.Write Stream.Log) → CountRises (L.failures log.old) (L.failures log.new) }
         ensures log_kept { IfErr result (λ fault. fault ≢ ConvertFault.Write Stream.Log → L.failures log.new ≡ L.failures log.old) }
     {
         if self.stopped {

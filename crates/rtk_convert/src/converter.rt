@@ -1,9 +1,9 @@
 //! Pieces of 1 to 16 links, in any order, to one file.
 
 ghost use Rattle.std.specs.Prelude.{◌≡◌, ◌≢◌, ◌<◌, ◌↔◌, [], true, false, None, length, replicate, OnOk, OnErr, IsErrOf, IfOk, IfErr, IfSome, Decides};
-ghost use Rattle.rtk_frame.specs.ScannerState.{scan};
-ghost use Rattle.rtk_frame.specs.Stream.{Rises};
-ghost use Rattle.rtk_convert.specs.Converter.{IsLinkCount, Represents, refusal, Feeds, FeedsInPart, Closes, ClosesInPart, ClosesAll, ClosesAllInPart, Ends, EndsInPart};
+ghost use Rattle.rtk_frame.specs.ScannerView.{scanner_view};
+ghost use Rattle.rtk_frame.specs.Stream.{CountRises};
+ghost use Rattle.rtk_convert.specs.Converter.{IsLinkCount, RepresentsHistory, refusal, FeedsPiece, FeedsPieceInPart, ClosesLink, ClosesLinkInPart, ClosesAllLinks, ClosesAllLinksInPart, FinishesConverter, FinishesConverterInPart};
 ghost use Rattle.rtk_convert.specs.Failure.{IsFrameFault};
 ghost use Rattle.rtk_convert.specs.History.{History, new_history, IsOpen, newest_on};
 
@@ -28,18 +28,18 @@ pub struct Converter {
 }
 
 impl Model for Converter {
-    ghost use Rattle.rtk_convert.specs.Converter.{ConverterState, IsConverter};
+    ghost use Rattle.rtk_convert.specs.Converter.{ConverterView, IsConverterView};
 
-    ghost Value = { ConverterState };
+    ghost Value = { ConverterView };
 
     ghost view = { λ c. record { conversion = c.conversion; links = c.links.items } };
 
-    ghost invariant = { λ c. IsConverter (record { conversion = c.conversion; links = c.links.items }) };
+    ghost invariant = { λ c. IsConverterView (record { conversion = c.conversion; links = c.links.items }) };
 }
 
 // So many open links on which nothing came.
 fn new_links(alloc: Global, count: usize) -> Result<Vec<Link>, ConvertFault>
-    ensures new { IfOk result (λ links. links.items ≡ replicate count (record { scanner = scan [] false; newest = None })) }
+    ensures new { IfOk result (λ links. links.items ≡ replicate count (record { scanner = scanner_view [] false; newest = None })) }
     ensures fault { IfErr result (λ fault. fault ≡ ConvertFault.OutOfMemory) }
 {
     let mut links = Vec::new(alloc);
@@ -61,7 +61,7 @@ fn new_links(alloc: Global, count: usize) -> Result<Vec<Link>, ConvertFault>
 impl Converter {
     /// Nothing was fed yet. The links are counted from 0.
     pub fn new(alloc: Global, setup: Setup, links: usize) -> Result<Converter, ConvertFault>
-        ensures ok { IfOk result (λ c. Represents c (new_history links)) }
+        ensures ok { IfOk result (λ c. RepresentsHistory c (new_history links)) }
         ensures settings { IfOk result (λ c. c.conversion.settings ≡ setup) }
         ensures as_many { IfOk result (λ c. length c.links ≡ links) }
         ensures setup { IsErrOf result ConvertFault.Setup ↔ ¬ (IsLinkCount links) }
@@ -80,14 +80,14 @@ impl Converter {
     /// How many links there are.
     pub fn links(&self) -> usize
         ensures value { result ≡ length self.now.links }
-        ensures of_history { (h : History) → Represents self.now h → result ≡ length h.links }
+        ensures of_history { (h : History) → RepresentsHistory self.now h → result ≡ length h.links }
     {
         self.links.len()
     }
 
     /// Whether there is such a link and it is open.
     pub fn is_open(&self, link: usize) -> bool
-        ensures { (h : History) → Represents self.now h → Decides result (IsOpen h link) }
+        ensures { (h : History) → RepresentsHistory self.now h → Decides result (IsOpen h link) }
     {
         match self.links.get(link) {
             Some(open) => !open.scanner.ended(),
@@ -98,7 +98,7 @@ impl Converter {
     /// The greatest observation epoch that came on the link, late messages included.
     pub fn newest(&self, link: usize) -> Option<GpsMs>
         requires { link < length self.now.links }
-        ensures { (h : History) → Represents self.now h → result ≡ newest_on link h.found }
+        ensures { (h : History) → RepresentsHistory self.now h → result ≡ newest_on link h.found }
     {
         self.links[link].newest
     }
@@ -131,15 +131,15 @@ impl Converter {
         ensures as_many { length self.new.links ≡ length self.old.links }
         ensures refused { IfSome (refusal self.old link) (λ fault. IsErrOf result fault × (self.new ≡ self.old) × (out.new ≡ out.old) × (log.new ≡ log.old)) }
         ensures fault { refusal self.old link ≡ None → IfErr result IsFrameFault }
-        ensures ok { OnOk result (Feeds self.old link piece.now self.new (O.taken out.old) (O.taken out.new) (L.taken log.old) (L.taken log.new)) }
-        ensures err { IfErr result (λ fault. IsFrameFault fault → FeedsInPart self.old link piece.now (O.taken out.old) (O.taken out.new) (L.taken log.old) (L.taken log.new)) }
+        ensures ok { OnOk result (FeedsPiece self.old link piece.now self.new (O.taken out.old) (O.taken out.new) (L.taken log.old) (L.taken log.new)) }
+        ensures err { IfErr result (λ fault. IsFrameFault fault → FeedsPieceInPart self.old link piece.now (O.taken out.old) (O.taken out.new) (L.taken log.old) (L.taken log.new)) }
         ensures going { OnOk result (self.new.conversion.stopped ≡ false) }
         ensures halts { IfErr result (λ fault. IsFrameFault fault → self.new.conversion.stopped ≡ true) }
         ensures out_same { OnOk result (O.failures out.new ≡ O.failures out.old) }
         ensures log_same { OnOk result (L.failures log.new ≡ L.failures log.old) }
-        ensures out_failed { IsErrOf result (ConvertFault.Write Stream.Out) → Rises (O.failures out.old) (O.failures out.new) }
+        ensures out_failed { IsErrOf result (ConvertFault.Write Stream.Out) → CountRises (O.failures out.old) (O.failures out.new) }
         ensures out_kept { IfErr result (λ fault. fault ≢ ConvertFault.Write Stream.Out → O.failures out.new ≡ O.failures out.old) }
-        ensures log_failed { IsErrOf result (ConvertFault.Write Stream.Log) → Rises (L.failures log.old) (L.failures log.new) }
+        ensures log_failed { IsErrOf result (ConvertFault.Write Stream.Log) → CountRises (L.failures log.old) (L.failures log.new) }
         ensures log_kept { IfErr result (λ fault. fault ≢ ConvertFault.Write Stream.Log → L.failures log.new ≡ L.failures log.old) }
     {
         if let Some(fault) = self.refusal(link) {
@@ -159,15 +159,15 @@ impl Converter {
         ensures as_many { length self.new.links ≡ length self.old.links }
         ensures refused { IfSome (refusal self.old link) (λ fault. IsErrOf result fault × (self.new ≡ self.old) × (out.new ≡ out.old) × (log.new ≡ log.old)) }
         ensures fault { refusal self.old link ≡ None → IfErr result IsFrameFault }
-        ensures ok { OnOk result (Closes self.old link self.new (O.taken out.old) (O.taken out.new) (L.taken log.old) (L.taken log.new)) }
-        ensures err { IfErr result (λ fault. IsFrameFault fault → ClosesInPart self.old link (O.taken out.old) (O.taken out.new) (L.taken log.old) (L.taken log.new)) }
+        ensures ok { OnOk result (ClosesLink self.old link self.new (O.taken out.old) (O.taken out.new) (L.taken log.old) (L.taken log.new)) }
+        ensures err { IfErr result (λ fault. IsFrameFault fault → ClosesLinkInPart self.old link (O.taken out.old) (O.taken out.new) (L.taken log.old) (L.taken log.new)) }
         ensures going { OnOk result (self.new.conversion.stopped ≡ false) }
         ensures halts { IfErr result (λ fault. IsFrameFault fault → self.new.conversion.stopped ≡ true) }
         ensures out_same { OnOk result (O.failures out.new ≡ O.failures out.old) }
         ensures log_same { OnOk result (L.failures log.new ≡ L.failures log.old) }
-        ensures out_failed { IsErrOf result (ConvertFault.Write Stream.Out) → Rises (O.failures out.old) (O.failures out.new) }
+        ensures out_failed { IsErrOf result (ConvertFault.Write Stream.Out) → CountRises (O.failures out.old) (O.failures out.new) }
         ensures out_kept { IfErr result (λ fault. fault ≢ ConvertFault.Write Stream.Out → O.failures out.new ≡ O.failures out.old) }
-        ensures log_failed { IsErrOf result (ConvertFault.Write Stream.Log) → Rises (L.failures log.old) (L.failures log.new) }
+        ensures log_failed { IsErrOf result (ConvertFault.Write Stream.Log) → CountRises (L.failures log.old) (L.failures log.new) }
         ensures log_kept { IfErr result (λ fault. fault ≢ ConvertFault.Write Stream.Log → L.failures log.new ≡ L.failures log.old) }
     {
         if let Some(fault) = self.refusal(link) {
@@ -182,13 +182,13 @@ impl Converter {
         ensures settings { self.new.conversion.settings ≡ self.old.conversion.settings }
         ensures going { OnOk result (self.new.conversion.stopped ≡ false) }
         ensures fault { IfErr result IsFrameFault }
-        ensures ok { OnOk result (ClosesAll self.old self.new (O.taken out.old) (O.taken out.new) (L.taken log.old) (L.taken log.new)) }
-        ensures err { OnErr result (ClosesAllInPart self.old (O.taken out.old) (O.taken out.new) (L.taken log.old) (L.taken log.new)) }
+        ensures ok { OnOk result (ClosesAllLinks self.old self.new (O.taken out.old) (O.taken out.new) (L.taken log.old) (L.taken log.new)) }
+        ensures err { OnErr result (ClosesAllLinksInPart self.old (O.taken out.old) (O.taken out.new) (L.taken log.old) (L.taken log.new)) }
         ensures out_same { OnOk result (O.failures out.new ≡ O.failures out.old) }
         ensures log_same { OnOk result (L.failures log.new ≡ L.failures log.old) }
-        ensures out_failed { IsErrOf result (ConvertFault.Write Stream.Out) → Rises (O.failures out.old) (O.failures out.new) }
+        ensures out_failed { IsErrOf result (ConvertFault.Write Stream.Out) → CountRises (O.failures out.old) (O.failures out.new) }
         ensures out_kept { IfErr result (λ fault. fault ≢ ConvertFault.Write Stream.Out → O.failures out.new ≡ O.failures out.old) }
-        ensures log_failed { IsErrOf result (ConvertFault.Write Stream.Log) → Rises (L.failures log.old) (L.failures log.new) }
+        ensures log_failed { IsErrOf result (ConvertFault.Write Stream.Log) → CountRises (L.failures log.old) (L.failures log.new) }
         ensures log_kept { IfErr result (λ fault. fault ≢ ConvertFault.Write Stream.Log → L.failures log.new ≡ L.failures log.old) }
     {
         'links: for link in 0..self.links.len() {
@@ -205,13 +205,13 @@ impl Converter {
         ensures stopped { self.conversion.stopped ≡ true → IsErrOf result ConvertFault.Stopped }
         ensures still { self.conversion.stopped ≡ true → (out.new ≡ out.old) × (log.new ≡ log.old) }
         ensures fault { self.conversion.stopped ≡ false → IfErr result IsFrameFault }
-        ensures ok { IfOk result (λ counts. Ends self counts (O.taken out.old) (O.taken out.new) (L.taken log.old) (L.taken log.new)) }
-        ensures err { IfErr result (λ fault. IsFrameFault fault → EndsInPart self (O.taken out.old) (O.taken out.new) (L.taken log.old) (L.taken log.new)) }
+        ensures ok { IfOk result (λ counts. FinishesConverter self counts (O.taken out.old) (O.taken out.new) (L.taken log.old) (L.taken log.new)) }
+        ensures err { IfErr result (λ fault. IsFrameFault fault → FinishesConverterInPart self (O.taken out.old) (O.taken out.new) (L.taken log.old) (L.taken log.new)) }
         ensures out_same { OnOk result (O.failures out.new ≡ O.failures out.old) }
         ensures log_same { OnOk result (L.failures log.new ≡ L.failures log.old) }
-        ensures out_failed { IsErrOf result (ConvertFault.Write Stream.Out) → Rises (O.failures out.old) (O.failures out.new) }
+        ensures out_failed { IsErrOf result (ConvertFault.Write Stream.Out) → CountRises (O.failures out.old) (O.failures out.new) }
         ensures out_kept { IfErr result (λ fault. fault ≢ ConvertFault.Write Stream.Out → O.failures out.new ≡ O.failures out.old) }
-        ensures log_failed { IsErrOf result (ConvertFault.Write Stream.Log) → Rises (L.failures log.old) (L.failures log.new) }
+        ensures log_failed { IsErrOf result (ConvertFault.Write Stream.Log) → CountRises (L.failures log.old) (L.failures log.new) }
         ensures log_kept { IfErr result (λ fault. fault ≢ ConvertFault.Write Stream.Log → L.failures log.new ≡ L.failures log.old) }
     {
         if self.conversion.is_stopped() {

@@ -1,8 +1,10 @@
-//! Laws on the file of a set of messages, whatever arrivals it came from, and on what calls find.
+//! Laws: the promise of a conversion, the file of a set of messages, and what calls find.
 
 ghost use Rattle.rtk_convert.specs.ArrivalLaws.{OneSetHasOneFile, LateLeaveFile, SoFarBegins, HeaderIsFinal, OthersLeaveFile, KeptFileIsTable, FrameAddsToOne};
+ghost use Rattle.rtk_convert.specs.CallLaws.{CallsKeepPromise, CallsWriteKept, CallsComeToTable};
 ghost use Rattle.rtk_convert.specs.CountLaws.{EachFrameInOneClass};
 ghost use Rattle.rtk_convert.specs.FileLaws.{FileIsTable};
+ghost use Rattle.rtk_convert.specs.Headline.{SetHasOneFile};
 ghost use Rattle.rtk_convert.specs.HistoryLaws.{ComesToOne, FeedsToOne, ClosesToOne, EndsAtOne, CallsFindOne, NextIsOne, ReadsComeToOne};
 
 use rtk_collect::{late_arrivals_change_nothing, set_decides};
@@ -56,4 +58,23 @@ pub fn frames_add_to_one()
 /// number, and so is the sum of the seven counts behind it.
 pub fn each_frame_in_one_class()
     ensures { EachFrameInOneClass }
+{}
+
+/// A set of messages has one file, whatever the order in which they came.
+pub fn set_has_one_file()
+    ensures { SetHasOneFile }
+{}
+
+/// Any calls of `feed` and `close` on a new converter, each answered Ok, V2 or V3, and then `finish`
+/// keep the promise: by their contracts alone. Whatever bodies equal keys carry, they write the
+/// file of what came first in time under each key, and the report of all frames, whose counts are
+/// answered.
+pub fn calls_keep_promise()
+    ensures headline { CallsKeepPromise }
+    ensures kept { CallsWriteKept }
+{}
+
+/// The file of what any calls find is the text of a well-formed table: the checker accepts it.
+pub fn calls_come_to_table()
+    ensures { CallsComeToTable }
 {}

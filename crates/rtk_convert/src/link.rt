@@ -2,9 +2,9 @@
 
 ghost use Rattle.std.specs.Prelude.{◌≡◌, ◌≢◌, ◌≤◌, ◌++◌, length, true, false, OnOk, OnErr, IsErrOf, IfErr};
 ghost use Rattle.rtk_frame.specs.Frames.{final_frames, frames, payloads, pending};
-ghost use Rattle.rtk_frame.specs.Stream.{Rises};
+ghost use Rattle.rtk_frame.specs.Stream.{CountRises};
 ghost use Rattle.rtk_convert.specs.Failure.{IsFrameFault};
-ghost use Rattle.rtk_convert.specs.Gathering.{Gathers, GathersInPart};
+ghost use Rattle.rtk_convert.specs.LinkFrames.{AddsFrames, AddsFramesInPart};
 ghost use Rattle.rtk_convert.specs.History.{later_of};
 
 use crate::conversion::Conversion;
@@ -51,16 +51,16 @@ impl Link {
         ensures settings { conversion.new.settings ≡ conversion.old.settings }
         ensures going { OnOk result (conversion.new.stopped ≡ false) }
         ensures halts { OnErr result (conversion.new.stopped ≡ true) }
-        ensures ok { OnOk result (Gathers conversion.old number (payloads (final_frames (self.old.scanner.pending ++ piece.now))) conversion.new self.old.newest self.new.newest
+        ensures ok { OnOk result (AddsFrames conversion.old number (payloads (final_frames (self.old.scanner.pending ++ piece.now))) conversion.new self.old.newest self.new.newest
             (O.taken out.old) (O.taken out.new) (L.taken log.old) (L.taken log.new)) }
-        ensures err { OnErr result (GathersInPart conversion.old number (payloads (final_frames (self.old.scanner.pending ++ piece.now)))
+        ensures err { OnErr result (AddsFramesInPart conversion.old number (payloads (final_frames (self.old.scanner.pending ++ piece.now)))
             (O.taken out.old) (O.taken out.new) (L.taken log.old) (L.taken log.new)) }
         ensures fault { IfErr result IsFrameFault }
         ensures out_same { OnOk result (O.failures out.new ≡ O.failures out.old) }
         ensures log_same { OnOk result (L.failures log.new ≡ L.failures log.old) }
-        ensures out_failed { IsErrOf result (ConvertFault.Write Stream.Out) → Rises (O.failures out.old) (O.failures out.new) }
+        ensures out_failed { IsErrOf result (ConvertFault.Write Stream.Out) → CountRises (O.failures out.old) (O.failures out.new) }
         ensures out_kept { IfErr result (λ fault. fault ≢ ConvertFault.Write Stream.Out → O.failures out.new ≡ O.failures out.old) }
-        ensures log_failed { IsErrOf result (ConvertFault.Write Stream.Log) → Rises (L.failures log.old) (L.failures log.new) }
+        ensures log_failed { IsErrOf result (ConvertFault.Write Stream.Log) → CountRises (L.failures log.old) (L.failures log.new) }
         ensures log_kept { IfErr result (λ fault. fault ≢ ConvertFault.Write Stream.Log → L.failures log.new ≡ L.failures log.old) }
     {
         let mut at = 0;
@@ -70,7 +70,7 @@ impl Link {
             let Answer::Found(payload) = fed.answer else {
                 return Ok(());
             };
-            let epoch = conversion.arrive(number, payload, out, log)?;
+            let epoch = conversion.accept_frame(number, payload, out, log)?;
             self.newest = later(epoch, self.newest);
         }
     }
@@ -89,20 +89,20 @@ impl Link {
         ensures settings { conversion.new.settings ≡ conversion.old.settings }
         ensures going { OnOk result (conversion.new.stopped ≡ false) }
         ensures halts { OnErr result (conversion.new.stopped ≡ true) }
-        ensures ok { OnOk result (Gathers conversion.old number (payloads (frames self.old.scanner.pending)) conversion.new self.old.newest self.new.newest
+        ensures ok { OnOk result (AddsFrames conversion.old number (payloads (frames self.old.scanner.pending)) conversion.new self.old.newest self.new.newest
             (O.taken out.old) (O.taken out.new) (L.taken log.old) (L.taken log.new)) }
-        ensures err { OnErr result (GathersInPart conversion.old number (payloads (frames self.old.scanner.pending))
+        ensures err { OnErr result (AddsFramesInPart conversion.old number (payloads (frames self.old.scanner.pending))
             (O.taken out.old) (O.taken out.new) (L.taken log.old) (L.taken log.new)) }
         ensures fault { IfErr result IsFrameFault }
         ensures out_same { OnOk result (O.failures out.new ≡ O.failures out.old) }
         ensures log_same { OnOk result (L.failures log.new ≡ L.failures log.old) }
-        ensures out_failed { IsErrOf result (ConvertFault.Write Stream.Out) → Rises (O.failures out.old) (O.failures out.new) }
+        ensures out_failed { IsErrOf result (ConvertFault.Write Stream.Out) → CountRises (O.failures out.old) (O.failures out.new) }
         ensures out_kept { IfErr result (λ fault. fault ≢ ConvertFault.Write Stream.Out → O.failures out.new ≡ O.failures out.old) }
-        ensures log_failed { IsErrOf result (ConvertFault.Write Stream.Log) → Rises (L.failures log.old) (L.failures log.new) }
+        ensures log_failed { IsErrOf result (ConvertFault.Write Stream.Log) → CountRises (L.failures log.old) (L.failures log.new) }
         ensures log_kept { IfErr result (λ fault. fault ≢ ConvertFault.Write Stream.Log → L.failures log.new ≡ L.failures log.old) }
     {
         'frames: while let Some(payload) = self.scanner.rest() {
-            let epoch = conversion.arrive(number, payload, out, log)?;
+            let epoch = conversion.accept_frame(number, payload, out, log)?;
             self.newest = later(epoch, self.newest);
         }
         Ok(())

@@ -2,8 +2,8 @@
 
 ghost use Rattle.std.specs.Prelude.{◌≡◌, ◌≢◌, ◌++◌, length, OnOk, OnErr, IfOk, IfErr, IsErrOf, false};
 ghost use Rattle.rtk_convert.specs.Failure.{IsOutFault};
-ghost use Rattle.rtk_frame.specs.Stream.{with_more, Rises, TakesPart};
-ghost use Rattle.rtk_rinex.specs.Header.{site_of};
+ghost use Rattle.rtk_frame.specs.Stream.{with_more, CountRises, TakesPart};
+ghost use Rattle.rtk_rinex.specs.Header.{position_view};
 ghost use Rattle.rtk_rinex.specs.Record.{HasWidth, record_text};
 ghost use Rattle.rtk_convert.specs.FilePrefix.{closing_text, header_before, is_any};
 
@@ -19,7 +19,7 @@ fn put<O: Sink>(out: &mut O, text: &[u8]) -> Result<(), ConvertFault>
     ensures all { OnOk result (O.taken out.new ≡ with_more (O.taken out.old) text.now) }
     ensures part { TakesPart (O.taken out.old) (O.taken out.new) text.now }
     ensures same { OnOk result (O.failures out.new ≡ O.failures out.old) }
-    ensures failed { OnErr result (Rises (O.failures out.old) (O.failures out.new)) }
+    ensures failed { OnErr result (CountRises (O.failures out.old) (O.failures out.new)) }
     ensures fault { IfErr result (λ f. f ≡ ConvertFault.Write Stream.Out) }
 {
     match write_all(out, text) {
@@ -38,7 +38,7 @@ fn with_header(
     first: GpsMs,
     text: &[u8],
 ) -> Result<Vec<u8>, AllocError>
-    ensures { IfOk result (λ whole. whole.items ≡ header_before setup.now (site_of position.now) first false ++ text.now) }
+    ensures { IfOk result (λ whole. whole.items ≡ header_before setup.now (position_view position.now) first false ++ text.now) }
 {
     let mut whole = header(alloc, setup.head(), position, first)?;
     whole.extend_from_slice(text)?;
@@ -58,10 +58,10 @@ pub(crate) fn put_record<O: Sink>(
 ) -> Result<bool, ConvertFault>
     requires width { HasWidth (length setup.now.heading.listed) table.now.rows }
     ensures any { IfOk result (λ any. any ≡ is_any (record_text table.now)) }
-    ensures all { OnOk result (O.taken out.new ≡ with_more (O.taken out.old) (closing_text setup.now (site_of position.now) table.now.time header_out (record_text table.now))) }
-    ensures part { TakesPart (O.taken out.old) (O.taken out.new) (closing_text setup.now (site_of position.now) table.now.time header_out (record_text table.now)) }
+    ensures all { OnOk result (O.taken out.new ≡ with_more (O.taken out.old) (closing_text setup.now (position_view position.now) table.now.time header_out (record_text table.now))) }
+    ensures part { TakesPart (O.taken out.old) (O.taken out.new) (closing_text setup.now (position_view position.now) table.now.time header_out (record_text table.now)) }
     ensures same { OnOk result (O.failures out.new ≡ O.failures out.old) }
-    ensures failed { IsErrOf result (ConvertFault.Write Stream.Out) → Rises (O.failures out.old) (O.failures out.new) }
+    ensures failed { IsErrOf result (ConvertFault.Write Stream.Out) → CountRises (O.failures out.old) (O.failures out.new) }
     ensures kept { IfErr result (λ fault. fault ≢ ConvertFault.Write Stream.Out → O.failures out.new ≡ O.failures out.old) }
     ensures fault { IfErr result IsOutFault }
 {
@@ -90,10 +90,10 @@ pub(crate) fn put_last_header<O: Sink>(
     header_out: bool,
     out: &mut O,
 ) -> Result<(), ConvertFault>
-    ensures all { OnOk result (O.taken out.new ≡ with_more (O.taken out.old) (header_before setup.now (site_of position.now) setup.now.near header_out)) }
-    ensures part { TakesPart (O.taken out.old) (O.taken out.new) (header_before setup.now (site_of position.now) setup.now.near header_out) }
+    ensures all { OnOk result (O.taken out.new ≡ with_more (O.taken out.old) (header_before setup.now (position_view position.now) setup.now.near header_out)) }
+    ensures part { TakesPart (O.taken out.old) (O.taken out.new) (header_before setup.now (position_view position.now) setup.now.near header_out) }
     ensures same { OnOk result (O.failures out.new ≡ O.failures out.old) }
-    ensures failed { IsErrOf result (ConvertFault.Write Stream.Out) → Rises (O.failures out.old) (O.failures out.new) }
+    ensures failed { IsErrOf result (ConvertFault.Write Stream.Out) → CountRises (O.failures out.old) (O.failures out.new) }
     ensures kept { IfErr result (λ fault. fault ≢ ConvertFault.Write Stream.Out → O.failures out.new ≡ O.failures out.old) }
     ensures fault { IfErr result IsOutFault }
 {
@@ -111,7 +111,7 @@ pub(crate) fn put_lines<L: Sink>(log: &mut L, lines: &[u8]) -> Result<(), Conver
     ensures all { OnOk result (L.taken log.new ≡ with_more (L.taken log.old) lines.now) }
     ensures part { TakesPart (L.taken log.old) (L.taken log.new) lines.now }
     ensures same { OnOk result (L.failures log.new ≡ L.failures log.old) }
-    ensures failed { OnErr result (Rises (L.failures log.old) (L.failures log.new)) }
+    ensures failed { OnErr result (CountRises (L.failures log.old) (L.failures log.new)) }
     ensures fault { IfErr result (λ f. f ≡ ConvertFault.Write Stream.Log) }
 {
     match write_all(log, lines) {

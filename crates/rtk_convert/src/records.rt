@@ -1,21 +1,23 @@
-//! The records of the epochs that are closed, one after another.
+//! The records of the epochs that are closed, one after another, and at the end those of the epochs that are still open.
 
-ghost use Rattle.std.specs.Prelude.{◌≡◌, ◌≢◌, ℕ, ◌<◌, [], ◌∷◌, List, All, false, is_some, OnOk, IfErr, IsErrOf};
-ghost use Rattle.rtk_obs.specs.Cell.{IsInRange};
-ghost use Rattle.rtk_obs.specs.declared.code.Code.{Code};
-ghost use Rattle.rtk_collect.specs.EpochCells.{EpochCells};
-ghost use Rattle.rtk_frame.specs.Stream.{with_more, Rises, TakesPart};
-ghost use Rattle.rtk_rinex.specs.Header.{site_of};
+ghost use Rattle.rtk_collect.specs.EpochSet.{EpochSetView};
 ghost use Rattle.rtk_convert.specs.Failure.{IsOutFault};
 ghost use Rattle.rtk_convert.specs.File.{first_time, record_of};
 ghost use Rattle.rtk_convert.specs.FilePrefix.{closing_text};
+ghost use Rattle.rtk_convert.specs.Finish.{AllAbove, ClosesEpochs, ClosesEpochsInPart};
 ghost use Rattle.rtk_convert.specs.LastPhases.{AllBelow};
-ghost use Rattle.rtk_convert.specs.Records.{Follows};
+ghost use Rattle.rtk_convert.specs.Records.{HasClosed};
+ghost use Rattle.rtk_frame.specs.Stream.{with_more, CountRises, TakesPart};
+ghost use Rattle.rtk_obs.specs.Cell.{IsInRange};
+ghost use Rattle.rtk_obs.specs.declared.code.Code.{Code};
+ghost use Rattle.rtk_rinex.specs.Header.{position_view};
+ghost use Rattle.std.specs.Prelude.{◌≡◌, ◌≢◌, ℕ, ◌<◌, [], ◌∷◌, List, All, false, is_some, OnOk, IfErr, IsErrOf, length, OnErr};
 
+use crate::epoch_rows::{PLACES, fill_table};
 use crate::fault::{ConvertFault, Stream};
 use crate::output::put_record;
-use crate::rows::{PLACES, fill_table};
 use crate::setup::Setup;
+use rtk_collect::Left;
 use rtk_frame::Sink;
 use rtk_obs::{CellEntry, GpsMs, Position, Tracks};
 use rtk_rinex::{EpochTable, Observed};
@@ -41,9 +43,9 @@ pub(crate) struct Records {
 impl Model for Records {
     ghost use Rattle.std.specs.Prelude.{◌≡◌, length};
     ghost use Rattle.rtk_convert.specs.LastPhases.{ShowsNothing};
-    ghost use Rattle.rtk_convert.specs.Records.{Closed};
+    ghost use Rattle.rtk_convert.specs.Records.{RecordsView};
 
-    ghost Value = { Closed };
+    ghost Value = { RecordsView };
 
     ghost view = { λ r. record { tracks = r.tracks; header_out = r.header_out; count = r.count } };
 
@@ -53,7 +55,7 @@ impl Model for Records {
 impl Records {
     /// No epoch is closed. The moment is any.
     pub(crate) fn new(any: GpsMs) -> Records
-        ensures follows { (listed : List Code) → Follows result listed [] }
+        ensures follows { (listed : List Code) → HasClosed result listed [] }
         ensures below { (epoch : ℕ) → AllBelow result.tracks epoch }
     {
         Records {
@@ -93,14 +95,14 @@ impl Records {
     ) -> Result<(), ConvertFault>
         requires ranges { All IsInRange cells.now }
         requires later { AllBelow self.old.tracks epoch }
-        ensures follows { OnOk result ((below : List EpochCells) → Follows self.old setup.now.heading.listed below → Follows self.new setup.now.heading.listed (record { epoch = epoch; cells = cells.now } ∷ below)) }
-        ensures all { OnOk result ((below : List EpochCells) → Follows self.old setup.now.heading.listed below
-            → O.taken out.new ≡ with_more (O.taken out.old) (closing_text setup.now (site_of position.now) epoch (is_some (first_time setup.now.heading.listed below)) (record_of setup.now.heading.listed (record { epoch = epoch; cells = cells.now }) below))) }
-        ensures part { (below : List EpochCells) → Follows self.old setup.now.heading.listed below
-            → TakesPart (O.taken out.old) (O.taken out.new) (closing_text setup.now (site_of position.now) epoch (is_some (first_time setup.now.heading.listed below)) (record_of setup.now.heading.listed (record { epoch = epoch; cells = cells.now }) below)) }
+        ensures follows { OnOk result ((below : List EpochSetView) → HasClosed self.old setup.now.heading.listed below → HasClosed self.new setup.now.heading.listed (record { epoch = epoch; cells = cells.now } ∷ below)) }
+        ensures all { OnOk result ((below : List EpochSetView) → HasClosed self.old setup.now.heading.listed below
+            → O.taken out.new ≡ with_more (O.taken out.old) (closing_text setup.now (position_view position.now) epoch (is_some (first_time setup.now.heading.listed below)) (record_of setup.now.heading.listed (record { epoch = epoch; cells = cells.now }) below))) }
+        ensures part { (below : List EpochSetView) → HasClosed self.old setup.now.heading.listed below
+            → TakesPart (O.taken out.old) (O.taken out.new) (closing_text setup.now (position_view position.now) epoch (is_some (first_time setup.now.heading.listed below)) (record_of setup.now.heading.listed (record { epoch = epoch; cells = cells.now }) below)) }
         ensures later { OnOk result ((later : ℕ) → epoch < later → AllBelow self.new.tracks later) }
         ensures same { OnOk result (O.failures out.new ≡ O.failures out.old) }
-        ensures failed { IsErrOf result (ConvertFault.Write Stream.Out) → Rises (O.failures out.old) (O.failures out.new) }
+        ensures failed { IsErrOf result (ConvertFault.Write Stream.Out) → CountRises (O.failures out.old) (O.failures out.new) }
         ensures kept { IfErr result (λ fault. fault ≢ ConvertFault.Write Stream.Out → O.failures out.new ≡ O.failures out.old) }
         ensures fault { IfErr result IsOutFault }
     {
@@ -122,4 +124,29 @@ impl Records {
         self.count = self.count.saturating_add(1);
         Ok(())
     }
+}
+
+/// Writes the records of the epochs that are left, rising, with the header before the first one of
+/// the file.
+pub(crate) fn close_left<O: Sink>(
+    alloc: Global,
+    setup: &Setup,
+    position: &Position,
+    records: &mut Records,
+    left: &mut Left,
+    out: &mut O,
+) -> Result<(), ConvertFault>
+    requires above { AllAbove records.old left.old.sets }
+    ensures ok { OnOk result (ClosesEpochs setup.now (position_view position.now) records.old left.old.sets records.new (O.taken out.old) (O.taken out.new)) }
+    ensures err { OnErr result (ClosesEpochsInPart setup.now (position_view position.now) records.old left.old.sets (O.taken out.old) (O.taken out.new)) }
+    ensures same { OnOk result (O.failures out.new ≡ O.failures out.old) }
+    ensures failed { IsErrOf result (ConvertFault.Write Stream.Out) → CountRises (O.failures out.old) (O.failures out.new) }
+    ensures kept { IfErr result (λ fault. fault ≢ ConvertFault.Write Stream.Out → O.failures out.new ≡ O.failures out.old) }
+    ensures fault { IfErr result IsOutFault }
+{
+    'left: while let Some(set) = left.next_left() {
+        let (epoch, cells) = (set.epoch(), set.cells());
+        records.close(alloc, setup, position, epoch, cells, out)?;
+    }
+    Ok(())
 }

@@ -1,11 +1,11 @@
 //! The lines of a report, as text.
 
 ghost use Rattle.std.specs.Prelude.{◌≡◌, ◌<◌, ◌++◌, [], Some, None, Option, ℕ, decimal, flat_map, IfOk, OnOk};
-ghost use Rattle.rtk_collect.specs.declared.conflicts.SatelliteCode.{SatelliteCode};
+ghost use Rattle.rtk_collect.specs.declared.offer.SatelliteCode.{SatelliteCode};
 ghost use Rattle.rtk_rinex.specs.Columns.{last_digits};
 ghost use Rattle.rtk_rinex.specs.Reading.{reading_of};
 ghost use Rattle.rtk_convert.specs.Report.{fault_text, refused_line, cell_lines, conflict_lines, offer_lines};
-ghost use Rattle.rtk_convert.specs.ReportText.{civil_text, epoch_text, link_text, message_text, signal_text, late_line, conflict_line, cell_conflict_line, count_line, count_lines};
+ghost use Rattle.rtk_convert.specs.ReportText.{civil_text, epoch_text, link_text, arrival_text, signal_text, late_line, conflict_line, cell_conflict_line, count_line, count_lines};
 
 use crate::counts::Counts;
 use itoa::Buffer;
@@ -93,7 +93,7 @@ fn put_message(
     number: u16,
     epoch: Option<GpsMs>,
 ) -> Result<(), AllocError>
-    ensures { OnOk result (line.new.items ≡ line.old.items ++ message_text link what.now number epoch) }
+    ensures { OnOk result (line.new.items ≡ line.old.items ++ arrival_text link what.now number epoch) }
 {
     put_named(line, b"link ", u64::from(link) + 1)?;
     put_named(line, what, number.into())?;

@@ -2,8 +2,8 @@
 
 ghost use Rattle.std.specs.Prelude.{◌≡◌, IfOk, IfErr, Decides};
 ghost use Rattle.rtk_obs.specs.Dating.{IsReference};
-ghost use Rattle.rtk_rinex.specs.Header.{IsHeading};
-ghost use Rattle.rtk_convert.specs.Settings.{IsSettings, IsStation, IsWindow};
+ghost use Rattle.rtk_rinex.specs.Header.{IsHeadView};
+ghost use Rattle.rtk_convert.specs.Setup.{IsSetupView, IsStation, IsWindow};
 
 use rtk_obs::GpsMs;
 use rtk_rinex::Head;
@@ -35,22 +35,22 @@ pub struct Setup {
 }
 
 impl Model for Setup {
-    ghost use Rattle.rtk_convert.specs.Settings.{Settings, IsSettings};
+    ghost use Rattle.rtk_convert.specs.Setup.{SetupView, IsSetupView};
 
-    ghost Value = { Settings };
+    ghost Value = { SetupView };
 
     ghost view = { λ s. record { station = s.station; near = s.near; heading = s.head; window = s.window } };
 
-    ghost invariant = { λ s. IsSettings (record { station = s.station; near = s.near; heading = s.head; window = s.window }) };
+    ghost invariant = { λ s. IsSetupView (record { station = s.station; near = s.near; heading = s.head; window = s.window }) };
 }
 
 impl Setup {
-    ghost use Rattle.rtk_convert.specs.SettingsFault.{IsSetupFault};
+    ghost use Rattle.rtk_convert.specs.SetupFault.{IsSetupFault};
 
     /// The setup of these parts, where they are good; else the first cause why there is none.
     pub fn new(station: u16, near: GpsMs, head: Head, window: usize) -> Result<Setup, SetupFault>
         ensures setup { IfOk result (λ s. s ≡ record { station = station; near = near; heading = head; window = window }) }
-        ensures good { IfOk result IsSettings }
+        ensures good { IfOk result IsSetupView }
         ensures fault { IfErr result (IsSetupFault (record { station = station; near = near; heading = head; window = window })) }
     {
         if station > 4095 {
@@ -89,7 +89,7 @@ impl Setup {
     /// What is known of the file before its observations.
     pub fn head(&self) -> &Head
         ensures value { result.now ≡ self.now.heading }
-        ensures good { IsHeading result.now }
+        ensures good { IsHeadView result.now }
     {
         &self.head
     }

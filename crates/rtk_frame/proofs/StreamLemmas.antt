@@ -6,7 +6,7 @@ use Rattle.std.proofs.Math.Seq.{take-add, take-append_seam}
 use Rattle.std.proofs.lemmas.Grind.{common_steps, get_or-set_at}
 use Rattle.std.proofs.lemmas.Bool.{cases_eq}
 use Rattle.std.specs.Prelude.{slice_set, slice_index_or, sum_by, ◌<◌, Result}
-use Rattle.rtk_frame.specs.Stream.{greatest_count, count_after, failures_after, with_more, Rises, ReadsOne}
+use Rattle.rtk_frame.specs.Stream.{greatest_count, count_after, failures_after, with_more, CountRises, ReadsOne}
 
 -- nothing more is no change
 pub with_more-nil : (known : Option (List ℕ)) → with_more known [] ≡ known
@@ -19,11 +19,11 @@ with_more-with_more None more rest = refl
 with_more-with_more (Some bytes) more rest = ap Some (append_assoc bytes more rest)
 
 -- a count after one more call has risen
-pub count_after-rises : (count : ℕ) → Rises count (count_after count)
+pub count_after-rises : (count : ℕ) → CountRises count (count_after count)
 count_after-rises count = grind arith
 
 -- a count that rose stays risen, whatever fails after
-pub rises-on : (first second third : ℕ) → Rises first second → second ≤ third → Rises first third
+pub rises-on : (first second third : ℕ) → CountRises first second → second ≤ third → CountRises first third
 rises-on first second third (inl below) h = inl (omega (arith, below, h))
 rises-on first second third (inr full) h = inr (omega (arith, full, h))
 

@@ -4,6 +4,6 @@ pub mod Frames
 pub mod Memory
 pub mod Ring
 pub mod Scanner
-pub mod ScannerState
+pub mod ScannerView
 pub mod Scanning
 pub mod Stream

@@ -3,7 +3,7 @@ use Rattle.std.specs.Prelude.{◌≡◌, ℕ, List, [], length, drop, min}
 use Rattle.rtk_frame.specs.declared.memory.After.{After}
 
 -- a source over memory
-pub record SourceState : Type 0 where
+pub record MemSourceView : Type 0 where
   -- all bytes given so far, zero bytes included
   pub given : List ℕ
   -- its bytes that are not yet given
@@ -16,7 +16,7 @@ pub record SourceState : Type 0 where
   pub calls : ℕ
 
 -- a sink into memory
-pub record SinkState : Type 0 where
+pub record MemSinkView : Type 0 where
   -- all bytes taken so far
   pub taken : List ℕ
   -- how many bytes it still takes
@@ -26,22 +26,22 @@ pub record SinkState : Type 0 where
   pub failures : ℕ
 
 -- a source of these bytes, from which nothing was read
-abbrev pub new_source : List ℕ → ℕ → After → SourceState
+abbrev pub new_source : List ℕ → ℕ → After → MemSourceView
 new_source bytes per_read after = record { given = []; left = bytes; after = after; per_read = per_read; failures = 0; calls = 0 }
 
 -- a sink that took nothing
-abbrev pub new_sink : ℕ → ℕ → SinkState
+abbrev pub new_sink : ℕ → ℕ → MemSinkView
 new_sink room per_write = record { taken = []; room = room; per_write = per_write; failures = 0 }
 
 -- how many bytes a read with this buffer may give
-abbrev pub room_of : SourceState → List ℕ → ℕ
+abbrev pub room_of : MemSourceView → List ℕ → ℕ
 room_of source buf = min (length buf) source.per_read
 
 -- all bytes were given, and this comes behind them
-abbrev pub IsSpent : SourceState → After → Type 0
+abbrev pub IsSpent : MemSourceView → After → Type 0
 IsSpent source after = (source.left ≡ []) × (source.after ≡ after)
 
 -- this many of the bytes that were left are no longer left; nothing else of the source's making changed
-abbrev pub IsReadOn : SourceState → SourceState → ℕ → Type 0
+abbrev pub IsReadOn : MemSourceView → MemSourceView → ℕ → Type 0
 IsReadOn before after count = (after.left ≡ drop count before.left)
     × (after.after ≡ before.after) × (after.per_read ≡ before.per_read)

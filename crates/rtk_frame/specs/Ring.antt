@@ -21,5 +21,5 @@ abbrev pub LendsBytes : MutBor (Buffer ℕ) → MutBor (List ℕ) → Fml
 LendsBytes s r = Lends ring_row (Array u8 0) s r (with_bytes s.now)
 
 -- the ring s ends as b
-abbrev pub EndsAs : MutBor (Buffer ℕ) → Buffer ℕ → Fml
-EndsAs s b = follows_so ring_row ring_row s.ghost_name none (λ _ _. ⊤) (λ n. n ≡ b)
+abbrev pub RingEndsAs : MutBor (Buffer ℕ) → Buffer ℕ → Fml
+RingEndsAs s b = follows_so ring_row ring_row s.ghost_name none (λ _ _. ⊤) (λ n. n ≡ b)

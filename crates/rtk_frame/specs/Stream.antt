@@ -11,8 +11,8 @@ abbrev pub count_after : ℕ → ℕ
 count_after count = min (count + 1) greatest_count
 
 -- a count has risen; one at its greatest value counts as risen
-abbrev pub Rises : ℕ → ℕ → Type 0
-Rises before after = (before < after) ⊎ (greatest_count ≤ after)
+abbrev pub CountRises : ℕ → ℕ → Type 0
+CountRises before after = (before < after) ⊎ (greatest_count ≤ after)
 
 -- the count of failed calls after a call: a failed one raises it, a good one never does
 abbrev pub failures_after : ℕ → Bool → ℕ

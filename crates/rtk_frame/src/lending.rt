@@ -1,7 +1,7 @@
 //! The bytes of a ring as one slice, lent and given back as they were.
 ghost use Rattle.std.specs.Prelude.{◌≡◌};
 ghost use Rattle.std.specs.Borrow.{sem};
-ghost use Rattle.rtk_frame.specs.Ring.{EndsAs, LendsBytes, with_bytes};
+ghost use Rattle.rtk_frame.specs.Ring.{RingEndsAs, LendsBytes, with_bytes};
 
 use circular_buffer::HeapCircularBuffer;
 
@@ -19,7 +19,7 @@ fn all_bytes_mut(ring: &mut HeapCircularBuffer<u8>) -> &mut [u8]
 /// No rule of the borrow checker says what a `&mut` becomes that is shared on to the caller, so the
 /// proof is by hand.
 pub(crate) fn all_bytes(ring: &mut HeapCircularBuffer<u8>) -> &[u8]
-    ensures* after { sem 𝓛 (EndsAs ring.entry ring.old) }
+    ensures* after { sem 𝓛 (RingEndsAs ring.entry ring.old) }
     ensures value { result.now ≡ ring.old.items }
 {
     all_bytes_mut(ring)

@@ -32,9 +32,9 @@ pub struct MemSource {
 // Clauses see what was given and what is left.
 impl Model for MemSource {
     ghost use Rattle.std.specs.Prelude.{◌≡◌, ◌≤◌, ◌<◌, ◌++◌, take, drop, replicate, vec_len};
-    ghost use Rattle.rtk_frame.specs.Memory.{SourceState};
+    ghost use Rattle.rtk_frame.specs.Memory.{MemSourceView};
 
-    ghost Value = { SourceState };
+    ghost Value = { MemSourceView };
 
     ghost view = { λ s. record {
       given = take s.at s.bytes.items ++ replicate s.zeros 0;
@@ -141,9 +141,9 @@ pub struct MemSink {
 // Clauses see what was taken and how much room is left.
 impl Model for MemSink {
     ghost use Rattle.std.specs.Prelude.{◌≤◌, ◌-◌, take, vec_len};
-    ghost use Rattle.rtk_frame.specs.Memory.{SinkState};
+    ghost use Rattle.rtk_frame.specs.Memory.{MemSinkView};
 
-    ghost Value = { SinkState };
+    ghost Value = { MemSinkView };
 
     ghost view = { λ s. record {
       taken = take s.len s.bytes.items;

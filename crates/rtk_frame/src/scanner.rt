@@ -24,13 +24,13 @@ pub struct Scanner {
 // Clauses see the bytes that wait for more, and whether the stream has ended.
 impl Model for Scanner {
     ghost use Rattle.std.specs.Prelude.{◌≡◌, ◌≤◌, length, drop};
-    ghost use Rattle.rtk_frame.specs.ScannerState.{Scan, scan, scan_code};
+    ghost use Rattle.rtk_frame.specs.ScannerView.{ScannerView, scanner_view, scanner_view_code};
 
-    ghost Value = { Scan };
+    ghost Value = { ScannerView };
 
-    ghost coded = { scan_code };
+    ghost coded = { scanner_view_code };
 
-    ghost view = { λ s. scan (drop s.given s.ring.items) s.ended };
+    ghost view = { λ s. scanner_view (drop s.given s.ring.items) s.ended };
 
     ghost invariant = { λ s. (s.ring.capacity ≡ 1029) × (length s.ring.items ≤ 1029)
         × (s.given ≤ length s.ring.items) };
@@ -57,13 +57,13 @@ pub enum Answer<'a> {
 impl Scanner {
     ghost use Rattle.std.specs.Prelude.{◌≡◌, ◌≤◌, ◌+◌, length, false, true, [], IfOk, IfErr};
     ghost use Rattle.std.specs.Borrow.{sem};
-    ghost use Rattle.rtk_frame.specs.ScannerState.{scan};
-    ghost use Rattle.rtk_frame.specs.Scanner.{Leaves, FedAnswer, RestAnswer};
+    ghost use Rattle.rtk_frame.specs.ScannerView.{scanner_view};
+    ghost use Rattle.rtk_frame.specs.Scanner.{LeavesScanner, FedAnswer, RestAnswer};
     ghost use Rattle.rtk_frame.specs.declared.frame.FrameFault.TheVariants.{OutOfMemory};
 
     /// A scanner at the start of a stream. All the memory that it ever has is taken here.
     pub fn new(alloc: Global) -> Result<Scanner, FrameFault>
-        ensures start { IfOk result (λ scanner. scanner ≡ scan [] false) }
+        ensures start { IfOk result (λ scanner. scanner ≡ scanner_view [] false) }
         ensures fault { IfErr result (λ fault. fault ≡ OutOfMemory) }
     {
         let ring = HeapCircularBuffer::with_capacity(alloc, 1029)?;
@@ -81,7 +81,7 @@ impl Scanner {
     pub fn feed(&mut self, piece: &[u8]) -> Fed<'_>
         requires { self.old.ended ≡ false }
         ensures used { result.used ≤ length piece.now }
-        ensures* after { sem 𝓛 (Leaves self.entry (λ now.
+        ensures* after { sem 𝓛 (LeavesScanner self.entry (λ now.
             (now.ended ≡ false) × (length now.pending ≤ 1029)
             × FedAnswer self.old.pending piece.now result.used result.answer now)) }
     {
@@ -108,7 +108,7 @@ impl Scanner {
     ///
     /// The payload is borrowed from the scanner until its next call. After None it is always None.
     pub fn rest(&mut self) -> Option<&[u8]>
-        ensures* after { sem 𝓛 (Leaves self.entry (λ now.
+        ensures* after { sem 𝓛 (LeavesScanner self.entry (λ now.
             (now.ended ≡ true) × (length now.pending ≤ 1029)
             × RestAnswer self.old.pending result now)) }
     {

@@ -1,6 +1,6 @@
 //! Where bytes come from and where they go: the two traits, their fault, and two calls over them.
 ghost use Rattle.std.specs.Prelude.{◌≡◌, ◌≤◌, ◌<◌, List, ℕ, Option, Ok, length, take, slice_index_or, is_err, OnOk, OnErr};
-ghost use Rattle.rtk_frame.specs.Stream.{moved_count, with_more, count_after, failures_after, is_failed_write, Rises, TakesPart, ReadsOne};
+ghost use Rattle.rtk_frame.specs.Stream.{moved_count, with_more, count_after, failures_after, is_failed_write, CountRises, TakesPart, ReadsOne};
 
 use thiserror::Error;
 
@@ -57,7 +57,7 @@ pub fn write_all<W: Sink>(sink: &mut W, bytes: &[u8]) -> Result<(), StreamFault>
     ensures all { OnOk result (W.taken sink.new ≡ with_more (W.taken sink.old) bytes.now) }
     ensures part { TakesPart (W.taken sink.old) (W.taken sink.new) bytes.now }
     ensures same { OnOk result (W.failures sink.new ≡ W.failures sink.old) }
-    ensures failed { OnErr result (Rises (W.failures sink.old) (W.failures sink.new)) }
+    ensures failed { OnErr result (CountRises (W.failures sink.old) (W.failures sink.new)) }
 {
     let mut at = 0;
     while at < bytes.len() {

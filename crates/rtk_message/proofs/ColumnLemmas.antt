@@ -5,17 +5,17 @@ use Rattle.std.proofs.lemmas.List.Sums.{sum_by-cons}
 use Rattle.std.proofs.lemmas.Nat.{ones-le, le-div}
 use Rattle.std.proofs.Math.Nat.{mul-le-mul_left, mul-le-mul_right, div-mul-le_self, le_trans}
 use Rattle.rtk_bits.specs.Bits.{bits_of}
-use Rattle.rtk_message.specs.Fields.{Field, u, field_bits, bits_of_fields, FieldFits, FieldsFit, TakesAll, Takes, Puts, PutsAll}
+use Rattle.rtk_message.specs.Fields.{Field, u, field_bits, bits_of_fields, FieldFits, FieldsFit, TakesAll, TakesField, Puts, PutsAll}
 use Rattle.rtk_message.specs.FieldLaws.{fit-append}
 use Rattle.rtk_message.specs.Columns.{numbers, flags}
 use Rattle.rtk_message.proofs.FieldLemmas.{took, took_none, took_both, put, put_none, put_both}
 
 module _ {X : Type 0} (f : X → Field) where
-  pub took_more : (xs : List X) (x : X) (a b c : List Bool) → TakesAll (map f xs) a b → Takes (f x) b c → TakesAll (map f (xs ++ x ∷ [])) a c
+  pub took_more : (xs : List X) (x : X) (a b c : List Bool) → TakesAll (map f xs) a b → TakesField (f x) b c → TakesAll (map f (xs ++ x ∷ [])) a c
   took_more xs x a b c p q = rw (map_push f xs x) (took_both p (took q took_none))
 
   -- after the column's fields and before the rest
-  pub took_next : (xs : List X) (x : X) (from rest : List Bool) {b c : List Bool} → TakesAll (map f xs) from (b ++ rest) → Takes (f x) b c → TakesAll (map f (xs ++ x ∷ [])) from (c ++ rest)
+  pub took_next : (xs : List X) (x : X) (from rest : List Bool) {b c : List Bool} → TakesAll (map f xs) from (b ++ rest) → TakesField (f x) b c → TakesAll (map f (xs ++ x ∷ [])) from (c ++ rest)
   took_next xs x from rest {b = b} {c = c} p q =
       took_more xs x from (b ++ rest) (c ++ rest) p (record { fits = q.fits; is = ap (λ (t : List Bool). t ++ rest) q.is ∙ append_assoc (field_bits (f x)) c rest })
 
@@ -31,7 +31,7 @@ module _ {X : Type 0} (f : X → Field) where
   fit_more xs k d h p q = rw (take_more xs k d h, map_push f (take k xs) (get_or xs k d)) (fit-append (map f (take k xs)) (f (get_or xs k d) ∷ []) p (q, tt))
 
 -- no bits at all
-pub takes_none : (w : ℕ) (a : List Bool) → w ≡ 0 → Takes (u w 0) a a
+pub takes_none : (w : ℕ) (a : List Bool) → w ≡ 0 → TakesField (u w 0) a a
 unfolding bits_of
 takes_none zero a e = record { fits = omega arith; is = refl }
 takes_none (suc w) a e = absurd (omega arith)

@@ -10,7 +10,7 @@ use Rattle.rtk_message.specs.declared.message.Message.{Message}
 use Rattle.rtk_message.specs.declared.message.Message.TheVariants.{Obs1004, Arp1005, Arp1006, Msm1074}
 use Rattle.rtk_message.specs.declared.fault.DecodeFault.{DecodeFault}
 use Rattle.rtk_message.specs.Fields.{Field, u, bits_of_fields}
-use Rattle.rtk_message.specs.Decoded.{number_of, fields_after_number, Encodes, Follows, Decodes, first_fault, fault_after_number}
+use Rattle.rtk_message.specs.Decoded.{number_of, fields_after_number, Encodes, BeginsAfterNumber, Decodes, first_fault, fault_after_number}
 use Rattle.rtk_message.specs.Obs1004Laws as obs1004
 use Rattle.rtk_message.specs.Arp1005Laws as arp1005
 use Rattle.rtk_message.specs.Arp1006Laws as arp1006
@@ -89,7 +89,7 @@ first_is n left small =
     let same : unsigned (bits_of 12 n) ≡ n = unsigned-bits_of 12 n ∙ mod-eq_of_lt small in
     rw (long, take_at (bits_of 12 n) left 12 len, drop_at (bits_of 12 n) left 12 len, same) refl
 
-message_of : (bs left : List Bool) (k : ℕ) (r : Result Message DecodeFault) → bs ≡ bits_of 12 k ++ left → IfOk r (λ m. Follows k left m) → IfOk r (λ m. Encodes bs m)
+message_of : (bs left : List Bool) (k : ℕ) (r : Result Message DecodeFault) → bs ≡ bits_of 12 k ++ left → IfOk r (λ m. BeginsAfterNumber k left m) → IfOk r (λ m. Encodes bs m)
 message_of bs left k (Ok m) is f = record {
   valid = f.valid;
   begins = (f.begins.0, is ∙ rw (f.has_number, f.begins.1) (sym (append_assoc (bits_of 12 k) (bits_of_fields (fields_after_number m)) f.begins.0)));
@@ -102,7 +102,7 @@ fault_of bs left k (Err e) small is f = rw is (first_is k left small ∙ f)
 
 -- bits that begin with the number k
 pub decodes_after : (bs left : List Bool) (n k : ℕ) (r : Result Message DecodeFault) → k < 2 ^ 12 → bs ≡ bits_of 12 n ++ left → n ≡ k
-    → IfOk r (λ m. Follows k left m) → IfErr r (λ f. fault_after_number k left ≡ Some f) → Decodes bs r
+    → IfOk r (λ m. BeginsAfterNumber k left m) → IfErr r (λ f. fault_after_number k left ≡ Some f) → Decodes bs r
 decodes_after bs left n k r small is number ok err =
     let whole : bs ≡ bits_of 12 k ++ left = is ∙ ap (λ (m : ℕ). bits_of 12 m ++ left) number in
     let message = message_of bs left k r whole ok in

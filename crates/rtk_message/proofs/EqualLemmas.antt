@@ -6,7 +6,7 @@ use Rattle.std.specs.Cmp.{unsigned_Decides, signed_Decides}
 use Rattle.std.specs.Cmp.Lexicographic.{pointwise}
 use Rattle.std.proofs.lemmas.Bool.Decides.{Decides-and}
 use Rattle.std.proofs.lemmas.Slice.Eq.{slice_eq-Decides}
-use Rattle.rtk_message.specs.declared.satellites.Satellite.{Satellite}
+use Rattle.rtk_message.specs.declared.obs1004.Satellite.{Satellite}
 use Rattle.rtk_message.specs.declared.obs1004.Obs1004 as declared_obs1004
 use Rattle.rtk_message.specs.declared.arp1005.Arp1005 as declared_arp1005
 use Rattle.rtk_message.specs.declared.arp1006.Arp1006 as declared_arp1006
@@ -14,7 +14,7 @@ use Rattle.rtk_message.specs.declared.msm1074.MsmHeader.{MsmHeader}
 use Rattle.rtk_message.specs.declared.msm1074.Msm1074 as declared_msm1074
 use Rattle.rtk_message.specs.declared.message.Message.{Message}
 use Rattle.rtk_message.specs.declared.message.Message.TheVariants.{Obs1004, Arp1005, Arp1006, Msm1074}
-use Rattle.rtk_message.specs.contracts.satellites.SatellitePartialEq.TheImpl as satellite_eq
+use Rattle.rtk_message.specs.contracts.obs1004.SatellitePartialEq.TheImpl as satellite_eq
 use Rattle.rtk_message.specs.contracts.arp1005.Arp1005PartialEq.TheImpl as arp1005_eq
 use Rattle.rtk_message.specs.contracts.arp1006.Arp1006PartialEq.TheImpl as arp1006_eq
 use Rattle.rtk_message.specs.contracts.msm1074.MsmHeaderPartialEq.TheImpl as header_eq

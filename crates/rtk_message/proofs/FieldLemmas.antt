@@ -3,11 +3,11 @@ use Rattle.std.proofs.Common.{◌≡◌, ℕ, zero, suc, ◌<◌, Bool, true, fa
 use Rattle.std.proofs.lemmas.List.{append-nil}
 use Rattle.std.specs.Prelude.{◌==◌}
 use Rattle.rtk_bits.specs.Bits.{bit, bits_of}
-use Rattle.rtk_message.specs.Fields.{Field, Puts, field_bits, bits_of_fields, TakesAll, Takes, PutsAll}
+use Rattle.rtk_message.specs.Fields.{Field, Puts, field_bits, bits_of_fields, TakesAll, TakesField, PutsAll}
 use Rattle.rtk_message.specs.FieldLaws.{bits_of_fields-append, fit-append}
 
 -- one field more in front of what was taken
-pub took : {f : Field} {fs : List Field} {a b c : List Bool} → Takes f a b → TakesAll fs b c → TakesAll (f ∷ fs) a c
+pub took : {f : Field} {fs : List Field} {a b c : List Bool} → TakesField f a b → TakesAll fs b c → TakesAll (f ∷ fs) a c
 took {f = f} {fs = fs} {c = c} first rest = record {
   fit = (first.fits, rest.fit);
   is = first.is ∙ ap (λ (t : List Bool). field_bits f ++ t) rest.is ∙ sym (append_assoc (field_bits f) (bits_of_fields fs) c);

@@ -7,7 +7,7 @@ use Rattle.rtk_message.specs.declared.msm1074.Msm1074.{Msm1074}
 use Rattle.rtk_message.specs.Fields.{FieldsFit, TakesAll}
 use Rattle.rtk_message.specs.FieldLaws.{fit-append, fit-left}
 use Rattle.rtk_message.specs.Columns.{numbers, integers, flags}
-use Rattle.rtk_message.specs.Msm1074.{header_table, satellites, signals, mask_table, columns, table, HasLengths, EachFits, IsValid, first_fault, tow_of, mask_bits_of}
+use Rattle.rtk_message.specs.Msm1074.{header_table, satellites, signals, mask_table, columns, table, HasLengths, EachFits, IsValid, first_fault, tow_of, mask_bits_in}
 use Rattle.rtk_message.specs.Msm1074Laws.{header_says, due, cells_says}
 use Rattle.rtk_message.proofs.ColumnLemmas.{flags-fit}
 
@@ -23,7 +23,7 @@ is_many {h = h} {bs = bs} took time many =
     let says = header_says took in
     let long : ltb (length bs) 157 ≡ false = le-ltb (length bs) 157 (omega (arith, says.len)) in
     let when : ltb 604799999 (tow_of bs) ≡ false = le-ltb 604799999 (tow_of bs) (omega (arith, says.tow_is, time)) in
-    let big : ltb 64 (mask_bits_of bs) ≡ true = lt-ltb 64 (mask_bits_of bs) (omega (arith, says.mask_bits_is, many)) in
+    let big : ltb 64 (mask_bits_in bs) ≡ true = lt-ltb 64 (mask_bits_in bs) (omega (arith, says.mask_bits_is, many)) in
     rw (long, when, big) refl
 
 pub is_cut : {h : MsmHeader} {bs rest : List Bool} → TakesAll (header_table h) bs rest → h.tow ≤ 604799999 → satellites h * signals h ≤ 64 → length bs < due bs → first_fault bs ≡ Some (Short 1074)
@@ -31,7 +31,7 @@ is_cut {h = h} {bs = bs} took time few short =
     let says = header_says took in
     let long : ltb (length bs) 157 ≡ false = le-ltb (length bs) 157 (omega (arith, says.len)) in
     let when : ltb 604799999 (tow_of bs) ≡ false = le-ltb 604799999 (tow_of bs) (omega (arith, says.tow_is, time)) in
-    let big : ltb 64 (mask_bits_of bs) ≡ false = le-ltb 64 (mask_bits_of bs) (omega (arith, says.mask_bits_is, few)) in
+    let big : ltb 64 (mask_bits_in bs) ≡ false = le-ltb 64 (mask_bits_in bs) (omega (arith, says.mask_bits_is, few)) in
     let cut : ltb (length bs) (due bs) ≡ true = lt-ltb (length bs) (due bs) short in
     rw (long, when, big, cut) refl
 

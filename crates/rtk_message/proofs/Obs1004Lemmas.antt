@@ -4,7 +4,7 @@ use Rattle.std.specs.List.{flat_map}
 use Rattle.std.proofs.lemmas.Bool.{le-ltb, lt-ltb}
 use Rattle.std.proofs.lemmas.List.{flat_map_more, take_more}
 use Rattle.rtk_message.specs.declared.fault.DecodeFault.TheVariants.{Short, EpochRange}
-use Rattle.rtk_message.specs.declared.satellites.Satellite.{Satellite}
+use Rattle.rtk_message.specs.declared.obs1004.Satellite.{Satellite}
 use Rattle.rtk_message.specs.Fields.{FieldsFit, TakesAll, PutsAll}
 use Rattle.rtk_message.specs.FieldLaws.{fit-left}
 use Rattle.rtk_message.specs.Obs1004.{satellite_table, header, first_fault, tow_of, satellite_bits}

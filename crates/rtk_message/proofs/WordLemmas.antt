@@ -8,7 +8,7 @@ use mir.Val.{SFits}
 use Rattle.rtk_bits.specs.Bits.{bits_of, signed_bits_of}
 use Rattle.rtk_bits.proofs.BitsLemmas.{bits_of-split, bits_of-mod}
 use Rattle.rtk_bits.proofs.Numbers.{pow_more}
-use Rattle.rtk_message.specs.Fields.{u, Takes}
+use Rattle.rtk_message.specs.Fields.{u, TakesField}
 
 -- the mask `u64::MAX >> (64 - width)`
 low_bits : (n width : ℕ) → width ≤ 64 → bit_and n ((2 ^ 64 - 1) / 2 ^ (64 - width)) ≡ n % 2 ^ width
@@ -18,7 +18,7 @@ low_bits n width most =
 
 -- the first bits of those that are left
 pub word_field : (left width bits : ℕ) → width ≤ left → width ≤ 64
-    → Takes (u width (bit_and (bits / 2 ^ (left - width)) ((2 ^ 64 - 1) / 2 ^ (64 - width)))) (bits_of left bits) (bits_of (left - width) bits)
+    → TakesField (u width (bit_and (bits / 2 ^ (left - width)) ((2 ^ 64 - 1) / 2 ^ (64 - width)))) (bits_of left bits) (bits_of (left - width) bits)
 word_field left width bits enough most =
     let high = bits / 2 ^ (left - width) in
     let all : width + (left - width) ≡ left = omega arith in

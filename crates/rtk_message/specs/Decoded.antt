@@ -56,7 +56,7 @@ pub record Encodes (bs : List Bool) (m : Message) : Type 0 where
   pub begins : (rest : List Bool) × (bs ≡ bits_of_fields (table m) ++ rest)
 
 -- the bits after this number begin with the fields of a valid message that has it
-pub record Follows (number : ℕ) (bs : List Bool) (m : Message) : Type 0 where
+pub record BeginsAfterNumber (number : ℕ) (bs : List Bool) (m : Message) : Type 0 where
   pub has_number : number_of m ≡ number
   pub valid : IsValid m
   pub begins : (rest : List Bool) × (bs ≡ bits_of_fields (fields_after_number m) ++ rest)

@@ -31,7 +31,7 @@ abbrev pub FieldsFit : List Field → Type 0
 FieldsFit fs = AllByRecursion FieldFits fs
 
 -- the bits begin with a field that fits, and these are left after it
-pub record Takes (f : Field) (from left : List Bool) : Type 0 where
+pub record TakesField (f : Field) (from left : List Bool) : Type 0 where
   pub fits : FieldFits f
   pub is : from ≡ field_bits f ++ left
 

@@ -85,21 +85,21 @@ abbrev pub tow_of : List Bool → ℕ
 tow_of bs = unsigned (take 30 (drop 12 bs))
 
 -- the satellites, by DF394
-abbrev pub satellites_of : List Bool → ℕ
-satellites_of bs = count_ones (unsigned (take 64 (drop 61 bs)))
+abbrev pub satellite_count_in : List Bool → ℕ
+satellite_count_in bs = count_ones (unsigned (take 64 (drop 61 bs)))
 
 -- the bits of the cell mask: satellites times signals, by DF394 and DF395
-abbrev pub mask_bits_of : List Bool → ℕ
-mask_bits_of bs = satellites_of bs * count_ones (unsigned (take 32 (drop 125 bs)))
+abbrev pub mask_bits_in : List Bool → ℕ
+mask_bits_in bs = satellite_count_in bs * count_ones (unsigned (take 32 (drop 125 bs)))
 
 -- the cells, by DF396
-abbrev pub cells_of : List Bool → ℕ
-cells_of bs = count_ones (unsigned (take (mask_bits_of bs) (drop 157 bs)))
+abbrev pub cell_count_in : List Bool → ℕ
+cell_count_in bs = count_ones (unsigned (take (mask_bits_in bs) (drop 157 bs)))
 
 -- a satellite takes 18 bits after the cell mask, a cell 48
 abbrev pub first_fault : List Bool → Option DecodeFault
 first_fault bs =
     if nat_lt (length bs) 157 then Some (Short 1074) else
     if nat_lt 604799999 (tow_of bs) then Some (EpochRange 1074) else
-    if nat_lt 64 (mask_bits_of bs) then Some TooManyCells else
-    if nat_lt (length bs) (157 + mask_bits_of bs + 18 * satellites_of bs + 48 * cells_of bs) then Some (Short 1074) else None
+    if nat_lt 64 (mask_bits_in bs) then Some TooManyCells else
+    if nat_lt (length bs) (157 + mask_bits_in bs + 18 * satellite_count_in bs + 48 * cell_count_in bs) then Some (Short 1074) else None

@@ -10,20 +10,20 @@ use Rattle.rtk_message.specs.Columns.{numbers, integers, flags}
 use Rattle.rtk_message.specs.ColumnLaws.{total-numbers, total-integers, total-flags, ones-numbers, peel, peel_numbers, peel_integers, peel_flags, last_numbers}
 use Rattle.rtk_message.specs.declared.msm1074.MsmHeader.{MsmHeader}
 use Rattle.rtk_message.specs.declared.msm1074.Msm1074.{Msm1074}
-use Rattle.rtk_message.specs.Msm1074.{header_table, satellites, signals, mask_table, columns, table, cells, HasLengths, IsValid, first_fault, tow_of, satellites_of, mask_bits_of, cells_of}
+use Rattle.rtk_message.specs.Msm1074.{header_table, satellites, signals, mask_table, columns, table, cells, HasLengths, IsValid, first_fault, tow_of, satellite_count_in, mask_bits_in, cell_count_in}
 
 -- what the header says of the bits
-pub record Says (h : MsmHeader) (bs rest : List Bool) : Type 0 where
+pub record SaysHeader1074 (h : MsmHeader) (bs rest : List Bool) : Type 0 where
   pub tow_is : tow_of bs ≡ h.tow
-  pub satellites_is : satellites_of bs ≡ satellites h
-  pub mask_bits_is : mask_bits_of bs ≡ satellites h * signals h
+  pub satellites_is : satellite_count_in bs ≡ satellites h
+  pub mask_bits_is : mask_bits_in bs ≡ satellites h * signals h
   pub after : drop 157 bs ≡ rest
   pub len : length bs ≡ 157 + length rest
 
-pub header_says : {h : MsmHeader} {bs rest : List Bool} → TakesAll (header_table h) bs rest → Says h bs rest
+pub header_says : {h : MsmHeader} {bs rest : List Bool} → TakesAll (header_table h) bs rest → SaysHeader1074 h bs rest
 header_says {h = h} {bs = bs} {rest = rest} took =
     let f = took.fit in
-    let sat : satellites_of bs ≡ satellites h =
+    let sat : satellite_count_in bs ≡ satellites h =
     ap count_ones (number_at (u 12 h.station ∷ u 30 h.tow ∷ flag h.multiple_message ∷ u 3 h.issue_of_data_station ∷ u 7 h.reserved ∷ u 2 h.clock_steering ∷ u 2 h.external_clock ∷ flag h.smoothing ∷ u 3 h.smoothing_interval ∷ [])
     64 h.satellite_mask (u 32 h.signal_mask ∷ []) bs rest 61 refl f.1.1.1.1.1.1.1.1.1.0 took.is) in
     let sig : count_ones (unsigned (take 32 (drop 125 bs))) ≡ signals h =
@@ -39,19 +39,19 @@ header_says {h = h} {bs = bs} {rest = rest} took =
 
 -- the bits that the rest is to have
 abbrev pub due : List Bool → ℕ
-due bs = 157 + mask_bits_of bs + 18 * satellites_of bs + 48 * cells_of bs
+due bs = 157 + mask_bits_in bs + 18 * satellite_count_in bs + 48 * cell_count_in bs
 
 is_whole : {h : MsmHeader} {bs rest : List Bool} → TakesAll (header_table h) bs rest → h.tow ≤ 604799999 → satellites h * signals h ≤ 64 → due bs ≤ length bs → first_fault bs ≡ None
 is_whole {h = h} {bs = bs} took time few enough =
     let says = header_says took in
     let long : ltb (length bs) 157 ≡ false = le-ltb (length bs) 157 (omega (arith, says.len)) in
     let when : ltb 604799999 (tow_of bs) ≡ false = le-ltb 604799999 (tow_of bs) (omega (arith, says.tow_is, time)) in
-    let big : ltb 64 (mask_bits_of bs) ≡ false = le-ltb 64 (mask_bits_of bs) (omega (arith, says.mask_bits_is, few)) in
+    let big : ltb 64 (mask_bits_in bs) ≡ false = le-ltb 64 (mask_bits_in bs) (omega (arith, says.mask_bits_is, few)) in
     let enough_bits : ltb (length bs) (due bs) ≡ false = le-ltb (length bs) (due bs) enough in
     rw (long, when, big, enough_bits) refl
 
 -- the cells, as the bits say and as the table do
-pub cells_says : {h : MsmHeader} {bs rest after : List Bool} (ns : List ℕ) → TakesAll (header_table h) bs rest → TakesAll (numbers (signals h) ns) rest after → length ns ≡ satellites h → cells_of bs ≡ sum_by count_ones ns
+pub cells_says : {h : MsmHeader} {bs rest after : List Bool} (ns : List ℕ) → TakesAll (header_table h) bs rest → TakesAll (numbers (signals h) ns) rest after → length ns ≡ satellites h → cell_count_in bs ≡ sum_by count_ones ns
 cells_says {h = h} {bs = bs} {rest = rest} {after = after} ns took mask len =
     let says = header_says took in
     let fs = bits_of_fields (numbers (signals h) ns) in

@@ -4,7 +4,7 @@ use Rattle.std.specs.List.{flat_map}
 use Rattle.std.proofs.lemmas.Bool.{le-ltb}
 use Rattle.rtk_message.specs.Fields.{u, flag, bits_of_fields, FieldsFit, TakesAll}
 use Rattle.rtk_message.specs.FieldLaws.{length-bits_of_fields, SameForm, one_list, bits_of_fields-append, fit-left, number_at}
-use Rattle.rtk_message.specs.declared.satellites.Satellite.{Satellite}
+use Rattle.rtk_message.specs.declared.obs1004.Satellite.{Satellite}
 use Rattle.rtk_message.specs.declared.obs1004.Obs1004.{Obs1004}
 use Rattle.rtk_message.specs.Obs1004.{satellite_table, header, header_table, table, IsValid, first_fault, tow_of, satellite_bits}
 
@@ -14,12 +14,12 @@ length-satellites (x ∷ xs) =
     rw (bits_of_fields-append (satellite_table x) (flat_map satellite_table xs), length-append (bits_of_fields (satellite_table x)) (bits_of_fields (flat_map satellite_table xs)), length-bits_of_fields (satellite_table x), length-satellites xs) (omega arith)
 
 -- what the header says of the bits
-pub record Says (bs rest : List Bool) (tow count : ℕ) : Type 0 where
+pub record SaysHeader1004 (bs rest : List Bool) (tow count : ℕ) : Type 0 where
   pub tow_is : tow_of bs ≡ tow
   pub count_is : satellite_bits bs ≡ 125 * count
   pub len : length bs ≡ 52 + length rest
 
-pub header_says : {s t : ℕ} {y : Bool} {n : ℕ} {k : Bool} {v : ℕ} {bs rest : List Bool} → TakesAll (header s t y n k v) bs rest → Says bs rest t n
+pub header_says : {s t : ℕ} {y : Bool} {n : ℕ} {k : Bool} {v : ℕ} {bs rest : List Bool} → TakesAll (header s t y n k v) bs rest → SaysHeader1004 bs rest t n
 header_says {s = s} {t = t} {y = y} {n = n} {k = k} {v = v} {bs = bs} {rest = rest} took = record {
   tow_is = number_at (u 12 s ∷ []) 30 t (flag y ∷ u 5 n ∷ flag k ∷ u 3 v ∷ []) bs rest 12 refl took.fit.1.0 took.is;
   count_is = ap (λ (m : ℕ). 125 * m) (number_at (u 12 s ∷ u 30 t ∷ flag y ∷ []) 5 n (flag k ∷ u 3 v ∷ []) bs rest 43 refl took.fit.1.1.1.0 took.is);

@@ -1,12 +1,12 @@
 //! Message 1005: the antenna reference point of a station.
+
 ghost use Rattle.std.specs.Prelude.{◌↔◌, IsTrue};
 ghost use Rattle.rtk_message.specs.Fields.{FieldsFit};
 ghost use Rattle.rtk_message.specs.Arp1005.{table};
 
 use crate::fault::DecodeFault;
-use crate::field::{fits_i, put_flag, put_i64, put_u};
+use crate::field::{fits_i, put_flag, put_i64, put_u, next_word};
 use crate::layout::Layout;
-use crate::word::next_word;
 use rtk_bits::{BitReader, BitWriter};
 use std::alloc::AllocError;
 

@@ -2,7 +2,7 @@
 ghost use Rattle.std.specs.Prelude.{◌≡◌, Some, Option, IfOk, IfErr};
 ghost use Rattle.rtk_bits.specs.Bits.{bits};
 ghost use Rattle.rtk_message.specs.declared.message.Message.{Message};
-ghost use Rattle.rtk_message.specs.Decoded.{Decodes, Follows, fault_after_number};
+ghost use Rattle.rtk_message.specs.Decoded.{Decodes, BeginsAfterNumber, fault_after_number};
 
 use crate::arp1005::Arp1005;
 use crate::arp1006::Arp1006;
@@ -39,7 +39,7 @@ pub fn decode(payload: &[u8]) -> Result<Message, DecodeFault>
 // its result where its caller wants it, which saves moves of a thousand bytes.
 #[inline(never)]
 fn read_1004(mut reader: BitReader<'_>) -> Result<Message, DecodeFault>
-    ensures message { IfOk result (λ m. Follows 1004 reader.entry m) }
+    ensures message { IfOk result (λ m. BeginsAfterNumber 1004 reader.entry m) }
     ensures fault { IfErr result (λ f. fault_after_number 1004 reader.entry ≡ Some f) }
 {
     let mut message = Obs1004::empty();
@@ -49,7 +49,7 @@ fn read_1004(mut reader: BitReader<'_>) -> Result<Message, DecodeFault>
 
 #[inline(never)]
 fn read_1005(mut reader: BitReader<'_>) -> Result<Message, DecodeFault>
-    ensures message { IfOk result (λ m. Follows 1005 reader.entry m) }
+    ensures message { IfOk result (λ m. BeginsAfterNumber 1005 reader.entry m) }
     ensures fault { IfErr result (λ f. fault_after_number 1005 reader.entry ≡ Some f) }
 {
     let mut message = Arp1005::empty();
@@ -59,7 +59,7 @@ fn read_1005(mut reader: BitReader<'_>) -> Result<Message, DecodeFault>
 
 #[inline(never)]
 fn read_1006(mut reader: BitReader<'_>) -> Result<Message, DecodeFault>
-    ensures message { IfOk result (λ m. Follows 1006 reader.entry m) }
+    ensures message { IfOk result (λ m. BeginsAfterNumber 1006 reader.entry m) }
     ensures fault { IfErr result (λ f. fault_after_number 1006 reader.entry ≡ Some f) }
 {
     let mut message = Arp1006::empty();
@@ -69,7 +69,7 @@ fn read_1006(mut reader: BitReader<'_>) -> Result<Message, DecodeFault>
 
 #[inline(never)]
 fn read_1074(mut reader: BitReader<'_>) -> Result<Message, DecodeFault>
-    ensures message { IfOk result (λ m. Follows 1074 reader.entry m) }
+    ensures message { IfOk result (λ m. BeginsAfterNumber 1074 reader.entry m) }
     ensures fault { IfErr result (λ f. fault_after_number 1074 reader.entry ≡ Some f) }
 {
     let mut message = Msm1074::empty();

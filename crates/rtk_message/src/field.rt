@@ -1,10 +1,299 @@
-//! Fields of the types that messages have, put and tested.
-ghost use Rattle.std.specs.Prelude.{OnOk, ◌-◌, ◌^◌, ◌<◌, ◌≤◌, IsTrue, ◌↔◌};
-ghost use Rattle.rtk_message.specs.Fields.{u, i, flag, Puts};
-ghost use Rattle.rtk_bits.specs.Bits.{FitsSigned};
+//! Fields of messages: the bits that hold them, their values, and how they are read and written.
 
-use rtk_bits::BitWriter;
+ghost use Rattle.rtk_bits.specs.Bits.{bits_of, signed_bits_of, FitsSigned};
+ghost use Rattle.rtk_message.specs.Fields.{u, i, flag, TakesField, Field, FieldFits, Puts};
+ghost use Rattle.std.specs.Prelude.{◌≡◌, ◌+◌, ◌-◌, ◌*◌, ◌^◌, ◌<◌, ◌≤◌, ◌++◌, length, OnOk, IsTrue, ◌↔◌, ℕ};
+
+use rtk_bits::{BitReader, BitWriter};
 use std::alloc::AllocError;
+use std::marker::Model;
+
+/// At most 64 bits, and the fields read from them. A contract sees the bits that are not read yet.
+///
+/// One load serves all fields that lie in these bits: each then costs a shift and a mask.
+#[derive(Drop)]
+pub struct Word {
+    bits: u64,
+    left: usize,
+}
+
+// Clauses see the low bits of the number, as many as are left.
+impl Model for Word {
+    ghost use Rattle.std.specs.Prelude.{List, Bool, ◌≤◌};
+    ghost use Rattle.rtk_bits.specs.Bits.{bits_of};
+
+    ghost Value = { List Bool };
+
+    ghost view = { λ w. bits_of w.left w.bits };
+
+    ghost invariant = { λ w. w.left ≤ 64 };
+}
+
+/// Takes the next bits.
+pub fn next_word(reader: &mut BitReader<'_>, width: usize) -> Word
+    requires width { (1 ≤ width) × (width ≤ 64) }
+    requires enough { width ≤ length reader.old }
+    ensures bits { reader.old ≡ result ++ reader.new }
+    ensures width { length result ≡ width }
+    ensures left { length reader.old ≡ width + length reader.new }
+{
+    match reader.take_u(width) {
+        Some(bits) => Word { bits, left: width },
+        None => unreachable!(),
+    }
+}
+
+impl Word {
+    /// The next unsigned field.
+    pub fn next_u64(&mut self, width: usize) -> u64
+        requires width { (1 ≤ width) × (width ≤ 64) }
+        requires enough { width ≤ length self.old }
+        ensures taken { TakesField (u width result) self.old self.new }
+        ensures left { length self.old ≡ width + length self.new }
+    {
+        self.left -= width;
+        (self.bits >> self.left) & (u64::MAX >> (64 - width))
+    }
+
+    /// The next unsigned field of at most 32 bits.
+    pub fn next_u32(&mut self, width: usize) -> u32
+        requires width { (1 ≤ width) × (width ≤ 32) }
+        requires enough { width ≤ length self.old }
+        ensures taken { TakesField (u width result) self.old self.new }
+        ensures left { length self.old ≡ width + length self.new }
+    {
+        self.next_u64(width) as u32
+    }
+
+    /// The next unsigned field of at most 16 bits.
+    pub fn next_u16(&mut self, width: usize) -> u16
+        requires width { (1 ≤ width) × (width ≤ 16) }
+        requires enough { width ≤ length self.old }
+        ensures taken { TakesField (u width result) self.old self.new }
+        ensures left { length self.old ≡ width + length self.new }
+    {
+        self.next_u64(width) as u16
+    }
+
+    /// The next unsigned field of at most 8 bits.
+    pub fn next_u8(&mut self, width: usize) -> u8
+        requires width { (1 ≤ width) × (width ≤ 8) }
+        requires enough { width ≤ length self.old }
+        ensures taken { TakesField (u width result) self.old self.new }
+        ensures left { length self.old ≡ width + length self.new }
+    {
+        self.next_u64(width) as u8
+    }
+
+    /// The next field of one bit.
+    pub fn next_flag(&mut self) -> bool
+        requires { 1 ≤ length self.old }
+        ensures taken { TakesField (flag result) self.old self.new }
+        ensures left { length self.old ≡ 1 + length self.new }
+    {
+        self.next_u64(1) == 1
+    }
+
+    /// The next two's complement field.
+    pub fn next_i64(&mut self, width: usize) -> i64
+        requires width { (1 ≤ width) × (width ≤ 63) }
+        requires enough { width ≤ length self.old }
+        ensures taken { TakesField (i width result) self.old self.new }
+        ensures left { length self.old ≡ width + length self.new }
+    {
+        signed_of(self.next_u64(width), width)
+    }
+
+    /// The next two's complement field of at most 32 bits.
+    pub fn next_i32(&mut self, width: usize) -> i32
+        requires width { (1 ≤ width) × (width ≤ 32) }
+        requires enough { width ≤ length self.old }
+        ensures taken { TakesField (i width result) self.old self.new }
+        ensures left { length self.old ≡ width + length self.new }
+    {
+        self.next_i64(width) as i32
+    }
+
+    /// The next two's complement field of at most 16 bits.
+    pub fn next_i16(&mut self, width: usize) -> i16
+        requires width { (1 ≤ width) × (width ≤ 16) }
+        requires enough { width ≤ length self.old }
+        ensures taken { TakesField (i width result) self.old self.new }
+        ensures left { length self.old ≡ width + length self.new }
+    {
+        self.next_i64(width) as i16
+    }
+}
+
+// The two's complement number of so many bits.
+fn signed_of(bits: u64, width: usize) -> i64
+    requires width { (1 ≤ width) × (width ≤ 63) }
+    requires bits { bits < 2 ^ width }
+    ensures fits { FitsSigned width result }
+    ensures bits { signed_bits_of width result ≡ bits_of width bits }
+{
+    let sign = 1 << (width - 1);
+    if bits < sign {
+        bits as i64
+    } else {
+        -((2 * sign - bits) as i64)
+    }
+}
+
+/// A type whose values are fields of a column.
+pub trait FieldValue: Copy + Default {
+    /// The field of so many bits with this value.
+    ghost field: { ℕ → Self → Field };
+
+    /// The widths that a field of this type may have.
+    ghost IsWidth: { ℕ → Type 0 };
+
+    /// The next field.
+    fn next(word: &mut Word, width: usize) -> Self
+        requires width { IsWidth width }
+        requires some { 1 ≤ width }
+        requires enough { width ≤ length word.old }
+        ensures taken { TakesField (field width result) word.old word.new }
+        ensures left { length word.old ≡ width + length word.new };
+
+    /// Puts the field.
+    fn put(&self, writer: &mut BitWriter, width: usize) -> Result<(), AllocError>
+        requires width { IsWidth width }
+        requires some { 1 ≤ width }
+        requires fits { FieldFits (field width self.now) }
+        ensures { OnOk result (Puts (field width self.now) writer.old writer.new) };
+
+    /// Whether the value fits the width.
+    fn fits(&self, width: usize) -> bool
+        requires width { IsWidth width }
+        ensures { IsTrue result ↔ FieldFits (field width self.now) };
+}
+
+impl FieldValue for u8 {
+    ghost use Rattle.std.specs.Prelude.{◌≤◌};
+    ghost use Rattle.rtk_message.specs.Fields.{u};
+
+    ghost field = { λ w x. u w x };
+
+    ghost IsWidth = { λ w. w ≤ 8 };
+
+    fn next(word: &mut Word, width: usize) -> u8 {
+        word.next_u8(width)
+    }
+
+    fn put(&self, writer: &mut BitWriter, width: usize) -> Result<(), AllocError> {
+        put_u(writer, width, *self as u64)
+    }
+
+    fn fits(&self, width: usize) -> bool {
+        fits_u(*self as u64, width)
+    }
+}
+
+impl FieldValue for u16 {
+    ghost use Rattle.std.specs.Prelude.{◌≤◌};
+    ghost use Rattle.rtk_message.specs.Fields.{u};
+
+    ghost field = { λ w x. u w x };
+
+    ghost IsWidth = { λ w. w ≤ 16 };
+
+    fn next(word: &mut Word, width: usize) -> u16 {
+        word.next_u16(width)
+    }
+
+    fn put(&self, writer: &mut BitWriter, width: usize) -> Result<(), AllocError> {
+        put_u(writer, width, *self as u64)
+    }
+
+    fn fits(&self, width: usize) -> bool {
+        fits_u(*self as u64, width)
+    }
+}
+
+impl FieldValue for u32 {
+    ghost use Rattle.std.specs.Prelude.{◌≤◌};
+    ghost use Rattle.rtk_message.specs.Fields.{u};
+
+    ghost field = { λ w x. u w x };
+
+    ghost IsWidth = { λ w. w ≤ 32 };
+
+    fn next(word: &mut Word, width: usize) -> u32 {
+        word.next_u32(width)
+    }
+
+    fn put(&self, writer: &mut BitWriter, width: usize) -> Result<(), AllocError> {
+        put_u(writer, width, *self as u64)
+    }
+
+    fn fits(&self, width: usize) -> bool {
+        fits_u(*self as u64, width)
+    }
+}
+
+impl FieldValue for i16 {
+    ghost use Rattle.std.specs.Prelude.{◌≤◌};
+    ghost use Rattle.rtk_message.specs.Fields.{i};
+
+    ghost field = { λ w x. i w x };
+
+    ghost IsWidth = { λ w. (1 ≤ w) × (w ≤ 16) };
+
+    fn next(word: &mut Word, width: usize) -> i16 {
+        word.next_i16(width)
+    }
+
+    fn put(&self, writer: &mut BitWriter, width: usize) -> Result<(), AllocError> {
+        put_i16(writer, width, self)
+    }
+
+    fn fits(&self, width: usize) -> bool {
+        fits_i(*self as i64, width)
+    }
+}
+
+impl FieldValue for i32 {
+    ghost use Rattle.std.specs.Prelude.{◌≤◌};
+    ghost use Rattle.rtk_message.specs.Fields.{i};
+
+    ghost field = { λ w x. i w x };
+
+    ghost IsWidth = { λ w. (1 ≤ w) × (w ≤ 32) };
+
+    fn next(word: &mut Word, width: usize) -> i32 {
+        word.next_i32(width)
+    }
+
+    fn put(&self, writer: &mut BitWriter, width: usize) -> Result<(), AllocError> {
+        put_i32(writer, width, self)
+    }
+
+    fn fits(&self, width: usize) -> bool {
+        fits_i(*self as i64, width)
+    }
+}
+
+impl FieldValue for bool {
+    ghost use Rattle.std.specs.Prelude.{◌≡◌};
+    ghost use Rattle.rtk_message.specs.Fields.{flag};
+
+    ghost field = { λ w x. flag x };
+
+    ghost IsWidth = { λ w. w ≡ 1 };
+
+    fn next(word: &mut Word, width: usize) -> bool {
+        word.next_flag()
+    }
+
+    fn put(&self, writer: &mut BitWriter, width: usize) -> Result<(), AllocError> {
+        put_flag(writer, *self)
+    }
+
+    fn fits(&self, width: usize) -> bool {
+        true
+    }
+}
 
 /// Milliseconds of a week: a time of week (DF004) is less.
 pub const WEEK_MS: u32 = 604_800_000;

@@ -1,15 +1,14 @@
 //! Message 1074: GPS observations of any signals (MSM4), column by column.
+
 ghost use Rattle.std.specs.Prelude.{◌≡◌, ◌≤◌, ◌<◌, [], ◌+◌, ◌*◌, length, OnOk, IsTrue, ◌↔◌, count_ones, sum_by};
 ghost use Rattle.rtk_message.specs.Fields.{TakesAll, PutsAll, FieldsFit};
 ghost use Rattle.rtk_message.specs.Columns.{numbers};
 ghost use Rattle.rtk_message.specs.Msm1074.{header_table, EachFits, HasLengths};
 
-use crate::column::{Column, column_fits, put_column, read_column};
+use crate::column::{Column, column_fits, put_column, read_column, ones, put_mask, read_mask};
 use crate::fault::DecodeFault;
-use crate::field::{WEEK_MS, put_flag, put_u};
+use crate::field::{WEEK_MS, put_flag, put_u, next_word};
 use crate::layout::Layout;
-use crate::mask::{ones, put_mask, read_mask};
-use crate::word::next_word;
 use rtk_bits::{BitReader, BitWriter};
 use std::alloc::AllocError;
 

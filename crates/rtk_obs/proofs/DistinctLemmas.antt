@@ -5,7 +5,7 @@ use Rattle.std.specs.List.{flat_map, AllByRecursion, AllPairs}
 use Rattle.std.proofs.lemmas.List.Elements.{All-from_recursion}
 use Rattle.std.proofs.lemmas.List.Kept.{AllPairs-cons}
 use Rattle.std.proofs.lemmas.Bool.Decides.{nat_tests}
-use Rattle.rtk_message.specs.declared.satellites.Satellite.{Satellite}
+use Rattle.rtk_message.specs.declared.obs1004.Satellite.{Satellite}
 use Rattle.rtk_message.specs.declared.msm1074.Msm1074.{Msm1074}
 use Rattle.rtk_message.specs.Msm1074.{IsValid}
 use Rattle.rtk_obs.specs.declared.code.Code.{Code}

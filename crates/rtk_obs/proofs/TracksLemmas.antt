@@ -13,7 +13,7 @@ use Rattle.rtk_obs.specs.Slip.{EpochCell, has_phase}
 use Rattle.rtk_obs.specs.Cell.{IsSatellite}
 use Rattle.rtk_obs.specs.Rollover.{last_after, last_phase, track_of, rolls_since}
 use Rattle.rtk_obs.specs.Steps.{Step, epochs_of, IsFalling, PhasesFall}
-use Rattle.rtk_obs.specs.Tracks.{IsLater, track_at, place_of_signal, Represents}
+use Rattle.rtk_obs.specs.Tracks.{IsLater, track_at, place_of_signal, RepresentsSteps}
 use Rattle.rtk_obs.specs.TracksLaws.{IsGreatest, LastIsGreatest, LaterThanSteps, LaterAfterStep}
 
 pub get_or-replicate : {X : Type 0} (n i : ℕ) (y : X) → get_or (replicate n y) i y ≡ y
@@ -197,7 +197,7 @@ pub represents_more : (old new : List (Option Track)) (steps : List Step) (a : �
     → IsLater (track_at old a b) e.epoch
     → track_at new a b ≡ last_after (band_of b) (track_at old a b) e
     → ((s : ℕ) (c : Code) → place_of_signal s c ≢ place_of_signal a b → track_at new s c ≡ track_at old s c)
-    → Represents old steps → Represents new (record { satellite = a; code = b; seen = e } ∷ steps)
+    → RepresentsSteps old steps → RepresentsSteps new (record { satellite = a; code = b; seen = e } ∷ steps)
 represents_more old new steps a b e ha later same others r = record {
   rising = λ s c hs. by_eq (place_of_signal a b) (place_of_signal s c)
       (λ p. let q = same_place a (place_of b) s (place_of c) ha.0 hs.0 (place_bound b) (place_bound c) p in
@@ -219,7 +219,7 @@ represents_more old new steps a b e ha later same others r = record {
 -- the same of one place that was written
 pub represents_set : (places : List (Option Track)) (steps : List Step) (a : ℕ) (b : Code) (e : EpochCell) (t : Option Track) → IsSatellite a
     → length places ≡ 512 → IsLater (track_at places a b) e.epoch → t ≡ last_after (band_of b) (track_at places a b) e
-    → Represents places steps → Represents (set places (place_of_signal a b) t) (record { satellite = a; code = b; seen = e } ∷ steps)
+    → RepresentsSteps places steps → RepresentsSteps (set places (place_of_signal a b) t) (record { satellite = a; code = b; seen = e } ∷ steps)
 represents_set places steps a b e t ha len later is r =
     let inside : place_of_signal a b < length places = let h = place_bound b in omega (arith, ha.1) in
     represents_more places (set places (place_of_signal a b) t) steps a b e ha later
@@ -231,7 +231,7 @@ represents_set places steps a b e t ha len later is r =
 pub represents_step : (places now : List (Option Track)) (steps : List Step) (a : ℕ) (b : Code) (e : EpochCell) (t : Option Track) (k : ℕ) → IsSatellite a
     → length places ≡ 512 → places ≡ now → k ≡ place_of_signal a b → IsLater (track_at now a b) e.epoch
     → t ≡ last_after (band_of b) (get_or places k None) e
-    → Represents now steps → Represents (set places k t) (record { satellite = a; code = b; seen = e } ∷ steps)
+    → RepresentsSteps now steps → RepresentsSteps (set places k t) (record { satellite = a; code = b; seen = e } ∷ steps)
 represents_step places now steps a b e t k ha len same place later is r =
     rw place (represents_set places steps a b e t ha len (rw same later)
     (is ∙ ap (λ (j : ℕ). last_after (band_of b) (get_or places j None) e) place) (rw same r))

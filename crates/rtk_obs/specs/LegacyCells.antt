@@ -1,7 +1,7 @@
 -- The cells of a 1004 (RTCM 10403.3, message 1004; its codes are this project's assignment).
 use Rattle.std.specs.Prelude.{ℕ, ◌==◌, ℤ, negsuc, ◌+ℤ◌, Bool, true, false, not, List, [], ◌∷◌, filter, Option, Some, None, if◌then◌else◌}
 use Rattle.std.specs.List.{flat_map}
-use Rattle.rtk_message.specs.declared.satellites.Satellite.{Satellite}
+use Rattle.rtk_message.specs.declared.obs1004.Satellite.{Satellite}
 use Rattle.rtk_obs.specs.declared.code.Band.{Band}
 use Rattle.rtk_obs.specs.declared.code.Band.TheVariants.{L1, L2}
 use Rattle.rtk_obs.specs.declared.code.Code.{Code}

@@ -1,6 +1,6 @@
 -- What the fields of a satellite of a 1004 keep by their widths.
 use Rattle.std.specs.Prelude.{◌<◌}
-use Rattle.rtk_message.specs.declared.satellites.Satellite.{Satellite}
+use Rattle.rtk_message.specs.declared.obs1004.Satellite.{Satellite}
 
 -- the widths of DF013, DF019 (7 bits) and DF015, DF020 (8 bits)
 pub record HasWidths (s : Satellite) : Type 0 where

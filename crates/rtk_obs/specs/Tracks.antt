@@ -32,7 +32,7 @@ pub record HasPlaces (tracks : List (Option Track)) : Type 0 where
   pub bounded : AllBounded tracks
 
 -- the phases of each satellite and code came in rising order, and their last one stands at its place
-pub record Represents (tracks : List (Option Track)) (steps : List Step) : Type 0 where
+pub record RepresentsSteps (tracks : List (Option Track)) (steps : List Step) : Type 0 where
   pub rising : (satellite : ℕ) (code : Code) → IsSatellite satellite → PhasesFall (epochs_of satellite code steps)
   pub last : (satellite : ℕ) (code : Code) → IsSatellite satellite
       → track_at tracks satellite code ≡ last_phase (band_of code) (epochs_of satellite code steps)

@@ -8,7 +8,7 @@ use Rattle.rtk_obs.specs.Slip.{EpochCell, has_phase}
 use Rattle.rtk_obs.specs.Cell.{IsSatellite}
 use Rattle.rtk_obs.specs.Rollover.{rolls_since, last_after, last_phase}
 use Rattle.rtk_obs.specs.Steps.{Step, epochs_of, PhasesFall}
-use Rattle.rtk_obs.specs.Tracks.{IsLater, track_at, Represents}
+use Rattle.rtk_obs.specs.Tracks.{IsLater, track_at, RepresentsSteps}
 
 -- the track is of the phase at the greatest of these epochs at which there is one, with the roll count behind the last phase below
 pub record IsGreatest (band : Band) (epochs : List EpochCell) (t : Track) : Type 0 where
@@ -34,7 +34,7 @@ LastIsGreatest =
 abbrev pub LaterThanSteps : Type 0
 LaterThanSteps =
     (tracks : List (Option Track)) (steps : List Step) (satellite : ℕ) (code : Code) (epoch : ℕ)
-    → Represents tracks steps → IsSatellite satellite
+    → RepresentsSteps tracks steps → IsSatellite satellite
     → AllByRecursion (λ e. e.epoch < epoch) (filter has_phase (epochs_of satellite code steps))
     → IsLater (track_at tracks satellite code) epoch
 

@@ -11,7 +11,7 @@ ghost use Rattle.rtk_obs.specs.Slip.{epoch_cell};
 ghost use Rattle.rtk_obs.specs.Rollover.{last_after, last_phase, digits_since};
 ghost use Rattle.rtk_obs.specs.Steps.{Step, step_of, epochs_of};
 ghost use Rattle.rtk_obs.specs.TracksLaws.{LastIsGreatest, LaterThanSteps, LaterAfterStep};
-ghost use Rattle.rtk_obs.specs.Tracks.{IsBounded, IsLater, track_at, place_of_signal, Represents};
+ghost use Rattle.rtk_obs.specs.Tracks.{IsBounded, IsLater, track_at, place_of_signal, RepresentsSteps};
 
 use crate::cell::Cell;
 use crate::code::{Band, Code};
@@ -94,7 +94,7 @@ fn track_behind(last: Option<Track>, digits: Digits, epoch: u64, cell: &Cell) ->
 impl Tracks {
     /// No phase came yet.
     pub fn new() -> Tracks
-        ensures represents { Represents result [] }
+        ensures represents { RepresentsSteps result [] }
         ensures empty { (satellite : ℕ) (code : Code) → track_at result satellite code ≡ None }
     {
         Tracks {
@@ -112,8 +112,8 @@ impl Tracks {
         ensures bound { unsigned_abs result.rolls ≤ epoch }
         ensures same { track_at self.new satellite code ≡ last_after (band_of code) (track_at self.old satellite code) (epoch_cell epoch cell.now) }
         ensures others { (s : ℕ) (c : Code) → place_of_signal s c ≢ place_of_signal satellite code → track_at self.new s c ≡ track_at self.old s c }
-        ensures history { (steps : List Step) → Represents self.old steps → result ≡ digits_since (band_of code) (last_phase (band_of code) (epochs_of satellite code steps)) (epoch_cell epoch cell.now) }
-        ensures after { (steps : List Step) → Represents self.old steps → Represents self.new (step_of satellite code epoch cell.now ∷ steps) }
+        ensures history { (steps : List Step) → RepresentsSteps self.old steps → result ≡ digits_since (band_of code) (last_phase (band_of code) (epochs_of satellite code steps)) (epoch_cell epoch cell.now) }
+        ensures after { (steps : List Step) → RepresentsSteps self.old steps → RepresentsSteps self.new (step_of satellite code epoch cell.now ∷ steps) }
     {
         let epoch = epoch.ms();
         let place = usize::from(satellite - 1) * 16 + code.place();

@@ -10,7 +10,7 @@ use Rattle.std.proofs.lemmas.List.Sums.{sum_by-append}
 use Rattle.rtk_obs.specs.declared.time.Civil.{Civil}
 use Rattle.rtk_rinex.specs.Columns.{last_digits}
 use Rattle.rtk_rinex.specs.Reading.{reading_of}
-use Rattle.rtk_rinex.specs.Record.{Epoch, observations, has_line, trim_end, epoch_line, satellite_line, record_text}
+use Rattle.rtk_rinex.specs.Record.{EpochTableView, observations, has_line, trim_end, epoch_line, satellite_line, record_text}
 use Rattle.rtk_rinex.specs.Table.{IsTableRow, IsTableEpoch}
 use Rattle.rtk_rinex.specs.CheckLine.{IsNextSatellite, IsNextTime, IsEpochFault, IsSatelliteFault}
 use Rattle.rtk_rinex.specs.Lines.{IsLine}
@@ -23,7 +23,7 @@ use Rattle.rtk_rinex.proofs.RowLemmas.{named}
 
 -- good records begin a text, and were appended to what was out
 pub record ReadsFront (n first : ℕ) (bytes rest old new : List ℕ) : Type 0 where
-  pub epochs : List Epoch
+  pub epochs : List EpochTableView
   pub are_epochs : AreEpochs n first None epochs
   pub text : bytes ≡ flat_map record_text epochs ++ rest
   pub out : new ≡ old ++ flat_map record_text epochs
@@ -39,11 +39,11 @@ pub rows-more : (n : ℕ) (last : Option ℕ) (rows : List SatelliteRow) (r : Sa
 rows-more n last [] r h is next = (is, next, tt)
 rows-more n last (s ∷ rows) r h is next = (h.0, h.1, rows-more n (Some s.satellite) rows r h.2 is next)
 
-pub last_time-more : (last : Option ℕ) (epochs : List Epoch) (e : Epoch) → last_time last (epochs ++ e ∷ []) ≡ Some e.time
+pub last_time-more : (last : Option ℕ) (epochs : List EpochTableView) (e : EpochTableView) → last_time last (epochs ++ e ∷ []) ≡ Some e.time
 last_time-more last [] e = refl
 last_time-more last (f ∷ epochs) e = last_time-more (Some f.time) epochs e
 
-pub epochs-more : (n first : ℕ) (last : Option ℕ) (epochs : List Epoch) (e : Epoch) → AreEpochs n first last epochs → IsTableEpoch n e
+pub epochs-more : (n first : ℕ) (last : Option ℕ) (epochs : List EpochTableView) (e : EpochTableView) → AreEpochs n first last epochs → IsTableEpoch n e
     → IsNextTime first (last_time last epochs) e.time → AreEpochs n first last (epochs ++ e ∷ [])
 epochs-more n first last [] e h is next = (is, next, tt)
 epochs-more n first last (f ∷ epochs) e h is next = (h.0, h.1, epochs-more n first (Some f.time) epochs e h.2 is next)
@@ -130,11 +130,11 @@ pub record-lines : (n time : ℕ) (rows : List SatelliteRow) → All (IsTableRow
 unfolding record_text
 record-lines n time rows h some = rw (filter-lines n rows h) (lines_of-some (reading_of time) rows some)
 
-pub record_lines-more : (epochs : List Epoch) (e : Epoch) → record_lines (epochs ++ e ∷ []) ≡ record_lines epochs + (1 + length e.rows)
-record_lines-more epochs e = sum_by-append (λ (e : Epoch). 1 + length e.rows) epochs (e ∷ []) ∙ omega arith
+pub record_lines-more : (epochs : List EpochTableView) (e : EpochTableView) → record_lines (epochs ++ e ∷ []) ≡ record_lines epochs + (1 + length e.rows)
+record_lines-more epochs e = sum_by-append (λ (e : EpochTableView). 1 + length e.rows) epochs (e ∷ []) ∙ omega arith
 
-pub satellite_lines-more : (epochs : List Epoch) (e : Epoch) → satellite_lines (epochs ++ e ∷ []) ≡ satellite_lines epochs + length e.rows
-satellite_lines-more epochs e = sum_by-append (λ (e : Epoch). length e.rows) epochs (e ∷ []) ∙ omega arith
+pub satellite_lines-more : (epochs : List EpochTableView) (e : EpochTableView) → satellite_lines (epochs ++ e ∷ []) ≡ satellite_lines epochs + length e.rows
+satellite_lines-more epochs e = sum_by-append (λ (e : EpochTableView). length e.rows) epochs (e ∷ []) ∙ omega arith
 
 -- the text of a record, of its epoch line and its rows
 pub record-is : (bytes line behind : List ℕ) (c : Civil) (rows : List SatelliteRow) (count : ℕ) (rest text : List ℕ)

@@ -9,7 +9,7 @@ use Rattle.rtk_obs.specs.Calendar.{Reads}
 use Rattle.rtk_rinex.specs.Columns.{right, decimals}
 use Rattle.rtk_rinex.specs.Reading.{IsMoment, reading_of, seconds_of}
 use Rattle.rtk_rinex.specs.Record.{epoch_date_text, epoch_columns, epoch_line}
-use Rattle.rtk_rinex.specs.CheckValues.{seconds_in, civil_of, count_of}
+use Rattle.rtk_rinex.specs.CheckValues.{seconds_in, civil_in, count_in}
 use Rattle.rtk_rinex.proofs.ReadingLemmas.{same_civil, reading-reads, year-bound}
 use Rattle.rtk_rinex.proofs.ValuesLemmas.{digits_from-last_2, digits_from-last_4, digits_from-seconds, digits_from-count, length-right, take-exact, drop-exact}
 
@@ -40,10 +40,10 @@ seconds_in-columns c n h =
     rw (append_assoc (epoch_date_text c ++ s) (codes "  0") last, append_assoc (epoch_date_text c) s (codes "  0" ++ last)) refl in
     rw (from, take-exact 11 s (codes "  0" ++ last) (length-seconds (seconds_of c) small)) (digits_from-seconds (seconds_of c) small)
 
-pub civil_of-columns : (c : Civil) (n : ℕ) → Fits c → civil_of (epoch_columns c n) ≡ c
+pub civil_of-columns : (c : Civil) (n : ℕ) → Fits c → civil_in (epoch_columns c n) ≡ c
 civil_of-columns c n h =
     let seconds = seconds_in-columns c n h in
-    same_civil (civil_of (epoch_columns c n)) c
+    same_civil (civil_in (epoch_columns c n)) c
     (digits_from-last_4 c.year h.year) (digits_from-last_2 c.month h.month) (digits_from-last_2 c.day h.day)
     (digits_from-last_2 c.hour h.hour) (digits_from-last_2 c.minute h.minute) (omega arith) (omega arith)
 
@@ -61,7 +61,7 @@ columns-lengths c n h k =
 pub length-columns : (c : Civil) (n : ℕ) → Fits c → n < 1000 → length (epoch_columns c n) ≡ 35
 length-columns c n h k = (columns-lengths c n h k).1
 
-pub count_of-columns : (c : Civil) (n : ℕ) → Fits c → n < 1000 → count_of (epoch_columns c n) ≡ n
+pub count_of-columns : (c : Civil) (n : ℕ) → Fits c → n < 1000 → count_in (epoch_columns c n) ≡ n
 count_of-columns c n h k =
     let front : List ℕ = (epoch_date_text c ++ right 11 (decimals 7 false (seconds_of c))) ++ codes "  0" in
     let last : List ℕ = right 3 (decimal n) in
@@ -87,8 +87,8 @@ Fits-reading_of t h =
 pub record ShowsEpoch (line : List ℕ) (t n : ℕ) : Type 0 where
   pub length : length line ≡ 35
   pub seconds : seconds_in line < 600_000_000
-  pub reading : civil_of line ≡ reading_of t
-  pub count : count_of line ≡ n
+  pub reading : civil_in line ≡ reading_of t
+  pub count : count_in line ≡ n
 
 pub epoch-shows : (line : List ℕ) (t n : ℕ) → IsMoment t → IsInRange 1 32 n → line ≡ epoch_columns (reading_of t) n → ShowsEpoch line t n
 epoch-shows line t n h k e =

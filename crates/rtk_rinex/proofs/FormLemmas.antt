@@ -8,7 +8,7 @@ use Rattle.rtk_rinex.specs.declared.check_fault.Cause.TheVariants.{HeaderLine, C
 use Rattle.rtk_rinex.specs.declared.epoch_table.SatelliteRow.{SatelliteRow}
 use Rattle.rtk_rinex.specs.Columns.{last_digits}
 use Rattle.rtk_rinex.specs.Reading.{reading_of}
-use Rattle.rtk_rinex.specs.Record.{Epoch, before_trimmed, trim_end, epoch_line, satellite_line}
+use Rattle.rtk_rinex.specs.Record.{EpochTableView, before_trimmed, trim_end, epoch_line, satellite_line}
 use Rattle.rtk_rinex.specs.Table.{IsTableRow, IsTableEpoch}
 use Rattle.rtk_rinex.specs.CheckLine.{IsNextTime, IsEpochFault, IsSatelliteForm, IsNextSatellite, IsSatelliteFault}
 use Rattle.rtk_rinex.specs.CheckText.{BeginsWithFault}
@@ -91,7 +91,7 @@ no_satellite_fault n last text Order r y told b h next e =
 no_satellite_fault n last text Truncated r y told b h next e = no_line text (satellite_line r) y b (satellite_line-line r) e
 no_satellite_fault n last text OutOfMemory r y told b h next e = told
 
-pub no_epoch_fault : (n first : ℕ) (last : Option ℕ) (text : List ℕ) (cause : Cause) (a : Epoch) (y : List ℕ) → IsTold cause
+pub no_epoch_fault : (n first : ℕ) (last : Option ℕ) (text : List ℕ) (cause : Cause) (a : EpochTableView) (y : List ℕ) → IsTold cause
     → BeginsWithFault (IsEpochFault first last) text cause → IsTableEpoch n a → IsNextTime first last a.time
     → text ≡ epoch_line (reading_of a.time) (length a.rows) ++ y → ⊥
 no_epoch_fault n first last text HeaderLine a y told b h next e = b.4

@@ -9,7 +9,7 @@ use Rattle.std.proofs.lemmas.List.{length-replicate}
 use Rattle.std.proofs.Math.Seq.{take-append_seam, drop-append_seam}
 use Rattle.std.proofs.lemmas.List.Folds.{list_any-append}
 use Rattle.rtk_rinex.specs.Columns.{left, right, last_digits, decimals, fixed}
-use Rattle.rtk_rinex.specs.HeaderDigits.{with_digit, digits_from, has_minus, number_of}
+use Rattle.rtk_rinex.specs.HeaderDigits.{with_digit, digits_from, has_minus, number_in}
 
 pub digits_from-append : (a : ℕ) (xs ys : List ℕ) → digits_from a (xs ++ ys) ≡ digits_from (digits_from a xs) ys
 unfolding digits_from
@@ -144,7 +144,7 @@ has_minus-decimals w k n negative h =
     has_minus-append (replicate (w - length (decimals k negative n)) 32) ((sign_text negative ++ digits) ++ last) ∙ (rw (has_minus-blanks (w - length (decimals k negative n))) whole)
 
 -- F14.4 shows its number
-pub number_of-fixed : (v : ℤ) → unsigned_abs v < 2 ^ 63 → number_of (fixed 4 14 v) ≡ v
+pub number_of-fixed : (v : ℤ) → unsigned_abs v < 2 ^ 63 → number_in (fixed 4 14 v) ≡ v
 number_of-fixed (pos n) h = rw (has_minus-decimals 14 4 n false (omega arith), digits_from-tenthousandths false n (omega arith)) refl
 number_of-fixed (negsuc n) h = rw (has_minus-decimals 14 4 (suc n) true (omega arith), digits_from-tenthousandths true (suc n) (omega arith)) refl
 

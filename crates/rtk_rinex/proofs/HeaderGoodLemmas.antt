@@ -17,7 +17,7 @@ use Rattle.rtk_obs.specs.declared.time.Civil.{Civil}
 use Rattle.rtk_obs.specs.Position.{IsCoordinate}
 use Rattle.rtk_rinex.specs.Columns.{left, right, decimals, fixed, last_digits, is_negative}
 use Rattle.rtk_rinex.specs.Reading.{IsMoment, reading_of, seconds_of}
-use Rattle.rtk_rinex.specs.Header.{Heading, Site, IsHeading, IsSite, made_text, types_of, types, first_text}
+use Rattle.rtk_rinex.specs.Header.{HeadView, PositionView, IsHeadView, IsPositionView, made_text, types_of, types, first_text}
 use Rattle.rtk_rinex.specs.Lines.{HasNoEnd}
 use Rattle.rtk_rinex.specs.HeaderShown.{line_at}
 use Rattle.rtk_rinex.proofs.HeaderDigitsLemmas.{take-exact, length-left, length-right}
@@ -266,7 +266,7 @@ four_good : (a b c d : List ℕ) → IsRow a → IsRow b → IsRow c → IsRow d
 four_good a b c d ra rb rc rd =
     All-cons IsRow a (b ∷ c ∷ d ∷ []) ra (All-cons IsRow b (c ∷ d ∷ []) rb (All-cons IsRow c (d ∷ []) rc (All-cons IsRow d ([]) rd (All-nil IsRow))))
 
-first_good : (h : Heading) (s : Site) → IsHeading h → IsSite s → All IsRow (first_rows h s)
+first_good : (h : HeadView) (s : PositionView) → IsHeadView h → IsPositionView s → All IsRow (first_rows h s)
 first_good h s g p =
     let m = g.0 in
     nine_good _ _ _ _ _ _ _ _ _
@@ -288,7 +288,7 @@ last_good first h =
     (fixed_row (codes "G") (codes "SYS / PHASE SHIFT") (omega arith) (omega arith) refl refl)
     (fixed_row [] (codes "END OF HEADER") (omega arith) (omega arith) refl refl)
 
-pub rows_good : (h : Heading) (s : Site) (first : ℕ) → IsHeading h → IsSite s → IsMoment first → All IsRow (rows h s first)
+pub rows_good : (h : HeadView) (s : PositionView) (first : ℕ) → IsHeadView h → IsPositionView s → IsMoment first → All IsRow (rows h s first)
 unfolding rows
 rows_good h s first g p t =
     let count = row_count (length h.listed) in

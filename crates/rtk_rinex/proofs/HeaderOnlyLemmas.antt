@@ -4,13 +4,13 @@ use Rattle.std.proofs.lemmas.List.{same_lists, take-append-le, drop-append-le, l
 use Rattle.rtk_obs.specs.declared.code.Code.{Code}
 use Rattle.rtk_rinex.specs.Columns.{fixed}
 use Rattle.rtk_rinex.specs.Reading.{reading_of}
-use Rattle.rtk_rinex.specs.Header.{Heading, Site, made_text, first_text, header_text}
+use Rattle.rtk_rinex.specs.Header.{HeadView, PositionView, made_text, first_text, header_text}
 use Rattle.rtk_rinex.specs.HeaderShown.{line_at}
 use Rattle.rtk_rinex.proofs.HeaderRowsLemmas.{row, row_ended, ended, types_line, rows}
 use Rattle.rtk_rinex.proofs.HeaderSameLemmas.{Shows, IsGood, Agrees, lines_of, length-header, in_first, in_types, in_last, agreed, same_count, name_is}
 
 -- the lines of a header are those of a text that begins with it
-agrees : (h : Heading) (s : Site) (t : ℕ) (text rest : List ℕ) (k : ℕ) → IsGood h s t → text ≡ header_text h s t ++ rest → k < 13 + lines_of h → Agrees text h s t k
+agrees : (h : HeadView) (s : PositionView) (t : ℕ) (text rest : List ℕ) (k : ℕ) → IsGood h s t → text ≡ header_text h s t ++ rest → k < 13 + lines_of h → Agrees text h s t k
 agrees h s t text rest k g e lt j le =
     let a : List ℕ = header_text h s t in
     let long : length a ≡ 81 * (13 + lines_of h) = length-header h s t g in
@@ -19,19 +19,19 @@ agrees h s t text rest k g e lt j le =
     let c : take 81 (drop (81 * j) a ++ rest) ≡ take 81 (drop (81 * j) a) = take-append-le 81 (drop (81 * j) a) rest (omega (arith, l, long, lt, le)) in
     sym (ap (line_at j) e ∙ ap (take 81) d ∙ c)
 
-abbrev heading_with : List ℕ → List Code → ℕ → Heading
+abbrev heading_with : List ℕ → List Code → ℕ → HeadView
 heading_with m cs t = record { marker = m; listed = cs; made = t }
 
 same_heading : (m₁ m₂ : List ℕ) (cs₁ cs₂ : List Code) (t₁ t₂ : ℕ) → m₁ ≡ m₂ → cs₁ ≡ cs₂ → t₁ ≡ t₂ → heading_with m₁ cs₁ t₁ ≡ heading_with m₂ cs₂ t₂
 same_heading m₁ m₂ cs₁ cs₂ t₁ t₂ e₁ e₂ e₃ = cc
 
-abbrev site_with : ℤ → ℤ → ℤ → ℕ → Site
+abbrev site_with : ℤ → ℤ → ℤ → ℕ → PositionView
 site_with x y z n = record { x = x; y = y; z = z; height = n }
 
 same_site : (x₁ x₂ y₁ y₂ z₁ z₂ : ℤ) (n₁ n₂ : ℕ) → x₁ ≡ x₂ → y₁ ≡ y₂ → z₁ ≡ z₂ → n₁ ≡ n₂ → site_with x₁ y₁ z₁ n₁ ≡ site_with x₂ y₂ z₂ n₂
 same_site x₁ x₂ y₁ y₂ z₁ z₂ n₁ n₂ e₁ e₂ e₃ e₄ = cc
 
-pub only_shown : (text rest : List ℕ) (h c : Heading) (s d : Site) (t u : ℕ) → Shows text h c s d t u → IsGood h s t → text ≡ header_text h s t ++ rest
+pub only_shown : (text rest : List ℕ) (h c : HeadView) (s d : PositionView) (t u : ℕ) → Shows text h c s d t u → IsGood h s t → text ≡ header_text h s t ++ rest
     → (h ≡ c) × (s ≡ d) × (t ≡ u)
 unfolding types_line
 only_shown text rest h c s d t u shows g e =

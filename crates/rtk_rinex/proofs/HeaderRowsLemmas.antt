@@ -9,7 +9,7 @@ use Rattle.rtk_obs.specs.declared.code.Code.{Code}
 use Rattle.rtk_obs.specs.declared.code.Code.TheVariants.{C1C, C1P, C1W, C1S, C1L, C1X, C2C, C2D, C2P, C2W, C2S, C2L, C2X, C5I, C5Q, C5X}
 use Rattle.rtk_rinex.specs.Columns.{left, right, fixed}
 use Rattle.rtk_rinex.specs.Reading.{reading_of}
-use Rattle.rtk_rinex.specs.Header.{Heading, Site, header_line, made_text, first_lines, position_lines, types_of, types, continuation_line, types_lines, first_text, last_lines, header_text}
+use Rattle.rtk_rinex.specs.Header.{HeadView, PositionView, header_line, made_text, first_lines, position_lines, types_of, types, continuation_line, types_lines, first_text, last_lines, header_text}
 
 -- ---- lines as lists of columns
 
@@ -47,7 +47,7 @@ type_rows j (suc m) cs = types_line j cs ∷ type_rows (suc j) m cs
 abbrev pub row_count : ℕ → ℕ
 row_count n = (12 * n + 51) / 52
 
-abbrev pub first_rows : Heading → Site → List (List ℕ)
+abbrev pub first_rows : HeadView → PositionView → List (List ℕ)
 first_rows h s =
     row (codes "     3.05           OBSERVATION DATA    G") (codes "RINEX VERSION / TYPE")
     ∷ row (codes "rtcm2rinex                              " ++ made_text (reading_of h.made)) (codes "PGM / RUN BY / DATE")
@@ -68,7 +68,7 @@ last_rows first =
     ∷ row [] (codes "END OF HEADER")
     ∷ []
 
-unfoldable pub rows : Heading → Site → ℕ → List (List ℕ)
+unfoldable pub rows : HeadView → PositionView → ℕ → List (List ℕ)
 rows h s first = first_rows h s ++ (type_rows 0 (row_count (length h.listed)) h.listed ++ last_rows first)
 
 -- ---- the types
@@ -149,7 +149,7 @@ text_of-types cs h =
 
 -- ---- the text of the lines
 
-text_of-first : (h : Heading) (s : Site) → text_of (first_rows h s) ≡ first_lines h.marker (reading_of h.made) ++ position_lines s
+text_of-first : (h : HeadView) (s : PositionView) → text_of (first_rows h s) ≡ first_lines h.marker (reading_of h.made) ++ position_lines s
 unfolding header_line row
 text_of-first h s = simp append_assoc
 
@@ -157,7 +157,7 @@ text_of-last : (first : ℕ) → text_of (last_rows first) ≡ last_lines (readi
 unfolding header_line row
 text_of-last first = simp append_assoc
 
-pub rows_text : (h : Heading) (s : Site) (first : ℕ) → IsInRange 1 16 (length h.listed) → text_of (rows h s first) ≡ header_text h s first
+pub rows_text : (h : HeadView) (s : PositionView) (first : ℕ) → IsInRange 1 16 (length h.listed) → text_of (rows h s first) ≡ header_text h s first
 unfolding header_text rows
 rows_text h s first count =
     let t : List (List ℕ) = type_rows 0 (row_count (length h.listed)) h.listed in

@@ -12,7 +12,7 @@ use Rattle.rtk_obs.specs.declared.code.Code.TheVariants.{C1C, C1P, C1W, C1S, C1L
 use Rattle.rtk_obs.specs.Code.{name_of}
 use Rattle.rtk_rinex.specs.Columns.{right, fixed}
 use Rattle.rtk_rinex.specs.Reading.{IsMoment, reading_of}
-use Rattle.rtk_rinex.specs.Header.{Heading, Site, IsHeading, IsSite, header_line, made_text, types_of, types, first_text, header_text}
+use Rattle.rtk_rinex.specs.Header.{HeadView, PositionView, IsHeadView, IsPositionView, header_line, made_text, types_of, types, first_text, header_text}
 use Rattle.rtk_rinex.specs.HeaderShown.{line_at, name_at}
 use Rattle.rtk_rinex.proofs.HeaderDigitsLemmas.{piece}
 use Rattle.rtk_rinex.proofs.HeaderShownLemmas.{line_rest, line_is}
@@ -20,7 +20,7 @@ use Rattle.rtk_rinex.proofs.HeaderRowsLemmas.{row, row_ended, ended, types_head,
 use Rattle.rtk_rinex.proofs.HeaderGoodLemmas.{rows_good, length-text, line_in, line_past, head_fits}
 
 -- what the lines of a text show of a header: if it has a line, the part that was read from this line is the header's
-pub record Shows (text : List ℕ) (h c : Heading) (s d : Site) (t u : ℕ) : Type 0 where
+pub record Shows (text : List ℕ) (h c : HeadView) (s d : PositionView) (t u : ℕ) : Type 0 where
   pub made : line_at 1 text ≡ header_line (codes "rtcm2rinex                              " ++ made_text (reading_of h.made)) (codes "PGM / RUN BY / DATE") → c.made ≡ h.made
   pub marker : line_at 2 text ≡ header_line h.marker (codes "MARKER NAME") → c.marker ≡ h.marker
   pub place : line_at 7 text ≡ header_line (fixed 4 14 s.x ++ fixed 4 14 s.y ++ fixed 4 14 s.z) (codes "APPROX POSITION XYZ")
@@ -48,21 +48,21 @@ read_type j (suc m) (suc i) cs lt =
     let n : suc j + i ≡ j + suc i = omega arith in
     read_type (suc j) m i cs (omega arith) ∙ ap (λ (k : ℕ). types_line k cs) n
 
-abbrev pub lines_of : Heading → ℕ
+abbrev pub lines_of : HeadView → ℕ
 lines_of h = row_count (length h.listed)
 
-pub length-rows : (h : Heading) (s : Site) (t : ℕ) → length (rows h s t) ≡ 13 + lines_of h
+pub length-rows : (h : HeadView) (s : PositionView) (t : ℕ) → length (rows h s t) ≡ 13 + lines_of h
 unfolding rows
 length-rows h s t =
     let m = length-type_rows 0 (lines_of h) h.listed in
     let behind = length-append (type_rows 0 (lines_of h) h.listed) (last_rows t) in
     length-append (first_rows h s) (type_rows 0 (lines_of h) h.listed ++ last_rows t) ∙ omega (arith, m, behind)
 
-pub in_first : (h : Heading) (s : Site) (t k : ℕ) → k < 9 → get_or (rows h s t) k [] ≡ get_or (first_rows h s) k []
+pub in_first : (h : HeadView) (s : PositionView) (t k : ℕ) → k < 9 → get_or (rows h s t) k [] ≡ get_or (first_rows h s) k []
 unfolding rows
 in_first h s t k lt = get_or-append (first_rows h s) (type_rows 0 (lines_of h) h.listed ++ last_rows t) [] k lt
 
-pub in_types : (h : Heading) (s : Site) (t j : ℕ) → j < lines_of h → get_or (rows h s t) (9 + j) [] ≡ types_line j h.listed
+pub in_types : (h : HeadView) (s : PositionView) (t j : ℕ) → j < lines_of h → get_or (rows h s t) (9 + j) [] ≡ types_line j h.listed
 unfolding rows
 in_types h s t j lt =
     let m = length-type_rows 0 (lines_of h) h.listed in
@@ -70,36 +70,36 @@ in_types h s t j lt =
     get_or-append-add (first_rows h s) (type_rows 0 (lines_of h) h.listed ++ last_rows t) j []
     ∙ get_or-append (type_rows 0 (lines_of h) h.listed) (last_rows t) [] j (omega (arith, m, lt)) ∙ read_type 0 (lines_of h) j h.listed lt ∙ ap (λ (k : ℕ). types_line k h.listed) n
 
-pub in_last : (h : Heading) (s : Site) (t j : ℕ) → get_or (rows h s t) (9 + (lines_of h + j)) [] ≡ get_or (last_rows t) j []
+pub in_last : (h : HeadView) (s : PositionView) (t j : ℕ) → get_or (rows h s t) (9 + (lines_of h + j)) [] ≡ get_or (last_rows t) j []
 unfolding rows
 in_last h s t j =
     let m = length-type_rows 0 (lines_of h) h.listed in
     get_or-append-add (first_rows h s) (type_rows 0 (lines_of h) h.listed ++ last_rows t) (lines_of h + j) []
     ∙ (rw m at (get_or-append-add (type_rows 0 (lines_of h) h.listed) (last_rows t) j []))
 
-pub record IsGood (h : Heading) (s : Site) (t : ℕ) : Type 0 where
-  pub heading : IsHeading h
-  pub site : IsSite s
+pub record IsGood (h : HeadView) (s : PositionView) (t : ℕ) : Type 0 where
+  pub heading : IsHeadView h
+  pub site : IsPositionView s
   pub first : IsMoment t
 
-pub line_within : (h : Heading) (s : Site) (t k : ℕ) → IsGood h s t → k < 13 + lines_of h → line_at k (header_text h s t) ≡ ended (get_or (rows h s t) k [])
+pub line_within : (h : HeadView) (s : PositionView) (t k : ℕ) → IsGood h s t → k < 13 + lines_of h → line_at k (header_text h s t) ≡ ended (get_or (rows h s t) k [])
 line_within h s t k g lt =
     let n = length-rows h s t in
     ap (line_at k) (sym (rows_text h s t g.heading.1.0)) ∙ line_in (rows h s t) k (rows_good h s t g.heading g.site g.first) (omega (arith, n, lt))
 
-pub line_behind : (h : Heading) (s : Site) (t k : ℕ) → IsGood h s t → 13 + lines_of h ≤ k → line_at k (header_text h s t) ≡ []
+pub line_behind : (h : HeadView) (s : PositionView) (t k : ℕ) → IsGood h s t → 13 + lines_of h ≤ k → line_at k (header_text h s t) ≡ []
 line_behind h s t k g le =
     let n = length-rows h s t in
     ap (line_at k) (sym (rows_text h s t g.heading.1.0)) ∙ line_past (rows h s t) k (rows_good h s t g.heading g.site g.first) (omega (arith, n, le))
 
-pub length-header : (h : Heading) (s : Site) (t : ℕ) → IsGood h s t → length (header_text h s t) ≡ 81 * (13 + lines_of h)
+pub length-header : (h : HeadView) (s : PositionView) (t : ℕ) → IsGood h s t → length (header_text h s t) ≡ 81 * (13 + lines_of h)
 length-header h s t g =
     let n = length-rows h s t in
     ap length (sym (rows_text h s t g.heading.1.0)) ∙ length-text (rows h s t) (rows_good h s t g.heading g.site g.first) ∙ omega (arith, n)
 
 -- ---- the lines before the types
 
-front_same : (text : List ℕ) (h c : Heading) (s d : Site) (t u k : ℕ) → Shows text h c s d t u → k < 9
+front_same : (text : List ℕ) (h c : HeadView) (s d : PositionView) (t u k : ℕ) → Shows text h c s d t u → k < 9
     → line_at k text ≡ ended (get_or (first_rows h s) k []) → get_or (first_rows c d) k [] ≡ get_or (first_rows h s) k []
 front_same text h c s d t u zero shows lt e = refl
 front_same text h c s d t u (suc zero) shows lt e =
@@ -233,14 +233,14 @@ types_same xs ys j n same =
 -- ---- all lines
 
 -- the lines of a text as far as the k-th are those of a header
-abbrev pub Agrees : List ℕ → Heading → Site → ℕ → ℕ → Type 0
+abbrev pub Agrees : List ℕ → HeadView → PositionView → ℕ → ℕ → Type 0
 Agrees text h s t k = (j : ℕ) → j ≤ k → line_at j (header_text h s t) ≡ line_at j text
 
-pub agreed : (text : List ℕ) (h : Heading) (s : Site) (t k j : ℕ) → IsGood h s t → Agrees text h s t k → j ≤ k → j < 13 + lines_of h
+pub agreed : (text : List ℕ) (h : HeadView) (s : PositionView) (t k j : ℕ) → IsGood h s t → Agrees text h s t k → j ≤ k → j < 13 + lines_of h
     → line_at j text ≡ ended (get_or (rows h s t) j [])
 agreed text h s t k j g a le lt = sym (a j le) ∙ line_within h s t j g lt
 
-pub same_count : (text : List ℕ) (h c : Heading) (s d : Site) (t u k : ℕ) → Shows text h c s d t u → IsGood h s t → Agrees text h s t k → 9 ≤ k
+pub same_count : (text : List ℕ) (h c : HeadView) (s d : PositionView) (t u k : ℕ) → Shows text h c s d t u → IsGood h s t → Agrees text h s t k → 9 ≤ k
     → length c.listed ≡ length h.listed
 unfolding types_line
 same_count text h c s d t u k shows g a le =
@@ -249,7 +249,7 @@ same_count text h c s d t u k shows g a le =
     agreed text h s t k 9 g a le (omega arith) ∙ ap (λ (r : List ℕ). ended r) (in_types h s t 0 some) in
     shows.count (first ∙ sym (row_ended (types_head 0 (length h.listed) ++ take 52 (types h.listed)) (codes "SYS / # / OBS TYPES")))
 
-types_agree : (text : List ℕ) (h c : Heading) (s d : Site) (t u k j : ℕ) → Shows text h c s d t u → IsGood h s t → Agrees text h s t k
+types_agree : (text : List ℕ) (h c : HeadView) (s d : PositionView) (t u k j : ℕ) → Shows text h c s d t u → IsGood h s t → Agrees text h s t k
     → 9 + j ≤ k → j < lines_of h → length c.listed ≡ length h.listed → types_line j c.listed ≡ types_line j h.listed
 types_agree text h c s d t u k j shows g a le lt n =
     types_same c.listed h.listed j n (λ i e within low.
@@ -259,7 +259,7 @@ types_agree text h c s d t u k j shows g a le lt n =
     name_is text h.listed m e g.heading.1.0 (omega (arith, less, within))
     (agreed text h s t k (9 + 3 * m / 13) g a (omega (arith, place, le)) (omega (arith, inside)) ∙ ap (λ (r : List ℕ). ended r) (in_types h s t (3 * m / 13) inside))))
 
-last_same : (text : List ℕ) (h c : Heading) (s d : Site) (t u k j : ℕ) → Shows text h c s d t u → IsGood h s t → Agrees text h s t k
+last_same : (text : List ℕ) (h c : HeadView) (s d : PositionView) (t u k j : ℕ) → Shows text h c s d t u → IsGood h s t → Agrees text h s t k
     → 9 + (lines_of h + j) ≡ k → length c.listed ≡ length h.listed → get_or (last_rows u) j [] ≡ get_or (last_rows t) j []
 last_same text h c s d t u k zero shows g a e n = refl
 last_same text h c s d t u k (suc zero) shows g a e n =
@@ -273,7 +273,7 @@ last_same text h c s d t u k (suc (suc (suc zero))) shows g a e n = refl
 last_same text h c s d t u k (suc (suc (suc (suc j)))) shows g a e n = refl
 
 -- the rows at a place that both headers have
-row_same : (text : List ℕ) (h c : Heading) (s d : Site) (t u k : ℕ) → Shows text h c s d t u → IsGood h s t → Agrees text h s t k
+row_same : (text : List ℕ) (h c : HeadView) (s d : PositionView) (t u k : ℕ) → Shows text h c s d t u → IsGood h s t → Agrees text h s t k
     → k < 13 + lines_of h → get_or (rows c d u) k [] ≡ get_or (rows h s t) k []
 row_same text h c s d t u k shows g a lt =
     elim (leb_tells 9 k) [
@@ -303,7 +303,7 @@ row_same text h c s d t u k shows g a lt =
     ]
 
 -- the line behind k lines is the text's, where a header's are as far as this one
-pub line_same : (text : List ℕ) (h c : Heading) (s d : Site) (t u k : ℕ) → Shows text h c s d t u → IsGood h s t → IsGood c d u → Agrees text h s t k
+pub line_same : (text : List ℕ) (h c : HeadView) (s d : PositionView) (t u k : ℕ) → Shows text h c s d t u → IsGood h s t → IsGood c d u → Agrees text h s t k
     → line_at k (header_text c d u) ≡ line_at k text
 line_same text h c s d t u k shows g f a =
     elim (leb_tells (13 + lines_of h) k) [

@@ -14,7 +14,7 @@ use Rattle.rtk_rinex.specs.Columns.{left, right, decimals, fixed}
 use Rattle.rtk_rinex.specs.Reading.{IsMoment, reading_of, seconds_of}
 use Rattle.rtk_rinex.specs.Record.{trim_end}
 use Rattle.rtk_rinex.specs.Header.{header_line, made_text, first_text, IsMarker}
-use Rattle.rtk_rinex.specs.HeaderDigits.{digits_from, number_of}
+use Rattle.rtk_rinex.specs.HeaderDigits.{digits_from, number_in}
 use Rattle.rtk_rinex.specs.HeaderShown.{number_at, made_civil, first_civil}
 use Rattle.rtk_rinex.proofs.ReadingLemmas.{same_civil, reading-reads, year-bound}
 use Rattle.rtk_rinex.proofs.RecordLemmas.{trim_end-blank, trim_end-done}
@@ -189,9 +189,9 @@ length-fixed (negsuc n) h =
     length-right 14 (decimals 4 true (suc n)) (simp length-append (omega arith))
 
 pub record ShowsPlace (line : List ℕ) (x y z : ℤ) : Type 0 where
-  pub first : number_of (take 14 (drop 0 line)) ≡ x
-  pub second : number_of (take 14 (drop 14 line)) ≡ y
-  pub third : number_of (take 14 (drop 28 line)) ≡ z
+  pub first : number_in (take 14 (drop 0 line)) ≡ x
+  pub second : number_in (take 14 (drop 14 line)) ≡ y
+  pub third : number_in (take 14 (drop 28 line)) ≡ z
 
 pub place_is : (line label : List ℕ) (x y z : ℤ) → IsCoordinate x → IsCoordinate y → IsCoordinate z
     → line ≡ header_line (fixed 4 14 x ++ fixed 4 14 y ++ fixed 4 14 z) label → ShowsPlace line x y z
@@ -208,9 +208,9 @@ place_is line label x y z hx hy hz e =
     let r₀ : line ≡ [] ++ (a ++ (b ++ (c ++ rest))) = whole ∙ simp append_assoc in
     let r₁ : line ≡ a ++ (b ++ (c ++ rest)) = whole ∙ simp append_assoc in
     let r₂ : line ≡ (a ++ b) ++ (c ++ rest) = whole ∙ simp append_assoc in record {
-      first = ap number_of (rw r₀ (piece 0 14 [] a (b ++ (c ++ rest)) refl la)) ∙ number_of-fixed x (magnitude x hx);
-      second = ap number_of (rw r₁ (piece 14 14 a b (c ++ rest) la lb)) ∙ number_of-fixed y (magnitude y hy);
-      third = ap number_of (rw r₂ (piece 28 14 (a ++ b) c rest two lc)) ∙ number_of-fixed z (magnitude z hz);
+      first = ap number_in (rw r₀ (piece 0 14 [] a (b ++ (c ++ rest)) refl la)) ∙ number_of-fixed x (magnitude x hx);
+      second = ap number_in (rw r₁ (piece 14 14 a b (c ++ rest) la lb)) ∙ number_of-fixed y (magnitude y hy);
+      third = ap number_in (rw r₂ (piece 28 14 (a ++ b) c rest two lc)) ∙ number_of-fixed z (magnitude z hz);
     }
 
 pub IsCoordinate-height : (h : ℕ) → h < 65_536 → IsCoordinate (pos h)

@@ -6,7 +6,7 @@ use Rattle.std.proofs.lemmas.List.{length-take, take-append-le, take-append-drop
 use Rattle.std.proofs.lemmas.List.Elements.{All-head, All-tail}
 use Rattle.std.proofs.Math.Seq.{take-append-add}
 use Rattle.rtk_rinex.specs.Reading.{IsMoment}
-use Rattle.rtk_rinex.specs.Header.{Heading, Site, IsHeading, IsSite, types, header_text}
+use Rattle.rtk_rinex.specs.Header.{HeadView, PositionView, IsHeadView, IsPositionView, types, header_text}
 use Rattle.rtk_rinex.specs.Record.{record_text}
 use Rattle.rtk_rinex.specs.Lines.{HasNoEnd}
 use Rattle.rtk_rinex.specs.HeaderFault.{AreLines, IsHeader, BeginsHeader, BeginsTable, HasHeader}
@@ -60,13 +60,13 @@ line_rows rs k h i d lt =
     let n = length-take k rs in
     rw (get_or-take k rs i d (omega (arith, n, lt))) ((h i d (omega (arith, n, lt))).plain)
 
-pub are_lines : (c : Heading) (d : Site) (u : ℕ) → IsGood c d u → AreLines (13 + lines_of c) (header_text c d u)
+pub are_lines : (c : HeadView) (d : PositionView) (u : ℕ) → IsGood c d u → AreLines (13 + lines_of c) (header_text c d u)
 are_lines c d u g =
     (rows c d u, (λ i e lt. (rows_good c d u g.heading g.site g.first i e lt).plain), length-rows c d u, sym (rows_text c d u g.heading.1.0))
 
 -- ---- one number of lines
 
-pub count_shown : (line : List ℕ) (h : Heading) (s : Site) (t : ℕ) → IsGood h s t → line ≡ line_at 9 (header_text h s t) → number_at 3 3 line ≡ 3 * length h.listed
+pub count_shown : (line : List ℕ) (h : HeadView) (s : PositionView) (t : ℕ) → IsGood h s t → line ≡ line_at 9 (header_text h s t) → number_at 3 3 line ≡ 3 * length h.listed
 unfolding types_line
 count_shown line h s t g e =
     let some : 0 < lines_of h = omega (arith, g.heading.1.0) in
@@ -74,7 +74,7 @@ count_shown line h s t g e =
     count_is line (codes "SYS / # / OBS TYPES") (take 52 (types h.listed)) (length h.listed) g.heading.1.0
     (first ∙ sym (row_ended (types_head 0 (length h.listed) ++ take 52 (types h.listed)) (codes "SYS / # / OBS TYPES")))
 
-one_count : (h c : Heading) (s d : Site) (t u : ℕ) → IsGood h s t → IsGood c d u → line_at 9 (header_text h s t) ≡ line_at 9 (header_text c d u) → lines_of h ≡ lines_of c
+one_count : (h c : HeadView) (s d : PositionView) (t u : ℕ) → IsGood h s t → IsGood c d u → line_at 9 (header_text h s t) ≡ line_at 9 (header_text c d u) → lines_of h ≡ lines_of c
 one_count h c s d t u g f e =
     let a = count_shown (line_at 9 (header_text h s t)) h s t g refl in
     let b = count_shown (line_at 9 (header_text h s t)) c d u f e in
@@ -84,26 +84,26 @@ one_count h c s d t u g f e =
 -- ---- a text and the header that it shows, which part behind k lines
 
 -- each header that a text agrees with is the one that it shows
-abbrev pub ReadsBack : List ℕ → Heading → Site → ℕ → Type 0
+abbrev pub ReadsBack : List ℕ → HeadView → PositionView → ℕ → Type 0
 ReadsBack text c d u =
-    (h : Heading) (s : Site) (t k : ℕ) → IsHeading h → IsSite s → IsMoment t → Agrees text h s t k
+    (h : HeadView) (s : PositionView) (t k : ℕ) → IsHeadView h → IsPositionView s → IsMoment t → Agrees text h s t k
     → line_at k (header_text c d u) ≡ line_at k text
 
-pub record PartsAt (text : List ℕ) (c : Heading) (d : Site) (u k : ℕ) : Type 0 where
+pub record PartsAt (text : List ℕ) (c : HeadView) (d : PositionView) (u k : ℕ) : Type 0 where
   pub good : IsGood c d u
   pub back : ReadsBack text c d u
   pub below : 81 * k < length (header_text c d u)
   pub front : take (81 * k) (header_text c d u) ≡ take (81 * k) text
   pub unlike : line_at k (header_text c d u) ≢ line_at k text
 
-length-front : (text : List ℕ) (c : Heading) (d : Site) (u k : ℕ) → PartsAt text c d u k → (length (take (81 * k) text) ≡ 81 * k) × (81 * k ≤ length text)
+length-front : (text : List ℕ) (c : HeadView) (d : PositionView) (u k : ℕ) → PartsAt text c d u k → (length (take (81 * k) text) ≡ 81 * k) × (81 * k ≤ length text)
 length-front text c d u k p =
     let a = length-take (81 * k) (header_text c d u) in
     let b = length-take (81 * k) text in
     let e = ap length p.front in
     (omega (arith, a, b, e, p.below), omega (arith, a, b, e, p.below))
 
-pub parts_lines : (text : List ℕ) (c : Heading) (d : Site) (u k : ℕ) → PartsAt text c d u k → AreLines k (take (81 * k) text)
+pub parts_lines : (text : List ℕ) (c : HeadView) (d : PositionView) (u k : ℕ) → PartsAt text c d u k → AreLines k (take (81 * k) text)
 parts_lines text c d u k p =
     let g = p.good in
     let all = rows_good c d u g.heading g.site g.first in
@@ -117,13 +117,13 @@ parts_lines text c d u k p =
       sym p.front ∙ ap (λ (xs : List ℕ). take (81 * k) xs) (sym (rows_text c d u g.heading.1.0)) ∙ front_rows (rows c d u) k all few,
     )
 
-pub parts_begin : (text : List ℕ) (c : Heading) (d : Site) (u k : ℕ) → PartsAt text c d u k → BeginsHeader (take (81 * k) text)
+pub parts_begin : (text : List ℕ) (c : HeadView) (d : PositionView) (u k : ℕ) → PartsAt text c d u k → BeginsHeader (take (81 * k) text)
 parts_begin text c d u k p =
     let g = p.good in
     (drop (81 * k) (header_text c d u), (c, d, u, g.heading, g.site, g.first, (rw (← p.front) (take-append-drop (81 * k) (header_text c d u)))))
 
 -- a header that the text has a part of has more lines than these
-not_past : (text : List ℕ) (h c : Heading) (s d : Site) (t u k : ℕ) → IsGood h s t → PartsAt text c d u k
+not_past : (text : List ℕ) (h c : HeadView) (s d : PositionView) (t u k : ℕ) → IsGood h s t → PartsAt text c d u k
     → line_at 9 (header_text h s t) ≡ line_at 9 text → k < 13 + lines_of h
 not_past text h c s d t u k g p e =
     elim (leb_tells (13 + lines_of h) k) [
@@ -137,7 +137,7 @@ not_past text h c s d t u k g p e =
           omega (arith, p.below, whole, lines, past.1))
     ]
 
-pub parts_whole : (text : List ℕ) (c : Heading) (d : Site) (u k : ℕ) → PartsAt text c d u k → ¬ (IsHeader (take (81 * k) text))
+pub parts_whole : (text : List ℕ) (c : HeadView) (d : PositionView) (u k : ℕ) → PartsAt text c d u k → ¬ (IsHeader (take (81 * k) text))
 parts_whole text c d u k p x =
     let h = x.0 in
     let s = x.1 in
@@ -153,7 +153,7 @@ parts_whole text c d u k p x =
     omega (arith, within, whole, n, f.0)
 
 -- no header stands at its front
-pub parts_none : (text : List ℕ) (c : Heading) (d : Site) (u k : ℕ) → PartsAt text c d u k → ¬ (HasHeader text)
+pub parts_none : (text : List ℕ) (c : HeadView) (d : PositionView) (u k : ℕ) → PartsAt text c d u k → ¬ (HasHeader text)
 parts_none text c d u k p x =
     let rest = x.1 in
     let h = x.2.0 in
@@ -168,7 +168,7 @@ parts_none text c d u k p x =
     p.unlike (p.back h s t k g.heading g.site g.first (λ j le. line j (omega (arith, le, within))))
 
 -- no table's text begins with the lines before and this one
-pub parts_next : (text line more : List ℕ) (c : Heading) (d : Site) (u k : ℕ) → PartsAt text c d u k → HasNoEnd line
+pub parts_next : (text line more : List ℕ) (c : HeadView) (d : PositionView) (u k : ℕ) → PartsAt text c d u k → HasNoEnd line
     → drop (81 * k) text ≡ line ++ 10 ∷ more → ¬ (BeginsTable (take (81 * k) text ++ line ++ 10 ∷ []))
 parts_next text line more c d u k p l is x =
     let h = x.0.head in

@@ -6,7 +6,7 @@ use Rattle.rtk_rinex.specs.declared.check_fault.Cause.TheVariants.{HeaderLine, C
 use Rattle.rtk_rinex.specs.declared.check_fault.CheckFault.{CheckFault}
 use Rattle.rtk_rinex.specs.Header.{header_text}
 use Rattle.rtk_rinex.specs.Record.{record_text}
-use Rattle.rtk_rinex.specs.Table.{Table, IsTable, IsTableEpoch, StartsAt, table_text}
+use Rattle.rtk_rinex.specs.Table.{WellFormedTable, IsWellFormedTable, IsTableEpoch, StartsAt, table_text}
 use Rattle.rtk_rinex.specs.HeaderFault.{AreLines, HasHeader}
 use Rattle.rtk_rinex.specs.CheckText.{IsFaultOfRecords}
 use Rattle.rtk_rinex.specs.CheckTable.{cause_of, IsFaultOfHeader, IsFaultBehindHeader, IsFault, OneFault, FaultMeansNoTable}
@@ -72,11 +72,11 @@ one-fault bytes f g a b t u = same_fault f g (is_same bytes f g a b (told_of f.c
 
 -- ---- no table
 
-table-header : (bytes : List ℕ) (u : Table) → IsTable u → bytes ≡ table_text u → HasHeader bytes
+table-header : (bytes : List ℕ) (u : WellFormedTable) → IsWellFormedTable u → bytes ≡ table_text u → HasHeader bytes
 table-header bytes u is e =
     (header_text u.head u.site u.first, flat_map record_text u.epochs, (u.head, u.site, u.first, is.head, is.site, is.first, refl), e)
 
-records_or_table : (bytes : List ℕ) (f : CheckFault) → IsFaultBehindHeader bytes f → IsTold f.cause → (u : Table) → IsTable u → bytes ≢ table_text u
+records_or_table : (bytes : List ℕ) (f : CheckFault) → IsFaultBehindHeader bytes f → IsTold f.cause → (u : WellFormedTable) → IsWellFormedTable u → bytes ≢ table_text u
 records_or_table bytes f a told u is e =
     let good : IsGood a.head a.site a.first = record { heading = a.heading; site = a.good_site; first = a.moment } in
     let other : IsGood u.head u.site u.first = record { heading = is.head; site = is.site; first = is.first } in

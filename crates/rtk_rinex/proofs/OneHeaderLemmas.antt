@@ -10,7 +10,7 @@ use Rattle.rtk_obs.specs.Calendar.{Reads}
 use Rattle.rtk_rinex.specs.declared.header_fault.HeaderCause.{HeaderCause}
 use Rattle.rtk_rinex.specs.declared.header_fault.HeaderCause.TheVariants.{HeaderLine, Truncated, OutOfMemory}
 use Rattle.rtk_rinex.specs.Reading.{reading_of}
-use Rattle.rtk_rinex.specs.Header.{Heading, Site, header_line, first_text, header_text}
+use Rattle.rtk_rinex.specs.Header.{HeadView, PositionView, header_line, first_text, header_text}
 use Rattle.rtk_rinex.specs.HeaderShown.{line_at}
 use Rattle.rtk_rinex.specs.Lines.{HasNoEnd}
 use Rattle.rtk_rinex.specs.HeaderFault.{AreLines, IsHeader, BeginsHeader, BeginsTable, HasHeader, IsLineFault, IsFaultBehind}
@@ -29,20 +29,20 @@ use Rattle.rtk_rinex.proofs.TextLemmas.{line_bytes}
 
 -- ---- one header
 
-first_line : (h : Heading) (s : Site) (t : ℕ) → IsGood h s t
+first_line : (h : HeadView) (s : PositionView) (t : ℕ) → IsGood h s t
     → line_at (9 + (lines_of h + 1)) (header_text h s t) ≡ header_line (first_text (reading_of t)) (codes "TIME OF FIRST OBS")
 first_line h s t g =
     line_within h s t (9 + (lines_of h + 1)) g (omega arith) ∙ ap (λ (r : List ℕ). ended r) (in_last h s t 1)
     ∙ sym (row_ended (first_text (reading_of t)) (codes "TIME OF FIRST OBS"))
 
 -- the number of codes and the first time that headers have in common which begin one text, and what stands behind them
-pub record AreAlike (h c : Heading) (s d : Site) (t u : ℕ) (x y : List ℕ) : Type 0 where
+pub record AreAlike (h c : HeadView) (s d : PositionView) (t u : ℕ) (x y : List ℕ) : Type 0 where
   pub count : length h.listed ≡ length c.listed
   pub first : t ≡ u
   pub text : header_text h s t ≡ header_text c d u
   pub rest : x ≡ y
 
-one_first : (h c : Heading) (s d : Site) (t u : ℕ) → IsGood h s t → IsGood c d u → lines_of h ≡ lines_of c → header_text h s t ≡ header_text c d u → t ≡ u
+one_first : (h c : HeadView) (s d : PositionView) (t u : ℕ) → IsGood h s t → IsGood c d u → lines_of h ≡ lines_of c → header_text h s t ≡ header_text c d u → t ≡ u
 one_first h c s d t u g f lines e =
     let a = first_line h s t g in
     let place : 9 + (lines_of c + 1) ≡ 9 + (lines_of h + 1) = omega (arith, lines) in
@@ -53,7 +53,7 @@ one_first h c s d t u g f lines e =
     let reading : reading_of u ≡ reading_of t = sym right.reading ∙ left.reading in
     one_moment t u (reading_of t) (reading-reads t g.first) (subst (λ (c : Civil). Reads u c) reading (reading-reads u f.first))
 
-pub one_header : (h c : Heading) (s d : Site) (t u : ℕ) (x y : List ℕ) → IsGood h s t → IsGood c d u → header_text h s t ++ x ≡ header_text c d u ++ y
+pub one_header : (h c : HeadView) (s d : PositionView) (t u : ℕ) (x y : List ℕ) → IsGood h s t → IsGood c d u → header_text h s t ++ x ≡ header_text c d u ++ y
     → AreAlike h c s d t u x y
 one_header h c s d t u x y g f e =
     let a : List ℕ = header_text h s t in
@@ -196,7 +196,7 @@ no_header_more n bytes cause a ms (l ∷ more) y told is e text h =
     goes_on n bytes cause a ms l more y [] told is e text (rw (append-nil (text_of ms)) h)
 
 -- a header that ends before the fault is no part of another one
-no_longer : (n : ℕ) (bytes : List ℕ) (cause : HeaderCause) (a : HasFaultBehind n bytes cause) (h : Heading) (s : Site) (t : ℕ) (ms more : List (List ℕ))
+no_longer : (n : ℕ) (bytes : List ℕ) (cause : HeaderCause) (a : HasFaultBehind n bytes cause) (h : HeadView) (s : PositionView) (t : ℕ) (ms more : List (List ℕ))
     → IsGood h s t → header_text h s t ≡ text_of ms → a.lines ≡ ms ++ more → length more ≡ 0
 no_longer n bytes cause a h s t ms more g e list =
     let b = a.begins.1 in

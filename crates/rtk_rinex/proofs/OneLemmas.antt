@@ -9,7 +9,7 @@ use Rattle.rtk_rinex.specs.declared.epoch_table.SatelliteRow.{SatelliteRow}
 use Rattle.rtk_obs.specs.declared.time.Civil.{Civil}
 use Rattle.rtk_obs.specs.Calendar.{Reads}
 use Rattle.rtk_rinex.specs.Reading.{IsMoment, reading_of}
-use Rattle.rtk_rinex.specs.Record.{Epoch, epoch_line, satellite_line, record_text}
+use Rattle.rtk_rinex.specs.Record.{EpochTableView, epoch_line, satellite_line, record_text}
 use Rattle.rtk_rinex.specs.Table.{IsTableRow, IsTableEpoch, StartsAt}
 use Rattle.rtk_rinex.specs.CheckLine.{IsNextTime, IsNextSatellite}
 use Rattle.rtk_rinex.specs.Lines.{IsLine}
@@ -44,7 +44,7 @@ one_row n r s le h g e =
 abbrev pub Below : SatelliteRow → SatelliteRow → Type 0
 Below a b = a.satellite < b.satellite
 
-abbrev pub Earlier : Epoch → Epoch → Type 0
+abbrev pub Earlier : EpochTableView → EpochTableView → Type 0
 Earlier a b = a.time < b.time
 
 pub pairs-head : {X : Type 0} (R : X → X → Type 0) (x : X) (xs : List X) → AllPairs R (x ∷ xs) → All (R x) xs
@@ -69,7 +69,7 @@ few_rows n rows h p =
     ⊎_elim (λ more. omega (arith, more)) (λ none. omega (arith, none))
     (few_above n 0 rows h p (λ k d lt. omega (arith, (h k d lt).satellite)))
 
-pub count-of : (n : ℕ) (e : Epoch) → IsTableEpoch n e → IsInRange 1 32 (length e.rows)
+pub count-of : (n : ℕ) (e : EpochTableView) → IsTableEpoch n e → IsInRange 1 32 (length e.rows)
 count-of n e h =
     let few = few_rows n e.rows h.rows h.rise in
     let some : length e.rows ≢ 0 = λ z. h.some (nil_from_length e.rows z) in
@@ -98,18 +98,18 @@ same_rows n (r ∷ rows) (s ∷ others) x y le h g long e =
     let rest = same_rows n rows others x y le (All-tail (IsTableRow n) r rows h) (All-tail (IsTableRow n) s others g) (omega arith) line.1 in
     record { more = rest.more; list = same_cons r s (rows ++ rest.more) others same rest.list; text = rest.text }
 
-pub epoch-text : (n : ℕ) (e : Epoch) → IsTableEpoch n e → record_text e ≡ epoch_line (reading_of e.time) (length e.rows) ++ flat_map satellite_line e.rows
+pub epoch-text : (n : ℕ) (e : EpochTableView) → IsTableEpoch n e → record_text e ≡ epoch_line (reading_of e.time) (length e.rows) ++ flat_map satellite_line e.rows
 epoch-text n e h = record-lines n e.time e.rows h.rows (λ z. h.some (nil_from_length e.rows z))
 
 -- a record begins with its epoch line
-pub epoch-front : (n : ℕ) (e : Epoch) (y : List ℕ) → IsTableEpoch n e → record_text e ++ y ≡ epoch_line (reading_of e.time) (length e.rows) ++ (flat_map satellite_line e.rows ++ y)
+pub epoch-front : (n : ℕ) (e : EpochTableView) (y : List ℕ) → IsTableEpoch n e → record_text e ++ y ≡ epoch_line (reading_of e.time) (length e.rows) ++ (flat_map satellite_line e.rows ++ y)
 epoch-front n e y h =
     ap (λ (t : List ℕ). t ++ y) (epoch-text n e h) ∙ append_assoc (epoch_line (reading_of e.time) (length e.rows)) (flat_map satellite_line e.rows) y
 
-pub epoch_line-of : (n : ℕ) (e : Epoch) → IsTableEpoch n e → IsLine (epoch_line (reading_of e.time) (length e.rows))
+pub epoch_line-of : (n : ℕ) (e : EpochTableView) → IsTableEpoch n e → IsLine (epoch_line (reading_of e.time) (length e.rows))
 epoch_line-of n e h = let count = count-of n e h in epoch_line-line e.time (length e.rows) h.time (omega (arith, count))
 
-abbrev same_record : ℕ → List SatelliteRow → Epoch
+abbrev same_record : ℕ → List SatelliteRow → EpochTableView
 same_record t rows = record { time = t; rows = rows }
 
 same_epoch : (t u : ℕ) (rows others : List SatelliteRow) → t ≡ u → rows ≡ others → same_record t rows ≡ same_record u others
@@ -118,7 +118,7 @@ same_epoch t u rows others e f = cc
 no_more : {X : Type 0} (xs more : List X) → length (xs ++ more) ≡ length xs → more ≡ []
 no_more xs more e = nil_from_length more (omega (arith, length-append xs more, e))
 
-pub one_record : (n : ℕ) (e f : Epoch) (x y : List ℕ) → n ≤ 16 → IsTableEpoch n e → IsTableEpoch n f → record_text e ++ x ≡ record_text f ++ y → (e ≡ f) × (x ≡ y)
+pub one_record : (n : ℕ) (e f : EpochTableView) (x y : List ℕ) → n ≤ 16 → IsTableEpoch n e → IsTableEpoch n f → record_text e ++ x ≡ record_text f ++ y → (e ≡ f) × (x ≡ y)
 one_record n e f x y le h g same =
     let c = count-of n e h in
     let d = count-of n f g in
@@ -130,7 +130,7 @@ one_record n e f x y le h g same =
     let list : e.rows ≡ f.rows = sym (append-nil e.rows) ∙ (rw (none) at (sym rows.list)) in
     (same_epoch e.time f.time e.rows f.rows one.0 list, rw none at rows.text)
 
-pub some_text : (n : ℕ) (e : Epoch) (x : List ℕ) → IsTableEpoch n e → record_text e ++ x ≢ []
+pub some_text : (n : ℕ) (e : EpochTableView) (x : List ℕ) → IsTableEpoch n e → record_text e ++ x ≢ []
 some_text n e x h z =
     let c = count-of n e h in
     let long = length-line (epoch_line (reading_of e.time) (length e.rows)) e.time (length e.rows) h.time c refl in
@@ -138,7 +138,7 @@ some_text n e x h z =
     omega (arith, long, length-append (epoch_line (reading_of e.time) (length e.rows)) (flat_map satellite_line e.rows ++ x), zero)
 
 -- a text of epochs, and what stands behind them, is that of no other epochs
-pub same_epochs : (n : ℕ) (epochs others : List Epoch) (x : List ℕ) → n ≤ 16 → All (IsTableEpoch n) epochs → All (IsTableEpoch n) others
+pub same_epochs : (n : ℕ) (epochs others : List EpochTableView) (x : List ℕ) → n ≤ 16 → All (IsTableEpoch n) epochs → All (IsTableEpoch n) others
     → flat_map record_text epochs ++ x ≡ flat_map record_text others → Goes record_text epochs others x []
 same_epochs n [] others x le h g e = record { more = others; list = refl; text = e ∙ sym (append-nil (flat_map record_text others)) }
 same_epochs n (a ∷ epochs) [] x le h g e =
@@ -162,32 +162,32 @@ pub row-next : (rows : List SatelliteRow) (r : SatelliteRow) (more : List Satell
 row-next [] r more h = tt
 row-next (q ∷ rows) r more h = next_row q rows r more h
 
-next_epoch : (first : ℕ) (q : Epoch) (epochs : List Epoch) (e : Epoch) (more : List Epoch) → AllPairs Earlier (q ∷ (epochs ++ e ∷ more))
+next_epoch : (first : ℕ) (q : EpochTableView) (epochs : List EpochTableView) (e : EpochTableView) (more : List EpochTableView) → AllPairs Earlier (q ∷ (epochs ++ e ∷ more))
     → IsNextTime first (last_time (Some q.time) epochs) e.time
 next_epoch first q [] e more h = All-head (Earlier q) e more (pairs-head Earlier q (e ∷ more) h)
 next_epoch first q (p ∷ epochs) e more h = next_epoch first p epochs e more (pairs-tail Earlier q (p ∷ (epochs ++ e ∷ more)) h)
 
-pub epoch-next : (first : ℕ) (epochs : List Epoch) (e : Epoch) (more : List Epoch) → StartsAt first (epochs ++ e ∷ more) → AllPairs Earlier (epochs ++ e ∷ more)
+pub epoch-next : (first : ℕ) (epochs : List EpochTableView) (e : EpochTableView) (more : List EpochTableView) → StartsAt first (epochs ++ e ∷ more) → AllPairs Earlier (epochs ++ e ∷ more)
     → IsNextTime first (last_time None epochs) e.time
 epoch-next first [] e more s h = s
 epoch-next first (q ∷ epochs) e more s h = next_epoch first q epochs e more h
 
 -- ---- epochs as a list that rises
 
-pub epochs-all : (n first : ℕ) (last : Option ℕ) (epochs : List Epoch) → AreEpochs n first last epochs → All (IsTableEpoch n) epochs
+pub epochs-all : (n first : ℕ) (last : Option ℕ) (epochs : List EpochTableView) → AreEpochs n first last epochs → All (IsTableEpoch n) epochs
 epochs-all n first last [] h = All-nil (IsTableEpoch n)
 epochs-all n first last (e ∷ epochs) h = All-cons (IsTableEpoch n) e epochs h.0 (epochs-all n first (Some e.time) epochs h.2)
 
-epochs-above : (n first s b : ℕ) (epochs : List Epoch) → AreEpochs n first (Some s) epochs → b ≤ s → All (λ (e : Epoch). b < e.time) epochs
-epochs-above n first s b [] h le = All-nil (λ (e : Epoch). b < e.time)
+epochs-above : (n first s b : ℕ) (epochs : List EpochTableView) → AreEpochs n first (Some s) epochs → b ≤ s → All (λ (e : EpochTableView). b < e.time) epochs
+epochs-above n first s b [] h le = All-nil (λ (e : EpochTableView). b < e.time)
 epochs-above n first s b (e ∷ epochs) h le =
     let less : s < e.time = h.1 in
-    All-cons (λ (e : Epoch). b < e.time) e epochs (omega arith) (epochs-above n first e.time b epochs h.2 (omega arith))
+    All-cons (λ (e : EpochTableView). b < e.time) e epochs (omega arith) (epochs-above n first e.time b epochs h.2 (omega arith))
 
-pub epochs-rise : (n first : ℕ) (last : Option ℕ) (epochs : List Epoch) → AreEpochs n first last epochs → AllPairs Earlier epochs
+pub epochs-rise : (n first : ℕ) (last : Option ℕ) (epochs : List EpochTableView) → AreEpochs n first last epochs → AllPairs Earlier epochs
 epochs-rise n first last [] h = λ i j d low high. absurd (omega arith)
 epochs-rise n first last (e ∷ epochs) h = AllPairs-cons Earlier e epochs (epochs-above n first e.time e.time epochs h.2 (omega arith)) (epochs-rise n first (Some e.time) epochs h.2)
 
-pub epochs-start : (n first : ℕ) (epochs : List Epoch) → AreEpochs n first None epochs → StartsAt first epochs
+pub epochs-start : (n first : ℕ) (epochs : List EpochTableView) → AreEpochs n first None epochs → StartsAt first epochs
 epochs-start n first [] h = tt
 epochs-start n first (e ∷ epochs) h = h.1

@@ -10,7 +10,7 @@ use Rattle.rtk_rinex.specs.declared.check_fault.Cause.TheVariants.{HeaderLine, C
 use Rattle.rtk_rinex.specs.declared.check_fault.CheckFault.{CheckFault}
 use Rattle.rtk_rinex.specs.declared.epoch_table.SatelliteRow.{SatelliteRow}
 use Rattle.rtk_rinex.specs.Reading.{IsMoment, reading_of}
-use Rattle.rtk_rinex.specs.Record.{Epoch, epoch_line, satellite_line, record_text}
+use Rattle.rtk_rinex.specs.Record.{EpochTableView, epoch_line, satellite_line, record_text}
 use Rattle.rtk_rinex.specs.Table.{IsTableRow, IsTableEpoch, StartsAt}
 use Rattle.rtk_rinex.specs.CheckLine.{IsNextTime, IsEpochFault, IsSatelliteFault}
 use Rattle.rtk_rinex.specs.Lines.{HasNoEnd, IsLine}
@@ -192,7 +192,7 @@ one_of_record n first last before text f g le a b t u =
 
 -- ---- the records
 
-same_records : (n : ℕ) (epochs others : List Epoch) (x y : List ℕ) → n ≤ 16 → All (IsTableEpoch n) epochs → All (IsTableEpoch n) others
+same_records : (n : ℕ) (epochs others : List EpochTableView) (x y : List ℕ) → n ≤ 16 → All (IsTableEpoch n) epochs → All (IsTableEpoch n) others
     → length epochs ≤ length others → flat_map record_text epochs ++ x ≡ flat_map record_text others ++ y → Goes record_text epochs others x y
 same_records n [] others x y le h g long e = record { more = others; list = refl; text = e }
 same_records n (a ∷ epochs) [] x y le h g long e = absurd (omega arith)
@@ -205,7 +205,7 @@ same_records n (a ∷ epochs) (b ∷ others) x y le h g long e =
     record { more = rest.more; list = same_cons a b (epochs ++ rest.more) others one.0 rest.list; text = rest.text }
 
 records_behind : (n first before : ℕ) (bytes : List ℕ) (f g : CheckFault) → n ≤ 16 → (a : IsFaultOfRecords n first before bytes f) (b : IsFaultOfRecords n first before bytes g)
-    → (more : List Epoch) → IsTold f.cause → IsTold g.cause → b.epochs ≡ a.epochs ++ more → a.rest ≡ flat_map record_text more ++ b.rest → IsSame f g
+    → (more : List EpochTableView) → IsTold f.cause → IsTold g.cause → b.epochs ≡ a.epochs ++ more → a.rest ≡ flat_map record_text more ++ b.rest → IsSame f g
 records_behind n first before bytes f g le a b [] t u e text =
     let epochs : b.epochs ≡ a.epochs = e ∙ append-nil a.epochs in
     let next : IsFaultOfRecord n first (last_time None a.epochs) (before + record_lines a.epochs) a.rest g = rw (epochs, ← text) at b.next in

@@ -12,7 +12,7 @@ use Rattle.rtk_rinex.specs.declared.epoch_table.SatelliteRow.{SatelliteRow}
 use Rattle.rtk_rinex.specs.Columns.{left, last_digits}
 use Rattle.rtk_rinex.specs.Record.{observation, observations, lli_digit, strength_digit, strength_value, trim_end, before_trimmed, satellite_line}
 use Rattle.rtk_rinex.specs.Table.{IsObserved, IsTableRow}
-use Rattle.rtk_rinex.specs.CheckValues.{observed_of, observations_in, row_in, digits_from}
+use Rattle.rtk_rinex.specs.CheckValues.{observed_in, observations_in, row_in, digits_from}
 use Rattle.rtk_rinex.proofs.ValuesLemmas.{length-observation, observed_of-observations, IsValue-strength, take-exact, digits_from-last_2}
 
 -- ---- blanks at the end
@@ -76,8 +76,8 @@ cells : (n : ℕ) (os : List Observed) (rest : List ℕ) → All IsObserved os �
 cells zero os rest h le = refl
 cells (suc n) os rest h le =
     let inside : n < length os = omega arith in
-    let one : observed_of (take 48 (drop (48 * n) (flat_map observations os ++ rest))) ≡ get_or os n no_observed =
-    ap observed_of (piece os rest n no_observed h inside) ∙ observed_of-observations (get_or os n no_observed) (h n no_observed inside) in
+    let one : observed_in (take 48 (drop (48 * n) (flat_map observations os ++ rest))) ≡ get_or os n no_observed =
+    ap observed_in (piece os rest n no_observed h inside) ∙ observed_of-observations (get_or os n no_observed) (h n no_observed inside) in
     let next : suc n ≡ n + 1 = omega arith in
     let more : take (suc n) os ≡ take n os ++ get_or os n no_observed ∷ [] = ap (λ m. take m os) next ∙ (take_at_read os n no_observed inside).1 in
     rw (cells n os rest h (omega arith), one) (sym more)

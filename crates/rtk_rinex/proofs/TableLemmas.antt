@@ -11,8 +11,8 @@ use Rattle.rtk_rinex.specs.declared.epoch_table.Observed.{Observed}
 use Rattle.rtk_rinex.specs.declared.epoch_table.SatelliteRow.{SatelliteRow}
 use Rattle.rtk_rinex.specs.Reading.{reading_of}
 use Rattle.rtk_rinex.specs.Header.{header_text}
-use Rattle.rtk_rinex.specs.Record.{Epoch, IsEpoch, IsRow, IsStrength, HasWidth, is_written, is_value, observation, lli_digit, observations, has_observation, has_line, satellite_line, lines_of, record_text}
-use Rattle.rtk_rinex.specs.Table.{IsValue, IsLock, IsObserved, IsTableRow, IsTableEpoch, shown_value, shown, shown_row, shown_epoch, IsShownByRecord, StartsAt, with_record, FilesAreTables}
+use Rattle.rtk_rinex.specs.Record.{EpochTableView, IsEpochTableView, IsRow, IsStrengthOrNone, HasWidth, is_written, is_present, observation, lli_digit, observations, has_observation, has_line, satellite_line, lines_of, record_text}
+use Rattle.rtk_rinex.specs.Table.{IsAbsentOrWritten, IsLock, IsObserved, IsTableRow, IsTableEpoch, shown_value, shown, shown_row, shown_epoch, IsShownByRecord, StartsAt, with_record, FilesAreTables}
 
 -- a value: by whether it is written
 value_if : (v : ℤ) (a b : ℕ) (c : Bool) → is_written v ≡ c → observation (if c then Some v else None) a b ≡ observation (Some v) a b
@@ -33,15 +33,15 @@ phase_if v slip half d true e = rw (and-true slip, and-true half) refl
 phase_if v slip half d false e = rw e refl
 
 phase-shown_value : (v : Option ℤ) (slip half : Bool) (d : ℕ)
-    → observation (shown_value v) (lli_digit (slip && is_value v) (half && is_value v)) d ≡ observation v (lli_digit slip half) d
+    → observation (shown_value v) (lli_digit (slip && is_present v) (half && is_present v)) d ≡ observation v (lli_digit slip half) d
 phase-shown_value None slip half d = refl
 phase-shown_value (Some v) slip half d = phase_if v slip half d (is_written v) refl
 
-is_value_if : (v : ℤ) (c : Bool) → is_written v ≡ c → is_value (if c then Some v else None) ≡ c
+is_value_if : (v : ℤ) (c : Bool) → is_written v ≡ c → is_present (if c then Some v else None) ≡ c
 is_value_if v true e = e
 is_value_if v false e = refl
 
-is_value-shown_value : (v : Option ℤ) → is_value (shown_value v) ≡ is_value v
+is_value-shown_value : (v : Option ℤ) → is_present (shown_value v) ≡ is_present v
 is_value-shown_value None = refl
 is_value-shown_value (Some v) = is_value_if v (is_written v) refl
 
@@ -69,7 +69,7 @@ abbrev HasLine : SatelliteRow → Type 0
 HasLine r = IsTrue (has_line r)
 
 abbrev HasStrength : Observed → Type 0
-HasStrength o = IsStrength o.strength_millidbhz
+HasStrength o = IsStrengthOrNone o.strength_millidbhz
 
 abbrev IsWide : ℕ → SatelliteRow → Type 0
 IsWide n r = length r.observed.items ≡ n
@@ -100,11 +100,11 @@ lines_of-map c [] = refl
 lines_of-map c (r ∷ rows) = rw (satellite_line-shown_row r, lines-map rows, length-map rows shown_row) refl
 
 -- what is shown is what a file can show
-written_if : (v : ℤ) (c : Bool) → is_written v ≡ c → IsValue (if c then Some v else None)
+written_if : (v : ℤ) (c : Bool) → is_written v ≡ c → IsAbsentOrWritten (if c then Some v else None)
 written_if v true e = e
 written_if v false e = tt
 
-IsValue-shown_value : (v : Option ℤ) → IsValue (shown_value v)
+IsValue-shown_value : (v : Option ℤ) → IsAbsentOrWritten (shown_value v)
 IsValue-shown_value None = tt
 IsValue-shown_value (Some v) = written_if v (is_written v) refl
 
@@ -116,11 +116,11 @@ lock_if : (v : ℤ) (slip half : Bool) (c : Bool) → IsLock (if c then Some v e
 lock_if v slip half true = tt
 lock_if v slip half false = (and-false slip, and-false half)
 
-IsLock-shown_value : (v : Option ℤ) (slip half : Bool) → IsLock (shown_value v) (slip && is_value v) (half && is_value v)
+IsLock-shown_value : (v : Option ℤ) (slip half : Bool) → IsLock (shown_value v) (slip && is_present v) (half && is_present v)
 IsLock-shown_value None slip half = (and-false slip, and-false half)
 IsLock-shown_value (Some v) slip half = lock_if v slip half (is_written v)
 
-IsObserved-shown : (o : Observed) → IsStrength o.strength_millidbhz → IsObserved (shown o)
+IsObserved-shown : (o : Observed) → IsStrengthOrNone o.strength_millidbhz → IsObserved (shown o)
 IsObserved-shown o h =
     record {
       range = IsValue-shown_value o.range_mm;
@@ -161,13 +161,13 @@ rise-map rows h i j d low high =
     let second = get_or-map shown_row rows j d d below in
     rw (first, second) (h i j d low below)
 
-record-shown_epoch : (e : Epoch) → record_text (shown_epoch e) ≡ record_text e
+record-shown_epoch : (e : EpochTableView) → record_text (shown_epoch e) ≡ record_text e
 unfolding record_text
 record-shown_epoch e =
     let rows = filter has_line e.rows in
     rw (filter-shown_row rows (all_lines e.rows)) (lines_of-map (reading_of e.time) rows)
 
-pub record-is_shown : (n : ℕ) (e : Epoch) → IsEpoch e → HasWidth n e.rows → IsShownByRecord n e
+pub record-is_shown : (n : ℕ) (e : EpochTableView) → IsEpochTableView e → HasWidth n e.rows → IsShownByRecord n e
 unfolding record_text
 record-is_shown n e h w =
     let rows = filter has_line e.rows in
@@ -184,40 +184,40 @@ record-is_shown n e h w =
 
 -- ---- the whole file
 
-abbrev has_record : Epoch → Bool
+abbrev has_record : EpochTableView → Bool
 has_record e = nat_lt 0 (length (record_text e))
 
 -- an epoch without a record adds nothing
-records_if : (e : Epoch) (epochs : List Epoch) → (c : Bool) → has_record e ≡ c
+records_if : (e : EpochTableView) (epochs : List EpochTableView) → (c : Bool) → has_record e ≡ c
     → flat_map record_text (map shown_epoch (if c then e ∷ epochs else epochs)) ≡ record_text e ++ flat_map record_text (map shown_epoch epochs)
 records_if e epochs true h = rw (record-shown_epoch e) refl
 records_if e epochs false h = let none : record_text e ≡ [] = nil_from_length (record_text e) (grind (arith, nat_tests)) in rw none refl
 
-records-shown : (epochs : List Epoch) → flat_map record_text epochs ≡ flat_map record_text (map shown_epoch (with_record epochs))
+records-shown : (epochs : List EpochTableView) → flat_map record_text epochs ≡ flat_map record_text (map shown_epoch (with_record epochs))
 records-shown [] = refl
 records-shown (e ∷ epochs) = ap (λ (t : List ℕ). record_text e ++ t) (records-shown epochs) ∙ sym (records_if e (with_record epochs) (has_record e) refl)
 
-abbrev IsGood : ℕ → Epoch → Type 0
-IsGood n e = IsEpoch e × HasWidth n e.rows
+abbrev IsGood : ℕ → EpochTableView → Type 0
+IsGood n e = IsEpochTableView e × HasWidth n e.rows
 
-table_epoch : (n : ℕ) (e : Epoch) → IsGood n e → has_record e ≡ true → IsTableEpoch n (shown_epoch e)
+table_epoch : (n : ℕ) (e : EpochTableView) → IsGood n e → has_record e ≡ true → IsTableEpoch n (shown_epoch e)
 table_epoch n e h some =
     let is = record-is_shown n e h.0 h.1 in
     is.well_formed (λ none. let no : record_text e ≡ [] = is.empty none in absurd (let long = rw no at some in cc))
 
-table_epochs_if : (n : ℕ) (e : Epoch) (epochs : List Epoch) → IsGood n e → All (IsTableEpoch n) (map shown_epoch epochs)
+table_epochs_if : (n : ℕ) (e : EpochTableView) (epochs : List EpochTableView) → IsGood n e → All (IsTableEpoch n) (map shown_epoch epochs)
     → (c : Bool) → has_record e ≡ c → All (IsTableEpoch n) (map shown_epoch (if c then e ∷ epochs else epochs))
 table_epochs_if n e epochs h rest true some = All-cons (IsTableEpoch n) (shown_epoch e) (map shown_epoch epochs) (table_epoch n e h some) rest
 table_epochs_if n e epochs h rest false some = rest
 
-table_epochs : (n : ℕ) (epochs : List Epoch) → All IsEpoch epochs → All (λ (e : Epoch). HasWidth n e.rows) epochs
+table_epochs : (n : ℕ) (epochs : List EpochTableView) → All IsEpochTableView epochs → All (λ (e : EpochTableView). HasWidth n e.rows) epochs
     → All (IsTableEpoch n) (map shown_epoch (with_record epochs))
 table_epochs n [] h w = All-nil (IsTableEpoch n)
 table_epochs n (e ∷ epochs) h w =
-    table_epochs_if n e (with_record epochs) (All-head IsEpoch e epochs h, All-head (λ (e : Epoch). HasWidth n e.rows) e epochs w)
-    (table_epochs n epochs (All-tail IsEpoch e epochs h) (All-tail (λ (e : Epoch). HasWidth n e.rows) e epochs w)) (has_record e) refl
+    table_epochs_if n e (with_record epochs) (All-head IsEpochTableView e epochs h, All-head (λ (e : EpochTableView). HasWidth n e.rows) e epochs w)
+    (table_epochs n epochs (All-tail IsEpochTableView e epochs h) (All-tail (λ (e : EpochTableView). HasWidth n e.rows) e epochs w)) (has_record e) refl
 
-times-map : (epochs : List Epoch) → AllPairs (λ a b. a.time < b.time) epochs → AllPairs (λ a b. a.time < b.time) (map shown_epoch epochs)
+times-map : (epochs : List EpochTableView) → AllPairs (λ a b. a.time < b.time) epochs → AllPairs (λ a b. a.time < b.time) (map shown_epoch epochs)
 times-map epochs h i j d low high =
     let long : length (map shown_epoch epochs) ≡ length epochs = length-map epochs shown_epoch in
     let below : j < length epochs = omega arith in
@@ -225,7 +225,7 @@ times-map epochs h i j d low high =
     let second = get_or-map shown_epoch epochs j d d below in
     rw (first, second) (h i j d low below)
 
-starts-map : (first : ℕ) (epochs : List Epoch) → StartsAt first epochs → StartsAt first (map shown_epoch epochs)
+starts-map : (first : ℕ) (epochs : List EpochTableView) → StartsAt first epochs → StartsAt first (map shown_epoch epochs)
 starts-map first [] h = tt
 starts-map first (e ∷ epochs) h = h
 

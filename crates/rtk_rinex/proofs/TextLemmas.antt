@@ -11,9 +11,9 @@ use Rattle.rtk_rinex.specs.declared.header_fault.HeaderCause.TheVariants as head
 use Rattle.rtk_rinex.specs.declared.epoch_table.SatelliteRow.{SatelliteRow}
 use Rattle.rtk_rinex.specs.Columns.{left}
 use Rattle.rtk_rinex.specs.Reading.{IsMoment, reading_of}
-use Rattle.rtk_rinex.specs.Header.{Heading, Site, IsHeading, IsSite, header_line, header_text}
-use Rattle.rtk_rinex.specs.Record.{Epoch, epoch_line, satellite_line, record_text}
-use Rattle.rtk_rinex.specs.Table.{Table, IsTable, IsTableEpoch, IsTableRow, StartsAt, table_text}
+use Rattle.rtk_rinex.specs.Header.{HeadView, PositionView, IsHeadView, IsPositionView, header_line, header_text}
+use Rattle.rtk_rinex.specs.Record.{EpochTableView, epoch_line, satellite_line, record_text}
+use Rattle.rtk_rinex.specs.Table.{WellFormedTable, IsWellFormedTable, IsTableEpoch, IsTableRow, StartsAt, table_text}
 use Rattle.rtk_rinex.specs.HeaderFault.{AreLines, IsWithoutHeader, IsOnlyHeader}
 use Rattle.rtk_rinex.specs.CheckText.{BeginsWithFault, last_satellite, last_time, IsFaultBehindEpochLine, IsFaultOfRecord, IsFaultOfRecords, ReadsRecords}
 use Rattle.rtk_rinex.specs.CheckTable.{HoldsTable, cause_of, IsFault, IsWithoutTable}
@@ -48,46 +48,46 @@ more_bytes text ([] ∷ lines) h e = absurd (let lf : get_or text 0 0 ≡ 10 = a
 more_bytes text ((x ∷ l) ∷ lines) h e =
     omega (arith, line_bytes lines, ap length e, length-append ((x ∷ l) ++ 10 ∷ []) (flat_map (λ (line : List ℕ). line ++ 10 ∷ []) lines), length-append (x ∷ l) (10 ∷ []))
 
-first_blank : (h : Heading) (s : Site) (first : ℕ) → get_or (header_text h s first) 0 0 ≡ 32
+first_blank : (h : HeadView) (s : PositionView) (first : ℕ) → get_or (header_text h s first) 0 0 ≡ 32
 unfolding header_text header_line left
 first_blank h s first = refl
 
-pub few_lines : (n : ℕ) (h : Heading) (s : Site) (first : ℕ) → AreLines n (header_text h s first) → n < length (header_text h s first)
+pub few_lines : (n : ℕ) (h : HeadView) (s : PositionView) (first : ℕ) → AreLines n (header_text h s first) → n < length (header_text h s first)
 few_lines n h s first l = let more = more_bytes (header_text h s first) l.0 (first_blank h s first) l.3 in omega (arith, more, l.2)
 
 -- ---- the table
 
-abbrev table_with : Heading → Site → ℕ → List Epoch → Table
+abbrev table_with : HeadView → PositionView → ℕ → List EpochTableView → WellFormedTable
 table_with h s first epochs = record { head = h; site = s; first = first; epochs = epochs }
 
-same_table : (h k : Heading) (s t : Site) (f g : ℕ) (a b : List Epoch) → h ≡ k → s ≡ t → f ≡ g → a ≡ b → table_with h s f a ≡ table_with k t g b
+same_table : (h k : HeadView) (s t : PositionView) (f g : ℕ) (a b : List EpochTableView) → h ≡ k → s ≡ t → f ≡ g → a ≡ b → table_with h s f a ≡ table_with k t g b
 same_table h k s t f g a b e₁ e₂ e₃ e₄ = cc
 
 -- the header of a table's text, and its epochs' text
-epochs-behind : (bytes rest : List ℕ) (h : Heading) (s : Site) (first : ℕ) (u : Table) → bytes ≡ header_text h s first ++ rest
+epochs-behind : (bytes rest : List ℕ) (h : HeadView) (s : PositionView) (first : ℕ) (u : WellFormedTable) → bytes ≡ header_text h s first ++ rest
     → bytes ≡ table_text u → u.head ≡ h → u.site ≡ s → u.first ≡ first → rest ≡ flat_map record_text u.epochs
 epochs-behind bytes rest h s first u e f a b c =
     let same : header_text u.head u.site u.first ≡ header_text h s first = rw (a, b, c) refl in
     append_cancel_left (header_text h s first) rest (flat_map record_text u.epochs)
     (sym e ∙ f ∙ ap (λ (t : List ℕ). t ++ flat_map record_text u.epochs) same)
 
-no_rest : (n : ℕ) (more : List Epoch) → All (IsTableEpoch n) more → [] ≡ flat_map record_text more ++ [] → more ≡ []
+no_rest : (n : ℕ) (more : List EpochTableView) → All (IsTableEpoch n) more → [] ≡ flat_map record_text more ++ [] → more ≡ []
 no_rest n [] h e = refl
 no_rest n (a ∷ more) h e =
     absurd (some_text n a (flat_map record_text more ++ []) (h 0 a (omega arith)) (sym (append_assoc (record_text a) (flat_map record_text more) []) ∙ sym e))
 
-pub all_more : (n : ℕ) (xs more : List Epoch) → All (IsTableEpoch n) (xs ++ more) → All (IsTableEpoch n) more
+pub all_more : (n : ℕ) (xs more : List EpochTableView) → All (IsTableEpoch n) (xs ++ more) → All (IsTableEpoch n) more
 all_more n [] more h = h
 all_more n (x ∷ xs) more h = all_more n xs more (All-tail (IsTableEpoch n) x (xs ++ more) h)
 
-same_list : (n : ℕ) (epochs others : List Epoch) → n ≤ 16 → All (IsTableEpoch n) epochs → All (IsTableEpoch n) others
+same_list : (n : ℕ) (epochs others : List EpochTableView) → n ≤ 16 → All (IsTableEpoch n) epochs → All (IsTableEpoch n) others
     → flat_map record_text epochs ≡ flat_map record_text others → others ≡ epochs
 same_list n epochs others le h g e =
     let goes = same_epochs n epochs others [] le h g (append-nil (flat_map record_text epochs) ∙ e) in
     let none : goes.more ≡ [] = no_rest n goes.more (all_more n epochs goes.more (rw goes.list at g)) goes.text in
-    goes.list ∙ ap (λ (t : List Epoch). epochs ++ t) none ∙ append-nil epochs
+    goes.list ∙ ap (λ (t : List EpochTableView). epochs ++ t) none ∙ append-nil epochs
 
-pub holds : (bytes rest old new : List ℕ) (h : Heading) (s : Site) (first records lines : ℕ) → IsHeading h → IsSite s → IsMoment first
+pub holds : (bytes rest old new : List ℕ) (h : HeadView) (s : PositionView) (first records lines : ℕ) → IsHeadView h → IsPositionView s → IsMoment first
     → bytes ≡ header_text h s first ++ rest → IsOnlyHeader bytes h s first → ReadsRecords (length h.listed) first records lines rest old new
     → HoldsTable bytes records lines
 holds bytes rest old new h s first records lines heading site moment e only r =
@@ -115,7 +115,7 @@ holds bytes rest old new h s first records lines heading site moment e only r =
     }
 
 -- what is out is the text
-pub copy : (n : ℕ) (bytes rest start mid new : List ℕ) (h : Heading) (s : Site) (first records lines : ℕ) → start ≡ [] → mid ≡ start ++ header_text h s first
+pub copy : (n : ℕ) (bytes rest start mid new : List ℕ) (h : HeadView) (s : PositionView) (first records lines : ℕ) → start ≡ [] → mid ≡ start ++ header_text h s first
     → bytes ≡ header_text h s first ++ rest → ReadsRecords n first records lines rest mid new → new ≡ bytes
 copy n bytes rest start mid new h s first records lines none m e r =
     let begun : mid ≡ header_text h s first = rw none at m in
@@ -138,7 +138,7 @@ rows-fault n before text f rows others (r ∷ more) rest y told b h p e t less =
     no_satellite_fault n (last_satellite None rows) rest f.cause r (flat_map satellite_line more ++ y) told b is (row-next rows r more rise)
     (t ∙ append_assoc (satellite_line r) (flat_map satellite_line more) y)
 
-behind-fault : (n first : ℕ) (last : Option ℕ) (before : ℕ) (text : List ℕ) (f : CheckFault) (a : Epoch) (y : List ℕ) → n ≤ 16 → IsTold f.cause
+behind-fault : (n first : ℕ) (last : Option ℕ) (before : ℕ) (text : List ℕ) (f : CheckFault) (a : EpochTableView) (y : List ℕ) → n ≤ 16 → IsTold f.cause
     → IsFaultBehindEpochLine n first last before text f → IsTableEpoch n a → text ≡ record_text a ++ y → ⊥
 behind-fault n first last before text f a y le told b h e =
     let c = count-of n a h in
@@ -150,7 +150,7 @@ behind-fault n first last before text f a y le told b h e =
     let goes = same_rows n w.rows a.rows w.rest y le (rows-all n None w.rows w.are_rows) h.rows (omega (arith, less)) (sym w.text ∙ line.1) in
     rows-fault n before text f w.rows a.rows goes.more w.rest y told w.cause h.rows h.rise goes.list goes.text less
 
-pub record-fault : (n first : ℕ) (last : Option ℕ) (before : ℕ) (text : List ℕ) (f : CheckFault) (a : Epoch) (y : List ℕ) → n ≤ 16 → IsTold f.cause
+pub record-fault : (n first : ℕ) (last : Option ℕ) (before : ℕ) (text : List ℕ) (f : CheckFault) (a : EpochTableView) (y : List ℕ) → n ≤ 16 → IsTold f.cause
     → IsFaultOfRecord n first last before text f → IsTableEpoch n a → IsNextTime first last a.time → text ≡ record_text a ++ y → ⊥
 record-fault n first last before text f a y le told b h next e =
     ⊎_elim
@@ -166,7 +166,7 @@ end-fault n first last before text f b e =
     omega (arith, long, length-append (epoch_line (reading_of behind.time) behind.count) behind.rest, zero))
     b
 
-next-fault : (n first before : ℕ) (f : CheckFault) (epochs others more : List Epoch) (rest : List ℕ) → n ≤ 16 → IsTold f.cause
+next-fault : (n first before : ℕ) (f : CheckFault) (epochs others more : List EpochTableView) (rest : List ℕ) → n ≤ 16 → IsTold f.cause
     → IsFaultOfRecord n first (last_time None epochs) before rest f → All (IsTableEpoch n) others → AllPairs Earlier others → StartsAt first others
     → others ≡ epochs ++ more → rest ≡ flat_map record_text more ++ [] → ⊥
 next-fault n first before f epochs others [] rest le told b h p s e t = end-fault n first (last_time None epochs) before rest f b t
@@ -178,13 +178,13 @@ next-fault n first before f epochs others (a ∷ more) rest le told b h p s e t 
     (All-head (IsTableEpoch n) a more (all_more n epochs (a ∷ more) good)) (epoch-next first epochs a more start rise)
     (t ∙ append_assoc (record_text a) (flat_map record_text more) [])
 
-pub no_records : (n first before : ℕ) (text : List ℕ) (f : CheckFault) (others : List Epoch) → n ≤ 16 → IsTold f.cause → IsFaultOfRecords n first before text f
+pub no_records : (n first before : ℕ) (text : List ℕ) (f : CheckFault) (others : List EpochTableView) → n ≤ 16 → IsTold f.cause → IsFaultOfRecords n first before text f
     → All (IsTableEpoch n) others → AllPairs Earlier others → StartsAt first others → text ≡ flat_map record_text others → ⊥
 no_records n first before text f others le told r h p s e =
     let goes = same_epochs n r.epochs others r.rest le (epochs-all n first None r.epochs r.are_epochs) h (sym r.text ∙ e) in
     next-fault n first _ f r.epochs others goes.more r.rest le told r.next h p s goes.list goes.text
 
-without : (bytes : List ℕ) (cause : Cause) → (IsTold cause → (t : Table) → IsTable t → bytes ≢ table_text t) → IsWithoutTable bytes cause
+without : (bytes : List ℕ) (cause : Cause) → (IsTold cause → (t : WellFormedTable) → IsWellFormedTable t → bytes ≢ table_text t) → IsWithoutTable bytes cause
 without bytes HeaderLine h = h tt
 without bytes Columns h = h tt
 without bytes Value h = h tt
@@ -192,7 +192,7 @@ without bytes Order h = h tt
 without bytes Truncated h = h tt
 without bytes OutOfMemory h = tt
 
-pub records-none : (bytes rest : List ℕ) (h : Heading) (s : Site) (first lines : ℕ) (f : CheckFault) → IsHeading h → bytes ≡ header_text h s first ++ rest
+pub records-none : (bytes rest : List ℕ) (h : HeadView) (s : PositionView) (first lines : ℕ) (f : CheckFault) → IsHeadView h → bytes ≡ header_text h s first ++ rest
     → IsOnlyHeader bytes h s first → IsFaultOfRecords (length h.listed) first lines rest f → IsWithoutTable bytes f.cause
 records-none bytes rest h s first lines f heading e only r =
     without bytes f.cause (λ told u is same.

@@ -11,9 +11,9 @@ use Rattle.std.proofs.lemmas.List.Folds.{list_any-append}
 use Rattle.rtk_rinex.specs.declared.epoch_table.Observed.{Observed}
 use Rattle.rtk_rinex.specs.Columns.{right, last_digits, decimals, fixed, is_negative}
 use Rattle.std.proofs.lemmas.Int.{ints}
-use Rattle.rtk_rinex.specs.Record.{is_written, observation, observations, lli_digit, strength_digit, strength_value, IsStrength}
-use Rattle.rtk_rinex.specs.Table.{IsValue, IsLock, IsObserved}
-use Rattle.rtk_rinex.specs.CheckValues.{value_text, with_digit, digits_from, has_minus, is_blank, number_of, value_of, strength_of, slip_of, half_of, observed_of}
+use Rattle.rtk_rinex.specs.Record.{is_written, observation, observations, lli_digit, strength_digit, strength_value, IsStrengthOrNone}
+use Rattle.rtk_rinex.specs.Table.{IsAbsentOrWritten, IsLock, IsObserved}
+use Rattle.rtk_rinex.specs.CheckValues.{value_text, with_digit, digits_from, has_minus, is_blank, number_in, value_in, strength_in, slip_in, half_in, observed_in}
 
 pub digits_from-append : (a : ℕ) (xs ys : List ℕ) → digits_from a (xs ++ ys) ≡ digits_from (digits_from a xs) ys
 unfolding digits_from
@@ -121,7 +121,7 @@ has_minus-decimals w k n negative h =
     has_minus-append (replicate (w - length (decimals k negative n)) 32) ((sign_text negative ++ digits) ++ last) ∙ (rw (has_minus-blanks (w - length (decimals k negative n))) whole)
 
 -- F14.3 shows its number
-pub number_of-fixed : (v : ℤ) → unsigned_abs v < 2 ^ 63 → number_of (fixed 3 14 v) ≡ v
+pub number_of-fixed : (v : ℤ) → unsigned_abs v < 2 ^ 63 → number_in (fixed 3 14 v) ≡ v
 number_of-fixed (pos n) h = rw (has_minus-decimals 14 3 n false (omega arith), digits_from-thousandths false n (omega arith)) refl
 number_of-fixed (negsuc n) h = rw (has_minus-decimals 14 3 (suc n) true (omega arith), digits_from-thousandths true (suc n) (omega arith)) refl
 
@@ -171,7 +171,7 @@ length-fixed (negsuc n) h =
     length-right 14 (decimals 3 true (suc n)) (simp length-append (omega arith))
 
 -- what the text of a value shows is the value
-pub value_of-text : (v : Option ℤ) → IsValue v → value_of (value_text v) ≡ v
+pub value_of-text : (v : Option ℤ) → IsAbsentOrWritten v → value_in (value_text v) ≡ v
 unfolding is_blank
 value_of-text None h = refl
 value_of-text (Some v) h = rw (is_blank-decimals 14 3 (unsigned_abs v) (is_negative v), number_of-fixed v (omega (arith, written-magnitude v h))) refl
@@ -188,11 +188,11 @@ abbrev pub ends : Option ℤ → ℕ → ℕ → List ℕ
 ends None first second = 32 ∷ 32 ∷ []
 ends (Some v) first second = first ∷ second ∷ []
 
-pub observation-is : (v : Option ℤ) (first second : ℕ) → IsValue v → observation v first second ≡ value_text v ++ ends v first second
+pub observation-is : (v : Option ℤ) (first second : ℕ) → IsAbsentOrWritten v → observation v first second ≡ value_text v ++ ends v first second
 observation-is None first second h = refl
 observation-is (Some v) first second h = rw h refl
 
-pub length-value_text : (v : Option ℤ) → IsValue v → length (value_text v) ≡ 14
+pub length-value_text : (v : Option ℤ) → IsAbsentOrWritten v → length (value_text v) ≡ 14
 length-value_text None h = refl
 length-value_text (Some v) h = length-fixed v h
 
@@ -200,30 +200,30 @@ length-ends : (v : Option ℤ) (first second : ℕ) → length (ends v first sec
 length-ends None first second = refl
 length-ends (Some v) first second = refl
 
-pub length-observation : (v : Option ℤ) (first second : ℕ) → IsValue v → length (observation v first second) ≡ 16
+pub length-observation : (v : Option ℤ) (first second : ℕ) → IsAbsentOrWritten v → length (observation v first second) ≡ 16
 length-observation v first second h =
     let long = length-value_text v h in
     let two = length-ends v first second in
     rw (observation-is v first second h) (length-append (value_text v) (ends v first second) ∙ omega arith)
 
-value_of-observation : (v : Option ℤ) (first second : ℕ) (rest : List ℕ) → IsValue v → value_of (take 14 (observation v first second ++ rest)) ≡ v
+value_of-observation : (v : Option ℤ) (first second : ℕ) (rest : List ℕ) → IsAbsentOrWritten v → value_in (take 14 (observation v first second ++ rest)) ≡ v
 value_of-observation v first second rest h =
     let cut : take 14 (observation v first second ++ rest) ≡ value_text v =
     rw (observation-is v first second h, append_assoc) (take-exact 14 (value_text v) (ends v first second ++ rest) (length-value_text v h)) in
     rw cut (value_of-text v h)
 
 -- a strength is a value, and shows itself
-pub IsValue-strength : (s : Option ℕ) → IsStrength s → IsValue (strength_value s)
+pub IsValue-strength : (s : Option ℕ) → IsStrengthOrNone s → IsAbsentOrWritten (strength_value s)
 IsValue-strength None h = tt
 IsValue-strength (Some s) h = grind (arith, ints)
 
-strength_of-value : (s : Option ℕ) → IsStrength s → strength_of (strength_value s) ≡ s
+strength_of-value : (s : Option ℕ) → IsStrengthOrNone s → strength_in (strength_value s) ≡ s
 strength_of-value None h = refl
 strength_of-value (Some s) h = grind (arith, nat_tests)
 
 -- the loss-of-lock digit of a phase shows its two marks
 lock_of-ends : (v : Option ℤ) (slip half : Bool) (second : ℕ) (rest : List ℕ) → IsLock v slip half
-    → (slip_of (ends v (lli_digit slip half) second ++ rest) ≡ slip) × (half_of (ends v (lli_digit slip half) second ++ rest) ≡ half)
+    → (slip_in (ends v (lli_digit slip half) second ++ rest) ≡ slip) × (half_in (ends v (lli_digit slip half) second ++ rest) ≡ half)
 lock_of-ends None slip half second rest h = (sym h.0, sym h.1)
 lock_of-ends (Some v) true true second rest h = (refl, refl)
 lock_of-ends (Some v) true false second rest h = (refl, refl)
@@ -239,7 +239,7 @@ same_observed : (r p : Option ℤ) (s : Option ℕ) (a b : Bool) (r₂ p₂ : Op
 same_observed r p s a b r₂ p₂ s₂ a₂ b₂ e₁ e₂ e₃ e₄ e₅ = cc
 
 -- what the text of a code's observations shows is the observations
-pub observed_of-observations : (o : Observed) → IsObserved o → observed_of (observations o) ≡ o
+pub observed_of-observations : (o : Observed) → IsObserved o → observed_in (observations o) ≡ o
 observed_of-observations o h =
     let digit = strength_digit o.strength_millidbhz in
     let lli = lli_digit o.slip o.half in
@@ -255,13 +255,13 @@ observed_of-observations o h =
     let from_c : drop 32 ((a ++ b) ++ c) ≡ c = drop-exact 32 (a ++ b) c (length-append a b ∙ omega arith) in
     let from_e : drop 30 ((a ++ b) ++ c) ≡ e ++ c =
     rw (observation-is o.phase_millicycles lli digit h.phase, ← append_assoc a p e, append_assoc (a ++ p) e c) (drop-exact 30 (a ++ p) (e ++ c) (length-append a p ∙ omega arith)) in
-    let range : value_of (take 14 ((a ++ b) ++ c)) ≡ o.range_mm = rw (append_assoc a b c) (value_of-observation o.range_mm 32 digit (b ++ c) h.range) in
-    let phase : value_of (take 14 (drop 16 ((a ++ b) ++ c))) ≡ o.phase_millicycles = rw from_b (value_of-observation o.phase_millicycles lli digit c h.phase) in
+    let range : value_in (take 14 ((a ++ b) ++ c)) ≡ o.range_mm = rw (append_assoc a b c) (value_of-observation o.range_mm 32 digit (b ++ c) h.range) in
+    let phase : value_in (take 14 (drop 16 ((a ++ b) ++ c))) ≡ o.phase_millicycles = rw from_b (value_of-observation o.phase_millicycles lli digit c h.phase) in
     let nothing : take 14 c ≡ take 14 (c ++ []) = ap (take 14) (sym (append-nil c)) in
-    let strength : strength_of (value_of (take 14 (drop 32 ((a ++ b) ++ c)))) ≡ o.strength_millidbhz =
+    let strength : strength_in (value_in (take 14 (drop 32 ((a ++ b) ++ c)))) ≡ o.strength_millidbhz =
     rw (from_c, nothing, value_of-observation (strength_value o.strength_millidbhz) 32 32 [] (IsValue-strength o.strength_millidbhz h.strength)) (strength_of-value o.strength_millidbhz h.strength) in
     let lock = lock_of-ends o.phase_millicycles o.slip o.half digit c h.lock in
-    same_observed _ _ _ _ _ o.range_mm o.phase_millicycles o.strength_millidbhz o.slip o.half range phase strength (ap slip_of from_e ∙ lock.0) (ap half_of from_e ∙ lock.1)
+    same_observed _ _ _ _ _ o.range_mm o.phase_millicycles o.strength_millidbhz o.slip o.half range phase strength (ap slip_in from_e ∙ lock.0) (ap half_in from_e ∙ lock.1)
 
 pub clash : (b : Bool) → b ≡ false → b ≡ true → ⊥
 clash b e f = let apart : false ≡ true = sym e ∙ f in cc

@@ -1,8 +1,8 @@
 -- A text as that of a well-formed table, or its fault.
 use Rattle.std.specs.Prelude.{◌≡◌, ◌≢◌, ℕ, List, ◌++◌, length, ◌⊎◌}
 use Rattle.rtk_rinex.specs.Reading.{IsMoment}
-use Rattle.rtk_rinex.specs.Header.{Heading, Site, IsHeading, IsSite, header_text}
-use Rattle.rtk_rinex.specs.Table.{Table, IsTable, table_text}
+use Rattle.rtk_rinex.specs.Header.{HeadView, PositionView, IsHeadView, IsPositionView, header_text}
+use Rattle.rtk_rinex.specs.Table.{WellFormedTable, IsWellFormedTable, table_text}
 use Rattle.rtk_rinex.specs.HeaderFault.{AreLines, IsHeaderFault}
 use Rattle.rtk_rinex.specs.CheckText.{satellite_lines, IsFaultOfRecords}
 use Rattle.rtk_rinex.specs.declared.header_fault.HeaderFault.{HeaderFault}
@@ -14,22 +14,22 @@ use Rattle.rtk_rinex.specs.declared.check_fault.CheckFault.{CheckFault}
 
 -- a text is that of one well-formed table, with so many records and satellite lines
 pub record HoldsTable (bytes : List ℕ) (records lines : ℕ) : Type 0 where
-  pub table : Table
-  pub is_table : IsTable table
+  pub table : WellFormedTable
+  pub is_table : IsWellFormedTable table
   pub text : bytes ≡ table_text table
-  pub only : (other : Table) → IsTable other → bytes ≡ table_text other → other ≡ table
+  pub only : (other : WellFormedTable) → IsWellFormedTable other → bytes ≡ table_text other → other ≡ table
   pub epochs : length table.epochs ≡ records
   pub satellites : satellite_lines table.epochs ≡ lines
 
 -- a text, and how many records and satellite lines it has
-pub record Counted : Type 0 where
+pub record TableView : Type 0 where
   pub text : List ℕ
   pub epochs : ℕ
   pub satellites : ℕ
 
 -- it is the text of some well-formed table, with these numbers
-abbrev pub IsTableText : Counted → Type 0
-IsTableText t = ∥ HoldsTable t.text t.epochs t.satellites ∥₁
+abbrev pub IsTableView : TableView → Type 0
+IsTableView t = ∥ HoldsTable t.text t.epochs t.satellites ∥₁
 
 -- the cause of a fault in the header
 abbrev pub cause_of : HeaderCause → Cause
@@ -46,13 +46,13 @@ pub record IsFaultOfHeader (bytes : List ℕ) (fault : CheckFault) : Type 0 wher
 
 -- the header is good, and has so many lines; the fault is in the records
 pub record IsFaultBehindHeader (bytes : List ℕ) (fault : CheckFault) : Type 0 where
-  pub head : Heading
-  pub site : Site
+  pub head : HeadView
+  pub site : PositionView
   pub first : ℕ
   pub rest : List ℕ
   pub lines : ℕ
-  pub heading : IsHeading head
-  pub good_site : IsSite site
+  pub heading : IsHeadView head
+  pub good_site : IsPositionView site
   pub moment : IsMoment first
   pub text : bytes ≡ header_text head site first ++ rest
   pub are_lines : AreLines lines (header_text head site first)
@@ -65,7 +65,7 @@ IsFault bytes fault = IsFaultOfHeader bytes fault ⊎ IsFaultBehindHeader bytes 
 -- the text is that of no well-formed table; the want of memory says nothing
 abbrev pub IsWithoutTable : List ℕ → Cause → Type 0
 IsWithoutTable bytes OutOfMemory = Unit {0}
-IsWithoutTable bytes cause = (t : Table) → IsTable t → bytes ≢ table_text t
+IsWithoutTable bytes cause = (t : WellFormedTable) → IsWellFormedTable t → bytes ≢ table_text t
 
 -- a text has one fault at most, the same line and cause; of the want of memory it says nothing
 abbrev pub OneFault : Type 0
@@ -75,4 +75,4 @@ OneFault =
 -- a text with a fault is that of no well-formed table
 abbrev pub FaultMeansNoTable : Type 0
 FaultMeansNoTable =
-    (bytes : List ℕ) (f : CheckFault) → IsFault bytes f → f.cause ≢ OutOfMemory → (t : Table) → IsTable t → bytes ≢ table_text t
+    (bytes : List ℕ) (f : CheckFault) → IsFault bytes f → f.cause ≢ OutOfMemory → (t : WellFormedTable) → IsWellFormedTable t → bytes ≢ table_text t

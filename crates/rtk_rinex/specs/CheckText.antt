@@ -2,7 +2,7 @@
 use Rattle.std.specs.Prelude.{◌≡◌, ◌≢◌, ◌<◌, ℕ, ◌+◌, List, [], ◌∷◌, ◌++◌, length, flat_map, sum_by, Option, Some, None, ◌⊎◌}
 use Rattle.std.specs.Int.{IsInRange}
 use Rattle.rtk_rinex.specs.Reading.{IsMoment, reading_of}
-use Rattle.rtk_rinex.specs.Record.{Epoch, epoch_line, satellite_line, record_text}
+use Rattle.rtk_rinex.specs.Record.{EpochTableView, epoch_line, satellite_line, record_text}
 use Rattle.rtk_rinex.specs.Table.{IsTableRow, IsTableEpoch}
 use Rattle.rtk_rinex.specs.Lines.{HasNoEnd, IsLine}
 use Rattle.rtk_rinex.specs.CheckLine.{IsNextTime, IsEpochFault, IsNextSatellite, IsSatelliteFault}
@@ -27,20 +27,20 @@ AreRows n last [] = Unit {0}
 AreRows n last (r ∷ rows) = IsTableRow n r × IsNextSatellite last r.satellite × AreRows n (Some r.satellite) rows
 
 -- the moment of the last epoch, or another one where there is no epoch
-abbrev pub last_time : Option ℕ → List Epoch → Option ℕ
+abbrev pub last_time : Option ℕ → List EpochTableView → Option ℕ
 last_time last [] = last
 last_time last (e ∷ epochs) = last_time (Some e.time) epochs
 
 -- epochs of a file of n codes and this first time, behind the moment `last`: each is greater than the one before
-abbrev pub AreEpochs : ℕ → ℕ → Option ℕ → List Epoch → Type 0
+abbrev pub AreEpochs : ℕ → ℕ → Option ℕ → List EpochTableView → Type 0
 AreEpochs n first last [] = Unit {0}
 AreEpochs n first last (e ∷ epochs) = IsTableEpoch n e × IsNextTime first last e.time × AreEpochs n first (Some e.time) epochs
 
 -- a record has an epoch line, and a line for each satellite
-abbrev pub record_lines : List Epoch → ℕ
+abbrev pub record_lines : List EpochTableView → ℕ
 record_lines epochs = sum_by (λ e. 1 + length e.rows) epochs
 
-abbrev pub satellite_lines : List Epoch → ℕ
+abbrev pub satellite_lines : List EpochTableView → ℕ
 satellite_lines epochs = sum_by (λ e. length e.rows) epochs
 
 -- so many satellite lines are due in a text, behind a number of lines: fewer stand there, and then the fault
@@ -77,7 +77,7 @@ IsFaultOfRecord n first last before text fault =
 
 -- good records, and behind them the fault
 pub record IsFaultOfRecords (n first before : ℕ) (bytes : List ℕ) (fault : CheckFault) : Type 0 where
-  pub epochs : List Epoch
+  pub epochs : List EpochTableView
   pub rest : List ℕ
   pub are_epochs : AreEpochs n first None epochs
   pub text : bytes ≡ flat_map record_text epochs ++ rest
@@ -102,7 +102,7 @@ pub record ReadsRecord (n first : ℕ) (last : Option ℕ) (time due : ℕ) (byt
 
 -- a text is that of good records, and was appended to what was out
 pub record ReadsRecords (n first records rows : ℕ) (bytes old new : List ℕ) : Type 0 where
-  pub epochs : List Epoch
+  pub epochs : List EpochTableView
   pub are_epochs : AreEpochs n first None epochs
   pub count : length epochs ≡ records
   pub satellites : satellite_lines epochs ≡ rows

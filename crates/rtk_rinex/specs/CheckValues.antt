@@ -22,12 +22,12 @@ unfoldable pub is_blank : List ℕ → Bool
 is_blank = list_all (λ x. x == 32)
 
 -- the number that the digits of a text write, negative where it has a minus sign
-abbrev pub number_of : List ℕ → ℤ
-number_of text = if has_minus text then neg_ℤ (pos (digits_from 0 text)) else pos (digits_from 0 text)
+abbrev pub number_in : List ℕ → ℤ
+number_in text = if has_minus text then neg_ℤ (pos (digits_from 0 text)) else pos (digits_from 0 text)
 
 -- the value that 14 columns show, or none where they are blank
-abbrev pub value_of : List ℕ → Option ℤ
-value_of field = if is_blank field then None else Some (number_of field)
+abbrev pub value_in : List ℕ → Option ℤ
+value_in field = if is_blank field then None else Some (number_in field)
 
 -- F14.3 of a value, or 14 blanks where there is none
 abbrev pub value_text : Option ℤ → List ℕ
@@ -35,29 +35,29 @@ value_text None = replicate 14 32
 value_text (Some v) = fixed 3 14 v
 
 -- a strength, where there is one that a message can give
-abbrev pub strength_of : Option ℤ → Option ℕ
-strength_of None = None
-strength_of (Some v) =
+abbrev pub strength_in : Option ℤ → Option ℕ
+strength_in None = None
+strength_in (Some v) =
     if nat_le 250 (unsigned_abs v) && nat_le (unsigned_abs v) 63_750 then Some (unsigned_abs v) else None
 
 -- the marks of a loss-of-lock digit, which begins a text
-abbrev pub slip_of : List ℕ → Bool
-slip_of [] = false
-slip_of (x ∷ xs) = (x == 49) || (x == 51)
+abbrev pub slip_in : List ℕ → Bool
+slip_in [] = false
+slip_in (x ∷ xs) = (x == 49) || (x == 51)
 
-abbrev pub half_of : List ℕ → Bool
-half_of [] = false
-half_of (x ∷ xs) = (x == 50) || (x == 51)
+abbrev pub half_in : List ℕ → Bool
+half_in [] = false
+half_in (x ∷ xs) = (x == 50) || (x == 51)
 
 -- what 48 columns show of a code
-abbrev pub observed_of : List ℕ → Observed
-observed_of columns =
+abbrev pub observed_in : List ℕ → Observed
+observed_in columns =
     record {
-      range_mm = value_of (take 14 columns);
-      phase_millicycles = value_of (take 14 (drop 16 columns));
-      strength_millidbhz = strength_of (value_of (take 14 (drop 32 columns)));
-      slip = slip_of (drop 30 columns);
-      half = half_of (drop 30 columns);
+      range_mm = value_in (take 14 columns);
+      phase_millicycles = value_in (take 14 (drop 16 columns));
+      strength_millidbhz = strength_in (value_in (take 14 (drop 32 columns)));
+      slip = slip_in (drop 30 columns);
+      half = half_in (drop 30 columns);
     }
 
 -- the seconds of an epoch line, in 10^-7 s
@@ -65,8 +65,8 @@ abbrev pub seconds_in : List ℕ → ℕ
 seconds_in line = digits_from 0 (take 11 (drop 18 line))
 
 -- the reading that an epoch line shows
-abbrev pub civil_of : List ℕ → Civil
-civil_of line =
+abbrev pub civil_in : List ℕ → Civil
+civil_in line =
     record {
       year = digits_from 0 (take 4 (drop 2 line));
       month = digits_from 0 (take 2 (drop 7 line));
@@ -78,13 +78,13 @@ civil_of line =
     }
 
 -- the count of satellites that it shows
-abbrev pub count_of : List ℕ → ℕ
-count_of line = digits_from 0 (drop 32 line)
+abbrev pub count_in : List ℕ → ℕ
+count_in line = digits_from 0 (drop 32 line)
 
 -- what n codes show, of the columns behind the satellite, 48 for each
 abbrev pub observations_in : ℕ → List ℕ → List Observed
 observations_in zero columns = []
-observations_in (suc n) columns = observations_in n columns ++ observed_of (take 48 (drop (48 * n) columns)) ∷ []
+observations_in (suc n) columns = observations_in n columns ++ observed_in (take 48 (drop (48 * n) columns)) ∷ []
 
 -- the row that a satellite line of n codes shows; behind it stand blanks, as far as the columns of 16 codes
 abbrev pub row_in : ℕ → List ℕ → SatelliteRow

@@ -11,7 +11,7 @@ use Rattle.rtk_rinex.specs.Columns.{left, right, last_digits, decimals, fixed}
 use Rattle.rtk_rinex.specs.Reading.{IsMoment, reading_of, seconds_of}
 
 -- what is known of a file before its observations: the marker's name, the listed codes, and the moment at which it is made
-pub record Heading : Type 0 where
+pub record HeadView : Type 0 where
   pub marker : List ℕ
   pub listed : List Code
   pub made : ℕ
@@ -27,8 +27,8 @@ abbrev pub IsCodeList : List Code → Type 0
 IsCodeList listed = IsInRange 1 16 (length listed) × AllPairs (λ a b. a ≢ b) listed
 
 -- a good marker, good codes and a whole second
-abbrev pub IsHeading : Heading → Type 0
-IsHeading h =
+abbrev pub IsHeadView : HeadView → Type 0
+IsHeadView h =
     IsMarker h.marker × IsCodeList h.listed × IsMoment h.made × (h.made % 1000 ≡ 0)
 
 -- a line: 60 columns, 20 columns of label, and LF
@@ -53,21 +53,21 @@ first_lines marker made =
     ++ header_line [] (codes "ANT # / TYPE")
 
 -- the antenna reference point (ECEF) and the antenna's height above it, in 0.0001 m
-pub record Site : Type 0 where
+pub record PositionView : Type 0 where
   pub x : ℤ
   pub y : ℤ
   pub z : ℤ
   pub height : ℕ
 
-abbrev pub site_of : Position → Site
-site_of p = record { x = p.x; y = p.y; z = p.z; height = p.height }
+abbrev pub position_view : Position → PositionView
+position_view p = record { x = p.x; y = p.y; z = p.z; height = p.height }
 
 -- coordinates of 38 bits with a sign, and a height of 16 bits
-abbrev pub IsSite : Site → Type 0
-IsSite s = IsCoordinate s.x × IsCoordinate s.y × IsCoordinate s.z × (s.height < 65_536)
+abbrev pub IsPositionView : PositionView → Type 0
+IsPositionView s = IsCoordinate s.x × IsCoordinate s.y × IsCoordinate s.z × (s.height < 65_536)
 
 -- the lines of the position (3F14.4, in m) and of the antenna's height (F14.4, in m; east and north are 0)
-abbrev pub position_lines : Site → List ℕ
+abbrev pub position_lines : PositionView → List ℕ
 position_lines s =
     header_line (fixed 4 14 s.x ++ fixed 4 14 s.y ++ fixed 4 14 s.z) (codes "APPROX POSITION XYZ")
     ++ header_line (fixed 4 14 (pos s.height) ++ codes "        0.0000        0.0000") (codes "ANTENNA: DELTA H/E/N")
@@ -110,7 +110,7 @@ last_lines first =
     ++ header_line [] (codes "END OF HEADER")
 
 -- the header of a heading, a site and the moment of the first observation
-unfoldable pub header_text : Heading → Site → ℕ → List ℕ
+unfoldable pub header_text : HeadView → PositionView → ℕ → List ℕ
 header_text h s first =
     first_lines h.marker (reading_of h.made)
     ++ position_lines s

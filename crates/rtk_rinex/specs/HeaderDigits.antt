@@ -15,5 +15,5 @@ unfoldable pub has_minus : List ℕ → Bool
 has_minus = list_any (λ x. x == 45)
 
 -- the number that the digits of a text write, negative where it has a minus sign
-abbrev pub number_of : List ℕ → ℤ
-number_of text = if has_minus text then neg_ℤ (pos (digits_from 0 text)) else pos (digits_from 0 text)
+abbrev pub number_in : List ℕ → ℤ
+number_in text = if has_minus text then neg_ℤ (pos (digits_from 0 text)) else pos (digits_from 0 text)

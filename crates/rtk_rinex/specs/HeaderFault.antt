@@ -1,8 +1,8 @@
 -- What is wrong with the header of a text: its first line with which no table's text begins, or the line that is not whole.
 use Rattle.std.specs.Prelude.{◌≡◌, ℕ, ◌+◌, List, [], ◌∷◌, ◌++◌, length, flat_map, All}
 use Rattle.rtk_rinex.specs.Reading.{IsMoment}
-use Rattle.rtk_rinex.specs.Header.{Heading, Site, IsHeading, IsSite, header_text}
-use Rattle.rtk_rinex.specs.Table.{Table, IsTable, table_text}
+use Rattle.rtk_rinex.specs.Header.{HeadView, PositionView, IsHeadView, IsPositionView, header_text}
+use Rattle.rtk_rinex.specs.Table.{WellFormedTable, IsWellFormedTable, table_text}
 use Rattle.rtk_rinex.specs.Lines.{HasNoEnd}
 use Rattle.rtk_rinex.specs.declared.header_fault.HeaderFault.{HeaderFault}
 use Rattle.rtk_rinex.specs.declared.header_fault.HeaderCause.{HeaderCause}
@@ -11,7 +11,7 @@ use Rattle.rtk_rinex.specs.declared.header_fault.HeaderCause.TheVariants.{Header
 -- the header of a good heading, a good site and a moment
 abbrev pub IsHeader : List ℕ → Type 0
 IsHeader text =
-    (h : Heading) × (s : Site) × (first : ℕ) × IsHeading h × IsSite s × IsMoment first × (text ≡ header_text h s first)
+    (h : HeadView) × (s : PositionView) × (first : ℕ) × IsHeadView h × IsPositionView s × IsMoment first × (text ≡ header_text h s first)
 
 -- some header begins with it
 abbrev pub BeginsHeader : List ℕ → Type 0
@@ -19,7 +19,7 @@ BeginsHeader text = (rest : List ℕ) × IsHeader (text ++ rest)
 
 -- the text of some well-formed table begins with it
 abbrev pub BeginsTable : List ℕ → Type 0
-BeginsTable text = (t : Table) × (rest : List ℕ) × IsTable t × (table_text t ≡ text ++ rest)
+BeginsTable text = (t : WellFormedTable) × (rest : List ℕ) × IsWellFormedTable t × (table_text t ≡ text ++ rest)
 
 -- it begins with some header
 abbrev pub HasHeader : List ℕ → Type 0
@@ -55,7 +55,7 @@ IsWithoutHeader bytes OutOfMemory = Unit {0}
 IsWithoutHeader bytes cause = ¬ (HasHeader bytes)
 
 -- a text begins with this header, and with no other
-abbrev pub IsOnlyHeader : List ℕ → Heading → Site → ℕ → Type 0
+abbrev pub IsOnlyHeader : List ℕ → HeadView → PositionView → ℕ → Type 0
 IsOnlyHeader bytes head site first =
-    (h : Heading) (s : Site) (f : ℕ) (rest : List ℕ) → IsHeading h → IsSite s → IsMoment f → bytes ≡ header_text h s f ++ rest
+    (h : HeadView) (s : PositionView) (f : ℕ) (rest : List ℕ) → IsHeadView h → IsPositionView s → IsMoment f → bytes ≡ header_text h s f ++ rest
     → (h ≡ head) × (s ≡ site) × (f ≡ first)

@@ -10,22 +10,22 @@ use Rattle.rtk_rinex.specs.declared.epoch_table.Observed.{Observed}
 use Rattle.rtk_rinex.specs.declared.epoch_table.SatelliteRow.{SatelliteRow}
 
 -- an epoch: its moment, and its satellites with what each listed code shows
-pub record Epoch : Type 0 where
+pub record EpochTableView : Type 0 where
   pub time : ℕ
   pub rows : List SatelliteRow
 
 -- a strength in thousandths of a dB-Hz: 0.25 to 63.75 dB-Hz in steps of a quarter (RTCM 10403.3, DF015)
-abbrev pub IsStrength : Option ℕ → Type 0
-IsStrength None = Unit {0}
-IsStrength (Some s) = IsInRange 250 63_750 s × (s % 250 ≡ 0)
+abbrev pub IsStrengthOrNone : Option ℕ → Type 0
+IsStrengthOrNone None = Unit {0}
+IsStrengthOrNone (Some s) = IsInRange 250 63_750 s × (s % 250 ≡ 0)
 
 -- a satellite of GPS, and the strengths of its codes
 pub record IsRow (r : SatelliteRow) : Type 0 where
   pub satellite : IsInRange 1 32 r.satellite
-  pub strengths : All (λ o. IsStrength o.strength_millidbhz) r.observed.items
+  pub strengths : All (λ o. IsStrengthOrNone o.strength_millidbhz) r.observed.items
 
 -- an epoch: good rows, and the satellites rise
-pub record IsEpoch (e : Epoch) : Type 0 where
+pub record IsEpochTableView (e : EpochTableView) : Type 0 where
   pub time : IsMoment e.time
   pub rows : All IsRow e.rows
   pub rise : AllPairs (λ a b. a.satellite < b.satellite) e.rows
@@ -64,13 +64,13 @@ observations o =
     ++ observation o.phase_millicycles (lli_digit o.slip o.half) (strength_digit o.strength_millidbhz)
     ++ observation (strength_value o.strength_millidbhz) 32 32
 
-abbrev pub is_value : Option ℤ → Bool
-is_value None = false
-is_value (Some v) = is_written v
+abbrev pub is_present : Option ℤ → Bool
+is_present None = false
+is_present (Some v) = is_written v
 
 -- an observation of the code is written
 abbrev pub has_observation : Observed → Bool
-has_observation o = is_value o.range_mm || is_value o.phase_millicycles || is_some o.strength_millidbhz
+has_observation o = is_present o.range_mm || is_present o.phase_millicycles || is_some o.strength_millidbhz
 
 -- the satellite has a line: an observation of a listed code is written
 abbrev pub has_line : SatelliteRow → Bool
@@ -110,5 +110,5 @@ lines_of c [] = []
 lines_of c (r ∷ rows) = epoch_line c (length (r ∷ rows)) ++ flat_map satellite_line (r ∷ rows)
 
 -- the record of an epoch: the satellites without a line are left out
-unfoldable pub record_text : Epoch → List ℕ
+unfoldable pub record_text : EpochTableView → List ℕ
 record_text e = lines_of (reading_of e.time) (filter has_line e.rows)

@@ -3,22 +3,22 @@ use Rattle.std.specs.Prelude.{◌≡◌, ◌≢◌, ◌<◌, nat_lt, ℕ, List, 
 use Rattle.std.specs.Int.{IsInRange}
 use Rattle.std.specs.List.{filter}
 use Rattle.rtk_rinex.specs.Reading.{IsMoment}
-use Rattle.rtk_rinex.specs.Header.{Heading, Site, IsHeading, IsSite, header_text}
-use Rattle.rtk_rinex.specs.Record.{Epoch, IsEpoch, IsStrength, HasWidth, is_written, is_value, has_line, record_text}
+use Rattle.rtk_rinex.specs.Header.{HeadView, PositionView, IsHeadView, IsPositionView, header_text}
+use Rattle.rtk_rinex.specs.Record.{EpochTableView, IsEpochTableView, IsStrengthOrNone, HasWidth, is_written, is_present, has_line, record_text}
 use Rattle.rtk_rinex.specs.declared.epoch_table.Observed.{Observed}
 use Rattle.rtk_rinex.specs.declared.epoch_table.SatelliteRow.{SatelliteRow}
 
 -- a file: its head, its site, the moment of its first observation, and its epochs
-pub record Table : Type 0 where
-  pub head : Heading
-  pub site : Site
+pub record WellFormedTable : Type 0 where
+  pub head : HeadView
+  pub site : PositionView
   pub first : ℕ
-  pub epochs : List Epoch
+  pub epochs : List EpochTableView
 
 -- no value, or one that is written
-abbrev pub IsValue : Option ℤ → Type 0
-IsValue None = Unit {0}
-IsValue (Some v) = IsTrue (is_written v)
+abbrev pub IsAbsentOrWritten : Option ℤ → Type 0
+IsAbsentOrWritten None = Unit {0}
+IsAbsentOrWritten (Some v) = IsTrue (is_written v)
 
 -- a phase that isn't there has no loss-of-lock indicator
 abbrev pub IsLock : Option ℤ → Bool → Bool → Type 0
@@ -27,9 +27,9 @@ IsLock (Some v) slip half = Unit {0}
 
 -- what a code of a file can show
 pub record IsObserved (o : Observed) : Type 0 where
-  pub range : IsValue o.range_mm
-  pub phase : IsValue o.phase_millicycles
-  pub strength : IsStrength o.strength_millidbhz
+  pub range : IsAbsentOrWritten o.range_mm
+  pub phase : IsAbsentOrWritten o.phase_millicycles
+  pub strength : IsStrengthOrNone o.strength_millidbhz
   pub lock : IsLock o.phase_millicycles o.slip o.half
 
 -- a satellite of a file of n codes: it has a line
@@ -40,28 +40,28 @@ pub record IsTableRow (n : ℕ) (r : SatelliteRow) : Type 0 where
   pub line : IsTrue (has_line r)
 
 -- an epoch of a file of n codes: its satellites rise, so there are 1 to 32
-pub record IsTableEpoch (n : ℕ) (e : Epoch) : Type 0 where
+pub record IsTableEpoch (n : ℕ) (e : EpochTableView) : Type 0 where
   pub time : IsMoment e.time
   pub some : e.rows ≢ []
   pub rows : All (IsTableRow n) e.rows
   pub rise : AllPairs (λ a b. a.satellite < b.satellite) e.rows
 
 -- the first epoch, where there is one, is at the first time
-abbrev pub StartsAt : ℕ → List Epoch → Type 0
+abbrev pub StartsAt : ℕ → List EpochTableView → Type 0
 StartsAt first [] = Unit {0}
 StartsAt first (e ∷ epochs) = e.time ≡ first
 
 -- a well-formed table
-pub record IsTable (t : Table) : Type 0 where
-  pub head : IsHeading t.head
-  pub site : IsSite t.site
+pub record IsWellFormedTable (t : WellFormedTable) : Type 0 where
+  pub head : IsHeadView t.head
+  pub site : IsPositionView t.site
   pub first : IsMoment t.first
   pub starts : StartsAt t.first t.epochs
   pub epochs : All (IsTableEpoch (length t.head.listed)) t.epochs
   pub rise : AllPairs (λ a b. a.time < b.time) t.epochs
 
 -- the text of a table: its header, then a record for each epoch
-abbrev pub table_text : Table → List ℕ
+abbrev pub table_text : WellFormedTable → List ℕ
 table_text t = header_text t.head t.site t.first ++ flat_map record_text t.epochs
 
 -- a value as the file shows it: none where none is written
@@ -76,44 +76,44 @@ shown o =
       range_mm = shown_value o.range_mm;
       phase_millicycles = shown_value o.phase_millicycles;
       strength_millidbhz = o.strength_millidbhz;
-      slip = o.slip && is_value o.phase_millicycles;
-      half = o.half && is_value o.phase_millicycles;
+      slip = o.slip && is_present o.phase_millicycles;
+      half = o.half && is_present o.phase_millicycles;
     }
 
 abbrev pub shown_row : SatelliteRow → SatelliteRow
 shown_row r = record { satellite = r.satellite; observed = record { items = map shown r.observed.items } }
 
 -- an epoch as the file shows it: the satellites that have a line, with what is written of them
-abbrev pub shown_epoch : Epoch → Epoch
+abbrev pub shown_epoch : EpochTableView → EpochTableView
 shown_epoch e = record { time = e.time; rows = map shown_row (filter has_line e.rows) }
 
 -- the record of an epoch is that of the epoch as the file shows it, which is one of a well-formed table, unless it has no line
-pub record IsShownByRecord (n : ℕ) (e : Epoch) : Type 0 where
+pub record IsShownByRecord (n : ℕ) (e : EpochTableView) : Type 0 where
   pub text : record_text (shown_epoch e) ≡ record_text e
   pub well_formed : (shown_epoch e).rows ≢ [] → IsTableEpoch n (shown_epoch e)
   pub empty : (shown_epoch e).rows ≡ [] → record_text e ≡ []
 
 -- so it is for each epoch of good rows, with as many observations as codes
 abbrev pub RecordsAreOfTables : Type 0
-RecordsAreOfTables = (n : ℕ) (e : Epoch) → IsEpoch e → HasWidth n e.rows → IsShownByRecord n e
+RecordsAreOfTables = (n : ℕ) (e : EpochTableView) → IsEpochTableView e → HasWidth n e.rows → IsShownByRecord n e
 
 -- the epochs that have a record
-abbrev pub with_record : List Epoch → List Epoch
+abbrev pub with_record : List EpochTableView → List EpochTableView
 with_record epochs = filter (λ e. nat_lt 0 (length (record_text e))) epochs
 
 -- the table of a header and of the epochs behind it: those that have a record, as the file shows them
-abbrev pub shown_table : Heading → Site → ℕ → List Epoch → Table
+abbrev pub shown_table : HeadView → PositionView → ℕ → List EpochTableView → WellFormedTable
 shown_table h s first epochs = record { head = h; site = s; first = first; epochs = map shown_epoch (with_record epochs) }
 
 -- a header and the records behind it are the text of a well-formed table
-pub record IsShownByFile (h : Heading) (s : Site) (first : ℕ) (epochs : List Epoch) : Type 0 where
-  pub table : IsTable (shown_table h s first epochs)
+pub record IsShownByFile (h : HeadView) (s : PositionView) (first : ℕ) (epochs : List EpochTableView) : Type 0 where
+  pub table : IsWellFormedTable (shown_table h s first epochs)
   pub text : header_text h s first ++ flat_map record_text epochs ≡ table_text (shown_table h s first epochs)
 
 -- so it is for all rising epochs of good rows, with as many observations as codes, where the header's first time is
 -- that of the first epoch with a record, if there is one
 abbrev pub FilesAreTables : Type 0
 FilesAreTables =
-    (h : Heading) (s : Site) (first : ℕ) (epochs : List Epoch) → IsHeading h → IsSite s → IsMoment first
-    → All IsEpoch epochs → All (λ e. HasWidth (length h.listed) e.rows) epochs → AllPairs (λ a b. a.time < b.time) epochs
+    (h : HeadView) (s : PositionView) (first : ℕ) (epochs : List EpochTableView) → IsHeadView h → IsPositionView s → IsMoment first
+    → All IsEpochTableView epochs → All (λ e. HasWidth (length h.listed) e.rows) epochs → AllPairs (λ a b. a.time < b.time) epochs
     → StartsAt first (with_record epochs) → IsShownByFile h s first epochs

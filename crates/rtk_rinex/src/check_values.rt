@@ -1,7 +1,7 @@
 //! What the columns of a field show, read without a test of their form.
 
 ghost use Rattle.std.specs.Prelude.{◌≡◌, ℕ, ◌+◌, ◌*◌, ◌^◌, ◌<◌, ◌≤◌, length};
-ghost use Rattle.rtk_rinex.specs.CheckValues.{digits_from, has_minus, is_blank, number_of, value_of, strength_of, slip_of, half_of, observed_of};
+ghost use Rattle.rtk_rinex.specs.CheckValues.{digits_from, has_minus, is_blank, number_in, value_in, strength_in, slip_in, half_in, observed_in};
 ghost use Rattle.rtk_rinex.specs.CheckValues as spec;
 
 use crate::epoch_table::Observed;
@@ -60,7 +60,7 @@ fn contains_only_blanks(text: &[u8]) -> bool
 /// The number that the digits of a text write, negative where it has a minus sign.
 pub fn number(text: &[u8]) -> i64
     requires { length text.now ≤ 18 }
-    ensures { result ≡ number_of text.now }
+    ensures { result ≡ number_in text.now }
 {
     let magnitude = digits(text) as i64;
     if contains_minus(text) {
@@ -73,7 +73,7 @@ pub fn number(text: &[u8]) -> i64
 // The value that 14 columns show.
 fn value(field: &[u8]) -> Option<i64>
     requires { length field.now ≤ 14 }
-    ensures { result ≡ value_of field.now }
+    ensures { result ≡ value_in field.now }
 {
     if contains_only_blanks(field) {
         None
@@ -83,7 +83,7 @@ fn value(field: &[u8]) -> Option<i64>
 }
 
 fn strength(value: Option<i64>) -> Option<u32>
-    ensures { result ≡ strength_of value }
+    ensures { result ≡ strength_in value }
 {
     match value {
         Some(value) => {
@@ -100,7 +100,7 @@ fn strength(value: Option<i64>) -> Option<u32>
 
 // The slip that a loss-of-lock digit shows, which begins a text.
 fn slip(text: &[u8]) -> bool
-    ensures { result ≡ slip_of text.now }
+    ensures { result ≡ slip_in text.now }
 {
     match text {
         [first, ..] => *first == b'1' || *first == b'3',
@@ -110,7 +110,7 @@ fn slip(text: &[u8]) -> bool
 
 // The half-cycle ambiguity that it shows.
 fn half(text: &[u8]) -> bool
-    ensures { result ≡ half_of text.now }
+    ensures { result ≡ half_in text.now }
 {
     match text {
         [first, ..] => *first == b'2' || *first == b'3',
@@ -121,7 +121,7 @@ fn half(text: &[u8]) -> bool
 /// What 48 columns show of a code.
 pub fn observed(columns: &[u8]) -> Observed
     requires { length columns.now ≡ 48 }
-    ensures { result ≡ observed_of columns.now }
+    ensures { result ≡ observed_in columns.now }
 {
     let (_, phase) = columns.split_at(16);
     let (_, lock) = columns.split_at(30);

@@ -43,13 +43,13 @@ pub struct EpochTable {
 
 impl Model for EpochTable {
     ghost use Rattle.std.specs.Prelude.{◌≡◌, ◌≤◌, length, take};
-    ghost use Rattle.rtk_rinex.specs.Record.{Epoch, IsEpoch};
+    ghost use Rattle.rtk_rinex.specs.Record.{EpochTableView, IsEpochTableView};
 
-    ghost Value = { Epoch };
+    ghost Value = { EpochTableView };
 
     ghost view = { λ t. record { time = t.time; rows = take t.count t.rows } };
 
-    ghost invariant = { λ t. (t.count ≤ 32) × (length t.rows ≡ 32) × IsEpoch (record { time = t.time; rows = take t.count t.rows }) };
+    ghost invariant = { λ t. (t.count ≤ 32) × (length t.rows ≡ 32) × IsEpochTableView (record { time = t.time; rows = take t.count t.rows }) };
 }
 
 // Writes a row over another one.
@@ -65,7 +65,7 @@ fn put_row(row: &mut SatelliteRow, satellite: u8, observed: &[Observed])
 }
 
 impl EpochTable {
-    ghost use Rattle.rtk_rinex.specs.Record.{Epoch, IsEpoch, IsRow};
+    ghost use Rattle.rtk_rinex.specs.Record.{EpochTableView, IsEpochTableView, IsRow};
 
     /// The table of an epoch without satellites.
     pub fn new(time: GpsMs) -> EpochTable
@@ -108,7 +108,7 @@ impl EpochTable {
     /// The rows of the satellites, rising.
     pub fn rows(&self) -> &[SatelliteRow]
         ensures value { result.now ≡ self.now.rows }
-        ensures good { IsEpoch self.now }
+        ensures good { IsEpochTableView self.now }
         ensures few { length result.now ≤ 32 }
     {
         &self.rows[..self.count]

@@ -3,7 +3,7 @@
 ghost use Rattle.std.specs.Prelude.{◌≡◌, ◌≢◌, ◌%◌, ℕ, ◌<◌, length, All, slice_index_or, Decides, IfOk, IfErr};
 ghost use Rattle.std.specs.Int.{IsInRange};
 ghost use Rattle.rtk_obs.specs.declared.code.Code.{Code};
-ghost use Rattle.rtk_rinex.specs.Header.{IsMarker, IsCodeList, IsHeading};
+ghost use Rattle.rtk_rinex.specs.Header.{IsMarker, IsCodeList, IsHeadView};
 
 use arrayvec::ArrayVec;
 use rtk_obs::{Code, GpsMs};
@@ -34,13 +34,13 @@ pub struct Head {
 }
 
 impl Model for Head {
-    ghost use Rattle.rtk_rinex.specs.Header.{Heading, IsHeading};
+    ghost use Rattle.rtk_rinex.specs.Header.{HeadView, IsHeadView};
 
-    ghost Value = { Heading };
+    ghost Value = { HeadView };
 
     ghost view = { λ h. record { marker = h.marker.items; listed = h.listed.items; made = h.made } };
 
-    ghost invariant = { λ h. IsHeading (record { marker = h.marker.items; listed = h.listed.items; made = h.made }) };
+    ghost invariant = { λ h. IsHeadView (record { marker = h.marker.items; listed = h.listed.items; made = h.made }) };
 }
 
 fn is_printed(text: &[u8]) -> bool
@@ -97,7 +97,7 @@ impl Head {
     /// The head of these parts, where they are good; else the first cause why there is none.
     pub fn new(marker: &[u8], codes: &[Code], made: GpsMs) -> Result<Head, HeadFault>
         ensures head { IfOk result (λ h. h ≡ record { marker = marker.now; listed = codes.now; made = made }) }
-        ensures good { IfOk result IsHeading }
+        ensures good { IfOk result IsHeadView }
         ensures fault { IfErr result (IsHeadFault (record { marker = marker.now; listed = codes.now; made = made })) }
     {
         if !is_marker(marker) {

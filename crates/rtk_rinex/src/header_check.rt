@@ -1,20 +1,254 @@
-//! The header of a text, read back: what it tells, or its first line that is wrong.
+//! The check of a header: what its lines show is written again, and the two texts are compared.
 
-ghost use Rattle.std.specs.Prelude.{◌≡◌, ◌≢◌, ℕ, ◌+◌, ◌*◌, ◌%◌, ◌/◌, ◌<◌, ◌≤◌, ◌∷◌, ◌++◌, length, take, drop, ◌^◌, Decides, MatchOption, IfOk, IfErr};
-ghost use Rattle.rtk_rinex.specs.Reading.{IsMoment};
-ghost use Rattle.rtk_rinex.specs.Header.{Heading, Site, IsHeading, IsSite, site_of, header_text};
-ghost use Rattle.rtk_rinex.specs.HeaderShown.{line_at};
-ghost use Rattle.rtk_rinex.specs.Lines.{HasNoEnd};
+ghost use Rattle.rtk_obs.specs.Code.{name_of};
+ghost use Rattle.rtk_obs.specs.Position.{AreCoordinates};
+ghost use Rattle.rtk_obs.specs.PositionFields.{HasFields};
+ghost use Rattle.rtk_obs.specs.declared.code.Code.{Code};
+ghost use Rattle.rtk_rinex.specs.Columns.{right, fixed};
+ghost use Rattle.rtk_rinex.specs.Header.{header_line, made_text, first_text, IsMarker, PositionView, IsPositionView, HeadView, IsHeadView, position_view, header_text};
+ghost use Rattle.rtk_rinex.specs.HeaderDigits.{number_in};
 ghost use Rattle.rtk_rinex.specs.HeaderFault.{AreLines, IsWithoutHeader, IsHeaderFault, IsOnlyHeader};
+ghost use Rattle.rtk_rinex.specs.HeaderShown.{line_at, name_at, number_at, made_civil, first_civil, AreAllCodes};
+ghost use Rattle.rtk_rinex.specs.Lines.{HasNoEnd};
+ghost use Rattle.rtk_rinex.specs.Reading.{IsMoment, reading_of};
+ghost use Rattle.std.specs.Int.{IsInRange};
+ghost use Rattle.std.specs.Prelude.{◌≡◌, ◌≢◌, ℕ, ◌+◌, ◌*◌, ◌%◌, ◌/◌, ◌<◌, ◌≤◌, List, ◌++◌, length, take, drop, codes, decimal, pos, AllPairs, slice_index_or, MatchOption, ◌^◌, ◌∷◌, Decides, IfOk, IfErr};
 
-use crate::head::Head;
+use crate::head::{is_marker, Head};
+use crate::header_digits::{columns, number_in, signed_in};
 use crate::header_fault::{HeaderCause, HeaderFault};
-use crate::header_lines::{
-    code_count_shown, codes_shown, first_shown, height_shown, made_shown, marker_shown,
-    position_shown, text_line,
-};
 use crate::header_text::put_header;
-use rtk_obs::{GpsMs, Position};
+use crate::record_text::trimmed_len;
+use rtk_obs::{Civil, Code, GpsMs, Position, of_civil};
+
+const ALL: [Code; 16] = [
+    Code::C1C,
+    Code::C1P,
+    Code::C1W,
+    Code::C1S,
+    Code::C1L,
+    Code::C1X,
+    Code::C2C,
+    Code::C2D,
+    Code::C2P,
+    Code::C2W,
+    Code::C2S,
+    Code::C2L,
+    Code::C2X,
+    Code::C5I,
+    Code::C5Q,
+    Code::C5X,
+];
+
+// The first moment, where a line shows none.
+fn first_moment() -> GpsMs
+    ensures { result ≡ 0 }
+{
+    let Some(time) = GpsMs::new(0) else {
+        unreachable!();
+    };
+    time
+}
+
+fn made_reading(line: &[u8]) -> Civil
+    ensures { result ≡ made_civil line.now }
+{
+    Civil {
+        year: number_in(line, 40, 4) as u16,
+        month: number_in(line, 44, 2) as u8,
+        day: number_in(line, 46, 2) as u8,
+        hour: number_in(line, 49, 2) as u8,
+        minute: number_in(line, 51, 2) as u8,
+        second: number_in(line, 53, 2) as u8,
+        millisecond: 0,
+    }
+}
+
+/// The moment that the second line shows.
+pub fn read_made(line: &[u8]) -> GpsMs
+    ensures whole_second { result % 1000 ≡ 0 }
+    ensures shown { (t : ℕ) → IsMoment t → t % 1000 ≡ 0
+        → line.now ≡ header_line (codes "rtcm2rinex                              " ++ made_text (reading_of t)) (codes "PGM / RUN BY / DATE") → result ≡ t }
+{
+    let Some(time) = of_civil(made_reading(line)) else {
+        return first_moment();
+    };
+    time
+}
+
+/// The marker's name that the third line shows.
+pub fn read_marker(line: &[u8]) -> &[u8]
+    ensures good { IsMarker result.now }
+    ensures shown { (m : List ℕ) → IsMarker m → line.now ≡ header_line m (codes "MARKER NAME") → result.now ≡ m }
+{
+    let content = columns(line, 0, 60);
+    let marker = content.split_at(trimmed_len(content)).0;
+    if !is_marker(marker) {
+        return b"-";
+    }
+    marker
+}
+
+// The position of the numbers in the line of coordinates, where these fit.
+fn position_in(line: &[u8], height: u16) -> Option<Position>
+    ensures { MatchOption result
+        (¬ (AreCoordinates (number_in (take 14 (drop 0 line.now))) (number_in (take 14 (drop 14 line.now))) (number_in (take 14 (drop 28 line.now)))))
+        (HasFields (number_in (take 14 (drop 0 line.now))) (number_in (take 14 (drop 14 line.now))) (number_in (take 14 (drop 28 line.now))) height) }
+{
+    Position::new(
+        signed_in(line, 0),
+        signed_in(line, 14),
+        signed_in(line, 28),
+        height,
+    )
+}
+
+/// The position that its line shows, of this height.
+pub fn read_position(line: &[u8], height: u16) -> Position
+    ensures height { result.height ≡ height }
+    ensures shown { (s : PositionView) → IsPositionView s
+        → line.now ≡ header_line (fixed 4 14 s.x ++ fixed 4 14 s.y ++ fixed 4 14 s.z) (codes "APPROX POSITION XYZ")
+        → (result.x ≡ s.x) × (result.y ≡ s.y) × (result.z ≡ s.z) }
+{
+    if let Some(position) = position_in(line, height) {
+        return position;
+    }
+    let Some(origin) = Position::new(0, 0, 0, height) else {
+        unreachable!();
+    };
+    origin
+}
+
+/// The antenna's height that its line shows, in 0.0001 m.
+pub fn read_height(line: &[u8]) -> u16
+    ensures { (h : ℕ) → h < 65_536
+        → line.now ≡ header_line (fixed 4 14 (pos h) ++ codes "        0.0000        0.0000") (codes "ANTENNA: DELTA H/E/N") → result ≡ h }
+{
+    let height = number_in(line, 0, 14);
+    if height > 65_535 {
+        return 0;
+    }
+    height as u16
+}
+
+/// How many codes the first line of the observation types shows.
+pub fn read_code_count(line: &[u8]) -> usize
+    ensures good { IsInRange 1 16 result }
+    ensures shown { (n : ℕ) (rest : List ℕ) → IsInRange 1 16 n
+        → line.now ≡ header_line (codes "G  " ++ right 3 (decimal (3 * n)) ++ rest) (codes "SYS / # / OBS TYPES") → result ≡ n }
+{
+    let count = number_in(line, 3, 3) as usize / 3;
+    if count == 0 || count > 16 {
+        return 1;
+    }
+    count
+}
+
+/// The line of a text behind so many lines of 81 bytes.
+pub fn text_line(text: &[u8], lines: usize) -> &[u8]
+    requires { 81 * lines < 2 ^ 64 }
+    ensures { result.now ≡ line_at lines text.now }
+{
+    columns(text, 81 * lines, 81)
+}
+
+// The name that the code behind so many codes is shown with.
+fn read_name(text: &[u8], before: usize) -> &[u8]
+    requires { before < 16 }
+    ensures { result.now ≡ name_at before text.now }
+{
+    columns(
+        text_line(text, 9 + 3 * before / 13),
+        8 + 4 * (3 * before % 13),
+        2,
+    )
+}
+
+// Where a code stands in a list of all codes.
+fn place_in(all: &[Code; 16], code: Code) -> Option<usize>
+    ensures { MatchOption result ((k : ℕ) → k < 16 → slice_index_or all.now k code ≢ code) (λ k. (k < 16) × (slice_index_or all.now k code ≡ code)) }
+{
+    for k in 0..16 {
+        if all[k] == code {
+            return Some(k);
+        }
+    }
+    None
+}
+
+// Exchanges a code with the one at this place, unless it stands before it.
+fn move_code(all: &mut [Code; 16], code: Code, place: usize)
+    requires place { place < 16 }
+    requires all { AreAllCodes all.old }
+    ensures all { AreAllCodes all.new }
+    ensures before { (k : ℕ) (d : Code) → k < place → slice_index_or all.new k d ≡ slice_index_or all.old k d }
+    ensures there { ((k : ℕ) (d : Code) → k < place → slice_index_or all.old k d ≢ code) → (d : Code) → slice_index_or all.new place d ≡ code }
+{
+    if let Some(k) = place_in(all, code) {
+        if k > place {
+            all.swap(place, k);
+        }
+    }
+}
+
+// The same for the code of a name.
+fn move_named_code(all: &mut [Code; 16], name: &[u8], place: usize)
+    requires place { place < 16 }
+    requires all { AreAllCodes all.old }
+    ensures all { AreAllCodes all.new }
+    ensures before { (k : ℕ) (d : Code) → k < place → slice_index_or all.new k d ≡ slice_index_or all.old k d }
+    ensures there { (code : Code) → name.now ≡ name_of code → ((k : ℕ) (d : Code) → k < place → slice_index_or all.old k d ≢ code)
+        → (d : Code) → slice_index_or all.new place d ≡ code }
+{
+    if let Some(code) = Code::from_name(name) {
+        move_code(all, code, place);
+    }
+}
+
+/// All codes, of which those come first that a text shows as far as they are good: those of any header
+/// that shows the same names.
+pub fn read_codes(text: &[u8]) -> [Code; 16]
+    ensures all { AreAllCodes result }
+    ensures shown { (listed : List Code) (i : ℕ) (d : Code) → AllPairs (λ a b. a ≢ b) listed → i < length listed → i < 16
+        → ((j : ℕ) → j ≤ i → name_at j text.now ≡ name_of (slice_index_or listed j d)) → slice_index_or result i d ≡ slice_index_or listed i d }
+{
+    let mut all = ALL;
+    for i in 0..16 {
+        move_named_code(&mut all, read_name(text, i), i);
+    }
+    all
+}
+
+// The reading in the line of the first observation, whose seconds were read.
+fn first_reading(line: &[u8], seconds: u64) -> Civil
+    requires seconds { seconds ≡ number_at 30 13 line.now }
+    requires minute { seconds < 600_000_000 }
+    ensures { result ≡ first_civil line.now }
+{
+    Civil {
+        year: number_in(line, 2, 4) as u16,
+        month: number_in(line, 10, 2) as u8,
+        day: number_in(line, 16, 2) as u8,
+        hour: number_in(line, 22, 2) as u8,
+        minute: number_in(line, 28, 2) as u8,
+        second: (seconds / 10_000_000) as u8,
+        millisecond: (seconds / 10_000 % 1000) as u16,
+    }
+}
+
+/// The moment that the line of the first observation shows.
+pub fn read_first(line: &[u8]) -> GpsMs
+    ensures { (t : ℕ) → IsMoment t → line.now ≡ header_line (first_text (reading_of t)) (codes "TIME OF FIRST OBS") → result ≡ t }
+{
+    let seconds = number_in(line, 30, 13);
+    if seconds >= 600_000_000 {
+        return first_moment();
+    }
+    let Some(time) = of_civil(first_reading(line, seconds)) else {
+        return first_moment();
+    };
+    time
+}
 
 /// What a header tells, and where it ends.
 #[derive(Drop)]
@@ -33,23 +267,23 @@ pub struct HeaderRead {
 
 // What the lines of a text show, where they are those of a header; good parts in any case.
 fn shown(text: &[u8]) -> HeaderRead
-    ensures only { IsOnlyHeader text.now result.head (site_of result.position) result.first }
-    ensures good { IsHeading result.head × IsSite (site_of result.position) × IsMoment result.first }
-    ensures size { (length (header_text result.head (site_of result.position) result.first) ≡ result.used) × (result.used ≡ 81 * result.lines) }
-    ensures shown { (h : Heading) (s : Site) (first k : ℕ) → IsHeading h → IsSite s → IsMoment first
+    ensures only { IsOnlyHeader text.now result.head (position_view result.position) result.first }
+    ensures good { IsHeadView result.head × IsPositionView (position_view result.position) × IsMoment result.first }
+    ensures size { (length (header_text result.head (position_view result.position) result.first) ≡ result.used) × (result.used ≡ 81 * result.lines) }
+    ensures shown { (h : HeadView) (s : PositionView) (first k : ℕ) → IsHeadView h → IsPositionView s → IsMoment first
         → ((j : ℕ) → j ≤ k → line_at j (header_text h s first) ≡ line_at j text.now)
-        → line_at k (header_text result.head (site_of result.position) result.first) ≡ line_at k text.now }
+        → line_at k (header_text result.head (position_view result.position) result.first) ≡ line_at k text.now }
 {
-    let marker = marker_shown(text_line(text, 2));
-    let count = code_count_shown(text_line(text, 9));
-    let codes = codes_shown(text);
-    let made = made_shown(text_line(text, 1));
+    let marker = read_marker(text_line(text, 2));
+    let count = read_code_count(text_line(text, 9));
+    let codes = read_codes(text);
+    let made = read_made(text_line(text, 1));
     let Ok(head) = Head::new(marker, codes.as_slice().split_at(count).0, made) else {
         unreachable!();
     };
-    let position = position_shown(text_line(text, 7), height_shown(text_line(text, 8)));
+    let position = read_position(text_line(text, 7), read_height(text_line(text, 8)));
     let lines = 13 + (12 * count + 51) / 52;
-    let first = first_shown(text_line(text, lines - 3));
+    let first = read_first(text_line(text, lines - 3));
     HeaderRead {
         head,
         position,
@@ -96,11 +330,11 @@ fn line_end(text: &[u8]) -> Option<usize>
 /// What the header at the front of a text tells; else its first line that is wrong. The header is
 /// appended to `out`.
 pub fn check_header(out: &mut Vec<u8>, text: &[u8]) -> Result<HeaderRead, HeaderFault>
-    ensures good { IfOk result (λ r. IsHeading r.head × IsSite (site_of r.position) × IsMoment r.first) }
-    ensures text { IfOk result (λ r. text.now ≡ header_text r.head (site_of r.position) r.first ++ drop r.used text.now) }
-    ensures size { IfOk result (λ r. (r.used ≡ length (header_text r.head (site_of r.position) r.first)) × AreLines r.lines (header_text r.head (site_of r.position) r.first)) }
-    ensures out { IfOk result (λ r. out.new.items ≡ out.old.items ++ header_text r.head (site_of r.position) r.first) }
-    ensures only { IfOk result (λ r. IsOnlyHeader text.now r.head (site_of r.position) r.first) }
+    ensures good { IfOk result (λ r. IsHeadView r.head × IsPositionView (position_view r.position) × IsMoment r.first) }
+    ensures text { IfOk result (λ r. text.now ≡ header_text r.head (position_view r.position) r.first ++ drop r.used text.now) }
+    ensures size { IfOk result (λ r. (r.used ≡ length (header_text r.head (position_view r.position) r.first)) × AreLines r.lines (header_text r.head (position_view r.position) r.first)) }
+    ensures out { IfOk result (λ r. out.new.items ≡ out.old.items ++ header_text r.head (position_view r.position) r.first) }
+    ensures only { IfOk result (λ r. IsOnlyHeader text.now r.head (position_view r.position) r.first) }
     ensures fault { IfErr result (IsHeaderFault text.now) }
     ensures none { IfErr result (λ f. IsWithoutHeader text.now f.cause) }
 {

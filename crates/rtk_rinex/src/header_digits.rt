@@ -1,7 +1,7 @@
 //! Columns of a line, and the numbers that they show, read without a test of their form.
 
 ghost use Rattle.std.specs.Prelude.{◌≡◌, ℕ, ◌+◌, ◌*◌, ◌^◌, ◌<◌, ◌≤◌, length, take, drop};
-ghost use Rattle.rtk_rinex.specs.HeaderDigits.{digits_from, has_minus, number_of};
+ghost use Rattle.rtk_rinex.specs.HeaderDigits.{digits_from, has_minus, number_in};
 ghost use Rattle.rtk_rinex.specs.HeaderDigits as spec;
 
 fn front(text: &[u8], width: usize) -> &[u8]
@@ -77,7 +77,7 @@ pub fn number_in(line: &[u8], from: usize, width: usize) -> u64
 
 /// The number in 14 columns, negative where they have a minus sign.
 pub fn signed_in(line: &[u8], from: usize) -> i64
-    ensures { result ≡ number_of (take 14 (drop from line.now)) }
+    ensures { result ≡ number_in (take 14 (drop from line.now)) }
 {
     let magnitude = number_in(line, from, 14) as i64;
     if contains_minus(columns(line, from, 14)) {

@@ -3,7 +3,7 @@
 ghost use Rattle.std.specs.Prelude.{◌≡◌, ℕ, ◌+◌, ◌*◌, ◌≤◌, ◌<◌, [], ◌∷◌, ◌++◌, take, drop, length, OnOk, IfOk, codes, decimal, pos};
 ghost use Rattle.rtk_obs.specs.Position.{IsCoordinate};
 ghost use Rattle.rtk_rinex.specs.Columns.{left, right, fixed};
-ghost use Rattle.rtk_rinex.specs.Header.{header_line, made_text, first_lines, site_of, position_lines, types_of, types, continuation_line, types_lines, first_text, last_lines, header_text};
+ghost use Rattle.rtk_rinex.specs.Header.{header_line, made_text, first_lines, position_view, position_lines, types_of, types, continuation_line, types_lines, first_text, last_lines, header_text};
 
 use crate::columns::{fixed_14_4, integer_3, integer_6, put_last_digits, unsigned_13_7};
 use crate::head::Head;
@@ -115,7 +115,7 @@ fn height_content(height: u16) -> ArrayVec<u8, 60>
 }
 
 fn put_position_lines(out: &mut Vec<u8>, position: &Position) -> Result<(), AllocError>
-    ensures { OnOk result (out.new.items ≡ out.old.items ++ position_lines (site_of position.now)) }
+    ensures { OnOk result (out.new.items ≡ out.old.items ++ position_lines (position_view position.now)) }
 {
     put_line(
         out,
@@ -267,7 +267,7 @@ pub(crate) fn put_header(
     position: &Position,
     first: GpsMs,
 ) -> Result<(), AllocError>
-    ensures { OnOk result (out.new.items ≡ out.old.items ++ header_text head.now (site_of position.now) first) }
+    ensures { OnOk result (out.new.items ≡ out.old.items ++ header_text head.now (position_view position.now) first) }
 {
     put_first_lines(out, head.marker(), reading(head.made()))?;
     put_position_lines(out, position)?;
@@ -286,7 +286,7 @@ pub fn header(
     position: &Position,
     first: GpsMs,
 ) -> Result<Vec<u8>, AllocError>
-    ensures { IfOk result (λ text. text.items ≡ header_text head.now (site_of position.now) first) }
+    ensures { IfOk result (λ text. text.items ≡ header_text head.now (position_view position.now) first) }
 {
     let mut out = Vec::with_capacity(alloc, LONGEST)?;
     put_header(&mut out, head, position, first)?;

@@ -1,31 +1,27 @@
 //! RINEX 3.05 observation files of GPS: the header and the records, as text.
 #![tactic(auto)]
 
-mod check_epoch_line;
 mod check_fault;
-mod check_record_line;
-mod check_records;
-mod check_satellite_line;
-mod check_table;
-mod check_text;
 mod check_values;
 mod columns;
+mod epoch_line_check;
 mod epoch_table;
 mod head;
 mod header_check;
 mod header_digits;
 mod header_fault;
-mod header_lines;
 mod header_text;
 mod laws;
 mod reading;
 mod record_text;
+mod records_check;
+mod satellite_line_check;
+mod table_check;
 
 pub use check_fault::{Cause, CheckFault};
-pub use check_table::Table;
-pub use check_text::{check, text};
 pub use epoch_table::{EpochTable, Observed, SatelliteRow};
 pub use head::{Head, HeadFault};
 pub use header_text::header;
 pub use laws::{files_are_tables, one_fault, records_are_of_tables};
 pub use record_text::record;
+pub use table_check::{Table, check, text};

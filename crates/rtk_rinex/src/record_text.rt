@@ -2,7 +2,7 @@
 
 ghost use Rattle.std.specs.Prelude.{◌≡◌, ℕ, ◌+◌, ◌*◌, ◌<◌, ◌≤◌, ◌^◌, [], ◌∷◌, ◌++◌, length, take, flat_map, OnOk, IfOk, codes, decimal};
 ghost use Rattle.std.specs.List.{filter, list_any};
-ghost use Rattle.rtk_rinex.specs.Record.{HasWidth, is_written, is_value, observation, observations, strength_digit, strength_value, lli_digit, has_observation, has_line, trim_end, satellite_line, epoch_date_text, epoch_line, record_text};
+ghost use Rattle.rtk_rinex.specs.Record.{HasWidth, is_written, is_present, observation, observations, strength_digit, strength_value, lli_digit, has_observation, has_line, trim_end, satellite_line, epoch_date_text, epoch_line, record_text};
 
 use crate::columns::{integer_3, put_fixed_14_3, put_last_digits, unsigned_11_7};
 use crate::epoch_table::{EpochTable, Observed, SatelliteRow};
@@ -113,7 +113,7 @@ pub fn put_satellite_line(out: &mut Vec<u8>, row: &SatelliteRow) -> Result<(), A
 }
 
 fn is_present(value: Option<i64>) -> bool
-    ensures { result ≡ is_value value }
+    ensures { result ≡ is_present value }
 {
     match value {
         Some(value) => is_written_value(value),

@@ -1,5 +1,5 @@
 use Rattle.std.proofs.Common.{◌≡◌, ◌++◌, ◌∷◌, [], List, ℕ, ap, refl, append_assoc}
-use Rattle.rtk_cli.specs.Shown.{line_of, message_text, fault_text}
+use Rattle.rtk_cli.specs.Shown.{line_of, message_text, unread_text}
 use Rattle.rtk_cli.proofs.payload_line.put_line.Goals as goal
 use Rattle.rtk_cli.proofs.payload_line.put_line.Goals.{in-Ok+in_ok-put_message-in-Ok, in-Err+in_ok-put_fault-in-Err}
 
@@ -16,7 +16,7 @@ returns c =
             let joined : (old ++ text) ++ 10 ∷ [] ≡ old ++ (text ++ 10 ∷ []) = append_assoc old text (10 ∷ []) in
             cc (c.in_ok-push.ensures.items, w.in_ok-put_message-in-Ok.ensures)
         | in-Err+in_ok-put_fault-in-Err w ↦
-            let text : List ℕ = fault_text w.in-Err.fault in
+            let text : List ℕ = unread_text w.in-Err.fault in
             let is : line_of c.decode.result ≡ text ++ 10 ∷ [] = ap line_of w.in-Err.is in
             let joined : (old ++ text) ++ 10 ∷ [] ≡ old ++ (text ++ 10 ∷ []) = append_assoc old text (10 ∷ []) in
             cc (c.in_ok-push.ensures.items, w.in_ok-put_fault-in-Err.ensures)

@@ -1,6 +1,6 @@
 use Rattle.std.proofs.Common.{◌+◌, ◌∙◌, Some, refl, sym, ap, arith, drop, get_or}
 use Rattle.std.proofs.lemmas.List.{append-nil}
-use Rattle.rtk_collect.specs.EpochCells.{one_more, fresh, conflicts}
+use Rattle.rtk_collect.specs.EpochSet.{one_more, fresh, conflicts}
 use Rattle.rtk_collect.proofs.CellsLemmas.{any_cell, fresh-step, lower-length, push-few, conflict-is, kept-conflicts}
 use Rattle.rtk_collect.proofs.EqualityLemmas.{sources-same}
 use Rattle.rtk_collect.proofs.merging.compare.Goals as goal

@@ -1,5 +1,5 @@
 use Rattle.std.proofs.Common.{◌≡◌, ◌≤◌, ◌+◌, ◌++◌, length, drop}
-use Rattle.rtk_collect.specs.EpochCells.{fresh, conflicts}
+use Rattle.rtk_collect.specs.EpochSet.{fresh, conflicts}
 use Rattle.rtk_collect.proofs.merging.compare.Given as goal
 
 abbrev pub invariant-loop-cell : goal.invariant-loop-cell

@@ -1,6 +1,6 @@
 use Rattle.std.proofs.Common.{ap, arith, length, get_or}
 use Rattle.std.proofs.lemmas.List.{append-nil}
-use Rattle.rtk_collect.specs.Key.{Rises}
+use Rattle.rtk_collect.specs.Key.{KeysRise}
 use Rattle.rtk_collect.proofs.CellsLemmas.{any_cell, push-few, merge-items, merge-conflicts, merge-room, put-room, with_cell-rises, with_cell-longer, lower-length}
 use Rattle.rtk_collect.proofs.merging.merge.Goals as goal
 use Rattle.rtk_collect.proofs.merging.merge.Goals.{then-put, else-put}
@@ -23,7 +23,7 @@ loop-cell-preserved c =
     let longer = with_cell-longer (get_or cells i any_cell) kept in
     let at_le = ap length p in
     let items = merge-items i any_cell cells kept new _ l p c.loop-cell.invariant.items in
-    let rises : Rises new = rw p (with_cell-rises (get_or cells i any_cell) kept c.loop-cell.invariant.rises) in
+    let rises : KeysRise new = rw p (with_cell-rises (get_or cells i any_cell) kept c.loop-cell.invariant.rises) in
     let room = merge-room i any_cell cells kept new _ _ l c.loop-cell.invariant.rises p c.loop-cell.invariant.room c.put.ensures.capacity in
     elim c.if-put.branch [
       | then-put w ↦

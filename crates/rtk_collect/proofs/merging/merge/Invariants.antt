@@ -1,13 +1,13 @@
 use Rattle.std.proofs.Common.{◌≡◌, ◌≤◌, ◌+◌, length, drop, vec_capacity, ◌++◌}
-use Rattle.rtk_collect.specs.Key.{Rises}
-use Rattle.rtk_collect.specs.EpochCells.{fresh, with_cells, conflicts}
+use Rattle.rtk_collect.specs.Key.{KeysRise}
+use Rattle.rtk_collect.specs.EpochSet.{fresh, with_cells, conflicts}
 use Rattle.rtk_collect.proofs.merging.merge.Given as goal
 
 -- what is left to do of the message does the rest
 abbrev pub invariant-loop-cell : goal.invariant-loop-cell
 invariant-loop-cell l = record {
   at : l.at ≤ length l.kept.items;
-  rises : Rises l.kept.items;
+  rises : KeysRise l.kept.items;
   room : length l.kept.items + fresh (drop l.cell-index l.cells) l.kept.items ≤ vec_capacity l.kept;
   few : length l.conflicts ≤ l.cell-index;
   items : with_cells (drop l.cell-index l.cells) l.kept.items ≡ with_cells l.cells l.fn.kept.items;

@@ -2,7 +2,7 @@ use Rattle.std.proofs.Common.{◌∙◌, sym, ap, arith}
 use Rattle.std.proofs.lemmas.Grind.{common_steps}
 use Rattle.std.specs.List.{insert}
 use Rattle.rtk_collect.specs.Key.{key}
-use Rattle.rtk_collect.specs.EpochCells.{cell_under}
+use Rattle.rtk_collect.specs.EpochSet.{cell_under}
 use Rattle.rtk_collect.proofs.CellsLemmas.{conflict-is, with_cell-sets, with_cell-absent, lower-length}
 use Rattle.rtk_collect.proofs.EqualityLemmas.{sources-same}
 use Rattle.rtk_collect.proofs.merging.put.Goals as goal

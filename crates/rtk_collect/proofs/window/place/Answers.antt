@@ -1,6 +1,6 @@
 use Rattle.std.proofs.Common.{◌≡◌, ◌≤◌, ◌<◌, ◌+◌, ◌-◌, ◌/◌, ℕ, true, false, ap, arith, sym, ◌∙◌, is_gt, nat_cmp}
 use Rattle.std.proofs.lemmas.Bool.Decides.{nat_tests}
-use Rattle.rtk_collect.specs.EpochCells.{EpochCells}
+use Rattle.rtk_collect.specs.EpochSet.{EpochSetView}
 use Rattle.rtk_collect.proofs.JoinsLemmas.{leading-length, leading-past, leading-stop}
 use Rattle.rtk_collect.proofs.window.place.Goals as goal
 
@@ -20,7 +20,7 @@ pub loop-low-preserved-then-gt : goal.loop-low-preserved-then-gt
 loop-low-preserved-then-gt c =
     let i = c.loop-low.invariant in
     let t = c.loop-low-test.true in
-    let here = ap (λ (x : EpochCells). x.epoch) c.index.ensures in
+    let here = ap (λ (x : EpochSetView). x.epoch) c.index.ensures in
     let more = gt-true c.epoch.result c.args.epoch (sym c.gt.ensures ∙ c.if-gt.true) in
     let e = c.epoch.ensures in
     let p = leading-past c.args.epoch (c.loop-low.low + (c.loop-low.high - c.loop-low.low) / 2) c.index.result.now c.args.sets.now.items c.requires (omega (arith, i.within, t)) (omega (arith, here, more, e)) in
@@ -30,7 +30,7 @@ pub loop-low-preserved : goal.loop-low-preserved
 loop-low-preserved c =
     let i = c.loop-low.invariant in
     let t = c.loop-low-test.true in
-    let here = ap (λ (x : EpochCells). x.epoch) c.index.ensures in
+    let here = ap (λ (x : EpochSetView). x.epoch) c.index.ensures in
     let less = gt-false c.epoch.result c.args.epoch (sym c.gt.ensures ∙ c.if-gt.false) in
     let e = c.epoch.ensures in
     let p = leading-stop c.args.epoch (c.loop-low.low + (c.loop-low.high - c.loop-low.low) / 2) c.index.result.now c.args.sets.now.items (omega (arith, i.within, t)) (omega (arith, here, less, e)) in

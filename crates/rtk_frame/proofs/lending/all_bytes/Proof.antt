@@ -39,7 +39,7 @@ use borrow.Rule.Slice.Handed.{sl_Share}
 use borrow.Table.Owned as owned
 use Rattle.std.proofs.raw_atomic.Walks.{proved, leaves}
 use Rattle.circular_buffer.specs.Buffer.{Buffer}
-use Rattle.rtk_frame.specs.Ring.{ring_row, with_bytes, EndsAs}
+use Rattle.rtk_frame.specs.Ring.{ring_row, with_bytes, RingEndsAs}
 use Rattle.rtk_frame.specs.contracts.lending.all_bytes as f
 use Rattle.rtk_frame.proofs.lending.all_bytes.Statement.{statement}
 use Rattle.rtk_frame.proofs.lending.all_bytes.Code as code
@@ -49,7 +49,7 @@ use Rattle.rtk_frame.proofs.lending.all_bytes_mut.Met.{met}
 abbrev stayed : Stays f.ended.signature.params f.ended.kept
 stayed = (stay_dropped (mut_ref_to (0 ∷ []) tt (plain (λ _. ring_row))) no, tt)
 
-ends : {M : Type 1} {𝓤 : Ura M} (𝓛 : Logic 𝓤) (s : MutBor (Buffer ℕ)) → ent 𝓤 (sem 𝓛 (fres s.ghost_name (ring_row.coded.code s.now))) (sem 𝓛 (EndsAs s s.now))
+ends : {M : Type 1} {𝓤 : Ura M} (𝓛 : Logic 𝓤) (s : MutBor (Buffer ℕ)) → ent 𝓤 (sem 𝓛 (fres s.ghost_name (ring_row.coded.code s.now))) (sem 𝓛 (RingEndsAs s s.now))
 unfolding such_by follows_by
 ends 𝓛 s = qed 𝓛 (‵ (fres s.ghost_name (ring_row.coded.code s.now)) ∷ []) ∵
     fpack ! ((t : (Buffer ℕ → Buffer ℕ) × Buffer ℕ) × ((w : Buffer ℕ) → Unit {0}) × (t.1 ≡ s.now)) (λ t. follows_by (Buffer ℕ) (Buffer ℕ) ring_row.coded.code ring_row.coded.code s.ghost_name none t.0.0 t.0.1) (((λ _. s.now), s.now), (λ w. tt), refl) $ done !
@@ -86,7 +86,7 @@ all_bytes_spec 𝓤 𝓛 𝓜 𝓡 wired =
     heard ! (r.now ≡ s.now.items) (λ value. heard ! (with_bytes s.now r.now ≡ s.now) (λ same.
     use2 𝓛 (‵ (fres s.ghost_name (ring_row.coded.code (with_bytes s.now r.now)))) (followed_slice 𝓛 ring_row u8 (with_bytes s.now) s.ghost_name r.ghost_name r.now) $
     rewrite ! 0 (λ (b : Buffer ℕ). ‵ (fres s.ghost_name (ring_row.coded.code b))) same refl $
-    use1 𝓛 (‵ (EndsAs s s.now)) (ends 𝓛 s) $
+    use1 𝓛 (‵ (RingEndsAs s s.now)) (ends 𝓛 s) $
     lands_as ! (ap only is) refl (tt, (tt, (record { fits = few }, tt))) $
     sets ! (addr ! (from ! (fld ! refl (hop ! (look_in_at ! 2 (sub ! 0 refl (whole !))) (stop !))))) refl (tt, tt) $
     sets ! (agg ! (and_then ! (get ! refl) (and_then ! (get_in ! (fld ! refl (stop !)) (sub ! 1 refl (whole !))) (no_more !)))) refl (tt, (tt, (record { fits = few }, tt))) $

@@ -1,6 +1,6 @@
 use Rattle.std.proofs.Common.{◌≡◌, ◌∙◌, ◌+◌, ◌*◌, ℕ, List, length, take, drop, arith, ap, sym, refl}
 use Rattle.std.proofs.lemmas.List.{take-append-drop}
-use Rattle.rtk_rinex.specs.Header.{site_of, header_text}
+use Rattle.rtk_rinex.specs.Header.{position_view, header_text}
 use Rattle.rtk_rinex.proofs.HeaderDigitsLemmas.{drop-exact}
 use Rattle.rtk_rinex.proofs.HeaderSameLemmas.{IsGood, length-header, lines_of}
 use Rattle.rtk_rinex.proofs.HeaderVerdictLemmas.{PartsAt, are_lines, parts_lines, parts_begin, parts_whole, parts_none, parts_next}
@@ -10,21 +10,21 @@ use Rattle.rtk_rinex.proofs.header_check.check_header.Goals.{in-Some-line_end, i
 pub returns-in_default-unlike_line-clause-size : goal.returns-in_default-unlike_line-clause-size
 returns-in_default-unlike_line-clause-size c =
     let r = c.shown-read.result in
-    let g : IsGood r.head (site_of r.position) r.first = record { heading = c.shown-read.ensures.good.0; site = c.shown-read.ensures.good.1; first = c.shown-read.ensures.good.2 } in
-    let long = length-header r.head (site_of r.position) r.first g in
+    let g : IsGood r.head (position_view r.position) r.first = record { heading = c.shown-read.ensures.good.0; site = c.shown-read.ensures.good.1; first = c.shown-read.ensures.good.2 } in
+    let long = length-header r.head (position_view r.position) r.first g in
     let lines : 13 + lines_of r.head ≡ r.lines = omega (arith, long, c.shown-read.ensures.size.0, c.shown-read.ensures.size.1) in
-    (sym c.shown-read.ensures.size.0, rw lines at (are_lines r.head (site_of r.position) r.first g))
+    (sym c.shown-read.ensures.size.0, rw lines at (are_lines r.head (position_view r.position) r.first g))
 
 header_is : (c : goal.Joined-line_end)
-    → c.split_at.result.1.now ≡ header_text c.shown-read.result.head (site_of c.shown-read.result.position) c.shown-read.result.first
+    → c.split_at.result.1.now ≡ header_text c.shown-read.result.head (position_view c.shown-read.result.position) c.shown-read.result.first
 header_is c =
     let r = c.shown-read.result in
-    let h = header_text r.head (site_of r.position) r.first in
+    let h = header_text r.head (position_view r.position) r.first in
     let start = length c.as_slice-start.result.now in
     c.split_at.ensures.back ∙ ap (λ (xs : List ℕ). drop start xs) (c.as_slice.ensures.value ∙ c.in-Ok.ensures)
     ∙ drop-exact start c.args.out.now.items h (ap length (sym c.as_slice-start.ensures.value))
 
-parts : (c : goal.Joined-line_end) → PartsAt c.args.text.now c.shown-read.result.head (site_of c.shown-read.result.position) c.shown-read.result.first c.in-Some.k
+parts : (c : goal.Joined-line_end) → PartsAt c.args.text.now c.shown-read.result.head (position_view c.shown-read.result.position) c.shown-read.result.first c.in-Some.k
 parts c =
     let e = rw (header_is c) at c.in-Some.ensures in
     record {
@@ -50,20 +50,20 @@ returns-clause-fault c =
             rw w.cause-is (
               take (81 * k) text,
               drop (81 * k) text,
-              parts_lines text r.head (site_of r.position) r.first k p,
+              parts_lines text r.head (position_view r.position) r.first k p,
               whole,
-              parts_begin text r.head (site_of r.position) r.first k p,
-              parts_whole text r.head (site_of r.position) r.first k p,
-              (_, _, rest.0, rest.1, parts_next text _ _ r.head (site_of r.position) r.first k p rest.0 rest.1),
+              parts_begin text r.head (position_view r.position) r.first k p,
+              parts_whole text r.head (position_view r.position) r.first k p,
+              (_, _, rest.0, rest.1, parts_next text _ _ r.head (position_view r.position) r.first k p rest.0 rest.1),
             )
         | in-None w ↦
             rw w.cause-is (
               take (81 * k) text,
               drop (81 * k) text,
-              parts_lines text r.head (site_of r.position) r.first k p,
+              parts_lines text r.head (position_view r.position) r.first k p,
               whole,
-              parts_begin text r.head (site_of r.position) r.first k p,
-              parts_whole text r.head (site_of r.position) r.first k p,
+              parts_begin text r.head (position_view r.position) r.first k p,
+              parts_whole text r.head (position_view r.position) r.first k p,
               (rw (c.split_at-2.ensures.back) at w.in-None.ensures),
             )
       ],
@@ -72,7 +72,7 @@ returns-clause-fault c =
 pub returns-clause-none : goal.returns-clause-none
 returns-clause-none c =
     let r = c.shown-read.result in
-    let none = parts_none c.args.text.now r.head (site_of r.position) r.first c.in-Some.k (parts c) in
+    let none = parts_none c.args.text.now r.head (position_view r.position) r.first c.in-Some.k (parts c) in
     elim c.match-line_end.branch [
       | in-Some-line_end w ↦ rw w.cause-is none
       | in-None w ↦ rw w.cause-is none

@@ -1,7 +1,7 @@
 use Rattle.std.proofs.Common.{◌≡◌, ◌<◌, List, arith, refl, sym, ap, ◌∙◌, subst, length, rules}
 use Rattle.rtk_obs.specs.declared.cell.CellEntry.{CellEntry}
 use Rattle.rtk_obs.specs.Cell.{IsInRange}
-use Rattle.rtk_collect.specs.EpochCells.{EpochCells, joined, fresh, conflicts}
+use Rattle.rtk_collect.specs.EpochSet.{EpochSetView, joined, fresh, conflicts}
 use Rattle.rtk_collect.proofs.RisingLemmas.{no-cells, alone}
 use Rattle.rtk_collect.proofs.CellsLemmas.{with_cells-rises, with_cells-all, with_cells-none}
 use Rattle.rtk_collect.proofs.epoch_set.EpochSet.join.Goals as goal
@@ -17,23 +17,23 @@ invariant_of-self-2 c = rw (c.merge-conflicts.ensures.items, c.reserve.ensures.i
 pub returns-in-Err-clause-refused : goal.returns-in-Err-clause-refused
 returns-in-Err-clause-refused c =
     let a = alone c.args.cells.now c.self.inside.cells.items (no-cells c.self.inside.cells.items _ c.self.inside.cells.ok.0 (sym c.is_empty.ensures ∙ c.if-is_empty.true)) (c.if-rises.ensures refl) in
-    subst (λ (s : EpochCells). 0 < fresh c.args.cells.now s.cells) c.self.view_is (omega (arith, c.in-Err.ensures.full, c.self.inside.cells.ok.1, a.fresh))
+    subst (λ (s : EpochSetView). 0 < fresh c.args.cells.now s.cells) c.self.view_is (omega (arith, c.in-Err.ensures.full, c.self.inside.cells.ok.1, a.fresh))
 
 pub returns-then-rises-clause-set : goal.returns-then-rises-clause-set
 returns-then-rises-clause-set c =
     let a = alone c.args.cells.now c.self.inside.cells.items (no-cells c.self.inside.cells.items _ c.self.inside.cells.ok.0 (sym c.is_empty.ensures ∙ c.if-is_empty.true)) (c.if-rises.ensures refl) in
-    subst (λ (s : EpochCells). record { epoch = c.self.inside.epoch; cells = c.extend_from_slice.new.self.items } ≡ joined c.args.cells.now s) c.self.view_is
+    subst (λ (s : EpochSetView). record { epoch = c.self.inside.epoch; cells = c.extend_from_slice.new.self.items } ≡ joined c.args.cells.now s) c.self.view_is
     (ap (λ (t : List CellEntry). record { epoch = c.self.inside.epoch; cells = t }) (c.in_default.ensures.items ∙ a.items))
 
 pub returns-then-rises-clause-fresh : goal.returns-then-rises-clause-fresh
 returns-then-rises-clause-fresh c =
     let a = alone c.args.cells.now c.self.inside.cells.items (no-cells c.self.inside.cells.items _ c.self.inside.cells.ok.0 (sym c.is_empty.ensures ∙ c.if-is_empty.true)) (c.if-rises.ensures refl) in
-    subst (λ (s : EpochCells). length c.args.cells.now ≡ fresh c.args.cells.now s.cells) c.self.view_is a.fresh
+    subst (λ (s : EpochSetView). length c.args.cells.now ≡ fresh c.args.cells.now s.cells) c.self.view_is a.fresh
 
 pub returns-then-rises-clause-conflicts : goal.returns-then-rises-clause-conflicts
 returns-then-rises-clause-conflicts c =
     let a = alone c.args.cells.now c.self.inside.cells.items (no-cells c.self.inside.cells.items _ c.self.inside.cells.ok.0 (sym c.is_empty.ensures ∙ c.if-is_empty.true)) (c.if-rises.ensures refl) in
-    subst (λ (s : EpochCells). c.new.result ≡ conflicts c.args.cells.now s.cells) c.self.view_is (c.new.ensures ∙ a.conflicts)
+    subst (λ (s : EpochSetView). c.new.result ≡ conflicts c.args.cells.now s.cells) c.self.view_is (c.new.ensures ∙ a.conflicts)
 
 -- no key is new
 
@@ -41,7 +41,7 @@ pub returns-then-fresh-eq0-clause-set : goal.returns-then-fresh-eq0-clause-set
 returns-then-fresh-eq0-clause-set c =
     let f = rw c.deref.ensures.value at c.compare-found.ensures.fresh in
     let none : fresh c.args.cells.now c.self.inside.cells.items ≡ 0 = omega (arith, f, c.if-fresh-eq0.true) in
-    subst (λ (s : EpochCells). s ≡ joined c.args.cells.now s) c.self.view_is
+    subst (λ (s : EpochSetView). s ≡ joined c.args.cells.now s) c.self.view_is
     (ap (λ (t : List CellEntry). record { epoch = c.self.inside.epoch; cells = t }) (sym (with_cells-none c.args.cells.now c.self.inside.cells.items c.self.invariant.0 none)))
 
 pub merge-conflicts-requires-clause-room : goal.merge-conflicts-requires-clause-room

@@ -1,8 +1,8 @@
 use Rattle.std.proofs.Common.{◌≤◌, refl, ap, ◌∙◌, subst, arith, length}
-use Rattle.rtk_collect.specs.declared.offers.Offer.TheVariants.{Taken, Late}
-use Rattle.rtk_collect.specs.Collector.{Window}
+use Rattle.rtk_collect.specs.declared.offer.Offer.TheVariants.{Taken, Late}
+use Rattle.rtk_collect.specs.Collector.{CollectorView}
 use Rattle.rtk_collect.specs.Accepted.{no_cells}
-use Rattle.rtk_collect.specs.Observed.{Observes, WouldTake}
+use Rattle.rtk_collect.specs.Observed.{AnswersCells, WouldTakeCells}
 use Rattle.rtk_collect.specs.Offered.{ClosesLeast, LeastNeverFalls}
 use Rattle.rtk_collect.proofs.JoinsLemmas.{leading-length}
 use Rattle.rtk_collect.proofs.OffersLemmas.{length-insert}
@@ -36,7 +36,7 @@ returns-then-has_epoch-clause-bound c = (into_held c).len
 
 pub returns-then-has_epoch-clause-answer : goal.returns-then-has_epoch-clause-answer
 returns-then-has_epoch-clause-answer c =
-    subst (λ (w : Window). Observes w c.args.epoch c.args.cells.now c.answer_of.result (record { size = c.self.inside.window; sets = c.join_at.new.sets.items; arp1005 = c.self.inside.stations.arp1005; arp1006 = c.self.inside.stations.arp1006 })) c.self.view_is (λ m k before h.
+    subst (λ (w : CollectorView). AnswersCells w c.args.epoch c.args.cells.now c.answer_of.result (record { size = c.self.inside.window; sets = c.join_at.new.sets.items; arp1005 = c.self.inside.stations.arp1005; arp1006 = c.self.inside.stations.arp1006 })) c.self.view_is (λ m k before h.
     let p = (into_held c).answer m k before h.sets in
     (p.0, record { sets = p.1; arp1005 = h.arp1005; arp1006 = h.arp1006 }))
 
@@ -45,15 +45,15 @@ returns-then-has_epoch-clause-closed c = (into_held c).below
 
 pub returns-then-has_epoch-clause-least_closes : goal.returns-then-has_epoch-clause-least_closes
 returns-then-has_epoch-clause-least_closes c =
-    subst (λ (w : Window). ClosesLeast w.size w.sets c.answer_of.result) c.self.view_is (into_held c).least_closes
+    subst (λ (w : CollectorView). ClosesLeast w.size w.sets c.answer_of.result) c.self.view_is (into_held c).least_closes
 
 pub returns-then-has_epoch-clause-least : goal.returns-then-has_epoch-clause-least
-returns-then-has_epoch-clause-least c = subst (λ (w : Window). LeastNeverFalls w (record { size = c.self.inside.window; sets = c.join_at.new.sets.items; arp1005 = c.self.inside.stations.arp1005; arp1006 = c.self.inside.stations.arp1006 })) c.self.view_is (into_held c).least
+returns-then-has_epoch-clause-least c = subst (λ (w : CollectorView). LeastNeverFalls w (record { size = c.self.inside.window; sets = c.join_at.new.sets.items; arp1005 = c.self.inside.stations.arp1005; arp1006 = c.self.inside.stations.arp1006 })) c.self.view_is (into_held c).least
 
 -- late
 
 pub returns-then-at-self-clause-answer : goal.returns-then-at-self-clause-answer
-returns-then-at-self-clause-answer c = subst (λ (w : Window). Observes w c.args.epoch c.args.cells.now Late w) c.self.view_is (λ m k before h.
+returns-then-at-self-clause-answer c = subst (λ (w : CollectorView). AnswersCells w c.args.epoch c.args.cells.now Late w) c.self.view_is (λ m k before h.
     let p = (late-branch c.self.inside.window c.args.epoch c.place-at.result c.args.cells.now c.self.inside.sets.items c.self.invariant.falls c.self.invariant.few c.place-at.ensures c.if-at-self.true).answer m k before h.sets in
     (p.0, record { sets = p.1; arp1005 = h.arp1005; arp1006 = h.arp1006 }))
 
@@ -83,7 +83,7 @@ returns-clause-bound c = (into_new c).len
 
 pub returns-clause-answer : goal.returns-clause-answer
 returns-clause-answer c =
-    subst (λ (w : Window). Observes w c.args.epoch c.args.cells.now (Taken c.close_least-closed.result c.in-Ok-open_at.conflicts) (record { size = c.self.inside.window; sets = c.close_least-closed.new.sets.items; arp1005 = c.self.inside.stations.arp1005; arp1006 = c.self.inside.stations.arp1006 })) c.self.view_is (λ m k before h.
+    subst (λ (w : CollectorView). AnswersCells w c.args.epoch c.args.cells.now (Taken c.close_least-closed.result c.in-Ok-open_at.conflicts) (record { size = c.self.inside.window; sets = c.close_least-closed.new.sets.items; arp1005 = c.self.inside.stations.arp1005; arp1006 = c.self.inside.stations.arp1006 })) c.self.view_is (λ m k before h.
     let p = (into_new c).answer m k before h.sets in
     (p.0, record { sets = p.1; arp1005 = h.arp1005; arp1006 = h.arp1006 }))
 
@@ -91,10 +91,10 @@ pub returns-clause-closed : goal.returns-clause-closed
 returns-clause-closed c = (into_new c).below
 
 pub returns-clause-least_closes : goal.returns-clause-least_closes
-returns-clause-least_closes c = subst (λ (w : Window). ClosesLeast w.size w.sets (Taken c.close_least-closed.result c.in-Ok-open_at.conflicts)) c.self.view_is (into_new c).least_closes
+returns-clause-least_closes c = subst (λ (w : CollectorView). ClosesLeast w.size w.sets (Taken c.close_least-closed.result c.in-Ok-open_at.conflicts)) c.self.view_is (into_new c).least_closes
 
 pub returns-clause-least : goal.returns-clause-least
-returns-clause-least c = subst (λ (w : Window). LeastNeverFalls w (record { size = c.self.inside.window; sets = c.close_least-closed.new.sets.items; arp1005 = c.self.inside.stations.arp1005; arp1006 = c.self.inside.stations.arp1006 })) c.self.view_is (into_new c).least
+returns-clause-least c = subst (λ (w : CollectorView). LeastNeverFalls w (record { size = c.self.inside.window; sets = c.close_least-closed.new.sets.items; arp1005 = c.self.inside.stations.arp1005; arp1006 = c.self.inside.stations.arp1006 })) c.self.view_is (into_new c).least
 
 -- memory is refused
 
@@ -102,12 +102,12 @@ pub returns-in_default-clause-refused : goal.returns-in_default-clause-refused
 returns-in_default-clause-refused c =
     let found = c.if-has_epoch.ensures.found refl in
     let d = no_cells 0 in
-    subst (λ (w : Window). WouldTake w c.args.epoch c.args.cells.now) c.self.view_is (λ m k before h.
+    subst (λ (w : CollectorView). WouldTakeCells w c.args.epoch c.args.cells.now) c.self.view_is (λ m k before h.
     fresh-taken c.self.inside.window c.args.epoch c.place-at.result c.args.cells.now d c.self.inside.sets.items c.self.invariant.few c.place-at.ensures found.0 (found.1 d) (c.in_default.ensures.refused d) m k before h.sets)
 
 pub returns-in_default-open_at-clause-refused : goal.returns-in_default-open_at-clause-refused
 returns-in_default-open_at-clause-refused c =
     let absent = c.if-has_epoch.ensures.absent refl in
     let d = no_cells 0 in
-    subst (λ (w : Window). WouldTake w c.args.epoch c.args.cells.now) c.self.view_is (λ m k before h.
+    subst (λ (w : CollectorView). WouldTakeCells w c.args.epoch c.args.cells.now) c.self.view_is (λ m k before h.
     new-taken c.self.inside.window c.args.epoch c.place-at.result c.args.cells.now d c.self.inside.sets.items c.self.invariant.falls c.self.invariant.few c.place-at.ensures c.if-at-self.false (λ l. absent l d) m k before h.sets)

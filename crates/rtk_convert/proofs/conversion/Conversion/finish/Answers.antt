@@ -1,13 +1,13 @@
 use Rattle.std.proofs.Common.{ℕ, Bool, List, Err, refl, sym, ap, subst, ◌∙◌}
 use Rattle.std.proofs.lemmas.Result.{err_from_is_err_and, IfErr-at_err}
-use Rattle.rtk_collect.specs.EpochCells.{EpochCells}
+use Rattle.rtk_collect.specs.EpochSet.{EpochSetView}
 use Rattle.rtk_frame.specs.Stream.{with_more, TakesPart}
-use Rattle.rtk_rinex.specs.Header.{site_of}
+use Rattle.rtk_rinex.specs.Header.{position_view}
 use Rattle.rtk_convert.specs.Failure.{IsOutFault}
 use Rattle.rtk_convert.specs.FilePrefix.{header_before}
-use Rattle.rtk_convert.specs.Finish.{AllAbove, Closes, ClosesInPart, Finishes, FinishesInPart}
+use Rattle.rtk_convert.specs.Finish.{AllAbove, ClosesEpochs, ClosesEpochsInPart, FinishesConversion, FinishesConversionInPart}
 use Rattle.rtk_convert.specs.ReportText.{count_lines}
-use Rattle.rtk_convert.specs.State.{State}
+use Rattle.rtk_convert.specs.Conversion.{ConversionView}
 use Rattle.rtk_convert.proofs.AheadLemmas.{ahead-all}
 use Rattle.rtk_convert.proofs.FinishLemmas.{finishes, finish-part-records, finish-part-header, finish-part-counts}
 use Rattle.rtk_convert.proofs.ArriveLemmas.{state}
@@ -17,40 +17,40 @@ use Rattle.rtk_convert.proofs.conversion.Conversion.finish.Goals as goal
 
 pub close_left-requires : goal.close_left-requires
 close_left-requires g c = record {
-  above = subst (λ (xs : List EpochCells). AllAbove c.self.inside.records xs) (sym c.close-left.ensures.sets)
+  above = subst (λ (xs : List EpochSetView). AllAbove c.self.inside.records xs) (sym c.close-left.ensures.sets)
       (ahead-all c.self.inside.collector c.self.inside.records (c.self.invariant.ahead c.if-self.false));
 }
 
 pub returns-in_err-close_left-clause-err : goal.returns-in_err-close_left-clause-err
 returns-in_err-close_left-clause-err g c =
-    on_err-from c.from_residual.result (λ going. subst (λ (x : State). FinishesInPart x (g.O.Sink.taken c.args.out.now) (g.O.Sink.taken c.close_left.new.out) (g.L.Sink.taken c.args.log.now) (g.L.Sink.taken c.args.log.now)) c.self.view_is
+    on_err-from c.from_residual.result (λ going. subst (λ (x : ConversionView). FinishesConversionInPart x (g.O.Sink.taken c.args.out.now) (g.O.Sink.taken c.close_left.new.out) (g.L.Sink.taken c.args.log.now) (g.L.Sink.taken c.args.log.now)) c.self.view_is
     (finish-part-records c.self.inside.setup c.self.inside.collector c.self.inside.records c.self.inside.counts c.self.inside.stopped c.station-position.result (g.O.Sink.taken c.args.out.now) (g.O.Sink.taken c.close_left.new.out) (g.L.Sink.taken c.args.log.now) c.self.invariant.places c.station-position.ensures.kept
-    (subst (λ (xs : List EpochCells). ClosesInPart c.self.inside.setup (site_of c.station-position.result) c.self.inside.records xs (g.O.Sink.taken c.args.out.now) (g.O.Sink.taken c.close_left.new.out)) c.close-left.ensures.sets c.in_err-close_left.ensures.err)))
+    (subst (λ (xs : List EpochSetView). ClosesEpochsInPart c.self.inside.setup (position_view c.station-position.result) c.self.inside.records xs (g.O.Sink.taken c.args.out.now) (g.O.Sink.taken c.close_left.new.out)) c.close-left.ensures.sets c.in_err-close_left.ensures.err)))
 
 pub returns-in_err-put_last_header-clause-err : goal.returns-in_err-put_last_header-clause-err
 returns-in_err-put_last_header-clause-err g c =
-    let closes = subst (λ (xs : List EpochCells). Closes c.self.inside.setup (site_of c.station-position.result) c.self.inside.records xs c.close_left.new.records (g.O.Sink.taken c.args.out.now) (g.O.Sink.taken c.close_left.new.out)) c.close-left.ensures.sets c.in_ok-close_left.ensures.ok in
-    on_err-from c.from_residual-in_err-put_last_header.result (λ going. subst (λ (x : State). FinishesInPart x (g.O.Sink.taken c.args.out.now) (g.O.Sink.taken c.put_last_header.new.out) (g.L.Sink.taken c.args.log.now) (g.L.Sink.taken c.args.log.now)) c.self.view_is
+    let closes = subst (λ (xs : List EpochSetView). ClosesEpochs c.self.inside.setup (position_view c.station-position.result) c.self.inside.records xs c.close_left.new.records (g.O.Sink.taken c.args.out.now) (g.O.Sink.taken c.close_left.new.out)) c.close-left.ensures.sets c.in_ok-close_left.ensures.ok in
+    on_err-from c.from_residual-in_err-put_last_header.result (λ going. subst (λ (x : ConversionView). FinishesConversionInPart x (g.O.Sink.taken c.args.out.now) (g.O.Sink.taken c.put_last_header.new.out) (g.L.Sink.taken c.args.log.now) (g.L.Sink.taken c.args.log.now)) c.self.view_is
     (finish-part-header c.self.inside.setup c.self.inside.collector c.self.inside.records c.close_left.new.records c.self.inside.counts c.self.inside.stopped c.station-position.result (g.O.Sink.taken c.args.out.now) (g.O.Sink.taken c.close_left.new.out) (g.O.Sink.taken c.put_last_header.new.out) (g.L.Sink.taken c.args.log.now) c.self.invariant.places c.station-position.ensures.kept closes
-    (subst (λ (b : Bool). TakesPart (g.O.Sink.taken c.close_left.new.out) (g.O.Sink.taken c.put_last_header.new.out) (header_before c.self.inside.setup (site_of c.station-position.result) c.self.inside.setup.near b)) c.header_out.ensures c.put_last_header.ensures.part)))
+    (subst (λ (b : Bool). TakesPart (g.O.Sink.taken c.close_left.new.out) (g.O.Sink.taken c.put_last_header.new.out) (header_before c.self.inside.setup (position_view c.station-position.result) c.self.inside.setup.near b)) c.header_out.ensures c.put_last_header.ensures.part)))
 
 pub returns-in_default-clause-err : goal.returns-in_default-clause-err
 returns-in_default-clause-err g c =
-    let closes = subst (λ (xs : List EpochCells). Closes c.self.inside.setup (site_of c.station-position.result) c.self.inside.records xs c.close_left.new.records (g.O.Sink.taken c.args.out.now) (g.O.Sink.taken c.close_left.new.out)) c.close-left.ensures.sets c.in_ok-close_left.ensures.ok in
-    λ going. subst (λ (x : State). FinishesInPart x (g.O.Sink.taken c.args.out.now) (g.O.Sink.taken c.put_last_header.new.out) (g.L.Sink.taken c.args.log.now) (g.L.Sink.taken c.args.log.now)) c.self.view_is
-    (finish-part-counts (state c.self.inside.setup c.self.inside.collector c.self.inside.records c.self.inside.counts c.self.inside.stopped) (record c.self.inside.counts { epochs = c.count.result }) (g.O.Sink.taken c.args.out.now) (g.O.Sink.taken c.put_last_header.new.out) (g.L.Sink.taken c.args.log.now) (g.L.Sink.taken c.args.log.now) (finishes c.self.inside.setup c.self.inside.collector c.self.inside.records c.close_left.new.records c.self.inside.counts (record c.self.inside.counts { epochs = c.count.result }) c.self.inside.stopped c.station-position.result (g.O.Sink.taken c.args.out.now) (g.O.Sink.taken c.close_left.new.out) (g.O.Sink.taken c.put_last_header.new.out) (g.L.Sink.taken c.args.log.now) (with_more (g.L.Sink.taken c.args.log.now) (count_lines (record c.self.inside.counts { epochs = c.count.result }))) c.self.invariant.places c.station-position.ensures.kept closes (c.in_ok-put_last_header.ensures.all ∙ ap (λ (b : Bool). with_more (g.O.Sink.taken c.close_left.new.out) (header_before c.self.inside.setup (site_of c.station-position.result) c.self.inside.setup.near b)) c.header_out.ensures) (ap (λ (n : ℕ). record c.self.inside.counts { epochs = n }) c.count.ensures) refl) (takes-none (g.L.Sink.taken c.args.log.now) (count_lines (record c.self.inside.counts { epochs = c.count.result }))))
+    let closes = subst (λ (xs : List EpochSetView). ClosesEpochs c.self.inside.setup (position_view c.station-position.result) c.self.inside.records xs c.close_left.new.records (g.O.Sink.taken c.args.out.now) (g.O.Sink.taken c.close_left.new.out)) c.close-left.ensures.sets c.in_ok-close_left.ensures.ok in
+    λ going. subst (λ (x : ConversionView). FinishesConversionInPart x (g.O.Sink.taken c.args.out.now) (g.O.Sink.taken c.put_last_header.new.out) (g.L.Sink.taken c.args.log.now) (g.L.Sink.taken c.args.log.now)) c.self.view_is
+    (finish-part-counts (state c.self.inside.setup c.self.inside.collector c.self.inside.records c.self.inside.counts c.self.inside.stopped) (record c.self.inside.counts { epochs = c.count.result }) (g.O.Sink.taken c.args.out.now) (g.O.Sink.taken c.put_last_header.new.out) (g.L.Sink.taken c.args.log.now) (g.L.Sink.taken c.args.log.now) (finishes c.self.inside.setup c.self.inside.collector c.self.inside.records c.close_left.new.records c.self.inside.counts (record c.self.inside.counts { epochs = c.count.result }) c.self.inside.stopped c.station-position.result (g.O.Sink.taken c.args.out.now) (g.O.Sink.taken c.close_left.new.out) (g.O.Sink.taken c.put_last_header.new.out) (g.L.Sink.taken c.args.log.now) (with_more (g.L.Sink.taken c.args.log.now) (count_lines (record c.self.inside.counts { epochs = c.count.result }))) c.self.invariant.places c.station-position.ensures.kept closes (c.in_ok-put_last_header.ensures.all ∙ ap (λ (b : Bool). with_more (g.O.Sink.taken c.close_left.new.out) (header_before c.self.inside.setup (position_view c.station-position.result) c.self.inside.setup.near b)) c.header_out.ensures) (ap (λ (n : ℕ). record c.self.inside.counts { epochs = n }) c.count.ensures) refl) (takes-none (g.L.Sink.taken c.args.log.now) (count_lines (record c.self.inside.counts { epochs = c.count.result }))))
 
 pub returns-clause-ok : goal.returns-clause-ok
 returns-clause-ok g c =
-    let closes = subst (λ (xs : List EpochCells). Closes c.self.inside.setup (site_of c.station-position.result) c.self.inside.records xs c.close_left.new.records (g.O.Sink.taken c.args.out.now) (g.O.Sink.taken c.close_left.new.out)) c.close-left.ensures.sets c.in_ok-close_left.ensures.ok in
-    subst (λ (x : State). Finishes x (record c.self.inside.counts { epochs = c.count.result }) (g.O.Sink.taken c.args.out.now) (g.O.Sink.taken c.put_last_header.new.out) (g.L.Sink.taken c.args.log.now) (g.L.Sink.taken c.put_lines.new.log)) c.self.view_is
-    (finishes c.self.inside.setup c.self.inside.collector c.self.inside.records c.close_left.new.records c.self.inside.counts (record c.self.inside.counts { epochs = c.count.result }) c.self.inside.stopped c.station-position.result (g.O.Sink.taken c.args.out.now) (g.O.Sink.taken c.close_left.new.out) (g.O.Sink.taken c.put_last_header.new.out) (g.L.Sink.taken c.args.log.now) (g.L.Sink.taken c.put_lines.new.log) c.self.invariant.places c.station-position.ensures.kept closes (c.in_ok-put_last_header.ensures.all ∙ ap (λ (b : Bool). with_more (g.O.Sink.taken c.close_left.new.out) (header_before c.self.inside.setup (site_of c.station-position.result) c.self.inside.setup.near b)) c.header_out.ensures) (ap (λ (n : ℕ). record c.self.inside.counts { epochs = n }) c.count.ensures) (c.in_ok-put_lines.ensures.all ∙ ap (with_more (g.L.Sink.taken c.args.log.now)) (c.deref.ensures.value ∙ c.in-Ok.ensures)))
+    let closes = subst (λ (xs : List EpochSetView). ClosesEpochs c.self.inside.setup (position_view c.station-position.result) c.self.inside.records xs c.close_left.new.records (g.O.Sink.taken c.args.out.now) (g.O.Sink.taken c.close_left.new.out)) c.close-left.ensures.sets c.in_ok-close_left.ensures.ok in
+    subst (λ (x : ConversionView). FinishesConversion x (record c.self.inside.counts { epochs = c.count.result }) (g.O.Sink.taken c.args.out.now) (g.O.Sink.taken c.put_last_header.new.out) (g.L.Sink.taken c.args.log.now) (g.L.Sink.taken c.put_lines.new.log)) c.self.view_is
+    (finishes c.self.inside.setup c.self.inside.collector c.self.inside.records c.close_left.new.records c.self.inside.counts (record c.self.inside.counts { epochs = c.count.result }) c.self.inside.stopped c.station-position.result (g.O.Sink.taken c.args.out.now) (g.O.Sink.taken c.close_left.new.out) (g.O.Sink.taken c.put_last_header.new.out) (g.L.Sink.taken c.args.log.now) (g.L.Sink.taken c.put_lines.new.log) c.self.invariant.places c.station-position.ensures.kept closes (c.in_ok-put_last_header.ensures.all ∙ ap (λ (b : Bool). with_more (g.O.Sink.taken c.close_left.new.out) (header_before c.self.inside.setup (position_view c.station-position.result) c.self.inside.setup.near b)) c.header_out.ensures) (ap (λ (n : ℕ). record c.self.inside.counts { epochs = n }) c.count.ensures) (c.in_ok-put_lines.ensures.all ∙ ap (with_more (g.L.Sink.taken c.args.log.now)) (c.deref.ensures.value ∙ c.in-Ok.ensures)))
 
 pub returns-in_err-put_lines-clause-err : goal.returns-in_err-put_lines-clause-err
 returns-in_err-put_lines-clause-err g c =
-    let closes = subst (λ (xs : List EpochCells). Closes c.self.inside.setup (site_of c.station-position.result) c.self.inside.records xs c.close_left.new.records (g.O.Sink.taken c.args.out.now) (g.O.Sink.taken c.close_left.new.out)) c.close-left.ensures.sets c.in_ok-close_left.ensures.ok in
-    on_err-from c.from_residual-in_err-put_lines.result (λ going. subst (λ (x : State). FinishesInPart x (g.O.Sink.taken c.args.out.now) (g.O.Sink.taken c.put_last_header.new.out) (g.L.Sink.taken c.args.log.now) (g.L.Sink.taken c.put_lines.new.log)) c.self.view_is
-    (finish-part-counts (state c.self.inside.setup c.self.inside.collector c.self.inside.records c.self.inside.counts c.self.inside.stopped) (record c.self.inside.counts { epochs = c.count.result }) (g.O.Sink.taken c.args.out.now) (g.O.Sink.taken c.put_last_header.new.out) (g.L.Sink.taken c.args.log.now) (g.L.Sink.taken c.put_lines.new.log) (finishes c.self.inside.setup c.self.inside.collector c.self.inside.records c.close_left.new.records c.self.inside.counts (record c.self.inside.counts { epochs = c.count.result }) c.self.inside.stopped c.station-position.result (g.O.Sink.taken c.args.out.now) (g.O.Sink.taken c.close_left.new.out) (g.O.Sink.taken c.put_last_header.new.out) (g.L.Sink.taken c.args.log.now) (with_more (g.L.Sink.taken c.args.log.now) (count_lines (record c.self.inside.counts { epochs = c.count.result }))) c.self.invariant.places c.station-position.ensures.kept closes (c.in_ok-put_last_header.ensures.all ∙ ap (λ (b : Bool). with_more (g.O.Sink.taken c.close_left.new.out) (header_before c.self.inside.setup (site_of c.station-position.result) c.self.inside.setup.near b)) c.header_out.ensures) (ap (λ (n : ℕ). record c.self.inside.counts { epochs = n }) c.count.ensures) refl) (subst (λ (t : List ℕ). TakesPart (g.L.Sink.taken c.args.log.now) (g.L.Sink.taken c.put_lines.new.log) t) (c.deref.ensures.value ∙ c.in-Ok.ensures) c.put_lines.ensures.part)))
+    let closes = subst (λ (xs : List EpochSetView). ClosesEpochs c.self.inside.setup (position_view c.station-position.result) c.self.inside.records xs c.close_left.new.records (g.O.Sink.taken c.args.out.now) (g.O.Sink.taken c.close_left.new.out)) c.close-left.ensures.sets c.in_ok-close_left.ensures.ok in
+    on_err-from c.from_residual-in_err-put_lines.result (λ going. subst (λ (x : ConversionView). FinishesConversionInPart x (g.O.Sink.taken c.args.out.now) (g.O.Sink.taken c.put_last_header.new.out) (g.L.Sink.taken c.args.log.now) (g.L.Sink.taken c.put_lines.new.log)) c.self.view_is
+    (finish-part-counts (state c.self.inside.setup c.self.inside.collector c.self.inside.records c.self.inside.counts c.self.inside.stopped) (record c.self.inside.counts { epochs = c.count.result }) (g.O.Sink.taken c.args.out.now) (g.O.Sink.taken c.put_last_header.new.out) (g.L.Sink.taken c.args.log.now) (g.L.Sink.taken c.put_lines.new.log) (finishes c.self.inside.setup c.self.inside.collector c.self.inside.records c.close_left.new.records c.self.inside.counts (record c.self.inside.counts { epochs = c.count.result }) c.self.inside.stopped c.station-position.result (g.O.Sink.taken c.args.out.now) (g.O.Sink.taken c.close_left.new.out) (g.O.Sink.taken c.put_last_header.new.out) (g.L.Sink.taken c.args.log.now) (with_more (g.L.Sink.taken c.args.log.now) (count_lines (record c.self.inside.counts { epochs = c.count.result }))) c.self.invariant.places c.station-position.ensures.kept closes (c.in_ok-put_last_header.ensures.all ∙ ap (λ (b : Bool). with_more (g.O.Sink.taken c.close_left.new.out) (header_before c.self.inside.setup (position_view c.station-position.result) c.self.inside.setup.near b)) c.header_out.ensures) (ap (λ (n : ℕ). record c.self.inside.counts { epochs = n }) c.count.ensures) refl) (subst (λ (t : List ℕ). TakesPart (g.L.Sink.taken c.args.log.now) (g.L.Sink.taken c.put_lines.new.log) t) (c.deref.ensures.value ∙ c.in-Ok.ensures) c.put_lines.ensures.part)))
 
 pub returns-in_err-close_left-clause-fault : goal.returns-in_err-close_left-clause-fault
 returns-in_err-close_left-clause-fault g c = λ going.

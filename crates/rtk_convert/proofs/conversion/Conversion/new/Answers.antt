@@ -1,12 +1,12 @@
 use Rattle.std.proofs.Common.{refl, ap, ◌∙◌}
-use Rattle.rtk_collect.specs.Collector.{Window}
+use Rattle.rtk_collect.specs.Collector.{CollectorView}
 use Rattle.rtk_convert.proofs.AheadLemmas.{ahead-none}
 use Rattle.rtk_convert.proofs.ArriveLemmas.{holds-new}
 use Rattle.rtk_convert.proofs.conversion.Conversion.new.Goals as goal
 
 pub invariant_of-result : goal.invariant_of-result
 invariant_of-result c = record {
-  places = ap (λ (w : Window). w.size) c.new-collector.ensures ∙ c.window.ensures.value;
+  places = ap (λ (w : CollectorView). w.size) c.new-collector.ensures ∙ c.window.ensures.value;
   ahead = λ going. ahead-none c.new-collector.result c.new-records.result (c.new-records.ensures.below 0);
 }
 

@@ -1,6 +1,6 @@
 use Rattle.std.proofs.lemmas.Grind.{common_steps}
 use Rattle.std.proofs.Common.{◌≡◌, ◌+◌, ℕ, length, None, suc, refl, sym, subst, ◌∙◌, arith}
-use Rattle.rtk_convert.specs.Converter.{ConverterState, refusal}
+use Rattle.rtk_convert.specs.Converter.{ConverterView, refusal}
 use Rattle.rtk_convert.proofs.ClosingLemmas.{ClosesSome, some-refused, none-given, closes-none, closes-past, closes-next, closes-off, closes-all}
 use Rattle.rtk_convert.proofs.WritingLemmas.{on_err-from}
 use Rattle.rtk_convert.proofs.converter.Converter.close_all.Goals as goal
@@ -59,5 +59,5 @@ returns-clause-ok g c =
     let test = c.links-test.false in
     let le = c.links.auto.link-end in
     let end : c.links.link ≡ c.len-link-end.result = grind (arith) in
-    let all : c.links.link ≡ length c.args.self.now.links = subst (λ (s : ConverterState). c.links.link ≡ length s.links) c.self.view_is (end ∙ len) in
+    let all : c.links.link ≡ length c.args.self.now.links = subst (λ (s : ConverterView). c.links.link ≡ length s.links) c.self.view_is (end ∙ len) in
     closes-all c.args.self.now c.links.self c.links.link (g.O.Sink.taken c.args.out.now) (g.O.Sink.taken c.links.out) (g.L.Sink.taken c.args.log.now) (g.L.Sink.taken c.links.log) all c.links.invariant.closed

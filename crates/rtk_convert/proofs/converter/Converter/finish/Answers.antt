@@ -1,7 +1,7 @@
 use Rattle.std.proofs.Common.{◌≡◌, false, sym, subst, ◌∙◌}
-use Rattle.rtk_convert.specs.Converter.{ConverterState, Ends}
+use Rattle.rtk_convert.specs.Converter.{ConverterView, FinishesConverter}
 use Rattle.rtk_convert.specs.Failure.{IsFrameFault}
-use Rattle.rtk_convert.specs.Finish.{Finishes, FinishesInPart}
+use Rattle.rtk_convert.specs.Finish.{FinishesConversion, FinishesConversionInPart}
 use Rattle.rtk_convert.proofs.ClosingLemmas.{ends, ends-part}
 use Rattle.rtk_convert.proofs.WritingLemmas.{on_ok-map, if_ok-map, if_err-map}
 use Rattle.rtk_convert.proofs.converter.Converter.finish.Goals as goal
@@ -9,20 +9,20 @@ use Rattle.rtk_convert.proofs.converter.Converter.finish.Goals as goal
 pub returns-clause-ok : goal.returns-clause-ok
 returns-clause-ok g c =
     if_ok-map c.finish.result
-    (λ counts. Finishes c.closing.inside.conversion counts (g.O.Sink.taken c.close_all.new.out) (g.O.Sink.taken c.finish.new.out) (g.L.Sink.taken c.close_all.new.log) (g.L.Sink.taken c.finish.new.log))
-    (λ counts. Ends c.args.self counts (g.O.Sink.taken c.args.out.now) (g.O.Sink.taken c.finish.new.out) (g.L.Sink.taken c.args.log.now) (g.L.Sink.taken c.finish.new.log))
+    (λ counts. FinishesConversion c.closing.inside.conversion counts (g.O.Sink.taken c.close_all.new.out) (g.O.Sink.taken c.finish.new.out) (g.L.Sink.taken c.close_all.new.log) (g.L.Sink.taken c.finish.new.log))
+    (λ counts. FinishesConverter c.args.self counts (g.O.Sink.taken c.args.out.now) (g.O.Sink.taken c.finish.new.out) (g.L.Sink.taken c.args.log.now) (g.L.Sink.taken c.finish.new.log))
     (λ counts f. ends c.args.self c.close_all.new.self counts (g.O.Sink.taken c.args.out.now) (g.O.Sink.taken c.close_all.new.out) (g.O.Sink.taken c.finish.new.out) (g.L.Sink.taken c.args.log.now) (g.L.Sink.taken c.close_all.new.log) (g.L.Sink.taken c.finish.new.log)
     c.in_ok-close_all.ensures.settings c.in_ok-close_all.ensures.ok
-    (subst (λ (s : ConverterState). Finishes s.conversion counts (g.O.Sink.taken c.close_all.new.out) (g.O.Sink.taken c.finish.new.out) (g.L.Sink.taken c.close_all.new.log) (g.L.Sink.taken c.finish.new.log)) c.closing.view_is f))
+    (subst (λ (s : ConverterView). FinishesConversion s.conversion counts (g.O.Sink.taken c.close_all.new.out) (g.O.Sink.taken c.finish.new.out) (g.L.Sink.taken c.close_all.new.log) (g.L.Sink.taken c.finish.new.log)) c.closing.view_is f))
     c.finish.ensures.ok
 
 pub returns-clause-err : goal.returns-clause-err
 returns-clause-err g c =
-    let going : c.closing.inside.conversion.stopped ≡ false = subst (λ (s : ConverterState). s.conversion.stopped ≡ false) (sym c.closing.view_is) c.in_ok-close_all.ensures.going in
+    let going : c.closing.inside.conversion.stopped ≡ false = subst (λ (s : ConverterView). s.conversion.stopped ≡ false) (sym c.closing.view_is) c.in_ok-close_all.ensures.going in
     if_err-map c.finish.result IsFrameFault
     (λ part. ends-part c.args.self c.close_all.new.self (g.O.Sink.taken c.args.out.now) (g.O.Sink.taken c.close_all.new.out) (g.O.Sink.taken c.finish.new.out) (g.L.Sink.taken c.args.log.now) (g.L.Sink.taken c.close_all.new.log) (g.L.Sink.taken c.finish.new.log)
     c.in_ok-close_all.ensures.settings c.in_ok-close_all.ensures.ok
-    (subst (λ (s : ConverterState). FinishesInPart s.conversion (g.O.Sink.taken c.close_all.new.out) (g.O.Sink.taken c.finish.new.out) (g.L.Sink.taken c.close_all.new.log) (g.L.Sink.taken c.finish.new.log)) c.closing.view_is (part going)))
+    (subst (λ (s : ConverterView). FinishesConversionInPart s.conversion (g.O.Sink.taken c.close_all.new.out) (g.O.Sink.taken c.finish.new.out) (g.L.Sink.taken c.close_all.new.log) (g.L.Sink.taken c.finish.new.log)) c.closing.view_is (part going)))
     c.finish.ensures.err
 
 pub returns-clause-out_same : goal.returns-clause-out_same

@@ -1,7 +1,7 @@
 use Rattle.std.proofs.Common.{◌≡◌, ◌≤◌, Bool, List, not, length, Some, refl, sym, subst}
 use Rattle.std.specs.Prelude.{slice_get, Decides}
 use Rattle.std.proofs.lemmas.Option.{slice_get_read}
-use Rattle.rtk_convert.specs.Converter.{ConverterState, Represents}
+use Rattle.rtk_convert.specs.Converter.{ConverterView, RepresentsHistory}
 use Rattle.rtk_convert.specs.History.{IsOpen}
 use Rattle.rtk_convert.specs.declared.link.Link.{Link}
 use Rattle.rtk_convert.proofs.ConverterLemmas.{decides-open, decides-none}
@@ -9,7 +9,7 @@ use Rattle.rtk_convert.proofs.converter.Converter.is_open.Goals as goal
 
 pub returns-in-Some : goal.returns-in-Some
 returns-in-Some c = λ h r.
-    let here = subst (λ (s : ConverterState). Represents s h) (sym c.self.view_is) r in
+    let here = subst (λ (s : ConverterView). RepresentsHistory s h) (sym c.self.view_is) r in
     let there : slice_get c.deref.result.now c.args.link ≡ Some c.in-Some.open.now =
     slice_get_read c.deref.result.now _ c.args.link c.in-Some.open.now refl c.in-Some.ensures.lookup.3.0 c.in-Some.ensures.lookup.1 in
     subst (λ (b : Bool). Decides (not b) (IsOpen h c.args.link)) (sym c.ended.ensures)
@@ -17,5 +17,5 @@ returns-in-Some c = λ h r.
 
 pub returns-in-None : goal.returns-in-None
 returns-in-None c = λ h r.
-    let here = subst (λ (s : ConverterState). Represents s h) (sym c.self.view_is) r in
+    let here = subst (λ (s : ConverterView). RepresentsHistory s h) (sym c.self.view_is) r in
     decides-none c.args.link c.self.inside.links.items h here.links (subst (λ (ls : List Link). length ls ≤ c.args.link) c.deref.ensures.value c.in-None.ensures.lookup.3)

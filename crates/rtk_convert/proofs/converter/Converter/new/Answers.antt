@@ -1,5 +1,5 @@
 use Rattle.std.proofs.Common.{subst, sym, List}
-use Rattle.rtk_convert.specs.Converter.{AreLinks}
+use Rattle.rtk_convert.specs.Converter.{RepresentLinks}
 use Rattle.rtk_convert.specs.History.{new_history}
 use Rattle.rtk_convert.specs.declared.link.Link.{Link}
 use Rattle.rtk_convert.proofs.ConverterLemmas.{links-new}
@@ -8,6 +8,6 @@ use Rattle.rtk_convert.proofs.converter.Converter.new.Goals as goal
 pub returns-clause-ok : goal.returns-clause-ok
 returns-clause-ok c = record {
   going = c.new.ensures.going;
-  links = subst (λ (ls : List Link). AreLinks ls (new_history c.args.links).links 0 (new_history c.args.links).found) (sym c.in_ok-links.ensures.new) (links-new c.args.links 0);
+  links = subst (λ (ls : List Link). RepresentLinks ls (new_history c.args.links).links 0 (new_history c.args.links).found) (sym c.in_ok-links.ensures.new) (links-new c.args.links 0);
   found = c.new.ensures.represents;
 }

@@ -21,15 +21,15 @@ frames-preserved g c =
     let s = finds-left c.args.self.now.scanner.pending c.frames.self.scanner.pending i.taken.0 c.in-Some.payload c.rest.follows.lender-at-none i.taken.1 (rw c.in-Some.is at holds.2) in
     record {
       going = c.in_ok-epoch.ensures.going;
-      settings = c.arrive.ensures.settings ∙ i.settings;
+      settings = c.accept_frame.ensures.settings ∙ i.settings;
       out_same = c.in_ok-epoch.ensures.out_same ∙ i.out_same;
       log_same = c.in_ok-epoch.ensures.log_same ∙ i.log_same;
       taken = (
         i.taken.0 ++ c.in-Some.payload.now ∷ [],
         s.taken,
-        gathers-more c.args.conversion.now c.frames.conversion c.arrive.new.self c.args.number i.taken.0 c.in-Some.payload.now c.in_ok-epoch.epoch c.args.self.now.newest c.frames.self.newest c.later-self.result
-            (g.O.Sink.taken c.args.out.now) (g.O.Sink.taken c.frames.out) (g.O.Sink.taken c.arrive.new.out)
-            (g.L.Sink.taken c.args.log.now) (g.L.Sink.taken c.frames.log) (g.L.Sink.taken c.arrive.new.log)
+        gathers-more c.args.conversion.now c.frames.conversion c.accept_frame.new.self c.args.number i.taken.0 c.in-Some.payload.now c.in_ok-epoch.epoch c.args.self.now.newest c.frames.self.newest c.later-self.result
+            (g.O.Sink.taken c.args.out.now) (g.O.Sink.taken c.frames.out) (g.O.Sink.taken c.accept_frame.new.out)
+            (g.L.Sink.taken c.args.log.now) (g.L.Sink.taken c.frames.log) (g.L.Sink.taken c.accept_frame.new.log)
             i.settings i.taken.2 c.in_ok-epoch.ensures.ok c.in_ok-epoch.ensures.epoch c.later-self.ensures,
       );
     }
@@ -40,8 +40,8 @@ returns-in_err-epoch-clause-err g c =
     let holds = c.rest.follows.holds-at-none in
     let s = finds-left c.args.self.now.scanner.pending c.frames.self.scanner.pending i.taken.0 c.in-Some.payload c.rest.follows.lender-at-none i.taken.1 (rw c.in-Some.is at holds.2) in
     on_err-from c.from_residual.result (breaks-off c.args.conversion.now c.frames.conversion c.args.number _ i.taken.0 _ c.in-Some.payload.now c.args.self.now.newest c.frames.self.newest
-    (g.O.Sink.taken c.args.out.now) (g.O.Sink.taken c.frames.out) (g.O.Sink.taken c.arrive.new.out)
-    (g.L.Sink.taken c.args.log.now) (g.L.Sink.taken c.frames.log) (g.L.Sink.taken c.arrive.new.log)
+    (g.O.Sink.taken c.args.out.now) (g.O.Sink.taken c.frames.out) (g.O.Sink.taken c.accept_frame.new.out)
+    (g.L.Sink.taken c.args.log.now) (g.L.Sink.taken c.frames.log) (g.L.Sink.taken c.accept_frame.new.log)
     i.settings s.split i.taken.2 (c.in_err-epoch.ensures.err i.going))
 
 pub returns-in_err-epoch-clause-fault : goal.returns-in_err-epoch-clause-fault

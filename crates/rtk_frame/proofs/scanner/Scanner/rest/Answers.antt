@@ -1,6 +1,6 @@
 use Rattle.std.proofs.Common.{◌≡◌, ◌≤◌, ◌+◌, ◌-◌, ℕ, List, length, take, drop, arith, length-take, length-drop, refl, sym, ◌∙◌, ap}
 use Rattle.rtk_frame.specs.Frame.{payload_of, payload_length}
-use Rattle.rtk_frame.specs.ScannerState.{Scan}
+use Rattle.rtk_frame.specs.ScannerView.{ScannerView}
 use Rattle.rtk_frame.proofs.Fronts.{frame_is_whole}
 use Rattle.rtk_frame.proofs.Passing.{searched_all, searched_found, searched_length}
 use Rattle.rtk_frame.proofs.scanner.Scanner.rest.Goals as goal
@@ -8,14 +8,14 @@ use Rattle.rtk_frame.proofs.scanner.Scanner.rest.Goals as goal
 pub returns-in-None : goal.returns-in-None
 returns-in-None c =
     let found = rw c.in-None.is at c.advance_ended.ensures.found in
-    let h : c.remove_front.new.ring.items ≡ c.args.self.now.pending = ap (λ b. b.items) c.remove_front.ensures ∙ ap (λ (s : Scan). s.pending) c.self.view_is in
+    let h : c.remove_front.new.ring.items ≡ c.args.self.now.pending = ap (λ b. b.items) c.remove_front.ensures ∙ ap (λ (s : ScannerView). s.pending) c.self.view_is in
     let searched = rw (h, found) at c.advance_ended.ensures.searched in
     ((refl, λ _. tt, (refl, c.advance_ended.ensures.capacity.1, (searched_all c.args.self.now.pending searched, found))), record { after = tt })
 
 pub returns-in-Some : goal.returns-in-Some
 returns-in-Some c =
     let found = rw c.in-Some.is at c.advance_ended.ensures.found in
-    let h : c.remove_front.new.ring.items ≡ c.args.self.now.pending = ap (λ b. b.items) c.remove_front.ensures ∙ ap (λ (s : Scan). s.pending) c.self.view_is in
+    let h : c.remove_front.new.ring.items ≡ c.args.self.now.pending = ap (λ b. b.items) c.remove_front.ensures ∙ ap (λ (s : ScannerView). s.pending) c.self.view_is in
     let items : List ℕ = c.advance_ended.new.ring.items in
     let searched = rw h at c.advance_ended.ensures.searched in
     let first = searched_found c.args.self.now.pending items searched found.0 in

@@ -1,0 +1,99 @@
+use Rattle.std.proofs.Common.{ℕ, List, Err, refl, sym, ap, subst, ◌∙◌}
+use Rattle.std.proofs.lemmas.Result.{err_from_is_err_and}
+use Rattle.rtk_frame.specs.Stream.{with_more, TakesPart}
+use Rattle.rtk_convert.specs.declared.frame_class.FrameClass.{FrameClass}
+use Rattle.rtk_convert.specs.FrameClass.{IsClassOfPayload}
+use Rattle.rtk_convert.specs.Report.{refused_line, one_frame_more}
+use Rattle.rtk_convert.specs.Conversion.{ConversionView, IsAhead, AcceptsFrame, BreaksOffAtFrame}
+use Rattle.rtk_convert.proofs.ArriveLemmas.{state, arrives-arrived, breaks-arrived, arrives-other, arrives-refused, breaks-refused}
+use Rattle.rtk_convert.proofs.WritingLemmas.{takes-none, on_err-from}
+use Rattle.rtk_convert.proofs.HandedLemmas.{one-fault, log-frame, log-out, log-kept}
+use Rattle.rtk_convert.proofs.conversion.Conversion.handle_payload.Goals as goal
+
+pub returns-in_default-clause-err : goal.returns-in_default-clause-err
+returns-in_default-clause-err g c =
+    let comes = subst (λ (f : FrameClass). IsClassOfPayload c.self.inside.setup c.args.payload.now f) c.in-Refused.is c.classify.ensures in
+    subst (λ (x : ConversionView). BreaksOffAtFrame x c.args.link c.args.payload.now (g.O.Sink.taken c.args.out.now) (g.O.Sink.taken c.args.out.now) (g.L.Sink.taken c.args.log.now) (g.L.Sink.taken c.args.log.now)) c.self.view_is (breaks-refused c.self.inside.setup c.self.inside.collector c.self.inside.records c.self.inside.counts c.self.inside.stopped c.args.link c.args.payload.now c.in-Refused.fault (g.O.Sink.taken c.args.out.now) (g.L.Sink.taken c.args.log.now) (g.L.Sink.taken c.args.log.now) comes (takes-none (g.L.Sink.taken c.args.log.now) (refused_line c.args.link c.in-Refused.fault)))
+
+pub returns-in-OtherMessage-clause-ok : goal.returns-in-OtherMessage-clause-ok
+returns-in-OtherMessage-clause-ok g c =
+    let comes = subst (λ (f : FrameClass). IsClassOfPayload c.self.inside.setup c.args.payload.now f) c.in-OtherMessage.is c.classify.ensures in
+    let counts = ap (λ (n : ℕ). record (record c.self.inside.counts { frames = n }) { other = c.saturating_add-self-inside-in-OtherMessage.result }) c.saturating_add-self-inside.ensures
+    ∙ ap (λ (n : ℕ). record (one_frame_more c.self.inside.counts) { other = n }) c.saturating_add-self-inside-in-OtherMessage.ensures in
+    subst (λ (x : ConversionView). AcceptsFrame x c.args.link c.args.payload.now (state c.self.inside.setup c.self.inside.collector c.self.inside.records (record (record c.self.inside.counts { frames = c.saturating_add-self-inside.result }) { other = c.saturating_add-self-inside-in-OtherMessage.result }) c.self.inside.stopped) (g.O.Sink.taken c.args.out.now) (g.O.Sink.taken c.args.out.now) (g.L.Sink.taken c.args.log.now) (g.L.Sink.taken c.args.log.now)) c.self.view_is (arrives-other c.self.inside.setup c.self.inside.collector c.self.inside.records c.self.inside.counts (record (record c.self.inside.counts { frames = c.saturating_add-self-inside.result }) { other = c.saturating_add-self-inside-in-OtherMessage.result }) c.self.inside.stopped c.self.inside.stopped c.args.link c.args.payload.now (g.O.Sink.taken c.args.out.now) (g.L.Sink.taken c.args.log.now) comes counts)
+
+pub returns-in_ok-put_lines-in-Refused-clause-ahead : goal.returns-in_ok-put_lines-in-Refused-clause-ahead
+returns-in_ok-put_lines-in-Refused-clause-ahead g c = subst (λ (x : ConversionView). IsAhead x.window x.closed) (sym c.self.view_is) c.requires.ahead
+
+pub returns-in_ok-put_lines-in-Refused-clause-ok : goal.returns-in_ok-put_lines-in-Refused-clause-ok
+returns-in_ok-put_lines-in-Refused-clause-ok g c =
+    let comes = subst (λ (f : FrameClass). IsClassOfPayload c.self.inside.setup c.args.payload.now f) c.in-Refused.is c.classify.ensures in
+    let counts = ap (λ (n : ℕ). record (record c.self.inside.counts { frames = n }) { refused = c.saturating_add-self-inside-in-Refused.result }) c.saturating_add-self-inside.ensures
+    ∙ ap (λ (n : ℕ). record (one_frame_more c.self.inside.counts) { refused = n }) c.saturating_add-self-inside-in-Refused.ensures in
+    subst (λ (x : ConversionView). AcceptsFrame x c.args.link c.args.payload.now (state c.self.inside.setup c.self.inside.collector c.self.inside.records (record (record c.self.inside.counts { frames = c.saturating_add-self-inside.result }) { refused = c.saturating_add-self-inside-in-Refused.result }) c.self.inside.stopped) (g.O.Sink.taken c.args.out.now) (g.O.Sink.taken c.args.out.now) (g.L.Sink.taken c.args.log.now) (g.L.Sink.taken c.put_lines.new.log)) c.self.view_is (arrives-refused c.self.inside.setup c.self.inside.collector c.self.inside.records c.self.inside.counts (record (record c.self.inside.counts { frames = c.saturating_add-self-inside.result }) { refused = c.saturating_add-self-inside-in-Refused.result }) c.self.inside.stopped c.self.inside.stopped c.args.link c.args.payload.now c.in-Refused.fault (g.O.Sink.taken c.args.out.now) (g.L.Sink.taken c.args.log.now) (g.L.Sink.taken c.put_lines.new.log) comes counts (c.in_ok-put_lines-in-Refused.ensures.all ∙ ap (with_more (g.L.Sink.taken c.args.log.now)) (c.deref.ensures.value ∙ c.in-Ok.ensures)))
+
+pub returns-in_err-put_lines-in-Refused-clause-err : goal.returns-in_err-put_lines-in-Refused-clause-err
+returns-in_err-put_lines-in-Refused-clause-err g c =
+    let comes = subst (λ (f : FrameClass). IsClassOfPayload c.self.inside.setup c.args.payload.now f) c.in-Refused.is c.classify.ensures in
+    on_err-from c.from_residual.result (subst (λ (x : ConversionView). BreaksOffAtFrame x c.args.link c.args.payload.now (g.O.Sink.taken c.args.out.now) (g.O.Sink.taken c.args.out.now) (g.L.Sink.taken c.args.log.now) (g.L.Sink.taken c.put_lines.new.log)) c.self.view_is (breaks-refused c.self.inside.setup c.self.inside.collector c.self.inside.records c.self.inside.counts c.self.inside.stopped c.args.link c.args.payload.now c.in-Refused.fault (g.O.Sink.taken c.args.out.now) (g.L.Sink.taken c.args.log.now) (g.L.Sink.taken c.put_lines.new.log) comes (subst (λ (t : List ℕ). TakesPart (g.L.Sink.taken c.args.log.now) (g.L.Sink.taken c.put_lines.new.log) t) (c.deref.ensures.value ∙ c.in-Ok.ensures) c.put_lines.ensures.part)))
+
+pub returns-in_ok-handle_message-in-Dated-clause-ok : goal.returns-in_ok-handle_message-in-Dated-clause-ok
+returns-in_ok-handle_message-in-Dated-clause-ok g c =
+    let comes = subst (λ (f : FrameClass). IsClassOfPayload c.self.inside.setup c.args.payload.now f) c.in-Dated.is c.classify.ensures in
+    subst (λ (x : ConversionView). AcceptsFrame x c.args.link c.args.payload.now c.handle_message.new.self (g.O.Sink.taken c.args.out.now) (g.O.Sink.taken c.handle_message.new.out) (g.L.Sink.taken c.args.log.now) (g.L.Sink.taken c.handle_message.new.log)) c.self.view_is (arrives-arrived c.self.inside.setup c.self.inside.collector c.self.inside.records c.handle_message.new.self c.self.inside.counts (record c.self.inside.counts { frames = c.saturating_add-self-inside.result }) c.self.inside.stopped c.self.inside.stopped c.args.link c.args.payload.now c.in-Dated.dated (g.O.Sink.taken c.args.out.now) (g.O.Sink.taken c.handle_message.new.out) (g.L.Sink.taken c.args.log.now) (g.L.Sink.taken c.handle_message.new.log) comes (ap (λ (n : ℕ). record c.self.inside.counts { frames = n }) c.saturating_add-self-inside.ensures) c.handle_message.ensures.settings c.in_ok-handle_message-in-Dated.ensures.ok)
+
+pub returns-in_err-handle_message-in-Dated-clause-err : goal.returns-in_err-handle_message-in-Dated-clause-err
+returns-in_err-handle_message-in-Dated-clause-err g c =
+    let comes = subst (λ (f : FrameClass). IsClassOfPayload c.self.inside.setup c.args.payload.now f) c.in-Dated.is c.classify.ensures in
+    on_err-from c.from_residual-in_err-handle_message-in-Dated.result (subst (λ (x : ConversionView). BreaksOffAtFrame x c.args.link c.args.payload.now (g.O.Sink.taken c.args.out.now) (g.O.Sink.taken c.handle_message.new.out) (g.L.Sink.taken c.args.log.now) (g.L.Sink.taken c.handle_message.new.log)) c.self.view_is (breaks-arrived c.self.inside.setup c.self.inside.collector c.self.inside.records c.self.inside.counts (record c.self.inside.counts { frames = c.saturating_add-self-inside.result }) c.self.inside.stopped c.self.inside.stopped c.args.link c.args.payload.now c.in-Dated.dated (g.O.Sink.taken c.args.out.now) (g.O.Sink.taken c.handle_message.new.out) (g.L.Sink.taken c.args.log.now) (g.L.Sink.taken c.handle_message.new.log) comes c.in_err-handle_message-in-Dated.ensures.err))
+
+pub returns-in-OtherMessage-clause-ahead : goal.returns-in-OtherMessage-clause-ahead
+returns-in-OtherMessage-clause-ahead g c = subst (λ (x : ConversionView). IsAhead x.window x.closed) (sym c.self.view_is) c.requires.ahead
+
+pub returns-in_err-put_lines-in-Refused-clause-fault : goal.returns-in_err-put_lines-in-Refused-clause-fault
+returns-in_err-put_lines-in-Refused-clause-fault g c =
+    let p = err_from_is_err_and c.from_residual.result c.from_residual.ensures.1 in
+    log-frame c.from_residual.result (rw (p.1, p.2) c.in_err-put_lines-in-Refused.ensures.fault)
+
+pub returns-in_err-put_lines-in-Refused-clause-out_failed : goal.returns-in_err-put_lines-in-Refused-clause-out_failed
+returns-in_err-put_lines-in-Refused-clause-out_failed g c = λ is.
+    let p = err_from_is_err_and c.from_residual.result c.from_residual.ensures.1 in
+    log-out c.from_residual.result (rw (p.1, p.2) c.in_err-put_lines-in-Refused.ensures.fault) is
+
+pub returns-in_err-put_lines-in-Refused-clause-out_kept : goal.returns-in_err-put_lines-in-Refused-clause-out_kept
+returns-in_err-put_lines-in-Refused-clause-out_kept g c =
+    let p = err_from_is_err_and c.from_residual.result c.from_residual.ensures.1 in
+    rw p.1 (λ other. refl)
+
+pub returns-in_err-put_lines-in-Refused-clause-log_failed : goal.returns-in_err-put_lines-in-Refused-clause-log_failed
+returns-in_err-put_lines-in-Refused-clause-log_failed g c = λ is. c.in_err-put_lines-in-Refused.ensures.failed
+
+pub returns-in_err-put_lines-in-Refused-clause-log_kept : goal.returns-in_err-put_lines-in-Refused-clause-log_kept
+returns-in_err-put_lines-in-Refused-clause-log_kept g c =
+    let p = err_from_is_err_and c.from_residual.result c.from_residual.ensures.1 in
+    log-kept c.from_residual.result _ (rw (p.1, p.2) c.in_err-put_lines-in-Refused.ensures.fault)
+
+pub returns-in_err-handle_message-in-Dated-clause-fault : goal.returns-in_err-handle_message-in-Dated-clause-fault
+returns-in_err-handle_message-in-Dated-clause-fault g c =
+    let p = err_from_is_err_and c.from_residual-in_err-handle_message-in-Dated.result c.from_residual-in_err-handle_message-in-Dated.ensures.1 in
+    rw (p.1, p.2) c.in_err-handle_message-in-Dated.ensures.fault
+
+pub returns-in_err-handle_message-in-Dated-clause-out_failed : goal.returns-in_err-handle_message-in-Dated-clause-out_failed
+returns-in_err-handle_message-in-Dated-clause-out_failed g c = λ is.
+    let p = err_from_is_err_and c.from_residual-in_err-handle_message-in-Dated.result c.from_residual-in_err-handle_message-in-Dated.ensures.1 in
+    c.in_err-handle_message-in-Dated.ensures.out_failed (ap Err (one-fault (p.1 ∙ ap Err p.2) is))
+
+pub returns-in_err-handle_message-in-Dated-clause-out_kept : goal.returns-in_err-handle_message-in-Dated-clause-out_kept
+returns-in_err-handle_message-in-Dated-clause-out_kept g c =
+    let p = err_from_is_err_and c.from_residual-in_err-handle_message-in-Dated.result c.from_residual-in_err-handle_message-in-Dated.ensures.1 in
+    rw (p.1, p.2) c.in_err-handle_message-in-Dated.ensures.out_kept
+
+pub returns-in_err-handle_message-in-Dated-clause-log_failed : goal.returns-in_err-handle_message-in-Dated-clause-log_failed
+returns-in_err-handle_message-in-Dated-clause-log_failed g c = λ is.
+    let p = err_from_is_err_and c.from_residual-in_err-handle_message-in-Dated.result c.from_residual-in_err-handle_message-in-Dated.ensures.1 in
+    c.in_err-handle_message-in-Dated.ensures.log_failed (ap Err (one-fault (p.1 ∙ ap Err p.2) is))
+
+pub returns-in_err-handle_message-in-Dated-clause-log_kept : goal.returns-in_err-handle_message-in-Dated-clause-log_kept
+returns-in_err-handle_message-in-Dated-clause-log_kept g c =
+    let p = err_from_is_err_and c.from_residual-in_err-handle_message-in-Dated.result c.from_residual-in_err-handle_message-in-Dated.ensures.1 in
+    rw (p.1, p.2) c.in_err-handle_message-in-Dated.ensures.log_kept

@@ -1,0 +1,15 @@
+use Rattle.std.proofs.Common.{◌≡◌, length}
+use Rattle.rtk_rinex.specs.Header.{position_view}
+use Rattle.rtk_convert.specs.Finish.{AllAbove}
+use Rattle.rtk_convert.proofs.FinishLemmas.{SomeClosed}
+use Rattle.rtk_convert.proofs.records.close_left.Given as goal
+
+abbrev pub invariant-left : goal.invariant-left
+invariant-left g l = record {
+  some : SomeClosed l.fn.setup (position_view l.fn.position) l.fn.left.sets l.left.sets l.fn.records l.records (g.O.Sink.taken l.fn.out) (g.O.Sink.taken l.out);
+  above : AllAbove l.records l.left.sets;
+  failures : g.O.Sink.failures l.out ≡ g.O.Sink.failures l.fn.out;
+}
+
+abbrev pub decreases-left : goal.decreases-left
+decreases-left g l = length l.left.sets

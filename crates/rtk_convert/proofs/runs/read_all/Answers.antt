@@ -1,0 +1,154 @@
+use Rattle.std.proofs.Common.{ℕ, ◌+◌, inl, [], ◌∷◌, length, Err, refl, sym, ap, subst, ◌∙◌, arith, rules}
+use Rattle.std.proofs.lemmas.Result.{err_from_is_err_and, IfErr-at_err}
+use Rattle.rtk_convert.specs.Failure.{IsReadFault}
+use Rattle.rtk_convert.specs.History.{new_history, IsNextLink}
+use Rattle.rtk_convert.specs.ReadSteps.{read_of, ReadsLink, BreaksOffAfterRead, HasCalled}
+use Rattle.rtk_convert.specs.Setup.{SetupView}
+use Rattle.rtk_convert.proofs.EndsLemmas.{ends-new, ends-more, has-read-all}
+use Rattle.rtk_convert.proofs.NextLemmas.{are_links-length}
+use Rattle.rtk_convert.proofs.ReadLemmas.{called-more}
+use Rattle.rtk_convert.proofs.RunLemmas.{length-links, has_read-nothing, has_read-more, breaks-reading, fails-reading, read-reading}
+use Rattle.rtk_convert.proofs.runs.read_all.Goals as goal
+
+pub reads-init : goal.reads-init
+reads-init g c = record {
+  so_far = ([], new_history (length c.args.readers.now), has_read-nothing g.R.Source.given c.args.converter.now.conversion.settings c.args.readers.now (g.O.Sink.taken c.args.out.now) (g.L.Sink.taken c.args.log.now), c.requires.fresh, refl, ends-new g.R.Source.is_at_end c.args.readers.now);
+  settings = refl;
+  room = refl;
+  made = omega arith;
+  called = inl (omega arith);
+  reads_same = λ k none. refl;
+  out_same = refl;
+  log_same = refl;
+}
+
+pub read_link-requires-clause-link : goal.read_link-requires-clause-link
+read_link-requires-clause-link g c =
+    let so = c.reads.invariant.so_far in
+    let a = are_links-length c.reads.converter.links so.1.links 0 so.1.found so.3.links in
+    let b = length-links c.args.converter.now.conversion.settings (length c.args.readers.now) so.0 so.1 so.2.comes_to in
+    let d = so.2.gave.as_many in
+    let lt = c.in-Some.ensures.within in
+    omega (arith, a, b, d, lt)
+
+pub returns-in_err-read_link-clause-err : goal.returns-in_err-read_link-clause-err
+returns-in_err-read_link-clause-err g c =
+    let p = err_from_is_err_and c.from_residual.result c.from_residual.ensures.1 in
+    rw (p.1, p.2) (λ frame.
+    let so = c.reads.invariant.so_far in
+    breaks-reading g.R.Source.given g.R.Source.calls c.args.converter.now.conversion.settings so.1 c.in-Some.link c.args.readers.now c.reads.readers c.read_link.new.readers so.0
+    (g.O.Sink.taken c.args.out.now) (g.O.Sink.taken c.reads.out) (g.O.Sink.taken c.read_link.new.out) (g.L.Sink.taken c.args.log.now) (g.L.Sink.taken c.reads.log) (g.L.Sink.taken c.read_link.new.log)
+    so.2 (c.in-Some.ensures.next so.1 so.3)
+    (subst (λ (s : SetupView). BreaksOffAfterRead g.R.Source.given s so.1 c.in-Some.link c.reads.readers c.read_link.new.readers (g.O.Sink.taken c.reads.out) (g.O.Sink.taken c.read_link.new.out) (g.L.Sink.taken c.reads.log) (g.L.Sink.taken c.read_link.new.log)) c.reads.invariant.settings (c.in_err-read_link.ensures.err frame so.1 so.3))
+    (subst (λ (n : ℕ). HasCalled g.R.Source.calls c.args.readers.now c.read_link.new.readers (n + 1)) (sym so.4)
+    (called-more g.R.Source.calls c.args.readers.now c.reads.readers c.read_link.new.readers c.reads._made c.reads.invariant.called c.read_link.ensures.full c.read_link.ensures.called)))
+
+pub returns-in_err-read_link-clause-read_failed : goal.returns-in_err-read_link-clause-read_failed
+returns-in_err-read_link-clause-read_failed g c = λ link is_read.
+    let p = err_from_is_err_and c.from_residual.result c.from_residual.ensures.1 in
+    let so = c.reads.invariant.so_far in
+    let n = c.in-Some.ensures.next so.1 so.3 in
+    let both = c.in_err-read_link.ensures.read_failed so.1 so.3 n.is_open link (sym (p.1 ∙ ap Err p.2) ∙ is_read) in
+    fails-reading g.R.Source.given g.R.Source.failures g.R.Source.calls c.args.converter.now.conversion.settings so.1 link c.args.readers.now c.reads.readers c.read_link.new.readers so.0
+    (g.O.Sink.taken c.args.out.now) (g.O.Sink.taken c.reads.out) (g.O.Sink.taken c.read_link.new.out) (g.L.Sink.taken c.args.log.now) (g.L.Sink.taken c.reads.log) (g.L.Sink.taken c.read_link.new.log)
+    so.2 (subst (λ (k : ℕ). IsNextLink so.1 k) (sym both.0) n) c.reads.invariant.reads_same both.1
+    (subst (λ (n : ℕ). HasCalled g.R.Source.calls c.args.readers.now c.read_link.new.readers (n + 1)) (sym so.4)
+    (called-more g.R.Source.calls c.args.readers.now c.reads.readers c.read_link.new.readers c.reads._made c.reads.invariant.called c.read_link.ensures.full c.read_link.ensures.called))
+
+pub reads-preserved : goal.reads-preserved
+reads-preserved g c =
+    let so = c.reads.invariant.so_far in
+    let p : ReadsLink g.R.Source.given g.R.Source.is_at_end c.args.converter.now.conversion.settings so.1 c.in-Some.link c.reads.readers c.read_link.new.readers c.read_link.new.converter (g.O.Sink.taken c.reads.out) (g.O.Sink.taken c.read_link.new.out) (g.L.Sink.taken c.reads.log) (g.L.Sink.taken c.read_link.new.log) =
+    subst (λ (s : SetupView). ReadsLink g.R.Source.given g.R.Source.is_at_end s so.1 c.in-Some.link c.reads.readers c.read_link.new.readers c.read_link.new.converter (g.O.Sink.taken c.reads.out) (g.O.Sink.taken c.read_link.new.out) (g.L.Sink.taken c.reads.log) (g.L.Sink.taken c.read_link.new.log)) c.reads.invariant.settings
+    (c.in_ok-read_link.ensures.ok so.1 so.3 (c.in-Some.ensures.next so.1 so.3)) in
+    record {
+      so_far = (
+        read_of c.in-Some.link p.piece ∷ so.0,
+        p.next,
+        has_read-more g.R.Source.given g.R.Source.is_at_end c.args.converter.now.conversion.settings so.1 c.in-Some.link c.args.readers.now c.reads.readers c.read_link.new.readers so.0 c.read_link.new.converter
+            (g.O.Sink.taken c.args.out.now) (g.O.Sink.taken c.reads.out) (g.O.Sink.taken c.read_link.new.out) (g.L.Sink.taken c.args.log.now) (g.L.Sink.taken c.reads.log) (g.L.Sink.taken c.read_link.new.log) so.2 p,
+        p.represents,
+        (let made = so.4 in omega (arith, made)),
+        ends-more g.R.Source.given g.R.Source.is_at_end c.args.converter.now.conversion.settings so.1 c.in-Some.link c.reads.readers c.read_link.new.readers c.read_link.new.converter
+            (g.O.Sink.taken c.reads.out) (g.O.Sink.taken c.read_link.new.out) (g.L.Sink.taken c.reads.log) (g.L.Sink.taken c.read_link.new.log) p so.5,
+      );
+      settings = c.read_link.ensures.settings ∙ c.reads.invariant.settings;
+      room = c.read_link.auto.buf ∙ c.reads.invariant.room;
+      made = let one = c.read_link.ensures.reads in let all = c.reads.invariant.made in omega (arith, one, all);
+      called = called-more g.R.Source.calls c.args.readers.now c.reads.readers c.read_link.new.readers c.reads._made c.reads.invariant.called c.read_link.ensures.full c.read_link.ensures.called;
+      reads_same = λ k none. c.in_ok-read_link.ensures.no_failed_read (λ link e. cc) k none ∙ c.reads.invariant.reads_same k none;
+      out_same = c.in_ok-read_link.ensures.out_same ∙ c.reads.invariant.out_same;
+      log_same = c.in_ok-read_link.ensures.log_same ∙ c.reads.invariant.log_same;
+    }
+
+pub returns-in_default-clause-ok : goal.returns-in_default-clause-ok
+returns-in_default-clause-ok g c =
+    let so = c.reads.invariant.so_far in
+    has-read-all g.R.Source.given g.R.Source.calls g.R.Source.is_at_end c.args.converter.now.conversion.settings c.args.readers.now c.reads.readers so.0 so.1 c.reads._made c.reads.converter
+    (g.O.Sink.taken c.args.out.now) (g.O.Sink.taken c.reads.out) (g.L.Sink.taken c.args.log.now) (g.L.Sink.taken c.reads.log) so.2 so.3 so.4 so.5 c.reads.invariant.called (c.in_default.ensures.next so.1 so.3)
+
+pub returns-in-None-clause-ok : goal.returns-in-None-clause-ok
+returns-in-None-clause-ok g c =
+    let so = c.reads.invariant.so_far in
+    has-read-all g.R.Source.given g.R.Source.calls g.R.Source.is_at_end c.args.converter.now.conversion.settings c.args.readers.now c.reads.readers so.0 so.1 c.reads._made c.reads.converter
+    (g.O.Sink.taken c.args.out.now) (g.O.Sink.taken c.reads.out) (g.L.Sink.taken c.args.log.now) (g.L.Sink.taken c.reads.log) so.2 so.3 so.4 so.5 c.reads.invariant.called (c.in-None.ensures.next so.1 so.3)
+
+pub returns-in_err-read_link-clause-settings : goal.returns-in_err-read_link-clause-settings
+returns-in_err-read_link-clause-settings g c = c.read_link.ensures.settings ∙ c.reads.invariant.settings
+
+pub returns-in_err-read_link-clause-ok : goal.returns-in_err-read_link-clause-ok
+returns-in_err-read_link-clause-ok g c =
+    let p = err_from_is_err_and c.from_residual.result c.from_residual.ensures.1 in
+    rw p.1 tt
+
+pub returns-in_err-read_link-clause-endless : goal.returns-in_err-read_link-clause-endless
+returns-in_err-read_link-clause-endless g c = λ is_endless.
+    let p = err_from_is_err_and c.from_residual.result c.from_residual.ensures.1 in
+    let so = c.reads.invariant.so_far in
+    let n = c.in-Some.ensures.next so.1 so.3 in
+    absurd (IfErr-at_err IsReadFault is_endless (rw (p.1, p.2) (c.in_err-read_link.ensures.fault so.1 so.3 n.is_open)))
+
+pub returns-in_err-read_link-clause-fault : goal.returns-in_err-read_link-clause-fault
+returns-in_err-read_link-clause-fault g c =
+    let p = err_from_is_err_and c.from_residual.result c.from_residual.ensures.1 in
+    let so = c.reads.invariant.so_far in
+    let n = c.in-Some.ensures.next so.1 so.3 in
+    rw (p.1, p.2) (read-reading _ (c.in_err-read_link.ensures.fault so.1 so.3 n.is_open))
+
+pub returns-in_err-read_link-clause-no_failed_read : goal.returns-in_err-read_link-clause-no_failed_read
+returns-in_err-read_link-clause-no_failed_read g c = λ none k same.
+    let p = err_from_is_err_and c.from_residual.result c.from_residual.ensures.1 in
+    c.in_err-read_link.ensures.no_failed_read (λ link is. none link (p.1 ∙ ap Err p.2 ∙ is)) k same ∙ c.reads.invariant.reads_same k same
+
+pub returns-in_err-read_link-clause-out_failed : goal.returns-in_err-read_link-clause-out_failed
+returns-in_err-read_link-clause-out_failed g c = λ is.
+    let p = err_from_is_err_and c.from_residual.result c.from_residual.ensures.1 in
+    rw (← c.reads.invariant.out_same) (c.in_err-read_link.ensures.out_failed (sym (p.1 ∙ ap Err p.2) ∙ is))
+
+pub returns-in_err-read_link-clause-out_kept : goal.returns-in_err-read_link-clause-out_kept
+returns-in_err-read_link-clause-out_kept g c =
+    let p = err_from_is_err_and c.from_residual.result c.from_residual.ensures.1 in
+    rw (p.1, p.2) (λ other. c.in_err-read_link.ensures.out_kept other ∙ c.reads.invariant.out_same)
+
+pub returns-in_err-read_link-clause-log_failed : goal.returns-in_err-read_link-clause-log_failed
+returns-in_err-read_link-clause-log_failed g c = λ is.
+    let p = err_from_is_err_and c.from_residual.result c.from_residual.ensures.1 in
+    rw (← c.reads.invariant.log_same) (c.in_err-read_link.ensures.log_failed (sym (p.1 ∙ ap Err p.2) ∙ is))
+
+pub returns-in_err-read_link-clause-log_kept : goal.returns-in_err-read_link-clause-log_kept
+returns-in_err-read_link-clause-log_kept g c =
+    let p = err_from_is_err_and c.from_residual.result c.from_residual.ensures.1 in
+    rw (p.1, p.2) (λ other. c.in_err-read_link.ensures.log_kept other ∙ c.reads.invariant.log_same)
+
+pub returns-in_err-read_link-clause-out_same : goal.returns-in_err-read_link-clause-out_same
+returns-in_err-read_link-clause-out_same g c =
+    let p = err_from_is_err_and c.from_residual.result c.from_residual.ensures.1 in
+    rw p.1 tt
+
+pub returns-in_err-read_link-clause-log_same : goal.returns-in_err-read_link-clause-log_same
+returns-in_err-read_link-clause-log_same g c =
+    let p = err_from_is_err_and c.from_residual.result c.from_residual.ensures.1 in
+    rw p.1 tt
+
+pub returns-in-Some-next_link-clause-endless : goal.returns-in-Some-next_link-clause-endless
+returns-in-Some-next_link-clause-endless g c = search rules depth 5 fits 300

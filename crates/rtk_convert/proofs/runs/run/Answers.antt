@@ -1,0 +1,116 @@
+use Rattle.std.proofs.Common.{◌≡◌, ℕ, inl, inr, ◌⊎◌, length, Err, ap, subst, ◌∙◌}
+use Rattle.std.proofs.lemmas.Result.{IfErr-weaker, IfOk-weaker, IfErr-at_err}
+use Rattle.rtk_convert.specs.Converter.{FinishesConverterAs, BreaksOffClosing, BreaksOffFinishing}
+use Rattle.rtk_convert.specs.declared.fault.ConvertFault.TheVariants.{Write, Read as ReadFault, Endless}
+use Rattle.rtk_convert.specs.declared.fault.Stream.TheVariants.{Out, Log}
+use Rattle.rtk_convert.specs.Failure.{IsReadingFault}
+use Rattle.rtk_convert.specs.ReadSteps.{HasReadAll}
+use Rattle.rtk_convert.specs.Run.{FailsReading, StaysOpen, BreaksOffReading}
+use Rattle.rtk_convert.specs.Setup.{SetupView}
+use Rattle.rtk_convert.proofs.HeadlineLemmas.{run-headline}
+use Rattle.rtk_convert.proofs.WritingLemmas.{on_ok-map}
+use Rattle.rtk_convert.proofs.RunLemmas.{runs-as, breaks-ending, links-few, reading-run, frame-run}
+use Rattle.rtk_convert.proofs.runs.run.Goals as goal
+
+pub read_all-requires-clause-links : goal.read_all-requires-clause-links
+read_all-requires-clause-links g c = (links-few (length c.args.readers.now) _ (λ e. cc) c.in_ok-converter.ensures.setup.1).1
+
+pub returns-in-Err-clause-setup : goal.returns-in-Err-clause-setup
+returns-in-Err-clause-setup g c = (
+  λ is_setup few. IfErr-at_err IsReadingFault is_setup c.in-Err.ensures.fault,
+  λ many. absurd (many (links-few (length c.args.readers.now) _ (λ e. cc) c.in_ok-converter.ensures.setup.1)),
+)
+
+pub returns-in-Err-clause-fault : goal.returns-in-Err-clause-fault
+returns-in-Err-clause-fault g c = reading-run c.in-Err.fault c.in-Err.ensures.fault
+
+pub returns-in-Err-clause-breaks_off : goal.returns-in-Err-clause-breaks_off
+returns-in-Err-clause-breaks_off g c = λ frame. inr (inl (
+    subst (λ (s : SetupView). BreaksOffReading g.R.Source.given g.R.Source.calls s c.args.readers.now c.read_all.new.readers (g.O.Sink.taken c.args.out.now) (g.O.Sink.taken c.read_all.new.out) (g.L.Sink.taken c.args.log.now) (g.L.Sink.taken c.read_all.new.log))
+    c.in_ok-converter.ensures.settings (c.in-Err.ensures.err frame)))
+
+pub returns-in-Err-clause-read_failed : goal.returns-in-Err-clause-read_failed
+returns-in-Err-clause-read_failed g c = λ link is_read.
+    subst (λ (s : SetupView). FailsReading g.R.Source.given g.R.Source.failures g.R.Source.calls s link c.args.readers.now c.read_all.new.readers (g.O.Sink.taken c.args.out.now) (g.O.Sink.taken c.read_all.new.out) (g.L.Sink.taken c.args.log.now) (g.L.Sink.taken c.read_all.new.log))
+    c.in_ok-converter.ensures.settings (c.in-Err.ensures.read_failed link (let same : c.in-Err.fault ≡ ReadFault link = cc in ap Err same))
+
+pub returns-in-Err-clause-endless : goal.returns-in-Err-clause-endless
+returns-in-Err-clause-endless g c = λ is_endless.
+    let both = c.in-Err.ensures.endless (let same : c.in-Err.fault ≡ Endless = cc in ap Err same) in (
+      subst (λ (s : SetupView). StaysOpen g.R.Source.given g.R.Source.is_at_end s c.args.max_reads c.args.readers.now c.read_all.new.readers (g.O.Sink.taken c.args.out.now) (g.O.Sink.taken c.read_all.new.out) (g.L.Sink.taken c.args.log.now) (g.L.Sink.taken c.read_all.new.log))
+          c.in_ok-converter.ensures.settings both.0,
+      both.1,
+    )
+
+pub returns-clause-setup : goal.returns-clause-setup
+returns-clause-setup g c = (
+  λ is_setup few. IfErr-at_err _ is_setup (c.finish.ensures.fault c.in_default.ensures.ok.represents.going),
+  λ many. absurd (many (links-few (length c.args.readers.now) _ (λ e. cc) c.in_ok-converter.ensures.setup.1)),
+)
+
+pub returns-clause-fault : goal.returns-clause-fault
+returns-clause-fault g c = IfErr-weaker c.finish.result _ _ frame-run (c.finish.ensures.fault c.in_default.ensures.ok.represents.going)
+
+pub returns-clause-ok : goal.returns-clause-ok
+returns-clause-ok g c =
+    let all : HasReadAll g.R.Source.given g.R.Source.calls g.R.Source.is_at_end c.args.setup c.args.readers.now c.read_all.new.readers c.read_all.new.converter (g.O.Sink.taken c.args.out.now) (g.O.Sink.taken c.read_all.new.out) (g.L.Sink.taken c.args.log.now) (g.L.Sink.taken c.read_all.new.log) =
+    subst (λ (s : SetupView). HasReadAll g.R.Source.given g.R.Source.calls g.R.Source.is_at_end s c.args.readers.now c.read_all.new.readers c.read_all.new.converter (g.O.Sink.taken c.args.out.now) (g.O.Sink.taken c.read_all.new.out) (g.L.Sink.taken c.args.log.now) (g.L.Sink.taken c.read_all.new.log))
+    c.in_ok-converter.ensures.settings c.in_default.ensures.ok in
+    IfOk-weaker c.finish.result _ _ (λ counts ends.
+    let e = ends all.history all.represents in
+    runs-as g.R.Source.given g.R.Source.calls g.R.Source.is_at_end c.args.setup c.args.readers.now c.read_all.new.readers c.read_all.new.converter counts
+    (g.O.Sink.taken c.args.out.now) (g.O.Sink.taken c.read_all.new.out) (g.O.Sink.taken c.finish.new.out) (g.L.Sink.taken c.args.log.now) (g.L.Sink.taken c.read_all.new.log) (g.L.Sink.taken c.finish.new.log)
+    all e.0 (subst (λ (s : SetupView). FinishesConverterAs s all.history e.0 counts (g.O.Sink.taken c.read_all.new.out) (g.O.Sink.taken c.finish.new.out) (g.L.Sink.taken c.read_all.new.log) (g.L.Sink.taken c.finish.new.log)) (c.read_all.ensures.settings ∙ c.in_ok-converter.ensures.settings) e.1)) c.finish.ensures.ok
+
+pub returns-clause-headline : goal.returns-clause-headline
+returns-clause-headline g c =
+    let all : HasReadAll g.R.Source.given g.R.Source.calls g.R.Source.is_at_end c.args.setup c.args.readers.now c.read_all.new.readers c.read_all.new.converter (g.O.Sink.taken c.args.out.now) (g.O.Sink.taken c.read_all.new.out) (g.L.Sink.taken c.args.log.now) (g.L.Sink.taken c.read_all.new.log) =
+    subst (λ (s : SetupView). HasReadAll g.R.Source.given g.R.Source.calls g.R.Source.is_at_end s c.args.readers.now c.read_all.new.readers c.read_all.new.converter (g.O.Sink.taken c.args.out.now) (g.O.Sink.taken c.read_all.new.out) (g.L.Sink.taken c.args.log.now) (g.L.Sink.taken c.read_all.new.log))
+    c.in_ok-converter.ensures.settings c.in_default.ensures.ok in
+    IfOk-weaker c.finish.result _ _ (λ counts ends.
+    let e = ends all.history all.represents in
+    run-headline g.R.Source.given g.R.Source.calls g.R.Source.is_at_end c.args.setup c.args.readers.now c.read_all.new.readers counts (g.O.Sink.taken c.args.out.now) (g.O.Sink.taken c.finish.new.out) (g.L.Sink.taken c.args.log.now) (g.L.Sink.taken c.finish.new.log)
+    (runs-as g.R.Source.given g.R.Source.calls g.R.Source.is_at_end c.args.setup c.args.readers.now c.read_all.new.readers c.read_all.new.converter counts
+    (g.O.Sink.taken c.args.out.now) (g.O.Sink.taken c.read_all.new.out) (g.O.Sink.taken c.finish.new.out) (g.L.Sink.taken c.args.log.now) (g.L.Sink.taken c.read_all.new.log) (g.L.Sink.taken c.finish.new.log)
+    all e.0 (subst (λ (s : SetupView). FinishesConverterAs s all.history e.0 counts (g.O.Sink.taken c.read_all.new.out) (g.O.Sink.taken c.finish.new.out) (g.L.Sink.taken c.read_all.new.log) (g.L.Sink.taken c.finish.new.log)) (c.read_all.ensures.settings ∙ c.in_ok-converter.ensures.settings) e.1))) c.finish.ensures.ok
+
+pub returns-clause-breaks_off : goal.returns-clause-breaks_off
+returns-clause-breaks_off g c =
+    let all : HasReadAll g.R.Source.given g.R.Source.calls g.R.Source.is_at_end c.args.setup c.args.readers.now c.read_all.new.readers c.read_all.new.converter (g.O.Sink.taken c.args.out.now) (g.O.Sink.taken c.read_all.new.out) (g.L.Sink.taken c.args.log.now) (g.L.Sink.taken c.read_all.new.log) =
+    subst (λ (s : SetupView). HasReadAll g.R.Source.given g.R.Source.calls g.R.Source.is_at_end s c.args.readers.now c.read_all.new.readers c.read_all.new.converter (g.O.Sink.taken c.args.out.now) (g.O.Sink.taken c.read_all.new.out) (g.L.Sink.taken c.args.log.now) (g.L.Sink.taken c.read_all.new.log))
+    c.in_ok-converter.ensures.settings c.in_default.ensures.ok in
+    IfErr-weaker c.finish.result _ _ (λ fault breaks frame.
+    inr (inr (breaks-ending g.R.Source.given g.R.Source.calls g.R.Source.is_at_end c.args.setup c.args.readers.now c.read_all.new.readers c.read_all.new.converter
+    (g.O.Sink.taken c.args.out.now) (g.O.Sink.taken c.read_all.new.out) (g.O.Sink.taken c.finish.new.out) (g.L.Sink.taken c.args.log.now) (g.L.Sink.taken c.read_all.new.log) (g.L.Sink.taken c.finish.new.log)
+    all (subst (λ (s : SetupView). ((link : ℕ) × BreaksOffClosing s all.history link (g.O.Sink.taken c.read_all.new.out) (g.O.Sink.taken c.finish.new.out) (g.L.Sink.taken c.read_all.new.log) (g.L.Sink.taken c.finish.new.log)) ⊎ BreaksOffFinishing s all.history (g.O.Sink.taken c.read_all.new.out) (g.O.Sink.taken c.finish.new.out) (g.L.Sink.taken c.read_all.new.log) (g.L.Sink.taken c.finish.new.log))
+    (c.read_all.ensures.settings ∙ c.in_ok-converter.ensures.settings) (breaks frame all.history all.represents))))) c.finish.ensures.err
+
+pub returns-clause-read_failed : goal.returns-clause-read_failed
+returns-clause-read_failed g c = λ link is_read. absurd (IfErr-at_err _ is_read (c.finish.ensures.fault c.in_default.ensures.ok.represents.going))
+
+pub returns-clause-endless : goal.returns-clause-endless
+returns-clause-endless g c = λ is_endless. absurd (IfErr-at_err _ is_endless (c.finish.ensures.fault c.in_default.ensures.ok.represents.going))
+
+pub returns-in-Err-clause-untouched : goal.returns-in-Err-clause-untouched
+returns-in-Err-clause-untouched g c = λ is_setup. absurd (IfErr-at_err IsReadingFault is_setup c.in-Err.ensures.fault)
+
+pub returns-clause-untouched : goal.returns-clause-untouched
+returns-clause-untouched g c = λ is_setup. absurd (IfErr-at_err _ is_setup (c.finish.ensures.fault c.in_default.ensures.ok.represents.going))
+
+pub returns-in-Err-clause-no_failed_read : goal.returns-in-Err-clause-no_failed_read
+returns-in-Err-clause-no_failed_read g c = λ all. c.in-Err.ensures.no_failed_read (λ link is_read. all link (let same : c.in-Err.fault ≡ ReadFault link = cc in ap Err same))
+
+pub returns-clause-no_failed_read : goal.returns-clause-no_failed_read
+returns-clause-no_failed_read g c = λ all. c.in_default.ensures.no_failed_read (λ link e. cc)
+
+pub returns-clause-out_same : goal.returns-clause-out_same
+returns-clause-out_same g c = on_ok-map c.finish.result (λ same. same ∙ c.in_default.ensures.out_same) c.finish.ensures.out_same
+
+pub returns-clause-log_same : goal.returns-clause-log_same
+returns-clause-log_same g c = on_ok-map c.finish.result (λ same. same ∙ c.in_default.ensures.log_same) c.finish.ensures.log_same
+
+pub returns-in-Err-clause-out_failed : goal.returns-in-Err-clause-out_failed
+returns-in-Err-clause-out_failed g c = λ is_write. c.in-Err.ensures.out_failed (let same : c.in-Err.fault ≡ Write Out = cc in ap Err same)
+
+pub returns-in-Err-clause-log_failed : goal.returns-in-Err-clause-log_failed
+returns-in-Err-clause-log_failed g c = λ is_write. c.in-Err.ensures.log_failed (let same : c.in-Err.fault ≡ Write Log = cc in ap Err same)

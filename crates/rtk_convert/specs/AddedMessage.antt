@@ -1,0 +1,49 @@
+-- What an arrival does to a conversion, apart from the count of all frames.
+use Rattle.std.specs.Prelude.{◌≡◌, ℕ, List, ◌∷◌, Option, None}
+use Rattle.rtk_frame.specs.Stream.{with_more, TakesPart}
+use Rattle.rtk_collect.specs.declared.offer.Offer.{Offer}
+use Rattle.rtk_collect.specs.declared.offer.Offer.TheVariants.{Taken, Conflict, Repeat, Late}
+use Rattle.rtk_collect.specs.EpochSet.{EpochSetView}
+use Rattle.rtk_collect.specs.Arrival.{Arrival}
+use Rattle.rtk_collect.specs.Accepted.{closed}
+use Rattle.rtk_collect.specs.Answer.{class_of}
+use Rattle.rtk_collect.specs.Collector.{RepresentsArrivals}
+use Rattle.rtk_convert.specs.declared.frame_class.FrameClass.TheVariants.{Dated}
+use Rattle.rtk_convert.specs.FileOfArrivals.{file_so_far}
+use Rattle.rtk_convert.specs.Records.{HasClosed}
+use Rattle.rtk_convert.specs.Report.{frame_lines, counted_as}
+use Rattle.rtk_convert.specs.Conversion.{ConversionView}
+use Rattle.rtk_convert.specs.Writing.{WritesRest, WritesPartOfRest}
+
+-- the epoch that is closed by an arrival with this answer
+abbrev pub closed_by : Offer → Option EpochSetView
+closed_by Late = None
+closed_by (Taken closing found) = closing
+closed_by (Conflict found) = None
+closed_by Repeat = None
+
+-- its window and what it knows of the closed epochs are those of these arrivals
+pub record RepresentsEpochs (s : ConversionView) (before : List Arrival) : Type 0 where
+  pub window : RepresentsArrivals s.window before
+  pub closed : HasClosed s.closed s.settings.heading.listed (closed s.settings.window before)
+
+-- an arrival after those before it
+pub record AddsMessageAs (old : ConversionView) (link : ℕ) (a : Arrival) (before : List Arrival) (new : ConversionView) (out_old out_new log_old log_new : Option (List ℕ)) : Type 0 where
+  pub after : RepresentsEpochs new (a ∷ before)
+  pub counts : new.counts ≡ counted_as (class_of old.settings.window a before) old.counts
+  pub out : WritesRest out_old out_new (file_so_far old.settings before) (file_so_far old.settings (a ∷ before))
+  pub log : log_new ≡ with_more log_old (frame_lines old.settings.window link (Dated a) before)
+
+-- the call breaks off
+pub record AddsMessagePartAs (old : ConversionView) (link : ℕ) (a : Arrival) (before : List Arrival) (out_old out_new log_old log_new : Option (List ℕ)) : Type 0 where
+  pub out : WritesPartOfRest out_old out_new (file_so_far old.settings before) (file_so_far old.settings (a ∷ before))
+  pub log : TakesPart log_old log_new (frame_lines old.settings.window link (Dated a) before)
+
+-- whatever arrived before
+abbrev pub AddsMessage : ConversionView → ℕ → Arrival → ConversionView → Option (List ℕ) → Option (List ℕ) → Option (List ℕ) → Option (List ℕ) → Type 0
+AddsMessage old link a new out_old out_new log_old log_new =
+    (before : List Arrival) → RepresentsEpochs old before → AddsMessageAs old link a before new out_old out_new log_old log_new
+
+abbrev pub AddsMessageInPart : ConversionView → ℕ → Arrival → Option (List ℕ) → Option (List ℕ) → Option (List ℕ) → Option (List ℕ) → Type 0
+AddsMessageInPart old link a out_old out_new log_old log_new =
+    (before : List Arrival) → RepresentsEpochs old before → AddsMessagePartAs old link a before out_old out_new log_old log_new

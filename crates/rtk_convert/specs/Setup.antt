@@ -1,0 +1,25 @@
+-- What a conversion is set up with.
+use Rattle.std.specs.Prelude.{ℕ, ◌≤◌}
+use Rattle.std.specs.Int.{IsInRange}
+use Rattle.rtk_obs.specs.Dating.{IsReference}
+use Rattle.rtk_rinex.specs.Header.{HeadView, IsHeadView}
+
+pub record SetupView : Type 0 where
+  -- the station whose messages are converted (RTCM 10403.3, DF003)
+  pub station : ℕ
+  -- the moment near which times of week are dated
+  pub near : ℕ
+  pub heading : HeadView
+  -- how many epochs are open at once
+  pub window : ℕ
+
+-- a reference station ID has 12 bits (RTCM 10403.3, DF003)
+abbrev pub IsStation : ℕ → Type 0
+IsStation station = station ≤ 4095
+
+-- 2 to 4096 epochs (this project's rule)
+abbrev pub IsWindow : ℕ → Type 0
+IsWindow window = IsInRange 2 4096 window
+
+abbrev pub IsSetupView : SetupView → Type 0
+IsSetupView s = IsStation s.station × IsReference s.near × IsHeadView s.heading × IsWindow s.window

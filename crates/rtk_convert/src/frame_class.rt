@@ -1,0 +1,51 @@
+//! From the payload of a frame to what it is to a conversion.
+
+ghost use Rattle.std.specs.Prelude.{◌≡◌, ◌<◌, IfSome};
+ghost use Rattle.rtk_message.specs.Decoded.{IsValid, station_of, tow_of};
+ghost use Rattle.rtk_convert.specs.FrameClass.{IsDatedMessage, IsClassOfPayload};
+
+use crate::setup::Setup;
+use rtk_collect::Dated;
+use rtk_message::{DecodeFault, Message, decode};
+use rtk_obs::date;
+
+/// What the payload of a frame is to a conversion.
+#[derive(Drop)]
+pub enum FrameClass {
+    /// A message with another number than the four that are read.
+    OtherMessage,
+    /// A payload that is cut short, or that the standard rules out.
+    Refused(DecodeFault),
+    /// A message of another station.
+    Foreign,
+    /// A message of the chosen station, with its epoch.
+    Dated(Dated),
+}
+
+// A message with the moment of its time of week that is nearest to the reference.
+fn dated(setup: &Setup, message: Message) -> Dated
+    requires { IsValid message }
+    ensures { IsDatedMessage setup.now message result }
+{
+    let Some(tow) = message.tow() else {
+        return Dated::new(message, None);
+    };
+    let epoch = date(setup.near(), tow);
+    Dated::new(message, Some(epoch))
+}
+
+/// What the payload is. It takes no memory.
+pub(crate) fn classify(setup: &Setup, payload: &[u8]) -> FrameClass
+    ensures { IsClassOfPayload setup.now payload.now result }
+{
+    match decode(payload) {
+        Ok(message) => {
+            if message.station() != setup.station() {
+                return FrameClass::Foreign;
+            }
+            FrameClass::Dated(dated(setup, message))
+        }
+        Err(DecodeFault::Other { .. }) => FrameClass::OtherMessage,
+        Err(fault) => FrameClass::Refused(fault),
+    }
+}

@@ -1,0 +1,182 @@
+//! A run: reads from all links, each time from the one that is behind the others.
+
+ghost use Rattle.std.specs.Prelude.{◌≡◌, ◌≢◌, ◌↔◌, ◌<◌, ◌≤◌, ◌+◌, ℕ, length, sum_by, Decides, MatchOption, IfSome, OnOk, IfOk, IfErr, IsErrOf};
+ghost use Rattle.rtk_frame.specs.Stream.{CountRises};
+ghost use Rattle.rtk_convert.specs.Converter.{IsLinkCount, RepresentsHistory};
+ghost use Rattle.rtk_convert.specs.Failure.{IsFrameFault, IsReadFault, IsReadingFault, IsRunFault};
+ghost use Rattle.rtk_convert.specs.Headline.{RunHeadline};
+ghost use Rattle.rtk_convert.specs.History.{History, new_history, IsOpen, IsUpTo, IsNextLink};
+ghost use Rattle.rtk_convert.specs.ReadSteps.{ReadsLink, BreaksOffAfterRead, FailsRead, HasReadAll, AnyAtGreatest, HasCalled, SameFailures};
+ghost use Rattle.rtk_convert.specs.ReadHistory.{AllClosed};
+ghost use Rattle.rtk_convert.specs.Run.{RunsAs, FailsReading, StaysOpen, BreaksOffReading, BreaksOffRun};
+
+use crate::converter::Converter;
+use crate::counts::Counts;
+use crate::fault::{ConvertFault, Stream};
+use crate::setup::Setup;
+use rtk_frame::{Sink, Source, read_one};
+use rtk_obs::GpsMs;
+use std::alloc::Global;
+
+// Is an epoch before another? None is before all.
+fn is_before(epoch: Option<GpsMs>, other: Option<GpsMs>) -> bool
+    ensures { Decides result (¬ (IsUpTo other epoch)) }
+{
+    match (epoch, other) {
+        (_, None) => false,
+        (None, Some(_)) => true,
+        (Some(epoch), Some(other)) => epoch < other,
+    }
+}
+
+// The link that is read next, unless all are closed.
+fn next_link(converter: &Converter) -> Option<usize>
+    ensures next { (h : History) → RepresentsHistory converter.now h → MatchOption result (AllClosed h) (λ link. IsNextLink h link) }
+    ensures within { IfSome result (λ link. link < length converter.now.links) }
+{
+    let mut next: Option<usize> = None;
+    for link in 0..converter.links() {
+        if !converter.is_open(link) {
+            continue;
+        }
+        let Some(other) = next else {
+            next = Some(link);
+            continue;
+        };
+        if is_before(converter.newest(link), converter.newest(other)) {
+            next = Some(link);
+        }
+    }
+    next
+}
+
+// One read of a link, whose bytes are fed, and which is closed where there are none.
+fn read_link<R: Source, O: Sink, L: Sink>(
+    converter: &mut Converter,
+    link: usize,
+    readers: &mut [R],
+    buf: &mut [u8],
+    out: &mut O,
+    log: &mut L,
+) -> Result<(), ConvertFault>
+    requires link { link < length readers.old }
+    requires links { length readers.old ≤ 16 }
+    requires room { length buf.old ≡ 512 }
+    ensures settings { converter.new.conversion.settings ≡ converter.old.conversion.settings }
+    ensures as_many { length readers.new ≡ length readers.old }
+    ensures reads { sum_by R.calls readers.new ≤ sum_by R.calls readers.old + 1 }
+    ensures called { HasCalled R.calls readers.old readers.new 1 }
+    ensures full { AnyAtGreatest R.calls readers.old → AnyAtGreatest R.calls readers.new }
+    ensures ok { OnOk result ((h : History) → RepresentsHistory converter.old h → IsNextLink h link
+        → ReadsLink R.given R.is_at_end converter.old.conversion.settings h link readers.old readers.new converter.new (O.taken out.old) (O.taken out.new) (L.taken log.old) (L.taken log.new)) }
+    ensures err { IfErr result (λ fault. IsFrameFault fault → (h : History) → RepresentsHistory converter.old h
+        → BreaksOffAfterRead R.given converter.old.conversion.settings h link readers.old readers.new (O.taken out.old) (O.taken out.new) (L.taken log.old) (L.taken log.new)) }
+    ensures read_failed { (h : History) → RepresentsHistory converter.old h → IsOpen h link → (k : ℕ) → IsErrOf result (ConvertFault.Read k)
+        → (k ≡ link) × FailsRead R.given R.failures k readers.old readers.new (O.taken out.old) (O.taken out.new) (L.taken log.old) (L.taken log.new) }
+    ensures fault { IfErr result (λ fault. (h : History) → RepresentsHistory converter.old h → IsOpen h link → IsReadFault fault) }
+    ensures out_failed { IsErrOf result (ConvertFault.Write Stream.Out) → CountRises (O.failures out.old) (O.failures out.new) }
+    ensures out_kept { IfErr result (λ fault. fault ≢ ConvertFault.Write Stream.Out → O.failures out.new ≡ O.failures out.old) }
+    ensures log_failed { IsErrOf result (ConvertFault.Write Stream.Log) → CountRises (L.failures log.old) (L.failures log.new) }
+    ensures log_kept { IfErr result (λ fault. fault ≢ ConvertFault.Write Stream.Log → L.failures log.new ≡ L.failures log.old) }
+    ensures no_failed_read { ((k : ℕ) → ¬ (IsErrOf result (ConvertFault.Read k))) → SameFailures R.failures readers.old readers.new }
+    ensures out_same { OnOk result (O.failures out.new ≡ O.failures out.old) }
+    ensures log_same { OnOk result (L.failures log.new ≡ L.failures log.old) }
+{
+    let Ok(count) = read_one(readers, link, buf) else {
+        return Err(ConvertFault::Read { link: link as u8 });
+    };
+    if count == 0 {
+        return converter.close(link, out, log);
+    }
+    converter.feed(link, &buf[..count], out, log)
+}
+
+// Reads all links to their end.
+fn read_all<R: Source, O: Sink, L: Sink>(
+    converter: &mut Converter,
+    readers: &mut [R],
+    out: &mut O,
+    log: &mut L,
+    max_reads: u64,
+) -> Result<(), ConvertFault>
+    requires links { length readers.old ≤ 16 }
+    requires fresh { RepresentsHistory converter.old (new_history (length readers.old)) }
+    ensures settings { converter.new.conversion.settings ≡ converter.old.conversion.settings }
+    ensures reads { sum_by R.calls readers.new ≤ sum_by R.calls readers.old + max_reads }
+    ensures ok { OnOk result (HasReadAll R.given R.calls R.is_at_end converter.old.conversion.settings readers.old readers.new converter.new (O.taken out.old) (O.taken out.new) (L.taken log.old) (L.taken log.new)) }
+    ensures err { IfErr result (λ fault. IsFrameFault fault
+        → BreaksOffReading R.given R.calls converter.old.conversion.settings readers.old readers.new (O.taken out.old) (O.taken out.new) (L.taken log.old) (L.taken log.new)) }
+    ensures read_failed { (link : ℕ) → IsErrOf result (ConvertFault.Read link)
+        → FailsReading R.given R.failures R.calls converter.old.conversion.settings link readers.old readers.new (O.taken out.old) (O.taken out.new) (L.taken log.old) (L.taken log.new) }
+    ensures endless { IsErrOf result ConvertFault.Endless
+        → StaysOpen R.given R.is_at_end converter.old.conversion.settings max_reads readers.old readers.new (O.taken out.old) (O.taken out.new) (L.taken log.old) (L.taken log.new)
+        × HasCalled R.calls readers.old readers.new max_reads }
+    ensures fault { IfErr result IsReadingFault }
+    ensures no_failed_read { ((link : ℕ) → ¬ (IsErrOf result (ConvertFault.Read link))) → SameFailures R.failures readers.old readers.new }
+    ensures out_failed { IsErrOf result (ConvertFault.Write Stream.Out) → CountRises (O.failures out.old) (O.failures out.new) }
+    ensures out_kept { IfErr result (λ fault. fault ≢ ConvertFault.Write Stream.Out → O.failures out.new ≡ O.failures out.old) }
+    ensures log_failed { IsErrOf result (ConvertFault.Write Stream.Log) → CountRises (L.failures log.old) (L.failures log.new) }
+    ensures log_kept { IfErr result (λ fault. fault ≢ ConvertFault.Write Stream.Log → L.failures log.new ≡ L.failures log.old) }
+    ensures out_same { OnOk result (O.failures out.new ≡ O.failures out.old) }
+    ensures log_same { OnOk result (L.failures log.new ≡ L.failures log.old) }
+{
+    let mut buf = [0u8; 512];
+    'reads: for _made in 0..max_reads {
+        let Some(link) = next_link(converter) else {
+            return Ok(());
+        };
+        read_link(converter, link, readers, &mut buf, out, log)?;
+    }
+    match next_link(converter) {
+        None => Ok(()),
+        Some(_) => Err(ConvertFault::Endless),
+    }
+}
+
+/// Converts what the readers give, each of them a link: the file goes to `out`, the report to `log`.
+///
+/// The next read is of the open link whose newest epoch is the least; a link that had none comes
+/// first, and of those alike the lowest. It asks for 512 bytes. A read of none closes the link, and
+/// when all are closed the conversion ends. The order in which messages come, and so which are
+/// late, depends on how many bytes each read gives.
+///
+/// The clause `headline` is the promise of a conversion in one sentence; `calls_keep_promise` says
+/// the same of any calls of a `Converter`, and `set_has_one_file` that the set decides the file.
+///
+/// V1 where there are not 1 to 16 readers, before anything else; V4 where memory is refused; V5
+/// where a write fails, and V6 where a read does; V7 where a link is open after `max_reads` reads.
+pub fn run<R: Source, O: Sink, L: Sink>(
+    alloc: Global,
+    setup: Setup,
+    readers: &mut [R],
+    out: &mut O,
+    log: &mut L,
+    max_reads: u64,
+) -> Result<Counts, ConvertFault>
+    ensures setup { IsErrOf result ConvertFault.Setup ↔ ¬ (IsLinkCount (length readers.old)) }
+    ensures fault { IfErr result IsRunFault }
+    ensures headline { IfOk result (λ counts. RunHeadline R.given R.calls R.is_at_end setup readers.old readers.new counts (O.taken out.old) (O.taken out.new) (L.taken log.old) (L.taken log.new)) }
+    ensures ok { IfOk result (λ counts. RunsAs R.given R.calls R.is_at_end setup readers.old readers.new counts (O.taken out.old) (O.taken out.new) (L.taken log.old) (L.taken log.new)) }
+    ensures reads { sum_by R.calls readers.new ≤ sum_by R.calls readers.old + max_reads }
+    ensures out_failed { IsErrOf result (ConvertFault.Write Stream.Out) → CountRises (O.failures out.old) (O.failures out.new) }
+    ensures out_kept { IfErr result (λ fault. fault ≢ ConvertFault.Write Stream.Out → O.failures out.new ≡ O.failures out.old) }
+    ensures log_failed { IsErrOf result (ConvertFault.Write Stream.Log) → CountRises (L.failures log.old) (L.failures log.new) }
+    ensures log_kept { IfErr result (λ fault. fault ≢ ConvertFault.Write Stream.Log → L.failures log.new ≡ L.failures log.old) }
+    ensures breaks_off { IfErr result (λ fault. IsFrameFault fault
+        → BreaksOffRun R.given R.calls R.is_at_end setup readers.old readers.new (O.taken out.old) (O.taken out.new) (L.taken log.old) (L.taken log.new)) }
+    ensures read_failed { (link : ℕ) → IsErrOf result (ConvertFault.Read link)
+        → FailsReading R.given R.failures R.calls setup link readers.old readers.new (O.taken out.old) (O.taken out.new) (L.taken log.old) (L.taken log.new) }
+    ensures endless { IsErrOf result ConvertFault.Endless
+        → StaysOpen R.given R.is_at_end setup max_reads readers.old readers.new (O.taken out.old) (O.taken out.new) (L.taken log.old) (L.taken log.new)
+        × HasCalled R.calls readers.old readers.new max_reads }
+    ensures untouched { IsErrOf result ConvertFault.Setup → (readers.new ≡ readers.old) × (out.new ≡ out.old) × (log.new ≡ log.old) }
+    ensures no_failed_read { ((link : ℕ) → ¬ (IsErrOf result (ConvertFault.Read link))) → SameFailures R.failures readers.old readers.new }
+    ensures out_same { OnOk result (O.failures out.new ≡ O.failures out.old) }
+    ensures log_same { OnOk result (L.failures log.new ≡ L.failures log.old) }
+{
+    let mut converter = Converter::new(alloc, setup, readers.len())?;
+    if let Err(fault) = read_all(&mut converter, readers, out, log, max_reads) {
+        return Err(fault);
+    }
+    converter.finish(out, log)
+}

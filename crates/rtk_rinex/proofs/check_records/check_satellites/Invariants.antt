@@ -1,8 +1,0 @@
-use Rattle.std.proofs.Common.{◌≡◌, ◌+◌, ◌≤◌, length, None}
-use Rattle.rtk_rinex.specs.CheckText.{ReadsRows, last_satellite}
-use Rattle.rtk_rinex.proofs.check_records.check_satellites.Given as goal
-
-abbrev pub invariant-loop-k : goal.invariant-loop-k
-invariant-loop-k l =
-    (r : ReadsRows l.width l.k l.text l.rest l.fn.out.items l.out.items)
-    × (l.last ≡ last_satellite None r.rows) × (length l.rest + l.k ≤ length l.text)

@@ -1,0 +1,38 @@
+use Rattle.std.proofs.Common.{◌≡◌, arith, ◌∙◌, ap}
+use Rattle.rtk_rinex.specs.Reading.{reading_of}
+use Rattle.rtk_rinex.proofs.ReadingLemmas.{reading-reads, reading_is}
+use Rattle.rtk_rinex.specs.CheckValues.{digits_from}
+use Rattle.rtk_rinex.proofs.EpochLemmas.{epoch-shows, one_moment}
+use Rattle.rtk_rinex.proofs.epoch_line_check.stamp_in.Goals as goal
+use Rattle.rtk_rinex.proofs.epoch_line_check.stamp_in.Goals.{then-count-eq0-via-then-count-eq0, then-count-eq0-via-else-count-eq0+then-count-gt32}
+
+pub returns-then-seconds-ge600000000 : goal.returns-then-seconds-ge600000000
+returns-then-seconds-ge600000000 c = λ t n h k e.
+    let s = epoch-shows c.args.columns.now t n h k e in omega (arith, s.seconds, c.digits-seconds.ensures.value)
+
+pub returns-in_default : goal.returns-in_default
+returns-in_default c = λ t n h k e.
+    let s = epoch-shows c.args.columns.now t n h k e in
+    let shown : c.reading_in-reading.result ≡ reading_of t = c.reading_in-reading.ensures ∙ s.reading in
+    c.in_default.ensures t h (rw shown (reading-reads t h))
+
+pub returns-then-count-eq0 : goal.returns-then-count-eq0
+returns-then-count-eq0 c = λ t n h k e.
+    let s = epoch-shows c.args.columns.now t n h k e in
+    let same : c.digits-count.result ≡ n = c.digits-count.ensures.value ∙ ap (digits_from 0) c.split_at.ensures.back ∙ s.count in
+    elim c.then-count-eq0.branch [
+      | then-count-eq0-via-then-count-eq0 w ↦ omega arith
+      | then-count-eq0-via-else-count-eq0+then-count-gt32 w ↦ omega arith
+    ]
+
+pub returns : goal.returns
+returns c = (
+  omega arith,
+  (omega arith, omega arith),
+  reading_is c.in-Some.time c.reading_in-reading.result c.in-Some.ensures,
+  λ t n h k e.
+      let s = epoch-shows c.args.columns.now t n h k e in
+      let count : c.digits-count.result ≡ n = c.digits-count.ensures.value ∙ ap (digits_from 0) c.split_at.ensures.back ∙ s.count in
+      let shown : c.reading_in-reading.result ≡ reading_of t = c.reading_in-reading.ensures ∙ s.reading in
+      (one_moment c.in-Some.time t (reading_of t) (rw shown at c.in-Some.ensures) (reading-reads t h), count),
+)

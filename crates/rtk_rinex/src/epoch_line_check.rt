@@ -1,0 +1,99 @@
+//! The epoch line of a record, read back.
+
+ghost use Rattle.std.specs.Prelude.{◌≡◌, ◌≢◌, ℕ, ◌<◌, ◌≤◌, ◌++◌, [], ◌∷◌, length, drop, IsTrue, ◌↔◌, IfOk, MatchOption};
+ghost use Rattle.std.specs.Int.{IsInRange};
+ghost use Rattle.rtk_rinex.specs.Reading.{IsMoment, reading_of};
+ghost use Rattle.rtk_rinex.specs.Record.{epoch_columns, epoch_line};
+ghost use Rattle.rtk_rinex.specs.CheckValues.{seconds_in, civil_in, count_in};
+
+use crate::check_values::digits;
+use crate::record_text::put_epoch_line;
+use rtk_obs::{Civil, GpsMs, of_civil};
+use std::alloc::AllocError;
+
+/// What an epoch line shows.
+#[derive(Clone, Copy)]
+pub struct EpochStamp {
+    /// The moment of the epoch.
+    pub time: GpsMs,
+    /// The reading of this moment.
+    pub reading: Civil,
+    /// How many satellite lines follow, 1 to 32.
+    pub count: usize,
+}
+
+// The reading that an epoch line shows, whose seconds were read.
+fn reading_in(line: &[u8], seconds: u64) -> Civil
+    requires line { length line.now ≡ 35 }
+    requires seconds { seconds ≡ seconds_in line.now }
+    requires minute { seconds < 600_000_000 }
+    ensures { result ≡ civil_in line.now }
+{
+    Civil {
+        year: digits(&line[2..6]) as u16,
+        month: digits(&line[7..9]) as u8,
+        day: digits(&line[10..12]) as u8,
+        hour: digits(&line[13..15]) as u8,
+        minute: digits(&line[16..18]) as u8,
+        second: (seconds / 10_000_000) as u8,
+        millisecond: (seconds / 10_000 % 1000) as u16,
+    }
+}
+
+// What the columns of an epoch line show, read without a test of their form: if they are those of an
+// epoch line, it is that of this moment and this count.
+fn stamp_in(columns: &[u8]) -> Option<EpochStamp>
+    requires { length columns.now ≡ 35 }
+    ensures { MatchOption result
+        ((t n : ℕ) → IsMoment t → IsInRange 1 32 n → columns.now ≢ epoch_columns (reading_of t) n)
+        (λ s. IsMoment s.time × IsInRange 1 32 s.count × (s.reading ≡ reading_of s.time)
+        × ((t n : ℕ) → IsMoment t → IsInRange 1 32 n → columns.now ≡ epoch_columns (reading_of t) n → (s.time ≡ t) × (s.count ≡ n))) }
+{
+    let seconds = digits(&columns[18..29]);
+    if seconds >= 600_000_000 {
+        return None;
+    }
+    let reading = reading_in(columns, seconds);
+    let Some(time) = of_civil(reading) else {
+        return None;
+    };
+    let count = digits(columns.split_at(32).1) as usize;
+    if count == 0 || count > 32 {
+        return None;
+    }
+    Some(EpochStamp {
+        time,
+        reading,
+        count,
+    })
+}
+
+/// Are the bytes of a text from a place on these?
+pub fn is_end_from(text: &[u8], start: usize, end: &[u8]) -> bool
+    requires { start ≤ length text.now }
+    ensures { IsTrue result ↔ (drop start text.now ≡ end.now) }
+{
+    text.split_at(start).1 == end
+}
+
+/// The moment and count of an epoch line, which ends in LF; `None` exactly where it is no epoch line.
+/// An epoch line is appended to `out`.
+pub fn read_epoch_line(out: &mut Vec<u8>, line: &[u8]) -> Result<Option<EpochStamp>, AllocError>
+    ensures { IfOk result (λ found. MatchOption found
+        ((t n : ℕ) → IsMoment t → IsInRange 1 32 n → line.now ≢ epoch_line (reading_of t) n)
+        (λ s. IsMoment s.time × IsInRange 1 32 s.count × (line.now ≡ epoch_line (reading_of s.time) s.count) × (out.new.items ≡ out.old.items ++ line.now))) }
+{
+    if line.len() != 36 {
+        return Ok(None);
+    }
+    let Some(stamp) = stamp_in(line.split_at(35).0) else {
+        return Ok(None);
+    };
+    let start = out.as_slice().len();
+    put_epoch_line(out, stamp.reading, stamp.count)?;
+    if is_end_from(out.as_slice(), start, line) {
+        Ok(Some(stamp))
+    } else {
+        Ok(None)
+    }
+}

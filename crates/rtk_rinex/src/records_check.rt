@@ -1,0 +1,254 @@
+//! The check of the lines that follow the header, line by line.
+
+ghost use Rattle.rtk_rinex.specs.CheckLine.{IsEpochLine, IsNextTime, IsEpochFault, IsSatelliteForm, IsNextSatellite, IsSatelliteFault};
+ghost use Rattle.rtk_rinex.specs.CheckText.{ReadsRows, ReadsRecord, ReadsRecords, IsFaultOfRows, IsFaultOfRecord, IsFaultOfRecords};
+ghost use Rattle.rtk_rinex.specs.Columns.{last_digits};
+ghost use Rattle.rtk_rinex.specs.Lines.{HasNoEnd, IsLine};
+ghost use Rattle.rtk_rinex.specs.Record.{satellite_line};
+ghost use Rattle.rtk_rinex.specs.Table.{IsTableRow};
+ghost use Rattle.rtk_rinex.specs.declared.epoch_table.SatelliteRow.{SatelliteRow};
+ghost use Rattle.std.specs.Int.{IsInRange};
+ghost use Rattle.std.specs.Prelude.{◌≡◌, ◌≢◌, ℕ, ◌+◌, ◌-◌, ◌*◌, ◌<◌, ◌≤◌, ◌++◌, [], ◌∷◌, length, take, slice_get, Option, Some, IsTrue, ◌↔◌, IfOk, IfErr, MatchOption, ◌^◌, List, flat_map, None};
+
+use crate::check_fault::{Cause, CheckFault};
+use crate::check_values::digits;
+use crate::epoch_line_check::{EpochStamp, read_epoch_line};
+use crate::epoch_table::SatelliteRow;
+use crate::satellite_line_check::read_satellite_line;
+use rtk_obs::GpsMs;
+
+fn is_next_time(first: GpsMs, last: Option<GpsMs>, time: GpsMs) -> bool
+    ensures { IsTrue result ↔ IsNextTime first last time }
+{
+    match last {
+        None => time.ms() == first.ms(),
+        Some(last) => last.ms() < time.ms(),
+    }
+}
+
+/// The moment and count of an epoch line behind the epoch `last`, in a file of this first time; else what
+/// is wrong with it. The line is appended to `out`.
+pub fn check_epoch_line(
+    out: &mut Vec<u8>,
+    line: &[u8],
+    first: GpsMs,
+    last: Option<GpsMs>,
+) -> Result<EpochStamp, Cause>
+    ensures line { IfOk result (λ s. IsEpochLine line.now s.time s.count × IsNextTime first last s.time) }
+    ensures out { IfOk result (λ s. out.new.items ≡ out.old.items ++ line.now) }
+    ensures fault { IfErr result (IsEpochFault first last line.now) }
+{
+    let Ok(found) = read_epoch_line(out, line) else {
+        return Err(Cause::OutOfMemory);
+    };
+    let Some(stamp) = found else {
+        return Err(Cause::Columns);
+    };
+    if !is_next_time(first, last, stamp.time) {
+        return Err(Cause::Order);
+    }
+    Ok(stamp)
+}
+
+// The satellite that a line names in its first three columns.
+fn satellite_named(line: &[u8]) -> Option<u8>
+    ensures { MatchOption result
+        ((s : ℕ) → IsInRange 1 32 s → take 3 line.now ≢ 71 ∷ last_digits 2 s)
+        (λ s. IsInRange 1 32 s × (take 3 line.now ≡ 71 ∷ last_digits 2 s)) }
+{
+    let [mark, tens, units, ..] = line else {
+        return None;
+    };
+    let satellite = digits(&[*tens, *units]) as u8;
+    if satellite == 0 || satellite > 32 || *mark != b'G' {
+        return None;
+    }
+    if *tens != b'0' + satellite / 10 || *units != b'0' + satellite % 10 {
+        return None;
+    }
+    Some(satellite)
+}
+
+// The satellite of a line that has the form of a satellite line.
+fn satellite_of_form(line: &[u8], width: usize) -> Option<u8>
+    requires { width ≤ 16 }
+    ensures { MatchOption result
+        ((s : ℕ) → ¬ (IsSatelliteForm width line.now s))
+        (λ s. IsSatelliteForm width line.now s) }
+{
+    let satellite = satellite_named(line)?;
+    if line.len() > 4 + 48 * width || line[line.len() - 2] == b' ' {
+        return None;
+    }
+    Some(satellite)
+}
+
+fn is_next_satellite(last: Option<u8>, satellite: u8) -> bool
+    ensures { IsTrue result ↔ IsNextSatellite last satellite }
+{
+    match last {
+        None => true,
+        Some(last) => last < satellite,
+    }
+}
+
+/// The row of a satellite line behind that of the satellite `last`, in a file of so many codes; else what
+/// is wrong with it. The line is appended to `out`.
+pub fn check_satellite_line(
+    out: &mut Vec<u8>,
+    line: &[u8],
+    width: usize,
+    last: Option<u8>,
+) -> Result<SatelliteRow, Cause>
+    requires { width ≤ 16 }
+    ensures row { IfOk result (λ r. IsTableRow width r × (line.now ≡ satellite_line r)) }
+    ensures next { IfOk result (λ r. IsNextSatellite last r.satellite) }
+    ensures out { IfOk result (λ r. out.new.items ≡ out.old.items ++ line.now) }
+    ensures fault { IfErr result (IsSatelliteFault width last line.now) }
+{
+    let Some(satellite) = satellite_of_form(line, width) else {
+        return Err(Cause::Columns);
+    };
+    if !is_next_satellite(last, satellite) {
+        return Err(Cause::Order);
+    }
+    let Ok(found) = read_satellite_line(out, line, width) else {
+        return Err(Cause::OutOfMemory);
+    };
+    let Some(row) = found else {
+        return Err(Cause::Value);
+    };
+    Ok(row)
+}
+
+/// How many records a text has, and how many satellite lines.
+#[derive(Clone, Copy)]
+pub struct RecordCounts {
+    pub epochs: usize,
+    pub satellites: usize,
+}
+
+// Where the first line ends, if it does.
+fn line_end(text: &[u8]) -> Option<usize>
+    ensures { MatchOption result
+        (HasNoEnd text.now)
+        (λ end. (end < length text.now) × IsLine (take (end + 1) text.now)) }
+{
+    for (i, byte) in text.iter().enumerate() {
+        if *byte == b'\n' {
+            return Some(i);
+        }
+    }
+    None
+}
+
+// The first line of a text with its LF, and what stands behind it; `None` where no line ends.
+fn next_line(text: &[u8]) -> Option<(&[u8], &[u8])>
+    ensures { MatchOption result
+        (HasNoEnd text.now)
+        (λ l. IsLine l.0.now × (text.now ≡ l.0.now ++ l.1.now) × (length l.1.now < length text.now)) }
+{
+    let end = line_end(text)?;
+    Some(text.split_at(end + 1))
+}
+
+// Reads so many satellite lines behind so many lines of the file, and gives what stands behind them.
+fn check_satellites<'a>(
+    out: &mut Vec<u8>,
+    text: &'a [u8],
+    lines: usize,
+    width: usize,
+    count: usize,
+) -> Result<&'a [u8], CheckFault>
+    requires width { width ≤ 16 }
+    requires count { count ≤ 32 }
+    requires lines { lines + length text.now + 1 < 2 ^ 64 }
+    ensures rows { IfOk result (λ rest. ReadsRows width count text.now rest.now out.old.items out.new.items) }
+    ensures len { IfOk result (λ rest. length rest.now + count ≤ length text.now) }
+    ensures fault { IfErr result (IsFaultOfRows width count lines text.now) }
+{
+    let mut rest = text;
+    let mut last = None;
+    for k in 0..count {
+        let line = lines + k + 1;
+        let Some((satellite_line, behind)) = next_line(rest) else {
+            return Err(CheckFault {
+                line,
+                cause: Cause::Truncated,
+            });
+        };
+        match check_satellite_line(out, satellite_line, width, last) {
+            Ok(row) => last = Some(row.satellite),
+            Err(cause) => return Err(CheckFault { line, cause }),
+        }
+        rest = behind;
+    }
+    Ok(rest)
+}
+
+// Reads a record behind so many lines of the file and behind the epoch `last`, and gives what stands behind it.
+fn check_record<'a>(
+    out: &mut Vec<u8>,
+    text: &'a [u8],
+    lines: usize,
+    width: usize,
+    first: GpsMs,
+    last: Option<GpsMs>,
+) -> Result<(EpochStamp, &'a [u8]), CheckFault>
+    requires width { width ≤ 16 }
+    requires some { 0 < length text.now }
+    requires lines { lines + length text.now + 1 < 2 ^ 64 }
+    ensures record { IfOk result (λ r. ReadsRecord width first last r.0.time r.0.count text.now r.1.now out.old.items out.new.items) }
+    ensures count { IfOk result (λ r. r.0.count ≤ 32) }
+    ensures len { IfOk result (λ r. length r.1.now + r.0.count < length text.now) }
+    ensures fault { IfErr result (IsFaultOfRecord width first last lines text.now) }
+{
+    let line = lines + 1;
+    let Some((epoch_line, behind)) = next_line(text) else {
+        return Err(CheckFault {
+            line,
+            cause: Cause::Truncated,
+        });
+    };
+    let stamp = match check_epoch_line(out, epoch_line, first, last) {
+        Ok(stamp) => stamp,
+        Err(cause) => return Err(CheckFault { line, cause }),
+    };
+    let rest = check_satellites(out, behind, line, width, stamp.count)?;
+    Ok((stamp, rest))
+}
+
+/// Reads the records of a file of so many codes and this first time, behind so many lines of it.
+/// They are appended to `out`.
+pub fn check_records(
+    out: &mut Vec<u8>,
+    text: &[u8],
+    lines: usize,
+    width: usize,
+    first: GpsMs,
+) -> Result<RecordCounts, CheckFault>
+    requires width { width ≤ 16 }
+    requires lines { lines + length text.now + 1 < 2 ^ 64 }
+    ensures records { IfOk result (λ c. ReadsRecords width first c.epochs c.satellites text.now out.old.items out.new.items) }
+    ensures fault { IfErr result (IsFaultOfRecords width first lines text.now) }
+{
+    let mut rest = text;
+    let mut line = lines;
+    let mut last = None;
+    let mut counts = RecordCounts {
+        epochs: 0,
+        satellites: 0,
+    };
+    while rest.len() > 0 {
+        let (stamp, behind) = match check_record(out, rest, line, width, first, last) {
+            Ok(read) => read,
+            Err(fault) => return Err(fault),
+        };
+        line += 1 + stamp.count;
+        last = Some(stamp.time);
+        counts.epochs += 1;
+        counts.satellites += stamp.count;
+        rest = behind;
+    }
+    Ok(counts)
+}

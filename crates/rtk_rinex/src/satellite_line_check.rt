@@ -1,0 +1,154 @@
+//! The line of a satellite, read back.
+
+ghost use Rattle.std.specs.Prelude.{◌≡◌, ◌≢◌, ℕ, ◌+◌, ◌*◌, ◌<◌, ◌≤◌, ◌++◌, [], ◌∷◌, length, take, drop, All, IsTrue, ◌↔◌, IfOk, MatchOption, Option};
+ghost use Rattle.rtk_rinex.specs.Columns.{left};
+ghost use Rattle.rtk_rinex.specs.Record.{IsStrengthOrNone, satellite_line};
+ghost use Rattle.rtk_rinex.specs.Table.{IsAbsentOrWritten, IsLock, IsObserved, IsTableRow};
+ghost use Rattle.rtk_rinex.specs.CheckValues.{observations_in, row_in};
+ghost use Rattle.rtk_rinex.specs.CheckValues as spec;
+
+use crate::epoch_line_check::is_end_from;
+use crate::check_values::{digits, observed};
+use crate::epoch_table::{Observed, SatelliteRow};
+use crate::record_text::{is_shown, is_written_value, put_satellite_line};
+use arrayvec::ArrayVec;
+use std::alloc::AllocError;
+
+/// The longest line of a satellite without its LF: a mark, two digits, and 48 columns for each of 16 codes.
+const LONGEST: usize = 771;
+
+fn is_absent_or_written(value: Option<i64>) -> bool
+    ensures { IsTrue result ↔ IsAbsentOrWritten value }
+{
+    match value {
+        Some(value) => is_written_value(value),
+        None => true,
+    }
+}
+
+fn is_strength(strength: Option<u32>) -> bool
+    ensures { IsTrue result ↔ IsStrengthOrNone strength }
+{
+    match strength {
+        Some(strength) => strength >= 250 && strength <= 63_750 && strength % 250 == 0,
+        None => true,
+    }
+}
+
+fn is_lock(phase: Option<i64>, slip: bool, half: bool) -> bool
+    ensures { IsTrue result ↔ IsLock phase slip half }
+{
+    match phase {
+        Some(_) => true,
+        None => !slip && !half,
+    }
+}
+
+fn is_observed(observed: &Observed) -> bool
+    ensures { IsTrue result ↔ IsObserved observed.now }
+{
+    is_absent_or_written(observed.range_mm)
+        && is_absent_or_written(observed.phase_millicycles)
+        && is_strength(observed.strength_millidbhz)
+        && is_lock(observed.phase_millicycles, observed.slip, observed.half)
+}
+
+fn are_observed(cells: &[Observed]) -> bool
+    ensures { IsTrue result ↔ All IsObserved cells.now }
+{
+    for observed in cells {
+        if !is_observed(observed) {
+            return false;
+        }
+    }
+    true
+}
+
+fn is_table_row(row: &SatelliteRow, width: usize) -> bool
+    ensures { IsTrue result ↔ IsTableRow width row.now }
+{
+    row.satellite >= 1
+        && row.satellite <= 32
+        && row.observed.len() == width
+        && are_observed(row.observed.as_slice())
+        && is_shown(row)
+}
+
+// Appends to the columns of a line.
+fn add(columns: &mut ArrayVec<u8, LONGEST>, text: &[u8])
+    requires { length columns.old.items + length text.now ≤ 771 }
+    ensures items { columns.new.items ≡ columns.old.items ++ text.now }
+    ensures len { length columns.new.items ≡ length columns.old.items + length text.now }
+{
+    if columns.try_extend_from_slice(text).is_err() {
+        unreachable!();
+    }
+}
+
+// The columns of a line, with blanks behind them.
+fn padded(line: &[u8]) -> ArrayVec<u8, LONGEST>
+    requires { length line.now ≤ 771 }
+    ensures value { result.items ≡ left 771 line.now }
+    ensures len { length result.items ≡ 771 }
+{
+    let blanks = [b' '; LONGEST];
+    let mut columns = ArrayVec::new();
+    add(&mut columns, line);
+    add(&mut columns, &blanks[..LONGEST - line.len()]);
+    columns
+}
+
+// What the codes of a line show, of its columns behind the satellite.
+fn cells_in(columns: &[u8], width: usize) -> ArrayVec<Observed, 16>
+    requires width { width ≤ 16 }
+    requires columns { length columns.now ≡ 768 }
+    ensures { result.items ≡ observations_in width columns.now }
+{
+    let mut cells = ArrayVec::new();
+    for k in 0..width {
+        cells.push(observed(&columns[48 * k..48 * k + 48]));
+    }
+    cells
+}
+
+// What a satellite line of so many codes shows, read without a test of its form.
+fn row_shown(line: &[u8], width: usize) -> SatelliteRow
+    requires width { width ≤ 16 }
+    requires line { length line.now ≤ 771 }
+    ensures { result ≡ row_in width line.now }
+{
+    let padded = padded(line);
+    let columns = padded.as_slice();
+    SatelliteRow {
+        satellite: digits(&columns[1..3]) as u8,
+        observed: cells_in(&columns[3..], width),
+    }
+}
+
+/// The row of a satellite line of a file with so many codes, which ends in LF; `None` exactly where it is
+/// no such line. A satellite line is appended to `out`.
+pub fn read_satellite_line(
+    out: &mut Vec<u8>,
+    line: &[u8],
+    width: usize,
+) -> Result<Option<SatelliteRow>, AllocError>
+    requires { width ≤ 16 }
+    ensures { IfOk result (λ found. MatchOption found
+        ((r : SatelliteRow) → IsTableRow width r → line.now ≢ satellite_line r)
+        (λ r. IsTableRow width r × (line.now ≡ satellite_line r) × (out.new.items ≡ out.old.items ++ line.now))) }
+{
+    if line.len() == 0 || line.len() > LONGEST + 1 {
+        return Ok(None);
+    }
+    let row = row_shown(line.split_at(line.len() - 1).0, width);
+    if !is_table_row(&row, width) {
+        return Ok(None);
+    }
+    let start = out.as_slice().len();
+    put_satellite_line(out, &row)?;
+    if is_end_from(out.as_slice(), start, line) {
+        Ok(Some(row))
+    } else {
+        Ok(None)
+    }
+}
