@@ -4,8 +4,8 @@ ghost use Rattle.std.specs.Io.Buffered.{reader_capacity};
 ghost use Rattle.rtk_convert.specs.ReadSteps.{HasCalled};
 ghost use Rattle.rtk_cli.specs.Converting.{most_reads, read_at_once, status_of};
 
-use crate::files::{Capture, Reads, Writes};
 use crate::exit_status::{DONE, FAILED, REFUSED, fail, fail_to_open, refuse};
+use crate::files::{Capture, Reads, Writes};
 use crate::words::{BadWords, STDIN, ToolFault};
 use rtk_convert::{ConvertFault, Counts, Setup};
 use rtk_frame::{Sink, Source};

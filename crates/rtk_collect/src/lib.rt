@@ -15,6 +15,9 @@ mod window;
 pub use collector::Collector;
 pub use dated::Dated;
 pub use epoch_set::EpochSet;
-pub use laws::{closed_epochs_only_grow, epochs_are_bounded, equality_decides, first_is_preferred, late_arrivals_change_nothing, openings_do_not_conflict, set_decides, stations_are_final};
+pub use laws::{
+    closed_epochs_only_grow, epochs_are_bounded, equality_decides, first_is_preferred,
+    late_arrivals_change_nothing, openings_do_not_conflict, set_decides, stations_are_final,
+};
 pub use left::Left;
 pub use offer::{Conflicts, Offer, SatelliteCode};

@@ -2,8 +2,8 @@
 
 ghost use Rattle.std.specs.Prelude.{◌≡◌, ◌<◌, ◌≤◌, ◌↔◌, [], ◌∷◌, ◌++◌, length, IsTrue};
 
-use arrayvec::ArrayVec;
 use crate::epoch_set::EpochSet;
+use arrayvec::ArrayVec;
 use rtk_obs::Code;
 use std::marker::Model;
 

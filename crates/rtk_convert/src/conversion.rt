@@ -13,7 +13,7 @@ use crate::counts::Counts;
 use crate::fault::{ConvertFault, Stream};
 use crate::frame_class::{FrameClass, classify};
 use crate::output::{put_last_header, put_lines};
-use crate::records::{close_left, Records};
+use crate::records::{Records, close_left};
 use crate::report;
 use crate::setup::Setup;
 use rtk_collect::{Collector, Dated, EpochSet, Offer};

@@ -5,7 +5,7 @@ ghost use Rattle.rtk_message.specs.Fields.{FieldsFit};
 ghost use Rattle.rtk_message.specs.Arp1005.{table};
 
 use crate::fault::DecodeFault;
-use crate::field::{fits_i, put_flag, put_i64, put_u, next_word};
+use crate::field::{fits_i, next_word, put_flag, put_i64, put_u};
 use crate::layout::Layout;
 use rtk_bits::{BitReader, BitWriter};
 use std::alloc::AllocError;

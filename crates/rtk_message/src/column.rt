@@ -4,8 +4,8 @@ ghost use Rattle.rtk_message.specs.Columns.{numbers};
 ghost use Rattle.rtk_message.specs.Fields.{TakesAll, PutsAll, FieldsFit};
 ghost use Rattle.std.specs.Prelude.{◌≡◌, ◌≤◌, ◌*◌, ◌+◌, [], length, OnOk, sum_by, count_ones, ◌<◌, ◌∷◌, ◌++◌, map, List, Bool, IsTrue, ◌↔◌};
 
-use arrayvec::ArrayVec;
 use crate::field::{FieldValue, Word, next_word};
+use arrayvec::ArrayVec;
 use rtk_bits::{BitReader, BitWriter};
 use std::alloc::AllocError;
 use std::marker::Model;

@@ -5,9 +5,9 @@ ghost use Rattle.rtk_message.specs.Fields.{TakesAll, PutsAll, FieldsFit};
 ghost use Rattle.rtk_message.specs.Columns.{numbers};
 ghost use Rattle.rtk_message.specs.Msm1074.{header_table, EachFits, HasLengths};
 
-use crate::column::{Column, column_fits, put_column, read_column, ones, put_mask, read_mask};
+use crate::column::{Column, column_fits, ones, put_column, put_mask, read_column, read_mask};
 use crate::fault::DecodeFault;
-use crate::field::{WEEK_MS, put_flag, put_u, next_word};
+use crate::field::{WEEK_MS, next_word, put_flag, put_u};
 use crate::layout::Layout;
 use rtk_bits::{BitReader, BitWriter};
 use std::alloc::AllocError;

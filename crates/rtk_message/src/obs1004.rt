@@ -5,10 +5,10 @@ ghost use Rattle.rtk_message.specs.Obs1004.{satellite_table};
 ghost use Rattle.std.specs.List.{flat_map};
 ghost use Rattle.std.specs.Prelude.{◌≡◌, ◌≤◌, ◌+◌, ◌*◌, [], length, OnOk, IsTrue, ◌↔◌, ◌<◌, ◌∷◌, ◌++◌};
 
-use arrayvec::ArrayVec;
 use crate::fault::DecodeFault;
-use crate::field::{WEEK_MS, put_flag, put_i16, put_i32, put_u, FieldValue, next_word};
+use crate::field::{FieldValue, WEEK_MS, next_word, put_flag, put_i16, put_i32, put_u};
 use crate::layout::Layout;
+use arrayvec::ArrayVec;
 use rtk_bits::{BitReader, BitWriter};
 use std::alloc::AllocError;
 use std::marker::Model;

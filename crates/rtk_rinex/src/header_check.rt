@@ -14,7 +14,7 @@ ghost use Rattle.rtk_rinex.specs.Reading.{IsMoment, reading_of};
 ghost use Rattle.std.specs.Int.{IsInRange};
 ghost use Rattle.std.specs.Prelude.{◌≡◌, ◌≢◌, ℕ, ◌+◌, ◌*◌, ◌%◌, ◌/◌, ◌<◌, ◌≤◌, List, ◌++◌, length, take, drop, codes, decimal, pos, AllPairs, slice_index_or, MatchOption, ◌^◌, ◌∷◌, Decides, IfOk, IfErr};
 
-use crate::head::{is_marker, Head};
+use crate::head::{Head, is_marker};
 use crate::header_digits::{columns, number_in, signed_in};
 use crate::header_fault::{HeaderCause, HeaderFault};
 use crate::header_text::put_header;

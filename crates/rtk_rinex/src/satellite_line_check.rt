@@ -7,8 +7,8 @@ ghost use Rattle.rtk_rinex.specs.Table.{IsAbsentOrWritten, IsLock, IsObserved, I
 ghost use Rattle.rtk_rinex.specs.CheckValues.{observations_in, row_in};
 ghost use Rattle.rtk_rinex.specs.CheckValues as spec;
 
-use crate::epoch_line_check::is_end_from;
 use crate::check_values::{digits, observed};
+use crate::epoch_line_check::is_end_from;
 use crate::epoch_table::{Observed, SatelliteRow};
 use crate::record_text::{is_shown, is_written_value, put_satellite_line};
 use arrayvec::ArrayVec;
