@@ -6,7 +6,7 @@ ghost use Rattle.std.specs.Prelude.{◌≡◌, ◌≢◌, [], IfOk, IfErr};
 use crate::check_fault::{Cause, CheckFault};
 use crate::header_check::check_header;
 use crate::header_fault::{HeaderCause, HeaderFault};
-use crate::records_check::{Counts, check_records};
+use crate::records_check::{RecordCounts, check_records};
 use std::alloc::{AllocError, Global};
 use std::marker::Model;
 
@@ -32,7 +32,7 @@ impl Table {
     ghost use Rattle.rtk_rinex.specs.CheckTable.{TableView, HoldsTable};
 
     // The table whose text this is.
-    pub(crate) fn of_text(text: Vec<u8>, counts: Counts) -> Table
+    pub(crate) fn of_text(text: Vec<u8>, counts: RecordCounts) -> Table
         requires table { HoldsTable text.items counts.epochs counts.satellites }
         ensures { result ≡ record { text = text.items; epochs = counts.epochs; satellites = counts.satellites } }
     {
