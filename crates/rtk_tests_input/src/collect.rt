@@ -4,11 +4,10 @@ mod cells;
 mod epochs;
 mod stations;
 
-use crate::moments::NOON;
 use rtk_collect::{Collector, Dated, EpochSet, Left, Offer, SatelliteCode};
 use rtk_message::{Message, Obs1004, Satellite, Satellites, decode};
 use rtk_obs::GpsMs;
-use rtk_test_support::{holds, same, same_of};
+use rtk_test_support::{NOON, holds, same, same_of};
 use std::test::*;
 
 // A 1005 of station 2003: x 1114104.5999, y -4850729.7108, z 3975521.4643.

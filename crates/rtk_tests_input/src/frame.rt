@@ -2,6 +2,8 @@
 
 ghost use Rattle.std.specs.Prelude.{◌≡◌, ◌<◌, false};
 
+mod streams;
+
 use rtk_frame::{Answer, FrameFault, Scanner, crc24q, encode_frame, next_frame};
 use rtk_test_support::{holds, holds_of, same, same_of};
 use std::alloc::{AllocError, Global};

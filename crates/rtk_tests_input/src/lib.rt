@@ -8,9 +8,6 @@ mod collect;
 #[cfg(test)]
 mod frame;
 #[cfg(test)]
-mod frame_streams;
-#[cfg(test)]
 mod message;
-pub mod moments;
 #[cfg(test)]
 mod obs;

@@ -1,7 +1,7 @@
 //! Tests of the messages, by payloads and values from outside.
 
-mod faults;
+mod decoding;
+mod encoding;
 mod fields;
 mod headers;
 mod payloads;
-mod round_trip;

@@ -1,12 +1,11 @@
 //! Values from the standards and from other programs.
 
-mod digits;
-mod legacy;
-mod msm;
+mod legacy_cells;
+mod msm_cells;
+mod tracks;
 
-use crate::moments::{NOON, at};
 use rtk_obs::*;
-use rtk_test_support::{holds, holds_of, same, same_of};
+use rtk_test_support::{NOON, holds, holds_of, moment, same, same_of};
 use std::test::Fail;
 
 fn reading(date: (u16, u8, u8), time: (u8, u8, u8), millisecond: u16) -> Civil {
@@ -43,7 +42,7 @@ fn known_moments() -> Result<(), Fail> {
     ];
     for &(want, ms) in &rows {
         holds(ms <= LAST_MS)?;
-        let time = at(ms);
+        let time = moment(ms)?;
         same_of(ms, &(civil(time), of_civil(want)), &(want, Some(time)))?;
     }
     holds(GpsMs::new(3_818_016_000_000).is_none())
@@ -91,7 +90,7 @@ fn times_of_week_are_dated_near_the_reference() -> Result<(), Fail> {
         holds(near <= LAST_MS)?;
         same_of(
             format_args!("time of week {tow}"),
-            &date(at(near), tow).ms(),
+            &date(moment(near)?, tow).ms(),
             &want,
         )?;
     }

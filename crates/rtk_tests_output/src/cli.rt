@@ -1,12 +1,12 @@
 //! Tests of the commands, by values from outside. What words are refused and what clap
 //! says of them is tested by the program.
 
-mod checks;
+mod checking;
 mod convert_words;
-mod ends;
+mod exit_status;
 mod faults;
-mod lines;
 mod long;
+mod payload_line;
 mod rows;
 
 use rtk_cli::{ToolFault, show};

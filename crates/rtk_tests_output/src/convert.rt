@@ -2,23 +2,22 @@
 
 ghost use Rattle.std.specs.Prelude.{◌<◌};
 
-mod asking;
 mod cell_rows;
 mod links;
+mod payload_rows;
 mod payloads;
-mod rows;
+mod read_sizes;
 mod runs;
 mod texts;
 
-use crate::moments::{MADE, NOON, moment};
 use cell_rows::{PARTS, PHASES};
+use payload_rows::{EPOCHS, REPORTS, Row};
 use payloads::*;
-use rows::{EPOCHS, REPORTS, Row};
 use rtk_convert::{ConvertFault, Counts, Setup, SetupFault, Stream, run};
 use rtk_frame::{After, MemSink, MemSource, encode_frame};
 use rtk_obs::Code;
 use rtk_rinex::Head;
-use rtk_test_support::{holds, same};
+use rtk_test_support::{MADE, NOON, holds, moment, same};
 use runs::{BROKEN, ENDED, Run};
 use std::alloc::Global;
 use std::test::Fail;

@@ -5,6 +5,5 @@
 mod cli;
 #[cfg(test)]
 mod convert;
-pub mod moments;
 #[cfg(test)]
 mod rinex;

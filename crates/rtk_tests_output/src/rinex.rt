@@ -1,10 +1,10 @@
 //! An example file, the limits of the columns, and heads and files that are refused.
 
-pub(crate) mod check;
-mod check_lines;
-mod header;
 mod header_check;
-mod record;
+mod header_text;
+mod record_text;
+mod records_check;
+pub(crate) mod table_check;
 
 use rtk_obs::Code;
 use std::test::Fail;

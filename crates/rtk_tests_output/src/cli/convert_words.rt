@@ -1,9 +1,8 @@
 //! The words of `convert` that give a conversion.
 
-use crate::moments::NOON;
 use rtk_cli::{Job, job};
 use rtk_obs::Code;
-use rtk_test_support::holds_of;
+use rtk_test_support::{NOON, holds_of};
 use std::alloc::Global;
 use std::test::Fail;
 

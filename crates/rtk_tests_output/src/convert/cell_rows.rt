@@ -1,7 +1,7 @@
 //! Rows on cells and their phases.
 
+use super::payload_rows::Row;
 use super::payloads::*;
-use super::rows::Row;
 use super::texts::*;
 
 /// Conflicts and split epochs.

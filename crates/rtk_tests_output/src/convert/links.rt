@@ -6,11 +6,10 @@ use super::payloads::*;
 use super::runs::EXAMPLE;
 use super::texts::*;
 use super::{consists_of, setup};
-use crate::moments::{NOON, moment};
 use rtk_convert::{ConvertFault, Converter, Stream};
 use rtk_frame::{MemSink, encode_frame};
 use rtk_obs::GpsMs;
-use rtk_test_support::{holds, same, same_of};
+use rtk_test_support::{NOON, holds, moment, same, same_of};
 use std::alloc::Global;
 use std::test::Fail;
 

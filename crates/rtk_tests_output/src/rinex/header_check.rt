@@ -1,7 +1,7 @@
 //! Tests of headers that are read back.
 
-use super::check::fault_of;
-use super::header::HEADER;
+use super::header_text::HEADER;
+use super::table_check::fault_of;
 use rtk_rinex::Cause;
 use rtk_test_support::same;
 use std::alloc::Global;

@@ -1,4 +1,4 @@
-//! Moments for the tests; a number behind the last moment ends the test.
+//! Moments of the tests, by their numbers; a number after the last moment ends the test.
 
 ghost use Rattle.std.specs.Prelude.{◌≤◌, OkIff};
 ghost use Rattle.rtk_obs.specs.declared.time.TheConstants.{LAST_MS};

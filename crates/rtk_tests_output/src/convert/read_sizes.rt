@@ -2,10 +2,9 @@
 ghost use Rattle.std.specs.Prelude.{◌≡◌, None, true};
 
 use super::setup;
-use crate::moments::NOON;
 use rtk_convert::run;
 use rtk_frame::{MemSink, Source, StreamFault};
-use rtk_test_support::same;
+use rtk_test_support::{NOON, same};
 use std::alloc::Global;
 use std::test::Fail;
 

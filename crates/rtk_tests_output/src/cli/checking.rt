@@ -1,6 +1,6 @@
 //! `check` over sources and sinks that fail. What it says of files is tested by the program.
 
-use crate::rinex::check::{EPOCH, SATELLITE, file};
+use crate::rinex::table_check::{EPOCH, SATELLITE, file};
 use rtk_cli::{ToolFault, check_file};
 use rtk_frame::{After, MemSink, MemSource};
 use rtk_test_support::{holds, same, same_of};

@@ -2,7 +2,7 @@
 
 ghost use Rattle.std.specs.Prelude.{◌<◌};
 
-use super::header::HEADER;
+use super::header_text::HEADER;
 use rtk_rinex::{Cause, CheckFault, check, text};
 use rtk_test_support::{holds, same, same_of};
 use std::alloc::Global;

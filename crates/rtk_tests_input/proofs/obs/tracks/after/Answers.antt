@@ -1,6 +1,6 @@
 use Rattle.std.proofs.Common.{arith}
 use Rattle.rtk_obs.proofs.TracksLemmas.{later_empty, all_later_step}
-use Rattle.rtk_tests_input.proofs.obs.digits.after.Goals as goal
+use Rattle.rtk_tests_input.proofs.obs.tracks.after.Goals as goal
 
 pub step-early-requires-clause-later : goal.step-early-requires-clause-later
 step-early-requires-clause-later c = later_empty _ _ (c.new-tracks.ensures.empty 5 c.args.code)

@@ -1,7 +1,7 @@
 use Rattle.std.proofs.Common.{arith}
 use Rattle.rtk_obs.specs.declared.code.Code.TheVariants.{C1C}
 use Rattle.rtk_obs.proofs.TracksLemmas.{later_empty, all_later_step}
-use Rattle.rtk_tests_input.proofs.obs.digits.after_both.Goals as goal
+use Rattle.rtk_tests_input.proofs.obs.tracks.after_both.Goals as goal
 
 pub step-early-requires-clause-later : goal.step-early-requires-clause-later
 step-early-requires-clause-later c = later_empty _ _ (c.new-tracks.ensures.empty 5 C1C)

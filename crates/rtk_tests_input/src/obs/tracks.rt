@@ -1,10 +1,10 @@
 //! Loss of lock and rolls over steps.
 
-ghost use Rattle.std.specs.Prelude.{◌≤◌};
+ghost use Rattle.std.specs.Prelude.{◌≡◌, ◌≤◌};
+ghost use Rattle.rtk_obs.specs.declared.time.TheConstants.{LAST_MS};
 
-use crate::moments::{NOON, at};
-use rtk_obs::{Cell, CellSource, Code, Digits, Tracks, rolled};
-use rtk_test_support::{holds, same, same_of};
+use rtk_obs::{Cell, CellSource, Code, Digits, GpsMs, Tracks, rolled};
+use rtk_test_support::{NOON, holds, same, same_of};
 use std::test::Fail;
 
 // A phase of a 1004.
@@ -37,7 +37,15 @@ fn without_phase(cell: Cell) -> Cell {
     }
 }
 
-// The digits of a cell of satellite 5, and of a second one 1 s after it.
+// A moment that is known to exist, so that the order of two of them is known too.
+fn at(ms: u64) -> GpsMs
+    requires { ms ≤ LAST_MS }
+    ensures { result ≡ ms }
+{
+    GpsMs::new(ms).unwrap()
+}
+
+// The digits of a cell of satellite 5, and of a second cell 1 s later.
 fn after(code: Code, first: Cell, second: Cell) -> (Digits, Digits) {
     let mut tracks = Tracks::new();
     let start = at(NOON);
@@ -47,8 +55,8 @@ fn after(code: Code, first: Cell, second: Cell) -> (Digits, Digits) {
     (early, late)
 }
 
-// The digits of a cell of satellite 5, behind one 31 s before it and one of any satellite 30 s
-// before it.
+// The digits of a cell of satellite 5 that follows a cell of its own 31 s before and a cell of any
+// satellite 30 s before.
 fn after_both(first: Cell, other: u8, between: Cell, third: Cell) -> Digits
     requires { (1 ≤ other) × (other ≤ 32) }
 {

@@ -1,10 +1,9 @@
 //! Tests of heads and of the header.
 
 use super::{CODES, part};
-use crate::moments::{MADE, NOON, moment};
 use rtk_obs::{Code, Position};
 use rtk_rinex::{Head, HeadFault, header};
-use rtk_test_support::{holds, same};
+use rtk_test_support::{MADE, NOON, holds, moment, same};
 use std::alloc::Global;
 use std::fmt::Write;
 use std::test::Fail;

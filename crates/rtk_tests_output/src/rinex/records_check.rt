@@ -1,6 +1,6 @@
 //! Tests of whole lines behind a good header, of a larger file, and of the texts of faults.
 
-use super::check::{EPOCH, SATELLITE, fault_of, file};
+use super::table_check::{EPOCH, SATELLITE, fault_of, file};
 use rtk_rinex::{Cause, CheckFault, check};
 use rtk_test_support::{same, same_of};
 use std::test::Fail;
