@@ -5,7 +5,7 @@ use Rattle.rtk_obs.specs.declared.track.Track.{Track}
 use Rattle.rtk_obs.specs.Cell.{IsSatellite}
 use Rattle.rtk_obs.specs.Tracks.{track_at}
 use Rattle.rtk_collect.specs.Accepted.{closed}
-use Rattle.rtk_collect.specs.Collector.{CollectorView, RepresentsFound}
+use Rattle.rtk_collect.specs.Collector.{CollectorView, RepresentsArrivals}
 use Rattle.rtk_convert.specs.declared.frame_class.FrameClass.{FrameClass}
 use Rattle.rtk_convert.specs.declared.frame_class.FrameClass.TheVariants.{OtherMessage, Refused, Foreign, Dated}
 use Rattle.rtk_convert.specs.declared.counts.Counts.{Counts}
@@ -30,7 +30,7 @@ pub record ConversionView : Type 0 where
 -- a conversion represents these found frames: its window holds what is kept of their arrivals, and it has the last
 -- phases of the closed epochs, whether the header is out, how many records are, and the counts of the frames
 pub record RepresentsFound (s : ConversionView) (found : List Found) : Type 0 where
-  pub window : RepresentsFound s.window (arrivals found)
+  pub window : RepresentsArrivals s.window (arrivals found)
   pub closed : HasClosed s.closed s.settings.heading.listed (closed s.settings.window (arrivals found))
   pub counts : s.counts ≡ frame_counts s.settings.window found
 
