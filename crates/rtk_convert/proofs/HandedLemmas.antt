@@ -1,10 +1,10 @@
 -- What a function that writes answers where it hands an error on.
-use Rattle.std.proofs.Common.{◌≡◌, ◌≢◌, Result, Ok, Err, sym, ◌∙◌}
+use Rattle.std.proofs.Common.{◌≡◌, ◌≢◌, ℕ, Result, Ok, Err, refl, sym, ◌∙◌}
 use Rattle.std.specs.Prelude.{OnErr, IfErr, IsErrOf}
 use Rattle.rtk_convert.specs.declared.fault.ConvertFault.{ConvertFault}
 use Rattle.rtk_convert.specs.declared.fault.ConvertFault.TheVariants.{Setup, NoLink, LinkClosed, OutOfMemory, Write, Read, Endless, Stopped}
 use Rattle.rtk_convert.specs.declared.fault.Stream.TheVariants.{Out, Log}
-use Rattle.rtk_convert.specs.Failure.{IsOutFault, IsFrameFault}
+use Rattle.rtk_convert.specs.Failure.{IsOutFault, IsFrameFault, FailsWrites, NamesFailedWrites}
 
 pub out-frame : (fault : ConvertFault) → IsOutFault fault → IsFrameFault fault
 out-frame OutOfMemory p = p
@@ -17,28 +17,25 @@ out-frame (Read link) p = p
 out-frame Endless p = p
 out-frame Stopped p = p
 
--- an answer has one fault
-pub one-fault : {T : Type 0} {r : Result T ConvertFault} {f s : ConvertFault} → r ≡ Err f → r ≡ Err s → f ≡ s
-one-fault p q = let same = sym p ∙ q in cc
+-- a fault of the file leaves the count of the report's failed writes
+pub out-leaves-report : (fault : ConvertFault) (count : ℕ) → IsOutFault fault → FailsWrites Log fault count count
+out-leaves-report OutOfMemory count p = refl
+out-leaves-report (Write Out) count p = refl
+out-leaves-report (Write Log) count p = absurd p
+out-leaves-report Setup count p = absurd p
+out-leaves-report NoLink count p = absurd p
+out-leaves-report LinkClosed count p = absurd p
+out-leaves-report (Read link) count p = absurd p
+out-leaves-report Endless count p = absurd p
+out-leaves-report Stopped count p = absurd p
 
--- the answer of a write to the report, as that of the call
+-- the answer of a write to the report, as the answer of the call
 module _ {T : Type 0} where
+  -- it leaves the count of the file's failed writes
+  pub log-leaves-file : (r : Result T ConvertFault) {before after : ℕ} → after ≡ before → IfErr r (λ f. f ≡ Write Log) → NamesFailedWrites Out r before after
+  log-leaves-file (Ok x) same p = same
+  log-leaves-file (Err f) same p = rw p same
+
   pub log-frame : (r : Result T ConvertFault) → IfErr r (λ f. f ≡ Write Log) → IfErr r IsFrameFault
   log-frame (Ok x) p = tt
   log-frame (Err f) p = rw p tt
-
-  pub log-out : (r : Result T ConvertFault) {P : Type 0} → IfErr r (λ f. f ≡ Write Log) → IsErrOf r (Write Out) → P
-  log-out (Ok x) p is = absurd (cc)
-  log-out (Err f) p is = absurd (cc)
-
-  pub log-log : (r : Result T ConvertFault) {P : Type 0} → OnErr r P → IsErrOf r (Write Log) → P
-  log-log (Ok x) p is = absurd (cc)
-  log-log (Err f) p is = p
-
-  pub log-kept : (r : Result T ConvertFault) (P : Type 0) → IfErr r (λ f. f ≡ Write Log) → IfErr r (λ f. f ≢ Write Log → P)
-  log-kept (Ok x) P p = tt
-  log-kept (Err f) P p = λ other. absurd (other p)
-
-  pub kept-any : (r : Result T ConvertFault) (s : ConvertFault) {P : Type 0} → P → IfErr r (λ f. f ≢ s → P)
-  kept-any (Ok x) s p = tt
-  kept-any (Err f) s p = λ other. p

@@ -1,7 +1,10 @@
--- Why a call breaks off.
+-- Why a call breaks off, and which failed writes it names.
+use Rattle.std.specs.Prelude.{◌≡◌, ℕ, Result, Ok, Err}
+use Rattle.rtk_frame.specs.Stream.{CountRises}
 use Rattle.rtk_convert.specs.declared.fault.ConvertFault.{ConvertFault}
 use Rattle.rtk_convert.specs.declared.fault.ConvertFault.TheVariants.{Setup, OutOfMemory, Write, Read, Endless}
-use Rattle.rtk_convert.specs.declared.fault.Stream.TheVariants.{Out}
+use Rattle.rtk_convert.specs.declared.fault.Stream.{Stream}
+use Rattle.rtk_convert.specs.declared.fault.Stream.TheVariants.{Out, Log}
 
 -- memory was refused, or a write to the file failed
 abbrev pub IsOutFault : ConvertFault → Type 0
@@ -34,3 +37,14 @@ IsReadingFault _ = ⊥
 abbrev pub IsRunFault : ConvertFault → Type 0
 IsRunFault Setup = Unit {0}
 IsRunFault fault = IsReadingFault fault
+
+-- the count of a stream's failed writes after a call with this fault: it has risen if the fault names the stream
+abbrev pub FailsWrites : Stream → ConvertFault → ℕ → ℕ → Type 0
+FailsWrites Out (Write Out) before after = CountRises before after
+FailsWrites Log (Write Log) before after = CountRises before after
+FailsWrites stream fault before after = after ≡ before
+
+-- a stream is named as failed exactly if one of its writes failed in this call
+abbrev pub NamesFailedWrites : {T : Type 0} → Stream → Result T ConvertFault → ℕ → ℕ → Type 0
+NamesFailedWrites stream (Ok answer) before after = after ≡ before
+NamesFailedWrites stream (Err fault) before after = FailsWrites stream fault before after

@@ -1,8 +1,7 @@
 //! What all links together have come to: one found frame at a time.
 
 ghost use Rattle.std.specs.Prelude.{◌≡◌, ◌≢◌, ◌↔◌, [], true, false, List, Err, OnOk, OnErr, IsErrOf, IfOk, IfErr};
-ghost use Rattle.rtk_frame.specs.Stream.{CountRises};
-ghost use Rattle.rtk_convert.specs.Failure.{IsFrameFault};
+ghost use Rattle.rtk_convert.specs.Failure.{IsFrameFault, NamesFailedWrites};
 ghost use Rattle.rtk_convert.specs.Finish.{FinishesConversion, FinishesConversionInPart};
 ghost use Rattle.rtk_convert.specs.History.{IsEpochIn};
 ghost use Rattle.rtk_convert.specs.AddedMessage.{AddsMessage, AddsMessageInPart, closed_by};
@@ -102,12 +101,8 @@ impl Conversion {
         ensures err { OnErr result (self.old.stopped ≡ false → BreaksOffAtFrame self.old link payload.now (O.taken out.old) (O.taken out.new) (L.taken log.old) (L.taken log.new)) }
         ensures fault { self.old.stopped ≡ false → IfErr result IsFrameFault }
         ensures cause { OnErr result (self.old.stopped ≡ false → HasCause self.old.settings payload.now) }
-        ensures out_same { OnOk result (O.failures out.new ≡ O.failures out.old) }
-        ensures log_same { OnOk result (L.failures log.new ≡ L.failures log.old) }
-        ensures out_failed { IsErrOf result (ConvertFault.Write Stream.Out) → CountRises (O.failures out.old) (O.failures out.new) }
-        ensures out_kept { IfErr result (λ fault. fault ≢ ConvertFault.Write Stream.Out → O.failures out.new ≡ O.failures out.old) }
-        ensures log_failed { IsErrOf result (ConvertFault.Write Stream.Log) → CountRises (L.failures log.old) (L.failures log.new) }
-        ensures log_kept { IfErr result (λ fault. fault ≢ ConvertFault.Write Stream.Log → L.failures log.new ≡ L.failures log.old) }
+        ensures file_failed { NamesFailedWrites Stream.Out result (O.failures out.old) (O.failures out.new) }
+        ensures report_failed { NamesFailedWrites Stream.Log result (L.failures log.old) (L.failures log.new) }
     {
         if self.stopped {
             return Err(ConvertFault::Stopped);
@@ -136,12 +131,8 @@ impl Conversion {
         ensures err { OnErr result (BreaksOffAtFrame self.old link payload.now (O.taken out.old) (O.taken out.new) (L.taken log.old) (L.taken log.new)) }
         ensures fault { IfErr result IsFrameFault }
         ensures cause { OnErr result (HasCause self.old.settings payload.now) }
-        ensures out_same { OnOk result (O.failures out.new ≡ O.failures out.old) }
-        ensures log_same { OnOk result (L.failures log.new ≡ L.failures log.old) }
-        ensures out_failed { IsErrOf result (ConvertFault.Write Stream.Out) → CountRises (O.failures out.old) (O.failures out.new) }
-        ensures out_kept { IfErr result (λ fault. fault ≢ ConvertFault.Write Stream.Out → O.failures out.new ≡ O.failures out.old) }
-        ensures log_failed { IsErrOf result (ConvertFault.Write Stream.Log) → CountRises (L.failures log.old) (L.failures log.new) }
-        ensures log_kept { IfErr result (λ fault. fault ≢ ConvertFault.Write Stream.Log → L.failures log.new ≡ L.failures log.old) }
+        ensures file_failed { NamesFailedWrites Stream.Out result (O.failures out.old) (O.failures out.new) }
+        ensures report_failed { NamesFailedWrites Stream.Log result (L.failures log.old) (L.failures log.new) }
     {
         self.counts.frames = self.counts.frames.saturating_add(1);
         match classify(&self.setup, payload) {
@@ -185,12 +176,8 @@ impl Conversion {
         ensures ok { OnOk result (AddsMessage self.old link dated self.new (O.taken out.old) (O.taken out.new) (L.taken log.old) (L.taken log.new)) }
         ensures err { OnErr result (AddsMessageInPart self.old link dated (O.taken out.old) (O.taken out.new) (L.taken log.old) (L.taken log.new)) }
         ensures fault { IfErr result IsFrameFault }
-        ensures out_same { OnOk result (O.failures out.new ≡ O.failures out.old) }
-        ensures log_same { OnOk result (L.failures log.new ≡ L.failures log.old) }
-        ensures out_failed { IsErrOf result (ConvertFault.Write Stream.Out) → CountRises (O.failures out.old) (O.failures out.new) }
-        ensures out_kept { IfErr result (λ fault. fault ≢ ConvertFault.Write Stream.Out → O.failures out.new ≡ O.failures out.old) }
-        ensures log_failed { IsErrOf result (ConvertFault.Write Stream.Log) → CountRises (L.failures log.old) (L.failures log.new) }
-        ensures log_kept { IfErr result (λ fault. fault ≢ ConvertFault.Write Stream.Log → L.failures log.new ≡ L.failures log.old) }
+        ensures file_failed { NamesFailedWrites Stream.Out result (O.failures out.old) (O.failures out.new) }
+        ensures report_failed { NamesFailedWrites Stream.Log result (L.failures log.old) (L.failures log.new) }
     {
         let number = dated.message().number();
         let epoch = dated.epoch();
@@ -225,12 +212,8 @@ impl Conversion {
         ensures ok { IfOk result (λ counts. FinishesConversion self counts (O.taken out.old) (O.taken out.new) (L.taken log.old) (L.taken log.new)) }
         ensures err { OnErr result (self.stopped ≡ false → FinishesConversionInPart self (O.taken out.old) (O.taken out.new) (L.taken log.old) (L.taken log.new)) }
         ensures fault { self.stopped ≡ false → IfErr result IsFrameFault }
-        ensures out_same { OnOk result (O.failures out.new ≡ O.failures out.old) }
-        ensures log_same { OnOk result (L.failures log.new ≡ L.failures log.old) }
-        ensures out_failed { IsErrOf result (ConvertFault.Write Stream.Out) → CountRises (O.failures out.old) (O.failures out.new) }
-        ensures out_kept { IfErr result (λ fault. fault ≢ ConvertFault.Write Stream.Out → O.failures out.new ≡ O.failures out.old) }
-        ensures log_failed { IsErrOf result (ConvertFault.Write Stream.Log) → CountRises (L.failures log.old) (L.failures log.new) }
-        ensures log_kept { IfErr result (λ fault. fault ≢ ConvertFault.Write Stream.Log → L.failures log.new ≡ L.failures log.old) }
+        ensures file_failed { NamesFailedWrites Stream.Out result (O.failures out.old) (O.failures out.new) }
+        ensures report_failed { NamesFailedWrites Stream.Log result (L.failures log.old) (L.failures log.new) }
     {
         if self.stopped {
             return Err(ConvertFault::Stopped);

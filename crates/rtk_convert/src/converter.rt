@@ -2,9 +2,8 @@
 
 ghost use Rattle.std.specs.Prelude.{◌≡◌, ◌≢◌, ◌<◌, ◌↔◌, [], true, false, None, length, replicate, OnOk, OnErr, IsErrOf, IfOk, IfErr, IfSome, Decides};
 ghost use Rattle.rtk_frame.specs.ScannerView.{scanner_view};
-ghost use Rattle.rtk_frame.specs.Stream.{CountRises};
 ghost use Rattle.rtk_convert.specs.Converter.{IsLinkCount, RepresentsHistory, refusal, FeedsPiece, FeedsPieceInPart, ClosesLink, ClosesLinkInPart, ClosesAllLinks, ClosesAllLinksInPart, FinishesConverter, FinishesConverterInPart};
-ghost use Rattle.rtk_convert.specs.Failure.{IsFrameFault};
+ghost use Rattle.rtk_convert.specs.Failure.{IsFrameFault, NamesFailedWrites};
 ghost use Rattle.rtk_convert.specs.History.{History, new_history, IsOpen, newest_on};
 
 use crate::conversion::Conversion;
@@ -135,12 +134,8 @@ impl Converter {
         ensures err { IfErr result (λ fault. IsFrameFault fault → FeedsPieceInPart self.old link piece.now (O.taken out.old) (O.taken out.new) (L.taken log.old) (L.taken log.new)) }
         ensures going { OnOk result (self.new.conversion.stopped ≡ false) }
         ensures halts { IfErr result (λ fault. IsFrameFault fault → self.new.conversion.stopped ≡ true) }
-        ensures out_same { OnOk result (O.failures out.new ≡ O.failures out.old) }
-        ensures log_same { OnOk result (L.failures log.new ≡ L.failures log.old) }
-        ensures out_failed { IsErrOf result (ConvertFault.Write Stream.Out) → CountRises (O.failures out.old) (O.failures out.new) }
-        ensures out_kept { IfErr result (λ fault. fault ≢ ConvertFault.Write Stream.Out → O.failures out.new ≡ O.failures out.old) }
-        ensures log_failed { IsErrOf result (ConvertFault.Write Stream.Log) → CountRises (L.failures log.old) (L.failures log.new) }
-        ensures log_kept { IfErr result (λ fault. fault ≢ ConvertFault.Write Stream.Log → L.failures log.new ≡ L.failures log.old) }
+        ensures file_failed { NamesFailedWrites Stream.Out result (O.failures out.old) (O.failures out.new) }
+        ensures report_failed { NamesFailedWrites Stream.Log result (L.failures log.old) (L.failures log.new) }
     {
         if let Some(fault) = self.refusal(link) {
             return Err(fault);
@@ -163,12 +158,8 @@ impl Converter {
         ensures err { IfErr result (λ fault. IsFrameFault fault → ClosesLinkInPart self.old link (O.taken out.old) (O.taken out.new) (L.taken log.old) (L.taken log.new)) }
         ensures going { OnOk result (self.new.conversion.stopped ≡ false) }
         ensures halts { IfErr result (λ fault. IsFrameFault fault → self.new.conversion.stopped ≡ true) }
-        ensures out_same { OnOk result (O.failures out.new ≡ O.failures out.old) }
-        ensures log_same { OnOk result (L.failures log.new ≡ L.failures log.old) }
-        ensures out_failed { IsErrOf result (ConvertFault.Write Stream.Out) → CountRises (O.failures out.old) (O.failures out.new) }
-        ensures out_kept { IfErr result (λ fault. fault ≢ ConvertFault.Write Stream.Out → O.failures out.new ≡ O.failures out.old) }
-        ensures log_failed { IsErrOf result (ConvertFault.Write Stream.Log) → CountRises (L.failures log.old) (L.failures log.new) }
-        ensures log_kept { IfErr result (λ fault. fault ≢ ConvertFault.Write Stream.Log → L.failures log.new ≡ L.failures log.old) }
+        ensures file_failed { NamesFailedWrites Stream.Out result (O.failures out.old) (O.failures out.new) }
+        ensures report_failed { NamesFailedWrites Stream.Log result (L.failures log.old) (L.failures log.new) }
     {
         if let Some(fault) = self.refusal(link) {
             return Err(fault);
@@ -184,12 +175,8 @@ impl Converter {
         ensures fault { IfErr result IsFrameFault }
         ensures ok { OnOk result (ClosesAllLinks self.old self.new (O.taken out.old) (O.taken out.new) (L.taken log.old) (L.taken log.new)) }
         ensures err { OnErr result (ClosesAllLinksInPart self.old (O.taken out.old) (O.taken out.new) (L.taken log.old) (L.taken log.new)) }
-        ensures out_same { OnOk result (O.failures out.new ≡ O.failures out.old) }
-        ensures log_same { OnOk result (L.failures log.new ≡ L.failures log.old) }
-        ensures out_failed { IsErrOf result (ConvertFault.Write Stream.Out) → CountRises (O.failures out.old) (O.failures out.new) }
-        ensures out_kept { IfErr result (λ fault. fault ≢ ConvertFault.Write Stream.Out → O.failures out.new ≡ O.failures out.old) }
-        ensures log_failed { IsErrOf result (ConvertFault.Write Stream.Log) → CountRises (L.failures log.old) (L.failures log.new) }
-        ensures log_kept { IfErr result (λ fault. fault ≢ ConvertFault.Write Stream.Log → L.failures log.new ≡ L.failures log.old) }
+        ensures file_failed { NamesFailedWrites Stream.Out result (O.failures out.old) (O.failures out.new) }
+        ensures report_failed { NamesFailedWrites Stream.Log result (L.failures log.old) (L.failures log.new) }
     {
         'links: for link in 0..self.links.len() {
             if self.refusal(link).is_some() {
@@ -207,12 +194,8 @@ impl Converter {
         ensures fault { self.conversion.stopped ≡ false → IfErr result IsFrameFault }
         ensures ok { IfOk result (λ counts. FinishesConverter self counts (O.taken out.old) (O.taken out.new) (L.taken log.old) (L.taken log.new)) }
         ensures err { IfErr result (λ fault. IsFrameFault fault → FinishesConverterInPart self (O.taken out.old) (O.taken out.new) (L.taken log.old) (L.taken log.new)) }
-        ensures out_same { OnOk result (O.failures out.new ≡ O.failures out.old) }
-        ensures log_same { OnOk result (L.failures log.new ≡ L.failures log.old) }
-        ensures out_failed { IsErrOf result (ConvertFault.Write Stream.Out) → CountRises (O.failures out.old) (O.failures out.new) }
-        ensures out_kept { IfErr result (λ fault. fault ≢ ConvertFault.Write Stream.Out → O.failures out.new ≡ O.failures out.old) }
-        ensures log_failed { IsErrOf result (ConvertFault.Write Stream.Log) → CountRises (L.failures log.old) (L.failures log.new) }
-        ensures log_kept { IfErr result (λ fault. fault ≢ ConvertFault.Write Stream.Log → L.failures log.new ≡ L.failures log.old) }
+        ensures file_failed { NamesFailedWrites Stream.Out result (O.failures out.old) (O.failures out.new) }
+        ensures report_failed { NamesFailedWrites Stream.Log result (L.failures log.old) (L.failures log.new) }
     {
         if self.conversion.is_stopped() {
             return Err(ConvertFault::Stopped);

@@ -2,8 +2,7 @@
 
 ghost use Rattle.std.specs.Prelude.{◌≡◌, ◌≢◌, ◌≤◌, ◌++◌, length, true, false, OnOk, OnErr, IsErrOf, IfErr};
 ghost use Rattle.rtk_frame.specs.Frames.{final_frames, frames, payloads, pending};
-ghost use Rattle.rtk_frame.specs.Stream.{CountRises};
-ghost use Rattle.rtk_convert.specs.Failure.{IsFrameFault};
+ghost use Rattle.rtk_convert.specs.Failure.{IsFrameFault, NamesFailedWrites};
 ghost use Rattle.rtk_convert.specs.LinkFrames.{AddsFrames, AddsFramesInPart};
 ghost use Rattle.rtk_convert.specs.History.{later_of};
 
@@ -56,12 +55,8 @@ impl Link {
         ensures err { OnErr result (AddsFramesInPart conversion.old number (payloads (final_frames (self.old.scanner.pending ++ piece.now)))
             (O.taken out.old) (O.taken out.new) (L.taken log.old) (L.taken log.new)) }
         ensures fault { IfErr result IsFrameFault }
-        ensures out_same { OnOk result (O.failures out.new ≡ O.failures out.old) }
-        ensures log_same { OnOk result (L.failures log.new ≡ L.failures log.old) }
-        ensures out_failed { IsErrOf result (ConvertFault.Write Stream.Out) → CountRises (O.failures out.old) (O.failures out.new) }
-        ensures out_kept { IfErr result (λ fault. fault ≢ ConvertFault.Write Stream.Out → O.failures out.new ≡ O.failures out.old) }
-        ensures log_failed { IsErrOf result (ConvertFault.Write Stream.Log) → CountRises (L.failures log.old) (L.failures log.new) }
-        ensures log_kept { IfErr result (λ fault. fault ≢ ConvertFault.Write Stream.Log → L.failures log.new ≡ L.failures log.old) }
+        ensures file_failed { NamesFailedWrites Stream.Out result (O.failures out.old) (O.failures out.new) }
+        ensures report_failed { NamesFailedWrites Stream.Log result (L.failures log.old) (L.failures log.new) }
     {
         let mut at = 0;
         'frames: loop {
@@ -94,12 +89,8 @@ impl Link {
         ensures err { OnErr result (AddsFramesInPart conversion.old number (payloads (frames self.old.scanner.pending))
             (O.taken out.old) (O.taken out.new) (L.taken log.old) (L.taken log.new)) }
         ensures fault { IfErr result IsFrameFault }
-        ensures out_same { OnOk result (O.failures out.new ≡ O.failures out.old) }
-        ensures log_same { OnOk result (L.failures log.new ≡ L.failures log.old) }
-        ensures out_failed { IsErrOf result (ConvertFault.Write Stream.Out) → CountRises (O.failures out.old) (O.failures out.new) }
-        ensures out_kept { IfErr result (λ fault. fault ≢ ConvertFault.Write Stream.Out → O.failures out.new ≡ O.failures out.old) }
-        ensures log_failed { IsErrOf result (ConvertFault.Write Stream.Log) → CountRises (L.failures log.old) (L.failures log.new) }
-        ensures log_kept { IfErr result (λ fault. fault ≢ ConvertFault.Write Stream.Log → L.failures log.new ≡ L.failures log.old) }
+        ensures file_failed { NamesFailedWrites Stream.Out result (O.failures out.old) (O.failures out.new) }
+        ensures report_failed { NamesFailedWrites Stream.Log result (L.failures log.old) (L.failures log.new) }
     {
         'frames: while let Some(payload) = self.scanner.rest() {
             let epoch = conversion.accept_frame(number, payload, out, log)?;

@@ -1,8 +1,8 @@
 //! What is written to the file: records, and the header before the first one or at the end.
 
 ghost use Rattle.std.specs.Prelude.{◌≡◌, ◌≢◌, ◌++◌, length, OnOk, OnErr, IfOk, IfErr, IsErrOf, false};
-ghost use Rattle.rtk_convert.specs.Failure.{IsOutFault};
-ghost use Rattle.rtk_frame.specs.Stream.{with_more, CountRises, TakesPart};
+ghost use Rattle.rtk_convert.specs.Failure.{IsOutFault, NamesFailedWrites};
+ghost use Rattle.rtk_frame.specs.Stream.{with_more, TakesPart};
 ghost use Rattle.rtk_rinex.specs.Header.{position_view};
 ghost use Rattle.rtk_rinex.specs.Record.{HasWidth, record_text};
 ghost use Rattle.rtk_convert.specs.FilePrefix.{closing_text, header_before, is_any};
@@ -18,8 +18,7 @@ use std::alloc::{AllocError, Global};
 fn put<O: Sink>(out: &mut O, text: &[u8]) -> Result<(), ConvertFault>
     ensures all { OnOk result (O.taken out.new ≡ with_more (O.taken out.old) text.now) }
     ensures part { TakesPart (O.taken out.old) (O.taken out.new) text.now }
-    ensures same { OnOk result (O.failures out.new ≡ O.failures out.old) }
-    ensures failed { OnErr result (CountRises (O.failures out.old) (O.failures out.new)) }
+    ensures file_failed { NamesFailedWrites Stream.Out result (O.failures out.old) (O.failures out.new) }
     ensures fault { IfErr result (λ f. f ≡ ConvertFault.Write Stream.Out) }
 {
     match write_all(out, text) {
@@ -60,9 +59,7 @@ pub(crate) fn put_record<O: Sink>(
     ensures any { IfOk result (λ any. any ≡ is_any (record_text table.now)) }
     ensures all { OnOk result (O.taken out.new ≡ with_more (O.taken out.old) (closing_text setup.now (position_view position.now) table.now.time header_out (record_text table.now))) }
     ensures part { TakesPart (O.taken out.old) (O.taken out.new) (closing_text setup.now (position_view position.now) table.now.time header_out (record_text table.now)) }
-    ensures same { OnOk result (O.failures out.new ≡ O.failures out.old) }
-    ensures failed { IsErrOf result (ConvertFault.Write Stream.Out) → CountRises (O.failures out.old) (O.failures out.new) }
-    ensures kept { IfErr result (λ fault. fault ≢ ConvertFault.Write Stream.Out → O.failures out.new ≡ O.failures out.old) }
+    ensures file_failed { NamesFailedWrites Stream.Out result (O.failures out.old) (O.failures out.new) }
     ensures fault { IfErr result IsOutFault }
 {
     let Ok(text) = record(alloc, setup.head(), table) else {
@@ -92,9 +89,7 @@ pub(crate) fn put_last_header<O: Sink>(
 ) -> Result<(), ConvertFault>
     ensures all { OnOk result (O.taken out.new ≡ with_more (O.taken out.old) (header_before setup.now (position_view position.now) setup.now.near header_out)) }
     ensures part { TakesPart (O.taken out.old) (O.taken out.new) (header_before setup.now (position_view position.now) setup.now.near header_out) }
-    ensures same { OnOk result (O.failures out.new ≡ O.failures out.old) }
-    ensures failed { IsErrOf result (ConvertFault.Write Stream.Out) → CountRises (O.failures out.old) (O.failures out.new) }
-    ensures kept { IfErr result (λ fault. fault ≢ ConvertFault.Write Stream.Out → O.failures out.new ≡ O.failures out.old) }
+    ensures file_failed { NamesFailedWrites Stream.Out result (O.failures out.old) (O.failures out.new) }
     ensures fault { IfErr result IsOutFault }
 {
     if header_out {
@@ -110,8 +105,7 @@ pub(crate) fn put_last_header<O: Sink>(
 pub(crate) fn put_lines<L: Sink>(log: &mut L, lines: &[u8]) -> Result<(), ConvertFault>
     ensures all { OnOk result (L.taken log.new ≡ with_more (L.taken log.old) lines.now) }
     ensures part { TakesPart (L.taken log.old) (L.taken log.new) lines.now }
-    ensures same { OnOk result (L.failures log.new ≡ L.failures log.old) }
-    ensures failed { OnErr result (CountRises (L.failures log.old) (L.failures log.new)) }
+    ensures report_failed { NamesFailedWrites Stream.Log result (L.failures log.old) (L.failures log.new) }
     ensures fault { IfErr result (λ f. f ≡ ConvertFault.Write Stream.Log) }
 {
     match write_all(log, lines) {

@@ -1,13 +1,13 @@
 //! The records of the epochs that are closed, one after another, and at the end those of the epochs that are still open.
 
 ghost use Rattle.rtk_collect.specs.EpochSet.{EpochSetView};
-ghost use Rattle.rtk_convert.specs.Failure.{IsOutFault};
+ghost use Rattle.rtk_convert.specs.Failure.{IsOutFault, NamesFailedWrites};
 ghost use Rattle.rtk_convert.specs.File.{first_time, record_of};
 ghost use Rattle.rtk_convert.specs.FilePrefix.{closing_text};
 ghost use Rattle.rtk_convert.specs.Finish.{AllAbove, ClosesEpochs, ClosesEpochsInPart};
 ghost use Rattle.rtk_convert.specs.LastPhases.{AllBelow};
 ghost use Rattle.rtk_convert.specs.Records.{HasClosed};
-ghost use Rattle.rtk_frame.specs.Stream.{with_more, CountRises, TakesPart};
+ghost use Rattle.rtk_frame.specs.Stream.{with_more, TakesPart};
 ghost use Rattle.rtk_obs.specs.Cell.{IsInRange};
 ghost use Rattle.rtk_obs.specs.declared.code.Code.{Code};
 ghost use Rattle.rtk_rinex.specs.Header.{position_view};
@@ -101,9 +101,7 @@ impl Records {
         ensures part { (below : List EpochSetView) → HasClosed self.old setup.now.heading.listed below
             → TakesPart (O.taken out.old) (O.taken out.new) (closing_text setup.now (position_view position.now) epoch (is_some (first_time setup.now.heading.listed below)) (record_of setup.now.heading.listed (record { epoch = epoch; cells = cells.now }) below)) }
         ensures later { OnOk result ((later : ℕ) → epoch < later → AllBelow self.new.tracks later) }
-        ensures same { OnOk result (O.failures out.new ≡ O.failures out.old) }
-        ensures failed { IsErrOf result (ConvertFault.Write Stream.Out) → CountRises (O.failures out.old) (O.failures out.new) }
-        ensures kept { IfErr result (λ fault. fault ≢ ConvertFault.Write Stream.Out → O.failures out.new ≡ O.failures out.old) }
+        ensures file_failed { NamesFailedWrites Stream.Out result (O.failures out.old) (O.failures out.new) }
         ensures fault { IfErr result IsOutFault }
     {
         let listed = setup.head().codes();
@@ -139,9 +137,7 @@ pub(crate) fn close_left<O: Sink>(
     requires above { AllAbove records.old left.old.sets }
     ensures ok { OnOk result (ClosesEpochs setup.now (position_view position.now) records.old left.old.sets records.new (O.taken out.old) (O.taken out.new)) }
     ensures err { OnErr result (ClosesEpochsInPart setup.now (position_view position.now) records.old left.old.sets (O.taken out.old) (O.taken out.new)) }
-    ensures same { OnOk result (O.failures out.new ≡ O.failures out.old) }
-    ensures failed { IsErrOf result (ConvertFault.Write Stream.Out) → CountRises (O.failures out.old) (O.failures out.new) }
-    ensures kept { IfErr result (λ fault. fault ≢ ConvertFault.Write Stream.Out → O.failures out.new ≡ O.failures out.old) }
+    ensures file_failed { NamesFailedWrites Stream.Out result (O.failures out.old) (O.failures out.new) }
     ensures fault { IfErr result IsOutFault }
 {
     'left: while let Some(set) = left.next_left() {

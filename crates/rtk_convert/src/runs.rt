@@ -1,9 +1,8 @@
 //! A run: reads from all links, each time from the one that is behind the others.
 
 ghost use Rattle.std.specs.Prelude.{◌≡◌, ◌≢◌, ◌↔◌, ◌<◌, ◌≤◌, ◌+◌, ℕ, length, sum_by, Decides, MatchOption, IfSome, OnOk, IfOk, IfErr, IsErrOf};
-ghost use Rattle.rtk_frame.specs.Stream.{CountRises};
 ghost use Rattle.rtk_convert.specs.Converter.{IsLinkCount, RepresentsHistory};
-ghost use Rattle.rtk_convert.specs.Failure.{IsFrameFault, IsReadFault, IsReadingFault, IsRunFault};
+ghost use Rattle.rtk_convert.specs.Failure.{IsFrameFault, IsReadFault, IsReadingFault, IsRunFault, NamesFailedWrites};
 ghost use Rattle.rtk_convert.specs.Headline.{RunHeadline};
 ghost use Rattle.rtk_convert.specs.History.{History, new_history, IsOpen, IsUpTo, IsNextLink};
 ghost use Rattle.rtk_convert.specs.ReadSteps.{ReadsLink, BreaksOffAfterRead, FailsRead, HasReadAll, AnyAtGreatest, HasCalled, SameFailures};
@@ -74,13 +73,9 @@ fn read_link<R: Source, O: Sink, L: Sink>(
     ensures read_failed { (h : History) → RepresentsHistory converter.old h → IsOpen h link → (k : ℕ) → IsErrOf result (ConvertFault.Read k)
         → (k ≡ link) × FailsRead R.given R.failures k readers.old readers.new (O.taken out.old) (O.taken out.new) (L.taken log.old) (L.taken log.new) }
     ensures fault { IfErr result (λ fault. (h : History) → RepresentsHistory converter.old h → IsOpen h link → IsReadFault fault) }
-    ensures out_failed { IsErrOf result (ConvertFault.Write Stream.Out) → CountRises (O.failures out.old) (O.failures out.new) }
-    ensures out_kept { IfErr result (λ fault. fault ≢ ConvertFault.Write Stream.Out → O.failures out.new ≡ O.failures out.old) }
-    ensures log_failed { IsErrOf result (ConvertFault.Write Stream.Log) → CountRises (L.failures log.old) (L.failures log.new) }
-    ensures log_kept { IfErr result (λ fault. fault ≢ ConvertFault.Write Stream.Log → L.failures log.new ≡ L.failures log.old) }
+    ensures file_failed { NamesFailedWrites Stream.Out result (O.failures out.old) (O.failures out.new) }
+    ensures report_failed { NamesFailedWrites Stream.Log result (L.failures log.old) (L.failures log.new) }
     ensures no_failed_read { ((k : ℕ) → ¬ (IsErrOf result (ConvertFault.Read k))) → SameFailures R.failures readers.old readers.new }
-    ensures out_same { OnOk result (O.failures out.new ≡ O.failures out.old) }
-    ensures log_same { OnOk result (L.failures log.new ≡ L.failures log.old) }
 {
     let Ok(count) = read_one(readers, link, buf) else {
         return Err(ConvertFault::Read { link: link as u8 });
@@ -113,12 +108,8 @@ fn read_all<R: Source, O: Sink, L: Sink>(
         × HasCalled R.calls readers.old readers.new max_reads }
     ensures fault { IfErr result IsReadingFault }
     ensures no_failed_read { ((link : ℕ) → ¬ (IsErrOf result (ConvertFault.Read link))) → SameFailures R.failures readers.old readers.new }
-    ensures out_failed { IsErrOf result (ConvertFault.Write Stream.Out) → CountRises (O.failures out.old) (O.failures out.new) }
-    ensures out_kept { IfErr result (λ fault. fault ≢ ConvertFault.Write Stream.Out → O.failures out.new ≡ O.failures out.old) }
-    ensures log_failed { IsErrOf result (ConvertFault.Write Stream.Log) → CountRises (L.failures log.old) (L.failures log.new) }
-    ensures log_kept { IfErr result (λ fault. fault ≢ ConvertFault.Write Stream.Log → L.failures log.new ≡ L.failures log.old) }
-    ensures out_same { OnOk result (O.failures out.new ≡ O.failures out.old) }
-    ensures log_same { OnOk result (L.failures log.new ≡ L.failures log.old) }
+    ensures file_failed { NamesFailedWrites Stream.Out result (O.failures out.old) (O.failures out.new) }
+    ensures report_failed { NamesFailedWrites Stream.Log result (L.failures log.old) (L.failures log.new) }
 {
     let mut buf = [0u8; 512];
     'reads: for _made in 0..max_reads {
@@ -158,10 +149,8 @@ pub fn run<R: Source, O: Sink, L: Sink>(
     ensures headline { IfOk result (λ counts. RunHeadline R.given R.calls R.is_at_end setup readers.old readers.new counts (O.taken out.old) (O.taken out.new) (L.taken log.old) (L.taken log.new)) }
     ensures ok { IfOk result (λ counts. RunsAs R.given R.calls R.is_at_end setup readers.old readers.new counts (O.taken out.old) (O.taken out.new) (L.taken log.old) (L.taken log.new)) }
     ensures reads { sum_by R.calls readers.new ≤ sum_by R.calls readers.old + max_reads }
-    ensures out_failed { IsErrOf result (ConvertFault.Write Stream.Out) → CountRises (O.failures out.old) (O.failures out.new) }
-    ensures out_kept { IfErr result (λ fault. fault ≢ ConvertFault.Write Stream.Out → O.failures out.new ≡ O.failures out.old) }
-    ensures log_failed { IsErrOf result (ConvertFault.Write Stream.Log) → CountRises (L.failures log.old) (L.failures log.new) }
-    ensures log_kept { IfErr result (λ fault. fault ≢ ConvertFault.Write Stream.Log → L.failures log.new ≡ L.failures log.old) }
+    ensures file_failed { NamesFailedWrites Stream.Out result (O.failures out.old) (O.failures out.new) }
+    ensures report_failed { NamesFailedWrites Stream.Log result (L.failures log.old) (L.failures log.new) }
     ensures breaks_off { IfErr result (λ fault. IsFrameFault fault
         → BreaksOffRun R.given R.calls R.is_at_end setup readers.old readers.new (O.taken out.old) (O.taken out.new) (L.taken log.old) (L.taken log.new)) }
     ensures read_failed { (link : ℕ) → IsErrOf result (ConvertFault.Read link)
@@ -171,8 +160,6 @@ pub fn run<R: Source, O: Sink, L: Sink>(
         × HasCalled R.calls readers.old readers.new max_reads }
     ensures untouched { IsErrOf result ConvertFault.Setup → (readers.new ≡ readers.old) × (out.new ≡ out.old) × (log.new ≡ log.old) }
     ensures no_failed_read { ((link : ℕ) → ¬ (IsErrOf result (ConvertFault.Read link))) → SameFailures R.failures readers.old readers.new }
-    ensures out_same { OnOk result (O.failures out.new ≡ O.failures out.old) }
-    ensures log_same { OnOk result (L.failures log.new ≡ L.failures log.old) }
 {
     let mut converter = Converter::new(alloc, setup, readers.len())?;
     if let Err(fault) = read_all(&mut converter, readers, out, log, max_reads) {

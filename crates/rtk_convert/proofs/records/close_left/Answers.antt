@@ -27,5 +27,5 @@ left-preserved g c =
           let below = c.in-Some.ensures.least k d lt in
           let higher : c.epoch-epoch.result < (get_or c.next_left.new.self.sets k d).epoch = omega (arith, below, c.epoch-epoch.ensures) in
           c.in_ok-close.ensures.later (get_or c.next_left.new.self.sets k d).epoch higher sat code hs;
-      failures = c.in_ok-close.ensures.same ∙ c.left.invariant.failures;
+      failures = c.in_ok-close.ensures.file_failed ∙ c.left.invariant.failures;
     }

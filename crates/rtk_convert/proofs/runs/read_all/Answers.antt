@@ -77,8 +77,8 @@ reads-preserved g c =
       made = let one = c.read_link.ensures.reads in let all = c.reads.invariant.made in omega (arith, one, all);
       called = called-more g.R.Source.calls c.args.readers.now c.reads.readers c.read_link.new.readers c.reads._made c.reads.invariant.called c.read_link.ensures.full c.read_link.ensures.called;
       reads_same = λ k none. c.in_ok-read_link.ensures.no_failed_read (λ link e. cc) k none ∙ c.reads.invariant.reads_same k none;
-      out_same = c.in_ok-read_link.ensures.out_same ∙ c.reads.invariant.out_same;
-      log_same = c.in_ok-read_link.ensures.log_same ∙ c.reads.invariant.log_same;
+      out_same = c.in_ok-read_link.ensures.file_failed ∙ c.reads.invariant.out_same;
+      log_same = c.in_ok-read_link.ensures.report_failed ∙ c.reads.invariant.log_same;
     }
 
 pub returns-in_default-clause-ok : goal.returns-in_default-clause-ok
@@ -120,35 +120,15 @@ returns-in_err-read_link-clause-no_failed_read g c = λ none k same.
     let p = err_from_is_err_and c.from_residual.result c.from_residual.ensures.1 in
     c.in_err-read_link.ensures.no_failed_read (λ link is. none link (p.1 ∙ ap Err p.2 ∙ is)) k same ∙ c.reads.invariant.reads_same k same
 
-pub returns-in_err-read_link-clause-out_failed : goal.returns-in_err-read_link-clause-out_failed
-returns-in_err-read_link-clause-out_failed g c = λ is.
-    let p = err_from_is_err_and c.from_residual.result c.from_residual.ensures.1 in
-    rw (← c.reads.invariant.out_same) (c.in_err-read_link.ensures.out_failed (sym (p.1 ∙ ap Err p.2) ∙ is))
-
-pub returns-in_err-read_link-clause-out_kept : goal.returns-in_err-read_link-clause-out_kept
-returns-in_err-read_link-clause-out_kept g c =
-    let p = err_from_is_err_and c.from_residual.result c.from_residual.ensures.1 in
-    rw (p.1, p.2) (λ other. c.in_err-read_link.ensures.out_kept other ∙ c.reads.invariant.out_same)
-
-pub returns-in_err-read_link-clause-log_failed : goal.returns-in_err-read_link-clause-log_failed
-returns-in_err-read_link-clause-log_failed g c = λ is.
-    let p = err_from_is_err_and c.from_residual.result c.from_residual.ensures.1 in
-    rw (← c.reads.invariant.log_same) (c.in_err-read_link.ensures.log_failed (sym (p.1 ∙ ap Err p.2) ∙ is))
-
-pub returns-in_err-read_link-clause-log_kept : goal.returns-in_err-read_link-clause-log_kept
-returns-in_err-read_link-clause-log_kept g c =
-    let p = err_from_is_err_and c.from_residual.result c.from_residual.ensures.1 in
-    rw (p.1, p.2) (λ other. c.in_err-read_link.ensures.log_kept other ∙ c.reads.invariant.log_same)
-
-pub returns-in_err-read_link-clause-out_same : goal.returns-in_err-read_link-clause-out_same
-returns-in_err-read_link-clause-out_same g c =
-    let p = err_from_is_err_and c.from_residual.result c.from_residual.ensures.1 in
-    rw p.1 tt
-
-pub returns-in_err-read_link-clause-log_same : goal.returns-in_err-read_link-clause-log_same
-returns-in_err-read_link-clause-log_same g c =
-    let p = err_from_is_err_and c.from_residual.result c.from_residual.ensures.1 in
-    rw p.1 tt
-
 pub returns-in-Some-next_link-clause-endless : goal.returns-in-Some-next_link-clause-endless
 returns-in-Some-next_link-clause-endless g c = search rules depth 5 fits 300
+
+pub returns-in_err-read_link-clause-file_failed : goal.returns-in_err-read_link-clause-file_failed
+returns-in_err-read_link-clause-file_failed g c =
+    let p = err_from_is_err_and c.from_residual.result c.from_residual.ensures.1 in
+    rw (p.1, p.2, ← c.reads.invariant.out_same) c.in_err-read_link.ensures.file_failed
+
+pub returns-in_err-read_link-clause-report_failed : goal.returns-in_err-read_link-clause-report_failed
+returns-in_err-read_link-clause-report_failed g c =
+    let p = err_from_is_err_and c.from_residual.result c.from_residual.ensures.1 in
+    rw (p.1, p.2, ← c.reads.invariant.log_same) c.in_err-read_link.ensures.report_failed

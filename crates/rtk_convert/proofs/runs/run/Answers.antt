@@ -103,14 +103,14 @@ returns-in-Err-clause-no_failed_read g c = λ all. c.in-Err.ensures.no_failed_re
 pub returns-clause-no_failed_read : goal.returns-clause-no_failed_read
 returns-clause-no_failed_read g c = λ all. c.in_default.ensures.no_failed_read (λ link e. cc)
 
-pub returns-clause-out_same : goal.returns-clause-out_same
-returns-clause-out_same g c = on_ok-map c.finish.result (λ same. same ∙ c.in_default.ensures.out_same) c.finish.ensures.out_same
+pub returns-clause-file_failed : goal.returns-clause-file_failed
+returns-clause-file_failed g c = rw (← c.in_default.ensures.file_failed) c.finish.ensures.file_failed
 
-pub returns-clause-log_same : goal.returns-clause-log_same
-returns-clause-log_same g c = on_ok-map c.finish.result (λ same. same ∙ c.in_default.ensures.log_same) c.finish.ensures.log_same
+pub returns-clause-report_failed : goal.returns-clause-report_failed
+returns-clause-report_failed g c = rw (← c.in_default.ensures.report_failed) c.finish.ensures.report_failed
 
-pub returns-in-Err-clause-out_failed : goal.returns-in-Err-clause-out_failed
-returns-in-Err-clause-out_failed g c = λ is_write. c.in-Err.ensures.out_failed (let same : c.in-Err.fault ≡ Write Out = cc in ap Err same)
+pub returns-in-Err-clause-file_failed : goal.returns-in-Err-clause-file_failed
+returns-in-Err-clause-file_failed g c = c.in-Err.ensures.file_failed
 
-pub returns-in-Err-clause-log_failed : goal.returns-in-Err-clause-log_failed
-returns-in-Err-clause-log_failed g c = λ is_write. c.in-Err.ensures.log_failed (let same : c.in-Err.fault ≡ Write Log = cc in ap Err same)
+pub returns-in-Err-clause-report_failed : goal.returns-in-Err-clause-report_failed
+returns-in-Err-clause-report_failed g c = c.in-Err.ensures.report_failed

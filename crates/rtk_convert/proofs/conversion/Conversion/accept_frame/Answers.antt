@@ -3,7 +3,6 @@ use Rattle.std.proofs.lemmas.Result.{err_from_is_err_and}
 use Rattle.rtk_convert.specs.Conversion.{ConversionView, IsAhead, AcceptsFrame, BreaksOffAtFrame}
 use Rattle.rtk_convert.proofs.ArriveLemmas.{state, arrives-still, breaks-still}
 use Rattle.rtk_convert.proofs.WritingLemmas.{on_err-from}
-use Rattle.rtk_convert.proofs.HandedLemmas.{one-fault}
 use Rattle.rtk_convert.proofs.conversion.Conversion.accept_frame.Goals as goal
 
 pub returns-clause-ok : goal.returns-clause-ok
@@ -28,22 +27,12 @@ returns-in_err-epoch-clause-fault g c = λ going.
     let p = err_from_is_err_and c.from_residual.result c.from_residual.ensures.1 in
     rw (p.1, p.2) c.in_err-epoch.ensures.fault
 
-pub returns-in_err-epoch-clause-out_failed : goal.returns-in_err-epoch-clause-out_failed
-returns-in_err-epoch-clause-out_failed g c = λ is.
+pub returns-in_err-epoch-clause-file_failed : goal.returns-in_err-epoch-clause-file_failed
+returns-in_err-epoch-clause-file_failed g c =
     let p = err_from_is_err_and c.from_residual.result c.from_residual.ensures.1 in
-    c.in_err-epoch.ensures.out_failed (ap Err (one-fault (p.1 ∙ ap Err p.2) is))
+    rw (p.1, p.2) c.in_err-epoch.ensures.file_failed
 
-pub returns-in_err-epoch-clause-out_kept : goal.returns-in_err-epoch-clause-out_kept
-returns-in_err-epoch-clause-out_kept g c =
+pub returns-in_err-epoch-clause-report_failed : goal.returns-in_err-epoch-clause-report_failed
+returns-in_err-epoch-clause-report_failed g c =
     let p = err_from_is_err_and c.from_residual.result c.from_residual.ensures.1 in
-    rw (p.1, p.2) c.in_err-epoch.ensures.out_kept
-
-pub returns-in_err-epoch-clause-log_failed : goal.returns-in_err-epoch-clause-log_failed
-returns-in_err-epoch-clause-log_failed g c = λ is.
-    let p = err_from_is_err_and c.from_residual.result c.from_residual.ensures.1 in
-    c.in_err-epoch.ensures.log_failed (ap Err (one-fault (p.1 ∙ ap Err p.2) is))
-
-pub returns-in_err-epoch-clause-log_kept : goal.returns-in_err-epoch-clause-log_kept
-returns-in_err-epoch-clause-log_kept g c =
-    let p = err_from_is_err_and c.from_residual.result c.from_residual.ensures.1 in
-    rw (p.1, p.2) c.in_err-epoch.ensures.log_kept
+    rw (p.1, p.2) c.in_err-epoch.ensures.report_failed

@@ -12,7 +12,7 @@ use Rattle.rtk_convert.proofs.AheadLemmas.{ahead-all}
 use Rattle.rtk_convert.proofs.FinishLemmas.{finishes, finish-part-records, finish-part-header, finish-part-counts}
 use Rattle.rtk_convert.proofs.ArriveLemmas.{state}
 use Rattle.rtk_convert.proofs.WritingLemmas.{takes-none, on_err-from}
-use Rattle.rtk_convert.proofs.HandedLemmas.{one-fault, out-frame, log-frame, log-out, log-kept}
+use Rattle.rtk_convert.proofs.HandedLemmas.{out-frame, log-frame, out-leaves-report}
 use Rattle.rtk_convert.proofs.conversion.Conversion.finish.Goals as goal
 
 pub close_left-requires : goal.close_left-requires
@@ -57,70 +57,42 @@ returns-in_err-close_left-clause-fault g c = λ going.
     let p = err_from_is_err_and c.from_residual.result c.from_residual.ensures.1 in
     rw (p.1, p.2) (out-frame _ c.in_err-close_left.ensures.fault)
 
-pub returns-in_err-close_left-clause-out_failed : goal.returns-in_err-close_left-clause-out_failed
-returns-in_err-close_left-clause-out_failed g c = λ is.
-    let p = err_from_is_err_and c.from_residual.result c.from_residual.ensures.1 in
-    c.in_err-close_left.ensures.failed (ap Err (one-fault (p.1 ∙ ap Err p.2) is))
-
-pub returns-in_err-close_left-clause-out_kept : goal.returns-in_err-close_left-clause-out_kept
-returns-in_err-close_left-clause-out_kept g c =
-    let p = err_from_is_err_and c.from_residual.result c.from_residual.ensures.1 in
-    rw (p.1, p.2) c.in_err-close_left.ensures.kept
-
-pub returns-in_err-close_left-clause-log_failed : goal.returns-in_err-close_left-clause-log_failed
-returns-in_err-close_left-clause-log_failed g c = λ is.
-    let p = err_from_is_err_and c.from_residual.result c.from_residual.ensures.1 in
-    absurd (IfErr-at_err IsOutFault is (rw (p.1, p.2) c.in_err-close_left.ensures.fault))
-
-pub returns-in_err-close_left-clause-log_kept : goal.returns-in_err-close_left-clause-log_kept
-returns-in_err-close_left-clause-log_kept g c =
-    let p = err_from_is_err_and c.from_residual.result c.from_residual.ensures.1 in
-    rw p.1 (λ other. refl)
-
 pub returns-in_err-put_last_header-clause-fault : goal.returns-in_err-put_last_header-clause-fault
 returns-in_err-put_last_header-clause-fault g c = λ going.
     let p = err_from_is_err_and c.from_residual-in_err-put_last_header.result c.from_residual-in_err-put_last_header.ensures.1 in
     rw (p.1, p.2) (out-frame _ c.in_err-put_last_header.ensures.fault)
-
-pub returns-in_err-put_last_header-clause-out_failed : goal.returns-in_err-put_last_header-clause-out_failed
-returns-in_err-put_last_header-clause-out_failed g c = λ is.
-    let p = err_from_is_err_and c.from_residual-in_err-put_last_header.result c.from_residual-in_err-put_last_header.ensures.1 in
-    rw (← c.in_ok-close_left.ensures.same) (c.in_err-put_last_header.ensures.failed (ap Err (one-fault (p.1 ∙ ap Err p.2) is)))
-
-pub returns-in_err-put_last_header-clause-out_kept : goal.returns-in_err-put_last_header-clause-out_kept
-returns-in_err-put_last_header-clause-out_kept g c =
-    let p = err_from_is_err_and c.from_residual-in_err-put_last_header.result c.from_residual-in_err-put_last_header.ensures.1 in
-    rw (p.1, p.2) (λ other. c.in_err-put_last_header.ensures.kept other ∙ c.in_ok-close_left.ensures.same)
-
-pub returns-in_err-put_last_header-clause-log_failed : goal.returns-in_err-put_last_header-clause-log_failed
-returns-in_err-put_last_header-clause-log_failed g c = λ is.
-    let p = err_from_is_err_and c.from_residual-in_err-put_last_header.result c.from_residual-in_err-put_last_header.ensures.1 in
-    absurd (IfErr-at_err IsOutFault is (rw (p.1, p.2) c.in_err-put_last_header.ensures.fault))
-
-pub returns-in_err-put_last_header-clause-log_kept : goal.returns-in_err-put_last_header-clause-log_kept
-returns-in_err-put_last_header-clause-log_kept g c =
-    let p = err_from_is_err_and c.from_residual-in_err-put_last_header.result c.from_residual-in_err-put_last_header.ensures.1 in
-    rw p.1 (λ other. refl)
 
 pub returns-in_err-put_lines-clause-fault : goal.returns-in_err-put_lines-clause-fault
 returns-in_err-put_lines-clause-fault g c = λ going.
     let p = err_from_is_err_and c.from_residual-in_err-put_lines.result c.from_residual-in_err-put_lines.ensures.1 in
     log-frame c.from_residual-in_err-put_lines.result (rw (p.1, p.2) c.in_err-put_lines.ensures.fault)
 
-pub returns-in_err-put_lines-clause-out_failed : goal.returns-in_err-put_lines-clause-out_failed
-returns-in_err-put_lines-clause-out_failed g c = λ is.
-    let p = err_from_is_err_and c.from_residual-in_err-put_lines.result c.from_residual-in_err-put_lines.ensures.1 in
-    log-out c.from_residual-in_err-put_lines.result (rw (p.1, p.2) c.in_err-put_lines.ensures.fault) is
+pub returns-in_err-close_left-clause-file_failed : goal.returns-in_err-close_left-clause-file_failed
+returns-in_err-close_left-clause-file_failed g c =
+    let p = err_from_is_err_and c.from_residual.result c.from_residual.ensures.1 in
+    rw (p.1, p.2) c.in_err-close_left.ensures.file_failed
 
-pub returns-in_err-put_lines-clause-out_kept : goal.returns-in_err-put_lines-clause-out_kept
-returns-in_err-put_lines-clause-out_kept g c =
-    let p = err_from_is_err_and c.from_residual-in_err-put_lines.result c.from_residual-in_err-put_lines.ensures.1 in
-    rw p.1 (λ other. c.in_ok-put_last_header.ensures.same ∙ c.in_ok-close_left.ensures.same)
+pub returns-in_err-close_left-clause-report_failed : goal.returns-in_err-close_left-clause-report_failed
+returns-in_err-close_left-clause-report_failed g c =
+    let p = err_from_is_err_and c.from_residual.result c.from_residual.ensures.1 in
+    rw (p.1, p.2) (out-leaves-report _ _ c.in_err-close_left.ensures.fault)
 
-pub returns-in_err-put_lines-clause-log_failed : goal.returns-in_err-put_lines-clause-log_failed
-returns-in_err-put_lines-clause-log_failed g c = λ is. c.in_err-put_lines.ensures.failed
+pub returns-in_err-put_last_header-clause-file_failed : goal.returns-in_err-put_last_header-clause-file_failed
+returns-in_err-put_last_header-clause-file_failed g c =
+    let p = err_from_is_err_and c.from_residual-in_err-put_last_header.result c.from_residual-in_err-put_last_header.ensures.1 in
+    rw (p.1, p.2, ← c.in_ok-close_left.ensures.file_failed) c.in_err-put_last_header.ensures.file_failed
 
-pub returns-in_err-put_lines-clause-log_kept : goal.returns-in_err-put_lines-clause-log_kept
-returns-in_err-put_lines-clause-log_kept g c =
+pub returns-in_err-put_last_header-clause-report_failed : goal.returns-in_err-put_last_header-clause-report_failed
+returns-in_err-put_last_header-clause-report_failed g c =
+    let p = err_from_is_err_and c.from_residual-in_err-put_last_header.result c.from_residual-in_err-put_last_header.ensures.1 in
+    rw (p.1, p.2) (out-leaves-report _ _ c.in_err-put_last_header.ensures.fault)
+
+pub returns-in_err-put_lines-clause-file_failed : goal.returns-in_err-put_lines-clause-file_failed
+returns-in_err-put_lines-clause-file_failed g c =
     let p = err_from_is_err_and c.from_residual-in_err-put_lines.result c.from_residual-in_err-put_lines.ensures.1 in
-    log-kept c.from_residual-in_err-put_lines.result _ (rw (p.1, p.2) c.in_err-put_lines.ensures.fault)
+    rw (p.1, p.2, c.in_err-put_lines.ensures.fault) (c.in_ok-put_last_header.ensures.file_failed ∙ c.in_ok-close_left.ensures.file_failed)
+
+pub returns-in_err-put_lines-clause-report_failed : goal.returns-in_err-put_lines-clause-report_failed
+returns-in_err-put_lines-clause-report_failed g c =
+    let p = err_from_is_err_and c.from_residual-in_err-put_lines.result c.from_residual-in_err-put_lines.ensures.1 in
+    rw (p.1, p.2) c.in_err-put_lines.ensures.report_failed

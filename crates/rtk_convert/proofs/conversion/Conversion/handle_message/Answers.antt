@@ -13,7 +13,7 @@ use Rattle.rtk_convert.specs.Conversion.{ConversionView, IsAhead}
 use Rattle.rtk_convert.proofs.AheadLemmas.{ahead-stays, ahead-closes, ahead-after}
 use Rattle.rtk_convert.proofs.ArriveLemmas.{state, takes-none-closed, takes-some-closed, part-nothing, part-record, part-lines}
 use Rattle.rtk_convert.proofs.WritingLemmas.{on_ok-map, on_err-from}
-use Rattle.rtk_convert.proofs.HandedLemmas.{one-fault, out-frame, log-frame, log-out, log-log, log-kept, kept-any}
+use Rattle.rtk_convert.proofs.HandedLemmas.{out-frame, log-frame, out-leaves-report, log-leaves-file}
 use Rattle.rtk_convert.proofs.conversion.Conversion.handle_message.Goals as goal
 
 pub returns-in_default-clause-err : goal.returns-in_default-clause-err
@@ -99,54 +99,32 @@ returns-in_err-close-clause-err g c =
 pub returns-in_default-closed_by-clause-fault : goal.returns-in_default-closed_by-clause-fault
 returns-in_default-closed_by-clause-fault g c = log-frame c.put_lines.result c.put_lines.ensures.fault
 
-pub returns-in_default-closed_by-clause-out_failed : goal.returns-in_default-closed_by-clause-out_failed
-returns-in_default-closed_by-clause-out_failed g c = λ is. log-out c.put_lines.result c.put_lines.ensures.fault is
-
-pub returns-in_default-closed_by-clause-out_kept : goal.returns-in_default-closed_by-clause-out_kept
-returns-in_default-closed_by-clause-out_kept g c = kept-any c.put_lines.result (Write Out) refl
-
-pub returns-in_default-closed_by-clause-log_failed : goal.returns-in_default-closed_by-clause-log_failed
-returns-in_default-closed_by-clause-log_failed g c = λ is. log-log c.put_lines.result c.put_lines.ensures.failed is
-
-pub returns-in_default-closed_by-clause-log_kept : goal.returns-in_default-closed_by-clause-log_kept
-returns-in_default-closed_by-clause-log_kept g c = log-kept c.put_lines.result _ c.put_lines.ensures.fault
-
 pub returns-in_err-close-clause-fault : goal.returns-in_err-close-clause-fault
 returns-in_err-close-clause-fault g c =
     let p = err_from_is_err_and c.from_residual.result c.from_residual.ensures.1 in
     rw (p.1, p.2) (out-frame _ c.in_err-close.ensures.fault)
 
-pub returns-in_err-close-clause-out_failed : goal.returns-in_err-close-clause-out_failed
-returns-in_err-close-clause-out_failed g c = λ is.
-    let p = err_from_is_err_and c.from_residual.result c.from_residual.ensures.1 in
-    c.in_err-close.ensures.failed (ap Err (one-fault (p.1 ∙ ap Err p.2) is))
-
-pub returns-in_err-close-clause-out_kept : goal.returns-in_err-close-clause-out_kept
-returns-in_err-close-clause-out_kept g c =
-    let p = err_from_is_err_and c.from_residual.result c.from_residual.ensures.1 in
-    rw (p.1, p.2) c.in_err-close.ensures.kept
-
-pub returns-in_err-close-clause-log_failed : goal.returns-in_err-close-clause-log_failed
-returns-in_err-close-clause-log_failed g c = λ is.
-    let p = err_from_is_err_and c.from_residual.result c.from_residual.ensures.1 in
-    absurd (IfErr-at_err IsOutFault is (rw (p.1, p.2) c.in_err-close.ensures.fault))
-
-pub returns-in_err-close-clause-log_kept : goal.returns-in_err-close-clause-log_kept
-returns-in_err-close-clause-log_kept g c =
-    let p = err_from_is_err_and c.from_residual.result c.from_residual.ensures.1 in
-    rw p.1 (λ other. refl)
-
 pub returns-clause-fault : goal.returns-clause-fault
 returns-clause-fault g c = log-frame c.put_lines-2.result c.put_lines-2.ensures.fault
 
-pub returns-clause-out_failed : goal.returns-clause-out_failed
-returns-clause-out_failed g c = λ is. log-out c.put_lines-2.result c.put_lines-2.ensures.fault is
+pub returns-in_default-closed_by-clause-file_failed : goal.returns-in_default-closed_by-clause-file_failed
+returns-in_default-closed_by-clause-file_failed g c = log-leaves-file c.put_lines.result refl c.put_lines.ensures.fault
 
-pub returns-clause-out_kept : goal.returns-clause-out_kept
-returns-clause-out_kept g c = kept-any c.put_lines-2.result (Write Out) c.in_ok-close.ensures.same
+pub returns-in_default-closed_by-clause-report_failed : goal.returns-in_default-closed_by-clause-report_failed
+returns-in_default-closed_by-clause-report_failed g c = c.put_lines.ensures.report_failed
 
-pub returns-clause-log_failed : goal.returns-clause-log_failed
-returns-clause-log_failed g c = λ is. log-log c.put_lines-2.result c.put_lines-2.ensures.failed is
+pub returns-in_err-close-clause-file_failed : goal.returns-in_err-close-clause-file_failed
+returns-in_err-close-clause-file_failed g c =
+    let p = err_from_is_err_and c.from_residual.result c.from_residual.ensures.1 in
+    rw (p.1, p.2) c.in_err-close.ensures.file_failed
 
-pub returns-clause-log_kept : goal.returns-clause-log_kept
-returns-clause-log_kept g c = log-kept c.put_lines-2.result _ c.put_lines-2.ensures.fault
+pub returns-in_err-close-clause-report_failed : goal.returns-in_err-close-clause-report_failed
+returns-in_err-close-clause-report_failed g c =
+    let p = err_from_is_err_and c.from_residual.result c.from_residual.ensures.1 in
+    rw (p.1, p.2) (out-leaves-report _ _ c.in_err-close.ensures.fault)
+
+pub returns-clause-file_failed : goal.returns-clause-file_failed
+returns-clause-file_failed g c = log-leaves-file c.put_lines-2.result c.in_ok-close.ensures.file_failed c.put_lines-2.ensures.fault
+
+pub returns-clause-report_failed : goal.returns-clause-report_failed
+returns-clause-report_failed g c = c.put_lines-2.ensures.report_failed

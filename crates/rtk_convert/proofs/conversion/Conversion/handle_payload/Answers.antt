@@ -7,7 +7,7 @@ use Rattle.rtk_convert.specs.Report.{refused_line, one_frame_more}
 use Rattle.rtk_convert.specs.Conversion.{ConversionView, IsAhead, AcceptsFrame, BreaksOffAtFrame}
 use Rattle.rtk_convert.proofs.ArriveLemmas.{state, arrives-arrived, breaks-arrived, arrives-other, arrives-refused, breaks-refused}
 use Rattle.rtk_convert.proofs.WritingLemmas.{takes-none, on_err-from}
-use Rattle.rtk_convert.proofs.HandedLemmas.{one-fault, log-frame, log-out, log-kept}
+use Rattle.rtk_convert.proofs.HandedLemmas.{log-frame}
 use Rattle.rtk_convert.proofs.conversion.Conversion.handle_payload.Goals as goal
 
 pub returns-in_default-clause-err : goal.returns-in_default-clause-err
@@ -55,45 +55,27 @@ returns-in_err-put_lines-in-Refused-clause-fault g c =
     let p = err_from_is_err_and c.from_residual.result c.from_residual.ensures.1 in
     log-frame c.from_residual.result (rw (p.1, p.2) c.in_err-put_lines-in-Refused.ensures.fault)
 
-pub returns-in_err-put_lines-in-Refused-clause-out_failed : goal.returns-in_err-put_lines-in-Refused-clause-out_failed
-returns-in_err-put_lines-in-Refused-clause-out_failed g c = λ is.
-    let p = err_from_is_err_and c.from_residual.result c.from_residual.ensures.1 in
-    log-out c.from_residual.result (rw (p.1, p.2) c.in_err-put_lines-in-Refused.ensures.fault) is
-
-pub returns-in_err-put_lines-in-Refused-clause-out_kept : goal.returns-in_err-put_lines-in-Refused-clause-out_kept
-returns-in_err-put_lines-in-Refused-clause-out_kept g c =
-    let p = err_from_is_err_and c.from_residual.result c.from_residual.ensures.1 in
-    rw p.1 (λ other. refl)
-
-pub returns-in_err-put_lines-in-Refused-clause-log_failed : goal.returns-in_err-put_lines-in-Refused-clause-log_failed
-returns-in_err-put_lines-in-Refused-clause-log_failed g c = λ is. c.in_err-put_lines-in-Refused.ensures.failed
-
-pub returns-in_err-put_lines-in-Refused-clause-log_kept : goal.returns-in_err-put_lines-in-Refused-clause-log_kept
-returns-in_err-put_lines-in-Refused-clause-log_kept g c =
-    let p = err_from_is_err_and c.from_residual.result c.from_residual.ensures.1 in
-    log-kept c.from_residual.result _ (rw (p.1, p.2) c.in_err-put_lines-in-Refused.ensures.fault)
-
 pub returns-in_err-handle_message-in-Dated-clause-fault : goal.returns-in_err-handle_message-in-Dated-clause-fault
 returns-in_err-handle_message-in-Dated-clause-fault g c =
     let p = err_from_is_err_and c.from_residual-in_err-handle_message-in-Dated.result c.from_residual-in_err-handle_message-in-Dated.ensures.1 in
     rw (p.1, p.2) c.in_err-handle_message-in-Dated.ensures.fault
 
-pub returns-in_err-handle_message-in-Dated-clause-out_failed : goal.returns-in_err-handle_message-in-Dated-clause-out_failed
-returns-in_err-handle_message-in-Dated-clause-out_failed g c = λ is.
-    let p = err_from_is_err_and c.from_residual-in_err-handle_message-in-Dated.result c.from_residual-in_err-handle_message-in-Dated.ensures.1 in
-    c.in_err-handle_message-in-Dated.ensures.out_failed (ap Err (one-fault (p.1 ∙ ap Err p.2) is))
+pub returns-in_err-put_lines-in-Refused-clause-file_failed : goal.returns-in_err-put_lines-in-Refused-clause-file_failed
+returns-in_err-put_lines-in-Refused-clause-file_failed g c =
+    let p = err_from_is_err_and c.from_residual.result c.from_residual.ensures.1 in
+    rw (p.1, p.2, c.in_err-put_lines-in-Refused.ensures.fault) refl
 
-pub returns-in_err-handle_message-in-Dated-clause-out_kept : goal.returns-in_err-handle_message-in-Dated-clause-out_kept
-returns-in_err-handle_message-in-Dated-clause-out_kept g c =
-    let p = err_from_is_err_and c.from_residual-in_err-handle_message-in-Dated.result c.from_residual-in_err-handle_message-in-Dated.ensures.1 in
-    rw (p.1, p.2) c.in_err-handle_message-in-Dated.ensures.out_kept
+pub returns-in_err-put_lines-in-Refused-clause-report_failed : goal.returns-in_err-put_lines-in-Refused-clause-report_failed
+returns-in_err-put_lines-in-Refused-clause-report_failed g c =
+    let p = err_from_is_err_and c.from_residual.result c.from_residual.ensures.1 in
+    rw (p.1, p.2) c.in_err-put_lines-in-Refused.ensures.report_failed
 
-pub returns-in_err-handle_message-in-Dated-clause-log_failed : goal.returns-in_err-handle_message-in-Dated-clause-log_failed
-returns-in_err-handle_message-in-Dated-clause-log_failed g c = λ is.
+pub returns-in_err-handle_message-in-Dated-clause-file_failed : goal.returns-in_err-handle_message-in-Dated-clause-file_failed
+returns-in_err-handle_message-in-Dated-clause-file_failed g c =
     let p = err_from_is_err_and c.from_residual-in_err-handle_message-in-Dated.result c.from_residual-in_err-handle_message-in-Dated.ensures.1 in
-    c.in_err-handle_message-in-Dated.ensures.log_failed (ap Err (one-fault (p.1 ∙ ap Err p.2) is))
+    rw (p.1, p.2) c.in_err-handle_message-in-Dated.ensures.file_failed
 
-pub returns-in_err-handle_message-in-Dated-clause-log_kept : goal.returns-in_err-handle_message-in-Dated-clause-log_kept
-returns-in_err-handle_message-in-Dated-clause-log_kept g c =
+pub returns-in_err-handle_message-in-Dated-clause-report_failed : goal.returns-in_err-handle_message-in-Dated-clause-report_failed
+returns-in_err-handle_message-in-Dated-clause-report_failed g c =
     let p = err_from_is_err_and c.from_residual-in_err-handle_message-in-Dated.result c.from_residual-in_err-handle_message-in-Dated.ensures.1 in
-    rw (p.1, p.2) c.in_err-handle_message-in-Dated.ensures.log_kept
+    rw (p.1, p.2) c.in_err-handle_message-in-Dated.ensures.report_failed

@@ -36,8 +36,8 @@ links-preserved g c =
     record {
       going = c.in_ok-close.ensures.going;
       settings = c.close.ensures.settings ∙ i.settings;
-      out_same = c.in_ok-close.ensures.out_same ∙ i.out_same;
-      log_same = c.in_ok-close.ensures.log_same ∙ i.log_same;
+      out_same = c.in_ok-close.ensures.file_failed ∙ i.out_same;
+      log_same = c.in_ok-close.ensures.report_failed ∙ i.log_same;
       closed = λ h r. subst (λ (n : ℕ). ClosesSome c.args.self.now h n c.close.new.self (g.O.Sink.taken c.args.out.now) (g.O.Sink.taken c.close.new.out) (g.L.Sink.taken c.args.log.now) (g.L.Sink.taken c.close.new.log)) next
           (closes-next c.args.self.now c.links.self c.close.new.self h c.links.link (g.O.Sink.taken c.args.out.now) (g.O.Sink.taken c.links.out) (g.O.Sink.taken c.close.new.out) (g.L.Sink.taken c.args.log.now) (g.L.Sink.taken c.links.log) (g.L.Sink.taken c.close.new.log)
           i.settings none (i.closed h r) c.in_ok-close.ensures.ok);

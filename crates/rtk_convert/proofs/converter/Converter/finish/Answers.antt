@@ -25,8 +25,8 @@ returns-clause-err g c =
     (subst (λ (s : ConverterView). FinishesConversionInPart s.conversion (g.O.Sink.taken c.close_all.new.out) (g.O.Sink.taken c.finish.new.out) (g.L.Sink.taken c.close_all.new.log) (g.L.Sink.taken c.finish.new.log)) c.closing.view_is (part going)))
     c.finish.ensures.err
 
-pub returns-clause-out_same : goal.returns-clause-out_same
-returns-clause-out_same g c = on_ok-map c.finish.result (λ same. same ∙ c.in_ok-close_all.ensures.out_same) c.finish.ensures.out_same
+pub returns-clause-file_failed : goal.returns-clause-file_failed
+returns-clause-file_failed g c = rw (← c.in_ok-close_all.ensures.file_failed) c.finish.ensures.file_failed
 
-pub returns-clause-log_same : goal.returns-clause-log_same
-returns-clause-log_same g c = on_ok-map c.finish.result (λ same. same ∙ c.in_ok-close_all.ensures.log_same) c.finish.ensures.log_same
+pub returns-clause-report_failed : goal.returns-clause-report_failed
+returns-clause-report_failed g c = rw (← c.in_ok-close_all.ensures.report_failed) c.finish.ensures.report_failed

@@ -2,7 +2,6 @@ use Rattle.std.proofs.Common.{ap, Err, ◌++◌, ◌∷◌, [], refl, ◌∙◌,
 use Rattle.std.proofs.lemmas.Result.{err_from_is_err_and}
 use Rattle.rtk_convert.proofs.GatheringLemmas.{gathers-none, gathers-more, breaks-off, finds-next}
 use Rattle.rtk_convert.proofs.WritingLemmas.{on_err-from}
-use Rattle.rtk_convert.proofs.HandedLemmas.{one-fault}
 use Rattle.rtk_convert.proofs.link.Link.feed.Goals as goal
 
 pub frames-init : goal.frames-init
@@ -28,8 +27,8 @@ frames-preserved g c =
       is_open = holds.0;
       going = c.in_ok-epoch.ensures.going;
       settings = c.accept_frame.ensures.settings ∙ i.settings;
-      out_same = c.in_ok-epoch.ensures.out_same ∙ i.out_same;
-      log_same = c.in_ok-epoch.ensures.log_same ∙ i.log_same;
+      out_same = c.in_ok-epoch.ensures.file_failed ∙ i.out_same;
+      log_same = c.in_ok-epoch.ensures.report_failed ∙ i.log_same;
       waiting = s.waiting;
       taken = (
         i.taken.0 ++ c.in-Found.payload.now ∷ [],
@@ -57,22 +56,12 @@ returns-in_err-epoch-clause-fault g c =
     let p = err_from_is_err_and c.from_residual.result c.from_residual.ensures.1 in
     rw (p.1, p.2) (c.in_err-epoch.ensures.fault c.frames.invariant.going)
 
-pub returns-in_err-epoch-clause-out_failed : goal.returns-in_err-epoch-clause-out_failed
-returns-in_err-epoch-clause-out_failed g c = λ is.
+pub returns-in_err-epoch-clause-file_failed : goal.returns-in_err-epoch-clause-file_failed
+returns-in_err-epoch-clause-file_failed g c =
     let p = err_from_is_err_and c.from_residual.result c.from_residual.ensures.1 in
-    rw (← c.frames.invariant.out_same) (c.in_err-epoch.ensures.out_failed (ap Err (one-fault (p.1 ∙ ap Err p.2) is)))
+    rw (p.1, p.2, ← c.frames.invariant.out_same) c.in_err-epoch.ensures.file_failed
 
-pub returns-in_err-epoch-clause-out_kept : goal.returns-in_err-epoch-clause-out_kept
-returns-in_err-epoch-clause-out_kept g c =
+pub returns-in_err-epoch-clause-report_failed : goal.returns-in_err-epoch-clause-report_failed
+returns-in_err-epoch-clause-report_failed g c =
     let p = err_from_is_err_and c.from_residual.result c.from_residual.ensures.1 in
-    rw (p.1, p.2) (λ other. c.in_err-epoch.ensures.out_kept other ∙ c.frames.invariant.out_same)
-
-pub returns-in_err-epoch-clause-log_failed : goal.returns-in_err-epoch-clause-log_failed
-returns-in_err-epoch-clause-log_failed g c = λ is.
-    let p = err_from_is_err_and c.from_residual.result c.from_residual.ensures.1 in
-    rw (← c.frames.invariant.log_same) (c.in_err-epoch.ensures.log_failed (ap Err (one-fault (p.1 ∙ ap Err p.2) is)))
-
-pub returns-in_err-epoch-clause-log_kept : goal.returns-in_err-epoch-clause-log_kept
-returns-in_err-epoch-clause-log_kept g c =
-    let p = err_from_is_err_and c.from_residual.result c.from_residual.ensures.1 in
-    rw (p.1, p.2) (λ other. c.in_err-epoch.ensures.log_kept other ∙ c.frames.invariant.log_same)
+    rw (p.1, p.2, ← c.frames.invariant.log_same) c.in_err-epoch.ensures.report_failed
