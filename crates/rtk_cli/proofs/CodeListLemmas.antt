@@ -24,20 +24,20 @@ two-characters C5I = refl
 two-characters C5Q = refl
 two-characters C5X = refl
 
--- the first name of a list, and what stands behind it
+-- the first name of a list, and what follows it
 take-name : (c : Code) (behind : List ℕ) → take 2 (name_of c ++ behind) ≡ name_of c
 take-name c behind = ap (λ (n : ℕ). take n (name_of c ++ behind)) (sym (two-characters c)) ∙ take-append_seam (name_of c) behind
 
 drop-name : (c : Code) (behind : List ℕ) → drop 2 (name_of c ++ behind) ≡ behind
 drop-name c behind = ap (λ (n : ℕ). drop n (name_of c ++ behind)) (sym (two-characters c)) ∙ drop-append_seam (name_of c) behind
 
--- some text behind a comma is the next code's name and the further names
+-- the text after a comma is the next code's name and the further names
 pub record Next (rest : List ℕ) : Type 0 where
   pub code : Code
   pub more : List Code
   pub split : rest ≡ name_of code ++ comma_names more
 
--- behind the codes that were read stands the next one's name, where the text is a list at all
+-- after the codes that were read stands the name of the next, if the text is a list at all
 pub next-of : (done listed : List Code) (rest : List ℕ) → comma_names done ++ 44 ∷ rest ≡ comma_names listed → Next rest
 next-of [] [] rest e = absurd (let bad : length (44 ∷ rest) ≡ 0 = ap length e in omega (arith, bad))
 next-of [] (c ∷ more) rest e = record { code = c; more = more; split = ap (λ (t : List ℕ). drop 1 t) e }

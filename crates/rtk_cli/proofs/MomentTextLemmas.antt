@@ -56,7 +56,7 @@ reads-back text century rest month day hour minute second r₀ r₁ r₂ r₃ r�
 written-once : (text : List ℕ) (r : Civil) → HasDigits r → text ≡ moment_text r → (t : ℕ) → WritesMoment text t → Reads t r
 written-once text r h e t (c, reads, k, f) = subst (λ (x : Civil). Reads t x) (one-reading c r k h (sym f ∙ e)) reads
 
--- a text writes the moment that its reading is that of
+-- a text writes the moment of its date and time
 pub writes : (o : Option ℕ) (text : List ℕ) (r : Civil) → HasDigits r → text ≡ moment_text r
     → MatchOption o ((t : ℕ) → t ≤ LAST_MS → ¬ (Reads t r)) (λ t. Reads t r)
     → MatchOption o ((t : ℕ) → t ≤ LAST_MS → ¬ (WritesMoment text t)) (λ t. WritesMoment text t)

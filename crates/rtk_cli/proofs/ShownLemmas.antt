@@ -17,7 +17,7 @@ takes-none before text = (0, omega arith, sym (with_more-nil before))
 pub shows-none : (capture : List ℕ) (before : Option (List ℕ)) → ShowsPart capture before before
 shows-none capture before = (0, [], refl, takes-none before [])
 
--- the lines of frames, and that of one more frame
+-- the lines of frames, and the line of one more frame
 lines-snoc : (fs : List Frame) (f : Frame) (text line : List ℕ) → AreLinesOf fs text → IsLineOf f.payload line → AreLinesOf (fs ++ f ∷ []) (text ++ line)
 lines-snoc [] f text line e one = (line, [], one, refl, rw e (sym (append-nil line)))
 lines-snoc (g ∷ fs) f text line (first, others, one, more, e) last =
@@ -155,12 +155,12 @@ none_ahead : (capture : List ℕ) (from : ℕ) (ahead : List Frame) → ((p : �
 none_ahead capture from [] none are = refl
 none_ahead capture from (f ∷ fs) none (le, frame, payload, between, more) = absurd (none f.place le frame)
 
--- behind the last frame all are found
+-- after the last frame all are found
 pub found_all : (capture : List ℕ) (from count : ℕ) (pending : List ℕ) (before now : Option (List ℕ)) → (so_far : Progress capture from before now pending count) → ((p : ℕ) → from ≤ p → IsFrameAt capture p → ⊥) → frames capture ≡ so_far.found
 found_all capture from count pending before now so_far none =
     so_far.all ∙ ap (λ fs. so_far.found ++ fs) (none_ahead capture from so_far.ahead none so_far.are_ahead) ∙ append-nil so_far.found
 
--- behind the last frame, with no line pending, the capture is shown, and the count is that of its frames
+-- after the last frame, with no line pending, the capture is shown, and its frames are counted
 pub all_shown : (capture : List ℕ) (from count : ℕ) (before now : Option (List ℕ)) → Progress capture from before now [] count → ((p : ℕ) → from ≤ p → IsFrameAt capture p → ⊥) → Shows capture before now
 all_shown capture from count before now so_far none = (
   so_far.taken,

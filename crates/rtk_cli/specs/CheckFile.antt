@@ -16,21 +16,21 @@ cause_text Order = codes "C4 Order"
 cause_text Truncated = codes "C5 Truncated"
 cause_text OutOfMemory = codes "C6 OutOfMemory"
 
--- the line of a table with so many records and satellite lines, ended by a line feed
+-- the line of a table with these numbers of records and satellite lines; a line feed ends it
 abbrev pub valid_text : ℕ → ℕ → List ℕ
 valid_text epochs satellites =
     codes "valid: " ++ decimal epochs ++ codes " epochs, " ++ decimal satellites ++ codes " satellite lines" ++ 10 ∷ []
 
--- the line of a fault, ended by a line feed
+-- the line of a fault; a line feed ends it
 abbrev pub check_fault_text : CheckFault → List ℕ
 check_fault_text fault = codes "line " ++ decimal fault.line ++ codes ": " ++ cause_text fault.cause ++ 10 ∷ []
 
--- a yes: the text is that of a well-formed table, and the line tells how many records and satellite lines it has
+-- a yes: the text is the text of a well-formed table, and the line tells how many records and satellite lines it has
 abbrev pub SaysYes : List ℕ → List ℕ → Type 0
 SaysYes text line =
     (epochs : ℕ) × (satellites : ℕ) × HoldsTable text epochs satellites × (line ≡ valid_text epochs satellites)
 
--- a no: the text is that of no well-formed table, and the line tells its first fault; want of memory is none
+-- a no: the text is the text of no well-formed table, and the line tells its first fault, which is not want of memory
 abbrev pub SaysNo : List ℕ → List ℕ → Type 0
 SaysNo text line =
     (fault : CheckFault) × IsFault text fault × (fault.cause ≢ OutOfMemory) × IsWithoutTable text fault.cause
@@ -45,6 +45,6 @@ SaysVerdict text false line = SaysNo text line
 abbrev pub Tells : List ℕ → Bool → Option (List ℕ) → Option (List ℕ) → Type 0
 Tells text valid before after = (line : List ℕ) × SaysVerdict text valid line × (after ≡ with_more before line)
 
--- of the line of an answer a first part was taken, perhaps none or all of it
+-- a first part of the line of an answer was taken, perhaps none or all of it
 abbrev pub TellsPart : List ℕ → Option (List ℕ) → Option (List ℕ) → Type 0
 TellsPart text before after = (valid : Bool) × (line : List ℕ) × SaysVerdict text valid line × TakesPart before after line

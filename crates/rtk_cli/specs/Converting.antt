@@ -8,12 +8,12 @@ use Rattle.rtk_convert.specs.declared.fault.ConvertFault.TheVariants.{Setup, NoL
 abbrev pub most_reads : ℕ
 most_reads = 1000000000
 
--- so many bytes are read ahead of a link at once: 64 times the 512 that a conversion asks for
+-- the bytes of a link that are read ahead at once: 64 times the 512 that a conversion asks for
 abbrev pub read_at_once : ℕ
 read_at_once = 64 * 512
 
--- the exit status after a fault: 1 where memory, a write, a read or the end of an input is wanting, 2 where the
--- conversion itself is refused
+-- the exit status after a fault: 1 if memory was refused, a write or a read failed, or an input does not end; 2 if
+-- the conversion itself is refused
 abbrev pub status_of_fault : ConvertFault → ℕ
 status_of_fault Setup = 2
 status_of_fault NoLink = 2
@@ -24,8 +24,8 @@ status_of_fault (Read link) = 1
 status_of_fault Endless = 1
 status_of_fault Stopped = 2
 
--- the exit status of a conversion that was done or broke off, and of which all that it wrote is out or not: 0 where
--- it was done and all is out, 1 where it was done and not all is out
+-- the exit status of a conversion, by its answer and by whether all that it wrote is out: 0 if it was done and all
+-- is out, 1 if it was done and not all is out
 abbrev pub status_of : Result Counts ConvertFault → Bool → ℕ
 status_of (Ok counts) true = 0
 status_of (Ok counts) false = 1

@@ -3,7 +3,7 @@ use Rattle.std.specs.Prelude.{◌≡◌, ℕ, Bool, true, false, List, Option, S
 use Rattle.rtk_frame.specs.Stream.{with_more}
 use Rattle.rtk_cli.specs.Hex.{bytes_of_hex}
 
--- behind all bytes that a source gave before, it gave a text of which this is true; where nothing is
+-- after all bytes that a source gave before, it gave a text for which this holds; if nothing is
 -- known of its bytes, nothing ties the text to them (this project's rule)
 abbrev pub GivesText : Option (List ℕ) → Option (List ℕ) → (List ℕ → Type 0) → Type 0
 GivesText before after P = (text : List ℕ) × (after ≡ with_more before text) × P text

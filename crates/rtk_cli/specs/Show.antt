@@ -4,7 +4,7 @@ use Rattle.rtk_cli.specs.declared.words.ToolFault.{ToolFault}
 use Rattle.rtk_cli.specs.declared.words.ToolFault.TheVariants.{Input, TooLong, NotHex, OutOfMemory, Output}
 use Rattle.rtk_cli.specs.Shown.{ShowsPart}
 
--- of a capture a first part of its lines was taken; of an input that is none nothing was
+-- a first part of the lines of a capture was taken; of an input that is no capture nothing was
 -- (this project's rule)
 abbrev pub ShowsPartOf : Option (List ℕ) → Option (List ℕ) → Option (List ℕ) → Type 0
 ShowsPartOf None before after = after ≡ before

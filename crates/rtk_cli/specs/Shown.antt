@@ -59,8 +59,8 @@ message_text (Of1005 m) = text_1005 m
 message_text (Of1006 m) = text_1006 m
 message_text (Of1074 m) = text_1074 m
 
--- a payload that is no message: the number of another message, or the fault's number and that of the
--- message, where there is one
+-- a payload that is no message: the number of another message, or the number of the fault and the number of the
+-- message, if there is one
 abbrev pub unread_text : DecodeFault → List ℕ
 unread_text NoNumber = codes "refused M1 -"
 unread_text (Other number) = decimal number ++ codes " other"
@@ -73,7 +73,7 @@ abbrev pub line_of : Result Message DecodeFault → List ℕ
 line_of (Ok m) = message_text m ++ 10 ∷ []
 line_of (Err fault) = unread_text fault ++ 10 ∷ []
 
--- the line of a payload is that of what it decodes to
+-- the line of a payload is the line of what it decodes to
 abbrev pub IsLineOf : List ℕ → List ℕ → Type 0
 IsLineOf payload line = (reading : Result Message DecodeFault) × Decodes (bits payload) reading × (line ≡ line_of reading)
 
@@ -87,6 +87,6 @@ AreLinesOf (frame ∷ rest) text =
 abbrev pub Shows : List ℕ → Option (List ℕ) → Option (List ℕ) → Type 0
 Shows capture before after = (text : List ℕ) × AreLinesOf (frames capture) text × (after ≡ with_more before text)
 
--- of the lines of the capture's first frames a first part was taken, perhaps none or all of it
+-- a first part of the lines of the capture's first frames was taken, perhaps none or all of it
 abbrev pub ShowsPart : List ℕ → Option (List ℕ) → Option (List ℕ) → Type 0
 ShowsPart capture before after = (n : ℕ) × (text : List ℕ) × AreLinesOf (take n (frames capture)) text × TakesPart before after text

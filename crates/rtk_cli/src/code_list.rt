@@ -18,7 +18,7 @@ pub fn codes_of(alloc: Global, text: &[u8]) -> Result<Vec<Code>, WordsFault>
     let mut codes = Vec::new(alloc);
     let mut rest = text;
     loop {
-        let Some((name, behind)) = rest.split_first_chunk::<2>() else {
+        let Some((name, tail)) = rest.split_first_chunk::<2>() else {
             return Err(WordsFault::Bad {
                 line: BadWords::Codes,
             });
@@ -31,7 +31,7 @@ pub fn codes_of(alloc: Global, text: &[u8]) -> Result<Vec<Code>, WordsFault>
         if codes.push(code).is_err() {
             return Err(WordsFault::OutOfMemory);
         }
-        let Some((comma, next)) = behind.split_first() else {
+        let Some((comma, next)) = tail.split_first() else {
             return Ok(codes);
         };
         if *comma != b',' {

@@ -179,7 +179,7 @@ fn convert_job<'a>(alloc: Global, matches: &ArgMatches<'a>) -> Result<Job<'a>, W
     conversion(alloc, &options, matches.get_strs("LINK").unwrap_or(&[]))
 }
 
-/// What the words of a command line ask for. They begin behind the name of the program.
+/// What the words of a command line ask for. They begin after the name of the program.
 pub fn job<'a>(alloc: Global, words: &'a [&'a str]) -> Result<Job<'a>, WordsFault>
     ensures limits { IfOk result IsWithinLimits }
     ensures status { IfErr result HasStatus }

@@ -12,7 +12,7 @@ pub const FAILED: u8 = 1;
 /// The words are refused.
 pub const REFUSED: u8 = 2;
 
-/// The text is none of this project's files.
+/// `check` says no: the text is not one that `convert` could have written.
 pub const NOT_VALID: u8 = 3;
 
 /// Says why the work is not done. Where standard error is closed nobody hears it.

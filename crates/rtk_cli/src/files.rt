@@ -1,4 +1,4 @@
-//! Files and standard streams as sources and sinks: nothing is known of what they gave and took.
+//! Files and standard streams as sources and sinks. Nothing is known of the bytes that they give and take.
 ghost use Rattle.std.specs.Prelude.{◌≡◌, None, true, false};
 
 use rtk_frame::{Sink, Source, StreamFault};

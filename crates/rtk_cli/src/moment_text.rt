@@ -43,7 +43,7 @@ fn text_of(reading: Civil) -> [u8; 19]
     ]
 }
 
-// The reading that a text is that of; whether there is such a day and time is another question.
+// The date and time that a text writes. Whether there is such a day and time is not looked at.
 fn reading_of(text: &[u8]) -> Option<Civil>
     ensures { MatchOption result ((c : Civil) → HasDigits c → text.now ≢ moment_text c)
         (λ c. HasDigits c × (text.now ≡ moment_text c)) }

@@ -142,7 +142,7 @@ pub fn put_line(lines: &mut Vec<u8>, payload: &[u8]) -> Result<(), AllocError>
     Ok(())
 }
 
-/// The line of a payload, with its line feed: what it says as a message, or why it is none.
+/// The line of a payload, with its line feed: the message that it is, or why it is refused.
 pub fn show_line(alloc: Global, payload: &[u8]) -> Result<Vec<u8>, AllocError>
     ensures { IfOk result (λ line. IsLineOf payload.now line.items) }
 {

@@ -13,7 +13,7 @@ use std::fs::Files;
 use std::io::{ErrorKind, Write};
 use std::{fs, io};
 
-// The words behind the name of the program. One that is no text (UTF-8) can't be read.
+// The words after the name of the program. A word that is no text (UTF-8) can't be read.
 fn words_of<R: Env + AllocGlobal>(rt: &R) -> Result<Vec<String>, ToolFault> {
     let mut args = match std::env::args(rt) {
         Ok(args) => args,
@@ -82,9 +82,9 @@ fn run_words<R: Files + Input + Print + Eprint + AllocGlobal, W: Write + Drop>(
     }
 }
 
-/// Runs the program, and answers its exit status: 0 the work is done, 1 an input or an output failed,
-/// or there was no memory, 2 the words are refused, 3 the text that `check` was asked about is none of this
-/// project's files. The report of a conversion goes to `report`, which is standard error.
+/// Runs the program, and answers its exit status: 0 if the work is done, 1 if an input or an output
+/// failed or memory was refused, 2 if the words are refused, and 3 if `check` says no. The report of
+/// a conversion goes to `report`, which is standard error.
 pub fn run_program<R: Env + Files + Input + Print + Eprint + AllocGlobal, W: Write + Drop>(
     rt: &R,
     report: W,

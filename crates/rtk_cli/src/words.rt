@@ -32,17 +32,19 @@ pub enum Job<'a> {
     },
 }
 
-/// Why words that clap takes give no conversion: the first cause that holds, in this order. Displayed, it
-/// is the fault line of the program.
+/// Why words that clap takes give no conversion: the first cause that holds, in this order.
+/// Displayed, it is the fault line of the program.
 #[derive(Clone, Copy, Debug, PartialEq, Eq, Error)]
 pub enum BadWords {
-    /// The reference is written in another form, doesn't exist, or is none near which times are dated.
+    /// The reference is written in another form, or there is no such moment, or times can't be
+    /// dated near it.
     #[error("bad --near")]
     Near,
-    /// The time of making is written in another form or doesn't exist.
+    /// The time of making is written in another form, or there is no such moment.
     #[error("bad --made")]
     Made,
-    /// A name is no observation code; or, behind the marker, the codes are not 1 to 16 or one stands twice.
+    /// A name is no observation code. Or, once the marker is known to be good: the codes are not
+    /// 1 to 16, or one stands twice.
     #[error("bad --codes")]
     Codes,
     /// The marker's name has not 1 to 60 characters of ASCII, or a blank first or last.

@@ -139,7 +139,8 @@ fn check_all(collector: &mut Collector, steps: &[Step]) -> Result<(), Fail> {
     Ok(())
 }
 
-// Offers a message at so many seconds after noon: the answer is this one, with these conflicting cells.
+// Offers a message this number of seconds after noon: the answer is this one, with these
+// conflicting cells.
 fn check(
     collector: &mut Collector,
     message: Message,

@@ -31,7 +31,7 @@ const SPOILT: [u8; 25] = [
     0xAC, 0x09, 0x41, 0x98, 0x6F, 0x33, 0x36, 0x0B, 0x99,
 ];
 
-/// A text: some bytes, so many times, and then `FRAME`. With what is found in it.
+/// A text: some bytes, repeated, and then `FRAME`; with what is found in it.
 struct Text {
     head: &'static [u8],
     times: usize,
@@ -77,7 +77,7 @@ const TEXTS: [Text; 6] = [
         place: 6000,
         fed: true,
     },
-    // preambles of which the first candidate is whole, and bad, and later ones are not
+    // preambles: the first candidate is whole and bad, the later ones are not whole
     Text {
         head: &[0xD3, 0x03, 0xFF],
         times: 300,
@@ -95,7 +95,7 @@ fn bytes_of(alloc: Global, text: &Text) -> Result<Vec<u8>, AllocError> {
     Ok(bytes)
 }
 
-/// Feeds the bytes in pieces of a size, and gives the payloads found, one behind another, and how
+/// Feeds the bytes in pieces of a size, and gives the payloads found, one after another, and how
 /// many there were.
 fn feed_in_pieces(
     alloc: Global,
@@ -163,7 +163,7 @@ fn a_payload_has_at_most_1023_bytes(rt: HostRuntime) -> Result<(), Fail> {
     holds(matches!(longer, Err(FrameFault::TooLong)))
 }
 
-// The next frame of the text stands at this place and is that of the standard.
+// The next frame of the text stands at this place and is the example of the standard.
 fn check_found(text: &[u8], place: usize) -> Result<(), Fail> {
     let Some(found) = next_frame(text, 0) else {
         return Err(Fail::new(format_args!("no frame at {place}")));

@@ -74,7 +74,7 @@ fn converted(alloc: Global, bytes: &[u8], max_reads: u64) -> Result<(Counts, Wri
     Ok((counts, written))
 }
 
-// Do these parts, one behind another, make the text?
+// Do these parts, one after another, make the text?
 pub(crate) fn consists_of(text: &[u8], parts: &[&str]) -> bool {
     let mut rest = text;
     for part in parts {
@@ -286,7 +286,7 @@ fn captures_cut_anywhere(rt: HostRuntime) -> Result<(), Fail> {
     Ok(())
 }
 
-// The frame of the epoch so many seconds after noon.
+// The frame of the epoch this number of seconds after noon.
 fn frame_after(alloc: Global, seconds: u32) -> Result<Vec<u8>, Fail>
     requires { seconds < 3000 }
 {

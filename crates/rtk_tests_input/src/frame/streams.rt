@@ -7,8 +7,8 @@ use std::test::Fail;
 // How many bytes a read gives, and the buffer then.
 const PAIRS: [(usize, [u8; 4]); 3] = [(2, [1, 2, 9, 9]), (2, [3, 4, 9, 9]), (1, [5, 4, 9, 9])];
 
-// What comes behind the bytes, the answer of a read there, and the buffer then.
-const BEHIND_FIVE_BYTES: [(After, Result<usize, StreamFault>, [u8; 4]); 3] = [
+// What comes after the bytes, the answer of a read there, and the buffer then.
+const AFTER_FIVE_BYTES: [(After, Result<usize, StreamFault>, [u8; 4]); 3] = [
     (After::End, Ok(0), [5, 4, 9, 9]),
     (After::Failure, Err(StreamFault), [5, 4, 9, 9]),
     (After::Zeros, Ok(2), [0, 0, 9, 9]),
@@ -18,7 +18,7 @@ const BEHIND_FIVE_BYTES: [(After, Result<usize, StreamFault>, [u8; 4]); 3] = [
 fn a_source_gives_its_bytes_two_at_a_time_and_then_what_comes_after(
     rt: HostRuntime,
 ) -> Result<(), Fail> {
-    for &(after, behind, last) in &BEHIND_FIVE_BYTES {
+    for &(after, answer, last) in &AFTER_FIVE_BYTES {
         let mut source = MemSource::new(rt.alloc(), &[1, 2, 3, 4, 5], 2, after)?;
         let mut buf = [9; 4];
         for &(count, bytes) in &PAIRS {
@@ -30,7 +30,7 @@ fn a_source_gives_its_bytes_two_at_a_time_and_then_what_comes_after(
             same_of(format_args!("{after:?}"), &buf, &bytes)?;
         }
         for _ in 0..3 {
-            same_of(format_args!("{after:?}"), &source.read(&mut buf), &behind)?;
+            same_of(format_args!("{after:?}"), &source.read(&mut buf), &answer)?;
             same_of(format_args!("{after:?}"), &buf, &last)?;
         }
     }

@@ -20,7 +20,8 @@ const NO_INDICATOR: Arp1005 = Arp1005 {
     z: -137_438_953_472,
 };
 
-// Points, each behind its payload as a 1006 with a height of 4.0000. That of the 1005 has another number and no height.
+// Points, each after its payload as a 1006 with a height of 4.0000. The payload of the 1005 has another
+// number and no height.
 const POINTS: [([u8; 21], Arp1005); 3] = [
     (
         [

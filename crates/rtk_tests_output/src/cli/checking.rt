@@ -22,7 +22,7 @@ fn checked(
     Ok((answer, out))
 }
 
-// Of a source that fails behind the whole text nothing is said.
+// Nothing is said of a source that fails after the whole text.
 #[test]
 fn failed_read(rt: HostRuntime) -> Result<(), Fail> {
     let (answer, out) = checked(rt.alloc(), After::Failure, 100)?;

@@ -75,10 +75,10 @@ fn gives(alloc: Global, words: &[&str], window: usize, names: &[&str]) -> bool {
 
 #[test]
 fn conversions(rt: HostRuntime) -> Result<(), Fail> {
-    for &(behind, window, names) in &ROWS {
+    for &(options, window, names) in &ROWS {
         let mut words = Vec::new(rt.alloc());
         words.extend_from_slice(&OPTIONS)?;
-        words.extend_from_slice(behind)?;
+        words.extend_from_slice(options)?;
         holds_of(
             format_args!("window {window}"),
             gives(rt.alloc(), words.as_slice(), window, names),

@@ -42,7 +42,7 @@ fn sinks_that_fill(rt: HostRuntime) -> Result<(), Fail> {
     Ok(())
 }
 
-// Of a source that fails behind so many bytes nothing is shown, though whole frames stand before.
+// Nothing is shown of a source that fails after these bytes, though whole frames stand before.
 #[test]
 fn sources_that_fail(rt: HostRuntime) -> Result<(), Fail> {
     let text = repeated(rt.alloc(), FRAME)?;

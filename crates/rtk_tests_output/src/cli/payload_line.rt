@@ -11,7 +11,7 @@ const LINES: [(&str, &str); 17] = [
         "3ED7D30202980EDEEF34B4BD62AC0941986F33",
         "1005 station 2003 x 1114104.5999 y -4850729.7108 z 3975521.4643\n",
     ),
-    // A byte behind the last field is no part of the message.
+    // A byte after the last field is no part of the message.
     (
         "3ED7D30202980EDEEF34B4BD62AC0941986F33FF",
         "1005 station 2003 x 1114104.5999 y -4850729.7108 z 3975521.4643\n",
@@ -64,9 +64,9 @@ const LINES: [(&str, &str); 17] = [
     ("3E", "refused M1 -\n"),
     // A 1005 without its last two bytes.
     ("3ED7D30202980EDEEF34B4BD62AC094198", "refused M3 1005\n"),
-    // A 1004 that has one satellite by its header and none behind it.
+    // A 1004 that has one satellite by its header and no satellite after it.
     ("3EC7D3714BE80010", "refused M3 1004\n"),
-    // That one with a time behind the week.
+    // The same with a time past the week.
     ("3EC7D39032100010", "refused M4 1004\n"),
     // A 1074 of 13 satellites and 5 signals.
     (

@@ -10,7 +10,7 @@ const ARP: &str = "1005 station 2003 x 1114104.5999 y -4850729.7108 z 3975521.46
 // The frame of a 1005 of station 2003.
 const ARP_HEX: &str = "D3 00 13 3E D7 D3 02 02 98 0E DE EF 34 B4 BD 62 AC 09 41 98 6F 33 36 0B 98";
 
-// A capture as hex text, and what is shown of it: so many lines, and these.
+// A capture as hex text, and what is shown of it: how many lines, and which.
 const CAPTURES: [(&str, u64, &str); 17] = [
     (ARP_HEX, 1, ARP),
     // Digits of both cases, tabs and both kinds of line end, between the digits of a byte too.
@@ -21,7 +21,7 @@ const CAPTURES: [(&str, u64, &str); 17] = [
     ),
     // A frame with an empty payload.
     ("D3000047EA4B", 1, "refused M1 -\n"),
-    // Whose reserved bits are set; the checksum is that of these bytes.
+    // Its reserved bits are set; the checksum is the checksum of these bytes.
     ("D3FC0032C24F", 1, "refused M1 -\n"),
     ("D300023FB0D71D73", 1, "1019 other\n"),
     // The other three messages.
@@ -52,7 +52,7 @@ const CAPTURES: [(&str, u64, &str); 17] = [
         1,
         "refused M3 1005\n",
     ),
-    // Three frames, in their order, with other bytes before, between and behind them.
+    // Three frames, in their order, with other bytes before, between and after them.
     (
         "00D3 D300023FB0D71D73 FF D3000047EA4B D300023FB0D71D73 D3",
         3,
@@ -91,7 +91,7 @@ fn bytes_of(alloc: Global, text: &str) -> Result<Vec<u8>, Fail> {
     Ok(hex::decode(alloc, digits.as_slice())?)
 }
 
-// Shows the input in pieces of 1 and 5 bytes and whole: so many lines, and these.
+// Shows the input in pieces of 1 and 5 bytes and whole: this number of lines, and these.
 fn check_pieces(
     alloc: Global,
     input: &[u8],

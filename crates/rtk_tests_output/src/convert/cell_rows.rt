@@ -94,7 +94,7 @@ pub(crate) const PARTS: [Row; 9] = [
         ],
         report: "link 1 late 1074 2024-05-17 12:00:00.000\nframes 5\nother 0\nrefused 0\nforeign 0\ntaken 3\nrepeat 1\nconflict 0\nlate 1\nepochs 2\n",
     },
-    // The first time is that of the first record.
+    // The first time is the time of the first record.
     Row {
         payloads: &[SATELLITE_40, Q_1, Q_2, Q_3],
         file: &[
@@ -154,7 +154,7 @@ pub(crate) const PHASES: [Row; 9] = [
         ],
         report: "frames 2\nother 0\nrefused 0\nforeign 0\ntaken 2\nrepeat 0\nconflict 0\nlate 0\nepochs 2\n",
     },
-    // Nor behind a phase of a 1074.
+    // Nor after a phase of a 1074.
     Row {
         payloads: &[ROLLED, MSM_5_1, ROLLED_BACK_2],
         file: &[
@@ -232,7 +232,7 @@ pub(crate) const PHASES: [Row; 9] = [
         ],
         report: "frames 3\nother 0\nrefused 0\nforeign 0\ntaken 3\nrepeat 0\nconflict 0\nlate 0\nepochs 3\n",
     },
-    // The phase of a 1004 that stands behind a 1074 without one does not count.
+    // The phase of a 1004 does not count if the 1074 has the cell without a phase.
     Row {
         payloads: &[Q, Q_1_UNLOCKED, MSM_5_INVALID_1, Q_2_LOCKED_LATER],
         file: &[
@@ -250,7 +250,7 @@ pub(crate) const PHASES: [Row; 9] = [
         ],
         report: "frames 4\nother 0\nrefused 0\nforeign 0\ntaken 4\nrepeat 0\nconflict 0\nlate 0\nepochs 3\n",
     },
-    // A lock time below that of the last phase is a loss of lock.
+    // A lock time below the lock time of the last phase is a loss of lock.
     Row {
         payloads: &[MSM_5_LONG_LOCKED, MSM_5_1_SLIPPED],
         file: &[
@@ -266,7 +266,7 @@ pub(crate) const PHASES: [Row; 9] = [
         ],
         report: "frames 2\nother 0\nrefused 0\nforeign 0\ntaken 2\nrepeat 0\nconflict 0\nlate 0\nepochs 2\n",
     },
-    // But for that of the other kind of message.
+    // But not for the lock time of the other kind of message.
     Row {
         payloads: &[Q_LONG_LOCKED, MSM_5_1],
         file: &[

@@ -99,7 +99,7 @@ const AFTER_1_S_CLOSED: [&str; 7] = [
     Q_LINE,
 ];
 
-// Satellite 40 is none of GPS, so that its epoch has no record.
+// Satellite 40 is no satellite of GPS, so its epoch has no record.
 const EMPTY: [Coming; 4] = [
     (0, SATELLITE_40, &[]),
     (0, Q_1, &[]),

@@ -32,7 +32,7 @@ pub(crate) const EPOCHS: [Row; 8] = [
         file: &[TOP, SITE_WITH_HEIGHT, TYPES, FIRST_AT_NOON, END],
         report: "frames 2\nother 0\nrefused 0\nforeign 0\ntaken 2\nrepeat 0\nconflict 0\nlate 0\nepochs 0\n",
     },
-    // The cell of a 1074 stands before that of a 1004; satellite 40 is not written.
+    // The cell of a 1074 stands before the cell of a 1004; satellite 40 is not written.
     Row {
         payloads: &[SATELLITES_5_AND_40, SATELLITES_5_AND_40, MSM_5, MSM_5],
         file: &[

@@ -10,7 +10,7 @@ use rtk_frame::After;
 pub(crate) struct Run {
     /// The payloads of each link.
     pub(crate) links: &'static [&'static [&'static [u8]]],
-    /// What each link does behind them.
+    /// What each link does after them.
     pub(crate) after: After,
     pub(crate) max_reads: u64,
     /// How many bytes `out` takes, and how many at once.

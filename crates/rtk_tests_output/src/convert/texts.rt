@@ -59,7 +59,7 @@ pub(crate) const Q_LINE: &str =
 pub(crate) const ROLLED_LINE: &str =
     "G05  21085472.060 7 110805691.802 7        45.000    21085474.060 5  86341483.283 5        35.000\n";
 
-/// What satellite 5 of a 1074 shows, with 2W of Q behind it.
+/// What satellite 5 of a 1074 shows, followed by 2W of Q.
 pub(crate) const MERGED_LINE: &str =
     "G05  21135368.289   111067110.000                    21085474.060 5  86341483.283 5        35.000\n";
 

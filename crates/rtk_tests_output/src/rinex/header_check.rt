@@ -100,7 +100,7 @@ const TYPES: [(&[&str], Option<(usize, Cause)>); 8] = [
         ],
         None,
     ),
-    // a code that stands before, or that there is none of
+    // a code that stands before, or that there is not
     (
         &["G    6 C1C L1C S1C C1C L1C S1C                              "],
         Some((10, Cause::HeaderLine)),

@@ -15,7 +15,7 @@ const RECORD: &str = concat!(
     "G05  21085472.060 7 110804903.547 7        45.000    21085474.060 5  86341483.283 5        35.000\n",
 );
 
-// What a code shows, of a strength in quarters of a dB-Hz; of 0 there is none.
+// What a code shows; the strength is in quarters of a dB-Hz, and 0 is no strength.
 fn observed(range: Option<i64>, phase: Option<i64>, quarters: u8, lock: (bool, bool)) -> Observed
     ensures { IsStrengthOrNone result.strength_millidbhz }
 {

@@ -1,4 +1,4 @@
-//! Tests of whole lines behind a good header, of a larger file, and of the texts of faults.
+//! Tests of whole lines after a good header, of a larger file, and of the texts of faults.
 
 use super::table_check::{EPOCH, SATELLITE, fault_of, file};
 use rtk_rinex::{Cause, CheckFault, check};

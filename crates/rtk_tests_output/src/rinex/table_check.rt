@@ -14,7 +14,7 @@ pub(crate) const EPOCH: &str = "> 2024 05 17 12 00  0.0000000  0  1\n";
 pub(crate) const SATELLITE: &str =
     "G05  21085472.060 7 110804903.547 7        45.000    21085474.060 5  86341483.283 5        35.000\n";
 
-// The example header and these lines behind it.
+// The example header, and these lines after it.
 pub(crate) fn file(alloc: Global, lines: &[&str]) -> Result<Vec<u8>, Fail> {
     let mut bytes = Vec::new(alloc);
     bytes.extend_from_slice(HEADER.as_bytes())?;

@@ -14,6 +14,6 @@ returns-in_default-from_name-clause-bad c = λ _ listed lists.
 
 pub returns-then-comma-ne44-clause-bad : goal.returns-then-comma-ne44-clause-bad
 returns-then-comma-ne44-clause-bad c = λ _ listed lists.
-    no-other c.loop-name.rest.now c.in-Some.behind.now c.in-Some-split_first.next.now c.in-Some-split_first.comma.now
+    no-other c.loop-name.rest.now c.in-Some.tail.now c.in-Some-split_first.next.now c.in-Some-split_first.comma.now
     c.in-Some.ensures.cases.1 c.in-Some-split_first.ensures.cases.0 c.if-comma-ne44.true
     (next-of c.loop-name.codes.items listed c.loop-name.rest.now (sym c.loop-name.invariant ∙ lists))
