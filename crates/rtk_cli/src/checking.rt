@@ -1,4 +1,6 @@
-//! The command `check`: whether a text is one of this project's files, and which line is the first to blame.
+//! The command `check`: whether a text is one of this project's files, and which line is the first
+//! to blame.
+
 ghost use Rattle.std.specs.Prelude.{◌≡◌, ◌≢◌, ◌+◌, ◌≤◌, ◌++◌, Err, length, IfOk, OnOk, IfErr, IsErrOf};
 ghost use Rattle.rtk_frame.specs.Stream.{CountRises};
 ghost use Rattle.rtk_cli.specs.Input.{GivesText};
@@ -72,11 +74,12 @@ fn answer_of(alloc: Global, text: &[u8]) -> Result<Answer, ToolFault>
     }
 }
 
-/// Reads an input whole and checks it: is it a text that `convert` could have written? Writes one line,
-/// `valid: E epochs, S satellite lines` or `line N: C3 Value`, which names the first line that is wrong
-/// and why. Answers whether the check said yes.
+/// Reads an input whole and checks it: is it a text that `convert` could have written? Writes one
+/// line, `valid: E epochs, S satellite lines` or `line N: C3 Value`, which names the first line
+/// that is wrong and why. Answers whether the check said yes.
 ///
-/// The line is whole before a byte of it is written, so after each fault but a failed write nothing is out.
+/// The line is whole before a byte of it is written, so after each fault but a failed write nothing
+/// is out.
 pub fn check_file<R: Source, W: Sink>(
     alloc: Global,
     reader: &mut R,

@@ -1,4 +1,5 @@
 //! Lists of observation codes as the words of a command line write them.
+
 ghost use Rattle.std.specs.Prelude.{◌≡◌, ◌≢◌, List, IfOk, IfErr};
 ghost use Rattle.rtk_obs.specs.declared.code.Code.{Code};
 ghost use Rattle.rtk_cli.specs.CodeList.{Lists};
@@ -10,7 +11,7 @@ use rtk_obs::Code;
 use std::alloc::Global;
 
 /// The codes whose names a text lists, with commas between; a code may stand twice.
-pub fn codes_of(alloc: Global, text: &[u8]) -> Result<Vec<Code>, WordsFault>
+pub(crate) fn codes_of(alloc: Global, text: &[u8]) -> Result<Vec<Code>, WordsFault>
     ensures codes { IfOk result (λ codes. Lists text.now codes.items) }
     ensures bad { IfErr result (λ fault. fault ≡ Bad Codes → (codes : List Code) → ¬ (Lists text.now codes)) }
     ensures else_memory { IfErr result (λ fault. fault ≢ Bad Codes → fault ≡ OutOfMemory) }

@@ -1,5 +1,6 @@
 //! The command line, as clap reads it.
-ghost use Rattle.std.specs.Prelude.{◌≡◌, ℕ, IfOk, IfErr};
+
+ghost use Rattle.std.specs.Prelude.{◌≡◌, ℕ, IfOk, IfErr, IfSome};
 ghost use Rattle.clap.specs.Values.{kind_of};
 ghost use Rattle.rtk_cli.specs.Words.{HasStatus, IsStatusOf, IsWithinLimits};
 ghost use Rattle.rtk_cli.specs.declared.words.WordsFault.TheVariants.{Clap};
@@ -16,7 +17,7 @@ const NAME: &str = "rtcm2rinex";
 /// The version that `--version` shows.
 const VERSION: &str = "0.1.0";
 
-/// The window where none is given.
+/// The window if none is given.
 const WINDOW: &str = "64";
 
 // The name of the one input of a command.
@@ -46,8 +47,8 @@ fn check<'a>(alloc: Global) -> Result<Command<'a>, AllocError> {
         .arg(file(alloc, "The file, or stdin for standard input"))
 }
 
-// An option of `convert` that has a value. Each has a function of its own, since the check of a function that builds
-// them all takes minutes.
+// An option of `convert` that has a value. Each has a function of its own, since the check of a
+// function that builds them all takes minutes.
 fn option<'a>(alloc: Global, name: &'a str, value: &'a str, help: &'a str) -> Arg<'a> {
     flag(alloc, name, help).value_name(value)
 }
@@ -93,7 +94,8 @@ fn links<'a>(alloc: Global) -> Arg<'a> {
         .num_args(1..)
 }
 
-// What each conversion is told. The words stand in two functions, for the same reason as each option has its own.
+// What each conversion is told. The words stand in two functions, for the same reason as each
+// option has its own.
 fn required_options<'a>(alloc: Global) -> Result<Command<'a>, AllocError> {
     Command::new(alloc, "convert")
         .about("Converts captures of one station to a RINEX 3.05 observation file")
@@ -149,34 +151,44 @@ fn refused(alloc: Global, error: &Error) -> WordsFault
     }
 }
 
-fn show_job<'a>(matches: &ArgMatches<'a>) -> Job<'a>
-    ensures { IsWithinLimits result }
+// What clap should have refused: words without a command or a value that each command needs.
+fn refused_by_us(alloc: Global, program: &mut Command<'_>) -> WordsFault
+    ensures { HasStatus result }
+{
+    match program.error(
+        ErrorKind::MissingRequiredArgument,
+        "a command or a value is missing",
+    ) {
+        Ok(error) => refused(alloc, &error),
+        Err(_) => WordsFault::OutOfMemory,
+    }
+}
+
+// The values of the options of `convert`. clap refuses words that lack one, so there is always one.
+fn options<'a>(matches: &ArgMatches<'a>) -> Option<Options<'a>> {
+    Some(Options {
+        station: matches.get_one::<u16>("station")?,
+        near: matches.get_str("near")?,
+        made: matches.get_str("made")?,
+        marker: matches.get_str("marker")?,
+        codes: matches.get_str("codes")?,
+        window: matches.get_one::<u16>("window")?,
+    })
+}
+
+fn show_job<'a>(matches: &ArgMatches<'a>) -> Option<Job<'a>>
+    ensures { IfSome result IsWithinLimits }
 {
     let hex = matches.get_flag("hex");
-    let file = matches.get_str("FILE").unwrap_or("");
-    Job::Show { hex, file }
+    let file = matches.get_str("FILE")?;
+    Some(Job::Show { hex, file })
 }
 
-fn check_job<'a>(matches: &ArgMatches<'a>) -> Job<'a>
-    ensures { IsWithinLimits result }
+fn check_job<'a>(matches: &ArgMatches<'a>) -> Option<Job<'a>>
+    ensures { IfSome result IsWithinLimits }
 {
-    let file = matches.get_str("FILE").unwrap_or("");
-    Job::Check { file }
-}
-
-fn convert_job<'a>(alloc: Global, matches: &ArgMatches<'a>) -> Result<Job<'a>, WordsFault>
-    ensures limits { IfOk result IsWithinLimits }
-    ensures status { IfErr result HasStatus }
-{
-    let options = Options {
-        station: matches.get_one::<u16>("station").unwrap_or(0),
-        near: matches.get_str("near").unwrap_or(""),
-        made: matches.get_str("made").unwrap_or(""),
-        marker: matches.get_str("marker").unwrap_or(""),
-        codes: matches.get_str("codes").unwrap_or(""),
-        window: matches.get_one::<u16>("window").unwrap_or(64),
-    };
-    conversion(alloc, &options, matches.get_strs("LINK").unwrap_or(&[]))
+    let file = matches.get_str("FILE")?;
+    Some(Job::Check { file })
 }
 
 /// What the words of a command line ask for. They begin after the name of the program.
@@ -184,17 +196,24 @@ pub fn job<'a>(alloc: Global, words: &'a [&'a str]) -> Result<Job<'a>, WordsFaul
     ensures limits { IfOk result IsWithinLimits }
     ensures status { IfErr result HasStatus }
 {
-    let matches = match program(alloc)?.try_get_matches_from(words) {
+    let mut program = program(alloc)?;
+    let matches = match program.try_get_matches_from_mut(words) {
         Ok(matches) => matches,
         Err(error) => return Err(refused(alloc, &error)),
     };
-    match matches.subcommand() {
-        Some(("convert", convert)) => convert_job(alloc, convert),
-        Some(("check", check)) => Ok(check_job(check)),
-        Some((_, show)) => Ok(show_job(show)),
-        None => Ok(Job::Show {
-            hex: false,
-            file: "",
-        }),
+    let job = match matches.subcommand() {
+        Some(("convert", convert)) => {
+            if let Some(options) = options(convert) {
+                return conversion(alloc, &options, convert.get_strs("LINK").unwrap_or(&[]));
+            }
+            None
+        }
+        Some(("show", show)) => show_job(show),
+        Some(("check", check)) => check_job(check),
+        _ => None,
+    };
+    match job {
+        Some(job) => Ok(job),
+        None => Err(refused_by_us(alloc, &mut program)),
     }
 }

@@ -1,4 +1,5 @@
 //! The words of `convert`: what its options and links say.
+
 ghost use Rattle.std.specs.Prelude.{◌≡◌, map, IfOk, IfErr, MatchOption};
 ghost use Rattle.rtk_cli.specs.ConvertWords.{SaysConversion};
 ghost use Rattle.rtk_cli.specs.declared.words.WordsFault.TheVariants.{Bad};
@@ -14,24 +15,24 @@ use std::alloc::Global;
 
 /// The values of the options of `convert`, as clap gives them.
 #[derive(Clone, Copy)]
-pub struct Options<'a> {
+pub(crate) struct Options<'a> {
     /// The reference station (DF003).
-    pub station: u16,
+    pub(crate) station: u16,
     /// The text of the reference near which times of week are dated.
-    pub near: &'a str,
+    pub(crate) near: &'a str,
     /// The text of the moment at which the file is made.
-    pub made: &'a str,
+    pub(crate) made: &'a str,
     /// The marker's name.
-    pub marker: &'a str,
+    pub(crate) marker: &'a str,
     /// The names of the observation codes, with commas between.
-    pub codes: &'a str,
+    pub(crate) codes: &'a str,
     /// How many epochs are kept open.
-    pub window: u16,
+    pub(crate) window: u16,
 }
 
 /// The conversion that the options and the links say. The causes are looked for in the order of
 /// `BadWords`, but for a reference near which nothing is dated, which comes last.
-pub fn conversion<'a>(
+pub(crate) fn conversion<'a>(
     alloc: Global,
     options: &Options,
     names: &[&'a str],
@@ -82,8 +83,9 @@ fn line_of_setup(fault: SetupFault) -> BadWords {
     }
 }
 
-/// The links that words name; `None` exactly where they are not 1 to 16, or standard input stands twice.
-pub fn links_of<'a>(names: &[&'a str]) -> Option<ArrayVec<&'a str, 16>>
+/// The links that words name; `None` exactly where they are not 1 to 16, or standard input stands
+/// twice.
+pub(crate) fn links_of<'a>(names: &[&'a str]) -> Option<ArrayVec<&'a str, 16>>
     ensures { MatchOption result (¬ (AreLinkNames (map (λ n. n.now) names.now)))
         (λ links. (links.items ≡ names.now) × AreLinkNames (map (λ n. n.now) names.now)) }
 {

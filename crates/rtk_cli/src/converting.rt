@@ -1,4 +1,5 @@
 //! The command `convert`: opens the captures, converts them, and says how it went.
+
 ghost use Rattle.std.specs.Prelude.{◌≡◌, ◌≤◌, ◌+◌, sum_by, IfOk, IsErrOf};
 ghost use Rattle.std.specs.Io.Buffered.{reader_capacity};
 ghost use Rattle.rtk_convert.specs.ReadSteps.{HasCalled};
@@ -14,8 +15,8 @@ use std::fs::Files;
 use std::io::{BufReader, BufWriter, Write};
 use std::{fs, io};
 
-/// So many bytes of a capture are read at once. It is a multiple of the 512 that a conversion asks for, so
-/// that a file gives it 512 at a time, up to its end.
+/// So many bytes of a capture are read at once. It is a multiple of the 512 that a conversion asks
+/// for, so that a file gives it 512 at a time, up to its end.
 const READ_AT_ONCE: usize = 32_768;
 
 /// So many bytes of the file and of the report are gathered, where no link is standard input.
@@ -69,7 +70,8 @@ fn open_links<'a, R: Files + Input + AllocGlobal>(
     Ok(links)
 }
 
-// Standard output or standard error as a sink. It gathers what it takes, or, with no room, passes each write on.
+// Standard output or standard error as a sink. It gathers what it takes, or, with no room, passes
+// each write on.
 fn sink<W: Write + Drop>(
     alloc: Global,
     room: usize,
@@ -95,8 +97,8 @@ fn convert<R: Source, O: Sink, L: Sink>(
     rtk_convert::run(alloc, setup, links, out, log, MOST_READS)
 }
 
-/// The exit status of a conversion that was done or broke off and whose output is out or not; the fault line
-/// goes to standard error.
+/// The exit status of a conversion that was done or broke off and whose output is out or not; the
+/// fault line goes to standard error.
 pub fn conversion_status<R: Eprint>(rt: &R, done: Result<Counts, ConvertFault>, is_out: bool) -> u8
     ensures { result ≡ status_of done is_out }
 {
@@ -114,10 +116,11 @@ pub fn conversion_status<R: Eprint>(rt: &R, done: Result<Counts, ConvertFault>, 
     }
 }
 
-/// Converts captures: the file goes to standard output, the report to `report`. All captures are opened
-/// before one is read. Where one is standard input each write goes straight on, so that the file can be
-/// followed. At the end the file is out before the report, and the report before a fault line.
-pub fn convert_links<R: Files + Input + Print + Eprint + AllocGlobal, W: Write + Drop>(
+/// Converts captures: the file goes to standard output, the report to `report`. All captures are
+/// opened before one is read. Where one is standard input each write goes straight on, so that the
+/// file can be followed. At the end the file is out before the report, and the report before a
+/// fault line.
+pub(crate) fn convert_links<R: Files + Input + Print + Eprint + AllocGlobal, W: Write + Drop>(
     rt: &R,
     report: W,
     setup: Setup,

@@ -1,22 +1,23 @@
 //! How the program ends: its exit statuses, and what it says where the work is not done.
+
 ghost use Rattle.std.specs.Prelude.{◌≡◌, ◌≤◌};
 
 use crate::words::{BadWords, ToolFault};
 
 /// The work is done.
-pub const DONE: u8 = 0;
+pub(crate) const DONE: u8 = 0;
 
 /// An input or an output failed, or there was no memory.
-pub const FAILED: u8 = 1;
+pub(crate) const FAILED: u8 = 1;
 
 /// The words are refused.
-pub const REFUSED: u8 = 2;
+pub(crate) const REFUSED: u8 = 2;
 
 /// `check` says no: the text is not one that `convert` could have written.
-pub const NOT_VALID: u8 = 3;
+pub(crate) const NOT_VALID: u8 = 3;
 
 /// Says why the work is not done. Where standard error is closed nobody hears it.
-pub fn fail<R: Eprint>(rt: &R, fault: ToolFault) -> u8
+pub(crate) fn fail<R: Eprint>(rt: &R, fault: ToolFault) -> u8
     ensures { result ≡ FAILED }
 {
     let _told = eprintln!(rt; "rtcm2rinex: {fault}");
@@ -24,7 +25,7 @@ pub fn fail<R: Eprint>(rt: &R, fault: ToolFault) -> u8
 }
 
 /// Says which file can't be opened.
-pub fn fail_to_open<R: Eprint>(rt: &R, name: &str) -> u8
+pub(crate) fn fail_to_open<R: Eprint>(rt: &R, name: &str) -> u8
     ensures { result ≡ FAILED }
 {
     let _told = eprintln!(rt; "rtcm2rinex: cannot open {name}");
@@ -32,7 +33,7 @@ pub fn fail_to_open<R: Eprint>(rt: &R, name: &str) -> u8
 }
 
 /// Says why words that clap takes are refused.
-pub fn refuse<R: Eprint>(rt: &R, line: BadWords) -> u8
+pub(crate) fn refuse<R: Eprint>(rt: &R, line: BadWords) -> u8
     ensures { result ≡ REFUSED }
 {
     let _told = eprintln!(rt; "rtcm2rinex: {line}");
@@ -40,7 +41,7 @@ pub fn refuse<R: Eprint>(rt: &R, line: BadWords) -> u8
 }
 
 /// Shows clap's text: what was asked for on standard output, a refusal on standard error.
-pub fn tell<R: Print + Eprint>(rt: &R, text: &str, status: u8) -> u8
+pub(crate) fn tell<R: Print + Eprint>(rt: &R, text: &str, status: u8) -> u8
     ensures { result ≤ REFUSED }
 {
     if status != DONE {

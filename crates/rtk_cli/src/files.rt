@@ -1,5 +1,7 @@
-//! Files and standard streams as sources and sinks. Nothing is known of the bytes that they give and take.
-ghost use Rattle.std.specs.Prelude.{◌≡◌, None, true, false};
+//! Files and standard streams as sources and sinks. Nothing is known of the bytes that pass.
+
+ghost use Rattle.std.specs.Prelude.{◌≡◌, None, true, false, is_err};
+ghost use Rattle.rtk_frame.specs.Stream.{failures_after};
 
 use rtk_frame::{Sink, Source, StreamFault};
 use std::io;
@@ -7,7 +9,7 @@ use std::io::{Read, Write};
 
 /// A capture of the program: a file, or standard input.
 #[derive(Drop)]
-pub enum Capture<F: Read + Drop, I: Read + Drop> {
+pub(crate) enum Capture<F: Read + Drop, I: Read + Drop> {
     File(F),
     Stdin(I),
 }
@@ -23,7 +25,7 @@ impl<F: Read + Drop, I: Read + Drop> Read for Capture<F, I> {
 
 /// A reader of std's as a source. Nothing is known of its bytes; its calls are counted.
 #[derive(Drop)]
-pub struct Reads<R: Read> {
+pub(crate) struct Reads<R: Read> {
     inner: R,
     failed: u64,
     made: u64,
@@ -32,7 +34,7 @@ pub struct Reads<R: Read> {
 
 impl<R: Read> Reads<R> {
     /// A source over a reader, before its first call.
-    pub fn new(inner: R) -> Reads<R>
+    pub(crate) fn new(inner: R) -> Reads<R>
         ensures no_call { (result.made ≡ 0) × (result.failed ≡ 0) × (result.ended ≡ false) }
         ensures inner { result.inner ≡ inner }
     {
@@ -72,21 +74,23 @@ impl<R: Read> Source for Reads<R> {
 
 /// A writer of std's as a sink. Nothing is known of its bytes; its failed calls are counted.
 #[derive(Drop)]
-pub struct Writes<W: Write> {
+pub(crate) struct Writes<W: Write> {
     inner: W,
     failed: u64,
 }
 
 impl<W: Write> Writes<W> {
     /// A sink over a writer, before its first call.
-    pub fn new(inner: W) -> Writes<W>
+    pub(crate) fn new(inner: W) -> Writes<W>
         ensures no_failed_call { result.failed ≡ 0 }
     {
         Writes { inner, failed: 0 }
     }
 
     /// Hands on what the writer has gathered. Nothing is known of its bytes.
-    pub fn flush(&mut self) -> Result<(), StreamFault> {
+    pub(crate) fn flush(&mut self) -> Result<(), StreamFault>
+        ensures { self.new.failed ≡ failures_after self.old.failed (is_err result) }
+    {
         match self.inner.flush() {
             Ok(()) => Ok(()),
             Err(_) => {

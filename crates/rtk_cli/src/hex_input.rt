@@ -1,4 +1,5 @@
 //! Captures that are written as hex text.
+
 ghost use Rattle.std.specs.Prelude.{◌≡◌, ◌≢◌, Some, IfOk, IfErr, IsErrOf, IsNone};
 ghost use Rattle.rtk_cli.specs.Hex.{is_blank, bytes_of_hex};
 ghost use Rattle.rtk_cli.specs.declared.words.ToolFault.TheVariants.{NotHex, OutOfMemory};
@@ -16,7 +17,7 @@ fn is_blank_byte(byte: u8) -> bool
 
 /// The bytes that a hex text stands for: two digits each, of either case, the high four bits first.
 /// Blanks, tabs and line ends (CR, LF) are left out.
-pub fn decode_hex(alloc: Global, text: &[u8]) -> Result<Vec<u8>, ToolFault>
+pub(crate) fn decode_hex(alloc: Global, text: &[u8]) -> Result<Vec<u8>, ToolFault>
     ensures bytes { IfOk result (λ bytes. bytes_of_hex text.now ≡ Some bytes.items) }
     ensures not_hex { IsErrOf result NotHex → IsNone (bytes_of_hex text.now) }
     ensures else_memory { IfErr result (λ fault. fault ≢ NotHex → fault ≡ OutOfMemory) }

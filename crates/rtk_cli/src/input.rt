@@ -1,4 +1,5 @@
 //! Reading an input whole.
+
 ghost use Rattle.std.specs.Prelude.{◌≡◌, ◌≢◌, ◌+◌, ◌≤◌, length, Err, IfOk, OnOk, IsErrOf};
 ghost use Rattle.rtk_frame.specs.Stream.{CountRises};
 ghost use Rattle.rtk_cli.specs.Input.{GivesText};
@@ -11,9 +12,9 @@ use std::alloc::Global;
 /// The most bytes that one read asks for.
 const PIECE: usize = 4096;
 
-/// All bytes of a source, up to its end. An input longer than `limit` is refused; of it one byte more
-/// than the limit is read.
-pub fn read_whole<R: Source>(
+/// All bytes of a source, up to its end. An input longer than `limit` is refused; of it one byte
+/// more than the limit is read.
+pub(crate) fn read_whole<R: Source>(
     alloc: Global,
     reader: &mut R,
     limit: usize,

@@ -1,6 +1,8 @@
 //! Laws of what is shown: a payload has one line, and frames have one text.
 //!
-//! Each function here does nothing: its contract is the law, and a caller that calls it may cite it.
+//! Each function here does nothing: its contract is the law, and a caller that calls it may cite
+//! it.
+
 ghost use Rattle.std.specs.Prelude.{◌≡◌, ℕ, List};
 ghost use Rattle.rtk_frame.specs.Frames.{Frame};
 ghost use Rattle.rtk_cli.specs.Shown.{IsLineOf, AreLinesOf};

@@ -20,7 +20,6 @@ mod words;
 pub use checking::{CHECK_LIMIT, check_file};
 pub use command_line::job;
 pub use converting::conversion_status;
-pub use files::{Reads, Writes};
 pub use payload_line::show_line;
 pub use running::run_program;
 pub use showing::{SHOW_LIMIT, show};

@@ -1,4 +1,5 @@
 //! Moments as the words of a command line write them.
+
 ghost use Rattle.std.specs.Prelude.{◌≡◌, ◌≢◌, ℕ, ◌+◌, ◌/◌, ◌%◌, ◌<◌, ◌≤◌, MatchOption};
 ghost use Rattle.rtk_obs.specs.declared.time.Civil.{Civil};
 ghost use Rattle.rtk_obs.specs.declared.time.TheConstants.{LAST_MS};
@@ -68,10 +69,10 @@ fn reading_of(text: &[u8]) -> Option<Civil>
     }
 }
 
-/// The moment that a text writes, as `2024-05-17T12:00:00`: a whole second, in 19 characters. `None`
-/// exactly where the text is no such text, the day or the time of day doesn't exist, or the moment lies
-/// outside `GpsMs`.
-pub fn moment_of(text: &[u8]) -> Option<GpsMs>
+/// The moment that a text writes, as `2024-05-17T12:00:00`: a whole second, in 19 characters.
+/// `None` exactly where the text is no such text, the day or the time of day doesn't exist, or the
+/// moment lies outside `GpsMs`.
+pub(crate) fn moment_of(text: &[u8]) -> Option<GpsMs>
     ensures { MatchOption result ((t : ℕ) → t ≤ LAST_MS → ¬ (WritesMoment text.now t)) (λ t. WritesMoment text.now t) }
 {
     let Some(reading) = reading_of(text) else {

@@ -1,4 +1,5 @@
 //! The line that is shown of a payload.
+
 ghost use Rattle.std.specs.Prelude.{◌≡◌, ◌++◌, ◌∷◌, [], List, ℕ, decimal, IfOk, OnOk};
 ghost use Rattle.rtk_message.specs.Decoded.{IsValid};
 ghost use Rattle.rtk_message.specs.Msm1074.{HasLengths};
@@ -15,7 +16,7 @@ fn put_number(line: &mut Vec<u8>, number: u64) -> Result<(), AllocError>
 }
 
 /// A word and the number that it names.
-pub fn put_named(line: &mut Vec<u8>, name: &[u8], number: u64) -> Result<(), AllocError>
+pub(crate) fn put_named(line: &mut Vec<u8>, name: &[u8], number: u64) -> Result<(), AllocError>
     ensures { OnOk result (line.new.items ≡ line.old.items ++ name.now ++ decimal number) }
 {
     line.extend_from_slice(name)?;
@@ -38,8 +39,8 @@ fn put_metres(line: &mut Vec<u8>, length: u64) -> Result<(), AllocError>
     line.extend_from_slice(&decimals_of(length))
 }
 
-// By reference, as in `put_point`: a signed field of a message that is read and passed by value has no
-// range for the prover.
+// By reference, as in `put_point`: a signed field of a message that is read and passed by value has
+// no range for the prover.
 #[tactic(auto, unfolding(crate::specs::Shown::coordinate))]
 fn put_coordinate(line: &mut Vec<u8>, value: &i64) -> Result<(), AllocError>
     ensures { OnOk result (line.new.items ≡ line.old.items ++ coordinate value.now) }
@@ -130,7 +131,7 @@ fn put_fault(line: &mut Vec<u8>, fault: DecodeFault) -> Result<(), AllocError>
 }
 
 /// Appends the line of a payload, with its line feed. After a refusal a part of it may stand there.
-pub fn put_line(lines: &mut Vec<u8>, payload: &[u8]) -> Result<(), AllocError>
+pub(crate) fn put_line(lines: &mut Vec<u8>, payload: &[u8]) -> Result<(), AllocError>
     ensures { OnOk result ((line : List ℕ) × IsLineOf payload.now line
         × (lines.new.items ≡ lines.old.items ++ line)) }
 {

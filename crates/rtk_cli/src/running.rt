@@ -1,4 +1,6 @@
-//! The program: it reads its words, opens what they name, does the work, or says why it is not done.
+//! The program: it reads its words, opens what they name, does the work, or says why it is not
+//! done.
+
 ghost use Rattle.std.specs.Prelude.{◌≤◌};
 
 use crate::checking::check_file;
@@ -83,8 +85,8 @@ fn run_words<R: Files + Input + Print + Eprint + AllocGlobal, W: Write + Drop>(
 }
 
 /// Runs the program, and answers its exit status: 0 if the work is done, 1 if an input or an output
-/// failed or memory was refused, 2 if the words are refused, and 3 if `check` says no. The report of
-/// a conversion goes to `report`, which is standard error.
+/// failed or memory was refused, 2 if the words are refused, and 3 if `check` says no. The report
+/// of a conversion goes to `report`, which is standard error.
 pub fn run_program<R: Env + Files + Input + Print + Eprint + AllocGlobal, W: Write + Drop>(
     rt: &R,
     report: W,

@@ -1,4 +1,5 @@
 //! The command `show`: a line for each frame of a capture.
+
 ghost use Rattle.std.specs.Prelude.{◌≡◌, ◌≢◌, ◌+◌, ◌≤◌, Some, Err, [], length, IfOk, OnOk, IfErr, IsErrOf, IsNone, IsSome, IsSomeAnd};
 ghost use Rattle.rtk_frame.specs.Frames.{frames};
 ghost use Rattle.rtk_frame.specs.Stream.{CountRises, with_more, TakesPart};
@@ -77,8 +78,8 @@ fn show_capture<W: Sink>(alloc: Global, capture: &[u8], out: &mut W) -> Result<u
     Ok(count)
 }
 
-/// Reads an input whole, as bytes or as hex text, and writes a line for each frame of the capture that
-/// it is. Answers how many lines.
+/// Reads an input whole, as bytes or as hex text, and writes a line for each frame of the capture
+/// that it is. Answers how many lines.
 ///
 /// The faults are looked for in the order of `ToolFault`, but for memory and a failed write, which
 /// come where they come.
