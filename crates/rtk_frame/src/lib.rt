@@ -1,4 +1,24 @@
 //! Bytes of a link: sources and sinks, frames of RTCM 3 and their checksum, and a scanner.
+//!
+//! Its tests: crates/rtk_tests_input/src/frame.rt and frame_streams.rt.
+//!
+//! ```rust
+//! use rtk_frame::{Answer, FrameFault, Scanner, encode_frame};
+//! use std::alloc::Global;
+//!
+//! // A frame that comes in two pieces, and is found in the second one.
+//! fn example(alloc: Global) -> Result<bool, FrameFault> {
+//!     let frame = encode_frame(alloc, &[0x3E, 0xD0])?;
+//!     let (first, second) = frame.as_slice().split_at(4);
+//!     let mut scanner = Scanner::new(alloc)?;
+//!     scanner.feed(first);
+//!     match scanner.feed(second).answer {
+//!         Answer::Found(payload) => Ok(payload == &[0x3E, 0xD0]),
+//!         Answer::Hungry => Ok(false),
+//!     }
+//! }
+//! ```
+
 #![tactic(auto)]
 
 mod checksum;

@@ -1,4 +1,5 @@
 //! A scanner gives the frames of a stream of bytes that comes in pieces.
+
 ghost use Rattle.std.specs.Prelude.{◌≡◌, ◌⊎◌, ℕ, ◌+◌, ◌≤◌, List, [], ◌++◌, length, drop, take, true, MatchOption};
 ghost use Rattle.circular_buffer.specs.Buffer.{buffer};
 ghost use Rattle.rtk_frame.specs.Frame.{begins_frame, begins_partial, payload_length};
@@ -12,11 +13,11 @@ use std::marker::Model;
 
 /// The frames of a stream, however its bytes are cut into pieces.
 ///
-/// It keeps at most 1,029 bytes: the last frame that it gave, and those that wait for more.
+/// It keeps at most 1,029 bytes: the last frame that it gave, and the bytes that wait for more.
 #[derive(Drop)]
 pub struct Scanner {
     ring: HeapCircularBuffer<u8>,
-    // How many bytes at the ring's front were given; the next call takes them out.
+    // How many bytes at the ring's front were given. The next call takes them out.
     given: usize,
     ended: bool,
 }
@@ -74,8 +75,8 @@ impl Scanner {
         })
     }
 
-    /// Takes bytes of the piece until a frame is found, or all of them. Bytes behind the frame may
-    /// be among those taken: they are pending.
+    /// Takes bytes of the piece until a frame is found, or all of them. It may also take bytes that
+    /// come after the frame: they are pending.
     ///
     /// The payload is borrowed from the scanner until its next call.
     pub fn feed(&mut self, piece: &[u8]) -> Fed<'_>
@@ -106,7 +107,8 @@ impl Scanner {
 
     /// Ends the stream, and gives the next frame of the pending bytes, since no more will come.
     ///
-    /// The payload is borrowed from the scanner until its next call. After None it is always None.
+    /// The payload is borrowed from the scanner until its next call. After a `None` the answer is
+    /// always `None`.
     pub fn rest(&mut self) -> Option<&[u8]>
         ensures* after { sem 𝓛 (LeavesScanner self.entry (λ now.
             (now.ended ≡ true) × (length now.pending ≤ 1029)
@@ -134,8 +136,8 @@ impl Scanner {
     }
 }
 
-/// Scans the ring and what of the piece it has to take, up to the next frame or to the end.
-/// Gives how many bytes were used, and the length of the payload of a frame at the ring's front.
+// Scans the ring, and as many bytes of the piece as it needs, up to the next frame or to the end.
+// Gives how many bytes were used, and the length of the payload if a frame is at the ring's front.
 fn advance(ring: &mut HeapCircularBuffer<u8>, piece: &[u8]) -> (usize, Option<usize>)
     requires { (ring.old.capacity ≡ 1029) × (length ring.old.items ≤ 1029) }
     ensures capacity { (ring.new.capacity ≡ 1029) × (length ring.new.items ≤ 1029) }
@@ -168,7 +170,7 @@ fn advance(ring: &mut HeapCircularBuffer<u8>, piece: &[u8]) -> (usize, Option<us
     }
 }
 
-/// Searches the ring for the next frame, as if no byte followed.
+// Searches the ring for the next frame, as if no byte followed.
 fn advance_ended(ring: &mut HeapCircularBuffer<u8>) -> Option<usize>
     requires { (ring.old.capacity ≡ 1029) × (length ring.old.items ≤ 1029) }
     ensures capacity { (ring.new.capacity ≡ 1029) × (length ring.new.items ≤ 1029) }
@@ -187,7 +189,7 @@ fn advance_ended(ring: &mut HeapCircularBuffer<u8>) -> Option<usize>
     None
 }
 
-/// Passes the bytes at the front of the ring that are no preamble.
+// Drops the bytes that stand in the ring before its first preamble.
 fn pass_to_preamble(ring: &mut HeapCircularBuffer<u8>)
     requires { (ring.old.capacity ≡ 1029) × (length ring.old.items ≤ 1029) }
     ensures capacity { ring.new.capacity ≡ 1029 }
@@ -199,7 +201,8 @@ fn pass_to_preamble(ring: &mut HeapCircularBuffer<u8>)
     ring.truncate_front(rest);
 }
 
-/// How many bytes of the piece need not enter the ring, since it is empty and they are no preamble.
+// How many bytes of the piece need not enter the ring: if it is empty, the bytes before the piece's
+// first preamble.
 fn bytes_to_pass(ring: &HeapCircularBuffer<u8>, piece: &[u8]) -> usize
     ensures within { result ≤ length piece.now }
     ensures scanned { (text : List ℕ) → Scanned text ring.now.items
@@ -212,7 +215,7 @@ fn bytes_to_pass(ring: &HeapCircularBuffer<u8>, piece: &[u8]) -> usize
     }
 }
 
-/// Takes the first bytes out of the ring.
+// Takes the first bytes out of the ring.
 fn remove_front(ring: &mut HeapCircularBuffer<u8>, count: usize)
     requires { count ≤ length ring.old.items }
     ensures { ring.new ≡ buffer (drop count ring.old.items) ring.old.capacity }
