@@ -3,6 +3,7 @@ use Rattle.std.specs.Prelude.{◌≡◌, ⊤, ℕ, ◌+◌, ◌-◌, ◌≤◌, 
 use Rattle.std.specs.Borrow.{follows_so, MutBor, Bor, Fml}
 use mathlib.Core.Option.{none}
 use Rattle.rtk_frame.specs.Frames.{frames, final_frames, pending, IsFirst}
+use Rattle.rtk_frame.specs.declared.frame.TheConstants.{LONGEST_FRAME}
 use Rattle.rtk_frame.specs.declared.scanner.Answer.{Answer}
 use Rattle.rtk_frame.specs.declared.scanner.Answer.TheVariants.{Found, Hungry}
 use Rattle.rtk_frame.specs.ScannerView.{ScannerView}
@@ -19,12 +20,12 @@ abbrev pub FedAnswer : List ℕ → List ℕ → ℕ → Answer → ScannerView 
 FedAnswer h piece used (Found payload) now =
     IsFirst (final_frames (h ++ take used piece)) (h ++ take used piece) payload.now now.pending
     × (length now.pending + (length piece - used) + 6 ≤ length h + length piece)
-    × (length payload.now + 6 + length now.pending ≤ 1029)
+    × (length payload.now + 6 + length now.pending ≤ LONGEST_FRAME)
 FedAnswer h piece used Hungry now = (used ≡ length piece) × (final_frames (h ++ piece) ≡ []) × (now.pending ≡ pending (h ++ piece))
 
 -- what `rest` answers, if the bytes h were pending; the lengths are as in `feed`
 abbrev pub RestAnswer : List ℕ → Option (Bor (List ℕ)) → ScannerView → Type 0
 RestAnswer h (Some payload) now =
     IsFirst (frames h) h payload.now now.pending × (length now.pending + 6 ≤ length h)
-    × (length payload.now + 6 + length now.pending ≤ 1029)
+    × (length payload.now + 6 + length now.pending ≤ LONGEST_FRAME)
 RestAnswer h None now = (frames h ≡ []) × (now.pending ≡ [])

@@ -1,6 +1,7 @@
 -- What is at the front of a text, and up to which place it was scanned.
 use Rattle.std.specs.Prelude.{◌≡◌, ◌⊎◌, ℕ, ◌+◌, ◌<◌, ◌≤◌, true, false, List, [], ◌∷◌, ◌++◌, length}
 use Rattle.rtk_frame.specs.Frame.{payload_length, begins_frame, begins_partial}
+use Rattle.rtk_frame.specs.declared.frame.TheConstants.{LONGEST_FRAME}
 use Rattle.rtk_frame.specs.declared.frame.Front.{Front}
 use Rattle.rtk_frame.specs.declared.frame.Front.TheVariants.{Whole, Partial, Other}
 
@@ -8,7 +9,7 @@ use Rattle.rtk_frame.specs.declared.frame.Front.TheVariants.{Whole, Partial, Oth
 -- least n bytes, or neither; an empty text counts as partial
 abbrev pub IsFront : List ℕ → Front → Type 0
 IsFront text (Whole n) = (begins_frame text ≡ true) × (n ≡ payload_length text) × (n ≤ 1023)
-IsFront text (Partial n) = (0 < n) × (length text + n ≤ 1029) × ((begins_partial text ≡ true) ⊎ (text ≡ []))
+IsFront text (Partial n) = (0 < n) × (length text + n ≤ LONGEST_FRAME) × ((begins_partial text ≡ true) ⊎ (text ≡ []))
 IsFront text Other = (0 < length text) × (begins_frame text ≡ false) × (begins_partial text ≡ false)
 
 -- no frame and no partial frame begins in the front, which stands before the text

@@ -13,6 +13,9 @@ use thiserror::Error;
 // The first byte of each frame.
 const PREAMBLE: u8 = 0xD3;
 
+/// The bytes of the longest frame: six, and the 1,023 of its payload.
+pub const LONGEST_FRAME: usize = 1029;
+
 /// Why a frame or a scanner is not made: the first cause that holds, in this order.
 #[derive(Clone, Copy, Debug, PartialEq, Eq, Error)]
 pub enum FrameFault {

@@ -32,7 +32,7 @@ mod search;
 mod stream;
 
 pub use checksum::crc24q;
-pub use frame::{FrameFault, encode_frame};
+pub use frame::{FrameFault, LONGEST_FRAME, encode_frame};
 pub use memory::{After, MemSink, MemSource};
 pub use scanner::{Answer, Fed, Scanner};
 pub use search::{Placed, next_frame};

@@ -4,8 +4,9 @@ ghost use Rattle.std.specs.Prelude.{◌≡◌, ◌⊎◌, ℕ, ◌+◌, ◌≤�
 ghost use Rattle.circular_buffer.specs.Buffer.{buffer};
 ghost use Rattle.rtk_frame.specs.Frame.{begins_frame, begins_partial, payload_length};
 ghost use Rattle.rtk_frame.specs.Scanning.{Scanned, Searched};
+ghost use Rattle.rtk_frame.specs.declared.frame.TheConstants.{LONGEST_FRAME};
 
-use crate::frame::{FrameFault, Front, before_preamble, front_of};
+use crate::frame::{FrameFault, Front, LONGEST_FRAME, before_preamble, front_of};
 use crate::lending::all_bytes;
 use circular_buffer::HeapCircularBuffer;
 use std::alloc::Global;
@@ -26,6 +27,7 @@ pub struct Scanner {
 impl Model for Scanner {
     ghost use Rattle.std.specs.Prelude.{◌≡◌, ◌≤◌, length, drop};
     ghost use Rattle.rtk_frame.specs.ScannerView.{ScannerView, scanner_view, scanner_view_code};
+    ghost use Rattle.rtk_frame.specs.declared.frame.TheConstants.{LONGEST_FRAME};
 
     ghost Value = { ScannerView };
 
@@ -33,7 +35,7 @@ impl Model for Scanner {
 
     ghost view = { λ s. scanner_view (drop s.given s.ring.items) s.ended };
 
-    ghost invariant = { λ s. (s.ring.capacity ≡ 1029) × (length s.ring.items ≤ 1029)
+    ghost invariant = { λ s. (s.ring.capacity ≡ LONGEST_FRAME) × (length s.ring.items ≤ LONGEST_FRAME)
         × (s.given ≤ length s.ring.items) };
 }
 
@@ -61,13 +63,14 @@ impl Scanner {
     ghost use Rattle.rtk_frame.specs.ScannerView.{scanner_view};
     ghost use Rattle.rtk_frame.specs.Scanner.{LeavesScanner, FedAnswer, RestAnswer};
     ghost use Rattle.rtk_frame.specs.declared.frame.FrameFault.TheVariants.{OutOfMemory};
+    ghost use Rattle.rtk_frame.specs.declared.frame.TheConstants.{LONGEST_FRAME};
 
     /// A scanner at the start of a stream. All the memory that it ever has is taken here.
     pub fn new(alloc: Global) -> Result<Scanner, FrameFault>
         ensures start { IfOk result (λ scanner. scanner ≡ scanner_view [] false) }
         ensures fault { IfErr result (λ fault. fault ≡ OutOfMemory) }
     {
-        let ring = HeapCircularBuffer::with_capacity(alloc, 1029)?;
+        let ring = HeapCircularBuffer::with_capacity(alloc, LONGEST_FRAME)?;
         Ok(Scanner {
             ring,
             given: 0,
@@ -83,7 +86,7 @@ impl Scanner {
         requires { self.old.ended ≡ false }
         ensures used { result.used ≤ length piece.now }
         ensures* after { sem 𝓛 (LeavesScanner self.entry (λ now.
-            (now.ended ≡ false) × (length now.pending ≤ 1029)
+            (now.ended ≡ false) × (length now.pending ≤ LONGEST_FRAME)
             × FedAnswer self.old.pending piece.now result.used result.answer now)) }
     {
         remove_front(&mut self.ring, self.given);
@@ -111,7 +114,7 @@ impl Scanner {
     /// always `None`.
     pub fn rest(&mut self) -> Option<&[u8]>
         ensures* after { sem 𝓛 (LeavesScanner self.entry (λ now.
-            (now.ended ≡ true) × (length now.pending ≤ 1029)
+            (now.ended ≡ true) × (length now.pending ≤ LONGEST_FRAME)
             × RestAnswer self.old.pending result now)) }
     {
         remove_front(&mut self.ring, self.given);
@@ -139,8 +142,8 @@ impl Scanner {
 // Scans the ring, and as many bytes of the piece as it needs, up to the next frame or to the end.
 // Gives how many bytes were used, and the length of the payload if a frame is at the ring's front.
 fn advance(ring: &mut HeapCircularBuffer<u8>, piece: &[u8]) -> (usize, Option<usize>)
-    requires { (ring.old.capacity ≡ 1029) × (length ring.old.items ≤ 1029) }
-    ensures capacity { (ring.new.capacity ≡ 1029) × (length ring.new.items ≤ 1029) }
+    requires { (ring.old.capacity ≡ LONGEST_FRAME) × (length ring.old.items ≤ LONGEST_FRAME) }
+    ensures capacity { (ring.new.capacity ≡ LONGEST_FRAME) × (length ring.new.items ≤ LONGEST_FRAME) }
     ensures used { result.0 ≤ length piece.now }
     ensures scanned { Scanned (ring.old.items ++ take result.0 piece.now) ring.new.items }
     ensures found { MatchOption result.1
@@ -172,8 +175,8 @@ fn advance(ring: &mut HeapCircularBuffer<u8>, piece: &[u8]) -> (usize, Option<us
 
 // Searches the ring for the next frame, as if no byte followed.
 fn advance_ended(ring: &mut HeapCircularBuffer<u8>) -> Option<usize>
-    requires { (ring.old.capacity ≡ 1029) × (length ring.old.items ≤ 1029) }
-    ensures capacity { (ring.new.capacity ≡ 1029) × (length ring.new.items ≤ 1029) }
+    requires { (ring.old.capacity ≡ LONGEST_FRAME) × (length ring.old.items ≤ LONGEST_FRAME) }
+    ensures capacity { (ring.new.capacity ≡ LONGEST_FRAME) × (length ring.new.items ≤ LONGEST_FRAME) }
     ensures searched { Searched ring.old.items ring.new.items }
     ensures found { MatchOption result
         (ring.new.items ≡ [])
@@ -191,8 +194,8 @@ fn advance_ended(ring: &mut HeapCircularBuffer<u8>) -> Option<usize>
 
 // Drops the bytes that stand in the ring before its first preamble.
 fn pass_to_preamble(ring: &mut HeapCircularBuffer<u8>)
-    requires { (ring.old.capacity ≡ 1029) × (length ring.old.items ≤ 1029) }
-    ensures capacity { ring.new.capacity ≡ 1029 }
+    requires { (ring.old.capacity ≡ LONGEST_FRAME) × (length ring.old.items ≤ LONGEST_FRAME) }
+    ensures capacity { ring.new.capacity ≡ LONGEST_FRAME }
     ensures shorter { length ring.new.items ≤ length ring.old.items }
     ensures scanned { (text : List ℕ) → Scanned text ring.old.items → Scanned text ring.new.items }
 {
