@@ -1,4 +1,5 @@
--- Laws on the bits of bytes and of numbers, which other crates may use: lengths, joined bytes, a number split in two, a byte as eight bits.
+-- Laws on the bits of bytes and of numbers, which other crates may use: lengths, joined bytes, a
+-- number split in two, a byte as eight bits.
 use Rattle.std.proofs.Common.{◌≡◌, ℕ, zero, suc, ◌+◌, ◌*◌, ◌/◌, ◌%◌, ◌^◌, ◌≤◌, ◌<◌, Bool, false, List, [], ◌∷◌, ◌++◌, length, take, drop, replicate, refl, sym, ap, ◌∙◌, append_assoc, arith, length-append}
 use Rattle.std.specs.Int.{bit_at}
 use Rattle.std.proofs.lemmas.List.{append-nil, take-append-drop, length-take, drop_at, drop-drop}
@@ -30,7 +31,7 @@ unfolding bits_of
 bits_of-zero zero = refl
 bits_of-zero (suc w) = rw (bit_at-zero w, bits_of-zero w) refl
 
--- what stands at 2 ^ k and above has no part in the w low bits
+-- a multiple of 2 ^ k changes none of the w low bits
 pub bits_of-above : (w k a b : ℕ) → w ≤ k → bits_of w (a * 2 ^ k + b) ≡ bits_of w b
 unfolding bits_of
 bits_of-above zero k a b h = refl
@@ -70,7 +71,7 @@ pub bits-drop : (k : ℕ) (bs : List ℕ) → k ≤ length bs → bits (drop k b
 bits-drop k bs h =
     sym (ap (λ (t : List Bool). drop (8 * k) t) (bits-take-drop k bs) ∙ drop_at (bits (take k bs)) (bits (drop k bs)) (8 * k) (length-bits-take k bs h))
 
--- the bits behind the first n: whole bytes dropped, then at most 7 bits
+-- the bits after the first n: whole bytes dropped, then at most 7 bits
 pub drop-bits : (n : ℕ) (bs : List ℕ) → n / 8 ≤ length bs → drop (n % 8) (bits (drop (n / 8) bs)) ≡ drop n (bits bs)
 drop-bits n bs h =
     let e : 8 * (n / 8) + n % 8 ≡ n = omega arith in

@@ -1,4 +1,5 @@
--- Bits of a machine word: its mask, the bytes that it is loaded from, the bytes that it is stored as.
+-- Bits of a machine word: its mask, the bytes that it is loaded from, and the bytes that it is
+-- stored as.
 use Rattle.std.proofs.Common.{◌≡◌, ℕ, zero, suc, ◌+◌, ◌-◌, ◌*◌, ◌/◌, ◌%◌, ◌^◌, ◌<◌, ◌≤◌, List, [], ◌∷◌, ◌++◌, length, get_or, take, drop, refl, sym, ap, pow_mono, bit_and, bit_or, ◌∙◌, arith}
 use Rattle.std.specs.Int.{w64, from_be_bytes, to_be_bytes, byte_at, bytes_high_first}
 use Rattle.std.proofs.lemmas.List.{length-take, take_more}
@@ -45,7 +46,7 @@ word_8 (a ∷ b ∷ c ∷ d ∷ e ∷ f ∷ g ∷ h ∷ bs) len fits =
     ) (omega arith)
 word_8 bs len fits = absurd (omega arith)
 
--- a step of the fold over bytes: one more behind the first i
+-- a step of the fold over bytes: one byte more after the first i
 pub push_byte : (bs : List ℕ) (i b : ℕ) → IsBytes bs → i < length bs → length bs ≤ 16 → bit_or (unsigned (bits (take i bs)) * 256 % 2 ^ 128) (get_or bs i 0) ≡ unsigned (bits (take (i + 1) bs))
 push_byte bs i b fits lt most =
     let small : unsigned (bits (take i bs)) < 2 ^ 120 = lt_of_lt_of_le (unsigned_lt (bits (take i bs))) (let e : length (bits (take i bs)) ≤ 120 = omega (arith, length-bits (take i bs), length-take i bs) in pow_mono e) in

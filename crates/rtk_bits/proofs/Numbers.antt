@@ -1,4 +1,5 @@
--- Laws on lists of bits and their unsigned numbers, which other crates may use: each comes from the other.
+-- Laws on lists of bits and their unsigned numbers, which other crates may use: each is made from
+-- the other.
 use Rattle.std.proofs.Common.{◌≡◌, ℕ, zero, suc, ◌+◌, ◌-◌, ◌*◌, ◌/◌, ◌%◌, ◌^◌, ◌<◌, ◌≤◌, Bool, true, false, List, [], ◌∷◌, ◌++◌, length, take, drop, refl, sym, ap, subst, ◌∙◌, arith, length-append}
 use Rattle.std.specs.Prelude.{◌==◌}
 use Rattle.std.specs.Int.{bit_at}
@@ -46,7 +47,7 @@ bits_of-unsigned [] = refl
 bits_of-unsigned (x ∷ xs) =
     rw (shr_high (bit x) (length xs) (unsigned xs) (unsigned_lt xs), of_nat-bit x, bits_of-above (length xs) (length xs) (bit x) (unsigned xs) (omega arith), bits_of-unsigned xs) refl
 
--- the number of the w bits behind the first s: the number of all, shifted and masked
+-- the number of the w bits after the first s: the number of all bits, shifted and masked
 pub unsigned-field : (xs : List Bool) (s w : ℕ) → s + w ≤ length xs → unsigned (take w (drop s xs)) ≡ unsigned xs / 2 ^ (length xs - (s + w)) % 2 ^ w
 unsigned-field xs s w h =
     let before = take s xs in

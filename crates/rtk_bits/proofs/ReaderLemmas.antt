@@ -1,4 +1,5 @@
--- What the reader computes: a field of a word of bytes, the bits behind it, and the sign that two shifts spread.
+-- What the reader computes: a field of a word of bytes, the bits after it, and the sign that two
+-- shifts spread.
 use Rattle.std.proofs.Common.{◌≡◌, ℕ, suc, ◌+◌, ◌-◌, ◌*◌, ◌/◌, ◌%◌, ◌^◌, ◌<◌, ◌≤◌, ℤ, to_z, of_z, w64, Bool, true, false, List, [], ◌∷◌, length, take, drop, ltb, sym, ap, subst, ◌∙◌, arith}
 use lib.Signed.{shr_z, mag, mag_shr}
 use mir.Val.{SFits}
@@ -14,7 +15,7 @@ use Rattle.rtk_bits.proofs.Numbers.{unsigned_lt, unsigned-field}
 pub length-left : (bs : List ℕ) (skip : ℕ) → length (drop skip (bits bs)) ≡ 8 * length bs - skip
 length-left bs skip = omega (arith, length-drop skip (bits bs), length-bits bs)
 
--- what is left behind a field
+-- the bits that are left after a field
 pub left-rest : (bs : List ℕ) (skip width : ℕ) → (skip + width) / 8 ≤ length bs → drop ((skip + width) % 8) (bits (drop ((skip + width) / 8) bs)) ≡ drop width (drop skip (bits bs))
 left-rest bs skip width h = drop-bits (skip + width) bs h ∙ sym (drop-drop width skip (bits bs))
 

@@ -1,4 +1,5 @@
--- What the writer computes: a field behind the bits put so far, the last byte with its padding, and the bits of a signed value.
+-- What the writer computes: a field after the bits put so far, the last byte with its padding, and
+-- the bits of a signed value.
 use Rattle.std.proofs.Common.{◌≡◌, ℕ, suc, ◌+◌, ◌-◌, ◌*◌, ◌/◌, ◌%◌, ◌^◌, ◌<◌, ◌≤◌, ℤ, pos, negsuc, of_z, w64, Bool, false, List, [], ◌∷◌, ◌++◌, length, take, drop, refl, sym, ap, ◌∙◌, append_assoc, arith, length-append, bit_or, bit_and, replicate, pow_mono}
 use Rattle.std.specs.Int.{to_be_bytes, bytes_high_first}
 use Rattle.std.proofs.lemmas.Int.{ints}
@@ -10,7 +11,7 @@ use Rattle.rtk_bits.proofs.BitsLemmas.{length-bits_of, length-bits, bits-append,
 use Rattle.rtk_bits.proofs.Numbers.{pow_more}
 use Rattle.rtk_bits.proofs.MachineWords.{and_low_mask, bits-bytes_high_first, low_bytes}
 
--- ---- a field behind the tail
+-- ---- a field after the tail
 
 module _ (tail_width tail width value : ℕ) (few : tail_width < 8) (fits_tail : tail < 2 ^ tail_width) (most : width ≤ 64) (fits : value < 2 ^ width) where
   all_is : bit_or (tail * 2 ^ width % 2 ^ 128) value ≡ tail * 2 ^ width + value
@@ -30,7 +31,7 @@ module _ (tail_width tail width value : ℕ) (few : tail_width < 8) (fits_tail :
   tail_is : bit_and (bit_or (tail * 2 ^ width % 2 ^ 128) value) (1 * 2 ^ ((tail_width + width) % 8) % 2 ^ 128 - 1) ≡ (tail * 2 ^ width + value) % 2 ^ ((tail_width + width) % 8)
   tail_is = rw (all_is, one_shl ((tail_width + width) % 8) 128 (omega arith)) (and_mask (tail * 2 ^ width + value) ((tail_width + width) % 8))
 
-  -- the whole bytes go behind those that are there, and the bits behind them are the new tail
+  -- the whole bytes come after the bytes put so far, and the bits left over are the new tail
   pub put_bits : (bytes : List ℕ) → bits (bytes ++ drop (8 - (tail_width + width) / 8) (to_be_bytes w64 (bit_or (tail * 2 ^ width % 2 ^ 128) value / 2 ^ ((tail_width + width) % 8)))) ++ bits_of ((tail_width + width) % 8) (bit_and (bit_or (tail * 2 ^ width % 2 ^ 128) value) (1 * 2 ^ ((tail_width + width) % 8) % 2 ^ 128 - 1))
       ≡ (bits bytes ++ bits_of tail_width tail) ++ bits_of width value
   put_bits bytes =

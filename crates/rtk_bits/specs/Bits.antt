@@ -22,20 +22,21 @@ unfoldable pub unsigned : List Bool → ℕ
 unsigned [] = 0
 unsigned (b ∷ bs) = bit b * 2 ^ length bs + unsigned bs
 
--- the two's complement number of a list of bits: as the unsigned one, but that the first bit counts negatively (data type int)
+-- the two's complement number of a list of bits: as the unsigned number, but the first bit counts
+-- negatively (data type int)
 unfoldable pub signed : List Bool → ℤ
 signed [] = pos 0
 signed (b ∷ bs) = pos (unsigned bs) -ℤ pos (bit b * 2 ^ length bs)
 
--- the w bits of a two's complement number: those of z, and below zero those of z + 2 ^ w
+-- the w bits of a two's complement number z: the bits of z, or of z + 2 ^ w if z is negative
 abbrev pub signed_bits_of : ℕ → ℤ → List Bool
 signed_bits_of w (pos n) = bits_of w n
 signed_bits_of w (negsuc n) = bits_of w (2 ^ w - suc n)
 
--- z is at least -2 ^ (w - 1) and below 2 ^ (w - 1), the range of w bits of two's complement
+-- z is at least -2 ^ (w - 1) and less than 2 ^ (w - 1), the range of w bits of two's complement
 abbrev pub FitsSigned : ℕ → ℤ → Type 0
 FitsSigned w z = (neg_ℤ (pos (2 ^ (w - 1))) ≤ℤ z) × (z <ℤ pos (2 ^ (w - 1)))
 
--- the zero bits behind n bits up to a whole byte: none where n is a multiple of 8
+-- the zero bits that fill n bits up to a whole byte: no bits if n is a multiple of 8
 abbrev pub padding : ℕ → List Bool
 padding n = replicate ((8 - n % 8) % 8) false

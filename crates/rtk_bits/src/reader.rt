@@ -1,4 +1,4 @@
-//! A reader of bit fields, which contracts see as the list of the bits that are left.
+//! A reader of bit fields. Contracts see it as the list of the bits that are left.
 
 ghost use Rattle.std.specs.Prelude.{◌≡◌, ◌+◌, ◌*◌, ◌^◌, ◌<◌, ◌≤◌, ◌↔◌, ◌++◌, length, take, drop, IsSome, IfSome, IfNone, OnSome};
 ghost use Rattle.rtk_bits.specs.Bits.{bits, bits_of, unsigned, signed, signed_bits_of, FitsSigned};
@@ -12,7 +12,7 @@ use std::marker::Model;
 pub struct BitReader<'a> {
     // The bytes from the first one that has a bit left.
     rest: &'a [u8],
-    // How many bits of its first byte are taken, 0 to 7.
+    // How many bits of that byte were taken already, 0 to 7.
     skip: usize,
 }
 
@@ -48,7 +48,7 @@ impl<'a> BitReader<'a> {
     /// Takes the next `width` bits, 1 to 64, as an unsigned number (RTCM 10403.3, data types
     /// `uint` and `bit`).
     ///
-    /// Where fewer bits are left it answers `None` and takes nothing.
+    /// If fewer bits are left, it answers `None` and takes nothing.
     pub fn take_u(&mut self, width: usize) -> Option<u64>
         requires { (1 ≤ width) × (width ≤ 64) }
         ensures enough { IsSome result ↔ (width ≤ length self.old) }
@@ -71,7 +71,7 @@ impl<'a> BitReader<'a> {
     /// Takes the next `width` bits, 1 to 64, as a two's complement number (RTCM 10403.3, data
     /// type `int`).
     ///
-    /// Where fewer bits are left it answers `None` and takes nothing.
+    /// If fewer bits are left, it answers `None` and takes nothing.
     pub fn take_i(&mut self, width: usize) -> Option<i64>
         requires { (1 ≤ width) × (width ≤ 64) }
         ensures enough { IsSome result ↔ (width ≤ length self.old) }
@@ -87,8 +87,10 @@ impl<'a> BitReader<'a> {
     }
 }
 
-// The number of the `width` bits behind the first `skip` bits: from one load of eight bytes, or,
-// near the end of the bytes and where the field ends in a ninth byte, from the bytes up to its end.
+// The number of the `width` bits after the first `skip` bits.
+//
+// It comes from one load of eight bytes. If there are fewer than eight bytes, or if the field ends
+// in the ninth one, it comes from the bytes up to the end of the field.
 fn field_at(bytes: &[u8], skip: usize, width: usize) -> u64
     requires low { (skip < 8) × (1 ≤ width) × (width ≤ 64) }
     requires within { skip + width ≤ 8 * length bytes.now }
@@ -106,7 +108,7 @@ fn field_at(bytes: &[u8], skip: usize, width: usize) -> u64
     }
 }
 
-// The number that at most sixteen bytes write.
+// The number that the bytes spell, the most significant byte first: at most sixteen of them.
 fn big_endian(bytes: &[u8]) -> u128
     requires { length bytes.now ≤ 16 }
     ensures { result ≡ unsigned (bits bytes.now) }

@@ -1,4 +1,4 @@
-//! A writer of bit fields, which contracts see as the list of the bits put so far.
+//! A writer of bit fields. Contracts see it as the list of the bits that were put so far.
 
 ghost use Rattle.std.specs.Prelude.{◌≡◌, ◌^◌, ◌<◌, ◌≤◌, [], ◌++◌, length, OnOk, OnErr};
 ghost use Rattle.rtk_bits.specs.Bits.{bits, bits_of, signed_bits_of, FitsSigned, padding};
@@ -13,9 +13,9 @@ use std::marker::Model;
 pub struct BitWriter {
     // The whole bytes.
     bytes: Vec<u8>,
-    // The number of the bits behind them.
+    // The number that the bits after the whole bytes spell.
     tail: u8,
-    // How many these are, 0 to 7.
+    // How many bits come after the whole bytes, 0 to 7.
     tail_width: usize,
 }
 
@@ -27,7 +27,7 @@ impl Model for BitWriter {
 
     ghost view = { λ w. bits w.bytes.items ++ bits_of w.tail_width w.tail };
 
-    // With a tail there is room for the byte that `finish` makes of it.
+    // If there is a tail, there is room for the byte that `finish` makes of it.
     ghost invariant = { λ w. (w.tail_width < 8) × (w.tail < 2 ^ w.tail_width) × (0 < w.tail_width → vec_len w.bytes < vec_capacity w.bytes) };
 }
 
@@ -48,7 +48,7 @@ impl BitWriter {
     ///
     /// # Errors
     ///
-    /// Where memory is refused; the writer is then unchanged.
+    /// If memory is refused. The writer is then unchanged.
     pub fn put_u(&mut self, width: usize, value: u64) -> Result<(), AllocError>
         requires width { (1 ≤ width) × (width ≤ 64) }
         requires value { value < 2 ^ width }
@@ -72,7 +72,7 @@ impl BitWriter {
     ///
     /// # Errors
     ///
-    /// Where memory is refused; the writer is then unchanged.
+    /// If memory is refused. The writer is then unchanged.
     pub fn put_i(&mut self, width: usize, value: i64) -> Result<(), AllocError>
         requires width { (1 ≤ width) × (width ≤ 64) }
         requires value { FitsSigned width value }

@@ -1,4 +1,5 @@
--- The final frames and the pending bytes of a text are the only ones that have the stated properties.
+-- The final frames and the pending bytes of a text are the only ones that have the stated
+-- properties.
 use Rattle.std.proofs.Common.{◌≡◌, ◌⊎◌, inl, inr, ℕ, zero, suc, ◌+◌, ◌<◌, ◌≤◌, Bool, true, false, List, [], ◌∷◌, length, drop, refl, sym, ◌∙◌, ap, subst, arith, length-take, length-drop}
 use Rattle.std.proofs.Math.ListN.{drop_of_length-le}
 use Rattle.std.proofs.Math.Nat.{eq-or-lt_of_le}
@@ -22,7 +23,7 @@ those_unique P (f ∷ fs) gs hs (inl h) (inr i) = absurd (i.0 h.1)
 those_unique P (f ∷ fs) gs hs (inr h) (inl i) = absurd (h.0 i.1)
 those_unique P (f ∷ fs) gs hs (inr h) (inr i) = those_unique P fs gs hs h.1 i.1
 
--- ---- all frames of a list begin at a place or behind it
+-- ---- all frames of a list begin at a place or after it
 AllFrom : ℕ → List Frame → Type 0
 AllFrom n [] = Unit {0}
 AllFrom n (f ∷ fs) = (n ≤ f.place) × AllFrom n fs
@@ -80,7 +81,7 @@ FinalFrom b fs n f = (q : ℕ) → n ≤ q → q < f.place → Waits b fs q → 
 FinalsOf : List ℕ → List ℕ → Type 0
 FinalsOf b s = (k p : ℕ) → s ≡ drop p b → k ≤ length s → AreThose (FinalFrom b (frames_from k p s) (p + k)) (frames_from k p s) (final_from k p s)
 
--- behind a frame
+-- after a frame
 outside : (g f : Frame) (fs : List Frame) (b : List ℕ) (n : ℕ) → end_of g ≡ n → FinalFrom b (g ∷ fs) g.place f → FinalFrom b fs n f
 outside g f fs b n e h q l m w = h q (omega arith) m ((inr (omega arith), w.0), w.1)
 

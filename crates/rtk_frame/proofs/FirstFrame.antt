@@ -144,7 +144,7 @@ first_final_payloads b payload rest h =
       r.1 ∙ ap pending (sym h.4),
     )
 
--- the same with more bytes behind
+-- the same with more bytes after it
 after_first : (t u payload rest : List ℕ) → IsFirst (final_frames t) t payload rest → (payloads (final_frames (t ++ u)) ≡ payload ∷ payloads (final_frames (rest ++ u))) × (pending (t ++ u) ≡ pending (rest ++ u))
 after_first t u payload rest h =
     let r = first_final_payloads t payload rest h in (
@@ -154,7 +154,8 @@ after_first t u payload rest h =
       pending_cut t u ∙ ap (λ z. pending (z ++ u)) r.1 ∙ sym (pending_cut rest u),
     )
 
--- after a frame was found in h and the first bytes of a piece, the rest of the piece gives the others
+-- after a frame was found in h and the first bytes of a piece, the rest of the piece gives the
+-- others
 pub after_found : (h piece : List ℕ) (used : ℕ) (payload rest : List ℕ) → IsFirst (final_frames (h ++ take used piece)) (h ++ take used piece) payload rest → (payloads (final_frames (h ++ piece)) ≡ payload ∷ payloads (final_frames (rest ++ drop used piece))) × (pending (h ++ piece) ≡ pending (rest ++ drop used piece))
 after_found h piece used payload rest k =
     let e : h ++ piece ≡ (h ++ take used piece) ++ drop used piece = ap (λ z. h ++ z) (sym (take-append-drop used piece)) ∙ sym (append_assoc h (take used piece) (drop used piece)) in

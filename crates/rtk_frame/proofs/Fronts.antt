@@ -51,7 +51,7 @@ pub same_begins : (s c : List ℕ) → payload_length s + 6 ≤ length s → beg
 same_begins s c h =
     begins_by_length (s ++ c) ∙ ap (by_length (s ++ c)) (same_length s c h) ∙ by_length_same s c (payload_length s) h ∙ sym (begins_by_length s)
 
--- whole: not open where what the length says is there
+-- whole: the place is not open if all the bytes that the length asks for are there
 pub whole_not_partial : (s : List ℕ) → payload_length s + 6 ≤ length s → begins_partial s ≡ false
 unfolding begins_partial
 whole_not_partial s h = grind (arith, nat_tests)
@@ -71,7 +71,7 @@ pub frame_is_whole : (s : List ℕ) → begins_frame s ≡ true → payload_leng
 unfolding begins_frame
 frame_is_whole s h = grind (arith, nat_tests)
 
--- where neither a frame stands nor the place is open, the same holds as the text grows
+-- if no frame stands at the place and it is not open, this stays so as the text grows
 other_byte : (x : ℕ) (xs : List ℕ) → (x == 0xD3) ≡ false → (begins_frame (x ∷ xs) ≡ false) × (begins_partial (x ∷ xs) ≡ false)
 unfolding begins_frame begins_partial
 other_byte x xs h = (rw h refl, rw h refl)
@@ -130,6 +130,6 @@ cut_by b p from n none h l false e =
     let past : length b ≤ p = grind (arith, nat_tests) in
     ap begins_frame (drop_of_length-le b past) ∙ nothing_begins
 
--- where no frame stands up to the end, none does
+-- if no frame stands up to the end, none stands anywhere
 pub cut_off : (b : List ℕ) (p from n : ℕ) → ((q : ℕ) → from ≤ q → q < n → begins_frame (drop q b) ≡ false) → from ≤ p → length b ≤ n → begins_frame (drop p b) ≡ false
 cut_off b p from n none h l = cut_by b p from n none h l (nat_lt p n) refl

@@ -76,7 +76,7 @@ final_append [] c (suc k) p q h e = absurd (omega arith)
 final_append (x ∷ xs) c (suc k) p q h e = final_append xs c k (p + 1) q (omega arith) (omega arith)
 final_append (x ∷ xs) c zero p q h e = final_here x xs c p q (begins_frame (x ∷ xs)) (begins_partial (x ∷ xs)) refl refl (λ k. final_append xs c k (p + 1) q) e
 
--- all frames are the final_frames ones, and then those of what is pending
+-- all frames are the final frames, and then the frames of the pending bytes
 abbrev pub FramesCut : List ℕ → ℕ → ℕ → ℕ → Type 0
 FramesCut b k p q = k ≤ length b → q + length (pending_from k b) ≡ p + length b → frames_from k p b ≡ final_from k p b ++ frames_from 0 q (pending_from k b)
 
@@ -103,7 +103,7 @@ frames_final [] (suc k) p q h e = absurd (omega arith)
 frames_final (x ∷ xs) (suc k) p q h e = frames_final xs k (p + 1) q (omega arith) (omega arith)
 frames_final (x ∷ xs) zero p q h e = frames_here x xs p q (begins_frame (x ∷ xs)) (begins_partial (x ∷ xs)) refl refl (λ k. frames_final xs k (p + 1) q) e
 
--- what is pending of a text that goes on
+-- the pending bytes of a text that goes on
 abbrev pub PendingCut : List ℕ → List ℕ → ℕ → Type 0
 PendingCut b c k = k ≤ length b → pending_from k (b ++ c) ≡ pending_from 0 (pending_from k b ++ c)
 
@@ -126,7 +126,7 @@ pending_append [] c (suc k) h = absurd (omega arith)
 pending_append (x ∷ xs) c (suc k) h = pending_append xs c k (omega arith)
 pending_append (x ∷ xs) c zero h = pending_here x xs c (begins_frame (x ∷ xs)) (begins_partial (x ∷ xs)) refl refl (pending_append xs c)
 
--- what is pending is no longer than the text
+-- the pending bytes are no longer than the text
 pending_short_here : (x : ℕ) (xs : List ℕ) (t o : Bool) → begins_frame (x ∷ xs) ≡ t → begins_partial (x ∷ xs) ≡ o → ((k : ℕ) → length (pending_from k xs) ≤ length xs) → length (pending_from 0 (x ∷ xs)) ≤ length (x ∷ xs)
 pending_short_here x xs true o f g rest = omega (arith, ap length (pending_frame x xs 0 f), rest (payload_length (x ∷ xs) + 5))
 pending_short_here x xs false true f g rest = omega (arith, ap length (pending_partial x xs 0 f g))
@@ -138,7 +138,7 @@ pending_short [] k = omega arith
 pending_short (x ∷ xs) (suc k) = omega (arith, pending_short xs k)
 pending_short (x ∷ xs) zero = pending_short_here x xs (begins_frame (x ∷ xs)) (begins_partial (x ∷ xs)) refl refl (pending_short xs)
 
--- the frames of a text that begins so many bytes later
+-- the frames of a text that begins some bytes later
 final_later_here : (x : ℕ) (xs : List ℕ) (p n : ℕ) (t o : Bool) → begins_frame (x ∷ xs) ≡ t → begins_partial (x ∷ xs) ≡ o → ((k : ℕ) → final_from k (n + (p + 1)) xs ≡ map (later n) (final_from k (p + 1) xs)) → final_from 0 (n + p) (x ∷ xs) ≡ map (later n) (final_from 0 p (x ∷ xs))
 final_later_here x xs p n true o f g rest =
     final_frame x xs (n + p) f ∙ ap (λ z. frame_at (n + p) (x ∷ xs) ∷ final_from (payload_length (x ∷ xs) + 5) z xs) (add_assoc n p 1)

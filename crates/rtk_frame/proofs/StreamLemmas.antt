@@ -27,7 +27,7 @@ pub rises-on : (first second third : ℕ) → CountRises first second → second
 rises-on first second third (inl below) h = inl (omega (arith, below, h))
 rises-on first second third (inr full) h = inr (omega (arith, full, h))
 
--- the first bytes were taken, and then some of those behind them
+-- the first bytes were taken, and then some of the bytes after them
 pub with_more-take : (known : Option (List ℕ)) (i n : ℕ) (bytes : List ℕ) → with_more (with_more known (take i bytes)) (take n (drop i bytes)) ≡ with_more known (take (i + n) bytes)
 with_more-take known i n bytes = rw (with_more-with_more, take-add)
 
@@ -39,7 +39,7 @@ failures_after-some before n b some = let e : (n == 0) ≡ false = grind arith i
 pub given-bytes : (i n z : ℕ) (bytes : List ℕ) → z ≡ 0 → take (i + n) bytes ++ replicate z 0 ≡ (take i bytes ++ replicate z 0) ++ take n (drop i bytes)
 given-bytes i n z bytes none = rw none (simp append-nil (take-add i n bytes))
 
--- zero bytes were given behind the bytes
+-- zero bytes were given after the bytes
 pub given-zeros : (front : List ℕ) (z n : ℕ) → front ++ replicate (z + n) 0 ≡ (front ++ replicate z 0) ++ replicate n 0
 given-zeros front z n = rw (← replicate-append-replicate {A = ℕ} z n 0, append_assoc)
 
@@ -49,7 +49,8 @@ take-front n front rest e = rw (← e) (take-append_seam front rest)
 pub take-zeros : (n : ℕ) (buf rest : List ℕ) → n ≤ length buf → take n (replicate (length (take n buf)) 0 ++ rest) ≡ replicate n 0
 take-zeros n buf rest h = let e : length (take n buf) ≡ n = grind (arith, common_steps) in rw e (take-front n (replicate n 0) rest (length-replicate n 0))
 
--- after one read of one of many sources, they are those before with the one that was read in its place
+-- after a read of one of many sources, the sources are those before the read, but for the one that
+-- was read
 pub sources-ReadsOne : {R E : Type 0} (given : R → Option (List ℕ)) (failures calls : R → ℕ) (before after : List R) (link : ℕ) (result : Result ℕ E) (buf : List ℕ) (none : R)
     → link < length before → ReadsOne given failures calls before after link result buf
     → after ≡ slice_set before link (slice_index_or after link none)
@@ -71,7 +72,7 @@ sum_calls-ReadsOne given failures calls before after link result buf none within
     ap (λ sources. sum_by calls sources + calls (slice_index_or before link none)) (sources-ReadsOne given failures calls before after link result buf none within read)
     ∙ sum_by-set calls before link one none within ∙ ap (λ count. sum_by calls before + count) (read.called none)
 
--- so they rose by one at most, and by one where that count was not at its greatest value
+-- so they rose by one at most, and by one if that count was not at its greatest value
 pub sum_calls-at_most : {R E : Type 0} (given : R → Option (List ℕ)) (failures calls : R → ℕ) (before after : List R) (link : ℕ) (result : Result ℕ E) (buf : List ℕ) (none : R)
     → link < length before → ReadsOne given failures calls before after link result buf
     → sum_by calls after ≤ sum_by calls before + 1

@@ -2,12 +2,12 @@
 use Rattle.std.specs.Prelude.{ℕ, zero, suc, ◌*◌, Bool, false, cond, not, List, [], ◌∷◌, ◌++◌, length}
 use Rattle.rtk_bits.specs.Bits.{bits, bits_of, unsigned}
 
--- so many zero bits
+-- n zero bits
 abbrev pub zeros : ℕ → List Bool
 zeros zero = []
 zeros (suc n) = false ∷ zeros n
 
--- the bits xs, the first ones flipped where those of gs are set
+-- the bits xs; a bit is flipped if the bit of gs at its place is set
 abbrev pub flip : List Bool → List Bool → List Bool
 flip [] xs = xs
 flip (g ∷ gs) [] = []
@@ -17,16 +17,18 @@ flip (g ∷ gs) (x ∷ xs) = cond g (not x) x ∷ flip gs xs
 abbrev pub generator : List Bool
 generator = bits_of 24 0x864CFB
 
--- so many steps of the division: the first bit is dropped and, if it was set, the next 24 are flipped by the generator
+-- n steps of the division: in each one the first bit is dropped and, if it was set, the next 24
+-- bits are flipped by the generator
 unfoldable pub divide : ℕ → List Bool → List Bool
 divide zero xs = xs
 divide (suc n) [] = []
 divide (suc n) (x ∷ xs) = divide n (cond x (flip generator xs) xs)
 
--- CRC-24Q: what remains of the bits of the bytes with 24 zeros after them, once each bit of the bytes is dropped
+-- CRC-24Q: what remains of the bits of the bytes with 24 zeros after them, once each bit of the
+-- bytes is dropped
 unfoldable pub crc : List ℕ → ℕ
 crc bytes = unsigned (divide (8 * length bytes) (bits bytes ++ zeros 24))
 
--- what remains of the bytes, where their first bits are flipped by those of a state of 32 bits
+-- what remains of the bytes, once their first bits are flipped by the bits of a state of 32 bits
 unfoldable pub remainder : ℕ → List ℕ → List Bool
 remainder state bytes = divide (8 * length bytes) (flip (bits_of 32 state) (bits bytes ++ zeros 24))

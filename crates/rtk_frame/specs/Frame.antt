@@ -2,7 +2,8 @@
 use Rattle.std.specs.Prelude.{◌≡◌, ℕ, ◌+◌, ◌*◌, ◌/◌, ◌%◌, Bool, true, ◌&&◌, List, [], ◌∷◌, ◌++◌, length, get_or, take, drop, nat_lt, nat_le, ◌==◌}
 use Rattle.rtk_frame.specs.Checksum.{crc}
 
--- the length of the payload: the ten bits behind the preamble and six reserved bits, in a text that begins with a frame; a missing byte counts as 0
+-- the length of the payload, in a text that begins with a frame: the ten bits after the preamble
+-- and six reserved bits; a missing byte counts as 0
 abbrev pub payload_length : List ℕ → ℕ
 payload_length text = get_or text 1 0 % 4 * 256 + get_or text 2 0
 
@@ -14,7 +15,8 @@ payload_of text = take (payload_length text) (drop 3 text)
 abbrev pub three_bytes : List ℕ → ℕ
 three_bytes text = get_or text 0 0 * 0x10000 + get_or text 1 0 * 0x100 + get_or text 2 0
 
--- the text begins with a frame: the preamble D3, all bytes that the length asks for, and behind them the checksum of preamble, reserved bits, length and payload
+-- the text begins with a frame: the preamble D3, all bytes that the length asks for, and after them
+-- the checksum of preamble, reserved bits, length and payload
 unfoldable pub begins_frame : List ℕ → Bool
 begins_frame text = (get_or text 0 0 == 0xD3) && (nat_le (payload_length text + 6) (length text) && (crc (take (payload_length text + 3) text) == three_bytes (drop (payload_length text + 3) text)))
 

@@ -1,4 +1,5 @@
--- The frames of a whole text, those that more bytes can't change, and the bytes that wait for more (this project's rule).
+-- The frames of a whole text, the frames that more bytes can't change, and the bytes that wait for
+-- more (this project's rule).
 use Rattle.std.specs.Prelude.{◌≡◌, ◌⊎◌, ℕ, zero, suc, ◌+◌, ◌<◌, ◌≤◌, cond, List, [], ◌∷◌, map, length, drop}
 use Rattle.rtk_frame.specs.Frame.{payload_length, payload_of, begins_frame, begins_partial, IsFrameAt, IsPartialFrameAt}
 
@@ -7,7 +8,7 @@ pub record Frame : Type 0 where
   pub place : ℕ
   pub payload : List ℕ
 
--- the place behind a frame
+-- the place after the last byte of a frame
 abbrev pub end_of : Frame → ℕ
 end_of f = f.place + (length f.payload + 6)
 
@@ -17,7 +18,9 @@ payloads fs = map (λ f. f.payload) fs
 
 -- ---- the rule, in its own words
 
--- these are the frames of the text from a place on: one is at each place of theirs, none overlaps the one before, and at no place between two of them, before the first or behind the last is there one
+-- these are the frames of the text from a place on: a frame is at the place of each of them, no
+-- frame overlaps the one before it, and no frame begins between two of them, before the first or
+-- after the last
 abbrev pub IsFramesFrom : List ℕ → ℕ → List Frame → Type 0
 IsFramesFrom text from [] = (p : ℕ) → from ≤ p → IsFrameAt text p → ⊥
 IsFramesFrom text from (f ∷ fs) = (from ≤ f.place) × IsFrameAt text f.place × (f.payload ≡ payload_of (drop f.place text)) × ((p : ℕ) → from ≤ p → p < f.place → IsFrameAt text p → ⊥) × IsFramesFrom text (end_of f) fs
@@ -27,36 +30,38 @@ abbrev pub IsFree : List Frame → ℕ → Type 0
 IsFree [] p = Unit {0}
 IsFree (f ∷ fs) p = ((p < f.place) ⊎ (end_of f ≤ p)) × IsFree fs p
 
--- a place in none of the text's frames where a partial frame is: a frame may begin there once more bytes have come
+-- a place outside the text's frames at which a partial frame is: a frame may begin there once more
+-- bytes have come
 abbrev pub Waits : List ℕ → List Frame → ℕ → Type 0
 Waits text fs p = IsFree fs p × IsPartialFrameAt text p
 
--- gs are those of fs with the property, in their order
+-- gs are the frames of fs that have the property, in their order
 abbrev pub AreThose : (Frame → Type 0) → List Frame → List Frame → Type 0
 AreThose P [] gs = gs ≡ []
 AreThose P (f ∷ fs) gs = ((others : List Frame) × P f × (gs ≡ f ∷ others) × AreThose P fs others) ⊎ ((P f → ⊥) × AreThose P fs gs)
 
--- of the text's frames fs, gs are those that have no waiting place before them
+-- gs are the frames of fs, the text's frames, that have no waiting place before them
 abbrev pub AreFinal : List ℕ → List Frame → List Frame → Type 0
 AreFinal text fs gs = AreThose (λ f. (p : ℕ) → p < f.place → Waits text fs p → ⊥) fs gs
 
--- the suffix of the text from its first waiting place on, empty where there is none
+-- the suffix of the text from its first waiting place on; it is empty if no place waits
 abbrev pub IsPending : List ℕ → List Frame → List ℕ → Type 0
 IsPending text fs suffix = (((p : ℕ) → Waits text fs p → ⊥) × (suffix ≡ [])) ⊎ ((p : ℕ) × Waits text fs p × ((q : ℕ) → q < p → Waits text fs q → ⊥) × (suffix ≡ drop p text))
 
 -- ---- the same, computed from left to right
 
--- the frame at a place, where the text from there on is given
+-- the frame at a place, by the text from there on
 abbrev pub frame_at : ℕ → List ℕ → Frame
 frame_at place text = record { place = place; payload = payload_of text }
 
--- the frames of a text that begins at a place, where so many bytes are of the frame before
+-- the frames of a text that begins at a place and whose first `skip` bytes belong to the frame
+-- before
 unfoldable pub frames_from : ℕ → ℕ → List ℕ → List Frame
 frames_from skip place [] = []
 frames_from (suc skip) place (x ∷ xs) = frames_from skip (place + 1) xs
 frames_from zero place (x ∷ xs) = cond (begins_frame (x ∷ xs)) (frame_at place (x ∷ xs) ∷ frames_from (payload_length (x ∷ xs) + 5) (place + 1) xs) (frames_from zero (place + 1) xs)
 
--- those before the first waiting place
+-- the same, up to the first waiting place
 unfoldable pub final_from : ℕ → ℕ → List ℕ → List Frame
 final_from skip place [] = []
 final_from (suc skip) place (x ∷ xs) = final_from skip (place + 1) xs
@@ -68,7 +73,7 @@ pending_from skip [] = []
 pending_from (suc skip) (x ∷ xs) = pending_from skip xs
 pending_from zero (x ∷ xs) = cond (begins_frame (x ∷ xs)) (pending_from (payload_length (x ∷ xs) + 5) xs) (cond (begins_partial (x ∷ xs)) (x ∷ xs) (pending_from zero xs))
 
--- the frames of a text: the leftmost, then the leftmost behind it, and so on
+-- the frames of a text: the leftmost one, then the leftmost one after it, and so on
 abbrev pub frames : List ℕ → List Frame
 frames text = frames_from 0 0 text
 
@@ -82,10 +87,11 @@ pending text = pending_from 0 text
 
 -- ---- cuts
 
--- the frame, in a text that begins so many bytes earlier
+-- the same frame, once n bytes stand before the text
 abbrev pub later : ℕ → Frame → Frame
 later n f = record { place = n + f.place; payload = f.payload }
 
--- the first of these frames of the text has the payload, and the rest is what follows it
+-- the first of these frames of the text has this payload, and the rest of the text is what follows
+-- it
 abbrev pub IsFirst : List Frame → List ℕ → List ℕ → List ℕ → Type 0
 IsFirst fs text payload rest = (f : Frame) × (others : List Frame) × (fs ≡ f ∷ others) × (f.payload ≡ payload) × (rest ≡ drop (end_of f) text)

@@ -1,4 +1,5 @@
--- A source and a sink over memory: what a clause sees of them, and what stays (this project's rule).
+-- A source and a sink over memory: what a clause sees of them, and what stays (this project's
+-- rule).
 use Rattle.std.specs.Prelude.{◌≡◌, ℕ, List, [], length, drop, min}
 use Rattle.rtk_frame.specs.declared.memory.After.{After}
 
@@ -8,7 +9,7 @@ pub record MemSourceView : Type 0 where
   pub given : List ℕ
   -- its bytes that are not yet given
   pub left : List ℕ
-  -- what comes behind them
+  -- what comes after them
   pub after : After
   -- the most bytes that one read gives
   pub per_read : ℕ
@@ -37,11 +38,11 @@ new_sink room per_write = record { taken = []; room = room; per_write = per_writ
 abbrev pub room_of : MemSourceView → List ℕ → ℕ
 room_of source buf = min (length buf) source.per_read
 
--- all bytes were given, and this comes behind them
+-- all bytes were given, and this comes after them
 abbrev pub IsSpent : MemSourceView → After → Type 0
 IsSpent source after = (source.left ≡ []) × (source.after ≡ after)
 
--- this many of the bytes that were left are no longer left; nothing else of the source's making changed
+-- the first `count` of the bytes that were left are gone; what the source was made with stays
 abbrev pub IsReadOn : MemSourceView → MemSourceView → ℕ → Type 0
 IsReadOn before after count = (after.left ≡ drop count before.left)
     × (after.after ≡ before.after) × (after.per_read ≡ before.per_read)

@@ -12,7 +12,7 @@ use Rattle.std.specs.contracts.impls.GlobalAllocator.TheImpl.{ghosts}
 abbrev pub ring_row : RattleType
 ring_row = the_row u8 global.the_row ghosts
 
--- the ring with these bytes in the place of its own
+-- the ring with these bytes instead of its own
 abbrev pub with_bytes : Buffer ℕ → List ℕ → Buffer ℕ
 with_bytes b bytes = buffer (refill (length b.items) b.items bytes) b.capacity
 

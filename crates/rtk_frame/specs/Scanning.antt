@@ -1,27 +1,29 @@
--- What is at the front of a text, and how far a text was passed.
+-- What is at the front of a text, and up to which place it was scanned.
 use Rattle.std.specs.Prelude.{◌≡◌, ◌⊎◌, ℕ, ◌+◌, ◌<◌, ◌≤◌, true, false, List, [], ◌∷◌, ◌++◌, length}
 use Rattle.rtk_frame.specs.Frame.{payload_length, begins_frame, begins_partial}
+use Rattle.rtk_frame.specs.declared.frame.TheConstants.{LONGEST_FRAME}
 use Rattle.rtk_frame.specs.declared.frame.Front.{Front}
 use Rattle.rtk_frame.specs.declared.frame.Front.TheVariants.{Whole, Partial, Other}
 
--- what is at the front of a text: a frame with a payload so long, a partial frame that lacks so many bytes, or neither; an empty text counts as partial
+-- what is at the front of a text: a frame with a payload of n bytes, a partial frame that lacks at
+-- least n bytes, or neither; an empty text counts as partial
 abbrev pub IsFront : List ℕ → Front → Type 0
 IsFront text (Whole n) = (begins_frame text ≡ true) × (n ≡ payload_length text) × (n ≤ 1023)
-IsFront text (Partial n) = (0 < n) × (length text + n ≤ 1029) × ((begins_partial text ≡ true) ⊎ (text ≡ []))
+IsFront text (Partial n) = (0 < n) × (length text + n ≤ LONGEST_FRAME) × ((begins_partial text ≡ true) ⊎ (text ≡ []))
 IsFront text Other = (0 < length text) × (begins_frame text ≡ false) × (begins_partial text ≡ false)
 
--- at no place of the front before the text is there a frame or a partial one
+-- no frame and no partial frame begins in the front, which stands before the text
 abbrev pub Passed : List ℕ → List ℕ → Type 0
 Passed [] text = Unit {0}
 Passed (x ∷ front) text = (begins_frame (x ∷ (front ++ text)) ≡ false) × (begins_partial (x ∷ (front ++ text)) ≡ false) × Passed front text
 
--- the text was passed up to a suffix
+-- the text was scanned up to a suffix
 pub record Scanned (text suffix : List ℕ) : Type 0 where
   pub front : List ℕ
   pub is : text ≡ front ++ suffix
   pub passed : Passed front suffix
 
--- at no place of the front before the text is there a frame
+-- no frame begins in the front, which stands before the text
 abbrev pub FrameFree : List ℕ → List ℕ → Type 0
 FrameFree [] text = Unit {0}
 FrameFree (x ∷ front) text = (begins_frame (x ∷ (front ++ text)) ≡ false) × FrameFree front text

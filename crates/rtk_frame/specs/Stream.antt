@@ -1,4 +1,4 @@
--- What passed through a source or a sink: the bytes so far, the calls, and those that failed.
+-- What passed through a source or a sink: the bytes so far, the calls, and the failed calls.
 -- All of it is this project's rule.
 use Rattle.std.specs.Prelude.{◌≡◌, ◌≢◌, ℕ, ◌+◌, ◌-◌, ◌^◌, ◌<◌, ◌≤◌, ◌⊎◌, Bool, true, false, List, ◌++◌, length, take, Option, None, Some, Result, Ok, Err, min, nat_lt, ◌==◌, ◌&&◌, is_err, slice_index_or}
 
@@ -19,22 +19,23 @@ abbrev pub failures_after : ℕ → Bool → ℕ
 failures_after before true = count_after before
 failures_after before false = before
 
--- a write failed: it answers the fault, or it took none of some bytes
+-- a write failed: it answers the fault, or it was given bytes and took none of them
 abbrev pub is_failed_write : {E : Type 0} → Result ℕ E → List ℕ → Bool
 is_failed_write (Ok count) bytes = count == 0 && nat_lt 0 (length bytes)
 is_failed_write (Err fault) bytes = true
 
--- how many bytes a call moved: none where it answers the fault
+-- how many bytes a call moved: 0 if it answers the fault
 abbrev pub moved_count : {E : Type 0} → Result ℕ E → ℕ
 moved_count (Ok count) = count
 moved_count (Err fault) = 0
 
--- all bytes that passed, with more behind them; where nothing is known of them, nothing is known after
+-- all bytes that passed, with more bytes after them; if nothing is known about them before, nothing
+-- is known after
 abbrev pub with_more : Option (List ℕ) → List ℕ → Option (List ℕ)
 with_more None more = None
 with_more (Some bytes) more = Some (bytes ++ more)
 
--- of these bytes a first part was taken, perhaps none or all of them
+-- a first part of these bytes was taken, perhaps no byte or all of them
 abbrev pub TakesPart : Option (List ℕ) → Option (List ℕ) → List ℕ → Type 0
 TakesPart before after bytes = (n : ℕ) × (n ≤ length bytes) × (after ≡ with_more before (take n bytes))
 

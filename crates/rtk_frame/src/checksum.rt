@@ -1,11 +1,12 @@
 //! The checksum CRC-24Q, eight bytes a step.
+
 ghost use Rattle.std.specs.Prelude.{◌≡◌, ◌<◌, ◌^◌, ℕ, List, ◌∷◌, slice_index};
 ghost use Rattle.rtk_frame.specs.Checksum.{crc, remainder};
 
 use crate::checksum_tables::{TABLE0, TABLE1, TABLE2, TABLE3, TABLE4, TABLE5, TABLE6, TABLE7};
 
-/// The checksum CRC-24Q of the bytes: 24 bits, of generator 1864CFB, from 0 and the most
-/// significant bit first.
+/// The checksum CRC-24Q of the bytes: 24 bits, with the generator 1864CFB, from the state 0, the
+/// most significant bit first.
 ///
 /// Source: RTCM 10403.3, transport layer.
 pub fn crc24q(bytes: &[u8]) -> u32
@@ -24,7 +25,8 @@ pub fn crc24q(bytes: &[u8]) -> u32
     state >> 8
 }
 
-/// The state after eight bytes more. Its upper 24 bits are the remainder so far, the others zero.
+// The state after eight bytes more. Its upper 24 bits are the remainder so far, its lower 8 bits
+// are zero.
 fn after_eight(state: u32, bytes: [u8; 8]) -> u32
     ensures { (rest : List ℕ) → remainder result rest ≡ remainder state
         (slice_index bytes 0 ∷ slice_index bytes 1 ∷ slice_index bytes 2 ∷ slice_index bytes 3

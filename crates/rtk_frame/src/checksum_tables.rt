@@ -1,7 +1,7 @@
 //! The tables of the checksum: a remainder for each byte, alone and before one to seven zero bytes.
 
-/// For each byte, what remains of its bits and 24 zeros by the generator 1864CFB, in the upper 24
-/// bits.
+/// For each byte, the remainder of its bits and 24 zero bits after them by the generator 1864CFB,
+/// in the upper 24 bits.
 pub(crate) static TABLE0: [u32; 256] = [
     0x00000000, 0x864CFB00, 0x8AD50D00, 0x0C99F600, 0x93E6E100, 0x15AA1A00, 0x1933EC00, 0x9F7F1700,
     0xA1813900, 0x27CDC200, 0x2B543400, 0xAD18CF00, 0x3267D800, 0xB42B2300, 0xB8B2D500, 0x3EFE2E00,
@@ -37,7 +37,7 @@ pub(crate) static TABLE0: [u32; 256] = [
     0x42FA2F00, 0xC4B6D400, 0xC82F2200, 0x4E63D900, 0xD11CCE00, 0x57503500, 0x5BC9C300, 0xDD853800,
 ];
 
-/// The same of the byte with 1 zero byte after it.
+/// The same for the byte with 1 zero byte after it.
 pub(crate) static TABLE1: [u32; 256] = [
     0x00000000, 0x668F4800, 0xCD1E9000, 0xAB91D800, 0x1C71DB00, 0x7AFE9300, 0xD16F4B00, 0xB7E00300,
     0x38E3B600, 0x5E6CFE00, 0xF5FD2600, 0x93726E00, 0x24926D00, 0x421D2500, 0xE98CFD00, 0x8F03B500,
@@ -73,7 +73,7 @@ pub(crate) static TABLE1: [u32; 256] = [
     0x6959DF00, 0x0FD69700, 0xA4474F00, 0xC2C80700, 0x75280400, 0x13A74C00, 0xB8369400, 0xDEB9DC00,
 ];
 
-/// The same of the byte with 2 zero bytes after it.
+/// The same for the byte with 2 zero bytes after it.
 pub(crate) static TABLE2: [u32; 256] = [
     0x00000000, 0x8309D700, 0x805F5500, 0x03568200, 0x86F25100, 0x05FB8600, 0x06AD0400, 0x85A4D300,
     0x8BA85900, 0x08A18E00, 0x0BF70C00, 0x88FEDB00, 0x0D5A0800, 0x8E53DF00, 0x8D055D00, 0x0E0C8A00,
@@ -109,7 +109,7 @@ pub(crate) static TABLE2: [u32; 256] = [
     0x6B60F900, 0xE8692E00, 0xEB3FAC00, 0x68367B00, 0xED92A800, 0x6E9B7F00, 0x6DCDFD00, 0xEEC42A00,
 ];
 
-/// The same of the byte with 3 zero bytes after it.
+/// The same for the byte with 3 zero bytes after it.
 pub(crate) static TABLE3: [u32; 256] = [
     0x00000000, 0x36095200, 0x6C12A400, 0x5A1BF600, 0xD8254800, 0xEE2C1A00, 0xB437EC00, 0x823EBE00,
     0x36066B00, 0x000F3900, 0x5A14CF00, 0x6C1D9D00, 0xEE232300, 0xD82A7100, 0x82318700, 0xB438D500,
@@ -145,7 +145,7 @@ pub(crate) static TABLE3: [u32; 256] = [
     0xD893F400, 0xEE9AA600, 0xB4815000, 0x82880200, 0x00B6BC00, 0x36BFEE00, 0x6CA41800, 0x5AAD4A00,
 ];
 
-/// The same of the byte with 4 zero bytes after it.
+/// The same for the byte with 4 zero bytes after it.
 pub(crate) static TABLE4: [u32; 256] = [
     0x00000000, 0xD9FE8C00, 0x35B1E300, 0xEC4F6F00, 0x6B63C600, 0xB29D4A00, 0x5ED22500, 0x872CA900,
     0xD6C78C00, 0x0F390000, 0xE3766F00, 0x3A88E300, 0xBDA44A00, 0x645AC600, 0x8815A900, 0x51EB2500,
@@ -181,7 +181,7 @@ pub(crate) static TABLE4: [u32; 256] = [
     0xDDDFC600, 0x04214A00, 0xE86E2500, 0x3190A900, 0xB6BC0000, 0x6F428C00, 0x830DE300, 0x5AF36F00,
 ];
 
-/// The same of the byte with 5 zero bytes after it.
+/// The same for the byte with 5 zero bytes after it.
 pub(crate) static TABLE5: [u32; 256] = [
     0x00000000, 0x36EB3D00, 0x6DD67A00, 0x5B3D4700, 0xDBACF400, 0xED47C900, 0xB67A8E00, 0x8091B300,
     0x31151300, 0x07FE2E00, 0x5CC36900, 0x6A285400, 0xEAB9E700, 0xDC52DA00, 0x876F9D00, 0xB184A000,
@@ -217,7 +217,7 @@ pub(crate) static TABLE5: [u32; 256] = [
     0x8447DC00, 0xB2ACE100, 0xE991A600, 0xDF7A9B00, 0x5FEB2800, 0x69001500, 0x323D5200, 0x04D66F00,
 ];
 
-/// The same of the byte with 6 zero bytes after it.
+/// The same for the byte with 6 zero bytes after it.
 pub(crate) static TABLE6: [u32; 256] = [
     0x00000000, 0x3B918C00, 0x77231800, 0x4CB29400, 0xEE463000, 0xD5D7BC00, 0x99652800, 0xA2F4A400,
     0x5AC09B00, 0x61511700, 0x2DE38300, 0x16720F00, 0xB486AB00, 0x8F172700, 0xC3A5B300, 0xF8343F00,
@@ -253,7 +253,7 @@ pub(crate) static TABLE6: [u32; 256] = [
     0xE77D4500, 0xDCECC900, 0x905E5D00, 0xABCFD100, 0x093B7500, 0x32AAF900, 0x7E186D00, 0x4589E100,
 ];
 
-/// The same of the byte with 7 zero bytes after it.
+/// The same for the byte with 7 zero bytes after it.
 pub(crate) static TABLE7: [u32; 256] = [
     0x00000000, 0xF50BAF00, 0x6C5BA500, 0x99500A00, 0xD8B74A00, 0x2DBCE500, 0xB4ECEF00, 0x41E74000,
     0x37226F00, 0xC229C000, 0x5B79CA00, 0xAE726500, 0xEF952500, 0x1A9E8A00, 0x83CE8000, 0x76C52F00,

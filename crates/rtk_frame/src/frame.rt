@@ -1,4 +1,5 @@
 //! A frame at the front of a text, and the bytes of a frame.
+
 ghost use Rattle.std.specs.Prelude.{◌≡◌, ◌≢◌, ◌↔◌, ℕ, ◌+◌, ◌<◌, ◌≤◌, length, drop, take, slice_index, IfOk, IsErrOf, ◌==◌};
 ghost use Rattle.rtk_frame.specs.Checksum.{crc};
 ghost use Rattle.rtk_frame.specs.Frame.{three_bytes, framed};
@@ -9,10 +10,13 @@ use crate::checksum::crc24q;
 use std::alloc::{AllocError, Global};
 use thiserror::Error;
 
-/// The first byte of each frame.
+// The first byte of each frame.
 const PREAMBLE: u8 = 0xD3;
 
-/// Why a frame is not made, or a scanner: the first cause that holds, in this order.
+/// The bytes of the longest frame: six, and the 1,023 of its payload.
+pub const LONGEST_FRAME: usize = 1029;
+
+/// Why a frame or a scanner is not made: the first cause that holds, in this order.
 #[derive(Clone, Copy, Debug, PartialEq, Eq, Error)]
 pub enum FrameFault {
     /// The payload has more than 1,023 bytes, which the ten bits of the length can't say.
@@ -35,7 +39,7 @@ impl From<AllocError> for FrameFault {
 }
 
 /// The frame with this payload: the preamble D3, six reserved bits that are zero, the length in ten
-/// bits, the payload of at most 1,023 bytes, and the checksum of all that.
+/// bits, the payload of at most 1,023 bytes, and the checksum of all these bytes.
 ///
 /// Source: RTCM 10403.3, transport layer.
 pub fn encode_frame(alloc: Global, payload: &[u8]) -> Result<Vec<u8>, FrameFault>
@@ -62,11 +66,11 @@ pub fn encode_frame(alloc: Global, payload: &[u8]) -> Result<Vec<u8>, FrameFault
 /// What is at the front of a text.
 #[derive(Clone, Copy)]
 pub(crate) enum Front {
-    /// A frame, with so many bytes of payload.
+    /// A frame, with this number of bytes of payload.
     Whole(usize),
-    /// The start of a frame, or no byte at all: at least so many bytes are missing.
+    /// The start of a frame, or no byte at all: at least this number of bytes is missing.
     Partial(usize),
-    /// Neither.
+    /// Neither of them.
     Other,
 }
 
@@ -93,7 +97,7 @@ pub(crate) fn front_of(bytes: &[u8]) -> Front
     }
 }
 
-/// Whether the three bytes behind the first `covered` bytes are their checksum.
+// Whether the three bytes after the first `covered` bytes are their checksum.
 fn has_checksum(bytes: &[u8], covered: usize) -> bool
     requires { covered + 3 ≤ length bytes.now }
     ensures { result ≡ (crc (take covered bytes.now) == three_bytes (drop covered bytes.now)) }
@@ -104,7 +108,7 @@ fn has_checksum(bytes: &[u8], covered: usize) -> bool
     crc24q(&bytes[..covered]) == stored
 }
 
-/// How many bytes stand before the first preamble: all, where there is none.
+/// How many bytes stand before the first preamble: all of them if there is no preamble.
 pub(crate) fn before_preamble(bytes: &[u8]) -> usize
     ensures within { result ≤ length bytes.now }
     ensures none { (i : ℕ) → i < result → slice_index bytes.now i ≢ 0xD3 }

@@ -1,42 +1,46 @@
-//! Laws of frames: what the frames of a text are, and that its cut into pieces doesn't matter.
+//! Laws of frames: what the frames of a text are, and that they don't depend on how it is cut into
+//! pieces.
 //!
-//! Each function here does nothing: its contract is the law, and a caller that calls it may cite it.
+//! Each function here does nothing. Its contract is the law, and a caller that calls it may cite
+//! it.
+
 ghost use Rattle.std.specs.Prelude.{◌≡◌, ℕ, ◌+◌, ◌-◌, ◌≤◌, List, ◌∷◌, ◌++◌, map, take, drop, length};
 ghost use Rattle.rtk_frame.specs.Frame.{IsFrameAt, payload_of, framed};
 ghost use Rattle.rtk_frame.specs.Frames.{Frame, end_of, payloads, IsFramesFrom, AreFinal, IsPending};
 ghost use Rattle.rtk_frame.specs.Frames.{frames, final_frames, pending, later, IsFirst};
 
-/// The bytes of a frame are a frame with this payload: what `encode_frame` writes, `next_frame`
-/// finds at its place.
+/// The bytes that `encode_frame` writes for a payload are a frame with this payload, so
+/// `next_frame` finds it at its place.
 pub fn frame_of_a_payload()
     ensures is { (payload : List ℕ) → length payload ≤ 1023 → IsFrameAt (framed payload) 0 }
     ensures payload { (payload : List ℕ) → length payload ≤ 1023 → payload_of (framed payload) ≡ payload }
     ensures length { (payload : List ℕ) → length (framed payload) ≡ length payload + 6 }
 {}
 
-/// The frames of a text: one is at each place of theirs, none overlaps the one before, and at no
-/// other place that is free of them is there one. No other list is of this kind.
+/// What the frames of a text are: a frame is at the place of each of them, no frame overlaps the
+/// one before it, and no frame begins at any other place that they leave free. No other list has
+/// these properties.
 pub fn frames_of_a_text()
     ensures are { (b : List ℕ) → IsFramesFrom b 0 (frames b) }
     ensures only { (b : List ℕ) (fs : List Frame) → IsFramesFrom b 0 fs → fs ≡ frames b }
 {}
 
-/// The final frames are those of a text's frames that have no free place before them where a frame
-/// may begin once more bytes have come. No other list is of this kind.
+/// The final frames are the text's frames that have no free place before them at which a frame may
+/// begin once more bytes have come. No other list has this property.
 pub fn final_frames_of_a_text()
     ensures are { (b : List ℕ) → AreFinal b (frames b) (final_frames b) }
     ensures only { (b : List ℕ) (fs : List Frame) → AreFinal b (frames b) fs → fs ≡ final_frames b }
 {}
 
-/// The pending bytes are the suffix of a text from the first free place on where a frame may begin
-/// once more bytes have come. No other list is of this kind.
+/// The pending bytes are the suffix of a text from the first free place on at which a frame may
+/// begin once more bytes have come. No other list has this property.
 pub fn pending_of_a_text()
     ensures is { (b : List ℕ) → IsPending b (frames b) (pending b) }
     ensures only { (b s : List ℕ) → IsPending b (frames b) s → s ≡ pending b }
 {}
 
-/// The final frames of a text that goes on are its final ones, and then those of its pending bytes
-/// and what follows.
+/// If more bytes follow a text, its final frames stay, and after them come the final frames of its
+/// pending bytes with the bytes that follow.
 pub fn final_frames_in_any_cut()
     ensures placed { (b c : List ℕ) → final_frames (b ++ c) ≡ final_frames b
         ++ map (later (length b - length (pending b))) (final_frames (pending b ++ c)) }
@@ -44,7 +48,7 @@ pub fn final_frames_in_any_cut()
         ≡ payloads (final_frames b) ++ payloads (final_frames (pending b ++ c)) }
 {}
 
-/// The frames of a text are its final ones, and then those of its pending bytes.
+/// The frames of a text are its final frames, and then the frames of its pending bytes.
 pub fn frames_in_any_cut()
     ensures placed { (b : List ℕ) → frames b ≡ final_frames b
         ++ map (later (length b - length (pending b))) (frames (pending b)) }
@@ -52,12 +56,13 @@ pub fn frames_in_any_cut()
         ≡ payloads (final_frames b) ++ payloads (frames (pending b)) }
 {}
 
-/// The pending bytes of a text that goes on are those of its pending bytes and what follows.
+/// If more bytes follow a text, the pending bytes are those of the text's pending bytes with the
+/// bytes that follow.
 pub fn pending_in_any_cut()
     ensures { (b c : List ℕ) → pending (b ++ c) ≡ pending (pending b ++ c) }
 {}
 
-/// The text behind the first of its frames has the others.
+/// The text after its first frame has the other frames.
 pub fn frames_behind_the_first()
     ensures placed { (b : List ℕ) (f : Frame) (others : List Frame) → frames b ≡ f ∷ others
         → others ≡ map (later (end_of f)) (frames (drop (end_of f) b)) }
@@ -65,8 +70,7 @@ pub fn frames_behind_the_first()
         → payloads (frames b) ≡ payload ∷ payloads (frames rest) }
 {}
 
-/// The text behind the first of its final frames has the other final ones, and the same pending
-/// bytes.
+/// The text after its first final frame has the other final frames, and the same pending bytes.
 pub fn final_frames_behind_the_first()
     ensures placed { (b : List ℕ) (f : Frame) (others : List Frame) → final_frames b ≡ f ∷ others
         → (others ≡ map (later (end_of f)) (final_frames (drop (end_of f) b)))
@@ -76,8 +80,9 @@ pub fn final_frames_behind_the_first()
         × (pending b ≡ pending rest) }
 {}
 
-/// After the first final frame of the pending bytes h and the used bytes of a piece, what is left of
-/// both has the other final frames and the same pending bytes: what a caller of `feed` needs.
+/// What a caller of `feed` needs: if the pending bytes h and the used bytes of a piece begin with a
+/// final frame, then the bytes after this frame have the other final frames and the same pending
+/// bytes.
 pub fn final_frames_after_found()
     ensures { (h piece : List ℕ) (used : ℕ) (payload rest : List ℕ)
         → IsFirst (final_frames (h ++ take used piece)) (h ++ take used piece) payload rest

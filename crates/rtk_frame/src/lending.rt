@@ -1,11 +1,12 @@
 //! The bytes of a ring as one slice, lent and given back as they were.
+
 ghost use Rattle.std.specs.Prelude.{◌≡◌};
 ghost use Rattle.std.specs.Borrow.{sem};
 ghost use Rattle.rtk_frame.specs.Ring.{RingEndsAs, LendsBytes, with_bytes};
 
 use circular_buffer::HeapCircularBuffer;
 
-/// All bytes of the ring, in one slice to write to.
+// All bytes of the ring, in one slice to write to.
 fn all_bytes_mut(ring: &mut HeapCircularBuffer<u8>) -> &mut [u8]
     ensures* writes_back { sem 𝓛 (LendsBytes ring.entry result) }
     ensures value { result.now ≡ ring.old.items }
@@ -16,8 +17,8 @@ fn all_bytes_mut(ring: &mut HeapCircularBuffer<u8>) -> &mut [u8]
 
 /// All bytes of the ring, in one slice. The ring stays as it is.
 ///
-/// No rule of the borrow checker says what a `&mut` becomes that is shared on to the caller, so the
-/// proof is by hand.
+/// The prover has no rule for a `&mut` that is given to the caller as a `&`, so the proof is
+/// written by hand.
 pub(crate) fn all_bytes(ring: &mut HeapCircularBuffer<u8>) -> &[u8]
     ensures* after { sem 𝓛 (RingEndsAs ring.entry ring.old) }
     ensures value { result.now ≡ ring.old.items }

@@ -1,4 +1,24 @@
 //! Bytes of a link: sources and sinks, frames of RTCM 3 and their checksum, and a scanner.
+//!
+//! Its tests: crates/rtk_tests_input/src/frame.rt and frame_streams.rt.
+//!
+//! ```rust
+//! use rtk_frame::{Answer, FrameFault, Scanner, encode_frame};
+//! use std::alloc::Global;
+//!
+//! // A frame that comes in two pieces, and is found in the second one.
+//! fn example(alloc: Global) -> Result<bool, FrameFault> {
+//!     let frame = encode_frame(alloc, &[0x3E, 0xD0])?;
+//!     let (first, second) = frame.as_slice().split_at(4);
+//!     let mut scanner = Scanner::new(alloc)?;
+//!     scanner.feed(first);
+//!     match scanner.feed(second).answer {
+//!         Answer::Found(payload) => Ok(payload == &[0x3E, 0xD0]),
+//!         Answer::Hungry => Ok(false),
+//!     }
+//! }
+//! ```
+
 #![tactic(auto)]
 
 mod checksum;
@@ -12,7 +32,7 @@ mod search;
 mod stream;
 
 pub use checksum::crc24q;
-pub use frame::{FrameFault, encode_frame};
+pub use frame::{FrameFault, LONGEST_FRAME, encode_frame};
 pub use memory::{After, MemSink, MemSource};
 pub use scanner::{Answer, Fed, Scanner};
 pub use search::{Placed, next_frame};

@@ -1,4 +1,5 @@
-//! A source and a sink over memory, whose answers their contracts tell in full.
+//! A source and a sink over memory. Their contracts say in full what they answer.
+
 ghost use Rattle.std.specs.Prelude.{◌≡◌, ◌+◌, ◌-◌, ◌^◌, ◌≤◌, ◌<◌, ◌++◌, ◌↔◌, Some, Ok, length, min, take, drop, replicate, is_err, IfOk, IsErr};
 ghost use Rattle.rtk_frame.specs.Stream.{moved_count, count_after, failures_after, is_failed_write};
 
@@ -13,7 +14,7 @@ pub enum After {
     End,
     /// Each further read fails.
     Failure,
-    /// Each further read gives zero bytes, and fails once 2^128 of them would be passed.
+    /// Each further read gives zero bytes. It fails if there would be more than 2^128 - 1 of them.
     Zeros,
 }
 
@@ -51,7 +52,7 @@ impl Model for MemSource {
 impl MemSource {
     ghost use Rattle.rtk_frame.specs.Memory.{new_source};
 
-    /// Copies the bytes, to give at most `per_read` of them for each read.
+    /// A source of a copy of the bytes. Each read gives at most `per_read` of them.
     pub fn new(
         alloc: Global,
         bytes: &[u8],
@@ -85,7 +86,7 @@ impl Source for MemSource {
 
     ghost is_at_end = { λ s. IsSpent s End };
 
-    /// Gives the next bytes, as many as fit; behind the last of them does what `After` says.
+    /// Gives the next bytes, as many as fit. After the last of them it does what `After` says.
     fn read(&mut self, buf: &mut [u8]) -> Result<usize, StreamFault>
         ensures bound { moved_count result ≤ length buf.new }
         ensures given { self.new.given ≡ self.old.given ++ take (moved_count result) buf.new }
@@ -158,7 +159,7 @@ impl Model for MemSink {
 impl MemSink {
     ghost use Rattle.rtk_frame.specs.Memory.{new_sink};
 
-    /// An empty sink that takes `room` bytes in all, at most `per_write` of them for each write.
+    /// An empty sink. It takes `room` bytes in all, and at most `per_write` of them in each write.
     pub fn new(alloc: Global, room: usize, per_write: usize) -> Result<MemSink, AllocError>
         requires per_write { 1 ≤ per_write }
         ensures { IfOk result (λ sink. sink ≡ new_sink room per_write) }
@@ -184,14 +185,15 @@ impl Sink for MemSink {
 
     ghost failures = { λ s. s.failures };
 
-    /// Takes as many bytes as one write may and as there is room for; fails where there is none.
+    /// Takes as many bytes as one write may take and as there is room for. It fails if there are
+    /// bytes to write and no room is left.
     fn write(&mut self, bytes: &[u8]) -> Result<usize, StreamFault>
         ensures bound { moved_count result ≤ length bytes.now }
         ensures taken { self.new.taken ≡ self.old.taken ++ take (moved_count result) bytes.now }
         ensures failures { self.new.failures
             ≡ failures_after self.old.failures (is_failed_write result bytes.now) }
 
-        // How many it takes, and when none.
+        // How many bytes it takes, and when it takes no byte.
         ensures count { let most = min self.old.per_write self.old.room in
             IfOk result (λ count. count ≡ min (length bytes.now) most) }
         ensures full { IsErr result ↔ ((0 < length bytes.now) × (self.old.room ≡ 0)) }

@@ -1,10 +1,12 @@
 //! A scanner gives the frames of a stream of bytes that comes in pieces.
+
 ghost use Rattle.std.specs.Prelude.{◌≡◌, ◌⊎◌, ℕ, ◌+◌, ◌≤◌, List, [], ◌++◌, length, drop, take, true, MatchOption};
 ghost use Rattle.circular_buffer.specs.Buffer.{buffer};
 ghost use Rattle.rtk_frame.specs.Frame.{begins_frame, begins_partial, payload_length};
 ghost use Rattle.rtk_frame.specs.Scanning.{Scanned, Searched};
+ghost use Rattle.rtk_frame.specs.declared.frame.TheConstants.{LONGEST_FRAME};
 
-use crate::frame::{FrameFault, Front, before_preamble, front_of};
+use crate::frame::{FrameFault, Front, LONGEST_FRAME, before_preamble, front_of};
 use crate::lending::all_bytes;
 use circular_buffer::HeapCircularBuffer;
 use std::alloc::Global;
@@ -12,11 +14,11 @@ use std::marker::Model;
 
 /// The frames of a stream, however its bytes are cut into pieces.
 ///
-/// It keeps at most 1,029 bytes: the last frame that it gave, and those that wait for more.
+/// It keeps at most 1,029 bytes: the last frame that it gave, and the bytes that wait for more.
 #[derive(Drop)]
 pub struct Scanner {
     ring: HeapCircularBuffer<u8>,
-    // How many bytes at the ring's front were given; the next call takes them out.
+    // How many bytes at the ring's front were given. The next call takes them out.
     given: usize,
     ended: bool,
 }
@@ -25,6 +27,7 @@ pub struct Scanner {
 impl Model for Scanner {
     ghost use Rattle.std.specs.Prelude.{◌≡◌, ◌≤◌, length, drop};
     ghost use Rattle.rtk_frame.specs.ScannerView.{ScannerView, scanner_view, scanner_view_code};
+    ghost use Rattle.rtk_frame.specs.declared.frame.TheConstants.{LONGEST_FRAME};
 
     ghost Value = { ScannerView };
 
@@ -32,7 +35,7 @@ impl Model for Scanner {
 
     ghost view = { λ s. scanner_view (drop s.given s.ring.items) s.ended };
 
-    ghost invariant = { λ s. (s.ring.capacity ≡ 1029) × (length s.ring.items ≤ 1029)
+    ghost invariant = { λ s. (s.ring.capacity ≡ LONGEST_FRAME) × (length s.ring.items ≤ LONGEST_FRAME)
         × (s.given ≤ length s.ring.items) };
 }
 
@@ -60,13 +63,14 @@ impl Scanner {
     ghost use Rattle.rtk_frame.specs.ScannerView.{scanner_view};
     ghost use Rattle.rtk_frame.specs.Scanner.{LeavesScanner, FedAnswer, RestAnswer};
     ghost use Rattle.rtk_frame.specs.declared.frame.FrameFault.TheVariants.{OutOfMemory};
+    ghost use Rattle.rtk_frame.specs.declared.frame.TheConstants.{LONGEST_FRAME};
 
     /// A scanner at the start of a stream. All the memory that it ever has is taken here.
     pub fn new(alloc: Global) -> Result<Scanner, FrameFault>
         ensures start { IfOk result (λ scanner. scanner ≡ scanner_view [] false) }
         ensures fault { IfErr result (λ fault. fault ≡ OutOfMemory) }
     {
-        let ring = HeapCircularBuffer::with_capacity(alloc, 1029)?;
+        let ring = HeapCircularBuffer::with_capacity(alloc, LONGEST_FRAME)?;
         Ok(Scanner {
             ring,
             given: 0,
@@ -74,15 +78,15 @@ impl Scanner {
         })
     }
 
-    /// Takes bytes of the piece until a frame is found, or all of them. Bytes behind the frame may
-    /// be among those taken: they are pending.
+    /// Takes bytes of the piece until a frame is found, or all of them. It may also take bytes that
+    /// come after the frame: they are pending.
     ///
     /// The payload is borrowed from the scanner until its next call.
     pub fn feed(&mut self, piece: &[u8]) -> Fed<'_>
         requires { self.old.ended ≡ false }
         ensures used { result.used ≤ length piece.now }
         ensures* after { sem 𝓛 (LeavesScanner self.entry (λ now.
-            (now.ended ≡ false) × (length now.pending ≤ 1029)
+            (now.ended ≡ false) × (length now.pending ≤ LONGEST_FRAME)
             × FedAnswer self.old.pending piece.now result.used result.answer now)) }
     {
         remove_front(&mut self.ring, self.given);
@@ -106,10 +110,11 @@ impl Scanner {
 
     /// Ends the stream, and gives the next frame of the pending bytes, since no more will come.
     ///
-    /// The payload is borrowed from the scanner until its next call. After None it is always None.
+    /// The payload is borrowed from the scanner until its next call. After a `None` the answer is
+    /// always `None`.
     pub fn rest(&mut self) -> Option<&[u8]>
         ensures* after { sem 𝓛 (LeavesScanner self.entry (λ now.
-            (now.ended ≡ true) × (length now.pending ≤ 1029)
+            (now.ended ≡ true) × (length now.pending ≤ LONGEST_FRAME)
             × RestAnswer self.old.pending result now)) }
     {
         remove_front(&mut self.ring, self.given);
@@ -134,11 +139,11 @@ impl Scanner {
     }
 }
 
-/// Scans the ring and what of the piece it has to take, up to the next frame or to the end.
-/// Gives how many bytes were used, and the length of the payload of a frame at the ring's front.
+// Scans the ring, and as many bytes of the piece as it needs, up to the next frame or to the end.
+// Gives how many bytes were used, and the length of the payload if a frame is at the ring's front.
 fn advance(ring: &mut HeapCircularBuffer<u8>, piece: &[u8]) -> (usize, Option<usize>)
-    requires { (ring.old.capacity ≡ 1029) × (length ring.old.items ≤ 1029) }
-    ensures capacity { (ring.new.capacity ≡ 1029) × (length ring.new.items ≤ 1029) }
+    requires { (ring.old.capacity ≡ LONGEST_FRAME) × (length ring.old.items ≤ LONGEST_FRAME) }
+    ensures capacity { (ring.new.capacity ≡ LONGEST_FRAME) × (length ring.new.items ≤ LONGEST_FRAME) }
     ensures used { result.0 ≤ length piece.now }
     ensures scanned { Scanned (ring.old.items ++ take result.0 piece.now) ring.new.items }
     ensures found { MatchOption result.1
@@ -168,10 +173,10 @@ fn advance(ring: &mut HeapCircularBuffer<u8>, piece: &[u8]) -> (usize, Option<us
     }
 }
 
-/// Searches the ring for the next frame, as if no byte followed.
+// Searches the ring for the next frame, as if no byte followed.
 fn advance_ended(ring: &mut HeapCircularBuffer<u8>) -> Option<usize>
-    requires { (ring.old.capacity ≡ 1029) × (length ring.old.items ≤ 1029) }
-    ensures capacity { (ring.new.capacity ≡ 1029) × (length ring.new.items ≤ 1029) }
+    requires { (ring.old.capacity ≡ LONGEST_FRAME) × (length ring.old.items ≤ LONGEST_FRAME) }
+    ensures capacity { (ring.new.capacity ≡ LONGEST_FRAME) × (length ring.new.items ≤ LONGEST_FRAME) }
     ensures searched { Searched ring.old.items ring.new.items }
     ensures found { MatchOption result
         (ring.new.items ≡ [])
@@ -187,10 +192,10 @@ fn advance_ended(ring: &mut HeapCircularBuffer<u8>) -> Option<usize>
     None
 }
 
-/// Passes the bytes at the front of the ring that are no preamble.
+// Drops the bytes that stand in the ring before its first preamble.
 fn pass_to_preamble(ring: &mut HeapCircularBuffer<u8>)
-    requires { (ring.old.capacity ≡ 1029) × (length ring.old.items ≤ 1029) }
-    ensures capacity { ring.new.capacity ≡ 1029 }
+    requires { (ring.old.capacity ≡ LONGEST_FRAME) × (length ring.old.items ≤ LONGEST_FRAME) }
+    ensures capacity { ring.new.capacity ≡ LONGEST_FRAME }
     ensures shorter { length ring.new.items ≤ length ring.old.items }
     ensures scanned { (text : List ℕ) → Scanned text ring.old.items → Scanned text ring.new.items }
 {
@@ -199,7 +204,8 @@ fn pass_to_preamble(ring: &mut HeapCircularBuffer<u8>)
     ring.truncate_front(rest);
 }
 
-/// How many bytes of the piece need not enter the ring, since it is empty and they are no preamble.
+// How many bytes of the piece need not enter the ring: if it is empty, the bytes before the piece's
+// first preamble.
 fn bytes_to_pass(ring: &HeapCircularBuffer<u8>, piece: &[u8]) -> usize
     ensures within { result ≤ length piece.now }
     ensures scanned { (text : List ℕ) → Scanned text ring.now.items
@@ -212,7 +218,7 @@ fn bytes_to_pass(ring: &HeapCircularBuffer<u8>, piece: &[u8]) -> usize
     }
 }
 
-/// Takes the first bytes out of the ring.
+// Takes the first bytes out of the ring.
 fn remove_front(ring: &mut HeapCircularBuffer<u8>, count: usize)
     requires { count ≤ length ring.old.items }
     ensures { ring.new ≡ buffer (drop count ring.old.items) ring.old.capacity }

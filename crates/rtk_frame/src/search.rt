@@ -1,4 +1,5 @@
 //! The next frame of a whole text.
+
 ghost use Rattle.std.specs.Prelude.{◌≡◌, ℕ, ◌<◌, ◌≤◌, length, drop, MatchOption, IfSome, ◌+◌};
 ghost use Rattle.rtk_frame.specs.Frame.{IsFrameAt, payload_of};
 
@@ -13,7 +14,8 @@ pub struct Placed<'a> {
     pub payload: &'a [u8],
 }
 
-/// The frame at the least place from `from` on, or None where there is none.
+/// The first frame that begins at the place `from` or after it, or `None` if there is no such
+/// frame.
 ///
 /// A frame is `payload.len() + 6` bytes long, so the next one that doesn't overlap it is looked for
 /// from `place + payload.len() + 6` on.

@@ -1,4 +1,5 @@
 //! Where bytes come from and where they go: the two traits, their fault, and two calls over them.
+
 ghost use Rattle.std.specs.Prelude.{◌≡◌, ◌≤◌, ◌<◌, List, ℕ, Option, Ok, length, take, slice_index_or, is_err, OnOk, OnErr};
 ghost use Rattle.rtk_frame.specs.Stream.{moved_count, with_more, count_after, failures_after, is_failed_write, CountRises, TakesPart, ReadsOne};
 
@@ -11,7 +12,7 @@ pub struct StreamFault;
 
 /// Where bytes come from: std's `Read`, with a contract that tells what passed.
 pub trait Source {
-    /// All bytes that it gave so far, in order; `None` where nothing is known of them.
+    /// All bytes that it gave so far, in order; `None` if nothing is known about them.
     ghost given: { Self → Option (List ℕ) };
 
     /// How many calls failed so far: a `u64` that stays at its greatest value.
@@ -23,9 +24,10 @@ pub trait Source {
     /// It has met its end: a read with room gave nothing.
     ghost is_at_end: { Self → Type 0 };
 
-    /// Reads into the buffer and answers how many bytes it gave; 0 where there is room is the end.
+    /// Reads into the buffer and answers how many bytes it gave. If the buffer has room, 0 means
+    /// the end.
     ///
-    /// A failed call gives nothing. What stands in the buffer behind the bytes given is not said.
+    /// A failed call gives nothing. The contract says nothing about the rest of the buffer.
     fn read(&mut self, buf: &mut [u8]) -> Result<usize, StreamFault>
         ensures bound { moved_count result ≤ length buf.new }
         ensures given { given self.new ≡ with_more (given self.old) (take (moved_count result) buf.new) }
@@ -36,7 +38,7 @@ pub trait Source {
 
 /// Where bytes go: std's `Write`, with a contract that tells what passed.
 pub trait Sink {
-    /// All bytes that it took so far, in order; `None` where nothing is known of them.
+    /// All bytes that it took so far, in order; `None` if nothing is known about them.
     ghost taken: { Self → Option (List ℕ) };
 
     /// How many calls failed so far: a `u64` that stays at its greatest value.
@@ -44,7 +46,7 @@ pub trait Sink {
 
     /// Takes a first part of the bytes and answers how many they are.
     ///
-    /// A failed call takes nothing, and one that takes none of some bytes has failed.
+    /// A failed call takes nothing. A call that was given bytes and takes none of them has failed.
     fn write(&mut self, bytes: &[u8]) -> Result<usize, StreamFault>
         ensures bound { moved_count result ≤ length bytes.now }
         ensures taken { taken self.new ≡ with_more (taken self.old) (take (moved_count result) bytes.now) }
@@ -52,7 +54,7 @@ pub trait Sink {
             ≡ failures_after (failures self.old) (is_failed_write result bytes.now) };
 }
 
-/// Writes all the bytes, however few each call takes, up to the first call that fails.
+/// Writes all the bytes, however few each call takes, and stops at the first call that fails.
 pub fn write_all<W: Sink>(sink: &mut W, bytes: &[u8]) -> Result<(), StreamFault>
     ensures all { OnOk result (W.taken sink.new ≡ with_more (W.taken sink.old) bytes.now) }
     ensures part { TakesPart (W.taken sink.old) (W.taken sink.new) bytes.now }
@@ -70,8 +72,8 @@ pub fn write_all<W: Sink>(sink: &mut W, bytes: &[u8]) -> Result<(), StreamFault>
     Ok(())
 }
 
-/// Reads once, from one of many sources; the others stay as they are. A read with room that gave
-/// nothing is the end of the source that was read.
+/// Reads once, from one of many sources; the others stay as they are. If the buffer has room and
+/// the read gave nothing, the source that was read is at its end.
 pub fn read_one<R: Source>(
     sources: &mut [R],
     link: usize,

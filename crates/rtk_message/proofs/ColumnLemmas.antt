@@ -62,7 +62,7 @@ ones-few w (n ∷ ns) fit =
 
 -- ---- values taken at once
 
--- no more than as many as 57 bits hold
+-- at most as many as 57 bits hold
 pub at_once : (width fields : ℕ) → fields ≤ 57 / width → width * fields ≤ 57
 at_once width fields few =
     let all = le_trans (mul-le-mul_right width few) (div-mul-le_self 57 width) in

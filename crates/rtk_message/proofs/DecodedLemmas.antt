@@ -1,4 +1,4 @@
--- Bits begin with at most one message, and where they begin with one there is no fault.
+-- Bits begin with at most one message, and have no fault if they begin with one.
 use Rattle.std.proofs.Common.{◌≡◌, ℕ, ◌^◌, ◌<◌, Bool, false, List, ◌∷◌, ◌++◌, length, take, drop, Some, None, Result, Ok, Err, refl, sym, ap, ◌∙◌, append_assoc, arith, length-append, ltb}
 use Rattle.std.specs.Prelude.{IfOk, IfErr}
 use Rattle.std.proofs.lemmas.Bool.{le-ltb}
@@ -16,7 +16,7 @@ use Rattle.rtk_message.specs.Arp1005Laws as arp1005
 use Rattle.rtk_message.specs.Arp1006Laws as arp1006
 use Rattle.rtk_message.specs.Msm1074Laws as msm1074
 
--- the number of bits, and what is after it
+-- the number in the bits, and what is after it
 record Begins (bs : List Bool) (k : ℕ) (fs : List Field) (rest : List Bool) : Type 0 where
   pub long : ltb (length bs) 12 ≡ false
   pub number : unsigned (take 12 bs) ≡ k

@@ -33,7 +33,7 @@ took_both {fs = fs} {gs = gs} {c = c} p q = record {
   is = p.is ∙ ap (λ (t : List Bool). bits_of_fields fs ++ t) q.is ∙ sym (append_assoc (bits_of_fields fs) (bits_of_fields gs) c) ∙ ap (λ (t : List Bool). t ++ c) (sym (bits_of_fields-append fs gs));
 }
 
--- where nothing is left before the rest
+-- if nothing is left before the rest
 pub took_rest : {fs : List Field} {from rest : List Bool} (left : List Bool) → TakesAll fs from (left ++ rest) → length left ≡ 0 → TakesAll fs from rest
 took_rest [] p none = p
 took_rest (b ∷ bs) p none = absurd (omega arith)

@@ -4,10 +4,10 @@ use Rattle.std.proofs.lemmas.Bool.{le-ltb, lt-ltb, ltb-false, ltb_from_iff}
 use Rattle.rtk_message.specs.declared.fault.DecodeFault.TheVariants.{Short, EpochRange, TooManyCells}
 use Rattle.rtk_message.specs.declared.msm1074.MsmHeader.{MsmHeader}
 use Rattle.rtk_message.specs.declared.msm1074.Msm1074.{Msm1074}
-use Rattle.rtk_message.specs.Fields.{FieldsFit, TakesAll}
+use Rattle.rtk_message.specs.Fields.{tow_in, FieldsFit, TakesAll}
 use Rattle.rtk_message.specs.FieldLaws.{fit-append, fit-left}
 use Rattle.rtk_message.specs.Columns.{numbers, integers, flags}
-use Rattle.rtk_message.specs.Msm1074.{header_table, satellites, signals, mask_table, columns, table, HasLengths, EachFits, IsValid, first_fault, tow_of, mask_bits_in}
+use Rattle.rtk_message.specs.Msm1074.{header_table, satellites, signals, mask_table, columns, table, HasLengths, EachFits, IsValid, first_fault, mask_bits_in}
 use Rattle.rtk_message.specs.Msm1074Laws.{header_says, due, cells_says}
 use Rattle.rtk_message.proofs.ColumnLemmas.{flags-fit}
 
@@ -15,14 +15,14 @@ pub is_late : {h : MsmHeader} {bs rest : List Bool} → TakesAll (header_table h
 is_late {h = h} {bs = bs} took late =
     let says = header_says took in
     let long : ltb (length bs) 157 ≡ false = le-ltb (length bs) 157 (omega (arith, says.len)) in
-    let when : ltb 604799999 (tow_of bs) ≡ true = lt-ltb 604799999 (tow_of bs) (omega (arith, says.tow_is, late)) in
+    let when : ltb 604799999 (tow_in bs) ≡ true = lt-ltb 604799999 (tow_in bs) (omega (arith, says.tow_is, late)) in
     rw (long, when) refl
 
 pub is_many : {h : MsmHeader} {bs rest : List Bool} → TakesAll (header_table h) bs rest → h.tow ≤ 604799999 → 64 < satellites h * signals h → first_fault bs ≡ Some TooManyCells
 is_many {h = h} {bs = bs} took time many =
     let says = header_says took in
     let long : ltb (length bs) 157 ≡ false = le-ltb (length bs) 157 (omega (arith, says.len)) in
-    let when : ltb 604799999 (tow_of bs) ≡ false = le-ltb 604799999 (tow_of bs) (omega (arith, says.tow_is, time)) in
+    let when : ltb 604799999 (tow_in bs) ≡ false = le-ltb 604799999 (tow_in bs) (omega (arith, says.tow_is, time)) in
     let big : ltb 64 (mask_bits_in bs) ≡ true = lt-ltb 64 (mask_bits_in bs) (omega (arith, says.mask_bits_is, many)) in
     rw (long, when, big) refl
 
@@ -30,7 +30,7 @@ pub is_cut : {h : MsmHeader} {bs rest : List Bool} → TakesAll (header_table h)
 is_cut {h = h} {bs = bs} took time few short =
     let says = header_says took in
     let long : ltb (length bs) 157 ≡ false = le-ltb (length bs) 157 (omega (arith, says.len)) in
-    let when : ltb 604799999 (tow_of bs) ≡ false = le-ltb 604799999 (tow_of bs) (omega (arith, says.tow_is, time)) in
+    let when : ltb 604799999 (tow_in bs) ≡ false = le-ltb 604799999 (tow_in bs) (omega (arith, says.tow_is, time)) in
     let big : ltb 64 (mask_bits_in bs) ≡ false = le-ltb 64 (mask_bits_in bs) (omega (arith, says.mask_bits_is, few)) in
     let cut : ltb (length bs) (due bs) ≡ true = lt-ltb (length bs) (due bs) short in
     rw (long, when, big, cut) refl
@@ -71,6 +71,6 @@ all_fit m h p =
 pub is_valid : (m : Msm1074) → FieldsFit (header_table m.header) → m.header.tow < 604800000 → satellites m.header * signals m.header ≤ 64 → HasLengths m → EachFits m → IsValid m
 is_valid m head time few lengths each = record { fields_fit = all_fit m head each; time_in_week = time; mask_bits = few; lengths = lengths }
 
--- at most 64, where a test of more than 64 says no
+-- at most 64, if the test for more than 64 says no
 pub few_of : {b : Bool} {k : ℕ} → ((b ≡ true) ↔ (64 < k)) → b ≡ false → k ≤ 64
 few_of {k = k} test none = ltb-false 64 k (sym (ltb_from_iff test) ∙ none)

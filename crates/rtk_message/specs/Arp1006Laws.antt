@@ -1,4 +1,4 @@
--- One message 1006 of bits, and no fault where there is one.
+-- Bits begin with at most one message 1006, and have no fault if they begin with one.
 use Rattle.std.proofs.lemmas.Bool.{le-ltb}
 use Rattle.std.proofs.Common.{◌≡◌, ℕ, ℤ, sym, ◌∙◌, Bool, List, ◌++◌, length, None, refl, arith, length-append}
 use Rattle.rtk_message.specs.Fields.{bits_of_fields, FieldsFit}

@@ -1,4 +1,5 @@
--- A column as fields: taken and put element by element, its length, its one reading.
+-- A column as fields: taken and put element by element, its length, and that its bits can be read
+-- in one way only.
 use Rattle.std.proofs.Common.{◌≡◌, ℕ, ℤ, ◌+◌, ◌*◌, ◌≤◌, Bool, List, [], ◌∷◌, ◌++◌, length, refl, sym, ap, ◌∙◌, arith, append_assoc, sum_by, count_ones}
 use Rattle.std.proofs.lemmas.List.Sums.{sum_by-cons}
 use Rattle.std.proofs.lemmas.Nat.{ones_cat}
@@ -27,7 +28,7 @@ total-flags (b ∷ bs) = rw (total-flags bs) (omega arith)
 
 -- ---- bits that are set
 
--- as many bits are set in the concatenated rows as in all rows together
+-- the concatenated rows have as many set bits as all rows together
 pub ones-numbers : (w : ℕ) (ns : List ℕ) → FieldsFit (numbers w ns) → count_ones (unsigned (bits_of_fields (numbers w ns))) ≡ sum_by count_ones ns
 unfolding unsigned lib.Count.ones
 ones-numbers w [] fit = refl
@@ -38,7 +39,7 @@ ones-numbers w (n ∷ ns) fit =
 
 -- ---- one reading
 
--- what follows two columns that are one
+-- if two columns are the same, so is what follows them
 pub record Same (X : Type 0) (xs ys : X) (fs gs : List Field) (a b : List Bool) : Type 0 where
   pub here : xs ≡ ys
   pub left : FieldsFit fs

@@ -1,4 +1,4 @@
--- Which message bits begin with, and the first fault where they begin with none.
+-- With which message bits begin, and the first fault if they begin with no message.
 use Rattle.std.specs.Prelude.{◌≡◌, ℕ, Bool, List, ◌∷◌, ◌++◌, length, take, drop, Option, Some, None, Result, Ok, IfOk, IfErr, ◌==◌, nat_lt, if◌then◌else◌}
 use Rattle.rtk_bits.specs.Bits.{bits, unsigned, padding}
 use Rattle.rtk_message.specs.declared.message.Message.{Message}
@@ -43,7 +43,7 @@ fields_after_number (Msm1074 m) = msm1074.table m
 abbrev pub table : Message → List Field
 table m = u 12 (number_of m) ∷ fields_after_number m
 
--- which messages have bits
+-- which messages can be written as bits
 abbrev pub IsValid : Message → Type 0
 IsValid (Obs1004 m) = obs1004.IsValid m
 IsValid (Arp1005 m) = arp1005.IsValid m
@@ -84,5 +84,5 @@ pub record Decodes (bs : List Bool) (r : Result Message DecodeFault) : Type 0 wh
   pub message : IfOk r (λ m. Encodes bs m)
   -- a fault is the first one
   pub fault : IfErr r (λ f. first_fault bs ≡ Some f)
-  -- where the bits begin with a message, the answer is that message, so no fault
+  -- if the bits begin with a message, the answer is that message, and no fault
   pub only : (m : Message) → Encodes bs m → r ≡ Ok m

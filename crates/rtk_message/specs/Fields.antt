@@ -1,7 +1,7 @@
--- Fields, and the bits of a list of fields.
-use Rattle.std.specs.Prelude.{◌≡◌, ℕ, ℤ, ◌<◌, ◌^◌, Bool, List, [], ◌∷◌, ◌++◌}
+-- Fields, their bits, and what it is to take a field from bits and to put one after them.
+use Rattle.std.specs.Prelude.{◌≡◌, ℕ, ℤ, ◌<◌, ◌^◌, Bool, List, [], ◌∷◌, ◌++◌, take, drop}
 use Rattle.std.specs.List.{AllByRecursion}
-use Rattle.rtk_bits.specs.Bits.{bits_of, signed_bits_of, FitsSigned}
+use Rattle.rtk_bits.specs.Bits.{bits_of, unsigned, signed_bits_of, FitsSigned}
 
 -- a field: a width with an unsigned or a two's complement value, or one bit
 pub data Field : Type 0 where
@@ -15,6 +15,11 @@ field_bits (u w n) = bits_of w n
 field_bits (i w z) = signed_bits_of w z
 field_bits (flag b) = b ∷ []
 
+-- the time of week (DF004) in the bits after the number of a message with observations: the 30 bits
+-- after the station
+abbrev pub tow_in : List Bool → ℕ
+tow_in bs = unsigned (take 30 (drop 12 bs))
+
 -- the value fits the width
 abbrev pub FieldFits : Field → Type 0
 FieldFits (u w n) = n < 2 ^ w
@@ -26,24 +31,24 @@ abbrev pub bits_of_fields : List Field → List Bool
 bits_of_fields [] = []
 bits_of_fields (f ∷ fs) = field_bits f ++ bits_of_fields fs
 
--- each value fits its width
+-- each field fits its width
 abbrev pub FieldsFit : List Field → Type 0
 FieldsFit fs = AllByRecursion FieldFits fs
 
--- the bits begin with a field that fits, and these are left after it
+-- the bits begin with this field, which fits its width, and `left` are the bits after it
 pub record TakesField (f : Field) (from left : List Bool) : Type 0 where
   pub fits : FieldFits f
   pub is : from ≡ field_bits f ++ left
 
--- the same of a list of fields
+-- the same for a list of fields
 pub record TakesAll (fs : List Field) (from left : List Bool) : Type 0 where
   pub fit : FieldsFit fs
   pub is : from ≡ bits_of_fields fs ++ left
 
--- a field was put after bits
+-- a field was put after the bits
 pub record Puts (f : Field) (before after : List Bool) : Type 0 where
   pub is : after ≡ before ++ field_bits f
 
--- the same of a list of fields
+-- the same for a list of fields
 pub record PutsAll (fs : List Field) (before after : List Bool) : Type 0 where
   pub is : after ≡ before ++ bits_of_fields fs

@@ -1,7 +1,8 @@
--- Message 1074 after its number (RTCM 10403.3, message 1074, GPS MSM4): a header of 157 bits, the cell mask, the columns.
+-- Message 1074 after its number (RTCM 10403.3, message 1074, GPS MSM4): a header of 157 bits, the
+-- cell mask, the columns.
 use Rattle.std.specs.Prelude.{◌≡◌, ℕ, ◌+◌, ◌*◌, ◌≤◌, ◌<◌, Bool, List, [], ◌∷◌, ◌++◌, length, sum_by, count_ones, take, drop, Option, Some, None, nat_lt, if◌then◌else◌}
 use Rattle.rtk_bits.specs.Bits.{unsigned}
-use Rattle.rtk_message.specs.Fields.{Field, u, flag, FieldsFit}
+use Rattle.rtk_message.specs.Fields.{tow_in, Field, u, flag, FieldsFit}
 use Rattle.rtk_message.specs.Columns.{numbers, integers, flags}
 use Rattle.rtk_message.specs.declared.fault.DecodeFault.{DecodeFault}
 use Rattle.rtk_message.specs.declared.fault.DecodeFault.TheVariants.{Short, EpochRange, TooManyCells}
@@ -22,11 +23,13 @@ satellites h = count_ones h.satellite_mask
 abbrev pub signals : MsmHeader → ℕ
 signals h = count_ones h.signal_mask
 
--- the cell mask (DF396), satellite by satellite: a row of one bit for each signal, the signals rising
+-- the cell mask (DF396), satellite by satellite: a row of one bit for each signal, the signals
+-- rising
 abbrev pub mask_table : Msm1074 → List Field
 mask_table m = numbers (signals m.header) m.cell_mask
 
--- each field for all before the next: DF397 and DF398 of the satellites, DF400, DF401, DF402, DF420 and DF403 of the cells
+-- each field for all satellites or cells before the next field: DF397 and DF398 of the satellites,
+-- DF400, DF401, DF402, DF420 and DF403 of the cells
 abbrev pub columns : Msm1074 → List Field
 columns m =
     numbers 8 m.rough_ms ++ (numbers 10 m.rough_fraction ++
@@ -61,7 +64,7 @@ pub record HasNoCells (m : Msm1074) : Type 0 where
   pub half_cycle : m.half_cycle ≡ []
   pub cnr : m.cnr ≡ []
 
--- each value of the columns fits its width; those of DF420 are single bits and always do
+-- each value of the columns fits its width; DF420 is a single bit, which always fits
 pub record EachFits (m : Msm1074) : Type 0 where
   pub cell_mask : FieldsFit (numbers (signals m.header) m.cell_mask)
   pub rough_ms : FieldsFit (numbers 8 m.rough_ms)
@@ -71,7 +74,8 @@ pub record EachFits (m : Msm1074) : Type 0 where
   pub lock_indicator : FieldsFit (numbers 4 m.lock_indicator)
   pub cnr : FieldsFit (numbers 6 m.cnr)
 
--- each field fits, the time lies in a week, the cell mask has at most 64 bits, the columns have their lengths
+-- each field fits, the time lies in a week, the cell mask has at most 64 bits, the columns have
+-- their lengths
 pub record IsValid (m : Msm1074) : Type 0 where
   pub fields_fit : FieldsFit (table m)
   pub time_in_week : m.header.tow < 604800000
@@ -79,10 +83,6 @@ pub record IsValid (m : Msm1074) : Type 0 where
   pub lengths : HasLengths m
 
 -- ---- the first fault of bits after the number
-
--- DF004 in the bits
-abbrev pub tow_of : List Bool → ℕ
-tow_of bs = unsigned (take 30 (drop 12 bs))
 
 -- the satellites, by DF394
 abbrev pub satellite_count_in : List Bool → ℕ
@@ -100,6 +100,6 @@ cell_count_in bs = count_ones (unsigned (take (mask_bits_in bs) (drop 157 bs)))
 abbrev pub first_fault : List Bool → Option DecodeFault
 first_fault bs =
     if nat_lt (length bs) 157 then Some (Short 1074) else
-    if nat_lt 604799999 (tow_of bs) then Some (EpochRange 1074) else
+    if nat_lt 604799999 (tow_in bs) then Some (EpochRange 1074) else
     if nat_lt 64 (mask_bits_in bs) then Some TooManyCells else
     if nat_lt (length bs) (157 + mask_bits_in bs + 18 * satellite_count_in bs + 48 * cell_count_in bs) then Some (Short 1074) else None

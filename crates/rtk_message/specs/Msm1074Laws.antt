@@ -1,20 +1,20 @@
--- One message 1074 of bits, and no fault where there is one.
+-- Bits begin with at most one message 1074, and have no fault if they begin with one.
 use Rattle.std.proofs.Common.{◌≡◌, ℕ, ℤ, Bool, false, List, [], ◌∷◌, ◌++◌, length, take, drop, None, refl, sym, ap, ◌∙◌, ◌+◌, ◌*◌, ◌<◌, ◌≤◌, ltb, arith, append_assoc, length-append, sum_by, count_ones}
 use Rattle.std.proofs.lemmas.Bool.{le-ltb}
 use Rattle.std.proofs.lemmas.List.{take_at, drop_at}
 use Rattle.rtk_bits.specs.Bits.{unsigned}
-use Rattle.rtk_message.specs.Fields.{Field, u, flag, bits_of_fields, FieldsFit, TakesAll}
+use Rattle.rtk_message.specs.Fields.{tow_in, Field, u, flag, bits_of_fields, FieldsFit, TakesAll}
 use Rattle.rtk_message.specs.FieldLaws.{total, length-bits_of_fields}
 use Rattle.rtk_message.specs.FieldLaws.{bits_of_fields-append, fit-left, number_at}
 use Rattle.rtk_message.specs.Columns.{numbers, integers, flags}
 use Rattle.rtk_message.specs.ColumnLaws.{total-numbers, total-integers, total-flags, ones-numbers, peel, peel_numbers, peel_integers, peel_flags, last_numbers}
 use Rattle.rtk_message.specs.declared.msm1074.MsmHeader.{MsmHeader}
 use Rattle.rtk_message.specs.declared.msm1074.Msm1074.{Msm1074}
-use Rattle.rtk_message.specs.Msm1074.{header_table, satellites, signals, mask_table, columns, table, cells, HasLengths, IsValid, first_fault, tow_of, satellite_count_in, mask_bits_in, cell_count_in}
+use Rattle.rtk_message.specs.Msm1074.{header_table, satellites, signals, mask_table, columns, table, cells, HasLengths, IsValid, first_fault, satellite_count_in, mask_bits_in, cell_count_in}
 
--- what the header says of the bits
+-- what the header says about the bits
 pub record SaysHeader1074 (h : MsmHeader) (bs rest : List Bool) : Type 0 where
-  pub tow_is : tow_of bs ≡ h.tow
+  pub tow_is : tow_in bs ≡ h.tow
   pub satellites_is : satellite_count_in bs ≡ satellites h
   pub mask_bits_is : mask_bits_in bs ≡ satellites h * signals h
   pub after : drop 157 bs ≡ rest
@@ -37,7 +37,7 @@ header_says {h = h} {bs = bs} {rest = rest} took =
       len = ap length took.is ∙ length-append (bits_of_fields (header_table h)) rest ∙ ap (λ (k : ℕ). k + length rest) (length-bits_of_fields (header_table h));
     }
 
--- the bits that the rest is to have
+-- how many bits the rest needs
 abbrev pub due : List Bool → ℕ
 due bs = 157 + mask_bits_in bs + 18 * satellite_count_in bs + 48 * cell_count_in bs
 
@@ -45,12 +45,12 @@ is_whole : {h : MsmHeader} {bs rest : List Bool} → TakesAll (header_table h) b
 is_whole {h = h} {bs = bs} took time few enough =
     let says = header_says took in
     let long : ltb (length bs) 157 ≡ false = le-ltb (length bs) 157 (omega (arith, says.len)) in
-    let when : ltb 604799999 (tow_of bs) ≡ false = le-ltb 604799999 (tow_of bs) (omega (arith, says.tow_is, time)) in
+    let when : ltb 604799999 (tow_in bs) ≡ false = le-ltb 604799999 (tow_in bs) (omega (arith, says.tow_is, time)) in
     let big : ltb 64 (mask_bits_in bs) ≡ false = le-ltb 64 (mask_bits_in bs) (omega (arith, says.mask_bits_is, few)) in
     let enough_bits : ltb (length bs) (due bs) ≡ false = le-ltb (length bs) (due bs) enough in
     rw (long, when, big, enough_bits) refl
 
--- the cells, as the bits say and as the table do
+-- the bits and the table give the same number of cells
 pub cells_says : {h : MsmHeader} {bs rest after : List Bool} (ns : List ℕ) → TakesAll (header_table h) bs rest → TakesAll (numbers (signals h) ns) rest after → length ns ≡ satellites h → cell_count_in bs ≡ sum_by count_ones ns
 cells_says {h = h} {bs = bs} {rest = rest} {after = after} ns took mask len =
     let says = header_says took in
@@ -153,4 +153,4 @@ is_unique m n a b p q e =
     let all : make m.header m.cell_mask m.rough_ms m.rough_fraction m.fine_range m.fine_phase m.lock_indicator m.half_cycle m.cnr ≡ make n.header n.cell_mask n.rough_ms n.rough_fraction n.fine_range n.fine_phase n.lock_indicator n.half_cycle n.cnr = cc in
     sym (made m) ∙ all ∙ made n
 
--- ---- parts of what has a spelling
+-- ---- parts of bits that a table spells

@@ -2,7 +2,7 @@
 use Rattle.std.specs.Prelude.{ℕ, ◌+◌, ◌*◌, ◌<◌, Bool, List, [], ◌∷◌, ◌++◌, length, take, drop, Option, Some, None, nat_lt, if◌then◌else◌}
 use Rattle.std.specs.List.{flat_map}
 use Rattle.rtk_bits.specs.Bits.{unsigned}
-use Rattle.rtk_message.specs.Fields.{Field, u, i, flag, FieldsFit}
+use Rattle.rtk_message.specs.Fields.{tow_in, Field, u, i, flag, FieldsFit}
 use Rattle.rtk_message.specs.declared.fault.DecodeFault.{DecodeFault}
 use Rattle.rtk_message.specs.declared.fault.DecodeFault.TheVariants.{Short, EpochRange}
 use Rattle.rtk_message.specs.declared.obs1004.Satellite.{Satellite}
@@ -34,16 +34,12 @@ pub record IsValid (m : Obs1004) : Type 0 where
 
 -- ---- the first fault of bits after the number
 
--- DF004 in the bits
-abbrev pub tow_of : List Bool → ℕ
-tow_of bs = unsigned (take 30 (drop 12 bs))
-
--- the bits that as many satellites take as DF006 says
+-- how many bits the satellites take, by their number (DF006)
 abbrev pub satellite_bits : List Bool → ℕ
 satellite_bits bs = 125 * unsigned (take 5 (drop 43 bs))
 
 abbrev pub first_fault : List Bool → Option DecodeFault
 first_fault bs =
     if nat_lt (length bs) 52 then Some (Short 1004) else
-    if nat_lt 604799999 (tow_of bs) then Some (EpochRange 1004) else
+    if nat_lt 604799999 (tow_in bs) then Some (EpochRange 1004) else
     if nat_lt (length bs) (52 + satellite_bits bs) then Some (Short 1004) else None

@@ -1,21 +1,21 @@
--- One message 1004 of bits, and no fault where there is one.
+-- Bits begin with at most one message 1004, and have no fault if they begin with one.
 use Rattle.std.proofs.Common.{◌≡◌, ℕ, ℤ, Bool, false, List, [], ◌∷◌, ◌++◌, length, None, refl, sym, ap, ◌∙◌, ◌+◌, ◌*◌, ◌<◌, ◌≤◌, ltb, arith, append_assoc, length-append}
 use Rattle.std.specs.List.{flat_map}
 use Rattle.std.proofs.lemmas.Bool.{le-ltb}
-use Rattle.rtk_message.specs.Fields.{u, flag, bits_of_fields, FieldsFit, TakesAll}
+use Rattle.rtk_message.specs.Fields.{tow_in, u, flag, bits_of_fields, FieldsFit, TakesAll}
 use Rattle.rtk_message.specs.FieldLaws.{length-bits_of_fields, SameForm, one_list, bits_of_fields-append, fit-left, number_at}
 use Rattle.rtk_message.specs.declared.obs1004.Satellite.{Satellite}
 use Rattle.rtk_message.specs.declared.obs1004.Obs1004.{Obs1004}
-use Rattle.rtk_message.specs.Obs1004.{satellite_table, header, header_table, table, IsValid, first_fault, tow_of, satellite_bits}
+use Rattle.rtk_message.specs.Obs1004.{satellite_table, header, header_table, table, IsValid, first_fault, satellite_bits}
 
 pub length-satellites : (xs : List Satellite) → length (bits_of_fields (flat_map satellite_table xs)) ≡ 125 * length xs
 length-satellites [] = refl
 length-satellites (x ∷ xs) =
     rw (bits_of_fields-append (satellite_table x) (flat_map satellite_table xs), length-append (bits_of_fields (satellite_table x)) (bits_of_fields (flat_map satellite_table xs)), length-bits_of_fields (satellite_table x), length-satellites xs) (omega arith)
 
--- what the header says of the bits
+-- what the header says about the bits
 pub record SaysHeader1004 (bs rest : List Bool) (tow count : ℕ) : Type 0 where
-  pub tow_is : tow_of bs ≡ tow
+  pub tow_is : tow_in bs ≡ tow
   pub count_is : satellite_bits bs ≡ 125 * count
   pub len : length bs ≡ 52 + length rest
 
@@ -30,7 +30,7 @@ is_whole : {s t : ℕ} {y : Bool} {n : ℕ} {k : Bool} {v : ℕ} {bs rest : List
 is_whole {t = t} {bs = bs} took h enough =
     let says = header_says took in
     let long : ltb (length bs) 52 ≡ false = le-ltb (length bs) 52 (omega (arith, says.len)) in
-    let early : ltb 604799999 (tow_of bs) ≡ false = le-ltb 604799999 (tow_of bs) (omega (arith, says.tow_is)) in
+    let early : ltb 604799999 (tow_in bs) ≡ false = le-ltb 604799999 (tow_in bs) (omega (arith, says.tow_is)) in
     let enough_bits : ltb (length bs) (52 + satellite_bits bs) ≡ false = le-ltb (length bs) (52 + satellite_bits bs) (omega (arith, says.count_is, says.len)) in
     rw (long, early, enough_bits) refl
 

@@ -10,7 +10,8 @@ use crate::layout::Layout;
 use rtk_bits::{BitReader, BitWriter};
 use std::alloc::AllocError;
 
-/// The antenna reference point (ARP) of a station, earth-centred and earth-fixed, and the height of its antenna: 168 bits.
+/// The antenna reference point (ARP) of a station, earth-centred and earth-fixed, and the height of
+/// its antenna: 168 bits.
 ///
 /// Source: RTCM 10403.3, message 1006.
 #[derive(Clone, Copy, Debug, Default, PartialEq, Eq)]

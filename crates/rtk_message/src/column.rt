@@ -12,8 +12,8 @@ use std::marker::Model;
 
 /// Reads a row of `signals` bits for each satellite, satellite by satellite, into an empty mask.
 ///
-/// Where there is no signal the rows have no bits, and each is 0.
-pub fn read_mask(
+/// If there is no signal, the rows have no bits, and each of them is 0.
+pub(crate) fn read_mask(
     mask: &mut Column<u32>,
     reader: &mut BitReader<'_>,
     satellites: usize,
@@ -35,8 +35,8 @@ pub fn read_mask(
     }
 }
 
-/// Puts the rows.
-pub fn put_mask(
+/// Puts the rows of a cell mask.
+pub(crate) fn put_mask(
     writer: &mut BitWriter,
     mask: &Column<u32>,
     signals: usize,
@@ -52,7 +52,7 @@ pub fn put_mask(
 }
 
 /// How many cells the mask has: the bits set in all rows.
-pub fn ones(mask: &Column<u32>) -> u32
+pub(crate) fn ones(mask: &Column<u32>) -> u32
     ensures { result ≡ sum_by count_ones mask.now }
 {
     let mut sum = 0;
@@ -62,7 +62,7 @@ pub fn ones(mask: &Column<u32>) -> u32
     sum
 }
 
-/// One field of each satellite or of each cell, at most 64. A contract sees the list.
+/// One field of each satellite or of each cell, at most 64 of them. A contract sees the list.
 #[derive(Drop)]
 pub struct Column<T> {
     list: ArrayVec<T, 64>,
@@ -89,7 +89,7 @@ impl<T: Copy + Default> Column<T> {
         }
     }
 
-    /// How many there are.
+    /// How many values there are.
     pub fn len(&self) -> usize
         ensures value { result ≡ length self.now }
         ensures few { result ≤ 64 }
@@ -132,15 +132,15 @@ impl<T: Eq> Eq for Column<T> {
     ghost laws = { lists_equiv T.Eq.laws };
 }
 
-// The most bits that are taken at once. With those of their first byte that are taken already, at most
-// 7, they lie in eight bytes, which a reader loads in one step.
+// The most bits that are taken at once. At most 7 bits of their first byte were taken before, so
+// they lie in eight bytes, which a reader loads in one step.
 const AT_ONCE: usize = 57;
 
-/// Reads so many fields of one width into an empty column, as many at once as 57 bits hold.
+/// Reads `count` fields of one width into an empty column, as many at once as 57 bits hold.
 ///
 /// Inlined, so that each column is read by code for its own width.
 #[inline(always)]
-pub fn read_column<T: FieldValue>(
+pub(crate) fn read_column<T: FieldValue>(
     column: &mut Column<T>,
     reader: &mut BitReader<'_>,
     count: usize,
@@ -165,8 +165,8 @@ pub fn read_column<T: FieldValue>(
     }
 }
 
-// Reads so many fields at once to the end of a column: what began with the column's fields and then
-// the reader's bits still does.
+// Reads fields at once, and adds them to a column. The bits that a column was read from begin with
+// its fields, and the reader has those after them: this stays so.
 #[inline(always)]
 fn read_fields<T: FieldValue>(
     column: &mut Column<T>,
@@ -186,8 +186,8 @@ fn read_fields<T: FieldValue>(
     push_fields(column, &mut word, fields, width);
 }
 
-// Moves so many fields from a word to the end of a column: what has begun with the column's fields
-// and then the word still does.
+// Takes fields from a word, and adds them to a column. The bits that a column was read from begin
+// with its fields, and the word has those after them: this stays so.
 #[inline(always)]
 fn push_fields<T: FieldValue>(column: &mut Column<T>, word: &mut Word, fields: usize, width: usize)
     requires room { length column.old + fields ≤ 64 }
@@ -203,8 +203,8 @@ fn push_fields<T: FieldValue>(column: &mut Column<T>, word: &mut Word, fields: u
     }
 }
 
-/// Puts a field of one width for each value.
-pub fn put_column<T: FieldValue>(
+/// Puts each value of the column as a field of this width.
+pub(crate) fn put_column<T: FieldValue>(
     writer: &mut BitWriter,
     column: &Column<T>,
     width: usize,
@@ -221,7 +221,7 @@ pub fn put_column<T: FieldValue>(
 }
 
 /// Whether each value fits the width.
-pub fn column_fits<T: FieldValue>(column: &Column<T>, width: usize) -> bool
+pub(crate) fn column_fits<T: FieldValue>(column: &Column<T>, width: usize) -> bool
     requires width { T.IsWidth width }
     ensures { IsTrue result ↔ FieldsFit (map (T.field width) column.now) }
 {

@@ -1,4 +1,5 @@
 //! From the bytes of a payload to its message.
+
 ghost use Rattle.std.specs.Prelude.{◌≡◌, Some, Option, IfOk, IfErr};
 ghost use Rattle.rtk_bits.specs.Bits.{bits};
 ghost use Rattle.rtk_message.specs.declared.message.Message.{Message};
@@ -15,7 +16,7 @@ use rtk_bits::BitReader;
 
 /// The message that the payload begins with, or the first fault in the order of `DecodeFault`.
 ///
-/// Bits after the last field are no part of the message. Nothing is allocated.
+/// Bits after the last field are not part of the message. No memory is allocated.
 #[inline(never)]
 pub fn decode(payload: &[u8]) -> Result<Message, DecodeFault>
     ensures { Decodes (bits payload.now) result }
@@ -34,9 +35,10 @@ pub fn decode(payload: &[u8]) -> Result<Message, DecodeFault>
     }
 }
 
-// Each type has a function of its own. None of these functions is inlined: a function clears the room
-// of its locals when it is called, here that of one message, and a function that is not inlined writes
-// its result where its caller wants it, which saves moves of a thousand bytes.
+// Each type has a function of its own, and no one of them is inlined. A function clears the memory
+// of its locals when it is called, which is here the memory of one message only. And a function
+// that is not inlined writes its result where its caller wants it, which saves moves of a thousand
+// bytes.
 #[inline(never)]
 fn read_1004(mut reader: BitReader<'_>) -> Result<Message, DecodeFault>
     ensures message { IfOk result (λ m. BeginsAfterNumber 1004 reader.entry m) }

@@ -1,4 +1,5 @@
 //! From a message to the bytes of its payload, and back again.
+
 ghost use Rattle.std.specs.Prelude.{◌≡◌, ◌<◌, ◌∷◌, ◌++◌, OnOk, IfOk, Ok, List, ℕ, Result};
 ghost use Rattle.rtk_bits.specs.Bits.{bits};
 ghost use Rattle.rtk_message.specs.Fields.{u, bits_of_fields};
@@ -12,7 +13,8 @@ use crate::message::Message;
 use rtk_bits::BitWriter;
 use std::alloc::{AllocError, Global};
 
-/// The message's fields, with zero bits up to a whole byte. An `Err` is want of memory.
+/// The bits of the message's fields, with zero bits up to a whole byte. An `Err` means that memory
+/// was refused.
 pub fn encode(alloc: Global, message: &Message) -> Result<Vec<u8>, AllocError>
     requires { IsValid message.now }
     ensures { IfOk result (λ payload. IsPayloadOf message.now payload.items) }
@@ -27,7 +29,7 @@ pub fn encode(alloc: Global, message: &Message) -> Result<Vec<u8>, AllocError>
     Ok(writer.finish())
 }
 
-// The number and the fields after it, by the clauses of `Layout` alone.
+// Puts the number and the fields after it. The proof uses only the clauses of `Layout`.
 fn write_as<T: Layout>(writer: &mut BitWriter, message: &T) -> Result<(), AllocError>
     requires number { T.NUMBER < 4096 }
     requires valid { T.IsValid message.now }
@@ -38,7 +40,7 @@ fn write_as<T: Layout>(writer: &mut BitWriter, message: &T) -> Result<(), AllocE
     Ok(())
 }
 
-/// A law: what `encode` gives of a message, `decode` reads as this message.
+/// A law: if `encode` writes a message, `decode` reads the same message from these bytes.
 pub fn decode_of_encode()
     ensures { (m : Message) (payload : List ℕ) (r : Result Message DecodeFault) → IsValid m → IsPayloadOf m payload → Decodes (bits payload) r → r ≡ Ok m }
 {}

@@ -2,18 +2,19 @@
 
 use thiserror::Error;
 
-/// Why a payload is not read as a message: the first cause that holds, in this order, but that the
-/// end of the payload is looked for twice: after the fixed part before the time of week, and after
-/// the rest after the cell mask.
+/// Why a payload is not read as a message: the first cause that holds, in this order. Only `Short`
+/// is tested twice: for the fixed part before the time of week is looked at, and for the rest after
+/// the cell mask is looked at.
 ///
-/// The fixed part is the header of a 1004 (64 bits) or of a 1074 (169 bits), and the whole of a 1005
-/// (152 bits) or a 1006 (168 bits). Source: RTCM 10403.3, data fields DF002, DF004 and DF394 to DF396.
+/// The fixed part is the header of a 1004 (64 bits) or of a 1074 (169 bits), and the whole of a
+/// 1005 (152 bits) or a 1006 (168 bits). Source: RTCM 10403.3, data fields DF002, DF004 and DF394
+/// to DF396.
 #[derive(Clone, Copy, Debug, PartialEq, Eq, Error)]
 pub enum DecodeFault {
     /// The payload has fewer than 12 bits, so there is no message number (DF002).
     #[error("M1 no message number")]
     NoNumber,
-    /// The message number (DF002, 0 to 4095) is none that this decoder reads.
+    /// This decoder reads no message of this number (DF002, 0 to 4095).
     #[error("M2 message {number} is not read")]
     Other { number: u16 },
     /// The payload ends before the last field of the message's table.

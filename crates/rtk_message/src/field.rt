@@ -8,16 +8,17 @@ use rtk_bits::{BitReader, BitWriter};
 use std::alloc::AllocError;
 use std::marker::Model;
 
-/// At most 64 bits, and the fields read from them. A contract sees the bits that are not read yet.
+/// At most 64 bits, from which fields are read. A contract sees the bits that are not read yet.
 ///
-/// One load serves all fields that lie in these bits: each then costs a shift and a mask.
+/// The bits are loaded once for all fields that lie in them: each field then costs a shift and a
+/// mask.
 #[derive(Drop)]
-pub struct Word {
+pub(crate) struct Word {
     bits: u64,
     left: usize,
 }
 
-// Clauses see the low bits of the number, as many as are left.
+// Clauses see the bits that are left: the low bits of the number.
 impl Model for Word {
     ghost use Rattle.std.specs.Prelude.{List, Bool, ◌≤◌};
     ghost use Rattle.rtk_bits.specs.Bits.{bits_of};
@@ -29,8 +30,8 @@ impl Model for Word {
     ghost invariant = { λ w. w.left ≤ 64 };
 }
 
-/// Takes the next bits.
-pub fn next_word(reader: &mut BitReader<'_>, width: usize) -> Word
+/// Takes the next `width` bits.
+pub(crate) fn next_word(reader: &mut BitReader<'_>, width: usize) -> Word
     requires width { (1 ≤ width) × (width ≤ 64) }
     requires enough { width ≤ length reader.old }
     ensures bits { reader.old ≡ result ++ reader.new }
@@ -45,7 +46,7 @@ pub fn next_word(reader: &mut BitReader<'_>, width: usize) -> Word
 
 impl Word {
     /// The next unsigned field.
-    pub fn next_u64(&mut self, width: usize) -> u64
+    pub(crate) fn next_u64(&mut self, width: usize) -> u64
         requires width { (1 ≤ width) × (width ≤ 64) }
         requires enough { width ≤ length self.old }
         ensures taken { TakesField (u width result) self.old self.new }
@@ -56,7 +57,7 @@ impl Word {
     }
 
     /// The next unsigned field of at most 32 bits.
-    pub fn next_u32(&mut self, width: usize) -> u32
+    pub(crate) fn next_u32(&mut self, width: usize) -> u32
         requires width { (1 ≤ width) × (width ≤ 32) }
         requires enough { width ≤ length self.old }
         ensures taken { TakesField (u width result) self.old self.new }
@@ -66,7 +67,7 @@ impl Word {
     }
 
     /// The next unsigned field of at most 16 bits.
-    pub fn next_u16(&mut self, width: usize) -> u16
+    pub(crate) fn next_u16(&mut self, width: usize) -> u16
         requires width { (1 ≤ width) × (width ≤ 16) }
         requires enough { width ≤ length self.old }
         ensures taken { TakesField (u width result) self.old self.new }
@@ -76,7 +77,7 @@ impl Word {
     }
 
     /// The next unsigned field of at most 8 bits.
-    pub fn next_u8(&mut self, width: usize) -> u8
+    pub(crate) fn next_u8(&mut self, width: usize) -> u8
         requires width { (1 ≤ width) × (width ≤ 8) }
         requires enough { width ≤ length self.old }
         ensures taken { TakesField (u width result) self.old self.new }
@@ -86,7 +87,7 @@ impl Word {
     }
 
     /// The next field of one bit.
-    pub fn next_flag(&mut self) -> bool
+    pub(crate) fn next_flag(&mut self) -> bool
         requires { 1 ≤ length self.old }
         ensures taken { TakesField (flag result) self.old self.new }
         ensures left { length self.old ≡ 1 + length self.new }
@@ -95,7 +96,7 @@ impl Word {
     }
 
     /// The next two's complement field.
-    pub fn next_i64(&mut self, width: usize) -> i64
+    pub(crate) fn next_i64(&mut self, width: usize) -> i64
         requires width { (1 ≤ width) × (width ≤ 63) }
         requires enough { width ≤ length self.old }
         ensures taken { TakesField (i width result) self.old self.new }
@@ -105,7 +106,7 @@ impl Word {
     }
 
     /// The next two's complement field of at most 32 bits.
-    pub fn next_i32(&mut self, width: usize) -> i32
+    pub(crate) fn next_i32(&mut self, width: usize) -> i32
         requires width { (1 ≤ width) × (width ≤ 32) }
         requires enough { width ≤ length self.old }
         ensures taken { TakesField (i width result) self.old self.new }
@@ -115,7 +116,7 @@ impl Word {
     }
 
     /// The next two's complement field of at most 16 bits.
-    pub fn next_i16(&mut self, width: usize) -> i16
+    pub(crate) fn next_i16(&mut self, width: usize) -> i16
         requires width { (1 ≤ width) × (width ≤ 16) }
         requires enough { width ≤ length self.old }
         ensures taken { TakesField (i width result) self.old self.new }
@@ -125,7 +126,7 @@ impl Word {
     }
 }
 
-// The two's complement number of so many bits.
+// The two's complement number that the `width` bits spell.
 fn signed_of(bits: u64, width: usize) -> i64
     requires width { (1 ≤ width) × (width ≤ 63) }
     requires bits { bits < 2 ^ width }
@@ -141,8 +142,8 @@ fn signed_of(bits: u64, width: usize) -> i64
 }
 
 /// A type whose values are fields of a column.
-pub trait FieldValue: Copy + Default {
-    /// The field of so many bits with this value.
+pub(crate) trait FieldValue: Copy + Default {
+    /// The field of this width with this value.
     ghost field: { ℕ → Self → Field };
 
     /// The widths that a field of this type may have.
@@ -295,11 +296,11 @@ impl FieldValue for bool {
     }
 }
 
-/// Milliseconds of a week: a time of week (DF004) is less.
+/// The milliseconds of a week. A time of week (DF004) is less.
 pub const WEEK_MS: u32 = 604_800_000;
 
 /// Puts an unsigned field.
-pub fn put_u(writer: &mut BitWriter, width: usize, value: u64) -> Result<(), AllocError>
+pub(crate) fn put_u(writer: &mut BitWriter, width: usize, value: u64) -> Result<(), AllocError>
     requires { (1 ≤ width) × (width ≤ 64) × (value < 2 ^ width) }
     ensures { OnOk result (Puts (u width value) writer.old writer.new) }
 {
@@ -308,7 +309,7 @@ pub fn put_u(writer: &mut BitWriter, width: usize, value: u64) -> Result<(), All
 }
 
 /// Puts a two's complement field.
-pub fn put_i64(writer: &mut BitWriter, width: usize, value: &i64) -> Result<(), AllocError>
+pub(crate) fn put_i64(writer: &mut BitWriter, width: usize, value: &i64) -> Result<(), AllocError>
     requires width { (1 ≤ width) × (width ≤ 64) }
     requires value { FitsSigned width value.now }
     ensures { OnOk result (Puts (i width value.now) writer.old writer.new) }
@@ -318,7 +319,7 @@ pub fn put_i64(writer: &mut BitWriter, width: usize, value: &i64) -> Result<(), 
 }
 
 /// Puts a two's complement field.
-pub fn put_i32(writer: &mut BitWriter, width: usize, value: &i32) -> Result<(), AllocError>
+pub(crate) fn put_i32(writer: &mut BitWriter, width: usize, value: &i32) -> Result<(), AllocError>
     requires width { (1 ≤ width) × (width ≤ 64) }
     requires value { FitsSigned width value.now }
     ensures { OnOk result (Puts (i width value.now) writer.old writer.new) }
@@ -328,7 +329,7 @@ pub fn put_i32(writer: &mut BitWriter, width: usize, value: &i32) -> Result<(), 
 }
 
 /// Puts a two's complement field.
-pub fn put_i16(writer: &mut BitWriter, width: usize, value: &i16) -> Result<(), AllocError>
+pub(crate) fn put_i16(writer: &mut BitWriter, width: usize, value: &i16) -> Result<(), AllocError>
     requires width { (1 ≤ width) × (width ≤ 64) }
     requires value { FitsSigned width value.now }
     ensures { OnOk result (Puts (i width value.now) writer.old writer.new) }
@@ -338,15 +339,15 @@ pub fn put_i16(writer: &mut BitWriter, width: usize, value: &i16) -> Result<(), 
 }
 
 /// Puts a field of one bit.
-pub fn put_flag(writer: &mut BitWriter, value: bool) -> Result<(), AllocError>
+pub(crate) fn put_flag(writer: &mut BitWriter, value: bool) -> Result<(), AllocError>
     ensures { OnOk result (Puts (flag value) writer.old writer.new) }
 {
     writer.put_u(1, value as u64)?;
     Ok(())
 }
 
-/// Whether a number fits so many bits.
-pub fn fits_u(value: u64, width: usize) -> bool
+/// Whether a number fits an unsigned field of this width.
+pub(crate) fn fits_u(value: u64, width: usize) -> bool
     requires { width ≤ 63 }
     ensures { IsTrue result ↔ (value < 2 ^ width) }
 {
@@ -356,8 +357,8 @@ pub fn fits_u(value: u64, width: usize) -> bool
     true
 }
 
-/// Whether a number fits so many bits of two's complement.
-pub fn fits_i(value: i64, width: usize) -> bool
+/// Whether a number fits a two's complement field of this width.
+pub(crate) fn fits_i(value: i64, width: usize) -> bool
     requires { (1 ≤ width) × (width ≤ 64) }
     ensures { IsTrue result ↔ FitsSigned width value }
 {

@@ -1,4 +1,6 @@
-//! What each message type keeps: its bits are the fields of its table, and nothing else is used.
+//! What holds for each message type: its bits are the fields of its table, and nothing else is
+//! used.
+
 ghost use Rattle.std.specs.Prelude.{◌≡◌, ℕ, ◌++◌, Bool, List, Option, Some, None, IfErr, OnOk, IsTrue, ◌↔◌};
 ghost use Rattle.rtk_message.specs.Fields.{Field, bits_of_fields, TakesAll};
 ghost use Rattle.rtk_message.specs.declared.fault.DecodeFault.{DecodeFault};
@@ -17,11 +19,12 @@ pub trait Layout: Sized {
     /// The fields after the number, in the order of the standard.
     ghost table: { Self → List Field };
 
-    /// Which values have bits: each field fits its width, the time of week is less than 604,800,000
-    /// ms, a cell mask has at most 64 bits, and the lists have the lengths that counts and masks give.
+    /// Which values can be written as bits: each field fits its width, the time of week is less
+    /// than 604,800,000 ms, a cell mask has at most 64 bits, and the lists have the lengths that
+    /// counts and masks give.
     ghost IsValid: { Self → Type 0 };
 
-    /// The first cause for which bits after the number begin with no such message.
+    /// The first cause why bits, which are those after the number, don't begin with such a message.
     ghost first_fault: { List Bool → Option DecodeFault };
 
     /// Which values have no satellites and no cells.
@@ -33,19 +36,20 @@ pub trait Layout: Sized {
 
     /// Reads the fields after the number into an empty message.
     ///
-    /// In place, since a message of a thousand bytes is slow to move. After an `Err` nothing is said
-    /// of the message, and the reader stands somewhere in the fields.
+    /// It reads in place, since a message of a thousand bytes is slow to move. After an `Err` the
+    /// message may have any value, and the reader stands somewhere in the fields.
     fn read(&mut self, reader: &mut BitReader<'_>) -> Result<(), DecodeFault>
         requires { IsEmpty self.old }
         ensures fields { OnOk result (IsValid self.new × TakesAll (table self.new) reader.old reader.new) }
         ensures fault { IfErr result (λ f. first_fault reader.old ≡ Some f) };
 
-    /// Puts the fields after the number. An `Err` is want of memory, after some of them.
+    /// Puts the fields after the number. An `Err` means that memory was refused; some of the fields
+    /// may have been put before.
     fn write(&self, writer: &mut BitWriter) -> Result<(), AllocError>
         requires { IsValid self.now }
         ensures { OnOk result (writer.new ≡ writer.old ++ bits_of_fields (table self.now)) };
 
-    /// Whether the value has bits.
+    /// Whether the value can be written as bits.
     fn fits(&self) -> bool
         ensures { IsTrue result ↔ IsValid self.now };
 

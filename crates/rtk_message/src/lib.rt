@@ -1,4 +1,29 @@
-//! Messages of a base station: 1004, 1005, 1006 and 1074 of RTCM 10403.3, by their tables of fields.
+//! Messages of a base station, by their tables of fields: 1004, 1005, 1006 and 1074 of RTCM
+//! 10403.3.
+//!
+//! Its tests: crates/rtk_tests_input/src/message.rt and the folder message.
+//!
+//! ```rust
+//! use rtk_message::{Arp1005, Message, decode, encode};
+//! use std::alloc::{AllocError, Global};
+//!
+//! // A 1005 of station 2003, written and read back.
+//! fn example(alloc: Global) -> Result<bool, AllocError> {
+//!     let message = Message::Arp1005(Arp1005 {
+//!         station: 2003,
+//!         ..Arp1005::default()
+//!     });
+//!     if !message.fits() {
+//!         return Ok(false);
+//!     }
+//!     let payload = encode(alloc, &message)?;
+//!     match decode(payload.as_slice()) {
+//!         Ok(read) => Ok(read.station() == 2003),
+//!         Err(_) => Ok(false),
+//!     }
+//! }
+//! ```
+
 #![tactic(auto)]
 
 mod arp1005;

@@ -1,4 +1,5 @@
 //! A message of any of the four types.
+
 ghost use Rattle.std.specs.Prelude.{◌≡◌, IsTrue, ◌↔◌};
 ghost use Rattle.rtk_message.specs.declared.message.Message.{Message};
 ghost use Rattle.rtk_message.specs.Decoded.{IsValid, station_of, number_of, tow_of};
@@ -23,8 +24,9 @@ pub enum Message {
 }
 
 impl Message {
-    /// Whether the message has bits: each field fits its width, list lengths agree with counts and
-    /// masks, the time of week is less than 604,800,000 ms, the cell mask has at most 64 bits.
+    /// Whether the message can be written as bits: each field fits its width, list lengths agree
+    /// with counts and masks, the time of week is less than 604,800,000 ms, and the cell mask has
+    /// at most 64 bits.
     pub fn fits(&self) -> bool
         ensures { IsTrue result ↔ IsValid self.now }
     {
@@ -60,7 +62,8 @@ impl Message {
         }
     }
 
-    /// The GPS time of week (DF004) in ms. `None` exactly for 1005 and 1006, which have no time.
+    /// The GPS time of week (DF004) in ms. It is `None` exactly for 1005 and 1006, which have no
+    /// time.
     pub fn tow(&self) -> Option<u32>
         ensures { result ≡ tow_of self.now }
     {

@@ -12,7 +12,7 @@ use crate::layout::Layout;
 use rtk_bits::{BitReader, BitWriter};
 use std::alloc::AllocError;
 
-/// The fields of a 1074 before its cell mask: 169 bits with the number.
+/// The fields of a 1074 before its cell mask: 169 bits, the message number included.
 ///
 /// The first bit of a mask is its most significant one and stands for identifier 1.
 #[derive(Clone, Copy, Debug, Default, PartialEq, Eq)]
@@ -41,11 +41,12 @@ pub struct MsmHeader {
     pub signal_mask: u32,
 }
 
-/// Multiple signal message 4 of GPS: each field for all satellites, or for all cells, before the
-/// next field.
+/// Multiple signal message 4 of GPS. Each field is given for all satellites, or for all cells,
+/// before the next field.
 ///
-/// Satellites and signals rise, as their masks do. Cells go satellite by satellite, the signals
-/// rising within each. Source: RTCM 10403.3, message 1074.
+/// The satellites are in rising order, as in their mask, and so are the signals. The cells go
+/// satellite by satellite, and for each satellite the signals rise. Source: RTCM 10403.3, message
+/// 1074.
 #[derive(Drop, PartialEq, Eq)]
 pub struct Msm1074 {
     /// The fields before the cell mask.
@@ -53,19 +54,20 @@ pub struct Msm1074 {
     /// Cell mask (DF396): for each satellite of the mask a row of one bit for each signal of the
     /// mask, the first signal in the most significant of these bits.
     pub cell_mask: Column<u32>,
-    /// For each satellite whole milliseconds of the rough range (DF397); 255 is invalid.
+    /// For each satellite the whole milliseconds of the rough range (DF397); 255 is invalid.
     pub rough_ms: Column<u8>,
     /// For each satellite the rest of the rough range (DF398), in 2^-10 ms, 10 bits.
     pub rough_fraction: Column<u16>,
     /// For each cell the fine pseudorange (DF400), in 2^-24 ms, 15 bits signed; -16384 is invalid.
     pub fine_range: Column<i16>,
-    /// For each cell the fine phase range (DF401), in 2^-29 ms, 22 bits signed; -2097152 is invalid.
+    /// For each cell the fine phase range (DF401), in 2^-29 ms, 22 bits signed; -2097152 is
+    /// invalid.
     pub fine_phase: Column<i32>,
     /// For each cell the lock time indicator (DF402), 0 to 15.
     pub lock_indicator: Column<u8>,
     /// For each cell whether there is a half-cycle ambiguity (DF420).
     pub half_cycle: Column<bool>,
-    /// For each cell the carrier-to-noise ratio (DF403), in dB-Hz, 0 to 63; 0 is not given.
+    /// For each cell the carrier-to-noise ratio (DF403), in dB-Hz, 0 to 63; 0 if it is not given.
     pub cnr: Column<u8>,
 }
 
@@ -104,7 +106,7 @@ impl MsmHeader {
         Ok(())
     }
 
-    // Whether each field fits, and the time of week is one.
+    // Whether each field fits, and the time of week lies in a week.
     fn fits(self) -> bool
         ensures { IsTrue result ↔ (FieldsFit (header_table self) × (self.tow < 604800000)) }
     {
@@ -142,7 +144,7 @@ fn next_header(reader: &mut BitReader<'_>) -> MsmHeader
     }
 }
 
-// Whether the cell mask of so many satellites and signals would have more than 64 bits.
+// Whether the cell mask of these satellites and signals would have more than 64 bits.
 fn has_too_many_cells(satellites: usize, signals: usize) -> bool
     requires few { (satellites ≤ 64) × (signals ≤ 32) }
     ensures { IsTrue result ↔ (64 < satellites * signals) }

@@ -13,7 +13,7 @@ use rtk_bits::{BitReader, BitWriter};
 use std::alloc::AllocError;
 use std::marker::Model;
 
-/// Extended L1 and L2 GPS observations of one epoch: 64 bits and 125 for each satellite.
+/// Extended L1 and L2 GPS observations of one epoch: 64 bits, and 125 bits for each satellite.
 ///
 /// The count of satellites (DF006) is the length of the list. Source: RTCM 10403.3, message 1004.
 #[derive(Drop, PartialEq, Eq)]
@@ -218,7 +218,7 @@ pub struct Satellite {
     pub l1_lock_indicator: u8,
     /// Whole units of 299,792.458 m in the L1 pseudorange (DF014).
     pub modulus_ambiguity: u8,
-    /// L1 carrier-to-noise ratio (DF015), in 0.25 dB-Hz; 0 is not given.
+    /// L1 carrier-to-noise ratio (DF015), in 0.25 dB-Hz; 0 if it is not given.
     pub l1_cnr: u8,
     /// L2 code indicator (DF016), 0 to 3.
     pub l2_code: u8,
@@ -228,11 +228,11 @@ pub struct Satellite {
     pub l2_phase_difference: i32,
     /// L2 lock time indicator (DF019), 0 to 127.
     pub l2_lock_indicator: u8,
-    /// L2 carrier-to-noise ratio (DF020), in 0.25 dB-Hz; 0 is not given.
+    /// L2 carrier-to-noise ratio (DF020), in 0.25 dB-Hz; 0 if it is not given.
     pub l2_cnr: u8,
 }
 
-/// The satellites of a 1004 in their order, at most 31. A contract sees the list.
+/// The satellites of a 1004 in their order, at most 31 of them. A contract sees the list.
 #[derive(Drop)]
 pub struct Satellites {
     list: ArrayVec<Satellite, 31>,
@@ -260,7 +260,7 @@ impl Satellites {
         }
     }
 
-    /// How many there are.
+    /// How many satellites there are.
     pub fn len(&self) -> usize
         ensures value { result ≡ length self.now }
         ensures few { result ≤ 31 }

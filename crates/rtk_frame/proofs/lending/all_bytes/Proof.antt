@@ -1,4 +1,5 @@
--- `all_bytes` shares what `all_bytes_mut` lends, for as long as the ring was lent: the slice ends at the bytes that it shows, and so the ring as it was.
+-- `all_bytes` shares what `all_bytes_mut` lends, for as long as the ring is lent: the slice ends
+-- with the bytes that it shows, and so the ring ends as it was.
 use mathlib.Core.Path.{◌≡◌, refl, ap}
 use mathlib.Core.List.{List, [], ◌∷◌}
 use mathlib.Core.Option.{none}
@@ -81,7 +82,8 @@ all_bytes_spec 𝓤 𝓛 𝓜 𝓡 wired =
     use2 𝓛 (later (‵ ((owned.ShrSlice erased κ u8).own_val back) ⊛ (‵ (finally u8 r.ghost_name r.now) ⊛ ‵ (flft κ q))))
     (sl_Share 𝓛 u8 r.ref_ptr.0 r.ref_ptr.1 r.ghost_name r.now shared.shr_laws κ q (Shares-less 𝓛 u8 [] κ (⊑_static κ) (shared.shares _ 𝓤 𝓛))) $
     await ! tt $ split ! $ move ! (1 ∷ []) $ split ! $
-    -- [how the slice ends; the token; what the shared slice owns; nothing; what `all_bytes_mut` says]
+    -- [how the slice ends; the token; what the shared slice owns; nothing; what `all_bytes_mut`
+    -- says]
     move ! (4 ∷ []) $ pick ! (λ ws. split ! $ drop ! $ split ! $ move ! (1 ∷ []) $ split ! $
     heard ! (r.now ≡ s.now.items) (λ value. heard ! (with_bytes s.now r.now ≡ s.now) (λ same.
     use2 𝓛 (‵ (fres s.ghost_name (ring_row.coded.code (with_bytes s.now r.now)))) (followed_slice 𝓛 ring_row u8 (with_bytes s.now) s.ghost_name r.ghost_name r.now) $
