@@ -10,7 +10,7 @@ use Rattle.rtk_obs.specs.Cell.{IsSatellite, IsInRange}
 use Rattle.rtk_obs.specs.declared.cell.CellEntry.{CellEntry}
 use Rattle.rtk_obs.specs.declared.cell.CellSource.TheVariants.{Legacy}
 use Rattle.rtk_obs.specs.declared.code.Code.TheVariants.{C1C}
-use Rattle.rtk_collect.specs.declared.offer.SatelliteCode.{SatelliteCode}
+use Rattle.rtk_collect.specs.declared.conflicts.SatelliteCode.{SatelliteCode}
 use Rattle.std.specs.Prelude.{◌*◌, not}
 use Rattle.rtk_obs.specs.Code.{place_of}
 use Rattle.rtk_collect.specs.Equal.{equal_cells}

@@ -8,7 +8,7 @@ use Rattle.rtk_message.specs.Decoded.{number_of, IsValid}
 use Rattle.rtk_obs.specs.declared.cell.Cell.{Cell}
 use Rattle.rtk_obs.specs.declared.cell.CellEntry.{CellEntry}
 use Rattle.rtk_obs.specs.declared.code.Code.{Code}
-use Rattle.rtk_collect.specs.declared.offer.SatelliteCode.{SatelliteCode}
+use Rattle.rtk_collect.specs.declared.conflicts.SatelliteCode.{SatelliteCode}
 use Rattle.rtk_collect.specs.declared.offer.Offer.TheVariants.{Taken}
 use Rattle.rtk_collect.specs.Key.{key, KeysRise}
 use Rattle.rtk_collect.specs.Search.{EpochsFall}

@@ -5,8 +5,8 @@ ghost use Rattle.rtk_obs.specs.Cell.{IsInRange};
 ghost use Rattle.rtk_collect.specs.Key.{KeysRise};
 ghost use Rattle.rtk_collect.specs.EpochSet.{joined, fresh, conflicts};
 
+use crate::conflicts::{Conflicts, Joined};
 use crate::merging::{compare, interleave, merge, rises};
-use crate::offer::Conflicts;
 use rtk_obs::{CellEntry, GpsMs};
 use std::alloc::{AllocError, Global};
 use std::marker::Model;
@@ -33,13 +33,6 @@ impl Model for EpochSet {
     ghost view = { λ s. record { epoch = s.epoch; cells = s.cells.items } };
 
     ghost invariant = { λ s. KeysRise s.cells.items × All IsInRange s.cells.items };
-}
-
-/// How many cells of a message were new, and which conflict.
-#[derive(Drop)]
-pub(crate) struct Joined {
-    pub(crate) fresh: usize,
-    pub(crate) conflicts: Conflicts,
 }
 
 impl EpochSet {

@@ -2,17 +2,18 @@
 #![tactic(auto)]
 
 mod collector;
+mod conflicts;
 mod dated;
 mod epoch_set;
 mod laws;
 mod left;
 mod merging;
 mod offer;
-mod open_epochs;
 mod stations;
 mod window;
 
 pub use collector::Collector;
+pub use conflicts::{Conflicts, SatelliteCode};
 pub use dated::Dated;
 pub use epoch_set::EpochSet;
 pub use laws::{
@@ -20,4 +21,4 @@ pub use laws::{
     late_arrivals_change_nothing, openings_do_not_conflict, set_decides, stations_are_final,
 };
 pub use left::Left;
-pub use offer::{Conflicts, Offer, SatelliteCode};
+pub use offer::Offer;

@@ -5,8 +5,7 @@ ghost use Rattle.rtk_collect.specs.Key.{key, KeysRise};
 ghost use Rattle.rtk_collect.specs.EpochSet.{with_cell, with_cells, cell_under, fresh, conflict, conflicts};
 ghost use Rattle.rtk_collect.specs.Search.{lower};
 
-use crate::epoch_set::Joined;
-use crate::offer::{Conflicts, SatelliteCode};
+use crate::conflicts::{Conflicts, Joined, SatelliteCode};
 use rtk_obs::{CellEntry, CellSource};
 
 // The place of a cell in the order of an epoch: by satellite, code and kind of message.

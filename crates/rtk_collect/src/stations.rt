@@ -8,7 +8,8 @@ ghost use Rattle.rtk_obs.specs.PositionFields.{HasFields};
 ghost use Rattle.rtk_collect.specs.Position.{IsPosition};
 ghost use Rattle.rtk_collect.specs.Slot.{AnswersStationMessage};
 
-use crate::offer::{Conflicts, Offer};
+use crate::conflicts::Conflicts;
+use crate::offer::Offer;
 use rtk_message::{Arp1005, Arp1006};
 use rtk_obs::Position;
 
