@@ -119,7 +119,7 @@ pub room-new : (cells kept all : List CellEntry) (c : CellEntry) (more held : Li
     → length all < cap
 room-new cells kept all c more held found cap m h = let one : fresh (c ∷ more) held ≡ suc (fresh more held) = rw (first-none c held h m.rises) refl in omega (arith, m.room, one)
 
--- all that is kept stands behind the last cell that joins
+-- all that is kept stands after the last cell that joins
 pub merges-all : (cells kept all held : List CellEntry) (found : List SatelliteCode) (cap : ℕ) → Merges cells kept all [] held found cap
     → (all ++ held ≡ with_cells cells kept) × (found ≡ conflicts cells kept) × (length all + length held ≤ cap)
 merges-all cells kept all held found cap m = (m.items, sym (append-nil found) ∙ m.conflicts, omega (arith, m.room))

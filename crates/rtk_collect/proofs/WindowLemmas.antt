@@ -10,19 +10,19 @@ use Rattle.rtk_obs.specs.declared.cell.CellEntry.{CellEntry}
 use Rattle.rtk_collect.specs.declared.conflicts.SatelliteCode.{SatelliteCode}
 use Rattle.rtk_collect.specs.declared.offer.Offer.{Offer}
 use Rattle.rtk_collect.specs.declared.offer.Offer.TheVariants.{Taken, Conflict, Repeat, Late}
-use Rattle.rtk_collect.specs.EpochSet.{EpochSetView, joined, fresh, conflicts}
+use Rattle.rtk_collect.specs.EpochSet.{EpochSetView, joined, fresh, conflicts, EpochsFall}
 use Rattle.rtk_collect.specs.Arrival.{Arrival, At, cells_of}
 use Rattle.rtk_collect.specs.Accepted.{with_arrival, kept, cells_at, closed}
 use Rattle.rtk_collect.specs.Late.{epochs}
-use Rattle.rtk_collect.specs.Search.{EpochsFall, leading}
+use Rattle.rtk_collect.specs.Steps.Search.{leading}
 use Rattle.rtk_collect.specs.Answer.{IsRightAnswer, TakenClass, RepeatClass, ConflictClass, class_of_cells, class_of}
-use Rattle.rtk_collect.specs.Observed.{IsAnswerOf, AddsCells}
+use Rattle.rtk_collect.specs.Steps.Observed.{IsAnswerOf, AddsCells}
 use Rattle.rtk_collect.specs.Offered.{ClosesBelow, ClosesLeast, NotBelow}
 use Rattle.rtk_collect.proofs.ArrivalsLemmas.{leadingN, late-false, sets-open, found-cells, absent-cells, opened, with_arrival-new, with_arrival-below, with_arrival-same}
 use Rattle.rtk_collect.proofs.JoinsLemmas.{leading-length, kept-found, kept-none, offer-late, parts, whole}
 use Rattle.rtk_collect.proofs.OffersLemmas.{length-insert, class-is, OpenStep, open-step, OpenParts, open-parts, NewStep, new-step, NewParts, new-parts, class-late, cells-taken, cells-stale, by-none, by-some}
 
--- each epoch is at least so great
+-- each epoch is at least e
 abbrev AtLeast : ℕ → List EpochSetView → Type 0
 AtLeast e xs = AllByRecursion (λ (x : EpochSetView). e ≤ x.epoch) xs
 
@@ -107,7 +107,7 @@ open-least n count found (Taken (Some s) listed) sets a = let q = a.1 in cc
 open-least n count found (Conflict listed) sets a = tt
 open-least n count found Repeat sets a = tt
 
--- where memory is refused
+-- if memory is refused
 
 -- some cell of a message is new in an epoch of the window
 pub fresh-taken : (n e at : ℕ) (cs : List CellEntry) (d : EpochSetView) (sets : List EpochSetView) → length sets ≤ n → at ≡ leading e sets → at < length sets → (get_or sets at d).epoch ≡ e

@@ -14,7 +14,7 @@ pub struct SatelliteCode {
     pub code: Code,
 }
 
-/// Satellites and codes of the cells of one message, in its order, at most 64. A contract sees the list.
+/// Satellites and codes of the cells of one message, in its order, at most 64.
 #[derive(Drop)]
 pub struct Conflicts {
     list: ArrayVec<SatelliteCode, 64>,
@@ -33,7 +33,7 @@ impl Model for Conflicts {
 }
 
 impl Conflicts {
-    /// None.
+    /// The empty list.
     pub(crate) fn new() -> Conflicts
         ensures { result ≡ [] }
     {
@@ -42,14 +42,14 @@ impl Conflicts {
         }
     }
 
-    /// Whether there is none.
-    pub fn is_empty(&self) -> bool
+    /// Whether the list is empty.
+    pub(crate) fn is_empty(&self) -> bool
         ensures { IsTrue result ↔ (self.now ≡ []) }
     {
         self.list.len() == 0
     }
 
-    /// Those cells, in the order of the message.
+    /// The satellites and codes, in the order of the message.
     pub fn as_slice(&self) -> &[SatelliteCode]
         ensures value { result.now ≡ self.now }
         ensures few { length result.now ≤ 64 }
@@ -57,7 +57,7 @@ impl Conflicts {
         self.list.as_slice()
     }
 
-    /// Adds one behind the others.
+    /// Adds one after the others.
     pub(crate) fn push(&mut self, cell: SatelliteCode)
         requires { length self.old < 64 }
         ensures { self.new ≡ self.old ++ cell ∷ [] }

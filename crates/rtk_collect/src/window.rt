@@ -3,10 +3,10 @@
 ghost use Rattle.std.specs.Prelude.{◌≡◌, ◌≢◌, ◌<◌, ◌≤◌, ◌+◌, ◌++◌, [], not, min, IsTrue, length, IfOk, OnErr, OnOk, All, slice_index_or, slice_set, option_to_list};
 ghost use Rattle.std.specs.List.{insert};
 ghost use Rattle.rtk_obs.specs.Cell.{IsInRange};
-ghost use Rattle.rtk_collect.specs.EpochSet.{EpochSetView, joined, fresh, conflicts};
+ghost use Rattle.rtk_collect.specs.EpochSet.{EpochSetView, joined, fresh, conflicts, EpochsFall};
 ghost use Rattle.rtk_collect.specs.Accepted.{no_cells};
-ghost use Rattle.rtk_collect.specs.Search.{leading, EpochsFall};
-ghost use Rattle.rtk_collect.specs.Observed.{IsAnswerOf, AddsCells, WouldTakeCells};
+ghost use Rattle.rtk_collect.specs.Steps.Search.{leading};
+ghost use Rattle.rtk_collect.specs.Steps.Observed.{IsAnswerOf, AddsCells, WouldTakeCells};
 
 use crate::conflicts::{Conflicts, Joined};
 use crate::epoch_set::EpochSet;
@@ -42,7 +42,7 @@ pub(crate) fn has_epoch(sets: &VecDeque<EpochSet>, at: usize, epoch: GpsMs) -> b
     at < sets.len() && sets[at].epoch() == epoch
 }
 
-/// Joins cells to the epoch at a place. On refusal nothing changes.
+/// Joins cells to the epoch at a place. If memory is refused, nothing changes.
 pub(crate) fn join_at(
     sets: &mut VecDeque<EpochSet>,
     at: usize,

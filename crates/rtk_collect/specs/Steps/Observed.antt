@@ -5,15 +5,14 @@ use Rattle.rtk_message.specs.declared.message.Message.{Message}
 use Rattle.rtk_obs.specs.declared.cell.CellEntry.{CellEntry}
 use Rattle.rtk_collect.specs.declared.offer.Offer.{Offer}
 use Rattle.rtk_collect.specs.declared.offer.Offer.TheVariants.{Taken, Conflict, Repeat, Late}
-use Rattle.rtk_collect.specs.EpochSet.{EpochSetView}
+use Rattle.rtk_collect.specs.EpochSet.{EpochSetView, EpochsFall}
 use Rattle.rtk_collect.specs.Arrival.{Arrival, At, cells_of}
 use Rattle.rtk_collect.specs.Accepted.{kept}
-use Rattle.rtk_collect.specs.Search.{EpochsFall}
 use Rattle.rtk_collect.specs.Answer.{IsRightAnswer, TakenClass, class_of}
 use Rattle.rtk_collect.specs.Offered.{ClosesBelow, ClosesLeast}
 
--- an observation with these cells, offered to a window of n places, leaves its epochs so: it has the right answer
--- whatever came before
+-- what an observation with these cells leaves of the epochs of a window of n places, with the right
+-- answer whatever came before
 pub record AddsCells (n e : ℕ) (cells : List CellEntry) (sets new : List EpochSetView) (offer : Offer) : Type 0 where
   pub len : length new ≤ n
   pub falls : EpochsFall new
