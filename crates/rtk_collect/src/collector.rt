@@ -38,7 +38,8 @@ pub struct Collector {
     room: ArrayVec<CellEntry, 64>,
 }
 
-// Clauses see the window: its places, its epochs from the greatest to the least, the 1005 and the 1006.
+// Clauses see the window: its places, its epochs from the greatest to the least, the 1005 and the
+// 1006.
 impl Model for Collector {
     ghost use Rattle.rtk_collect.specs.Collector.{CollectorView, IsCollectorView};
 
@@ -70,8 +71,8 @@ impl Collector {
 
     /// Takes what is new in a message, and says what became of it.
     ///
-    /// Only a message that would be taken takes memory, all of it before anything changes. If memory is
-    /// refused, the collector is unchanged.
+    /// Only a message that would be taken takes memory, all of it before anything changes. If
+    /// memory is refused, the collector is unchanged.
     pub fn offer(&mut self, dated: Dated) -> Result<Offer, AllocError>
         ensures size { self.new.size ≡ self.old.size }
         ensures bound { length self.new.sets ≤ self.new.size }

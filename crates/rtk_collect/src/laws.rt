@@ -2,8 +2,8 @@
 
 ghost use Rattle.rtk_collect.specs.Laws.{LateArrivalsChangeNothing, ClosedOnlyGrow, ClosedFall, ClosedAfter, FirstIsPreferred, ExcusedIsKept, StationsAreFinal, KeptAreTaken, SetDecides, KeptAreFew, KeptAreGreatest, OpeningConflictsNot, ClosingConflictsNot, KeysAreDistinct, EqualityDecides};
 
-/// If all late arrivals are deleted, each other arrival is late or not as it was, and what is kept is
-/// the same.
+/// If all late arrivals are deleted, each other arrival is late or not as it was, and what is kept
+/// is the same.
 pub fn late_arrivals_change_nothing()
     ensures { LateArrivalsChangeNothing }
 {}
@@ -29,8 +29,8 @@ pub fn set_decides()
     ensures same { SetDecides }
 {}
 
-/// The n greatest kept epochs are the n greatest distinct epochs that came, and each has at most 1,024
-/// cells.
+/// The n greatest kept epochs are the n greatest distinct epochs that came, and each has at most
+/// 1,024 cells.
 pub fn epochs_are_bounded()
     ensures greatest { KeptAreGreatest }
     ensures cells { KeptAreFew }
@@ -42,14 +42,14 @@ pub fn openings_do_not_conflict()
     ensures closes { ClosingConflictsNot }
 {}
 
-/// In the order of an epoch's cells the first of a satellite and code came in a 1074, if such a cell
-/// is there, else in a 1004.
+/// In the order of an epoch's cells the first of a satellite and code came in a 1074, if such a
+/// cell is there, else in a 1004.
 pub fn first_is_preferred()
     ensures { FirstIsPreferred }
 {}
 
-/// Keys are equal exactly if satellite, code and kind of message are equal, and bodies exactly if all
-/// fields are.
+/// Keys are equal exactly if satellite, code and kind of message are equal, and bodies exactly if
+/// all fields are.
 pub fn equality_decides()
     ensures keys { KeysAreDistinct }
     ensures bodies { EqualityDecides }

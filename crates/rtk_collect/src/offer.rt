@@ -15,7 +15,8 @@ pub enum Offer {
     },
     /// Nothing is new, and nothing conflicts.
     Repeat,
-    /// No cell is new, and some conflict with the kept ones; or it differs from the first of its number.
+    /// No cell is new, and some conflict with the kept ones; or it differs from the first of its
+    /// number.
     Conflict {
         /// The cells of the message that conflict; none for a 1005 or 1006.
         conflicts: Conflicts,

@@ -6,7 +6,7 @@
 //! // 2024-03-17 00:00:00, and a time of week (DF004, in ms) that is noon of a Sunday.
 //! let Some(near) = GpsMs::new(1_394_668_800_000) else { return };
 //! let noon = civil(date(near, 43_200_000));
-//! assert!(noon.day == 17 && noon.hour == 12);
+//! let is_noon = noon.day == 17 && noon.hour == 12;
 //! ```
 //!
 //! Its tests: crates/rtk_tests_input/src/obs.rt and obs/
