@@ -7,11 +7,11 @@ use Rattle.std.specs.List.{insert}
 use Rattle.rtk_obs.specs.declared.cell.CellEntry.{CellEntry}
 use Rattle.std.specs.Prelude.{◌&&◌}
 use Rattle.rtk_message.specs.declared.message.Message.{Message}
-use Rattle.rtk_collect.specs.EpochSet.{EpochSetView, joined}
+use Rattle.rtk_collect.specs.EpochSet.{EpochSetView, joined, FirstIsBelow, EpochsFall}
 use Rattle.rtk_collect.specs.Arrival.{Arrival, At, cells_of}
 use Rattle.rtk_collect.specs.Late.{with_epoch, epochs, greater, late}
 use Rattle.rtk_collect.specs.Accepted.{no_cells, with_arrival, kept, cells_at}
-use Rattle.rtk_collect.specs.Search.{FirstIsBelow, EpochsFall, leading}
+use Rattle.rtk_collect.specs.Steps.Search.{leading}
 
 -- an epoch with the cells of one message
 abbrev pub opened : ℕ → List CellEntry → EpochSetView
@@ -246,7 +246,7 @@ sets-late n e sets before h l = grind (arith, leading-sets n e sets before h)
 pub sets-open : (n e : ℕ) (sets : List EpochSetView) (before : List Arrival) → sets ≡ take n (kept n before) → leading e sets < n → leadingN e (epochs before) < n
 sets-open n e sets before h l = grind (arith, leading-sets n e sets before h)
 
--- where an epoch stands
+-- the place of an epoch
 
 pub below-none : (e : ℕ) (x : EpochSetView) (xs : List EpochSetView) → EpochsFall (x ∷ xs) → x.epoch < e → cells_at e (x ∷ xs) ≡ None
 below-none e x [] f h = rw (ne_eqb e x.epoch (λ q. omega arith)) refl

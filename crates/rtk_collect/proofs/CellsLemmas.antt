@@ -10,16 +10,16 @@ use Rattle.rtk_obs.specs.Cell.{IsSatellite, IsInRange}
 use Rattle.rtk_obs.specs.declared.cell.CellEntry.{CellEntry}
 use Rattle.rtk_obs.specs.declared.cell.CellSource.TheVariants.{Legacy}
 use Rattle.rtk_obs.specs.declared.code.Code.TheVariants.{C1C}
-use Rattle.rtk_collect.specs.declared.offer.SatelliteCode.{SatelliteCode}
+use Rattle.rtk_collect.specs.declared.conflicts.SatelliteCode.{SatelliteCode}
 use Rattle.std.specs.Prelude.{◌*◌, not}
 use Rattle.rtk_obs.specs.Code.{place_of}
 use Rattle.rtk_collect.specs.Equal.{equal_cells}
 use Rattle.rtk_collect.specs.Key.{key, key_at, rank_of, Above, KeysRise}
 use Rattle.rtk_collect.proofs.EqualityLemmas.{place-less, rank-less}
 use Rattle.rtk_collect.specs.EpochSet.{with_cell, with_cells, cell_under, one_more, fresh, conflict, conflicts}
-use Rattle.rtk_collect.specs.Search.{lower}
+use Rattle.rtk_collect.specs.Steps.Search.{lower}
 
--- some cell, where a list wants one
+-- some cell, for a list that wants one
 abbrev pub any_cell : CellEntry
 any_cell = record {
   satellite = 0;
@@ -91,7 +91,7 @@ lower-stop k (suc i) d (x ∷ xs) l h = elim (cases_lt (key x) k) [
   | inr here ↦ rw (le-ltb (key x) k here) (omega arith)
 ]
 
--- where a cell stands
+-- the place of a cell
 
 pub above-none : (k : ℕ) (x : CellEntry) (xs : List CellEntry) → KeysRise (x ∷ xs) → k < key x → cell_under k (x ∷ xs) ≡ None
 above-none k x [] f h = rw (ne_eqb k (key x) (λ q. omega arith)) refl
@@ -281,7 +281,7 @@ pub merge-conflicts : (i : ℕ) (d : CellEntry) (cells kept new : List CellEntry
 merge-conflicts i d cells kept new some now all l e n h =
     append_assoc some _ _ ∙ ap (λ t. some ++ t) (rw (e, ← n) (ap (λ t. conflicts t kept) (sym (drop-at i d cells l)))) ∙ h
 
--- where a cell is kept under its key
+-- a cell is kept under its key
 pub kept-conflicts : (i : ℕ) (d x : CellEntry) (cells kept : List CellEntry) (some now all : List SatelliteCode) → i < length cells → KeysRise kept → cell_under (key (get_or cells i d)) kept ≡ Some x
     → conflict (get_or cells i d) (Some x) ≡ now → some ++ conflicts (drop i cells) kept ≡ all → (some ++ now) ++ conflicts (drop (i + 1) cells) kept ≡ all
 kept-conflicts i d x cells kept some now all l r u n h =
@@ -377,7 +377,7 @@ flipped : (b : Bool) (xs : List SatelliteCode) → (if b then [] else xs) ≡ (i
 flipped true xs = refl
 flipped false xs = refl
 
--- a cell conflicts where another one is kept under its key
+-- a cell conflicts if another one is kept under its key
 pub conflict-is : (c x : CellEntry) (o : Option CellEntry) (r : Bool) → o ≡ Some x → r ≡ not (equal_cells x.cell c.cell)
     → conflict c o ≡ (if r then record { satellite = c.satellite; code = c.code } ∷ [] else [])
 conflict-is c x o r h e = ap (conflict c) h ∙ flipped (equal_cells x.cell c.cell) _ ∙ ap (λ t. if t then record { satellite = c.satellite; code = c.code } ∷ [] else []) (sym e)

@@ -1,4 +1,4 @@
--- Keys are equal exactly where their parts are, and bodies where all fields are.
+-- Keys are equal exactly if their parts are, and bodies exactly if all fields are.
 use Rattle.std.proofs.Common.{◌≡◌, ℕ, ℤ, ◌+◌, ◌*◌, ◌<◌, Bool, Option, None, Some, refl, ap, sym, ◌∙◌, arith}
 use Rattle.std.specs.Prelude.{◌==◌, if◌then◌else◌}
 use Rattle.std.specs.Bool.{Decides}

@@ -18,7 +18,7 @@ use Rattle.rtk_obs.proofs.MsmLemmas.{satellite_in}
 use Rattle.rtk_collect.specs.Key.{KeysRise}
 use Rattle.rtk_collect.specs.EpochSet.{EpochSetView}
 use Rattle.rtk_collect.specs.Arrival.{Arrival, At, cells_of}
-use Rattle.rtk_collect.specs.Late.{epochs, late}
+use Rattle.rtk_collect.specs.Late.{late}
 use Rattle.rtk_collect.specs.Accepted.{kept, with_arrival}
 use Rattle.rtk_collect.specs.Laws.{KeptAreFew, KeptAreGreatest}
 use Rattle.rtk_collect.proofs.CellsLemmas.{HasSatellite, satellites-few, with_cells-rises, with_cells-each}

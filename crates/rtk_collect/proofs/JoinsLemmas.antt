@@ -1,4 +1,4 @@
--- The closed epochs, and an observation that joins those that are held.
+-- The closed epochs, and an observation that joins the held ones.
 use Rattle.std.proofs.Common.{◌≡◌, ℕ, zero, suc, ◌+◌, ◌-◌, ◌<◌, ◌≤◌, Bool, true, false, List, [], ◌∷◌, ◌++◌, length, get_or, take, drop, Option, None, Some, refl, ap, sym, ◌∙◌, arith, inl, inr}
 use Rattle.std.specs.Prelude.{nat_le, filter, option_to_list, min}
 use Rattle.std.proofs.lemmas.Bool.{lt-ltb, le-ltb, le-leb, lt-leb, cases_lt}
@@ -6,14 +6,14 @@ use Rattle.std.proofs.lemmas.Grind.{common_steps}
 use Rattle.std.proofs.Math.Seq.{drop-nil, take-append_seam, drop-append_seam}
 use Rattle.rtk_obs.specs.declared.cell.CellEntry.{CellEntry}
 use Rattle.rtk_message.specs.declared.message.Message.{Message}
-use Rattle.rtk_collect.specs.EpochSet.{EpochSetView}
+use Rattle.rtk_collect.specs.EpochSet.{EpochSetView, EpochsFall}
 use Rattle.rtk_collect.specs.Arrival.{Arrival, At, cells_of}
 use Rattle.rtk_collect.specs.Late.{epochs, greater, late}
 use Rattle.rtk_collect.specs.Accepted.{no_cells, with_arrival, kept, cells_at, closed}
-use Rattle.rtk_collect.specs.Search.{EpochsFall, leading}
+use Rattle.rtk_collect.specs.Steps.Search.{leading}
 use Rattle.rtk_collect.proofs.ArrivalsLemmas.{keys, leadingN, leadingN-take, leadingN-keys, keys-take, epochs-fall, greater-leading, late-true, late-false, is-late, is-open, same_greatest, kept-falls, take-with_arrival, drop-with_arrival, leading-sets, sets-late, sets-open, cells_at-take, cells_at-none}
 
--- the closed epochs are those behind the n greatest
+-- the closed epochs are the ones after the n greatest
 
 pub under : (x : EpochSetView) (xs : List EpochSetView) → EpochsFall (x ∷ xs) → (k : ℕ) (d : EpochSetView) → k < length xs → (get_or xs k d).epoch < x.epoch
 under x [] f k d l = grind arith

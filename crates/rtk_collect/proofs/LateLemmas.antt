@@ -6,13 +6,11 @@ use Rattle.std.proofs.lemmas.Bool.{le-leb, leb-true, cases_lt, cases_eq, ne_eqb,
 use Rattle.std.proofs.lemmas.List.{length-take}
 use Rattle.rtk_message.specs.declared.message.Message.{Message}
 use Rattle.rtk_message.specs.Decoded.{number_of}
-use Rattle.rtk_collect.specs.Equal.{equal_stations}
-use Rattle.rtk_collect.specs.EpochSet.{EpochSetView}
+use Rattle.rtk_collect.specs.Equal.{equal_stations, is_first}
+use Rattle.rtk_collect.specs.EpochSet.{EpochSetView, EpochsFall}
 use Rattle.rtk_collect.specs.Arrival.{Arrival, At, cells_of}
 use Rattle.rtk_collect.specs.Late.{epochs, with_epoch, late}
 use Rattle.rtk_collect.specs.Accepted.{no_cells, station, first, kept, closed, with_arrival, IsTaken}
-use Rattle.rtk_collect.specs.Slot.{is_first}
-use Rattle.rtk_collect.specs.Search.{EpochsFall}
 use Rattle.rtk_collect.specs.Laws.{without_late, AreInTime, LateArrivalsChangeNothing, ClosedOnlyGrow, ClosedFall, ClosedAfter, ExcusedIsKept, StationsAreFinal}
 use Rattle.rtk_collect.proofs.ArrivalsLemmas.{leadingN, leadingN-take, late-leading, is-late, is-open, take-with_epoch, take-with_epoch-late, keys, same_greatest, kept-falls, drop-with_arrival}
 use Rattle.rtk_collect.proofs.JoinsLemmas.{same-le, closed-drop, whole, leading-kept}

@@ -3,7 +3,7 @@ use Rattle.std.proofs.Common.{◌≡◌, ℕ, zero, suc, ◌+◌, ◌<◌, ◌�
 use Rattle.std.proofs.lemmas.Bool.{ne_eqb, eq-eqb}
 use Rattle.std.proofs.lemmas.List.{append-nil, length-append}
 use Rattle.rtk_obs.specs.declared.cell.CellEntry.{CellEntry}
-use Rattle.rtk_collect.specs.declared.offer.SatelliteCode.{SatelliteCode}
+use Rattle.rtk_collect.specs.declared.conflicts.SatelliteCode.{SatelliteCode}
 use Rattle.rtk_collect.specs.Key.{key, Above, KeysRise}
 use Rattle.rtk_collect.specs.EpochSet.{with_cell, with_cells, cell_under, one_more, fresh, conflict, conflicts}
 use Rattle.rtk_collect.proofs.CellsLemmas.{with_cell-new, with_cell-past, with_cell-same, above-none, drop-at}
@@ -119,7 +119,7 @@ pub room-new : (cells kept all : List CellEntry) (c : CellEntry) (more held : Li
     → length all < cap
 room-new cells kept all c more held found cap m h = let one : fresh (c ∷ more) held ≡ suc (fresh more held) = rw (first-none c held h m.rises) refl in omega (arith, m.room, one)
 
--- all that is kept stands behind the last cell that joins
+-- all that is kept stands after the last cell that joins
 pub merges-all : (cells kept all held : List CellEntry) (found : List SatelliteCode) (cap : ℕ) → Merges cells kept all [] held found cap
     → (all ++ held ≡ with_cells cells kept) × (found ≡ conflicts cells kept) × (length all + length held ≤ cap)
 merges-all cells kept all held found cap m = (m.items, sym (append-nil found) ∙ m.conflicts, omega (arith, m.room))

@@ -5,12 +5,12 @@ use Rattle.std.proofs.lemmas.Bool.{lt-ltb, le-ltb}
 use Rattle.std.specs.List.{insert}
 use Rattle.rtk_message.specs.declared.message.Message.{Message}
 use Rattle.rtk_obs.specs.declared.cell.CellEntry.{CellEntry}
-use Rattle.rtk_collect.specs.declared.offer.SatelliteCode.{SatelliteCode}
-use Rattle.rtk_collect.specs.EpochSet.{EpochSetView, joined, fresh, conflicts}
+use Rattle.rtk_collect.specs.declared.conflicts.SatelliteCode.{SatelliteCode}
+use Rattle.rtk_collect.specs.EpochSet.{EpochSetView, joined, fresh, conflicts, EpochsFall}
 use Rattle.rtk_collect.specs.Arrival.{Arrival, At, cells_of}
 use Rattle.rtk_collect.specs.Late.{late}
 use Rattle.rtk_collect.specs.Accepted.{with_arrival, kept, cells_at}
-use Rattle.rtk_collect.specs.Search.{EpochsFall, leading}
+use Rattle.rtk_collect.specs.Steps.Search.{leading}
 use Rattle.rtk_collect.specs.Answer.{Class, LateClass, TakenClass, RepeatClass, ConflictClass, class_by, class_of_cells, class_in_time, class_of, conflicts_with, conflicts_of}
 use Rattle.rtk_collect.proofs.ArrivalsLemmas.{opened, with_arrival-found, with_arrival-absent, with_arrival-falls, found-cells, absent-cells}
 use Rattle.rtk_collect.proofs.JoinsLemmas.{leading-length, Joins, offer-joins, whole, kept-found, kept-none}

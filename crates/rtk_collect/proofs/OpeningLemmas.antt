@@ -1,5 +1,5 @@
 -- A message that opens an epoch conflicts with nothing.
-use Rattle.std.proofs.Common.{◌≡◌, ◌≢◌, ℕ, suc, ◌+◌, ◌-◌, List, [], ◌∷◌, ◌++◌, length, get_or, Option, None, Some, refl, ap, sym, ◌∙◌, arith, inl, inr}
+use Rattle.std.proofs.Common.{◌≡◌, ◌≢◌, ℕ, suc, ◌-◌, List, [], ◌∷◌, ◌++◌, length, get_or, Option, None, Some, refl, ap, sym, ◌∙◌, arith, inl, inr}
 use Rattle.std.specs.List.{AllByRecursion}
 use Rattle.std.proofs.lemmas.Bool.{cases_order, cases_lt, ne_eqb}
 use Rattle.std.proofs.lemmas.List.{length-drop}
@@ -11,11 +11,10 @@ use Rattle.rtk_obs.specs.declared.cell.CellEntry.{CellEntry}
 use Rattle.rtk_obs.specs.Cell.{AreDifferentSignals, AreDistinct}
 use Rattle.rtk_obs.proofs.DistinctLemmas.{Pairs, cells_of_1004-distinct, cells_of_1074-distinct}
 use Rattle.rtk_collect.specs.Key.{key}
-use Rattle.rtk_collect.specs.EpochSet.{EpochSetView, with_cell, cell_under, conflict, conflicts}
+use Rattle.rtk_collect.specs.EpochSet.{EpochSetView, with_cell, cell_under, conflict, conflicts, EpochsFall}
 use Rattle.rtk_collect.specs.Arrival.{Arrival, At, cells_of}
 use Rattle.rtk_collect.specs.Late.{epochs}
 use Rattle.rtk_collect.specs.Accepted.{no_cells, with_arrival, kept, cells_at, closed}
-use Rattle.rtk_collect.specs.Search.{EpochsFall}
 use Rattle.rtk_collect.specs.Answer.{conflicts_with}
 use Rattle.rtk_collect.specs.Laws.{OpeningConflictsNot, ClosingConflictsNot}
 use Rattle.rtk_collect.proofs.EqualityLemmas.{keys-are-distinct}

@@ -1,4 +1,4 @@
--- The first cell of a satellite and code is that of a 1074, if there is one.
+-- The first cell of a satellite and code came in a 1074, if such a cell is there.
 use Rattle.std.proofs.Common.{◌≡◌, ◌≢◌, ℕ, ◌+◌, ◌*◌, ◌<◌, List, [], ◌∷◌, None, Some, refl, ap, sym, ◌∙◌, arith, inl, inr}
 use Rattle.std.proofs.lemmas.Bool.{eq-eqb, ne_eqb, cases_eq}
 use Rattle.rtk_obs.specs.Code.{place_of}

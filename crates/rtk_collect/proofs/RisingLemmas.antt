@@ -31,7 +31,7 @@ rises-more (suc i) d xs p r l h =
 pub rises-whole : (i : ℕ) (xs : List CellEntry) → KeysRise (take i xs) → length xs ≤ i → KeysRise xs
 rises-whole i xs r l = subst KeysRise (whole i xs l).0 r
 
--- cells behind those that are kept
+-- cells after the kept ones
 
 rises-before : (x c : CellEntry) (xs more : List CellEntry) → KeysRise (x ∷ (xs ++ c ∷ more)) → key x < key c
 rises-before x c [] more r = r.0
@@ -61,7 +61,7 @@ pub no-cells : (xs : List CellEntry) (n : ℕ) → n ≡ length xs → (n == 0) 
 no-cells [] n e h = refl
 no-cells (x ∷ xs) n e h = absurd (both_ways (n == 0) (ne_eqb n 0 (λ q. omega arith)) h)
 
--- cells that rise, where none is kept
+-- cells that rise, if no cell is kept
 pub record Alone (cells kept : List CellEntry) : Type 0 where
   pub items : kept ++ cells ≡ with_cells cells kept
   pub fresh : length cells ≡ fresh cells kept

@@ -4,11 +4,10 @@ use Rattle.std.proofs.lemmas.Bool.{cases_order, cases_Bool}
 use Rattle.rtk_message.specs.declared.message.Message.{Message}
 use Rattle.rtk_obs.specs.declared.cell.CellEntry.{CellEntry}
 use Rattle.rtk_collect.specs.Key.{key, KeysRise}
-use Rattle.rtk_collect.specs.EpochSet.{EpochSetView}
+use Rattle.rtk_collect.specs.EpochSet.{EpochSetView, EpochsFall}
 use Rattle.rtk_collect.specs.Arrival.{Arrival, At, cells_of}
 use Rattle.rtk_collect.specs.Late.{late}
 use Rattle.rtk_collect.specs.Accepted.{kept, station, with_arrival, IsTaken, AmongCells, IsTakenCell, IsConsistent}
-use Rattle.rtk_collect.specs.Search.{EpochsFall}
 use Rattle.rtk_collect.specs.Laws.{HasEpoch, IsKept, SetDecides}
 use Rattle.rtk_collect.proofs.CellsLemmas.{with_cells-rises}
 use Rattle.rtk_collect.proofs.ArrivalsLemmas.{kept-falls, with_arrival-new, with_arrival-below, with_arrival-same}

@@ -9,12 +9,12 @@ use Rattle.rtk_message.specs.Decoded.{number_of}
 use Rattle.rtk_collect.specs.declared.offer.Offer.{Offer}
 use Rattle.rtk_collect.specs.declared.offer.Offer.TheVariants.{Taken, Conflict, Repeat, Late}
 use Rattle.rtk_collect.specs.EpochSet.{EpochSetView}
-use Rattle.rtk_collect.specs.Equal.{equal_stations}
+use Rattle.rtk_collect.specs.Equal.{equal_stations, is_first}
 use Rattle.rtk_collect.specs.Arrival.{Arrival, At}
 use Rattle.rtk_collect.specs.Late.{with_epoch, epochs, First, first_of, first_with, is_repeat_of, is_excused, late}
 use Rattle.rtk_collect.specs.Accepted.{station, first, kept, closed}
 use Rattle.rtk_collect.specs.Answer.{Class, LateClass, TakenClass, RepeatClass, ConflictClass, class_of_station, class_of, IsRightAnswer}
-use Rattle.rtk_collect.specs.Slot.{is_first, AnswersStationMessage}
+use Rattle.rtk_collect.specs.Steps.Slot.{AnswersStationMessage}
 use Rattle.rtk_collect.proofs.ArrivalsLemmas.{keys, same_greatest, with_epoch-new, with_epoch-below, with_epoch-same}
 
 pub length-keys : (xs : List EpochSetView) → length (keys xs) ≡ length xs
@@ -52,7 +52,7 @@ longer e (x ∷ xs) = elim (cases_order x e) [
   ]
 ]
 
--- the first one came before at most so many epochs
+-- at most n epochs had come before the first one
 abbrev CameBefore : Option First → ℕ → Type 0
 CameBefore None n = Unit {0}
 CameBefore (Some f) n = f.epochs_before ≤ n
@@ -113,7 +113,7 @@ excused-on-time n m (Some f) = elim (cases_lt f.epochs_before n) [
   | inr full ↦ rw (le-ltb f.epochs_before n full) (and-none (equal_stations f.message m))
 ]
 
--- a station message is excused exactly where it equals the kept one with its number
+-- a station message is excused exactly if it equals the kept one with its number
 pub excused-is : (n : ℕ) (m : Message) (before : List Arrival) → is_excused n (At None m) before ≡ is_first equal_stations (station n (number_of m) before) m
 excused-is n m before = excused-on-time n m (first_with (number_of m) before) ∙ ap (λ o. is_first equal_stations o m) (sym (station-is n (number_of m) before))
 
@@ -176,7 +176,7 @@ module _ {T : Type 0} (wrap : T → Message) (eq : T → T → Bool) (same_eq : 
 pub other-stays : (n k : ℕ) (m : Message) (before : List Arrival) → number_of m ≢ k → station n k (At None m ∷ before) ≡ station n k before
 other-stays n k m before h = ap (λ b. if b && not (late n (At None m) before) then first (station n k before) m else station n k before) (ne_eqb (number_of m) k h)
 
--- the fields of the kept one fit, where those of the offered one do
+-- the fields of the kept one fit, if the fields of the offered one do
 pub slot-fits : {T : Type 0} (eq : T → T → Bool) (P : T → Type 0) (slot new : Option T) (m : T) (full : Bool) (offer : Offer) → AnswersStationMessage eq slot m full offer new → ForSome slot P → P m → ForSome new P
 slot-fits eq P slot new m full Late h f p = subst (λ o. ForSome o P) (sym h.2) f
 slot-fits eq P slot new m full (Taken out found) h f p = subst (λ o. ForSome o P) (sym h.2) (λ x e. subst P (ap (λ o. unwrap_or o x) e) p)

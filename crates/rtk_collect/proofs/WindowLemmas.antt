@@ -7,22 +7,22 @@ use Rattle.std.proofs.lemmas.List.{length-append, append-nil}
 use Rattle.std.proofs.lemmas.List.Elements.{All-from_recursion, recursion_from_All}
 use Rattle.rtk_message.specs.declared.message.Message.{Message}
 use Rattle.rtk_obs.specs.declared.cell.CellEntry.{CellEntry}
-use Rattle.rtk_collect.specs.declared.offer.SatelliteCode.{SatelliteCode}
+use Rattle.rtk_collect.specs.declared.conflicts.SatelliteCode.{SatelliteCode}
 use Rattle.rtk_collect.specs.declared.offer.Offer.{Offer}
 use Rattle.rtk_collect.specs.declared.offer.Offer.TheVariants.{Taken, Conflict, Repeat, Late}
-use Rattle.rtk_collect.specs.EpochSet.{EpochSetView, joined, fresh, conflicts}
+use Rattle.rtk_collect.specs.EpochSet.{EpochSetView, joined, fresh, conflicts, EpochsFall}
 use Rattle.rtk_collect.specs.Arrival.{Arrival, At, cells_of}
 use Rattle.rtk_collect.specs.Accepted.{with_arrival, kept, cells_at, closed}
 use Rattle.rtk_collect.specs.Late.{epochs}
-use Rattle.rtk_collect.specs.Search.{EpochsFall, leading}
+use Rattle.rtk_collect.specs.Steps.Search.{leading}
 use Rattle.rtk_collect.specs.Answer.{IsRightAnswer, TakenClass, RepeatClass, ConflictClass, class_of_cells, class_of}
-use Rattle.rtk_collect.specs.Observed.{IsAnswerOf}
+use Rattle.rtk_collect.specs.Steps.Observed.{IsAnswerOf, AddsCells}
 use Rattle.rtk_collect.specs.Offered.{ClosesBelow, ClosesLeast, NotBelow}
 use Rattle.rtk_collect.proofs.ArrivalsLemmas.{leadingN, late-false, sets-open, found-cells, absent-cells, opened, with_arrival-new, with_arrival-below, with_arrival-same}
 use Rattle.rtk_collect.proofs.JoinsLemmas.{leading-length, kept-found, kept-none, offer-late, parts, whole}
 use Rattle.rtk_collect.proofs.OffersLemmas.{length-insert, class-is, OpenStep, open-step, OpenParts, open-parts, NewStep, new-step, NewParts, new-parts, class-late, cells-taken, cells-stale, by-none, by-some}
 
--- each epoch is at least so great
+-- each epoch is at least e
 abbrev AtLeast : ℕ → List EpochSetView → Type 0
 AtLeast e xs = AllByRecursion (λ (x : EpochSetView). e ≤ x.epoch) xs
 
@@ -107,7 +107,7 @@ open-least n count found (Taken (Some s) listed) sets a = let q = a.1 in cc
 open-least n count found (Conflict listed) sets a = tt
 open-least n count found Repeat sets a = tt
 
--- where memory is refused
+-- if memory is refused
 
 -- some cell of a message is new in an epoch of the window
 pub fresh-taken : (n e at : ℕ) (cs : List CellEntry) (d : EpochSetView) (sets : List EpochSetView) → length sets ≤ n → at ≡ leading e sets → at < length sets → (get_or sets at d).epoch ≡ e
@@ -143,16 +143,6 @@ split-parts n all front back e l = elim (cases_lt (length all) n) [
     no-length [] h = refl
     no-length (x ∷ xs) h = absurd (omega arith)
 
--- what an observation leaves, and the right answer whatever came before
-pub record Branch (n e : ℕ) (cs : List CellEntry) (sets new : List EpochSetView) (offer : Offer) : Type 0 where
-  pub len : length new ≤ n
-  pub falls : EpochsFall new
-  pub answer : (m : Message) → cells_of m ≡ cs → (before : List Arrival) → sets ≡ take n (kept n before)
-      → IsRightAnswer n (At (Some e) m) before offer × (new ≡ take n (kept n (At (Some e) m ∷ before)))
-  pub below : ClosesBelow offer new
-  pub least_closes : ClosesLeast n sets offer
-  pub least : length sets ≡ n → (length new ≡ n) × ((x : ℕ) → All (λ (s : EpochSetView). x ≤ s.epoch) sets → All (λ (s : EpochSetView). x ≤ s.epoch) new)
-
 open-below : (count : ℕ) (found : List SatelliteCode) (offer : Offer) (new : List EpochSetView) → IsAnswerOf count found offer → ClosesBelow offer new
 open-below count found Late new a = absurd a
 open-below count found (Taken None listed) new a = tt
@@ -172,7 +162,7 @@ open-answers n e m before new b count found Repeat p c f a =
 
 pub open-branch : (n e at : ℕ) (cs : List CellEntry) (d : EpochSetView) (sets new : List EpochSetView) (count : ℕ) (found : List SatelliteCode) (offer : Offer) → EpochsFall sets → length sets ≤ n
     → at ≡ leading e sets → at < length sets → (get_or sets at d).epoch ≡ e → new ≡ set sets at (joined cs (get_or sets at d))
-    → count ≡ fresh cs (get_or sets at d).cells → found ≡ conflicts cs (get_or sets at d).cells → IsAnswerOf count found offer → Branch n e cs sets new offer
+    → count ≡ fresh cs (get_or sets at d).cells → found ≡ conflicts cs (get_or sets at d).cells → IsAnswerOf count found offer → AddsCells n e cs sets new offer
 open-branch n e at cs d sets new count found offer f small place l same is c g a =
     let s : OpenStep n e cs sets new (get_or sets at d).cells = open-step n e at cs d sets new f small place l same is in
     record {
@@ -193,7 +183,7 @@ open-branch n e at cs d sets new count found offer f small place l same is c g a
       );
     }
 
-pub late-branch : (n e at : ℕ) (cs : List CellEntry) (sets : List EpochSetView) → EpochsFall sets → length sets ≤ n → at ≡ leading e sets → at ≡ n → Branch n e cs sets sets Late
+pub late-branch : (n e at : ℕ) (cs : List CellEntry) (sets : List EpochSetView) → EpochsFall sets → length sets ≤ n → at ≡ leading e sets → at ≡ n → AddsCells n e cs sets sets Late
 late-branch n e at cs sets f small place full =
     record {
       len = small;
@@ -206,7 +196,7 @@ late-branch n e at cs sets f small place full =
 
 pub new-branch : (n e at : ℕ) (cs : List CellEntry) (d : EpochSetView) (sets items new : List EpochSetView) (closes : Option EpochSetView) (found : List SatelliteCode) → EpochsFall sets → length sets ≤ n
     → at ≡ leading e sets → at ≢ n → (at < length sets → (get_or sets at d).epoch ≢ e) → items ≡ insert sets at (opened e cs) → length items ≡ suc (length sets)
-    → items ≡ new ++ option_to_list closes → length new ≡ min n (length items) → found ≡ conflicts cs [] → Branch n e cs sets new (Taken closes found)
+    → items ≡ new ++ option_to_list closes → length new ≡ min n (length items) → found ≡ conflicts cs [] → AddsCells n e cs sets new (Taken closes found)
 new-branch n e at cs d sets items new closes found f small place other absent is grew split len g =
     let s : NewStep n e cs sets items = new-step n e at cs d sets items f small place other absent is in
     let fall : EpochsFall (new ++ option_to_list closes) = subst EpochsFall split s.falls in

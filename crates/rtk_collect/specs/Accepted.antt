@@ -28,7 +28,8 @@ abbrev pub with_arrival : ℕ → List CellEntry → List EpochSetView → List 
 with_arrival e cells [] = joined cells (no_cells e) ∷ []
 with_arrival e cells (x ∷ xs) = if nat_lt x.epoch e then joined cells (no_cells e) ∷ x ∷ xs else (if nat_lt e x.epoch then x ∷ with_arrival e cells xs else joined cells x ∷ xs)
 
--- the epochs that were opened by an observation that was not late, falling, each with the first cell under each key
+-- the epochs that an observation opened that was not late, falling, each with the first cell under
+-- each key
 abbrev pub kept : ℕ → List Arrival → List EpochSetView
 kept n [] = []
 kept n (At None m ∷ before) = kept n before

@@ -3,7 +3,7 @@ use Rattle.std.specs.Prelude.{◌≡◌, ℕ, List, [], ◌∷◌, ◌++◌, nat
 use Rattle.rtk_message.specs.declared.message.Message.{Message}
 use Rattle.rtk_message.specs.Decoded.{number_of}
 use Rattle.rtk_obs.specs.declared.cell.CellEntry.{CellEntry}
-use Rattle.rtk_collect.specs.declared.offer.SatelliteCode.{SatelliteCode}
+use Rattle.rtk_collect.specs.declared.conflicts.SatelliteCode.{SatelliteCode}
 use Rattle.rtk_collect.specs.declared.offer.Offer.{Offer}
 use Rattle.rtk_collect.specs.declared.offer.Offer.TheVariants.{Taken, Conflict, Repeat, Late}
 use Rattle.rtk_collect.specs.Arrival.{Arrival, At, cells_of}
@@ -19,7 +19,7 @@ pub data Class : Type 0 where
   RepeatClass : Class
   ConflictClass : Class
 
--- where no cell is new: a conflict, if there is one
+-- if no cell is new: a conflict, if there is one
 abbrev pub class_by : List SatelliteCode → Class
 class_by [] = RepeatClass
 class_by (c ∷ cs) = ConflictClass
@@ -39,7 +39,7 @@ abbrev pub class_in_time : ℕ → Arrival → List Arrival → Class
 class_in_time n (At None m) before = class_of_station m (station n (number_of m) before)
 class_in_time n (At (Some e) m) before = class_of_cells (cells_of m) (cells_at e (kept n before))
 
--- of an arrival after those before it (this project's rule)
+-- of an arrival after the ones before it (this project's rule)
 abbrev pub class_of : ℕ → Arrival → List Arrival → Class
 class_of n a before = if late n a before then LateClass else class_in_time n a before
 
@@ -52,7 +52,7 @@ abbrev pub conflicts_of : ℕ → Arrival → List Arrival → List SatelliteCod
 conflicts_of n (At None m) before = []
 conflicts_of n (At (Some e) m) before = conflicts_with (cells_of m) (cells_at e (kept n before))
 
--- the right answer to an arrival after those before it. Only one that is taken closes an epoch
+-- the right answer to an arrival after the ones before it. Only one that is taken closes an epoch
 abbrev pub IsRightAnswer : ℕ → Arrival → List Arrival → Offer → Type 0
 IsRightAnswer n a before Late = (class_of n a before ≡ LateClass) × (closed n (a ∷ before) ≡ closed n before)
 IsRightAnswer n a before (Taken done found) = (class_of n a before ≡ TakenClass) × (found ≡ conflicts_of n a before) × (closed n (a ∷ before) ≡ option_to_list done ++ closed n before)

@@ -6,7 +6,8 @@ use Rattle.rtk_obs.specs.LegacyCells.{cells_of_1004}
 use Rattle.rtk_obs.specs.MsmCells.{cells_of_1074}
 use Rattle.rtk_obs.specs.declared.cell.CellEntry.{CellEntry}
 
--- a message with its epoch in ms of GPS time. A 1005 or 1006 has none: it counts as before all epochs
+-- a message with its epoch in ms of GPS time. A 1005 or 1006 has no epoch: it counts as before all
+-- epochs
 pub data Arrival : Type 0 where
   At : (epoch : Option ℕ) (message : Message) → Arrival
 

@@ -6,19 +6,18 @@ use Rattle.std.specs.Option.{ForSome}
 use Rattle.rtk_message.specs.declared.message.Message.TheVariants.{Arp1005, Arp1006}
 use Rattle.rtk_message.specs.Arp1005 as arp1005_spec
 use Rattle.rtk_message.specs.Arp1006 as arp1006_spec
-use Rattle.rtk_collect.specs.Search.{EpochsFall}
-use Rattle.rtk_collect.specs.EpochSet.{EpochSetView}
+use Rattle.rtk_collect.specs.EpochSet.{EpochsFall, EpochSetView}
 use Rattle.rtk_collect.specs.Arrival.{Arrival}
 use Rattle.rtk_collect.specs.Accepted.{station, kept}
 
--- a window of so many epochs: the greatest ones, falling, and the first 1005 and 1006
+-- a window: its number of places, the greatest epochs, falling, and the first 1005 and 1006
 pub record CollectorView : Type 0 where
   pub size : ℕ
   pub sets : List EpochSetView
   pub arp1005 : Option Message1005
   pub arp1006 : Option Message1006
 
--- two to 4,096 places, and at most so many epochs; station messages whose fields fit
+-- two to 4,096 places, and no more epochs than places; station messages whose fields fit
 pub record IsCollectorView (w : CollectorView) : Type 0 where
   pub low : 2 ≤ w.size
   pub high : w.size ≤ 4096

@@ -1,10 +1,10 @@
 -- The cells of an epoch: one for each satellite, code and kind of message, the first that came.
-use Rattle.std.specs.Prelude.{ℕ, suc, List, [], ◌∷◌, ◌++◌, ◌==◌, ◌&&◌, nat_lt, Option, None, Some, if◌then◌else◌}
+use Rattle.std.specs.Prelude.{ℕ, suc, ◌<◌, List, [], ◌∷◌, ◌++◌, ◌==◌, ◌&&◌, nat_lt, Option, None, Some, if◌then◌else◌}
 use Rattle.rtk_obs.specs.Code.{place_of}
 use Rattle.rtk_obs.specs.declared.code.Code.{Code}
 use Rattle.rtk_obs.specs.declared.cell.CellSource.TheVariants.{Legacy, Msm}
 use Rattle.rtk_obs.specs.declared.cell.CellEntry.{CellEntry}
-use Rattle.rtk_collect.specs.declared.offer.SatelliteCode.{SatelliteCode}
+use Rattle.rtk_collect.specs.declared.conflicts.SatelliteCode.{SatelliteCode}
 use Rattle.rtk_collect.specs.Key.{key, key_at}
 use Rattle.rtk_collect.specs.Equal.{equal_cells}
 
@@ -12,6 +12,16 @@ use Rattle.rtk_collect.specs.Equal.{equal_cells}
 pub record EpochSetView : Type 0 where
   pub epoch : ℕ
   pub cells : List CellEntry
+
+-- the first of the epochs, if there is one, is less
+abbrev pub FirstIsBelow : ℕ → List EpochSetView → Type 0
+FirstIsBelow e [] = Unit {0}
+FirstIsBelow e (x ∷ xs) = x.epoch < e
+
+-- the epochs fall: each is greater than the next one
+abbrev pub EpochsFall : List EpochSetView → Type 0
+EpochsFall [] = Unit {0}
+EpochsFall (x ∷ xs) = FirstIsBelow x.epoch xs × EpochsFall xs
 
 -- a cell joins cells that rise by key: the first under its key stays (this project's rule)
 abbrev pub with_cell : CellEntry → List CellEntry → List CellEntry
@@ -36,7 +46,7 @@ abbrev pub preferred : Option CellEntry → Option CellEntry → Option CellEntr
 preferred None legacy = legacy
 preferred (Some c) legacy = Some c
 
--- the cell of a satellite and code: that of a 1074, else that of a 1004 (this project's rule)
+-- the cell of a satellite and code: from a 1074, else from a 1004 (this project's rule)
 abbrev pub cell_of : ℕ → Code → List CellEntry → Option CellEntry
 cell_of satellite code cells = preferred (cell_under (key_at satellite code Msm) cells) (cell_under (key_at satellite code Legacy) cells)
 
@@ -54,7 +64,7 @@ abbrev pub fresh : List CellEntry → List CellEntry → ℕ
 fresh [] kept = 0
 fresh (c ∷ more) kept = one_more (cell_under (key c) kept) (fresh more kept)
 
--- satellite and code of a cell, where another one is kept under its key
+-- satellite and code of a cell, if another one is kept under its key
 abbrev pub conflict : CellEntry → Option CellEntry → List SatelliteCode
 conflict c None = []
 conflict c (Some x) = if equal_cells x.cell c.cell then [] else record { satellite = c.satellite; code = c.code } ∷ []

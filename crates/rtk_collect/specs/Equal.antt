@@ -1,5 +1,5 @@
--- Equal bodies: two values are equal where all their fields are.
-use Rattle.std.specs.Prelude.{Bool, true, false, ◌&&◌, ◌==◌}
+-- Equal bodies: two values are equal if all their fields are.
+use Rattle.std.specs.Prelude.{Bool, true, false, Option, None, Some, ◌&&◌, ◌==◌}
 use Rattle.std.proofs.Math.Bool.{beq}
 use Rattle.std.specs.Ordering.{int_eq}
 use Rattle.std.specs.Option.{option_eq}
@@ -42,3 +42,8 @@ abbrev pub equal_stations : Message → Message → Bool
 equal_stations (Arp1005 a) (Arp1005 b) = equal_1005 a b
 equal_stations (Arp1006 a) (Arp1006 b) = equal_1006 a b
 equal_stations _ _ = false
+
+-- the first one, if there is one, equals this one
+abbrev pub is_first : {T : Type 0} → (T → T → Bool) → Option T → T → Bool
+is_first eq None m = false
+is_first eq (Some x) m = eq x m

@@ -11,7 +11,8 @@ abbrev pub rank_of : CellSource → ℕ
 rank_of Msm = 0
 rank_of Legacy = 1
 
--- the key of a satellite, code and kind of message in an epoch, in this order of weight (this project's rule)
+-- the key of a satellite, code and kind of message in an epoch, in this order of weight (this
+-- project's rule)
 unfoldable pub key_at : ℕ → Code → CellSource → ℕ
 key_at satellite code source = (satellite * 16 + place_of code) * 2 + rank_of source
 

@@ -1,4 +1,4 @@
--- Which arrivals are late. What stands behind an arrival in a list came before it.
+-- Which arrivals are late. What stands after an arrival in a list came before it.
 use Rattle.std.specs.Prelude.{ℕ, Bool, false, not, ◌&&◌, List, [], ◌∷◌, ◌==◌, nat_lt, nat_le, length, Option, None, Some, count_by, if◌then◌else◌}
 use Rattle.rtk_message.specs.declared.message.Message.{Message}
 use Rattle.rtk_message.specs.Decoded.{number_of}
@@ -47,7 +47,7 @@ abbrev pub is_excused : ℕ → Arrival → List Arrival → Bool
 is_excused n (At None m) before = is_repeat_of n m (first_with (number_of m) before)
 is_excused n (At (Some e) m) before = false
 
--- late: at least n distinct greater observation epochs came before, and it is no repeat of a station message
--- that came before n epochs did (this project's rule)
+-- late: at least n distinct greater observation epochs came before, and it is no repeat of a station
+-- message that came before n epochs did (this project's rule)
 abbrev pub late : ℕ → Arrival → List Arrival → Bool
 late n a before = nat_le n (greater (epoch_of a) (epochs before)) && not (is_excused n a before)

@@ -8,13 +8,11 @@ use Rattle.rtk_message.specs.Decoded.{number_of, IsValid}
 use Rattle.rtk_obs.specs.declared.cell.Cell.{Cell}
 use Rattle.rtk_obs.specs.declared.cell.CellEntry.{CellEntry}
 use Rattle.rtk_obs.specs.declared.code.Code.{Code}
-use Rattle.rtk_collect.specs.declared.offer.SatelliteCode.{SatelliteCode}
+use Rattle.rtk_collect.specs.declared.conflicts.SatelliteCode.{SatelliteCode}
 use Rattle.rtk_collect.specs.declared.offer.Offer.TheVariants.{Taken}
 use Rattle.rtk_collect.specs.Key.{key, KeysRise}
-use Rattle.rtk_collect.specs.Search.{EpochsFall}
-use Rattle.rtk_collect.specs.Equal.{equal_cells, equal_1005, equal_1006, equal_stations}
-use Rattle.rtk_collect.specs.EpochSet.{EpochSetView, cell_of, first_entry, conflicts}
-use Rattle.rtk_collect.specs.Slot.{is_first}
+use Rattle.rtk_collect.specs.EpochSet.{EpochsFall, EpochSetView, cell_of, first_entry, conflicts}
+use Rattle.rtk_collect.specs.Equal.{equal_cells, equal_1005, equal_1006, equal_stations, is_first}
 use Rattle.rtk_collect.specs.Arrival.{Arrival, At, message_of, cells_of}
 use Rattle.rtk_collect.specs.Late.{epochs, is_excused, late}
 use Rattle.rtk_collect.specs.Answer.{IsRightAnswer}
@@ -30,8 +28,8 @@ abbrev pub AreInTime : ℕ → List Arrival → Type 0
 AreInTime n [] = Unit {0}
 AreInTime n (a ∷ before) = (late n a before ≡ false) × AreInTime n before
 
--- with all late arrivals deleted each further one is late or not as before, none that stays is late,
--- the set of those that were not late is the same, and so is what is kept
+-- if all late arrivals are deleted, each further one is late or not as it was, none that stays is
+-- late, the same arrivals were not late, and the same is kept
 abbrev pub LateArrivalsChangeNothing : Type 0
 LateArrivalsChangeNothing = (n : ℕ) (arrivals : List Arrival) → ((a : Arrival) → late n a (without_late n arrivals) ≡ late n a arrivals)
     × AreInTime n (without_late n arrivals)
@@ -43,7 +41,7 @@ LateArrivalsChangeNothing = (n : ℕ) (arrivals : List Arrival) → ((a : Arriva
 abbrev pub ClosedOnlyGrow : Type 0
 ClosedOnlyGrow = (n : ℕ) (later before : List Arrival) → (more : List EpochSetView) × (closed n (later ++ before) ≡ more ++ closed n before)
 
--- the closed epochs fall: each that closes is greater than those that were closed before
+-- the closed epochs fall: each that closes is greater than the ones that closed before
 abbrev pub ClosedFall : Type 0
 ClosedFall = (n : ℕ) (arrivals : List Arrival) → EpochsFall (closed n arrivals)
 
@@ -55,11 +53,12 @@ ClosedAfter = (n : ℕ) (arrivals : List Arrival) → (closed n arrivals ≡ [])
 abbrev pub is_kept : ℕ → Message → List Arrival → Bool
 is_kept n m before = is_first equal_stations (station n (number_of m) before) m
 
--- a station message is excused exactly where it equals the kept one with its number
+-- a station message is excused exactly if it equals the kept one with its number
 abbrev pub ExcusedIsKept : Type 0
 ExcusedIsKept = (n : ℕ) (m : Message) (before : List Arrival) → is_excused n (At None m) before ≡ is_kept n m before
 
--- once n observation epochs have come, a station message is late unless it equals the kept one, and the kept ones stay
+-- once n observation epochs have come, a station message is late unless it equals the kept one, and
+-- the kept ones stay
 abbrev pub StationsAreFinal : Type 0
 StationsAreFinal = (n : ℕ) (before : List Arrival) → n ≤ length (epochs before)
     → ((m : Message) → late n (At None m) before ≡ not (is_kept n m before)) × ((a : Arrival) (k : ℕ) → station n k (a ∷ before) ≡ station n k before)
@@ -74,8 +73,9 @@ abbrev pub HasEpoch : ℕ → List EpochSetView → Type 0
 HasEpoch e [] = ⊥
 HasEpoch e (x ∷ xs) = (x.epoch ≡ e) ⊎ HasEpoch e xs
 
--- the kept epochs are those of the observations that were not late; each kept cell and station message came in one
--- that was not late; and where the arrivals are consistent, each that came so is kept: no part of a split epoch is dropped
+-- the kept epochs are the epochs of the observations that were not late; each kept cell and station
+-- message came in an arrival that was not late; and if the arrivals are consistent, each cell and
+-- station message that came so is kept: no part of a split epoch is dropped
 abbrev pub KeptAreTaken : Type 0
 KeptAreTaken = (n : ℕ) (arrivals : List Arrival) →
     ((e : ℕ) → HasEpoch e (kept n arrivals) ↔ ((m : Message) × IsTaken n (At (Some e) m) arrivals))
@@ -84,12 +84,13 @@ KeptAreTaken = (n : ℕ) (arrivals : List Arrival) →
     × (IsConsistent n arrivals → ((e : ℕ) (c : CellEntry) → IsTakenCell n e c arrivals → IsKept e c (kept n arrivals))
     × ((m : Message) → IsTaken n (At None m) arrivals → station n (number_of m) arrivals ≡ Some m))
 
--- what is kept of consistent arrivals depends on the set of those that were not late alone: not on their order or number
+-- what is kept of consistent arrivals depends only on which of them were not late: not on their order
+-- or number
 abbrev pub SetDecides : Type 0
 SetDecides = (n : ℕ) (first second : List Arrival) → IsConsistent n first → IsConsistent n second → ((a : Arrival) → IsTaken n a first ↔ IsTaken n a second)
     → (kept n first ≡ kept n second) × ((k : ℕ) → station n k first ≡ station n k second)
 
--- an epoch has at most 1,024 kept cells: those of 32 satellites, 16 codes and 2 kinds of message
+-- an epoch has at most 1,024 kept cells, for 32 satellites, 16 codes and 2 kinds of message
 abbrev pub KeptAreFew : Type 0
 KeptAreFew = (n : ℕ) (arrivals : List Arrival) → All (λ x. length x.cells ≤ 1024) (kept n arrivals)
 
@@ -97,7 +98,7 @@ KeptAreFew = (n : ℕ) (arrivals : List Arrival) → All (λ x. length x.cells �
 abbrev pub KeptAreGreatest : Type 0
 KeptAreGreatest = (n : ℕ) (arrivals : List Arrival) → map (λ x. x.epoch) (take n (kept n arrivals)) ≡ take n (epochs arrivals)
 
--- none of the cells of a message conflicts where it opens its epoch, since no two are of one satellite and code
+-- if a message opens its epoch, none of its cells conflicts, since no two have one satellite and code
 abbrev pub OpeningConflictsNot : Type 0
 OpeningConflictsNot = (m : Message) → IsValid m → conflicts (cells_of m) [] ≡ []
 
@@ -106,14 +107,15 @@ abbrev pub ClosingConflictsNot : Type 0
 ClosingConflictsNot = (n : ℕ) (a : Arrival) (before : List Arrival) (set : EpochSetView) (found : List SatelliteCode) → IsValid (message_of a)
     → IsRightAnswer n a before (Taken (Some set) found) → found ≡ []
 
--- two cells have one key exactly where satellite, code and kind of message are the same
+-- two cells have one key exactly if satellite, code and kind of message are the same
 abbrev pub KeysAreDistinct : Type 0
 KeysAreDistinct = (c d : CellEntry) → (key c ≡ key d) ↔ ((c.satellite ≡ d.satellite) × (c.code ≡ d.code) × (c.cell.source ≡ d.cell.source))
 
--- where keys rise, the first cell of a satellite and code is that of a 1074, if there is one, else that of a 1004
+-- if keys rise, the first cell of a satellite and code came in a 1074, if such a cell is there, else
+-- in a 1004
 abbrev pub FirstIsPreferred : Type 0
 FirstIsPreferred = (satellite : ℕ) (code : Code) (cells : List CellEntry) → KeysRise cells → first_entry satellite code cells ≡ cell_of satellite code cells
 
--- bodies are equal exactly where they are the same
+-- bodies are equal exactly if they are the same
 abbrev pub EqualityDecides : Type 0
 EqualityDecides = ((a b : Cell) → Decides (equal_cells a b) (a ≡ b)) × ((a b : Message1005) → Decides (equal_1005 a b) (a ≡ b)) × ((a b : Message1006) → Decides (equal_1006 a b) (a ≡ b))

@@ -4,11 +4,9 @@ pub mod EpochSet
 pub mod Arrival
 pub mod Late
 pub mod Accepted
-pub mod Search
 pub mod Answer
 pub mod Collector
 pub mod Position
 pub mod Offered
-pub mod Observed
-pub mod Slot
+pub mod Steps
 pub mod Laws

@@ -23,7 +23,7 @@ ClosesBelow Late sets = Unit {0}
 abbrev pub NotBelow : EpochSetView → List EpochSetView → Type 0
 NotBelow set sets = (e : ℕ) → All (λ x. e ≤ x.epoch) sets → e ≤ set.epoch
 
--- an epoch closes only where the window of n places was full: the least of it, with its cells
+-- an epoch closes only if the window of n places was full: its least epoch, with its cells
 abbrev pub ClosesLeast : ℕ → List EpochSetView → Offer → Type 0
 ClosesLeast n sets (Taken (Some set) found) = (length sets ≡ n) × ((greater : List EpochSetView) × (sets ≡ greater ++ set ∷ [])) × NotBelow set sets
 ClosesLeast n sets (Taken None found) = Unit {0}

@@ -1,19 +1,25 @@
 //! The collector: a window over the epochs of one station's messages.
 
 ghost use Rattle.std.specs.Prelude.{◌≡◌, ◌≤◌, List, [], length, IfOk, OnErr, None};
-ghost use Rattle.rtk_collect.specs.Arrival.{Arrival};
+ghost use Rattle.rtk_message.specs.Arp1005 as arp1005_spec;
+ghost use Rattle.rtk_message.specs.Arp1006 as arp1006_spec;
+ghost use Rattle.rtk_message.specs.declared.message.Message.TheVariants.{Arp1005 as MessageArp1005, Arp1006 as MessageArp1006};
+ghost use Rattle.rtk_collect.specs.Arrival.{Arrival, At};
 ghost use Rattle.rtk_collect.specs.Collector.{RepresentsArrivals};
 ghost use Rattle.rtk_collect.specs.Position.{IsPosition, IsPositionOf};
 ghost use Rattle.rtk_collect.specs.Offered.{AnswersArrival, ClosesBelow, ClosesLeast, LeastNeverFalls, WouldBeTaken};
 
 use crate::dated::Dated;
+use crate::epoch_set::EpochSet;
 use crate::left::Left;
 use crate::offer::Offer;
-use crate::open_epochs::OpenEpochs;
+use crate::stations::{Stations, offer_station, position};
+use crate::window::offer_cells;
 use arrayvec::ArrayVec;
-use rtk_message::Message;
+use rtk_message::{Arp1005, Arp1006, Message};
 use rtk_obs::{CellEntry, Position, put_cells_1004, put_cells_1074};
 use std::alloc::{AllocError, Global};
+use std::collections::VecDeque;
 use std::marker::Model;
 
 /// A window over the greatest epochs of one station's messages, with their kept cells, and the
@@ -22,37 +28,51 @@ use std::marker::Model;
 /// It holds at most as many epochs as it has places, each with at most 1,024 cells.
 #[derive(Drop)]
 pub struct Collector {
-    epochs: OpenEpochs,
+    alloc: Global,
+    // How many epochs the window holds at most.
+    places: usize,
+    // The epochs, from the greatest to the least.
+    sets: VecDeque<EpochSet>,
+    stations: Stations,
     // Room for the cells of the message in hand.
     room: ArrayVec<CellEntry, 64>,
 }
 
-// Clauses see the window: its places, its epochs from the greatest on, the 1005 and the 1006.
+// Clauses see the window: its places, its epochs from the greatest to the least, the 1005 and the
+// 1006.
 impl Model for Collector {
-    ghost use Rattle.rtk_collect.specs.Collector.{CollectorView};
+    ghost use Rattle.rtk_collect.specs.Collector.{CollectorView, IsCollectorView};
 
     ghost Value = { CollectorView };
 
-    ghost view = { λ c. c.epochs };
+    ghost view = { λ c. record { size = c.places; sets = c.sets.items; arp1005 = c.stations.arp1005; arp1006 = c.stations.arp1006 } };
+
+    ghost invariant = { λ c. IsCollectorView (record { size = c.places; sets = c.sets.items; arp1005 = c.stations.arp1005; arp1006 = c.stations.arp1006 }) };
 }
 
 impl Collector {
-    /// A window of so many places, which holds nothing. It takes no memory.
-    pub fn new(alloc: Global, window: usize) -> Collector
-        requires low { 2 ≤ window }
-        requires high { window ≤ 4096 }
-        ensures { result ≡ record { size = window; sets = []; arp1005 = None; arp1006 = None } }
+    /// A window with this number of places, which holds nothing. It takes no memory.
+    pub fn new(alloc: Global, places: usize) -> Collector
+        requires low { 2 ≤ places }
+        requires high { places ≤ 4096 }
+        ensures { result ≡ record { size = places; sets = []; arp1005 = None; arp1006 = None } }
     {
         Collector {
-            epochs: OpenEpochs::new(alloc, window),
+            alloc,
+            places,
+            sets: VecDeque::new(alloc),
+            stations: Stations {
+                arp1005: None,
+                arp1006: None,
+            },
             room: ArrayVec::new(),
         }
     }
 
     /// Takes what is new in a message, and says what became of it.
     ///
-    /// Only a message that would be taken takes memory, all of it before anything changes. On refusal
-    /// the collector is unchanged.
+    /// Only a message that would be taken takes memory, all of it before anything changes. If
+    /// memory is refused, the collector is unchanged.
     pub fn offer(&mut self, dated: Dated) -> Result<Offer, AllocError>
         ensures size { self.new.size ≡ self.old.size }
         ensures bound { length self.new.sets ≤ self.new.size }
@@ -68,16 +88,46 @@ impl Collector {
             Message::Obs1004(message) => {
                 let Some(epoch) = epoch else { unreachable!() };
                 put_cells_1004(message, &mut self.room);
-                self.epochs.offer_cells(epoch, self.room.as_slice())
+                let cells = self.room.as_slice();
+                offer_cells(&mut self.sets, self.places, self.alloc, epoch, cells)
             }
-            Message::Arp1005(message) => Ok(self.epochs.offer_1005(*message)),
-            Message::Arp1006(message) => Ok(self.epochs.offer_1006(*message)),
+            Message::Arp1005(message) => Ok(self.offer_1005(*message)),
+            Message::Arp1006(message) => Ok(self.offer_1006(*message)),
             Message::Msm1074(message) => {
                 let Some(epoch) = epoch else { unreachable!() };
                 put_cells_1074(message, &mut self.room);
-                self.epochs.offer_cells(epoch, self.room.as_slice())
+                let cells = self.room.as_slice();
+                offer_cells(&mut self.sets, self.places, self.alloc, epoch, cells)
             }
         }
+    }
+
+    // Takes a 1005, if it is the first and the window isn't full. It takes no memory.
+    fn offer_1005(&mut self, message: Arp1005) -> Offer
+        requires { arp1005_spec.IsValid message }
+        ensures size { self.new.size ≡ self.old.size }
+        ensures bound { length self.new.sets ≤ self.new.size }
+        ensures sets { self.new.sets ≡ self.old.sets }
+        ensures answer { AnswersArrival self.old (At None (MessageArp1005 message)) result self.new }
+        ensures closed { ClosesBelow result self.new.sets }
+        ensures least_closes { ClosesLeast self.old.size self.old.sets result }
+    {
+        let full = self.sets.len() == self.places;
+        offer_station(&mut self.stations.arp1005, message, full)
+    }
+
+    // Takes a 1006, if it is the first and the window isn't full. It takes no memory.
+    fn offer_1006(&mut self, message: Arp1006) -> Offer
+        requires { arp1006_spec.IsValid message }
+        ensures size { self.new.size ≡ self.old.size }
+        ensures bound { length self.new.sets ≤ self.new.size }
+        ensures sets { self.new.sets ≡ self.old.sets }
+        ensures answer { AnswersArrival self.old (At None (MessageArp1006 message)) result self.new }
+        ensures closed { ClosesBelow result self.new.sets }
+        ensures least_closes { ClosesLeast self.old.size self.old.sets result }
+    {
+        let full = self.sets.len() == self.places;
+        offer_station(&mut self.stations.arp1006, message, full)
     }
 
     /// The position of the first 1006, else of the first 1005, else zeros, with the height of the
@@ -86,7 +136,7 @@ impl Collector {
         ensures position { IsPosition self.now.arp1005 self.now.arp1006 result }
         ensures kept { (before : List Arrival) → RepresentsArrivals self.now before → IsPositionOf self.now.size before result }
     {
-        self.epochs.station()
+        position(self.stations)
     }
 
     /// Ends the collection: the epochs of the window are left.
@@ -95,6 +145,6 @@ impl Collector {
         ensures arp1005 { result.arp1005 ≡ self.arp1005 }
         ensures arp1006 { result.arp1006 ≡ self.arp1006 }
     {
-        self.epochs.close()
+        Left::new(self.sets, self.stations)
     }
 }

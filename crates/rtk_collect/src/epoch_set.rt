@@ -5,8 +5,8 @@ ghost use Rattle.rtk_obs.specs.Cell.{IsInRange};
 ghost use Rattle.rtk_collect.specs.Key.{KeysRise};
 ghost use Rattle.rtk_collect.specs.EpochSet.{joined, fresh, conflicts};
 
+use crate::conflicts::{Conflicts, Joined};
 use crate::merging::{compare, interleave, merge, rises};
-use crate::offer::Conflicts;
 use rtk_obs::{CellEntry, GpsMs};
 use std::alloc::{AllocError, Global};
 use std::marker::Model;
@@ -14,7 +14,7 @@ use std::marker::Model;
 /// An epoch with its cells: one for each satellite, code and kind of message, at most 1,024.
 ///
 /// They rise by satellite and code, a cell of a 1074 before one of a 1004. The satellites are 1 to
-/// 32; a strength is none, or 250 to 63,750 thousandths of a dB-Hz in steps of 250.
+/// 32; a strength is absent, or 250 to 63,750 thousandths of a dB-Hz in steps of 250.
 #[derive(Drop)]
 pub struct EpochSet {
     epoch: GpsMs,
@@ -33,13 +33,6 @@ impl Model for EpochSet {
     ghost view = { λ s. record { epoch = s.epoch; cells = s.cells.items } };
 
     ghost invariant = { λ s. KeysRise s.cells.items × All IsInRange s.cells.items };
-}
-
-/// How many cells of a message were new, and which conflict.
-#[derive(Drop)]
-pub(crate) struct Joined {
-    pub(crate) fresh: usize,
-    pub(crate) conflicts: Conflicts,
 }
 
 impl EpochSet {
@@ -81,7 +74,8 @@ impl EpochSet {
         ensures refused { OnErr result (0 < fresh cells.now self.old.cells) }
     {
         if self.cells.is_empty() && rises(cells) {
-            // The common case: the cells of the epoch as they stand.
+            // The common case: the cells of the epoch as they stand. `?` would do the same, but its
+            // answer has another form in the proof, where each clause on `Err` takes a step more.
             if let Err(_) = self.cells.extend_from_slice(cells) {
                 return Err(AllocError);
             }
@@ -105,7 +99,7 @@ impl EpochSet {
         Ok(Joined { fresh, conflicts })
     }
 
-    // Takes cells whose keys rise, of which so many are new.
+    // Takes cells whose keys rise; `count` of them are new.
     fn join_rising(&mut self, cells: &[CellEntry], count: usize) -> Result<Joined, AllocError>
         requires few { length cells.now ≤ 64 }
         requires range { All IsInRange cells.now }

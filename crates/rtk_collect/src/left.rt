@@ -18,7 +18,7 @@ pub struct Left {
     stations: Stations,
 }
 
-// Clauses see the epochs that are left, from the greatest on, the 1005 and the 1006.
+// Clauses see the epochs that are left, from the greatest to the least, the 1005 and the 1006.
 impl Model for Left {
     ghost use Rattle.rtk_collect.specs.Collector.{LeftView, IsLeftView};
 
@@ -30,6 +30,7 @@ impl Model for Left {
 }
 
 impl Left {
+    /// These epochs and station messages.
     pub(crate) fn new(sets: VecDeque<EpochSet>, stations: Stations) -> Left
         requires { IsLeftView (record { sets = sets.items; arp1005 = stations.arp1005; arp1006 = stations.arp1006 }) }
         ensures { result ≡ record { sets = sets.items; arp1005 = stations.arp1005; arp1006 = stations.arp1006 } }
@@ -37,7 +38,7 @@ impl Left {
         Left { sets, stations }
     }
 
-    /// The least epoch that is left, with its kept cells. `None` exactly where none is left.
+    /// The least epoch that is left, with its kept cells. `None` exactly if no epoch is left.
     pub fn next_left(&mut self) -> Option<EpochSet>
         ensures next { IfSome result (λ set. self.old.sets ≡ self.new.sets ++ set ∷ []) }
         ensures least { IfSome result (λ set. All (λ x. set.epoch < x.epoch) self.new.sets) }

@@ -1,12 +1,11 @@
-//! The cells of a message join those of their epoch.
+//! The cells of a message join the cells of their epoch.
 
 ghost use Rattle.std.specs.Prelude.{◌≡◌, ◌≢◌, ◌≤◌, ◌<◌, ◌+◌, [], ◌∷◌, ◌++◌, not, length, slice_index_or, vec_len, vec_capacity, IsTrue, if◌then◌else◌};
 ghost use Rattle.rtk_collect.specs.Key.{key, KeysRise};
 ghost use Rattle.rtk_collect.specs.EpochSet.{with_cell, with_cells, cell_under, fresh, conflict, conflicts};
-ghost use Rattle.rtk_collect.specs.Search.{lower};
+ghost use Rattle.rtk_collect.specs.Steps.Search.{lower};
 
-use crate::epoch_set::Joined;
-use crate::offer::{Conflicts, SatelliteCode};
+use crate::conflicts::{Conflicts, Joined, SatelliteCode};
 use rtk_obs::{CellEntry, CellSource};
 
 // The place of a cell in the order of an epoch: by satellite, code and kind of message.
@@ -34,7 +33,7 @@ pub(crate) fn rises(cells: &[CellEntry]) -> bool
     true
 }
 
-/// How many of the cells have a key under which none is kept; where none has, also which conflict.
+/// How many of the cells have a key under which no cell is kept; if none has, also which conflict.
 pub(crate) fn compare(cells: &[CellEntry], kept: &[CellEntry]) -> Joined
     requires rises { KeysRise kept.now }
     requires few { length cells.now ≤ 64 }
@@ -62,7 +61,7 @@ pub(crate) fn compare(cells: &[CellEntry], kept: &[CellEntry]) -> Joined
     }
 }
 
-/// Adds the cells whose keys are new, for which there is room, and says which conflict.
+/// Adds the cells whose keys are new, and says which conflict. There is room for them.
 pub(crate) fn merge(kept: &mut Vec<CellEntry>, cells: &[CellEntry]) -> Conflicts
     requires rises { KeysRise kept.old.items }
     requires few { length cells.now ≤ 64 }
@@ -120,7 +119,7 @@ pub(crate) fn interleave(
     conflicts
 }
 
-// Adds a cell behind the others, for which there is room.
+// Adds a cell after the others; there is room for it.
 fn append(all: &mut Vec<CellEntry>, cell: &CellEntry)
     requires { length all.old.items < vec_capacity all.old }
     ensures items { all.new.items ≡ all.old.items ++ cell.now ∷ [] }
@@ -131,7 +130,7 @@ fn append(all: &mut Vec<CellEntry>, cell: &CellEntry)
     };
 }
 
-// Adds cells behind the others, for which there is room.
+// Adds cells after the others; there is room for them.
 fn append_all(all: &mut Vec<CellEntry>, cells: &[CellEntry])
     requires { length all.old.items + length cells.now ≤ vec_capacity all.old }
     ensures { all.new.items ≡ all.old.items ++ cells.now }

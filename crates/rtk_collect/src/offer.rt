@@ -1,11 +1,7 @@
-//! The answer to a message that is offered, with the cells of it that conflict.
+//! The answer to a message that is offered.
 
-ghost use Rattle.std.specs.Prelude.{◌≡◌, ◌<◌, ◌≤◌, ◌↔◌, [], ◌∷◌, ◌++◌, length, IsTrue};
-
+use crate::conflicts::Conflicts;
 use crate::epoch_set::EpochSet;
-use arrayvec::ArrayVec;
-use rtk_obs::Code;
-use std::marker::Model;
 
 /// What became of an offered message.
 #[derive(Drop)]
@@ -19,71 +15,12 @@ pub enum Offer {
     },
     /// Nothing is new, and nothing conflicts.
     Repeat,
-    /// No cell is new, and these conflict with the kept ones; or it differs from the first of its number.
+    /// No cell is new, and some conflict with the kept ones; or it differs from the first of its
+    /// number.
     Conflict {
         /// The cells of the message that conflict; none for a 1005 or 1006.
         conflicts: Conflicts,
     },
     /// As many greater epochs came before as the window has places.
     Late,
-}
-
-/// The satellite and the code of a cell.
-#[derive(Clone, Copy, Debug, Default, PartialEq, Eq)]
-pub struct SatelliteCode {
-    /// The satellite, 1 to 32.
-    pub satellite: u8,
-    pub code: Code,
-}
-
-/// Satellites and codes of the cells of one message, in its order, at most 64. A contract sees the list.
-#[derive(Drop)]
-pub struct Conflicts {
-    list: ArrayVec<SatelliteCode, 64>,
-}
-
-// Clauses see the list.
-impl Model for Conflicts {
-    ghost use Rattle.std.specs.Prelude.{List, length, ◌≤◌};
-    ghost use Rattle.rtk_collect.specs.declared.offer.SatelliteCode.{SatelliteCode};
-
-    ghost Value = { List SatelliteCode };
-
-    ghost view = { λ c. c.list.items };
-
-    ghost invariant = { λ c. length c.list.items ≤ 64 };
-}
-
-impl Conflicts {
-    /// None.
-    pub(crate) fn new() -> Conflicts
-        ensures { result ≡ [] }
-    {
-        Conflicts {
-            list: ArrayVec::new(),
-        }
-    }
-
-    /// Whether there is none.
-    pub fn is_empty(&self) -> bool
-        ensures { IsTrue result ↔ (self.now ≡ []) }
-    {
-        self.list.len() == 0
-    }
-
-    /// Those cells, in the order of the message.
-    pub fn as_slice(&self) -> &[SatelliteCode]
-        ensures value { result.now ≡ self.now }
-        ensures few { length result.now ≤ 64 }
-    {
-        self.list.as_slice()
-    }
-
-    /// Adds one behind the others.
-    pub(crate) fn push(&mut self, cell: SatelliteCode)
-        requires { length self.old < 64 }
-        ensures { self.new ≡ self.old ++ cell ∷ [] }
-    {
-        self.list.push(cell);
-    }
 }

@@ -6,9 +6,10 @@ ghost use Rattle.std.specs.Prelude.{◌≡◌};
 ghost use Rattle.std.specs.Option.{ForSome};
 ghost use Rattle.rtk_obs.specs.PositionFields.{HasFields};
 ghost use Rattle.rtk_collect.specs.Position.{IsPosition};
-ghost use Rattle.rtk_collect.specs.Slot.{AnswersStationMessage};
+ghost use Rattle.rtk_collect.specs.Steps.Slot.{AnswersStationMessage};
 
-use crate::offer::{Conflicts, Offer};
+use crate::conflicts::Conflicts;
+use crate::offer::Offer;
 use rtk_message::{Arp1005, Arp1006};
 use rtk_obs::Position;
 
@@ -19,7 +20,8 @@ pub(crate) struct Stations {
     pub(crate) arp1006: Option<Arp1006>,
 }
 
-/// Keeps the first station message of its number, if the window isn't full, and says what became of it.
+/// Keeps the first station message of its number, if the window isn't full, and says what became
+/// of it.
 pub(crate) fn offer_station<T: PartialEq + Copy>(
     slot: &mut Option<T>,
     message: T,
@@ -68,7 +70,7 @@ pub(crate) fn position(stations: Stations) -> Position
     }
 }
 
-// By value, so that the range of each field's type is known.
+// The position of a 1005. By value, so that the range of each field's type is known.
 fn position_of_1005(arp: Arp1005) -> Position
     requires { arp1005_spec.IsValid arp }
     ensures { HasFields arp.x arp.y arp.z 0 result }
@@ -81,6 +83,7 @@ fn position_of_1005(arp: Arp1005) -> Position
     }
 }
 
+// The position and the height of a 1006.
 fn position_of_1006(arp: Arp1006) -> Position
     requires { arp1006_spec.IsValid arp }
     ensures { HasFields arp.x arp.y arp.z arp.height result }

@@ -3,12 +3,14 @@
 ghost use Rattle.std.specs.Prelude.{◌≡◌, ◌≢◌, ◌<◌, ◌≤◌, ◌+◌, ◌++◌, [], not, min, IsTrue, length, IfOk, OnErr, OnOk, All, slice_index_or, slice_set, option_to_list};
 ghost use Rattle.std.specs.List.{insert};
 ghost use Rattle.rtk_obs.specs.Cell.{IsInRange};
-ghost use Rattle.rtk_collect.specs.EpochSet.{EpochSetView, joined, fresh, conflicts};
+ghost use Rattle.rtk_collect.specs.EpochSet.{EpochSetView, joined, fresh, conflicts, EpochsFall};
 ghost use Rattle.rtk_collect.specs.Accepted.{no_cells};
-ghost use Rattle.rtk_collect.specs.Search.{leading, EpochsFall};
+ghost use Rattle.rtk_collect.specs.Steps.Search.{leading};
+ghost use Rattle.rtk_collect.specs.Steps.Observed.{IsAnswerOf, AddsCells, WouldTakeCells};
 
-use crate::epoch_set::{EpochSet, Joined};
-use crate::offer::Conflicts;
+use crate::conflicts::{Conflicts, Joined};
+use crate::epoch_set::EpochSet;
+use crate::offer::Offer;
 use rtk_obs::{CellEntry, GpsMs};
 use std::alloc::{AllocError, Global};
 use std::collections::VecDeque;
@@ -40,7 +42,7 @@ pub(crate) fn has_epoch(sets: &VecDeque<EpochSet>, at: usize, epoch: GpsMs) -> b
     at < sets.len() && sets[at].epoch() == epoch
 }
 
-/// Joins cells to the epoch at a place. On refusal nothing changes.
+/// Joins cells to the epoch at a place. If memory is refused, nothing changes.
 pub(crate) fn join_at(
     sets: &mut VecDeque<EpochSet>,
     at: usize,
@@ -85,15 +87,65 @@ pub(crate) fn open_at(
     Ok(joined.conflicts)
 }
 
-/// Takes out the least epoch, where there are more than the window has places.
-pub(crate) fn close_least(sets: &mut VecDeque<EpochSet>, window: usize) -> Option<EpochSet>
-    requires { length sets.old.items ≤ window + 1 }
+/// Takes out the least epoch, if there are more than the window has places.
+pub(crate) fn close_least(sets: &mut VecDeque<EpochSet>, places: usize) -> Option<EpochSet>
+    requires { length sets.old.items ≤ places + 1 }
     ensures items { sets.old.items ≡ sets.new.items ++ option_to_list result }
-    ensures few { length sets.new.items ≡ min window (length sets.old.items) }
+    ensures few { length sets.new.items ≡ min places (length sets.old.items) }
 {
-    if sets.len() > window {
+    if sets.len() > places {
         sets.pop_back()
     } else {
         None
     }
+}
+
+/// Takes the new cells of an epoch, or opens it, in a window that has this number of places.
+pub(crate) fn offer_cells(
+    sets: &mut VecDeque<EpochSet>,
+    places: usize,
+    alloc: Global,
+    epoch: GpsMs,
+    cells: &[CellEntry],
+) -> Result<Offer, AllocError>
+    requires fits { length sets.old.items ≤ places }
+    requires falls { EpochsFall sets.old.items }
+    requires few { length cells.now ≤ 64 }
+    requires range { All IsInRange cells.now }
+    ensures added { IfOk result (λ offer. AddsCells places epoch cells.now sets.old.items sets.new.items offer) }
+    ensures err { OnErr result (sets.new.items ≡ sets.old.items) }
+    ensures refused { OnErr result (WouldTakeCells places epoch cells.now sets.old.items) }
+{
+    let at = place(sets, epoch);
+    if has_epoch(sets, at, epoch) {
+        let Ok(joined) = join_at(sets, at, cells) else {
+            return Err(AllocError);
+        };
+        return Ok(answer_of(joined));
+    }
+    if at == places {
+        return Ok(Offer::Late);
+    }
+    let Ok(conflicts) = open_at(sets, at, alloc, epoch, cells) else {
+        return Err(AllocError);
+    };
+    let closed = close_least(sets, places);
+    Ok(Offer::Taken { closed, conflicts })
+}
+
+// What became of cells that joined an epoch of the window.
+fn answer_of(joined: Joined) -> Offer
+    ensures { IsAnswerOf joined.fresh joined.conflicts result }
+{
+    let conflicts = joined.conflicts;
+    if joined.fresh > 0 {
+        return Offer::Taken {
+            closed: None,
+            conflicts,
+        };
+    }
+    if conflicts.is_empty() {
+        return Offer::Repeat;
+    }
+    Offer::Conflict { conflicts }
 }

@@ -8,11 +8,10 @@ use Rattle.rtk_message.specs.Decoded.{number_of}
 use Rattle.rtk_obs.specs.declared.cell.CellEntry.{CellEntry}
 use Rattle.rtk_collect.specs.Arrival.{Arrival, At, epoch_of, message_of, cells_of}
 use Rattle.rtk_collect.specs.Accepted.{kept, IsTaken, AmongCells, IsConsistent}
-use Rattle.rtk_collect.specs.EpochSet.{EpochSetView}
+use Rattle.rtk_collect.specs.EpochSet.{EpochSetView, EpochsFall}
 use Rattle.rtk_collect.specs.Key.{KeysRise}
 use Rattle.rtk_collect.specs.Late.{late}
 use Rattle.rtk_collect.specs.Laws.{without_late, AreInTime, IsKept, HasEpoch}
-use Rattle.rtk_collect.specs.Search.{EpochsFall}
 use Rattle.rtk_convert.specs.declared.frame_class.FrameClass.TheVariants.{Dated}
 use Rattle.rtk_convert.specs.declared.counts.Counts.{Counts}
 use Rattle.rtk_convert.specs.Converter.{IsAfterClosing, IsAfterClosingAll}

@@ -1,7 +1,7 @@
 //! The lines of a report, as text.
 
 ghost use Rattle.std.specs.Prelude.{◌≡◌, ◌<◌, ◌++◌, [], Some, None, Option, ℕ, decimal, flat_map, IfOk, OnOk};
-ghost use Rattle.rtk_collect.specs.declared.offer.SatelliteCode.{SatelliteCode};
+ghost use Rattle.rtk_collect.specs.declared.conflicts.SatelliteCode.{SatelliteCode};
 ghost use Rattle.rtk_rinex.specs.Columns.{last_digits};
 ghost use Rattle.rtk_rinex.specs.Reading.{reading_of};
 ghost use Rattle.rtk_convert.specs.Report.{fault_text, refused_line, cell_lines, conflict_lines, offer_lines};

@@ -85,7 +85,7 @@ unfolding first_entries
 first_others [] = tt
 first_others (s ∷ ss) = (others s (first_entries ss), pairs_filter AreOthers (λ (t : Satellite). not (has_number s.satellite t)) (first_entries ss) (first_others ss))
 
--- a code of L1 stands before place 2, one of L2 behind place 5
+-- a code of L1 stands before place 2, one of L2 after place 5
 l1_place : (b : Bool) → place_of (l1_code_of b) < 2
 l1_place true = omega arith
 l1_place false = omega arith
@@ -177,7 +177,7 @@ module _ (satellites signals : List ℕ) where
       (all_from (λ (s : Slot). (suc k ≤ s.row) × (s.row < n)) (λ (s : Slot). (k ≤ s.row) × (s.row < n)) (λ s r. (omega (arith, r.0), r.1))
       (join_from (row_slots signals) (suc k) bs) (rows_from n (suc k) bs (omega arith)))
 
-  -- slots of a row differ from those of later rows, which are of other satellites
+  -- slots of a row differ from slots of later rows, which belong to other satellites
   across : Pairs IsBelow satellites → (k : ℕ) (later : List Slot) (ps : List ℕ) → AllByRecursion (λ s. (suc k ≤ s.row) × (s.row < length satellites)) later
       → AllByRecursion (λ s. AllByRecursion (AreOtherSlots s) later) (map (slot_at k) ps)
   across rise k later [] a = tt

@@ -14,11 +14,11 @@ use Rattle.rtk_obs.specs.declared.cell.CellEntry.{CellEntry}
 use Rattle.rtk_obs.specs.Cell.{is_satellite, entry_of, IsSatellite, IsStrength, IsInRange}
 use Rattle.rtk_obs.specs.Scaling.{strength_of}
 use Rattle.rtk_obs.specs.LegacyCells.{first_entries, has_number, satellite_entries, cells_of_1004, l1_code_of, l2_code_of, l1_cell_of, l2_cell_of}
-use Rattle.rtk_obs.specs.LegacyFields.{HasWidths}
+use Rattle.rtk_obs.specs.Steps.LegacyFields.{HasWidths}
 
 -- ---- the first entry of a satellite
 
--- the entry itself, where no entry of its satellite stands among those
+-- the entry itself, if no entry of its satellite stands among these
 abbrev pub fresh : List Satellite → Satellite → List Satellite
 fresh ss s = cond (list_any (has_number s.satellite) ss) [] (s ∷ [])
 

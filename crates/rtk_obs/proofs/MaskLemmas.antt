@@ -61,7 +61,7 @@ set_bits-none w =
     let e : w + 0 ≡ w = omega arith in
     (sym (ap (λ (v : ℕ). set_bits_from 1 v 0) e)) ∙ set_bits_from-above w 1 0 0 (omega arith)
 
--- the top bit j of a mask has place w - j; the others are those of the rest
+-- the top bit j of a mask has place w - j; the other places are the places of the rest
 pub set_bits-step : (w j mask : ℕ) → j < w → 2 ^ j ≤ mask → mask < 2 ^ suc j → set_bits w mask ≡ (w - j) ∷ set_bits w (mask - 2 ^ j)
 set_bits-step w j mask inside from below =
     let e : (w - suc j) + suc j ≡ w = omega arith in
@@ -173,7 +173,7 @@ module _ {X Y : Type 0} (f : ℕ → X → List Y) where
       let e : suc k + length xs ≡ k + suc (length xs) = omega arith in
       rw (join_from-snoc (suc k) xs x, e) (sym (append_assoc (f k y) (join_from f (suc k) xs) (f (k + suc (length xs)) x)))
 
-  -- the first i and the next one have room where all have it
+  -- the first i and the next one have room if all have it
   pub join_from-room : (k : ℕ) (xs : List X) (i : ℕ) (d : X) → i < length xs → length (join_from f k (take i xs)) + length (f (k + i) (get_or xs i d)) ≤ length (join_from f k xs)
   unfolding join_from
   join_from-room k [] i d h = absurd (omega arith)

@@ -1,4 +1,4 @@
--- The cells of a 1074: how many there are, the widths of their fields, and the ranges of their values.
+-- The cells of a 1074: their number, the widths of their fields, and the ranges of their values.
 use Rattle.std.proofs.Common.{◌≡◌, ℕ, zero, suc, ◌+◌, ◌*◌, ◌^◌, ◌<◌, ◌≤◌, [], ◌∷◌, ◌++◌, List, length, take, get_or, map, Option, Some, None, refl, sym, ◌∙◌, subst, arith, nat_eq, true, false, Bool, cond, count_ones}
 use Rattle.std.specs.Prelude.{IfSome}
 use Rattle.std.specs.List.{All, AllByRecursion}
@@ -18,7 +18,7 @@ use Rattle.rtk_obs.specs.Scaling.{strength_of}
 use Rattle.rtk_obs.specs.MsmCells.{satellites_of, signals_of, row_slots, slots_of, coded_entry, slot_entry, code_of_signal, cells_of_1074}
 use Rattle.rtk_obs.proofs.MaskLemmas.{set_bits_from-length, count-set_bits_from, length-join_from, join_from-length, join_from-room, all-join_from}
 
--- the satellite of a slot: that of its row
+-- the satellite of a slot is the satellite of its row
 abbrev pub satellite_in : List ℕ → Slot → ℕ
 satellite_in satellites s = get_or satellites (s.row) 0
 

@@ -12,7 +12,7 @@ use Rattle.rtk_obs.specs.Code.{place_of, band_of}
 use Rattle.rtk_obs.specs.Slip.{EpochCell, has_phase}
 use Rattle.rtk_obs.specs.Cell.{IsSatellite}
 use Rattle.rtk_obs.specs.Rollover.{last_after, last_phase, track_of, rolls_since}
-use Rattle.rtk_obs.specs.Steps.{Step, epochs_of, IsFalling, PhasesFall}
+use Rattle.rtk_obs.specs.CellSteps.{Step, epochs_of, IsFalling, PhasesFall}
 use Rattle.rtk_obs.specs.Tracks.{IsLater, track_at, place_of_signal, RepresentsSteps}
 use Rattle.rtk_obs.specs.TracksLaws.{IsGreatest, LastIsGreatest, LaterThanSteps, LaterAfterStep}
 
@@ -241,7 +241,7 @@ represents_step places now steps a b e t k ha len same place later is r =
 pub later_empty : (o : Option Track) (x : ℕ) → o ≡ None → IsLater o x
 later_empty o x e = subst (λ (p : Option Track). IsLater p x) (sym e) tt
 
--- an epoch after all last phases and after a step is after all last phases behind the step
+-- an epoch after all last phases and after a step comes after all last phases that the step leaves
 pub all_later_step : (old new : List (Option Track)) (a : ℕ) (b : Code) (e : EpochCell) (x : ℕ)
     → track_at new a b ≡ last_after (band_of b) (track_at old a b) e
     → ((s : ℕ) (c : Code) → place_of_signal s c ≢ place_of_signal a b → track_at new s c ≡ track_at old s c)

@@ -3,7 +3,8 @@ use Rattle.std.specs.Prelude.{◌≡◌, ℕ, ◌+◌, ◌*◌, ◌<◌, ◌≤�
 use Rattle.jiff_core.specs.Calendar.{IsCivilDate, days_from_civil}
 use Rattle.rtk_obs.specs.declared.time.Civil.{Civil}
 
--- the reading's date is a day of the Gregorian calendar, k days after 1980-01-06, which is 3657 days after 1970-01-01
+-- the reading's date is a day of the Gregorian calendar, k days after 1980-01-06, which is 3657 days
+-- after 1970-01-01
 abbrev pub IsOnDay : ℕ → Civil → Type 0
 IsOnDay k c =
     IsCivilDate (pos c.year) c.month c.day × (days_from_civil (pos c.year) c.month c.day ≡ pos (3657 + k))

@@ -22,29 +22,29 @@ l1_code_of true = C1P
 abbrev pub l2_code_of : ℕ → Code
 l2_code_of n = if n == 0 then C2X else if n == 1 then C2P else if n == 2 then C2D else C2W
 
--- the invalid mark of DF012 and DF018, -524288, and that of DF017, -8192
+-- the invalid mark of DF012 and DF018 is -524288, the one of DF017 is -8192
 abbrev pub phase_difference : ℤ → Option ℤ
 phase_difference field = unless_invalid (negsuc 524_287) field
 
 abbrev pub range_difference : ℤ → Option ℤ
 range_difference field = unless_invalid (negsuc 8191) field
 
--- the pseudorange of L1, which stands as long as DF012 is valid
+-- the pseudorange of L1, if DF012 is valid
 abbrev pub l1_range_of : ℤ → Option ℤ → Option ℤ
 l1_range_of length None = None
 l1_range_of length (Some offset) = Some (range_of_length length)
 
--- the pseudorange of L2, which stands as long as DF017 is valid
+-- the pseudorange of L2, if DF017 is valid
 abbrev pub l2_range_of : ℤ → Option ℤ → Option ℤ
 l2_range_of length None = None
 l2_range_of length (Some difference) = Some (range_of_length (l2_length length difference))
 
--- a phase behind the pseudorange of L1, which stands as long as DF012 or DF018 is valid
+-- a phase: the pseudorange of L1 and a difference, if DF012 or DF018 is valid
 abbrev pub legacy_phase_of : Band → ℤ → Option ℤ → Option ℤ
 legacy_phase_of band length None = None
 legacy_phase_of band length (Some offset) = Some (phase_of_length band (length +ℤ offset))
 
--- the pseudorange of L1 of a satellite; L2 uses it also where DF012 is invalid
+-- the pseudorange of L1 of a satellite; L2 uses it also if DF012 is invalid
 abbrev pub length_of : Satellite → ℤ
 length_of s = l1_length s.l1_range s.modulus_ambiguity
 
@@ -79,7 +79,7 @@ satellite_entries s =
 abbrev pub has_number : ℕ → Satellite → Bool
 has_number n s = s.satellite == n
 
--- of the entries of a satellite the first stands (this project's rule)
+-- the first entry of each satellite stands (this project's rule)
 unfoldable pub first_entries : List Satellite → List Satellite
 first_entries [] = []
 first_entries (s ∷ ss) = s ∷ filter (λ t. not (has_number s.satellite t)) (first_entries ss)

@@ -9,10 +9,10 @@ pub mod Scaling
 pub mod Mask
 pub mod Cell
 pub mod LegacyCells
-pub mod LegacyFields
+pub mod Steps
 pub mod MsmCells
 pub mod Slip
 pub mod Rollover
-pub mod Steps
+pub mod CellSteps
 pub mod Tracks
 pub mod TracksLaws

@@ -1,4 +1,5 @@
--- The cells of a 1074 (RTCM 10403.3, MSM4; its codes are this project's assignment of the signals of Table 3.5-91 to RINEX).
+-- The cells of a 1074 (RTCM 10403.3, MSM4). Which code of RINEX a signal of Table 3.5-91 has is this
+-- project's assignment.
 use Rattle.std.specs.Prelude.{ℕ, ◌-◌, ◌==◌, ℤ, pos, negsuc, ◌+ℤ◌, false, List, [], ◌∷◌, length, map, slice_index, slice_index_or, Option, Some, None, if◌then◌else◌}
 use Rattle.rtk_message.specs.declared.msm1074.Msm1074.{Msm1074}
 use Rattle.rtk_obs.specs.declared.code.Band.{Band}
@@ -48,7 +49,7 @@ slots_of m = join_from (row_slots (signals_of m)) 0 m.cell_mask
 abbrev pub rough_of : ℕ → ℕ → Option ℤ
 rough_of ms fraction = if ms == 255 then None else Some (rough_time ms fraction)
 
--- the pseudorange, where the rough range and DF400 (-16384 is invalid) are valid
+-- the pseudorange, if the rough range and DF400 (-16384 is invalid) are valid
 abbrev pub fine_range_of : ℤ → Option ℤ → Option ℤ
 fine_range_of rough None = None
 fine_range_of rough (Some fine) = Some (range_of_time (range_time rough fine))
@@ -57,7 +58,7 @@ abbrev pub msm_range_of : Option ℤ → ℤ → Option ℤ
 msm_range_of None field = None
 msm_range_of (Some rough) field = fine_range_of rough (unless_invalid (negsuc 16_383) field)
 
--- the phase, where the rough range and DF401 (-2097152 is invalid) are valid
+-- the phase, if the rough range and DF401 (-2097152 is invalid) are valid
 abbrev pub fine_phase_of : Band → ℤ → Option ℤ → Option ℤ
 fine_phase_of band rough None = None
 fine_phase_of band rough (Some fine) = Some (phase_of_time band (rough +ℤ fine))

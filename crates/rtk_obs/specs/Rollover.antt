@@ -8,7 +8,7 @@ use Rattle.rtk_obs.specs.Slip.{EpochCell, has_phase, is_legacy, has_slipped, sli
 
 -- An offset d, in 0.0005 m, is d * f / (2 * c) millicycles (c is 299,792,458 m/s). DF012 and DF018
 -- roll over by 1500 cycles to stay in range, so a change of more than 750 cycles is a roll: one
--- less where the offset rose by more, one more where it fell by more.
+-- less if the offset rose by more, one more if it fell by more.
 abbrev pub half_roll : ℕ
 half_roll = 1_500_000 * 299_792_458
 
@@ -18,28 +18,28 @@ roll_of band d =
     else if int_lt (d *ℤ pos (frequency_of band)) (neg_ℤ (pos half_roll)) then pos 1
     else pos 0
 
--- the roll count from one offset to the next; 0 where one of them is missing
+-- the roll count from one offset to the next; 0 if one of them is missing
 abbrev pub rolls_between : Band → ℤ → Option ℤ → Option ℤ → ℤ
 rolls_between band rolls (Some a) (Some b) = rolls +ℤ roll_of band (b -ℤ a)
 rolls_between band rolls _ _ = pos 0
 
--- the roll count behind the last phase: 0 at a slip, and where one of the two phases is of a 1074
-abbrev pub rolls_behind : Band → Track → EpochCell → ℤ
-rolls_behind band last e =
+-- the roll count after the last phase: 0 at a slip, and if one of the two phases is of a 1074
+abbrev pub rolls_after : Band → Track → EpochCell → ℤ
+rolls_after band last e =
     if has_slipped last e || not (is_legacy last.source && is_legacy e.cell.source) then pos 0
     else rolls_between band last.rolls last.offset e.cell.offset
 
--- and 0 where there is no earlier phase
+-- and 0 if there is no earlier phase
 abbrev pub rolls_since : Band → Option Track → EpochCell → ℤ
 rolls_since band None e = pos 0
-rolls_since band (Some last) e = rolls_behind band last e
+rolls_since band (Some last) e = rolls_after band last e
 
 -- what is remembered of a phase, with its roll count
 abbrev pub track_of : Band → Option Track → EpochCell → Track
 track_of band last e =
     record { epoch = e.epoch; lock_time_ms = e.cell.lock_time_ms; source = e.cell.source; offset = e.cell.offset; rolls = rolls_since band last e }
 
--- the last phase after an epoch: that of the epoch's cell, if it has one
+-- the last phase after an epoch: the phase of the epoch's cell, if it has one
 abbrev pub last_after : Band → Option Track → EpochCell → Option Track
 last_after band last e = if has_phase e then Some (track_of band last e) else last
 
@@ -55,7 +55,7 @@ digits_since band last e =
     if has_phase e then record { slip = slip_since last e; half = e.cell.half; rolls = rolls_since band last e }
     else record { slip = false; half = false; rolls = pos 0 }
 
--- a value within the limits of a RINEX observation with three decimals in 14 columns, in thousandths
+-- a value within the limits of an observation of RINEX: three decimals in 14 columns, in thousandths
 abbrev pub within_limits : ℤ → Option ℤ
 within_limits v =
     if int_le (negsuc 999_999_999_998) v && int_le v (pos 9_999_999_999_999) then Some v else None

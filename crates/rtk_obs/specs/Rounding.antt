@@ -1,7 +1,7 @@
 -- Rounding to the nearest whole number; a tie goes away from 0 (this project's rule).
 use Rattle.std.specs.Prelude.{◌≡◌, ℕ, ◌+◌, ◌*◌, ◌/◌, ◌<◌, ◌≤◌, ℤ, pos, neg_ℤ, ◌*ℤ◌, ◌-ℤ◌, unsigned_abs, int_lt, if◌then◌else◌}
 
--- v is a whole number nearest to n / d, and where two are equally near the one further from 0
+-- v is a whole number nearest to n / d, and if two are equally near, the one further from 0
 abbrev pub IsRounded : ℤ → ℕ → ℤ → Type 0
 IsRounded n d v =
     (2 * unsigned_abs (v *ℤ pos d -ℤ n) ≤ d)

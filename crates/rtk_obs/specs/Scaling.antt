@@ -1,15 +1,15 @@
--- Exact values of the fields of 1004 and 1074, each rounded once (RTCM 10403.3, messages 1004 and MSM4).
+-- Exact values of the fields of 1004 and 1074, each rounded once (RTCM 10403.3).
 use Rattle.std.specs.Prelude.{ℕ, ◌+◌, ◌*◌, ◌==◌, ℤ, pos, ◌+ℤ◌, ◌*ℤ◌, Option, Some, None, if◌then◌else◌}
 use Rattle.std.specs.Ordering.{int_eq}
 use Rattle.rtk_obs.specs.declared.code.Band.{Band}
 use Rattle.rtk_obs.specs.Code.{frequency_of}
 use Rattle.rtk_obs.specs.Rounding.{rounded}
 
--- a field, or none where it has its invalid mark
+-- a field, or none if it has its invalid mark
 abbrev pub unless_invalid : ℤ → ℤ → Option ℤ
 unless_invalid mark field = if int_eq field mark then None else Some field
 
--- a signal strength of so many steps, in thousandths of a dB-Hz; 0 is not given
+-- a signal strength in thousandths of a dB-Hz, from its number of steps; 0 is not given
 abbrev pub strength_of : ℕ → ℕ → Option ℕ
 strength_of step steps = if steps == 0 then None else Some (step * steps)
 
@@ -19,7 +19,7 @@ strength_of step steps = if steps == 0 then None else Some (step * steps)
 abbrev pub l1_length : ℕ → ℕ → ℤ
 l1_length range modulus_ambiguity = pos (40 * range + 599_584_916 * modulus_ambiguity)
 
--- the L2 pseudorange: DF017 in 0.02 m behind that of L1
+-- the pseudorange of L2: DF017, in 0.02 m, added to the pseudorange of L1
 abbrev pub l2_length : ℤ → ℤ → ℤ
 l2_length l1 difference = l1 +ℤ pos 40 *ℤ difference
 

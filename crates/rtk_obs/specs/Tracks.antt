@@ -2,10 +2,11 @@
 use Rattle.std.specs.Prelude.{◌≡◌, ℕ, ◌+◌, ◌-◌, ◌*◌, ◌<◌, ◌≤◌, List, length, Option, Some, None, IfSome, slice_index_or, unsigned_abs}
 use Rattle.rtk_obs.specs.declared.code.Code.{Code}
 use Rattle.rtk_obs.specs.declared.track.Track.{Track}
+use Rattle.rtk_obs.specs.declared.tracks.TheConstants.{SIGNALS}
 use Rattle.rtk_obs.specs.Code.{place_of, band_of}
 use Rattle.rtk_obs.specs.Cell.{IsSatellite}
 use Rattle.rtk_obs.specs.Rollover.{last_phase}
-use Rattle.rtk_obs.specs.Steps.{Step, epochs_of, PhasesFall}
+use Rattle.rtk_obs.specs.CellSteps.{Step, epochs_of, PhasesFall}
 
 -- the place of a satellite and code among all 512
 abbrev pub place_of_signal : ℕ → Code → ℕ
@@ -26,9 +27,9 @@ IsBounded last = IfSome last (λ t. unsigned_abs t.rolls ≤ t.epoch)
 abbrev pub AllBounded : List (Option Track) → Type 0
 AllBounded tracks = (k : ℕ) → IsBounded (slice_index_or tracks k None)
 
--- there are 512 places, and no roll count is greater than its epoch
+-- there is a place for each signal, and no roll count is greater than its epoch
 pub record HasPlaces (tracks : List (Option Track)) : Type 0 where
-  pub count : length tracks ≡ 512
+  pub count : length tracks ≡ SIGNALS
   pub bounded : AllBounded tracks
 
 -- the phases of each satellite and code came in rising order, and their last one stands at its place

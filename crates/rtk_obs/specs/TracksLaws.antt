@@ -7,10 +7,11 @@ use Rattle.rtk_obs.specs.declared.track.Track.{Track}
 use Rattle.rtk_obs.specs.Slip.{EpochCell, has_phase}
 use Rattle.rtk_obs.specs.Cell.{IsSatellite}
 use Rattle.rtk_obs.specs.Rollover.{rolls_since, last_after, last_phase}
-use Rattle.rtk_obs.specs.Steps.{Step, epochs_of, PhasesFall}
+use Rattle.rtk_obs.specs.CellSteps.{Step, epochs_of, PhasesFall}
 use Rattle.rtk_obs.specs.Tracks.{IsLater, track_at, RepresentsSteps}
 
--- the track is of the phase at the greatest of these epochs at which there is one, with the roll count behind the last phase below
+-- the track is the phase at the greatest of these epochs that has one, with the roll count that
+-- follows from the last phase below
 pub record IsGreatest (band : Band) (epochs : List EpochCell) (t : Track) : Type 0 where
   pub seen : EpochCell
   pub above : List EpochCell
@@ -24,7 +25,8 @@ pub record IsGreatest (band : Band) (epochs : List EpochCell) (t : Track) : Type
   pub rolls : t.rolls ≡ rolls_since band (last_phase band below) seen
   pub greatest : AllByRecursion (λ e. e.epoch ≤ t.epoch) (filter has_phase epochs)
 
--- where the phases fall, the last one is that of the greatest epoch, and there is none only where no epoch has one
+-- if the phases fall, the last one is the phase at the greatest epoch; there is none only if no epoch
+-- has a phase
 abbrev pub LastIsGreatest : Type 0
 LastIsGreatest =
     (band : Band) (epochs : List EpochCell) → PhasesFall epochs

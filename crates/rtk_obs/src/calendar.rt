@@ -11,7 +11,7 @@ use jiff_core::civil::Date;
 
 const DAY_MS: u64 = 86_400_000;
 
-/// The days from jiff's first day, -9999-01-01, to 1980-01-06.
+// The days from jiff's first day, -9999-01-01, to 1980-01-06.
 const FIRST_DAY: u32 = 4_371_587 + 3657;
 
 // The year of a date that lies after the year 0.
@@ -41,7 +41,8 @@ pub fn civil(time: GpsMs) -> Civil
     }
 }
 
-// The days from 1980-01-06 to the day of a reading, where the calendar has that day and it isn't earlier.
+// The days from 1980-01-06 to the day of a reading, if the calendar has that day and it isn't
+// earlier.
 fn day_of(reading: Civil) -> Option<u32>
     ensures { MatchOption result ((k : ℕ) → ¬ (IsOnDay k reading)) (λ k. IsOnDay k reading) }
 {
@@ -60,7 +61,7 @@ fn day_of(reading: Civil) -> Option<u32>
     date.days_since_min().checked_sub(FIRST_DAY)
 }
 
-// The milliseconds since midnight of a reading, where it shows a time of day.
+// The milliseconds since midnight of a reading, if it shows a time of day.
 fn time_of_day(reading: Civil) -> Option<u32>
     ensures { SomeIff result (IsTimeOfDay reading) (ms_of_day reading) }
 {
@@ -76,8 +77,8 @@ fn time_of_day(reading: Civil) -> Option<u32>
     Some(seconds * 1000 + u32::from(reading.millisecond))
 }
 
-/// The moment that a reading names; `None` exactly where the calendar has no such day, the clock
-/// no such time, or the moment lies outside `GpsMs`.
+/// The moment that a reading names; `None` exactly if the calendar has no such day, the clock
+/// has no such time, or the moment lies outside `GpsMs`.
 pub fn of_civil(reading: Civil) -> Option<GpsMs>
     ensures { MatchOption result ((t : ℕ) → t ≤ LAST_MS → ¬ (Reads t reading)) (λ t. Reads t reading) }
 {
@@ -86,7 +87,7 @@ pub fn of_civil(reading: Civil) -> Option<GpsMs>
     GpsMs::new(u64::from(day) * DAY_MS + u64::from(rest))
 }
 
-/// A reading belongs to one moment, and what `of_civil` answers to the reading of a moment is that moment.
+/// A reading belongs to one moment, and `of_civil` answers this moment to it.
 pub fn civil_laws()
     ensures one_moment { (s t : ℕ) (c : Civil) → Reads s c → Reads t c → s ≡ t }
     ensures all_moments { (t : ℕ) (c : Civil) → Reads t c → c.year ≤ 2100 → t ≤ LAST_MS }

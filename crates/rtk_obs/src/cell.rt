@@ -16,7 +16,7 @@ pub enum CellSource {
     Msm,
 }
 
-/// The values of a satellite and code at an epoch. Two cells are equal where all fields are.
+/// The values of a satellite and code at an epoch. Two cells are equal if all fields are.
 #[derive(Clone, Copy, Debug, Default, PartialEq, Eq, Hash)]
 pub struct Cell {
     /// The pseudorange in mm.
@@ -44,7 +44,7 @@ pub struct CellEntry {
     pub cell: Cell,
 }
 
-// Is this a satellite of GPS that RINEX has?
+/// Is this a satellite of GPS that RINEX has?
 pub(crate) fn is_gps(satellite: u8) -> bool
     ensures { result ≡ is_satellite satellite }
 {

@@ -96,7 +96,7 @@ impl Code {
         }
     }
 
-    /// The code of this name; `None` exactly where the name is none of the sixteen.
+    /// The code of this name; `None` exactly if none of the sixteen codes has it.
     pub fn from_name(name: &[u8]) -> Option<Code>
         ensures { MatchOption result ((c : Code) → name.now ≢ name_of c) (λ c. name.now ≡ name_of c) }
     {

@@ -6,7 +6,7 @@ ghost use Rattle.rtk_message.specs.Obs1004.{IsValid};
 ghost use Rattle.rtk_obs.specs.Cell.{is_satellite, entry_of, IsInRange, AreDistinct};
 ghost use Rattle.rtk_obs.specs.Scaling.{l2_length};
 ghost use Rattle.rtk_obs.specs.LegacyCells.{l1_code_of, l2_code_of, l1_range_of, l2_range_of, legacy_phase_of, length_of, l1_cell_of, l2_cell_of, has_number, cells_of_1004};
-ghost use Rattle.rtk_obs.specs.LegacyFields.{HasWidths};
+ghost use Rattle.rtk_obs.specs.Steps.LegacyFields.{HasWidths};
 
 use crate::cell::{Cell, CellEntry, CellSource, is_gps};
 use crate::code::{Band, Code};
@@ -15,13 +15,13 @@ use crate::scaling::{phase_from_length, range_from_length, strength, unless_mark
 use arrayvec::ArrayVec;
 use rtk_message::{Obs1004, Satellite};
 
-/// The invalid mark of DF012 and DF018.
+// The invalid mark of DF012 and DF018.
 const NO_PHASE: i32 = -524_288;
 
-/// The invalid mark of DF017.
+// The invalid mark of DF017.
 const NO_RANGE: i32 = -8192;
 
-/// Thousandths of a dB-Hz in a step of DF015 and DF020.
+// Thousandths of a dB-Hz in a step of DF015 and DF020.
 const STRENGTH_STEP: u32 = 250;
 
 fn l1_code(indicator: bool) -> Code
@@ -153,7 +153,7 @@ fn has_entry(satellites: &[Satellite], number: u8) -> bool
     satellites.iter().any(|s| s.satellite == number)
 }
 
-// Does an entry of this satellite give cells behind these others?
+// Does an entry of this satellite give cells, if these others stand before it?
 fn is_used(others: &[Satellite], number: u8) -> bool
     ensures { result ≡ (is_satellite number && not (list_any (has_number number) others.now)) }
 {
@@ -188,8 +188,8 @@ pub fn put_cells_1004(message: &Obs1004, found: &mut ArrayVec<CellEntry, 64>)
     push_satellites(found, message.satellites.as_slice());
 }
 
-/// The cells of a 1004 in the order of the message: those of L1 and L2 of each satellite from 1 to
-/// 32, by its first entry.
+/// The cells of a 1004 in the order of the message: one of L1 and one of L2 for each satellite
+/// from 1 to 32, by its first entry.
 pub fn cells_1004(message: &Obs1004) -> ArrayVec<CellEntry, 64>
     requires { IsValid message.now }
     ensures cells { result.items ≡ cells_of_1004 message.now.satellites }

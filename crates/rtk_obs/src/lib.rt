@@ -1,4 +1,15 @@
 //! Observations: GPS time, exact values of the cells of a message, loss of lock and rolls.
+//!
+//! ```rust
+//! use rtk_obs::{GpsMs, civil, date};
+//!
+//! // 2024-03-17 00:00:00, and a time of week (DF004, in ms) that is noon of a Sunday.
+//! let Some(near) = GpsMs::new(1_394_668_800_000) else { return };
+//! let noon = civil(date(near, 43_200_000));
+//! let is_noon = noon.day == 17 && noon.hour == 12;
+//! ```
+//!
+//! Its tests: crates/rtk_tests_input/src/obs.rt and obs/
 #![tactic(auto)]
 
 mod calendar;
@@ -30,4 +41,4 @@ pub use rollover::rolled;
 pub use rounding::{round_div, rounded_is_unique};
 pub use time::{Civil, GpsMs, LAST_MS};
 pub use track::{Digits, Track};
-pub use tracks::{Tracks, tracks_laws};
+pub use tracks::{SIGNALS, Tracks, place_of_signal, tracks_laws};

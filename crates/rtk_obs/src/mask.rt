@@ -6,8 +6,8 @@ ghost use Rattle.rtk_obs.specs.Mask.{set_bits};
 
 use arrayvec::ArrayVec;
 
-/// The places of the set bits of a mask of so many bits, rising; the first bit is the most
-/// significant one and has place 1.
+/// The places of the set bits of a mask that is `width` bits wide, rising. The first bit is the
+/// most significant one and has place 1.
 pub(crate) fn places_of_bits(mask: u64, width: u32) -> ArrayVec<u8, 64>
     requires width { width ≤ 64 }
     requires fits { mask < 2 ^ width }

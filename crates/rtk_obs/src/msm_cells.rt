@@ -16,24 +16,24 @@ use crate::scaling::{phase_from_time, range_from_time, strength, unless_mark};
 use arrayvec::ArrayVec;
 use rtk_message::Msm1074;
 
-/// The invalid mark of DF397.
+// The invalid mark of DF397.
 const NO_ROUGH_RANGE: u8 = 255;
 
-/// The invalid mark of DF400.
+// The invalid mark of DF400.
 const NO_FINE_RANGE: i32 = -16_384;
 
-/// The invalid mark of DF401.
+// The invalid mark of DF401.
 const NO_FINE_PHASE: i32 = -2_097_152;
 
-/// Thousandths of a dB-Hz in a step of DF403.
+// Thousandths of a dB-Hz in a step of DF403.
 const STRENGTH_STEP: u32 = 1000;
 
-/// Which signal of which satellite a cell is.
+// Which signal of which satellite a cell is.
 #[derive(Clone, Copy, Default)]
 struct Slot {
-    /// The place of the satellite among those of the message, from 0.
+    // The place of the satellite among the satellites of the message, from 0.
     row: u8,
-    /// The signal identifier (DF395).
+    // The signal identifier (DF395).
     signal: u8,
 }
 
@@ -190,7 +190,7 @@ fn msm_cell(message: &Msm1074, cell: usize, row: usize, band: Band) -> Cell
     }
 }
 
-// Adds the cell with this place, where its satellite is 1 to 32 and its signal has a code.
+// Adds the cell with this place, if its satellite is 1 to 32 and its signal has a code.
 fn push_cell(
     found: &mut ArrayVec<CellEntry, 64>,
     message: &Msm1074,
@@ -246,8 +246,8 @@ pub fn put_cells_1074(message: &Msm1074, found: &mut ArrayVec<CellEntry, 64>)
     push_cells(found, message);
 }
 
-/// The cells of a 1074 in the order of the message: those of satellites from 1 to 32 and of the
-/// fifteen signals that have a code.
+/// The cells of a 1074 in the order of the message, for the satellites from 1 to 32 and the fifteen
+/// signals that have a code.
 pub fn cells_1074(message: &Msm1074) -> ArrayVec<CellEntry, 64>
     requires { IsValid message.now }
     ensures cells { result.items ≡ cells_of_1074 message.now }

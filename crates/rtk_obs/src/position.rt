@@ -33,7 +33,7 @@ impl Position {
     ghost use Rattle.rtk_obs.specs.Position.{AreCoordinates};
     ghost use Rattle.rtk_obs.specs.PositionFields.{HasFields};
 
-    /// The position with these fields; `None` exactly where a coordinate doesn't fit 38 bits.
+    /// The position with these fields; `None` exactly if a coordinate doesn't fit 38 bits.
     pub fn new(x: i64, y: i64, z: i64, height: u16) -> Option<Position>
         ensures { MatchOption result (¬ (AreCoordinates x y z)) (HasFields x y z height) }
     {

@@ -3,7 +3,7 @@
 ghost use Rattle.std.specs.Prelude.{◌≡◌, ◌&&◌, ◌+◌, ◌≤◌, ◌<◌, pos, negsuc, ◌≤ℤ◌, ◌*ℤ◌, unsigned_abs};
 ghost use Rattle.rtk_obs.specs.Slip.{epoch_cell, is_legacy};
 ghost use Rattle.rtk_obs.specs.Code.{frequency_of};
-ghost use Rattle.rtk_obs.specs.Rollover.{roll_of, rolls_between, rolls_behind, within_limits, rolled_phase};
+ghost use Rattle.rtk_obs.specs.Rollover.{roll_of, rolls_between, rolls_after, within_limits, rolled_phase};
 ghost use Rattle.rtk_obs.specs.declared.time.TheConstants.{LAST_MS};
 
 use crate::cell::{Cell, CellSource};
@@ -11,10 +11,10 @@ use crate::code::Band;
 use crate::slip::slipped;
 use crate::track::Track;
 
-/// 750 cycles in the unit of an offset times Hz: 1,500,000 times 299,792,458.
+// 750 cycles in the unit of an offset times Hz: 1,500,000 times 299,792,458.
 const HALF_ROLL: i64 = 449_688_687_000_000;
 
-// The roll where the offset changed by so much: -1, 0 or 1.
+// The roll at this change of the offset: -1, 0 or 1.
 fn roll(band: Band, change: i64) -> i64
     requires low { negsuc 4_294_967_295 ≤ℤ change }
     requires high { change ≤ℤ pos 4_294_967_295 }
@@ -50,12 +50,12 @@ fn are_legacy(last: CellSource, source: CellSource) -> bool
     matches!((last, source), (CellSource::Legacy, CellSource::Legacy))
 }
 
-// The roll count of a phase behind the last one.
+/// The roll count of a phase that comes after the last one.
 pub(crate) fn rolls_after(band: Band, last: Track, epoch: u64, cell: &Cell) -> i64
     requires later { last.epoch < epoch }
     requires range { epoch ≤ LAST_MS }
     requires bounded { unsigned_abs last.rolls ≤ last.epoch }
-    ensures value { result ≡ rolls_behind band last (epoch_cell epoch cell.now) }
+    ensures value { result ≡ rolls_after band last (epoch_cell epoch cell.now) }
     ensures bound { unsigned_abs result ≤ epoch }
 {
     if slipped(last, epoch, cell) || !are_legacy(last.source, cell.source) {
@@ -77,7 +77,7 @@ fn limited(value: i128) -> Option<i64>
     Some(value as i64)
 }
 
-/// A phase in millicycles with 1500 cycles added for each roll; `None` exactly where that is
+/// A phase in millicycles with 1500 cycles added for each roll; `None` exactly if that is
 /// outside the limits of an observation, -999,999,999,999 to 9,999,999,999,999.
 pub fn rolled(phase: i64, rolls: i64) -> Option<i64>
     ensures { result ≡ rolled_phase phase rolls }

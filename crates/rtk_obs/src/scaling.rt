@@ -6,13 +6,13 @@ ghost use Rattle.rtk_obs.specs.Scaling.{range_of_length, phase_of_length, range_
 
 use crate::code::Band;
 
-/// The speed of light, in m/s.
+// The speed of light, in m/s.
 const LIGHT: u32 = 299_792_458;
 
-/// Twice the speed of light: 0.0005 m in a millicycle's unit.
+// Twice the speed of light: 0.0005 m in a millicycle's unit.
 const TWICE_LIGHT: u32 = 599_584_916;
 
-/// 2^29, the units of time of a 1074 in a ms.
+// 2^29, the units of time of a 1074 in a ms.
 const MS: u32 = 536_870_912;
 
 // The whole number nearest to n * factor / divisor, a tie going up, in 64 bits.
@@ -39,7 +39,7 @@ fn scaled(value: i64, factor: u32, divisor: u32) -> i64
     if value < 0 { -magnitude } else { magnitude }
 }
 
-// A length in 0.0005 m as a range in mm.
+/// A length in 0.0005 m as a range in mm.
 pub(crate) fn range_from_length(length: i64) -> i64
     requires { unsigned_abs length ≤ 2 ^ 40 }
     ensures { result ≡ range_of_length length }
@@ -47,7 +47,7 @@ pub(crate) fn range_from_length(length: i64) -> i64
     scaled(length, 1, 2)
 }
 
-// A length in 0.0005 m as a phase in millicycles.
+/// A length in 0.0005 m as a phase in millicycles.
 pub(crate) fn phase_from_length(band: Band, length: i64) -> i64
     requires { unsigned_abs length ≤ 2 ^ 40 }
     ensures { result ≡ phase_of_length band length }
@@ -55,7 +55,7 @@ pub(crate) fn phase_from_length(band: Band, length: i64) -> i64
     scaled(length, band.frequency(), TWICE_LIGHT)
 }
 
-// The time of light, in 2^-29 ms, as a range in mm.
+/// The time of light, in 2^-29 ms, as a range in mm.
 pub(crate) fn range_from_time(time: i64) -> i64
     requires { unsigned_abs time ≤ 2 ^ 40 }
     ensures { result ≡ range_of_time time }
@@ -63,7 +63,7 @@ pub(crate) fn range_from_time(time: i64) -> i64
     scaled(time, LIGHT, MS)
 }
 
-// The time of light, in 2^-29 ms, as a phase in millicycles.
+/// The time of light, in 2^-29 ms, as a phase in millicycles.
 pub(crate) fn phase_from_time(band: Band, time: i64) -> i64
     requires { unsigned_abs time ≤ 2 ^ 40 }
     ensures { result ≡ phase_of_time band time }
@@ -71,7 +71,8 @@ pub(crate) fn phase_from_time(band: Band, time: i64) -> i64
     scaled(time, band.frequency(), MS)
 }
 
-// A signal strength of so many steps, in thousandths of a dB-Hz; 0 is not given.
+/// A signal strength in thousandths of a dB-Hz, from its number of steps; 0 steps mean that it is
+/// not given.
 pub(crate) fn strength(step: u32, steps: u8) -> Option<u32>
     requires { step ≤ 1000 }
     ensures { result ≡ strength_of step steps }
@@ -82,7 +83,7 @@ pub(crate) fn strength(step: u32, steps: u8) -> Option<u32>
     }
 }
 
-// A field, or none where it has its invalid mark.
+/// A field, or `None` if it has its invalid mark.
 pub(crate) fn unless_mark(field: i32, mark: i32) -> Option<i32>
     ensures { result ≡ unless_invalid mark field }
 {

@@ -9,7 +9,7 @@ use std::marker::Model;
 /// 2100-12-31 23:59:59.999, in ms since 1980-01-06 00:00:00.000.
 pub const LAST_MS: u64 = 3_818_015_999_999;
 
-/// A moment of GPS time: ms since 1980-01-06 00:00:00.000, without leap seconds, to the end of 2100.
+/// A moment of GPS time, to the end of 2100: ms since 1980-01-06 00:00:00.000, no leap seconds.
 ///
 /// Moments are ordered by their milliseconds. Contracts see that number.
 #[derive(Clone, Copy, Debug, PartialEq, Eq, Hash, PartialOrd, Ord)]
@@ -39,7 +39,7 @@ impl GpsMs {
         }
     }
 
-    // The moment with this number of milliseconds.
+    /// The moment with this number of milliseconds.
     pub(crate) fn at(ms: u64) -> Self
         requires { ms ≤ LAST_MS }
         ensures { result ≡ ms }

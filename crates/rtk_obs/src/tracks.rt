@@ -1,15 +1,16 @@
 //! The last phase of each satellite and code, and one step over a cell.
 
-ghost use Rattle.std.specs.Prelude.{◌≡◌, ◌≢◌, ℕ, ◌≤◌, List, [], ◌∷◌, Option, None, unsigned_abs};
+ghost use Rattle.std.specs.Prelude.{◌≡◌, ◌≢◌, ℕ, ◌<◌, ◌≤◌, List, [], ◌∷◌, Option, None, unsigned_abs};
 ghost use Rattle.rtk_obs.specs.declared.code.Band.{Band};
 ghost use Rattle.rtk_obs.specs.declared.code.Code.{Code};
 ghost use Rattle.rtk_obs.specs.declared.track.Track.{Track};
 ghost use Rattle.rtk_obs.specs.declared.time.TheConstants.{LAST_MS};
+ghost use Rattle.rtk_obs.specs.declared.tracks.TheConstants.{SIGNALS};
 ghost use Rattle.rtk_obs.specs.Code.{band_of};
 ghost use Rattle.rtk_obs.specs.Cell.{IsSatellite};
 ghost use Rattle.rtk_obs.specs.Slip.{epoch_cell};
 ghost use Rattle.rtk_obs.specs.Rollover.{last_after, last_phase, digits_since};
-ghost use Rattle.rtk_obs.specs.Steps.{Step, step_of, epochs_of};
+ghost use Rattle.rtk_obs.specs.CellSteps.{Step, step_of, epochs_of};
 ghost use Rattle.rtk_obs.specs.TracksLaws.{LastIsGreatest, LaterThanSteps, LaterAfterStep};
 ghost use Rattle.rtk_obs.specs.Tracks.{IsBounded, IsLater, track_at, place_of_signal, RepresentsSteps};
 
@@ -21,15 +22,15 @@ use crate::time::GpsMs;
 use crate::track::{Digits, Track};
 use std::marker::Model;
 
-/// Satellites times codes.
-const PLACES: usize = 512;
+/// How many signals there are: 32 satellites times 16 codes.
+pub const SIGNALS: usize = 512;
 
 /// The last phase of each satellite from 1 to 32 and each code, some 20 KB.
 ///
 /// Contracts see the list of places, read by `track_at`, or what it represents: a list of steps.
 #[derive(Drop)]
 pub struct Tracks {
-    last: [Option<Track>; PLACES],
+    last: [Option<Track>; SIGNALS],
 }
 
 // Clauses see the list of places.
@@ -45,7 +46,16 @@ impl Model for Tracks {
     ghost invariant = { λ t. HasPlaces t.last };
 }
 
-// The digits of a cell behind the last phase.
+/// The place of a satellite and code among all signals, from 0.
+pub fn place_of_signal(satellite: u8, code: Code) -> usize
+    requires { IsSatellite satellite }
+    ensures value { result ≡ place_of_signal satellite code }
+    ensures bound { result < SIGNALS }
+{
+    usize::from(satellite - 1) * 16 + code.place()
+}
+
+// The digits of a cell after the last phase.
 fn digits(band: Band, last: Option<Track>, epoch: u64, cell: &Cell) -> Digits
     requires later { IsLater last epoch }
     requires range { epoch ≤ LAST_MS }
@@ -75,7 +85,7 @@ fn digits(band: Band, last: Option<Track>, epoch: u64, cell: &Cell) -> Digits
 }
 
 // The last phase after a cell with these digits.
-fn track_behind(last: Option<Track>, digits: Digits, epoch: u64, cell: &Cell) -> Option<Track>
+fn track_after(last: Option<Track>, digits: Digits, epoch: u64, cell: &Cell) -> Option<Track>
     ensures value { (band : Band) → digits ≡ digits_since band last (epoch_cell epoch cell.now) → result ≡ last_after band last (epoch_cell epoch cell.now) }
     ensures bound { IsBounded last → unsigned_abs digits.rolls ≤ epoch → IsBounded result }
 {
@@ -98,7 +108,7 @@ impl Tracks {
         ensures empty { (satellite : ℕ) (code : Code) → track_at result satellite code ≡ None }
     {
         Tracks {
-            last: [None; PLACES],
+            last: [None; SIGNALS],
         }
     }
 
@@ -116,10 +126,10 @@ impl Tracks {
         ensures after { (steps : List Step) → RepresentsSteps self.old steps → RepresentsSteps self.new (step_of satellite code epoch cell.now ∷ steps) }
     {
         let epoch = epoch.ms();
-        let place = usize::from(satellite - 1) * 16 + code.place();
+        let place = place_of_signal(satellite, code);
         let last = self.last[place];
         let digits = digits(code.band(), last, epoch, cell);
-        self.last[place] = track_behind(last, digits, epoch, cell);
+        self.last[place] = track_after(last, digits, epoch, cell);
         digits
     }
 }

@@ -12,7 +12,7 @@ invariant_of-self-2 c = rw (c.merge-conflicts.ensures.items, c.reserve.ensures.i
   with_cells-all IsInRange c.args.cells.now c.self.inside.cells.items c.requires.range c.self.invariant.1,
 )
 
--- cells that rise, where there is none yet
+-- cells that rise, if the epoch has no cell yet
 
 pub returns-in-Err-clause-refused : goal.returns-in-Err-clause-refused
 returns-in-Err-clause-refused c =

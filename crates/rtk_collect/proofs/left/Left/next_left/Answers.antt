@@ -2,7 +2,7 @@ use Rattle.std.proofs.Common.{subst}
 use Rattle.std.specs.Prelude.{option_to_list, IfSome}
 use Rattle.rtk_collect.specs.Collector.{LeftView}
 use Rattle.rtk_collect.specs.Offered.{NotBelow}
-use Rattle.rtk_collect.specs.Search.{EpochsFall}
+use Rattle.rtk_collect.specs.EpochSet.{EpochsFall}
 use Rattle.rtk_collect.proofs.WindowLemmas.{falls-front, least-is, left-not-below}
 use Rattle.rtk_collect.proofs.left.Left.next_left.Goals as goal
 

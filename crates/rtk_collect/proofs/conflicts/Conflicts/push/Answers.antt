@@ -1,5 +1,5 @@
 use Rattle.std.proofs.Common.{rules}
-use Rattle.rtk_collect.proofs.offer.Conflicts.push.Goals as goal
+use Rattle.rtk_collect.proofs.conflicts.Conflicts.push.Goals as goal
 
 pub returns : goal.returns
 returns c = search rules depth 5 fits 300

@@ -1,5 +1,5 @@
 -- Places in lists that are in order.
-use Rattle.std.specs.Prelude.{ℕ, suc, ◌<◌, List, [], ◌∷◌, nat_lt, if◌then◌else◌}
+use Rattle.std.specs.Prelude.{ℕ, suc, List, [], ◌∷◌, nat_lt, if◌then◌else◌}
 use Rattle.rtk_obs.specs.declared.cell.CellEntry.{CellEntry}
 use Rattle.rtk_collect.specs.Key.{key}
 use Rattle.rtk_collect.specs.EpochSet.{EpochSetView}
@@ -8,16 +8,6 @@ use Rattle.rtk_collect.specs.EpochSet.{EpochSetView}
 abbrev pub lower : ℕ → List CellEntry → ℕ
 lower k [] = 0
 lower k (x ∷ xs) = if nat_lt (key x) k then suc (lower k xs) else 0
-
--- the first of the epochs, if there is one, is less
-abbrev pub FirstIsBelow : ℕ → List EpochSetView → Type 0
-FirstIsBelow e [] = Unit {0}
-FirstIsBelow e (x ∷ xs) = x.epoch < e
-
--- the epochs fall
-abbrev pub EpochsFall : List EpochSetView → Type 0
-EpochsFall [] = Unit {0}
-EpochsFall (x ∷ xs) = FirstIsBelow x.epoch xs × EpochsFall xs
 
 -- how many first epochs are greater
 abbrev pub leading : ℕ → List EpochSetView → ℕ

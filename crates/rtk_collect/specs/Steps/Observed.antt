@@ -1,0 +1,35 @@
+-- What an observation with these cells answers and leaves.
+use Rattle.std.specs.Prelude.{◌≡◌, ◌≢◌, ℕ, ◌<◌, ◌≤◌, List, [], ◌∷◌, length, take, None, Some, All}
+use Rattle.rtk_collect.specs.declared.conflicts.SatelliteCode.{SatelliteCode}
+use Rattle.rtk_message.specs.declared.message.Message.{Message}
+use Rattle.rtk_obs.specs.declared.cell.CellEntry.{CellEntry}
+use Rattle.rtk_collect.specs.declared.offer.Offer.{Offer}
+use Rattle.rtk_collect.specs.declared.offer.Offer.TheVariants.{Taken, Conflict, Repeat, Late}
+use Rattle.rtk_collect.specs.EpochSet.{EpochSetView, EpochsFall}
+use Rattle.rtk_collect.specs.Arrival.{Arrival, At, cells_of}
+use Rattle.rtk_collect.specs.Accepted.{kept}
+use Rattle.rtk_collect.specs.Answer.{IsRightAnswer, TakenClass, class_of}
+use Rattle.rtk_collect.specs.Offered.{ClosesBelow, ClosesLeast}
+
+-- what an observation with these cells leaves of the epochs of a window of n places, with the right
+-- answer whatever came before
+pub record AddsCells (n e : ℕ) (cells : List CellEntry) (sets new : List EpochSetView) (offer : Offer) : Type 0 where
+  pub len : length new ≤ n
+  pub falls : EpochsFall new
+  pub answer : (m : Message) → cells_of m ≡ cells → (before : List Arrival) → sets ≡ take n (kept n before)
+      → IsRightAnswer n (At (Some e) m) before offer × (new ≡ take n (kept n (At (Some e) m ∷ before)))
+  pub below : ClosesBelow offer new
+  pub least_closes : ClosesLeast n sets offer
+  pub least : length sets ≡ n → (length new ≡ n) × ((x : ℕ) → All (λ s. x ≤ s.epoch) sets → All (λ s. x ≤ s.epoch) new)
+
+-- each message that has these cells would be taken
+abbrev pub WouldTakeCells : ℕ → ℕ → List CellEntry → List EpochSetView → Type 0
+WouldTakeCells n e cells sets =
+    (m : Message) → cells_of m ≡ cells → (before : List Arrival) → sets ≡ take n (kept n before) → class_of n (At (Some e) m) before ≡ TakenClass
+
+-- the answer to cells that joined an epoch of the window, by how many were new and which conflict
+abbrev pub IsAnswerOf : ℕ → List SatelliteCode → Offer → Type 0
+IsAnswerOf count found Late = ⊥
+IsAnswerOf count found (Taken done listed) = (0 < count) × (done ≡ None) × (listed ≡ found)
+IsAnswerOf count found (Conflict listed) = (count ≡ 0) × (found ≢ []) × (listed ≡ found)
+IsAnswerOf count found Repeat = (count ≡ 0) × (found ≡ [])

@@ -1,0 +1,76 @@
+//! The cells of a message that conflict with the kept ones.
+
+ghost use Rattle.std.specs.Prelude.{◌≡◌, ◌<◌, ◌≤◌, ◌↔◌, [], ◌∷◌, ◌++◌, length, IsTrue};
+
+use arrayvec::ArrayVec;
+use rtk_obs::Code;
+use std::marker::Model;
+
+/// The satellite and the code of a cell.
+#[derive(Clone, Copy, Debug, Default, PartialEq, Eq)]
+pub struct SatelliteCode {
+    /// The satellite, 1 to 32.
+    pub satellite: u8,
+    pub code: Code,
+}
+
+/// Satellites and codes of the cells of one message, in its order, at most 64.
+#[derive(Drop)]
+pub struct Conflicts {
+    list: ArrayVec<SatelliteCode, 64>,
+}
+
+// Clauses see the list.
+impl Model for Conflicts {
+    ghost use Rattle.std.specs.Prelude.{List, length, ◌≤◌};
+    ghost use Rattle.rtk_collect.specs.declared.conflicts.SatelliteCode.{SatelliteCode};
+
+    ghost Value = { List SatelliteCode };
+
+    ghost view = { λ c. c.list.items };
+
+    ghost invariant = { λ c. length c.list.items ≤ 64 };
+}
+
+impl Conflicts {
+    /// The empty list.
+    pub(crate) fn new() -> Conflicts
+        ensures { result ≡ [] }
+    {
+        Conflicts {
+            list: ArrayVec::new(),
+        }
+    }
+
+    /// Whether the list is empty.
+    pub(crate) fn is_empty(&self) -> bool
+        ensures { IsTrue result ↔ (self.now ≡ []) }
+    {
+        self.list.len() == 0
+    }
+
+    /// The satellites and codes, in the order of the message.
+    pub fn as_slice(&self) -> &[SatelliteCode]
+        ensures value { result.now ≡ self.now }
+        ensures few { length result.now ≤ 64 }
+    {
+        self.list.as_slice()
+    }
+
+    /// Adds one after the others.
+    pub(crate) fn push(&mut self, cell: SatelliteCode)
+        requires { length self.old < 64 }
+        ensures { self.new ≡ self.old ++ cell ∷ [] }
+    {
+        self.list.push(cell);
+    }
+}
+
+/// What came of the cells of a message that joined their epoch.
+#[derive(Drop)]
+pub(crate) struct Joined {
+    /// How many cells were new.
+    pub(crate) fresh: usize,
+    /// The cells that conflict.
+    pub(crate) conflicts: Conflicts,
+}
