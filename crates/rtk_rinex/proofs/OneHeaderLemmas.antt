@@ -17,7 +17,7 @@ use Rattle.rtk_rinex.specs.HeaderFault.{AreLines, IsHeader, BeginsHeader, Begins
 use Rattle.rtk_rinex.specs.Table.{IsTableEpoch}
 use Rattle.rtk_rinex.specs.CheckTable.{cause_of}
 use Rattle.rtk_rinex.proofs.ReadingLemmas.{reading-reads}
-use Rattle.rtk_rinex.proofs.HeaderDigitsLemmas.{take-exact, drop-exact}
+use Rattle.rtk_rinex.proofs.DigitsLemmas.{take-exact, drop-exact}
 use Rattle.rtk_rinex.proofs.HeaderShownLemmas.{first_is, one_moment}
 use Rattle.rtk_rinex.proofs.HeaderRowsLemmas.{row_ended, ended, text_of, row_count}
 use Rattle.rtk_rinex.proofs.HeaderSameLemmas.{IsGood, lines_of, length-header, line_within, in_last}

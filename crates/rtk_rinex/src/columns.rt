@@ -1,7 +1,10 @@
 //! Numbers in columns of text, as the formats of RINEX 3.05 name them (F14.3, I6 ..).
 
-ghost use Rattle.std.specs.Prelude.{◌≡◌, ℕ, ◌+◌, ◌^◌, ◌<◌, ◌≤◌, ◌++◌, length, take, replicate, decimal, if◌then◌else◌, false, pos, negsuc, ◌≤ℤ◌};
+ghost use Rattle.std.specs.Prelude.{◌≡◌, ℕ, ◌+◌, ◌*◌, ◌^◌, ◌<◌, ◌≤◌, ◌++◌, length, take, replicate, decimal, if◌then◌else◌, false, pos, negsuc, ◌≤ℤ◌};
 ghost use Rattle.rtk_rinex.specs.Columns.{last_digits, right, decimals, fixed};
+ghost use Rattle.rtk_rinex.specs.Reading.{seconds_of};
+
+use rtk_obs::Civil;
 
 /// Writes the last digits of a number over the whole of `field`.
 pub fn put_last_digits(field: &mut [u8], number: u64)
@@ -132,4 +135,14 @@ pub fn integer_3(number: u64) -> [u8; 3]
     let mut field = [b' '; 3];
     put_decimal(&mut field, number);
     field
+}
+
+/// The seconds of a date and time in units of 10^-7 s.
+pub(crate) fn seconds(time: Civil) -> u64
+    requires second { time.second < 60 }
+    requires millisecond { time.millisecond < 1000 }
+    ensures value { result ≡ seconds_of time }
+    ensures bound { result < 600_000_000 }
+{
+    u64::from(time.second) * 10_000_000 + u64::from(time.millisecond) * 10_000
 }

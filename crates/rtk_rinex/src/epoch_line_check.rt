@@ -6,7 +6,7 @@ ghost use Rattle.rtk_rinex.specs.Reading.{IsMoment, reading_of};
 ghost use Rattle.rtk_rinex.specs.Record.{epoch_columns, epoch_line};
 ghost use Rattle.rtk_rinex.specs.CheckValues.{seconds_in, civil_in, count_in};
 
-use crate::check_values::digits;
+use crate::digits::digits;
 use crate::record_text::put_epoch_line;
 use rtk_obs::{Civil, GpsMs, of_civil};
 use std::alloc::AllocError;

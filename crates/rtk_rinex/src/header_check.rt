@@ -6,16 +6,16 @@ ghost use Rattle.rtk_obs.specs.PositionFields.{HasFields};
 ghost use Rattle.rtk_obs.specs.declared.code.Code.{Code};
 ghost use Rattle.rtk_rinex.specs.Columns.{right, fixed};
 ghost use Rattle.rtk_rinex.specs.Header.{header_line, made_text, first_text, IsMarker, PositionView, IsPositionView, HeadView, IsHeadView, position_view, header_text};
-ghost use Rattle.rtk_rinex.specs.HeaderDigits.{number_in};
+ghost use Rattle.rtk_rinex.specs.Digits.{number_in};
 ghost use Rattle.rtk_rinex.specs.HeaderFault.{AreLines, IsWithoutHeader, IsHeaderFault, IsOnlyHeader};
 ghost use Rattle.rtk_rinex.specs.HeaderShown.{line_at, name_at, number_at, made_civil, first_civil, AreAllCodes};
-ghost use Rattle.rtk_rinex.specs.Lines.{HasNoEnd};
+ghost use Rattle.rtk_rinex.specs.Lines.{HasNoEnd, IsLine};
 ghost use Rattle.rtk_rinex.specs.Reading.{IsMoment, reading_of};
 ghost use Rattle.std.specs.Int.{IsInRange};
 ghost use Rattle.std.specs.Prelude.{◌≡◌, ◌≢◌, ℕ, ◌+◌, ◌*◌, ◌%◌, ◌/◌, ◌<◌, ◌≤◌, List, ◌++◌, length, take, drop, codes, decimal, pos, AllPairs, slice_index_or, MatchOption, ◌^◌, ◌∷◌, Decides, IfOk, IfErr};
 
+use crate::digits::{columns, number_in, signed_in};
 use crate::head::{Head, is_marker};
-use crate::header_digits::{columns, number_in, signed_in};
 use crate::header_fault::{HeaderCause, HeaderFault};
 use crate::header_text::put_header;
 use crate::record_text::trimmed_len;
@@ -315,9 +315,10 @@ fn unlike_line(header: &[u8], text: &[u8]) -> Option<usize>
     None
 }
 
-// Where the LF stands that ends the first line.
-fn line_end(text: &[u8]) -> Option<usize>
-    ensures { MatchOption result (HasNoEnd text.now) (λ n. HasNoEnd (take n text.now) × (text.now ≡ take n text.now ++ 10 ∷ drop (n + 1) text.now)) }
+/// Where the LF stands that ends the first line of a text, if there is one.
+pub(crate) fn line_end(text: &[u8]) -> Option<usize>
+    ensures parts { MatchOption result (HasNoEnd text.now) (λ n. HasNoEnd (take n text.now) × (text.now ≡ take n text.now ++ 10 ∷ drop (n + 1) text.now)) }
+    ensures line { MatchOption result (HasNoEnd text.now) (λ n. (n < length text.now) × IsLine (take (n + 1) text.now)) }
 {
     for n in 0..text.len() {
         if text[n] == b'\n' {

@@ -5,11 +5,11 @@ ghost use Rattle.rtk_obs.specs.Position.{IsCoordinate};
 ghost use Rattle.rtk_rinex.specs.Columns.{left, right, fixed};
 ghost use Rattle.rtk_rinex.specs.Header.{header_line, made_text, first_lines, position_view, position_lines, types_of, types, continuation_line, types_lines, first_text, last_lines, header_text};
 
-use crate::columns::{fixed_14_4, integer_3, integer_6, put_last_digits, unsigned_13_7};
+use crate::columns::{fixed_14_4, integer_3, integer_6, put_last_digits, seconds, unsigned_13_7};
+use crate::digits::{after, front};
 use crate::head::Head;
-use crate::reading::{reading, seconds};
 use arrayvec::ArrayVec;
-use rtk_obs::{Civil, Code, GpsMs, Position};
+use rtk_obs::{Civil, Code, GpsMs, Position, civil};
 use std::alloc::{AllocError, Global};
 
 const TYPES: &[u8] = b"SYS / # / OBS TYPES";
@@ -162,24 +162,6 @@ fn types_of_codes(listed: &[Code]) -> ArrayVec<u8, 192>
     text
 }
 
-// The thirteen types that fill a line.
-fn front(text: &[u8]) -> &[u8]
-    ensures value { result.now ≡ take 52 text.now }
-    ensures len { length result.now ≤ 52 }
-{
-    if text.len() <= 52 {
-        return text;
-    }
-    text.split_at(52).0
-}
-
-// The types from a column on.
-fn behind(text: &[u8], from: usize) -> &[u8]
-    ensures { result.now ≡ drop from text.now }
-{
-    text.split_at(text.len().min(from)).1
-}
-
 fn types_content(count: usize, shown: &[u8]) -> ArrayVec<u8, 60>
     requires count { count ≤ 48 }
     requires shown { length shown.now ≤ 52 }
@@ -199,7 +181,7 @@ fn continuation_content(text: &[u8]) -> ArrayVec<u8, 60>
 {
     let mut content = ArrayVec::new();
     add(&mut content, b"      ");
-    add(&mut content, front(text));
+    add(&mut content, front(text, 52));
     content
 }
 
@@ -222,12 +204,12 @@ fn put_types_lines(out: &mut Vec<u8>, listed: &[Code]) -> Result<(), AllocError>
     let text = types.as_slice();
     put_line(
         out,
-        types_content(3 * listed.len(), front(text)).as_slice(),
+        types_content(3 * listed.len(), front(text, 52)).as_slice(),
         TYPES,
     )?;
-    put_continuation_line(out, behind(text, 52))?;
-    put_continuation_line(out, behind(text, 104))?;
-    put_continuation_line(out, behind(text, 156))?;
+    put_continuation_line(out, after(text, 52))?;
+    put_continuation_line(out, after(text, 104))?;
+    put_continuation_line(out, after(text, 156))?;
     Ok(())
 }
 
@@ -269,10 +251,10 @@ pub(crate) fn put_header(
 ) -> Result<(), AllocError>
     ensures { OnOk result (out.new.items ≡ out.old.items ++ header_text head.now (position_view position.now) first) }
 {
-    put_first_lines(out, head.marker(), reading(head.made()))?;
+    put_first_lines(out, head.marker(), civil(head.made()))?;
     put_position_lines(out, position)?;
     put_types_lines(out, head.codes())?;
-    put_last_lines(out, reading(first))?;
+    put_last_lines(out, civil(first))?;
     Ok(())
 }
 

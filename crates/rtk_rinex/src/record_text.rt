@@ -4,11 +4,10 @@ ghost use Rattle.std.specs.Prelude.{◌≡◌, ℕ, ◌+◌, ◌*◌, ◌<◌, �
 ghost use Rattle.std.specs.List.{filter, list_any};
 ghost use Rattle.rtk_rinex.specs.Record.{HasWidth, is_written, is_present, observation, observations, strength_digit, strength_value, lli_digit, has_observation, has_line, trim_end, satellite_line, epoch_date_text, epoch_line, record_text};
 
-use crate::columns::{integer_3, put_fixed_14_3, put_last_digits, unsigned_11_7};
+use crate::columns::{integer_3, put_fixed_14_3, put_last_digits, seconds, unsigned_11_7};
 use crate::epoch_table::{EpochTable, Observed, SatelliteRow};
 use crate::head::Head;
-use crate::reading::{reading, seconds};
-use rtk_obs::Civil;
+use rtk_obs::{Civil, civil};
 use std::alloc::{AllocError, Global};
 
 /// The least value that F14.3 has room for, in thousandths.
@@ -208,7 +207,7 @@ pub fn record(alloc: Global, head: &Head, table: &EpochTable) -> Result<Vec<u8>,
         return Ok(Vec::new(alloc));
     }
     let mut out = Vec::with_capacity(alloc, 36 + count * (4 + 48 * head.codes().len()))?;
-    put_epoch_line(&mut out, reading(table.time()), count)?;
+    put_epoch_line(&mut out, civil(table.time()), count)?;
     put_satellite_lines(&mut out, rows)?;
     Ok(out)
 }

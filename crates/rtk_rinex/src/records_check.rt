@@ -11,9 +11,10 @@ ghost use Rattle.std.specs.Int.{IsInRange};
 ghost use Rattle.std.specs.Prelude.{◌≡◌, ◌≢◌, ℕ, ◌+◌, ◌-◌, ◌*◌, ◌<◌, ◌≤◌, ◌++◌, [], ◌∷◌, length, take, slice_get, Option, Some, IsTrue, ◌↔◌, IfOk, IfErr, MatchOption, ◌^◌, List, flat_map, None};
 
 use crate::check_fault::{Cause, CheckFault};
-use crate::check_values::digits;
+use crate::digits::digits;
 use crate::epoch_line_check::{EpochStamp, read_epoch_line};
 use crate::epoch_table::SatelliteRow;
+use crate::header_check::line_end;
 use crate::satellite_line_check::read_satellite_line;
 use rtk_obs::GpsMs;
 
@@ -126,20 +127,6 @@ pub fn check_satellite_line(
 pub struct RecordCounts {
     pub epochs: usize,
     pub satellites: usize,
-}
-
-// Where the first line ends, if it does.
-fn line_end(text: &[u8]) -> Option<usize>
-    ensures { MatchOption result
-        (HasNoEnd text.now)
-        (λ end. (end < length text.now) × IsLine (take (end + 1) text.now)) }
-{
-    for (i, byte) in text.iter().enumerate() {
-        if *byte == b'\n' {
-            return Some(i);
-        }
-    }
-    None
 }
 
 // The first line of a text with its LF, and what stands behind it; `None` where no line ends.

@@ -4,10 +4,9 @@ ghost use Rattle.std.specs.Prelude.{◌≡◌, ◌≢◌, ℕ, ◌+◌, ◌*◌,
 ghost use Rattle.rtk_rinex.specs.Columns.{left};
 ghost use Rattle.rtk_rinex.specs.Record.{IsStrengthOrNone, satellite_line};
 ghost use Rattle.rtk_rinex.specs.Table.{IsAbsentOrWritten, IsLock, IsObserved, IsTableRow};
-ghost use Rattle.rtk_rinex.specs.CheckValues.{observations_in, row_in};
-ghost use Rattle.rtk_rinex.specs.CheckValues as spec;
+ghost use Rattle.rtk_rinex.specs.CheckValues.{is_blank, value_in, strength_in, slip_in, half_in, observed_in, observations_in, row_in};
 
-use crate::check_values::{digits, observed};
+use crate::digits::{digits, number};
 use crate::epoch_line_check::is_end_from;
 use crate::epoch_table::{Observed, SatelliteRow};
 use crate::record_text::{is_shown, is_written_value, put_satellite_line};
@@ -72,6 +71,83 @@ fn is_table_row(row: &SatelliteRow, width: usize) -> bool
         && row.observed.len() == width
         && are_observed(row.observed.as_slice())
         && is_shown(row)
+}
+
+#[tactic(auto, unfolding(crate::specs::CheckValues::is_blank))]
+fn contains_only_blanks(text: &[u8]) -> bool
+    ensures { result ≡ is_blank text.now }
+{
+    for byte in text {
+        if *byte != b' ' {
+            return false;
+        }
+    }
+    true
+}
+
+// The value that 14 columns show.
+fn value(field: &[u8]) -> Option<i64>
+    requires { length field.now ≤ 14 }
+    ensures { result ≡ value_in field.now }
+{
+    if contains_only_blanks(field) {
+        None
+    } else {
+        Some(number(field))
+    }
+}
+
+fn strength(value: Option<i64>) -> Option<u32>
+    ensures { result ≡ strength_in value }
+{
+    match value {
+        Some(value) => {
+            let magnitude = value.unsigned_abs();
+            if magnitude >= 250 && magnitude <= 63_750 {
+                Some(magnitude as u32)
+            } else {
+                None
+            }
+        }
+        None => None,
+    }
+}
+
+// The slip that the loss-of-lock digit at the front of a text shows.
+fn slip(text: &[u8]) -> bool
+    ensures { result ≡ slip_in text.now }
+{
+    match text {
+        [first, ..] => *first == b'1' || *first == b'3',
+        [] => false,
+    }
+}
+
+// The half-cycle ambiguity that the loss-of-lock digit at the front of a text shows.
+fn half(text: &[u8]) -> bool
+    ensures { result ≡ half_in text.now }
+{
+    match text {
+        [first, ..] => *first == b'2' || *first == b'3',
+        [] => false,
+    }
+}
+
+// What 48 columns show of a code.
+fn observed(columns: &[u8]) -> Observed
+    requires { length columns.now ≡ 48 }
+    ensures { result ≡ observed_in columns.now }
+{
+    let (_, phase) = columns.split_at(16);
+    let (_, lock) = columns.split_at(30);
+    let (_, last) = columns.split_at(32);
+    Observed {
+        range_mm: value(columns.split_at(14).0),
+        phase_millicycles: value(phase.split_at(14).0),
+        strength_millidbhz: strength(value(last.split_at(14).0)),
+        slip: slip(lock),
+        half: half(lock),
+    }
 }
 
 // Appends to the columns of a line.
