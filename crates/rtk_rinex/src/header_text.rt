@@ -5,7 +5,9 @@ ghost use Rattle.rtk_obs.specs.Position.{IsCoordinate};
 ghost use Rattle.rtk_rinex.specs.Columns.{left, right, fixed};
 ghost use Rattle.rtk_rinex.specs.Header.{header_line, made_text, first_lines, position_view, position_lines, types_of, types, continuation_line, types_lines, first_text, last_lines, header_text};
 
-use crate::columns::{fixed_14_4, integer_3, integer_6, put_last_digits, seconds, unsigned_13_7};
+use crate::columns::{
+    add, fixed_14_4, integer_3, integer_6, put_last_digits, seconds, unsigned_13_7,
+};
 use crate::digits::{after, front};
 use crate::head::Head;
 use arrayvec::ArrayVec;
@@ -14,8 +16,8 @@ use std::alloc::{AllocError, Global};
 
 const TYPES: &[u8] = b"SYS / # / OBS TYPES";
 
-/// The longest header: 17 lines, of which four have observation types, of 81 bytes.
-const LONGEST: usize = 1377;
+/// The bytes of the longest header: 17 lines of 81 bytes, four of them with observation types.
+pub(crate) const LONGEST_HEADER: usize = 1377;
 
 // Appends a text at the left end of that many columns.
 fn put_left(out: &mut Vec<u8>, text: &[u8], width: usize) -> Result<(), AllocError>
@@ -39,17 +41,6 @@ fn put_line(out: &mut Vec<u8>, content: &[u8], label: &[u8]) -> Result<(), Alloc
     put_left(out, label, 20)?;
     out.push(b'\n')?;
     Ok(())
-}
-
-// Appends to what is to stand in the first 60 columns of a line.
-fn add(content: &mut ArrayVec<u8, 60>, text: &[u8])
-    requires { length content.old.items + length text.now ≤ 60 }
-    ensures items { content.new.items ≡ content.old.items ++ text.now }
-    ensures len { length content.new.items ≡ length content.old.items + length text.now }
-{
-    if content.try_extend_from_slice(text).is_err() {
-        unreachable!();
-    }
 }
 
 fn made_field(made: Civil) -> [u8; 20]
@@ -139,16 +130,6 @@ fn types_of_code(code: Code) -> [u8; 12]
     ]
 }
 
-fn add_types(text: &mut ArrayVec<u8, 192>, code: Code)
-    requires { length text.old.items + 12 ≤ 192 }
-    ensures items { text.new.items ≡ text.old.items ++ types_of code }
-    ensures len { length text.new.items ≡ length text.old.items + 12 }
-{
-    if text.try_extend_from_slice(&types_of_code(code)).is_err() {
-        unreachable!();
-    }
-}
-
 // The observation types of the codes, four columns each.
 fn types_of_codes(listed: &[Code]) -> ArrayVec<u8, 192>
     requires { length listed.now ≤ 16 }
@@ -157,7 +138,7 @@ fn types_of_codes(listed: &[Code]) -> ArrayVec<u8, 192>
 {
     let mut text = ArrayVec::new();
     for code in listed {
-        add_types(&mut text, *code);
+        add(&mut text, &types_of_code(*code));
     }
     text
 }
@@ -270,7 +251,7 @@ pub fn header(
 ) -> Result<Vec<u8>, AllocError>
     ensures { IfOk result (λ text. text.items ≡ header_text head.now (position_view position.now) first) }
 {
-    let mut out = Vec::with_capacity(alloc, LONGEST)?;
+    let mut out = Vec::with_capacity(alloc, LONGEST_HEADER)?;
     put_header(&mut out, head, position, first)?;
     Ok(out)
 }

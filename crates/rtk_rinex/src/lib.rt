@@ -8,7 +8,6 @@ mod epoch_line_check;
 mod epoch_table;
 mod head;
 mod header_check;
-mod header_fault;
 mod header_text;
 mod laws;
 mod record_text;

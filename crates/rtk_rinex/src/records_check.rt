@@ -27,9 +27,9 @@ fn is_next_time(first: GpsMs, last: Option<GpsMs>, time: GpsMs) -> bool
     }
 }
 
-/// The moment and count of an epoch line behind the epoch `last`, in a file of this first time; else what
-/// is wrong with it. The line is appended to `out`.
-pub fn check_epoch_line(
+// The moment and count of an epoch line behind the epoch `last`, in a file of this first time; else what
+// is wrong with it. The line is appended to `out`.
+fn check_epoch_line(
     out: &mut Vec<u8>,
     line: &[u8],
     first: GpsMs,
@@ -93,9 +93,9 @@ fn is_next_satellite(last: Option<u8>, satellite: u8) -> bool
     }
 }
 
-/// The row of a satellite line behind that of the satellite `last`, in a file of so many codes; else what
-/// is wrong with it. The line is appended to `out`.
-pub fn check_satellite_line(
+// The row of a satellite line behind that of the satellite `last`, in a file of so many codes; else what
+// is wrong with it. The line is appended to `out`.
+fn check_satellite_line(
     out: &mut Vec<u8>,
     line: &[u8],
     width: usize,
@@ -124,7 +124,7 @@ pub fn check_satellite_line(
 
 /// How many records a text has, and how many satellite lines.
 #[derive(Clone, Copy)]
-pub struct RecordCounts {
+pub(crate) struct RecordCounts {
     pub epochs: usize,
     pub satellites: usize,
 }
@@ -207,7 +207,7 @@ fn check_record<'a>(
 
 /// Reads the records of a file of so many codes and this first time, behind so many lines of it.
 /// They are appended to `out`.
-pub fn check_records(
+pub(crate) fn check_records(
     out: &mut Vec<u8>,
     text: &[u8],
     lines: usize,

@@ -6,6 +6,7 @@ ghost use Rattle.rtk_rinex.specs.Record.{IsStrengthOrNone, satellite_line};
 ghost use Rattle.rtk_rinex.specs.Table.{IsAbsentOrWritten, IsLock, IsObserved, IsTableRow};
 ghost use Rattle.rtk_rinex.specs.CheckValues.{is_blank, value_in, strength_in, slip_in, half_in, observed_in, observations_in, row_in};
 
+use crate::columns::add;
 use crate::digits::{digits, number};
 use crate::epoch_line_check::is_end_from;
 use crate::epoch_table::{Observed, SatelliteRow};
@@ -13,8 +14,16 @@ use crate::record_text::{is_shown, is_written_value, put_satellite_line};
 use arrayvec::ArrayVec;
 use std::alloc::AllocError;
 
-/// The longest line of a satellite without its LF: a mark, two digits, and 48 columns for each of 16 codes.
-const LONGEST: usize = 771;
+// The columns of the longest satellite line without its LF: a mark, two digits, and 48 columns for
+// each of 16 codes.
+const LONGEST_LINE: usize = 771;
+
+// The least signal strength of a message in thousandths of a dB-Hz, which is also the step between
+// two of them.
+const LEAST_STRENGTH: u32 = 250;
+
+// The greatest signal strength of a message in thousandths of a dB-Hz.
+const GREATEST_STRENGTH: u32 = 63_750;
 
 fn is_absent_or_written(value: Option<i64>) -> bool
     ensures { IsTrue result ↔ IsAbsentOrWritten value }
@@ -29,7 +38,9 @@ fn is_strength(strength: Option<u32>) -> bool
     ensures { IsTrue result ↔ IsStrengthOrNone strength }
 {
     match strength {
-        Some(strength) => strength >= 250 && strength <= 63_750 && strength % 250 == 0,
+        Some(strength) => strength >= LEAST_STRENGTH
+            && strength <= GREATEST_STRENGTH
+            && strength % LEAST_STRENGTH == 0,
         None => true,
     }
 }
@@ -103,7 +114,7 @@ fn strength(value: Option<i64>) -> Option<u32>
     match value {
         Some(value) => {
             let magnitude = value.unsigned_abs();
-            if magnitude >= 250 && magnitude <= 63_750 {
+            if magnitude >= u64::from(LEAST_STRENGTH) && magnitude <= u64::from(GREATEST_STRENGTH) {
                 Some(magnitude as u32)
             } else {
                 None
@@ -150,27 +161,16 @@ fn observed(columns: &[u8]) -> Observed
     }
 }
 
-// Appends to the columns of a line.
-fn add(columns: &mut ArrayVec<u8, LONGEST>, text: &[u8])
-    requires { length columns.old.items + length text.now ≤ 771 }
-    ensures items { columns.new.items ≡ columns.old.items ++ text.now }
-    ensures len { length columns.new.items ≡ length columns.old.items + length text.now }
-{
-    if columns.try_extend_from_slice(text).is_err() {
-        unreachable!();
-    }
-}
-
 // The columns of a line, with blanks behind them.
-fn padded(line: &[u8]) -> ArrayVec<u8, LONGEST>
+fn padded(line: &[u8]) -> ArrayVec<u8, LONGEST_LINE>
     requires { length line.now ≤ 771 }
     ensures value { result.items ≡ left 771 line.now }
     ensures len { length result.items ≡ 771 }
 {
-    let blanks = [b' '; LONGEST];
+    let blanks = [b' '; LONGEST_LINE];
     let mut columns = ArrayVec::new();
     add(&mut columns, line);
-    add(&mut columns, &blanks[..LONGEST - line.len()]);
+    add(&mut columns, &blanks[..LONGEST_LINE - line.len()]);
     columns
 }
 
@@ -203,7 +203,7 @@ fn row_shown(line: &[u8], width: usize) -> SatelliteRow
 
 /// The row of a satellite line of a file with so many codes, which ends in LF; `None` exactly where it is
 /// no such line. A satellite line is appended to `out`.
-pub fn read_satellite_line(
+pub(crate) fn read_satellite_line(
     out: &mut Vec<u8>,
     line: &[u8],
     width: usize,
@@ -213,7 +213,7 @@ pub fn read_satellite_line(
         ((r : SatelliteRow) → IsTableRow width r → line.now ≢ satellite_line r)
         (λ r. IsTableRow width r × (line.now ≡ satellite_line r) × (out.new.items ≡ out.old.items ++ line.now))) }
 {
-    if line.len() == 0 || line.len() > LONGEST + 1 {
+    if line.len() == 0 || line.len() > LONGEST_LINE + 1 {
         return Ok(None);
     }
     let row = row_shown(line.split_at(line.len() - 1).0, width);
