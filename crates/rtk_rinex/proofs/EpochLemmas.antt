@@ -11,7 +11,7 @@ use Rattle.rtk_rinex.specs.Reading.{IsMoment, reading_of, seconds_of}
 use Rattle.rtk_rinex.specs.Record.{epoch_date_text, epoch_columns, epoch_line}
 use Rattle.rtk_rinex.specs.CheckValues.{seconds_in, civil_in, count_in}
 use Rattle.rtk_rinex.proofs.ReadingLemmas.{same_civil, reading-reads, year-bound}
-use Rattle.rtk_rinex.proofs.ValuesLemmas.{digits_from-last_2, digits_from-last_4, digits_from-seconds, digits_from-count, length-right, take-exact, drop-exact}
+use Rattle.rtk_rinex.proofs.DigitsLemmas.{digits_from-last_2, digits_from-last_4, digits_from-seconds, digits_from-right, length-right, take-exact, drop-exact}
 
 length-seconds : (n : ℕ) → n < 10 ^ 10 → length (right 11 (decimals 7 false n)) ≡ 11
 length-seconds n h =
@@ -38,13 +38,13 @@ seconds_in-columns c n h =
     let small : seconds_of c < 10 ^ 10 = omega arith in
     let from : drop 18 (((epoch_date_text c ++ s) ++ codes "  0") ++ last) ≡ s ++ (codes "  0" ++ last) =
     rw (append_assoc (epoch_date_text c ++ s) (codes "  0") last, append_assoc (epoch_date_text c) s (codes "  0" ++ last)) refl in
-    rw (from, take-exact 11 s (codes "  0" ++ last) (length-seconds (seconds_of c) small)) (digits_from-seconds (seconds_of c) small)
+    rw (from, take-exact 11 s (codes "  0" ++ last) (length-seconds (seconds_of c) small)) (digits_from-seconds 11 (seconds_of c) small)
 
 pub civil_of-columns : (c : Civil) (n : ℕ) → Fits c → civil_in (epoch_columns c n) ≡ c
 civil_of-columns c n h =
     let seconds = seconds_in-columns c n h in
     same_civil (civil_in (epoch_columns c n)) c
-    (digits_from-last_4 c.year h.year) (digits_from-last_2 c.month h.month) (digits_from-last_2 c.day h.day)
+    (digits_from-last_4 0 c.year ∙ omega (arith, h.year)) (digits_from-last_2 c.month h.month) (digits_from-last_2 c.day h.day)
     (digits_from-last_2 c.hour h.hour) (digits_from-last_2 c.minute h.minute) (omega arith) (omega arith)
 
 -- the lengths of the four parts of an epoch line
@@ -66,7 +66,7 @@ count_of-columns c n h k =
     let front : List ℕ = (epoch_date_text c ++ right 11 (decimals 7 false (seconds_of c))) ++ codes "  0" in
     let last : List ℕ = right 3 (decimal n) in
     let from : drop 32 (front ++ last) ≡ last = drop-exact 32 front last ((columns-lengths c n h k).0) in
-    rw from (digits_from-count n k)
+    rw from (digits_from-right 3 n (omega arith))
 
 pub Fits-reading_of : (t : ℕ) → IsMoment t → Fits (reading_of t)
 Fits-reading_of t h =

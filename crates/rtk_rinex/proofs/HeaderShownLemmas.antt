@@ -14,11 +14,11 @@ use Rattle.rtk_rinex.specs.Columns.{left, right, decimals, fixed}
 use Rattle.rtk_rinex.specs.Reading.{IsMoment, reading_of, seconds_of}
 use Rattle.rtk_rinex.specs.Record.{trim_end}
 use Rattle.rtk_rinex.specs.Header.{header_line, made_text, first_text, IsMarker}
-use Rattle.rtk_rinex.specs.HeaderDigits.{digits_from, number_in}
+use Rattle.rtk_rinex.specs.Digits.{digits_from, number_in}
 use Rattle.rtk_rinex.specs.HeaderShown.{number_at, made_civil, first_civil}
 use Rattle.rtk_rinex.proofs.ReadingLemmas.{same_civil, reading-reads, year-bound}
 use Rattle.rtk_rinex.proofs.RecordLemmas.{trim_end-blank, trim_end-done}
-use Rattle.rtk_rinex.proofs.HeaderDigitsLemmas.{digits_from-last_2, digits_from-last_4, digits_from-seconds, digits_from-right, digits_from-tenthousandths, number_of-fixed, length-left, take-exact, piece, length-right}
+use Rattle.rtk_rinex.proofs.DigitsLemmas.{digits_from-last_2, digits_from-last_4, digits_from-seconds, digits_from-right, digits_from-tenthousandths, number_of-fixed_4, length-left, take-exact, piece, length-right}
 
 -- a reading whose fields fit their columns
 pub record Fits (c : Civil) : Type 0 where
@@ -163,7 +163,7 @@ first_is line label t h e =
     let fits = Fits-reading_of t h in
     let f = first_fields line label c fits e in
     let small : seconds_of c < 10 ^ 10 = omega (arith, fits.second, fits.millisecond) in
-    let seconds : number_at 30 13 line ≡ seconds_of c = rw f.last (digits_from-seconds (seconds_of c) small) in
+    let seconds : number_at 30 13 line ≡ seconds_of c = rw f.last (digits_from-seconds 13 (seconds_of c) small) in
     record {
       seconds = omega (arith, seconds, fits.second, fits.millisecond);
       reading = same_civil (first_civil line) c
@@ -208,9 +208,9 @@ place_is line label x y z hx hy hz e =
     let r₀ : line ≡ [] ++ (a ++ (b ++ (c ++ rest))) = whole ∙ simp append_assoc in
     let r₁ : line ≡ a ++ (b ++ (c ++ rest)) = whole ∙ simp append_assoc in
     let r₂ : line ≡ (a ++ b) ++ (c ++ rest) = whole ∙ simp append_assoc in record {
-      first = ap number_in (rw r₀ (piece 0 14 [] a (b ++ (c ++ rest)) refl la)) ∙ number_of-fixed x (magnitude x hx);
-      second = ap number_in (rw r₁ (piece 14 14 a b (c ++ rest) la lb)) ∙ number_of-fixed y (magnitude y hy);
-      third = ap number_in (rw r₂ (piece 28 14 (a ++ b) c rest two lc)) ∙ number_of-fixed z (magnitude z hz);
+      first = ap number_in (rw r₀ (piece 0 14 [] a (b ++ (c ++ rest)) refl la)) ∙ number_of-fixed_4 x (magnitude x hx);
+      second = ap number_in (rw r₁ (piece 14 14 a b (c ++ rest) la lb)) ∙ number_of-fixed_4 y (magnitude y hy);
+      third = ap number_in (rw r₂ (piece 28 14 (a ++ b) c rest two lc)) ∙ number_of-fixed_4 z (magnitude z hz);
     }
 
 pub IsCoordinate-height : (h : ℕ) → h < 65_536 → IsCoordinate (pos h)

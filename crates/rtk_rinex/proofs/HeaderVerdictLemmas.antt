@@ -11,7 +11,7 @@ use Rattle.rtk_rinex.specs.Record.{record_text}
 use Rattle.rtk_rinex.specs.Lines.{HasNoEnd}
 use Rattle.rtk_rinex.specs.HeaderFault.{AreLines, IsHeader, BeginsHeader, BeginsTable, HasHeader}
 use Rattle.rtk_rinex.specs.HeaderShown.{line_at, number_at}
-use Rattle.rtk_rinex.proofs.HeaderDigitsLemmas.{take-exact, drop-exact}
+use Rattle.rtk_rinex.proofs.DigitsLemmas.{take-exact, drop-exact}
 use Rattle.rtk_rinex.proofs.HeaderShownLemmas.{count_is}
 use Rattle.rtk_rinex.proofs.HeaderRowsLemmas.{row_ended, ended, text_of, types_head, types_line, row_count, rows, rows_text}
 use Rattle.rtk_rinex.proofs.HeaderGoodLemmas.{IsRow, rows_good}

@@ -1,7 +1,7 @@
 pub mod ColumnsLemmas
 pub mod ReadingLemmas
 pub mod HeaderLemmas
-pub mod HeaderDigitsLemmas
+pub mod DigitsLemmas
 pub mod HeaderCodesLemmas
 pub mod HeaderShownLemmas
 pub mod HeaderRowsLemmas

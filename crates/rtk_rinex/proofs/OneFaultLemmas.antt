@@ -7,9 +7,9 @@ use Rattle.rtk_rinex.specs.declared.check_fault.CheckFault.{CheckFault}
 use Rattle.rtk_rinex.specs.Header.{header_text}
 use Rattle.rtk_rinex.specs.Record.{record_text}
 use Rattle.rtk_rinex.specs.Table.{WellFormedTable, IsWellFormedTable, IsTableEpoch, StartsAt, table_text}
-use Rattle.rtk_rinex.specs.HeaderFault.{AreLines, HasHeader}
+use Rattle.rtk_rinex.specs.HeaderFault.{AreLines, HasHeader, IsFaultOfHeader}
 use Rattle.rtk_rinex.specs.CheckText.{IsFaultOfRecords}
-use Rattle.rtk_rinex.specs.CheckTable.{cause_of, IsFaultOfHeader, IsFaultBehindHeader, IsFault, OneFault, FaultMeansNoTable}
+use Rattle.rtk_rinex.specs.CheckTable.{IsFaultBehindHeader, IsFault, OneFault, FaultMeansNoTable}
 use Rattle.rtk_rinex.proofs.HeaderSameLemmas.{IsGood}
 use Rattle.rtk_rinex.proofs.FormLemmas.{IsTold}
 use Rattle.rtk_rinex.proofs.TextLemmas.{no_records}
@@ -24,22 +24,19 @@ told_of Order h = tt
 told_of Truncated h = tt
 told_of OutOfMemory h = absurd (h refl)
 
-header_told : (bytes : List ℕ) (f : CheckFault) (a : IsFaultOfHeader bytes f) → IsTold f.cause → IsTold (cause_of a.found.cause)
-header_told bytes f a t = rw a.cause at t
-
-behind-of : (bytes : List ℕ) (f : CheckFault) (a : IsFaultOfHeader bytes f) → IsTold f.cause → HasFaultBehind a.is_fault.0 bytes a.found.cause
-behind-of bytes f a t = found-behind a.is_fault.0 bytes a.found.cause (header_told bytes f a t) a.is_fault.2
+behind-of : (bytes : List ℕ) (f : CheckFault) (a : IsFaultOfHeader bytes f) → IsTold f.cause → HasFaultBehind a.0 bytes f.cause
+behind-of bytes f a t = found-behind a.0 bytes f.cause t a.2
 
 has-header : (bytes : List ℕ) (f : CheckFault) → IsFaultBehindHeader bytes f → HasHeader bytes
 has-header bytes f b = (header_text b.head b.site b.first, b.rest, (b.head, b.site, b.first, b.heading, b.good_site, b.moment, refl), b.text)
 
 of_header : (bytes : List ℕ) (f g : CheckFault) → IsFaultOfHeader bytes f → IsFaultOfHeader bytes g → IsTold f.cause → IsTold g.cause → IsSame f g
 of_header bytes f g a b t u =
-    let one = one_of_header a.is_fault.0 b.is_fault.0 bytes a.found.cause b.found.cause (behind-of bytes f a t) (behind-of bytes g b u) (header_told bytes f a t) (header_told bytes g b u) in
-    (omega (arith, a.line, a.is_fault.1, b.line, b.is_fault.1, one.0), a.cause ∙ ap cause_of one.1 ∙ sym b.cause)
+    let one = one_of_header a.0 b.0 bytes f.cause g.cause (behind-of bytes f a t) (behind-of bytes g b u) t u in
+    (omega (arith, a.1, b.1, one.0), one.1)
 
 header_or_records : (bytes : List ℕ) (f g : CheckFault) → IsFaultOfHeader bytes f → IsFaultBehindHeader bytes g → IsTold f.cause → ⊥
-header_or_records bytes f g a b t = no_header a.is_fault.0 bytes a.found.cause (header_told bytes f a t) (behind-of bytes f a t) (has-header bytes g b)
+header_or_records bytes f g a b t = no_header a.0 bytes f.cause t (behind-of bytes f a t) (has-header bytes g b)
 
 of_records : (bytes : List ℕ) (f g : CheckFault) → IsFaultBehindHeader bytes f → IsFaultBehindHeader bytes g → IsTold f.cause → IsTold g.cause → IsSame f g
 of_records bytes f g a b t u =
@@ -89,6 +86,6 @@ pub fault-none : FaultMeansNoTable
 fault-none bytes f a h u is e =
     let told = told_of f.cause h in
     ⊎_elim
-    (λ head. no_header head.is_fault.0 bytes head.found.cause (header_told bytes f head told) (behind-of bytes f head told) (table-header bytes u is e))
+    (λ head. no_header head.0 bytes f.cause told (behind-of bytes f head told) (table-header bytes u is e))
     (λ records. records_or_table bytes f records told u is e)
     a

@@ -7,17 +7,16 @@ use Rattle.std.proofs.lemmas.List.{append-nil}
 use Rattle.std.proofs.lemmas.List.Elements.{All-nil, All-head, All-tail}
 use Rattle.rtk_obs.specs.declared.time.Civil.{Civil}
 use Rattle.rtk_obs.specs.Calendar.{Reads}
-use Rattle.rtk_rinex.specs.declared.header_fault.HeaderCause.{HeaderCause}
-use Rattle.rtk_rinex.specs.declared.header_fault.HeaderCause.TheVariants.{HeaderLine, Truncated, OutOfMemory}
+use Rattle.rtk_rinex.specs.declared.check_fault.Cause.{Cause}
+use Rattle.rtk_rinex.specs.declared.check_fault.Cause.TheVariants.{HeaderLine, Columns, Value, Order, Truncated, OutOfMemory}
 use Rattle.rtk_rinex.specs.Reading.{reading_of}
 use Rattle.rtk_rinex.specs.Header.{HeadView, PositionView, header_line, first_text, header_text}
 use Rattle.rtk_rinex.specs.HeaderShown.{line_at}
 use Rattle.rtk_rinex.specs.Lines.{HasNoEnd}
 use Rattle.rtk_rinex.specs.HeaderFault.{AreLines, IsHeader, BeginsHeader, BeginsTable, HasHeader, IsLineFault, IsFaultBehind}
 use Rattle.rtk_rinex.specs.Table.{IsTableEpoch}
-use Rattle.rtk_rinex.specs.CheckTable.{cause_of}
 use Rattle.rtk_rinex.proofs.ReadingLemmas.{reading-reads}
-use Rattle.rtk_rinex.proofs.HeaderDigitsLemmas.{take-exact, drop-exact}
+use Rattle.rtk_rinex.proofs.DigitsLemmas.{take-exact, drop-exact}
 use Rattle.rtk_rinex.proofs.HeaderShownLemmas.{first_is, one_moment}
 use Rattle.rtk_rinex.proofs.HeaderRowsLemmas.{row_ended, ended, text_of, row_count}
 use Rattle.rtk_rinex.proofs.HeaderSameLemmas.{IsGood, lines_of, length-header, line_within, in_last}
@@ -111,7 +110,7 @@ one_number n m text a b =
 -- ---- the line with the fault
 
 -- behind n lines, which begin a header and are no whole one, stands a line with this fault
-pub record HasFaultBehind (n : ℕ) (bytes : List ℕ) (cause : HeaderCause) : Type 0 where
+pub record HasFaultBehind (n : ℕ) (bytes : List ℕ) (cause : Cause) : Type 0 where
   pub lines : List (List ℕ)
   pub rest : List ℕ
   pub are_lines : All HasNoEnd lines
@@ -121,12 +120,12 @@ pub record HasFaultBehind (n : ℕ) (bytes : List ℕ) (cause : HeaderCause) : T
   pub part : ¬ (IsHeader (text_of lines))
   pub fault : IsLineFault (text_of lines) rest cause
 
-abbrev StandsBehind : ℕ → List ℕ → HeaderCause → Type 0
+abbrev StandsBehind : ℕ → List ℕ → Cause → Type 0
 StandsBehind n bytes cause =
     (front : List ℕ) × (rest : List ℕ) × AreLines n front × (bytes ≡ front ++ rest) × BeginsHeader front × ¬ (IsHeader front)
     × IsLineFault front rest cause
 
-stands : (n : ℕ) (bytes : List ℕ) (cause : HeaderCause) → StandsBehind n bytes cause → HasFaultBehind n bytes cause
+stands : (n : ℕ) (bytes : List ℕ) (cause : Cause) → StandsBehind n bytes cause → HasFaultBehind n bytes cause
 stands n bytes cause b =
     let front : b.0 ≡ text_of b.2.0 = b.2.3 in
     record {
@@ -140,8 +139,11 @@ stands n bytes cause b =
       fault = rw front at b.6;
     }
 
-pub found-behind : (n : ℕ) (bytes : List ℕ) (cause : HeaderCause) → IsTold (cause_of cause) → IsFaultBehind n bytes cause → HasFaultBehind n bytes cause
+pub found-behind : (n : ℕ) (bytes : List ℕ) (cause : Cause) → IsTold cause → IsFaultBehind n bytes cause → HasFaultBehind n bytes cause
 found-behind n bytes HeaderLine told b = stands n bytes HeaderLine b
+found-behind n bytes Columns told b = stands n bytes Columns b
+found-behind n bytes Value told b = stands n bytes Value b
+found-behind n bytes Order told b = stands n bytes Order b
 found-behind n bytes Truncated told b = stands n bytes Truncated b
 found-behind n bytes OutOfMemory told b = absurd told
 
@@ -162,20 +164,23 @@ table_begins text x h = (
 )
 
 -- no header goes on with the line that has the fault
-no_next : (front rest : List ℕ) (cause : HeaderCause) (l y x : List ℕ) → IsTold (cause_of cause) → IsLineFault front rest cause → HasNoEnd l
+no_next : (front rest : List ℕ) (cause : Cause) (l y x : List ℕ) → IsTold cause → IsLineFault front rest cause → HasNoEnd l
     → rest ≡ l ++ 10 ∷ y → IsHeader ((front ++ l ++ 10 ∷ []) ++ x) → ⊥
 no_next front rest HeaderLine l y x told f is e h =
     let same = same_front l f.0 y f.1 is f.2 (sym e ∙ f.3) in
     f.4 (rw same.0 at (table_begins (front ++ l ++ 10 ∷ []) x h))
 no_next front rest Truncated l y x told f is e h = no_front l y (rw e at f)
+no_next front rest Columns l y x told f is e h = f
+no_next front rest Value l y x told f is e h = f
+no_next front rest Order l y x told f is e h = f
 no_next front rest OutOfMemory l y x told f is e h = told
 
 more_lines : (ls ms : List (List ℕ)) → All HasNoEnd (ls ++ ms) → All HasNoEnd ms
 more_lines [] ms h = h
 more_lines (l ∷ ls) ms h = more_lines ls ms (All-tail HasNoEnd l (ls ++ ms) h)
 
-goes_on : (n : ℕ) (bytes : List ℕ) (cause : HeaderCause) (a : HasFaultBehind n bytes cause) (ms : List (List ℕ)) (l : List ℕ) (more : List (List ℕ)) (y z : List ℕ)
-    → IsTold (cause_of cause) → All HasNoEnd ms → ms ≡ a.lines ++ l ∷ more → a.rest ≡ text_of (l ∷ more) ++ y → IsHeader (text_of ms ++ z) → ⊥
+goes_on : (n : ℕ) (bytes : List ℕ) (cause : Cause) (a : HasFaultBehind n bytes cause) (ms : List (List ℕ)) (l : List ℕ) (more : List (List ℕ)) (y z : List ℕ)
+    → IsTold cause → All HasNoEnd ms → ms ≡ a.lines ++ l ∷ more → a.rest ≡ text_of (l ∷ more) ++ y → IsHeader (text_of ms ++ z) → ⊥
 goes_on n bytes cause a ms l more y z told is e text h =
     let good : All HasNoEnd (a.lines ++ l ∷ more) = rw e at is in
     let line = All-head HasNoEnd l more (more_lines a.lines (l ∷ more) good) in
@@ -187,8 +192,8 @@ goes_on n bytes cause a ms l more y z told is e text h =
 
 -- ---- where a header has a fault, no header stands
 
-no_header_more : (n : ℕ) (bytes : List ℕ) (cause : HeaderCause) (a : HasFaultBehind n bytes cause) (ms more : List (List ℕ)) (y : List ℕ)
-    → IsTold (cause_of cause) → All HasNoEnd ms → ms ≡ a.lines ++ more → a.rest ≡ text_of more ++ y → IsHeader (text_of ms) → ⊥
+no_header_more : (n : ℕ) (bytes : List ℕ) (cause : Cause) (a : HasFaultBehind n bytes cause) (ms more : List (List ℕ)) (y : List ℕ)
+    → IsTold cause → All HasNoEnd ms → ms ≡ a.lines ++ more → a.rest ≡ text_of more ++ y → IsHeader (text_of ms) → ⊥
 no_header_more n bytes cause a ms [] y told is e text h =
     let same : ms ≡ a.lines = e ∙ append-nil a.lines in
     a.part (rw same at h)
@@ -196,7 +201,7 @@ no_header_more n bytes cause a ms (l ∷ more) y told is e text h =
     goes_on n bytes cause a ms l more y [] told is e text (rw (append-nil (text_of ms)) h)
 
 -- a header that ends before the fault is no part of another one
-no_longer : (n : ℕ) (bytes : List ℕ) (cause : HeaderCause) (a : HasFaultBehind n bytes cause) (h : HeadView) (s : PositionView) (t : ℕ) (ms more : List (List ℕ))
+no_longer : (n : ℕ) (bytes : List ℕ) (cause : Cause) (a : HasFaultBehind n bytes cause) (h : HeadView) (s : PositionView) (t : ℕ) (ms more : List (List ℕ))
     → IsGood h s t → header_text h s t ≡ text_of ms → a.lines ≡ ms ++ more → length more ≡ 0
 no_longer n bytes cause a h s t ms more g e list =
     let b = a.begins.1 in
@@ -209,7 +214,7 @@ no_longer n bytes cause a h s t ms more g e list =
     let one = one_header h b.0 s b.1 t b.2 (text_of more ++ x) [] g good whole in
     no_text more x one.rest
 
-pub no_header : (n : ℕ) (bytes : List ℕ) (cause : HeaderCause) → IsTold (cause_of cause) → HasFaultBehind n bytes cause → ¬ (HasHeader bytes)
+pub no_header : (n : ℕ) (bytes : List ℕ) (cause : Cause) → IsTold cause → HasFaultBehind n bytes cause → ¬ (HasHeader bytes)
 no_header n bytes cause told a has =
     let h = has.2.0 in
     let s = has.2.1 in
@@ -232,17 +237,26 @@ no_header n bytes cause told a has =
 
 -- ---- two faults of a header
 
-one_line_cause : (front other rest : List ℕ) (c d : HeaderCause) → IsTold (cause_of c) → IsTold (cause_of d) → IsLineFault front rest c → IsLineFault other rest d → c ≡ d
+one_line_cause : (front other rest : List ℕ) (c d : Cause) → IsTold c → IsTold d → IsLineFault front rest c → IsLineFault other rest d → c ≡ d
 one_line_cause front other rest HeaderLine HeaderLine t u a b = refl
 one_line_cause front other rest HeaderLine Truncated t u a b = absurd (no_front a.0 a.1 (rw a.3 at b))
 one_line_cause front other rest HeaderLine OutOfMemory t u a b = absurd u
+one_line_cause front other rest HeaderLine Columns t u a b = absurd b
+one_line_cause front other rest HeaderLine Value t u a b = absurd b
+one_line_cause front other rest HeaderLine Order t u a b = absurd b
 one_line_cause front other rest Truncated HeaderLine t u a b = absurd (no_front b.0 b.1 (rw b.3 at a))
 one_line_cause front other rest Truncated Truncated t u a b = refl
 one_line_cause front other rest Truncated OutOfMemory t u a b = absurd u
+one_line_cause front other rest Truncated Columns t u a b = absurd b
+one_line_cause front other rest Truncated Value t u a b = absurd b
+one_line_cause front other rest Truncated Order t u a b = absurd b
+one_line_cause front other rest Columns d t u a b = absurd a
+one_line_cause front other rest Value d t u a b = absurd a
+one_line_cause front other rest Order d t u a b = absurd a
 one_line_cause front other rest OutOfMemory d t u a b = absurd t
 
-behind_more : (n m : ℕ) (bytes : List ℕ) (c d : HeaderCause) (a : HasFaultBehind n bytes c) (b : HasFaultBehind m bytes d) (more : List (List ℕ))
-    → IsTold (cause_of c) → IsTold (cause_of d) → b.lines ≡ a.lines ++ more → a.rest ≡ text_of more ++ b.rest → (n ≡ m) × (c ≡ d)
+behind_more : (n m : ℕ) (bytes : List ℕ) (c d : Cause) (a : HasFaultBehind n bytes c) (b : HasFaultBehind m bytes d) (more : List (List ℕ))
+    → IsTold c → IsTold d → b.lines ≡ a.lines ++ more → a.rest ≡ text_of more ++ b.rest → (n ≡ m) × (c ≡ d)
 behind_more n m bytes c d a b [] t u e text =
     let size = ap length (e ∙ append-nil a.lines) in
     let fault : IsLineFault (text_of b.lines) a.rest d = rw text b.fault in
@@ -250,13 +264,13 @@ behind_more n m bytes c d a b [] t u e text =
 behind_more n m bytes c d a b (l ∷ more) t u e text =
     absurd (goes_on n bytes c a b.lines l more b.rest b.begins.0 t b.are_lines e text b.begins.1)
 
-behind_ordered : (n m : ℕ) (bytes : List ℕ) (c d : HeaderCause) → HasFaultBehind n bytes c → HasFaultBehind m bytes d → IsTold (cause_of c) → IsTold (cause_of d)
+behind_ordered : (n m : ℕ) (bytes : List ℕ) (c d : Cause) → HasFaultBehind n bytes c → HasFaultBehind m bytes d → IsTold c → IsTold d
     → n ≤ m → (n ≡ m) × (c ≡ d)
 behind_ordered n m bytes c d a b t u le =
     let goes = same_lines a.lines b.lines a.rest b.rest a.are_lines b.are_lines (omega (arith, a.size, b.size, le)) (sym a.text ∙ b.text) in
     behind_more n m bytes c d a b goes.more t u goes.list goes.text
 
-pub one_of_header : (n m : ℕ) (bytes : List ℕ) (c d : HeaderCause) → HasFaultBehind n bytes c → HasFaultBehind m bytes d → IsTold (cause_of c) → IsTold (cause_of d)
+pub one_of_header : (n m : ℕ) (bytes : List ℕ) (c d : Cause) → HasFaultBehind n bytes c → HasFaultBehind m bytes d → IsTold c → IsTold d
     → (n ≡ m) × (c ≡ d)
 one_of_header n m bytes c d a b t u =
     elim (leb_tells n m) [

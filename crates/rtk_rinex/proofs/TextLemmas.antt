@@ -6,17 +6,15 @@ use Rattle.std.proofs.lemmas.List.Elements.{All-head, All-tail}
 use Rattle.rtk_rinex.specs.declared.check_fault.Cause.{Cause}
 use Rattle.rtk_rinex.specs.declared.check_fault.Cause.TheVariants.{HeaderLine, Columns, Value, Order, Truncated, OutOfMemory}
 use Rattle.rtk_rinex.specs.declared.check_fault.CheckFault.{CheckFault}
-use Rattle.rtk_rinex.specs.declared.header_fault.HeaderCause.{HeaderCause}
-use Rattle.rtk_rinex.specs.declared.header_fault.HeaderCause.TheVariants as header
 use Rattle.rtk_rinex.specs.declared.epoch_table.SatelliteRow.{SatelliteRow}
 use Rattle.rtk_rinex.specs.Columns.{left}
 use Rattle.rtk_rinex.specs.Reading.{IsMoment, reading_of}
 use Rattle.rtk_rinex.specs.Header.{HeadView, PositionView, IsHeadView, IsPositionView, header_line, header_text}
 use Rattle.rtk_rinex.specs.Record.{EpochTableView, epoch_line, satellite_line, record_text}
 use Rattle.rtk_rinex.specs.Table.{WellFormedTable, IsWellFormedTable, IsTableEpoch, IsTableRow, StartsAt, table_text}
-use Rattle.rtk_rinex.specs.HeaderFault.{AreLines, IsWithoutHeader, IsOnlyHeader}
+use Rattle.rtk_rinex.specs.HeaderFault.{AreLines, HasHeader, IsWithoutHeader, IsOnlyHeader}
 use Rattle.rtk_rinex.specs.CheckText.{BeginsWithFault, last_satellite, last_time, IsFaultBehindEpochLine, IsFaultOfRecord, IsFaultOfRecords, ReadsRecords}
-use Rattle.rtk_rinex.specs.CheckTable.{HoldsTable, cause_of, IsFault, IsWithoutTable}
+use Rattle.rtk_rinex.specs.CheckTable.{HoldsTable, IsFault, IsWithoutTable}
 use Rattle.rtk_rinex.specs.CheckLine.{IsNextTime, IsSatelliteFault}
 use Rattle.rtk_rinex.proofs.EpochLemmas.{length-line}
 use Rattle.rtk_rinex.proofs.CheckLemmas.{rows-all}
@@ -27,14 +25,19 @@ use Rattle.rtk_rinex.proofs.FormLemmas.{IsTold, no_satellite_fault, no_epoch_fau
 -- ---- want of memory, and faults of the header
 
 pub room-fault : (bytes : List ℕ) (f : CheckFault) → f.line ≡ 1 → f.cause ≡ OutOfMemory → IsFault bytes f
-room-fault bytes f line cause = inl (record { found = record { line = 1; cause = header.OutOfMemory }; is_fault = (0, refl, tt); line = line; cause = cause })
+room-fault bytes f line cause = inl (0, line, rw cause tt)
 
-pub header-none : (bytes : List ℕ) (c : HeaderCause) → IsWithoutHeader bytes c → IsWithoutTable bytes (cause_of c)
-header-none bytes header.HeaderLine h = λ t is e.
-    h (header_text t.head t.site t.first, flat_map record_text t.epochs, (t.head, t.site, t.first, is.head, is.site, is.first, refl), e)
-header-none bytes header.Truncated h = λ t is e.
-    h (header_text t.head t.site t.first, flat_map record_text t.epochs, (t.head, t.site, t.first, is.head, is.site, is.first, refl), e)
-header-none bytes header.OutOfMemory h = tt
+header-of : (t : WellFormedTable) (bytes : List ℕ) → IsWellFormedTable t → bytes ≡ table_text t → HasHeader bytes
+header-of t bytes is e =
+    (header_text t.head t.site t.first, flat_map record_text t.epochs, (t.head, t.site, t.first, is.head, is.site, is.first, refl), e)
+
+pub header-none : (bytes : List ℕ) (c : Cause) → IsWithoutHeader bytes c → IsWithoutTable bytes c
+header-none bytes HeaderLine h = λ t is e. h (header-of t bytes is e)
+header-none bytes Columns h = λ t is e. h (header-of t bytes is e)
+header-none bytes Value h = λ t is e. h (header-of t bytes is e)
+header-none bytes Order h = λ t is e. h (header-of t bytes is e)
+header-none bytes Truncated h = λ t is e. h (header-of t bytes is e)
+header-none bytes OutOfMemory h = tt
 
 -- a header has more bytes than lines
 pub line_bytes : (lines : List (List ℕ)) → length lines ≤ length (flat_map (λ (line : List ℕ). line ++ 10 ∷ []) lines)

@@ -3,13 +3,10 @@ use Rattle.std.specs.Prelude.{◌≡◌, ◌≢◌, ℕ, List, ◌++◌, length,
 use Rattle.rtk_rinex.specs.Reading.{IsMoment}
 use Rattle.rtk_rinex.specs.Header.{HeadView, PositionView, IsHeadView, IsPositionView, header_text}
 use Rattle.rtk_rinex.specs.Table.{WellFormedTable, IsWellFormedTable, table_text}
-use Rattle.rtk_rinex.specs.HeaderFault.{AreLines, IsHeaderFault}
+use Rattle.rtk_rinex.specs.HeaderFault.{AreLines, IsFaultOfHeader}
 use Rattle.rtk_rinex.specs.CheckText.{satellite_lines, IsFaultOfRecords}
-use Rattle.rtk_rinex.specs.declared.header_fault.HeaderFault.{HeaderFault}
-use Rattle.rtk_rinex.specs.declared.header_fault.HeaderCause.{HeaderCause}
-use Rattle.rtk_rinex.specs.declared.header_fault.HeaderCause.TheVariants as header
 use Rattle.rtk_rinex.specs.declared.check_fault.Cause.{Cause}
-use Rattle.rtk_rinex.specs.declared.check_fault.Cause.TheVariants.{HeaderLine, Truncated, OutOfMemory}
+use Rattle.rtk_rinex.specs.declared.check_fault.Cause.TheVariants.{OutOfMemory}
 use Rattle.rtk_rinex.specs.declared.check_fault.CheckFault.{CheckFault}
 
 -- a text is that of one well-formed table, with so many records and satellite lines
@@ -30,19 +27,6 @@ pub record TableView : Type 0 where
 -- it is the text of some well-formed table, with these numbers
 abbrev pub IsTableView : TableView → Type 0
 IsTableView t = ∥ HoldsTable t.text t.epochs t.satellites ∥₁
-
--- the cause of a fault in the header
-abbrev pub cause_of : HeaderCause → Cause
-cause_of header.HeaderLine = HeaderLine
-cause_of header.Truncated = Truncated
-cause_of header.OutOfMemory = OutOfMemory
-
--- the fault is in the header
-pub record IsFaultOfHeader (bytes : List ℕ) (fault : CheckFault) : Type 0 where
-  pub found : HeaderFault
-  pub is_fault : IsHeaderFault bytes found
-  pub line : fault.line ≡ found.line
-  pub cause : fault.cause ≡ cause_of found.cause
 
 -- the header is good, and has so many lines; the fault is in the records
 pub record IsFaultBehindHeader (bytes : List ℕ) (fault : CheckFault) : Type 0 where

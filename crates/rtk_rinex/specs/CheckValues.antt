@@ -3,27 +3,12 @@ use Rattle.std.specs.Prelude.{ℕ, zero, suc, ◌++◌, ◌+◌, ◌-◌, ◌*�
 use Rattle.std.specs.List.{list_any, list_all}
 use Rattle.rtk_obs.specs.declared.time.Civil.{Civil}
 use Rattle.rtk_rinex.specs.Columns.{fixed, left}
+use Rattle.rtk_rinex.specs.Digits.{digits_from, number_in}
 use Rattle.rtk_rinex.specs.declared.epoch_table.Observed.{Observed}
 use Rattle.rtk_rinex.specs.declared.epoch_table.SatelliteRow.{SatelliteRow}
 
--- one more character of a number: a digit, or any other, which is passed over
-abbrev pub with_digit : ℕ → ℕ → ℕ
-with_digit a x = if nat_le 48 x && nat_le x 57 then a * 10 + (x - 48) else a
-
--- the number that the digits of a text write behind a number
-unfoldable pub digits_from : ℕ → List ℕ → ℕ
-digits_from a [] = a
-digits_from a (x ∷ xs) = digits_from (with_digit a x) xs
-
-unfoldable pub has_minus : List ℕ → Bool
-has_minus = list_any (λ x. x == 45)
-
 unfoldable pub is_blank : List ℕ → Bool
 is_blank = list_all (λ x. x == 32)
-
--- the number that the digits of a text write, negative where it has a minus sign
-abbrev pub number_in : List ℕ → ℤ
-number_in text = if has_minus text then neg_ℤ (pos (digits_from 0 text)) else pos (digits_from 0 text)
 
 -- the value that 14 columns show, or none where they are blank
 abbrev pub value_in : List ℕ → Option ℤ

@@ -4,9 +4,9 @@ use Rattle.rtk_rinex.specs.Reading.{IsMoment}
 use Rattle.rtk_rinex.specs.Header.{HeadView, PositionView, IsHeadView, IsPositionView, header_text}
 use Rattle.rtk_rinex.specs.Table.{WellFormedTable, IsWellFormedTable, table_text}
 use Rattle.rtk_rinex.specs.Lines.{HasNoEnd}
-use Rattle.rtk_rinex.specs.declared.header_fault.HeaderFault.{HeaderFault}
-use Rattle.rtk_rinex.specs.declared.header_fault.HeaderCause.{HeaderCause}
-use Rattle.rtk_rinex.specs.declared.header_fault.HeaderCause.TheVariants.{HeaderLine, Truncated, OutOfMemory}
+use Rattle.rtk_rinex.specs.declared.check_fault.CheckFault.{CheckFault}
+use Rattle.rtk_rinex.specs.declared.check_fault.Cause.{Cause}
+use Rattle.rtk_rinex.specs.declared.check_fault.Cause.TheVariants.{HeaderLine, Truncated, OutOfMemory}
 
 -- the header of a good heading, a good site and a moment
 abbrev pub IsHeader : List ℕ → Type 0
@@ -32,25 +32,26 @@ AreLines n text =
 
 -- what is wrong with the next line, where `rest` stands behind the lines so far: no LF ends it; or no table's text begins
 -- with these lines and this one
-abbrev pub IsLineFault : List ℕ → List ℕ → HeaderCause → Type 0
+abbrev pub IsLineFault : List ℕ → List ℕ → Cause → Type 0
 IsLineFault front rest Truncated = HasNoEnd rest
 IsLineFault front rest HeaderLine =
     (line : List ℕ) × (more : List ℕ) × HasNoEnd line × (rest ≡ line ++ 10 ∷ more) × ¬ (BeginsTable (front ++ line ++ 10 ∷ []))
 IsLineFault front rest OutOfMemory = Unit {0}
+IsLineFault front rest _ = ⊥
 
 -- a fault at the line behind n lines: they begin a header and are no whole one
-abbrev pub IsFaultBehind : ℕ → List ℕ → HeaderCause → Type 0
+abbrev pub IsFaultBehind : ℕ → List ℕ → Cause → Type 0
 IsFaultBehind n bytes OutOfMemory = Unit {0}
 IsFaultBehind n bytes cause =
     (front : List ℕ) × (rest : List ℕ) × AreLines n front × (bytes ≡ front ++ rest) × BeginsHeader front × ¬ (IsHeader front)
     × IsLineFault front rest cause
 
 -- a fault's line counts from 1; want of memory says nothing of the text
-abbrev pub IsHeaderFault : List ℕ → HeaderFault → Type 0
-IsHeaderFault bytes f = (n : ℕ) × (f.line ≡ n + 1) × IsFaultBehind n bytes f.cause
+abbrev pub IsFaultOfHeader : List ℕ → CheckFault → Type 0
+IsFaultOfHeader bytes f = (n : ℕ) × (f.line ≡ n + 1) × IsFaultBehind n bytes f.cause
 
 -- a text that is refused begins with no header; want of memory says nothing
-abbrev pub IsWithoutHeader : List ℕ → HeaderCause → Type 0
+abbrev pub IsWithoutHeader : List ℕ → Cause → Type 0
 IsWithoutHeader bytes OutOfMemory = Unit {0}
 IsWithoutHeader bytes cause = ¬ (HasHeader bytes)
 

@@ -1,10 +1,14 @@
 //! Numbers in columns of text, as the formats of RINEX 3.05 name them (F14.3, I6 ..).
 
-ghost use Rattle.std.specs.Prelude.{◌≡◌, ℕ, ◌+◌, ◌^◌, ◌<◌, ◌≤◌, ◌++◌, length, take, replicate, decimal, if◌then◌else◌, false, pos, negsuc, ◌≤ℤ◌};
+ghost use Rattle.std.specs.Prelude.{◌≡◌, ℕ, ◌+◌, ◌*◌, ◌^◌, ◌<◌, ◌≤◌, ◌++◌, length, take, replicate, decimal, if◌then◌else◌, false, pos, negsuc, ◌≤ℤ◌};
 ghost use Rattle.rtk_rinex.specs.Columns.{last_digits, right, decimals, fixed};
+ghost use Rattle.rtk_rinex.specs.Reading.{seconds_of};
+
+use arrayvec::ArrayVec;
+use rtk_obs::Civil;
 
 /// Writes the last digits of a number over the whole of `field`.
-pub fn put_last_digits(field: &mut [u8], number: u64)
+pub(crate) fn put_last_digits(field: &mut [u8], number: u64)
     ensures { field.new ≡ last_digits (length field.old) number }
 {
     let mut rest = number;
@@ -17,7 +21,7 @@ pub fn put_last_digits(field: &mut [u8], number: u64)
 }
 
 /// Writes a number at the right end of `field`, and returns the column where it begins.
-pub fn put_decimal(field: &mut [u8], number: u64) -> usize
+pub(crate) fn put_decimal(field: &mut [u8], number: u64) -> usize
     requires { length (decimal number) ≤ length field.old }
     ensures start { result + length (decimal number) ≡ length field.old }
     ensures written { field.new ≡ take result field.old ++ decimal number }
@@ -57,7 +61,7 @@ fn put_signed_14_3(field: &mut [u8], negative: bool, magnitude: u64)
 }
 
 /// Writes F14.3 of a number of thousandths over 14 blanks.
-pub fn put_fixed_14_3(field: &mut [u8], value: i64)
+pub(crate) fn put_fixed_14_3(field: &mut [u8], value: i64)
     requires blank { field.old ≡ replicate 14 32 }
     requires low { negsuc 999_999_999_998 ≤ℤ value }
     requires high { value ≤ℤ pos 9_999_999_999_999 }
@@ -82,7 +86,7 @@ fn signed_14_4(negative: bool, magnitude: u64) -> [u8; 14]
 }
 
 /// F14.4 of a number of ten-thousandths.
-pub fn fixed_14_4(value: i64) -> [u8; 14]
+pub(crate) fn fixed_14_4(value: i64) -> [u8; 14]
     requires low { negsuc 999_999_999_998 ≤ℤ value }
     requires high { value ≤ℤ pos 999_999_999_999 }
     ensures { result ≡ fixed 4 14 value }
@@ -91,7 +95,7 @@ pub fn fixed_14_4(value: i64) -> [u8; 14]
 }
 
 /// F13.7 of a number of ten-millionths.
-pub fn unsigned_13_7(magnitude: u64) -> [u8; 13]
+pub(crate) fn unsigned_13_7(magnitude: u64) -> [u8; 13]
     requires { magnitude < 10 ^ 12 }
     ensures { result ≡ right 13 (decimals 7 false magnitude) }
 {
@@ -103,7 +107,7 @@ pub fn unsigned_13_7(magnitude: u64) -> [u8; 13]
 }
 
 /// F11.7 of a number of ten-millionths.
-pub fn unsigned_11_7(magnitude: u64) -> [u8; 11]
+pub(crate) fn unsigned_11_7(magnitude: u64) -> [u8; 11]
     requires { magnitude < 10 ^ 10 }
     ensures { result ≡ right 11 (decimals 7 false magnitude) }
 {
@@ -115,7 +119,7 @@ pub fn unsigned_11_7(magnitude: u64) -> [u8; 11]
 }
 
 /// I6.
-pub fn integer_6(number: u64) -> [u8; 6]
+pub(crate) fn integer_6(number: u64) -> [u8; 6]
     requires { number < 10 ^ 6 }
     ensures { result ≡ right 6 (decimal number) }
 {
@@ -125,11 +129,32 @@ pub fn integer_6(number: u64) -> [u8; 6]
 }
 
 /// I3.
-pub fn integer_3(number: u64) -> [u8; 3]
+pub(crate) fn integer_3(number: u64) -> [u8; 3]
     requires { number < 10 ^ 3 }
     ensures { result ≡ right 3 (decimal number) }
 {
     let mut field = [b' '; 3];
     put_decimal(&mut field, number);
     field
+}
+
+/// The seconds of a date and time in units of 10^-7 s.
+pub(crate) fn seconds(time: Civil) -> u64
+    requires second { time.second < 60 }
+    requires millisecond { time.millisecond < 1000 }
+    ensures value { result ≡ seconds_of time }
+    ensures bound { result < 600_000_000 }
+{
+    u64::from(time.second) * 10_000_000 + u64::from(time.millisecond) * 10_000
+}
+
+/// Appends a text to the columns of a line.
+pub(crate) fn add<const N: usize>(columns: &mut ArrayVec<u8, N>, text: &[u8])
+    requires { length columns.old.items + length text.now ≤ N }
+    ensures items { columns.new.items ≡ columns.old.items ++ text.now }
+    ensures len { length columns.new.items ≡ length columns.old.items + length text.now }
+{
+    if columns.try_extend_from_slice(text).is_err() {
+        unreachable!();
+    }
 }

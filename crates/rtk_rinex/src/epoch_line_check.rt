@@ -6,14 +6,14 @@ ghost use Rattle.rtk_rinex.specs.Reading.{IsMoment, reading_of};
 ghost use Rattle.rtk_rinex.specs.Record.{epoch_columns, epoch_line};
 ghost use Rattle.rtk_rinex.specs.CheckValues.{seconds_in, civil_in, count_in};
 
-use crate::check_values::digits;
+use crate::digits::digits;
 use crate::record_text::put_epoch_line;
 use rtk_obs::{Civil, GpsMs, of_civil};
 use std::alloc::AllocError;
 
 /// What an epoch line shows.
 #[derive(Clone, Copy)]
-pub struct EpochStamp {
+pub(crate) struct EpochStamp {
     /// The moment of the epoch.
     pub time: GpsMs,
     /// The reading of this moment.
@@ -69,7 +69,7 @@ fn stamp_in(columns: &[u8]) -> Option<EpochStamp>
 }
 
 /// Are the bytes of a text from a place on these?
-pub fn is_end_from(text: &[u8], start: usize, end: &[u8]) -> bool
+pub(crate) fn is_end_from(text: &[u8], start: usize, end: &[u8]) -> bool
     requires { start ≤ length text.now }
     ensures { IsTrue result ↔ (drop start text.now ≡ end.now) }
 {
@@ -78,7 +78,10 @@ pub fn is_end_from(text: &[u8], start: usize, end: &[u8]) -> bool
 
 /// The moment and count of an epoch line, which ends in LF; `None` exactly where it is no epoch line.
 /// An epoch line is appended to `out`.
-pub fn read_epoch_line(out: &mut Vec<u8>, line: &[u8]) -> Result<Option<EpochStamp>, AllocError>
+pub(crate) fn read_epoch_line(
+    out: &mut Vec<u8>,
+    line: &[u8],
+) -> Result<Option<EpochStamp>, AllocError>
     ensures { IfOk result (λ found. MatchOption found
         ((t n : ℕ) → IsMoment t → IsInRange 1 32 n → line.now ≢ epoch_line (reading_of t) n)
         (λ s. IsMoment s.time × IsInRange 1 32 s.count × (line.now ≡ epoch_line (reading_of s.time) s.count) × (out.new.items ≡ out.old.items ++ line.now))) }

@@ -6,17 +6,17 @@ ghost use Rattle.rtk_obs.specs.PositionFields.{HasFields};
 ghost use Rattle.rtk_obs.specs.declared.code.Code.{Code};
 ghost use Rattle.rtk_rinex.specs.Columns.{right, fixed};
 ghost use Rattle.rtk_rinex.specs.Header.{header_line, made_text, first_text, IsMarker, PositionView, IsPositionView, HeadView, IsHeadView, position_view, header_text};
-ghost use Rattle.rtk_rinex.specs.HeaderDigits.{number_in};
-ghost use Rattle.rtk_rinex.specs.HeaderFault.{AreLines, IsWithoutHeader, IsHeaderFault, IsOnlyHeader};
+ghost use Rattle.rtk_rinex.specs.Digits.{number_in};
+ghost use Rattle.rtk_rinex.specs.HeaderFault.{AreLines, IsWithoutHeader, IsFaultOfHeader, IsOnlyHeader};
 ghost use Rattle.rtk_rinex.specs.HeaderShown.{line_at, name_at, number_at, made_civil, first_civil, AreAllCodes};
-ghost use Rattle.rtk_rinex.specs.Lines.{HasNoEnd};
+ghost use Rattle.rtk_rinex.specs.Lines.{HasNoEnd, IsLine};
 ghost use Rattle.rtk_rinex.specs.Reading.{IsMoment, reading_of};
 ghost use Rattle.std.specs.Int.{IsInRange};
 ghost use Rattle.std.specs.Prelude.{◌≡◌, ◌≢◌, ℕ, ◌+◌, ◌*◌, ◌%◌, ◌/◌, ◌<◌, ◌≤◌, List, ◌++◌, length, take, drop, codes, decimal, pos, AllPairs, slice_index_or, MatchOption, ◌^◌, ◌∷◌, Decides, IfOk, IfErr};
 
+use crate::check_fault::{Cause, CheckFault};
+use crate::digits::{columns, number_in, signed_in};
 use crate::head::{Head, is_marker};
-use crate::header_digits::{columns, number_in, signed_in};
-use crate::header_fault::{HeaderCause, HeaderFault};
 use crate::header_text::put_header;
 use crate::record_text::trimmed_len;
 use rtk_obs::{Civil, Code, GpsMs, Position, of_civil};
@@ -64,8 +64,8 @@ fn made_reading(line: &[u8]) -> Civil
     }
 }
 
-/// The moment that the second line shows.
-pub fn read_made(line: &[u8]) -> GpsMs
+// The moment that the second line shows.
+fn read_made(line: &[u8]) -> GpsMs
     ensures whole_second { result % 1000 ≡ 0 }
     ensures shown { (t : ℕ) → IsMoment t → t % 1000 ≡ 0
         → line.now ≡ header_line (codes "rtcm2rinex                              " ++ made_text (reading_of t)) (codes "PGM / RUN BY / DATE") → result ≡ t }
@@ -76,8 +76,8 @@ pub fn read_made(line: &[u8]) -> GpsMs
     time
 }
 
-/// The marker's name that the third line shows.
-pub fn read_marker(line: &[u8]) -> &[u8]
+// The marker's name that the third line shows.
+fn read_marker(line: &[u8]) -> &[u8]
     ensures good { IsMarker result.now }
     ensures shown { (m : List ℕ) → IsMarker m → line.now ≡ header_line m (codes "MARKER NAME") → result.now ≡ m }
 {
@@ -103,8 +103,8 @@ fn position_in(line: &[u8], height: u16) -> Option<Position>
     )
 }
 
-/// The position that its line shows, of this height.
-pub fn read_position(line: &[u8], height: u16) -> Position
+// The position that its line shows, of this height.
+fn read_position(line: &[u8], height: u16) -> Position
     ensures height { result.height ≡ height }
     ensures shown { (s : PositionView) → IsPositionView s
         → line.now ≡ header_line (fixed 4 14 s.x ++ fixed 4 14 s.y ++ fixed 4 14 s.z) (codes "APPROX POSITION XYZ")
@@ -119,8 +119,8 @@ pub fn read_position(line: &[u8], height: u16) -> Position
     origin
 }
 
-/// The antenna's height that its line shows, in 0.0001 m.
-pub fn read_height(line: &[u8]) -> u16
+// The antenna's height that its line shows, in 0.0001 m.
+fn read_height(line: &[u8]) -> u16
     ensures { (h : ℕ) → h < 65_536
         → line.now ≡ header_line (fixed 4 14 (pos h) ++ codes "        0.0000        0.0000") (codes "ANTENNA: DELTA H/E/N") → result ≡ h }
 {
@@ -131,8 +131,8 @@ pub fn read_height(line: &[u8]) -> u16
     height as u16
 }
 
-/// How many codes the first line of the observation types shows.
-pub fn read_code_count(line: &[u8]) -> usize
+// How many codes the first line of the observation types shows.
+fn read_code_count(line: &[u8]) -> usize
     ensures good { IsInRange 1 16 result }
     ensures shown { (n : ℕ) (rest : List ℕ) → IsInRange 1 16 n
         → line.now ≡ header_line (codes "G  " ++ right 3 (decimal (3 * n)) ++ rest) (codes "SYS / # / OBS TYPES") → result ≡ n }
@@ -144,8 +144,8 @@ pub fn read_code_count(line: &[u8]) -> usize
     count
 }
 
-/// The line of a text behind so many lines of 81 bytes.
-pub fn text_line(text: &[u8], lines: usize) -> &[u8]
+// The line of a text behind so many lines of 81 bytes.
+fn text_line(text: &[u8], lines: usize) -> &[u8]
     requires { 81 * lines < 2 ^ 64 }
     ensures { result.now ≡ line_at lines text.now }
 {
@@ -205,9 +205,9 @@ fn move_named_code(all: &mut [Code; 16], name: &[u8], place: usize)
     }
 }
 
-/// All codes, of which those come first that a text shows as far as they are good: those of any header
-/// that shows the same names.
-pub fn read_codes(text: &[u8]) -> [Code; 16]
+// All codes, of which those come first that a text shows as far as they are good: those of any header
+// that shows the same names.
+fn read_codes(text: &[u8]) -> [Code; 16]
     ensures all { AreAllCodes result }
     ensures shown { (listed : List Code) (i : ℕ) (d : Code) → AllPairs (λ a b. a ≢ b) listed → i < length listed → i < 16
         → ((j : ℕ) → j ≤ i → name_at j text.now ≡ name_of (slice_index_or listed j d)) → slice_index_or result i d ≡ slice_index_or listed i d }
@@ -236,8 +236,8 @@ fn first_reading(line: &[u8], seconds: u64) -> Civil
     }
 }
 
-/// The moment that the line of the first observation shows.
-pub fn read_first(line: &[u8]) -> GpsMs
+// The moment that the line of the first observation shows.
+fn read_first(line: &[u8]) -> GpsMs
     ensures { (t : ℕ) → IsMoment t → line.now ≡ header_line (first_text (reading_of t)) (codes "TIME OF FIRST OBS") → result ≡ t }
 {
     let seconds = number_in(line, 30, 13);
@@ -252,7 +252,7 @@ pub fn read_first(line: &[u8]) -> GpsMs
 
 /// What a header tells, and where it ends.
 #[derive(Drop)]
-pub struct HeaderRead {
+pub(crate) struct HeaderRead {
     /// The marker's name, the codes and the moment at which the file was made.
     pub head: Head,
     /// The antenna reference point and the antenna's height.
@@ -315,9 +315,10 @@ fn unlike_line(header: &[u8], text: &[u8]) -> Option<usize>
     None
 }
 
-// Where the LF stands that ends the first line.
-fn line_end(text: &[u8]) -> Option<usize>
-    ensures { MatchOption result (HasNoEnd text.now) (λ n. HasNoEnd (take n text.now) × (text.now ≡ take n text.now ++ 10 ∷ drop (n + 1) text.now)) }
+/// Where the LF stands that ends the first line of a text, if there is one.
+pub(crate) fn line_end(text: &[u8]) -> Option<usize>
+    ensures parts { MatchOption result (HasNoEnd text.now) (λ n. HasNoEnd (take n text.now) × (text.now ≡ take n text.now ++ 10 ∷ drop (n + 1) text.now)) }
+    ensures line { MatchOption result (HasNoEnd text.now) (λ n. (n < length text.now) × IsLine (take (n + 1) text.now)) }
 {
     for n in 0..text.len() {
         if text[n] == b'\n' {
@@ -329,21 +330,21 @@ fn line_end(text: &[u8]) -> Option<usize>
 
 /// What the header at the front of a text tells; else its first line that is wrong. The header is
 /// appended to `out`.
-pub fn check_header(out: &mut Vec<u8>, text: &[u8]) -> Result<HeaderRead, HeaderFault>
+pub(crate) fn check_header(out: &mut Vec<u8>, text: &[u8]) -> Result<HeaderRead, CheckFault>
     ensures good { IfOk result (λ r. IsHeadView r.head × IsPositionView (position_view r.position) × IsMoment r.first) }
     ensures text { IfOk result (λ r. text.now ≡ header_text r.head (position_view r.position) r.first ++ drop r.used text.now) }
     ensures size { IfOk result (λ r. (r.used ≡ length (header_text r.head (position_view r.position) r.first)) × AreLines r.lines (header_text r.head (position_view r.position) r.first)) }
     ensures out { IfOk result (λ r. out.new.items ≡ out.old.items ++ header_text r.head (position_view r.position) r.first) }
     ensures only { IfOk result (λ r. IsOnlyHeader text.now r.head (position_view r.position) r.first) }
-    ensures fault { IfErr result (IsHeaderFault text.now) }
+    ensures fault { IfErr result (IsFaultOfHeader text.now) }
     ensures none { IfErr result (λ f. IsWithoutHeader text.now f.cause) }
 {
     let read = shown(text);
     let start = out.as_slice().len();
     let Ok(()) = put_header(out, &read.head, &read.position, read.first) else {
-        return Err(HeaderFault {
+        return Err(CheckFault {
             line: 1,
-            cause: HeaderCause::OutOfMemory,
+            cause: Cause::OutOfMemory,
         });
     };
     let header = out.as_slice().split_at(start).1;
@@ -351,8 +352,8 @@ pub fn check_header(out: &mut Vec<u8>, text: &[u8]) -> Result<HeaderRead, Header
         return Ok(read);
     };
     let cause = match line_end(text.split_at(81 * k).1) {
-        Some(_) => HeaderCause::HeaderLine,
-        None => HeaderCause::Truncated,
+        Some(_) => Cause::HeaderLine,
+        None => Cause::Truncated,
     };
-    Err(HeaderFault { line: k + 1, cause })
+    Err(CheckFault { line: k + 1, cause })
 }

@@ -5,17 +5,19 @@ ghost use Rattle.rtk_obs.specs.Position.{IsCoordinate};
 ghost use Rattle.rtk_rinex.specs.Columns.{left, right, fixed};
 ghost use Rattle.rtk_rinex.specs.Header.{header_line, made_text, first_lines, position_view, position_lines, types_of, types, continuation_line, types_lines, first_text, last_lines, header_text};
 
-use crate::columns::{fixed_14_4, integer_3, integer_6, put_last_digits, unsigned_13_7};
+use crate::columns::{
+    add, fixed_14_4, integer_3, integer_6, put_last_digits, seconds, unsigned_13_7,
+};
+use crate::digits::{after, front};
 use crate::head::Head;
-use crate::reading::{reading, seconds};
 use arrayvec::ArrayVec;
-use rtk_obs::{Civil, Code, GpsMs, Position};
+use rtk_obs::{Civil, Code, GpsMs, Position, civil};
 use std::alloc::{AllocError, Global};
 
 const TYPES: &[u8] = b"SYS / # / OBS TYPES";
 
-/// The longest header: 17 lines, of which four have observation types, of 81 bytes.
-const LONGEST: usize = 1377;
+/// The bytes of the longest header: 17 lines of 81 bytes, four of them with observation types.
+pub(crate) const LONGEST_HEADER: usize = 1377;
 
 // Appends a text at the left end of that many columns.
 fn put_left(out: &mut Vec<u8>, text: &[u8], width: usize) -> Result<(), AllocError>
@@ -39,17 +41,6 @@ fn put_line(out: &mut Vec<u8>, content: &[u8], label: &[u8]) -> Result<(), Alloc
     put_left(out, label, 20)?;
     out.push(b'\n')?;
     Ok(())
-}
-
-// Appends to what is to stand in the first 60 columns of a line.
-fn add(content: &mut ArrayVec<u8, 60>, text: &[u8])
-    requires { length content.old.items + length text.now ≤ 60 }
-    ensures items { content.new.items ≡ content.old.items ++ text.now }
-    ensures len { length content.new.items ≡ length content.old.items + length text.now }
-{
-    if content.try_extend_from_slice(text).is_err() {
-        unreachable!();
-    }
 }
 
 fn made_field(made: Civil) -> [u8; 20]
@@ -139,16 +130,6 @@ fn types_of_code(code: Code) -> [u8; 12]
     ]
 }
 
-fn add_types(text: &mut ArrayVec<u8, 192>, code: Code)
-    requires { length text.old.items + 12 ≤ 192 }
-    ensures items { text.new.items ≡ text.old.items ++ types_of code }
-    ensures len { length text.new.items ≡ length text.old.items + 12 }
-{
-    if text.try_extend_from_slice(&types_of_code(code)).is_err() {
-        unreachable!();
-    }
-}
-
 // The observation types of the codes, four columns each.
 fn types_of_codes(listed: &[Code]) -> ArrayVec<u8, 192>
     requires { length listed.now ≤ 16 }
@@ -157,27 +138,9 @@ fn types_of_codes(listed: &[Code]) -> ArrayVec<u8, 192>
 {
     let mut text = ArrayVec::new();
     for code in listed {
-        add_types(&mut text, *code);
+        add(&mut text, &types_of_code(*code));
     }
     text
-}
-
-// The thirteen types that fill a line.
-fn front(text: &[u8]) -> &[u8]
-    ensures value { result.now ≡ take 52 text.now }
-    ensures len { length result.now ≤ 52 }
-{
-    if text.len() <= 52 {
-        return text;
-    }
-    text.split_at(52).0
-}
-
-// The types from a column on.
-fn behind(text: &[u8], from: usize) -> &[u8]
-    ensures { result.now ≡ drop from text.now }
-{
-    text.split_at(text.len().min(from)).1
 }
 
 fn types_content(count: usize, shown: &[u8]) -> ArrayVec<u8, 60>
@@ -199,7 +162,7 @@ fn continuation_content(text: &[u8]) -> ArrayVec<u8, 60>
 {
     let mut content = ArrayVec::new();
     add(&mut content, b"      ");
-    add(&mut content, front(text));
+    add(&mut content, front(text, 52));
     content
 }
 
@@ -222,12 +185,12 @@ fn put_types_lines(out: &mut Vec<u8>, listed: &[Code]) -> Result<(), AllocError>
     let text = types.as_slice();
     put_line(
         out,
-        types_content(3 * listed.len(), front(text)).as_slice(),
+        types_content(3 * listed.len(), front(text, 52)).as_slice(),
         TYPES,
     )?;
-    put_continuation_line(out, behind(text, 52))?;
-    put_continuation_line(out, behind(text, 104))?;
-    put_continuation_line(out, behind(text, 156))?;
+    put_continuation_line(out, after(text, 52))?;
+    put_continuation_line(out, after(text, 104))?;
+    put_continuation_line(out, after(text, 156))?;
     Ok(())
 }
 
@@ -269,10 +232,10 @@ pub(crate) fn put_header(
 ) -> Result<(), AllocError>
     ensures { OnOk result (out.new.items ≡ out.old.items ++ header_text head.now (position_view position.now) first) }
 {
-    put_first_lines(out, head.marker(), reading(head.made()))?;
+    put_first_lines(out, head.marker(), civil(head.made()))?;
     put_position_lines(out, position)?;
     put_types_lines(out, head.codes())?;
-    put_last_lines(out, reading(first))?;
+    put_last_lines(out, civil(first))?;
     Ok(())
 }
 
@@ -288,7 +251,7 @@ pub fn header(
 ) -> Result<Vec<u8>, AllocError>
     ensures { IfOk result (λ text. text.items ≡ header_text head.now (position_view position.now) first) }
 {
-    let mut out = Vec::with_capacity(alloc, LONGEST)?;
+    let mut out = Vec::with_capacity(alloc, LONGEST_HEADER)?;
     put_header(&mut out, head, position, first)?;
     Ok(out)
 }

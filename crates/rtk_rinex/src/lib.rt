@@ -2,17 +2,14 @@
 #![tactic(auto)]
 
 mod check_fault;
-mod check_values;
 mod columns;
+mod digits;
 mod epoch_line_check;
 mod epoch_table;
 mod head;
 mod header_check;
-mod header_digits;
-mod header_fault;
 mod header_text;
 mod laws;
-mod reading;
 mod record_text;
 mod records_check;
 mod satellite_line_check;

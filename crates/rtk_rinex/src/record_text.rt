@@ -4,24 +4,23 @@ ghost use Rattle.std.specs.Prelude.{◌≡◌, ℕ, ◌+◌, ◌*◌, ◌<◌, �
 ghost use Rattle.std.specs.List.{filter, list_any};
 ghost use Rattle.rtk_rinex.specs.Record.{HasWidth, is_written, is_present, observation, observations, strength_digit, strength_value, lli_digit, has_observation, has_line, trim_end, satellite_line, epoch_date_text, epoch_line, record_text};
 
-use crate::columns::{integer_3, put_fixed_14_3, put_last_digits, unsigned_11_7};
+use crate::columns::{integer_3, put_fixed_14_3, put_last_digits, seconds, unsigned_11_7};
 use crate::epoch_table::{EpochTable, Observed, SatelliteRow};
 use crate::head::Head;
-use crate::reading::{reading, seconds};
-use rtk_obs::Civil;
+use rtk_obs::{Civil, civil};
 use std::alloc::{AllocError, Global};
 
-/// The least value that F14.3 has room for, in thousandths.
-const LEAST: i64 = -999_999_999_999;
+// The least value that F14.3 has room for, in thousandths.
+const LEAST_F14_3: i64 = -999_999_999_999;
 
-/// The greatest one.
-const GREATEST: i64 = 9_999_999_999_999;
+// The greatest value that F14.3 has room for, in thousandths.
+const GREATEST_F14_3: i64 = 9_999_999_999_999;
 
 /// Is it a value that F14.3 has room for, in thousandths, and not 0?
-pub fn is_written_value(value: i64) -> bool
+pub(crate) fn is_written_value(value: i64) -> bool
     ensures { result ≡ is_written value }
 {
-    value != 0 && value >= LEAST && value <= GREATEST
+    value != 0 && value >= LEAST_F14_3 && value <= GREATEST_F14_3
 }
 
 // Appends F14.3 and two digits, or blanks.
@@ -97,7 +96,7 @@ pub(crate) fn trimmed_len(bytes: &[u8]) -> usize
 }
 
 /// Appends the line of a satellite.
-pub fn put_satellite_line(out: &mut Vec<u8>, row: &SatelliteRow) -> Result<(), AllocError>
+pub(crate) fn put_satellite_line(out: &mut Vec<u8>, row: &SatelliteRow) -> Result<(), AllocError>
     ensures { OnOk result (out.new.items ≡ out.old.items ++ satellite_line row.now) }
 {
     out.push(b'G')?;
@@ -130,7 +129,7 @@ fn shows(observed: &Observed) -> bool
 }
 
 /// Is an observation of the satellite written, so that it has a line?
-pub fn is_shown(row: &SatelliteRow) -> bool
+pub(crate) fn is_shown(row: &SatelliteRow) -> bool
     ensures { result ≡ has_line row.now }
 {
     for observed in row.observed.as_slice() {
@@ -168,7 +167,7 @@ fn epoch_date(time: Civil) -> [u8; 18]
 }
 
 /// Appends the epoch line of a reading and a count of satellites.
-pub fn put_epoch_line(out: &mut Vec<u8>, time: Civil, count: usize) -> Result<(), AllocError>
+pub(crate) fn put_epoch_line(out: &mut Vec<u8>, time: Civil, count: usize) -> Result<(), AllocError>
     requires second { time.second < 60 }
     requires millisecond { time.millisecond < 1000 }
     requires count { count < 1000 }
@@ -208,7 +207,7 @@ pub fn record(alloc: Global, head: &Head, table: &EpochTable) -> Result<Vec<u8>,
         return Ok(Vec::new(alloc));
     }
     let mut out = Vec::with_capacity(alloc, 36 + count * (4 + 48 * head.codes().len()))?;
-    put_epoch_line(&mut out, reading(table.time()), count)?;
+    put_epoch_line(&mut out, civil(table.time()), count)?;
     put_satellite_lines(&mut out, rows)?;
     Ok(out)
 }

@@ -11,9 +11,10 @@ ghost use Rattle.std.specs.Int.{IsInRange};
 ghost use Rattle.std.specs.Prelude.{◌≡◌, ◌≢◌, ℕ, ◌+◌, ◌-◌, ◌*◌, ◌<◌, ◌≤◌, ◌++◌, [], ◌∷◌, length, take, slice_get, Option, Some, IsTrue, ◌↔◌, IfOk, IfErr, MatchOption, ◌^◌, List, flat_map, None};
 
 use crate::check_fault::{Cause, CheckFault};
-use crate::check_values::digits;
+use crate::digits::digits;
 use crate::epoch_line_check::{EpochStamp, read_epoch_line};
 use crate::epoch_table::SatelliteRow;
+use crate::header_check::line_end;
 use crate::satellite_line_check::read_satellite_line;
 use rtk_obs::GpsMs;
 
@@ -26,9 +27,9 @@ fn is_next_time(first: GpsMs, last: Option<GpsMs>, time: GpsMs) -> bool
     }
 }
 
-/// The moment and count of an epoch line behind the epoch `last`, in a file of this first time; else what
-/// is wrong with it. The line is appended to `out`.
-pub fn check_epoch_line(
+// The moment and count of an epoch line behind the epoch `last`, in a file of this first time; else what
+// is wrong with it. The line is appended to `out`.
+fn check_epoch_line(
     out: &mut Vec<u8>,
     line: &[u8],
     first: GpsMs,
@@ -92,9 +93,9 @@ fn is_next_satellite(last: Option<u8>, satellite: u8) -> bool
     }
 }
 
-/// The row of a satellite line behind that of the satellite `last`, in a file of so many codes; else what
-/// is wrong with it. The line is appended to `out`.
-pub fn check_satellite_line(
+// The row of a satellite line behind that of the satellite `last`, in a file of so many codes; else what
+// is wrong with it. The line is appended to `out`.
+fn check_satellite_line(
     out: &mut Vec<u8>,
     line: &[u8],
     width: usize,
@@ -123,23 +124,9 @@ pub fn check_satellite_line(
 
 /// How many records a text has, and how many satellite lines.
 #[derive(Clone, Copy)]
-pub struct RecordCounts {
+pub(crate) struct RecordCounts {
     pub epochs: usize,
     pub satellites: usize,
-}
-
-// Where the first line ends, if it does.
-fn line_end(text: &[u8]) -> Option<usize>
-    ensures { MatchOption result
-        (HasNoEnd text.now)
-        (λ end. (end < length text.now) × IsLine (take (end + 1) text.now)) }
-{
-    for (i, byte) in text.iter().enumerate() {
-        if *byte == b'\n' {
-            return Some(i);
-        }
-    }
-    None
 }
 
 // The first line of a text with its LF, and what stands behind it; `None` where no line ends.
@@ -220,7 +207,7 @@ fn check_record<'a>(
 
 /// Reads the records of a file of so many codes and this first time, behind so many lines of it.
 /// They are appended to `out`.
-pub fn check_records(
+pub(crate) fn check_records(
     out: &mut Vec<u8>,
     text: &[u8],
     lines: usize,

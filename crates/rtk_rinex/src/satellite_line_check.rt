@@ -4,18 +4,26 @@ ghost use Rattle.std.specs.Prelude.{◌≡◌, ◌≢◌, ℕ, ◌+◌, ◌*◌,
 ghost use Rattle.rtk_rinex.specs.Columns.{left};
 ghost use Rattle.rtk_rinex.specs.Record.{IsStrengthOrNone, satellite_line};
 ghost use Rattle.rtk_rinex.specs.Table.{IsAbsentOrWritten, IsLock, IsObserved, IsTableRow};
-ghost use Rattle.rtk_rinex.specs.CheckValues.{observations_in, row_in};
-ghost use Rattle.rtk_rinex.specs.CheckValues as spec;
+ghost use Rattle.rtk_rinex.specs.CheckValues.{is_blank, value_in, strength_in, slip_in, half_in, observed_in, observations_in, row_in};
 
-use crate::check_values::{digits, observed};
+use crate::columns::add;
+use crate::digits::{digits, number};
 use crate::epoch_line_check::is_end_from;
 use crate::epoch_table::{Observed, SatelliteRow};
 use crate::record_text::{is_shown, is_written_value, put_satellite_line};
 use arrayvec::ArrayVec;
 use std::alloc::AllocError;
 
-/// The longest line of a satellite without its LF: a mark, two digits, and 48 columns for each of 16 codes.
-const LONGEST: usize = 771;
+// The columns of the longest satellite line without its LF: a mark, two digits, and 48 columns for
+// each of 16 codes.
+const LONGEST_LINE: usize = 771;
+
+// The least signal strength of a message in thousandths of a dB-Hz, which is also the step between
+// two of them.
+const LEAST_STRENGTH: u32 = 250;
+
+// The greatest signal strength of a message in thousandths of a dB-Hz.
+const GREATEST_STRENGTH: u32 = 63_750;
 
 fn is_absent_or_written(value: Option<i64>) -> bool
     ensures { IsTrue result ↔ IsAbsentOrWritten value }
@@ -30,7 +38,9 @@ fn is_strength(strength: Option<u32>) -> bool
     ensures { IsTrue result ↔ IsStrengthOrNone strength }
 {
     match strength {
-        Some(strength) => strength >= 250 && strength <= 63_750 && strength % 250 == 0,
+        Some(strength) => strength >= LEAST_STRENGTH
+            && strength <= GREATEST_STRENGTH
+            && strength % LEAST_STRENGTH == 0,
         None => true,
     }
 }
@@ -74,27 +84,93 @@ fn is_table_row(row: &SatelliteRow, width: usize) -> bool
         && is_shown(row)
 }
 
-// Appends to the columns of a line.
-fn add(columns: &mut ArrayVec<u8, LONGEST>, text: &[u8])
-    requires { length columns.old.items + length text.now ≤ 771 }
-    ensures items { columns.new.items ≡ columns.old.items ++ text.now }
-    ensures len { length columns.new.items ≡ length columns.old.items + length text.now }
+#[tactic(auto, unfolding(crate::specs::CheckValues::is_blank))]
+fn contains_only_blanks(text: &[u8]) -> bool
+    ensures { result ≡ is_blank text.now }
 {
-    if columns.try_extend_from_slice(text).is_err() {
-        unreachable!();
+    for byte in text {
+        if *byte != b' ' {
+            return false;
+        }
+    }
+    true
+}
+
+// The value that 14 columns show.
+fn value(field: &[u8]) -> Option<i64>
+    requires { length field.now ≤ 14 }
+    ensures { result ≡ value_in field.now }
+{
+    if contains_only_blanks(field) {
+        None
+    } else {
+        Some(number(field))
+    }
+}
+
+fn strength(value: Option<i64>) -> Option<u32>
+    ensures { result ≡ strength_in value }
+{
+    match value {
+        Some(value) => {
+            let magnitude = value.unsigned_abs();
+            if magnitude >= u64::from(LEAST_STRENGTH) && magnitude <= u64::from(GREATEST_STRENGTH) {
+                Some(magnitude as u32)
+            } else {
+                None
+            }
+        }
+        None => None,
+    }
+}
+
+// The slip that the loss-of-lock digit at the front of a text shows.
+fn slip(text: &[u8]) -> bool
+    ensures { result ≡ slip_in text.now }
+{
+    match text {
+        [first, ..] => *first == b'1' || *first == b'3',
+        [] => false,
+    }
+}
+
+// The half-cycle ambiguity that the loss-of-lock digit at the front of a text shows.
+fn half(text: &[u8]) -> bool
+    ensures { result ≡ half_in text.now }
+{
+    match text {
+        [first, ..] => *first == b'2' || *first == b'3',
+        [] => false,
+    }
+}
+
+// What 48 columns show of a code.
+fn observed(columns: &[u8]) -> Observed
+    requires { length columns.now ≡ 48 }
+    ensures { result ≡ observed_in columns.now }
+{
+    let (_, phase) = columns.split_at(16);
+    let (_, lock) = columns.split_at(30);
+    let (_, last) = columns.split_at(32);
+    Observed {
+        range_mm: value(columns.split_at(14).0),
+        phase_millicycles: value(phase.split_at(14).0),
+        strength_millidbhz: strength(value(last.split_at(14).0)),
+        slip: slip(lock),
+        half: half(lock),
     }
 }
 
 // The columns of a line, with blanks behind them.
-fn padded(line: &[u8]) -> ArrayVec<u8, LONGEST>
+fn padded(line: &[u8]) -> ArrayVec<u8, LONGEST_LINE>
     requires { length line.now ≤ 771 }
     ensures value { result.items ≡ left 771 line.now }
     ensures len { length result.items ≡ 771 }
 {
-    let blanks = [b' '; LONGEST];
+    let blanks = [b' '; LONGEST_LINE];
     let mut columns = ArrayVec::new();
     add(&mut columns, line);
-    add(&mut columns, &blanks[..LONGEST - line.len()]);
+    add(&mut columns, &blanks[..LONGEST_LINE - line.len()]);
     columns
 }
 
@@ -127,7 +203,7 @@ fn row_shown(line: &[u8], width: usize) -> SatelliteRow
 
 /// The row of a satellite line of a file with so many codes, which ends in LF; `None` exactly where it is
 /// no such line. A satellite line is appended to `out`.
-pub fn read_satellite_line(
+pub(crate) fn read_satellite_line(
     out: &mut Vec<u8>,
     line: &[u8],
     width: usize,
@@ -137,7 +213,7 @@ pub fn read_satellite_line(
         ((r : SatelliteRow) → IsTableRow width r → line.now ≢ satellite_line r)
         (λ r. IsTableRow width r × (line.now ≡ satellite_line r) × (out.new.items ≡ out.old.items ++ line.now))) }
 {
-    if line.len() == 0 || line.len() > LONGEST + 1 {
+    if line.len() == 0 || line.len() > LONGEST_LINE + 1 {
         return Ok(None);
     }
     let row = row_shown(line.split_at(line.len() - 1).0, width);

@@ -1,11 +1,11 @@
 //! The check of a whole text, and the table that it is the text of.
 
-ghost use Rattle.rtk_rinex.specs.CheckTable.{IsTableView, HoldsTable, cause_of, IsFault, IsWithoutTable};
+ghost use Rattle.rtk_rinex.specs.CheckTable.{IsTableView, HoldsTable, IsFault, IsWithoutTable};
 ghost use Rattle.std.specs.Prelude.{◌≡◌, ◌≢◌, [], IfOk, IfErr};
 
 use crate::check_fault::{Cause, CheckFault};
 use crate::header_check::check_header;
-use crate::header_fault::{HeaderCause, HeaderFault};
+use crate::header_text::LONGEST_HEADER;
 use crate::records_check::{RecordCounts, check_records};
 use std::alloc::{AllocError, Global};
 use std::marker::Model;
@@ -66,31 +66,14 @@ impl Table {
     }
 }
 
-/// The longest header: 17 lines of 81 bytes. A line of a record is shorter.
-const LONGEST: usize = 1_377;
-
-fn fault_of_header(fault: HeaderFault) -> CheckFault
-    ensures line { result.line ≡ fault.line }
-    ensures cause { result.cause ≡ cause_of fault.cause }
-{
-    let cause = match fault.cause {
-        HeaderCause::HeaderLine => Cause::HeaderLine,
-        HeaderCause::Truncated => Cause::Truncated,
-        HeaderCause::OutOfMemory => Cause::OutOfMemory,
-    };
-    CheckFault {
-        line: fault.line,
-        cause,
-    }
-}
-
-// The text of what is wrong may be written too, so there is room for a header or a line more.
+// Memory for the text of what is read, and for one header more: the part with the fault is
+// written before it is compared, and no line of a record is longer than a header.
 fn room_for(alloc: Global, bytes: &[u8]) -> Result<Vec<u8>, CheckFault>
     ensures empty { IfOk result (λ out. out.items ≡ []) }
     ensures line { IfErr result (λ f. f.line ≡ 1) }
     ensures cause { IfErr result (λ f. f.cause ≡ Cause.OutOfMemory) }
 {
-    match Vec::with_capacity(alloc, bytes.len().saturating_add(LONGEST)) {
+    match Vec::with_capacity(alloc, bytes.len().saturating_add(LONGEST_HEADER)) {
         Ok(out) => Ok(out),
         Err(_) => Err(CheckFault {
             line: 1,
@@ -112,7 +95,7 @@ pub fn check(alloc: Global, bytes: &[u8]) -> Result<Table, CheckFault>
     };
     let header = match check_header(&mut out, bytes) {
         Ok(header) => header,
-        Err(fault) => return Err(fault_of_header(fault)),
+        Err(fault) => return Err(fault),
     };
     let (_, records) = bytes.split_at(header.used);
     let width = header.head.codes().len();

@@ -1,7 +1,7 @@
 use Rattle.std.proofs.Common.{◌≡◌, ◌∙◌, ◌+◌, ◌*◌, ℕ, List, length, take, drop, arith, ap, sym, refl}
 use Rattle.std.proofs.lemmas.List.{take-append-drop}
 use Rattle.rtk_rinex.specs.Header.{position_view, header_text}
-use Rattle.rtk_rinex.proofs.HeaderDigitsLemmas.{drop-exact}
+use Rattle.rtk_rinex.proofs.DigitsLemmas.{drop-exact}
 use Rattle.rtk_rinex.proofs.HeaderSameLemmas.{IsGood, length-header, lines_of}
 use Rattle.rtk_rinex.proofs.HeaderVerdictLemmas.{PartsAt, are_lines, parts_lines, parts_begin, parts_whole, parts_none, parts_next}
 use Rattle.rtk_rinex.proofs.header_check.check_header.Goals as goal
@@ -46,7 +46,7 @@ returns-clause-fault c =
       refl,
       elim c.match-line_end.branch [
         | in-Some-line_end w ↦
-            let rest = rw (c.split_at-2.ensures.back) at w.in-Some-line_end.ensures in
+            let rest = rw (c.split_at-2.ensures.back) at w.in-Some-line_end.ensures.parts in
             rw w.cause-is (
               take (81 * k) text,
               drop (81 * k) text,
@@ -64,7 +64,7 @@ returns-clause-fault c =
               whole,
               parts_begin text r.head (position_view r.position) r.first k p,
               parts_whole text r.head (position_view r.position) r.first k p,
-              (rw (c.split_at-2.ensures.back) at w.in-None.ensures),
+              (rw (c.split_at-2.ensures.back) at w.in-None.ensures.parts),
             )
       ],
     )

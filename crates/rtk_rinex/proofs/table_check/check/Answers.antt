@@ -9,7 +9,7 @@ returns-in-Err-clause-fault c = room-fault c.args.bytes.now c.in-Err.fault c.in-
 
 pub returns-in-Err-check_header-clause-none : goal.returns-in-Err-check_header-clause-none
 returns-in-Err-check_header-clause-none c =
-    rw c.fault_of_header.ensures.cause (header-none c.args.bytes.now c.in-Err-check_header.fault.cause c.in-Err-check_header.ensures.none)
+    header-none c.args.bytes.now c.in-Err-check_header.fault.cause c.in-Err-check_header.ensures.none
 
 pub check_records-requires-clause-lines : goal.check_records-requires-clause-lines
 check_records-requires-clause-lines c =

@@ -1,4 +1,4 @@
--- The number that columns of a header show, whatever stands in them; it is only compared by writing it again.
+-- The number that columns show, whatever stands in them. It counts only once its own text equals those columns.
 use Rattle.std.specs.Prelude.{ℕ, ◌+◌, ◌-◌, ◌*◌, nat_le, ◌==◌, Bool, ◌&&◌, if◌then◌else◌, List, [], ◌∷◌, ℤ, pos, neg_ℤ}
 use Rattle.std.specs.List.{list_any}
 
@@ -6,7 +6,7 @@ use Rattle.std.specs.List.{list_any}
 abbrev pub with_digit : ℕ → ℕ → ℕ
 with_digit a x = if nat_le 48 x && nat_le x 57 then a * 10 + (x - 48) else a
 
--- the number that the digits of a text write behind a number
+-- the number that another number and then the digits of a text write
 unfoldable pub digits_from : ℕ → List ℕ → ℕ
 digits_from a [] = a
 digits_from a (x ∷ xs) = digits_from (with_digit a x) xs

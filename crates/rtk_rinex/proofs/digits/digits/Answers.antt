@@ -1,15 +1,15 @@
 use Rattle.std.proofs.Common.{◌≡◌, arith, refl, take, length}
 use Rattle.std.proofs.lemmas.Grind.{take_at_read}
-use Rattle.rtk_rinex.specs.CheckValues.{digits_from}
-use Rattle.rtk_rinex.proofs.ValuesLemmas.{digits_from-append, pow-18, pow-more}
-use Rattle.rtk_rinex.proofs.check_values.digits.Goals as goal
+use Rattle.rtk_rinex.specs.Digits.{digits_from}
+use Rattle.rtk_rinex.proofs.DigitsLemmas.{digits_from-append, pow-le, pow-more}
+use Rattle.rtk_rinex.proofs.digits.digits.Goals as goal
 
 pub loop-byte-init : goal.loop-byte-init
 unfolding digits_from
 loop-byte-init c = record { value = refl; small = omega arith }
 
 pub with_digit-value-requires : goal.with_digit-value-requires
-with_digit-value-requires c = omega (arith, pow-18 c.loop-byte.byte-index)
+with_digit-value-requires c = omega (arith, pow-le c.loop-byte.byte-index 18)
 
 pub loop-byte-preserved : goal.loop-byte-preserved
 unfolding digits_from
@@ -22,7 +22,7 @@ loop-byte-preserved c =
     }
 
 pub returns-clause-bound : goal.returns-clause-bound
-returns-clause-bound c = omega (arith, pow-18 c.loop-byte.byte-index)
+returns-clause-bound c = omega (arith, pow-le c.loop-byte.byte-index 18)
 
 pub returns-clause-width : goal.returns-clause-width
 returns-clause-width c =

@@ -9,7 +9,7 @@ use Rattle.std.proofs.lemmas.List.{length-replicate}
 use Rattle.std.proofs.Math.Seq.{take-append_seam, drop-append_seam}
 use Rattle.std.proofs.lemmas.List.Folds.{list_any-append}
 use Rattle.rtk_rinex.specs.Columns.{left, right, last_digits, decimals, fixed}
-use Rattle.rtk_rinex.specs.HeaderDigits.{with_digit, digits_from, has_minus, number_in}
+use Rattle.rtk_rinex.specs.Digits.{with_digit, digits_from, has_minus, number_in}
 
 pub digits_from-append : (a : ℕ) (xs ys : List ℕ) → digits_from a (xs ++ ys) ≡ digits_from (digits_from a xs) ys
 unfolding digits_from
@@ -30,6 +30,14 @@ digits_from-decimal n h =
     decimal_by_steps (λ n ds. digits_from 0 ds ≡ n)
     (λ n small. omega (arith, digit 0 n small))
     (λ n ds low e. digits_from-append 0 ds ((48 + n % 10) ∷ []) ∙ digit (digits_from 0 ds) (n % 10) (omega arith) ∙ omega (arith, e)) n h
+
+digits_from-last_3 : (a n : ℕ) → digits_from a (last_digits 3 n) ≡ a * 1000 + n % 1000
+unfolding digits_from
+digits_from-last_3 a n =
+    let x = n / 10 / 10 % 10 in
+    let y = n / 10 % 10 in
+    let z = n % 10 in
+    rw (digit a x (omega arith), digit (a * 10 + x) y (omega arith), digit ((a * 10 + x) * 10 + y) z (omega arith)) (omega arith)
 
 -- a number with its sign before a point and its last digits, behind blanks
 digits_from-parts : (k q m : ℕ) (s last : List ℕ) → digits_from 0 s ≡ 0 → q < 2 ^ 64 → digits_from q last ≡ m
@@ -64,11 +72,11 @@ digits_from-last_7 a n =
     let b = n / 10 in let c = b / 10 in let d = c / 10 in let e = d / 10 in let f = e / 10 in let g = f / 10 in
     rw (digits_from-more a 6 n, digits_from-more a 5 b, digits_from-more a 4 c, digits_from-more a 3 d, digits_from-more a 2 e, digits_from-more a 1 f, digits_from-more a 0 g, digits_from-none a (g / 10)) (omega arith)
 
--- seconds (F13.7)
-pub digits_from-seconds : (n : ℕ) → n < 10 ^ 10 → digits_from 0 (right 13 (decimals 7 false n)) ≡ n
+-- seconds (F13.7 and F11.7)
+pub digits_from-seconds : (w n : ℕ) → n < 10 ^ 10 → digits_from 0 (right w (decimals 7 false n)) ≡ n
 unfolding digits_from
-digits_from-seconds n h =
-    digits_from-parts (13 - length (decimals 7 false n)) (n / 10_000_000) n [] (last_digits 7 n) refl (omega arith) (digits_from-last_7 (n / 10_000_000) n ∙ omega arith)
+digits_from-seconds w n h =
+    digits_from-parts (w - length (decimals 7 false n)) (n / 10_000_000) n [] (last_digits 7 n) refl (omega arith) (digits_from-last_7 (n / 10_000_000) n ∙ omega arith)
 
 -- whole numbers (Iw)
 pub digits_from-right : (w n : ℕ) → n < 2 ^ 64 → digits_from 0 (right w (decimal n)) ≡ n
@@ -81,6 +89,13 @@ digits_from-tenthousandths true n h =
     digits_from-parts (14 - length (decimals 4 true n)) (n / 10_000) n (45 ∷ []) (last_digits 4 n) refl (omega arith) (digits_from-last_4 (n / 10_000) n ∙ omega arith)
 digits_from-tenthousandths false n h =
     digits_from-parts (14 - length (decimals 4 false n)) (n / 10_000) n [] (last_digits 4 n) refl (omega arith) (digits_from-last_4 (n / 10_000) n ∙ omega arith)
+
+pub digits_from-thousandths : (negative : Bool) (n : ℕ) → n < 2 ^ 64 → digits_from 0 (right 14 (decimals 3 negative n)) ≡ n
+unfolding digits_from
+digits_from-thousandths true n h =
+    digits_from-parts (14 - length (decimals 3 true n)) (n / 1000) n (45 ∷ []) (last_digits 3 n) refl (omega arith) (digits_from-last_3 (n / 1000) n ∙ omega arith)
+digits_from-thousandths false n h =
+    digits_from-parts (14 - length (decimals 3 false n)) (n / 1000) n [] (last_digits 3 n) refl (omega arith) (digits_from-last_3 (n / 1000) n ∙ omega arith)
 
 pow-one : (k : ℕ) → 1 ≤ 10 ^ k
 pow-one zero = omega arith
@@ -144,9 +159,14 @@ has_minus-decimals w k n negative h =
     has_minus-append (replicate (w - length (decimals k negative n)) 32) ((sign_text negative ++ digits) ++ last) ∙ (rw (has_minus-blanks (w - length (decimals k negative n))) whole)
 
 -- F14.4 shows its number
-pub number_of-fixed : (v : ℤ) → unsigned_abs v < 2 ^ 63 → number_in (fixed 4 14 v) ≡ v
-number_of-fixed (pos n) h = rw (has_minus-decimals 14 4 n false (omega arith), digits_from-tenthousandths false n (omega arith)) refl
-number_of-fixed (negsuc n) h = rw (has_minus-decimals 14 4 (suc n) true (omega arith), digits_from-tenthousandths true (suc n) (omega arith)) refl
+pub number_of-fixed_4 : (v : ℤ) → unsigned_abs v < 2 ^ 63 → number_in (fixed 4 14 v) ≡ v
+number_of-fixed_4 (pos n) h = rw (has_minus-decimals 14 4 n false (omega arith), digits_from-tenthousandths false n (omega arith)) refl
+number_of-fixed_4 (negsuc n) h = rw (has_minus-decimals 14 4 (suc n) true (omega arith), digits_from-tenthousandths true (suc n) (omega arith)) refl
+
+-- F14.3 shows its number
+pub number_of-fixed_3 : (v : ℤ) → unsigned_abs v < 2 ^ 63 → number_in (fixed 3 14 v) ≡ v
+number_of-fixed_3 (pos n) h = rw (has_minus-decimals 14 3 n false (omega arith), digits_from-thousandths false n (omega arith)) refl
+number_of-fixed_3 (negsuc n) h = rw (has_minus-decimals 14 3 (suc n) true (omega arith), digits_from-thousandths true (suc n) (omega arith)) refl
 
 -- pieces of a text
 pub take-exact : (n : ℕ) (xs ys : List ℕ) → length xs ≡ n → take n (xs ++ ys) ≡ xs

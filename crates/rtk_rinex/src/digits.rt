@@ -1,10 +1,11 @@
-//! Columns of a line, and the numbers that they show, read without a test of their form.
+//! Columns of a text, and the numbers that they show, read without a test of their form.
 
 ghost use Rattle.std.specs.Prelude.{◌≡◌, ℕ, ◌+◌, ◌*◌, ◌^◌, ◌<◌, ◌≤◌, length, take, drop};
-ghost use Rattle.rtk_rinex.specs.HeaderDigits.{digits_from, has_minus, number_in};
-ghost use Rattle.rtk_rinex.specs.HeaderDigits as spec;
+ghost use Rattle.rtk_rinex.specs.Digits.{digits_from, has_minus, number_in};
+ghost use Rattle.rtk_rinex.specs.Digits as spec;
 
-fn front(text: &[u8], width: usize) -> &[u8]
+/// The first bytes of a text: as many as `width`, or all if it has fewer.
+pub(crate) fn front(text: &[u8], width: usize) -> &[u8]
     ensures value { result.now ≡ take width text.now }
     ensures len { length result.now ≤ width }
 {
@@ -14,18 +15,19 @@ fn front(text: &[u8], width: usize) -> &[u8]
     text.split_at(width).0
 }
 
-fn behind(text: &[u8], from: usize) -> &[u8]
+/// The bytes of a text from a place on; no bytes if the text ends before it.
+pub(crate) fn after(text: &[u8], from: usize) -> &[u8]
     ensures { result.now ≡ drop from text.now }
 {
     text.split_at(text.len().min(from)).1
 }
 
-/// So many bytes of a text behind a place, as far as it has them.
-pub fn columns(text: &[u8], from: usize, width: usize) -> &[u8]
+/// The bytes of a text in `width` columns after the first `from`, as far as the text has them.
+pub(crate) fn columns(text: &[u8], from: usize, width: usize) -> &[u8]
     ensures value { result.now ≡ take width (drop from text.now) }
     ensures len { length result.now ≤ width }
 {
-    front(behind(text, from), width)
+    front(after(text, from), width)
 }
 
 // One more character of a number.
@@ -41,11 +43,12 @@ fn with_digit(value: u64, byte: u8) -> u64
     }
 }
 
-// The number that the digits of a text write, whatever stands between them.
-fn digits(text: &[u8]) -> u64
+/// The number that the digits of a text write, whatever stands between them.
+pub(crate) fn digits(text: &[u8]) -> u64
     requires { length text.now ≤ 18 }
     ensures value { result ≡ digits_from 0 text.now }
     ensures width { result < 10 ^ length text.now }
+    ensures bound { result < 10 ^ 18 }
 {
     let mut value = 0u64;
     for byte in text {
@@ -54,7 +57,7 @@ fn digits(text: &[u8]) -> u64
     value
 }
 
-#[tactic(auto, unfolding(crate::specs::HeaderDigits::has_minus))]
+#[tactic(auto, unfolding(crate::specs::Digits::has_minus))]
 fn contains_minus(text: &[u8]) -> bool
     ensures { result ≡ has_minus text.now }
 {
@@ -66,8 +69,21 @@ fn contains_minus(text: &[u8]) -> bool
     false
 }
 
+/// The number that the digits of a text write, negative if it has a minus sign.
+pub(crate) fn number(text: &[u8]) -> i64
+    requires { length text.now ≤ 18 }
+    ensures { result ≡ number_in text.now }
+{
+    let magnitude = digits(text) as i64;
+    if contains_minus(text) {
+        -magnitude
+    } else {
+        magnitude
+    }
+}
+
 /// The number that the digits in these columns write.
-pub fn number_in(line: &[u8], from: usize, width: usize) -> u64
+pub(crate) fn number_in(line: &[u8], from: usize, width: usize) -> u64
     requires { width ≤ 18 }
     ensures value { result ≡ digits_from 0 (take width (drop from line.now)) }
     ensures bound { result < 10 ^ width }
@@ -75,14 +91,9 @@ pub fn number_in(line: &[u8], from: usize, width: usize) -> u64
     digits(columns(line, from, width))
 }
 
-/// The number in 14 columns, negative where they have a minus sign.
-pub fn signed_in(line: &[u8], from: usize) -> i64
+/// The number in 14 columns, negative if they have a minus sign.
+pub(crate) fn signed_in(line: &[u8], from: usize) -> i64
     ensures { result ≡ number_in (take 14 (drop from line.now)) }
 {
-    let magnitude = number_in(line, from, 14) as i64;
-    if contains_minus(columns(line, from, 14)) {
-        -magnitude
-    } else {
-        magnitude
-    }
+    number(columns(line, from, 14))
 }
