@@ -1,4 +1,17 @@
 //! The commands of the program: the words of a command line, and the work that each asks for.
+//!
+//! ```rust
+//! use rtk_cli::show_line;
+//! use std::alloc::{AllocError, Global};
+//!
+//! // A payload of a byte has no message number.
+//! fn example(alloc: Global) -> Result<bool, AllocError> {
+//!     let line = show_line(alloc, &[0x3E])?;
+//!     Ok(line.as_slice() == b"refused M1 -\n".as_slice())
+//! }
+//! ```
+//!
+//! Its tests: crates/rtk_tests_output/src/cli.rt and cli/, and tests/program
 #![tactic(auto)]
 
 mod checking;

@@ -4,14 +4,15 @@
 //! ```rust
 //! use rtk_collect::{Collector, Dated, Offer};
 //! use rtk_message::{Arp1005, Message};
-//! use std::alloc::Global;
+//! use std::alloc::{AllocError, Global};
 //!
-//! let mut collector = Collector::new(Global, 64);
-//! let dated = Dated::new(Message::Arp1005(Arp1005::default()), None);
-//! let is_new = matches!(collector.offer(dated), Ok(Offer::Taken { .. }));
-//! let mut left = collector.close();
-//! while let Some(set) = left.next_left() {
-//!     let count = set.cells().len();
+//! // The first 1005 is taken, and the same message again is a repeat.
+//! fn example(alloc: Global) -> Result<bool, AllocError> {
+//!     let mut collector = Collector::new(alloc, 64);
+//!     let first = Dated::new(Message::Arp1005(Arp1005::default()), None);
+//!     let second = Dated::new(Message::Arp1005(Arp1005::default()), None);
+//!     let is_new = matches!(collector.offer(first)?, Offer::Taken { .. });
+//!     Ok(is_new && matches!(collector.offer(second)?, Offer::Repeat))
 //! }
 //! ```
 //!

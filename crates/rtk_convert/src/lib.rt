@@ -1,4 +1,39 @@
 //! Links to a file: what the file of a set of messages is, and a run that reads 1 to 16 links and writes it.
+//!
+//! ```rust
+//! use rtk_convert::{Converter, Setup};
+//! use rtk_frame::MemSink;
+//! use rtk_obs::{Code, GpsMs};
+//! use rtk_rinex::Head;
+//! use std::alloc::{AllocError, Global};
+//!
+//! // Of one link on which no frame comes: the file is a header alone, and no frame is counted.
+//! fn example(alloc: Global) -> Result<bool, AllocError> {
+//!     let Some(noon) = GpsMs::new(1_399_982_400_000) else {
+//!         return Ok(false);
+//!     };
+//!     let Ok(head) = Head::new(b"BASE", &[Code::C1C, Code::C2W], noon) else {
+//!         return Ok(false);
+//!     };
+//!     let Ok(setup) = Setup::new(2003, noon, head, 64) else {
+//!         return Ok(false);
+//!     };
+//!     let Ok(mut converter) = Converter::new(alloc, setup, 1) else {
+//!         return Ok(false);
+//!     };
+//!     let mut file = MemSink::new(alloc, 65_536, 4_096)?;
+//!     let mut report = MemSink::new(alloc, 65_536, 4_096)?;
+//!     if converter.feed(0, b"no frame", &mut file, &mut report).is_err() {
+//!         return Ok(false);
+//!     }
+//!     match converter.finish(&mut file, &mut report) {
+//!         Ok(counts) => Ok(counts.frames == 0 && file.bytes().starts_with(b"     3.05")),
+//!         Err(_) => Ok(false),
+//!     }
+//! }
+//! ```
+//!
+//! Its tests: crates/rtk_tests_output/src/convert.rt and convert/
 #![tactic(auto)]
 
 mod conversion;

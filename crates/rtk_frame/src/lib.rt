@@ -13,7 +13,7 @@
 //!     let mut scanner = Scanner::new(alloc)?;
 //!     scanner.feed(first);
 //!     match scanner.feed(second).answer {
-//!         Answer::Found(payload) => Ok(payload == &[0x3E, 0xD0]),
+//!         Answer::Found(payload) => Ok(payload == [0x3E, 0xD0].as_slice()),
 //!         Answer::Hungry => Ok(false),
 //!     }
 //! }

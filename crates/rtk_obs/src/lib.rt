@@ -2,11 +2,16 @@
 //!
 //! ```rust
 //! use rtk_obs::{GpsMs, civil, date};
+//! use std::alloc::{AllocError, Global};
 //!
-//! // 2024-03-17 00:00:00, and a time of week (DF004, in ms) that is noon of a Sunday.
-//! let Some(near) = GpsMs::new(1_394_668_800_000) else { return };
-//! let noon = civil(date(near, 43_200_000));
-//! let is_noon = noon.day == 17 && noon.hour == 12;
+//! // Near 2024-03-17 00:00:00, a time of week (DF004, in ms) that is noon of that Sunday.
+//! fn example(_alloc: Global) -> Result<bool, AllocError> {
+//!     let Some(near) = GpsMs::new(1_394_668_800_000) else {
+//!         return Ok(false);
+//!     };
+//!     let noon = civil(date(near, 43_200_000));
+//!     Ok(noon.day == 17 && noon.hour == 12)
+//! }
 //! ```
 //!
 //! Its tests: crates/rtk_tests_input/src/obs.rt and obs/

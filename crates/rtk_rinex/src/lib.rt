@@ -1,4 +1,27 @@
 //! RINEX 3.05 observation files of GPS: the header and the records, as text.
+//!
+//! ```rust
+//! use rtk_obs::{Code, GpsMs, Position};
+//! use rtk_rinex::{Head, check, header};
+//! use std::alloc::{AllocError, Global};
+//!
+//! // A header is the text of a table without records, which the checker accepts.
+//! fn example(alloc: Global) -> Result<bool, AllocError> {
+//!     let Some(noon) = GpsMs::new(1_399_982_400_000) else {
+//!         return Ok(false);
+//!     };
+//!     let Ok(head) = Head::new(b"BASE", &[Code::C1C, Code::C2W], noon) else {
+//!         return Ok(false);
+//!     };
+//!     let Some(position) = Position::new(0, 0, 0, 0) else {
+//!         return Ok(false);
+//!     };
+//!     let text = header(alloc, &head, &position, noon)?;
+//!     Ok(check(alloc, text.as_slice()).is_ok())
+//! }
+//! ```
+//!
+//! Its tests: crates/rtk_tests_output/src/rinex.rt and rinex/
 #![tactic(auto)]
 
 mod check_fault;
