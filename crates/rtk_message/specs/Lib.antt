@@ -11,4 +11,5 @@ pub mod ColumnLaws
 pub mod Msm1074
 pub mod Msm1074Laws
 pub mod Decoded
+pub mod FaultCode
 pub mod Equality

@@ -27,3 +27,21 @@ pub enum DecodeFault {
     #[error("M5 message 1074 has more than 64 cell mask bits")]
     TooManyCells,
 }
+
+impl DecodeFault {
+    ghost use Rattle.std.specs.Prelude.{◌≡◌};
+    ghost use Rattle.rtk_message.specs.FaultCode.{fault_code};
+
+    /// The code of the cause, as texts show it: `M1` to `M5`, in the order of the causes.
+    pub fn code(&self) -> &'static str
+        ensures { result.now ≡ fault_code self.now }
+    {
+        match self {
+            DecodeFault::NoNumber => "M1",
+            DecodeFault::Other { .. } => "M2",
+            DecodeFault::Short { .. } => "M3",
+            DecodeFault::EpochRange { .. } => "M4",
+            DecodeFault::TooManyCells => "M5",
+        }
+    }
+}

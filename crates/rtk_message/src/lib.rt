@@ -45,6 +45,7 @@ pub use column::Column;
 pub use decoding::decode;
 pub use encoding::{decode_of_encode, encode};
 pub use fault::DecodeFault;
+pub use field::WEEK_MS;
 pub use laws::{equal_1004, equal_1074, equal_messages};
 pub use layout::Layout;
 pub use message::Message;
