@@ -61,7 +61,7 @@ pub all_in_order : AreAllCodes (C1C ∷ C1P ∷ C1W ∷ C1S ∷ C1L ∷ C1X ∷ 
 unfolding in_order
 all_in_order = record { length = refl; distinct = distinct; every = every }
 
--- where what stands at a place stood before the exchange of a and b
+-- the place at which the code of a place stood before the exchange of a and b
 moved : ℕ → ℕ → ℕ → ℕ
 moved a b k = if k == a then b else (if k == b then a else k)
 

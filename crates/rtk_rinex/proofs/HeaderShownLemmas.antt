@@ -80,7 +80,7 @@ right_split a w t h =
     let two : replicate {A = ℕ} (a + (w - length t)) 32 ≡ replicate a 32 ++ replicate (w - length t) 32 = sym (replicate-append-replicate {A = ℕ} a (w - length t) 32) in
     rw (n, two) (append_assoc (replicate a 32) (replicate (w - length t) 32) t)
 
--- fields behind each other
+-- fields one after another
 record AreFields (line a b c d e s : List ℕ) : Type 0 where
   pub first : take 4 (drop 2 line) ≡ a
   pub second : take 2 (drop 10 line) ≡ b

@@ -1,4 +1,5 @@
--- Where the header that a text shows and the text part, no header begins so, and the text begins with none.
+-- With the first line in which a text differs from the header that it shows, no header begins; so
+-- the text begins with no header.
 use Rattle.std.proofs.Common.{◌≡◌, ◌≢◌, ℕ, zero, suc, ◌+◌, ◌*◌, ◌<◌, ◌≤◌, List, [], ◌∷◌, ◌++◌, length, take, drop, get_or, codes, All, arith, refl, sym, ◌∙◌, ap, append_assoc, length-append, inl, inr}
 use Rattle.std.specs.List.{flat_map}
 use Rattle.std.proofs.lemmas.Bool.Decides.{leb_tells}
@@ -81,7 +82,7 @@ one_count h c s d t u g f e =
     let n : length h.listed ≡ length c.listed = omega (arith, a, b) in
     ap (λ (m : ℕ). row_count m) n
 
--- ---- a text and the header that it shows, which part behind k lines
+-- ---- a text and the header that it shows, which differ after k lines
 
 -- each header that a text agrees with is the one that it shows
 abbrev pub ReadsBack : List ℕ → HeadView → PositionView → ℕ → Type 0

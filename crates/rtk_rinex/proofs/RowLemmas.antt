@@ -94,7 +94,7 @@ pub length-whole : (w : ℕ) (r : SatelliteRow) → IsTableRow w r → length (w
 unfolding whole
 length-whole w r h = omega (arith, length-all r.observed.items h.observed, h.width)
 
--- as far as the columns of 16 codes there are blanks behind it
+-- blanks fill the line up to the columns of 16 codes
 padded-whole : (w : ℕ) (r : SatelliteRow) → w ≤ 16 → IsTableRow w r → (blanks : List ℕ) × (left 771 (trim_end (whole r)) ≡ whole r ++ blanks)
 unfolding left IsTrimmed
 padded-whole w r le h =

@@ -1,4 +1,26 @@
 //! RINEX 3.05 observation files of GPS: the header and the records, as text.
+//!
+//! ```rust
+//! use rtk_obs::{Code, GpsMs, Position};
+//! use rtk_rinex::{Head, check, header};
+//! use std::alloc::Global;
+//!
+//! // A header alone is a whole file, with no records: the answer is `Some(0)`.
+//! fn example(alloc: Global, made: GpsMs, position: &Position) -> Option<usize> {
+//!     let Ok(head) = Head::new(b"SITE", &[Code::C1C], made) else {
+//!         return None;
+//!     };
+//!     let Ok(text) = header(alloc, &head, position, made) else {
+//!         return None;
+//!     };
+//!     match check(alloc, text.as_slice()) {
+//!         Ok(table) => Some(table.epochs()),
+//!         Err(_) => None,
+//!     }
+//! }
+//! ```
+//!
+//! Its tests: crates/rtk_tests_output/src/rinex/
 #![tactic(auto)]
 
 mod check_fault;
