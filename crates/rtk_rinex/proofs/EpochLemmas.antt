@@ -9,7 +9,7 @@ use Rattle.rtk_obs.specs.Calendar.{Reads}
 use Rattle.rtk_rinex.specs.Columns.{right, decimals}
 use Rattle.rtk_rinex.specs.Reading.{IsMoment, reading_of, seconds_of}
 use Rattle.rtk_rinex.specs.Record.{epoch_date_text, epoch_columns, epoch_line}
-use Rattle.rtk_rinex.specs.CheckValues.{seconds_in, civil_in, count_in}
+use Rattle.rtk_rinex.specs.Steps.CheckValues.{seconds_in, civil_in, count_in}
 use Rattle.rtk_rinex.proofs.ReadingLemmas.{same_civil, reading-reads, year-bound}
 use Rattle.rtk_rinex.proofs.DigitsLemmas.{digits_from-last_2, digits_from-last_4, digits_from-seconds, digits_from-right, length-right, take-exact, drop-exact}
 

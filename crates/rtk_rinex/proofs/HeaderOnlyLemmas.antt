@@ -5,7 +5,7 @@ use Rattle.rtk_obs.specs.declared.code.Code.{Code}
 use Rattle.rtk_rinex.specs.Columns.{fixed}
 use Rattle.rtk_rinex.specs.Reading.{reading_of}
 use Rattle.rtk_rinex.specs.Header.{HeadView, PositionView, made_text, first_text, header_text}
-use Rattle.rtk_rinex.specs.HeaderShown.{line_at}
+use Rattle.rtk_rinex.specs.Steps.HeaderShown.{line_at}
 use Rattle.rtk_rinex.proofs.HeaderRowsLemmas.{row, row_ended, ended, types_line, rows}
 use Rattle.rtk_rinex.proofs.HeaderSameLemmas.{Shows, IsGood, Agrees, lines_of, length-header, in_first, in_types, in_last, agreed, same_count, name_is}
 

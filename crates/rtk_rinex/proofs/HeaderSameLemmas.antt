@@ -14,7 +14,7 @@ use Rattle.rtk_obs.specs.Code.{name_of}
 use Rattle.rtk_rinex.specs.Columns.{right, fixed}
 use Rattle.rtk_rinex.specs.Reading.{IsMoment, reading_of}
 use Rattle.rtk_rinex.specs.Header.{HeadView, PositionView, IsHeadView, IsPositionView, header_line, made_text, types_of, types, first_text, header_text}
-use Rattle.rtk_rinex.specs.HeaderShown.{line_at, name_at}
+use Rattle.rtk_rinex.specs.Steps.HeaderShown.{line_at, name_at}
 use Rattle.rtk_rinex.proofs.DigitsLemmas.{piece}
 use Rattle.rtk_rinex.proofs.HeaderShownLemmas.{line_rest, line_is}
 use Rattle.rtk_rinex.proofs.HeaderRowsLemmas.{row, row_ended, ended, types_head, types_line, type_rows, row_count, first_rows, last_rows, rows, rows_text, length-types}

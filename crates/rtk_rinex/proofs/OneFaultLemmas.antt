@@ -8,7 +8,8 @@ use Rattle.rtk_rinex.specs.declared.check_fault.CheckFault.{CheckFault}
 use Rattle.rtk_rinex.specs.Header.{header_text}
 use Rattle.rtk_rinex.specs.Record.{record_text}
 use Rattle.rtk_rinex.specs.Table.{WellFormedTable, IsWellFormedTable, IsTableEpoch, StartsAt, table_text}
-use Rattle.rtk_rinex.specs.HeaderFault.{AreLines, HasHeader, IsFaultOfHeader}
+use Rattle.rtk_rinex.specs.HeaderFault.{AreLines, IsFaultOfHeader}
+use Rattle.rtk_rinex.specs.Steps.HeaderRead.{HasHeader}
 use Rattle.rtk_rinex.specs.CheckText.{IsFaultOfRecords}
 use Rattle.rtk_rinex.specs.CheckTable.{IsFaultAfterHeader, IsFault, OneFault, FaultMeansNoTable}
 use Rattle.rtk_rinex.proofs.HeaderSameLemmas.{IsGood}

@@ -12,9 +12,10 @@ use Rattle.rtk_rinex.specs.declared.check_fault.Cause.{Cause}
 use Rattle.rtk_rinex.specs.declared.check_fault.Cause.TheVariants.{HeaderLine, Columns, Value, Order, Truncated, OutOfMemory}
 use Rattle.rtk_rinex.specs.Reading.{reading_of}
 use Rattle.rtk_rinex.specs.Header.{HeadView, PositionView, header_line, first_text, header_text}
-use Rattle.rtk_rinex.specs.HeaderShown.{line_at}
+use Rattle.rtk_rinex.specs.Steps.HeaderShown.{line_at}
 use Rattle.rtk_rinex.specs.Lines.{HasNoEnd}
-use Rattle.rtk_rinex.specs.HeaderFault.{AreLines, IsHeader, BeginsHeader, BeginsTable, HasHeader, IsLineFault, IsFaultAfter}
+use Rattle.rtk_rinex.specs.HeaderFault.{AreLines, IsHeader, BeginsHeader, BeginsTable, IsLineFault, IsFaultAfter}
+use Rattle.rtk_rinex.specs.Steps.HeaderRead.{HasHeader}
 use Rattle.rtk_rinex.specs.Table.{IsTableEpoch}
 use Rattle.rtk_rinex.proofs.ReadingLemmas.{reading-reads}
 use Rattle.rtk_rinex.proofs.DigitsLemmas.{take-exact, drop-exact}

@@ -12,8 +12,8 @@ use Rattle.rtk_rinex.specs.declared.epoch_table.SatelliteRow.{SatelliteRow}
 use Rattle.rtk_rinex.specs.Columns.{left, last_digits}
 use Rattle.rtk_rinex.specs.Record.{observation, observations, lli_digit, strength_digit, strength_value, trim_end, before_trimmed, satellite_line}
 use Rattle.rtk_rinex.specs.Table.{IsObserved, IsTableRow}
-use Rattle.rtk_rinex.specs.CheckValues.{observed_in, observations_in, row_in}
-use Rattle.rtk_rinex.specs.Digits.{digits_from}
+use Rattle.rtk_rinex.specs.Steps.CheckValues.{observed_in, observations_in, row_in}
+use Rattle.rtk_rinex.specs.Steps.Digits.{digits_from}
 use Rattle.rtk_rinex.proofs.ValuesLemmas.{length-observation, observed_of-observations, IsValue-strength}
 use Rattle.rtk_rinex.proofs.DigitsLemmas.{take-exact, digits_from-last_2}
 

@@ -12,8 +12,10 @@ use Rattle.rtk_rinex.specs.Reading.{IsMoment, reading_of}
 use Rattle.rtk_rinex.specs.Header.{HeadView, PositionView, IsHeadView, IsPositionView, header_line, header_text}
 use Rattle.rtk_rinex.specs.Record.{EpochTableView, epoch_line, satellite_line, record_text}
 use Rattle.rtk_rinex.specs.Table.{WellFormedTable, IsWellFormedTable, IsTableEpoch, IsTableRow, StartsAt, table_text}
-use Rattle.rtk_rinex.specs.HeaderFault.{AreLines, HasHeader, IsWithoutHeader, IsOnlyHeader}
-use Rattle.rtk_rinex.specs.CheckText.{BeginsWithFault, last_satellite, last_time, IsFaultAfterEpochLine, IsFaultOfRecord, IsFaultOfRecords, ReadsRecords}
+use Rattle.rtk_rinex.specs.HeaderFault.{AreLines}
+use Rattle.rtk_rinex.specs.Steps.HeaderRead.{HasHeader, IsWithoutHeader, IsOnlyHeader}
+use Rattle.rtk_rinex.specs.CheckText.{BeginsWithFault, last_satellite, last_time, IsFaultAfterEpochLine, IsFaultOfRecord, IsFaultOfRecords}
+use Rattle.rtk_rinex.specs.Steps.ReadRecords.{ReadsRecords}
 use Rattle.rtk_rinex.specs.CheckTable.{HoldsTable, IsFault, IsWithoutTable}
 use Rattle.rtk_rinex.specs.CheckLine.{IsNextTime, IsSatelliteFault}
 use Rattle.rtk_rinex.proofs.EpochLemmas.{length-line}

@@ -87,29 +87,3 @@ pub record IsFaultOfRecords (n first before : ℕ) (bytes : List ℕ) (fault : C
   pub are_epochs : AreEpochs n first None epochs
   pub text : bytes ≡ flat_map record_text epochs ++ rest
   pub next : IsFaultOfRecord n first (last_time None epochs) (before + record_lines epochs) rest fault
-
--- the lines of `due` rows begin the text, and were appended to the output
-pub record ReadsRows (n due : ℕ) (bytes rest old new : List ℕ) : Type 0 where
-  pub rows : List SatelliteRow
-  pub are_rows : AreRows n None rows
-  pub count : length rows ≡ due
-  pub text : bytes ≡ flat_map satellite_line rows ++ rest
-  pub out : new ≡ old ++ flat_map satellite_line rows
-
--- the record of an epoch begins the text, and was appended to the output
-pub record ReadsRecord (n first : ℕ) (last : Option ℕ) (time due : ℕ) (bytes rest old new : List ℕ) : Type 0 where
-  pub rows : List SatelliteRow
-  pub is_epoch : IsTableEpoch n (record { time = time; rows = rows })
-  pub next : IsNextTime first last time
-  pub count : length rows ≡ due
-  pub text : bytes ≡ record_text (record { time = time; rows = rows }) ++ rest
-  pub out : new ≡ old ++ record_text (record { time = time; rows = rows })
-
--- the text is a sequence of good records, and was appended to the output
-pub record ReadsRecords (n first records rows : ℕ) (bytes old new : List ℕ) : Type 0 where
-  pub epochs : List EpochTableView
-  pub are_epochs : AreEpochs n first None epochs
-  pub count : length epochs ≡ records
-  pub satellites : satellite_lines epochs ≡ rows
-  pub text : bytes ≡ flat_map record_text epochs
-  pub out : new ≡ old ++ flat_map record_text epochs

@@ -22,10 +22,6 @@ BeginsHeader text = (rest : List ℕ) × IsHeader (text ++ rest)
 abbrev pub BeginsTable : List ℕ → Type 0
 BeginsTable text = (t : WellFormedTable) × (rest : List ℕ) × IsWellFormedTable t × (table_text t ≡ text ++ rest)
 
--- the text begins with some header
-abbrev pub HasHeader : List ℕ → Type 0
-HasHeader text = (header : List ℕ) × (rest : List ℕ) × IsHeader header × (text ≡ header ++ rest)
-
 -- the text has n lines, each ended by LF
 abbrev pub AreLines : ℕ → List ℕ → Type 0
 AreLines n text =
@@ -50,14 +46,3 @@ IsFaultAfter n bytes cause =
 -- the fault is in the header; its line counts from 1; missing memory says nothing of the text
 abbrev pub IsFaultOfHeader : List ℕ → CheckFault → Type 0
 IsFaultOfHeader bytes f = (n : ℕ) × (f.line ≡ n + 1) × IsFaultAfter n bytes f.cause
-
--- a text that is refused begins with no header; missing memory says nothing of the text
-abbrev pub IsWithoutHeader : List ℕ → Cause → Type 0
-IsWithoutHeader bytes OutOfMemory = Unit {0}
-IsWithoutHeader bytes cause = ¬ (HasHeader bytes)
-
--- a text begins with this header, and with no other
-abbrev pub IsOnlyHeader : List ℕ → HeadView → PositionView → ℕ → Type 0
-IsOnlyHeader bytes head site first =
-    (h : HeadView) (s : PositionView) (f : ℕ) (rest : List ℕ) → IsHeadView h → IsPositionView s → IsMoment f → bytes ≡ header_text h s f ++ rest
-    → (h ≡ head) × (s ≡ site) × (f ≡ first)

@@ -4,7 +4,7 @@ ghost use Rattle.std.specs.Prelude.{◌≡◌, ◌≢◌, ℕ, ◌<◌, ◌≤�
 ghost use Rattle.std.specs.Int.{IsInRange};
 ghost use Rattle.rtk_rinex.specs.Reading.{IsMoment, reading_of};
 ghost use Rattle.rtk_rinex.specs.Record.{epoch_columns, epoch_line};
-ghost use Rattle.rtk_rinex.specs.CheckValues.{seconds_in, civil_in, count_in};
+ghost use Rattle.rtk_rinex.specs.Steps.CheckValues.{seconds_in, civil_in, count_in};
 
 use crate::digits::digits;
 use crate::record_text::put_epoch_line;

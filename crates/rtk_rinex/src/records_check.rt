@@ -1,7 +1,8 @@
 //! The check of the lines that follow the header, line by line.
 
 ghost use Rattle.rtk_rinex.specs.CheckLine.{IsEpochLine, IsNextTime, IsEpochFault, IsSatelliteForm, IsNextSatellite, IsSatelliteFault};
-ghost use Rattle.rtk_rinex.specs.CheckText.{ReadsRows, ReadsRecord, ReadsRecords, IsFaultOfRows, IsFaultOfRecord, IsFaultOfRecords};
+ghost use Rattle.rtk_rinex.specs.CheckText.{IsFaultOfRows, IsFaultOfRecord, IsFaultOfRecords};
+ghost use Rattle.rtk_rinex.specs.Steps.ReadRecords.{ReadsRows, ReadsRecord, ReadsRecords};
 ghost use Rattle.rtk_rinex.specs.Columns.{last_digits};
 ghost use Rattle.rtk_rinex.specs.Lines.{HasNoEnd, IsLine};
 ghost use Rattle.rtk_rinex.specs.Record.{satellite_line};

@@ -3,7 +3,7 @@
 use Rattle.std.specs.Prelude.{◌≡◌, ◌≢◌, ℕ, ◌+◌, ◌*◌, ◌/◌, ◌%◌, List, length, take, drop, AllPairs, Contains}
 use Rattle.rtk_obs.specs.declared.code.Code.{Code}
 use Rattle.rtk_obs.specs.declared.time.Civil.{Civil}
-use Rattle.rtk_rinex.specs.Digits.{digits_from}
+use Rattle.rtk_rinex.specs.Steps.Digits.{digits_from}
 
 -- the line after k lines of 81 bytes
 abbrev pub line_at : ℕ → List ℕ → List ℕ

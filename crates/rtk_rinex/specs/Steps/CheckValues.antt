@@ -4,7 +4,7 @@ use Rattle.std.specs.Prelude.{ℕ, zero, suc, ◌++◌, ◌+◌, ◌-◌, ◌*�
 use Rattle.std.specs.List.{list_any, list_all}
 use Rattle.rtk_obs.specs.declared.time.Civil.{Civil}
 use Rattle.rtk_rinex.specs.Columns.{fixed, left}
-use Rattle.rtk_rinex.specs.Digits.{digits_from, number_in}
+use Rattle.rtk_rinex.specs.Steps.Digits.{digits_from, number_in}
 use Rattle.rtk_rinex.specs.declared.epoch_table.Observed.{Observed}
 use Rattle.rtk_rinex.specs.declared.epoch_table.SatelliteRow.{SatelliteRow}
 
