@@ -1,4 +1,4 @@
--- Digits, one at a time, and texts behind blanks.
+-- Digits, one at a time, and texts after blanks.
 use Rattle.std.proofs.Common.{◌≡◌, ℕ, ◌+◌, ◌-◌, ◌/◌, ◌%◌, ◌^◌, ◌<◌, ◌≤◌, ◌∷◌, [], ◌++◌, List, length, decimal, replicate, take, set, ap, ◌∙◌, arith, refl, length-append, append_assoc}
 use Rattle.std.proofs.lemmas.Fmt.{decimal_step, decimal_digit}
 use Rattle.std.proofs.lemmas.List.{length-replicate, take-replicate, replicate-append-replicate}
@@ -25,7 +25,7 @@ length-decimal-two n h fits = omega (arith, simp length-append at (ap length (de
 pub length-decimal-one : (n : ℕ) → n < 10 → length (decimal n) ≡ 1
 length-decimal-one n h = ap length (decimal_digit n h)
 
--- a text that fits, behind the blanks that are left
+-- a text that fits, after the blanks that are left
 pub right-blanks : (w k : ℕ) (t : List ℕ) → k + length t ≡ w → right w t ≡ replicate k 32 ++ t
 right-blanks w k t e = let d : w - length t ≡ k = omega arith in rw d refl
 

@@ -9,7 +9,7 @@ use Rattle.std.proofs.lemmas.List.{length-replicate}
 use Rattle.std.proofs.Math.Seq.{take-append_seam, drop-append_seam}
 use Rattle.std.proofs.lemmas.List.Folds.{list_any-append}
 use Rattle.rtk_rinex.specs.Columns.{left, right, last_digits, decimals, fixed}
-use Rattle.rtk_rinex.specs.Digits.{with_digit, digits_from, has_minus, number_in}
+use Rattle.rtk_rinex.specs.Steps.Digits.{with_digit, digits_from, has_minus, number_in}
 
 pub digits_from-append : (a : ℕ) (xs ys : List ℕ) → digits_from a (xs ++ ys) ≡ digits_from (digits_from a xs) ys
 unfolding digits_from
@@ -39,7 +39,7 @@ digits_from-last_3 a n =
     let z = n % 10 in
     rw (digit a x (omega arith), digit (a * 10 + x) y (omega arith), digit ((a * 10 + x) * 10 + y) z (omega arith)) (omega arith)
 
--- a number with its sign before a point and its last digits, behind blanks
+-- a number with its sign before a point and its last digits, after blanks
 digits_from-parts : (k q m : ℕ) (s last : List ℕ) → digits_from 0 s ≡ 0 → q < 2 ^ 64 → digits_from q last ≡ m
     → digits_from 0 (replicate k 32 ++ (s ++ decimal q ++ 46 ∷ last)) ≡ m
 unfolding digits_from
@@ -175,7 +175,7 @@ take-exact n xs ys e = rw (← e) (take-append_seam xs ys)
 pub drop-exact : (n : ℕ) (xs ys : List ℕ) → length xs ≡ n → drop n (xs ++ ys) ≡ ys
 drop-exact n xs ys e = rw (← e) (drop-append_seam xs ys)
 
--- a field behind others
+-- a field after others
 pub piece : (k w : ℕ) (front field rest : List ℕ) → length front ≡ k → length field ≡ w → take w (drop k (front ++ (field ++ rest))) ≡ field
 piece k w front field rest e f = rw (drop-exact k front (field ++ rest) e) (take-exact w field rest f)
 

@@ -9,7 +9,7 @@ use Rattle.rtk_obs.specs.Calendar.{Reads}
 use Rattle.rtk_rinex.specs.Columns.{right, decimals}
 use Rattle.rtk_rinex.specs.Reading.{IsMoment, reading_of, seconds_of}
 use Rattle.rtk_rinex.specs.Record.{epoch_date_text, epoch_columns, epoch_line}
-use Rattle.rtk_rinex.specs.CheckValues.{seconds_in, civil_in, count_in}
+use Rattle.rtk_rinex.specs.Steps.CheckValues.{seconds_in, civil_in, count_in}
 use Rattle.rtk_rinex.proofs.ReadingLemmas.{same_civil, reading-reads, year-bound}
 use Rattle.rtk_rinex.proofs.DigitsLemmas.{digits_from-last_2, digits_from-last_4, digits_from-seconds, digits_from-right, length-right, take-exact, drop-exact}
 
@@ -107,7 +107,7 @@ one_moment s t c h g =
     let days : pos (3657 + s / 86_400_000) ≡ pos (3657 + t / 86_400_000) = sym h.0.1 ∙ g.0.1 in
     omega (arith, signed_arith, h.2, g.2)
 
--- an epoch line has 36 bytes, of which the last is LF
+-- an epoch line has 36 bytes, and the last one is LF
 pub length-line : (line : List ℕ) (t n : ℕ) → IsMoment t → IsInRange 1 32 n → line ≡ epoch_line (reading_of t) n → length line ≡ 36
 length-line line t n h k e =
     let long = length-columns (reading_of t) n (Fits-reading_of t h) (omega arith) in

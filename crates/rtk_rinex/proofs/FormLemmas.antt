@@ -1,4 +1,5 @@
--- The line of a row has the form of a satellite line; and a line of a well-formed table has no fault.
+-- The line of a row has the form of a satellite line; and a line of a well-formed table has no
+-- fault.
 use Rattle.std.proofs.Common.{◌≡◌, ◌≢◌, ℕ, zero, suc, ◌+◌, ◌-◌, ◌<◌, ◌≤◌, ◌==◌, Bool, true, false, if◌then◌else◌, Option, List, [], ◌∷◌, ◌++◌, length, take, ◌%◌, replicate, get_or, refl, sym, ◌∙◌, ap, arith, length-append}
 use Rattle.std.proofs.lemmas.Bool.Decides.{nat_tests}
 use Rattle.std.proofs.lemmas.List.{length-replicate}

@@ -7,7 +7,7 @@ use Rattle.std.proofs.lemmas.Bool.Decides.{nat_tests}
 use Rattle.rtk_obs.specs.declared.code.Code.{Code}
 use Rattle.rtk_obs.specs.declared.code.Code.TheVariants.{C1C, C1P, C1W, C1S, C1L, C1X, C2C, C2D, C2P, C2W, C2S, C2L, C2X, C5I, C5Q, C5X}
 use Rattle.rtk_obs.specs.Code.{place_of}
-use Rattle.rtk_rinex.specs.HeaderShown.{AreAllCodes}
+use Rattle.rtk_rinex.specs.Steps.HeaderShown.{AreAllCodes}
 
 in_order : List Code
 in_order = C1C ∷ C1P ∷ C1W ∷ C1S ∷ C1L ∷ C1X ∷ C2C ∷ C2D ∷ C2P ∷ C2W ∷ C2S ∷ C2L ∷ C2X ∷ C5I ∷ C5Q ∷ C5X ∷ []
@@ -61,7 +61,7 @@ pub all_in_order : AreAllCodes (C1C ∷ C1P ∷ C1W ∷ C1S ∷ C1L ∷ C1X ∷ 
 unfolding in_order
 all_in_order = record { length = refl; distinct = distinct; every = every }
 
--- where what stands at a place stood before the exchange of a and b
+-- the place at which the code of a place stood before the exchange of a and b
 moved : ℕ → ℕ → ℕ → ℕ
 moved a b k = if k == a then b else (if k == b then a else k)
 

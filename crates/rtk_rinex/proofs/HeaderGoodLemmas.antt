@@ -19,7 +19,7 @@ use Rattle.rtk_rinex.specs.Columns.{left, right, decimals, fixed, last_digits, i
 use Rattle.rtk_rinex.specs.Reading.{IsMoment, reading_of, seconds_of}
 use Rattle.rtk_rinex.specs.Header.{HeadView, PositionView, IsHeadView, IsPositionView, made_text, types_of, types, first_text}
 use Rattle.rtk_rinex.specs.Lines.{HasNoEnd}
-use Rattle.rtk_rinex.specs.HeaderShown.{line_at}
+use Rattle.rtk_rinex.specs.Steps.HeaderShown.{line_at}
 use Rattle.rtk_rinex.proofs.DigitsLemmas.{take-exact, length-left, length-right}
 use Rattle.rtk_rinex.proofs.HeaderShownLemmas.{Fits, Fits-reading_of, length-fixed, IsCoordinate-height, length-seconds}
 use Rattle.rtk_rinex.proofs.HeaderRowsLemmas.{row, ended, text_of, types_head, types_line, type_rows, row_count, first_rows, last_rows, rows}

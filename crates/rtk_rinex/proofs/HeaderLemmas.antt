@@ -13,7 +13,7 @@ pub unlike-more : (cs : List Code) (i : ℕ) → ((j k : ℕ) (d : Code) → j <
 unlike-more cs i old new j k d jk ki =
     ⊎_elim (λ below. old j k d jk below) (λ at. let lt : j < i = omega (arith, jk, at) in λ e. new j d lt (e ∙ ap (λ (n : ℕ). slice_index_or cs n d) at)) (below-or-at i k ki)
 
--- four texts behind another
+-- four texts after another
 pub append-four : (o a b c d : List ℕ) → (((o ++ a) ++ b) ++ c) ++ d ≡ o ++ (((a ++ b) ++ c) ++ d)
 append-four o a b c d = simp append_assoc
 

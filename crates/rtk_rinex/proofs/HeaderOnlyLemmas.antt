@@ -5,11 +5,11 @@ use Rattle.rtk_obs.specs.declared.code.Code.{Code}
 use Rattle.rtk_rinex.specs.Columns.{fixed}
 use Rattle.rtk_rinex.specs.Reading.{reading_of}
 use Rattle.rtk_rinex.specs.Header.{HeadView, PositionView, made_text, first_text, header_text}
-use Rattle.rtk_rinex.specs.HeaderShown.{line_at}
+use Rattle.rtk_rinex.specs.Steps.HeaderShown.{line_at}
 use Rattle.rtk_rinex.proofs.HeaderRowsLemmas.{row, row_ended, ended, types_line, rows}
 use Rattle.rtk_rinex.proofs.HeaderSameLemmas.{Shows, IsGood, Agrees, lines_of, length-header, in_first, in_types, in_last, agreed, same_count, name_is}
 
--- the lines of a header are those of a text that begins with it
+-- a text that begins with a header has the lines of the header
 agrees : (h : HeadView) (s : PositionView) (t : ℕ) (text rest : List ℕ) (k : ℕ) → IsGood h s t → text ≡ header_text h s t ++ rest → k < 13 + lines_of h → Agrees text h s t k
 agrees h s t text rest k g e lt j le =
     let a : List ℕ = header_text h s t in

@@ -35,7 +35,7 @@ abbrev pub types_head : ℕ → ℕ → List ℕ
 types_head zero n = codes "G  " ++ right 3 (decimal (3 * n))
 types_head (suc j) n = codes "      "
 
--- the line of types behind j lines of them
+-- the line of types after j lines of types
 unfoldable pub types_line : ℕ → List Code → List ℕ
 types_line j cs = row (types_head j (length cs) ++ take 52 (drop (52 * j) (types cs))) types_label
 
@@ -103,7 +103,7 @@ if_some : (text r : List ℕ) (b : Bool) → (length text == 0) ≡ b → 0 < le
 if_some text r false e h = refl
 if_some text r true e h = absurd (let none : length text ≡ 0 = grind (arith, nat_tests) in omega (arith, none, h))
 
--- the continuation line behind j lines of types
+-- the continuation line after j lines of types
 continued : ℕ → List Code → List ℕ
 continued j cs = continuation_line (drop (52 * j) (types cs))
 

@@ -1,4 +1,5 @@
--- Where a header and a text have the same lines as far as some line, what the text shows makes the same line again.
+-- If a header and a text have the same lines up to some line, what the text shows makes the same
+-- line again.
 use Rattle.std.proofs.Common.{◌≡◌, ℕ, zero, suc, ◌+◌, ◌-◌, ◌*◌, ◌/◌, ◌%◌, ◌<◌, ◌≤◌, List, [], ◌∷◌, ◌++◌, length, take, drop, get_or, decimal, codes, arith, refl, sym, ◌∙◌, ap, append_assoc, length-append, pos, inl, inr, min}
 use Rattle.std.specs.Int.{IsInRange}
 use Rattle.std.proofs.Math.Seq.{take-append-add}
@@ -13,13 +14,14 @@ use Rattle.rtk_obs.specs.Code.{name_of}
 use Rattle.rtk_rinex.specs.Columns.{right, fixed}
 use Rattle.rtk_rinex.specs.Reading.{IsMoment, reading_of}
 use Rattle.rtk_rinex.specs.Header.{HeadView, PositionView, IsHeadView, IsPositionView, header_line, made_text, types_of, types, first_text, header_text}
-use Rattle.rtk_rinex.specs.HeaderShown.{line_at, name_at}
+use Rattle.rtk_rinex.specs.Steps.HeaderShown.{line_at, name_at}
 use Rattle.rtk_rinex.proofs.DigitsLemmas.{piece}
 use Rattle.rtk_rinex.proofs.HeaderShownLemmas.{line_rest, line_is}
 use Rattle.rtk_rinex.proofs.HeaderRowsLemmas.{row, row_ended, ended, types_head, types_line, type_rows, row_count, first_rows, last_rows, rows, rows_text, length-types}
 use Rattle.rtk_rinex.proofs.HeaderGoodLemmas.{rows_good, length-text, line_in, line_past, head_fits}
 
--- what the lines of a text show of a header: if it has a line, the part that was read from this line is the header's
+-- what the lines of a text show of a header: if the text has a line of the header, the part that
+-- was read from this line is the header's
 pub record Shows (text : List ℕ) (h c : HeadView) (s d : PositionView) (t u : ℕ) : Type 0 where
   pub made : line_at 1 text ≡ header_line (codes "rtcm2rinex                              " ++ made_text (reading_of h.made)) (codes "PGM / RUN BY / DATE") → c.made ≡ h.made
   pub marker : line_at 2 text ≡ header_line h.marker (codes "MARKER NAME") → c.marker ≡ h.marker
@@ -161,7 +163,7 @@ around cs i e lt =
     ap types split ∙ flat_map-append types_of before (x ∷ after) ∙ ap (λ (ys : List ℕ). types before ++ ys) one ∙ sym (append_assoc (types before) (codes " C") (name_of x ++ rest)) in
     record { front = types before ++ codes " C"; rest = rest; is = all; length = length-append (types before) (codes " C") ∙ omega (arith, length-types before, long) }
 
--- columns behind 6 others, of a piece of 52 columns from the j-th on
+-- columns after 6 others, of a piece of 52 columns from the j-th on
 name_in : (front name rest head tail : List ℕ) (j r : ℕ) → length head ≡ 6 → length name ≡ 2 → r ≤ 12 → length front ≡ 52 * j + (4 * r + 2)
     → take 2 (drop (8 + 4 * r) ((head ++ take 52 (drop (52 * j) (front ++ (name ++ rest)))) ++ tail)) ≡ name
 name_in front name rest head tail j r lh ln le lf =
@@ -178,7 +180,7 @@ name_in front name rest head tail j r lh ln le lf =
     rw (dropped, cut) (simp append_assoc) in
     rw whole (piece (8 + 4 * r) 2 (head ++ kept) name (take (48 - 4 * r) rest ++ tail) before ln)
 
--- a text with the line that shows the first name of a code has the name where it is looked for
+-- a text with the line that shows the first name of a code has the name at the place that is read
 pub name_is : (text : List ℕ) (cs : List Code) (i : ℕ) (e : Code) → IsInRange 1 16 (length cs) → i < length cs
     → line_at (9 + 3 * i / 13) text ≡ ended (types_line (3 * i / 13) cs) → name_at i text ≡ name_of (get_or cs i e)
 unfolding types_line
@@ -194,7 +196,7 @@ name_is text cs i e h lt line =
     let whole : line_at (9 + j) text ≡ content ++ line_rest content (codes "SYS / # / OBS TYPES") = line ∙ sym (row_ended content (codes "SYS / # / OBS TYPES")) ∙ line_is content (codes "SYS / # / OBS TYPES") in
     rw whole (rw (← a.is) at found)
 
--- the front of the types is that of the first codes
+-- the first types are the types of the first codes
 types_front : (cs : List Code) (n q : ℕ) → n ≤ 12 * q → take n (types cs) ≡ take n (types (take q cs))
 types_front cs n q h =
     elim (leb_tells q (length cs)) [
@@ -216,7 +218,7 @@ same_codes xs ys q n same =
     let high : k < length ys = omega (arith, lt, a, n) in
     get_or-take q xs k d low ∙ same k d high low ∙ sym (get_or-take q ys k d low))
 
--- two lists of codes that agree in the codes that j + 1 lines show have the same line behind j lines
+-- two lists of codes that agree in the codes that j + 1 lines show have the same line after j lines
 types_same : (xs ys : List Code) (j : ℕ) → length xs ≡ length ys → ((i : ℕ) (e : Code) → i < length ys → 3 * i / 13 ≤ j → get_or xs i e ≡ get_or ys i e)
     → types_line j xs ≡ types_line j ys
 unfolding types_line
@@ -232,7 +234,7 @@ types_same xs ys j n same =
 
 -- ---- all lines
 
--- the lines of a text as far as the k-th are those of a header
+-- a text has the lines of a header up to the k-th
 abbrev pub Agrees : List ℕ → HeadView → PositionView → ℕ → ℕ → Type 0
 Agrees text h s t k = (j : ℕ) → j ≤ k → line_at j (header_text h s t) ≡ line_at j text
 
@@ -302,7 +304,7 @@ row_same text h c s d t u k shows g a lt =
           ]
     ]
 
--- the line behind k lines is the text's, where a header's are as far as this one
+-- the line after k lines is the text's, if a header has the text's lines up to this one
 pub line_same : (text : List ℕ) (h c : HeadView) (s d : PositionView) (t u k : ℕ) → Shows text h c s d t u → IsGood h s t → IsGood c d u → Agrees text h s t k
     → line_at k (header_text c d u) ≡ line_at k text
 line_same text h c s d t u k shows g f a =

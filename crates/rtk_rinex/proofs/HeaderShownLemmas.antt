@@ -14,8 +14,8 @@ use Rattle.rtk_rinex.specs.Columns.{left, right, decimals, fixed}
 use Rattle.rtk_rinex.specs.Reading.{IsMoment, reading_of, seconds_of}
 use Rattle.rtk_rinex.specs.Record.{trim_end}
 use Rattle.rtk_rinex.specs.Header.{header_line, made_text, first_text, IsMarker}
-use Rattle.rtk_rinex.specs.Digits.{digits_from, number_in}
-use Rattle.rtk_rinex.specs.HeaderShown.{number_at, made_civil, first_civil}
+use Rattle.rtk_rinex.specs.Steps.Digits.{digits_from, number_in}
+use Rattle.rtk_rinex.specs.Steps.HeaderShown.{number_at, made_civil, first_civil}
 use Rattle.rtk_rinex.proofs.ReadingLemmas.{same_civil, reading-reads, year-bound}
 use Rattle.rtk_rinex.proofs.RecordLemmas.{trim_end-blank, trim_end-done}
 use Rattle.rtk_rinex.proofs.DigitsLemmas.{digits_from-last_2, digits_from-last_4, digits_from-seconds, digits_from-right, digits_from-tenthousandths, number_of-fixed_4, length-left, take-exact, piece, length-right}
@@ -80,7 +80,7 @@ right_split a w t h =
     let two : replicate {A = ℕ} (a + (w - length t)) 32 ≡ replicate a 32 ++ replicate (w - length t) 32 = sym (replicate-append-replicate {A = ℕ} a (w - length t) 32) in
     rw (n, two) (append_assoc (replicate a 32) (replicate (w - length t) 32) t)
 
--- fields behind each other
+-- fields one after another
 record AreFields (line a b c d e s : List ℕ) : Type 0 where
   pub first : take 4 (drop 2 line) ≡ a
   pub second : take 2 (drop 10 line) ≡ b

@@ -1,4 +1,5 @@
--- Where the header that a text shows and the text part, no header begins so, and the text begins with none.
+-- With the first line in which a text differs from the header that it shows, no header begins; so
+-- the text begins with no header.
 use Rattle.std.proofs.Common.{◌≡◌, ◌≢◌, ℕ, zero, suc, ◌+◌, ◌*◌, ◌<◌, ◌≤◌, List, [], ◌∷◌, ◌++◌, length, take, drop, get_or, codes, All, arith, refl, sym, ◌∙◌, ap, append_assoc, length-append, inl, inr}
 use Rattle.std.specs.List.{flat_map}
 use Rattle.std.proofs.lemmas.Bool.Decides.{leb_tells}
@@ -9,8 +10,9 @@ use Rattle.rtk_rinex.specs.Reading.{IsMoment}
 use Rattle.rtk_rinex.specs.Header.{HeadView, PositionView, IsHeadView, IsPositionView, types, header_text}
 use Rattle.rtk_rinex.specs.Record.{record_text}
 use Rattle.rtk_rinex.specs.Lines.{HasNoEnd}
-use Rattle.rtk_rinex.specs.HeaderFault.{AreLines, IsHeader, BeginsHeader, BeginsTable, HasHeader}
-use Rattle.rtk_rinex.specs.HeaderShown.{line_at, number_at}
+use Rattle.rtk_rinex.specs.HeaderFault.{AreLines, IsHeader, BeginsHeader, BeginsTable}
+use Rattle.rtk_rinex.specs.Steps.HeaderRead.{HasHeader}
+use Rattle.rtk_rinex.specs.Steps.HeaderShown.{line_at, number_at}
 use Rattle.rtk_rinex.proofs.DigitsLemmas.{take-exact, drop-exact}
 use Rattle.rtk_rinex.proofs.HeaderShownLemmas.{count_is}
 use Rattle.rtk_rinex.proofs.HeaderRowsLemmas.{row_ended, ended, text_of, types_head, types_line, row_count, rows, rows_text}
@@ -81,7 +83,7 @@ one_count h c s d t u g f e =
     let n : length h.listed ≡ length c.listed = omega (arith, a, b) in
     ap (λ (m : ℕ). row_count m) n
 
--- ---- a text and the header that it shows, which part behind k lines
+-- ---- a text and the header that it shows, which differ after k lines
 
 -- each header that a text agrees with is the one that it shows
 abbrev pub ReadsBack : List ℕ → HeadView → PositionView → ℕ → Type 0

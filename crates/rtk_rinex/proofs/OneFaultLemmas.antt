@@ -1,4 +1,5 @@
--- A text has one fault, and is then that of no well-formed table; want of memory says nothing.
+-- A text has one fault at most, and with a fault it is the text of no well-formed table; missing
+-- memory says nothing.
 use Rattle.std.proofs.Common.{◌≡◌, ◌≢◌, ℕ, List, length, flat_map, refl, sym, ◌∙◌, ap, arith, ⊎_elim}
 use Rattle.std.specs.Prelude.{All}
 use Rattle.rtk_rinex.specs.declared.check_fault.Cause.{Cause}
@@ -7,14 +8,15 @@ use Rattle.rtk_rinex.specs.declared.check_fault.CheckFault.{CheckFault}
 use Rattle.rtk_rinex.specs.Header.{header_text}
 use Rattle.rtk_rinex.specs.Record.{record_text}
 use Rattle.rtk_rinex.specs.Table.{WellFormedTable, IsWellFormedTable, IsTableEpoch, StartsAt, table_text}
-use Rattle.rtk_rinex.specs.HeaderFault.{AreLines, HasHeader, IsFaultOfHeader}
+use Rattle.rtk_rinex.specs.HeaderFault.{AreLines, IsFaultOfHeader}
+use Rattle.rtk_rinex.specs.Steps.HeaderRead.{HasHeader}
 use Rattle.rtk_rinex.specs.CheckText.{IsFaultOfRecords}
-use Rattle.rtk_rinex.specs.CheckTable.{IsFaultBehindHeader, IsFault, OneFault, FaultMeansNoTable}
+use Rattle.rtk_rinex.specs.CheckTable.{IsFaultAfterHeader, IsFault, OneFault, FaultMeansNoTable}
 use Rattle.rtk_rinex.proofs.HeaderSameLemmas.{IsGood}
 use Rattle.rtk_rinex.proofs.FormLemmas.{IsTold}
 use Rattle.rtk_rinex.proofs.TextLemmas.{no_records}
 use Rattle.rtk_rinex.proofs.OneRecordsLemmas.{IsSame, one_of_records}
-use Rattle.rtk_rinex.proofs.OneHeaderLemmas.{HasFaultBehind, found-behind, one_header, one_number, no_header, one_of_header}
+use Rattle.rtk_rinex.proofs.OneHeaderLemmas.{HasFaultAfter, found-behind, one_header, one_number, no_header, one_of_header}
 
 told_of : (c : Cause) → c ≢ OutOfMemory → IsTold c
 told_of HeaderLine h = tt
@@ -24,10 +26,10 @@ told_of Order h = tt
 told_of Truncated h = tt
 told_of OutOfMemory h = absurd (h refl)
 
-behind-of : (bytes : List ℕ) (f : CheckFault) (a : IsFaultOfHeader bytes f) → IsTold f.cause → HasFaultBehind a.0 bytes f.cause
+behind-of : (bytes : List ℕ) (f : CheckFault) (a : IsFaultOfHeader bytes f) → IsTold f.cause → HasFaultAfter a.0 bytes f.cause
 behind-of bytes f a t = found-behind a.0 bytes f.cause t a.2
 
-has-header : (bytes : List ℕ) (f : CheckFault) → IsFaultBehindHeader bytes f → HasHeader bytes
+has-header : (bytes : List ℕ) (f : CheckFault) → IsFaultAfterHeader bytes f → HasHeader bytes
 has-header bytes f b = (header_text b.head b.site b.first, b.rest, (b.head, b.site, b.first, b.heading, b.good_site, b.moment, refl), b.text)
 
 of_header : (bytes : List ℕ) (f g : CheckFault) → IsFaultOfHeader bytes f → IsFaultOfHeader bytes g → IsTold f.cause → IsTold g.cause → IsSame f g
@@ -35,10 +37,10 @@ of_header bytes f g a b t u =
     let one = one_of_header a.0 b.0 bytes f.cause g.cause (behind-of bytes f a t) (behind-of bytes g b u) t u in
     (omega (arith, a.1, b.1, one.0), one.1)
 
-header_or_records : (bytes : List ℕ) (f g : CheckFault) → IsFaultOfHeader bytes f → IsFaultBehindHeader bytes g → IsTold f.cause → ⊥
+header_or_records : (bytes : List ℕ) (f g : CheckFault) → IsFaultOfHeader bytes f → IsFaultAfterHeader bytes g → IsTold f.cause → ⊥
 header_or_records bytes f g a b t = no_header a.0 bytes f.cause t (behind-of bytes f a t) (has-header bytes g b)
 
-of_records : (bytes : List ℕ) (f g : CheckFault) → IsFaultBehindHeader bytes f → IsFaultBehindHeader bytes g → IsTold f.cause → IsTold g.cause → IsSame f g
+of_records : (bytes : List ℕ) (f g : CheckFault) → IsFaultAfterHeader bytes f → IsFaultAfterHeader bytes g → IsTold f.cause → IsTold g.cause → IsSame f g
 of_records bytes f g a b t u =
     let good : IsGood a.head a.site a.first = record { heading = a.heading; site = a.good_site; first = a.moment } in
     let other : IsGood b.head b.site b.first = record { heading = b.heading; site = b.good_site; first = b.moment } in
@@ -73,7 +75,7 @@ table-header : (bytes : List ℕ) (u : WellFormedTable) → IsWellFormedTable u 
 table-header bytes u is e =
     (header_text u.head u.site u.first, flat_map record_text u.epochs, (u.head, u.site, u.first, is.head, is.site, is.first, refl), e)
 
-records_or_table : (bytes : List ℕ) (f : CheckFault) → IsFaultBehindHeader bytes f → IsTold f.cause → (u : WellFormedTable) → IsWellFormedTable u → bytes ≢ table_text u
+records_or_table : (bytes : List ℕ) (f : CheckFault) → IsFaultAfterHeader bytes f → IsTold f.cause → (u : WellFormedTable) → IsWellFormedTable u → bytes ≢ table_text u
 records_or_table bytes f a told u is e =
     let good : IsGood a.head a.site a.first = record { heading = a.heading; site = a.good_site; first = a.moment } in
     let other : IsGood u.head u.site u.first = record { heading = is.head; site = is.site; first = is.first } in

@@ -1,4 +1,5 @@
--- A text begins with one header at most; a fault of a header is one at most, and where there is one no header stands.
+-- A text begins with one header at most, and a header has one fault at most; a text with such a
+-- fault begins with no header.
 use Rattle.std.proofs.Common.{◌≡◌, ℕ, ◌+◌, ◌≤◌, List, [], ◌∷◌, ◌++◌, length, take, drop, codes, refl, sym, ◌∙◌, ap, arith, subst, append_assoc, length-append, inl, inr}
 use Rattle.std.specs.Prelude.{All}
 use Rattle.std.proofs.lemmas.Bool.Decides.{leb_tells}
@@ -11,9 +12,10 @@ use Rattle.rtk_rinex.specs.declared.check_fault.Cause.{Cause}
 use Rattle.rtk_rinex.specs.declared.check_fault.Cause.TheVariants.{HeaderLine, Columns, Value, Order, Truncated, OutOfMemory}
 use Rattle.rtk_rinex.specs.Reading.{reading_of}
 use Rattle.rtk_rinex.specs.Header.{HeadView, PositionView, header_line, first_text, header_text}
-use Rattle.rtk_rinex.specs.HeaderShown.{line_at}
+use Rattle.rtk_rinex.specs.Steps.HeaderShown.{line_at}
 use Rattle.rtk_rinex.specs.Lines.{HasNoEnd}
-use Rattle.rtk_rinex.specs.HeaderFault.{AreLines, IsHeader, BeginsHeader, BeginsTable, HasHeader, IsLineFault, IsFaultBehind}
+use Rattle.rtk_rinex.specs.HeaderFault.{AreLines, IsHeader, BeginsHeader, BeginsTable, IsLineFault, IsFaultAfter}
+use Rattle.rtk_rinex.specs.Steps.HeaderRead.{HasHeader}
 use Rattle.rtk_rinex.specs.Table.{IsTableEpoch}
 use Rattle.rtk_rinex.proofs.ReadingLemmas.{reading-reads}
 use Rattle.rtk_rinex.proofs.DigitsLemmas.{take-exact, drop-exact}
@@ -34,7 +36,8 @@ first_line h s t g =
     line_within h s t (9 + (lines_of h + 1)) g (omega arith) ∙ ap (λ (r : List ℕ). ended r) (in_last h s t 1)
     ∙ sym (row_ended (first_text (reading_of t)) (codes "TIME OF FIRST OBS"))
 
--- the number of codes and the first time that headers have in common which begin one text, and what stands behind them
+-- two headers that begin one text have the same number of codes, the same first time and the same
+-- text after them
 pub record AreAlike (h c : HeadView) (s d : PositionView) (t u : ℕ) (x y : List ℕ) : Type 0 where
   pub count : length h.listed ≡ length c.listed
   pub first : t ≡ u
@@ -109,8 +112,8 @@ one_number n m text a b =
 
 -- ---- the line with the fault
 
--- behind n lines, which begin a header and are no whole one, stands a line with this fault
-pub record HasFaultBehind (n : ℕ) (bytes : List ℕ) (cause : Cause) : Type 0 where
+-- after n lines, which begin a header and are no whole one, stands a line with this fault
+pub record HasFaultAfter (n : ℕ) (bytes : List ℕ) (cause : Cause) : Type 0 where
   pub lines : List (List ℕ)
   pub rest : List ℕ
   pub are_lines : All HasNoEnd lines
@@ -120,12 +123,12 @@ pub record HasFaultBehind (n : ℕ) (bytes : List ℕ) (cause : Cause) : Type 0 
   pub part : ¬ (IsHeader (text_of lines))
   pub fault : IsLineFault (text_of lines) rest cause
 
-abbrev StandsBehind : ℕ → List ℕ → Cause → Type 0
-StandsBehind n bytes cause =
+abbrev StandsAfter : ℕ → List ℕ → Cause → Type 0
+StandsAfter n bytes cause =
     (front : List ℕ) × (rest : List ℕ) × AreLines n front × (bytes ≡ front ++ rest) × BeginsHeader front × ¬ (IsHeader front)
     × IsLineFault front rest cause
 
-stands : (n : ℕ) (bytes : List ℕ) (cause : Cause) → StandsBehind n bytes cause → HasFaultBehind n bytes cause
+stands : (n : ℕ) (bytes : List ℕ) (cause : Cause) → StandsAfter n bytes cause → HasFaultAfter n bytes cause
 stands n bytes cause b =
     let front : b.0 ≡ text_of b.2.0 = b.2.3 in
     record {
@@ -139,7 +142,7 @@ stands n bytes cause b =
       fault = rw front at b.6;
     }
 
-pub found-behind : (n : ℕ) (bytes : List ℕ) (cause : Cause) → IsTold cause → IsFaultBehind n bytes cause → HasFaultBehind n bytes cause
+pub found-behind : (n : ℕ) (bytes : List ℕ) (cause : Cause) → IsTold cause → IsFaultAfter n bytes cause → HasFaultAfter n bytes cause
 found-behind n bytes HeaderLine told b = stands n bytes HeaderLine b
 found-behind n bytes Columns told b = stands n bytes Columns b
 found-behind n bytes Value told b = stands n bytes Value b
@@ -179,7 +182,7 @@ more_lines : (ls ms : List (List ℕ)) → All HasNoEnd (ls ++ ms) → All HasNo
 more_lines [] ms h = h
 more_lines (l ∷ ls) ms h = more_lines ls ms (All-tail HasNoEnd l (ls ++ ms) h)
 
-goes_on : (n : ℕ) (bytes : List ℕ) (cause : Cause) (a : HasFaultBehind n bytes cause) (ms : List (List ℕ)) (l : List ℕ) (more : List (List ℕ)) (y z : List ℕ)
+goes_on : (n : ℕ) (bytes : List ℕ) (cause : Cause) (a : HasFaultAfter n bytes cause) (ms : List (List ℕ)) (l : List ℕ) (more : List (List ℕ)) (y z : List ℕ)
     → IsTold cause → All HasNoEnd ms → ms ≡ a.lines ++ l ∷ more → a.rest ≡ text_of (l ∷ more) ++ y → IsHeader (text_of ms ++ z) → ⊥
 goes_on n bytes cause a ms l more y z told is e text h =
     let good : All HasNoEnd (a.lines ++ l ∷ more) = rw e at is in
@@ -190,9 +193,9 @@ goes_on n bytes cause a ms l more y z told is e text h =
     let whole : text_of ms ++ z ≡ (front ++ l ++ 10 ∷ []) ++ (text_of more ++ z) = all ∙ split in
     no_next front a.rest cause l (text_of more ++ y) (text_of more ++ z) told a.fault line (text ∙ lines-front l more y) (rw whole at h)
 
--- ---- where a header has a fault, no header stands
+-- ---- a text with a fault in the header begins with no header
 
-no_header_more : (n : ℕ) (bytes : List ℕ) (cause : Cause) (a : HasFaultBehind n bytes cause) (ms more : List (List ℕ)) (y : List ℕ)
+no_header_more : (n : ℕ) (bytes : List ℕ) (cause : Cause) (a : HasFaultAfter n bytes cause) (ms more : List (List ℕ)) (y : List ℕ)
     → IsTold cause → All HasNoEnd ms → ms ≡ a.lines ++ more → a.rest ≡ text_of more ++ y → IsHeader (text_of ms) → ⊥
 no_header_more n bytes cause a ms [] y told is e text h =
     let same : ms ≡ a.lines = e ∙ append-nil a.lines in
@@ -201,7 +204,7 @@ no_header_more n bytes cause a ms (l ∷ more) y told is e text h =
     goes_on n bytes cause a ms l more y [] told is e text (rw (append-nil (text_of ms)) h)
 
 -- a header that ends before the fault is no part of another one
-no_longer : (n : ℕ) (bytes : List ℕ) (cause : Cause) (a : HasFaultBehind n bytes cause) (h : HeadView) (s : PositionView) (t : ℕ) (ms more : List (List ℕ))
+no_longer : (n : ℕ) (bytes : List ℕ) (cause : Cause) (a : HasFaultAfter n bytes cause) (h : HeadView) (s : PositionView) (t : ℕ) (ms more : List (List ℕ))
     → IsGood h s t → header_text h s t ≡ text_of ms → a.lines ≡ ms ++ more → length more ≡ 0
 no_longer n bytes cause a h s t ms more g e list =
     let b = a.begins.1 in
@@ -214,7 +217,7 @@ no_longer n bytes cause a h s t ms more g e list =
     let one = one_header h b.0 s b.1 t b.2 (text_of more ++ x) [] g good whole in
     no_text more x one.rest
 
-pub no_header : (n : ℕ) (bytes : List ℕ) (cause : Cause) → IsTold cause → HasFaultBehind n bytes cause → ¬ (HasHeader bytes)
+pub no_header : (n : ℕ) (bytes : List ℕ) (cause : Cause) → IsTold cause → HasFaultAfter n bytes cause → ¬ (HasHeader bytes)
 no_header n bytes cause told a has =
     let h = has.2.0 in
     let s = has.2.1 in
@@ -255,7 +258,7 @@ one_line_cause front other rest Value d t u a b = absurd a
 one_line_cause front other rest Order d t u a b = absurd a
 one_line_cause front other rest OutOfMemory d t u a b = absurd t
 
-behind_more : (n m : ℕ) (bytes : List ℕ) (c d : Cause) (a : HasFaultBehind n bytes c) (b : HasFaultBehind m bytes d) (more : List (List ℕ))
+behind_more : (n m : ℕ) (bytes : List ℕ) (c d : Cause) (a : HasFaultAfter n bytes c) (b : HasFaultAfter m bytes d) (more : List (List ℕ))
     → IsTold c → IsTold d → b.lines ≡ a.lines ++ more → a.rest ≡ text_of more ++ b.rest → (n ≡ m) × (c ≡ d)
 behind_more n m bytes c d a b [] t u e text =
     let size = ap length (e ∙ append-nil a.lines) in
@@ -264,13 +267,13 @@ behind_more n m bytes c d a b [] t u e text =
 behind_more n m bytes c d a b (l ∷ more) t u e text =
     absurd (goes_on n bytes c a b.lines l more b.rest b.begins.0 t b.are_lines e text b.begins.1)
 
-behind_ordered : (n m : ℕ) (bytes : List ℕ) (c d : Cause) → HasFaultBehind n bytes c → HasFaultBehind m bytes d → IsTold c → IsTold d
+behind_ordered : (n m : ℕ) (bytes : List ℕ) (c d : Cause) → HasFaultAfter n bytes c → HasFaultAfter m bytes d → IsTold c → IsTold d
     → n ≤ m → (n ≡ m) × (c ≡ d)
 behind_ordered n m bytes c d a b t u le =
     let goes = same_lines a.lines b.lines a.rest b.rest a.are_lines b.are_lines (omega (arith, a.size, b.size, le)) (sym a.text ∙ b.text) in
     behind_more n m bytes c d a b goes.more t u goes.list goes.text
 
-pub one_of_header : (n m : ℕ) (bytes : List ℕ) (c d : Cause) → HasFaultBehind n bytes c → HasFaultBehind m bytes d → IsTold c → IsTold d
+pub one_of_header : (n m : ℕ) (bytes : List ℕ) (c d : Cause) → HasFaultAfter n bytes c → HasFaultAfter m bytes d → IsTold c → IsTold d
     → (n ≡ m) × (c ≡ d)
 one_of_header n m bytes c d a b t u =
     elim (leb_tells n m) [

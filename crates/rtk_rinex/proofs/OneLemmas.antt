@@ -1,4 +1,5 @@
--- A text is that of one list of epochs at most, and a text with a fault is that of none.
+-- A text is the text of one list of epochs at most, and a text with a fault is the text of no such
+-- list.
 use Rattle.std.proofs.Common.{◌≡◌, ◌≢◌, ℕ, suc, ◌+◌, ◌<◌, ◌≤◌, Option, Some, None, List, [], ◌∷◌, ◌++◌, length, take, refl, sym, ◌∙◌, ap, arith, subst, append_assoc, length-append, flat_map, inl, inr, ◌⊎◌, ⊎_elim}
 use Rattle.std.specs.Prelude.{All, AllPairs}
 use Rattle.std.specs.Int.{IsInRange}
@@ -137,7 +138,7 @@ some_text n e x h z =
     let zero = ap length (sym (epoch-front n e x h) ∙ z) in
     omega (arith, long, length-append (epoch_line (reading_of e.time) (length e.rows)) (flat_map satellite_line e.rows ++ x), zero)
 
--- a text of epochs, and what stands behind them, is that of no other epochs
+-- a text of epochs, with more text after them, is the text of no other epochs
 pub same_epochs : (n : ℕ) (epochs others : List EpochTableView) (x : List ℕ) → n ≤ 16 → All (IsTableEpoch n) epochs → All (IsTableEpoch n) others
     → flat_map record_text epochs ++ x ≡ flat_map record_text others → Goes record_text epochs others x []
 same_epochs n [] others x le h g e = record { more = others; list = refl; text = e ∙ sym (append-nil (flat_map record_text others)) }

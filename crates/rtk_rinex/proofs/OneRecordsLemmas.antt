@@ -14,7 +14,7 @@ use Rattle.rtk_rinex.specs.Record.{EpochTableView, epoch_line, satellite_line, r
 use Rattle.rtk_rinex.specs.Table.{IsTableRow, IsTableEpoch, StartsAt}
 use Rattle.rtk_rinex.specs.CheckLine.{IsNextTime, IsEpochFault, IsSatelliteFault}
 use Rattle.rtk_rinex.specs.Lines.{HasNoEnd, IsLine}
-use Rattle.rtk_rinex.specs.CheckText.{BeginsWithFault, last_satellite, last_time, record_lines, IsFaultOfRows, IsFaultBehindEpochLine, IsFaultOfEpochLine, IsFaultOfRecord, IsFaultOfRecords}
+use Rattle.rtk_rinex.specs.CheckText.{BeginsWithFault, last_satellite, last_time, record_lines, IsFaultOfRows, IsFaultAfterEpochLine, IsFaultOfEpochLine, IsFaultOfRecord, IsFaultOfRecords}
 use Rattle.rtk_rinex.proofs.CheckLemmas.{one_satellite, rows-all, rows-rise}
 use Rattle.rtk_rinex.proofs.LineLemmas.{epoch_line-line, no_line, same_line}
 use Rattle.rtk_rinex.proofs.OneLemmas.{Below, Earlier, Goes, same_cons, one_epoch_line, same_rows, one_record, row-next, epoch-next, epochs-all, epochs-rise, epochs-start}
@@ -72,7 +72,7 @@ one_epoch_cause first last line Order Order t u a b = refl
 one_epoch_cause first last line Order Truncated t u a b = absurd b
 one_epoch_cause first last line Order OutOfMemory t u a b = absurd u
 
--- ---- where a line is due, a text has one cause
+-- ---- a text in which a line is due has one cause
 
 abbrev FaultOfLine : (List ℕ → Cause → Type 0) → List ℕ → Cause → Type 0
 FaultOfLine Fault text cause = (line : List ℕ) × (rest : List ℕ) × IsLine line × (text ≡ line ++ rest) × Fault line cause
@@ -163,12 +163,12 @@ good_line first last text Truncated t n y told b m range next e =
 good_line first last text OutOfMemory t n y told b m range next e = told
 
 line_or_rows : (n first : ℕ) (last : Option ℕ) (before : ℕ) (text : List ℕ) (f g : CheckFault) → IsFaultOfEpochLine first last before text f
-    → IsFaultBehindEpochLine n first last before text g → IsTold f.cause → ⊥
+    → IsFaultAfterEpochLine n first last before text g → IsTold f.cause → ⊥
 line_or_rows n first last before text f g a b t =
     good_line first last text f.cause b.time b.count b.rest t a.cause b.moment b.range b.next b.text
 
-one_behind_line : (n first : ℕ) (last : Option ℕ) (before : ℕ) (text : List ℕ) (f g : CheckFault) → n ≤ 16 → IsFaultBehindEpochLine n first last before text f
-    → IsFaultBehindEpochLine n first last before text g → IsTold f.cause → IsTold g.cause → IsSame f g
+one_behind_line : (n first : ℕ) (last : Option ℕ) (before : ℕ) (text : List ℕ) (f g : CheckFault) → n ≤ 16 → IsFaultAfterEpochLine n first last before text f
+    → IsFaultAfterEpochLine n first last before text g → IsTold f.cause → IsTold g.cause → IsSame f g
 one_behind_line n first last before text f g le a b t u =
     let line = same_line (epoch_line (reading_of a.time) a.count) (epoch_line (reading_of b.time) b.count) a.rest b.rest
     (epoch_line-line a.time a.count a.moment (omega (arith, a.range))) (epoch_line-line b.time b.count b.moment (omega (arith, b.range))) (sym a.text ∙ b.text) in

@@ -12,8 +12,8 @@ use Rattle.rtk_rinex.specs.declared.epoch_table.SatelliteRow.{SatelliteRow}
 use Rattle.rtk_rinex.specs.Columns.{left, last_digits}
 use Rattle.rtk_rinex.specs.Record.{observation, observations, lli_digit, strength_digit, strength_value, trim_end, before_trimmed, satellite_line}
 use Rattle.rtk_rinex.specs.Table.{IsObserved, IsTableRow}
-use Rattle.rtk_rinex.specs.CheckValues.{observed_in, observations_in, row_in}
-use Rattle.rtk_rinex.specs.Digits.{digits_from}
+use Rattle.rtk_rinex.specs.Steps.CheckValues.{observed_in, observations_in, row_in}
+use Rattle.rtk_rinex.specs.Steps.Digits.{digits_from}
 use Rattle.rtk_rinex.proofs.ValuesLemmas.{length-observation, observed_of-observations, IsValue-strength}
 use Rattle.rtk_rinex.proofs.DigitsLemmas.{take-exact, digits_from-last_2}
 
@@ -94,7 +94,7 @@ pub length-whole : (w : ℕ) (r : SatelliteRow) → IsTableRow w r → length (w
 unfolding whole
 length-whole w r h = omega (arith, length-all r.observed.items h.observed, h.width)
 
--- as far as the columns of 16 codes there are blanks behind it
+-- blanks fill the line up to the columns of 16 codes
 padded-whole : (w : ℕ) (r : SatelliteRow) → w ≤ 16 → IsTableRow w r → (blanks : List ℕ) × (left 771 (trim_end (whole r)) ≡ whole r ++ blanks)
 unfolding left IsTrimmed
 padded-whole w r le h =

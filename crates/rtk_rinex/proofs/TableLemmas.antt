@@ -1,4 +1,4 @@
--- The record of an epoch is that of an epoch of a well-formed table.
+-- The record of an epoch is the record of an epoch of a well-formed table.
 use Rattle.std.proofs.Common.{◌≡◌, ℕ, ◌<◌, List, [], ◌∷◌, ◌++◌, length, map, Bool, true, false, ◌&&◌, if◌then◌else◌, ℤ, Option, Some, None, arith, refl, sym, ◌∙◌, ap}
 use Rattle.std.specs.Prelude.{All, AllPairs, IsTrue, nat_lt}
 use Rattle.std.specs.List.{flat_map, filter, list_any}

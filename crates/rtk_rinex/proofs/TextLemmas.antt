@@ -12,8 +12,10 @@ use Rattle.rtk_rinex.specs.Reading.{IsMoment, reading_of}
 use Rattle.rtk_rinex.specs.Header.{HeadView, PositionView, IsHeadView, IsPositionView, header_line, header_text}
 use Rattle.rtk_rinex.specs.Record.{EpochTableView, epoch_line, satellite_line, record_text}
 use Rattle.rtk_rinex.specs.Table.{WellFormedTable, IsWellFormedTable, IsTableEpoch, IsTableRow, StartsAt, table_text}
-use Rattle.rtk_rinex.specs.HeaderFault.{AreLines, HasHeader, IsWithoutHeader, IsOnlyHeader}
-use Rattle.rtk_rinex.specs.CheckText.{BeginsWithFault, last_satellite, last_time, IsFaultBehindEpochLine, IsFaultOfRecord, IsFaultOfRecords, ReadsRecords}
+use Rattle.rtk_rinex.specs.HeaderFault.{AreLines}
+use Rattle.rtk_rinex.specs.Steps.HeaderRead.{HasHeader, IsWithoutHeader, IsOnlyHeader}
+use Rattle.rtk_rinex.specs.CheckText.{BeginsWithFault, last_satellite, last_time, IsFaultAfterEpochLine, IsFaultOfRecord, IsFaultOfRecords}
+use Rattle.rtk_rinex.specs.Steps.ReadRecords.{ReadsRecords}
 use Rattle.rtk_rinex.specs.CheckTable.{HoldsTable, IsFault, IsWithoutTable}
 use Rattle.rtk_rinex.specs.CheckLine.{IsNextTime, IsSatelliteFault}
 use Rattle.rtk_rinex.proofs.EpochLemmas.{length-line}
@@ -22,7 +24,7 @@ use Rattle.rtk_rinex.proofs.LineLemmas.{epoch_line-line, same_line}
 use Rattle.rtk_rinex.proofs.OneLemmas.{Below, Earlier, one_epoch_line, count-of, same_rows, epoch-front, epoch_line-of, some_text, same_epochs, row-next, epoch-next, epochs-all, epochs-rise, epochs-start}
 use Rattle.rtk_rinex.proofs.FormLemmas.{IsTold, no_satellite_fault, no_epoch_fault}
 
--- ---- want of memory, and faults of the header
+-- ---- missing memory, and faults of the header
 
 pub room-fault : (bytes : List ℕ) (f : CheckFault) → f.line ≡ 1 → f.cause ≡ OutOfMemory → IsFault bytes f
 room-fault bytes f line cause = inl (0, line, rw cause tt)
@@ -142,7 +144,7 @@ rows-fault n before text f rows others (r ∷ more) rest y told b h p e t less =
     (t ∙ append_assoc (satellite_line r) (flat_map satellite_line more) y)
 
 behind-fault : (n first : ℕ) (last : Option ℕ) (before : ℕ) (text : List ℕ) (f : CheckFault) (a : EpochTableView) (y : List ℕ) → n ≤ 16 → IsTold f.cause
-    → IsFaultBehindEpochLine n first last before text f → IsTableEpoch n a → text ≡ record_text a ++ y → ⊥
+    → IsFaultAfterEpochLine n first last before text f → IsTableEpoch n a → text ≡ record_text a ++ y → ⊥
 behind-fault n first last before text f a y le told b h e =
     let c = count-of n a h in
     let line = same_line (epoch_line (reading_of b.time) b.count) (epoch_line (reading_of a.time) (length a.rows)) b.rest (flat_map satellite_line a.rows ++ y)

@@ -14,7 +14,7 @@ use Rattle.std.proofs.lemmas.Int.{ints}
 use Rattle.rtk_rinex.specs.Record.{is_written, observation, observations, lli_digit, strength_digit, strength_value, IsStrengthOrNone}
 use Rattle.rtk_rinex.specs.Table.{IsAbsentOrWritten, IsLock, IsObserved}
 use Rattle.rtk_rinex.proofs.DigitsLemmas.{number_of-fixed_3, length-right, take-exact, drop-exact}
-use Rattle.rtk_rinex.specs.CheckValues.{value_text, is_blank, value_in, strength_in, slip_in, half_in, observed_in}
+use Rattle.rtk_rinex.specs.Steps.CheckValues.{value_text, is_blank, value_in, strength_in, slip_in, half_in, observed_in}
 
 and-assoc : (a b c : Bool) → ((a && b) && c) ≡ (a && (b && c))
 and-assoc true b c = refl

@@ -1,4 +1,5 @@
--- What is wrong with a line of a record, in the order in which causes are looked for. A line ends in its LF.
+-- What is wrong with a line of a record, in the order in which causes are looked for. A line ends
+-- in its LF.
 use Rattle.std.specs.Prelude.{◌≡◌, ◌≢◌, ◌≤◌, ◌<◌, ℕ, ◌+◌, ◌-◌, ◌*◌, List, ◌∷◌, take, length, slice_get, Option, Some, None}
 use Rattle.std.specs.Int.{IsInRange}
 use Rattle.rtk_rinex.specs.Columns.{last_digits}
@@ -25,8 +26,8 @@ IsEpochFault first last line Order = (t : ℕ) × (n : ℕ) × IsEpochLine line 
 IsEpochFault first last line OutOfMemory = Unit {0}
 IsEpochFault first last line _ = ⊥
 
--- the form of a satellite line of n codes: G and the satellite in two digits, at most 48 columns for each code, and no
--- blank at the end
+-- the form of a satellite line of n codes: G and the satellite in two digits, at most 48 columns
+-- for each code, and no blank at the end
 abbrev pub IsSatelliteForm : ℕ → List ℕ → ℕ → Type 0
 IsSatelliteForm n line s =
     IsInRange 1 32 s × (take 3 line ≡ 71 ∷ last_digits 2 s) × (length line ≤ 4 + 48 * n) × (slice_get line (length line - 2) ≢ Some 32)

@@ -1,4 +1,4 @@
--- A text as that of a well-formed table, or its fault.
+-- The well-formed table whose text a text is, or the fault of the text.
 use Rattle.std.specs.Prelude.{◌≡◌, ◌≢◌, ℕ, List, ◌++◌, length, ◌⊎◌}
 use Rattle.rtk_rinex.specs.Reading.{IsMoment}
 use Rattle.rtk_rinex.specs.Header.{HeadView, PositionView, IsHeadView, IsPositionView, header_text}
@@ -9,7 +9,8 @@ use Rattle.rtk_rinex.specs.declared.check_fault.Cause.{Cause}
 use Rattle.rtk_rinex.specs.declared.check_fault.Cause.TheVariants.{OutOfMemory}
 use Rattle.rtk_rinex.specs.declared.check_fault.CheckFault.{CheckFault}
 
--- a text is that of one well-formed table, with so many records and satellite lines
+-- the text is the text of exactly one well-formed table, which has this number of records and of
+-- satellite lines
 pub record HoldsTable (bytes : List ℕ) (records lines : ℕ) : Type 0 where
   pub table : WellFormedTable
   pub is_table : IsWellFormedTable table
@@ -18,7 +19,7 @@ pub record HoldsTable (bytes : List ℕ) (records lines : ℕ) : Type 0 where
   pub epochs : length table.epochs ≡ records
   pub satellites : satellite_lines table.epochs ≡ lines
 
--- a text, and how many records and satellite lines it has
+-- a text, and its numbers of records and of satellite lines
 pub record TableView : Type 0 where
   pub text : List ℕ
   pub epochs : ℕ
@@ -28,8 +29,8 @@ pub record TableView : Type 0 where
 abbrev pub IsTableView : TableView → Type 0
 IsTableView t = ∥ HoldsTable t.text t.epochs t.satellites ∥₁
 
--- the header is good, and has so many lines; the fault is in the records
-pub record IsFaultBehindHeader (bytes : List ℕ) (fault : CheckFault) : Type 0 where
+-- the text begins with a good header of `lines` lines; the fault is in the records
+pub record IsFaultAfterHeader (bytes : List ℕ) (fault : CheckFault) : Type 0 where
   pub head : HeadView
   pub site : PositionView
   pub first : ℕ
@@ -42,21 +43,21 @@ pub record IsFaultBehindHeader (bytes : List ℕ) (fault : CheckFault) : Type 0 
   pub are_lines : AreLines lines (header_text head site first)
   pub records : IsFaultOfRecords (length head.listed) first lines rest fault
 
--- the first fault of a text; of the want of memory it says nothing
+-- the first fault of a text; a fault of missing memory says nothing of the text
 abbrev pub IsFault : List ℕ → CheckFault → Type 0
-IsFault bytes fault = IsFaultOfHeader bytes fault ⊎ IsFaultBehindHeader bytes fault
+IsFault bytes fault = IsFaultOfHeader bytes fault ⊎ IsFaultAfterHeader bytes fault
 
--- the text is that of no well-formed table; the want of memory says nothing
+-- the text is the text of no well-formed table; missing memory says nothing of the text
 abbrev pub IsWithoutTable : List ℕ → Cause → Type 0
 IsWithoutTable bytes OutOfMemory = Unit {0}
 IsWithoutTable bytes cause = (t : WellFormedTable) → IsWellFormedTable t → bytes ≢ table_text t
 
--- a text has one fault at most, the same line and cause; of the want of memory it says nothing
+-- two faults of one text are the same line and cause, faults of missing memory apart
 abbrev pub OneFault : Type 0
 OneFault =
     (bytes : List ℕ) (f g : CheckFault) → IsFault bytes f → IsFault bytes g → f.cause ≢ OutOfMemory → g.cause ≢ OutOfMemory → f ≡ g
 
--- a text with a fault is that of no well-formed table
+-- a text with a fault is the text of no well-formed table
 abbrev pub FaultMeansNoTable : Type 0
 FaultMeansNoTable =
     (bytes : List ℕ) (f : CheckFault) → IsFault bytes f → f.cause ≢ OutOfMemory → (t : WellFormedTable) → IsWellFormedTable t → bytes ≢ table_text t

@@ -1,4 +1,5 @@
--- The first fault of a text that is no file of this project: the lines before it begin a file, and with it they do not.
+-- The first fault in the records of a text: with the lines before it a file can begin, with the
+-- line of the fault it can not.
 use Rattle.std.specs.Prelude.{◌≡◌, ◌≢◌, ◌<◌, ℕ, ◌+◌, List, [], ◌∷◌, ◌++◌, length, flat_map, sum_by, Option, Some, None, ◌⊎◌}
 use Rattle.std.specs.Int.{IsInRange}
 use Rattle.rtk_rinex.specs.Reading.{IsMoment, reading_of}
@@ -11,27 +12,29 @@ use Rattle.rtk_rinex.specs.declared.check_fault.Cause.{Cause}
 use Rattle.rtk_rinex.specs.declared.check_fault.Cause.TheVariants.{Truncated}
 use Rattle.rtk_rinex.specs.declared.check_fault.CheckFault.{CheckFault}
 
--- a line is due where this text begins: the text ends before the line does, or the line has a fault
+-- a line should begin this text: the text ends before the line does, or the line has a fault
 abbrev pub BeginsWithFault : (List ℕ → Cause → Type 0) → List ℕ → Cause → Type 0
 BeginsWithFault IsFault text Truncated = HasNoEnd text
 BeginsWithFault IsFault text cause = (line : List ℕ) × (rest : List ℕ) × IsLine line × (text ≡ line ++ rest) × IsFault line cause
 
--- the satellite of the last row, or another one where there is no row
+-- the satellite of the last row, or `last` if there is no row
 abbrev pub last_satellite : Option ℕ → List SatelliteRow → Option ℕ
 last_satellite last [] = last
 last_satellite last (r ∷ rows) = last_satellite (Some r.satellite) rows
 
--- rows of a file of n codes, behind the satellite `last`: each satellite is greater than the one before
+-- rows of a file of n codes, after the satellite `last`: each satellite is greater than the one
+-- before
 abbrev pub AreRows : ℕ → Option ℕ → List SatelliteRow → Type 0
 AreRows n last [] = Unit {0}
 AreRows n last (r ∷ rows) = IsTableRow n r × IsNextSatellite last r.satellite × AreRows n (Some r.satellite) rows
 
--- the moment of the last epoch, or another one where there is no epoch
+-- the moment of the last epoch, or `last` if there is no epoch
 abbrev pub last_time : Option ℕ → List EpochTableView → Option ℕ
 last_time last [] = last
 last_time last (e ∷ epochs) = last_time (Some e.time) epochs
 
--- epochs of a file of n codes and this first time, behind the moment `last`: each is greater than the one before
+-- epochs of a file of n codes and this first time, after the moment `last`: each is later than the
+-- one before
 abbrev pub AreEpochs : ℕ → ℕ → Option ℕ → List EpochTableView → Type 0
 AreEpochs n first last [] = Unit {0}
 AreEpochs n first last (e ∷ epochs) = IsTableEpoch n e × IsNextTime first last e.time × AreEpochs n first (Some e.time) epochs
@@ -43,7 +46,8 @@ record_lines epochs = sum_by (λ e. 1 + length e.rows) epochs
 abbrev pub satellite_lines : List EpochTableView → ℕ
 satellite_lines epochs = sum_by (λ e. length e.rows) epochs
 
--- so many satellite lines are due in a text, behind a number of lines: fewer stand there, and then the fault
+-- `count` satellite lines are due after the first `before` lines: fewer good ones stand there, then
+-- the fault
 pub record IsFaultOfRows (n count before : ℕ) (bytes : List ℕ) (fault : CheckFault) : Type 0 where
   pub rows : List SatelliteRow
   pub rest : List ℕ
@@ -54,7 +58,7 @@ pub record IsFaultOfRows (n count before : ℕ) (bytes : List ℕ) (fault : Chec
   pub cause : BeginsWithFault (IsSatelliteFault n (last_satellite None rows)) rest fault.cause
 
 -- the epoch line is good, and the fault is in a line of a satellite
-pub record IsFaultBehindEpochLine (n first : ℕ) (last : Option ℕ) (before : ℕ) (bytes : List ℕ) (fault : CheckFault) : Type 0 where
+pub record IsFaultAfterEpochLine (n first : ℕ) (last : Option ℕ) (before : ℕ) (bytes : List ℕ) (fault : CheckFault) : Type 0 where
   pub time : ℕ
   pub count : ℕ
   pub rest : List ℕ
@@ -64,47 +68,22 @@ pub record IsFaultBehindEpochLine (n first : ℕ) (last : Option ℕ) (before : 
   pub text : bytes ≡ epoch_line (reading_of time) count ++ rest
   pub rows : IsFaultOfRows n count (before + 1) rest fault
 
--- the fault is in the epoch line, which is due where the text has not ended
+-- the fault is in the epoch line, which is due since the text has not ended
 pub record IsFaultOfEpochLine (first : ℕ) (last : Option ℕ) (before : ℕ) (bytes : List ℕ) (fault : CheckFault) : Type 0 where
   pub some : bytes ≢ []
   pub line : fault.line ≡ before + 1
   pub cause : BeginsWithFault (IsEpochFault first last) bytes fault.cause
 
--- the fault is in the record that is to begin a text, behind the moment `last` and a number of lines
+-- the fault is in the record that should begin the text, after the moment `last` and the first
+-- `before` lines
 abbrev pub IsFaultOfRecord : ℕ → ℕ → Option ℕ → ℕ → List ℕ → CheckFault → Type 0
 IsFaultOfRecord n first last before text fault =
-    IsFaultOfEpochLine first last before text fault ⊎ IsFaultBehindEpochLine n first last before text fault
+    IsFaultOfEpochLine first last before text fault ⊎ IsFaultAfterEpochLine n first last before text fault
 
--- good records, and behind them the fault
+-- good records, and after them the fault
 pub record IsFaultOfRecords (n first before : ℕ) (bytes : List ℕ) (fault : CheckFault) : Type 0 where
   pub epochs : List EpochTableView
   pub rest : List ℕ
   pub are_epochs : AreEpochs n first None epochs
   pub text : bytes ≡ flat_map record_text epochs ++ rest
   pub next : IsFaultOfRecord n first (last_time None epochs) (before + record_lines epochs) rest fault
-
--- so many rows begin a text, and their lines were appended to what was out
-pub record ReadsRows (n due : ℕ) (bytes rest old new : List ℕ) : Type 0 where
-  pub rows : List SatelliteRow
-  pub are_rows : AreRows n None rows
-  pub count : length rows ≡ due
-  pub text : bytes ≡ flat_map satellite_line rows ++ rest
-  pub out : new ≡ old ++ flat_map satellite_line rows
-
--- the record of an epoch begins a text, and was appended to what was out
-pub record ReadsRecord (n first : ℕ) (last : Option ℕ) (time due : ℕ) (bytes rest old new : List ℕ) : Type 0 where
-  pub rows : List SatelliteRow
-  pub is_epoch : IsTableEpoch n (record { time = time; rows = rows })
-  pub next : IsNextTime first last time
-  pub count : length rows ≡ due
-  pub text : bytes ≡ record_text (record { time = time; rows = rows }) ++ rest
-  pub out : new ≡ old ++ record_text (record { time = time; rows = rows })
-
--- a text is that of good records, and was appended to what was out
-pub record ReadsRecords (n first records rows : ℕ) (bytes old new : List ℕ) : Type 0 where
-  pub epochs : List EpochTableView
-  pub are_epochs : AreEpochs n first None epochs
-  pub count : length epochs ≡ records
-  pub satellites : satellite_lines epochs ≡ rows
-  pub text : bytes ≡ flat_map record_text epochs
-  pub out : new ≡ old ++ flat_map record_text epochs

@@ -1,13 +1,13 @@
--- Numbers and texts in columns, by the formats that RINEX 3.05 names in Tables A2 and A3: Fw.d, Iw, Aw.
+-- Numbers and texts in columns, by the formats of RINEX 3.05, Tables A2 and A3: Fw.d, Iw, Aw.
 use Rattle.std.specs.Prelude.{ℕ, zero, suc, ◌+◌, ◌-◌, ◌/◌, ◌%◌, ◌^◌, List, [], ◌∷◌, ◌++◌, length, replicate, ℤ, pos, negsuc, unsigned_abs, Bool, true, false, decimal}
 use Rattle.std.specs.Fmt.{sign_text}
 
--- the last k decimal digits of n, with zeros in front where it has fewer (Ik.k)
+-- the last k decimal digits of n, with zeros in front if it has fewer (Ik.k)
 abbrev pub last_digits : ℕ → ℕ → List ℕ
 last_digits zero n = []
 last_digits (suc k) n = last_digits k (n / 10) ++ (48 + n % 10) ∷ []
 
--- a text at the right end of w columns, behind blanks (Iw of a number's digits)
+-- a text at the right end of w columns, after blanks (Iw of a number's digits)
 abbrev pub right : ℕ → List ℕ → List ℕ
 right w text = replicate (w - length text) 32 ++ text
 

@@ -1,10 +1,10 @@
--- Why there is no head of these parts: the first cause that holds.
+-- Why these parts make no head: the first cause that holds.
 use Rattle.std.specs.Prelude.{◌≢◌, ◌%◌}
 use Rattle.rtk_rinex.specs.Header.{HeadView, IsMarker, IsCodeList}
 use Rattle.rtk_rinex.specs.declared.head.HeadFault.{HeadFault}
 use Rattle.rtk_rinex.specs.declared.head.HeadFault.TheVariants.{Marker, Codes, Made}
 
--- the marker is none; or the codes are none; or the moment is no whole second
+-- a bad marker; or else bad codes; or else a moment that is no whole second
 abbrev pub IsHeadFault : HeadView → HeadFault → Type 0
 IsHeadFault h Marker = ¬ (IsMarker h.marker)
 IsHeadFault h Codes = IsMarker h.marker × ¬ (IsCodeList h.listed)

@@ -10,7 +10,8 @@ use Rattle.rtk_obs.specs.declared.time.Civil.{Civil}
 use Rattle.rtk_rinex.specs.Columns.{left, right, last_digits, decimals, fixed}
 use Rattle.rtk_rinex.specs.Reading.{IsMoment, reading_of, seconds_of}
 
--- what is known of a file before its observations: the marker's name, the listed codes, and the moment at which it is made
+-- what is known of a file before its observations: the marker's name, the listed codes, and the
+-- moment at which the file is made
 pub record HeadView : Type 0 where
   pub marker : List ℕ
   pub listed : List Code
@@ -66,13 +67,15 @@ position_view p = record { x = p.x; y = p.y; z = p.z; height = p.height }
 abbrev pub IsPositionView : PositionView → Type 0
 IsPositionView s = IsCoordinate s.x × IsCoordinate s.y × IsCoordinate s.z × (s.height < 65_536)
 
--- the lines of the position (3F14.4, in m) and of the antenna's height (F14.4, in m; east and north are 0)
+-- the lines of the position (3F14.4, in m) and of the antenna's height (F14.4, in m; east and north
+-- are 0)
 abbrev pub position_lines : PositionView → List ℕ
 position_lines s =
     header_line (fixed 4 14 s.x ++ fixed 4 14 s.y ++ fixed 4 14 s.z) (codes "APPROX POSITION XYZ")
     ++ header_line (fixed 4 14 (pos s.height) ++ codes "        0.0000        0.0000") (codes "ANTENNA: DELTA H/E/N")
 
--- the three observation types of a code, each behind a blank: pseudorange, carrier phase and signal strength
+-- the three observation types of a code, each after a blank: pseudorange, carrier phase and signal
+-- strength
 abbrev pub types_of : Code → List ℕ
 types_of c = codes " C" ++ name_of c ++ codes " L" ++ name_of c ++ codes " S" ++ name_of c
 
@@ -80,13 +83,14 @@ types_of c = codes " C" ++ name_of c ++ codes " L" ++ name_of c ++ codes " S" ++
 abbrev pub types : List Code → List ℕ
 types = flat_map types_of
 
--- a further line of observation types, where any are left; thirteen fill its 52 columns
+-- a further line of observation types, if any are left; thirteen fill its 52 columns
 abbrev pub continuation_line : List ℕ → List ℕ
 continuation_line text =
     if length text == 0 then []
     else header_line (codes "      " ++ take 52 text) (codes "SYS / # / OBS TYPES")
 
--- the lines of the observation types: their number, then thirteen on a line; of 16 codes there are 48 on four lines
+-- the lines of the observation types: their number, then thirteen on a line; 16 codes have 48 types
+-- on four lines
 abbrev pub types_lines : List Code → List ℕ
 types_lines listed =
     header_line (codes "G  " ++ right 3 (decimal (3 * length listed)) ++ take 52 (types listed)) (codes "SYS / # / OBS TYPES")
@@ -101,7 +105,7 @@ first_text c =
     ++ right 6 (decimal c.hour) ++ right 6 (decimal c.minute)
     ++ right 13 (decimals 7 false (seconds_of c)) ++ codes "     GPS"
 
--- the lines behind the observation types, of the time of the first observation
+-- the lines after the observation types, with the time of the first observation
 abbrev pub last_lines : Civil → List ℕ
 last_lines first =
     header_line (codes "DBHZ") (codes "SIGNAL STRENGTH UNIT")
@@ -109,7 +113,7 @@ last_lines first =
     ++ header_line (codes "G") (codes "SYS / PHASE SHIFT")
     ++ header_line [] (codes "END OF HEADER")
 
--- the header of a heading, a site and the moment of the first observation
+-- the header of a head, a position and the moment of the first observation
 unfoldable pub header_text : HeadView → PositionView → ℕ → List ℕ
 header_text h s first =
     first_lines h.marker (reading_of h.made)

@@ -1,4 +1,5 @@
--- What is wrong with the header of a text: its first line with which no table's text begins, or the line that is not whole.
+-- What is wrong with the header of a text: its first line with which no table's text begins, or the
+-- line that is not whole.
 use Rattle.std.specs.Prelude.{◌≡◌, ℕ, ◌+◌, List, [], ◌∷◌, ◌++◌, length, flat_map, All}
 use Rattle.rtk_rinex.specs.Reading.{IsMoment}
 use Rattle.rtk_rinex.specs.Header.{HeadView, PositionView, IsHeadView, IsPositionView, header_text}
@@ -8,30 +9,26 @@ use Rattle.rtk_rinex.specs.declared.check_fault.CheckFault.{CheckFault}
 use Rattle.rtk_rinex.specs.declared.check_fault.Cause.{Cause}
 use Rattle.rtk_rinex.specs.declared.check_fault.Cause.TheVariants.{HeaderLine, Truncated, OutOfMemory}
 
--- the header of a good heading, a good site and a moment
+-- the header of a good head, a good position and a moment
 abbrev pub IsHeader : List ℕ → Type 0
 IsHeader text =
     (h : HeadView) × (s : PositionView) × (first : ℕ) × IsHeadView h × IsPositionView s × IsMoment first × (text ≡ header_text h s first)
 
--- some header begins with it
+-- some header begins with this text
 abbrev pub BeginsHeader : List ℕ → Type 0
 BeginsHeader text = (rest : List ℕ) × IsHeader (text ++ rest)
 
--- the text of some well-formed table begins with it
+-- the text of some well-formed table begins with this text
 abbrev pub BeginsTable : List ℕ → Type 0
 BeginsTable text = (t : WellFormedTable) × (rest : List ℕ) × IsWellFormedTable t × (table_text t ≡ text ++ rest)
 
--- it begins with some header
-abbrev pub HasHeader : List ℕ → Type 0
-HasHeader text = (header : List ℕ) × (rest : List ℕ) × IsHeader header × (text ≡ header ++ rest)
-
--- so many lines, each ended by LF
+-- the text has n lines, each ended by LF
 abbrev pub AreLines : ℕ → List ℕ → Type 0
 AreLines n text =
     (lines : List (List ℕ)) × All HasNoEnd lines × (length lines ≡ n) × (text ≡ flat_map (λ line. line ++ 10 ∷ []) lines)
 
--- what is wrong with the next line, where `rest` stands behind the lines so far: no LF ends it; or no table's text begins
--- with these lines and this one
+-- what is wrong with the next line, which begins `rest`: no LF ends it; or no table's text begins
+-- with the lines before it and this one
 abbrev pub IsLineFault : List ℕ → List ℕ → Cause → Type 0
 IsLineFault front rest Truncated = HasNoEnd rest
 IsLineFault front rest HeaderLine =
@@ -39,24 +36,13 @@ IsLineFault front rest HeaderLine =
 IsLineFault front rest OutOfMemory = Unit {0}
 IsLineFault front rest _ = ⊥
 
--- a fault at the line behind n lines: they begin a header and are no whole one
-abbrev pub IsFaultBehind : ℕ → List ℕ → Cause → Type 0
-IsFaultBehind n bytes OutOfMemory = Unit {0}
-IsFaultBehind n bytes cause =
+-- a fault in the line after n lines, which begin a header and are no whole one
+abbrev pub IsFaultAfter : ℕ → List ℕ → Cause → Type 0
+IsFaultAfter n bytes OutOfMemory = Unit {0}
+IsFaultAfter n bytes cause =
     (front : List ℕ) × (rest : List ℕ) × AreLines n front × (bytes ≡ front ++ rest) × BeginsHeader front × ¬ (IsHeader front)
     × IsLineFault front rest cause
 
--- a fault's line counts from 1; want of memory says nothing of the text
+-- the fault is in the header; its line counts from 1; missing memory says nothing of the text
 abbrev pub IsFaultOfHeader : List ℕ → CheckFault → Type 0
-IsFaultOfHeader bytes f = (n : ℕ) × (f.line ≡ n + 1) × IsFaultBehind n bytes f.cause
-
--- a text that is refused begins with no header; want of memory says nothing
-abbrev pub IsWithoutHeader : List ℕ → Cause → Type 0
-IsWithoutHeader bytes OutOfMemory = Unit {0}
-IsWithoutHeader bytes cause = ¬ (HasHeader bytes)
-
--- a text begins with this header, and with no other
-abbrev pub IsOnlyHeader : List ℕ → HeadView → PositionView → ℕ → Type 0
-IsOnlyHeader bytes head site first =
-    (h : HeadView) (s : PositionView) (f : ℕ) (rest : List ℕ) → IsHeadView h → IsPositionView s → IsMoment f → bytes ≡ header_text h s f ++ rest
-    → (h ≡ head) × (s ≡ site) × (f ≡ first)
+IsFaultOfHeader bytes f = (n : ℕ) × (f.line ≡ n + 1) × IsFaultAfter n bytes f.cause

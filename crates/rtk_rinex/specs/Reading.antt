@@ -13,14 +13,15 @@ pub record CivilDate : Type 0 where
   pub month : ℕ
   pub day : ℕ
 
--- the date after a date: the next day of the month, else the first of the next month, else of the next year
+-- the date after a date: the next day of the month, else the first of the next month, else of the
+-- next year
 abbrev pub next_date : CivilDate → CivilDate
 next_date d =
     if nat_lt d.day (days_in_month (pos d.year) d.month) then record d { day = d.day + 1 }
     else (if nat_lt d.month 12 then record { year = d.year; month = d.month + 1; day = 1 }
     else record { year = d.year + 1; month = 1; day = 1 })
 
--- the date so many days after 1980-01-06
+-- the date that many days after 1980-01-06
 unfoldable pub date_after : ℕ → CivilDate
 date_after zero = record { year = 1980; month = 1; day = 6 }
 date_after (suc k) = next_date (date_after k)

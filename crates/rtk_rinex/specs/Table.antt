@@ -8,7 +8,7 @@ use Rattle.rtk_rinex.specs.Record.{EpochTableView, IsEpochTableView, IsStrengthO
 use Rattle.rtk_rinex.specs.declared.epoch_table.Observed.{Observed}
 use Rattle.rtk_rinex.specs.declared.epoch_table.SatelliteRow.{SatelliteRow}
 
--- a file: its head, its site, the moment of its first observation, and its epochs
+-- a file: its head, its position, the moment of its first observation, and its epochs
 pub record WellFormedTable : Type 0 where
   pub head : HeadView
   pub site : PositionView
@@ -46,7 +46,7 @@ pub record IsTableEpoch (n : ℕ) (e : EpochTableView) : Type 0 where
   pub rows : All (IsTableRow n) e.rows
   pub rise : AllPairs (λ a b. a.satellite < b.satellite) e.rows
 
--- the first epoch, where there is one, is at the first time
+-- the first epoch, if there is one, is at the first time
 abbrev pub StartsAt : ℕ → List EpochTableView → Type 0
 StartsAt first [] = Unit {0}
 StartsAt first (e ∷ epochs) = e.time ≡ first
@@ -64,7 +64,7 @@ pub record IsWellFormedTable (t : WellFormedTable) : Type 0 where
 abbrev pub table_text : WellFormedTable → List ℕ
 table_text t = header_text t.head t.site t.first ++ flat_map record_text t.epochs
 
--- a value as the file shows it: none where none is written
+-- a value as the file shows it: no value if it is not written
 abbrev pub shown_value : Option ℤ → Option ℤ
 shown_value None = None
 shown_value (Some v) = if is_written v then Some v else None
@@ -87,7 +87,8 @@ shown_row r = record { satellite = r.satellite; observed = record { items = map 
 abbrev pub shown_epoch : EpochTableView → EpochTableView
 shown_epoch e = record { time = e.time; rows = map shown_row (filter has_line e.rows) }
 
--- the record of an epoch is that of the epoch as the file shows it, which is one of a well-formed table, unless it has no line
+-- the epoch as the file shows it has the same record; if it has a row, it is an epoch of a
+-- well-formed table, else the record is empty
 pub record IsShownByRecord (n : ℕ) (e : EpochTableView) : Type 0 where
   pub text : record_text (shown_epoch e) ≡ record_text e
   pub well_formed : (shown_epoch e).rows ≢ [] → IsTableEpoch n (shown_epoch e)
@@ -101,17 +102,17 @@ RecordsAreOfTables = (n : ℕ) (e : EpochTableView) → IsEpochTableView e → H
 abbrev pub with_record : List EpochTableView → List EpochTableView
 with_record epochs = filter (λ e. nat_lt 0 (length (record_text e))) epochs
 
--- the table of a header and of the epochs behind it: those that have a record, as the file shows them
+-- the table of a header and of the epochs after it that have a record, as the file shows them
 abbrev pub shown_table : HeadView → PositionView → ℕ → List EpochTableView → WellFormedTable
 shown_table h s first epochs = record { head = h; site = s; first = first; epochs = map shown_epoch (with_record epochs) }
 
--- a header and the records behind it are the text of a well-formed table
+-- a header and the records after it are the text of a well-formed table
 pub record IsShownByFile (h : HeadView) (s : PositionView) (first : ℕ) (epochs : List EpochTableView) : Type 0 where
   pub table : IsWellFormedTable (shown_table h s first epochs)
   pub text : header_text h s first ++ flat_map record_text epochs ≡ table_text (shown_table h s first epochs)
 
--- so it is for all rising epochs of good rows, with as many observations as codes, where the header's first time is
--- that of the first epoch with a record, if there is one
+-- so it is for all rising epochs of good rows, with as many observations as codes, if the first
+-- epoch with a record is at the header's first time
 abbrev pub FilesAreTables : Type 0
 FilesAreTables =
     (h : HeadView) (s : PositionView) (first : ℕ) (epochs : List EpochTableView) → IsHeadView h → IsPositionView s → IsMoment first

@@ -2,7 +2,7 @@
 
 use thiserror::Error;
 
-/// What is wrong with a line; the codes are those of the program's texts.
+/// What is wrong with a line. The program prints the same codes, `C1` to `C6`.
 #[derive(Clone, Copy, Debug, PartialEq, Eq, Error)]
 pub enum Cause {
     /// No header begins with the lines as far as this one.
@@ -14,7 +14,8 @@ pub enum Cause {
     /// An observation or its digits are not as they are written, or the satellite has none.
     #[error("C3 Value")]
     Value,
-    /// An epoch or a satellite is not greater than the one before, or the first epoch is not at the first time.
+    /// An epoch or a satellite is not greater than the one before, or the first epoch is not at the
+    /// first time.
     #[error("C4 Order")]
     Order,
     /// The text ends where a line is due, or the line has no LF.

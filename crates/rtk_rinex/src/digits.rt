@@ -1,8 +1,8 @@
 //! Columns of a text, and the numbers that they show, read without a test of their form.
 
 ghost use Rattle.std.specs.Prelude.{◌≡◌, ℕ, ◌+◌, ◌*◌, ◌^◌, ◌<◌, ◌≤◌, length, take, drop};
-ghost use Rattle.rtk_rinex.specs.Digits.{digits_from, has_minus, number_in};
-ghost use Rattle.rtk_rinex.specs.Digits as spec;
+ghost use Rattle.rtk_rinex.specs.Steps.Digits.{digits_from, has_minus, number_in};
+ghost use Rattle.rtk_rinex.specs.Steps.Digits as spec;
 
 /// The first bytes of a text: as many as `width`, or all if it has fewer.
 pub(crate) fn front(text: &[u8], width: usize) -> &[u8]
@@ -57,7 +57,7 @@ pub(crate) fn digits(text: &[u8]) -> u64
     value
 }
 
-#[tactic(auto, unfolding(crate::specs::Digits::has_minus))]
+#[tactic(auto, unfolding(crate::specs::Steps::Digits::has_minus))]
 fn contains_minus(text: &[u8]) -> bool
     ensures { result ≡ has_minus text.now }
 {

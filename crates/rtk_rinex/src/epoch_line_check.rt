@@ -4,7 +4,7 @@ ghost use Rattle.std.specs.Prelude.{◌≡◌, ◌≢◌, ℕ, ◌<◌, ◌≤�
 ghost use Rattle.std.specs.Int.{IsInRange};
 ghost use Rattle.rtk_rinex.specs.Reading.{IsMoment, reading_of};
 ghost use Rattle.rtk_rinex.specs.Record.{epoch_columns, epoch_line};
-ghost use Rattle.rtk_rinex.specs.CheckValues.{seconds_in, civil_in, count_in};
+ghost use Rattle.rtk_rinex.specs.Steps.CheckValues.{seconds_in, civil_in, count_in};
 
 use crate::digits::digits;
 use crate::record_text::put_epoch_line;
@@ -16,13 +16,13 @@ use std::alloc::AllocError;
 pub(crate) struct EpochStamp {
     /// The moment of the epoch.
     pub time: GpsMs,
-    /// The reading of this moment.
+    /// The date and time of this moment.
     pub reading: Civil,
     /// How many satellite lines follow, 1 to 32.
     pub count: usize,
 }
 
-// The reading that an epoch line shows, whose seconds were read.
+// The date and time that an epoch line shows; its seconds have been read before.
 fn reading_in(line: &[u8], seconds: u64) -> Civil
     requires line { length line.now ≡ 35 }
     requires seconds { seconds ≡ seconds_in line.now }
@@ -40,8 +40,8 @@ fn reading_in(line: &[u8], seconds: u64) -> Civil
     }
 }
 
-// What the columns of an epoch line show, read without a test of their form: if they are those of an
-// epoch line, it is that of this moment and this count.
+// The moment and count in the columns of an epoch line, read without a test of their form. If the
+// columns are an epoch line, they are the line of this moment and this count.
 fn stamp_in(columns: &[u8]) -> Option<EpochStamp>
     requires { length columns.now ≡ 35 }
     ensures { MatchOption result
@@ -68,7 +68,7 @@ fn stamp_in(columns: &[u8]) -> Option<EpochStamp>
     })
 }
 
-/// Are the bytes of a text from a place on these?
+/// Does a text have exactly the bytes `end` from the place `start` on?
 pub(crate) fn is_end_from(text: &[u8], start: usize, end: &[u8]) -> bool
     requires { start ≤ length text.now }
     ensures { IsTrue result ↔ (drop start text.now ≡ end.now) }
@@ -76,8 +76,8 @@ pub(crate) fn is_end_from(text: &[u8], start: usize, end: &[u8]) -> bool
     text.split_at(start).1 == end
 }
 
-/// The moment and count of an epoch line, which ends in LF; `None` exactly where it is no epoch line.
-/// An epoch line is appended to `out`.
+/// The moment and count of an epoch line, which ends in LF; `None` exactly if the line is no epoch
+/// line. An epoch line is appended to `out`.
 pub(crate) fn read_epoch_line(
     out: &mut Vec<u8>,
     line: &[u8],

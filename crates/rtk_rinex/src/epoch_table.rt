@@ -29,10 +29,10 @@ pub struct SatelliteRow {
     pub observed: ArrayVec<Observed, 16>,
 }
 
-/// An epoch with the rows of its satellites, rising; a contract sees its `Epoch`.
+/// An epoch with the rows of its satellites, rising; a contract sees its `EpochTableView`.
 ///
-/// The strengths are those of the messages: 250 to 63,750 thousandths of a dB-Hz in steps of 250.
-/// The places of the rows behind `count` keep what an earlier epoch left there, since a table is
+/// The strengths are values that a message can give: 250 to 63,750 thousandths of a dB-Hz in steps
+/// of 250. The rows after the first `count` keep what an earlier epoch left there, since a table is
 /// used for one epoch after another, and to blank its rows takes as long as to fill them.
 #[derive(Drop)]
 pub struct EpochTable {

@@ -25,7 +25,7 @@ pub enum HeadFault {
 }
 
 /// What is known of a file before its observations: the marker's name, the listed codes in their
-/// order, and the moment at which it is made, whose reading is taken as UTC.
+/// order, and the moment at which it is made, which the file shows as UTC.
 #[derive(Drop)]
 pub struct Head {
     marker: ArrayVec<u8, 60>,
@@ -94,7 +94,7 @@ fn is_code_list(listed: &[Code]) -> bool
 impl Head {
     ghost use Rattle.rtk_rinex.specs.HeadFault.{IsHeadFault};
 
-    /// The head of these parts, where they are good; else the first cause why there is none.
+    /// The head of these parts if they are good, else the first cause why they make no head.
     pub fn new(marker: &[u8], codes: &[Code], made: GpsMs) -> Result<Head, HeadFault>
         ensures head { IfOk result (λ h. h ≡ record { marker = marker.now; listed = codes.now; made = made }) }
         ensures good { IfOk result IsHeadView }

@@ -6,9 +6,10 @@ ghost use Rattle.rtk_obs.specs.PositionFields.{HasFields};
 ghost use Rattle.rtk_obs.specs.declared.code.Code.{Code};
 ghost use Rattle.rtk_rinex.specs.Columns.{right, fixed};
 ghost use Rattle.rtk_rinex.specs.Header.{header_line, made_text, first_text, IsMarker, PositionView, IsPositionView, HeadView, IsHeadView, position_view, header_text};
-ghost use Rattle.rtk_rinex.specs.Digits.{number_in};
-ghost use Rattle.rtk_rinex.specs.HeaderFault.{AreLines, IsWithoutHeader, IsFaultOfHeader, IsOnlyHeader};
-ghost use Rattle.rtk_rinex.specs.HeaderShown.{line_at, name_at, number_at, made_civil, first_civil, AreAllCodes};
+ghost use Rattle.rtk_rinex.specs.Steps.Digits.{number_in};
+ghost use Rattle.rtk_rinex.specs.HeaderFault.{AreLines, IsFaultOfHeader};
+ghost use Rattle.rtk_rinex.specs.Steps.HeaderRead.{IsWithoutHeader, IsOnlyHeader};
+ghost use Rattle.rtk_rinex.specs.Steps.HeaderShown.{line_at, name_at, number_at, made_civil, first_civil, AreAllCodes};
 ghost use Rattle.rtk_rinex.specs.Lines.{HasNoEnd, IsLine};
 ghost use Rattle.rtk_rinex.specs.Reading.{IsMoment, reading_of};
 ghost use Rattle.std.specs.Int.{IsInRange};
@@ -40,7 +41,7 @@ const ALL: [Code; 16] = [
     Code::C5X,
 ];
 
-// The first moment, where a line shows none.
+// The first moment, which stands for the moment of a line that shows no moment.
 fn first_moment() -> GpsMs
     ensures { result ≡ 0 }
 {
@@ -89,7 +90,7 @@ fn read_marker(line: &[u8]) -> &[u8]
     marker
 }
 
-// The position of the numbers in the line of coordinates, where these fit.
+// The position that the line of coordinates shows, if its numbers are in range.
 fn position_in(line: &[u8], height: u16) -> Option<Position>
     ensures { MatchOption result
         (¬ (AreCoordinates (number_in (take 14 (drop 0 line.now))) (number_in (take 14 (drop 14 line.now))) (number_in (take 14 (drop 28 line.now)))))
@@ -144,7 +145,7 @@ fn read_code_count(line: &[u8]) -> usize
     count
 }
 
-// The line of a text behind so many lines of 81 bytes.
+// The line of a text that follows this number of lines of 81 bytes.
 fn text_line(text: &[u8], lines: usize) -> &[u8]
     requires { 81 * lines < 2 ^ 64 }
     ensures { result.now ≡ line_at lines text.now }
@@ -152,7 +153,7 @@ fn text_line(text: &[u8], lines: usize) -> &[u8]
     columns(text, 81 * lines, 81)
 }
 
-// The name that the code behind so many codes is shown with.
+// The name of a code in the lines of observation types, before which `before` codes stand.
 fn read_name(text: &[u8], before: usize) -> &[u8]
     requires { before < 16 }
     ensures { result.now ≡ name_at before text.now }
@@ -164,7 +165,7 @@ fn read_name(text: &[u8], before: usize) -> &[u8]
     )
 }
 
-// Where a code stands in a list of all codes.
+// The place of a code in a list of all codes.
 fn place_in(all: &[Code; 16], code: Code) -> Option<usize>
     ensures { MatchOption result ((k : ℕ) → k < 16 → slice_index_or all.now k code ≢ code) (λ k. (k < 16) × (slice_index_or all.now k code ≡ code)) }
 {
@@ -176,7 +177,7 @@ fn place_in(all: &[Code; 16], code: Code) -> Option<usize>
     None
 }
 
-// Exchanges a code with the one at this place, unless it stands before it.
+// Moves a code to this place by an exchange, unless it stands there or earlier already.
 fn move_code(all: &mut [Code; 16], code: Code, place: usize)
     requires place { place < 16 }
     requires all { AreAllCodes all.old }
@@ -191,7 +192,7 @@ fn move_code(all: &mut [Code; 16], code: Code, place: usize)
     }
 }
 
-// The same for the code of a name.
+// Moves the code with this name to this place, as `move_code` does; no code has the name: no move.
 fn move_named_code(all: &mut [Code; 16], name: &[u8], place: usize)
     requires place { place < 16 }
     requires all { AreAllCodes all.old }
@@ -205,8 +206,8 @@ fn move_named_code(all: &mut [Code; 16], name: &[u8], place: usize)
     }
 }
 
-// All codes, of which those come first that a text shows as far as they are good: those of any header
-// that shows the same names.
+// All codes in an order that begins with the codes that the text names, as long as they are good.
+// A header that shows the same names lists these codes.
 fn read_codes(text: &[u8]) -> [Code; 16]
     ensures all { AreAllCodes result }
     ensures shown { (listed : List Code) (i : ℕ) (d : Code) → AllPairs (λ a b. a ≢ b) listed → i < length listed → i < 16
@@ -219,7 +220,7 @@ fn read_codes(text: &[u8]) -> [Code; 16]
     all
 }
 
-// The reading in the line of the first observation, whose seconds were read.
+// The date and time in the line of the first observation; its seconds have been read before.
 fn first_reading(line: &[u8], seconds: u64) -> Civil
     requires seconds { seconds ≡ number_at 30 13 line.now }
     requires minute { seconds < 600_000_000 }
@@ -250,7 +251,7 @@ fn read_first(line: &[u8]) -> GpsMs
     time
 }
 
-/// What a header tells, and where it ends.
+/// The parts of a header, and its length.
 #[derive(Drop)]
 pub(crate) struct HeaderRead {
     /// The marker's name, the codes and the moment at which the file was made.
@@ -265,7 +266,8 @@ pub(crate) struct HeaderRead {
     pub used: usize,
 }
 
-// What the lines of a text show, where they are those of a header; good parts in any case.
+// The parts that the lines of a text show. They are good parts in any case; if the text begins with
+// a header, they are the parts of this header.
 fn shown(text: &[u8]) -> HeaderRead
     ensures only { IsOnlyHeader text.now result.head (position_view result.position) result.first }
     ensures good { IsHeadView result.head × IsPositionView (position_view result.position) × IsMoment result.first }
@@ -315,7 +317,7 @@ fn unlike_line(header: &[u8], text: &[u8]) -> Option<usize>
     None
 }
 
-/// Where the LF stands that ends the first line of a text, if there is one.
+/// The place of the LF that ends the first line of a text, if one does.
 pub(crate) fn line_end(text: &[u8]) -> Option<usize>
     ensures parts { MatchOption result (HasNoEnd text.now) (λ n. HasNoEnd (take n text.now) × (text.now ≡ take n text.now ++ 10 ∷ drop (n + 1) text.now)) }
     ensures line { MatchOption result (HasNoEnd text.now) (λ n. (n < length text.now) × IsLine (take (n + 1) text.now)) }
@@ -328,7 +330,7 @@ pub(crate) fn line_end(text: &[u8]) -> Option<usize>
     None
 }
 
-/// What the header at the front of a text tells; else its first line that is wrong. The header is
+/// The parts of the header with which a text begins, else its first wrong line. The header is
 /// appended to `out`.
 pub(crate) fn check_header(out: &mut Vec<u8>, text: &[u8]) -> Result<HeaderRead, CheckFault>
     ensures good { IfOk result (λ r. IsHeadView r.head × IsPositionView (position_view r.position) × IsMoment r.first) }

@@ -19,7 +19,7 @@ const TYPES: &[u8] = b"SYS / # / OBS TYPES";
 /// The bytes of the longest header: 17 lines of 81 bytes, four of them with observation types.
 pub(crate) const LONGEST_HEADER: usize = 1377;
 
-// Appends a text at the left end of that many columns.
+// Appends a text and blanks after it, `width` columns in all.
 fn put_left(out: &mut Vec<u8>, text: &[u8], width: usize) -> Result<(), AllocError>
     requires room { length text.now ≤ width }
     requires small { width ≤ 80 }
@@ -166,7 +166,7 @@ fn continuation_content(text: &[u8]) -> ArrayVec<u8, 60>
     content
 }
 
-// A further line of types, where any are left.
+// A further line of types, if any types are left.
 fn put_continuation_line(out: &mut Vec<u8>, text: &[u8]) -> Result<(), AllocError>
     ensures { OnOk result (out.new.items ≡ out.old.items ++ continuation_line text.now) }
 {
@@ -241,8 +241,8 @@ pub(crate) fn put_header(
 
 /// The header of a file of this head, whose first observation is at `first`.
 ///
-/// The position is that of the antenna reference point, and its height that of the antenna. Memory
-/// is taken once. Source: RINEX 3.05, Table A2.
+/// The position is the antenna reference point, and its height is the antenna's height above it.
+/// Memory is taken once. Source: RINEX 3.05, Table A2.
 pub fn header(
     alloc: Global,
     head: &Head,

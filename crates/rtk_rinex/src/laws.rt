@@ -3,19 +3,19 @@
 ghost use Rattle.rtk_rinex.specs.CheckTable.{OneFault, FaultMeansNoTable};
 ghost use Rattle.rtk_rinex.specs.Table.{RecordsAreOfTables, FilesAreTables};
 
-/// The record of an epoch has no bytes, or is that of an epoch of a well-formed table.
+/// The record of an epoch has no bytes, or it is the record of an epoch of a well-formed table.
 pub fn records_are_of_tables()
     ensures { RecordsAreOfTables }
 {}
 
-/// A header and records behind it are the text of a well-formed table: of its epochs with a record,
-/// where the header's first time is that of the first of them.
+/// A header and the records after it are the text of a well-formed table. Its epochs are those
+/// epochs that have a record, and the first of them is at the header's first time.
 pub fn files_are_tables()
     ensures { FilesAreTables }
 {}
 
-/// A text has one fault at most, the same line and cause, and with it is that of no well-formed table.
-/// Of the want of memory nothing is said.
+/// Two faults of one text are the same line and the same cause, and a text with a fault is the text
+/// of no well-formed table. Faults of missing memory are left out here.
 pub fn one_fault()
     ensures one { OneFault }
     ensures table { FaultMeansNoTable }

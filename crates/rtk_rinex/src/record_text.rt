@@ -83,7 +83,7 @@ fn put_observations(out: &mut Vec<u8>, observed: &Observed) -> Result<(), AllocE
     put_observation(out, strength, b' ', b' ')
 }
 
-/// How many bytes are left without the blanks at the end.
+/// The number of bytes before the blanks at the end.
 pub(crate) fn trimmed_len(bytes: &[u8]) -> usize
     ensures within { result ≤ length bytes.now }
     ensures value { take result bytes.now ≡ trim_end bytes.now }
@@ -166,7 +166,7 @@ fn epoch_date(time: Civil) -> [u8; 18]
     field
 }
 
-/// Appends the epoch line of a reading and a count of satellites.
+/// Appends the epoch line of a date and time and a count of satellites.
 pub(crate) fn put_epoch_line(out: &mut Vec<u8>, time: Civil, count: usize) -> Result<(), AllocError>
     requires second { time.second < 60 }
     requires millisecond { time.millisecond < 1000 }
@@ -193,9 +193,9 @@ fn put_satellite_lines(out: &mut Vec<u8>, rows: &[SatelliteRow]) -> Result<(), A
     Ok(())
 }
 
-/// The record of an epoch, in a file of this head; no bytes where no observation is written.
+/// The record of an epoch, in a file of this head; no bytes if no observation is written.
 ///
-/// The satellites without a written observation are left out, also of the count on the epoch line.
+/// Satellites without a written observation are left out, and not counted on the epoch line.
 /// Memory is taken at most once. Source: RINEX 3.05, Table A3.
 pub fn record(alloc: Global, head: &Head, table: &EpochTable) -> Result<Vec<u8>, AllocError>
     requires { HasWidth (length head.now.listed) table.now.rows }

@@ -1,7 +1,8 @@
 //! The check of the lines that follow the header, line by line.
 
 ghost use Rattle.rtk_rinex.specs.CheckLine.{IsEpochLine, IsNextTime, IsEpochFault, IsSatelliteForm, IsNextSatellite, IsSatelliteFault};
-ghost use Rattle.rtk_rinex.specs.CheckText.{ReadsRows, ReadsRecord, ReadsRecords, IsFaultOfRows, IsFaultOfRecord, IsFaultOfRecords};
+ghost use Rattle.rtk_rinex.specs.CheckText.{IsFaultOfRows, IsFaultOfRecord, IsFaultOfRecords};
+ghost use Rattle.rtk_rinex.specs.Steps.ReadRecords.{ReadsRows, ReadsRecord, ReadsRecords};
 ghost use Rattle.rtk_rinex.specs.Columns.{last_digits};
 ghost use Rattle.rtk_rinex.specs.Lines.{HasNoEnd, IsLine};
 ghost use Rattle.rtk_rinex.specs.Record.{satellite_line};
@@ -27,8 +28,8 @@ fn is_next_time(first: GpsMs, last: Option<GpsMs>, time: GpsMs) -> bool
     }
 }
 
-// The moment and count of an epoch line behind the epoch `last`, in a file of this first time; else what
-// is wrong with it. The line is appended to `out`.
+// The moment and count of an epoch line that follows the epoch `last`, in a file of this first
+// time; else the cause of its fault. The line is appended to `out`.
 fn check_epoch_line(
     out: &mut Vec<u8>,
     line: &[u8],
@@ -93,8 +94,8 @@ fn is_next_satellite(last: Option<u8>, satellite: u8) -> bool
     }
 }
 
-// The row of a satellite line behind that of the satellite `last`, in a file of so many codes; else what
-// is wrong with it. The line is appended to `out`.
+// The row of a satellite line that follows the line of the satellite `last`, in a file of `width`
+// codes; else the cause of its fault. The line is appended to `out`.
 fn check_satellite_line(
     out: &mut Vec<u8>,
     line: &[u8],
@@ -129,7 +130,7 @@ pub(crate) struct RecordCounts {
     pub satellites: usize,
 }
 
-// The first line of a text with its LF, and what stands behind it; `None` where no line ends.
+// The first line of a text with its LF, and the text after it; `None` if no LF ends the line.
 fn next_line(text: &[u8]) -> Option<(&[u8], &[u8])>
     ensures { MatchOption result
         (HasNoEnd text.now)
@@ -139,7 +140,8 @@ fn next_line(text: &[u8]) -> Option<(&[u8], &[u8])>
     Some(text.split_at(end + 1))
 }
 
-// Reads so many satellite lines behind so many lines of the file, and gives what stands behind them.
+// Reads `count` satellite lines after the first `lines` lines of the file, and returns the text
+// after them.
 fn check_satellites<'a>(
     out: &mut Vec<u8>,
     text: &'a [u8],
@@ -158,7 +160,7 @@ fn check_satellites<'a>(
     let mut last = None;
     for k in 0..count {
         let line = lines + k + 1;
-        let Some((satellite_line, behind)) = next_line(rest) else {
+        let Some((satellite_line, after)) = next_line(rest) else {
             return Err(CheckFault {
                 line,
                 cause: Cause::Truncated,
@@ -168,12 +170,13 @@ fn check_satellites<'a>(
             Ok(row) => last = Some(row.satellite),
             Err(cause) => return Err(CheckFault { line, cause }),
         }
-        rest = behind;
+        rest = after;
     }
     Ok(rest)
 }
 
-// Reads a record behind so many lines of the file and behind the epoch `last`, and gives what stands behind it.
+// Reads a record after the first `lines` lines of the file and after the epoch `last`, and returns
+// the text after the record.
 fn check_record<'a>(
     out: &mut Vec<u8>,
     text: &'a [u8],
@@ -191,7 +194,7 @@ fn check_record<'a>(
     ensures fault { IfErr result (IsFaultOfRecord width first last lines text.now) }
 {
     let line = lines + 1;
-    let Some((epoch_line, behind)) = next_line(text) else {
+    let Some((epoch_line, after)) = next_line(text) else {
         return Err(CheckFault {
             line,
             cause: Cause::Truncated,
@@ -201,11 +204,11 @@ fn check_record<'a>(
         Ok(stamp) => stamp,
         Err(cause) => return Err(CheckFault { line, cause }),
     };
-    let rest = check_satellites(out, behind, line, width, stamp.count)?;
+    let rest = check_satellites(out, after, line, width, stamp.count)?;
     Ok((stamp, rest))
 }
 
-/// Reads the records of a file of so many codes and this first time, behind so many lines of it.
+/// Reads the records of a file of `width` codes and this first time, after its first `lines` lines.
 /// They are appended to `out`.
 pub(crate) fn check_records(
     out: &mut Vec<u8>,
@@ -227,7 +230,7 @@ pub(crate) fn check_records(
         satellites: 0,
     };
     while rest.len() > 0 {
-        let (stamp, behind) = match check_record(out, rest, line, width, first, last) {
+        let (stamp, after) = match check_record(out, rest, line, width, first, last) {
             Ok(read) => read,
             Err(fault) => return Err(fault),
         };
@@ -235,7 +238,7 @@ pub(crate) fn check_records(
         last = Some(stamp.time);
         counts.epochs += 1;
         counts.satellites += stamp.count;
-        rest = behind;
+        rest = after;
     }
     Ok(counts)
 }

@@ -4,7 +4,7 @@ ghost use Rattle.std.specs.Prelude.{◌≡◌, ◌≢◌, ℕ, ◌+◌, ◌*◌,
 ghost use Rattle.rtk_rinex.specs.Columns.{left};
 ghost use Rattle.rtk_rinex.specs.Record.{IsStrengthOrNone, satellite_line};
 ghost use Rattle.rtk_rinex.specs.Table.{IsAbsentOrWritten, IsLock, IsObserved, IsTableRow};
-ghost use Rattle.rtk_rinex.specs.CheckValues.{is_blank, value_in, strength_in, slip_in, half_in, observed_in, observations_in, row_in};
+ghost use Rattle.rtk_rinex.specs.Steps.CheckValues.{is_blank, value_in, strength_in, slip_in, half_in, observed_in, observations_in, row_in};
 
 use crate::columns::add;
 use crate::digits::{digits, number};
@@ -84,7 +84,7 @@ fn is_table_row(row: &SatelliteRow, width: usize) -> bool
         && is_shown(row)
 }
 
-#[tactic(auto, unfolding(crate::specs::CheckValues::is_blank))]
+#[tactic(auto, unfolding(crate::specs::Steps::CheckValues::is_blank))]
 fn contains_only_blanks(text: &[u8]) -> bool
     ensures { result ≡ is_blank text.now }
 {
@@ -161,7 +161,7 @@ fn observed(columns: &[u8]) -> Observed
     }
 }
 
-// The columns of a line, with blanks behind them.
+// The columns of a line, and blanks after them up to the longest line.
 fn padded(line: &[u8]) -> ArrayVec<u8, LONGEST_LINE>
     requires { length line.now ≤ 771 }
     ensures value { result.items ≡ left 771 line.now }
@@ -174,7 +174,7 @@ fn padded(line: &[u8]) -> ArrayVec<u8, LONGEST_LINE>
     columns
 }
 
-// What the codes of a line show, of its columns behind the satellite.
+// What the codes of a satellite line show in the columns after the satellite.
 fn cells_in(columns: &[u8], width: usize) -> ArrayVec<Observed, 16>
     requires width { width ≤ 16 }
     requires columns { length columns.now ≡ 768 }
@@ -187,7 +187,7 @@ fn cells_in(columns: &[u8], width: usize) -> ArrayVec<Observed, 16>
     cells
 }
 
-// What a satellite line of so many codes shows, read without a test of its form.
+// What a satellite line of `width` codes shows, read without a test of its form.
 fn row_shown(line: &[u8], width: usize) -> SatelliteRow
     requires width { width ≤ 16 }
     requires line { length line.now ≤ 771 }
@@ -201,8 +201,8 @@ fn row_shown(line: &[u8], width: usize) -> SatelliteRow
     }
 }
 
-/// The row of a satellite line of a file with so many codes, which ends in LF; `None` exactly where it is
-/// no such line. A satellite line is appended to `out`.
+/// The row of a satellite line, which ends in LF, of a file with `width` codes; `None` exactly if
+/// the line is no such line. A satellite line is appended to `out`.
 pub(crate) fn read_satellite_line(
     out: &mut Vec<u8>,
     line: &[u8],

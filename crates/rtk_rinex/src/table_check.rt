@@ -1,4 +1,4 @@
-//! The check of a whole text, and the table that it is the text of.
+//! The check of a whole text, and the table whose text it is.
 
 ghost use Rattle.rtk_rinex.specs.CheckTable.{IsTableView, HoldsTable, IsFault, IsWithoutTable};
 ghost use Rattle.std.specs.Prelude.{◌≡◌, ◌≢◌, [], IfOk, IfErr};
@@ -31,7 +31,7 @@ impl Model for Table {
 impl Table {
     ghost use Rattle.rtk_rinex.specs.CheckTable.{TableView, HoldsTable};
 
-    // The table whose text this is.
+    /// The table whose text this is.
     pub(crate) fn of_text(text: Vec<u8>, counts: RecordCounts) -> Table
         requires table { HoldsTable text.items counts.epochs counts.satellites }
         ensures { result ≡ record { text = text.items; epochs = counts.epochs; satellites = counts.satellites } }
@@ -82,7 +82,7 @@ fn room_for(alloc: Global, bytes: &[u8]) -> Result<Vec<u8>, CheckFault>
     }
 }
 
-/// The table of a text, if it is that of a well-formed table; else the first line that is wrong.
+/// The table whose text this is if it is well formed, else the first line that is wrong.
 pub fn check(alloc: Global, bytes: &[u8]) -> Result<Table, CheckFault>
     ensures text { IfOk result (λ t. t.text ≡ bytes.now) }
     ensures table { IfOk result (λ t. HoldsTable bytes.now t.epochs t.satellites) }

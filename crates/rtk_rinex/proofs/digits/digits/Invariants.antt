@@ -1,5 +1,5 @@
 use Rattle.std.proofs.Common.{◌≡◌, ◌<◌, ◌^◌, take}
-use Rattle.rtk_rinex.specs.Digits.{digits_from}
+use Rattle.rtk_rinex.specs.Steps.Digits.{digits_from}
 use Rattle.rtk_rinex.proofs.digits.digits.Given as goal
 
 abbrev pub invariant-loop-byte : goal.invariant-loop-byte

@@ -1,7 +1,7 @@
 use Rattle.std.proofs.Common.{◌≡◌, ◌≢◌, ℕ, ◌<◌, ◌≤◌, List, length, AllPairs, slice_index_or}
 use Rattle.rtk_obs.specs.Code.{name_of}
 use Rattle.rtk_obs.specs.declared.code.Code.{Code}
-use Rattle.rtk_rinex.specs.HeaderShown.{name_at, AreAllCodes}
+use Rattle.rtk_rinex.specs.Steps.HeaderShown.{name_at, AreAllCodes}
 use Rattle.rtk_rinex.proofs.header_check.read_codes.Given as goal
 
 abbrev pub invariant-loop-i : goal.invariant-loop-i

@@ -21,6 +21,6 @@ returns-clause-record c =
       };
       next = is.1;
       count = r.count;
-      text = record-is c.args.text.now c.in-Some.epoch_line.now c.in-Some.behind.now (reading_of stamp.time) r.rows stamp.count c.in_ok-rest.rest.now _ line.1 is.0.2 r.text r.count whole;
+      text = record-is c.args.text.now c.in-Some.epoch_line.now c.in-Some.after.now (reading_of stamp.time) r.rows stamp.count c.in_ok-rest.rest.now _ line.1 is.0.2 r.text r.count whole;
       out = record-out c.args.out.now.items c.check_epoch_line.new.out.items c.check_satellites.new.out.items c.in-Some.epoch_line.now (reading_of stamp.time) r.rows stamp.count _ c.in-Ok.ensures.out is.0.2 r.out r.count whole;
     }

@@ -26,7 +26,7 @@ returns-in-Err-clause-fault c =
       due = omega (arith, r.count);
       text = r.text;
       line = omega (arith, r.count);
-      cause = satellite-fault c.args.width (last_satellite None r.rows) c.loop-k.rest.now c.in-Some.satellite_line.now c.in-Some.behind.now c.in-Err.cause line.0 line.1 fault;
+      cause = satellite-fault c.args.width (last_satellite None r.rows) c.loop-k.rest.now c.in-Some.satellite_line.now c.in-Some.after.now c.in-Err.cause line.0 line.1 fault;
     }
 
 pub loop-k-preserved : goal.loop-k-preserved
@@ -41,7 +41,7 @@ loop-k-preserved c =
         rows = r.rows ++ row ∷ [];
         are_rows = rows-more c.args.width None r.rows row r.are_rows is.0 next;
         count = simp length-append (omega (arith, r.count));
-        text = text-more satellite_line r.rows row c.args.text.now l.rest.now c.in-Some.satellite_line.now c.in-Some.behind.now r.text line.1 is.1;
+        text = text-more satellite_line r.rows row c.args.text.now l.rest.now c.in-Some.satellite_line.now c.in-Some.after.now r.text line.1 is.1;
         out = out-more satellite_line r.rows row c.args.out.now.items l.out.items c.check_satellite_line.new.out.items c.in-Some.satellite_line.now r.out c.in-Ok.ensures.out is.1;
       },
       sym (last_satellite-more None r.rows row),

@@ -1,5 +1,6 @@
 use Rattle.std.proofs.Common.{◌≡◌, ◌+◌, ◌≤◌, length, None}
-use Rattle.rtk_rinex.specs.CheckText.{ReadsRows, last_satellite}
+use Rattle.rtk_rinex.specs.CheckText.{last_satellite}
+use Rattle.rtk_rinex.specs.Steps.ReadRecords.{ReadsRows}
 use Rattle.rtk_rinex.proofs.records_check.check_satellites.Given as goal
 
 abbrev pub invariant-loop-k : goal.invariant-loop-k

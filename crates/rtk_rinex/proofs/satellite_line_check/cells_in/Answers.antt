@@ -1,5 +1,5 @@
 use Rattle.std.proofs.Common.{◌≡◌, ◌∙◌, ◌+◌, ◌-◌, ◌*◌, ℕ, suc, ap, arith}
-use Rattle.rtk_rinex.specs.CheckValues.{observations_in}
+use Rattle.rtk_rinex.specs.Steps.CheckValues.{observations_in}
 use Rattle.rtk_rinex.proofs.satellite_line_check.cells_in.Goals as goal
 
 pub loop-k-preserved : goal.loop-k-preserved

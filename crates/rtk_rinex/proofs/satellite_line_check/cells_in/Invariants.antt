@@ -1,5 +1,5 @@
 use Rattle.std.proofs.Common.{◌≡◌, length}
-use Rattle.rtk_rinex.specs.CheckValues.{observations_in}
+use Rattle.rtk_rinex.specs.Steps.CheckValues.{observations_in}
 use Rattle.rtk_rinex.proofs.satellite_line_check.cells_in.Given as goal
 
 abbrev pub invariant-loop-k : goal.invariant-loop-k

@@ -1,5 +1,5 @@
 use Rattle.std.proofs.Common.{◌≡◌, true, take}
-use Rattle.rtk_rinex.specs.CheckValues.{is_blank}
+use Rattle.rtk_rinex.specs.Steps.CheckValues.{is_blank}
 use Rattle.rtk_rinex.proofs.satellite_line_check.contains_only_blanks.Given as goal
 
 abbrev pub invariant-loop-byte : goal.invariant-loop-byte

@@ -1,6 +1,6 @@
 use Rattle.std.proofs.Common.{◌≡◌, ◌∙◌, arith, sym, ap, drop, length}
 use Rattle.rtk_rinex.specs.Record.{satellite_line}
-use Rattle.rtk_rinex.specs.CheckValues.{row_in}
+use Rattle.rtk_rinex.specs.Steps.CheckValues.{row_in}
 use Rattle.rtk_rinex.proofs.ValuesLemmas.{clash}
 use Rattle.rtk_rinex.proofs.EpochLemmas.{appended}
 use Rattle.rtk_rinex.proofs.RowLemmas.{row-shows}

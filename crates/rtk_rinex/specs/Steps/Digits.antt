@@ -1,4 +1,5 @@
--- The number that columns show, whatever stands in them. It counts only once its own text equals those columns.
+-- The number that columns show, whatever stands in them. It counts only once its own text equals
+-- those columns.
 use Rattle.std.specs.Prelude.{ℕ, ◌+◌, ◌-◌, ◌*◌, nat_le, ◌==◌, Bool, ◌&&◌, if◌then◌else◌, List, [], ◌∷◌, ℤ, pos, neg_ℤ}
 use Rattle.std.specs.List.{list_any}
 
@@ -14,6 +15,6 @@ digits_from a (x ∷ xs) = digits_from (with_digit a x) xs
 unfoldable pub has_minus : List ℕ → Bool
 has_minus = list_any (λ x. x == 45)
 
--- the number that the digits of a text write, negative where it has a minus sign
+-- the number that the digits of a text write, negative if it has a minus sign
 abbrev pub number_in : List ℕ → ℤ
 number_in text = if has_minus text then neg_ℤ (pos (digits_from 0 text)) else pos (digits_from 0 text)

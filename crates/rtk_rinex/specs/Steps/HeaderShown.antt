@@ -1,15 +1,16 @@
--- Where a header shows what: its lines have 81 bytes each, and 13 observation types stand on a line. What columns show is
--- only compared by writing it again.
+-- The places of the parts of a header: its lines have 81 bytes each, and 13 observation types stand
+-- on a line. What columns show counts only once its own text equals those columns.
 use Rattle.std.specs.Prelude.{◌≡◌, ◌≢◌, ℕ, ◌+◌, ◌*◌, ◌/◌, ◌%◌, List, length, take, drop, AllPairs, Contains}
 use Rattle.rtk_obs.specs.declared.code.Code.{Code}
 use Rattle.rtk_obs.specs.declared.time.Civil.{Civil}
-use Rattle.rtk_rinex.specs.Digits.{digits_from}
+use Rattle.rtk_rinex.specs.Steps.Digits.{digits_from}
 
--- the line behind k lines of 81 bytes
+-- the line after k lines of 81 bytes
 abbrev pub line_at : ℕ → List ℕ → List ℕ
 line_at k text = take 81 (drop (81 * k) text)
 
--- the name of the code behind i codes: of their three types each, that of its pseudorange; the first is on the tenth line
+-- the name of the code after i codes, read from its type of pseudorange; each code has three types,
+-- and the first type is on the tenth line
 abbrev pub name_at : ℕ → List ℕ → List ℕ
 name_at i text = take 2 (drop (8 + 4 * (3 * i % 13)) (line_at (9 + 3 * i / 13) text))
 
@@ -17,7 +18,7 @@ name_at i text = take 2 (drop (8 + 4 * (3 * i % 13)) (line_at (9 + 3 * i / 13) t
 abbrev pub number_at : ℕ → ℕ → List ℕ → ℕ
 number_at from width line = digits_from 0 (take width (drop from line))
 
--- the reading in the line of the moment at which the file is made
+-- the date and time in the line of the moment at which the file is made
 abbrev pub made_civil : List ℕ → Civil
 made_civil line =
     record {
@@ -30,7 +31,7 @@ made_civil line =
       millisecond = 0;
     }
 
--- the reading in the line of the first observation, whose seconds are F13.7
+-- the date and time in the line of the first observation, whose seconds are F13.7
 abbrev pub first_civil : List ℕ → Civil
 first_civil line =
     record {

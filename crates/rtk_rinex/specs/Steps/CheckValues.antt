@@ -1,31 +1,32 @@
--- What the columns of a field show, whatever stands in them; they are only compared with the text of what they show.
+-- What the columns of a field show, whatever stands in them. It counts only once its own text
+-- equals those columns.
 use Rattle.std.specs.Prelude.{ℕ, zero, suc, ◌++◌, ◌+◌, ◌-◌, ◌*◌, ◌/◌, ◌%◌, nat_le, ◌==◌, Bool, false, ◌&&◌, ◌||◌, if◌then◌else◌, List, [], ◌∷◌, take, drop, replicate, ℤ, pos, neg_ℤ, unsigned_abs, Option, Some, None}
 use Rattle.std.specs.List.{list_any, list_all}
 use Rattle.rtk_obs.specs.declared.time.Civil.{Civil}
 use Rattle.rtk_rinex.specs.Columns.{fixed, left}
-use Rattle.rtk_rinex.specs.Digits.{digits_from, number_in}
+use Rattle.rtk_rinex.specs.Steps.Digits.{digits_from, number_in}
 use Rattle.rtk_rinex.specs.declared.epoch_table.Observed.{Observed}
 use Rattle.rtk_rinex.specs.declared.epoch_table.SatelliteRow.{SatelliteRow}
 
 unfoldable pub is_blank : List ℕ → Bool
 is_blank = list_all (λ x. x == 32)
 
--- the value that 14 columns show, or none where they are blank
+-- the value that 14 columns show; no value if they are blank
 abbrev pub value_in : List ℕ → Option ℤ
 value_in field = if is_blank field then None else Some (number_in field)
 
--- F14.3 of a value, or 14 blanks where there is none
+-- F14.3 of a value, or 14 blanks without a value
 abbrev pub value_text : Option ℤ → List ℕ
 value_text None = replicate 14 32
 value_text (Some v) = fixed 3 14 v
 
--- a strength, where there is one that a message can give
+-- the value as a strength, if it is in the range of a message's strengths
 abbrev pub strength_in : Option ℤ → Option ℕ
 strength_in None = None
 strength_in (Some v) =
     if nat_le 250 (unsigned_abs v) && nat_le (unsigned_abs v) 63_750 then Some (unsigned_abs v) else None
 
--- the marks of a loss-of-lock digit, which begins a text
+-- the marks of the loss-of-lock digit that begins a text
 abbrev pub slip_in : List ℕ → Bool
 slip_in [] = false
 slip_in (x ∷ xs) = (x == 49) || (x == 51)
@@ -49,7 +50,7 @@ observed_in columns =
 abbrev pub seconds_in : List ℕ → ℕ
 seconds_in line = digits_from 0 (take 11 (drop 18 line))
 
--- the reading that an epoch line shows
+-- the date and time that an epoch line shows
 abbrev pub civil_in : List ℕ → Civil
 civil_in line =
     record {
@@ -66,12 +67,13 @@ civil_in line =
 abbrev pub count_in : List ℕ → ℕ
 count_in line = digits_from 0 (drop 32 line)
 
--- what n codes show, of the columns behind the satellite, 48 for each
+-- what n codes show in the columns after the satellite, 48 for each
 abbrev pub observations_in : ℕ → List ℕ → List Observed
 observations_in zero columns = []
 observations_in (suc n) columns = observations_in n columns ++ observed_in (take 48 (drop (48 * n) columns)) ∷ []
 
--- the row that a satellite line of n codes shows; behind it stand blanks, as far as the columns of 16 codes
+-- the row that a satellite line of n codes shows; blanks fill the line up to the columns of 16
+-- codes
 abbrev pub row_in : ℕ → List ℕ → SatelliteRow
 row_in n line =
     let columns = left 771 line in
