@@ -6,9 +6,9 @@ use Rattle.rtk_collect.specs.Arrival.{epoch_of, message_of}
 use Rattle.rtk_frame.specs.Stream.{with_more, TakesPart}
 use Rattle.rtk_convert.specs.declared.fault.ConvertFault.TheVariants.{Write}
 use Rattle.rtk_convert.specs.declared.fault.Stream.TheVariants.{Out}
-use Rattle.rtk_convert.specs.Failure.{IsOutFault}
-use Rattle.rtk_convert.specs.AddedMessage.{closed_by, AddsMessage, AddsMessageInPart}
-use Rattle.rtk_convert.specs.Report.{offer_lines}
+use Rattle.rtk_convert.specs.Steps.Faults.{IsOutFault}
+use Rattle.rtk_convert.specs.Steps.AddedMessage.{closed_by, AddsMessage, AddsMessageInPart}
+use Rattle.rtk_convert.specs.Steps.OfferLines.{offer_lines}
 use Rattle.rtk_convert.specs.Conversion.{ConversionView, IsAhead}
 use Rattle.rtk_convert.proofs.AheadLemmas.{ahead-stays, ahead-closes, ahead-after}
 use Rattle.rtk_convert.proofs.ArriveLemmas.{state, takes-none-closed, takes-some-closed, part-nothing, part-record, part-lines}
