@@ -10,7 +10,7 @@ use Rattle.rtk_collect.specs.Accepted.{closed}
 use Rattle.rtk_collect.specs.Answer.{Class, class_of, conflicts_of, IsRightAnswer}
 use Rattle.rtk_convert.specs.declared.frame_class.FrameClass.TheVariants.{Dated}
 use Rattle.rtk_convert.specs.Report.{class_lines, frame_lines, cell_lines, conflict_lines}
-use Rattle.rtk_convert.specs.Steps.OfferLines.{class_of_offer, conflicts_in, offer_lines}
+use Rattle.rtk_convert.specs.Steps.OfferLines.{class_of_offer, offer_lines}
 use Rattle.rtk_convert.specs.Steps.AddedMessage.{closed_by}
 
 -- ---- lines and counts

@@ -1,6 +1,6 @@
 -- What a function that writes answers if it hands an error on.
-use Rattle.std.proofs.Common.{◌≡◌, ◌≢◌, ℕ, Result, Ok, Err, refl, sym, ◌∙◌}
-use Rattle.std.specs.Prelude.{OnErr, IfErr, IsErrOf}
+use Rattle.std.proofs.Common.{◌≡◌, ℕ, Result, Ok, Err, refl}
+use Rattle.std.specs.Prelude.{IfErr}
 use Rattle.rtk_convert.specs.declared.fault.ConvertFault.{ConvertFault}
 use Rattle.rtk_convert.specs.declared.fault.ConvertFault.TheVariants.{Setup, NoLink, LinkClosed, OutOfMemory, Write, Read, Endless, Stopped}
 use Rattle.rtk_convert.specs.declared.fault.Stream.TheVariants.{Out, Log}

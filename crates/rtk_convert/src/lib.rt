@@ -1,4 +1,21 @@
 //! From 1 to 16 links to one RINEX file and a report: a run reads the links and writes both.
+//!
+//! A capture in memory becomes a file and a report in memory, with `alloc: Global` and
+//! `capture: &[u8]` at hand:
+//!
+//! ```rust
+//! let Some(noon) = GpsMs::new(1_399_982_400_000) else { return };
+//! let Ok(head) = Head::new(b"BASE", &[Code::C1C, Code::C2W], noon) else { return };
+//! let Ok(setup) = Setup::new(2003, noon, head, 64) else { return };
+//! let Ok(mut converter) = Converter::new(alloc, setup, 1) else { return };
+//! let Ok(mut file) = MemSink::new(alloc, 65_536, 4_096) else { return };
+//! let Ok(mut report) = MemSink::new(alloc, 65_536, 4_096) else { return };
+//! let Ok(()) = converter.feed(0, capture, &mut file, &mut report) else { return };
+//! let Ok(_counts) = converter.finish(&mut file, &mut report) else { return };
+//! ```
+//!
+//! Its tests: crates/rtk_tests_output/src/convert/
+
 #![tactic(auto)]
 
 mod conversion;

@@ -4,7 +4,7 @@ use Rattle.rtk_collect.specs.declared.offer.SatelliteCode.{SatelliteCode}
 use Rattle.rtk_collect.specs.declared.offer.Offer.{Offer}
 use Rattle.rtk_collect.specs.declared.offer.Offer.TheVariants.{Taken, Conflict, Repeat, Late}
 use Rattle.rtk_collect.specs.Answer.{Class, LateClass, TakenClass, RepeatClass, ConflictClass}
-use Rattle.rtk_convert.specs.Report.{class_lines, lines}
+use Rattle.rtk_convert.specs.Report.{class_lines}
 
 -- the class of an answer
 abbrev pub class_of_offer : Offer → Class

@@ -1,14 +1,12 @@
 use Rattle.std.proofs.Common.{◌≡◌, ℕ, inl, inr, ◌⊎◌, length, Err, ap, subst, ◌∙◌}
 use Rattle.std.proofs.lemmas.Result.{IfErr-weaker, IfOk-weaker, IfErr-at_err}
 use Rattle.rtk_convert.specs.Converter.{FinishesConverterAs, BreaksOffClosing, BreaksOffFinishing}
-use Rattle.rtk_convert.specs.declared.fault.ConvertFault.TheVariants.{Write, Read as ReadFault, Endless}
-use Rattle.rtk_convert.specs.declared.fault.Stream.TheVariants.{Out, Log}
+use Rattle.rtk_convert.specs.declared.fault.ConvertFault.TheVariants.{Read as ReadFault, Endless}
 use Rattle.rtk_convert.specs.Failure.{IsReadingFault}
 use Rattle.rtk_convert.specs.Steps.ReadLink.{HasReadAll}
 use Rattle.rtk_convert.specs.Run.{FailsReading, StaysOpen, BreaksOffReading}
 use Rattle.rtk_convert.specs.Setup.{SetupView}
 use Rattle.rtk_convert.proofs.HeadlineLemmas.{run-headline}
-use Rattle.rtk_convert.proofs.WritingLemmas.{on_ok-map}
 use Rattle.rtk_convert.proofs.RunLemmas.{runs-as, breaks-ending, links-few, reading-run, frame-run}
 use Rattle.rtk_convert.proofs.runs.run.Goals as goal
 

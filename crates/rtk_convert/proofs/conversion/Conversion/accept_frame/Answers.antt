@@ -1,4 +1,4 @@
-use Rattle.std.proofs.Common.{true, false, Err, sym, ap, subst, ◌∙◌}
+use Rattle.std.proofs.Common.{true, false, sym, subst}
 use Rattle.std.proofs.lemmas.Result.{err_from_is_err_and}
 use Rattle.rtk_convert.specs.Conversion.{ConversionView, IsAhead}
 use Rattle.rtk_convert.specs.Steps.AcceptedFrame.{AcceptsFrame, BreaksOffAtFrame}

@@ -1,4 +1,4 @@
-use Rattle.std.proofs.Common.{ap, Err, ◌++◌, ◌∷◌, [], refl, ◌∙◌, arith}
+use Rattle.std.proofs.Common.{◌++◌, ◌∷◌, [], refl, ◌∙◌, arith}
 use Rattle.std.proofs.lemmas.Result.{err_from_is_err_and}
 use Rattle.rtk_convert.proofs.GatheringLemmas.{gathers-none, gathers-more, breaks-off, finds-next}
 use Rattle.rtk_convert.proofs.WritingLemmas.{on_err-from}
