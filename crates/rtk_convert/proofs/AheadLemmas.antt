@@ -9,9 +9,9 @@ use Rattle.rtk_collect.specs.declared.offer.Offer.TheVariants.{Taken, Conflict, 
 use Rattle.rtk_collect.specs.EpochSet.{EpochSetView}
 use Rattle.rtk_collect.specs.Collector.{CollectorView}
 use Rattle.rtk_collect.specs.Offered.{ClosesBelow, ClosesLeast, LeastNeverFalls, NotBelow}
-use Rattle.rtk_convert.specs.Finish.{AllAbove}
-use Rattle.rtk_convert.specs.LastPhases.{AllBelow}
-use Rattle.rtk_convert.specs.AddedMessage.{closed_by}
+use Rattle.rtk_convert.specs.Steps.Closing.{AllAbove}
+use Rattle.rtk_convert.specs.Steps.ShownCells.{AllBelow}
+use Rattle.rtk_convert.specs.Steps.AddedMessage.{closed_by}
 use Rattle.rtk_convert.specs.Records.{RecordsView}
 use Rattle.rtk_convert.specs.Conversion.{IsUnder, IsAhead}
 

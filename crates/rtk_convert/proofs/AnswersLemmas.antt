@@ -1,5 +1,5 @@
 -- What the answer of a window says of the lines, the counts and the closed epochs.
-use Rattle.std.proofs.Common.{◌≡◌, ℕ, List, [], ◌∷◌, ◌++◌, ap, sym, ◌∙◌}
+use Rattle.std.proofs.Common.{◌≡◌, ℕ, List, [], ◌∷◌, ◌++◌, Option, refl, ap, sym, ◌∙◌}
 use Rattle.std.specs.Prelude.{option_to_list}
 use Rattle.rtk_message.specs.Decoded.{number_of}
 use Rattle.rtk_collect.specs.declared.offer.Offer.{Offer}
@@ -9,29 +9,32 @@ use Rattle.rtk_collect.specs.Arrival.{Arrival, epoch_of, message_of}
 use Rattle.rtk_collect.specs.Accepted.{closed}
 use Rattle.rtk_collect.specs.Answer.{Class, class_of, conflicts_of, IsRightAnswer}
 use Rattle.rtk_convert.specs.declared.frame_class.FrameClass.TheVariants.{Dated}
-use Rattle.rtk_convert.specs.declared.counts.Counts.{Counts}
-use Rattle.rtk_convert.specs.Report.{class_lines, offer_lines, frame_lines, cell_lines, conflict_lines, counted_as, counted_offer}
-use Rattle.rtk_convert.specs.AddedMessage.{closed_by}
+use Rattle.rtk_convert.specs.Report.{class_lines, frame_lines, cell_lines, conflict_lines}
+use Rattle.rtk_convert.specs.Steps.OfferLines.{class_of_offer, offer_lines}
+use Rattle.rtk_convert.specs.Steps.AddedMessage.{closed_by}
 
 -- ---- lines and counts
 
+-- the class of the answer is the class of the arrival
+pub answer-class : (n : ℕ) (a : Arrival) (before : List Arrival) (offer : Offer) → IsRightAnswer n a before offer → class_of n a before ≡ class_of_offer offer
+answer-class n a before Late h = h.0
+answer-class n a before (Taken closing found) h = h.0
+answer-class n a before (Conflict found) h = h.0
+answer-class n a before Repeat h = h.0
+
+-- the lines need the conflicts only where the answer names them
+answer-conflicts : (n link number : ℕ) (epoch : Option ℕ) (a : Arrival) (before : List Arrival) (offer : Offer) → IsRightAnswer n a before offer
+    → class_lines link number epoch (class_of_offer offer) (conflicts_of n a before) ≡ offer_lines link number epoch offer
+answer-conflicts n link number epoch a before Late h = refl
+answer-conflicts n link number epoch a before (Taken closing found) h = ap (cell_lines link number epoch) (sym h.1)
+answer-conflicts n link number epoch a before (Conflict found) h = ap (conflict_lines link number epoch) (sym h.1)
+answer-conflicts n link number epoch a before Repeat h = refl
+
 pub answer-lines : (n link : ℕ) (a : Arrival) (before : List Arrival) (offer : Offer) → IsRightAnswer n a before offer
     → frame_lines n link (Dated a) before ≡ offer_lines link (number_of (message_of a)) (epoch_of a) offer
-answer-lines n link a before Late h = ap (λ (c : Class). class_lines link (number_of (message_of a)) (epoch_of a) c (conflicts_of n a before)) h.0
-answer-lines n link a before (Taken closing found) h =
-    ap (λ (c : Class). class_lines link (number_of (message_of a)) (epoch_of a) c (conflicts_of n a before)) h.0
-    ∙ ap (cell_lines link (number_of (message_of a)) (epoch_of a)) (sym h.1)
-answer-lines n link a before (Conflict found) h =
-    ap (λ (c : Class). class_lines link (number_of (message_of a)) (epoch_of a) c (conflicts_of n a before)) h.0
-    ∙ ap (conflict_lines link (number_of (message_of a)) (epoch_of a)) (sym h.1)
-answer-lines n link a before Repeat h = ap (λ (c : Class). class_lines link (number_of (message_of a)) (epoch_of a) c (conflicts_of n a before)) h.0
-
-pub answer-counts : (n : ℕ) (a : Arrival) (before : List Arrival) (offer : Offer) (c : Counts) → IsRightAnswer n a before offer
-    → counted_offer offer c ≡ counted_as (class_of n a before) c
-answer-counts n a before Late c h = ap (λ (x : Class). counted_as x c) (sym h.0)
-answer-counts n a before (Taken closing found) c h = ap (λ (x : Class). counted_as x c) (sym h.0)
-answer-counts n a before (Conflict found) c h = ap (λ (x : Class). counted_as x c) (sym h.0)
-answer-counts n a before Repeat c h = ap (λ (x : Class). counted_as x c) (sym h.0)
+answer-lines n link a before offer h =
+    ap (λ (c : Class). class_lines link (number_of (message_of a)) (epoch_of a) c (conflicts_of n a before)) (answer-class n a before offer h)
+    ∙ answer-conflicts n link (number_of (message_of a)) (epoch_of a) a before offer h
 
 -- ---- closed epochs
 

@@ -15,7 +15,7 @@ use Rattle.rtk_convert.specs.declared.frame_class.FrameClass.{FrameClass}
 use Rattle.rtk_convert.specs.declared.frame_class.FrameClass.TheVariants.{OtherMessage, Refused, Foreign, Dated}
 use Rattle.rtk_convert.specs.ArrivalLaws.{OneSetHasOneFile, LateLeaveFile, Begins, SoFarBegins, HeaderIsFinal, and_if_arrived, only_arrived, OthersLeaveFile}
 use Rattle.rtk_convert.specs.File.{record_of, first_time, file_of}
-use Rattle.rtk_convert.specs.FilePrefix.{closed_text, header_before}
+use Rattle.rtk_convert.specs.Steps.ClosedText.{closed_text, header_before}
 use Rattle.rtk_convert.specs.FileOfArrivals.{site_of_stations, site_of_kept, kept_file, file_so_far}
 use Rattle.rtk_convert.specs.FrameClass.{Found, and_arrived, arrivals}
 use Rattle.rtk_convert.specs.Setup.{SetupView}

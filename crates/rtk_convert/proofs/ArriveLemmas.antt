@@ -13,7 +13,7 @@ use Rattle.rtk_collect.specs.declared.offer.Offer.{Offer}
 use Rattle.rtk_collect.specs.EpochSet.{EpochSetView}
 use Rattle.rtk_collect.specs.Arrival.{Arrival, epoch_of, message_of}
 use Rattle.rtk_collect.specs.Accepted.{station, closed}
-use Rattle.rtk_collect.specs.Answer.{IsRightAnswer, class_of}
+use Rattle.rtk_collect.specs.Answer.{Class, IsRightAnswer, class_of}
 use Rattle.rtk_collect.specs.Collector.{CollectorView, RepresentsArrivals}
 use Rattle.rtk_collect.specs.Offered.{AnswersArrival}
 use Rattle.rtk_collect.specs.Position.{IsPosition, IsPositionOf}
@@ -23,15 +23,17 @@ use Rattle.rtk_rinex.specs.Header.{PositionView, position_view}
 use Rattle.rtk_convert.specs.declared.frame_class.FrameClass.TheVariants.{OtherMessage, Refused, Foreign, Dated}
 use Rattle.rtk_convert.specs.declared.counts.Counts.{Counts}
 use Rattle.rtk_convert.specs.File.{first_time, record_of}
-use Rattle.rtk_convert.specs.FilePrefix.{closing_text}
+use Rattle.rtk_convert.specs.Steps.ClosedText.{closing_text}
 use Rattle.rtk_convert.specs.FileOfArrivals.{site_of_stations, site_of_kept, file_so_far}
 use Rattle.rtk_convert.specs.FrameClass.{IsClassOfPayload, Found, arrivals}
-use Rattle.rtk_convert.specs.AddedMessage.{closed_by, AddsMessage, AddsMessageInPart}
+use Rattle.rtk_convert.specs.Steps.AddedMessage.{closed_by, AddsMessage, AddsMessageInPart}
 use Rattle.rtk_convert.specs.Records.{RecordsView, HasClosed}
-use Rattle.rtk_convert.specs.Report.{offer_lines, frame_lines, refused_line, lines, counted_as, counted_offer, one_frame_more, frame_counts}
+use Rattle.rtk_convert.specs.Report.{frame_lines, refused_line, lines, counted_as, one_frame_more, frame_counts}
+use Rattle.rtk_convert.specs.Steps.OfferLines.{offer_lines, class_of_offer}
 use Rattle.rtk_convert.specs.Setup.{SetupView}
-use Rattle.rtk_convert.specs.Conversion.{ConversionView, AcceptsFrame, BreaksOffAtFrame}
-use Rattle.rtk_convert.proofs.AnswersLemmas.{answer-lines, answer-counts, answer-closed}
+use Rattle.rtk_convert.specs.Conversion.{ConversionView}
+use Rattle.rtk_convert.specs.Steps.AcceptedFrame.{AcceptsFrame, BreaksOffAtFrame}
+use Rattle.rtk_convert.proofs.AnswersLemmas.{answer-class, answer-lines, answer-closed}
 use Rattle.rtk_convert.proofs.OneTextLemmas.{one-arrived}
 use Rattle.rtk_convert.proofs.SoFarLemmas.{so_far-stays, so_far-closes, so_far-grows}
 use Rattle.rtk_convert.proofs.WritingLemmas.{writes-none, writes-text, part-text, part-none, part-all, takes-none}
@@ -64,7 +66,7 @@ site-kept n w arrivals p size holds is =
 
 -- it closes no epoch
 pub takes-none-closed : (s : SetupView) (w w' : CollectorView) (c : RecordsView) (k k' : Counts) (b b' : Bool) (link : ℕ) (a : Arrival) (offer : Offer) (o l l' : Option (List ℕ))
-    → w.size ≡ s.window → closed_by offer ≡ None → AnswersArrival w a offer w' → k' ≡ counted_offer offer k
+    → w.size ≡ s.window → closed_by offer ≡ None → AnswersArrival w a offer w' → k' ≡ counted_as (class_of_offer offer) k
     → l' ≡ with_more l (offer_lines link (number_of (message_of a)) (epoch_of a) offer) → AddsMessage (state s w c k b) link a (state s w' c k' b') o o l l'
 takes-none-closed s w w' c k k' b b' link a offer o l l' size none meets counts wrote = λ before after.
     let m = meets before after.window in
@@ -72,7 +74,7 @@ takes-none-closed s w w' c k k' b b' link a offer o l l' size none meets counts 
     let same : closed s.window (a ∷ before) ≡ closed s.window before = answer-closed s.window a before offer answer ∙ ap (λ (d : Option EpochSetView). option_to_list d ++ closed s.window before) none in
     record {
       after = record { window = m.1; closed = subst (λ (xs : List EpochSetView). HasClosed c s.heading.listed xs) (sym same) after.closed };
-      counts = counts ∙ answer-counts s.window a before offer k answer;
+      counts = counts ∙ sym (ap (λ (c : Class). counted_as c k) (answer-class s.window a before offer answer));
       out = writes-none o (file_so_far s before) (file_so_far s (a ∷ before)) (so_far-stays s a before same);
       log = wrote ∙ ap (with_more l) (sym (answer-lines s.window link a before offer answer));
     }
@@ -90,7 +92,7 @@ closing-text s w w' a offer e p before size size' some answer holds position =
 
 -- it closes an epoch
 pub takes-some-closed : (s : SetupView) (w w' : CollectorView) (c c' : RecordsView) (k k' : Counts) (b b' : Bool) (link : ℕ) (a : Arrival) (offer : Offer) (e : EpochSetView) (p : Position) (o o' l l' : Option (List ℕ))
-    → w.size ≡ s.window → w'.size ≡ s.window → closed_by offer ≡ Some e → AnswersArrival w a offer w' → ((before : List Arrival) → RepresentsArrivals w' before → IsPositionOf w'.size before p) → k' ≡ counted_offer offer k
+    → w.size ≡ s.window → w'.size ≡ s.window → closed_by offer ≡ Some e → AnswersArrival w a offer w' → ((before : List Arrival) → RepresentsArrivals w' before → IsPositionOf w'.size before p) → k' ≡ counted_as (class_of_offer offer) k
     → ((below : List EpochSetView) → HasClosed c s.heading.listed below → HasClosed c' s.heading.listed (e ∷ below))
     → ((below : List EpochSetView) → HasClosed c s.heading.listed below → o' ≡ with_more o (closing s (position_view p) e below))
     → l' ≡ with_more l (offer_lines link (number_of (message_of a)) (epoch_of a) offer) → AddsMessage (state s w c k b) link a (state s w' c' k' b') o o' l l'
@@ -100,7 +102,7 @@ takes-some-closed s w w' c c' k k' b b' link a offer e p o o' l l' size size' so
     let closes : closed s.window (a ∷ before) ≡ e ∷ closed s.window before = answer-closed s.window a before offer answer ∙ ap (λ (d : Option EpochSetView). option_to_list d ++ closed s.window before) some in
     record {
       after = record { window = m.1; closed = subst (λ (xs : List EpochSetView). HasClosed c' s.heading.listed xs) (sym closes) (follows (closed s.window before) after.closed) };
-      counts = counts ∙ answer-counts s.window a before offer k answer;
+      counts = counts ∙ sym (ap (λ (c : Class). counted_as c k) (answer-class s.window a before offer answer));
       out = writes-text o o' (file_so_far s before) (file_so_far s (a ∷ before)) (closing s (position_view p) e (closed s.window before))
           (closing-text s w w' a offer e p before size size' some answer m.1 position) (out (closed s.window before) after.closed);
       log = wrote ∙ ap (with_more l) (sym (answer-lines s.window link a before offer answer));

@@ -21,7 +21,7 @@ use Rattle.rtk_convert.proofs.HeadlineLemmas.{headline-of}
 use Rattle.rtk_convert.proofs.ReadLemmas.{open-goes}
 use Rattle.rtk_convert.proofs.RunLemmas.{length-with_piece, length-with_closed, so_far-nothing, written}
 
--- ---- a call is refused exactly where its link is not open
+-- ---- a call is refused exactly if its link is not open
 
 if_ended : Bool → Option ConvertFault
 if_ended b = if b then Some LinkClosed else None

@@ -3,14 +3,17 @@ use Rattle.std.proofs.Common.{◌≡◌, ℕ, suc, true, false, List, ◌++◌, 
 use Rattle.std.specs.Prelude.{is_some}
 use Rattle.rtk_frame.specs.Stream.{with_more}
 use Rattle.rtk_frame.proofs.StreamLemmas.{with_more-with_more}
-use Rattle.rtk_convert.specs.Converter.{ConverterView, RepresentsHistory, WritesOn, WritesInto, BreaksOffAfter, BreaksOffAt, ClosesLink, ClosesLinkInPart, ClosesAllLinks, ClosesAllLinksInPart, BreaksOffClosing, IsAfterClosingAll, FinishesConverter, FinishesConverterInPart, refusal}
+use Rattle.rtk_convert.specs.Converter.{ConverterView, RepresentsHistory, WritesOn, WritesInto, BreaksOffAfter, BreaksOffAt, ClosesLink, ClosesLinkInPart, BreaksOffClosing, IsAfterClosingAll, FinishesConverter, FinishesConverterInPart, refusal}
+use Rattle.rtk_convert.specs.Steps.AllLinks.{ClosesAllLinks, ClosesAllLinksInPart}
 use Rattle.rtk_convert.specs.FileOfArrivals.{kept_file, file_so_far}
 use Rattle.rtk_convert.specs.FrameClass.{Found, arrivals}
-use Rattle.rtk_convert.specs.Finish.{FinishesConversion, FinishesConversionInPart, all_counts, report_of}
+use Rattle.rtk_convert.specs.Finish.{all_counts, report_of}
+use Rattle.rtk_convert.specs.Steps.Closing.{FinishesConversion, FinishesConversionInPart}
 use Rattle.rtk_convert.specs.History.{History, IsAfterClose, fed_on, found_by_close}
 use Rattle.rtk_convert.specs.Report.{lines}
 use Rattle.rtk_convert.specs.Setup.{SetupView}
-use Rattle.rtk_convert.specs.Writing.{WritesRest, WritesPartOfRest}
+use Rattle.rtk_convert.specs.Writing.{WritesRest}
+use Rattle.rtk_convert.specs.Steps.WritingInPart.{WritesPartOfRest}
 use Rattle.rtk_convert.specs.declared.counts.Counts.{Counts}
 use Rattle.rtk_convert.specs.declared.fault.ConvertFault.{ConvertFault}
 use Rattle.rtk_convert.proofs.GatheringLemmas.{writes-into}
@@ -31,7 +34,7 @@ into-on a b c w x y z p q = (
   q.5 ∙ ap (λ t. with_more t (q.0 ++ q.1)) p.2 ∙ with_more-with_more a p.0 (q.0 ++ q.1) ∙ ap (with_more a) (sym (append_assoc p.0 q.0 q.1)),
 )
 
--- a call that breaks off behind what was written
+-- a call that breaks off after what was written
 pub breaks-after : (s : SetupView) (link : ℕ) (payloads : List (List ℕ)) (first before : List Found) (o0 o1 o2 l0 l1 l2 : Option (List ℕ))
     → WritesOn s first before o0 o1 l0 l1 → BreaksOffAt s link payloads before o1 o2 l1 l2 → BreaksOffAfter s link payloads first before o0 o2 l0 l2
 breaks-after s link payloads first before o0 o1 o2 l0 l1 l2 p b = record {
@@ -56,7 +59,7 @@ pub none-given : (r o : Option ConvertFault) → r ≡ o → is_some r ≡ false
 none-given None o e none = sym e
 none-given (Some fault) o e none = absurd cc
 
--- so many links were closed
+-- this number of links were closed
 pub record ClosesSome (old : ConverterView) (h : History) (count : ℕ) (now : ConverterView) (o o' l l' : Option (List ℕ)) : Type 0 where
   pub mid : History
   pub closed : IsAfterClosingAll old.conversion.settings h count mid

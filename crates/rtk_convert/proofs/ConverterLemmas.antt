@@ -9,7 +9,7 @@ use Rattle.rtk_frame.proofs.FirstFrame.{final_payloads_cut, payloads_cut}
 use Rattle.rtk_frame.proofs.Pieces.{pending_cut}
 use Rattle.rtk_convert.specs.Converter.{ConverterView, RepresentsLink, RepresentLinks, RepresentsHistory, BreaksOffAt, FeedsPiece, FeedsPieceInPart, ClosesLink, ClosesLinkInPart, link_refusal, refusal}
 use Rattle.rtk_convert.specs.FrameClass.{Found}
-use Rattle.rtk_convert.specs.LinkFrames.{AddsFrames, AddsFramesInPart}
+use Rattle.rtk_convert.specs.Steps.LinkFrames.{AddsFrames, AddsFramesInPart}
 use Rattle.rtk_convert.specs.History.{LinkPast, History, Finds, IsOpen, fed_on, with_piece, with_closed, found_by_piece, found_by_close, newest_on}
 use Rattle.rtk_convert.specs.Setup.{SetupView}
 use Rattle.rtk_convert.specs.Conversion.{ConversionView, found_on}

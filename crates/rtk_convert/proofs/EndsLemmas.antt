@@ -4,7 +4,8 @@ use Rattle.std.specs.Prelude.{slice_index_or, slice_get}
 use Rattle.std.proofs.lemmas.Bool.{cases_eq}
 use Rattle.rtk_convert.specs.Converter.{ConverterView, RepresentsHistory}
 use Rattle.rtk_convert.specs.History.{History, LinkPast, new_history, IsOpen, with_piece, with_closed}
-use Rattle.rtk_convert.specs.ReadSteps.{ReadsLink, HasRead, HasReadAll, HasCalled}
+use Rattle.rtk_convert.specs.ReadSteps.{HasRead, HasCalled}
+use Rattle.rtk_convert.specs.Steps.ReadLink.{ReadsLink, HasReadAll}
 use Rattle.rtk_convert.specs.ReadHistory.{Read, AllClosed, AreAtEnd, IsAfterPiece}
 use Rattle.rtk_convert.specs.Setup.{SetupView}
 

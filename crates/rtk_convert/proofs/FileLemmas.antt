@@ -7,7 +7,8 @@ use Rattle.rtk_collect.specs.EpochSet.{EpochSetView}
 use Rattle.rtk_rinex.specs.Header.{PositionView, header_text}
 use Rattle.rtk_convert.specs.Setup.{SetupView}
 use Rattle.rtk_convert.specs.File.{record_of, records, first_or, first_time, header_of, file_of}
-use Rattle.rtk_convert.specs.FilePrefix.{unless_empty, so_far, with_header, closed_text, header_before, closing_text}
+use Rattle.rtk_convert.specs.FilePrefix.{unless_empty, so_far}
+use Rattle.rtk_convert.specs.Steps.ClosedText.{with_header, closed_text, header_before, closing_text}
 
 pub records-more : (listed : List Code) (e : EpochSetView) (below : List EpochSetView) → records listed (e ∷ below) ≡ records listed below ++ record_of listed e below
 unfolding records
@@ -67,7 +68,7 @@ so_far-step s p all_epochs closed (Some t) q up =
     not-empty (records s.heading.listed closed) (header_of s p all_epochs ++ records s.heading.listed closed) (some-records s.heading.listed closed t q)
     ∙ ap (λ (o : Option ℕ). header_text s.heading p (unwrap_or o s.near) ++ records s.heading.listed closed) (up t q)
 
--- the file so far is that of the closed epochs alone
+-- the file so far is the file of the closed epochs alone
 pub so_far-closed : (n : ℕ) (s : SetupView) (p : PositionView) (epochs : List EpochSetView) → so_far s p epochs (drop n epochs) ≡ closed_text s p (drop n epochs)
 so_far-closed n s p epochs =
     so_far-step s p epochs (drop n epochs) (first_time s.heading.listed (drop n epochs)) refl (λ t h. first_time-drop n s.heading.listed epochs t h)

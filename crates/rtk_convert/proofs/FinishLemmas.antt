@@ -13,16 +13,18 @@ use Rattle.rtk_frame.specs.Stream.{with_more, TakesPart}
 use Rattle.rtk_rinex.specs.Header.{PositionView, position_view}
 use Rattle.rtk_convert.specs.declared.counts.Counts.{Counts}
 use Rattle.rtk_convert.specs.File.{first_time, file_of, record_count}
-use Rattle.rtk_convert.specs.FilePrefix.{closed_text, header_before}
+use Rattle.rtk_convert.specs.Steps.ClosedText.{closed_text, header_before}
 use Rattle.rtk_convert.specs.FileOfArrivals.{kept_file, file_so_far}
 use Rattle.rtk_convert.specs.FrameClass.{Found, arrivals}
-use Rattle.rtk_convert.specs.Finish.{ClosesEpochs, ClosesEpochsInPart, all_counts, report_of, FinishesConversion, FinishesConversionInPart}
+use Rattle.rtk_convert.specs.Finish.{all_counts, report_of}
+use Rattle.rtk_convert.specs.Steps.Closing.{ClosesEpochs, ClosesEpochsInPart, FinishesConversion, FinishesConversionInPart}
 use Rattle.rtk_convert.specs.Records.{RecordsView, HasClosed}
 use Rattle.rtk_convert.specs.Report.{lines, frame_counts}
 use Rattle.rtk_convert.specs.ReportText.{count_lines}
 use Rattle.rtk_convert.specs.Setup.{SetupView}
 use Rattle.rtk_convert.specs.Conversion.{ConversionView}
-use Rattle.rtk_convert.specs.Writing.{WritesRest, WritesPartOfRest}
+use Rattle.rtk_convert.specs.Writing.{WritesRest}
+use Rattle.rtk_convert.specs.Steps.WritingInPart.{WritesPartOfRest}
 use Rattle.rtk_convert.proofs.FileLemmas.{closed-more, closed-grows, file-closed}
 use Rattle.rtk_convert.proofs.SoFarLemmas.{so_far-is}
 use Rattle.rtk_convert.proofs.ArriveLemmas.{state, closing, site-kept}

@@ -19,12 +19,14 @@ use Rattle.rtk_frame.proofs.StreamLemmas.{with_more-with_more}
 use Rattle.rtk_convert.specs.Converter.{WritesInto}
 use Rattle.rtk_convert.specs.FileOfArrivals.{file_so_far}
 use Rattle.rtk_convert.specs.FrameClass.{IsEpochOf, IsDatedMessage, IsClassOfReading, IsClassOfPayload, Found as FoundFrame, arrivals}
-use Rattle.rtk_convert.specs.LinkFrames.{AddsFrames, AddsFramesInPart}
-use Rattle.rtk_convert.specs.History.{Finds, IsEpochIn, epoch_found, later_of, newest_on}
+use Rattle.rtk_convert.specs.Steps.LinkFrames.{AddsFrames, AddsFramesInPart}
+use Rattle.rtk_convert.specs.History.{Finds, epoch_found, later_of, newest_on}
+use Rattle.rtk_convert.specs.Steps.AcceptedFrame.{IsEpochIn, AcceptsFrame, BreaksOffAtFrame}
 use Rattle.rtk_convert.specs.Report.{lines}
 use Rattle.rtk_convert.specs.Setup.{SetupView}
-use Rattle.rtk_convert.specs.Conversion.{ConversionView, found_on, AcceptsFrame, BreaksOffAtFrame}
-use Rattle.rtk_convert.specs.Writing.{WritesRest, WritesPartOfRest}
+use Rattle.rtk_convert.specs.Conversion.{ConversionView, found_on}
+use Rattle.rtk_convert.specs.Writing.{WritesRest}
+use Rattle.rtk_convert.specs.Steps.WritingInPart.{WritesPartOfRest}
 use Rattle.rtk_convert.specs.declared.frame_class.FrameClass.{FrameClass}
 use Rattle.rtk_convert.specs.declared.frame_class.FrameClass.TheVariants.{OtherMessage, Refused, Foreign, Dated}
 use Rattle.rtk_convert.proofs.WritingLemmas.{writes-none, writes-on}
@@ -146,7 +148,7 @@ breaks-off old mid link all done left payload n0 n1 o0 o1 o2 l0 l1 l2 settings s
 rest-is : (at : ℕ) (p : List ℕ) → take (length p - at) (drop at p) ≡ drop at p
 rest-is at p = grind (arith, common_steps)
 
--- of a piece p behind the pending bytes s0, the next frame was found: s2 is pending, and the place next was reached
+-- of a piece p after the pending bytes s0, the next frame was found: s2 is pending, and the place next was reached
 pub record FindsNext (s0 p s1 s2 : List ℕ) (at next : ℕ) (done : List (List ℕ)) (payload : List ℕ) : Type 0 where
   pub split : payloads (final_frames (s0 ++ p)) ≡ done ++ (payload ∷ payloads (final_frames (s2 ++ drop next p)))
   pub taken : payloads (final_frames (s0 ++ p)) ≡ (done ++ payload ∷ []) ++ payloads (final_frames (s2 ++ drop next p))

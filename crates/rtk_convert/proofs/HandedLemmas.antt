@@ -1,10 +1,11 @@
--- What a function that writes answers where it hands an error on.
-use Rattle.std.proofs.Common.{◌≡◌, ◌≢◌, ℕ, Result, Ok, Err, refl, sym, ◌∙◌}
-use Rattle.std.specs.Prelude.{OnErr, IfErr, IsErrOf}
+-- What a function that writes answers if it hands an error on.
+use Rattle.std.proofs.Common.{◌≡◌, ℕ, Result, Ok, Err, refl}
+use Rattle.std.specs.Prelude.{IfErr}
 use Rattle.rtk_convert.specs.declared.fault.ConvertFault.{ConvertFault}
 use Rattle.rtk_convert.specs.declared.fault.ConvertFault.TheVariants.{Setup, NoLink, LinkClosed, OutOfMemory, Write, Read, Endless, Stopped}
 use Rattle.rtk_convert.specs.declared.fault.Stream.TheVariants.{Out, Log}
-use Rattle.rtk_convert.specs.Failure.{IsOutFault, IsFrameFault, FailsWrites, NamesFailedWrites}
+use Rattle.rtk_convert.specs.Failure.{IsFrameFault, FailsWrites, NamesFailedWrites}
+use Rattle.rtk_convert.specs.Steps.Faults.{IsOutFault}
 
 pub out-frame : (fault : ConvertFault) → IsOutFault fault → IsFrameFault fault
 out-frame OutOfMemory p = p

@@ -24,12 +24,13 @@ use Rattle.rtk_convert.specs.Converter.{IsAfterClosingAll}
 use Rattle.rtk_convert.specs.declared.counts.Counts.{Counts}
 use Rattle.rtk_convert.specs.History.{History, IsOpen}
 use Rattle.rtk_convert.specs.ReadHistory.{Read, IsAfterPiece, IsNextRead, IsHistoryOf, AllClosed}
-use Rattle.rtk_convert.specs.Run.{RunsAs}
+use Rattle.rtk_convert.specs.Steps.ReadToEnd.{RunsAs}
 use Rattle.rtk_convert.specs.Report.{lines, frame_lines, class_lines}
 use Rattle.rtk_convert.specs.ReportText.{late_line, count_lines}
 use Rattle.rtk_convert.specs.Setup.{SetupView}
 use Rattle.rtk_convert.specs.Conversion.{found_on}
 use Rattle.rtk_convert.proofs.ArrivalLawsLemmas.{late-leave}
+use Rattle.rtk_convert.proofs.HistoryLemmas.{found-once}
 use Rattle.rtk_convert.proofs.PayloadLemmas.{calls-table}
 
 -- ---- the file of the set
@@ -190,4 +191,25 @@ run-headline given calls is_at_end s before after counts out_old out_new log_old
       in_order = (p.history, p.comes_to, p.closed);
       headline = headline-of s (length before) (calls_of p.reads) p.history.found out_old out_new log_old log_new all p.out p.log;
       kept = record { found = p.history.found; of_all_pieces = all; out = p.out; log = p.log; counts_are = p.counts_are };
+    }
+
+-- the headline says no less: its list of found frames is the list of the history, since calls find one
+pub headline-runs-as : {R : Type 0} (given : R → Option (List ℕ)) (calls : R → ℕ) (is_at_end : R → Type 0) (s : SetupView) (before after : List R) (counts : Counts) (out_old out_new log_old log_new : Option (List ℕ))
+    → RunHeadline given calls is_at_end s before after counts out_old out_new log_old log_new → RunsAs given calls is_at_end s before after counts out_old out_new log_old log_new
+headline-runs-as given calls is_at_end s before after counts out_old out_new log_old log_new p =
+    let h : History = p.in_order.0 in
+    let all : FindAll s (length before) (calls_of p.reads) h.found =
+    (h, h, calls-come-to s (length before) p.reads h p.in_order.1, closing-closed s h (length before) p.in_order.2, refl) in
+    let same : p.kept.found ≡ h.found = found-once s (length before) (calls_of p.reads) p.kept.found h.found p.kept.of_all_pieces all in
+    record {
+      reads = p.reads;
+      history = h;
+      comes_to = p.in_order.1;
+      closed = p.in_order.2;
+      gave = p.gave;
+      called = p.called;
+      at_end = p.to_their_ends;
+      out = p.kept.out ∙ ap (λ (f : List Found). with_more out_old (kept_file s (arrivals f))) same;
+      log = p.kept.log ∙ ap (λ (f : List Found). with_more log_old (report_of s f)) same;
+      counts_are = p.kept.counts_are ∙ ap (λ (f : List Found). all_counts s f) same;
     }

@@ -30,7 +30,7 @@ use Rattle.rtk_rinex.specs.Table.{FilesAreTables}
 use Rattle.rtk_convert.specs.declared.frame_class.FrameClass.{FrameClass}
 use Rattle.rtk_convert.specs.declared.frame_class.FrameClass.TheVariants.{OtherMessage, Refused, Foreign, Dated}
 use Rattle.rtk_convert.specs.ArrivalLaws.{HasPayload, KeptFileIsTable}
-use Rattle.rtk_convert.specs.FileLaws.{IsAbove, Fall, IsGoodEpoch}
+use Rattle.rtk_convert.specs.FileLaws.{IsGoodEpoch}
 use Rattle.rtk_convert.specs.FileOfArrivals.{no_site, site_of_1005, site_of_stations, site_of_kept}
 use Rattle.rtk_convert.specs.FrameClass.{IsEpochOf, IsClassOfReading, IsClassOfPayload, Found, and_arrived, arrivals}
 use Rattle.rtk_convert.specs.Setup.{SetupView}
@@ -102,14 +102,6 @@ kept-good n (At (Some e) m ∷ before) h = elim (cases_Bool (late n (At (Some e)
   | inr fresh ↦ subst (AllByRecursion IsGoodEpoch) (sym (kept-new n e m before fresh)) (with_arrival-good e (cells_of m) (kept n before) h.0.1 (cells-good m h.0.0) (kept-good n before h.1))
 ]
 
-below-above : (e : ℕ) (xs : List EpochSetView) → FirstIsBelow e xs → IsAbove e xs
-below-above e [] h = tt
-below-above e (x ∷ xs) h = h
-
-falls-fall : (xs : List EpochSetView) → EpochsFall xs → Fall xs
-falls-fall [] f = tt
-falls-fall (x ∷ xs) f = (below-above x.epoch xs f.0, falls-fall xs f.1)
-
 -- ---- and so is the position
 
 abbrev IfValid : Option Message → Type 0
@@ -158,5 +150,5 @@ kept-file-is_table law s found settings h =
     let good = arrivals-good s found settings.1 (recursion_from_All (HasPayload s) found h) in
     file-is_table law s (site_of_kept n (arrivals found)) (kept n (arrivals found)) settings
     (site-good (station n 1005 (arrivals found)) (station n 1006 (arrivals found)) (station-good n 1005 (arrivals found) good) (station-good n 1006 (arrivals found) good))
-    (falls-fall (kept n (arrivals found)) (kept-falls n (arrivals found)))
+    (kept-falls n (arrivals found))
     (All-from_recursion IsGoodEpoch (kept n (arrivals found)) (kept-good n (arrivals found) good))

@@ -23,6 +23,7 @@ pub mod RunLemmas
 pub mod EndsLemmas
 pub mod PayloadLemmas
 pub mod HeadlineLemmas
+pub mod BoundsLemmas
 pub mod CallsLemmas
 pub mod HistoryLemmas
 pub mod CountLemmas

@@ -38,7 +38,7 @@ valid-by s payload (Err TooManyCells) e m d f = cc
 comes-valid : (s : SetupView) (payload : List ℕ) (a : Arrival) → IsClassOfPayload s payload (Dated a) → IsValid (message_of a)
 comes-valid s payload (At e m) c = valid-by s payload c.0 e m c.1 c.2
 
--- ---- no epoch closes where as many are kept as before
+-- ---- no epoch closes if as many are kept as before
 
 same-length : (more xs all : List EpochSetView) → all ≡ more ++ xs → length all ≡ length xs → all ≡ xs
 same-length [] xs all e l = e

@@ -83,7 +83,7 @@ same_code c d e = sym (code_at-place_of c) ∙ (ap code_at e ∙ code_at-place_o
 same_numbers : (a b c d : ℕ) → 1 ≤ a → 1 ≤ c → b < 16 → d < 16 → (a - 1) * 16 + b ≡ (c - 1) * 16 + d → (a ≡ c) × (b ≡ d)
 same_numbers a b c d ha hc hb hd e = omega arith
 
--- a place is that of one satellite and one code
+-- a place is the place of one satellite and one code
 pub same_signal : (a c : ℕ) (k d : Code) → IsSatellite a → IsSatellite c → place_of_signal a k ≡ place_of_signal c d → (a ≡ c) × (k ≡ d)
 same_signal a c k d ha hc e =
     let s = same_numbers a (place_of k) c (place_of d) ha.0 hc.0 (place_bound k) (place_bound d) e in

@@ -8,11 +8,13 @@ use Rattle.rtk_frame.proofs.StreamLemmas.{with_more-nil, with_more-with_more, su
 use Rattle.rtk_convert.specs.declared.fault.ConvertFault.{ConvertFault}
 use Rattle.rtk_convert.specs.declared.fault.ConvertFault.TheVariants.{Setup, NoLink, LinkClosed, OutOfMemory, Write, Read as ReadFault, Endless, Stopped}
 use Rattle.rtk_convert.specs.declared.link.Link.{Link}
-use Rattle.rtk_convert.specs.Failure.{IsFrameFault, IsReadFault}
+use Rattle.rtk_convert.specs.Failure.{IsFrameFault}
+use Rattle.rtk_convert.specs.Steps.Faults.{IsReadFault}
 use Rattle.rtk_convert.specs.FrameClass.{Found}
 use Rattle.rtk_convert.specs.Converter.{ConverterView, RepresentLinks, link_refusal, refusal, RepresentsHistory, WritesOn, BreaksOffAt}
 use Rattle.rtk_convert.specs.History.{History, LinkPast, IsOpen, IsNextLink, IsAfterFeed, IsAfterClose, fed_on, found_by_piece, found_by_close}
-use Rattle.rtk_convert.specs.ReadSteps.{read_of, found_by_read, ReadsLink, BreaksOffAfterRead, AnyAtGreatest, HasCalled, SameFailures}
+use Rattle.rtk_convert.specs.ReadSteps.{read_of, found_by_read, AnyAtGreatest, HasCalled, SameFailures}
+use Rattle.rtk_convert.specs.Steps.ReadLink.{ReadsLink, BreaksOffAfterRead}
 use Rattle.rtk_convert.specs.ReadHistory.{Read, piece_on, bytes_of, IsAfterPiece, Gave}
 use Rattle.rtk_convert.specs.Setup.{SetupView}
 

@@ -5,7 +5,7 @@ use Rattle.rtk_obs.specs.declared.code.Code.{Code}
 use Rattle.rtk_collect.specs.EpochSet.{EpochSetView}
 use Rattle.rtk_frame.specs.Stream.{count_after}
 use Rattle.rtk_convert.specs.File.{record_of, first_or, first_time, one_more_if_any, record_count}
-use Rattle.rtk_convert.specs.FilePrefix.{is_any}
+use Rattle.rtk_convert.specs.Steps.ClosedText.{is_any}
 use Rattle.rtk_convert.specs.LastPhases.{HasLastPhases}
 use Rattle.rtk_convert.specs.Records.{RecordsView, HasClosed}
 

@@ -13,7 +13,7 @@ use Rattle.rtk_rinex.specs.declared.epoch_table.Observed.{Observed}
 use Rattle.rtk_rinex.specs.declared.epoch_table.SatelliteRow.{SatelliteRow}
 use Rattle.rtk_obs.specs.Tracks.{place_of_signal}
 use Rattle.rtk_rinex.specs.Record.{EpochTableView, HasWidth, IsRow, IsStrengthOrNone}
-use Rattle.rtk_convert.specs.LastPhases.{shown_at, AreStrengths}
+use Rattle.rtk_convert.specs.Steps.ShownCells.{shown_at, AreStrengths}
 use Rattle.rtk_convert.specs.Rows.{or_nothing, row_with, row_if_any, rows_to, table_with}
 
 pub rows_to-zero : (f : ℕ → Code → Option Observed) (listed : List Code) → rows_to f listed 0 ≡ []

@@ -9,16 +9,20 @@ use Rattle.rtk_convert.specs.Converter.{IsLinkCount, ConverterView, WritesInto, 
 use Rattle.rtk_convert.specs.declared.counts.Counts.{Counts}
 use Rattle.rtk_convert.specs.declared.fault.ConvertFault.{ConvertFault}
 use Rattle.rtk_convert.specs.declared.fault.ConvertFault.TheVariants.{Setup, NoLink, LinkClosed, OutOfMemory, Write, Read as ReadFault, Endless, Stopped}
-use Rattle.rtk_convert.specs.Failure.{IsFrameFault, IsReadFault, IsReadingFault, IsRunFault}
+use Rattle.rtk_convert.specs.Failure.{IsFrameFault, IsReadingFault, IsRunFault}
+use Rattle.rtk_convert.specs.Steps.Faults.{IsReadFault}
+use Rattle.rtk_convert.specs.Conversion.{found_on}
 use Rattle.rtk_convert.specs.File.{records}
 use Rattle.rtk_convert.specs.FileOfArrivals.{file_so_far, kept_file}
 use Rattle.rtk_convert.specs.FrameClass.{arrivals}
 use Rattle.rtk_convert.specs.Finish.{all_counts, report_of}
 use Rattle.rtk_convert.specs.History.{History, LinkPast, new_history, IsOpen, IsNextLink, with_piece, with_closed}
-use Rattle.rtk_convert.specs.ReadSteps.{read_of, ReadsLink, BreaksOffAfterRead, FailsRead, HasRead, HasReadAll, HasCalled}
+use Rattle.rtk_convert.specs.ReadSteps.{read_of, HasRead, HasCalled}
+use Rattle.rtk_convert.specs.Steps.ReadLink.{ReadsLink, BreaksOffAfterRead, FailsRead, HasReadAll}
 use Rattle.rtk_convert.specs.ReadHistory.{Read, AllClosed, IsHistoryOf, IsAfterPiece, Gave}
 use Rattle.rtk_convert.specs.Report.{lines}
-use Rattle.rtk_convert.specs.Run.{RunsAs, BreaksOffReading, BreaksOffAtEnd, FailsReading}
+use Rattle.rtk_convert.specs.Run.{BreaksOffReading, BreaksOffAtEnd, FailsReading}
+use Rattle.rtk_convert.specs.Steps.ReadToEnd.{RunsAs}
 use Rattle.rtk_convert.specs.Setup.{SetupView}
 use Rattle.rtk_convert.specs.Writing.{WritesRest}
 use Rattle.rtk_convert.proofs.ReadLemmas.{gave-none, gave-more}
@@ -99,7 +103,8 @@ breaks-reading given calls s h link before mid after reads o0 o1 o2 l0 l1 l2 q n
     finds = p.breaks.finds;
     finding = p.breaks.finding;
     comes = p.breaks.comes;
-    out = into o0 o1 o2 _ _ _ q.out p.breaks.out;
+    out = subst (λ (t : List ℕ). WritesInto o0 o2 t (file_so_far s (arrivals p.breaks.found)) (file_so_far s (arrivals (found_on link p.breaks.finding ∷ p.breaks.found)))) (sym (so_far-nothing s))
+        (into o0 o1 o2 _ _ _ q.out p.breaks.out);
     log = into l0 l1 l2 _ _ _ q.log p.breaks.log;
   };
 }

@@ -11,7 +11,8 @@ use Rattle.rtk_collect.proofs.LateLemmas.{closed-only-grow, closed-after, statio
 use Rattle.rtk_rinex.specs.Header.{PositionView}
 use Rattle.rtk_convert.specs.Setup.{SetupView}
 use Rattle.rtk_convert.specs.File.{record_of, first_time}
-use Rattle.rtk_convert.specs.FilePrefix.{so_far, closed_text, closing_text}
+use Rattle.rtk_convert.specs.FilePrefix.{so_far}
+use Rattle.rtk_convert.specs.Steps.ClosedText.{closed_text, closing_text}
 use Rattle.rtk_convert.specs.FileOfArrivals.{site_of_stations, site_of_kept, file_so_far}
 use Rattle.rtk_convert.proofs.FileLemmas.{so_far-closed, closed-more, closed-grows, closed-none}
 

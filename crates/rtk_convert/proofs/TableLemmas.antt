@@ -12,7 +12,7 @@ use Rattle.rtk_obs.specs.declared.cell.CellEntry.{CellEntry}
 use Rattle.rtk_obs.specs.declared.cell.CellSource.TheVariants.{Legacy, Msm}
 use Rattle.rtk_obs.specs.declared.track.Track.{Track}
 use Rattle.rtk_obs.specs.Cell.{IsInRange as IsEntry, IsStrength as IsGiven}
-use Rattle.rtk_collect.specs.EpochSet.{EpochSetView}
+use Rattle.rtk_collect.specs.EpochSet.{EpochSetView, FirstIsBelow, EpochsFall}
 use Rattle.rtk_rinex.specs.declared.epoch_table.Observed.{Observed}
 use Rattle.rtk_rinex.specs.Reading.{IsMoment}
 use Rattle.rtk_rinex.specs.Header.{header_text}
@@ -20,7 +20,7 @@ use Rattle.rtk_rinex.specs.Record.{EpochTableView, IsStrengthOrNone, IsRow, IsEp
 use Rattle.rtk_rinex.specs.Table.{StartsAt, with_record, shown_table, FilesAreTables}
 use Rattle.rtk_convert.specs.Rows.{is_signal, last_phase_of, first_cell, cell_at, in_turn, is_from, observed_after, observed_at, or_nothing, table_of}
 use Rattle.rtk_convert.specs.File.{record_of, records, first_or, first_time}
-use Rattle.rtk_convert.specs.FileLaws.{IsAbove, Fall, IsGoodEpoch, FileIsTable}
+use Rattle.rtk_convert.specs.FileLaws.{IsGoodEpoch, FileIsTable}
 use Rattle.rtk_convert.proofs.RowsLemmas.{all-rows, rows-width, rows_to-rise}
 
 -- the tables of the epochs, rising
@@ -120,7 +120,7 @@ all-tables P listed f (e ∷ below) h =
     All-append P (tables listed below) (table_of listed e below ∷ []) (all-tables P listed f below (All-tail IsGoodEpoch e below h))
     (All-cons P (table_of listed e below) [] (f e below (All-head IsGoodEpoch e below h)) (All-nil P))
 
-tables-below : (listed : List Code) (bound : ℕ) (epochs : List EpochSetView) → IsAbove bound epochs → Fall epochs → All (λ (x : EpochTableView). x.time < bound) (tables listed epochs)
+tables-below : (listed : List Code) (bound : ℕ) (epochs : List EpochSetView) → FirstIsBelow bound epochs → EpochsFall epochs → All (λ (x : EpochTableView). x.time < bound) (tables listed epochs)
 unfolding tables
 tables-below listed bound [] a f = All-nil (λ (x : EpochTableView). x.time < bound)
 tables-below listed bound (e ∷ below) a f =
@@ -128,7 +128,7 @@ tables-below listed bound (e ∷ below) a f =
     (All-weaker (λ (x : EpochTableView). x.time < e.epoch) (λ (x : EpochTableView). x.time < bound) (λ x h. omega arith) (tables listed below) (tables-below listed e.epoch below f.0 f.1))
     (All-cons (λ (x : EpochTableView). x.time < bound) (table_of listed e below) [] a (All-nil (λ (x : EpochTableView). x.time < bound)))
 
-tables-rise : (listed : List Code) (epochs : List EpochSetView) → Fall epochs → AllPairs (λ a b. a.time < b.time) (tables listed epochs)
+tables-rise : (listed : List Code) (epochs : List EpochSetView) → EpochsFall epochs → AllPairs (λ a b. a.time < b.time) (tables listed epochs)
 unfolding tables
 tables-rise listed [] f = λ i j d h k. absurd (omega arith)
 tables-rise listed (e ∷ below) f =

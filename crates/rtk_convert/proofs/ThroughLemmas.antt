@@ -14,7 +14,7 @@ use Rattle.rtk_obs.specs.Tracks.{IsLater, track_at, place_of_signal}
 use Rattle.rtk_rinex.specs.declared.epoch_table.Observed.{Observed}
 use Rattle.rtk_rinex.specs.Record.{IsStrengthOrNone}
 use Rattle.rtk_convert.specs.Rows.{is_signal, first_cell, observed_with, observed_after, and_below}
-use Rattle.rtk_convert.specs.LastPhases.{shown_at, track_after, IsThrough, MayShow, AreStrengths}
+use Rattle.rtk_convert.specs.Steps.ShownCells.{shown_at, track_after, IsThrough, MayShow, AreStrengths}
 use Rattle.rtk_convert.proofs.PlacesLemmas.{by_eq, same_signal, same_test, other_signal, place_inside}
 
 -- a cell of another satellite or code is not theirs

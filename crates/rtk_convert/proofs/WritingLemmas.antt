@@ -4,7 +4,8 @@ use Rattle.std.specs.Prelude.{OnOk, OnErr, IfOk, IfErr}
 use Rattle.std.proofs.lemmas.List.{append-nil, take-append-drop}
 use Rattle.rtk_frame.specs.Stream.{with_more, TakesPart}
 use Rattle.rtk_frame.proofs.StreamLemmas.{with_more-nil, with_more-with_more}
-use Rattle.rtk_convert.specs.Writing.{WritesRest, WritesPartOfRest}
+use Rattle.rtk_convert.specs.Writing.{WritesRest}
+use Rattle.rtk_convert.specs.Steps.WritingInPart.{WritesPartOfRest}
 
 pub on_ok-map : {T E : Type 0} (r : Result T E) {P Q : Type 0} → (P → Q) → OnOk r P → OnOk r Q
 on_ok-map (Ok x) f p = f p
@@ -62,7 +63,7 @@ pub part-longer : (before after : Option (List ℕ)) (first second third rest : 
 part-longer before after first second third rest e p =
     (p.0, p.1 ++ rest, e ∙ ap (λ t. t ++ rest) p.2 ∙ append_assoc first (p.0 ++ p.1) rest ∙ ap (λ t. first ++ t) (append_assoc p.0 p.1 rest), p.3)
 
--- a part, behind a text that was written whole
+-- a part, after a text that was written whole
 pub part-on : (a b c : Option (List ℕ)) (x y z : List ℕ) → WritesRest a b x y → WritesPartOfRest b c y z → WritesPartOfRest a c x z
 part-on a b c x y z p q = (
   p.0 ++ q.0,

@@ -1,5 +1,5 @@
 -- What a conversion represents: a list of found frames.
-use Rattle.std.specs.Prelude.{◌≡◌, ◌<◌, ◌⊎◌, ℕ, Bool, false, List, ◌∷◌, length, Option, None, Some, All}
+use Rattle.std.specs.Prelude.{◌≡◌, ◌<◌, ◌≤◌, ◌⊎◌, ℕ, Bool, false, List, ◌∷◌, length, Option, None, Some, All}
 use Rattle.rtk_obs.specs.declared.code.Code.{Code}
 use Rattle.rtk_obs.specs.declared.track.Track.{Track}
 use Rattle.rtk_obs.specs.Cell.{IsSatellite}
@@ -7,14 +7,12 @@ use Rattle.rtk_obs.specs.Tracks.{track_at}
 use Rattle.rtk_collect.specs.Accepted.{closed}
 use Rattle.rtk_collect.specs.Collector.{CollectorView, RepresentsArrivals}
 use Rattle.rtk_convert.specs.declared.frame_class.FrameClass.{FrameClass}
-use Rattle.rtk_convert.specs.declared.frame_class.FrameClass.TheVariants.{OtherMessage, Refused, Foreign, Dated}
 use Rattle.rtk_convert.specs.declared.counts.Counts.{Counts}
 use Rattle.rtk_convert.specs.FileOfArrivals.{file_so_far}
-use Rattle.rtk_convert.specs.FrameClass.{IsClassOfPayload, Found, arrivals}
+use Rattle.rtk_convert.specs.FrameClass.{Found, arrivals}
 use Rattle.rtk_convert.specs.Records.{RecordsView, HasClosed}
 use Rattle.rtk_convert.specs.Report.{lines, frame_counts}
 use Rattle.rtk_convert.specs.Setup.{SetupView}
-use Rattle.rtk_convert.specs.Writing.{WritesRest, WritesPartOfRest}
 
 pub record ConversionView : Type 0 where
   pub settings : SetupView
@@ -43,9 +41,11 @@ IsUnder (Some t) w = (length w.sets ≡ w.size) × All (λ x. t.epoch < x.epoch)
 abbrev pub IsAhead : CollectorView → RecordsView → Type 0
 IsAhead w c = (satellite : ℕ) (code : Code) → IsSatellite satellite → IsUnder (track_at c.tracks satellite code) w
 
--- the window has the places that were set up, and unless a call broke off it is ahead of the last phases
+-- the window has the places that were set up, and at most as many epochs; unless a call broke off it is ahead of the last
+-- phases
 pub record IsConversionView (s : ConversionView) : Type 0 where
   pub places : s.window.size ≡ s.settings.window
+  pub few : length s.window.sets ≤ s.window.size
   pub ahead : s.stopped ≡ false → IsAhead s.window s.closed
 
 abbrev pub found_on : ℕ → FrameClass → Found
@@ -54,37 +54,3 @@ found_on link f = record { link = link; finding = f }
 -- of what a frame adds to the file so far and to the lines, one at least is empty
 abbrev pub AddsToOne : SetupView → Found → List Found → Type 0
 AddsToOne s f before = (file_so_far s (arrivals (f ∷ before)) ≡ file_so_far s (arrivals before)) ⊎ (lines s.window (f ∷ before) ≡ lines s.window before)
-
--- a frame with this finding arrives on a link after those before: the conversion then represents the frames with this
--- one, and what was written is what the file so far and the lines have past those before, of which one at least is empty
-pub record AcceptsFrameAs (old : ConversionView) (link : ℕ) (f : FrameClass) (before : List Found) (new : ConversionView) (out_old out_new log_old log_new : Option (List ℕ)) : Type 0 where
-  pub represents : RepresentsFound new (found_on link f ∷ before)
-  pub out : WritesRest out_old out_new (file_so_far old.settings (arrivals before)) (file_so_far old.settings (arrivals (found_on link f ∷ before)))
-  pub log : WritesRest log_old log_new (lines old.settings.window before) (lines old.settings.window (found_on link f ∷ before))
-  pub one : AddsToOne old.settings (found_on link f) before
-
--- the call breaks off: what was written is a first part of that
-pub record BreaksOffAtFrameAs (old : ConversionView) (link : ℕ) (f : FrameClass) (before : List Found) (out_old out_new log_old log_new : Option (List ℕ)) : Type 0 where
-  pub out : WritesPartOfRest out_old out_new (file_so_far old.settings (arrivals before)) (file_so_far old.settings (arrivals (found_on link f ∷ before)))
-  pub log : WritesPartOfRest log_old log_new (lines old.settings.window before) (lines old.settings.window (found_on link f ∷ before))
-  pub one : AddsToOne old.settings (found_on link f) before
-
--- whatever was found before
-abbrev pub AcceptsFrame : ConversionView → ℕ → List ℕ → ConversionView → Option (List ℕ) → Option (List ℕ) → Option (List ℕ) → Option (List ℕ) → Type 0
-AcceptsFrame old link payload new out_old out_new log_old log_new = (before : List Found) → RepresentsFound old before
-    → (f : FrameClass) × IsClassOfPayload old.settings payload f × AcceptsFrameAs old link f before new out_old out_new log_old log_new
-
-abbrev pub BreaksOffAtFrame : ConversionView → ℕ → List ℕ → Option (List ℕ) → Option (List ℕ) → Option (List ℕ) → Option (List ℕ) → Type 0
-BreaksOffAtFrame old link payload out_old out_new log_old log_new = (before : List Found) → RepresentsFound old before
-    → (f : FrameClass) × IsClassOfPayload old.settings payload f × BreaksOffAtFrameAs old link f before out_old out_new log_old log_new
-
--- another message, or one of another station, takes no memory and writes nothing
-abbrev pub MayBreakOff : FrameClass → Type 0
-MayBreakOff OtherMessage = ⊥
-MayBreakOff (Refused fault) = Unit {0}
-MayBreakOff Foreign = ⊥
-MayBreakOff (Dated a) = Unit {0}
-
--- the payload comes to a finding on which a call may break off
-abbrev pub HasCause : SetupView → List ℕ → Type 0
-HasCause s payload = (f : FrameClass) × IsClassOfPayload s payload f × MayBreakOff f

@@ -26,10 +26,11 @@ pub record ConverterView : Type 0 where
 abbrev pub IsLinkCount : ℕ → Type 0
 IsLinkCount n = IsInRange 1 16 n
 
--- a converter has 1 to 16 links, and of each at most the bytes of the longest frame
+-- a converter has 1 to 16 links, of each at most the bytes of the longest frame, and at most as many epochs as were set up
 pub record IsConverterView (c : ConverterView) : Type 0 where
   pub few : IsLinkCount (length c.links)
   pub short : All (λ l. length l.scanner.pending ≤ 1029) c.links
+  pub epochs : length c.conversion.window.sets ≤ c.conversion.settings.window
 
 -- why a call on a link is refused at once: the first cause that holds
 abbrev pub link_refusal : Option Link → Option ConvertFault
@@ -46,7 +47,7 @@ pub record RepresentsLink (l : Link) (p : LinkPast) (number : ℕ) (found : List
   pub waiting : p.is_closed ≡ false → l.scanner.pending ≡ pending p.fed
   pub newest : l.newest ≡ newest_on number found
 
--- so are these links, numbered from here on
+-- each link represents its past; the first of these links has this number
 abbrev pub RepresentLinks : List Link → List LinkPast → ℕ → List Found → Type 0
 RepresentLinks [] [] number found = Unit {0}
 RepresentLinks (l ∷ ls) (p ∷ ps) number found = RepresentsLink l p number found × RepresentLinks ls ps (suc number) found
@@ -59,7 +60,14 @@ pub record RepresentsHistory (c : ConverterView) (h : History) : Type 0 where
   pub links : RepresentLinks c.links h.links 0 h.found
   pub found : RepresentsFound c.conversion h.found
 
--- what was written is what the file so far and the lines have past those of before
+-- what a converter holds: of each link at most the bytes of the longest frame; at most as many open epochs as the setup
+-- says; and unless a call broke off, of each of these at most 1,024 cells: 32 satellites, 16 codes, 2 kinds of message
+pub record HoldsAtMost (c : ConverterView) : Type 0 where
+  pub bytes : All (λ l. length l.scanner.pending ≤ 1029) c.links
+  pub epochs : length c.conversion.window.sets ≤ c.conversion.settings.window
+  pub cells : (h : History) → RepresentsHistory c h → All (λ e. length e.cells ≤ 1024) c.conversion.window.sets
+
+-- what was written is the rest of the file so far and of the lines: what they have now and did not have before
 pub record WritesOn (s : SetupView) (before after : List Found) (out_old out_new log_old log_new : Option (List ℕ)) : Type 0 where
   pub out : WritesRest out_old out_new (file_so_far s (arrivals before)) (file_so_far s (arrivals after))
   pub log : WritesRest log_old log_new (lines s.window before) (lines s.window after)
@@ -76,13 +84,14 @@ ClosesLink old link new out_old out_new log_old log_new = (h : History) → Repr
     → (next : History) × IsAfterClose old.conversion.settings h link next × RepresentsHistory new next
     × WritesOn old.conversion.settings h.found next.found out_old out_new log_old log_new
 
--- what was written has the second text's part past the first, and a first part of the third's past the second
+-- the first text begins the second, and the second the third: what was written is the rest of the second, and then a
+-- first part of the rest of the third
 abbrev pub WritesInto : Option (List ℕ) → Option (List ℕ) → List ℕ → List ℕ → List ℕ → Type 0
 WritesInto before after first second third = (more : List ℕ) × (part : List ℕ) × (rest : List ℕ)
     × (second ≡ first ++ more) × (third ≡ second ++ (part ++ rest)) × (after ≡ with_more before (more ++ part))
 
 -- a call breaks off at one of the frames that it finds after those before: what was written since there were those first
--- is that of all frames up to this one, and a first part of what this one adds
+-- is what all frames up to this one add, and a first part of what this one adds
 pub record BreaksOffAfter (s : SetupView) (link : ℕ) (payloads : List (List ℕ)) (first before : List Found) (out_old out_new log_old log_new : Option (List ℕ)) : Type 0 where
   pub done : List (List ℕ)
   pub payload : List ℕ
@@ -119,12 +128,6 @@ abbrev pub IsAfterClosingAll : SetupView → History → ℕ → History → Typ
 IsAfterClosingAll s h zero next = next ≡ h
 IsAfterClosingAll s h (suc n) next = (mid : History) × IsAfterClosingAll s h n mid × IsAfterClosing s mid n next
 
--- all open links closed, whatever the history was
-abbrev pub ClosesAllLinks : ConverterView → ConverterView → Option (List ℕ) → Option (List ℕ) → Option (List ℕ) → Option (List ℕ) → Type 0
-ClosesAllLinks old new out_old out_new log_old log_new = (h : History) → RepresentsHistory old h
-    → (last : History) × IsAfterClosingAll old.conversion.settings h (length h.links) last × RepresentsHistory new last
-    × WritesOn old.conversion.settings h.found last.found out_old out_new log_old log_new
-
 -- the end of a converter: its open links are closed, the file and the report are whole
 pub record FinishesConverterAs (s : SetupView) (h last : History) (counts : Counts) (out_old out_new log_old log_new : Option (List ℕ)) : Type 0 where
   pub closed : IsAfterClosingAll s h (length h.links) last
@@ -143,10 +146,6 @@ pub record BreaksOffClosing (s : SetupView) (h : History) (link : ℕ) (out_old 
   pub closed : IsAfterClosingAll s h link mid
   pub is_open : IsOpen mid link
   pub breaks : BreaksOffAfter s link (found_by_close (fed_on link mid.links)) h.found mid.found out_old out_new log_old log_new
-
-abbrev pub ClosesAllLinksInPart : ConverterView → Option (List ℕ) → Option (List ℕ) → Option (List ℕ) → Option (List ℕ) → Type 0
-ClosesAllLinksInPart old out_old out_new log_old log_new = (h : History) → RepresentsHistory old h
-    → (link : ℕ) × BreaksOffClosing old.conversion.settings h link out_old out_new log_old log_new
 
 -- or once all are closed: what is out lies between the file so far and the file
 pub record BreaksOffFinishing (s : SetupView) (h : History) (out_old out_new log_old log_new : Option (List ℕ)) : Type 0 where

@@ -9,11 +9,11 @@ use Rattle.rtk_convert.specs.Setup.{SetupView}
 abbrev pub in_classes : Counts → ℕ
 in_classes c = c.other + c.refused + c.foreign + c.taken + c.repeat + c.conflict + c.late
 
--- these counts are of so many frames, each in one of the seven
+-- these are counts of n frames, each in one of the seven
 pub record AreCountsOf (frames : ℕ) (c : Counts) : Type 0 where
   pub frames_are : c.frames ≡ frames
   pub classes_are : in_classes c ≡ frames
 
--- so are the counts of found frames, where a count can hold their number
+-- and the counts of found frames are such, if a count can hold their number
 abbrev pub EachFrameInOneClass : Type 0
 EachFrameInOneClass = (s : SetupView) (found : List Found) → length found < 2 ^ 64 → AreCountsOf (length found) (all_counts s found)

@@ -6,24 +6,11 @@ use Rattle.rtk_convert.specs.declared.fault.ConvertFault.TheVariants.{Setup, Out
 use Rattle.rtk_convert.specs.declared.fault.Stream.{Stream}
 use Rattle.rtk_convert.specs.declared.fault.Stream.TheVariants.{Out, Log}
 
--- memory was refused, or a write to the file failed
-abbrev pub IsOutFault : ConvertFault → Type 0
-IsOutFault OutOfMemory = Unit {0}
-IsOutFault (Write Out) = Unit {0}
-IsOutFault _ = ⊥
-
 -- memory was refused, or a write failed
 abbrev pub IsFrameFault : ConvertFault → Type 0
 IsFrameFault OutOfMemory = Unit {0}
 IsFrameFault (Write stream) = Unit {0}
 IsFrameFault _ = ⊥
-
--- memory was refused, or a read or a write failed
-abbrev pub IsReadFault : ConvertFault → Type 0
-IsReadFault OutOfMemory = Unit {0}
-IsReadFault (Write stream) = Unit {0}
-IsReadFault (Read link) = Unit {0}
-IsReadFault _ = ⊥
 
 -- memory was refused, a read or a write failed, or a link did not end
 abbrev pub IsReadingFault : ConvertFault → Type 0

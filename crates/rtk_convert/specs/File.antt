@@ -1,5 +1,5 @@
 -- The file of a set of messages, defined from the set at once. A set is seen as the site of its station and its epochs, which
--- fall: behind an epoch, with its cells, stand the lower ones.
+-- fall: after an epoch, with its cells, come the lower ones.
 use Rattle.std.specs.Prelude.{ℕ, List, [], ◌∷◌, ◌++◌, Option, None, Some, unwrap_or}
 use Rattle.rtk_obs.specs.declared.code.Code.{Code}
 use Rattle.rtk_frame.specs.Stream.{count_after}
@@ -19,7 +19,7 @@ unfoldable pub records : List Code → List EpochSetView → List ℕ
 records listed [] = []
 records listed (e ∷ below) = records listed below ++ record_of listed e below
 
--- the time before, where there is one; else that of an epoch with this record, unless it is empty
+-- the time before, if there is one; else the time of an epoch with this record, unless the record is empty
 abbrev pub first_or : Option ℕ → ℕ → List ℕ → Option ℕ
 first_or (Some first) epoch text = Some first
 first_or None epoch [] = None
@@ -30,7 +30,7 @@ unfoldable pub first_time : List Code → List EpochSetView → Option ℕ
 first_time listed [] = None
 first_time listed (e ∷ below) = first_or (first_time listed below) e.epoch (record_of listed e below)
 
--- the header: its first time is that of the first record, else the reference
+-- the header: its first time is the time of the first record; without a record it is the reference
 abbrev pub header_of : SetupView → PositionView → List EpochSetView → List ℕ
 header_of s site epochs = header_text s.heading site (unwrap_or (first_time s.heading.listed epochs) s.near)
 

@@ -1,33 +1,24 @@
 -- Laws on the file of a set.
-use Rattle.std.specs.Prelude.{◌≡◌, ◌<◌, ℕ, List, [], ◌∷◌, All}
+use Rattle.std.specs.Prelude.{◌≡◌, ℕ, List, All}
 use Rattle.rtk_obs.specs.Cell.{IsInRange}
-use Rattle.rtk_collect.specs.EpochSet.{EpochSetView}
+use Rattle.rtk_collect.specs.EpochSet.{EpochSetView, EpochsFall}
 use Rattle.rtk_rinex.specs.Header.{PositionView, IsPositionView}
 use Rattle.rtk_rinex.specs.Reading.{IsMoment}
 use Rattle.rtk_rinex.specs.Table.{WellFormedTable, IsWellFormedTable, table_text}
 use Rattle.rtk_convert.specs.Setup.{SetupView, IsSetupView}
 use Rattle.rtk_convert.specs.File.{file_of}
 
--- each epoch is greater than those behind it
-abbrev pub IsAbove : ℕ → List EpochSetView → Type 0
-IsAbove epoch [] = Unit {0}
-IsAbove epoch (e ∷ below) = e.epoch < epoch
-
-abbrev pub Fall : List EpochSetView → Type 0
-Fall [] = Unit {0}
-Fall (e ∷ below) = IsAbove e.epoch below × Fall below
-
 -- a moment, and cells with a satellite from 1 to 32 and a strength that messages give
 pub record IsGoodEpoch (e : EpochSetView) : Type 0 where
   pub time : IsMoment e.epoch
   pub cells : All IsInRange e.cells
 
--- a text is that of a well-formed table, which the checker accepts
+-- it is the text of a well-formed table, which the checker accepts
 abbrev pub IsTextOfTable : List ℕ → Type 0
 IsTextOfTable text = (t : WellFormedTable) × IsWellFormedTable t × (text ≡ table_text t)
 
 -- so is the file of every set
 abbrev pub FileIsTable : Type 0
 FileIsTable =
-    (s : SetupView) (site : PositionView) (epochs : List EpochSetView) → IsSetupView s → IsPositionView site → Fall epochs → All IsGoodEpoch epochs
+    (s : SetupView) (site : PositionView) (epochs : List EpochSetView) → IsSetupView s → IsPositionView site → EpochsFall epochs → All IsGoodEpoch epochs
     → IsTextOfTable (file_of s site epochs)

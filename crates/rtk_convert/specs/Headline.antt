@@ -56,7 +56,7 @@ EqualKeysCarryEqualBodies s found = IsConsistent s.window (arrivals found)
 
 -- ---- "the file written is byte for byte"
 
--- such a text was written, behind what was written before
+-- such a text was written, after what was written before
 abbrev pub IsWritten : Option (List ℕ) → Option (List ℕ) → (List ℕ → Type 0) → Type 0
 IsWritten before after IsText = (text : List ℕ) × (after ≡ with_more before text) × IsText text
 
@@ -101,15 +101,15 @@ IsFileOf s set text = (c : Content) × IsContentOf set c × EachOnce c × (text 
 
 -- ---- "late arrivals are listed"
 
--- behind the frames before it a message came on a link, too late
+-- after the frames before it a message came on a link, too late
 abbrev pub CameLate : SetupView → List Found → ℕ → Arrival → List Found → Type 0
 CameLate s found link a before = ((later : List Found) × (found ≡ later ++ found_on link (Dated a) ∷ before)) × (late s.window a (arrivals before) ≡ true)
 
--- a text has a line right behind others
+-- a text has a line right after others
 abbrev pub HasLineAfter : List ℕ → List ℕ → List ℕ → Type 0
 HasLineAfter others line text = (rest : List ℕ) × (text ≡ others ++ (line ++ rest))
 
--- each has its own line, right behind the lines of the frames before it
+-- each has its own line, right after the lines of the frames before it
 abbrev pub LateAreListed : SetupView → List Found → Option (List ℕ) → Option (List ℕ) → Type 0
 LateAreListed s found log_old log_new = (link : ℕ) (a : Arrival) (before : List Found) → CameLate s found link a before
     → IsWritten log_old log_new (HasLineAfter (lines s.window before) (late_line link (number_of (message_of a)) (epoch_of a)))
@@ -152,7 +152,7 @@ SetHasOneFile = (s : SetupView) (one other : List Found) (first second : List �
 
 -- ---- of a run
 
--- a read feeds the bytes that it gave, or closes the link where it gave none
+-- a read feeds the bytes that it gave, or closes the link if it gave none
 abbrev pub call_of : ℕ → List ℕ → Call
 call_of link [] = Close link
 call_of link (x ∷ piece) = Feed link (x ∷ piece)

@@ -24,11 +24,11 @@ new_history n = record { links = replicate n (record { fed = []; is_closed = fal
 
 -- ---- what a call finds
 
--- the payloads that a piece behind these bytes finds: those of the final frames, but for the ones before
+-- the payloads that a piece after these bytes finds: the payloads of the final frames, without those found before
 abbrev pub found_by_piece : List ℕ → List ℕ → List (List ℕ)
 found_by_piece fed piece = drop (length (final_frames fed)) (payloads (final_frames (fed ++ piece)))
 
--- the payloads that a close finds: those of all frames of the bytes, but for the final ones
+-- the payloads that a close finds: the payloads of all frames of the bytes, without the final ones
 abbrev pub found_by_close : List ℕ → List (List ℕ)
 found_by_close fed = drop (length (final_frames fed)) (payloads (frames fed))
 
@@ -79,10 +79,6 @@ epoch_found OtherMessage = None
 epoch_found (Refused fault) = None
 epoch_found Foreign = None
 epoch_found (Dated a) = epoch_of a
-
--- the same of the payload of a frame
-abbrev pub IsEpochIn : SetupView → List ℕ → Option ℕ → Type 0
-IsEpochIn s payload epoch = (f : FrameClass) × IsClassOfPayload s payload f × (epoch ≡ epoch_found f)
 
 -- the greater of two epochs
 abbrev pub later_of : Option ℕ → Option ℕ → Option ℕ

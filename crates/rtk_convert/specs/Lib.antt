@@ -13,16 +13,15 @@ pub mod FileOfArrivals
 pub mod ReportText
 pub mod Report
 pub mod Conversion
-pub mod AddedMessage
 pub mod Finish
 pub mod CountLaws
 pub mod ArrivalLaws
 pub mod History
 pub mod Converter
-pub mod LinkFrames
 pub mod ReadHistory
 pub mod ReadSteps
 pub mod Run
 pub mod Headline
 pub mod CallLaws
 pub mod HistoryLaws
+pub mod Steps

@@ -9,7 +9,7 @@ pub record Read : Type 0 where
   pub link : ℕ
   pub piece : List ℕ
 
--- the history after a read of a link: it is fed the bytes, and closed where there are none
+-- the history after a read of a link: the bytes are fed, and without bytes the link is closed
 abbrev pub IsAfterPiece : SetupView → History → ℕ → List ℕ → History → Type 0
 IsAfterPiece s h link [] next = IsAfterClose s h link next
 IsAfterPiece s h link (x ∷ piece) next = IsAfterFeed s h link (x ∷ piece) next
@@ -20,7 +20,7 @@ pub record IsNextRead (s : SetupView) (h : History) (r : Read) (next : History) 
   pub few : length r.piece ≤ 512
   pub after : IsAfterPiece s h r.link r.piece next
 
--- the history that reads of so many links come to
+-- the history that reads of this number of links come to
 abbrev pub IsHistoryOf : SetupView → ℕ → List Read → History → Type 0
 IsHistoryOf s links [] h = h ≡ new_history links
 IsHistoryOf s links (r ∷ before) h = (old : History) × IsHistoryOf s links before old × IsNextRead s old r h

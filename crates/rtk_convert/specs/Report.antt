@@ -5,8 +5,6 @@ use Rattle.rtk_message.specs.declared.fault.DecodeFault.{DecodeFault}
 use Rattle.rtk_message.specs.declared.fault.DecodeFault.TheVariants.{NoNumber, Other, Short, EpochRange, TooManyCells}
 use Rattle.rtk_message.specs.Decoded.{number_of}
 use Rattle.rtk_collect.specs.declared.conflicts.SatelliteCode.{SatelliteCode}
-use Rattle.rtk_collect.specs.declared.offer.Offer.{Offer}
-use Rattle.rtk_collect.specs.declared.offer.Offer.TheVariants.{Taken, Conflict, Repeat, Late}
 use Rattle.rtk_collect.specs.Arrival.{Arrival, epoch_of, message_of}
 use Rattle.rtk_collect.specs.Answer.{Class, LateClass, TakenClass, RepeatClass, ConflictClass, class_of, conflicts_of}
 use Rattle.rtk_convert.specs.FrameClass.{Found, arrivals}
@@ -34,7 +32,7 @@ abbrev pub cell_lines : ℕ → ℕ → Option ℕ → List SatelliteCode → Li
 cell_lines link number None cells = []
 cell_lines link number (Some e) cells = flat_map (λ c. cell_conflict_line link number e c.satellite c.code) cells
 
--- the lines of a message of which nothing was new, and something conflicts
+-- the lines of a message with nothing new and something in conflict
 abbrev pub conflict_lines : ℕ → ℕ → Option ℕ → List SatelliteCode → List ℕ
 conflict_lines link number None cells = conflict_line link number
 conflict_lines link number (Some e) cells = cell_lines link number (Some e) cells
@@ -45,13 +43,6 @@ class_lines link number epoch LateClass cells = late_line link number epoch
 class_lines link number epoch TakenClass cells = cell_lines link number epoch cells
 class_lines link number epoch RepeatClass cells = []
 class_lines link number epoch ConflictClass cells = conflict_lines link number epoch cells
-
--- the lines of a message with this answer
-abbrev pub offer_lines : ℕ → ℕ → Option ℕ → Offer → List ℕ
-offer_lines link number epoch Late = late_line link number epoch
-offer_lines link number epoch (Taken closing cells) = cell_lines link number epoch cells
-offer_lines link number epoch Repeat = []
-offer_lines link number epoch (Conflict cells) = conflict_lines link number epoch cells
 
 -- the lines of a found frame, after the arrivals before it, in a window of n epochs
 abbrev pub frame_lines : ℕ → ℕ → FrameClass → List Arrival → List ℕ
@@ -65,7 +56,7 @@ abbrev pub lines : ℕ → List Found → List ℕ
 lines n [] = []
 lines n (f ∷ before) = lines n before ++ frame_lines n f.link f.finding (arrivals before)
 
--- ---- counts, each of which stays at its greatest value
+-- ---- counts: each stays at its greatest value
 
 abbrev pub no_counts : Counts
 no_counts = record { frames = 0; other = 0; refused = 0; foreign = 0; taken = 0; repeat = 0; conflict = 0; late = 0; epochs = 0 }
@@ -75,13 +66,6 @@ counted_as LateClass c = record c { late = count_after c.late }
 counted_as TakenClass c = record c { taken = count_after c.taken }
 counted_as RepeatClass c = record c { repeat = count_after c.repeat }
 counted_as ConflictClass c = record c { conflict = count_after c.conflict }
-
--- an arrival with this answer
-abbrev pub counted_offer : Offer → Counts → Counts
-counted_offer Late c = counted_as LateClass c
-counted_offer (Taken closing cells) c = counted_as TakenClass c
-counted_offer (Conflict cells) c = counted_as ConflictClass c
-counted_offer Repeat c = counted_as RepeatClass c
 
 -- each frame is in exactly one of the seven counts
 abbrev pub counted : ℕ → FrameClass → List Arrival → Counts → Counts

@@ -1,4 +1,4 @@
--- The table of an epoch, given the epochs below it. Lists of epochs fall: behind an epoch stand the lower ones.
+-- The table of an epoch, given the epochs below it. Lists of epochs fall: after an epoch come the lower ones.
 use Rattle.std.specs.Prelude.{ℕ, zero, suc, Bool, false, ◌&&◌, ◌==◌, List, [], ◌∷◌, ◌++◌, map, filter, Option, Some, None, is_some, if◌then◌else◌, ℤ}
 use Rattle.std.specs.List.{list_any}
 use Rattle.rtk_obs.specs.declared.cell.Cell.{Cell}
@@ -21,7 +21,7 @@ use Rattle.rtk_rinex.specs.Record.{EpochTableView}
 abbrev pub is_from : CellSource → CellEntry → Bool
 is_from source e = is_same_source e.cell.source source
 
--- the cells of an epoch, those of a 1074 before those of a 1004
+-- the cells of an epoch: first the cells of a 1074, then the cells of a 1004
 abbrev pub in_turn : List CellEntry → List CellEntry
 in_turn cells = filter (is_from Msm) cells ++ filter (is_from Legacy) cells
 
@@ -33,7 +33,7 @@ abbrev pub first_cell : List CellEntry → ℕ → Code → Option Cell
 first_cell [] satellite code = None
 first_cell (e ∷ cells) satellite code = if is_signal satellite code e then Some e.cell else first_cell cells satellite code
 
--- the cell of a satellite and code at an epoch: that of a 1074, even one without any value, else that of a 1004
+-- the cell of a satellite and code at an epoch: the cell of a 1074, even one without any value, else the cell of a 1004
 abbrev pub cell_at : List CellEntry → ℕ → Code → Option Cell
 cell_at cells satellite code = first_cell (in_turn cells) satellite code
 
@@ -61,7 +61,7 @@ abbrev pub observed_with : Cell → Digits → Observed
 observed_with c d =
     record { range_mm = c.range_mm; phase_millicycles = rolled_or_none c.phase_millicycles d.rolls; strength_millidbhz = c.strength_millidbhz; slip = d.slip; half = d.half }
 
--- what the cell of a code shows at an epoch, behind the last phase
+-- what the cell of a code shows at an epoch, after the last phase
 abbrev pub observed_after : Option Track → Code → ℕ → Option Cell → Option Observed
 observed_after last code epoch None = None
 observed_after last code epoch (Some c) = Some (observed_with c (digits_since (band_of code) last (epoch_cell epoch c)))
@@ -83,7 +83,7 @@ or_nothing (Some o) = o
 abbrev pub row_with : (ℕ → Code → Option Observed) → List Code → ℕ → SatelliteRow
 row_with shown listed satellite = record { satellite = satellite; observed = record { items = map (λ code. or_nothing (shown satellite code)) listed } }
 
--- the row of a satellite, where it has a cell of a listed code
+-- the row of a satellite, if it has a cell of a listed code
 abbrev pub row_if_any : (ℕ → Code → Option Observed) → List Code → ℕ → List SatelliteRow
 row_if_any shown listed satellite =
     if list_any (λ code. is_some (shown satellite code)) listed then row_with shown listed satellite ∷ [] else []

@@ -1,35 +1,17 @@
 -- What a run does: the file and the report of what its readers gave, or how far it came.
-use Rattle.std.specs.Prelude.{◌≡◌, ◌⊎◌, ℕ, ◌+◌, ◌≤◌, List, [], ◌∷◌, ◌++◌, length, Option, slice_index_or}
-use Rattle.rtk_frame.specs.Stream.{with_more, CountRises}
-use Rattle.rtk_convert.specs.Converter.{WritesInto}
-use Rattle.rtk_convert.specs.declared.frame_class.FrameClass.{FrameClass}
-use Rattle.rtk_convert.specs.declared.counts.Counts.{Counts}
+use Rattle.std.specs.Prelude.{◌≡◌, ◌⊎◌, ℕ, ◌+◌, ◌≤◌, List, [], ◌∷◌, length, Option, slice_index_or}
+use Rattle.rtk_frame.specs.Stream.{CountRises}
+use Rattle.rtk_convert.specs.Converter.{WritesInto, BreaksOffAfter}
 use Rattle.rtk_convert.specs.FileOfArrivals.{kept_file, file_so_far}
-use Rattle.rtk_convert.specs.FrameClass.{Found, IsClassOfPayload, arrivals}
-use Rattle.rtk_convert.specs.Finish.{all_counts, report_of}
-use Rattle.rtk_convert.specs.History.{History, Finds, IsOpen, IsNextLink}
+use Rattle.rtk_convert.specs.FrameClass.{arrivals}
+use Rattle.rtk_convert.specs.Finish.{report_of}
+use Rattle.rtk_convert.specs.History.{History, IsOpen, IsNextLink}
 use Rattle.rtk_convert.specs.ReadSteps.{read_of, found_by_read, HasRead, HasCalled}
 use Rattle.rtk_convert.specs.ReadHistory.{Read, IsHistoryOf, AllClosed, AreAtEnd, AllAtEnd, Gave}
 use Rattle.rtk_convert.specs.Report.{lines}
 use Rattle.rtk_convert.specs.Setup.{SetupView}
-use Rattle.rtk_convert.specs.Conversion.{found_on}
 
--- ---- to the end
-
--- all links were read to their end, by so many calls as there are reads, and the file and the report of what they gave are out
-pub record RunsAs {R : Type 0} (given : R → Option (List ℕ)) (calls : R → ℕ) (is_at_end : R → Type 0) (s : SetupView) (before after : List R) (counts : Counts) (out_old out_new log_old log_new : Option (List ℕ)) : Type 0 where
-  pub reads : List Read
-  pub history : History
-  pub comes_to : IsHistoryOf s (length before) reads history
-  pub closed : AllClosed history
-  pub gave : Gave given before after reads
-  pub called : HasCalled calls before after (length reads)
-  pub at_end : AllAtEnd is_at_end after
-  pub out : out_new ≡ with_more out_old (kept_file s (arrivals history.found))
-  pub log : log_new ≡ with_more log_old (report_of s history.found)
-  pub counts_are : counts ≡ all_counts s history.found
-
--- ---- so far as it came
+-- ---- as far as it came
 
 -- a read of a link failed; exactly the file so far and the lines of what was read before are out
 pub record FailsReading {R : Type 0} (given : R → Option (List ℕ)) (failures calls : R → ℕ) (s : SetupView) (link : ℕ) (before after : List R) (out_old out_new log_old log_new : Option (List ℕ)) : Type 0 where
@@ -40,7 +22,7 @@ pub record FailsReading {R : Type 0} (given : R → Option (List ℕ)) (failures
   pub is_next : IsNextLink history link
   pub failed : (none : R) → CountRises (failures (slice_index_or before link none)) (failures (slice_index_or after link none))
 
--- a link is open still after so many reads; exactly the file so far and the lines of what was read are out
+-- a link is still open after this number of reads; exactly the file so far and the lines of what was read are out
 pub record StaysOpen {R : Type 0} (given : R → Option (List ℕ)) (is_at_end : R → Type 0) (s : SetupView) (max_reads : ℕ) (before after : List R) (out_old out_new log_old log_new : Option (List ℕ)) : Type 0 where
   pub reads : List Read
   pub history : History
@@ -50,20 +32,8 @@ pub record StaysOpen {R : Type 0} (given : R → Option (List ℕ)) (is_at_end :
   pub link : ℕ
   pub is_open : IsOpen history link
 
--- of the frames that a read finds, those before the one in hand are written, and a first part of what that one adds
-pub record IsCutAt (s : SetupView) (link : ℕ) (payloads : List (List ℕ)) (before : List Found) (out_old out_new log_old log_new : Option (List ℕ)) : Type 0 where
-  pub done : List (List ℕ)
-  pub payload : List ℕ
-  pub left : List (List ℕ)
-  pub split : payloads ≡ done ++ payload ∷ left
-  pub found : List Found
-  pub finds : Finds s link done before found
-  pub finding : FrameClass
-  pub comes : IsClassOfPayload s payload finding
-  pub out : WritesInto out_old out_new [] (file_so_far s (arrivals found)) (file_so_far s (arrivals (found_on link finding ∷ found)))
-  pub log : WritesInto log_old log_new [] (lines s.window found) (lines s.window (found_on link finding ∷ found))
-
--- the run breaks off at a frame that its last read found
+-- the run breaks off at a frame that its last read found: of all frames found since none was, those before this one are
+-- written, and a first part of what this one adds
 pub record BreaksOffReading {R : Type 0} (given : R → Option (List ℕ)) (calls : R → ℕ) (s : SetupView) (before after : List R) (out_old out_new log_old log_new : Option (List ℕ)) : Type 0 where
   pub reads : List Read
   pub history : History
@@ -74,7 +44,7 @@ pub record BreaksOffReading {R : Type 0} (given : R → Option (List ℕ)) (call
   pub few : length piece ≤ 512
   pub gave : Gave given before after (read_of link piece ∷ reads)
   pub called : HasCalled calls before after (length reads + 1)
-  pub cut : IsCutAt s link (found_by_read link history piece) history.found out_old out_new log_old log_new
+  pub cut : BreaksOffAfter s link (found_by_read link history piece) [] history.found out_old out_new log_old log_new
 
 -- nothing was read, and nothing is out
 pub record IsUntouched {R : Type 0} (before after : List R) (out_old out_new log_old log_new : Option (List ℕ)) : Type 0 where

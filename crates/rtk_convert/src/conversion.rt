@@ -1,12 +1,13 @@
-//! What all links together have come to: one found frame at a time.
+//! The state of a conversion: it takes the frames of all links, one at a time.
 
-ghost use Rattle.std.specs.Prelude.{◌≡◌, ◌≢◌, ◌↔◌, [], true, false, List, Err, OnOk, OnErr, IsErrOf, IfOk, IfErr};
+ghost use Rattle.std.specs.Prelude.{◌≡◌, ◌≢◌, ◌≤◌, ◌↔◌, [], length, true, false, List, Err, OnOk, OnErr, IsErrOf, IfOk, IfErr};
 ghost use Rattle.rtk_convert.specs.Failure.{IsFrameFault, NamesFailedWrites};
-ghost use Rattle.rtk_convert.specs.Finish.{FinishesConversion, FinishesConversionInPart};
-ghost use Rattle.rtk_convert.specs.History.{IsEpochIn};
-ghost use Rattle.rtk_convert.specs.AddedMessage.{AddsMessage, AddsMessageInPart, closed_by};
-ghost use Rattle.rtk_convert.specs.Report.{counted_offer};
-ghost use Rattle.rtk_convert.specs.Conversion.{RepresentsFound, IsAhead, AcceptsFrame, BreaksOffAtFrame, HasCause};
+ghost use Rattle.rtk_convert.specs.Steps.Closing.{FinishesConversion, FinishesConversionInPart};
+ghost use Rattle.rtk_convert.specs.Steps.AcceptedFrame.{IsEpochIn, AcceptsFrame, BreaksOffAtFrame, HasCause};
+ghost use Rattle.rtk_convert.specs.Steps.AddedMessage.{AddsMessage, AddsMessageInPart, closed_by};
+ghost use Rattle.rtk_convert.specs.Report.{counted_as};
+ghost use Rattle.rtk_convert.specs.Steps.OfferLines.{class_of_offer};
+ghost use Rattle.rtk_convert.specs.Conversion.{RepresentsFound, IsAhead};
 
 use crate::counts::Counts;
 use crate::fault::{ConvertFault, Stream};
@@ -21,8 +22,8 @@ use rtk_obs::GpsMs;
 use std::alloc::Global;
 use std::marker::Model;
 
-/// What all links together have come to: the open epochs and the station messages, the last phases
-/// of the closed epochs, whether the header is out, and the counts.
+/// The state of a conversion: the open epochs and the station messages, the last phases of the
+/// closed epochs, whether the header is written, and the counts.
 ///
 /// A call that breaks off stops it: each later call answers V8.
 #[derive(Drop)]
@@ -51,6 +52,7 @@ impl Conversion {
         ensures represents { RepresentsFound result [] }
         ensures settings { result.settings ≡ setup }
         ensures going { result.stopped ≡ false }
+        ensures few { length result.window.sets ≤ setup.window }
     {
         let collector = Collector::new(alloc, setup.window());
         let records = Records::new(setup.near());
@@ -92,6 +94,7 @@ impl Conversion {
         log: &mut L,
     ) -> Result<Option<GpsMs>, ConvertFault>
         ensures settings { self.new.settings ≡ self.old.settings }
+        ensures few { length self.new.window.sets ≤ self.new.settings.window }
         ensures stopped { (result ≡ Err ConvertFault.Stopped) ↔ (self.old.stopped ≡ true) }
         ensures still { self.old.stopped ≡ true → (out.new ≡ out.old) × (log.new ≡ log.old) }
         ensures going { OnOk result (self.new.stopped ≡ false) }
@@ -124,6 +127,7 @@ impl Conversion {
         requires stopped { self.old.stopped ≡ true }
         requires ahead { IsAhead self.old.window self.old.closed }
         ensures settings { self.new.settings ≡ self.old.settings }
+        ensures few { length self.new.window.sets ≤ self.new.settings.window }
         ensures stopped { self.new.stopped ≡ true }
         ensures ahead { OnOk result (IsAhead self.new.window self.new.closed) }
         ensures epoch { IfOk result (λ epoch. IsEpochIn self.old.settings payload.now epoch) }
@@ -171,6 +175,7 @@ impl Conversion {
         requires stopped { self.old.stopped ≡ true }
         requires ahead { IsAhead self.old.window self.old.closed }
         ensures settings { self.new.settings ≡ self.old.settings }
+        ensures few { length self.new.window.sets ≤ self.new.settings.window }
         ensures stopped { self.new.stopped ≡ true }
         ensures ahead { OnOk result (IsAhead self.new.window self.new.closed) }
         ensures ok { OnOk result (AddsMessage self.old link dated self.new (O.taken out.old) (O.taken out.new) (L.taken log.old) (L.taken log.new)) }
@@ -246,7 +251,7 @@ fn closed_by(offer: Offer) -> Option<EpochSet>
 
 // Counts a message with this answer.
 fn count(counts: &mut Counts, offer: &Offer)
-    ensures { counts.new ≡ counted_offer offer.now counts.old }
+    ensures { counts.new ≡ counted_as (class_of_offer offer.now) counts.old }
 {
     match offer {
         Offer::Late => counts.late = counts.late.saturating_add(1),

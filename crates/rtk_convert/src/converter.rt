@@ -1,8 +1,9 @@
-//! Pieces of 1 to 16 links, in any order, to one file.
+//! A converter: it takes pieces of 1 to 16 links, in any order, and writes one file and a report.
 
 ghost use Rattle.std.specs.Prelude.{◌≡◌, ◌≢◌, ◌<◌, ◌↔◌, [], true, false, None, length, replicate, OnOk, OnErr, IsErrOf, IfOk, IfErr, IfSome, Decides};
 ghost use Rattle.rtk_frame.specs.ScannerView.{scanner_view};
-ghost use Rattle.rtk_convert.specs.Converter.{IsLinkCount, RepresentsHistory, refusal, FeedsPiece, FeedsPieceInPart, ClosesLink, ClosesLinkInPart, ClosesAllLinks, ClosesAllLinksInPart, FinishesConverter, FinishesConverterInPart};
+ghost use Rattle.rtk_convert.specs.Converter.{IsLinkCount, HoldsAtMost, RepresentsHistory, refusal, FeedsPiece, FeedsPieceInPart, ClosesLink, ClosesLinkInPart, FinishesConverter, FinishesConverterInPart};
+ghost use Rattle.rtk_convert.specs.Steps.AllLinks.{ClosesAllLinks, ClosesAllLinksInPart};
 ghost use Rattle.rtk_convert.specs.Failure.{IsFrameFault, NamesFailedWrites};
 ghost use Rattle.rtk_convert.specs.History.{History, new_history, IsOpen, newest_on};
 
@@ -16,10 +17,10 @@ use rtk_obs::GpsMs;
 use std::alloc::Global;
 use std::marker::Model;
 
-/// Links that carry messages of one station, and the file and the report that they come to.
+/// Converts what 1 to 16 links carry of one station to a file and a report.
 ///
-/// Its memory is bounded: a link holds at most 1,029 bytes, and what all links have come to at most
-/// the window's epochs. A call that breaks off (V4, V5) stops it: each later call answers V8.
+/// Its memory is bounded, as the clauses `bounds` say: of each link it holds at most 1,029 bytes,
+/// and in all at most as many open epochs as the setup says. A call that breaks off (V4, V5) stops it: each later call answers V8.
 #[derive(Drop)]
 pub struct Converter {
     conversion: Conversion,
@@ -36,7 +37,7 @@ impl Model for Converter {
     ghost invariant = { λ c. IsConverterView (record { conversion = c.conversion; links = c.links.items }) };
 }
 
-// So many open links on which nothing came.
+// New links: each is open, and nothing was fed on it.
 fn new_links(alloc: Global, count: usize) -> Result<Vec<Link>, ConvertFault>
     ensures new { IfOk result (λ links. links.items ≡ replicate count (record { scanner = scanner_view [] false; newest = None })) }
     ensures fault { IfErr result (λ fault. fault ≡ ConvertFault.OutOfMemory) }
@@ -65,6 +66,7 @@ impl Converter {
         ensures as_many { IfOk result (λ c. length c.links ≡ links) }
         ensures setup { IsErrOf result ConvertFault.Setup ↔ ¬ (IsLinkCount links) }
         ensures fault { IfErr result (λ fault. IsLinkCount links → fault ≡ ConvertFault.OutOfMemory) }
+        ensures bounds { IfOk result HoldsAtMost }
     {
         if links < 1 || links > 16 {
             return Err(ConvertFault::Setup);
@@ -126,16 +128,24 @@ impl Converter {
         out: &mut O,
         log: &mut L,
     ) -> Result<(), ConvertFault>
-        ensures settings { self.new.conversion.settings ≡ self.old.conversion.settings }
-        ensures as_many { length self.new.links ≡ length self.old.links }
-        ensures refused { IfSome (refusal self.old link) (λ fault. IsErrOf result fault × (self.new ≡ self.old) × (out.new ≡ out.old) × (log.new ≡ log.old)) }
-        ensures fault { refusal self.old link ≡ None → IfErr result IsFrameFault }
+        // Done: what the links come to, and what is written.
         ensures ok { OnOk result (FeedsPiece self.old link piece.now self.new (O.taken out.old) (O.taken out.new) (L.taken log.old) (L.taken log.new)) }
-        ensures err { IfErr result (λ fault. IsFrameFault fault → FeedsPieceInPart self.old link piece.now (O.taken out.old) (O.taken out.new) (L.taken log.old) (L.taken log.new)) }
         ensures going { OnOk result (self.new.conversion.stopped ≡ false) }
+
+        // Not done: nothing is changed, or what is out.
+        ensures refused { IfSome (refusal self.old link) (λ fault. IsErrOf result fault × (self.new ≡ self.old) × (out.new ≡ out.old) × (log.new ≡ log.old)) }
+        ensures err { IfErr result (λ fault. IsFrameFault fault → FeedsPieceInPart self.old link piece.now (O.taken out.old) (O.taken out.new) (L.taken log.old) (L.taken log.new)) }
         ensures halts { IfErr result (λ fault. IsFrameFault fault → self.new.conversion.stopped ≡ true) }
+
+        // When each fault; a stream that failed is named.
+        ensures fault { refusal self.old link ≡ None → IfErr result IsFrameFault }
         ensures file_failed { NamesFailedWrites Stream.Out result (O.failures out.old) (O.failures out.new) }
         ensures report_failed { NamesFailedWrites Stream.Log result (L.failures log.old) (L.failures log.new) }
+
+        // Whatever the answer.
+        ensures settings { self.new.conversion.settings ≡ self.old.conversion.settings }
+        ensures as_many { length self.new.links ≡ length self.old.links }
+        ensures bounds { HoldsAtMost self.new }
     {
         if let Some(fault) = self.refusal(link) {
             return Err(fault);
@@ -150,16 +160,24 @@ impl Converter {
         out: &mut O,
         log: &mut L,
     ) -> Result<(), ConvertFault>
-        ensures settings { self.new.conversion.settings ≡ self.old.conversion.settings }
-        ensures as_many { length self.new.links ≡ length self.old.links }
-        ensures refused { IfSome (refusal self.old link) (λ fault. IsErrOf result fault × (self.new ≡ self.old) × (out.new ≡ out.old) × (log.new ≡ log.old)) }
-        ensures fault { refusal self.old link ≡ None → IfErr result IsFrameFault }
+        // Done: what the links come to, and what is written.
         ensures ok { OnOk result (ClosesLink self.old link self.new (O.taken out.old) (O.taken out.new) (L.taken log.old) (L.taken log.new)) }
-        ensures err { IfErr result (λ fault. IsFrameFault fault → ClosesLinkInPart self.old link (O.taken out.old) (O.taken out.new) (L.taken log.old) (L.taken log.new)) }
         ensures going { OnOk result (self.new.conversion.stopped ≡ false) }
+
+        // Not done: nothing is changed, or what is out.
+        ensures refused { IfSome (refusal self.old link) (λ fault. IsErrOf result fault × (self.new ≡ self.old) × (out.new ≡ out.old) × (log.new ≡ log.old)) }
+        ensures err { IfErr result (λ fault. IsFrameFault fault → ClosesLinkInPart self.old link (O.taken out.old) (O.taken out.new) (L.taken log.old) (L.taken log.new)) }
         ensures halts { IfErr result (λ fault. IsFrameFault fault → self.new.conversion.stopped ≡ true) }
+
+        // When each fault; a stream that failed is named.
+        ensures fault { refusal self.old link ≡ None → IfErr result IsFrameFault }
         ensures file_failed { NamesFailedWrites Stream.Out result (O.failures out.old) (O.failures out.new) }
         ensures report_failed { NamesFailedWrites Stream.Log result (L.failures log.old) (L.failures log.new) }
+
+        // Whatever the answer.
+        ensures settings { self.new.conversion.settings ≡ self.old.conversion.settings }
+        ensures as_many { length self.new.links ≡ length self.old.links }
+        ensures bounds { HoldsAtMost self.new }
     {
         if let Some(fault) = self.refusal(link) {
             return Err(fault);
@@ -189,11 +207,16 @@ impl Converter {
 
     /// Closes the links that are open, the lower number first, and ends the file and the report.
     pub fn finish<O: Sink, L: Sink>(self, out: &mut O, log: &mut L) -> Result<Counts, ConvertFault>
-        ensures stopped { self.conversion.stopped ≡ true → IsErrOf result ConvertFault.Stopped }
-        ensures still { self.conversion.stopped ≡ true → (out.new ≡ out.old) × (log.new ≡ log.old) }
-        ensures fault { self.conversion.stopped ≡ false → IfErr result IsFrameFault }
+        // Done: the file and the report are whole.
         ensures ok { IfOk result (λ counts. FinishesConverter self counts (O.taken out.old) (O.taken out.new) (L.taken log.old) (L.taken log.new)) }
+
+        // Not done: nothing is changed, or what is out.
+        ensures still { self.conversion.stopped ≡ true → (out.new ≡ out.old) × (log.new ≡ log.old) }
         ensures err { IfErr result (λ fault. IsFrameFault fault → FinishesConverterInPart self (O.taken out.old) (O.taken out.new) (L.taken log.old) (L.taken log.new)) }
+
+        // When each fault; a stream that failed is named.
+        ensures stopped { self.conversion.stopped ≡ true → IsErrOf result ConvertFault.Stopped }
+        ensures fault { self.conversion.stopped ≡ false → IfErr result IsFrameFault }
         ensures file_failed { NamesFailedWrites Stream.Out result (O.failures out.old) (O.failures out.new) }
         ensures report_failed { NamesFailedWrites Stream.Log result (L.failures log.old) (L.failures log.new) }
     {

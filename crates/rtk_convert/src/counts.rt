@@ -1,8 +1,8 @@
-//! How many frames came to what, and how many records the file has.
+//! How many frames there were of each kind, and how many records the file has.
 
 /// The nine counts at the end of a report. Each stays at its greatest value once there.
 ///
-/// Each frame is in `frames` and in exactly one of the seven counts behind it.
+/// Each frame is in `frames` and in exactly one of the seven counts after it.
 #[derive(Clone, Copy, Debug, Default, PartialEq, Eq)]
 pub struct Counts {
     /// All frames found.
@@ -13,11 +13,11 @@ pub struct Counts {
     pub refused: u64,
     /// Messages of another station.
     pub foreign: u64,
-    /// Messages of which a part was new.
+    /// Messages with something new.
     pub taken: u64,
-    /// Messages of which nothing was new, and nothing differed.
+    /// Messages with nothing new that differ in nothing from what is kept.
     pub repeat: u64,
-    /// Messages of which nothing was new, and something differed.
+    /// Messages with nothing new that differ from what is kept.
     pub conflict: u64,
     /// Messages that came after their epoch was closed.
     pub late: u64,

@@ -8,15 +8,16 @@ ghost use Rattle.rtk_obs.specs.Cell.{IsInRange, IsSatellite};
 ghost use Rattle.rtk_collect.specs.EpochSet.{EpochSetView};
 ghost use Rattle.rtk_rinex.specs.Record.{IsStrengthOrNone, HasWidth};
 ghost use Rattle.rtk_convert.specs.Rows.{is_from, rolled_or_none, observed_with, or_nothing, row_with, rows_to, table_of};
-ghost use Rattle.rtk_convert.specs.LastPhases.{HasLastPhases, AllBelow, shown_at, is_at, IsThrough, MayShow, AreStrengths, ShowsNothing};
+ghost use Rattle.rtk_convert.specs.LastPhases.{HasLastPhases, ShowsNothing};
+ghost use Rattle.rtk_convert.specs.Steps.ShownCells.{AllBelow, shown_at, is_at, IsThrough, MayShow, AreStrengths};
 
 use rtk_obs::{Cell, CellEntry, CellSource, Code, Digits, GpsMs, Tracks, rolled};
 use rtk_rinex::{EpochTable, Observed};
 
-/// Satellites times codes.
+// Satellites times codes.
 pub(crate) const PLACES: usize = 512;
 
-/// What a code shows of which there is no cell.
+// What a code shows if it has no cell.
 const NOTHING: Observed = Observed {
     range_mm: None,
     phase_millicycles: None,
@@ -154,7 +155,7 @@ fn put_rows(shown: &[Option<Observed>], epoch: GpsMs, listed: &[Code], table: &m
     }
 }
 
-// Nothing is shown any more, where only these cells showed something.
+// Clears what these cells showed. Nothing else may show anything before.
 fn clear(shown: &mut [Option<Observed>], entries: &[CellEntry])
     requires places { length shown.old ≡ PLACES }
     requires ranges { All IsInRange entries.now }
@@ -170,8 +171,8 @@ fn clear(shown: &mut [Option<Observed>], entries: &[CellEntry])
 /// Makes the table of a closed epoch from its cells; their phases are then the last ones.
 ///
 /// All satellites and codes are gone through, listed or not, since a later phase is compared with
-/// the last one of its satellite and code, whenever that was. `shown` is room for what they show,
-/// that no epoch has to blank as a whole.
+/// the last one of its satellite and code, whenever that was. `shown` is room for what they show;
+/// only the places that were used are cleared after each epoch.
 pub(crate) fn fill_table(
     tracks: &mut Tracks,
     shown: &mut [Option<Observed>],

@@ -1,4 +1,4 @@
-//! From the payload of a frame to what it is to a conversion.
+//! What the payload of a frame means for a conversion: its class, and its epoch if it has one.
 
 ghost use Rattle.std.specs.Prelude.{◌≡◌, ◌<◌, IfSome};
 ghost use Rattle.rtk_message.specs.Decoded.{IsValid, station_of, tow_of};
@@ -9,7 +9,7 @@ use rtk_collect::Dated;
 use rtk_message::{DecodeFault, Message, decode};
 use rtk_obs::date;
 
-/// What the payload of a frame is to a conversion.
+/// What the payload of a frame means for a conversion.
 #[derive(Drop)]
 pub enum FrameClass {
     /// A message with another number than the four that are read.
@@ -34,7 +34,7 @@ fn dated(setup: &Setup, message: Message) -> Dated
     Dated::new(message, Some(epoch))
 }
 
-/// What the payload is. It takes no memory.
+/// The class of a payload. This takes no memory.
 pub(crate) fn classify(setup: &Setup, payload: &[u8]) -> FrameClass
     ensures { IsClassOfPayload setup.now payload.now result }
 {

@@ -10,8 +10,8 @@ ghost use Rattle.rtk_convert.specs.HistoryLaws.{ComesToOne, FeedsToOne, ClosesTo
 use rtk_collect::{late_arrivals_change_nothing, set_decides};
 use rtk_rinex::files_are_tables;
 
-/// The file of every set, and so that of all found frames, is the text of a well-formed table: the
-/// checker accepts it.
+/// The file of every set of messages is the text of a well-formed table, and so is the file of all
+/// found frames: the checker accepts both.
 pub fn file_laws()
     ensures table { FileIsTable }
     ensures kept { KeptFileIsTable }
@@ -19,7 +19,7 @@ pub fn file_laws()
     files_are_tables();
 }
 
-/// Where equal keys carry equal bodies, the file depends on the set of messages in time alone; late
+/// If equal keys carry equal bodies, the file depends on the set of messages in time alone; late
 /// messages change nothing, nor do frames that are other, refused or foreign.
 pub fn set_decides_file()
     ensures same { OneSetHasOneFile }
@@ -55,7 +55,7 @@ pub fn frames_add_to_one()
 {}
 
 /// Each found frame is counted in one class: of fewer than 2^64 the count of frames is their
-/// number, and so is the sum of the seven counts behind it.
+/// number, and so is the sum of the seven counts after it.
 pub fn each_frame_in_one_class()
     ensures { EachFrameInOneClass }
 {}

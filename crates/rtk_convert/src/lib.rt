@@ -1,4 +1,4 @@
-//! Links to a file: what the file of a set of messages is, and a run that reads 1 to 16 links and writes it.
+//! From 1 to 16 links to one RINEX file and a report: a run reads the links and writes both.
 //!
 //! ```rust
 //! use rtk_convert::{Converter, Setup};

@@ -3,7 +3,7 @@
 ghost use Rattle.std.specs.Prelude.{◌≡◌, ◌≢◌, ◌≤◌, ◌++◌, length, true, false, OnOk, OnErr, IsErrOf, IfErr};
 ghost use Rattle.rtk_frame.specs.Frames.{final_frames, frames, payloads, pending};
 ghost use Rattle.rtk_convert.specs.Failure.{IsFrameFault, NamesFailedWrites};
-ghost use Rattle.rtk_convert.specs.LinkFrames.{AddsFrames, AddsFramesInPart};
+ghost use Rattle.rtk_convert.specs.Steps.LinkFrames.{AddsFrames, AddsFramesInPart};
 ghost use Rattle.rtk_convert.specs.History.{later_of};
 
 use crate::conversion::Conversion;
@@ -11,7 +11,7 @@ use crate::fault::{ConvertFault, Stream};
 use rtk_frame::{Answer, Scanner, Sink};
 use rtk_obs::GpsMs;
 
-/// A link. It is closed exactly where its scanner has ended.
+/// A link. It is closed exactly if its scanner has ended.
 ///
 /// Its memory does not grow: the scanner holds at most 1,029 bytes.
 #[derive(Drop)]
@@ -44,10 +44,12 @@ impl Link {
     ) -> Result<(), ConvertFault>
         requires is_open { self.old.scanner.ended ≡ false }
         requires going { conversion.old.stopped ≡ false }
+        requires few { length conversion.old.window.sets ≤ conversion.old.settings.window }
         ensures is_open { self.new.scanner.ended ≡ false }
         ensures pending { OnOk result (self.new.scanner.pending ≡ pending (self.old.scanner.pending ++ piece.now)) }
         ensures short { length self.new.scanner.pending ≤ 1029 }
         ensures settings { conversion.new.settings ≡ conversion.old.settings }
+        ensures few { length conversion.new.window.sets ≤ conversion.new.settings.window }
         ensures going { OnOk result (conversion.new.stopped ≡ false) }
         ensures halts { OnErr result (conversion.new.stopped ≡ true) }
         ensures ok { OnOk result (AddsFrames conversion.old number (payloads (final_frames (self.old.scanner.pending ++ piece.now))) conversion.new self.old.newest self.new.newest
@@ -79,9 +81,11 @@ impl Link {
         log: &mut L,
     ) -> Result<(), ConvertFault>
         requires going { conversion.old.stopped ≡ false }
+        requires few { length conversion.old.window.sets ≤ conversion.old.settings.window }
         ensures ended { self.new.scanner.ended ≡ true }
         ensures short { length self.new.scanner.pending ≤ 1029 }
         ensures settings { conversion.new.settings ≡ conversion.old.settings }
+        ensures few { length conversion.new.window.sets ≤ conversion.new.settings.window }
         ensures going { OnOk result (conversion.new.stopped ≡ false) }
         ensures halts { OnErr result (conversion.new.stopped ≡ true) }
         ensures ok { OnOk result (AddsFrames conversion.old number (payloads (frames self.old.scanner.pending)) conversion.new self.old.newest self.new.newest

@@ -1,11 +1,12 @@
 //! What is written to the file: records, and the header before the first one or at the end.
 
 ghost use Rattle.std.specs.Prelude.{◌≡◌, ◌≢◌, ◌++◌, length, OnOk, OnErr, IfOk, IfErr, IsErrOf, false};
-ghost use Rattle.rtk_convert.specs.Failure.{IsOutFault, NamesFailedWrites};
+ghost use Rattle.rtk_convert.specs.Failure.{NamesFailedWrites};
+ghost use Rattle.rtk_convert.specs.Steps.Faults.{IsOutFault};
 ghost use Rattle.rtk_frame.specs.Stream.{with_more, TakesPart};
 ghost use Rattle.rtk_rinex.specs.Header.{position_view};
 ghost use Rattle.rtk_rinex.specs.Record.{HasWidth, record_text};
-ghost use Rattle.rtk_convert.specs.FilePrefix.{closing_text, header_before, is_any};
+ghost use Rattle.rtk_convert.specs.Steps.ClosedText.{closing_text, header_before, is_any};
 
 use crate::fault::{ConvertFault, Stream};
 use crate::setup::Setup;
@@ -29,7 +30,7 @@ fn put<O: Sink>(out: &mut O, text: &[u8]) -> Result<(), ConvertFault>
     }
 }
 
-// The text of a record behind the header, whose first time is that of the record.
+// The header and then the text of a record; the first time of the header is the record's time.
 fn with_header(
     alloc: Global,
     setup: &Setup,
@@ -79,7 +80,7 @@ pub(crate) fn put_record<O: Sink>(
     Ok(true)
 }
 
-/// Writes the header of a file without records, if that is one.
+/// Writes the header, if the file has no records.
 pub(crate) fn put_last_header<O: Sink>(
     alloc: Global,
     setup: &Setup,

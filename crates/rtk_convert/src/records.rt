@@ -1,11 +1,12 @@
-//! The records of the epochs that are closed, one after another, and at the end those of the epochs that are still open.
+//! The records of the closed epochs, one after another, and at the end of the epochs still open.
 
 ghost use Rattle.rtk_collect.specs.EpochSet.{EpochSetView};
-ghost use Rattle.rtk_convert.specs.Failure.{IsOutFault, NamesFailedWrites};
+ghost use Rattle.rtk_convert.specs.Failure.{NamesFailedWrites};
+ghost use Rattle.rtk_convert.specs.Steps.Faults.{IsOutFault};
 ghost use Rattle.rtk_convert.specs.File.{first_time, record_of};
-ghost use Rattle.rtk_convert.specs.FilePrefix.{closing_text};
-ghost use Rattle.rtk_convert.specs.Finish.{AllAbove, ClosesEpochs, ClosesEpochsInPart};
-ghost use Rattle.rtk_convert.specs.LastPhases.{AllBelow};
+ghost use Rattle.rtk_convert.specs.Steps.ClosedText.{closing_text};
+ghost use Rattle.rtk_convert.specs.Steps.Closing.{AllAbove, ClosesEpochs, ClosesEpochsInPart};
+ghost use Rattle.rtk_convert.specs.Steps.ShownCells.{AllBelow};
 ghost use Rattle.rtk_convert.specs.Records.{HasClosed};
 ghost use Rattle.rtk_frame.specs.Stream.{with_more, TakesPart};
 ghost use Rattle.rtk_obs.specs.Cell.{IsInRange};
@@ -24,8 +25,8 @@ use rtk_rinex::{EpochTable, Observed};
 use std::alloc::Global;
 use std::marker::Model;
 
-/// What is known of the closed epochs: the last phases, whether the header is out, and how many
-/// records are.
+/// What is known of the closed epochs: the last phases, whether the header is written, and how many
+/// records are written.
 ///
 /// The table is kept from epoch to epoch, and so is the room for what its cells show: both are
 /// large, and a local would be cleared as a whole each time that its function is called.
@@ -53,7 +54,7 @@ impl Model for Records {
 }
 
 impl Records {
-    /// No epoch is closed. The moment is any.
+    /// No epoch is closed yet. `any` fills the table until the first epoch does; which one is no matter.
     pub(crate) fn new(any: GpsMs) -> Records
         ensures follows { (listed : List Code) → HasClosed result listed [] }
         ensures below { (epoch : ℕ) → AllBelow result.tracks epoch }
@@ -67,14 +68,14 @@ impl Records {
         }
     }
 
-    /// Whether the header is out.
+    /// Whether the header is written.
     pub(crate) fn header_out(&self) -> bool
         ensures { result ≡ self.now.header_out }
     {
         self.header_out
     }
 
-    /// How many records are out.
+    /// How many records are written.
     pub(crate) fn count(&self) -> u64
         ensures { result ≡ self.now.count }
     {

@@ -4,7 +4,8 @@ ghost use Rattle.std.specs.Prelude.{◌≡◌, ◌<◌, ◌++◌, [], Some, None
 ghost use Rattle.rtk_collect.specs.declared.conflicts.SatelliteCode.{SatelliteCode};
 ghost use Rattle.rtk_rinex.specs.Columns.{last_digits};
 ghost use Rattle.rtk_rinex.specs.Reading.{reading_of};
-ghost use Rattle.rtk_convert.specs.Report.{fault_text, refused_line, cell_lines, conflict_lines, offer_lines};
+ghost use Rattle.rtk_convert.specs.Report.{fault_text, refused_line, cell_lines, conflict_lines};
+ghost use Rattle.rtk_convert.specs.Steps.OfferLines.{offer_lines};
 ghost use Rattle.rtk_convert.specs.ReportText.{civil_text, epoch_text, link_text, arrival_text, signal_text, late_line, conflict_line, cell_conflict_line, count_line, count_lines};
 
 use crate::counts::Counts;
@@ -113,7 +114,7 @@ fn put_signal(line: &mut Vec<u8>, cell: SatelliteCode) -> Result<(), AllocError>
     Ok(())
 }
 
-// The line of a cell that differs from the one before.
+// The line of a cell that differs from the kept one.
 fn put_cell(
     lines: &mut Vec<u8>,
     link: u8,
@@ -129,7 +130,7 @@ fn put_cell(
     Ok(())
 }
 
-// A line for each cell that differs from the one before.
+// A line for each cell that differs from the kept one.
 fn put_cells(
     lines: &mut Vec<u8>,
     link: u8,
@@ -148,7 +149,7 @@ fn put_cells(
     Ok(())
 }
 
-// The line of a station message that differs from the one before, or the lines of the cells that do.
+// The line of a station message that differs from the kept one, or a line for each such cell.
 fn put_conflicts(
     lines: &mut Vec<u8>,
     link: u8,
@@ -166,8 +167,8 @@ fn put_conflicts(
     Ok(())
 }
 
-/// The lines of a message with this number and epoch that got this answer. They take memory only
-/// where there is one.
+/// The lines of a message with this number and epoch that got this answer. No memory is taken if
+/// there are none.
 pub(crate) fn offered(
     alloc: Global,
     link: u8,

@@ -1,13 +1,15 @@
-//! A run: reads from all links, each time from the one that is behind the others.
+//! A run: it reads all links to their ends, each time the one whose newest epoch is the least.
 
 ghost use Rattle.std.specs.Prelude.{◌≡◌, ◌≢◌, ◌↔◌, ◌<◌, ◌≤◌, ◌+◌, ℕ, length, sum_by, Decides, MatchOption, IfSome, OnOk, IfOk, IfErr, IsErrOf};
 ghost use Rattle.rtk_convert.specs.Converter.{IsLinkCount, RepresentsHistory};
-ghost use Rattle.rtk_convert.specs.Failure.{IsFrameFault, IsReadFault, IsReadingFault, IsRunFault, NamesFailedWrites};
+ghost use Rattle.rtk_convert.specs.Failure.{IsFrameFault, IsReadingFault, IsRunFault, NamesFailedWrites};
+ghost use Rattle.rtk_convert.specs.Steps.Faults.{IsReadFault};
 ghost use Rattle.rtk_convert.specs.Headline.{RunHeadline};
 ghost use Rattle.rtk_convert.specs.History.{History, new_history, IsOpen, IsUpTo, IsNextLink};
-ghost use Rattle.rtk_convert.specs.ReadSteps.{ReadsLink, BreaksOffAfterRead, FailsRead, HasReadAll, AnyAtGreatest, HasCalled, SameFailures};
+ghost use Rattle.rtk_convert.specs.ReadSteps.{AnyAtGreatest, HasCalled, SameFailures};
+ghost use Rattle.rtk_convert.specs.Steps.ReadLink.{ReadsLink, BreaksOffAfterRead, FailsRead, HasReadAll};
 ghost use Rattle.rtk_convert.specs.ReadHistory.{AllClosed};
-ghost use Rattle.rtk_convert.specs.Run.{RunsAs, FailsReading, StaysOpen, BreaksOffReading, BreaksOffRun};
+ghost use Rattle.rtk_convert.specs.Run.{FailsReading, StaysOpen, BreaksOffReading, BreaksOffRun};
 
 use crate::converter::Converter;
 use crate::counts::Counts;
@@ -17,7 +19,7 @@ use rtk_frame::{Sink, Source, read_one};
 use rtk_obs::GpsMs;
 use std::alloc::Global;
 
-// Is an epoch before another? None is before all.
+// Is an epoch before another? `None` is before all.
 fn is_before(epoch: Option<GpsMs>, other: Option<GpsMs>) -> bool
     ensures { Decides result (¬ (IsUpTo other epoch)) }
 {
@@ -49,7 +51,7 @@ fn next_link(converter: &Converter) -> Option<usize>
     next
 }
 
-// One read of a link, whose bytes are fed, and which is closed where there are none.
+// Reads a link once: feeds the bytes, or closes the link if there are none.
 fn read_link<R: Source, O: Sink, L: Sink>(
     converter: &mut Converter,
     link: usize,
@@ -134,8 +136,8 @@ fn read_all<R: Source, O: Sink, L: Sink>(
 /// The clause `headline` is the promise of a conversion in one sentence; `calls_keep_promise` says
 /// the same of any calls of a `Converter`, and `set_has_one_file` that the set decides the file.
 ///
-/// V1 where there are not 1 to 16 readers, before anything else; V4 where memory is refused; V5
-/// where a write fails, and V6 where a read does; V7 where a link is open after `max_reads` reads.
+/// V1 if there are not 1 to 16 readers, before anything else; V4 if memory is refused; V5 if a
+/// write fails, and V6 if a read does; V7 if a link is still open after `max_reads` reads.
 pub fn run<R: Source, O: Sink, L: Sink>(
     alloc: Global,
     setup: Setup,
@@ -144,13 +146,10 @@ pub fn run<R: Source, O: Sink, L: Sink>(
     log: &mut L,
     max_reads: u64,
 ) -> Result<Counts, ConvertFault>
-    ensures setup { IsErrOf result ConvertFault.Setup ↔ ¬ (IsLinkCount (length readers.old)) }
-    ensures fault { IfErr result IsRunFault }
+    // Done: the promise.
     ensures headline { IfOk result (λ counts. RunHeadline R.given R.calls R.is_at_end setup readers.old readers.new counts (O.taken out.old) (O.taken out.new) (L.taken log.old) (L.taken log.new)) }
-    ensures ok { IfOk result (λ counts. RunsAs R.given R.calls R.is_at_end setup readers.old readers.new counts (O.taken out.old) (O.taken out.new) (L.taken log.old) (L.taken log.new)) }
-    ensures reads { sum_by R.calls readers.new ≤ sum_by R.calls readers.old + max_reads }
-    ensures file_failed { NamesFailedWrites Stream.Out result (O.failures out.old) (O.failures out.new) }
-    ensures report_failed { NamesFailedWrites Stream.Log result (L.failures log.old) (L.failures log.new) }
+
+    // Not done: what is out, as far as the run came.
     ensures breaks_off { IfErr result (λ fault. IsFrameFault fault
         → BreaksOffRun R.given R.calls R.is_at_end setup readers.old readers.new (O.taken out.old) (O.taken out.new) (L.taken log.old) (L.taken log.new)) }
     ensures read_failed { (link : ℕ) → IsErrOf result (ConvertFault.Read link)
@@ -159,6 +158,13 @@ pub fn run<R: Source, O: Sink, L: Sink>(
         → StaysOpen R.given R.is_at_end setup max_reads readers.old readers.new (O.taken out.old) (O.taken out.new) (L.taken log.old) (L.taken log.new)
         × HasCalled R.calls readers.old readers.new max_reads }
     ensures untouched { IsErrOf result ConvertFault.Setup → (readers.new ≡ readers.old) × (out.new ≡ out.old) × (log.new ≡ log.old) }
+
+    // When each fault, and how many reads; a stream or a reader that failed is named.
+    ensures setup { IsErrOf result ConvertFault.Setup ↔ ¬ (IsLinkCount (length readers.old)) }
+    ensures fault { IfErr result IsRunFault }
+    ensures reads { sum_by R.calls readers.new ≤ sum_by R.calls readers.old + max_reads }
+    ensures file_failed { NamesFailedWrites Stream.Out result (O.failures out.old) (O.failures out.new) }
+    ensures report_failed { NamesFailedWrites Stream.Log result (L.failures log.old) (L.failures log.new) }
     ensures no_failed_read { ((link : ℕ) → ¬ (IsErrOf result (ConvertFault.Read link))) → SameFailures R.failures readers.old readers.new }
 {
     let mut converter = Converter::new(alloc, setup, readers.len())?;

@@ -47,7 +47,7 @@ impl Model for Setup {
 impl Setup {
     ghost use Rattle.rtk_convert.specs.SetupFault.{IsSetupFault};
 
-    /// The setup of these parts, where they are good; else the first cause why there is none.
+    /// The setup of these parts, if they are good; else the first cause why there is none.
     pub fn new(station: u16, near: GpsMs, head: Head, window: usize) -> Result<Setup, SetupFault>
         ensures setup { IfOk result (λ s. s ≡ record { station = station; near = near; heading = head; window = window }) }
         ensures good { IfOk result IsSetupView }
@@ -103,10 +103,10 @@ impl Setup {
     }
 }
 
-/// 1980-01-13 00:00:00.000, a week after the first moment.
+// 1980-01-13 00:00:00.000, a week after the first moment.
 const FIRST_REFERENCE_MS: u64 = 604_800_000;
 
-/// 2099-12-31 23:59:59.999.
+// 2099-12-31 23:59:59.999.
 const LAST_REFERENCE_MS: u64 = 3_786_479_999_999;
 
 // Can times of week be dated near this moment?

@@ -1,7 +1,7 @@
 use Rattle.std.proofs.Common.{◌≡◌, ℕ, drop, length, false, None}
 use Rattle.std.specs.Prelude.{slice_index_or}
 use Rattle.std.specs.List.{list_any}
-use Rattle.rtk_convert.specs.LastPhases.{is_at}
+use Rattle.rtk_convert.specs.Steps.ShownCells.{is_at}
 use Rattle.rtk_convert.proofs.epoch_rows.clear.Given as goal
 
 abbrev pub invariant-loop-entry : goal.invariant-loop-entry

@@ -6,7 +6,7 @@ use Rattle.rtk_obs.specs.Tracks.{IsLater, track_at}
 use Rattle.rtk_rinex.specs.declared.epoch_table.Observed.{Observed}
 use Rattle.rtk_rinex.specs.Record.{HasWidth, IsStrengthOrNone}
 use Rattle.rtk_convert.specs.Rows.{is_from, cell_at, cells_at_epochs, observed_at, observed_after}
-use Rattle.rtk_convert.specs.LastPhases.{shown_at, track_after}
+use Rattle.rtk_convert.specs.Steps.ShownCells.{shown_at, track_after}
 use Rattle.rtk_convert.proofs.ThroughLemmas.{through-none, track-below, later-after}
 use Rattle.rtk_convert.proofs.RowsLemmas.{table-same, rows-width}
 use Rattle.rtk_convert.proofs.epoch_rows.fill_table.Goals as goal

@@ -1,6 +1,6 @@
 use Rattle.std.proofs.Common.{◌≡◌, take, map, length}
 use Rattle.rtk_convert.specs.Rows.{or_nothing}
-use Rattle.rtk_convert.specs.LastPhases.{shown_at}
+use Rattle.rtk_convert.specs.Steps.ShownCells.{shown_at}
 use Rattle.rtk_convert.proofs.epoch_rows.put_observed.Given as goal
 
 abbrev pub invariant-loop-k : goal.invariant-loop-k

@@ -5,7 +5,7 @@ use Rattle.rtk_rinex.specs.declared.epoch_table.Observed.{Observed}
 use Rattle.rtk_rinex.specs.declared.epoch_table.SatelliteRow.{SatelliteRow}
 use Rattle.rtk_rinex.specs.Record.{EpochTableView, IsRow}
 use Rattle.rtk_convert.specs.Rows.{or_nothing}
-use Rattle.rtk_convert.specs.LastPhases.{shown_at}
+use Rattle.rtk_convert.specs.Steps.ShownCells.{shown_at}
 use Rattle.rtk_convert.proofs.RowsLemmas.{row_of, rows_to-zero, rows-step, row-yes, row-no, row-good}
 use Rattle.rtk_convert.proofs.epoch_rows.put_rows.Goals as goal
 use Rattle.rtk_convert.proofs.epoch_rows.put_rows.Goals.{then-has_listed, else-has_listed}

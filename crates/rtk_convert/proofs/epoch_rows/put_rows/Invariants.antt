@@ -1,7 +1,7 @@
 use Rattle.std.proofs.Common.{◌≡◌, ◌≤◌, length}
 use Rattle.std.specs.Prelude.{All}
 use Rattle.rtk_convert.specs.Rows.{rows_to}
-use Rattle.rtk_convert.specs.LastPhases.{shown_at}
+use Rattle.rtk_convert.specs.Steps.ShownCells.{shown_at}
 use Rattle.rtk_convert.proofs.epoch_rows.put_rows.Given as goal
 
 abbrev pub invariant-loop-before : goal.invariant-loop-before

@@ -1,7 +1,7 @@
 use Rattle.std.proofs.Common.{◌≡◌, ℕ, ◌+◌, ◌*◌, ◌∷◌, [], ◌++◌, None, Some, arith, sym, ap, subst, ◌∙◌, rules}
 use Rattle.std.specs.Prelude.{is_some, slice_index_or, slice_set}
 use Rattle.rtk_obs.specs.Tracks.{place_of_signal}
-use Rattle.rtk_convert.specs.LastPhases.{IsThrough, MayShow}
+use Rattle.rtk_convert.specs.Steps.ShownCells.{IsThrough, MayShow}
 use Rattle.rtk_convert.proofs.ThroughLemmas.{through-same, through-more, may-more}
 use Rattle.rtk_convert.proofs.epoch_rows.step_entry.Goals as goal
 

@@ -4,7 +4,7 @@ use Rattle.std.specs.List.{list_any}
 use Rattle.rtk_obs.specs.declared.track.Track.{Track}
 use Rattle.rtk_obs.specs.declared.cell.CellEntry.{CellEntry}
 use Rattle.rtk_convert.specs.Rows.{is_from}
-use Rattle.rtk_convert.specs.LastPhases.{is_at, IsThrough, MayShow, AreStrengths}
+use Rattle.rtk_convert.specs.Steps.ShownCells.{is_at, IsThrough, MayShow, AreStrengths}
 use Rattle.rtk_convert.proofs.epoch_rows.step_source.Given as goal
 
 abbrev pub invariant-loop-entry : goal.invariant-loop-entry

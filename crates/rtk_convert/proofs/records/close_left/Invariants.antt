@@ -1,6 +1,6 @@
 use Rattle.std.proofs.Common.{◌≡◌, length}
 use Rattle.rtk_rinex.specs.Header.{position_view}
-use Rattle.rtk_convert.specs.Finish.{AllAbove}
+use Rattle.rtk_convert.specs.Steps.Closing.{AllAbove}
 use Rattle.rtk_convert.proofs.FinishLemmas.{SomeClosed}
 use Rattle.rtk_convert.proofs.records.close_left.Given as goal
 

@@ -1,8 +1,9 @@
 use Rattle.std.proofs.Common.{ℕ, ◌+◌, inl, [], ◌∷◌, length, Err, refl, sym, ap, subst, ◌∙◌, arith, rules}
 use Rattle.std.proofs.lemmas.Result.{err_from_is_err_and, IfErr-at_err}
-use Rattle.rtk_convert.specs.Failure.{IsReadFault}
+use Rattle.rtk_convert.specs.Steps.Faults.{IsReadFault}
 use Rattle.rtk_convert.specs.History.{new_history, IsNextLink}
-use Rattle.rtk_convert.specs.ReadSteps.{read_of, ReadsLink, BreaksOffAfterRead, HasCalled}
+use Rattle.rtk_convert.specs.ReadSteps.{read_of, HasCalled}
+use Rattle.rtk_convert.specs.Steps.ReadLink.{ReadsLink, BreaksOffAfterRead}
 use Rattle.rtk_convert.specs.Setup.{SetupView}
 use Rattle.rtk_convert.proofs.EndsLemmas.{ends-new, ends-more, has-read-all}
 use Rattle.rtk_convert.proofs.NextLemmas.{are_links-length}

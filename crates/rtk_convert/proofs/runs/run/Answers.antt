@@ -1,14 +1,12 @@
 use Rattle.std.proofs.Common.{◌≡◌, ℕ, inl, inr, ◌⊎◌, length, Err, ap, subst, ◌∙◌}
 use Rattle.std.proofs.lemmas.Result.{IfErr-weaker, IfOk-weaker, IfErr-at_err}
 use Rattle.rtk_convert.specs.Converter.{FinishesConverterAs, BreaksOffClosing, BreaksOffFinishing}
-use Rattle.rtk_convert.specs.declared.fault.ConvertFault.TheVariants.{Write, Read as ReadFault, Endless}
-use Rattle.rtk_convert.specs.declared.fault.Stream.TheVariants.{Out, Log}
+use Rattle.rtk_convert.specs.declared.fault.ConvertFault.TheVariants.{Read as ReadFault, Endless}
 use Rattle.rtk_convert.specs.Failure.{IsReadingFault}
-use Rattle.rtk_convert.specs.ReadSteps.{HasReadAll}
+use Rattle.rtk_convert.specs.Steps.ReadLink.{HasReadAll}
 use Rattle.rtk_convert.specs.Run.{FailsReading, StaysOpen, BreaksOffReading}
 use Rattle.rtk_convert.specs.Setup.{SetupView}
 use Rattle.rtk_convert.proofs.HeadlineLemmas.{run-headline}
-use Rattle.rtk_convert.proofs.WritingLemmas.{on_ok-map}
 use Rattle.rtk_convert.proofs.RunLemmas.{runs-as, breaks-ending, links-few, reading-run, frame-run}
 use Rattle.rtk_convert.proofs.runs.run.Goals as goal
 
@@ -50,17 +48,6 @@ returns-clause-setup g c = (
 
 pub returns-clause-fault : goal.returns-clause-fault
 returns-clause-fault g c = IfErr-weaker c.finish.result _ _ frame-run (c.finish.ensures.fault c.in_default.ensures.ok.represents.going)
-
-pub returns-clause-ok : goal.returns-clause-ok
-returns-clause-ok g c =
-    let all : HasReadAll g.R.Source.given g.R.Source.calls g.R.Source.is_at_end c.args.setup c.args.readers.now c.read_all.new.readers c.read_all.new.converter (g.O.Sink.taken c.args.out.now) (g.O.Sink.taken c.read_all.new.out) (g.L.Sink.taken c.args.log.now) (g.L.Sink.taken c.read_all.new.log) =
-    subst (λ (s : SetupView). HasReadAll g.R.Source.given g.R.Source.calls g.R.Source.is_at_end s c.args.readers.now c.read_all.new.readers c.read_all.new.converter (g.O.Sink.taken c.args.out.now) (g.O.Sink.taken c.read_all.new.out) (g.L.Sink.taken c.args.log.now) (g.L.Sink.taken c.read_all.new.log))
-    c.in_ok-converter.ensures.settings c.in_default.ensures.ok in
-    IfOk-weaker c.finish.result _ _ (λ counts ends.
-    let e = ends all.history all.represents in
-    runs-as g.R.Source.given g.R.Source.calls g.R.Source.is_at_end c.args.setup c.args.readers.now c.read_all.new.readers c.read_all.new.converter counts
-    (g.O.Sink.taken c.args.out.now) (g.O.Sink.taken c.read_all.new.out) (g.O.Sink.taken c.finish.new.out) (g.L.Sink.taken c.args.log.now) (g.L.Sink.taken c.read_all.new.log) (g.L.Sink.taken c.finish.new.log)
-    all e.0 (subst (λ (s : SetupView). FinishesConverterAs s all.history e.0 counts (g.O.Sink.taken c.read_all.new.out) (g.O.Sink.taken c.finish.new.out) (g.L.Sink.taken c.read_all.new.log) (g.L.Sink.taken c.finish.new.log)) (c.read_all.ensures.settings ∙ c.in_ok-converter.ensures.settings) e.1)) c.finish.ensures.ok
 
 pub returns-clause-headline : goal.returns-clause-headline
 returns-clause-headline g c =

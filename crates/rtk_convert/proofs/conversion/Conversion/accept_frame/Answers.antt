@@ -1,6 +1,7 @@
-use Rattle.std.proofs.Common.{true, false, Err, sym, ap, subst, ◌∙◌}
+use Rattle.std.proofs.Common.{true, false, sym, subst}
 use Rattle.std.proofs.lemmas.Result.{err_from_is_err_and}
-use Rattle.rtk_convert.specs.Conversion.{ConversionView, IsAhead, AcceptsFrame, BreaksOffAtFrame}
+use Rattle.rtk_convert.specs.Conversion.{ConversionView, IsAhead}
+use Rattle.rtk_convert.specs.Steps.AcceptedFrame.{AcceptsFrame, BreaksOffAtFrame}
 use Rattle.rtk_convert.proofs.ArriveLemmas.{state, arrives-still, breaks-still}
 use Rattle.rtk_convert.proofs.WritingLemmas.{on_err-from}
 use Rattle.rtk_convert.proofs.conversion.Conversion.accept_frame.Goals as goal
@@ -14,6 +15,7 @@ returns-clause-ok g c =
 pub invariant_of-self-2 : goal.invariant_of-self-2
 invariant_of-self-2 g c = record {
   places = c.self-2.invariant.places;
+  few = c.self-2.invariant.few;
   ahead = λ going. subst (λ (x : ConversionView). IsAhead x.window x.closed) (sym c.self-2.view_is) c.in_ok-epoch.ensures.ahead;
 }
 
@@ -36,3 +38,6 @@ pub returns-in_err-epoch-clause-report_failed : goal.returns-in_err-epoch-clause
 returns-in_err-epoch-clause-report_failed g c =
     let p = err_from_is_err_and c.from_residual.result c.from_residual.ensures.1 in
     rw (p.1, p.2) c.in_err-epoch.ensures.report_failed
+
+pub returns-in_err-epoch-clause-few : goal.returns-in_err-epoch-clause-few
+returns-in_err-epoch-clause-few g c = c.handle_payload.ensures.few

@@ -1,11 +1,10 @@
-use Rattle.std.proofs.Common.{ℕ, Bool, List, Err, refl, sym, ap, subst, ◌∙◌}
-use Rattle.std.proofs.lemmas.Result.{err_from_is_err_and, IfErr-at_err}
+use Rattle.std.proofs.Common.{ℕ, Bool, List, refl, sym, ap, subst, ◌∙◌}
+use Rattle.std.proofs.lemmas.Result.{err_from_is_err_and}
 use Rattle.rtk_collect.specs.EpochSet.{EpochSetView}
 use Rattle.rtk_frame.specs.Stream.{with_more, TakesPart}
 use Rattle.rtk_rinex.specs.Header.{position_view}
-use Rattle.rtk_convert.specs.Failure.{IsOutFault}
-use Rattle.rtk_convert.specs.FilePrefix.{header_before}
-use Rattle.rtk_convert.specs.Finish.{AllAbove, ClosesEpochs, ClosesEpochsInPart, FinishesConversion, FinishesConversionInPart}
+use Rattle.rtk_convert.specs.Steps.ClosedText.{header_before}
+use Rattle.rtk_convert.specs.Steps.Closing.{AllAbove, ClosesEpochs, ClosesEpochsInPart, FinishesConversion, FinishesConversionInPart}
 use Rattle.rtk_convert.specs.ReportText.{count_lines}
 use Rattle.rtk_convert.specs.Conversion.{ConversionView}
 use Rattle.rtk_convert.proofs.AheadLemmas.{ahead-all}

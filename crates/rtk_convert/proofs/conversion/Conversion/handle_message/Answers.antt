@@ -1,14 +1,11 @@
-use Rattle.std.proofs.Common.{◌≡◌, ℕ, suc, arith, List, Option, None, Some, Err, refl, sym, ap, subst, ◌∙◌}
-use Rattle.std.proofs.lemmas.Result.{err_from_is_err_and, IfErr-at_err}
+use Rattle.std.proofs.Common.{◌≡◌, ℕ, suc, arith, List, Option, None, Some, refl, sym, ap, subst, ◌∙◌}
+use Rattle.std.proofs.lemmas.Result.{err_from_is_err_and}
 use Rattle.rtk_message.specs.Decoded.{number_of}
 use Rattle.rtk_collect.specs.EpochSet.{EpochSetView}
 use Rattle.rtk_collect.specs.Arrival.{epoch_of, message_of}
 use Rattle.rtk_frame.specs.Stream.{with_more, TakesPart}
-use Rattle.rtk_convert.specs.declared.fault.ConvertFault.TheVariants.{Write}
-use Rattle.rtk_convert.specs.declared.fault.Stream.TheVariants.{Out}
-use Rattle.rtk_convert.specs.Failure.{IsOutFault}
-use Rattle.rtk_convert.specs.AddedMessage.{closed_by, AddsMessage, AddsMessageInPart}
-use Rattle.rtk_convert.specs.Report.{offer_lines}
+use Rattle.rtk_convert.specs.Steps.AddedMessage.{closed_by, AddsMessage, AddsMessageInPart}
+use Rattle.rtk_convert.specs.Steps.OfferLines.{offer_lines}
 use Rattle.rtk_convert.specs.Conversion.{ConversionView, IsAhead}
 use Rattle.rtk_convert.proofs.AheadLemmas.{ahead-stays, ahead-closes, ahead-after}
 use Rattle.rtk_convert.proofs.ArriveLemmas.{state, takes-none-closed, takes-some-closed, part-nothing, part-record, part-lines}

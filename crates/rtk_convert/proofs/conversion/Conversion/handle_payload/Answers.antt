@@ -1,10 +1,11 @@
-use Rattle.std.proofs.Common.{ℕ, List, Err, refl, sym, ap, subst, ◌∙◌}
+use Rattle.std.proofs.Common.{ℕ, List, refl, sym, ap, subst, ◌∙◌}
 use Rattle.std.proofs.lemmas.Result.{err_from_is_err_and}
 use Rattle.rtk_frame.specs.Stream.{with_more, TakesPart}
 use Rattle.rtk_convert.specs.declared.frame_class.FrameClass.{FrameClass}
 use Rattle.rtk_convert.specs.FrameClass.{IsClassOfPayload}
 use Rattle.rtk_convert.specs.Report.{refused_line, one_frame_more}
-use Rattle.rtk_convert.specs.Conversion.{ConversionView, IsAhead, AcceptsFrame, BreaksOffAtFrame}
+use Rattle.rtk_convert.specs.Conversion.{ConversionView, IsAhead}
+use Rattle.rtk_convert.specs.Steps.AcceptedFrame.{AcceptsFrame, BreaksOffAtFrame}
 use Rattle.rtk_convert.proofs.ArriveLemmas.{state, arrives-arrived, breaks-arrived, arrives-other, arrives-refused, breaks-refused}
 use Rattle.rtk_convert.proofs.WritingLemmas.{takes-none, on_err-from}
 use Rattle.rtk_convert.proofs.HandedLemmas.{log-frame}

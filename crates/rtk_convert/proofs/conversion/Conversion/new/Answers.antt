@@ -1,12 +1,16 @@
-use Rattle.std.proofs.Common.{refl, ap, ◌∙◌}
+use Rattle.std.proofs.Common.{◌≡◌, ◌≤◌, ℕ, [], length, None, refl, ap, sym, subst, ◌∙◌, arith}
 use Rattle.rtk_collect.specs.Collector.{CollectorView}
 use Rattle.rtk_convert.proofs.AheadLemmas.{ahead-none}
 use Rattle.rtk_convert.proofs.ArriveLemmas.{holds-new}
 use Rattle.rtk_convert.proofs.conversion.Conversion.new.Goals as goal
 
+few-new : (w : CollectorView) (size : ℕ) → w ≡ record { size = size; sets = []; arp1005 = None; arp1006 = None } → length w.sets ≤ w.size
+few-new w size p = subst (λ (x : CollectorView). length x.sets ≤ x.size) (sym p) (omega arith)
+
 pub invariant_of-result : goal.invariant_of-result
 invariant_of-result c = record {
   places = ap (λ (w : CollectorView). w.size) c.new-collector.ensures ∙ c.window.ensures.value;
+  few = few-new c.new-collector.result c.window.result c.new-collector.ensures;
   ahead = λ going. ahead-none c.new-collector.result c.new-records.result (c.new-records.ensures.below 0);
 }
 
@@ -16,3 +20,9 @@ returns-clause-represents c = record {
   closed = c.new-records.ensures.follows c.args.setup.heading.listed;
   counts = refl;
 }
+
+pub returns-clause-few : goal.returns-clause-few
+returns-clause-few c =
+    let few = few-new c.new-collector.result c.window.result c.new-collector.ensures in
+    let places = ap (λ (w : CollectorView). w.size) c.new-collector.ensures ∙ c.window.ensures.value in
+    omega (arith, few, places)

@@ -1,8 +1,9 @@
 use Rattle.std.proofs.Common.{◌≡◌, None, Some, set, refl, sym, subst}
 use Rattle.std.specs.Prelude.{slice_get}
 use Rattle.std.proofs.lemmas.Option.{slice_get_read}
-use Rattle.rtk_convert.specs.Converter.{ConverterView, refusal, FeedsPiece, FeedsPieceInPart}
+use Rattle.rtk_convert.specs.Converter.{ConverterView, IsConverterView, refusal, FeedsPiece, FeedsPieceInPart}
 use Rattle.rtk_convert.specs.Failure.{IsFrameFault}
+use Rattle.rtk_convert.proofs.BoundsLemmas.{bounded-before, bounded-after}
 use Rattle.rtk_convert.proofs.ConverterLemmas.{converter, accepted, accepted-within, feeds, feeds-part}
 use Rattle.rtk_convert.proofs.WritingLemmas.{on_ok-three, if_err-map}
 use Rattle.rtk_convert.proofs.converter.Converter.feed.Goals as goal
@@ -32,3 +33,11 @@ returns-clause-err g c =
     (g.O.Sink.taken c.args.out.now) (g.O.Sink.taken c.feed.new.out) (g.L.Sink.taken c.args.log.now) (g.L.Sink.taken c.feed.new.log)
     there unended part))
     c.feed.ensures.err
+
+pub returns-in-Some-clause-bounds : goal.returns-in-Some-clause-bounds
+returns-in-Some-clause-bounds g c =
+    bounded-before c.args.self.now (subst IsConverterView c.self.view_is (record { few = c.self.invariant.few; short = c.self.invariant.short; epochs = c.self.invariant.epochs }))
+
+pub returns-clause-bounds : goal.returns-clause-bounds
+returns-clause-bounds g c =
+    bounded-after c.feed.new.conversion c.self.inside.links.items c.args.link c.feed.new.self c.self.invariant.short c.feed.ensures.short c.feed.ensures.few

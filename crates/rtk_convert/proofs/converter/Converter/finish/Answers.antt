@@ -1,9 +1,9 @@
-use Rattle.std.proofs.Common.{◌≡◌, false, sym, subst, ◌∙◌}
+use Rattle.std.proofs.Common.{◌≡◌, false, sym, subst}
 use Rattle.rtk_convert.specs.Converter.{ConverterView, FinishesConverter}
 use Rattle.rtk_convert.specs.Failure.{IsFrameFault}
-use Rattle.rtk_convert.specs.Finish.{FinishesConversion, FinishesConversionInPart}
+use Rattle.rtk_convert.specs.Steps.Closing.{FinishesConversion, FinishesConversionInPart}
 use Rattle.rtk_convert.proofs.ClosingLemmas.{ends, ends-part}
-use Rattle.rtk_convert.proofs.WritingLemmas.{on_ok-map, if_ok-map, if_err-map}
+use Rattle.rtk_convert.proofs.WritingLemmas.{if_ok-map, if_err-map}
 use Rattle.rtk_convert.proofs.converter.Converter.finish.Goals as goal
 
 pub returns-clause-ok : goal.returns-clause-ok

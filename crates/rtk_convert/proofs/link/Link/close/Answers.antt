@@ -1,4 +1,4 @@
-use Rattle.std.proofs.Common.{ap, Err, ◌++◌, [], ◌∷◌, refl, ◌∙◌}
+use Rattle.std.proofs.Common.{◌++◌, [], ◌∷◌, refl, ◌∙◌}
 use Rattle.std.proofs.lemmas.Result.{err_from_is_err_and}
 use Rattle.rtk_convert.proofs.GatheringLemmas.{gathers-none, gathers-more, breaks-off, finds-left}
 use Rattle.rtk_convert.proofs.WritingLemmas.{on_err-from}
@@ -7,6 +7,7 @@ use Rattle.rtk_convert.proofs.link.Link.close.Goals as goal
 pub frames-init : goal.frames-init
 frames-init g c = record {
   going = c.requires.going;
+  few = c.requires.few;
   settings = refl;
   out_same = refl;
   log_same = refl;
@@ -20,6 +21,7 @@ frames-preserved g c =
     let s = finds-left c.args.self.now.scanner.pending c.frames.self.scanner.pending i.taken.0 c.in-Some.payload c.rest.follows.lender-at-none i.taken.1 (rw c.in-Some.is at holds.2) in
     record {
       going = c.in_ok-epoch.ensures.going;
+      few = c.accept_frame.ensures.few;
       settings = c.accept_frame.ensures.settings ∙ i.settings;
       out_same = c.in_ok-epoch.ensures.file_failed ∙ i.out_same;
       log_same = c.in_ok-epoch.ensures.report_failed ∙ i.log_same;

@@ -1,4 +1,4 @@
-use Rattle.std.proofs.Common.{ap, Err, ◌++◌, ◌∷◌, [], refl, ◌∙◌, arith}
+use Rattle.std.proofs.Common.{◌++◌, ◌∷◌, [], refl, ◌∙◌, arith}
 use Rattle.std.proofs.lemmas.Result.{err_from_is_err_and}
 use Rattle.rtk_convert.proofs.GatheringLemmas.{gathers-none, gathers-more, breaks-off, finds-next}
 use Rattle.rtk_convert.proofs.WritingLemmas.{on_err-from}
@@ -9,6 +9,7 @@ frames-init g c = record {
   within = omega arith;
   is_open = c.requires.is_open;
   going = c.requires.going;
+  few = c.requires.few;
   settings = refl;
   out_same = refl;
   log_same = refl;
@@ -26,6 +27,7 @@ frames-preserved g c =
       within = s.within;
       is_open = holds.0;
       going = c.in_ok-epoch.ensures.going;
+      few = c.accept_frame.ensures.few;
       settings = c.accept_frame.ensures.settings ∙ i.settings;
       out_same = c.in_ok-epoch.ensures.file_failed ∙ i.out_same;
       log_same = c.in_ok-epoch.ensures.report_failed ∙ i.log_same;

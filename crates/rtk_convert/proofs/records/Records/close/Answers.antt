@@ -4,7 +4,7 @@ use Rattle.rtk_collect.specs.EpochSet.{EpochSetView}
 use Rattle.rtk_rinex.specs.Header.{HeadView}
 use Rattle.rtk_rinex.specs.Record.{EpochTableView, record_text}
 use Rattle.rtk_convert.specs.File.{record_of}
-use Rattle.rtk_convert.specs.FilePrefix.{is_any}
+use Rattle.rtk_convert.specs.Steps.ClosedText.{is_any}
 use Rattle.rtk_convert.specs.Records.{RecordsView, HasClosed}
 use Rattle.rtk_convert.proofs.RecordsLemmas.{follows-no, follows-yes}
 use Rattle.rtk_convert.proofs.records.Records.close.Goals as goal

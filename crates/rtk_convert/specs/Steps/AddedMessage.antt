@@ -1,4 +1,4 @@
--- What an arrival does to a conversion, apart from the count of all frames.
+-- What an arrival changes in a conversion, apart from the count of all frames.
 use Rattle.std.specs.Prelude.{◌≡◌, ℕ, List, ◌∷◌, Option, None}
 use Rattle.rtk_frame.specs.Stream.{with_more, TakesPart}
 use Rattle.rtk_collect.specs.declared.offer.Offer.{Offer}
@@ -13,7 +13,8 @@ use Rattle.rtk_convert.specs.FileOfArrivals.{file_so_far}
 use Rattle.rtk_convert.specs.Records.{HasClosed}
 use Rattle.rtk_convert.specs.Report.{frame_lines, counted_as}
 use Rattle.rtk_convert.specs.Conversion.{ConversionView}
-use Rattle.rtk_convert.specs.Writing.{WritesRest, WritesPartOfRest}
+use Rattle.rtk_convert.specs.Writing.{WritesRest}
+use Rattle.rtk_convert.specs.Steps.WritingInPart.{WritesPartOfRest}
 
 -- the epoch that is closed by an arrival with this answer
 abbrev pub closed_by : Offer → Option EpochSetView
@@ -22,7 +23,7 @@ closed_by (Taken closing found) = closing
 closed_by (Conflict found) = None
 closed_by Repeat = None
 
--- its window and what it knows of the closed epochs are those of these arrivals
+-- its window, and what it knows of the closed epochs, is what these arrivals give
 pub record RepresentsEpochs (s : ConversionView) (before : List Arrival) : Type 0 where
   pub window : RepresentsArrivals s.window before
   pub closed : HasClosed s.closed s.settings.heading.listed (closed s.settings.window before)

@@ -1,0 +1,12 @@
+pub mod WritingInPart
+pub mod Faults
+pub mod ShownCells
+pub mod ClosedText
+pub mod OfferLines
+pub mod AddedMessage
+pub mod AcceptedFrame
+pub mod Closing
+pub mod LinkFrames
+pub mod AllLinks
+pub mod ReadLink
+pub mod ReadToEnd

@@ -1,0 +1,51 @@
+-- The left epochs are closed, and a conversion ends.
+use Rattle.std.specs.Prelude.{◌≡◌, ℕ, List, ◌++◌, Option, All}
+use Rattle.rtk_collect.specs.EpochSet.{EpochSetView}
+use Rattle.rtk_rinex.specs.Header.{PositionView}
+use Rattle.rtk_convert.specs.declared.counts.Counts.{Counts}
+use Rattle.rtk_convert.specs.Steps.ClosedText.{closed_text}
+use Rattle.rtk_convert.specs.FileOfArrivals.{kept_file, file_so_far}
+use Rattle.rtk_convert.specs.FrameClass.{Found, arrivals}
+use Rattle.rtk_convert.specs.Steps.ShownCells.{AllBelow}
+use Rattle.rtk_convert.specs.Records.{RecordsView, HasClosed}
+use Rattle.rtk_convert.specs.Report.{lines}
+use Rattle.rtk_convert.specs.Setup.{SetupView}
+use Rattle.rtk_convert.specs.Conversion.{ConversionView, RepresentsFound}
+use Rattle.rtk_convert.specs.Writing.{WritesRest}
+use Rattle.rtk_convert.specs.Steps.WritingInPart.{WritesPartOfRest}
+use Rattle.rtk_convert.specs.Finish.{all_counts, report_of}
+
+-- all these epochs are above the last phases
+abbrev pub AllAbove : RecordsView → List EpochSetView → Type 0
+AllAbove c epochs = All (λ e. AllBelow c.tracks e.epoch) epochs
+
+-- these epochs closed, after those below
+pub record ClosesEpochsAs (s : SetupView) (site : PositionView) (old : RecordsView) (epochs below : List EpochSetView) (new : RecordsView) (out_old out_new : Option (List ℕ)) : Type 0 where
+  pub follows : HasClosed new s.heading.listed (epochs ++ below)
+  pub out : WritesRest out_old out_new (closed_text s site below) (closed_text s site (epochs ++ below))
+
+-- whatever epochs were closed before
+abbrev pub ClosesEpochs : SetupView → PositionView → RecordsView → List EpochSetView → RecordsView → Option (List ℕ) → Option (List ℕ) → Type 0
+ClosesEpochs s site old epochs new out_old out_new =
+    (below : List EpochSetView) → HasClosed old s.heading.listed below → ClosesEpochsAs s site old epochs below new out_old out_new
+
+abbrev pub ClosesEpochsInPart : SetupView → PositionView → RecordsView → List EpochSetView → Option (List ℕ) → Option (List ℕ) → Type 0
+ClosesEpochsInPart s site old epochs out_old out_new =
+    (below : List EpochSetView) → HasClosed old s.heading.listed below → WritesPartOfRest out_old out_new (closed_text s site below) (closed_text s site (epochs ++ below))
+
+-- the end, whatever was found: what was written is what the file and the report have past what was out
+pub record FinishesConversionAs (old : ConversionView) (found : List Found) (counts : Counts) (out_old out_new log_old log_new : Option (List ℕ)) : Type 0 where
+  pub counts_are : counts ≡ all_counts old.settings found
+  pub out : WritesRest out_old out_new (file_so_far old.settings (arrivals found)) (kept_file old.settings (arrivals found))
+  pub log : WritesRest log_old log_new (lines old.settings.window found) (report_of old.settings found)
+
+abbrev pub FinishesConversion : ConversionView → Counts → Option (List ℕ) → Option (List ℕ) → Option (List ℕ) → Option (List ℕ) → Type 0
+FinishesConversion old counts out_old out_new log_old log_new = (found : List Found) → RepresentsFound old found → FinishesConversionAs old found counts out_old out_new log_old log_new
+
+-- it breaks off
+pub record FinishesConversionPartAs (old : ConversionView) (found : List Found) (out_old out_new log_old log_new : Option (List ℕ)) : Type 0 where
+  pub out : WritesPartOfRest out_old out_new (file_so_far old.settings (arrivals found)) (kept_file old.settings (arrivals found))
+  pub log : WritesPartOfRest log_old log_new (lines old.settings.window found) (report_of old.settings found)
+
+abbrev pub FinishesConversionInPart : ConversionView → Option (List ℕ) → Option (List ℕ) → Option (List ℕ) → Option (List ℕ) → Type 0
+FinishesConversionInPart old out_old out_new log_old log_new = (found : List Found) → RepresentsFound old found → FinishesConversionPartAs old found out_old out_new log_old log_new

@@ -1,0 +1,25 @@
+-- The class and the lines of an answer of the collector.
+use Rattle.std.specs.Prelude.{ℕ, List, [], Option}
+use Rattle.rtk_collect.specs.declared.conflicts.SatelliteCode.{SatelliteCode}
+use Rattle.rtk_collect.specs.declared.offer.Offer.{Offer}
+use Rattle.rtk_collect.specs.declared.offer.Offer.TheVariants.{Taken, Conflict, Repeat, Late}
+use Rattle.rtk_collect.specs.Answer.{Class, LateClass, TakenClass, RepeatClass, ConflictClass}
+use Rattle.rtk_convert.specs.Report.{class_lines}
+
+-- the class of an answer
+abbrev pub class_of_offer : Offer → Class
+class_of_offer Late = LateClass
+class_of_offer (Taken closing cells) = TakenClass
+class_of_offer Repeat = RepeatClass
+class_of_offer (Conflict cells) = ConflictClass
+
+-- the cells that an answer names as in conflict
+abbrev pub conflicts_in : Offer → List SatelliteCode
+conflicts_in Late = []
+conflicts_in (Taken closing cells) = cells
+conflicts_in Repeat = []
+conflicts_in (Conflict cells) = cells
+
+-- the lines of a message with this answer
+abbrev pub offer_lines : ℕ → ℕ → Option ℕ → Offer → List ℕ
+offer_lines link number epoch offer = class_lines link number epoch (class_of_offer offer) (conflicts_in offer)
