@@ -20,7 +20,7 @@ abbrev pub value_text : Option ℤ → List ℕ
 value_text None = replicate 14 32
 value_text (Some v) = fixed 3 14 v
 
--- the value as a strength, if it is in the range of a message's strengths
+-- the magnitude of a value as a strength, if it is in the range of a message's strengths
 abbrev pub strength_in : Option ℤ → Option ℕ
 strength_in None = None
 strength_in (Some v) =
