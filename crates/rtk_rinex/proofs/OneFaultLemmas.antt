@@ -1,6 +1,6 @@
 -- A text has one fault at most, and with a fault it is the text of no well-formed table; missing
 -- memory says nothing.
-use Rattle.std.proofs.Common.{◌≡◌, ◌≢◌, ℕ, List, length, flat_map, refl, sym, ◌∙◌, ap, arith, ⊎_elim}
+use Rattle.std.proofs.Common.{◌≡◌, ◌≢◌, ℕ, List, length, flat_map, refl, sym, ◌∙◌, arith, ⊎_elim}
 use Rattle.std.specs.Prelude.{All}
 use Rattle.rtk_rinex.specs.declared.check_fault.Cause.{Cause}
 use Rattle.rtk_rinex.specs.declared.check_fault.Cause.TheVariants.{HeaderLine, Columns, Value, Order, Truncated, OutOfMemory}

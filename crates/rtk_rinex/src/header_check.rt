@@ -192,7 +192,8 @@ fn move_code(all: &mut [Code; 16], code: Code, place: usize)
     }
 }
 
-// Moves the code with this name to this place, as `move_code` does; no code has the name: no move.
+// Moves the code with this name to this place, as `move_code` does. If no code has the name,
+// nothing moves.
 fn move_named_code(all: &mut [Code; 16], name: &[u8], place: usize)
     requires place { place < 16 }
     requires all { AreAllCodes all.old }

@@ -8,8 +8,8 @@ pub fn records_are_of_tables()
     ensures { RecordsAreOfTables }
 {}
 
-/// A header and the records after it are the text of a well-formed table. Its epochs are those
-/// epochs that have a record, and the first of them is at the header's first time.
+/// A header and the records after it are the text of a well-formed table, if the first epoch with a
+/// record is at the header's first time. The table's epochs are the epochs that have a record.
 pub fn files_are_tables()
     ensures { FilesAreTables }
 {}

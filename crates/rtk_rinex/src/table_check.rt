@@ -82,7 +82,7 @@ fn room_for(alloc: Global, bytes: &[u8]) -> Result<Vec<u8>, CheckFault>
     }
 }
 
-/// The table whose text this is if it is well formed, else the first line that is wrong.
+/// The well-formed table whose text this is, if there is one; else the first line that is wrong.
 pub fn check(alloc: Global, bytes: &[u8]) -> Result<Table, CheckFault>
     ensures text { IfOk result (λ t. t.text ≡ bytes.now) }
     ensures table { IfOk result (λ t. HoldsTable bytes.now t.epochs t.satellites) }

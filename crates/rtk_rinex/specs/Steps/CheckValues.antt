@@ -1,7 +1,7 @@
 -- What the columns of a field show, whatever stands in them. It counts only once its own text
 -- equals those columns.
-use Rattle.std.specs.Prelude.{ℕ, zero, suc, ◌++◌, ◌+◌, ◌-◌, ◌*◌, ◌/◌, ◌%◌, nat_le, ◌==◌, Bool, false, ◌&&◌, ◌||◌, if◌then◌else◌, List, [], ◌∷◌, take, drop, replicate, ℤ, pos, neg_ℤ, unsigned_abs, Option, Some, None}
-use Rattle.std.specs.List.{list_any, list_all}
+use Rattle.std.specs.Prelude.{ℕ, zero, suc, ◌++◌, ◌+◌, ◌*◌, ◌/◌, ◌%◌, nat_le, ◌==◌, Bool, false, ◌&&◌, ◌||◌, if◌then◌else◌, List, [], ◌∷◌, take, drop, replicate, ℤ, unsigned_abs, Option, Some, None}
+use Rattle.std.specs.List.{list_all}
 use Rattle.rtk_obs.specs.declared.time.Civil.{Civil}
 use Rattle.rtk_rinex.specs.Columns.{fixed, left}
 use Rattle.rtk_rinex.specs.Steps.Digits.{digits_from, number_in}
@@ -20,7 +20,7 @@ abbrev pub value_text : Option ℤ → List ℕ
 value_text None = replicate 14 32
 value_text (Some v) = fixed 3 14 v
 
--- the value as a strength, if it is in the range of a message's strengths
+-- the magnitude of a value as a strength, if it is in the range of a message's strengths
 abbrev pub strength_in : Option ℤ → Option ℕ
 strength_in None = None
 strength_in (Some v) =
