@@ -83,11 +83,11 @@ mv whole_out out && mv whole_err err
 sed 's/^link 1/link 2/' "$examples/late.report" >late.report
 leaves followed_to_its_end 0 "$examples/late.rnx" late.report
 
-# Links that can't be opened or read: of the first kind nothing is read and nothing is out.
+# Links that can't be opened, and links that can't be read. If one can't be opened, nothing is read and nothing is out.
 mkdir folder
 convert 1C nowhere "$base" </dev/null;                fails missing_link 1 'cannot open nowhere'
-convert 1C "$base" nowhere </dev/null;                fails missing_link_behind_another 1 'cannot open nowhere'
-{ convert 1C stdin nowhere; cat >rest; } <"$base";    fails missing_link_behind_standard_input 1 'cannot open nowhere'
+convert 1C "$base" nowhere </dev/null;                fails missing_link_after_another 1 'cannot open nowhere'
+{ convert 1C stdin nowhere; cat >rest; } <"$base";    fails missing_link_after_standard_input 1 'cannot open nowhere'
 cp rest out; : >err; status=0;                        leaves nothing_read_before_all_links_are_open 0 "$base" /dev/null
 convert 1C '' </dev/null;                             fails empty_name 1 'cannot open '
 convert 1C folder </dev/null;                         fails a_directory 1 'read failed'
@@ -96,7 +96,7 @@ convert 1C "$(printf '\377')" </dev/null;             fails a_link_that_is_no_te
 "$program" convert $options --codes 1C stdin <&- >out 2>err; status=$?
 fails closed_standard_input 1 'read failed'
 
-# A link that fails behind closed epochs: these and their report are out. Both streams in one place: the file comes first.
+# A link that fails after epochs have closed: these and their report are out. Both streams in one place: the file comes first.
 convert 1C,2W --window 2 "$examples/late.rtcm" folder </dev/null
 sed -n '1,23p' "$examples/late.rnx" >part
 { head -n 1 "$examples/late.report"; echo 'rtcm2rinex: read failed'; } >part_err
@@ -159,10 +159,10 @@ words $near 2100-12-31T23:59:59 BASE 1C,2D,1P nothing
 header last_making '21001231 235959' BASE 'G    9 C1C L1C S1C C2D L2D S2D C1P L1P S1P'
 
 # A marker may begin with a hyphen; numbers may have a sign and zeros before them; an option stands with its value or
-# before it, before or behind the links.
+# before it, before or after the links.
 sed '3s/^BASE/-X  /' "$examples/base.rnx" >hyphen.rnx
 "$program" convert "$base" --station=+2003 --near=$near --made=$made --marker -X --codes=1C,2W >out 2>err </dev/null; status=$?
-leaves options_behind_the_link 0 hyphen.rnx base.report
+leaves options_after_the_link 0 hyphen.rnx base.report
 sed '3s/^BASE /-X - /' "$examples/base.rnx" >hyphens.rnx
 "$program" convert --station 002003 --near $near --made $made '--marker=-X -' --codes 1C,2W "$base" >out 2>err </dev/null; status=$?
 leaves zeros_before_the_station 0 hyphens.rnx base.report
@@ -218,7 +218,7 @@ bad_value station_of_no_digits --station x 'invalid digit found in string'
 bad_value window_of_1 --window 1 '1 is not in 2..=4096'
 bad_value window_of_4097 --window 4097 '4097 is not in 2..=4096'
 
-# Outputs that fail: the fault line stands behind what of the report is told.
+# Outputs that fail: the fault line stands after the part of the report that is out.
 printf 'rtcm2rinex: write failed\n' >write_failed
 cat base.report write_failed >told_in_full
 "$program" convert $options --codes 1C,2W "$base" </dev/null >/dev/full 2>err; status=$?

@@ -11,7 +11,7 @@ run() {
     status=$?
 }
 
-# start WORD..: the same by the command that builds the program where it must
+# start WORD..: the same by the command that builds the program if it must
 start() {
     "$root/bin/rtcm2rinex" "$@" >out 2>err
     status=$?
@@ -103,7 +103,7 @@ for _ in 1 2 3 4 5 6 7 8 9 10 11 12 13 14 15 16; do cat frames frames >twice; mv
 
 run show --hex stdin <arp.hex;            expect hex_from_stdin 0 "$arp" ''
 run show --hex arp.hex </dev/null;        expect hex_from_file 0 "$arp" ''
-run show arp.hex --hex </dev/null;        expect hex_behind_the_file 0 "$arp" ''
+run show arp.hex --hex </dev/null;        expect hex_after_the_file 0 "$arp" ''
 run show arp.rtcm </dev/null;             expect bytes_from_file 0 "$arp" ''
 cp arp.rtcm ./--hex
 run show -- --hex </dev/null;             expect file_of_the_name_of_an_option 0 "$arp" ''
