@@ -29,9 +29,11 @@ metres n = decimal (n / 10000) ++ four_decimals n
 unfoldable pub coordinate : ℤ → List ℕ
 coordinate v = sign_text (is_negative v) ++ metres (unsigned_abs v)
 
--- the antenna reference point (DF025, DF026, DF027)
-unfoldable pub point : ℤ → ℤ → ℤ → List ℕ
-point x y z = codes " x " ++ coordinate x ++ codes " y " ++ coordinate y ++ codes " z " ++ coordinate z
+-- a station (DF003) and its antenna reference point (DF025, DF026, DF027)
+unfoldable pub reference_point : Arp1005 → List ℕ
+reference_point m =
+    codes " station " ++ decimal m.station ++ codes " x " ++ coordinate m.x ++ codes " y " ++ coordinate m.y
+    ++ codes " z " ++ coordinate m.z
 
 -- a message: its number, its station (DF003), and then the time of week (DF004) and the numbers of
 -- satellites, signals and cells, or the antenna reference point and its height (DF028)
@@ -41,11 +43,10 @@ text_1004 m =
     ++ codes " satellites " ++ decimal (length m.satellites)
 
 abbrev pub text_1005 : Arp1005 → List ℕ
-text_1005 m = codes "1005 station " ++ decimal m.station ++ point m.x m.y m.z
+text_1005 m = codes "1005" ++ reference_point m
 
 abbrev pub text_1006 : Arp1006 → List ℕ
-text_1006 m =
-    codes "1006 station " ++ decimal m.station ++ point m.x m.y m.z ++ codes " height " ++ metres m.height
+text_1006 m = codes "1006" ++ reference_point m.arp ++ codes " height " ++ metres m.height
 
 abbrev pub text_1074 : Msm1074 → List ℕ
 text_1074 m =
