@@ -15,6 +15,10 @@ field_bits (u w n) = bits_of w n
 field_bits (i w z) = signed_bits_of w z
 field_bits (flag b) = b ∷ []
 
+-- the milliseconds of a week; a time of week (DF004) is less
+abbrev pub week_ms : ℕ
+week_ms = 604_800_000
+
 -- the time of week (DF004) in the bits after the number of a message with observations: the 30 bits
 -- after the station
 abbrev pub tow_in : List Bool → ℕ

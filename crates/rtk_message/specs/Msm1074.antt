@@ -1,8 +1,8 @@
 -- Message 1074 after its number (RTCM 10403.3, message 1074, GPS MSM4): a header of 157 bits, the
 -- cell mask, the columns.
-use Rattle.std.specs.Prelude.{◌≡◌, ℕ, ◌+◌, ◌*◌, ◌≤◌, ◌<◌, Bool, List, [], ◌∷◌, ◌++◌, length, sum_by, count_ones, take, drop, Option, Some, None, nat_lt, if◌then◌else◌}
+use Rattle.std.specs.Prelude.{◌≡◌, ℕ, ◌+◌, ◌*◌, ◌≤◌, ◌<◌, Bool, List, [], ◌∷◌, ◌++◌, length, sum_by, count_ones, take, drop, Option, Some, None, nat_lt, nat_le, if◌then◌else◌}
 use Rattle.rtk_bits.specs.Bits.{unsigned}
-use Rattle.rtk_message.specs.Fields.{tow_in, Field, u, flag, FieldsFit}
+use Rattle.rtk_message.specs.Fields.{week_ms, tow_in, Field, u, flag, FieldsFit}
 use Rattle.rtk_message.specs.Columns.{numbers, integers, flags}
 use Rattle.rtk_message.specs.declared.fault.DecodeFault.{DecodeFault}
 use Rattle.rtk_message.specs.declared.fault.DecodeFault.TheVariants.{Short, EpochRange, TooManyCells}
@@ -78,7 +78,7 @@ pub record EachFits (m : Msm1074) : Type 0 where
 -- their lengths
 pub record IsValid (m : Msm1074) : Type 0 where
   pub fields_fit : FieldsFit (table m)
-  pub time_in_week : m.header.tow < 604800000
+  pub time_in_week : m.header.tow < week_ms
   pub mask_bits : satellites m.header * signals m.header ≤ 64
   pub lengths : HasLengths m
 
@@ -100,6 +100,6 @@ cell_count_in bs = count_ones (unsigned (take (mask_bits_in bs) (drop 157 bs)))
 abbrev pub first_fault : List Bool → Option DecodeFault
 first_fault bs =
     if nat_lt (length bs) 157 then Some (Short 1074) else
-    if nat_lt 604799999 (tow_in bs) then Some (EpochRange 1074) else
+    if nat_le week_ms (tow_in bs) then Some (EpochRange 1074) else
     if nat_lt 64 (mask_bits_in bs) then Some TooManyCells else
     if nat_lt (length bs) (157 + mask_bits_in bs + 18 * satellite_count_in bs + 48 * cell_count_in bs) then Some (Short 1074) else None

@@ -1,7 +1,7 @@
 //! Message 1074: GPS observations of any signals (MSM4), column by column.
 
 ghost use Rattle.std.specs.Prelude.{◌≡◌, ◌≤◌, ◌<◌, [], ◌+◌, ◌*◌, length, OnOk, IsTrue, ◌↔◌, count_ones, sum_by};
-ghost use Rattle.rtk_message.specs.Fields.{TakesAll, PutsAll, FieldsFit};
+ghost use Rattle.rtk_message.specs.Fields.{week_ms, TakesAll, PutsAll, FieldsFit};
 ghost use Rattle.rtk_message.specs.Columns.{numbers};
 ghost use Rattle.rtk_message.specs.Msm1074.{header_table, EachFits, HasLengths};
 
@@ -108,7 +108,7 @@ impl MsmHeader {
 
     // Whether each field fits, and the time of week lies in a week.
     fn fits(self) -> bool
-        ensures { IsTrue result ↔ (FieldsFit (header_table self) × (self.tow < 604800000)) }
+        ensures { IsTrue result ↔ (FieldsFit (header_table self) × (self.tow < week_ms)) }
     {
         if self.station >= 1 << 12 || self.tow >= WEEK_MS || self.issue_of_data_station >= 1 << 3 {
             return false;
