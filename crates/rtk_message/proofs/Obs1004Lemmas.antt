@@ -5,7 +5,8 @@ use Rattle.std.proofs.lemmas.Bool.{le-ltb, lt-ltb, le-leb, lt-leb}
 use Rattle.std.proofs.lemmas.List.{flat_map_more, take_more}
 use Rattle.rtk_message.specs.declared.fault.DecodeFault.TheVariants.{Short, EpochRange}
 use Rattle.rtk_message.specs.declared.obs1004.Satellite.{Satellite}
-use Rattle.rtk_message.specs.Fields.{week_ms, tow_in, FieldsFit, TakesAll, PutsAll}
+use Rattle.rtk_message.specs.Fields.{week_ms, tow_in, FieldsFit, TakesAll}
+use Rattle.rtk_message.specs.Steps.FieldSteps.{PutsAll}
 use Rattle.rtk_message.specs.FieldLaws.{fit-left}
 use Rattle.rtk_message.specs.Obs1004.{satellite_table, header, first_fault, satellite_bits}
 use Rattle.rtk_message.specs.Obs1004Laws.{header_says}

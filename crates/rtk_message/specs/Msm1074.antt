@@ -64,16 +64,6 @@ pub record HasNoCells (m : Msm1074) : Type 0 where
   pub half_cycle : m.half_cycle ≡ []
   pub cnr : m.cnr ≡ []
 
--- each value of the columns fits its width; DF420 is a single bit, which always fits
-pub record EachFits (m : Msm1074) : Type 0 where
-  pub cell_mask : FieldsFit (numbers (signals m.header) m.cell_mask)
-  pub rough_ms : FieldsFit (numbers 8 m.rough_ms)
-  pub rough_fraction : FieldsFit (numbers 10 m.rough_fraction)
-  pub fine_range : FieldsFit (integers 15 m.fine_range)
-  pub fine_phase : FieldsFit (integers 22 m.fine_phase)
-  pub lock_indicator : FieldsFit (numbers 4 m.lock_indicator)
-  pub cnr : FieldsFit (numbers 6 m.cnr)
-
 -- each field fits, the time lies in a week, the cell mask has at most 64 bits, the columns have
 -- their lengths
 pub record IsValid (m : Msm1074) : Type 0 where

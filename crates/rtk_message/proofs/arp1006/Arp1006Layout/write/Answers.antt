@@ -1,5 +1,6 @@
 use Rattle.std.proofs.Common.{[], ◌∷◌}
-use Rattle.rtk_message.specs.Fields.{u, PutsAll}
+use Rattle.rtk_message.specs.Fields.{u}
+use Rattle.rtk_message.specs.Steps.FieldSteps.{PutsAll}
 use Rattle.rtk_message.specs.FieldLaws.{fit-left}
 use Rattle.rtk_message.specs.Arp1005.{table}
 use Rattle.rtk_message.proofs.FieldLemmas.{put, put_none, put_both}
