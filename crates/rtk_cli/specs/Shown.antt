@@ -13,8 +13,9 @@ use Rattle.rtk_message.specs.declared.arp1005.Arp1005.{Arp1005}
 use Rattle.rtk_message.specs.declared.arp1006.Arp1006.{Arp1006}
 use Rattle.rtk_message.specs.declared.msm1074.Msm1074.{Msm1074}
 use Rattle.rtk_message.specs.declared.fault.DecodeFault.{DecodeFault}
-use Rattle.rtk_message.specs.declared.fault.DecodeFault.TheVariants.{NoNumber, Other, Short, EpochRange, TooManyCells}
+use Rattle.rtk_message.specs.declared.fault.DecodeFault.TheVariants.{Other}
 use Rattle.rtk_message.specs.Decoded.{Decodes}
+use Rattle.rtk_message.specs.FaultCode.{fault_text}
 use Rattle.rtk_message.specs.Msm1074.{satellites, signals, cells}
 
 -- a point and four digits: the part of a whole metre, of a number of 0.0001 m
@@ -29,9 +30,11 @@ metres n = decimal (n / 10000) ++ four_decimals n
 unfoldable pub coordinate : ℤ → List ℕ
 coordinate v = sign_text (is_negative v) ++ metres (unsigned_abs v)
 
--- the antenna reference point (DF025, DF026, DF027)
-unfoldable pub point : ℤ → ℤ → ℤ → List ℕ
-point x y z = codes " x " ++ coordinate x ++ codes " y " ++ coordinate y ++ codes " z " ++ coordinate z
+-- a station (DF003) and its antenna reference point (DF025, DF026, DF027)
+unfoldable pub reference_point : Arp1005 → List ℕ
+reference_point m =
+    codes " station " ++ decimal m.station ++ codes " x " ++ coordinate m.x ++ codes " y " ++ coordinate m.y
+    ++ codes " z " ++ coordinate m.z
 
 -- a message: its number, its station (DF003), and then the time of week (DF004) and the numbers of
 -- satellites, signals and cells, or the antenna reference point and its height (DF028)
@@ -41,11 +44,10 @@ text_1004 m =
     ++ codes " satellites " ++ decimal (length m.satellites)
 
 abbrev pub text_1005 : Arp1005 → List ℕ
-text_1005 m = codes "1005 station " ++ decimal m.station ++ point m.x m.y m.z
+text_1005 m = codes "1005" ++ reference_point m
 
 abbrev pub text_1006 : Arp1006 → List ℕ
-text_1006 m =
-    codes "1006 station " ++ decimal m.station ++ point m.x m.y m.z ++ codes " height " ++ metres m.height
+text_1006 m = codes "1006" ++ reference_point m.arp ++ codes " height " ++ metres m.height
 
 abbrev pub text_1074 : Msm1074 → List ℕ
 text_1074 m =
@@ -59,14 +61,11 @@ message_text (Of1005 m) = text_1005 m
 message_text (Of1006 m) = text_1006 m
 message_text (Of1074 m) = text_1074 m
 
--- a payload that is no message: the number of another message, or the number of the fault and the number of the
+-- a payload that is no message: the number of another message, or the code of the fault and the number of the
 -- message, if there is one
 abbrev pub unread_text : DecodeFault → List ℕ
-unread_text NoNumber = codes "refused M1 -"
 unread_text (Other number) = decimal number ++ codes " other"
-unread_text (Short number) = codes "refused M3 " ++ decimal number
-unread_text (EpochRange number) = codes "refused M4 " ++ decimal number
-unread_text TooManyCells = codes "refused M5 1074"
+unread_text fault = codes "refused " ++ fault_text fault
 
 -- either is ended by a line feed
 abbrev pub line_of : Result Message DecodeFault → List ℕ

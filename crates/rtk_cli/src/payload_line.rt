@@ -3,7 +3,7 @@
 ghost use Rattle.std.specs.Prelude.{◌≡◌, ◌++◌, ◌∷◌, [], List, ℕ, decimal, IfOk, OnOk};
 ghost use Rattle.rtk_message.specs.Decoded.{IsValid};
 ghost use Rattle.rtk_message.specs.Msm1074.{HasLengths};
-ghost use Rattle.rtk_cli.specs.Shown.{four_decimals, metres, coordinate, point, text_1004, text_1005, text_1006, text_1074, message_text, unread_text, IsLineOf};
+ghost use Rattle.rtk_cli.specs.Shown.{four_decimals, metres, coordinate, reference_point, text_1004, text_1005, text_1006, text_1074, message_text, unread_text, IsLineOf};
 
 use itoa::Buffer;
 use rtk_message::{Arp1005, Arp1006, DecodeFault, Message, Msm1074, Obs1004, decode};
@@ -39,7 +39,7 @@ fn put_metres(line: &mut Vec<u8>, length: u64) -> Result<(), AllocError>
     line.extend_from_slice(&decimals_of(length))
 }
 
-// By reference, as in `put_point`: a signed field of a message that is read and passed by value has
+// By reference, as in `put_reference_point`: a signed field of a message that is read and passed by value has
 // no range for the prover.
 #[tactic(auto, unfolding(crate::specs::Shown::coordinate))]
 fn put_coordinate(line: &mut Vec<u8>, value: &i64) -> Result<(), AllocError>
@@ -51,15 +51,17 @@ fn put_coordinate(line: &mut Vec<u8>, value: &i64) -> Result<(), AllocError>
     put_metres(line, value.unsigned_abs())
 }
 
-fn put_point(line: &mut Vec<u8>, x: &i64, y: &i64, z: &i64) -> Result<(), AllocError>
-    ensures { OnOk result (line.new.items ≡ line.old.items ++ point x.now y.now z.now) }
+// The station and its antenna reference point.
+fn put_reference_point(line: &mut Vec<u8>, message: &Arp1005) -> Result<(), AllocError>
+    ensures { OnOk result (line.new.items ≡ line.old.items ++ reference_point message.now) }
 {
+    put_named(line, b" station ", message.station as u64)?;
     line.extend_from_slice(b" x ")?;
-    put_coordinate(line, x)?;
+    put_coordinate(line, &message.x)?;
     line.extend_from_slice(b" y ")?;
-    put_coordinate(line, y)?;
+    put_coordinate(line, &message.y)?;
     line.extend_from_slice(b" z ")?;
-    put_coordinate(line, z)?;
+    put_coordinate(line, &message.z)?;
     Ok(())
 }
 
@@ -75,16 +77,16 @@ fn put_1004(line: &mut Vec<u8>, message: &Obs1004) -> Result<(), AllocError>
 fn put_1005(line: &mut Vec<u8>, message: &Arp1005) -> Result<(), AllocError>
     ensures { OnOk result (line.new.items ≡ line.old.items ++ text_1005 message.now) }
 {
-    put_named(line, b"1005 station ", message.station as u64)?;
-    put_point(line, &message.x, &message.y, &message.z)?;
+    line.extend_from_slice(b"1005")?;
+    put_reference_point(line, message)?;
     Ok(())
 }
 
 fn put_1006(line: &mut Vec<u8>, message: &Arp1006) -> Result<(), AllocError>
     ensures { OnOk result (line.new.items ≡ line.old.items ++ text_1006 message.now) }
 {
-    put_named(line, b"1006 station ", message.station as u64)?;
-    put_point(line, &message.x, &message.y, &message.z)?;
+    line.extend_from_slice(b"1006")?;
+    put_reference_point(line, &message.arp)?;
     line.extend_from_slice(b" height ")?;
     put_metres(line, message.height as u64)?;
     Ok(())
@@ -118,16 +120,17 @@ fn put_message(line: &mut Vec<u8>, message: &Message) -> Result<(), AllocError>
 fn put_fault(line: &mut Vec<u8>, fault: DecodeFault) -> Result<(), AllocError>
     ensures { OnOk result (line.new.items ≡ line.old.items ++ unread_text fault) }
 {
-    match fault {
-        DecodeFault::NoNumber => line.extend_from_slice(b"refused M1 -"),
-        DecodeFault::Other { number } => {
-            put_number(line, number as u64)?;
-            line.extend_from_slice(b" other")
-        }
-        DecodeFault::Short { number } => put_named(line, b"refused M3 ", number as u64),
-        DecodeFault::EpochRange { number } => put_named(line, b"refused M4 ", number as u64),
-        DecodeFault::TooManyCells => line.extend_from_slice(b"refused M5 1074"),
+    if let DecodeFault::Other { number } = fault {
+        put_number(line, number as u64)?;
+        return line.extend_from_slice(b" other");
     }
+    line.extend_from_slice(b"refused ")?;
+    line.extend_from_slice(fault.code().as_bytes())?;
+    match fault.number() {
+        Some(number) => put_named(line, b" ", number as u64)?,
+        None => line.extend_from_slice(b" -")?,
+    }
+    Ok(())
 }
 
 /// Appends the line of a payload, with its line feed. After a refusal a part of it may stand there.

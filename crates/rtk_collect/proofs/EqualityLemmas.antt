@@ -180,56 +180,9 @@ decides-1005 a b = Decides-like (equal_1005 a b)
 
 pub decides-1006 : (a b : Arp1006) → Decides (equal_1006 a b) (a ≡ b)
 decides-1006 a b = Decides-like (equal_1006 a b)
-    (λ h i. record {
-      station = h.0 i;
-      realization_year = h.1.0 i;
-      gps = h.1.1.0 i;
-      glonass = h.1.1.1.0 i;
-      galileo = h.1.1.1.1.0 i;
-      reference_station = h.1.1.1.1.1.0 i;
-      x = h.1.1.1.1.1.1.0 i;
-      single_oscillator = h.1.1.1.1.1.1.1.0 i;
-      reserved = h.1.1.1.1.1.1.1.1.0 i;
-      y = h.1.1.1.1.1.1.1.1.1.0 i;
-      quarter_cycle = h.1.1.1.1.1.1.1.1.1.1.0 i;
-      z = h.1.1.1.1.1.1.1.1.1.1.1.0 i;
-      height = h.1.1.1.1.1.1.1.1.1.1.1.1 i;
-    })
-    (λ e. (
-      ap (λ (c : Arp1006). c.station) e,
-      (
-        ap (λ (c : Arp1006). c.realization_year) e,
-        (
-          ap (λ (c : Arp1006). c.gps) e,
-          (
-            ap (λ (c : Arp1006). c.glonass) e,
-            (
-              ap (λ (c : Arp1006). c.galileo) e,
-              (
-                ap (λ (c : Arp1006). c.reference_station) e,
-                (
-                  ap (λ (c : Arp1006). c.x) e,
-                  (
-                    ap (λ (c : Arp1006). c.single_oscillator) e,
-                    (
-                      ap (λ (c : Arp1006). c.reserved) e,
-                      (
-                        ap (λ (c : Arp1006). c.y) e,
-                        (ap (λ (c : Arp1006). c.quarter_cycle) e, (ap (λ (c : Arp1006). c.z) e, ap (λ (c : Arp1006). c.height) e)),
-                      ),
-                    ),
-                  ),
-                ),
-              ),
-            ),
-          ),
-        ),
-      ),
-    ))
-    (Decides-and _ _ (Decides-eqb a.station b.station) (Decides-and _ _ (Decides-eqb a.realization_year b.realization_year) (Decides-and _ _ (booleans_Decides a.gps b.gps)
-    (Decides-and _ _ (booleans_Decides a.glonass b.glonass) (Decides-and _ _ (booleans_Decides a.galileo b.galileo) (Decides-and _ _ (booleans_Decides a.reference_station b.reference_station)
-    (Decides-and _ _ (Decides-int_eq a.x b.x) (Decides-and _ _ (booleans_Decides a.single_oscillator b.single_oscillator) (Decides-and _ _ (booleans_Decides a.reserved b.reserved)
-    (Decides-and _ _ (Decides-int_eq a.y b.y) (Decides-and _ _ (Decides-eqb a.quarter_cycle b.quarter_cycle) (Decides-and _ _ (Decides-int_eq a.z b.z) (Decides-eqb a.height b.height)))))))))))))
+    (λ h i. record { arp = h.0 i; height = h.1 i })
+    (λ e. (ap (λ (c : Arp1006). c.arp) e, ap (λ (c : Arp1006). c.height) e))
+    (Decides-and _ _ (decides-1005 a.arp b.arp) (Decides-eqb a.height b.height))
 
 pub equality-decides : EqualityDecides
 equality-decides = (cells-decide, decides-1005, decides-1006)

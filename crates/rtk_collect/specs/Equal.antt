@@ -30,12 +30,9 @@ equal_1005 a b =
     && (beq a.reference_station b.reference_station && (int_eq a.x b.x && (beq a.single_oscillator b.single_oscillator && (beq a.reserved b.reserved
     && (int_eq a.y b.y && ((a.quarter_cycle == b.quarter_cycle) && int_eq a.z b.z))))))))))
 
--- the fields of a 1006 (RTCM 10403.3, message 1006)
+-- the fields of a 1006 (RTCM 10403.3, message 1006): those of a 1005 and the height
 abbrev pub equal_1006 : Message1006 → Message1006 → Bool
-equal_1006 a b =
-    (a.station == b.station) && ((a.realization_year == b.realization_year) && (beq a.gps b.gps && (beq a.glonass b.glonass && (beq a.galileo b.galileo
-    && (beq a.reference_station b.reference_station && (int_eq a.x b.x && (beq a.single_oscillator b.single_oscillator && (beq a.reserved b.reserved
-    && (int_eq a.y b.y && ((a.quarter_cycle == b.quarter_cycle) && (int_eq a.z b.z && (a.height == b.height))))))))))))
+equal_1006 a b = equal_1005 a.arp b.arp && (a.height == b.height)
 
 -- two station messages of one number
 abbrev pub equal_stations : Message → Message → Bool

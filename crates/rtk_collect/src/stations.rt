@@ -56,11 +56,11 @@ pub(crate) fn position(stations: Stations) -> Position
     requires fits_1006 { ForSome stations.arp1006 arp1006_spec.IsValid }
     ensures { IsPosition stations.arp1005 stations.arp1006 result }
 {
-    if let Some(arp) = stations.arp1006 {
-        return position_of_1006(arp);
+    if let Some(message) = stations.arp1006 {
+        return position_of(message.arp, message.height);
     }
     if let Some(arp) = stations.arp1005 {
-        return position_of_1005(arp);
+        return position_of(arp, 0);
     }
     Position {
         x: 0,
@@ -70,28 +70,16 @@ pub(crate) fn position(stations: Stations) -> Position
     }
 }
 
-// The position of a 1005. By value, so that the range of each field's type is known.
-fn position_of_1005(arp: Arp1005) -> Position
+// The antenna reference point with this height. By value, so that the range of each field's type is
+// known.
+fn position_of(arp: Arp1005, height: u16) -> Position
     requires { arp1005_spec.IsValid arp }
-    ensures { HasFields arp.x arp.y arp.z 0 result }
+    ensures { HasFields arp.x arp.y arp.z height result }
 {
     Position {
         x: arp.x,
         y: arp.y,
         z: arp.z,
-        height: 0,
-    }
-}
-
-// The position and the height of a 1006.
-fn position_of_1006(arp: Arp1006) -> Position
-    requires { arp1006_spec.IsValid arp }
-    ensures { HasFields arp.x arp.y arp.z arp.height result }
-{
-    Position {
-        x: arp.x,
-        y: arp.y,
-        z: arp.z,
-        height: arp.height,
+        height,
     }
 }

@@ -51,7 +51,7 @@ fields-same x y z h x' y' z' h' ex ey ez eh = cc
 
 site-same : (short : Option Message1005) (tall : Option Message1006) (p : Position) → IsPosition short tall p
     → position_view p ≡ site_of_stations (option_map Arp1005 short) (option_map Arp1006 tall)
-site-same short (Some m) p h = fields-same p.x p.y p.z p.height m.x m.y m.z m.height h.0 h.1 h.2 h.3
+site-same short (Some m) p h = fields-same p.x p.y p.z p.height m.arp.x m.arp.y m.arp.z m.height h.0 h.1 h.2 h.3
 site-same (Some m) None p h = fields-same p.x p.y p.z p.height m.x m.y m.z 0 h.0 h.1 h.2 h.3
 site-same None None p h = fields-same p.x p.y p.z p.height (pos 0) (pos 0) (pos 0) 0 h.0 h.1 h.2 h.3
 

@@ -6,6 +6,7 @@ use Rattle.std.specs.Borrow.{Bor}
 use Rattle.rtk_bits.specs.Bits.{bits}
 use Rattle.rtk_message.specs.declared.message.Message.{Message}
 use Rattle.rtk_message.specs.declared.fault.DecodeFault.{DecodeFault}
+use Rattle.rtk_message.specs.Fields.{week_ms}
 use Rattle.rtk_message.specs.Decoded.{Decodes, tow_of}
 use Rattle.rtk_obs.specs.Dating.{IsDated}
 use Rattle.rtk_collect.specs.Arrival.{Arrival, At}
@@ -41,7 +42,7 @@ decodes-once bs (Err f) (Err g) a b = let e : Some f ≡ Some g = sym a.fault �
 
 dated-once : (near tow t u : ℕ) → IsDated near tow t → IsDated near tow u → t ≡ u
 dated-once near tow t u a b =
-    let same : t % 604_800_000 ≡ u % 604_800_000 = a.time_of_week ∙ sym b.time_of_week in
+    let same : t % week_ms ≡ u % week_ms = a.time_of_week ∙ sym b.time_of_week in
     let from = a.from in
     let before = a.before in
     let from' = b.from in

@@ -139,7 +139,7 @@ site-good : (short tall : Option Message) → IfValid short → IfValid tall →
 site-good short None s t = site_of_1005-good short s
 site-good short (Some (Obs1004 m)) s t = site_of_1005-good short s
 site-good short (Some (Arp1005 m)) s t = site_of_1005-good short s
-site-good short (Some (Arp1006 m)) s v = (coordinate m.x v.1.1.1.1.1.1.0, coordinate m.y v.1.1.1.1.1.1.1.1.1.0, coordinate m.z v.1.1.1.1.1.1.1.1.1.1.1.0, v.1.1.1.1.1.1.1.1.1.1.1.1.0)
+site-good short (Some (Arp1006 m)) s v = (coordinate m.arp.x v.1.1.1.1.1.1.0, coordinate m.arp.y v.1.1.1.1.1.1.1.1.1.0, coordinate m.arp.z v.1.1.1.1.1.1.1.1.1.1.1.0, v.1.1.1.1.1.1.1.1.1.1.1.1.0)
 site-good short (Some (Msm1074 m)) s t = site_of_1005-good short s
 
 -- ---- so the file is a table's

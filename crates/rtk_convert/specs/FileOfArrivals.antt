@@ -1,5 +1,6 @@
 -- The file of what is kept of arrivals, newest first, and what of it is out so far.
 use Rattle.std.specs.Prelude.{ℕ, pos, List, Option, Some}
+use Rattle.rtk_message.specs.declared.arp1005.Arp1005.{Arp1005 as Message1005}
 use Rattle.rtk_message.specs.declared.message.Message.{Message}
 use Rattle.rtk_message.specs.declared.message.Message.TheVariants.{Arp1005, Arp1006}
 use Rattle.rtk_collect.specs.Arrival.{Arrival}
@@ -13,14 +14,18 @@ use Rattle.rtk_convert.specs.FilePrefix.{so_far}
 abbrev pub no_site : PositionView
 no_site = record { x = pos 0; y = pos 0; z = pos 0; height = 0 }
 
--- the position of a 1005, with no height (RTCM 10403.3, DF025 to DF027)
+-- an antenna reference point (RTCM 10403.3, DF025 to DF027) with this height
+abbrev pub site_of : Message1005 → ℕ → PositionView
+site_of arp height = record { x = arp.x; y = arp.y; z = arp.z; height = height }
+
+-- the position of a 1005, with no height
 abbrev pub site_of_1005 : Option Message → PositionView
-site_of_1005 (Some (Arp1005 m)) = record { x = m.x; y = m.y; z = m.z; height = 0 }
+site_of_1005 (Some (Arp1005 m)) = site_of m 0
 site_of_1005 _ = no_site
 
--- the position and height of the 1006 (DF025 to DF028), else the position of the 1005, else zeros (this project's rule)
+-- the position and height (DF028) of the 1006, else the position of the 1005, else zeros (this project's rule)
 abbrev pub site_of_stations : Option Message → Option Message → PositionView
-site_of_stations arp1005 (Some (Arp1006 m)) = record { x = m.x; y = m.y; z = m.z; height = m.height }
+site_of_stations arp1005 (Some (Arp1006 m)) = site_of m.arp m.height
 site_of_stations arp1005 _ = site_of_1005 arp1005
 
 -- by the station messages that are kept

@@ -2,7 +2,7 @@
 use Rattle.std.specs.Prelude.{ℕ, List, [], ◌∷◌, ◌++◌, flat_map, codes, decimal, Option, None, Some}
 use Rattle.rtk_frame.specs.Stream.{count_after}
 use Rattle.rtk_message.specs.declared.fault.DecodeFault.{DecodeFault}
-use Rattle.rtk_message.specs.declared.fault.DecodeFault.TheVariants.{NoNumber, Other, Short, EpochRange, TooManyCells}
+use Rattle.rtk_message.specs.FaultCode.{fault_text}
 use Rattle.rtk_message.specs.Decoded.{number_of}
 use Rattle.rtk_collect.specs.declared.conflicts.SatelliteCode.{SatelliteCode}
 use Rattle.rtk_collect.specs.Arrival.{Arrival, epoch_of, message_of}
@@ -14,14 +14,6 @@ use Rattle.rtk_convert.specs.ReportText.{link_text, late_line, conflict_line, ce
 use Rattle.rtk_convert.specs.declared.counts.Counts.{Counts}
 
 -- ---- lines
-
--- the fault of a refused payload, by its number, and the number of the message
-abbrev pub fault_text : DecodeFault → List ℕ
-fault_text NoNumber = codes "M1 -"
-fault_text (Other number) = codes "M2 " ++ decimal number
-fault_text (Short number) = codes "M3 " ++ decimal number
-fault_text (EpochRange number) = codes "M4 " ++ decimal number
-fault_text TooManyCells = codes "M5 1074"
 
 -- as in: link 1 refused M3 1005
 abbrev pub refused_line : ℕ → DecodeFault → List ℕ

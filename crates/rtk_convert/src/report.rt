@@ -4,7 +4,8 @@ ghost use Rattle.std.specs.Prelude.{◌≡◌, ◌<◌, ◌++◌, [], Some, None
 ghost use Rattle.rtk_collect.specs.declared.conflicts.SatelliteCode.{SatelliteCode};
 ghost use Rattle.rtk_rinex.specs.Columns.{last_digits};
 ghost use Rattle.rtk_rinex.specs.Reading.{reading_of};
-ghost use Rattle.rtk_convert.specs.Report.{fault_text, refused_line, cell_lines, conflict_lines};
+ghost use Rattle.rtk_message.specs.FaultCode.{fault_text};
+ghost use Rattle.rtk_convert.specs.Report.{refused_line, cell_lines, conflict_lines};
 ghost use Rattle.rtk_convert.specs.Steps.OfferLines.{offer_lines};
 ghost use Rattle.rtk_convert.specs.ReportText.{civil_text, epoch_text, link_text, arrival_text, signal_text, late_line, conflict_line, cell_conflict_line, count_line, count_lines};
 
@@ -195,17 +196,16 @@ pub(crate) fn offered(
     Ok(lines)
 }
 
-// A fault by its number, and the number of the message.
+// The code of a fault, and the number of the message or a hyphen.
 fn put_fault(line: &mut Vec<u8>, fault: DecodeFault) -> Result<(), AllocError>
     ensures { OnOk result (line.new.items ≡ line.old.items ++ fault_text fault) }
 {
-    match fault {
-        DecodeFault::NoNumber => line.extend_from_slice(b"M1 -"),
-        DecodeFault::Other { number } => put_named(line, b"M2 ", number.into()),
-        DecodeFault::Short { number } => put_named(line, b"M3 ", number.into()),
-        DecodeFault::EpochRange { number } => put_named(line, b"M4 ", number.into()),
-        DecodeFault::TooManyCells => line.extend_from_slice(b"M5 1074"),
+    line.extend_from_slice(fault.code().as_bytes())?;
+    match fault.number() {
+        Some(number) => put_named(line, b" ", number.into())?,
+        None => line.extend_from_slice(b" -")?,
     }
+    Ok(())
 }
 
 /// The line of a payload that is refused.

@@ -5,7 +5,7 @@ ghost use Rattle.rtk_obs.specs.Dating.{IsReference};
 ghost use Rattle.rtk_rinex.specs.Header.{IsHeadView};
 ghost use Rattle.rtk_convert.specs.Setup.{IsSetupView, IsStation, IsWindow};
 
-use rtk_obs::GpsMs;
+use rtk_obs::{GpsMs, WEEK_MS};
 use rtk_rinex::Head;
 use std::marker::Model;
 use thiserror::Error;
@@ -104,7 +104,7 @@ impl Setup {
 }
 
 // 1980-01-13 00:00:00.000, a week after the first moment.
-const FIRST_REFERENCE_MS: u64 = 604_800_000;
+const FIRST_REFERENCE_MS: u64 = WEEK_MS;
 
 // 2099-12-31 23:59:59.999.
 const LAST_REFERENCE_MS: u64 = 3_786_479_999_999;

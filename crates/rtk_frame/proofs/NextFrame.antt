@@ -3,7 +3,7 @@ use Rattle.std.proofs.Common.{◌≡◌, ◌≢◌, ℕ, ◌+◌, ◌-◌, ◌<�
 use Rattle.std.proofs.lemmas.Bool.Decides.{nat_tests}
 use Rattle.std.proofs.lemmas.List.{take_all, drop-drop}
 use Rattle.rtk_frame.specs.Frame.{begins_frame, payload_length, payload_of, IsFrameAt}
-use Rattle.rtk_frame.specs.Scanning.{IsFront}
+use Rattle.rtk_frame.specs.Steps.Scanning.{IsFront}
 use Rattle.rtk_frame.specs.declared.frame.Front.{Front}
 use Rattle.rtk_frame.specs.declared.frame.Front.TheVariants.{Whole, Partial, Other}
 use Rattle.rtk_frame.proofs.Fronts.{not_preamble, partial_or_empty, frame_is_whole, cut_off}

@@ -5,7 +5,8 @@ use Rattle.std.proofs.lemmas.Nat.{xor_of_8}
 use Rattle.rtk_bits.specs.Bits.{bits_of, bits, unsigned}
 use Rattle.rtk_bits.proofs.BitsLemmas.{length-bits_of}
 use Rattle.rtk_bits.proofs.Numbers.{unsigned-bits_of}
-use Rattle.rtk_frame.specs.Checksum.{zeros, flip, divide, crc, remainder}
+use Rattle.rtk_frame.specs.Checksum.{zeros, flip, divide, crc}
+use Rattle.rtk_frame.specs.Steps.Remainder.{remainder}
 use Rattle.rtk_frame.specs.declared.checksum_tables.TheConstants.{TABLE0 as TABLE}
 use Rattle.rtk_frame.proofs.Division.{flip_none, bits_cat, divide_add, byte_step, flip_zero}
 use Rattle.rtk_frame.proofs.ByteTable.{table_entry}

@@ -28,7 +28,3 @@ divide (suc n) (x ∷ xs) = divide n (cond x (flip generator xs) xs)
 -- bytes is dropped
 unfoldable pub crc : List ℕ → ℕ
 crc bytes = unsigned (divide (8 * length bytes) (bits bytes ++ zeros 24))
-
--- what remains of the bytes, once their first bits are flipped by the bits of a state of 32 bits
-unfoldable pub remainder : ℕ → List ℕ → List Bool
-remainder state bytes = divide (8 * length bytes) (flip (bits_of 32 state) (bits bytes ++ zeros 24))

@@ -2,8 +2,7 @@ pub mod Checksum
 pub mod Frame
 pub mod Frames
 pub mod Memory
-pub mod Ring
 pub mod Scanner
 pub mod ScannerView
-pub mod Scanning
+pub mod Steps
 pub mod Stream

@@ -1,7 +1,8 @@
 //! The checksum CRC-24Q, eight bytes a step.
 
 ghost use Rattle.std.specs.Prelude.{◌≡◌, ◌<◌, ◌^◌, ℕ, List, ◌∷◌, slice_index};
-ghost use Rattle.rtk_frame.specs.Checksum.{crc, remainder};
+ghost use Rattle.rtk_frame.specs.Checksum.{crc};
+ghost use Rattle.rtk_frame.specs.Steps.Remainder.{remainder};
 
 use crate::checksum_tables::{TABLE0, TABLE1, TABLE2, TABLE3, TABLE4, TABLE5, TABLE6, TABLE7};
 

@@ -3,7 +3,7 @@
 ghost use Rattle.std.specs.Prelude.{◌≡◌, ◌≢◌, ◌↔◌, ℕ, ◌+◌, ◌<◌, ◌≤◌, length, drop, take, slice_index, IfOk, IsErrOf, ◌==◌};
 ghost use Rattle.rtk_frame.specs.Checksum.{crc};
 ghost use Rattle.rtk_frame.specs.Frame.{three_bytes, framed};
-ghost use Rattle.rtk_frame.specs.Scanning.{IsFront};
+ghost use Rattle.rtk_frame.specs.Steps.Scanning.{IsFront};
 ghost use Rattle.rtk_frame.specs.declared.frame.FrameFault.TheVariants.{TooLong};
 
 use crate::checksum::crc24q;

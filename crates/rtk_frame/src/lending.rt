@@ -2,7 +2,7 @@
 
 ghost use Rattle.std.specs.Prelude.{◌≡◌};
 ghost use Rattle.std.specs.Borrow.{sem};
-ghost use Rattle.rtk_frame.specs.Ring.{RingEndsAs, LendsBytes, with_bytes};
+ghost use Rattle.rtk_frame.specs.Steps.Ring.{RingEndsAs, LendsBytes, with_bytes};
 
 use circular_buffer::HeapCircularBuffer;
 

@@ -3,7 +3,7 @@
 ghost use Rattle.std.specs.Prelude.{◌≡◌, ◌⊎◌, ℕ, ◌+◌, ◌≤◌, List, [], ◌++◌, length, drop, take, true, MatchOption};
 ghost use Rattle.circular_buffer.specs.Buffer.{buffer};
 ghost use Rattle.rtk_frame.specs.Frame.{begins_frame, begins_partial, payload_length};
-ghost use Rattle.rtk_frame.specs.Scanning.{Scanned, Searched};
+ghost use Rattle.rtk_frame.specs.Steps.Scanning.{Scanned, Searched};
 ghost use Rattle.rtk_frame.specs.declared.frame.TheConstants.{LONGEST_FRAME};
 
 use crate::frame::{FrameFault, Front, LONGEST_FRAME, before_preamble, front_of};

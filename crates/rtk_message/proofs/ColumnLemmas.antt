@@ -5,7 +5,8 @@ use Rattle.std.proofs.lemmas.List.Sums.{sum_by-cons}
 use Rattle.std.proofs.lemmas.Nat.{ones-le, le-div}
 use Rattle.std.proofs.Math.Nat.{mul-le-mul_left, mul-le-mul_right, div-mul-le_self, le_trans}
 use Rattle.rtk_bits.specs.Bits.{bits_of}
-use Rattle.rtk_message.specs.Fields.{Field, u, field_bits, bits_of_fields, FieldFits, FieldsFit, TakesAll, TakesField, Puts, PutsAll}
+use Rattle.rtk_message.specs.Fields.{Field, u, field_bits, bits_of_fields, FieldFits, FieldsFit, TakesAll}
+use Rattle.rtk_message.specs.Steps.FieldSteps.{TakesField, Puts, PutsAll}
 use Rattle.rtk_message.specs.FieldLaws.{fit-append}
 use Rattle.rtk_message.specs.Columns.{numbers, flags}
 use Rattle.rtk_message.proofs.FieldLemmas.{took, took_none, took_both, put, put_none, put_both}

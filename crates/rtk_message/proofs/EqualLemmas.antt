@@ -4,7 +4,7 @@ use Rattle.std.proofs.Math.Bool.{beq}
 use Rattle.std.specs.Bool.{Decides}
 use Rattle.std.specs.Cmp.{unsigned_Decides, signed_Decides}
 use Rattle.std.specs.Cmp.Lexicographic.{pointwise}
-use Rattle.std.proofs.lemmas.Bool.Decides.{Decides-and}
+use Rattle.std.proofs.lemmas.Bool.Decides.{Decides-and, Decides-like}
 use Rattle.std.proofs.lemmas.Slice.Eq.{slice_eq-Decides}
 use Rattle.rtk_message.specs.declared.obs1004.Satellite.{Satellite}
 use Rattle.rtk_message.specs.declared.obs1004.Obs1004 as declared_obs1004
@@ -23,7 +23,6 @@ use Rattle.rtk_message.specs.contracts.msm1074.Msm1074PartialEq.TheImpl as msm10
 use Rattle.rtk_message.specs.contracts.message.MessagePartialEq.TheImpl as message_eq
 use Rattle.rtk_message.specs.Obs1004Laws as obs1004
 use Rattle.rtk_message.specs.Arp1005Laws as arp1005
-use Rattle.rtk_message.specs.Arp1006Laws as arp1006
 use Rattle.rtk_message.specs.Msm1074Laws as msm1074
 
 bool_same : (a b : Bool) → Decides (beq a b) (a ≡ b)
@@ -81,27 +80,10 @@ arp1005_same s t =
     )
 
 arp1006_same : (s t : declared_arp1006.Arp1006) → Decides ((arp1006_eq.ghosts).eq s t) (s ≡ t)
-arp1006_same s t =
-    let fields = Decides-and _ _ (unsigned_Decides s.station t.station) (Decides-and _ _ (unsigned_Decides s.realization_year t.realization_year) (Decides-and _ _ (bool_same s.gps t.gps) (Decides-and _ _ (bool_same s.glonass t.glonass) (Decides-and _ _ (bool_same s.galileo t.galileo) (Decides-and _ _ (bool_same s.reference_station t.reference_station) (Decides-and _ _ (signed_Decides s.x t.x) (Decides-and _ _ (bool_same s.single_oscillator t.single_oscillator) (Decides-and _ _ (bool_same s.reserved t.reserved) (Decides-and _ _ (signed_Decides s.y t.y) (Decides-and _ _ (unsigned_Decides s.quarter_cycle t.quarter_cycle) (Decides-and _ _ (signed_Decides s.z t.z) (unsigned_Decides s.height t.height)))))))))))) in (
-      λ e.
-          let f = fields.0 e in
-          let station : s.station ≡ t.station = f.0 in
-          let realization_year : s.realization_year ≡ t.realization_year = f.1.0 in
-          let gps : s.gps ≡ t.gps = f.1.1.0 in
-          let glonass : s.glonass ≡ t.glonass = f.1.1.1.0 in
-          let galileo : s.galileo ≡ t.galileo = f.1.1.1.1.0 in
-          let reference_station : s.reference_station ≡ t.reference_station = f.1.1.1.1.1.0 in
-          let x : s.x ≡ t.x = f.1.1.1.1.1.1.0 in
-          let single_oscillator : s.single_oscillator ≡ t.single_oscillator = f.1.1.1.1.1.1.1.0 in
-          let reserved : s.reserved ≡ t.reserved = f.1.1.1.1.1.1.1.1.0 in
-          let y : s.y ≡ t.y = f.1.1.1.1.1.1.1.1.1.0 in
-          let quarter_cycle : s.quarter_cycle ≡ t.quarter_cycle = f.1.1.1.1.1.1.1.1.1.1.0 in
-          let z : s.z ≡ t.z = f.1.1.1.1.1.1.1.1.1.1.1.0 in
-          let height : s.height ≡ t.height = f.1.1.1.1.1.1.1.1.1.1.1.1 in
-          let all : arp1006.make s.station s.realization_year s.gps s.glonass s.galileo s.reference_station s.x s.single_oscillator s.reserved s.y s.quarter_cycle s.z s.height ≡ arp1006.make t.station t.realization_year t.gps t.glonass t.galileo t.reference_station t.x t.single_oscillator t.reserved t.y t.quarter_cycle t.z t.height = cc in
-          sym (arp1006.made s) ∙ all ∙ arp1006.made t,
-      λ e. fields.1 (ap (λ (x : declared_arp1006.Arp1006). x.station) e, (ap (λ (x : declared_arp1006.Arp1006). x.realization_year) e, (ap (λ (x : declared_arp1006.Arp1006). x.gps) e, (ap (λ (x : declared_arp1006.Arp1006). x.glonass) e, (ap (λ (x : declared_arp1006.Arp1006). x.galileo) e, (ap (λ (x : declared_arp1006.Arp1006). x.reference_station) e, (ap (λ (x : declared_arp1006.Arp1006). x.x) e, (ap (λ (x : declared_arp1006.Arp1006). x.single_oscillator) e, (ap (λ (x : declared_arp1006.Arp1006). x.reserved) e, (ap (λ (x : declared_arp1006.Arp1006). x.y) e, (ap (λ (x : declared_arp1006.Arp1006). x.quarter_cycle) e, (ap (λ (x : declared_arp1006.Arp1006). x.z) e, ap (λ (x : declared_arp1006.Arp1006). x.height) e)))))))))))),
-    )
+arp1006_same s t = Decides-like ((arp1006_eq.ghosts).eq s t)
+    (λ h i. record { arp = h.0 i; height = h.1 i })
+    (λ e. (ap (λ (x : declared_arp1006.Arp1006). x.arp) e, ap (λ (x : declared_arp1006.Arp1006). x.height) e))
+    (Decides-and _ _ (arp1005_same s.arp t.arp) (unsigned_Decides s.height t.height))
 
 header_same : (s t : MsmHeader) → Decides ((header_eq.ghosts).eq s t) (s ≡ t)
 header_same s t =

@@ -3,7 +3,8 @@ use Rattle.std.proofs.Common.{◌≡◌, ℕ, zero, suc, ◌<◌, Bool, true, fa
 use Rattle.std.proofs.lemmas.List.{append-nil}
 use Rattle.std.specs.Prelude.{◌==◌}
 use Rattle.rtk_bits.specs.Bits.{bit, bits_of}
-use Rattle.rtk_message.specs.Fields.{Field, Puts, field_bits, bits_of_fields, TakesAll, TakesField, PutsAll}
+use Rattle.rtk_message.specs.Fields.{Field, field_bits, bits_of_fields, TakesAll}
+use Rattle.rtk_message.specs.Steps.FieldSteps.{Puts, TakesField, PutsAll}
 use Rattle.rtk_message.specs.FieldLaws.{bits_of_fields-append, fit-append}
 
 -- one field more in front of what was taken

@@ -1,45 +1,46 @@
 -- The first fault of a 1074, and the columns of a valid one.
-use Rattle.std.proofs.Common.{◌≡◌, ℕ, Bool, true, false, List, ◌++◌, length, Some, refl, sym, ◌∙◌, ◌+◌, ◌*◌, ◌<◌, ◌≤◌, ltb, arith, sum_by, count_ones, ◌↔◌}
-use Rattle.std.proofs.lemmas.Bool.{le-ltb, lt-ltb, ltb-false, ltb_from_iff}
+use Rattle.std.proofs.Common.{◌≡◌, ℕ, Bool, true, false, List, ◌++◌, length, Some, refl, sym, ◌∙◌, ◌+◌, ◌*◌, ◌<◌, ◌≤◌, ltb, leb, arith, sum_by, count_ones, ◌↔◌}
+use Rattle.std.proofs.lemmas.Bool.{le-ltb, lt-ltb, le-leb, lt-leb, ltb-false, ltb_from_iff}
 use Rattle.rtk_message.specs.declared.fault.DecodeFault.TheVariants.{Short, EpochRange, TooManyCells}
 use Rattle.rtk_message.specs.declared.msm1074.MsmHeader.{MsmHeader}
 use Rattle.rtk_message.specs.declared.msm1074.Msm1074.{Msm1074}
-use Rattle.rtk_message.specs.Fields.{tow_in, FieldsFit, TakesAll}
+use Rattle.rtk_message.specs.Fields.{week_ms, tow_in, FieldsFit, TakesAll}
 use Rattle.rtk_message.specs.FieldLaws.{fit-append, fit-left}
 use Rattle.rtk_message.specs.Columns.{numbers, integers, flags}
-use Rattle.rtk_message.specs.Msm1074.{header_table, satellites, signals, mask_table, columns, table, HasLengths, EachFits, IsValid, first_fault, mask_bits_in}
+use Rattle.rtk_message.specs.Msm1074.{header_table, satellites, signals, mask_table, columns, table, HasLengths, IsValid, first_fault, mask_bits_in}
+use Rattle.rtk_message.specs.Steps.EachFits.{EachFits}
 use Rattle.rtk_message.specs.Msm1074Laws.{header_says, due, cells_says}
 use Rattle.rtk_message.proofs.ColumnLemmas.{flags-fit}
 
-pub is_late : {h : MsmHeader} {bs rest : List Bool} → TakesAll (header_table h) bs rest → 604799999 < h.tow → first_fault bs ≡ Some (EpochRange 1074)
+pub is_late : {h : MsmHeader} {bs rest : List Bool} → TakesAll (header_table h) bs rest → week_ms ≤ h.tow → first_fault bs ≡ Some (EpochRange 1074)
 is_late {h = h} {bs = bs} took late =
     let says = header_says took in
     let long : ltb (length bs) 157 ≡ false = le-ltb (length bs) 157 (omega (arith, says.len)) in
-    let when : ltb 604799999 (tow_in bs) ≡ true = lt-ltb 604799999 (tow_in bs) (omega (arith, says.tow_is, late)) in
+    let when : leb week_ms (tow_in bs) ≡ true = le-leb week_ms (tow_in bs) (omega (arith, says.tow_is, late)) in
     rw (long, when) refl
 
-pub is_many : {h : MsmHeader} {bs rest : List Bool} → TakesAll (header_table h) bs rest → h.tow ≤ 604799999 → 64 < satellites h * signals h → first_fault bs ≡ Some TooManyCells
+pub is_many : {h : MsmHeader} {bs rest : List Bool} → TakesAll (header_table h) bs rest → h.tow < week_ms → 64 < satellites h * signals h → first_fault bs ≡ Some TooManyCells
 is_many {h = h} {bs = bs} took time many =
     let says = header_says took in
     let long : ltb (length bs) 157 ≡ false = le-ltb (length bs) 157 (omega (arith, says.len)) in
-    let when : ltb 604799999 (tow_in bs) ≡ false = le-ltb 604799999 (tow_in bs) (omega (arith, says.tow_is, time)) in
+    let when : leb week_ms (tow_in bs) ≡ false = lt-leb week_ms (tow_in bs) (omega (arith, says.tow_is, time)) in
     let big : ltb 64 (mask_bits_in bs) ≡ true = lt-ltb 64 (mask_bits_in bs) (omega (arith, says.mask_bits_is, many)) in
     rw (long, when, big) refl
 
-pub is_cut : {h : MsmHeader} {bs rest : List Bool} → TakesAll (header_table h) bs rest → h.tow ≤ 604799999 → satellites h * signals h ≤ 64 → length bs < due bs → first_fault bs ≡ Some (Short 1074)
+pub is_cut : {h : MsmHeader} {bs rest : List Bool} → TakesAll (header_table h) bs rest → h.tow < week_ms → satellites h * signals h ≤ 64 → length bs < due bs → first_fault bs ≡ Some (Short 1074)
 is_cut {h = h} {bs = bs} took time few short =
     let says = header_says took in
     let long : ltb (length bs) 157 ≡ false = le-ltb (length bs) 157 (omega (arith, says.len)) in
-    let when : ltb 604799999 (tow_in bs) ≡ false = le-ltb 604799999 (tow_in bs) (omega (arith, says.tow_is, time)) in
+    let when : leb week_ms (tow_in bs) ≡ false = lt-leb week_ms (tow_in bs) (omega (arith, says.tow_is, time)) in
     let big : ltb 64 (mask_bits_in bs) ≡ false = le-ltb 64 (mask_bits_in bs) (omega (arith, says.mask_bits_is, few)) in
     let cut : ltb (length bs) (due bs) ≡ true = lt-ltb (length bs) (due bs) short in
     rw (long, when, big, cut) refl
 
 -- fewer bits than the cell mask
-pub is_cut_mask : {h : MsmHeader} {bs rest : List Bool} → TakesAll (header_table h) bs rest → h.tow ≤ 604799999 → satellites h * signals h ≤ 64 → length rest < satellites h * signals h → first_fault bs ≡ Some (Short 1074)
+pub is_cut_mask : {h : MsmHeader} {bs rest : List Bool} → TakesAll (header_table h) bs rest → h.tow < week_ms → satellites h * signals h ≤ 64 → length rest < satellites h * signals h → first_fault bs ≡ Some (Short 1074)
 is_cut_mask took time few short = let says = header_says took in is_cut took time few (omega (arith, says.len, says.mask_bits_is, short))
 
-pub is_cut_rest : {h : MsmHeader} {bs rest after : List Bool} (ns : List ℕ) → TakesAll (header_table h) bs rest → TakesAll (numbers (signals h) ns) rest after → length ns ≡ satellites h → h.tow ≤ 604799999 → satellites h * signals h ≤ 64
+pub is_cut_rest : {h : MsmHeader} {bs rest after : List Bool} (ns : List ℕ) → TakesAll (header_table h) bs rest → TakesAll (numbers (signals h) ns) rest after → length ns ≡ satellites h → h.tow < week_ms → satellites h * signals h ≤ 64
     → length rest ≡ signals h * satellites h + length after → length after < 18 * satellites h + 48 * sum_by count_ones ns → first_fault bs ≡ Some (Short 1074)
 is_cut_rest {h = h} ns took mask len time few size short =
     let says = header_says took in
@@ -68,7 +69,7 @@ all_fit m h p =
     (fit-append (numbers 4 m.lock_indicator) _ p.lock_indicator
     (fit-append (flags m.half_cycle) _ (flags-fit m.half_cycle) p.cnr)))))))
 
-pub is_valid : (m : Msm1074) → FieldsFit (header_table m.header) → m.header.tow < 604800000 → satellites m.header * signals m.header ≤ 64 → HasLengths m → EachFits m → IsValid m
+pub is_valid : (m : Msm1074) → FieldsFit (header_table m.header) → m.header.tow < week_ms → satellites m.header * signals m.header ≤ 64 → HasLengths m → EachFits m → IsValid m
 is_valid m head time few lengths each = record { fields_fit = all_fit m head each; time_in_week = time; mask_bits = few; lengths = lengths }
 
 -- at most 64, if the test for more than 64 says no

@@ -1,28 +1,29 @@
 -- The first fault of a 1004, and its satellites one by one.
-use Rattle.std.proofs.Common.{◌≡◌, ℕ, Bool, true, false, List, [], ◌∷◌, ◌++◌, length, zero, suc, get_or, take, Some, refl, sym, ◌+◌, ◌*◌, ◌<◌, ◌≤◌, ltb, arith}
+use Rattle.std.proofs.Common.{◌≡◌, ℕ, Bool, true, false, List, [], ◌∷◌, ◌++◌, length, zero, suc, get_or, take, Some, refl, sym, ◌+◌, ◌*◌, ◌<◌, ◌≤◌, ltb, leb, arith}
 use Rattle.std.specs.List.{flat_map}
-use Rattle.std.proofs.lemmas.Bool.{le-ltb, lt-ltb}
+use Rattle.std.proofs.lemmas.Bool.{le-ltb, lt-ltb, le-leb, lt-leb}
 use Rattle.std.proofs.lemmas.List.{flat_map_more, take_more}
 use Rattle.rtk_message.specs.declared.fault.DecodeFault.TheVariants.{Short, EpochRange}
 use Rattle.rtk_message.specs.declared.obs1004.Satellite.{Satellite}
-use Rattle.rtk_message.specs.Fields.{tow_in, FieldsFit, TakesAll, PutsAll}
+use Rattle.rtk_message.specs.Fields.{week_ms, tow_in, FieldsFit, TakesAll}
+use Rattle.rtk_message.specs.Steps.FieldSteps.{PutsAll}
 use Rattle.rtk_message.specs.FieldLaws.{fit-left}
 use Rattle.rtk_message.specs.Obs1004.{satellite_table, header, first_fault, satellite_bits}
 use Rattle.rtk_message.specs.Obs1004Laws.{header_says}
 use Rattle.rtk_message.proofs.FieldLemmas.{took_both, put_both}
 
-pub is_late : {s t : ℕ} {y : Bool} {n : ℕ} {k : Bool} {v : ℕ} {bs rest : List Bool} → TakesAll (header s t y n k v) bs rest → 604799999 < t → first_fault bs ≡ Some (EpochRange 1004)
+pub is_late : {s t : ℕ} {y : Bool} {n : ℕ} {k : Bool} {v : ℕ} {bs rest : List Bool} → TakesAll (header s t y n k v) bs rest → week_ms ≤ t → first_fault bs ≡ Some (EpochRange 1004)
 is_late {t = t} {bs = bs} took h =
     let says = header_says took in
     let long : ltb (length bs) 52 ≡ false = le-ltb (length bs) 52 (omega (arith, says.len)) in
-    let late : ltb 604799999 (tow_in bs) ≡ true = lt-ltb 604799999 (tow_in bs) (omega (arith, says.tow_is)) in
+    let late : leb week_ms (tow_in bs) ≡ true = le-leb week_ms (tow_in bs) (omega (arith, says.tow_is)) in
     rw (long, late) refl
 
-pub is_cut : {s t : ℕ} {y : Bool} {n : ℕ} {k : Bool} {v : ℕ} {bs rest : List Bool} → TakesAll (header s t y n k v) bs rest → t ≤ 604799999 → length rest < 125 * n → first_fault bs ≡ Some (Short 1004)
+pub is_cut : {s t : ℕ} {y : Bool} {n : ℕ} {k : Bool} {v : ℕ} {bs rest : List Bool} → TakesAll (header s t y n k v) bs rest → t < week_ms → length rest < 125 * n → first_fault bs ≡ Some (Short 1004)
 is_cut {t = t} {bs = bs} took h short =
     let says = header_says took in
     let long : ltb (length bs) 52 ≡ false = le-ltb (length bs) 52 (omega (arith, says.len)) in
-    let early : ltb 604799999 (tow_in bs) ≡ false = le-ltb 604799999 (tow_in bs) (omega (arith, says.tow_is)) in
+    let early : leb week_ms (tow_in bs) ≡ false = lt-leb week_ms (tow_in bs) (omega (arith, says.tow_is)) in
     let cut : ltb (length bs) (52 + satellite_bits bs) ≡ true = lt-ltb (length bs) (52 + satellite_bits bs) (omega (arith, says.count_is, says.len)) in
     rw (long, early, cut) refl
 

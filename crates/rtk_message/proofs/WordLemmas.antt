@@ -8,7 +8,8 @@ use mir.Val.{SFits}
 use Rattle.rtk_bits.specs.Bits.{bits_of, signed_bits_of}
 use Rattle.rtk_bits.proofs.BitsLemmas.{bits_of-split, bits_of-mod}
 use Rattle.rtk_bits.proofs.Numbers.{pow_more}
-use Rattle.rtk_message.specs.Fields.{u, TakesField}
+use Rattle.rtk_message.specs.Fields.{u}
+use Rattle.rtk_message.specs.Steps.FieldSteps.{TakesField}
 
 -- the mask `u64::MAX >> (64 - width)`
 low_bits : (n width : ℕ) → width ≤ 64 → bit_and n ((2 ^ 64 - 1) / 2 ^ (64 - width)) ≡ n % 2 ^ width

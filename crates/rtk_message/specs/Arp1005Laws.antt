@@ -1,10 +1,10 @@
 -- Bits begin with at most one message 1005, and have no fault if they begin with one.
 use Rattle.std.proofs.lemmas.Bool.{le-ltb}
-use Rattle.std.proofs.Common.{◌≡◌, ℕ, ℤ, sym, ◌∙◌, Bool, List, ◌++◌, length, None, refl, arith, length-append}
-use Rattle.rtk_message.specs.Fields.{bits_of_fields, FieldsFit}
+use Rattle.std.proofs.Common.{◌≡◌, ℕ, ℤ, sym, ◌∙◌, Bool, List, [], ◌++◌, length, None, refl, arith, length-append}
+use Rattle.rtk_message.specs.Fields.{Field, bits_of_fields}
 use Rattle.rtk_message.specs.Arp1005.{table, first_fault, IsValid}
 use Rattle.rtk_message.specs.declared.arp1005.Arp1005.{Arp1005}
-use Rattle.rtk_message.specs.FieldLaws.{length-bits_of_fields, one_list}
+use Rattle.rtk_message.specs.FieldLaws.{length-bits_of_fields, SameForm, one_list}
 
 pub is_accepted : (m : Arp1005) (rest : List Bool) → IsValid m → first_fault (bits_of_fields (table m) ++ rest) ≡ None
 is_accepted m rest fits = rw (le-ltb (length (bits_of_fields (table m) ++ rest)) 140 (omega (arith, length-append (bits_of_fields (table m)) rest, length-bits_of_fields (table m)))) refl
@@ -16,8 +16,15 @@ pub made : (m : Arp1005) → make m.station m.realization_year m.gps m.glonass m
 unfolding make
 made m = refl
 
-pub is_unique : (m n : Arp1005) (a b : List Bool) → FieldsFit (table m) → FieldsFit (table n) → bits_of_fields (table m) ++ a ≡ bits_of_fields (table n) ++ b → m ≡ n
-is_unique m n a b p q e =
-    let same : table m ≡ table n = (one_list (table m) (table n) a b (refl, (refl, ((omega arith), refl, (((omega arith), refl, (refl, ((omega arith), refl, tt))))))) p q e).0 in
+-- messages with the same fields are the same
+pub same_message : (m n : Arp1005) → table m ≡ table n → m ≡ n
+same_message m n same =
     let all : make m.station m.realization_year m.gps m.glonass m.galileo m.reference_station m.x m.single_oscillator m.reserved m.y m.quarter_cycle m.z ≡ make n.station n.realization_year n.gps n.glonass n.galileo n.reference_station n.x n.single_oscillator n.reserved n.y n.quarter_cycle n.z = cc in
     sym (made m) ∙ all ∙ made n
+
+-- the fields of two messages, and any others of one form after them
+pub same_form : (m n : Arp1005) (fs gs : List Field) → SameForm fs gs → SameForm (table m ++ fs) (table n ++ gs)
+same_form m n fs gs rest = (refl, (refl, (omega arith, refl, (omega arith, refl, (refl, (omega arith, refl, rest))))))
+
+pub is_unique : (m n : Arp1005) (a b : List Bool) → IsValid m → IsValid n → bits_of_fields (table m) ++ a ≡ bits_of_fields (table n) ++ b → m ≡ n
+is_unique m n a b p q e = same_message m n (one_list (table m) (table n) a b (same_form m n [] [] tt) p q e).0

@@ -1,15 +1,14 @@
 -- Message 1006 after its number (RTCM 10403.3, message 1006): 156 bits.
-use Rattle.std.specs.Prelude.{Bool, List, [], ◌∷◌, length, Option, Some, None, nat_lt, if◌then◌else◌}
-use Rattle.rtk_message.specs.Fields.{Field, u, i, flag, FieldsFit}
+use Rattle.std.specs.Prelude.{Bool, List, [], ◌∷◌, ◌++◌, length, Option, Some, None, nat_lt, if◌then◌else◌}
+use Rattle.rtk_message.specs.Fields.{Field, u, FieldsFit}
+use Rattle.rtk_message.specs.Arp1005 as arp1005
 use Rattle.rtk_message.specs.declared.arp1006.Arp1006.{Arp1006}
 use Rattle.rtk_message.specs.declared.fault.DecodeFault.{DecodeFault}
 use Rattle.rtk_message.specs.declared.fault.DecodeFault.TheVariants.{Short}
 
--- DF003, DF021 to DF024, DF141, DF025, DF142, DF001, DF026, DF364, DF027, DF028
+-- the fields of a 1005, DF003 to DF027, and DF028
 abbrev pub table : Arp1006 → List Field
-table m =
-    u 12 m.station ∷ u 6 m.realization_year ∷ flag m.gps ∷ flag m.glonass ∷ flag m.galileo ∷ flag m.reference_station ∷
-    i 38 m.x ∷ flag m.single_oscillator ∷ flag m.reserved ∷ i 38 m.y ∷ u 2 m.quarter_cycle ∷ i 38 m.z ∷ u 16 m.height ∷ []
+table m = arp1005.table m.arp ++ u 16 m.height ∷ []
 
 abbrev pub IsValid : Arp1006 → Type 0
 IsValid m = FieldsFit (table m)

@@ -1,23 +1,18 @@
 -- Bits begin with at most one message 1006, and have no fault if they begin with one.
 use Rattle.std.proofs.lemmas.Bool.{le-ltb}
-use Rattle.std.proofs.Common.{◌≡◌, ℕ, ℤ, sym, ◌∙◌, Bool, List, ◌++◌, length, None, refl, arith, length-append}
-use Rattle.rtk_message.specs.Fields.{bits_of_fields, FieldsFit}
+use Rattle.std.proofs.Common.{◌≡◌, Bool, List, [], ◌∷◌, ◌++◌, length, None, refl, arith, length-append}
+use Rattle.rtk_message.specs.Fields.{u, bits_of_fields}
 use Rattle.rtk_message.specs.Arp1006.{table, first_fault, IsValid}
+use Rattle.rtk_message.specs.Arp1005Laws.{same_message, same_form}
 use Rattle.rtk_message.specs.declared.arp1006.Arp1006.{Arp1006}
 use Rattle.rtk_message.specs.FieldLaws.{length-bits_of_fields, one_list}
 
 pub is_accepted : (m : Arp1006) (rest : List Bool) → IsValid m → first_fault (bits_of_fields (table m) ++ rest) ≡ None
 is_accepted m rest fits = rw (le-ltb (length (bits_of_fields (table m) ++ rest)) 156 (omega (arith, length-append (bits_of_fields (table m)) rest, length-bits_of_fields (table m)))) refl
 
-pub make : ℕ → ℕ → Bool → Bool → Bool → Bool → ℤ → Bool → Bool → ℤ → ℕ → ℤ → ℕ → Arp1006
-make station realization_year gps glonass galileo reference_station x single_oscillator reserved y quarter_cycle z height = record { station = station; realization_year = realization_year; gps = gps; glonass = glonass; galileo = galileo; reference_station = reference_station; x = x; single_oscillator = single_oscillator; reserved = reserved; y = y; quarter_cycle = quarter_cycle; z = z; height = height }
-
-pub made : (m : Arp1006) → make m.station m.realization_year m.gps m.glonass m.galileo m.reference_station m.x m.single_oscillator m.reserved m.y m.quarter_cycle m.z m.height ≡ m
-unfolding make
-made m = refl
-
-pub is_unique : (m n : Arp1006) (a b : List Bool) → FieldsFit (table m) → FieldsFit (table n) → bits_of_fields (table m) ++ a ≡ bits_of_fields (table n) ++ b → m ≡ n
+pub is_unique : (m n : Arp1006) (a b : List Bool) → IsValid m → IsValid n → bits_of_fields (table m) ++ a ≡ bits_of_fields (table n) ++ b → m ≡ n
 is_unique m n a b p q e =
-    let same : table m ≡ table n = (one_list (table m) (table n) a b (refl, (refl, ((omega arith), refl, (((omega arith), refl, (refl, ((omega arith), refl, (refl, tt)))))))) p q e).0 in
-    let all : make m.station m.realization_year m.gps m.glonass m.galileo m.reference_station m.x m.single_oscillator m.reserved m.y m.quarter_cycle m.z m.height ≡ make n.station n.realization_year n.gps n.glonass n.galileo n.reference_station n.x n.single_oscillator n.reserved n.y n.quarter_cycle n.z n.height = cc in
-    sym (made m) ∙ all ∙ made n
+    let same : table m ≡ table n = (one_list (table m) (table n) a b (same_form m.arp n.arp (u 16 m.height ∷ []) (u 16 n.height ∷ []) (refl, tt)) p q e).0 in
+    let arp : m.arp ≡ n.arp = same_message m.arp n.arp cc in
+    let height : m.height ≡ n.height = cc in
+    λ i. record { arp = arp i; height = height i }

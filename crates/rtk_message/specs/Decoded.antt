@@ -22,7 +22,7 @@ number_of (Msm1074 m) = 1074
 abbrev pub station_of : Message → ℕ
 station_of (Obs1004 m) = m.station
 station_of (Arp1005 m) = m.station
-station_of (Arp1006 m) = m.station
+station_of (Arp1006 m) = m.arp.station
 station_of (Msm1074 m) = m.header.station
 
 -- the time of week (DF004), which the station messages do not have

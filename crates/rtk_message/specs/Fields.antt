@@ -15,6 +15,10 @@ field_bits (u w n) = bits_of w n
 field_bits (i w z) = signed_bits_of w z
 field_bits (flag b) = b ∷ []
 
+-- the milliseconds of a week; a time of week (DF004) is less
+abbrev pub week_ms : ℕ
+week_ms = 604_800_000
+
 -- the time of week (DF004) in the bits after the number of a message with observations: the 30 bits
 -- after the station
 abbrev pub tow_in : List Bool → ℕ
@@ -35,20 +39,7 @@ bits_of_fields (f ∷ fs) = field_bits f ++ bits_of_fields fs
 abbrev pub FieldsFit : List Field → Type 0
 FieldsFit fs = AllByRecursion FieldFits fs
 
--- the bits begin with this field, which fits its width, and `left` are the bits after it
-pub record TakesField (f : Field) (from left : List Bool) : Type 0 where
-  pub fits : FieldFits f
-  pub is : from ≡ field_bits f ++ left
-
--- the same for a list of fields
+-- the bits begin with these fields, each of which fits its width, and `left` are the bits after them
 pub record TakesAll (fs : List Field) (from left : List Bool) : Type 0 where
   pub fit : FieldsFit fs
   pub is : from ≡ bits_of_fields fs ++ left
-
--- a field was put after the bits
-pub record Puts (f : Field) (before after : List Bool) : Type 0 where
-  pub is : after ≡ before ++ field_bits f
-
--- the same for a list of fields
-pub record PutsAll (fs : List Field) (before after : List Bool) : Type 0 where
-  pub is : after ≡ before ++ bits_of_fields fs

@@ -13,3 +13,4 @@ pub mod Msm1074Laws
 pub mod Decoded
 pub mod FaultCode
 pub mod Equality
+pub mod Steps

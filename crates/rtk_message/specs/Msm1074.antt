@@ -1,8 +1,8 @@
 -- Message 1074 after its number (RTCM 10403.3, message 1074, GPS MSM4): a header of 157 bits, the
 -- cell mask, the columns.
-use Rattle.std.specs.Prelude.{◌≡◌, ℕ, ◌+◌, ◌*◌, ◌≤◌, ◌<◌, Bool, List, [], ◌∷◌, ◌++◌, length, sum_by, count_ones, take, drop, Option, Some, None, nat_lt, if◌then◌else◌}
+use Rattle.std.specs.Prelude.{◌≡◌, ℕ, ◌+◌, ◌*◌, ◌≤◌, ◌<◌, Bool, List, [], ◌∷◌, ◌++◌, length, sum_by, count_ones, take, drop, Option, Some, None, nat_lt, nat_le, if◌then◌else◌}
 use Rattle.rtk_bits.specs.Bits.{unsigned}
-use Rattle.rtk_message.specs.Fields.{tow_in, Field, u, flag, FieldsFit}
+use Rattle.rtk_message.specs.Fields.{week_ms, tow_in, Field, u, flag, FieldsFit}
 use Rattle.rtk_message.specs.Columns.{numbers, integers, flags}
 use Rattle.rtk_message.specs.declared.fault.DecodeFault.{DecodeFault}
 use Rattle.rtk_message.specs.declared.fault.DecodeFault.TheVariants.{Short, EpochRange, TooManyCells}
@@ -64,21 +64,11 @@ pub record HasNoCells (m : Msm1074) : Type 0 where
   pub half_cycle : m.half_cycle ≡ []
   pub cnr : m.cnr ≡ []
 
--- each value of the columns fits its width; DF420 is a single bit, which always fits
-pub record EachFits (m : Msm1074) : Type 0 where
-  pub cell_mask : FieldsFit (numbers (signals m.header) m.cell_mask)
-  pub rough_ms : FieldsFit (numbers 8 m.rough_ms)
-  pub rough_fraction : FieldsFit (numbers 10 m.rough_fraction)
-  pub fine_range : FieldsFit (integers 15 m.fine_range)
-  pub fine_phase : FieldsFit (integers 22 m.fine_phase)
-  pub lock_indicator : FieldsFit (numbers 4 m.lock_indicator)
-  pub cnr : FieldsFit (numbers 6 m.cnr)
-
 -- each field fits, the time lies in a week, the cell mask has at most 64 bits, the columns have
 -- their lengths
 pub record IsValid (m : Msm1074) : Type 0 where
   pub fields_fit : FieldsFit (table m)
-  pub time_in_week : m.header.tow < 604800000
+  pub time_in_week : m.header.tow < week_ms
   pub mask_bits : satellites m.header * signals m.header ≤ 64
   pub lengths : HasLengths m
 
@@ -100,6 +90,6 @@ cell_count_in bs = count_ones (unsigned (take (mask_bits_in bs) (drop 157 bs)))
 abbrev pub first_fault : List Bool → Option DecodeFault
 first_fault bs =
     if nat_lt (length bs) 157 then Some (Short 1074) else
-    if nat_lt 604799999 (tow_in bs) then Some (EpochRange 1074) else
+    if nat_le week_ms (tow_in bs) then Some (EpochRange 1074) else
     if nat_lt 64 (mask_bits_in bs) then Some TooManyCells else
     if nat_lt (length bs) (157 + mask_bits_in bs + 18 * satellite_count_in bs + 48 * cell_count_in bs) then Some (Short 1074) else None

@@ -1,9 +1,9 @@
 -- Bits begin with at most one message 1074, and have no fault if they begin with one.
-use Rattle.std.proofs.Common.{◌≡◌, ℕ, ℤ, Bool, false, List, [], ◌∷◌, ◌++◌, length, take, drop, None, refl, sym, ap, ◌∙◌, ◌+◌, ◌*◌, ◌<◌, ◌≤◌, ltb, arith, append_assoc, length-append, sum_by, count_ones}
-use Rattle.std.proofs.lemmas.Bool.{le-ltb}
+use Rattle.std.proofs.Common.{◌≡◌, ℕ, ℤ, Bool, false, List, [], ◌∷◌, ◌++◌, length, take, drop, None, refl, sym, ap, ◌∙◌, ◌+◌, ◌*◌, ◌<◌, ◌≤◌, ltb, leb, arith, append_assoc, length-append, sum_by, count_ones}
+use Rattle.std.proofs.lemmas.Bool.{le-ltb, lt-leb}
 use Rattle.std.proofs.lemmas.List.{take_at, drop_at}
 use Rattle.rtk_bits.specs.Bits.{unsigned}
-use Rattle.rtk_message.specs.Fields.{tow_in, Field, u, flag, bits_of_fields, FieldsFit, TakesAll}
+use Rattle.rtk_message.specs.Fields.{week_ms, tow_in, Field, u, flag, bits_of_fields, FieldsFit, TakesAll}
 use Rattle.rtk_message.specs.FieldLaws.{total, length-bits_of_fields}
 use Rattle.rtk_message.specs.FieldLaws.{bits_of_fields-append, fit-left, number_at}
 use Rattle.rtk_message.specs.Columns.{numbers, integers, flags}
@@ -41,11 +41,11 @@ header_says {h = h} {bs = bs} {rest = rest} took =
 abbrev pub due : List Bool → ℕ
 due bs = 157 + mask_bits_in bs + 18 * satellite_count_in bs + 48 * cell_count_in bs
 
-is_whole : {h : MsmHeader} {bs rest : List Bool} → TakesAll (header_table h) bs rest → h.tow ≤ 604799999 → satellites h * signals h ≤ 64 → due bs ≤ length bs → first_fault bs ≡ None
+is_whole : {h : MsmHeader} {bs rest : List Bool} → TakesAll (header_table h) bs rest → h.tow < week_ms → satellites h * signals h ≤ 64 → due bs ≤ length bs → first_fault bs ≡ None
 is_whole {h = h} {bs = bs} took time few enough =
     let says = header_says took in
     let long : ltb (length bs) 157 ≡ false = le-ltb (length bs) 157 (omega (arith, says.len)) in
-    let when : ltb 604799999 (tow_in bs) ≡ false = le-ltb 604799999 (tow_in bs) (omega (arith, says.tow_is, time)) in
+    let when : leb week_ms (tow_in bs) ≡ false = lt-leb week_ms (tow_in bs) (omega (arith, says.tow_is, time)) in
     let big : ltb 64 (mask_bits_in bs) ≡ false = le-ltb 64 (mask_bits_in bs) (omega (arith, says.mask_bits_is, few)) in
     let enough_bits : ltb (length bs) (due bs) ≡ false = le-ltb (length bs) (due bs) enough in
     rw (long, when, big, enough_bits) refl
@@ -107,7 +107,7 @@ is_accepted m rest valid =
     let head : TakesAll (header_table h) bs (bits_of_fields after_header ++ rest) = split (header_table h) after_header bs rest valid.fields_fit refl in
     let mask : TakesAll (mask_table m) (bits_of_fields after_header ++ rest) (bits_of_fields (columns m) ++ rest) = split (mask_table m) (columns m) (bits_of_fields after_header ++ rest) rest (fit-left (header_table h) after_header valid.fields_fit).1 refl in
     let says = header_says head in
-    let time : h.tow < 604800000 = valid.time_in_week in
+    let time : h.tow < week_ms = valid.time_in_week in
     let count = cells_says m.cell_mask head mask valid.lengths.cell_mask in
     let l1 : length (bits_of_fields after_header ++ rest) ≡ signals h * satellites h + length (bits_of_fields (columns m) ++ rest) =
     ap length mask.is ∙ length-append (bits_of_fields (mask_table m)) (bits_of_fields (columns m) ++ rest) ∙ ap (λ (k : ℕ). k + length (bits_of_fields (columns m) ++ rest)) (length-bits_of_fields (mask_table m) ∙ total-numbers (signals h) m.cell_mask ∙ ap (λ (k : ℕ). signals h * k) valid.lengths.cell_mask) in

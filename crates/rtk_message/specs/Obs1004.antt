@@ -1,8 +1,8 @@
 -- Message 1004 after its number (RTCM 10403.3, message 1004): 52 bits, and 125 for each satellite.
-use Rattle.std.specs.Prelude.{ℕ, ◌+◌, ◌*◌, ◌<◌, Bool, List, [], ◌∷◌, ◌++◌, length, take, drop, Option, Some, None, nat_lt, if◌then◌else◌}
+use Rattle.std.specs.Prelude.{ℕ, ◌+◌, ◌*◌, ◌<◌, Bool, List, [], ◌∷◌, ◌++◌, length, take, drop, Option, Some, None, nat_lt, nat_le, if◌then◌else◌}
 use Rattle.std.specs.List.{flat_map}
 use Rattle.rtk_bits.specs.Bits.{unsigned}
-use Rattle.rtk_message.specs.Fields.{tow_in, Field, u, i, flag, FieldsFit}
+use Rattle.rtk_message.specs.Fields.{week_ms, tow_in, Field, u, i, flag, FieldsFit}
 use Rattle.rtk_message.specs.declared.fault.DecodeFault.{DecodeFault}
 use Rattle.rtk_message.specs.declared.fault.DecodeFault.TheVariants.{Short, EpochRange}
 use Rattle.rtk_message.specs.declared.obs1004.Satellite.{Satellite}
@@ -30,7 +30,7 @@ table m = header_table m ++ flat_map satellite_table m.satellites
 -- each field fits, and the time lies in a week
 pub record IsValid (m : Obs1004) : Type 0 where
   pub fields_fit : FieldsFit (table m)
-  pub time_in_week : m.tow < 604800000
+  pub time_in_week : m.tow < week_ms
 
 -- ---- the first fault of bits after the number
 
@@ -41,5 +41,5 @@ satellite_bits bs = 125 * unsigned (take 5 (drop 43 bs))
 abbrev pub first_fault : List Bool → Option DecodeFault
 first_fault bs =
     if nat_lt (length bs) 52 then Some (Short 1004) else
-    if nat_lt 604799999 (tow_in bs) then Some (EpochRange 1004) else
+    if nat_le week_ms (tow_in bs) then Some (EpochRange 1004) else
     if nat_lt (length bs) (52 + satellite_bits bs) then Some (Short 1004) else None

@@ -1,8 +1,8 @@
 -- Bits begin with at most one message 1004, and have no fault if they begin with one.
-use Rattle.std.proofs.Common.{◌≡◌, ℕ, ℤ, Bool, false, List, [], ◌∷◌, ◌++◌, length, None, refl, sym, ap, ◌∙◌, ◌+◌, ◌*◌, ◌<◌, ◌≤◌, ltb, arith, append_assoc, length-append}
+use Rattle.std.proofs.Common.{◌≡◌, ℕ, ℤ, Bool, false, List, [], ◌∷◌, ◌++◌, length, None, refl, sym, ap, ◌∙◌, ◌+◌, ◌*◌, ◌<◌, ◌≤◌, ltb, leb, arith, append_assoc, length-append}
 use Rattle.std.specs.List.{flat_map}
-use Rattle.std.proofs.lemmas.Bool.{le-ltb}
-use Rattle.rtk_message.specs.Fields.{tow_in, u, flag, bits_of_fields, FieldsFit, TakesAll}
+use Rattle.std.proofs.lemmas.Bool.{le-ltb, lt-leb}
+use Rattle.rtk_message.specs.Fields.{week_ms, tow_in, u, flag, bits_of_fields, FieldsFit, TakesAll}
 use Rattle.rtk_message.specs.FieldLaws.{length-bits_of_fields, SameForm, one_list, bits_of_fields-append, fit-left, number_at}
 use Rattle.rtk_message.specs.declared.obs1004.Satellite.{Satellite}
 use Rattle.rtk_message.specs.declared.obs1004.Obs1004.{Obs1004}
@@ -26,11 +26,11 @@ header_says {s = s} {t = t} {y = y} {n = n} {k = k} {v = v} {bs = bs} {rest = re
   len = ap length took.is ∙ length-append (bits_of_fields (header s t y n k v)) rest ∙ ap (λ (m : ℕ). m + length rest) (length-bits_of_fields (header s t y n k v));
 }
 
-is_whole : {s t : ℕ} {y : Bool} {n : ℕ} {k : Bool} {v : ℕ} {bs rest : List Bool} → TakesAll (header s t y n k v) bs rest → t ≤ 604799999 → 125 * n ≤ length rest → first_fault bs ≡ None
+is_whole : {s t : ℕ} {y : Bool} {n : ℕ} {k : Bool} {v : ℕ} {bs rest : List Bool} → TakesAll (header s t y n k v) bs rest → t < week_ms → 125 * n ≤ length rest → first_fault bs ≡ None
 is_whole {t = t} {bs = bs} took h enough =
     let says = header_says took in
     let long : ltb (length bs) 52 ≡ false = le-ltb (length bs) 52 (omega (arith, says.len)) in
-    let early : ltb 604799999 (tow_in bs) ≡ false = le-ltb 604799999 (tow_in bs) (omega (arith, says.tow_is)) in
+    let early : leb week_ms (tow_in bs) ≡ false = lt-leb week_ms (tow_in bs) (omega (arith, says.tow_is)) in
     let enough_bits : ltb (length bs) (52 + satellite_bits bs) ≡ false = le-ltb (length bs) (52 + satellite_bits bs) (omega (arith, says.count_is, says.len)) in
     rw (long, early, enough_bits) refl
 
@@ -43,7 +43,7 @@ parts m bs rest fit e = record {
 
 pub is_accepted : (m : Obs1004) (rest : List Bool) → IsValid m → first_fault (bits_of_fields (table m) ++ rest) ≡ None
 is_accepted m rest valid =
-    let time : m.tow < 604800000 = valid.time_in_week in
+    let time : m.tow < week_ms = valid.time_in_week in
     is_whole (parts m (bits_of_fields (table m) ++ rest) rest valid.fields_fit refl) (omega arith)
     (omega (arith, length-append (bits_of_fields (flat_map satellite_table m.satellites)) rest, length-satellites m.satellites))
 

@@ -1,7 +1,7 @@
 //! Message 1005: the antenna reference point of a station.
 
-ghost use Rattle.std.specs.Prelude.{◌↔◌, IsTrue};
-ghost use Rattle.rtk_message.specs.Fields.{FieldsFit};
+ghost use Rattle.std.specs.Prelude.{◌≡◌, ◌+◌, ◌≤◌, ◌↔◌, length, IsTrue};
+ghost use Rattle.rtk_message.specs.Fields.{FieldsFit, TakesAll};
 ghost use Rattle.rtk_message.specs.Arp1005.{table};
 
 use crate::fault::DecodeFault;
@@ -66,23 +66,7 @@ impl Layout for Arp1005 {
         if reader.remaining() < 140 {
             return Err(DecodeFault::Short { number: 1005 });
         }
-        let mut first = next_word(reader, 60);
-        let mut second = next_word(reader, 42);
-        let mut third = next_word(reader, 38);
-        *self = Arp1005 {
-            station: first.next_u16(12),
-            realization_year: first.next_u8(6),
-            gps: first.next_flag(),
-            glonass: first.next_flag(),
-            galileo: first.next_flag(),
-            reference_station: first.next_flag(),
-            x: first.next_i64(38),
-            single_oscillator: second.next_flag(),
-            reserved: second.next_flag(),
-            y: second.next_i64(38),
-            quarter_cycle: second.next_u8(2),
-            z: third.next_i64(38),
-        };
+        *self = next_reference_point(reader);
         Ok(())
     }
 
@@ -110,6 +94,32 @@ impl Layout for Arp1005 {
     ghost accepted = { is_accepted };
 
     ghost unique = { is_unique };
+}
+
+/// The antenna reference point in the next 140 bits: all fields of a 1005, and the first ones of a
+/// 1006.
+pub(crate) fn next_reference_point(reader: &mut BitReader<'_>) -> Arp1005
+    requires { 140 ≤ length reader.old }
+    ensures fields { TakesAll (table result) reader.old reader.new }
+    ensures left { length reader.old ≡ 140 + length reader.new }
+{
+    let mut first = next_word(reader, 60);
+    let mut second = next_word(reader, 42);
+    let mut third = next_word(reader, 38);
+    Arp1005 {
+        station: first.next_u16(12),
+        realization_year: first.next_u8(6),
+        gps: first.next_flag(),
+        glonass: first.next_flag(),
+        galileo: first.next_flag(),
+        reference_station: first.next_flag(),
+        x: first.next_i64(38),
+        single_oscillator: second.next_flag(),
+        reserved: second.next_flag(),
+        y: second.next_i64(38),
+        quarter_cycle: second.next_u8(2),
+        z: third.next_i64(38),
+    }
 }
 
 impl Arp1005 {

@@ -1,45 +1,19 @@
 //! Message 1006: the antenna reference point of a station with the height of its antenna.
 
-ghost use Rattle.std.specs.Prelude.{◌↔◌, IsTrue};
-ghost use Rattle.rtk_message.specs.Fields.{FieldsFit};
-ghost use Rattle.rtk_message.specs.Arp1006.{table};
-
+use crate::arp1005::{Arp1005, next_reference_point};
 use crate::fault::DecodeFault;
-use crate::field::{fits_i, next_word, put_flag, put_i64, put_u};
+use crate::field::{next_word, put_u};
 use crate::layout::Layout;
 use rtk_bits::{BitReader, BitWriter};
 use std::alloc::AllocError;
 
-/// The antenna reference point (ARP) of a station, earth-centred and earth-fixed, and the height of
-/// its antenna: 168 bits.
+/// The fields of a 1005, and after them the height of the antenna: 168 bits.
 ///
 /// Source: RTCM 10403.3, message 1006.
 #[derive(Clone, Copy, Debug, Default, PartialEq, Eq)]
 pub struct Arp1006 {
-    /// Reference station ID (DF003), 0 to 4095.
-    pub station: u16,
-    /// ITRF realization year (DF021), 0 to 63.
-    pub realization_year: u8,
-    /// GPS indicator (DF022).
-    pub gps: bool,
-    /// GLONASS indicator (DF023).
-    pub glonass: bool,
-    /// Galileo indicator (DF024).
-    pub galileo: bool,
-    /// Reference-station indicator (DF141).
-    pub reference_station: bool,
-    /// X (DF025), in 0.0001 m, 38 bits signed.
-    pub x: i64,
-    /// Single receiver oscillator indicator (DF142).
-    pub single_oscillator: bool,
-    /// Reserved bit (DF001).
-    pub reserved: bool,
-    /// Y (DF026), in 0.0001 m, 38 bits signed.
-    pub y: i64,
-    /// Quarter cycle indicator (DF364), 0 to 3.
-    pub quarter_cycle: u8,
-    /// Z (DF027), in 0.0001 m, 38 bits signed.
-    pub z: i64,
+    /// The station and its antenna reference point (DF003 to DF027).
+    pub arp: Arp1005,
     /// Antenna height (DF028), in 0.0001 m.
     pub height: u16,
 }
@@ -69,65 +43,25 @@ impl Layout for Arp1006 {
         if reader.remaining() < 156 {
             return Err(DecodeFault::Short { number: 1006 });
         }
-        let mut first = next_word(reader, 60);
-        let mut second = next_word(reader, 42);
-        let mut third = next_word(reader, 54);
-        *self = Arp1006 {
-            station: first.next_u16(12),
-            realization_year: first.next_u8(6),
-            gps: first.next_flag(),
-            glonass: first.next_flag(),
-            galileo: first.next_flag(),
-            reference_station: first.next_flag(),
-            x: first.next_i64(38),
-            single_oscillator: second.next_flag(),
-            reserved: second.next_flag(),
-            y: second.next_i64(38),
-            quarter_cycle: second.next_u8(2),
-            z: third.next_i64(38),
-            height: third.next_u16(16),
-        };
+        self.arp = next_reference_point(reader);
+        let mut last = next_word(reader, 16);
+        self.height = last.next_u16(16);
         Ok(())
     }
 
     fn write(&self, writer: &mut BitWriter) -> Result<(), AllocError> {
-        put_u(writer, 12, self.station as u64)?;
-        put_u(writer, 6, self.realization_year as u64)?;
-        put_flag(writer, self.gps)?;
-        put_flag(writer, self.glonass)?;
-        put_flag(writer, self.galileo)?;
-        put_flag(writer, self.reference_station)?;
-        put_i64(writer, 38, &self.x)?;
-        put_flag(writer, self.single_oscillator)?;
-        put_flag(writer, self.reserved)?;
-        put_i64(writer, 38, &self.y)?;
-        put_u(writer, 2, self.quarter_cycle as u64)?;
-        put_i64(writer, 38, &self.z)?;
+        self.arp.write(writer)?;
         put_u(writer, 16, self.height as u64)?;
         Ok(())
     }
 
     fn fits(&self) -> bool {
+        // By value, so that the range of the height is known.
         let message = *self;
-        message.fields_fit()
+        message.arp.fits()
     }
 
     ghost accepted = { is_accepted };
 
     ghost unique = { is_unique };
-}
-
-impl Arp1006 {
-    // By value, so that the range of each field's type is known.
-    fn fields_fit(self) -> bool
-        ensures { IsTrue result ↔ FieldsFit (table self) }
-    {
-        if self.station >= 1 << 12
-            || self.realization_year >= 1 << 6
-            || self.quarter_cycle >= 1 << 2
-        {
-            return false;
-        }
-        fits_i(self.x, 38) && fits_i(self.y, 38) && fits_i(self.z, 38)
-    }
 }

@@ -1,7 +1,8 @@
 //! Columns of fields: a value for each satellite or cell, and the cell mask.
 
 ghost use Rattle.rtk_message.specs.Columns.{numbers};
-ghost use Rattle.rtk_message.specs.Fields.{TakesAll, PutsAll, FieldsFit};
+ghost use Rattle.rtk_message.specs.Fields.{TakesAll, FieldsFit};
+ghost use Rattle.rtk_message.specs.Steps.FieldSteps.{PutsAll};
 ghost use Rattle.std.specs.Prelude.{◌≡◌, ◌≤◌, ◌*◌, ◌+◌, [], length, OnOk, sum_by, count_ones, ◌<◌, ◌∷◌, ◌++◌, map, List, Bool, IsTrue, ◌↔◌};
 
 use crate::field::{FieldValue, Word, next_word};

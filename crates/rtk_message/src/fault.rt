@@ -12,25 +12,25 @@ use thiserror::Error;
 #[derive(Clone, Copy, Debug, PartialEq, Eq, Error)]
 pub enum DecodeFault {
     /// The payload has fewer than 12 bits, so there is no message number (DF002).
-    #[error("M1 no message number")]
+    #[error("{} no message number", self.code())]
     NoNumber,
     /// This decoder reads no message of this number (DF002, 0 to 4095).
-    #[error("M2 message {number} is not read")]
+    #[error("{} message {number} is not read", self.code())]
     Other { number: u16 },
     /// The payload ends before the last field of the message's table.
-    #[error("M3 message {number} is cut short")]
+    #[error("{} message {number} is cut short", self.code())]
     Short { number: u16 },
     /// The time of week (DF004) is 604,800,000 ms or more.
-    #[error("M4 message {number} has a time outside the week")]
+    #[error("{} message {number} has a time outside the week", self.code())]
     EpochRange { number: u16 },
     /// The cell mask of a 1074 (DF396) would have more than 64 bits.
-    #[error("M5 message 1074 has more than 64 cell mask bits")]
+    #[error("{} message 1074 has more than 64 cell mask bits", self.code())]
     TooManyCells,
 }
 
 impl DecodeFault {
     ghost use Rattle.std.specs.Prelude.{◌≡◌};
-    ghost use Rattle.rtk_message.specs.FaultCode.{fault_code};
+    ghost use Rattle.rtk_message.specs.FaultCode.{fault_code, fault_number};
 
     /// The code of the cause, as texts show it: `M1` to `M5`, in the order of the causes.
     pub fn code(&self) -> &'static str
@@ -42,6 +42,19 @@ impl DecodeFault {
             DecodeFault::Short { .. } => "M3",
             DecodeFault::EpochRange { .. } => "M4",
             DecodeFault::TooManyCells => "M5",
+        }
+    }
+
+    /// The number of the message (DF002); `None` exactly if the payload has none.
+    pub fn number(&self) -> Option<u16>
+        ensures { result ≡ fault_number self.now }
+    {
+        match self {
+            DecodeFault::NoNumber => None,
+            DecodeFault::Other { number }
+            | DecodeFault::Short { number }
+            | DecodeFault::EpochRange { number } => Some(*number),
+            DecodeFault::TooManyCells => Some(1074),
         }
     }
 }

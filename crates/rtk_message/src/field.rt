@@ -1,7 +1,8 @@
 //! Fields of messages: the bits that hold them, their values, and how they are read and written.
 
 ghost use Rattle.rtk_bits.specs.Bits.{bits_of, signed_bits_of, FitsSigned};
-ghost use Rattle.rtk_message.specs.Fields.{u, i, flag, TakesField, Field, FieldFits, Puts};
+ghost use Rattle.rtk_message.specs.Fields.{u, i, flag, Field, FieldFits};
+ghost use Rattle.rtk_message.specs.Steps.FieldSteps.{TakesField, Puts};
 ghost use Rattle.std.specs.Prelude.{◌≡◌, ◌+◌, ◌-◌, ◌*◌, ◌^◌, ◌<◌, ◌≤◌, ◌++◌, length, OnOk, IsTrue, ◌↔◌, ℕ};
 
 use rtk_bits::{BitReader, BitWriter};

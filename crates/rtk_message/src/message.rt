@@ -45,7 +45,7 @@ impl Message {
         match self {
             Message::Obs1004(message) => message.station,
             Message::Arp1005(message) => message.station,
-            Message::Arp1006(message) => message.station,
+            Message::Arp1006(message) => message.arp.station,
             Message::Msm1074(message) => message.header.station,
         }
     }

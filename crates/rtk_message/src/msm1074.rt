@@ -1,9 +1,11 @@
 //! Message 1074: GPS observations of any signals (MSM4), column by column.
 
 ghost use Rattle.std.specs.Prelude.{◌≡◌, ◌≤◌, ◌<◌, [], ◌+◌, ◌*◌, length, OnOk, IsTrue, ◌↔◌, count_ones, sum_by};
-ghost use Rattle.rtk_message.specs.Fields.{TakesAll, PutsAll, FieldsFit};
+ghost use Rattle.rtk_message.specs.Fields.{week_ms, TakesAll, FieldsFit};
+ghost use Rattle.rtk_message.specs.Steps.FieldSteps.{PutsAll};
 ghost use Rattle.rtk_message.specs.Columns.{numbers};
-ghost use Rattle.rtk_message.specs.Msm1074.{header_table, EachFits, HasLengths};
+ghost use Rattle.rtk_message.specs.Msm1074.{header_table, HasLengths};
+ghost use Rattle.rtk_message.specs.Steps.EachFits.{EachFits};
 
 use crate::column::{Column, column_fits, ones, put_column, put_mask, read_column, read_mask};
 use crate::fault::DecodeFault;
@@ -108,7 +110,7 @@ impl MsmHeader {
 
     // Whether each field fits, and the time of week lies in a week.
     fn fits(self) -> bool
-        ensures { IsTrue result ↔ (FieldsFit (header_table self) × (self.tow < 604800000)) }
+        ensures { IsTrue result ↔ (FieldsFit (header_table self) × (self.tow < week_ms)) }
     {
         if self.station >= 1 << 12 || self.tow >= WEEK_MS || self.issue_of_data_station >= 1 << 3 {
             return false;

@@ -1,6 +1,7 @@
 //! Message 1004: GPS observations on L1 and L2.
 
-ghost use Rattle.rtk_message.specs.Fields.{TakesAll, PutsAll, FieldsFit};
+ghost use Rattle.rtk_message.specs.Fields.{TakesAll, FieldsFit};
+ghost use Rattle.rtk_message.specs.Steps.FieldSteps.{PutsAll};
 ghost use Rattle.rtk_message.specs.Obs1004.{satellite_table};
 ghost use Rattle.std.specs.List.{flat_map};
 ghost use Rattle.std.specs.Prelude.{◌≡◌, ◌≤◌, ◌+◌, ◌*◌, [], length, OnOk, IsTrue, ◌↔◌, ◌<◌, ◌∷◌, ◌++◌};

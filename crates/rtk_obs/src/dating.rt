@@ -6,10 +6,10 @@ ghost use Rattle.rtk_obs.specs.Dating.{IsReference, IsDated};
 use crate::time::GpsMs;
 
 /// A week of GPS time, in ms.
-pub const WEEK_MS: u64 = 604_800_000;
+pub const WEEK_MS: u64 = rtk_message::WEEK_MS as u64;
 
 /// Half a week of GPS time, in ms.
-pub const HALF_WEEK_MS: u64 = 302_400_000;
+pub const HALF_WEEK_MS: u64 = WEEK_MS / 2;
 
 /// The moment with this time of week (DF004, in ms) that lies nearest to a reference. Of two
 /// moments half a week away it is the one before the reference.

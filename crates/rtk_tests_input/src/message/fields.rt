@@ -23,7 +23,7 @@ fn station_messages_have_their_fields() -> Result<(), Fail> {
         return Err("no 1006".into());
     };
     same(
-        &(read.x, read.y, read.z, read.height),
+        &(read.arp.x, read.arp.y, read.arp.z, read.height),
         &(point.x, point.y, point.z, 15_000),
     )
 }

@@ -67,28 +67,14 @@ const POINTS: [([u8; 21], Arp1005); 3] = [
     ),
 ];
 
-fn with_height(point: Arp1005, height: u16) -> Arp1006 {
-    Arp1006 {
-        station: point.station,
-        realization_year: point.realization_year,
-        gps: point.gps,
-        glonass: point.glonass,
-        galileo: point.galileo,
-        reference_station: point.reference_station,
-        x: point.x,
-        single_oscillator: point.single_oscillator,
-        reserved: point.reserved,
-        y: point.y,
-        quarter_cycle: point.quarter_cycle,
-        z: point.z,
-        height,
-    }
-}
-
 #[test]
 fn fields_of_station_messages_have_their_places() -> Result<(), Fail> {
     for &(payload, point) in &POINTS {
-        holds(decode(&payload) == Ok(Message::Arp1006(with_height(point, 40_000))))?;
+        let message = Arp1006 {
+            arp: point,
+            height: 40_000,
+        };
+        holds(decode(&payload) == Ok(Message::Arp1006(message)))?;
         let mut without_height = payload;
         without_height[1] = 0xd0;
         holds(decode(&without_height[..19]) == Ok(Message::Arp1005(point)))?;

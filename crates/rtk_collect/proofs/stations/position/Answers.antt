@@ -1,7 +1,13 @@
+use Rattle.std.proofs.Common.{[], ◌∷◌}
+use Rattle.rtk_message.specs.Fields.{u}
+use Rattle.rtk_message.specs.FieldLaws.{fit-left}
+use Rattle.rtk_message.specs.Arp1005.{table}
 use Rattle.rtk_collect.proofs.stations.position.Goals as goal
 
-pub position_of_1006-requires : goal.position_of_1006-requires
-position_of_1006-requires c = c.requires.fits_1006 c.in-Some.arp c.in-Some.is
+pub position_of-requires : goal.position_of-requires
+position_of-requires c =
+    let m = c.in-Some.message in
+    (fit-left (table m.arp) (u 16 m.height ∷ []) (c.requires.fits_1006 m c.in-Some.is)).0
 
-pub position_of_1005-requires : goal.position_of_1005-requires
-position_of_1005-requires c = c.requires.fits_1005 c.in-Some-arp1005.arp c.in-Some-arp1005.is
+pub position_of-requires-2 : goal.position_of-requires-2
+position_of-requires-2 c = c.requires.fits_1005 c.in-Some-arp1005.arp c.in-Some-arp1005.is

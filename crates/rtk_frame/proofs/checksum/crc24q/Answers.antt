@@ -1,7 +1,7 @@
 use Rattle.std.proofs.Common.{◌≡◌, ℕ, List, ◌∷◌, [], ◌<◌, ◌+◌, get_or, drop, length, refl, sym, ◌∙◌, ap, arith, drop-cons, add-one, get_or-drop, ◌≤◌, ◌-◌, take, length-drop}
 use Rattle.std.proofs.lemmas.List.{take_all}
 use Rattle.std.proofs.Math.ListN.{drop_of_length-le}
-use Rattle.rtk_frame.specs.Checksum.{remainder}
+use Rattle.rtk_frame.specs.Steps.Remainder.{remainder}
 use Rattle.rtk_frame.proofs.Remainder.{remainder_next, crc_end}
 use Rattle.rtk_frame.proofs.EightBytes.{eight_front}
 use Rattle.rtk_frame.proofs.checksum.crc24q.Goals as goal

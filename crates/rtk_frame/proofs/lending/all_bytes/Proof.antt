@@ -40,7 +40,7 @@ use borrow.Rule.Slice.Handed.{sl_Share}
 use borrow.Table.Owned as owned
 use Rattle.std.proofs.raw_atomic.Walks.{proved, leaves}
 use Rattle.circular_buffer.specs.Buffer.{Buffer}
-use Rattle.rtk_frame.specs.Ring.{ring_row, with_bytes, RingEndsAs}
+use Rattle.rtk_frame.specs.Steps.Ring.{ring_row, with_bytes, RingEndsAs}
 use Rattle.rtk_frame.specs.contracts.lending.all_bytes as f
 use Rattle.rtk_frame.proofs.lending.all_bytes.Statement.{statement}
 use Rattle.rtk_frame.proofs.lending.all_bytes.Code as code

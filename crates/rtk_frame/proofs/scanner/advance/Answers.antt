@@ -1,7 +1,7 @@
 use Rattle.std.proofs.Common.{◌≡◌, ℕ, ◌≤◌, ◌+◌, ◌-◌, ◌++◌, List, length, take, drop, arith, sym, ◌∙◌, ap, subst, length-take, length-drop, length-append}
 use Rattle.std.proofs.lemmas.List.{take_all}
 use Rattle.std.specs.List.{refill}
-use Rattle.rtk_frame.specs.Scanning.{Scanned}
+use Rattle.rtk_frame.specs.Steps.Scanning.{Scanned}
 use Rattle.rtk_frame.proofs.Passing.{scanned_next, scanned_front, scanned_fill}
 use Rattle.rtk_frame.proofs.scanner.advance.Goals as goal
 

@@ -1,5 +1,5 @@
 use Rattle.std.proofs.Common.{◌≡◌, ◌≤◌, ◌+◌, ◌*◌, ◌-◌, ◌++◌, length, take}
-use Rattle.rtk_frame.specs.Scanning.{Scanned}
+use Rattle.rtk_frame.specs.Steps.Scanning.{Scanned}
 use Rattle.rtk_frame.proofs.scanner.advance.Given as goal
 
 abbrev pub invariant-scan : goal.invariant-scan

@@ -1,5 +1,5 @@
 use Rattle.std.proofs.Common.{◌≡◌, ◌≤◌, length}
-use Rattle.rtk_frame.specs.Scanning.{Searched}
+use Rattle.rtk_frame.specs.Steps.Scanning.{Searched}
 use Rattle.rtk_frame.proofs.scanner.advance_ended.Given as goal
 
 abbrev pub invariant-loop-ring : goal.invariant-loop-ring

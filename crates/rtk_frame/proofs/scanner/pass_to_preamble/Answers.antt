@@ -1,7 +1,7 @@
 use Rattle.std.proofs.Common.{◌≡◌, ◌-◌, ℕ, List, length, drop, ap, ◌∙◌, sym, arith, subst, ◌≤◌}
 use Rattle.std.specs.List.{refill}
 use Rattle.circular_buffer.specs.Buffer.{buffer, keep_last}
-use Rattle.rtk_frame.specs.Scanning.{Scanned}
+use Rattle.rtk_frame.specs.Steps.Scanning.{Scanned}
 use Rattle.rtk_frame.proofs.Passing.{scanned_over}
 use Rattle.rtk_frame.proofs.scanner.pass_to_preamble.Goals as goal
 

@@ -1,5 +1,5 @@
 use Rattle.std.proofs.Common.{map, take}
-use Rattle.rtk_message.specs.Fields.{PutsAll}
+use Rattle.rtk_message.specs.Steps.FieldSteps.{PutsAll}
 use Rattle.rtk_message.proofs.column.put_column.Given as goal
 
 abbrev pub invariant-loop-value : goal.invariant-loop-value

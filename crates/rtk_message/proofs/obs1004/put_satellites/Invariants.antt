@@ -1,6 +1,6 @@
 use Rattle.std.proofs.Common.{take}
 use Rattle.std.specs.List.{flat_map}
-use Rattle.rtk_message.specs.Fields.{PutsAll}
+use Rattle.rtk_message.specs.Steps.FieldSteps.{PutsAll}
 use Rattle.rtk_message.specs.Obs1004.{satellite_table}
 use Rattle.rtk_message.proofs.obs1004.put_satellites.Given as goal
 

@@ -1,19 +1,9 @@
-use Rattle.std.proofs.Common.{arith, w64}
-use Rattle.std.proofs.lemmas.Int.{to_z-of_z}
-use mir.Val.{SFits}
+use Rattle.std.proofs.Common.{arith}
 use Rattle.rtk_message.proofs.FieldLemmas.{took, took_none, took_both, took_word}
 use Rattle.rtk_message.proofs.arp1006.Arp1006Layout.read.Goals as goal
 
 pub returns-clause-fields : goal.returns-clause-fields
 returns-clause-fields c =
-    let first = took_word (took c.next_u16.ensures.taken (took c.next_u8.ensures.taken (took c.next_flag.ensures.taken (took c.next_flag-2.ensures.taken (took c.next_flag-3.ensures.taken (took c.next_flag-4.ensures.taken (took c.next_i64.ensures.taken took_none)))))))
-    (omega (arith, c.next_word-first.ensures.width, c.next_u16.ensures.left, c.next_u8.ensures.left, c.next_flag.ensures.left, c.next_flag-2.ensures.left, c.next_flag-3.ensures.left, c.next_flag-4.ensures.left, c.next_i64.ensures.left)) c.next_word-first.ensures.bits in
-    let second = took_word (took c.next_flag-5.ensures.taken (took c.next_flag-6.ensures.taken (took c.next_i64-2.ensures.taken (took c.next_u8-2.ensures.taken took_none))))
-    (omega (arith, c.next_word-second.ensures.width, c.next_flag-5.ensures.left, c.next_flag-6.ensures.left, c.next_i64-2.ensures.left, c.next_u8-2.ensures.left)) c.next_word-second.ensures.bits in
-    let third = took_word (took c.next_i64-3.ensures.taken (took c.next_u16-2.ensures.taken took_none))
-    (omega (arith, c.next_word-third.ensures.width, c.next_i64-3.ensures.left, c.next_u16-2.ensures.left)) c.next_word-third.ensures.bits in
-    let all = took_both first (took_both second third) in
-    let s1 : SFits w64 c.next_i64.result = record { sfits = c.next_i64.type_inv } in
-    let s2 : SFits w64 c.next_i64-2.result = record { sfits = c.next_i64-2.type_inv } in
-    let s3 : SFits w64 c.next_i64-3.result = record { sfits = c.next_i64-3.type_inv } in
-    simp (to_z-of_z w64 c.next_i64.result s1, to_z-of_z w64 c.next_i64-2.result s2, to_z-of_z w64 c.next_i64-3.result s3) (all.fit, all)
+    let height = took_word (took c.next_u16-self.ensures.taken took_none) (omega (arith, c.next_word-last.ensures.width, c.next_u16-self.ensures.left)) c.next_word-last.ensures.bits in
+    let all = took_both c.next_reference_point-self.ensures.fields height in
+    (all.fit, all)

@@ -1,7 +1,15 @@
-use Rattle.rtk_message.proofs.FieldLemmas.{put, put_none}
+use Rattle.std.proofs.Common.{[], ◌∷◌}
+use Rattle.rtk_message.specs.Fields.{u}
+use Rattle.rtk_message.specs.Steps.FieldSteps.{PutsAll}
+use Rattle.rtk_message.specs.FieldLaws.{fit-left}
+use Rattle.rtk_message.specs.Arp1005.{table}
+use Rattle.rtk_message.proofs.FieldLemmas.{put, put_none, put_both}
 use Rattle.rtk_message.proofs.arp1006.Arp1006Layout.write.Goals as goal
+
+pub write-requires : goal.write-requires
+write-requires c = (fit-left (table c.args.self.now.arp) (u 16 c.args.self.now.height ∷ []) c.requires).0
 
 pub returns : goal.returns
 returns c =
-    (put c.in_ok-put_u.ensures (put c.in_ok-put_u-2.ensures (put c.in_ok-put_flag.ensures (put c.in_ok-put_flag-2.ensures (put c.in_ok-put_flag-3.ensures (put c.in_ok-put_flag-4.ensures
-    (put c.in_ok-put_i64.ensures (put c.in_ok-put_flag-5.ensures (put c.in_ok-put_flag-6.ensures (put c.in_ok-put_i64-2.ensures (put c.in_ok-put_u-3.ensures (put c.in_ok-put_i64-3.ensures (put c.in_ok-put_u-4.ensures put_none))))))))))))).is
+    let arp : PutsAll (table c.args.self.now.arp) c.args.writer.now c.write.new.writer = record { is = c.in_ok-write.ensures } in
+    (put_both arp (put c.in_ok-put_u.ensures put_none)).is

@@ -1,5 +1,5 @@
 use Rattle.std.proofs.Common.{arith, rules, refl}
-use Rattle.rtk_message.specs.Fields.{PutsAll}
+use Rattle.rtk_message.specs.Steps.FieldSteps.{PutsAll}
 use Rattle.rtk_message.specs.Columns.{numbers}
 use Rattle.rtk_message.proofs.FieldLemmas.{put_both}
 use Rattle.rtk_message.proofs.ColumnLemmas.{flags-fit}

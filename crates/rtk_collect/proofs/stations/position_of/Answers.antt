@@ -1,6 +1,6 @@
 use Rattle.std.proofs.Common.{rules}
 use Rattle.rtk_collect.proofs.PositionLemmas.{stored}
-use Rattle.rtk_collect.proofs.stations.position_of_1005.Goals as goal
+use Rattle.rtk_collect.proofs.stations.position_of.Goals as goal
 
 pub invariant_of-result : goal.invariant_of-result
 invariant_of-result c = record {

@@ -2,7 +2,7 @@ use Rattle.std.proofs.Common.{arith, w64}
 use Rattle.std.proofs.lemmas.Int.{to_z-of_z}
 use mir.Val.{SFits}
 use Rattle.rtk_message.proofs.FieldLemmas.{took, took_none, took_both, took_word}
-use Rattle.rtk_message.proofs.arp1005.Arp1005Layout.read.Goals as goal
+use Rattle.rtk_message.proofs.arp1005.next_reference_point.Goals as goal
 
 pub returns-clause-fields : goal.returns-clause-fields
 returns-clause-fields c =
@@ -16,4 +16,4 @@ returns-clause-fields c =
     let s1 : SFits w64 c.next_i64.result = record { sfits = c.next_i64.type_inv } in
     let s2 : SFits w64 c.next_i64-2.result = record { sfits = c.next_i64-2.type_inv } in
     let s3 : SFits w64 c.next_i64-3.result = record { sfits = c.next_i64-3.type_inv } in
-    simp (to_z-of_z w64 c.next_i64.result s1, to_z-of_z w64 c.next_i64-2.result s2, to_z-of_z w64 c.next_i64-3.result s3) (all.fit, all)
+    simp (to_z-of_z w64 c.next_i64.result s1, to_z-of_z w64 c.next_i64-2.result s2, to_z-of_z w64 c.next_i64-3.result s3) all

@@ -1,10 +1,10 @@
 use Rattle.std.proofs.Common.{append_assoc}
-use Rattle.rtk_cli.specs.Shown.{point}
-use Rattle.rtk_cli.proofs.payload_line.put_point.Goals as goal
+use Rattle.rtk_cli.specs.Shown.{reference_point}
+use Rattle.rtk_cli.proofs.payload_line.put_reference_point.Goals as goal
 
 -- piece by piece
 pub returns : goal.returns
-unfolding point
+unfolding reference_point
 returns c =
     rw (
       c.in_ok-put_coordinate-3.ensures,
@@ -13,4 +13,5 @@ returns c =
       c.in_ok-extend_from_slice-2.ensures.items,
       c.in_ok-put_coordinate.ensures,
       c.in_ok-extend_from_slice.ensures.items,
+      c.in_ok-put_named.ensures,
     ) (simp append_assoc)

@@ -1,0 +1,10 @@
+-- The status that goes with a text of clap's.
+use Rattle.std.specs.Prelude.{◌≡◌, ◌≢◌, ◌⊎◌, ℕ}
+use Rattle.clap.specs.declared.error.kind.ErrorKind.{ErrorKind}
+use Rattle.clap.specs.declared.error.kind.ErrorKind.TheVariants.{DisplayHelp, DisplayVersion}
+
+-- the status that goes with a text of clap's: 0 where help or the version was asked for, else 2
+-- (this project's rule)
+abbrev pub IsStatusOf : ErrorKind → ℕ → Type 0
+IsStatusOf kind status = ((kind ≡ DisplayHelp) ⊎ (kind ≡ DisplayVersion) → status ≡ 0)
+    × ((kind ≢ DisplayHelp) × (kind ≢ DisplayVersion) → status ≡ 2)

@@ -1,0 +1,3 @@
+-- The words of private clauses: how the promises are kept. No clause of a public call needs them.
+pub mod FieldSteps
+pub mod EachFits
