@@ -19,7 +19,7 @@ pub const CHECK_LIMIT: usize = 1_073_741_824;
 
 // What is said of a text, and the line that says it.
 #[derive(Drop)]
-struct Answer {
+struct CheckAnswer {
     is_valid: bool,
     line: Vec<u8>,
 }
@@ -59,7 +59,7 @@ fn fault_line(alloc: Global, fault: CheckFault) -> Result<Vec<u8>, AllocError>
 }
 
 // The answer of a text.
-fn answer_of(alloc: Global, text: &[u8]) -> Result<Answer, ToolFault>
+fn answer_of(alloc: Global, text: &[u8]) -> Result<CheckAnswer, ToolFault>
     ensures says { IfOk result (λ answer. SaysVerdict text.now answer.is_valid answer.line.items) }
     ensures memory { IfErr result (λ fault. fault ≡ OutOfMemory) }
 {
@@ -69,7 +69,7 @@ fn answer_of(alloc: Global, text: &[u8]) -> Result<Answer, ToolFault>
         Err(fault) => (false, fault_line(alloc, fault)),
     };
     match line {
-        Ok(line) => Ok(Answer { is_valid, line }),
+        Ok(line) => Ok(CheckAnswer { is_valid, line }),
         Err(_) => Err(ToolFault::OutOfMemory),
     }
 }

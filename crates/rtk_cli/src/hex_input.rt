@@ -1,7 +1,7 @@
 //! Captures that are written as hex text.
 
 ghost use Rattle.std.specs.Prelude.{◌≡◌, ◌≢◌, Some, IfOk, IfErr, IsErrOf, IsNone};
-ghost use Rattle.rtk_cli.specs.Hex.{is_blank, bytes_of_hex};
+ghost use Rattle.rtk_cli.specs.Hex.{is_white_space, bytes_of_hex};
 ghost use Rattle.rtk_cli.specs.declared.words.ToolFault.TheVariants.{NotHex, OutOfMemory};
 
 use crate::words::ToolFault;
@@ -10,7 +10,7 @@ use std::alloc::Global;
 
 // A byte that stands between hex digits and says nothing.
 fn is_blank_byte(byte: u8) -> bool
-    ensures { result ≡ is_blank byte }
+    ensures { result ≡ is_white_space byte }
 {
     matches!(byte, b' ' | b'\t' | b'\r' | b'\n')
 }

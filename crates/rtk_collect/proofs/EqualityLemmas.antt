@@ -17,7 +17,8 @@ use Rattle.rtk_obs.specs.declared.cell.CellSource.{CellSource}
 use Rattle.rtk_obs.specs.declared.cell.CellSource.TheVariants.{Legacy, Msm}
 use Rattle.rtk_obs.specs.declared.cell.Cell.{Cell}
 use Rattle.rtk_collect.specs.Key.{key, key_at, rank_of}
-use Rattle.rtk_collect.specs.Equal.{equal_sources, equal_cells, equal_1005, equal_1006}
+use Rattle.rtk_obs.specs.Slip.{is_same_source}
+use Rattle.rtk_collect.specs.Equal.{equal_cells, equal_1005, equal_1006}
 use Rattle.rtk_collect.specs.Laws.{KeysAreDistinct, EqualityDecides}
 
 -- the code in a place
@@ -95,7 +96,7 @@ options-decide E d None (Some y) = (λ h. cc, λ h. cc)
 options-decide E d (Some x) None = (λ h. cc, λ h. cc)
 options-decide E d (Some x) (Some y) = (λ h. ap Some ((d x y).0 h), λ h. (d x y).1 (ap (λ o. unwrap_or o x) h))
 
-pub sources-decide : (a b : CellSource) → Decides (equal_sources a b) (a ≡ b)
+pub sources-decide : (a b : CellSource) → Decides (is_same_source a b) (a ≡ b)
 sources-decide Legacy Legacy = (λ _. refl, λ _. refl)
 sources-decide Legacy Msm = (λ h. cc, λ h. cc)
 sources-decide Msm Legacy = (λ h. cc, λ h. cc)
@@ -188,7 +189,7 @@ pub equality-decides : EqualityDecides
 equality-decides = (cells-decide, decides-1005, decides-1006)
 
 -- the derived test of two kinds of message
-pub sources-same : (a b : CellSource) → sameb the_type a b ≡ equal_sources a b
+pub sources-same : (a b : CellSource) → sameb the_type a b ≡ is_same_source a b
 sources-same Legacy Legacy = refl
 sources-same Legacy Msm = refl
 sources-same Msm Legacy = refl

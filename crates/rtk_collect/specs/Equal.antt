@@ -3,25 +3,18 @@ use Rattle.std.specs.Prelude.{Bool, true, false, Option, None, Some, ◌&&◌, �
 use Rattle.std.proofs.Math.Bool.{beq}
 use Rattle.std.specs.Ordering.{int_eq}
 use Rattle.std.specs.Option.{option_eq}
-use Rattle.rtk_obs.specs.declared.cell.CellSource.{CellSource}
-use Rattle.rtk_obs.specs.declared.cell.CellSource.TheVariants.{Legacy, Msm}
 use Rattle.rtk_obs.specs.declared.cell.Cell.{Cell}
+use Rattle.rtk_obs.specs.Slip.{is_same_source}
 use Rattle.rtk_message.specs.declared.arp1005.Arp1005.{Arp1005 as Message1005}
 use Rattle.rtk_message.specs.declared.arp1006.Arp1006.{Arp1006 as Message1006}
 use Rattle.rtk_message.specs.declared.message.Message.{Message}
 use Rattle.rtk_message.specs.declared.message.Message.TheVariants.{Arp1005, Arp1006}
 
-abbrev pub equal_sources : CellSource → CellSource → Bool
-equal_sources Legacy Legacy = true
-equal_sources Legacy Msm = false
-equal_sources Msm Legacy = false
-equal_sources Msm Msm = true
-
 -- the values of a satellite and code
 abbrev pub equal_cells : Cell → Cell → Bool
 equal_cells a b =
     option_eq int_eq a.range_mm b.range_mm && (option_eq int_eq a.phase_millicycles b.phase_millicycles && (option_eq ◌==◌ a.strength_millidbhz b.strength_millidbhz
-    && ((a.lock_time_ms == b.lock_time_ms) && (beq a.half b.half && (equal_sources a.source b.source && option_eq int_eq a.offset b.offset)))))
+    && ((a.lock_time_ms == b.lock_time_ms) && (beq a.half b.half && (is_same_source a.source b.source && option_eq int_eq a.offset b.offset)))))
 
 -- the fields of a 1005 (RTCM 10403.3, message 1005)
 abbrev pub equal_1005 : Message1005 → Message1005 → Bool

@@ -43,8 +43,8 @@ fit-left [] gs p = (tt, p)
 fit-left (f ∷ fs) gs p = let r = fit-left fs gs p.1 in ((p.0, r.0), r.1)
 
 -- the number in a field with n bits before it
-pub number_at : (before : List Field) (w n : ℕ) (fs : List Field) (bs rest : List Bool) (k : ℕ) → total before ≡ k → n < 2 ^ w → bs ≡ bits_of_fields (before ++ u w n ∷ fs) ++ rest → unsigned (take w (drop k bs)) ≡ n
-number_at before w n fs bs rest k at small e =
+pub number_taken : (before : List Field) (w n : ℕ) (fs : List Field) (bs rest : List Bool) (k : ℕ) → total before ≡ k → n < 2 ^ w → bs ≡ bits_of_fields (before ++ u w n ∷ fs) ++ rest → unsigned (take w (drop k bs)) ≡ n
+number_taken before w n fs bs rest k at small e =
     let parts : bs ≡ bits_of_fields before ++ (bits_of w n ++ (bits_of_fields fs ++ rest)) =
     e ∙ ap (λ (t : List Bool). t ++ rest) (bits_of_fields-append before (u w n ∷ fs)) ∙ append_assoc (bits_of_fields before) (bits_of w n ++ bits_of_fields fs) rest ∙ ap (λ (t : List Bool). bits_of_fields before ++ t) (append_assoc (bits_of w n) (bits_of_fields fs) rest) in
     rw (parts, drop_at (bits_of_fields before) (bits_of w n ++ (bits_of_fields fs ++ rest)) k (length-bits_of_fields before ∙ at), take_at (bits_of w n) (bits_of_fields fs ++ rest) w (length-bits_of w n)) (unsigned-bits_of w n ∙ mod-eq_of_lt small)

@@ -5,7 +5,7 @@ use Rattle.std.proofs.lemmas.List.{take_at, drop_at}
 use Rattle.rtk_bits.specs.Bits.{unsigned}
 use Rattle.rtk_message.specs.Fields.{week_ms, tow_in, Field, u, flag, bits_of_fields, FieldsFit, TakesAll}
 use Rattle.rtk_message.specs.FieldLaws.{total, length-bits_of_fields}
-use Rattle.rtk_message.specs.FieldLaws.{bits_of_fields-append, fit-left, number_at}
+use Rattle.rtk_message.specs.FieldLaws.{bits_of_fields-append, fit-left, number_taken}
 use Rattle.rtk_message.specs.Columns.{numbers, integers, flags}
 use Rattle.rtk_message.specs.ColumnLaws.{total-numbers, total-integers, total-flags, ones-numbers, peel, peel_numbers, peel_integers, peel_flags, last_numbers}
 use Rattle.rtk_message.specs.declared.msm1074.MsmHeader.{MsmHeader}
@@ -24,13 +24,13 @@ pub header_says : {h : MsmHeader} {bs rest : List Bool} → TakesAll (header_tab
 header_says {h = h} {bs = bs} {rest = rest} took =
     let f = took.fit in
     let sat : satellite_count_in bs ≡ satellites h =
-    ap count_ones (number_at (u 12 h.station ∷ u 30 h.tow ∷ flag h.multiple_message ∷ u 3 h.issue_of_data_station ∷ u 7 h.reserved ∷ u 2 h.clock_steering ∷ u 2 h.external_clock ∷ flag h.smoothing ∷ u 3 h.smoothing_interval ∷ [])
+    ap count_ones (number_taken (u 12 h.station ∷ u 30 h.tow ∷ flag h.multiple_message ∷ u 3 h.issue_of_data_station ∷ u 7 h.reserved ∷ u 2 h.clock_steering ∷ u 2 h.external_clock ∷ flag h.smoothing ∷ u 3 h.smoothing_interval ∷ [])
     64 h.satellite_mask (u 32 h.signal_mask ∷ []) bs rest 61 refl f.1.1.1.1.1.1.1.1.1.0 took.is) in
     let sig : count_ones (unsigned (take 32 (drop 125 bs))) ≡ signals h =
-    ap count_ones (number_at (u 12 h.station ∷ u 30 h.tow ∷ flag h.multiple_message ∷ u 3 h.issue_of_data_station ∷ u 7 h.reserved ∷ u 2 h.clock_steering ∷ u 2 h.external_clock ∷ flag h.smoothing ∷ u 3 h.smoothing_interval ∷ u 64 h.satellite_mask ∷ [])
+    ap count_ones (number_taken (u 12 h.station ∷ u 30 h.tow ∷ flag h.multiple_message ∷ u 3 h.issue_of_data_station ∷ u 7 h.reserved ∷ u 2 h.clock_steering ∷ u 2 h.external_clock ∷ flag h.smoothing ∷ u 3 h.smoothing_interval ∷ u 64 h.satellite_mask ∷ [])
     32 h.signal_mask [] bs rest 125 refl f.1.1.1.1.1.1.1.1.1.1.0 took.is) in
     record {
-      tow_is = number_at (u 12 h.station ∷ []) 30 h.tow (flag h.multiple_message ∷ u 3 h.issue_of_data_station ∷ u 7 h.reserved ∷ u 2 h.clock_steering ∷ u 2 h.external_clock ∷ flag h.smoothing ∷ u 3 h.smoothing_interval ∷ u 64 h.satellite_mask ∷ u 32 h.signal_mask ∷ []) bs rest 12 refl f.1.0 took.is;
+      tow_is = number_taken (u 12 h.station ∷ []) 30 h.tow (flag h.multiple_message ∷ u 3 h.issue_of_data_station ∷ u 7 h.reserved ∷ u 2 h.clock_steering ∷ u 2 h.external_clock ∷ flag h.smoothing ∷ u 3 h.smoothing_interval ∷ u 64 h.satellite_mask ∷ u 32 h.signal_mask ∷ []) bs rest 12 refl f.1.0 took.is;
       satellites_is = sat;
       mask_bits_is = rw (sat, sig) refl;
       after = rw took.is (drop_at (bits_of_fields (header_table h)) rest 157 (length-bits_of_fields (header_table h)));

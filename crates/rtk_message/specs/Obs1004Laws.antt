@@ -3,7 +3,7 @@ use Rattle.std.proofs.Common.{◌≡◌, ℕ, ℤ, Bool, false, List, [], ◌∷
 use Rattle.std.specs.List.{flat_map}
 use Rattle.std.proofs.lemmas.Bool.{le-ltb, lt-leb}
 use Rattle.rtk_message.specs.Fields.{week_ms, tow_in, u, flag, bits_of_fields, FieldsFit, TakesAll}
-use Rattle.rtk_message.specs.FieldLaws.{length-bits_of_fields, SameForm, one_list, bits_of_fields-append, fit-left, number_at}
+use Rattle.rtk_message.specs.FieldLaws.{length-bits_of_fields, SameForm, one_list, bits_of_fields-append, fit-left, number_taken}
 use Rattle.rtk_message.specs.declared.obs1004.Satellite.{Satellite}
 use Rattle.rtk_message.specs.declared.obs1004.Obs1004.{Obs1004}
 use Rattle.rtk_message.specs.Obs1004.{satellite_table, header, header_table, table, IsValid, first_fault, satellite_bits}
@@ -21,8 +21,8 @@ pub record SaysHeader1004 (bs rest : List Bool) (tow count : ℕ) : Type 0 where
 
 pub header_says : {s t : ℕ} {y : Bool} {n : ℕ} {k : Bool} {v : ℕ} {bs rest : List Bool} → TakesAll (header s t y n k v) bs rest → SaysHeader1004 bs rest t n
 header_says {s = s} {t = t} {y = y} {n = n} {k = k} {v = v} {bs = bs} {rest = rest} took = record {
-  tow_is = number_at (u 12 s ∷ []) 30 t (flag y ∷ u 5 n ∷ flag k ∷ u 3 v ∷ []) bs rest 12 refl took.fit.1.0 took.is;
-  count_is = ap (λ (m : ℕ). 125 * m) (number_at (u 12 s ∷ u 30 t ∷ flag y ∷ []) 5 n (flag k ∷ u 3 v ∷ []) bs rest 43 refl took.fit.1.1.1.0 took.is);
+  tow_is = number_taken (u 12 s ∷ []) 30 t (flag y ∷ u 5 n ∷ flag k ∷ u 3 v ∷ []) bs rest 12 refl took.fit.1.0 took.is;
+  count_is = ap (λ (m : ℕ). 125 * m) (number_taken (u 12 s ∷ u 30 t ∷ flag y ∷ []) 5 n (flag k ∷ u 3 v ∷ []) bs rest 43 refl took.fit.1.1.1.0 took.is);
   len = ap length took.is ∙ length-append (bits_of_fields (header s t y n k v)) rest ∙ ap (λ (m : ℕ). m + length rest) (length-bits_of_fields (header s t y n k v));
 }
 

@@ -1,20 +1,16 @@
 -- Least lock times in ms.
 use Rattle.std.specs.Prelude.{ℕ, zero, suc, ◌+◌, ◌-◌, ◌*◌, ◌^◌, nat_le, if◌then◌else◌}
 
--- the least lock time in s at an indicator of 0 to 127 (RTCM 10403.3, DF013 and DF019)
-abbrev pub legacy_seconds : ℕ → ℕ
-legacy_seconds i =
+-- the least lock time in ms at an indicator of 0 to 127, which stands for whole seconds (RTCM 10403.3, DF013 and DF019)
+abbrev pub least_lock_of_legacy : ℕ → ℕ
+least_lock_of_legacy i = 1000 * (
     if nat_le i 23 then i
     else if nat_le i 47 then 2 * i - 24
     else if nat_le i 71 then 4 * i - 120
     else if nat_le i 95 then 8 * i - 408
     else if nat_le i 119 then 16 * i - 1176
     else if nat_le i 126 then 32 * i - 3096
-    else 937
-
--- the same in ms
-abbrev pub least_lock_of_legacy : ℕ → ℕ
-least_lock_of_legacy i = 1000 * legacy_seconds i
+    else 937)
 
 -- the least lock time in ms at an indicator of 0 to 15 (RTCM 10403.3, DF402)
 abbrev pub least_lock_of_msm : ℕ → ℕ

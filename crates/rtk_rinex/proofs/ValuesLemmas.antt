@@ -10,29 +10,29 @@ use Rattle.std.proofs.lemmas.Int.{ints}
 use Rattle.rtk_rinex.specs.Record.{is_written, observation, observations, lli_digit, strength_digit, strength_value, IsStrengthOrNone}
 use Rattle.rtk_rinex.specs.Table.{IsAbsentOrWritten, IsLock, IsObserved}
 use Rattle.rtk_rinex.proofs.DigitsLemmas.{number_of-fixed_3, length-right, take-exact, drop-exact}
-use Rattle.rtk_rinex.specs.Steps.CheckValues.{value_text, is_blank, value_in, strength_in, slip_in, half_in, observed_in}
+use Rattle.rtk_rinex.specs.Steps.CheckValues.{value_text, are_blanks, value_in, strength_in, slip_in, half_in, observed_in}
 
 and-assoc : (a b c : Bool) → ((a && b) && c) ≡ (a && (b && c))
 and-assoc true b c = refl
 and-assoc false b c = refl
 
 -- no blanks alone
-is_blank-append : (xs ys : List ℕ) → is_blank (xs ++ ys) ≡ (is_blank xs && is_blank ys)
-unfolding is_blank
-is_blank-append [] ys = refl
-is_blank-append (x ∷ xs) ys = rw (is_blank-append xs ys) (sym (and-assoc (x == 32) (is_blank xs) (is_blank ys)))
+are_blanks-append : (xs ys : List ℕ) → are_blanks (xs ++ ys) ≡ (are_blanks xs && are_blanks ys)
+unfolding are_blanks
+are_blanks-append [] ys = refl
+are_blanks-append (x ∷ xs) ys = rw (are_blanks-append xs ys) (sym (and-assoc (x == 32) (are_blanks xs) (are_blanks ys)))
 
 and-false : (b : Bool) → (b && false) ≡ false
 and-false true = refl
 and-false false = refl
 
-pub is_blank-decimals : (w k n : ℕ) (negative : Bool) → is_blank (right w (decimals k negative n)) ≡ false
-unfolding is_blank
-is_blank-decimals w k n negative =
+pub are_blanks-decimals : (w k n : ℕ) (negative : Bool) → are_blanks (right w (decimals k negative n)) ≡ false
+unfolding are_blanks
+are_blanks-decimals w k n negative =
     let front : List ℕ = sign_text negative ++ decimal (n / 10 ^ k) in
-    let last : is_blank (46 ∷ last_digits k n) ≡ false = refl in
-    let whole : is_blank (front ++ 46 ∷ last_digits k n) ≡ false = is_blank-append front (46 ∷ last_digits k n) ∙ (rw last (and-false (is_blank front))) in
-    is_blank-append (replicate (w - length (decimals k negative n)) 32) (front ++ 46 ∷ last_digits k n) ∙ (rw whole (and-false (is_blank (replicate (w - length (decimals k negative n)) 32))))
+    let last : are_blanks (46 ∷ last_digits k n) ≡ false = refl in
+    let whole : are_blanks (front ++ 46 ∷ last_digits k n) ≡ false = are_blanks-append front (46 ∷ last_digits k n) ∙ (rw last (and-false (are_blanks front))) in
+    are_blanks-append (replicate (w - length (decimals k negative n)) 32) (front ++ 46 ∷ last_digits k n) ∙ (rw whole (and-false (are_blanks (replicate (w - length (decimals k negative n)) 32))))
 
 -- a value that is written lies within the limits and isn't 0
 pub written-limits : (v : ℤ) → is_written v ≡ true → (negsuc 999_999_999_998 ≤ℤ v) × (v ≤ℤ pos 9_999_999_999_999)
@@ -56,9 +56,9 @@ length-fixed (negsuc n) h =
 
 -- what the text of a value shows is the value
 pub value_of-text : (v : Option ℤ) → IsAbsentOrWritten v → value_in (value_text v) ≡ v
-unfolding is_blank
+unfolding are_blanks
 value_of-text None h = refl
-value_of-text (Some v) h = rw (is_blank-decimals 14 3 (unsigned_abs v) (is_negative v), number_of-fixed_3 v (omega (arith, written-magnitude v h))) refl
+value_of-text (Some v) h = rw (are_blanks-decimals 14 3 (unsigned_abs v) (is_negative v), number_of-fixed_3 v (omega (arith, written-magnitude v h))) refl
 
 -- an observation is its value and two digits
 abbrev pub ends : Option ℤ → ℕ → ℕ → List ℕ

@@ -4,7 +4,7 @@ ghost use Rattle.std.specs.Prelude.{◌≡◌, ◌≢◌, ℕ, ◌+◌, ◌*◌,
 ghost use Rattle.rtk_rinex.specs.Columns.{left};
 ghost use Rattle.rtk_rinex.specs.Record.{IsStrengthOrNone, satellite_line};
 ghost use Rattle.rtk_rinex.specs.Table.{IsAbsentOrWritten, IsLock, IsObserved, IsTableRow};
-ghost use Rattle.rtk_rinex.specs.Steps.CheckValues.{is_blank, value_in, strength_in, slip_in, half_in, observed_in, observations_in, row_in};
+ghost use Rattle.rtk_rinex.specs.Steps.CheckValues.{are_blanks, value_in, strength_in, slip_in, half_in, observed_in, observations_in, row_in};
 
 use crate::columns::add;
 use crate::digits::{digits, number};
@@ -84,9 +84,9 @@ fn is_table_row(row: &SatelliteRow, width: usize) -> bool
         && is_shown(row)
 }
 
-#[tactic(auto, unfolding(crate::specs::Steps::CheckValues::is_blank))]
+#[tactic(auto, unfolding(crate::specs::Steps::CheckValues::are_blanks))]
 fn contains_only_blanks(text: &[u8]) -> bool
-    ensures { result ≡ is_blank text.now }
+    ensures { result ≡ are_blanks text.now }
 {
     for byte in text {
         if *byte != b' ' {

@@ -8,12 +8,12 @@ use Rattle.rtk_rinex.specs.Steps.Digits.{digits_from, number_in}
 use Rattle.rtk_rinex.specs.declared.epoch_table.Observed.{Observed}
 use Rattle.rtk_rinex.specs.declared.epoch_table.SatelliteRow.{SatelliteRow}
 
-unfoldable pub is_blank : List ℕ → Bool
-is_blank = list_all (λ x. x == 32)
+unfoldable pub are_blanks : List ℕ → Bool
+are_blanks = list_all (λ x. x == 32)
 
 -- the value that 14 columns show; no value if they are blank
 abbrev pub value_in : List ℕ → Option ℤ
-value_in field = if is_blank field then None else Some (number_in field)
+value_in field = if are_blanks field then None else Some (number_in field)
 
 -- F14.3 of a value, or 14 blanks without a value
 abbrev pub value_text : Option ℤ → List ℕ
