@@ -1,5 +1,9 @@
 //! Message 1006: the antenna reference point of a station with the height of its antenna.
 
+ghost use Rattle.rtk_message.specs.Arp1006.{table};
+ghost use Rattle.rtk_message.specs.Fields.{FieldsFit};
+ghost use Rattle.std.specs.Prelude.{IsTrue, ◌↔◌};
+
 use crate::arp1005::{Arp1005, next_reference_point};
 use crate::fault::DecodeFault;
 use crate::field::{next_word, put_u};
@@ -56,12 +60,20 @@ impl Layout for Arp1006 {
     }
 
     fn fits(&self) -> bool {
-        // By value, so that the range of the height is known.
         let message = *self;
-        message.arp.fits()
+        message.fields_fit()
     }
 
     ghost accepted = { is_accepted };
 
     ghost unique = { is_unique };
+}
+
+impl Arp1006 {
+    // By value, so that the range of the height is known.
+    fn fields_fit(self) -> bool
+        ensures { IsTrue result ↔ FieldsFit (table self) }
+    {
+        self.arp.fits()
+    }
 }
