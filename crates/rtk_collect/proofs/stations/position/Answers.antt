@@ -9,5 +9,5 @@ position_of-requires c =
     let m = c.in-Some.message in
     (fit-left (table m.arp) (u 16 m.height ∷ []) (c.requires.fits_1006 m c.in-Some.is)).0
 
-pub position_of-requires-2 : goal.position_of-requires-2
-position_of-requires-2 c = c.requires.fits_1005 c.in-Some-arp1005.arp c.in-Some-arp1005.is
+pub position_of-requires-in-Some-arp1005 : goal.position_of-requires-in-Some-arp1005
+position_of-requires-in-Some-arp1005 c = c.requires.fits_1005 c.in-Some-arp1005.arp c.in-Some-arp1005.is
