@@ -4,7 +4,7 @@ use Rattle.std.specs.Prelude.{bit_xor}
 use Rattle.std.proofs.lemmas.Nat.{xor_of_8}
 use Rattle.std.proofs.lemmas.Bool.Decides.{nat_tests}
 use Rattle.rtk_bits.specs.Bits.{bits_of, bits}
-use Rattle.rtk_bits.proofs.BitsLemmas.{length-bits_of}
+use Rattle.rtk_bits.proofs.PublicLaws.{length-bits_of}
 use Rattle.rtk_frame.specs.Checksum.{zeros, flip, generator, divide, remainder}
 use Rattle.rtk_frame.specs.declared.checksum_tables.TheConstants.{TABLE0, TABLE1, TABLE2, TABLE3, TABLE4, TABLE5, TABLE6, TABLE7}
 use Rattle.rtk_frame.proofs.Division.{length_zeros, length_flip, flip_flip, flip_bits, flip_halves, flip_none, flip_onto, bits_cat, divide_add, byte_step}
