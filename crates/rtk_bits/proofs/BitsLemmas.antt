@@ -1,5 +1,5 @@
--- Laws on the bits of bytes and of numbers, which other crates may use: lengths, joined bytes, a
--- number split in two, a byte as eight bits.
+-- Laws on the bits of bytes and of numbers: lengths, joined bytes, a number split in two, a byte as
+-- eight bits.
 use Rattle.std.proofs.Common.{◌≡◌, ℕ, zero, suc, ◌+◌, ◌*◌, ◌/◌, ◌%◌, ◌^◌, ◌≤◌, ◌<◌, Bool, false, List, [], ◌∷◌, ◌++◌, length, take, drop, replicate, refl, sym, ap, ◌∙◌, append_assoc, arith, length-append}
 use Rattle.std.specs.Int.{bit_at}
 use Rattle.std.proofs.lemmas.List.{append-nil, take-append-drop, length-take, drop_at, drop-drop}

@@ -1,5 +1,4 @@
--- Laws on lists of bits and their unsigned numbers, which other crates may use: each is made from
--- the other.
+-- Laws on lists of bits and their unsigned numbers: each is made from the other.
 use Rattle.std.proofs.Common.{◌≡◌, ℕ, zero, suc, ◌+◌, ◌-◌, ◌*◌, ◌/◌, ◌%◌, ◌^◌, ◌<◌, ◌≤◌, Bool, true, false, List, [], ◌∷◌, ◌++◌, length, take, drop, refl, sym, ap, subst, ◌∙◌, arith, length-append}
 use Rattle.std.specs.Prelude.{◌==◌}
 use Rattle.std.specs.Int.{bit_at}
@@ -52,13 +51,13 @@ pub unsigned-field : (xs : List Bool) (s w : ℕ) → s + w ≤ length xs → un
 unsigned-field xs s w h =
     let before = take s xs in
     let field = take w (drop s xs) in
-    let behind = drop w (drop s xs) in
+    let after = drop w (drop s xs) in
     let len_field : length field ≡ w = omega (arith, length-take w (drop s xs), length-drop s xs) in
-    let len_behind : length behind ≡ length xs - (s + w) = omega (arith, length-drop w (drop s xs), length-drop s xs) in
-    let whole : xs ≡ before ++ (field ++ behind) = sym (ap (λ (t : List Bool). before ++ t) (take-append-drop w (drop s xs)) ∙ take-append-drop s xs) in
-    let parts : unsigned (before ++ (field ++ behind)) ≡ (unsigned before * 2 ^ length field + unsigned field) * 2 ^ length behind + unsigned behind =
-    rw (unsigned-append before (field ++ behind), unsigned-append field behind, length-append field behind, pow-add 2 (length field) (length behind)) (omega arith) in
-    let high : unsigned xs / 2 ^ length behind ≡ unsigned before * 2 ^ length field + unsigned field =
-    rw (ap unsigned whole, parts) (shr_high (unsigned before * 2 ^ length field + unsigned field) (length behind) (unsigned behind) (unsigned_lt behind)) in
+    let len_after : length after ≡ length xs - (s + w) = omega (arith, length-drop w (drop s xs), length-drop s xs) in
+    let whole : xs ≡ before ++ (field ++ after) = sym (ap (λ (t : List Bool). before ++ t) (take-append-drop w (drop s xs)) ∙ take-append-drop s xs) in
+    let parts : unsigned (before ++ (field ++ after)) ≡ (unsigned before * 2 ^ length field + unsigned field) * 2 ^ length after + unsigned after =
+    rw (unsigned-append before (field ++ after), unsigned-append field after, length-append field after, pow-add 2 (length field) (length after)) (omega arith) in
+    let high : unsigned xs / 2 ^ length after ≡ unsigned before * 2 ^ length field + unsigned field =
+    rw (ap unsigned whole, parts) (shr_high (unsigned before * 2 ^ length field + unsigned field) (length after) (unsigned after) (unsigned_lt after)) in
     let low : (unsigned before * 2 ^ length field + unsigned field) % 2 ^ length field ≡ unsigned field = mod_low (unsigned before) (length field) (unsigned field) (unsigned_lt field) in
-    sym (subst (λ (k : ℕ). unsigned xs / 2 ^ k % 2 ^ w ≡ unsigned field) len_behind (subst (λ (k : ℕ). unsigned xs / 2 ^ length behind % 2 ^ k ≡ unsigned field) len_field (rw high low)))
+    sym (subst (λ (k : ℕ). unsigned xs / 2 ^ k % 2 ^ w ≡ unsigned field) len_after (subst (λ (k : ℕ). unsigned xs / 2 ^ length after % 2 ^ k ≡ unsigned field) len_field (rw high low)))

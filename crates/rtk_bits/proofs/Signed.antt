@@ -1,5 +1,4 @@
--- Laws on lists of bits and their two's complement numbers, which other crates may use: each is
--- made from the other.
+-- Laws on lists of bits and their two's complement numbers: each is made from the other.
 use Rattle.std.proofs.Common.{◌≡◌, ℕ, suc, ◌+◌, ◌-◌, ◌*◌, ◌^◌, ◌<◌, ◌≤◌, pos, negsuc, ◌-ℤ◌, Bool, true, false, List, [], ◌∷◌, length, refl, arith}
 use Rattle.std.proofs.lemmas.Int.{ints}
 use Rattle.rtk_bits.specs.Bits.{unsigned, signed, signed_bits_of, FitsSigned}

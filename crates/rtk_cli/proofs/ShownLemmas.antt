@@ -6,7 +6,7 @@ use Rattle.std.proofs.Math.Seq.{take-append_seam}
 use Rattle.rtk_frame.specs.Frame.{payload_of, IsFrameAt}
 use Rattle.rtk_frame.specs.Frames.{Frame, end_of, frames, IsFramesFrom}
 use Rattle.rtk_frame.specs.Stream.{with_more, TakesPart}
-use Rattle.rtk_frame.proofs.StreamLemmas.{with_more-nil, with_more-with_more}
+use Rattle.rtk_frame.proofs.PublicLaws.{with_more-nil, with_more-with_more}
 use Rattle.rtk_cli.specs.Shown.{IsLineOf, AreLinesOf, Shows, ShowsPart}
 
 -- nothing was taken

@@ -18,7 +18,7 @@ use Rattle.rtk_collect.specs.Collector.{CollectorView, RepresentsArrivals}
 use Rattle.rtk_collect.specs.Offered.{AnswersArrival}
 use Rattle.rtk_collect.specs.Position.{IsPosition, IsPositionOf}
 use Rattle.rtk_frame.specs.Stream.{with_more, TakesPart, count_after}
-use Rattle.rtk_frame.proofs.StreamLemmas.{with_more-nil}
+use Rattle.rtk_frame.proofs.PublicLaws.{with_more-nil}
 use Rattle.rtk_rinex.specs.Header.{PositionView, position_view}
 use Rattle.rtk_convert.specs.declared.frame_class.FrameClass.TheVariants.{OtherMessage, Refused, Foreign, Dated}
 use Rattle.rtk_convert.specs.declared.counts.Counts.{Counts}

@@ -4,7 +4,7 @@ use Rattle.std.proofs.lemmas.Bool.{cases_Bool}
 use Rattle.std.proofs.lemmas.List.{length-replicate}
 use Rattle.std.specs.Prelude.{slice_get, if◌then◌else◌}
 use Rattle.rtk_frame.specs.Stream.{with_more}
-use Rattle.rtk_frame.proofs.StreamLemmas.{with_more-nil}
+use Rattle.rtk_frame.proofs.PublicLaws.{with_more-nil}
 use Rattle.rtk_convert.specs.declared.fault.ConvertFault.{ConvertFault}
 use Rattle.rtk_convert.specs.declared.fault.ConvertFault.TheVariants.{NoLink, LinkClosed}
 use Rattle.rtk_convert.specs.declared.link.Link.{Link}

@@ -5,8 +5,7 @@ use Rattle.std.specs.Prelude.{slice_get, Decides}
 use Rattle.rtk_frame.specs.Frames.{Frame, final_frames, frames, payloads, pending}
 use Rattle.rtk_frame.specs.Frames as spec
 use Rattle.rtk_frame.specs.ScannerView.{scanner_view}
-use Rattle.rtk_frame.proofs.FirstFrame.{final_payloads_cut, payloads_cut}
-use Rattle.rtk_frame.proofs.Pieces.{pending_cut}
+use Rattle.rtk_frame.proofs.PublicLaws.{final_payloads_cut, payloads_cut, pending_cut}
 use Rattle.rtk_convert.specs.Converter.{ConverterView, RepresentsLink, RepresentLinks, RepresentsHistory, BreaksOffAt, FeedsPiece, FeedsPieceInPart, ClosesLink, ClosesLinkInPart, link_refusal, refusal}
 use Rattle.rtk_convert.specs.FrameClass.{Found}
 use Rattle.rtk_convert.specs.Steps.LinkFrames.{AddsFrames, AddsFramesInPart}

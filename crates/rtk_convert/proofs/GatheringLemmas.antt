@@ -15,8 +15,7 @@ use Rattle.rtk_frame.specs.Scanner.{FedAnswer, RestAnswer}
 use Rattle.rtk_frame.specs.ScannerView.{ScannerView}
 use Rattle.rtk_frame.specs.Stream.{with_more}
 use Rattle.rtk_frame.specs.declared.scanner.Answer.TheVariants.{Found, Hungry}
-use Rattle.rtk_frame.proofs.FirstFrame.{after_found, first_payloads}
-use Rattle.rtk_frame.proofs.StreamLemmas.{with_more-with_more}
+use Rattle.rtk_frame.proofs.PublicLaws.{after_found, first_payloads, with_more-with_more}
 use Rattle.rtk_convert.specs.Converter.{WritesInto}
 use Rattle.rtk_convert.specs.FileOfArrivals.{file_so_far}
 use Rattle.rtk_convert.specs.FrameClass.{IsEpochOf, IsDatedMessage, IsClassOfReading, IsClassOfPayload, Found as FoundFrame, arrivals}

@@ -4,7 +4,7 @@ use Rattle.std.specs.Prelude.{slice_index_or, slice_get, sum_by, IfErr}
 use Rattle.std.proofs.lemmas.Bool.{cases_eq, cases_lt}
 use Rattle.std.proofs.lemmas.List.{get_or_default, length-take-le}
 use Rattle.rtk_frame.specs.Stream.{greatest_count, with_more, ReadsOne}
-use Rattle.rtk_frame.proofs.StreamLemmas.{with_more-nil, with_more-with_more, sum_calls-at_most, sum_calls-one}
+use Rattle.rtk_frame.proofs.PublicLaws.{with_more-nil, with_more-with_more, sum_calls-at_most, sum_calls-one}
 use Rattle.rtk_convert.specs.declared.fault.ConvertFault.{ConvertFault}
 use Rattle.rtk_convert.specs.declared.fault.ConvertFault.TheVariants.{Setup, NoLink, LinkClosed, OutOfMemory, Write, Read as ReadFault, Endless, Stopped}
 use Rattle.rtk_convert.specs.declared.link.Link.{Link}

@@ -4,7 +4,7 @@ use Rattle.std.specs.Prelude.{slice_index_or}
 use Rattle.std.proofs.lemmas.Bool.{cases_lt}
 use Rattle.std.proofs.lemmas.List.{append_assoc, length-replicate}
 use Rattle.rtk_frame.specs.Stream.{with_more, CountRises}
-use Rattle.rtk_frame.proofs.StreamLemmas.{with_more-nil, with_more-with_more}
+use Rattle.rtk_frame.proofs.PublicLaws.{with_more-nil, with_more-with_more}
 use Rattle.rtk_convert.specs.Converter.{IsLinkCount, ConverterView, WritesInto, IsAfterClosingAll, FinishesConverterAs, BreaksOffClosing, BreaksOffFinishing}
 use Rattle.rtk_convert.specs.declared.counts.Counts.{Counts}
 use Rattle.rtk_convert.specs.declared.fault.ConvertFault.{ConvertFault}

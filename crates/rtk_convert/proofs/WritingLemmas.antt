@@ -3,7 +3,7 @@ use Rattle.std.proofs.Common.{◌≡◌, ℕ, List, [], ◌++◌, take, drop, Op
 use Rattle.std.specs.Prelude.{OnOk, OnErr, IfOk, IfErr}
 use Rattle.std.proofs.lemmas.List.{append-nil, take-append-drop}
 use Rattle.rtk_frame.specs.Stream.{with_more, TakesPart}
-use Rattle.rtk_frame.proofs.StreamLemmas.{with_more-nil, with_more-with_more}
+use Rattle.rtk_frame.proofs.PublicLaws.{with_more-nil, with_more-with_more}
 use Rattle.rtk_convert.specs.Writing.{WritesRest}
 use Rattle.rtk_convert.specs.Steps.WritingInPart.{WritesPartOfRest}
 

@@ -6,7 +6,7 @@ use Rattle.std.proofs.lemmas.Nat.Bits.{bit_at_xor, bit_at-lt, bit_at_cat_high}
 use Rattle.std.proofs.lemmas.Bool.Decides.{nat_tests}
 use Rattle.std.proofs.lemmas.Nat.{xor_comm}
 use Rattle.rtk_bits.specs.Bits.{bits_of}
-use Rattle.rtk_bits.proofs.BitsLemmas.{length-bits_of, bits_of-above}
+use Rattle.rtk_bits.proofs.PublicLaws.{length-bits_of, bits_of-above}
 use Rattle.rtk_frame.specs.Checksum.{zeros, flip, generator, divide}
 
 pub length_zeros : (n : ℕ) → length (zeros n) ≡ n

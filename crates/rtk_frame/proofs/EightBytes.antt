@@ -4,7 +4,7 @@ use Rattle.std.specs.Prelude.{bit_xor}
 use Rattle.std.proofs.lemmas.Nat.{xor_of_8}
 use Rattle.std.proofs.lemmas.Bool.Decides.{nat_tests}
 use Rattle.rtk_bits.specs.Bits.{bits_of, bits}
-use Rattle.rtk_bits.proofs.BitsLemmas.{length-bits_of}
+use Rattle.rtk_bits.proofs.PublicLaws.{length-bits_of}
 use Rattle.rtk_frame.specs.Checksum.{zeros, flip, generator, divide}
 use Rattle.rtk_frame.specs.Steps.Remainder.{remainder}
 use Rattle.rtk_frame.specs.declared.checksum_tables.TheConstants.{TABLE0, TABLE1, TABLE2, TABLE3, TABLE4, TABLE5, TABLE6, TABLE7}

@@ -85,12 +85,12 @@ FinalsOf b s = (k p : ℕ) → s ≡ drop p b → k ≤ length s → AreThose (F
 outside : (g f : Frame) (fs : List Frame) (b : List ℕ) (n : ℕ) → end_of g ≡ n → FinalFrom b (g ∷ fs) g.place f → FinalFrom b fs n f
 outside g f fs b n e h q l m w = h q (omega arith) m ((inr (omega arith), w.0), w.1)
 
-behind_by : (g f : Frame) (fs : List Frame) (b : List ℕ) (n q : ℕ) → end_of g ≡ n → FinalFrom b fs n f → g.place ≤ q → q < f.place → (q < g.place) ⊎ (end_of g ≤ q) → IsFree fs q → IsPartialFrameAt b q → ⊥
-behind_by g f fs b n q e h l m (inl i) free s = absurd (omega arith)
-behind_by g f fs b n q e h l m (inr i) free s = h q (omega arith) m (free, s)
+after_by : (g f : Frame) (fs : List Frame) (b : List ℕ) (n q : ℕ) → end_of g ≡ n → FinalFrom b fs n f → g.place ≤ q → q < f.place → (q < g.place) ⊎ (end_of g ≤ q) → IsFree fs q → IsPartialFrameAt b q → ⊥
+after_by g f fs b n q e h l m (inl i) free s = absurd (omega arith)
+after_by g f fs b n q e h l m (inr i) free s = h q (omega arith) m (free, s)
 
-behind : (g f : Frame) (fs : List Frame) (b : List ℕ) (n : ℕ) → end_of g ≡ n → FinalFrom b fs n f → FinalFrom b (g ∷ fs) g.place f
-behind g f fs b n e h q l m w = behind_by g f fs b n q e h l m w.0.0 w.0.1 w.1
+after : (g f : Frame) (fs : List Frame) (b : List ℕ) (n : ℕ) → end_of g ≡ n → FinalFrom b fs n f → FinalFrom b (g ∷ fs) g.place f
+after g f fs b n e h q l m w = after_by g f fs b n q e h l m w.0.0 w.0.1 w.1
 
 end_here : (x : ℕ) (xs : List ℕ) (p : ℕ) → begins_frame (x ∷ xs) ≡ true → end_of (frame_at p (x ∷ xs)) ≡ p + 1 + (payload_length (x ∷ xs) + 5)
 end_here x xs p b =
@@ -107,7 +107,7 @@ finals_here b x xs p true o t g e rest =
     let end : end_of f ≡ p + 1 + n = end_here x xs p t in
     let inner : AreThose (FinalFrom b fs (p + 1 + n)) fs gs = rest n (p + 1) (tail_of x xs b p e) (omega (arith, frame_is_whole (x ∷ xs) t)) in
     let outer : AreThose (FinalFrom b (f ∷ fs) p) fs gs =
-    those_same (FinalFrom b fs (p + 1 + n)) (FinalFrom b (f ∷ fs) p) fs gs (λ g h. behind f g fs b (p + 1 + n) end h) (λ g h. outside f g fs b (p + 1 + n) end h) inner in
+    those_same (FinalFrom b fs (p + 1 + n)) (FinalFrom b (f ∷ fs) p) fs gs (λ g h. after f g fs b (p + 1 + n) end h) (λ g h. outside f g fs b (p + 1 + n) end h) inner in
     let all : AreThose (FinalFrom b (f ∷ fs) p) (f ∷ fs) (f ∷ gs) = inl (gs, λ q l m w. absurd (omega arith), refl, outer) in
     rw (frames_frame x xs p t, final_frame x xs p t) all
 finals_here b x xs p false true t g e rest =
@@ -150,14 +150,14 @@ final_unique b gs h = those_unique (λ f. (q : ℕ) → q < f.place → Waits b 
 abbrev pub PendingFrom : List ℕ → List Frame → ℕ → List ℕ → Type 0
 PendingFrom b fs n s = (((q : ℕ) → n ≤ q → Waits b fs q → ⊥) × (s ≡ [])) ⊎ ((q : ℕ) × (n ≤ q) × Waits b fs q × ((r : ℕ) → n ≤ r → r < q → Waits b fs r → ⊥) × (s ≡ drop q b))
 
-pending_behind_by : (f : Frame) (fs : List Frame) (b : List ℕ) (n q : ℕ) → end_of f ≡ n → f.place ≤ q → (q < f.place) ⊎ (end_of f ≤ q) → n ≤ q
-pending_behind_by f fs b n q e l (inl i) = absurd (omega arith)
-pending_behind_by f fs b n q e l (inr i) = omega arith
+pending_after_by : (f : Frame) (fs : List Frame) (b : List ℕ) (n q : ℕ) → end_of f ≡ n → f.place ≤ q → (q < f.place) ⊎ (end_of f ≤ q) → n ≤ q
+pending_after_by f fs b n q e l (inl i) = absurd (omega arith)
+pending_after_by f fs b n q e l (inr i) = omega arith
 
-pending_behind : (f : Frame) (fs : List Frame) (b s : List ℕ) (n : ℕ) → end_of f ≡ n → PendingFrom b fs n s → PendingFrom b (f ∷ fs) f.place s
-pending_behind f fs b s n e (inl h) = inl (λ q l w. h.0 q (pending_behind_by f fs b n q e l w.0.0) (w.0.1, w.1), h.1)
-pending_behind f fs b s n e (inr h) =
-    inr (h.0, omega (arith, h.1), ((inr (omega (arith, h.1)), h.2.0), h.2.1), λ r l m w. h.3 r (pending_behind_by f fs b n r e l w.0.0) m (w.0.1, w.1), h.4)
+pending_after : (f : Frame) (fs : List Frame) (b s : List ℕ) (n : ℕ) → end_of f ≡ n → PendingFrom b fs n s → PendingFrom b (f ∷ fs) f.place s
+pending_after f fs b s n e (inl h) = inl (λ q l w. h.0 q (pending_after_by f fs b n q e l w.0.0) (w.0.1, w.1), h.1)
+pending_after f fs b s n e (inr h) =
+    inr (h.0, omega (arith, h.1), ((inr (omega (arith, h.1)), h.2.0), h.2.1), λ r l m w. h.3 r (pending_after_by f fs b n r e l w.0.0) m (w.0.1, w.1), h.4)
 
 pending_earlier : (fs : List Frame) (b s : List ℕ) (p : ℕ) → begins_partial (drop p b) ≡ false → PendingFrom b fs (p + 1) s → PendingFrom b fs p s
 pending_earlier fs b s p not (inl h) = inl (λ q l w. h.0 q (here_or_later b p q not w.1 l) w, h.1)
@@ -173,7 +173,7 @@ pending_here b x xs p true o t g e rest =
     let f : Frame = frame_at p (x ∷ xs) in
     let fs : List Frame = frames_from n (p + 1) xs in
     let inner : PendingFrom b fs (p + 1 + n) (pending_from n xs) = rest n (p + 1) (tail_of x xs b p e) (omega (arith, frame_is_whole (x ∷ xs) t)) in
-    rw (frames_frame x xs p t, pending_frame x xs p t) (pending_behind f fs b (pending_from n xs) (p + 1 + n) (end_here x xs p t) inner)
+    rw (frames_frame x xs p t, pending_frame x xs p t) (pending_after f fs b (pending_from n xs) (p + 1 + n) (end_here x xs p t) inner)
 pending_here b x xs p false true t g e rest =
     let fs : List Frame = frames_from 0 (p + 1) xs in
     let waits : IsPartialFrameAt b p = sym (ap begins_partial e) ∙ g in

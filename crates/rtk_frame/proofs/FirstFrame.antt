@@ -34,19 +34,19 @@ end_here x xs p f b same =
     let e : end_of (frame_at p s) ≡ p + suc (payload_length s + 5) = omega arith in ap end_of (sym same) ∙ e
 
 -- what follows it, by its end
-behind_here : (x : ℕ) (xs : List ℕ) (p n e : ℕ) → e ≡ p + suc n → drop n xs ≡ drop (e - p) (x ∷ xs)
-behind_here x xs p n e h = let k : suc n ≡ e - p = omega arith in ap (λ j. drop j (x ∷ xs)) k
+after_here : (x : ℕ) (xs : List ℕ) (p n e : ℕ) → e ≡ p + suc n → drop n xs ≡ drop (e - p) (x ∷ xs)
+after_here x xs p n e h = let k : suc n ≡ e - p = omega arith in ap (λ j. drop j (x ∷ xs)) k
 
-behind_next : (x : ℕ) (xs : List ℕ) (p e : ℕ) → p + 1 ≤ e → drop (e - (p + 1)) xs ≡ drop (e - p) (x ∷ xs)
-behind_next x xs p e h = let k : suc (e - (p + 1)) ≡ e - p = omega arith in ap (λ j. drop j (x ∷ xs)) k
+after_next : (x : ℕ) (xs : List ℕ) (p e : ℕ) → p + 1 ≤ e → drop (e - (p + 1)) xs ≡ drop (e - p) (x ∷ xs)
+after_next x xs p e h = let k : suc (e - (p + 1)) ≡ e - p = omega arith in ap (λ j. drop j (x ∷ xs)) k
 
 -- ---- all frames
-FramesBehind : List ℕ → ℕ → Type 0
-FramesBehind t p = (f : Frame) (others : List Frame) → frames_from 0 p t ≡ f ∷ others → (p ≤ f.place) × (others ≡ frames_from 0 (end_of f) (drop (end_of f - p) t))
+FramesAfter : List ℕ → ℕ → Type 0
+FramesAfter t p = (f : Frame) (others : List Frame) → frames_from 0 p t ≡ f ∷ others → (p ≤ f.place) × (others ≡ frames_from 0 (end_of f) (drop (end_of f - p) t))
 
-frames_behind_here : (x : ℕ) (xs : List ℕ) (p : ℕ) (t : Bool) → begins_frame (x ∷ xs) ≡ t → FramesBehind xs (p + 1) → FramesBehind (x ∷ xs) p
-unfolding FramesBehind
-frames_behind_here x xs p true b rest f others e =
+frames_after_here : (x : ℕ) (xs : List ℕ) (p : ℕ) (t : Bool) → begins_frame (x ∷ xs) ≡ t → FramesAfter xs (p + 1) → FramesAfter (x ∷ xs) p
+unfolding FramesAfter
+frames_after_here x xs p true b rest f others e =
     let n : ℕ = payload_length (x ∷ xs) + 5 in
     let both : frame_at p (x ∷ xs) ∷ frames_from n (p + 1) xs ≡ f ∷ others = sym (frames_frame x xs p b) ∙ e in
     let same : frame_at p (x ∷ xs) ≡ f = cc in
@@ -55,31 +55,31 @@ frames_behind_here x xs p true b rest f others e =
     let place : p + 1 + n ≡ end_of f = omega arith in (
       omega (arith, ap (λ (g : Frame). g.place) same),
       sym left ∙ frames_skip n (p + 1) xs (omega (arith, frame_is_whole (x ∷ xs) b)) ∙ ap (λ k. frames_from 0 k (drop n xs)) place
-          ∙ ap (frames_from 0 (end_of f)) (behind_here x xs p n (end_of f) end),
+          ∙ ap (frames_from 0 (end_of f)) (after_here x xs p n (end_of f) end),
     )
-frames_behind_here x xs p false b rest f others e =
+frames_after_here x xs p false b rest f others e =
     let r = rest f others (sym (frames_not x xs p b) ∙ e) in
-    (omega (arith, r.0), r.1 ∙ ap (frames_from 0 (end_of f)) (behind_next x xs p (end_of f) (omega (arith, r.0))))
+    (omega (arith, r.0), r.1 ∙ ap (frames_from 0 (end_of f)) (after_next x xs p (end_of f) (omega (arith, r.0))))
 
-frames_behind_from : (t : List ℕ) (p : ℕ) → FramesBehind t p
-unfolding FramesBehind frames_from
-frames_behind_from [] p f others e = absurd (cc)
-frames_behind_from (x ∷ xs) p f others e = frames_behind_here x xs p (begins_frame (x ∷ xs)) refl (frames_behind_from xs (p + 1)) f others e
+frames_after_from : (t : List ℕ) (p : ℕ) → FramesAfter t p
+unfolding FramesAfter frames_from
+frames_after_from [] p f others e = absurd (cc)
+frames_after_from (x ∷ xs) p f others e = frames_after_here x xs p (begins_frame (x ∷ xs)) refl (frames_after_from xs (p + 1)) f others e
 
-pub frames_behind : (b : List ℕ) (f : Frame) (others : List Frame) → frames b ≡ f ∷ others → others ≡ map (later (end_of f)) (frames (drop (end_of f) b))
-unfolding FramesBehind
-frames_behind b f others e =
+pub frames_after : (b : List ℕ) (f : Frame) (others : List Frame) → frames b ≡ f ∷ others → others ≡ map (later (end_of f)) (frames (drop (end_of f) b))
+unfolding FramesAfter
+frames_after b f others e =
     let z : end_of f - 0 ≡ end_of f = omega arith in
-    (frames_behind_from b 0 f others e).1 ∙ ap (λ n. frames_from 0 (end_of f) (drop n b)) z
+    (frames_after_from b 0 f others e).1 ∙ ap (λ n. frames_from 0 (end_of f) (drop n b)) z
     ∙ ap (λ n. frames_from 0 n (drop (end_of f) b)) (sym (add-zero (end_of f))) ∙ frames_later (drop (end_of f) b) 0 0 (end_of f)
 
 -- ---- the final ones, and the pending bytes
-FinalBehind : List ℕ → ℕ → Type 0
-FinalBehind t p = (f : Frame) (others : List Frame) → final_from 0 p t ≡ f ∷ others → (p ≤ f.place) × (others ≡ final_from 0 (end_of f) (drop (end_of f - p) t)) × (pending_from 0 t ≡ pending_from 0 (drop (end_of f - p) t))
+FinalAfter : List ℕ → ℕ → Type 0
+FinalAfter t p = (f : Frame) (others : List Frame) → final_from 0 p t ≡ f ∷ others → (p ≤ f.place) × (others ≡ final_from 0 (end_of f) (drop (end_of f - p) t)) × (pending_from 0 t ≡ pending_from 0 (drop (end_of f - p) t))
 
-final_behind_here : (x : ℕ) (xs : List ℕ) (p : ℕ) (t o : Bool) → begins_frame (x ∷ xs) ≡ t → begins_partial (x ∷ xs) ≡ o → FinalBehind xs (p + 1) → FinalBehind (x ∷ xs) p
-unfolding FinalBehind
-final_behind_here x xs p true o b g rest f others e =
+final_after_here : (x : ℕ) (xs : List ℕ) (p : ℕ) (t o : Bool) → begins_frame (x ∷ xs) ≡ t → begins_partial (x ∷ xs) ≡ o → FinalAfter xs (p + 1) → FinalAfter (x ∷ xs) p
+unfolding FinalAfter
+final_after_here x xs p true o b g rest f others e =
     let n : ℕ = payload_length (x ∷ xs) + 5 in
     let both : frame_at p (x ∷ xs) ∷ final_from n (p + 1) xs ≡ f ∷ others = sym (final_frame x xs p b) ∙ e in
     let same : frame_at p (x ∷ xs) ≡ f = cc in
@@ -87,29 +87,29 @@ final_behind_here x xs p true o b g rest f others e =
     let end : end_of f ≡ p + suc n = end_here x xs p f b same in
     let place : p + 1 + n ≡ end_of f = omega arith in
     let within : n ≤ length xs = omega (arith, frame_is_whole (x ∷ xs) b) in
-    let text : drop n xs ≡ drop (end_of f - p) (x ∷ xs) = behind_here x xs p n (end_of f) end in (
+    let text : drop n xs ≡ drop (end_of f - p) (x ∷ xs) = after_here x xs p n (end_of f) end in (
       omega (arith, ap (λ (g : Frame). g.place) same),
       sym left ∙ final_skip n (p + 1) xs within ∙ ap (λ k. final_from 0 k (drop n xs)) place ∙ ap (final_from 0 (end_of f)) text,
       pending_frame x xs p b ∙ pending_skip n xs within ∙ ap (pending_from 0) text,
     )
-final_behind_here x xs p false true b g rest f others e =
+final_after_here x xs p false true b g rest f others e =
     let none : [] ≡ f ∷ others = sym (final_partial x xs p b g) ∙ e in absurd (cc)
-final_behind_here x xs p false false b g rest f others e =
+final_after_here x xs p false false b g rest f others e =
     let r = rest f others (sym (final_not x xs p b g) ∙ e) in
-    let text = behind_next x xs p (end_of f) (omega (arith, r.0)) in
+    let text = after_next x xs p (end_of f) (omega (arith, r.0)) in
     (omega (arith, r.0), r.1 ∙ ap (final_from 0 (end_of f)) text, pending_not x xs p b g ∙ r.2 ∙ ap (pending_from 0) text)
 
-final_behind_from : (t : List ℕ) (p : ℕ) → FinalBehind t p
-unfolding FinalBehind final_from
-final_behind_from [] p f others e = absurd (cc)
-final_behind_from (x ∷ xs) p f others e =
-    final_behind_here x xs p (begins_frame (x ∷ xs)) (begins_partial (x ∷ xs)) refl refl (final_behind_from xs (p + 1)) f others e
+final_after_from : (t : List ℕ) (p : ℕ) → FinalAfter t p
+unfolding FinalAfter final_from
+final_after_from [] p f others e = absurd (cc)
+final_after_from (x ∷ xs) p f others e =
+    final_after_here x xs p (begins_frame (x ∷ xs)) (begins_partial (x ∷ xs)) refl refl (final_after_from xs (p + 1)) f others e
 
-pub final_behind : (b : List ℕ) (f : Frame) (others : List Frame) → final_frames b ≡ f ∷ others → (others ≡ map (later (end_of f)) (final_frames (drop (end_of f) b))) × (pending b ≡ pending (drop (end_of f) b))
-unfolding FinalBehind
-final_behind b f others e =
+pub final_after : (b : List ℕ) (f : Frame) (others : List Frame) → final_frames b ≡ f ∷ others → (others ≡ map (later (end_of f)) (final_frames (drop (end_of f) b))) × (pending b ≡ pending (drop (end_of f) b))
+unfolding FinalAfter
+final_after b f others e =
     let z : end_of f - 0 ≡ end_of f = omega arith in
-    let r = final_behind_from b 0 f others e in (
+    let r = final_after_from b 0 f others e in (
       r.1 ∙ ap (λ n. final_from 0 (end_of f) (drop n b)) z
           ∙ ap (λ n. final_from 0 n (drop (end_of f) b)) (sym (add-zero (end_of f))) ∙ final_later (drop (end_of f) b) 0 0 (end_of f),
       r.2 ∙ ap (λ n. pending_from 0 (drop n b)) z,
@@ -132,13 +132,13 @@ payloads_cut b = payloads_of_cut (frames b) (final_frames b) (frames (pending b)
 -- the payloads of the text from the first frame on
 pub first_payloads : (b payload rest : List ℕ) → IsFirst (frames b) b payload rest → payloads (frames b) ≡ payload ∷ payloads (frames rest)
 first_payloads b payload rest h =
-    let others = frames_behind b h.0 h.1 h.2 in
+    let others = frames_after b h.0 h.1 h.2 in
     ap payloads h.2 ∙ ap (λ z. z ∷ payloads h.1) h.3 ∙ ap (λ z. payload ∷ payloads z) others
     ∙ ap (λ z. payload ∷ z) (payloads_later (end_of h.0) (frames (drop (end_of h.0) b)) ∙ ap (λ z. payloads (frames z)) (sym h.4))
 
 pub first_final_payloads : (b payload rest : List ℕ) → IsFirst (final_frames b) b payload rest → (payloads (final_frames b) ≡ payload ∷ payloads (final_frames rest)) × (pending b ≡ pending rest)
 first_final_payloads b payload rest h =
-    let r = final_behind b h.0 h.1 h.2 in (
+    let r = final_after b h.0 h.1 h.2 in (
       ap payloads h.2 ∙ ap (λ z. z ∷ payloads h.1) h.3 ∙ ap (λ z. payload ∷ payloads z) r.0
           ∙ ap (λ z. payload ∷ z) (payloads_later (end_of h.0) (final_frames (drop (end_of h.0) b)) ∙ ap (λ z. payloads (final_frames z)) (sym h.4)),
       r.1 ∙ ap pending (sym h.4),

@@ -1,13 +1,15 @@
+-- The facts of the public laws, which proofs of other crates cite
+pub mod PublicLaws
 mod ByteTable
 mod Division
 mod EightBytes
 mod FinalLaw
-pub mod FirstFrame
+mod FirstFrame
 mod FramesLaw
 mod Framed
 mod Fronts
 mod NextFrame
 mod Passing
-pub mod Pieces
+mod Pieces
 mod Remainder
-pub mod StreamLemmas
+mod StreamLemmas

@@ -3,8 +3,7 @@ use Rattle.std.proofs.Common.{◌≡◌, ℕ, zero, suc, ◌+◌, ◌*◌, ◌/�
 use Rattle.std.specs.Prelude.{bit_xor}
 use Rattle.std.proofs.lemmas.Nat.{xor_of_8}
 use Rattle.rtk_bits.specs.Bits.{bits_of, bits, unsigned}
-use Rattle.rtk_bits.proofs.BitsLemmas.{length-bits_of}
-use Rattle.rtk_bits.proofs.Numbers.{unsigned-bits_of}
+use Rattle.rtk_bits.proofs.PublicLaws.{length-bits_of, unsigned-bits_of}
 use Rattle.rtk_frame.specs.Checksum.{zeros, flip, divide, crc}
 use Rattle.rtk_frame.specs.Steps.Remainder.{remainder}
 use Rattle.rtk_frame.specs.declared.checksum_tables.TheConstants.{TABLE0 as TABLE}

@@ -1,13 +1,17 @@
 //! Laws of frames: what the frames of a text are, and that they don't depend on how it is cut into
-//! pieces.
+//! pieces; and laws of what passed through sources and sinks.
 //!
 //! Each function here does nothing. Its contract is the law, and a caller that calls it may cite
-//! it.
+//! it; proofs of other crates cite the same facts from `proofs/PublicLaws.antt`.
 
-ghost use Rattle.std.specs.Prelude.{◌≡◌, ℕ, ◌+◌, ◌-◌, ◌≤◌, List, ◌∷◌, ◌++◌, map, take, drop, length};
+ghost use Rattle.std.specs.Prelude.{◌≡◌, ℕ, ◌+◌, ◌-◌, ◌<◌, ◌≤◌, List, [], ◌∷◌, ◌++◌, map, take, drop, length, Option, Result, slice_index_or, sum_by};
 ghost use Rattle.rtk_frame.specs.Frame.{IsFrameAt, payload_of, framed};
 ghost use Rattle.rtk_frame.specs.Frames.{Frame, end_of, payloads, IsFramesFrom, AreFinal, IsPending};
 ghost use Rattle.rtk_frame.specs.Frames.{frames, final_frames, pending, later, IsFirst};
+ghost use Rattle.rtk_frame.specs.Stream.{greatest_count, with_more, ReadsOne};
+ghost use Rattle.rtk_frame.specs.declared.stream.StreamFault.{StreamFault};
+
+use crate::stream::Source;
 
 /// The bytes that `encode_frame` writes for a payload are a frame with this payload, so
 /// `next_frame` finds it at its place.
@@ -63,7 +67,7 @@ pub fn pending_in_any_cut()
 {}
 
 /// The text after its first frame has the other frames.
-pub fn frames_behind_the_first()
+pub fn frames_after_the_first()
     ensures placed { (b : List ℕ) (f : Frame) (others : List Frame) → frames b ≡ f ∷ others
         → others ≡ map (later (end_of f)) (frames (drop (end_of f) b)) }
     ensures payloads { (b payload rest : List ℕ) → IsFirst (frames b) b payload rest
@@ -71,7 +75,7 @@ pub fn frames_behind_the_first()
 {}
 
 /// The text after its first final frame has the other final frames, and the same pending bytes.
-pub fn final_frames_behind_the_first()
+pub fn final_frames_after_the_first()
     ensures placed { (b : List ℕ) (f : Frame) (others : List Frame) → final_frames b ≡ f ∷ others
         → (others ≡ map (later (end_of f)) (final_frames (drop (end_of f) b)))
         × (pending b ≡ pending (drop (end_of f) b)) }
@@ -89,4 +93,22 @@ pub fn final_frames_after_found()
         → (payloads (final_frames (h ++ piece))
         ≡ payload ∷ payloads (final_frames (rest ++ drop used piece)))
         × (pending (h ++ piece) ≡ pending (rest ++ drop used piece)) }
+{}
+
+/// Nothing more is no change, and what passed in two parts has passed as one text.
+pub fn passed_bytes_join()
+    ensures none { (known : Option (List ℕ)) → with_more known [] ≡ known }
+    ensures parts { (known : Option (List ℕ)) (more rest : List ℕ)
+        → with_more (with_more known more) rest ≡ with_more known (more ++ rest) }
+{}
+
+/// Once one of many sources was read, the calls of all of them together rose by one at most, and by
+/// one if the count of its calls was below its greatest value.
+pub fn calls_of_one_read<R: Source>()
+    ensures at_most { (before after : List R) (link : ℕ) (result : Result ℕ StreamFault) (buf : List ℕ) (none : R)
+        → link < length before → ReadsOne R.given R.failures R.calls before after link result buf
+        → sum_by R.calls after ≤ sum_by R.calls before + 1 }
+    ensures one { (before after : List R) (link : ℕ) (result : Result ℕ StreamFault) (buf : List ℕ) (none : R)
+        → link < length before → ReadsOne R.given R.failures R.calls before after link result buf
+        → R.calls (slice_index_or before link none) < greatest_count → sum_by R.calls after ≡ sum_by R.calls before + 1 }
 {}

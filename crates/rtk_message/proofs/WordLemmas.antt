@@ -3,11 +3,10 @@ use Rattle.std.proofs.Common.{◌≡◌, ℕ, pos, negsuc, ◌-ℤ◌, suc, ◌+
 use Rattle.std.proofs.lemmas.Int.{ints, to_z_pos, to_z-of_z}
 use Rattle.std.proofs.lemmas.Nat.{and_mask, pow_pos}
 use Rattle.std.proofs.lemmas.Nat.Bits.{ones_shr}
-use Rattle.std.proofs.Math.Nat.{mod-lt}
+use Rattle.std.proofs.Math.Nat.{mod-lt, pow-succ'}
 use mir.Val.{SFits}
 use Rattle.rtk_bits.specs.Bits.{bits_of, signed_bits_of}
-use Rattle.rtk_bits.proofs.BitsLemmas.{bits_of-split, bits_of-mod}
-use Rattle.rtk_bits.proofs.Numbers.{pow_more}
+use Rattle.rtk_bits.proofs.PublicLaws.{bits_of-split, bits_of-mod}
 use Rattle.rtk_message.specs.Fields.{u}
 use Rattle.rtk_message.specs.Steps.FieldSteps.{TakesField}
 
@@ -33,7 +32,7 @@ word_field left width bits enough most =
 -- ---- two's complement
 
 half : (w : ℕ) → 1 ≤ w → 2 ^ w ≡ 2 * 2 ^ (w - 1)
-half w some = let one : suc (w - 1) ≡ w = omega arith in ap (λ (k : ℕ). 2 ^ k) (sym one) ∙ pow_more (w - 1)
+half w some = let one : suc (w - 1) ≡ w = omega arith in ap (λ (k : ℕ). 2 ^ k) (sym one) ∙ pow-succ' 2 (w - 1)
 
 -- a number whose first bit is 1, as it is computed
 pub signed_high : (w bits : ℕ) → 1 ≤ w → w ≤ 63 → 1 * 2 ^ (w - 1) % 2 ^ 64 ≤ bits → bits < 2 ^ w

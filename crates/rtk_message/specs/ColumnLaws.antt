@@ -6,7 +6,7 @@ use Rattle.std.proofs.lemmas.Nat.{ones_cat}
 use lib.Count.{ones}
 use Rattle.std.proofs.Math.Nat.{mod-eq_of_lt}
 use Rattle.rtk_bits.specs.Bits.{unsigned, bits_of}
-use Rattle.rtk_bits.proofs.Numbers.{unsigned-append, unsigned_lt, unsigned-bits_of}
+use Rattle.rtk_bits.proofs.PublicLaws.{unsigned-append, unsigned_lt, unsigned-bits_of}
 use Rattle.rtk_message.specs.Fields.{Field, bits_of_fields, FieldsFit}
 use Rattle.rtk_message.specs.FieldLaws.{SameForm, one_list, total}
 use Rattle.rtk_message.specs.FieldLaws.{bits_of_fields-append, fit-left}

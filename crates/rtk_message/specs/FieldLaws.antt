@@ -3,9 +3,9 @@ use Rattle.std.proofs.Common.{◌≡◌, ℕ, suc, ◌+◌, ◌-◌, ◌*◌, �
 use Rattle.std.proofs.lemmas.List.{take_at, drop_at}
 use Rattle.std.proofs.lemmas.Int.{ints}
 use Rattle.std.proofs.lemmas.Nat.{pow_pos}
-use Rattle.std.proofs.Math.Nat.{mod-eq_of_lt}
+use Rattle.std.proofs.Math.Nat.{mod-eq_of_lt, pow-succ'}
 use Rattle.rtk_bits.specs.Bits.{unsigned, bits_of, signed_bits_of, FitsSigned}
-use Rattle.rtk_bits.proofs.Numbers.{length-bits_of, unsigned-bits_of, pow_more}
+use Rattle.rtk_bits.proofs.PublicLaws.{length-bits_of, unsigned-bits_of}
 use Rattle.rtk_message.specs.Fields.{Field, u, i, flag, field_bits, bits_of_fields, FieldsFit}
 
 -- the bits of a field and of fields
@@ -61,7 +61,7 @@ bits_same : (w m n : ℕ) → m < 2 ^ w → n < 2 ^ w → bits_of w m ≡ bits_o
 bits_same w m n p q e = sym (mod-eq_of_lt p) ∙ sym (unsigned-bits_of w m) ∙ ap unsigned e ∙ unsigned-bits_of w n ∙ mod-eq_of_lt q
 
 half : (w : ℕ) → 1 ≤ w → 2 ^ w ≡ 2 * 2 ^ (w - 1)
-half w few = let one : suc (w - 1) ≡ w = omega arith in ap (λ (k : ℕ). 2 ^ k) (sym one) ∙ pow_more (w - 1)
+half w few = let one : suc (w - 1) ≡ w = omega arith in ap (λ (k : ℕ). 2 ^ k) (sym one) ∙ pow-succ' 2 (w - 1)
 
 ints_same : (w : ℕ) (y z : ℤ) → 1 ≤ w → FitsSigned w y → FitsSigned w z → signed_bits_of w y ≡ signed_bits_of w z → y ≡ z
 ints_same w (pos m) (pos n) few p q e = ap pos (bits_same w m n (omega (arith, ints, p.1, half w few)) (omega (arith, ints, q.1, half w few)) e)

@@ -1,7 +1,7 @@
 use Rattle.std.proofs.Common.{◌++◌, ◌∙◌, ◌≤◌, ◌+◌, List, ℕ, ap, take, length, arith, rules}
 use Rattle.std.proofs.lemmas.Grind.{common_steps}
 use Rattle.rtk_frame.specs.Stream.{with_more}
-use Rattle.rtk_frame.proofs.StreamLemmas.{with_more-with_more}
+use Rattle.rtk_frame.proofs.PublicLaws.{with_more-with_more}
 use Rattle.rtk_cli.proofs.input.read_whole.Goals as goal
 
 -- no memory for the bytes of the last read: they were read all the same

@@ -1,5 +1,5 @@
 use Rattle.std.proofs.Common.{◌≤◌, ◌-◌, length, ap, arith}
-use Rattle.rtk_bits.proofs.BitsLemmas.{length-bits_of}
+use Rattle.rtk_bits.proofs.PublicLaws.{length-bits_of}
 use Rattle.rtk_message.proofs.WordLemmas.{word_field}
 use Rattle.rtk_message.proofs.field.Word.next_u64.Goals as goal
 

@@ -1,0 +1,24 @@
+//! Laws over the definitions of bits and of numbers.
+//!
+//! Each function here does nothing. Its contract is the law, and a caller that calls it may cite
+//! it; proofs of other crates cite the same facts from `proofs/PublicLaws.antt`.
+
+ghost use Rattle.std.specs.Prelude.{◌≡◌, ℕ, ◌+◌, ◌*◌, ◌/◌, ◌%◌, ◌^◌, ◌<◌, ◌≤◌, Bool, List, ◌++◌, length};
+ghost use Rattle.rtk_bits.specs.Bits.{bits_of, unsigned};
+
+/// The bits of a number: they are as many as asked for, a multiple of a power of 2 above them
+/// changes none, and the high ones stand before the low ones.
+pub fn bits_of_a_number()
+    ensures length { (w n : ℕ) → length (bits_of w n) ≡ w }
+    ensures above { (w k a b : ℕ) → w ≤ k → bits_of w (a * 2 ^ k + b) ≡ bits_of w b }
+    ensures rest { (w n : ℕ) → bits_of w (n % 2 ^ w) ≡ bits_of w n }
+    ensures split { (a b n : ℕ) → bits_of (a + b) n ≡ bits_of a (n / 2 ^ b) ++ bits_of b n }
+{}
+
+/// The number of a list of bits: it is below the power of 2 of their count, the number of the low
+/// bits of a number is its rest, and bits that go before others count by as many places more.
+pub fn number_of_bits()
+    ensures bound { (xs : List Bool) → unsigned xs < 2 ^ length xs }
+    ensures of_number { (w n : ℕ) → unsigned (bits_of w n) ≡ n % 2 ^ w }
+    ensures joined { (xs ys : List Bool) → unsigned (xs ++ ys) ≡ unsigned xs * 2 ^ length ys + unsigned ys }
+{}
