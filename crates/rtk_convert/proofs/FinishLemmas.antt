@@ -23,7 +23,7 @@ use Rattle.rtk_convert.specs.Report.{lines, frame_counts}
 use Rattle.rtk_convert.specs.ReportText.{count_lines}
 use Rattle.rtk_convert.specs.Setup.{SetupView}
 use Rattle.rtk_convert.specs.Conversion.{ConversionView}
-use Rattle.rtk_convert.specs.Writing.{WritesRest}
+use Rattle.rtk_convert.specs.Writing.{Written, written, WritesRest}
 use Rattle.rtk_convert.specs.Steps.WritingInPart.{WritesPartOfRest}
 use Rattle.rtk_convert.proofs.FileLemmas.{closed-more, closed-grows, file-closed}
 use Rattle.rtk_convert.proofs.SoFarLemmas.{so_far-is}
@@ -98,11 +98,11 @@ file-text s w A p size holds is =
     ∙ ap (file_of s (position_view p)) (sym (kept-all s w A size holds))
     ∙ file-closed s (position_view p) (w.sets ++ closed s.window A)
 
-pub finishes : (s : SetupView) (w : CollectorView) (c c' : RecordsView) (k k' : Counts) (b : Bool) (p : Position) (o o' o'' l l' : Option (List ℕ)) → w.size ≡ s.window
-    → ((before : List Arrival) → RepresentsArrivals w before → IsPositionOf w.size before p) → ClosesEpochs s (position_view p) c w.sets c' o o'
-    → o'' ≡ with_more o' (header_before s (position_view p) s.near c'.header_out) → k' ≡ record k { epochs = c'.count } → l' ≡ with_more l (count_lines k')
-    → FinishesConversion (state s w c k b) k' o o'' l l'
-finishes s w c c' k k' b p o o' o'' l l' size position closes header counts wrote = λ found rep.
+pub finishes : (s : SetupView) (w : CollectorView) (c c' : RecordsView) (k k' : Counts) (b : Bool) (p : Position) (o : Written) (file : Option (List ℕ)) (o' : Written) → w.size ≡ s.window
+    → ((before : List Arrival) → RepresentsArrivals w before → IsPositionOf w.size before p) → ClosesEpochs s (position_view p) c w.sets c' o.file file
+    → o'.file ≡ with_more file (header_before s (position_view p) s.near c'.header_out) → k' ≡ record k { epochs = c'.count } → o'.report ≡ with_more o.report (count_lines k')
+    → FinishesConversion (state s w c k b) k' o o'
+finishes s w c c' k k' b p o file o' size position closes header counts wrote = λ found rep.
     let A : List Arrival = arrivals found in
     let is = position A rep.window in
     let t = closes (closed s.window A) rep.closed in
@@ -112,10 +112,10 @@ finishes s w c c' k k' b p o o' o'' l l' size position closes header counts wrot
     ∙ ap (λ (n : ℕ). record (frame_counts s.window found) { epochs = n }) (t.follows.count ∙ ap (record_count s.heading.listed) all) in
     record {
       counts_are = same;
-      out = writes-on o o' o'' (file_so_far s A) (closed_text s (position_view p) (w.sets ++ closed s.window A)) (kept_file s A)
+      out = writes-on o.file file o'.file (file_so_far s A) (closed_text s (position_view p) (w.sets ++ closed s.window A)) (kept_file s A)
           (t.out.0, t.out.1 ∙ ap (λ x. x ++ t.out.0) (sym (so_far-text s w A p size rep.window is)), t.out.2)
-          (_, file-text s w A p size rep.window is, header ∙ ap (λ (x : Bool). with_more o' (header_before s (position_view p) s.near x)) t.follows.header_out);
-      log = writes-text l l' (lines s.window found) (report_of s found) (count_lines (all_counts s found)) refl (wrote ∙ ap (λ (x : Counts). with_more l (count_lines x)) same);
+          (_, file-text s w A p size rep.window is, header ∙ ap (λ (x : Bool). with_more file (header_before s (position_view p) s.near x)) t.follows.header_out);
+      log = writes-text o.report o'.report (lines s.window found) (report_of s found) (count_lines (all_counts s found)) refl (wrote ∙ ap (λ (x : Counts). with_more o.report (count_lines x)) same);
     }
 
 -- ---- it breaks off
@@ -124,39 +124,39 @@ log-none : (s : SetupView) (found : List Found) (l : Option (List ℕ)) → Writ
 log-none s found l = part-none l (lines s.window found) (report_of s found) (count_lines (all_counts s found)) refl
 
 -- in a record
-pub finish-part-records : (s : SetupView) (w : CollectorView) (c : RecordsView) (k : Counts) (b : Bool) (p : Position) (o o' l : Option (List ℕ)) → w.size ≡ s.window
-    → ((before : List Arrival) → RepresentsArrivals w before → IsPositionOf w.size before p) → ClosesEpochsInPart s (position_view p) c w.sets o o' → FinishesConversionInPart (state s w c k b) o o' l l
-finish-part-records s w c k b p o o' l size position closes = λ found rep.
+pub finish-part-records : (s : SetupView) (w : CollectorView) (c : RecordsView) (k : Counts) (b : Bool) (p : Position) (o : Written) (file : Option (List ℕ)) → w.size ≡ s.window
+    → ((before : List Arrival) → RepresentsArrivals w before → IsPositionOf w.size before p) → ClosesEpochsInPart s (position_view p) c w.sets o.file file → FinishesConversionInPart (state s w c k b) o (written file o.report)
+finish-part-records s w c k b p o file size position closes = λ found rep.
     let A : List Arrival = arrivals found in
     let is = position A rep.window in
     record {
-      out = subst (λ (x : List ℕ). WritesPartOfRest o o' x (kept_file s A)) (sym (so_far-text s w A p size rep.window is))
-          (part-longer o o' (closed_text s (position_view p) (closed s.window A)) (closed_text s (position_view p) (w.sets ++ closed s.window A)) (kept_file s A) _ (file-text s w A p size rep.window is) (closes (closed s.window A) rep.closed));
-      log = log-none s found l;
+      out = subst (λ (x : List ℕ). WritesPartOfRest o.file file x (kept_file s A)) (sym (so_far-text s w A p size rep.window is))
+          (part-longer o.file file (closed_text s (position_view p) (closed s.window A)) (closed_text s (position_view p) (w.sets ++ closed s.window A)) (kept_file s A) _ (file-text s w A p size rep.window is) (closes (closed s.window A) rep.closed));
+      log = log-none s found o.report;
     }
 
 -- in the last header
-pub finish-part-header : (s : SetupView) (w : CollectorView) (c c' : RecordsView) (k : Counts) (b : Bool) (p : Position) (o o' o'' l : Option (List ℕ)) → w.size ≡ s.window
-    → ((before : List Arrival) → RepresentsArrivals w before → IsPositionOf w.size before p) → ClosesEpochs s (position_view p) c w.sets c' o o'
-    → TakesPart o' o'' (header_before s (position_view p) s.near c'.header_out) → FinishesConversionInPart (state s w c k b) o o'' l l
-finish-part-header s w c c' k b p o o' o'' l size position closes part = λ found rep.
+pub finish-part-header : (s : SetupView) (w : CollectorView) (c c' : RecordsView) (k : Counts) (b : Bool) (p : Position) (o : Written) (mid file : Option (List ℕ)) → w.size ≡ s.window
+    → ((before : List Arrival) → RepresentsArrivals w before → IsPositionOf w.size before p) → ClosesEpochs s (position_view p) c w.sets c' o.file mid
+    → TakesPart mid file (header_before s (position_view p) s.near c'.header_out) → FinishesConversionInPart (state s w c k b) o (written file o.report)
+finish-part-header s w c c' k b p o mid file size position closes part = λ found rep.
     let A : List Arrival = arrivals found in
     let is = position A rep.window in
     let t = closes (closed s.window A) rep.closed in
     record {
-      out = part-on o o' o'' (file_so_far s A) (closed_text s (position_view p) (w.sets ++ closed s.window A)) (kept_file s A)
+      out = part-on o.file mid file (file_so_far s A) (closed_text s (position_view p) (w.sets ++ closed s.window A)) (kept_file s A)
           (t.out.0, t.out.1 ∙ ap (λ x. x ++ t.out.0) (sym (so_far-text s w A p size rep.window is)), t.out.2)
-          (part-text o' o'' (closed_text s (position_view p) (w.sets ++ closed s.window A)) (kept_file s A) _ (file-text s w A p size rep.window is)
-          (subst (λ (x : Bool). TakesPart o' o'' (header_before s (position_view p) s.near x)) t.follows.header_out part));
-      log = log-none s found l;
+          (part-text mid file (closed_text s (position_view p) (w.sets ++ closed s.window A)) (kept_file s A) _ (file-text s w A p size rep.window is)
+          (subst (λ (x : Bool). TakesPart mid file (header_before s (position_view p) s.near x)) t.follows.header_out part));
+      log = log-none s found o.report;
     }
 
 -- in the counts
-pub finish-part-counts : (old : ConversionView) (k : Counts) (o o' l l' : Option (List ℕ)) → FinishesConversion old k o o' l (with_more l (count_lines k)) → TakesPart l l' (count_lines k) → FinishesConversionInPart old o o' l l'
-finish-part-counts old k o o' l l' whole part = λ found rep.
+pub finish-part-counts : (old : ConversionView) (k : Counts) (o o' : Written) → FinishesConversion old k o (written o'.file (with_more o.report (count_lines k))) → TakesPart o.report o'.report (count_lines k) → FinishesConversionInPart old o o'
+finish-part-counts old k o o' whole part = λ found rep.
     let t = whole found rep in
     record {
-      out = part-all o o' _ _ t.out;
-      log = part-text l l' (lines old.settings.window found) (report_of old.settings found) (count_lines (all_counts old.settings found)) refl
-          (subst (λ (x : Counts). TakesPart l l' (count_lines x)) t.counts_are part);
+      out = part-all o.file o'.file _ _ t.out;
+      log = part-text o.report o'.report (lines old.settings.window found) (report_of old.settings found) (count_lines (all_counts old.settings found)) refl
+          (subst (λ (x : Counts). TakesPart o.report o'.report (count_lines x)) t.counts_are part);
     }

@@ -27,6 +27,7 @@ use Rattle.rtk_convert.specs.Report.{lines}
 use Rattle.rtk_convert.specs.ReportText.{late_line}
 use Rattle.rtk_convert.specs.Setup.{SetupView, IsSetupView}
 use Rattle.rtk_convert.specs.Conversion.{found_on}
+use Rattle.rtk_convert.specs.Writing.{Written}
 
 -- ---- "for every list of pieces fed over any links"
 
@@ -111,8 +112,8 @@ HasLineAfter others line text = (rest : List ℕ) × (text ≡ others ++ (line +
 
 -- each has its own line, right after the lines of the frames before it
 abbrev pub LateAreListed : SetupView → List Found → Option (List ℕ) → Option (List ℕ) → Type 0
-LateAreListed s found log_old log_new = (link : ℕ) (a : Arrival) (before : List Found) → CameLate s found link a before
-    → IsWritten log_old log_new (HasLineAfter (lines s.window before) (late_line link (number_of (message_of a)) (epoch_of a)))
+LateAreListed s found report_old report_new = (link : ℕ) (a : Arrival) (before : List Found) → CameLate s found link a before
+    → IsWritten report_old report_new (HasLineAfter (lines s.window before) (late_line link (number_of (message_of a)) (epoch_of a)))
 
 -- ---- "and change nothing"
 
@@ -126,23 +127,23 @@ pub record LateChangeNothing (s : SetupView) (found : List Found) : Type 0 where
 
 -- ---- the whole sentence; and with good settings, as every setup's are, the file written is one that the checker accepts
 
-pub record Headline (s : SetupView) (links : ℕ) (calls : List Call) (out_old out_new log_old log_new : Option (List ℕ)) : Type 0 where
+pub record Headline (s : SetupView) (links : ℕ) (calls : List Call) (written_old written_new : Written) : Type 0 where
   pub found : List Found
   pub of_all_pieces : FindAll s links calls found
-  pub file_of_the_set : EqualKeysCarryEqualBodies s found → IsWritten out_old out_new (IsFileOf s (CameInTime s found))
-  pub file_of_a_table : IsSetupView s → IsWritten out_old out_new IsTextOfTable
-  pub late_are_listed : LateAreListed s found log_old log_new
+  pub file_of_the_set : EqualKeysCarryEqualBodies s found → IsWritten written_old.file written_new.file (IsFileOf s (CameInTime s found))
+  pub file_of_a_table : IsSetupView s → IsWritten written_old.file written_new.file IsTextOfTable
+  pub late_are_listed : LateAreListed s found written_old.report written_new.report
   pub late_change_nothing : LateChangeNothing s found
 
 -- ---- without the premise on keys
 
 -- whatever bodies equal keys carry, the file written is that of what is kept, of each key the first that came while its
 -- epoch was open; the report and the counts are those of all frames found, each counted in one class
-pub record WritesKept (s : SetupView) (links : ℕ) (calls : List Call) (counts : Counts) (out_old out_new log_old log_new : Option (List ℕ)) : Type 0 where
+pub record WritesKept (s : SetupView) (links : ℕ) (calls : List Call) (counts : Counts) (written_old written_new : Written) : Type 0 where
   pub found : List Found
   pub of_all_pieces : FindAll s links calls found
-  pub out : out_new ≡ with_more out_old (kept_file s (arrivals found))
-  pub log : log_new ≡ with_more log_old (report_of s found)
+  pub out : written_new.file ≡ with_more written_old.file (kept_file s (arrivals found))
+  pub log : written_new.report ≡ with_more written_old.report (report_of s found)
   pub counts_are : counts ≡ all_counts s found
 
 -- a set has one file, whatever the frames are in which it came
@@ -163,11 +164,11 @@ calls_of (r ∷ before) = call_of r.link r.piece ∷ calls_of before
 
 -- the sentence, of the pieces that the readers gave: to their ends, and each read of the link that was next; and of the
 -- same pieces what is kept, the report and the counts
-pub record RunHeadline {R : Type 0} (given : R → Option (List ℕ)) (calls : R → ℕ) (is_at_end : R → Type 0) (s : SetupView) (before after : List R) (counts : Counts) (out_old out_new log_old log_new : Option (List ℕ)) : Type 0 where
+pub record RunHeadline {R : Type 0} (given : R → Option (List ℕ)) (calls : R → ℕ) (is_at_end : R → Type 0) (s : SetupView) (before after : List R) (counts : Counts) (written_old written_new : Written) : Type 0 where
   pub reads : List Read
   pub gave : Gave given before after reads
   pub called : HasCalled calls before after (length reads)
   pub to_their_ends : AllAtEnd is_at_end after
   pub in_order : (h : History) × IsHistoryOf s (length before) reads h × AllClosed h
-  pub headline : Headline s (length before) (calls_of reads) out_old out_new log_old log_new
-  pub kept : WritesKept s (length before) (calls_of reads) counts out_old out_new log_old log_new
+  pub headline : Headline s (length before) (calls_of reads) written_old written_new
+  pub kept : WritesKept s (length before) (calls_of reads) counts written_old written_new

@@ -6,6 +6,7 @@ ghost use Rattle.rtk_convert.specs.Converter.{IsLinkCount, HoldsAtMost, Represen
 ghost use Rattle.rtk_convert.specs.Steps.AllLinks.{ClosesAllLinks, ClosesAllLinksInPart};
 ghost use Rattle.rtk_convert.specs.Failure.{IsFrameFault, NamesFailedWrites};
 ghost use Rattle.rtk_convert.specs.History.{History, new_history, IsOpen, newest_on};
+ghost use Rattle.rtk_convert.specs.Writing.{written};
 
 use crate::conversion::Conversion;
 use crate::counts::Counts;
@@ -129,12 +130,14 @@ impl Converter {
         log: &mut L,
     ) -> Result<(), ConvertFault>
         // Done: what the links come to, and what is written.
-        ensures ok { OnOk result (FeedsPiece self.old link piece.now self.new (O.taken out.old) (O.taken out.new) (L.taken log.old) (L.taken log.new)) }
+        ensures ok { OnOk result (FeedsPiece self.old link piece.now self.new
+            (written (O.taken out.old) (L.taken log.old)) (written (O.taken out.new) (L.taken log.new))) }
         ensures going { OnOk result (self.new.conversion.stopped ≡ false) }
 
         // Not done: nothing is changed, or what is out.
         ensures refused { IfSome (refusal self.old link) (λ fault. IsErrOf result fault × (self.new ≡ self.old) × (out.new ≡ out.old) × (log.new ≡ log.old)) }
-        ensures err { IfErr result (λ fault. IsFrameFault fault → FeedsPieceInPart self.old link piece.now (O.taken out.old) (O.taken out.new) (L.taken log.old) (L.taken log.new)) }
+        ensures err { IfErr result (λ fault. IsFrameFault fault → FeedsPieceInPart self.old link piece.now
+            (written (O.taken out.old) (L.taken log.old)) (written (O.taken out.new) (L.taken log.new))) }
         ensures halts { IfErr result (λ fault. IsFrameFault fault → self.new.conversion.stopped ≡ true) }
 
         // When each fault; a stream that failed is named.
@@ -161,12 +164,14 @@ impl Converter {
         log: &mut L,
     ) -> Result<(), ConvertFault>
         // Done: what the links come to, and what is written.
-        ensures ok { OnOk result (ClosesLink self.old link self.new (O.taken out.old) (O.taken out.new) (L.taken log.old) (L.taken log.new)) }
+        ensures ok { OnOk result (ClosesLink self.old link self.new
+            (written (O.taken out.old) (L.taken log.old)) (written (O.taken out.new) (L.taken log.new))) }
         ensures going { OnOk result (self.new.conversion.stopped ≡ false) }
 
         // Not done: nothing is changed, or what is out.
         ensures refused { IfSome (refusal self.old link) (λ fault. IsErrOf result fault × (self.new ≡ self.old) × (out.new ≡ out.old) × (log.new ≡ log.old)) }
-        ensures err { IfErr result (λ fault. IsFrameFault fault → ClosesLinkInPart self.old link (O.taken out.old) (O.taken out.new) (L.taken log.old) (L.taken log.new)) }
+        ensures err { IfErr result (λ fault. IsFrameFault fault → ClosesLinkInPart self.old link
+            (written (O.taken out.old) (L.taken log.old)) (written (O.taken out.new) (L.taken log.new))) }
         ensures halts { IfErr result (λ fault. IsFrameFault fault → self.new.conversion.stopped ≡ true) }
 
         // When each fault; a stream that failed is named.
@@ -191,8 +196,10 @@ impl Converter {
         ensures settings { self.new.conversion.settings ≡ self.old.conversion.settings }
         ensures going { OnOk result (self.new.conversion.stopped ≡ false) }
         ensures fault { IfErr result IsFrameFault }
-        ensures ok { OnOk result (ClosesAllLinks self.old self.new (O.taken out.old) (O.taken out.new) (L.taken log.old) (L.taken log.new)) }
-        ensures err { OnErr result (ClosesAllLinksInPart self.old (O.taken out.old) (O.taken out.new) (L.taken log.old) (L.taken log.new)) }
+        ensures ok { OnOk result (ClosesAllLinks self.old self.new
+            (written (O.taken out.old) (L.taken log.old)) (written (O.taken out.new) (L.taken log.new))) }
+        ensures err { OnErr result (ClosesAllLinksInPart self.old
+            (written (O.taken out.old) (L.taken log.old)) (written (O.taken out.new) (L.taken log.new))) }
         ensures file_failed { NamesFailedWrites Stream.Out result (O.failures out.old) (O.failures out.new) }
         ensures report_failed { NamesFailedWrites Stream.Log result (L.failures log.old) (L.failures log.new) }
     {
@@ -208,11 +215,13 @@ impl Converter {
     /// Closes the links that are open, the lower number first, and ends the file and the report.
     pub fn finish<O: Sink, L: Sink>(self, out: &mut O, log: &mut L) -> Result<Counts, ConvertFault>
         // Done: the file and the report are whole.
-        ensures ok { IfOk result (λ counts. FinishesConverter self counts (O.taken out.old) (O.taken out.new) (L.taken log.old) (L.taken log.new)) }
+        ensures ok { IfOk result (λ counts. FinishesConverter self counts
+            (written (O.taken out.old) (L.taken log.old)) (written (O.taken out.new) (L.taken log.new))) }
 
         // Not done: nothing is changed, or what is out.
         ensures still { self.conversion.stopped ≡ true → (out.new ≡ out.old) × (log.new ≡ log.old) }
-        ensures err { IfErr result (λ fault. IsFrameFault fault → FinishesConverterInPart self (O.taken out.old) (O.taken out.new) (L.taken log.old) (L.taken log.new)) }
+        ensures err { IfErr result (λ fault. IsFrameFault fault → FinishesConverterInPart self
+            (written (O.taken out.old) (L.taken log.old)) (written (O.taken out.new) (L.taken log.new))) }
 
         // When each fault; a stream that failed is named.
         ensures stopped { self.conversion.stopped ≡ true → IsErrOf result ConvertFault.Stopped }

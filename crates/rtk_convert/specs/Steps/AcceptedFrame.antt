@@ -6,33 +6,33 @@ use Rattle.rtk_convert.specs.FileOfArrivals.{file_so_far}
 use Rattle.rtk_convert.specs.FrameClass.{IsClassOfPayload, Found, arrivals}
 use Rattle.rtk_convert.specs.Report.{lines}
 use Rattle.rtk_convert.specs.Setup.{SetupView}
-use Rattle.rtk_convert.specs.Writing.{WritesRest}
+use Rattle.rtk_convert.specs.Writing.{Written}
+use Rattle.rtk_convert.specs.Converter.{WritesOn}
 use Rattle.rtk_convert.specs.Steps.WritingInPart.{WritesPartOfRest}
 use Rattle.rtk_convert.specs.Conversion.{ConversionView, RepresentsFound, found_on, AddsToOne}
 use Rattle.rtk_convert.specs.History.{epoch_found}
 
 -- a frame with this finding arrives on a link after those before: the conversion then represents the frames with this
 -- one, and what was written is what the file so far and the lines have past those before, of which one at least is empty
-pub record AcceptsFrameAs (old : ConversionView) (link : ℕ) (f : FrameClass) (before : List Found) (new : ConversionView) (out_old out_new log_old log_new : Option (List ℕ)) : Type 0 where
+pub record AcceptsFrameAs (old : ConversionView) (link : ℕ) (f : FrameClass) (before : List Found) (new : ConversionView) (written_old written_new : Written) : Type 0 where
   pub represents : RepresentsFound new (found_on link f ∷ before)
-  pub out : WritesRest out_old out_new (file_so_far old.settings (arrivals before)) (file_so_far old.settings (arrivals (found_on link f ∷ before)))
-  pub log : WritesRest log_old log_new (lines old.settings.window before) (lines old.settings.window (found_on link f ∷ before))
+  pub writes : WritesOn old.settings before (found_on link f ∷ before) written_old written_new
   pub one : AddsToOne old.settings (found_on link f) before
 
 -- the call breaks off: what was written is a first part of that
-pub record BreaksOffAtFrameAs (old : ConversionView) (link : ℕ) (f : FrameClass) (before : List Found) (out_old out_new log_old log_new : Option (List ℕ)) : Type 0 where
-  pub out : WritesPartOfRest out_old out_new (file_so_far old.settings (arrivals before)) (file_so_far old.settings (arrivals (found_on link f ∷ before)))
-  pub log : WritesPartOfRest log_old log_new (lines old.settings.window before) (lines old.settings.window (found_on link f ∷ before))
+pub record BreaksOffAtFrameAs (old : ConversionView) (link : ℕ) (f : FrameClass) (before : List Found) (written_old written_new : Written) : Type 0 where
+  pub out : WritesPartOfRest written_old.file written_new.file (file_so_far old.settings (arrivals before)) (file_so_far old.settings (arrivals (found_on link f ∷ before)))
+  pub log : WritesPartOfRest written_old.report written_new.report (lines old.settings.window before) (lines old.settings.window (found_on link f ∷ before))
   pub one : AddsToOne old.settings (found_on link f) before
 
 -- whatever was found before
-abbrev pub AcceptsFrame : ConversionView → ℕ → List ℕ → ConversionView → Option (List ℕ) → Option (List ℕ) → Option (List ℕ) → Option (List ℕ) → Type 0
-AcceptsFrame old link payload new out_old out_new log_old log_new = (before : List Found) → RepresentsFound old before
-    → (f : FrameClass) × IsClassOfPayload old.settings payload f × AcceptsFrameAs old link f before new out_old out_new log_old log_new
+abbrev pub AcceptsFrame : ConversionView → ℕ → List ℕ → ConversionView → Written → Written → Type 0
+AcceptsFrame old link payload new written_old written_new = (before : List Found) → RepresentsFound old before
+    → (f : FrameClass) × IsClassOfPayload old.settings payload f × AcceptsFrameAs old link f before new written_old written_new
 
-abbrev pub BreaksOffAtFrame : ConversionView → ℕ → List ℕ → Option (List ℕ) → Option (List ℕ) → Option (List ℕ) → Option (List ℕ) → Type 0
-BreaksOffAtFrame old link payload out_old out_new log_old log_new = (before : List Found) → RepresentsFound old before
-    → (f : FrameClass) × IsClassOfPayload old.settings payload f × BreaksOffAtFrameAs old link f before out_old out_new log_old log_new
+abbrev pub BreaksOffAtFrame : ConversionView → ℕ → List ℕ → Written → Written → Type 0
+BreaksOffAtFrame old link payload written_old written_new = (before : List Found) → RepresentsFound old before
+    → (f : FrameClass) × IsClassOfPayload old.settings payload f × BreaksOffAtFrameAs old link f before written_old written_new
 
 -- another message, or one of another station, takes no memory and writes nothing
 abbrev pub MayBreakOff : FrameClass → Type 0

@@ -11,7 +11,7 @@ use Rattle.rtk_convert.specs.Records.{RecordsView, HasClosed}
 use Rattle.rtk_convert.specs.Report.{lines}
 use Rattle.rtk_convert.specs.Setup.{SetupView}
 use Rattle.rtk_convert.specs.Conversion.{ConversionView, RepresentsFound}
-use Rattle.rtk_convert.specs.Writing.{WritesRest}
+use Rattle.rtk_convert.specs.Writing.{Written, WritesRest}
 use Rattle.rtk_convert.specs.Steps.WritingInPart.{WritesPartOfRest}
 use Rattle.rtk_convert.specs.Finish.{all_counts, report_of}
 
@@ -34,18 +34,18 @@ ClosesEpochsInPart s site old epochs out_old out_new =
     (below : List EpochSetView) → HasClosed old s.heading.listed below → WritesPartOfRest out_old out_new (closed_text s site below) (closed_text s site (epochs ++ below))
 
 -- the end, whatever was found: what was written is what the file and the report have past what was out
-pub record FinishesConversionAs (old : ConversionView) (found : List Found) (counts : Counts) (out_old out_new log_old log_new : Option (List ℕ)) : Type 0 where
+pub record FinishesConversionAs (old : ConversionView) (found : List Found) (counts : Counts) (written_old written_new : Written) : Type 0 where
   pub counts_are : counts ≡ all_counts old.settings found
-  pub out : WritesRest out_old out_new (file_so_far old.settings (arrivals found)) (kept_file old.settings (arrivals found))
-  pub log : WritesRest log_old log_new (lines old.settings.window found) (report_of old.settings found)
+  pub out : WritesRest written_old.file written_new.file (file_so_far old.settings (arrivals found)) (kept_file old.settings (arrivals found))
+  pub log : WritesRest written_old.report written_new.report (lines old.settings.window found) (report_of old.settings found)
 
-abbrev pub FinishesConversion : ConversionView → Counts → Option (List ℕ) → Option (List ℕ) → Option (List ℕ) → Option (List ℕ) → Type 0
-FinishesConversion old counts out_old out_new log_old log_new = (found : List Found) → RepresentsFound old found → FinishesConversionAs old found counts out_old out_new log_old log_new
+abbrev pub FinishesConversion : ConversionView → Counts → Written → Written → Type 0
+FinishesConversion old counts written_old written_new = (found : List Found) → RepresentsFound old found → FinishesConversionAs old found counts written_old written_new
 
 -- it breaks off
-pub record FinishesConversionPartAs (old : ConversionView) (found : List Found) (out_old out_new log_old log_new : Option (List ℕ)) : Type 0 where
-  pub out : WritesPartOfRest out_old out_new (file_so_far old.settings (arrivals found)) (kept_file old.settings (arrivals found))
-  pub log : WritesPartOfRest log_old log_new (lines old.settings.window found) (report_of old.settings found)
+pub record FinishesConversionPartAs (old : ConversionView) (found : List Found) (written_old written_new : Written) : Type 0 where
+  pub out : WritesPartOfRest written_old.file written_new.file (file_so_far old.settings (arrivals found)) (kept_file old.settings (arrivals found))
+  pub log : WritesPartOfRest written_old.report written_new.report (lines old.settings.window found) (report_of old.settings found)
 
-abbrev pub FinishesConversionInPart : ConversionView → Option (List ℕ) → Option (List ℕ) → Option (List ℕ) → Option (List ℕ) → Type 0
-FinishesConversionInPart old out_old out_new log_old log_new = (found : List Found) → RepresentsFound old found → FinishesConversionPartAs old found out_old out_new log_old log_new
+abbrev pub FinishesConversionInPart : ConversionView → Written → Written → Type 0
+FinishesConversionInPart old written_old written_new = (found : List Found) → RepresentsFound old found → FinishesConversionPartAs old found written_old written_new
