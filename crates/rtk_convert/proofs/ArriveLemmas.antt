@@ -1,6 +1,6 @@
 -- One arrival: what the conversion represents after it, and what was written.
 use Rattle.std.proofs.Common.{◌≡◌, ℕ, Bool, List, [], ◌∷◌, ◌++◌, Option, None, Some, refl, ap, sym, subst, ◌∙◌, ℤ, pos, inl}
-use Rattle.std.specs.Prelude.{is_some, option_to_list, option_map}
+use Rattle.std.specs.Prelude.{option_to_list, option_map}
 use Rattle.std.proofs.Math.Seq.{take-nil}
 use Rattle.rtk_message.specs.declared.message.Message.{Message}
 use Rattle.rtk_message.specs.declared.message.Message.TheVariants.{Arp1005, Arp1006}
@@ -22,8 +22,7 @@ use Rattle.rtk_frame.proofs.StreamLemmas.{with_more-nil}
 use Rattle.rtk_rinex.specs.Header.{PositionView, position_view}
 use Rattle.rtk_convert.specs.declared.frame_class.FrameClass.TheVariants.{OtherMessage, Refused, Foreign, Dated}
 use Rattle.rtk_convert.specs.declared.counts.Counts.{Counts}
-use Rattle.rtk_convert.specs.File.{first_time, record_of}
-use Rattle.rtk_convert.specs.Steps.ClosedText.{closing_text}
+use Rattle.rtk_convert.specs.Steps.ClosedText.{closing}
 use Rattle.rtk_convert.specs.FileOfArrivals.{site_of_stations, site_of_kept, file_so_far}
 use Rattle.rtk_convert.specs.FrameClass.{IsClassOfPayload, Found, arrivals}
 use Rattle.rtk_convert.specs.Steps.AddedMessage.{closed_by, AddsMessage, AddsMessageInPart}
@@ -79,10 +78,6 @@ takes-none-closed s w w' c k k' b b' link a offer o report size none meets count
       out = writes-none o.file (file_so_far s before) (file_so_far s (a ∷ before)) (so_far-stays s a before same);
       log = wrote ∙ ap (with_more o.report) (sym (answer-lines s.window link a before offer answer));
     }
-
--- what closing an epoch writes
-abbrev pub closing : SetupView → PositionView → EpochSetView → List EpochSetView → List ℕ
-closing s site e below = closing_text s site e.epoch (is_some (first_time s.heading.listed below)) (record_of s.heading.listed e below)
 
 closing-text : (s : SetupView) (w w' : CollectorView) (a : Arrival) (offer : Offer) (e : EpochSetView) (p : Position) (before : List Arrival) → w.size ≡ s.window → w'.size ≡ s.window
     → closed_by offer ≡ Some e → IsRightAnswer s.window a before offer → RepresentsArrivals w' (a ∷ before) → ((before : List Arrival) → RepresentsArrivals w' before → IsPositionOf w'.size before p)

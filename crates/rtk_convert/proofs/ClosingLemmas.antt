@@ -1,4 +1,4 @@
--- The links closed, one after another, and the end.
+-- The links are closed, one after another, and the converter ends.
 use Rattle.std.proofs.Common.{◌≡◌, ℕ, suc, true, false, List, ◌++◌, Option, None, Some, length, inl, inr, refl, ap, append_assoc, sym, subst, ◌∙◌}
 use Rattle.std.specs.Prelude.{is_some}
 use Rattle.rtk_frame.specs.Stream.{with_more}
@@ -30,7 +30,7 @@ into-on a b c w x y z p q = (
   q.5 ∙ ap (λ t. with_more t (q.0 ++ q.1)) p.2 ∙ with_more-with_more a p.0 (q.0 ++ q.1) ∙ ap (with_more a) (sym (append_assoc p.0 q.0 q.1)),
 )
 
--- a call that breaks off after what was written
+-- a call breaks off after all this was written
 pub breaks-after : (s : SetupView) (link : ℕ) (payloads : List (List ℕ)) (first before : List Found) (o0 o1 o2 : Written)
     → WritesOn s first before o0 o1 → BreaksOffAt s link payloads before o1 o2 → BreaksOffAfter s link payloads first before o0 o2
 breaks-after s link payloads first before o0 o1 o2 p b = record {

@@ -14,7 +14,7 @@ use Rattle.rtk_convert.specs.Report.{counted_as, counted, one_frame_more, frame_
 one-more : (count frames : ℕ) → count < suc frames → suc frames < 2 ^ 64 → count_after count ≡ suc count
 one-more count frames part few = grind arith
 
--- a frame of a class more
+-- one more frame of a class
 class-more : (class : Class) (frames : ℕ) (c : Counts) → in_classes c ≡ frames → suc frames < 2 ^ 64 → in_classes (counted_as class c) ≡ suc frames
 class-more LateClass frames c sum few = omega (arith, sum, one-more c.late frames (omega (arith, sum)) few)
 class-more TakenClass frames c sum few = omega (arith, sum, one-more c.taken frames (omega (arith, sum)) few)
@@ -28,7 +28,7 @@ finding-more n (Refused fault) before frames c sum few = omega (arith, sum, one-
 finding-more n Foreign before frames c sum few = omega (arith, sum, one-more c.foreign frames (omega (arith, sum)) few)
 finding-more n (Dated a) before frames c sum few = class-more (class_of n a before) frames c sum few
 
--- which leaves the count of all frames
+-- it leaves the count of all frames
 class-frames : (class : Class) (c : Counts) → (counted_as class c).frames ≡ c.frames
 class-frames LateClass c = refl
 class-frames TakenClass c = refl

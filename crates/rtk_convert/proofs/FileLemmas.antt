@@ -8,7 +8,7 @@ use Rattle.rtk_rinex.specs.Header.{PositionView, header_text}
 use Rattle.rtk_convert.specs.Setup.{SetupView}
 use Rattle.rtk_convert.specs.File.{record_of, records, first_or, first_time, header_of, file_of}
 use Rattle.rtk_convert.specs.FilePrefix.{unless_empty, so_far}
-use Rattle.rtk_convert.specs.Steps.ClosedText.{with_header, closed_text, header_before, closing_text}
+use Rattle.rtk_convert.specs.Steps.ClosedText.{with_header, closed_text, header_before, closing_text, closing}
 
 pub records-more : (listed : List Code) (e : EpochSetView) (below : List EpochSetView) → records listed (e ∷ below) ≡ records listed below ++ record_of listed e below
 unfolding records
@@ -82,7 +82,7 @@ closed-step s p e before (x ∷ text) (Some t) h = sym (append_assoc (header_tex
 
 -- what one more closed epoch adds
 pub closed-more : (s : SetupView) (p : PositionView) (e : EpochSetView) (below : List EpochSetView)
-    → closed_text s p (e ∷ below) ≡ closed_text s p below ++ closing_text s p e.epoch (is_some (first_time s.heading.listed below)) (record_of s.heading.listed e below)
+    → closed_text s p (e ∷ below) ≡ closed_text s p below ++ closing s p e below
 unfolding records first_time
 closed-more s p e below = closed-step s p e.epoch (records s.heading.listed below) (record_of s.heading.listed e below) (first_time s.heading.listed below) (no-records s.heading.listed below)
 
@@ -91,7 +91,7 @@ pub closed-grows : (s : SetupView) (p : PositionView) (more closed : List EpochS
 closed-grows s p [] closed = ([], sym (append-nil (closed_text s p closed)))
 closed-grows s p (e ∷ more) closed =
     let before = closed-grows s p more closed in
-    let t : List ℕ = closing_text s p e.epoch (is_some (first_time s.heading.listed (more ++ closed))) (record_of s.heading.listed e (more ++ closed)) in
+    let t : List ℕ = closing s p e (more ++ closed) in
     (before.0 ++ t, closed-more s p e (more ++ closed) ∙ ap (λ (x : List ℕ). x ++ t) before.1 ∙ append_assoc (closed_text s p closed) before.0 t)
 
 file-step : (s : SetupView) (p : PositionView) (text : List ℕ) (o : Option ℕ) → (o ≡ None → text ≡ [])

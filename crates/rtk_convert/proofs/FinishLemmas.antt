@@ -13,7 +13,7 @@ use Rattle.rtk_frame.specs.Stream.{with_more, TakesPart}
 use Rattle.rtk_rinex.specs.Header.{PositionView, position_view}
 use Rattle.rtk_convert.specs.declared.counts.Counts.{Counts}
 use Rattle.rtk_convert.specs.File.{first_time, file_of, record_count}
-use Rattle.rtk_convert.specs.Steps.ClosedText.{closed_text, header_before}
+use Rattle.rtk_convert.specs.Steps.ClosedText.{closed_text, closing, header_before}
 use Rattle.rtk_convert.specs.FileOfArrivals.{kept_file, file_so_far}
 use Rattle.rtk_convert.specs.FrameClass.{Found, arrivals}
 use Rattle.rtk_convert.specs.Finish.{all_counts, report_of}
@@ -27,7 +27,7 @@ use Rattle.rtk_convert.specs.Writing.{Written, written, WritesRest}
 use Rattle.rtk_convert.specs.Steps.WritingInPart.{WritesPartOfRest}
 use Rattle.rtk_convert.proofs.FileLemmas.{closed-more, closed-grows, file-closed}
 use Rattle.rtk_convert.proofs.SoFarLemmas.{so_far-is}
-use Rattle.rtk_convert.proofs.ArriveLemmas.{state, closing, site-kept}
+use Rattle.rtk_convert.proofs.ArriveLemmas.{state, site-kept}
 use Rattle.rtk_convert.proofs.AnswersLemmas.{any_epoch}
 use Rattle.rtk_convert.proofs.WritingLemmas.{writes-none, writes-text, writes-on, part-text, part-none, part-all, part-longer, part-on}
 

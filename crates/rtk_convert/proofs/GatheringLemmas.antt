@@ -31,7 +31,7 @@ use Rattle.rtk_convert.specs.declared.frame_class.FrameClass.{FrameClass}
 use Rattle.rtk_convert.specs.declared.frame_class.FrameClass.TheVariants.{OtherMessage, Refused, Foreign, Dated}
 use Rattle.rtk_convert.proofs.WritingLemmas.{writes-none, writes-on}
 
--- ---- a payload comes to one finding
+-- ---- a payload has one class
 
 -- bits decode to one message or fault
 decodes-once : (bs : List Bool) (r s : Result Message DecodeFault) → Decodes bs r → Decodes bs s → r ≡ s
@@ -155,7 +155,8 @@ breaks-off old mid link all done left payload n0 n1 o0 o1 o2 settings split gath
 rest-is : (at : ℕ) (p : List ℕ) → take (length p - at) (drop at p) ≡ drop at p
 rest-is at p = grind (arith, common_steps)
 
--- of a piece p after the pending bytes s0, the next frame was found: s2 is pending, and the place next was reached
+-- of a piece p after the pending bytes s0, the next frame was found: s2 is pending, and the place
+-- next was reached
 pub record FindsNext (s0 p s1 s2 : List ℕ) (at next : ℕ) (done : List (List ℕ)) (payload : List ℕ) : Type 0 where
   pub split : payloads (final_frames (s0 ++ p)) ≡ done ++ (payload ∷ payloads (final_frames (s2 ++ drop next p)))
   pub taken : payloads (final_frames (s0 ++ p)) ≡ (done ++ payload ∷ []) ++ payloads (final_frames (s2 ++ drop next p))
@@ -184,7 +185,7 @@ finds-next s0 p s1 at used done payload scan within some whole waiting answer =
       smaller = grind (arith);
     }
 
--- it was searched to its end
+-- the piece was searched to its end
 pub record FindsNoMore (s0 p s2 : List ℕ) (done : List (List ℕ)) : Type 0 where
   pub all : payloads (final_frames (s0 ++ p)) ≡ done
   pub waiting : s2 ≡ pending (s0 ++ p)

@@ -194,7 +194,8 @@ run-headline given calls is_at_end s before after counts o o' p =
       kept = record { found = p.history.found; of_all_pieces = all; out = p.out; log = p.log; counts_are = p.counts_are };
     }
 
--- the headline says no less: its list of found frames is the list of the history, since calls find one
+-- the headline says no less: its list of found frames is the list of the history, since calls find
+-- one
 pub headline-runs-as : {R : Type 0} (given : R → Option (List ℕ)) (calls : R → ℕ) (is_at_end : R → Type 0) (s : SetupView) (before after : List R) (counts : Counts) (o o' : Written)
     → RunHeadline given calls is_at_end s before after counts o o' → RunsAs given calls is_at_end s before after counts o o'
 headline-runs-as given calls is_at_end s before after counts o o' p =

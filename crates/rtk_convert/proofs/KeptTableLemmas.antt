@@ -142,7 +142,7 @@ site-good short (Some (Arp1005 m)) s t = site_of_1005-good short s
 site-good short (Some (Arp1006 m)) s v = (coordinate m.x v.1.1.1.1.1.1.0, coordinate m.y v.1.1.1.1.1.1.1.1.1.0, coordinate m.z v.1.1.1.1.1.1.1.1.1.1.1.0, v.1.1.1.1.1.1.1.1.1.1.1.1.0)
 site-good short (Some (Msm1074 m)) s t = site_of_1005-good short s
 
--- ---- so the file is a table's
+-- ---- so the file is the text of a table
 
 pub kept-file-is_table : FilesAreTables → KeptFileIsTable
 kept-file-is_table law s found settings h =

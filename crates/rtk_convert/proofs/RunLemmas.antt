@@ -76,7 +76,7 @@ has_read-more given is_at_end s h link before mid after reads new o0 o1 o2 q p =
   log = written-on o0.report o1.report o2.report (lines s.window h.found) (lines s.window p.next.found) q.log p.writes.log;
 }
 
--- ---- where it breaks off
+-- ---- the run breaks off
 
 into : (a b c : Option (List ℕ)) (x y z : List ℕ) → b ≡ with_more a x → WritesInto b c x y z → WritesInto a c [] y z
 into a b c x y z p w = (x ++ w.0, w.1, w.2, w.3, w.4, w.5 ∙ ap (λ o. with_more o (w.0 ++ w.1)) p ∙ with_more-with_more a x (w.0 ++ w.1) ∙ ap (with_more a) (sym (append_assoc x w.0 w.1)))

@@ -1,4 +1,5 @@
--- The file of a set is the text of a well-formed table, since it is a header and the records of rising epochs.
+-- The file of a set is the text of a well-formed table, since it is a header and the records of
+-- rising epochs.
 use Rattle.std.proofs.Common.{◌≡◌, ℕ, suc, ◌<◌, Bool, true, false, cond, List, [], ◌∷◌, ◌++◌, length, get_or, Option, None, Some, refl, ap, sym, ◌∙◌, arith}
 use Rattle.std.specs.Prelude.{filter, flat_map, All, AllPairs, IfSome, unwrap_or, nat_lt}
 use Rattle.std.proofs.lemmas.Bool.Decides.{nat_tests}

@@ -1,4 +1,5 @@
--- The promise for any list of calls, and what they write, by the contracts of `feed`, `close` and `finish`.
+-- The promise for any list of calls, and what they write, by the contracts of `feed`, `close` and
+-- `finish`.
 use Rattle.std.specs.Prelude.{◌≡◌, ◌⊎◌, ℕ, List, [], ◌∷◌, None, Some}
 use Rattle.rtk_convert.specs.declared.counts.Counts.{Counts}
 use Rattle.rtk_convert.specs.declared.fault.ConvertFault.TheVariants.{NoLink, LinkClosed}
@@ -11,20 +12,20 @@ use Rattle.rtk_convert.specs.History.{new_history}
 use Rattle.rtk_convert.specs.Setup.{SetupView, IsSetupView}
 use Rattle.rtk_convert.specs.Writing.{Written}
 
--- a call is refused, since there is no such link or it is closed, and nothing comes of it
+-- a call is refused, since the link doesn't exist or is closed, and nothing comes of it
 pub record IsRefused (old : ConverterView) (link : ℕ) (new : ConverterView) (written_old written_new : Written) : Type 0 where
   pub why : (refusal old link ≡ Some NoLink) ⊎ (refusal old link ≡ Some LinkClosed)
   pub same : new ≡ old
   pub written : written_new ≡ written_old
 
--- a call is answered Ok, or refused so
+-- a call is answered Ok, or it is refused in this way
 abbrev pub IsAnswered : ConverterView → Call → ConverterView → Written → Written → Type 0
 IsAnswered old (Feed link piece) new written_old written_new =
     ((refusal old link ≡ None) × FeedsPiece old link piece new written_old written_new) ⊎ IsRefused old link new written_old written_new
 IsAnswered old (Close link) new written_old written_new =
     ((refusal old link ≡ None) × ClosesLink old link new written_old written_new) ⊎ IsRefused old link new written_old written_new
 
--- so are all calls of a list, newest first, one after another on this converter
+-- all calls of a list, newest first, are answered so, one after another on this converter
 abbrev pub AreAnswered : ConverterView → List Call → ConverterView → Written → Written → Type 0
 AreAnswered first [] now written_old written_new = (now ≡ first) × (written_new ≡ written_old)
 AreAnswered first (call ∷ before) now written_old written_new =
@@ -41,7 +42,7 @@ pub record IsConversionBy (s : SetupView) (links : ℕ) (calls : List Call) (cou
   pub answered : AreAnswered first calls now written_old written_mid
   pub ended : FinishesConverter now counts written_mid written_new
 
--- they keep the promise
+-- such calls keep the promise
 abbrev pub CallsKeepPromise : Type 0
 CallsKeepPromise =
     (s : SetupView) (links : ℕ) (calls : List Call) (counts : Counts) (written_old written_new : Written)
@@ -53,6 +54,6 @@ CallsWriteKept =
     (s : SetupView) (links : ℕ) (calls : List Call) (counts : Counts) (written_old written_new : Written)
     → IsConversionBy s links calls counts written_old written_new → WritesKept s links calls counts written_old written_new
 
--- of good settings, the file of all frames that any calls find is the text of a well-formed table
+-- with a good setup the file of all frames that any calls find is the text of a well-formed table
 abbrev pub CallsComeToTable : Type 0
 CallsComeToTable = (s : SetupView) (links : ℕ) (calls : List Call) (found : List Found) → IsSetupView s → FindAll s links calls found → IsTextOfTable (kept_file s (arrivals found))

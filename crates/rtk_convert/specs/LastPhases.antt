@@ -13,7 +13,7 @@ abbrev pub HasLastPhases : List (Option Track) → List EpochSetView → Type 0
 HasLastPhases tracks epochs =
     (satellite : ℕ) (code : Code) → IsSatellite satellite → track_at tracks satellite code ≡ last_phase_of epochs satellite code
 
--- ---- an epoch is gone through cell by cell
+-- ---- the room for what the cells of an epoch show
 
 -- no place shows anything
 abbrev pub ShowsNothing : List (Option Observed) → Type 0

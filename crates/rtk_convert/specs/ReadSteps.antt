@@ -18,7 +18,7 @@ abbrev pub found_by_read : ℕ → History → List ℕ → List (List ℕ)
 found_by_read link h [] = found_by_close (fed_on link h.links)
 found_by_read link h (x ∷ piece) = found_by_piece (fed_on link h.links) (x ∷ piece)
 
--- what the reads so far found is out: exactly the file so far, and the lines
+-- after these reads exactly the file so far and the lines are written
 pub record HasRead {R : Type 0} (given : R → Option (List ℕ)) (s : SetupView) (before after : List R) (reads : List Read) (h : History) (written_old written_new : Written) : Type 0 where
   pub comes_to : IsHistoryOf s (length before) reads h
   pub gave : Gave given before after reads
@@ -35,6 +35,6 @@ SameFailures {R} failures before after = (k : ℕ) (none : R) → failures (slic
 abbrev pub AnyAtGreatest : {R : Type 0} → (R → ℕ) → List R → Type 0
 AnyAtGreatest {R} calls readers = (k : ℕ) × (k < length readers) × ((none : R) → greatest_count ≤ calls (slice_index_or readers k none))
 
--- the counts of calls rose by n in all, as far as they can tell
+-- the counts of calls rose by n in all, or one of them stands at its greatest value
 abbrev pub HasCalled : {R : Type 0} → (R → ℕ) → List R → List R → ℕ → Type 0
 HasCalled calls before after n = (sum_by calls after ≡ sum_by calls before + n) ⊎ AnyAtGreatest calls after

@@ -14,7 +14,8 @@ use Rattle.rtk_convert.specs.Writing.{Written}
 
 -- ---- as far as it came
 
--- a read of a link failed; exactly the file so far and the lines of what was read before are out
+-- a read of a link failed; exactly the file so far and the lines of what was read before it are
+-- written
 pub record FailsReading {R : Type 0} (given : R → Option (List ℕ)) (failures calls : R → ℕ) (s : SetupView) (link : ℕ) (before after : List R) (written_old written_new : Written) : Type 0 where
   pub reads : List Read
   pub history : History
@@ -23,7 +24,8 @@ pub record FailsReading {R : Type 0} (given : R → Option (List ℕ)) (failures
   pub is_next : IsNextLink history link
   pub failed : (none : R) → CountRises (failures (slice_index_or before link none)) (failures (slice_index_or after link none))
 
--- a link is still open after this number of reads; exactly the file so far and the lines of what was read are out
+-- a link is still open after this number of reads; exactly the file so far and the lines of what
+-- was read are written
 pub record StaysOpen {R : Type 0} (given : R → Option (List ℕ)) (is_at_end : R → Type 0) (s : SetupView) (max_reads : ℕ) (before after : List R) (written_old written_new : Written) : Type 0 where
   pub reads : List Read
   pub history : History
@@ -33,8 +35,8 @@ pub record StaysOpen {R : Type 0} (given : R → Option (List ℕ)) (is_at_end :
   pub link : ℕ
   pub is_open : IsOpen history link
 
--- the run breaks off at a frame that its last read found: of all frames found since none was, those before this one are
--- written, and a first part of what this one adds
+-- the run breaks off at a frame that its last read found: all that the frames before this one add
+-- is written, and a first part of what this one adds
 pub record BreaksOffReading {R : Type 0} (given : R → Option (List ℕ)) (calls : R → ℕ) (s : SetupView) (before after : List R) (written_old written_new : Written) : Type 0 where
   pub reads : List Read
   pub history : History
@@ -47,7 +49,7 @@ pub record BreaksOffReading {R : Type 0} (given : R → Option (List ℕ)) (call
   pub called : HasCalled calls before after (length reads + 1)
   pub cut : BreaksOffAfter s link (found_by_read link history piece) [] history.found written_old written_new
 
--- nothing was read, and nothing is out
+-- nothing was read, and nothing is written
 pub record IsUntouched {R : Type 0} (before after : List R) (written_old written_new : Written) : Type 0 where
   pub readers : after ≡ before
   pub written : written_new ≡ written_old

@@ -44,7 +44,8 @@ impl Model for Conversion {
 
     ghost view = { λ c. record { settings = c.setup; window = c.collector; closed = c.records; counts = c.counts; stopped = c.stopped } };
 
-    ghost invariant = { λ c. IsConversionView (record { settings = c.setup; window = c.collector; closed = c.records; counts = c.counts; stopped = c.stopped }) };
+    ghost invariant = { λ c. IsConversionView
+        (record { settings = c.setup; window = c.collector; closed = c.records; counts = c.counts; stopped = c.stopped }) };
 }
 
 impl Conversion {
@@ -119,7 +120,7 @@ impl Conversion {
         Ok(epoch)
     }
 
-    // Takes the payload of a frame. Whether it has stopped is left as it is.
+    // Handles the payload of a frame. `stopped` stays as it is.
     fn handle_payload<O: Sink, L: Sink>(
         &mut self,
         link: u8,

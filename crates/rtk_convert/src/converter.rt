@@ -21,7 +21,8 @@ use std::marker::Model;
 /// Converts what 1 to 16 links carry of one station to a file and a report.
 ///
 /// Its memory is bounded, as the clauses `bounds` say: of each link it holds at most 1,029 bytes,
-/// and in all at most as many open epochs as the setup says. A call that breaks off (V4, V5) stops it: each later call answers V8.
+/// and in all at most as many open epochs as the setup says. A call that breaks off (V4, V5) stops
+/// it: each later call answers V8.
 #[derive(Drop)]
 pub struct Converter {
     conversion: Conversion,
@@ -87,7 +88,7 @@ impl Converter {
         self.links.len()
     }
 
-    /// Whether there is such a link and it is open.
+    /// Whether the link exists and is open.
     pub fn is_open(&self, link: usize) -> bool
         ensures { (h : History) → RepresentsHistory self.now h → Decides result (IsOpen h link) }
     {
@@ -135,7 +136,8 @@ impl Converter {
         ensures going { OnOk result (self.new.conversion.stopped ≡ false) }
 
         // Not done: nothing is changed, or what is out.
-        ensures refused { IfSome (refusal self.old link) (λ fault. IsErrOf result fault × (self.new ≡ self.old) × (out.new ≡ out.old) × (log.new ≡ log.old)) }
+        ensures refused { IfSome (refusal self.old link) (λ fault. IsErrOf result fault
+            × (self.new ≡ self.old) × (out.new ≡ out.old) × (log.new ≡ log.old)) }
         ensures err { IfErr result (λ fault. IsFrameFault fault → FeedsPieceInPart self.old link piece.now
             (written (O.taken out.old) (L.taken log.old)) (written (O.taken out.new) (L.taken log.new))) }
         ensures halts { IfErr result (λ fault. IsFrameFault fault → self.new.conversion.stopped ≡ true) }
@@ -169,7 +171,8 @@ impl Converter {
         ensures going { OnOk result (self.new.conversion.stopped ≡ false) }
 
         // Not done: nothing is changed, or what is out.
-        ensures refused { IfSome (refusal self.old link) (λ fault. IsErrOf result fault × (self.new ≡ self.old) × (out.new ≡ out.old) × (log.new ≡ log.old)) }
+        ensures refused { IfSome (refusal self.old link) (λ fault. IsErrOf result fault
+            × (self.new ≡ self.old) × (out.new ≡ out.old) × (log.new ≡ log.old)) }
         ensures err { IfErr result (λ fault. IsFrameFault fault → ClosesLinkInPart self.old link
             (written (O.taken out.old) (L.taken log.old)) (written (O.taken out.new) (L.taken log.new))) }
         ensures halts { IfErr result (λ fault. IsFrameFault fault → self.new.conversion.stopped ≡ true) }

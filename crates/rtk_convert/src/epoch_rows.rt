@@ -47,7 +47,7 @@ fn observed(cell: &Cell, digits: Digits) -> Observed
     }
 }
 
-// Goes through a cell, unless one of its satellite and code came before it.
+// Takes a cell, unless a cell of its satellite and code came before it.
 fn step_entry(tracks: &mut Tracks, shown: &mut [Option<Observed>], epoch: GpsMs, entry: &CellEntry)
     requires places { length shown.old ≡ PLACES }
     requires range { IsInRange entry.now }
@@ -67,7 +67,7 @@ fn step_entry(tracks: &mut Tracks, shown: &mut [Option<Observed>], epoch: GpsMs,
     shown[place] = Some(observed(&entry.cell, digits));
 }
 
-// Goes through the cells that came in one kind of message.
+// Takes the cells that came in one kind of message, one after another.
 fn step_source(
     tracks: &mut Tracks,
     shown: &mut [Option<Observed>],
@@ -170,9 +170,9 @@ fn clear(shown: &mut [Option<Observed>], entries: &[CellEntry])
 
 /// Makes the table of a closed epoch from its cells; their phases are then the last ones.
 ///
-/// All satellites and codes are gone through, listed or not, since a later phase is compared with
-/// the last one of its satellite and code, whenever that was. `shown` is room for what they show;
-/// only the places that were used are cleared after each epoch.
+/// Each cell is compared with the last phase of its satellite and code, listed or not, since a
+/// later phase is compared with this one, whenever it was. `shown` is room for what they show; only
+/// the places that were used are cleared after each epoch.
 pub(crate) fn fill_table(
     tracks: &mut Tracks,
     shown: &mut [Option<Observed>],
@@ -186,8 +186,10 @@ pub(crate) fn fill_table(
     requires later { AllBelow tracks.old epoch }
     requires places { length shown.old ≡ PLACES }
     requires nothing { ShowsNothing shown.old }
-    ensures table { (below : List EpochSetView) → HasLastPhases tracks.old below → table.new ≡ table_of listed.now (record { epoch = epoch; cells = entries.now }) below }
-    ensures phases { (below : List EpochSetView) → HasLastPhases tracks.old below → HasLastPhases tracks.new (record { epoch = epoch; cells = entries.now } ∷ below) }
+    ensures table { (below : List EpochSetView) → HasLastPhases tracks.old below
+        → table.new ≡ table_of listed.now (record { epoch = epoch; cells = entries.now }) below }
+    ensures phases { (below : List EpochSetView) → HasLastPhases tracks.old below
+        → HasLastPhases tracks.new (record { epoch = epoch; cells = entries.now } ∷ below) }
     ensures later { (later : ℕ) → epoch < later → AllBelow tracks.new later }
     ensures width { HasWidth (length listed.now) table.new.rows }
     ensures places { length shown.new ≡ PLACES }

@@ -53,7 +53,8 @@ impl Link {
         ensures few { length conversion.new.window.sets ≤ conversion.new.settings.window }
         ensures going { OnOk result (conversion.new.stopped ≡ false) }
         ensures halts { OnErr result (conversion.new.stopped ≡ true) }
-        ensures ok { OnOk result (AddsFrames conversion.old number (payloads (final_frames (self.old.scanner.pending ++ piece.now))) conversion.new self.old.newest self.new.newest
+        ensures ok { OnOk result (AddsFrames conversion.old number (payloads (final_frames (self.old.scanner.pending ++ piece.now)))
+            conversion.new self.old.newest self.new.newest
             (written (O.taken out.old) (L.taken log.old)) (written (O.taken out.new) (L.taken log.new))) }
         ensures err { OnErr result (AddsFramesInPart conversion.old number (payloads (final_frames (self.old.scanner.pending ++ piece.now)))
             (written (O.taken out.old) (L.taken log.old)) (written (O.taken out.new) (L.taken log.new))) }
@@ -89,7 +90,8 @@ impl Link {
         ensures few { length conversion.new.window.sets ≤ conversion.new.settings.window }
         ensures going { OnOk result (conversion.new.stopped ≡ false) }
         ensures halts { OnErr result (conversion.new.stopped ≡ true) }
-        ensures ok { OnOk result (AddsFrames conversion.old number (payloads (frames self.old.scanner.pending)) conversion.new self.old.newest self.new.newest
+        ensures ok { OnOk result (AddsFrames conversion.old number (payloads (frames self.old.scanner.pending))
+            conversion.new self.old.newest self.new.newest
             (written (O.taken out.old) (L.taken log.old)) (written (O.taken out.new) (L.taken log.new))) }
         ensures err { OnErr result (AddsFramesInPart conversion.old number (payloads (frames self.old.scanner.pending))
             (written (O.taken out.old) (L.taken log.old)) (written (O.taken out.new) (L.taken log.new))) }

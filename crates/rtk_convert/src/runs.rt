@@ -20,7 +20,7 @@ use rtk_frame::{Sink, Source, read_one};
 use rtk_obs::GpsMs;
 use std::alloc::Global;
 
-// Is an epoch before another? `None` is before all.
+// Is an epoch before another one? `None` is before all epochs.
 fn is_before(epoch: Option<GpsMs>, other: Option<GpsMs>) -> bool
     ensures { Decides result (¬ (IsUpTo other epoch)) }
 {
@@ -134,12 +134,13 @@ fn read_all<R: Source, O: Sink, L: Sink>(
     }
 }
 
-/// Converts what the readers give, each of them a link: the file goes to `out`, the report to `log`.
+/// Converts what the readers give, each of them a link: the file goes to `out`, the report to
+/// `log`.
 ///
-/// The next read is of the open link whose newest epoch is the least; a link that had none comes
-/// first, and of those alike the lowest. It asks for 512 bytes. A read of none closes the link, and
-/// when all are closed the conversion ends. The order in which messages come, and so which are
-/// late, depends on how many bytes each read gives.
+/// The next read is of the open link whose newest epoch is the least; a link that had no epoch yet
+/// comes first, and among equal ones the lowest number. It asks for 512 bytes. A read that gives
+/// none closes its link, and when all links are closed the conversion ends. The order in which
+/// messages come, and so which are late, depends on how many bytes each read gives.
 ///
 /// The clause `headline` is the promise of a conversion in one sentence; `calls_keep_promise` says
 /// the same of any calls of a `Converter`, and `set_has_one_file` that the set decides the file.

@@ -4,7 +4,7 @@ use Rattle.rtk_convert.specs.History.{History}
 use Rattle.rtk_convert.specs.Converter.{ConverterView, RepresentsHistory, WritesOn, IsAfterClosingAll, BreaksOffClosing}
 use Rattle.rtk_convert.specs.Writing.{Written}
 
--- all open links closed, whatever the history was
+-- all open links were closed, whatever the history was
 abbrev pub ClosesAllLinks : ConverterView → ConverterView → Written → Written → Type 0
 ClosesAllLinks old new written_old written_new = (h : History) → RepresentsHistory old h
     → (last : History) × IsAfterClosingAll old.conversion.settings h (length h.links) last × RepresentsHistory new last

@@ -6,8 +6,9 @@ use Rattle.rtk_convert.specs.History.{Finds, newest_on}
 use Rattle.rtk_convert.specs.Conversion.{ConversionView, RepresentsFound}
 use Rattle.rtk_convert.specs.Writing.{Written}
 
--- frames with these payloads come on a link, after those before: the conversion then represents all of them, the link
--- still has the newest epoch that came on it, and what was written is what the file so far and the lines have past those before
+-- frames with these payloads come on a link, after the frames `before`: the conversion then
+-- represents all of them, the link has the newest epoch that came on it, and what they add to the
+-- file and to the lines was written
 pub record AddsFramesAs (old : ConversionView) (link : ℕ) (payloads : List (List ℕ)) (before after : List Found) (new : ConversionView)
     (newest_old newest_new : Option ℕ) (written_old written_new : Written) : Type 0 where
   pub finds : Finds old.settings link payloads before after
@@ -15,12 +16,12 @@ pub record AddsFramesAs (old : ConversionView) (link : ℕ) (payloads : List (Li
   pub newest : newest_old ≡ newest_on link before → newest_new ≡ newest_on link after
   pub writes : WritesOn old.settings before after written_old written_new
 
--- whatever was found before
+-- the same, whatever was found before
 abbrev pub AddsFrames : ConversionView → ℕ → List (List ℕ) → ConversionView → Option ℕ → Option ℕ → Written → Written → Type 0
 AddsFrames old link payloads new newest_old newest_new written_old written_new = (before : List Found) → RepresentsFound old before
     → (after : List Found) × AddsFramesAs old link payloads before after new newest_old newest_new written_old written_new
 
--- it breaks off at one of them
+-- a call breaks off at one of these frames
 abbrev pub AddsFramesInPart : ConversionView → ℕ → List (List ℕ) → Written → Written → Type 0
 AddsFramesInPart old link payloads written_old written_new = (before : List Found) → RepresentsFound old before
     → BreaksOffAt old.settings link payloads before written_old written_new

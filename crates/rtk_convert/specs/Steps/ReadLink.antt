@@ -8,7 +8,8 @@ use Rattle.rtk_convert.specs.Setup.{SetupView}
 use Rattle.rtk_convert.specs.ReadSteps.{read_of, found_by_read, HasRead, HasCalled}
 use Rattle.rtk_convert.specs.Writing.{Written}
 
--- one more read, of a link: its bytes are taken, and what they find is written; one that gave none has met the end
+-- one more read of a link: its bytes are fed, and what the frames in them add is written; a read
+-- that gave no bytes has met the end
 pub record ReadsLink {R : Type 0} (given : R → Option (List ℕ)) (is_at_end : R → Type 0) (s : SetupView) (h : History) (link : ℕ) (before after : List R) (new : ConverterView) (written_old written_new : Written) : Type 0 where
   pub piece : List ℕ
   pub next : History

@@ -11,8 +11,8 @@ use Rattle.rtk_convert.specs.ReadHistory.{Read, IsHistoryOf, AllClosed, AllAtEnd
 use Rattle.rtk_convert.specs.Setup.{SetupView}
 use Rattle.rtk_convert.specs.Writing.{Written}
 
--- all links were read to their ends, by as many calls as there are reads, and the file and the report of what they gave
--- are out
+-- all links were read to their ends, by as many calls as there are reads, and the file and the
+-- report of what they gave are written
 pub record RunsAs {R : Type 0} (given : R → Option (List ℕ)) (calls : R → ℕ) (is_at_end : R → Type 0) (s : SetupView) (before after : List R) (counts : Counts) (written_old written_new : Written) : Type 0 where
   pub reads : List Read
   pub history : History

@@ -4,7 +4,7 @@ use Rattle.rtk_convert.specs.Steps.LinkFrames.{AddsFrames}
 use Rattle.rtk_convert.specs.Writing.{written}
 use Rattle.rtk_convert.proofs.link.Link.close.Given as goal
 
--- some frames arrived, and the others stand in what is left
+-- some frames were taken, and the others stand in what is left
 abbrev pub invariant-frames : goal.invariant-frames
 invariant-frames g l = record {
   going : l.conversion.stopped ≡ false;
