@@ -101,7 +101,7 @@ header-final s a before t h =
 
 -- ---- frames that are no arrivals
 
-others-step : (f : Found) (x : FrameClass) (before : List Found) → f.finding ≡ x → arrivals (and_if_arrived f x before) ≡ and_arrived x (arrivals before)
+others-step : (f : Found) (x : FrameClass) (before : List Found) → f.class ≡ x → arrivals (and_if_arrived f x before) ≡ and_arrived x (arrivals before)
 others-step f OtherMessage before h = refl
 others-step f (Refused fault) before h = refl
 others-step f Foreign before h = refl
@@ -109,7 +109,7 @@ others-step f (Dated a) before h = ap (λ (x : FrameClass). and_arrived x (arriv
 
 others-same : (found : List Found) → arrivals (only_arrived found) ≡ arrivals found
 others-same [] = refl
-others-same (f ∷ before) = others-step f f.finding (only_arrived before) refl ∙ ap (and_arrived f.finding) (others-same before)
+others-same (f ∷ before) = others-step f f.class (only_arrived before) refl ∙ ap (and_arrived f.class) (others-same before)
 
 pub others-leave : OthersLeaveFile
 others-leave s found = (others-same found, ap (kept_file s) (others-same found))

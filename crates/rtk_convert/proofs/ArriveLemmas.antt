@@ -146,7 +146,7 @@ pub arrives-arrived : (s : SetupView) (w : CollectorView) (c : RecordsView) (new
     → AcceptsFrame (state s w c k b) link payload new o o'
 arrives-arrived s w c new k k₁ b b₁ link payload a o o' comes frames settings takes = λ before rep.
     let t = takes (arrivals before) (record { window = rep.window; closed = rep.closed }) in
-    let found : List Found = record { link = link; finding = Dated a } ∷ before in (
+    let found : List Found = record { link = link; class = Dated a } ∷ before in (
       Dated a,
       comes,
       record {
@@ -168,7 +168,7 @@ breaks-arrived s w c k k₁ b b₁ link payload a o o' comes takes = λ before r
       comes,
       record {
         out = t.out;
-        log = part-text o.report o'.report (lines s.window before) (lines s.window (record { link = link; finding = Dated a } ∷ before)) (frame_lines s.window link (Dated a) (arrivals before)) refl t.log;
+        log = part-text o.report o'.report (lines s.window before) (lines s.window (record { link = link; class = Dated a } ∷ before)) (frame_lines s.window link (Dated a) (arrivals before)) refl t.log;
         one = one-arrived s link payload a before comes;
       },
     )

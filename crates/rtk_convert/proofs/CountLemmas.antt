@@ -21,12 +21,12 @@ class-more TakenClass frames c sum few = omega (arith, sum, one-more c.taken fra
 class-more RepeatClass frames c sum few = omega (arith, sum, one-more c.repeat frames (omega (arith, sum)) few)
 class-more ConflictClass frames c sum few = omega (arith, sum, one-more c.conflict frames (omega (arith, sum)) few)
 
-finding-more : (n : ℕ) (f : FrameClass) (before : List Arrival) (frames : ℕ) (c : Counts) → in_classes c ≡ frames → suc frames < 2 ^ 64
+counted-more : (n : ℕ) (f : FrameClass) (before : List Arrival) (frames : ℕ) (c : Counts) → in_classes c ≡ frames → suc frames < 2 ^ 64
     → in_classes (counted n f before c) ≡ suc frames
-finding-more n OtherMessage before frames c sum few = omega (arith, sum, one-more c.other frames (omega (arith, sum)) few)
-finding-more n (Refused fault) before frames c sum few = omega (arith, sum, one-more c.refused frames (omega (arith, sum)) few)
-finding-more n Foreign before frames c sum few = omega (arith, sum, one-more c.foreign frames (omega (arith, sum)) few)
-finding-more n (Dated a) before frames c sum few = class-more (class_of n a before) frames c sum few
+counted-more n OtherMessage before frames c sum few = omega (arith, sum, one-more c.other frames (omega (arith, sum)) few)
+counted-more n (Refused fault) before frames c sum few = omega (arith, sum, one-more c.refused frames (omega (arith, sum)) few)
+counted-more n Foreign before frames c sum few = omega (arith, sum, one-more c.foreign frames (omega (arith, sum)) few)
+counted-more n (Dated a) before frames c sum few = class-more (class_of n a before) frames c sum few
 
 -- it leaves the count of all frames
 class-frames : (class : Class) (c : Counts) → (counted_as class c).frames ≡ c.frames
@@ -35,11 +35,11 @@ class-frames TakenClass c = refl
 class-frames RepeatClass c = refl
 class-frames ConflictClass c = refl
 
-finding-frames : (n : ℕ) (f : FrameClass) (before : List Arrival) (c : Counts) → (counted n f before c).frames ≡ c.frames
-finding-frames n OtherMessage before c = refl
-finding-frames n (Refused fault) before c = refl
-finding-frames n Foreign before c = refl
-finding-frames n (Dated a) before c = class-frames (class_of n a before) c
+counted-frames : (n : ℕ) (f : FrameClass) (before : List Arrival) (c : Counts) → (counted n f before c).frames ≡ c.frames
+counted-frames n OtherMessage before c = refl
+counted-frames n (Refused fault) before c = refl
+counted-frames n Foreign before c = refl
+counted-frames n (Dated a) before c = class-frames (class_of n a before) c
 
 counts-of : (n : ℕ) (found : List Found) → length found < 2 ^ 64 → AreCountsOf (length found) (frame_counts n found)
 counts-of n [] few = record { frames_are = refl; classes_are = refl }
@@ -47,8 +47,8 @@ counts-of n (f ∷ before) few =
     let p = counts-of n before (omega (arith, few)) in
     let c = frame_counts n before in
     record {
-      frames_are = finding-frames n f.finding (arrivals before) (one_frame_more c) ∙ one-more c.frames (length before) (omega (arith, p.frames_are)) few ∙ ap suc p.frames_are;
-      classes_are = finding-more n f.finding (arrivals before) (length before) (one_frame_more c) p.classes_are few;
+      frames_are = counted-frames n f.class (arrivals before) (one_frame_more c) ∙ one-more c.frames (length before) (omega (arith, p.frames_are)) few ∙ ap suc p.frames_are;
+      classes_are = counted-more n f.class (arrivals before) (length before) (one_frame_more c) p.classes_are few;
     }
 
 pub each-in-one : EachFrameInOneClass

@@ -62,23 +62,23 @@ message-once s m (At e x) (At f y) p q =
     let epochs : e ≡ f = epoch-once s.near (tow_of m) e f p.1 q.1 in
     cc
 
-finding-once : (s : SetupView) (r : Result Message DecodeFault) (f g : FrameClass) → IsClassOfReading s r f → IsClassOfReading s r g → f ≡ g
-finding-once s (Err fault) f g p q = p ∙ sym q
-finding-once s (Ok m) OtherMessage g p q = absurd p
-finding-once s (Ok m) (Refused fault) g p q = absurd p
-finding-once s (Ok m) Foreign OtherMessage p q = absurd q
-finding-once s (Ok m) Foreign (Refused fault) p q = absurd q
-finding-once s (Ok m) Foreign Foreign p q = refl
-finding-once s (Ok m) Foreign (Dated b) p q = absurd (p q.0)
-finding-once s (Ok m) (Dated a) OtherMessage p q = absurd q
-finding-once s (Ok m) (Dated a) (Refused fault) p q = absurd q
-finding-once s (Ok m) (Dated a) Foreign p q = absurd (q p.0)
-finding-once s (Ok m) (Dated a) (Dated b) p q = ap Dated (message-once s m a b p.1 q.1)
+class-once : (s : SetupView) (r : Result Message DecodeFault) (f g : FrameClass) → IsClassOfReading s r f → IsClassOfReading s r g → f ≡ g
+class-once s (Err fault) f g p q = p ∙ sym q
+class-once s (Ok m) OtherMessage g p q = absurd p
+class-once s (Ok m) (Refused fault) g p q = absurd p
+class-once s (Ok m) Foreign OtherMessage p q = absurd q
+class-once s (Ok m) Foreign (Refused fault) p q = absurd q
+class-once s (Ok m) Foreign Foreign p q = refl
+class-once s (Ok m) Foreign (Dated b) p q = absurd (p q.0)
+class-once s (Ok m) (Dated a) OtherMessage p q = absurd q
+class-once s (Ok m) (Dated a) (Refused fault) p q = absurd q
+class-once s (Ok m) (Dated a) Foreign p q = absurd (q p.0)
+class-once s (Ok m) (Dated a) (Dated b) p q = ap Dated (message-once s m a b p.1 q.1)
 
 pub comes-once : (s : SetupView) (payload : List ℕ) (f g : FrameClass) → IsClassOfPayload s payload f → IsClassOfPayload s payload g → f ≡ g
 comes-once s payload f g (r, decodes, is) (r', decodes', is') =
     let same : r' ≡ r = decodes-once (bits payload) r' r decodes' decodes in
-    finding-once s r f g is (subst (λ (x : Result Message DecodeFault). IsClassOfReading s x g) same is')
+    class-once s r f g is (subst (λ (x : Result Message DecodeFault). IsClassOfReading s x g) same is')
 
 -- ---- what was written
 
@@ -144,7 +144,7 @@ breaks-off old mid link all done left payload n0 n1 o0 o1 o2 settings split gath
       split = split;
       found = found;
       finds = g.finds;
-      finding = f;
+      class = f;
       comes = subst (λ (s : SetupView). IsClassOfPayload s payload f) settings comes;
       out = writes-into o0.file o1.file o2.file _ _ _ g.writes.out out;
       log = writes-into o0.report o1.report o2.report _ _ _ g.writes.log log;

@@ -126,7 +126,7 @@ late-part s link a before (f ∷ later) over =
     let p = late-part s link a before later over in
     let front = lines s.window before in
     let line = late_line link (number_of (message_of a)) (epoch_of a) in
-    let more = frame_lines s.window f.link f.finding (arrivals (later ++ found_on link (Dated a) ∷ before)) in
+    let more = frame_lines s.window f.link f.class (arrivals (later ++ found_on link (Dated a) ∷ before)) in
     (p.0 ++ more, ap (λ t. t ++ more) p.1 ∙ append_assoc front (line ++ p.0) more ∙ ap (λ t. front ++ t) (append_assoc line p.0 more))
 
 pub late-listed : (s : SetupView) (found : List Found) (report_old report_new : Option (List ℕ)) → report_new ≡ with_more report_old (report_of s found) → LateAreListed s found report_old report_new

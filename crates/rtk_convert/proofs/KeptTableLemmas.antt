@@ -68,7 +68,7 @@ and-good s (Dated (At e m)) before near payload c h = (good-by s payload c.0 e m
 
 arrivals-good : (s : SetupView) (found : List Found) → IsReference s.near → AllByRecursion (HasPayload s) found → AllByRecursion IsGoodArrival (arrivals found)
 arrivals-good s [] near h = tt
-arrivals-good s (f ∷ before) near h = and-good s f.finding (arrivals before) near h.0.0 h.0.1 (arrivals-good s before near h.1)
+arrivals-good s (f ∷ before) near h = and-good s f.class (arrivals before) near h.0.0 h.0.1 (arrivals-good s before near h.1)
 
 -- ---- so are the kept epochs
 

@@ -101,9 +101,9 @@ breaks-reading given calls s h link before mid after reads o0 o1 o2 q n p called
     split = p.breaks.split;
     found = p.breaks.found;
     finds = p.breaks.finds;
-    finding = p.breaks.finding;
+    class = p.breaks.class;
     comes = p.breaks.comes;
-    out = subst (λ (t : List ℕ). WritesInto o0.file o2.file t (file_so_far s (arrivals p.breaks.found)) (file_so_far s (arrivals (found_on link p.breaks.finding ∷ p.breaks.found)))) (sym (so_far-nothing s))
+    out = subst (λ (t : List ℕ). WritesInto o0.file o2.file t (file_so_far s (arrivals p.breaks.found)) (file_so_far s (arrivals (found_on link p.breaks.class ∷ p.breaks.found)))) (sym (so_far-nothing s))
         (into o0.file o1.file o2.file _ _ _ q.out p.breaks.out);
     log = into o0.report o1.report o2.report _ _ _ q.log p.breaks.log;
   };

@@ -47,7 +47,7 @@ and_if_arrived f (Dated a) before = f ∷ before
 -- the found frames that are dated messages of the chosen station, without all others
 abbrev pub only_arrived : List Found → List Found
 only_arrived [] = []
-only_arrived (f ∷ before) = and_if_arrived f f.finding (only_arrived before)
+only_arrived (f ∷ before) = and_if_arrived f f.class (only_arrived before)
 
 -- with all others deleted the arrivals are the same, and so is the file
 abbrev pub OthersLeaveFile : Type 0
@@ -56,7 +56,7 @@ OthersLeaveFile =
 
 -- a found frame has a payload of its class
 abbrev pub HasPayload : SetupView → Found → Type 0
-HasPayload s f = (payload : List ℕ) × IsClassOfPayload s payload f.finding
+HasPayload s f = (payload : List ℕ) × IsClassOfPayload s payload f.class
 
 -- the file of found frames, whatever their payloads, is the text of a well-formed table, which the
 -- checker accepts

@@ -51,7 +51,7 @@ pub record IsConversionView (s : ConversionView) : Type 0 where
   pub ahead : s.stopped ≡ false → IsAhead s.window s.closed
 
 abbrev pub found_on : ℕ → FrameClass → Found
-found_on link f = record { link = link; finding = f }
+found_on link f = record { link = link; class = f }
 
 -- a frame adds to the file or to the lines, never to both
 abbrev pub AddsToOne : SetupView → Found → List Found → Type 0

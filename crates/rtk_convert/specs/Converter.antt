@@ -102,10 +102,10 @@ pub record BreaksOffAfter (s : SetupView) (link : ℕ) (payloads : List (List �
   pub split : payloads ≡ done ++ payload ∷ left
   pub found : List Found
   pub finds : Finds s link done before found
-  pub finding : FrameClass
-  pub comes : IsClassOfPayload s payload finding
-  pub out : WritesInto written_old.file written_new.file (file_so_far s (arrivals first)) (file_so_far s (arrivals found)) (file_so_far s (arrivals (found_on link finding ∷ found)))
-  pub log : WritesInto written_old.report written_new.report (lines s.window first) (lines s.window found) (lines s.window (found_on link finding ∷ found))
+  pub class : FrameClass
+  pub comes : IsClassOfPayload s payload class
+  pub out : WritesInto written_old.file written_new.file (file_so_far s (arrivals first)) (file_so_far s (arrivals found)) (file_so_far s (arrivals (found_on link class ∷ found)))
+  pub log : WritesInto written_old.report written_new.report (lines s.window first) (lines s.window found) (lines s.window (found_on link class ∷ found))
 
 abbrev pub BreaksOffAt : SetupView → ℕ → List (List ℕ) → List Found → Written → Written → Type 0
 BreaksOffAt s link payloads before written_old written_new = BreaksOffAfter s link payloads before before written_old written_new

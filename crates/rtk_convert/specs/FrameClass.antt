@@ -47,7 +47,7 @@ IsClassOfPayload s payload f = (reading : Result Message DecodeFault) × Decodes
 -- found frames are newest first.
 pub record Found : Type 0 where
   pub link : ℕ
-  pub finding : FrameClass
+  pub class : FrameClass
 
 abbrev pub and_arrived : FrameClass → List Arrival → List Arrival
 and_arrived OtherMessage before = before
@@ -58,4 +58,4 @@ and_arrived (Dated a) before = a ∷ before
 -- the arrivals among found frames
 abbrev pub arrivals : List Found → List Arrival
 arrivals [] = []
-arrivals (f ∷ before) = and_arrived f.finding (arrivals before)
+arrivals (f ∷ before) = and_arrived f.class (arrivals before)

@@ -55,7 +55,7 @@ frame_lines n link (Dated a) before = class_lines link (number_of (message_of a)
 -- the lines of all found frames, in order
 abbrev pub lines : ℕ → List Found → List ℕ
 lines n [] = []
-lines n (f ∷ before) = lines n before ++ frame_lines n f.link f.finding (arrivals before)
+lines n (f ∷ before) = lines n before ++ frame_lines n f.link f.class (arrivals before)
 
 -- ---- counts: each stays at its greatest value
 
@@ -81,4 +81,4 @@ one_frame_more c = record c { frames = count_after c.frames }
 -- the counts of all found frames
 abbrev pub frame_counts : ℕ → List Found → Counts
 frame_counts n [] = no_counts
-frame_counts n (f ∷ before) = counted n f.finding (arrivals before) (one_frame_more (frame_counts n before))
+frame_counts n (f ∷ before) = counted n f.class (arrivals before) (one_frame_more (frame_counts n before))

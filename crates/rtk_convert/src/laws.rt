@@ -40,7 +40,7 @@ pub fn file_only_grows()
 /// list of frames. At most one link is next, and reads come to one history: so the order of reading
 /// is a function of the history.
 pub fn one_history_of_calls()
-    ensures finding { ComesToOne }
+    ensures class { ComesToOne }
     ensures feed { FeedsToOne }
     ensures close { ClosesToOne }
     ensures end { EndsAtOne }

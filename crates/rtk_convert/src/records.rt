@@ -13,13 +13,13 @@ ghost use Rattle.rtk_obs.specs.declared.code.Code.{Code};
 ghost use Rattle.rtk_rinex.specs.Header.{position_view};
 ghost use Rattle.std.specs.Prelude.{◌≡◌, ◌≢◌, ℕ, ◌<◌, [], ◌∷◌, List, All, false, OnOk, IfErr, IsErrOf, length, OnErr};
 
-use crate::epoch_rows::{PLACES, fill_table};
+use crate::epoch_rows::fill_table;
 use crate::fault::{ConvertFault, Stream};
 use crate::output::put_record;
 use crate::setup::Setup;
 use rtk_collect::Left;
 use rtk_frame::Sink;
-use rtk_obs::{CellEntry, GpsMs, Position, Tracks};
+use rtk_obs::{CellEntry, GpsMs, Position, SIGNALS, Tracks};
 use rtk_rinex::{EpochTable, Observed};
 use std::alloc::Global;
 use std::marker::Model;
@@ -32,7 +32,7 @@ use std::marker::Model;
 #[derive(Drop)]
 pub(crate) struct Records {
     tracks: Tracks,
-    shown: [Option<Observed>; PLACES],
+    shown: [Option<Observed>; SIGNALS],
     table: EpochTable,
     header_out: bool,
     count: u64,
@@ -42,7 +42,7 @@ pub(crate) struct Records {
 // between epochs.
 impl Model for Records {
     ghost use Rattle.std.specs.Prelude.{◌≡◌, length};
-    ghost use Rattle.rtk_convert.specs.LastPhases.{ShowsNothing};
+    ghost use Rattle.rtk_convert.specs.Steps.ShownCells.{ShowsNothing};
     ghost use Rattle.rtk_convert.specs.Records.{RecordsView};
 
     ghost Value = { RecordsView };
@@ -53,16 +53,15 @@ impl Model for Records {
 }
 
 impl Records {
-    /// No epoch is closed yet. `any` fills the table until the first epoch does; which one is no
-    /// matter.
-    pub(crate) fn new(any: GpsMs) -> Records
+    /// No epoch is closed yet. The table has this time until the first epoch is closed.
+    pub(crate) fn new(start: GpsMs) -> Records
         ensures follows { (listed : List Code) → HasClosed result listed [] }
         ensures below { (epoch : ℕ) → AllBelow result.tracks epoch }
     {
         Records {
             tracks: Tracks::new(),
-            shown: [None; PLACES],
-            table: EpochTable::new(any),
+            shown: [None; SIGNALS],
+            table: EpochTable::new(start),
             header_out: false,
             count: 0,
         }

@@ -38,6 +38,10 @@ abbrev pub MayShow : List (Option Track) → List (Option Observed) → ℕ → 
 MayShow tracks shown epoch =
     (satellite : ℕ) (code : Code) → IsSatellite satellite → shown_at shown satellite code ≡ None → IsLater (track_at tracks satellite code) epoch
 
+-- no place shows anything
+abbrev pub ShowsNothing : List (Option Observed) → Type 0
+ShowsNothing shown = (k : ℕ) → slice_index_or shown k None ≡ None
+
 -- the strengths that are shown are strengths that messages can have
 abbrev pub AreStrengths : List (Option Observed) → Type 0
 AreStrengths shown = (k : ℕ) → IfSome (slice_index_or shown k None) (λ o. IsStrengthOrNone o.strength_millidbhz)
