@@ -73,7 +73,7 @@ takes-none-closed s w w' c k k' b b' link a offer o report size none meets count
     let answer : IsRightAnswer s.window a before offer = subst (λ (n : ℕ). IsRightAnswer n a before offer) size m.0 in
     let same : closed s.window (a ∷ before) ≡ closed s.window before = answer-closed s.window a before offer answer ∙ ap (λ (d : Option EpochSetView). option_to_list d ++ closed s.window before) none in
     record {
-      after = record { window = m.1; closed = subst (λ (xs : List EpochSetView). HasClosed c s.heading.listed xs) (sym same) after.closed };
+      after = record { window = m.1; closed = subst (λ (xs : List EpochSetView). HasClosed c s.head.listed xs) (sym same) after.closed };
       counts = counts ∙ sym (ap (λ (c : Class). counted_as c k) (answer-class s.window a before offer answer));
       out = writes-none o.file (file_so_far s before) (file_so_far s (a ∷ before)) (so_far-stays s a before same);
       log = wrote ∙ ap (with_more o.report) (sym (answer-lines s.window link a before offer answer));
@@ -89,15 +89,15 @@ closing-text s w w' a offer e p before size size' some answer holds position =
 -- it closes an epoch
 pub takes-some-closed : (s : SetupView) (w w' : CollectorView) (c c' : RecordsView) (k k' : Counts) (b b' : Bool) (link : ℕ) (a : Arrival) (offer : Offer) (e : EpochSetView) (p : Position) (o o' : Written)
     → w.size ≡ s.window → w'.size ≡ s.window → closed_by offer ≡ Some e → AnswersArrival w a offer w' → ((before : List Arrival) → RepresentsArrivals w' before → IsPositionOf w'.size before p) → k' ≡ counted_as (class_of_offer offer) k
-    → ((below : List EpochSetView) → HasClosed c s.heading.listed below → HasClosed c' s.heading.listed (e ∷ below))
-    → ((below : List EpochSetView) → HasClosed c s.heading.listed below → o'.file ≡ with_more o.file (closing s (position_view p) e below))
+    → ((below : List EpochSetView) → HasClosed c s.head.listed below → HasClosed c' s.head.listed (e ∷ below))
+    → ((below : List EpochSetView) → HasClosed c s.head.listed below → o'.file ≡ with_more o.file (closing s (position_view p) e below))
     → o'.report ≡ with_more o.report (offer_lines link (number_of (message_of a)) (epoch_of a) offer) → AddsMessage (state s w c k b) link a (state s w' c' k' b') o o'
 takes-some-closed s w w' c c' k k' b b' link a offer e p o o' size size' some meets position counts follows out wrote = λ before after.
     let m = meets before after.window in
     let answer : IsRightAnswer s.window a before offer = subst (λ (n : ℕ). IsRightAnswer n a before offer) size m.0 in
     let closes : closed s.window (a ∷ before) ≡ e ∷ closed s.window before = answer-closed s.window a before offer answer ∙ ap (λ (d : Option EpochSetView). option_to_list d ++ closed s.window before) some in
     record {
-      after = record { window = m.1; closed = subst (λ (xs : List EpochSetView). HasClosed c' s.heading.listed xs) (sym closes) (follows (closed s.window before) after.closed) };
+      after = record { window = m.1; closed = subst (λ (xs : List EpochSetView). HasClosed c' s.head.listed xs) (sym closes) (follows (closed s.window before) after.closed) };
       counts = counts ∙ sym (ap (λ (c : Class). counted_as c k) (answer-class s.window a before offer answer));
       out = writes-text o.file o'.file (file_so_far s before) (file_so_far s (a ∷ before)) (closing s (position_view p) e (closed s.window before))
           (closing-text s w w' a offer e p before size size' some answer m.1 position) (out (closed s.window before) after.closed);
@@ -115,7 +115,7 @@ part-nothing s w c k b link a o = λ before after.
 -- in its record
 pub part-record : (s : SetupView) (w w' : CollectorView) (c : RecordsView) (k : Counts) (b : Bool) (link : ℕ) (a : Arrival) (offer : Offer) (e : EpochSetView) (p : Position) (o : Written) (file : Option (List ℕ))
     → w.size ≡ s.window → w'.size ≡ s.window → closed_by offer ≡ Some e → AnswersArrival w a offer w' → ((before : List Arrival) → RepresentsArrivals w' before → IsPositionOf w'.size before p)
-    → ((below : List EpochSetView) → HasClosed c s.heading.listed below → TakesPart o.file file (closing s (position_view p) e below))
+    → ((below : List EpochSetView) → HasClosed c s.head.listed below → TakesPart o.file file (closing s (position_view p) e below))
     → AddsMessageInPart (state s w c k b) link a o (written file o.report)
 part-record s w w' c k b link a offer e p o file size size' some meets position out = λ before after.
     let m = meets before after.window in

@@ -35,16 +35,16 @@ use Rattle.rtk_convert.proofs.WritingLemmas.{writes-none, writes-text, writes-on
 pub record SomeClosed (s : SetupView) (site : PositionView) (held now : List EpochSetView) (first last : RecordsView) (o o' : Option (List ℕ)) : Type 0 where
   pub gone : List EpochSetView
   pub split : held ≡ now ++ gone
-  pub wrote : (below : List EpochSetView) → HasClosed first s.heading.listed below
-      → HasClosed last s.heading.listed (gone ++ below) × WritesRest o o' (closed_text s site below) (closed_text s site (gone ++ below))
+  pub wrote : (below : List EpochSetView) → HasClosed first s.head.listed below
+      → HasClosed last s.head.listed (gone ++ below) × WritesRest o o' (closed_text s site below) (closed_text s site (gone ++ below))
 
 pub some-none : (s : SetupView) (site : PositionView) (held : List EpochSetView) (c : RecordsView) (o : Option (List ℕ)) → SomeClosed s site held held c c o o
 some-none s site held c o = record { gone = []; split = sym (append-nil held); wrote = λ below f. (f, writes-none o _ _ refl) }
 
 pub some-more : (s : SetupView) (site : PositionView) (held now next : List EpochSetView) (e : EpochSetView) (first last last' : RecordsView) (o o' o'' : Option (List ℕ))
     → SomeClosed s site held now first last o o' → now ≡ next ++ e ∷ []
-    → ((below : List EpochSetView) → HasClosed last s.heading.listed below → HasClosed last' s.heading.listed (e ∷ below))
-    → ((below : List EpochSetView) → HasClosed last s.heading.listed below → o'' ≡ with_more o' (closing s site e below))
+    → ((below : List EpochSetView) → HasClosed last s.head.listed below → HasClosed last' s.head.listed (e ∷ below))
+    → ((below : List EpochSetView) → HasClosed last s.head.listed below → o'' ≡ with_more o' (closing s site e below))
     → SomeClosed s site held next first last' o o''
 some-more s site held now next e first last last' o o' o'' l cut follows out = record {
   gone = e ∷ l.gone;
@@ -62,13 +62,13 @@ some-all s site held now first last o o' l none = λ below f.
     let w = l.wrote below f in
     let all : held ≡ l.gone = l.split ∙ ap (λ t. t ++ l.gone) none in
     record {
-      follows = subst (λ (t : List EpochSetView). HasClosed last s.heading.listed (t ++ below)) (sym all) w.0;
+      follows = subst (λ (t : List EpochSetView). HasClosed last s.head.listed (t ++ below)) (sym all) w.0;
       out = subst (λ (t : List EpochSetView). WritesRest o o' (closed_text s site below) (closed_text s site (t ++ below))) (sym all) w.1;
     }
 
 pub some-part : (s : SetupView) (site : PositionView) (held now next : List EpochSetView) (e : EpochSetView) (first last : RecordsView) (o o' o'' : Option (List ℕ))
     → SomeClosed s site held now first last o o' → now ≡ next ++ e ∷ []
-    → ((below : List EpochSetView) → HasClosed last s.heading.listed below → TakesPart o' o'' (closing s site e below))
+    → ((below : List EpochSetView) → HasClosed last s.head.listed below → TakesPart o' o'' (closing s site e below))
     → ClosesEpochsInPart s site first held o o''
 some-part s site held now next e first last o o' o'' l cut part = λ below f.
     let w = l.wrote below f in
@@ -92,7 +92,7 @@ so_far-text : (s : SetupView) (w : CollectorView) (A : List Arrival) (p : Positi
 so_far-text s w A p size holds is = so_far-is s A ∙ ap (λ (x : PositionView). closed_text s x (closed s.window A)) (sym (site-kept s.window w A p size holds is))
 
 file-text : (s : SetupView) (w : CollectorView) (A : List Arrival) (p : Position) → w.size ≡ s.window → RepresentsArrivals w A → IsPositionOf w.size A p
-    → kept_file s A ≡ closed_text s (position_view p) (w.sets ++ closed s.window A) ++ header_before s (position_view p) s.near (is_some (first_time s.heading.listed (w.sets ++ closed s.window A)))
+    → kept_file s A ≡ closed_text s (position_view p) (w.sets ++ closed s.window A) ++ header_before s (position_view p) s.near (is_some (first_time s.head.listed (w.sets ++ closed s.window A)))
 file-text s w A p size holds is =
     ap (λ (x : PositionView). file_of s x (kept s.window A)) (sym (site-kept s.window w A p size holds is))
     ∙ ap (file_of s (position_view p)) (sym (kept-all s w A size holds))
@@ -109,7 +109,7 @@ finishes s w c c' k k' b p o file o' size position closes header counts wrote = 
     let all = kept-all s w A size rep.window in
     let same : k' ≡ all_counts s found =
     counts ∙ ap (λ (x : Counts). record x { epochs = c'.count }) rep.counts
-    ∙ ap (λ (n : ℕ). record (frame_counts s.window found) { epochs = n }) (t.follows.count ∙ ap (record_count s.heading.listed) all) in
+    ∙ ap (λ (n : ℕ). record (frame_counts s.window found) { epochs = n }) (t.follows.count ∙ ap (record_count s.head.listed) all) in
     record {
       counts_are = same;
       out = writes-on o.file file o'.file (file_so_far s A) (closed_text s (position_view p) (w.sets ++ closed s.window A)) (kept_file s A)

@@ -30,7 +30,7 @@ pub record ConversionView : Type 0 where
 -- are; and it has the counts of the frames
 pub record RepresentsFound (s : ConversionView) (found : List Found) : Type 0 where
   pub window : RepresentsArrivals s.window (arrivals found)
-  pub closed : HasClosed s.closed s.settings.heading.listed (closed s.settings.window (arrivals found))
+  pub closed : HasClosed s.closed s.settings.head.listed (closed s.settings.window (arrivals found))
   pub counts : s.counts ≡ frame_counts s.settings.window found
 
 -- a satellite and code have a last phase only once the window is full, and then of an epoch below

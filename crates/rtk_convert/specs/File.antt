@@ -33,11 +33,11 @@ first_time listed (e ∷ below) = first_or (first_time listed below) e.epoch (re
 
 -- the header: its first time is the time of the first record; without a record it is the reference
 abbrev pub header_of : SetupView → PositionView → List EpochSetView → List ℕ
-header_of s site epochs = header_text s.heading site (unwrap_or (first_time s.heading.listed epochs) s.near)
+header_of s site epochs = header_text s.head site (unwrap_or (first_time s.head.listed epochs) s.near)
 
 -- the file: the header, then the records of all epochs, rising
 abbrev pub file_of : SetupView → PositionView → List EpochSetView → List ℕ
-file_of s site epochs = header_of s site epochs ++ records s.heading.listed epochs
+file_of s site epochs = header_of s site epochs ++ records s.head.listed epochs
 
 abbrev pub one_more_if_any : List ℕ → ℕ → ℕ
 one_more_if_any [] n = n

@@ -56,7 +56,7 @@ pub(crate) fn put_record<O: Sink>(
     table: &EpochTable,
     out: &mut O,
 ) -> Result<bool, ConvertFault>
-    requires width { HasWidth (length setup.now.heading.listed) table.now.rows }
+    requires width { HasWidth (length setup.now.head.listed) table.now.rows }
     ensures any { IfOk result (λ any. any ≡ is_any (record_text table.now)) }
     ensures all { OnOk result (O.taken out.new ≡ with_more (O.taken out.old)
         (closing_text setup.now (position_view position.now) table.now.time header_out (record_text table.now))) }

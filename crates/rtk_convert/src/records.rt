@@ -95,12 +95,12 @@ impl Records {
     ) -> Result<(), ConvertFault>
         requires ranges { All IsInRange cells.now }
         requires later { AllBelow self.old.tracks epoch }
-        ensures follows { OnOk result ((below : List EpochSetView) → HasClosed self.old setup.now.heading.listed below
-            → HasClosed self.new setup.now.heading.listed (record { epoch = epoch; cells = cells.now } ∷ below)) }
-        ensures all { OnOk result ((below : List EpochSetView) → HasClosed self.old setup.now.heading.listed below
+        ensures follows { OnOk result ((below : List EpochSetView) → HasClosed self.old setup.now.head.listed below
+            → HasClosed self.new setup.now.head.listed (record { epoch = epoch; cells = cells.now } ∷ below)) }
+        ensures all { OnOk result ((below : List EpochSetView) → HasClosed self.old setup.now.head.listed below
             → O.taken out.new ≡ with_more (O.taken out.old)
                 (closing setup.now (position_view position.now) (record { epoch = epoch; cells = cells.now }) below)) }
-        ensures part { (below : List EpochSetView) → HasClosed self.old setup.now.heading.listed below
+        ensures part { (below : List EpochSetView) → HasClosed self.old setup.now.head.listed below
             → TakesPart (O.taken out.old) (O.taken out.new)
                 (closing setup.now (position_view position.now) (record { epoch = epoch; cells = cells.now }) below) }
         ensures later { OnOk result ((later : ℕ) → epoch < later → AllBelow self.new.tracks later) }

@@ -27,7 +27,7 @@ closed_by Repeat = None
 -- closed epochs
 pub record RepresentsEpochs (s : ConversionView) (before : List Arrival) : Type 0 where
   pub window : RepresentsArrivals s.window before
-  pub closed : HasClosed s.closed s.settings.heading.listed (closed s.settings.window before)
+  pub closed : HasClosed s.closed s.settings.head.listed (closed s.settings.window before)
 
 -- one more arrival: what the conversion represents after it, and what was written
 pub record AddsMessageAs (old : ConversionView) (link : ℕ) (a : Arrival) (before : List Arrival) (new : ConversionView) (written_old written_new : Written) : Type 0 where

@@ -21,17 +21,17 @@ AllAbove c epochs = All (λ e. AllBelow c.tracks e.epoch) epochs
 
 -- these epochs were closed, after the lower epochs `below`
 pub record ClosesEpochsAs (s : SetupView) (site : PositionView) (old : RecordsView) (epochs below : List EpochSetView) (new : RecordsView) (out_old out_new : Option (List ℕ)) : Type 0 where
-  pub follows : HasClosed new s.heading.listed (epochs ++ below)
+  pub follows : HasClosed new s.head.listed (epochs ++ below)
   pub out : WritesRest out_old out_new (closed_text s site below) (closed_text s site (epochs ++ below))
 
 -- the same, whatever epochs were closed before
 abbrev pub ClosesEpochs : SetupView → PositionView → RecordsView → List EpochSetView → RecordsView → Option (List ℕ) → Option (List ℕ) → Type 0
 ClosesEpochs s site old epochs new out_old out_new =
-    (below : List EpochSetView) → HasClosed old s.heading.listed below → ClosesEpochsAs s site old epochs below new out_old out_new
+    (below : List EpochSetView) → HasClosed old s.head.listed below → ClosesEpochsAs s site old epochs below new out_old out_new
 
 abbrev pub ClosesEpochsInPart : SetupView → PositionView → RecordsView → List EpochSetView → Option (List ℕ) → Option (List ℕ) → Type 0
 ClosesEpochsInPart s site old epochs out_old out_new =
-    (below : List EpochSetView) → HasClosed old s.heading.listed below → WritesPartOfRest out_old out_new (closed_text s site below) (closed_text s site (epochs ++ below))
+    (below : List EpochSetView) → HasClosed old s.head.listed below → WritesPartOfRest out_old out_new (closed_text s site below) (closed_text s site (epochs ++ below))
 
 -- the end: the rest of the file and of the report was written, and these are the counts
 pub record FinishesConversionAs (old : ConversionView) (found : List Found) (counts : Counts) (written_old written_new : Written) : Type 0 where
