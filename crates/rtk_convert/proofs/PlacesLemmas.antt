@@ -1,8 +1,7 @@
 -- The places of satellites and codes in a flat table.
-use Rattle.std.proofs.Common.{◌≡◌, ◌≢◌, ℕ, zero, suc, replicate, ◌+◌, ◌-◌, ◌*◌, ◌<◌, ◌≤◌, refl, sym, ap, ◌∙◌, arith, get_or, true, false, Bool, nat_eq, ◌&&◌, inl, inr}
+use Rattle.std.proofs.Common.{◌≡◌, ◌≢◌, ℕ, zero, suc, replicate, ◌+◌, ◌-◌, ◌*◌, ◌<◌, ◌≤◌, refl, sym, ap, ◌∙◌, arith, get_or, true, false, nat_eq, ◌&&◌, inl, inr}
 use Rattle.std.proofs.lemmas.Bool.Decides.{nat_tests}
 use Rattle.std.proofs.lemmas.Bool.{cases_order}
-use Rattle.rtk_obs.specs.declared.cell.CellEntry.{CellEntry}
 use Rattle.rtk_obs.specs.declared.code.Code.{Code}
 use Rattle.rtk_obs.specs.declared.code.Code.TheVariants.{C1C, C1P, C1W, C1S, C1L, C1X, C2C, C2D, C2P, C2W, C2S, C2L, C2X, C5I, C5Q, C5X}
 use Rattle.rtk_obs.specs.Code.{place_of}
@@ -89,10 +88,6 @@ pub same_signal : (a c : ℕ) (k d : Code) → IsSatellite a → IsSatellite c �
 same_signal a c k d ha hc e =
     let s = same_numbers a (place_of k) c (place_of d) ha.0 hc.0 (place_bound k) (place_bound d) e in
     (s.0, same_code k d s.1)
-
--- the test by which an entry is found
-abbrev pub is_of : ℕ → Code → CellEntry → Bool
-is_of s c e = nat_eq s e.satellite && nat_eq (place_of c) (place_of e.code)
 
 pub same_test : (a b c d : ℕ) → a ≡ c → b ≡ d → (nat_eq a c && nat_eq b d) ≡ true
 same_test a b c d e f = grind (arith, nat_tests)

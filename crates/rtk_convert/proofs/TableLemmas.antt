@@ -13,16 +13,15 @@ use Rattle.rtk_obs.specs.declared.cell.CellEntry.{CellEntry}
 use Rattle.rtk_obs.specs.declared.cell.CellSource.TheVariants.{Legacy, Msm}
 use Rattle.rtk_obs.specs.declared.track.Track.{Track}
 use Rattle.rtk_obs.specs.Cell.{IsInRange as IsEntry, IsStrength as IsGiven}
-use Rattle.rtk_collect.specs.EpochSet.{EpochSetView, FirstIsBelow, EpochsFall, first_entry}
+use Rattle.rtk_collect.specs.EpochSet.{EpochSetView, FirstIsBelow, EpochsFall}
 use Rattle.rtk_rinex.specs.declared.epoch_table.Observed.{Observed}
 use Rattle.rtk_rinex.specs.Reading.{IsMoment}
 use Rattle.rtk_rinex.specs.Header.{header_text}
 use Rattle.rtk_rinex.specs.Record.{EpochTableView, IsStrengthOrNone, IsRow, IsEpochTableView, HasWidth, record_text}
 use Rattle.rtk_rinex.specs.Table.{StartsAt, with_record, shown_table, FilesAreTables}
-use Rattle.rtk_convert.specs.Rows.{last_phase_of, cell_in, first_cell, cell_at, in_turn, is_from, observed_after, observed_at, or_nothing, table_of}
+use Rattle.rtk_convert.specs.Rows.{is_signal, last_phase_of, first_cell, cell_at, in_turn, is_from, observed_after, observed_at, or_nothing, table_of}
 use Rattle.rtk_convert.specs.File.{record_of, records, first_or, first_time}
 use Rattle.rtk_convert.specs.FileLaws.{IsGoodEpoch, FileIsTable}
-use Rattle.rtk_convert.proofs.PlacesLemmas.{is_of}
 use Rattle.rtk_convert.proofs.RowsLemmas.{all-rows, rows-width, rows_to-rise}
 
 -- the tables of the epochs, rising
@@ -70,15 +69,15 @@ entry-strength (Some s) h = ((h.least, h.greatest), h.step)
 abbrev HasStrength : Option Cell → Type 0
 HasStrength o = IfSome o (λ c. IsStrengthOrNone c.strength_millidbhz)
 
-strength-if : (b : Bool) (e : CellEntry) (o : Option CellEntry) → IsStrengthOrNone e.cell.strength_millidbhz → HasStrength (cell_in o) → HasStrength (cell_in (cond b (Some e) o))
-strength-if true e o h k = h
-strength-if false e o h k = k
+strength-if : (b : Bool) (c : Cell) (o : Option Cell) → IsStrengthOrNone c.strength_millidbhz → HasStrength o → HasStrength (cond b (Some c) o)
+strength-if true c o h k = h
+strength-if false c o h k = k
 
 first-strength : (cells : List CellEntry) (s : ℕ) (c : Code) → All IsEntry cells → HasStrength (first_cell cells s c)
 first-strength [] s c h = tt
 first-strength (e ∷ cells) s c h =
     let head : IsEntry e = All-head IsEntry e cells h in
-    strength-if (is_of s c e) e (first_entry s c cells) (entry-strength e.cell.strength_millidbhz head.strength)
+    strength-if (is_signal s c e) e.cell (first_cell cells s c) (entry-strength e.cell.strength_millidbhz head.strength)
     (first-strength cells s c (All-tail IsEntry e cells h))
 
 kept-if : {X : Type 0} (P : X → Type 0) (b : Bool) (x : X) (xs : List X) → P x → All P xs → All P (cond b (x ∷ xs) xs)

@@ -13,36 +13,32 @@ use Rattle.rtk_obs.specs.Cell.{IsSatellite}
 use Rattle.rtk_obs.specs.Tracks.{IsLater, track_at, place_of_signal}
 use Rattle.rtk_rinex.specs.declared.epoch_table.Observed.{Observed}
 use Rattle.rtk_rinex.specs.Record.{IsStrengthOrNone}
-use Rattle.rtk_collect.specs.EpochSet.{first_entry}
-use Rattle.rtk_convert.specs.Rows.{cell_in, first_cell, observed_with, observed_after, and_below}
+use Rattle.rtk_convert.specs.Rows.{is_signal, first_cell, observed_with, observed_after, and_below}
 use Rattle.rtk_convert.specs.Steps.ShownCells.{shown_at, track_after, IsThrough, MayShow, AreStrengths}
-use Rattle.rtk_convert.proofs.PlacesLemmas.{is_of, by_eq, same_signal, same_test, other_signal, place_inside}
+use Rattle.rtk_convert.proofs.PlacesLemmas.{by_eq, same_signal, same_test, other_signal, place_inside}
 
 -- a cell of another satellite or code changes nothing for them
-entry-other : (xs : List CellEntry) (e : CellEntry) (s : ℕ) (c : Code) → is_of s c e ≡ false → first_entry s c (xs ++ e ∷ []) ≡ first_entry s c xs
-entry-other [] e s c h = rw h refl
-entry-other (x ∷ xs) e s c h = ap (λ (o : Option CellEntry). cond (is_of s c x) (Some x) o) (entry-other xs e s c h)
+cell-other : (xs : List CellEntry) (e : CellEntry) (s : ℕ) (c : Code) → is_signal s c e ≡ false → first_cell (xs ++ e ∷ []) s c ≡ first_cell xs s c
+cell-other [] e s c h = rw h refl
+cell-other (x ∷ xs) e s c h = ap (λ (o : Option Cell). cond (is_signal s c x) (Some x.cell) o) (cell-other xs e s c h)
 
-cell-other : (xs : List CellEntry) (e : CellEntry) (s : ℕ) (c : Code) → is_of s c e ≡ false → first_cell (xs ++ e ∷ []) s c ≡ first_cell xs s c
-cell-other xs e s c h = ap cell_in (entry-other xs e s c h)
-
-cell-step : (b : Bool) (x : CellEntry) (o p : Option CellEntry) (y : Cell) → (cell_in o ≡ Some y → cell_in p ≡ Some y) → cell_in (cond b (Some x) o) ≡ Some y → cell_in (cond b (Some x) p) ≡ Some y
+cell-step : (b : Bool) (x : Cell) (o p : Option Cell) (y : Cell) → (o ≡ Some y → p ≡ Some y) → cond b (Some x) o ≡ Some y → cond b (Some x) p ≡ Some y
 cell-step true x o p y f h = h
 cell-step false x o p y f h = f h
 
 -- the first cell stays the first
 cell-kept : (xs : List CellEntry) (e : CellEntry) (s : ℕ) (c : Code) (x : Cell) → first_cell xs s c ≡ Some x → first_cell (xs ++ e ∷ []) s c ≡ Some x
 cell-kept [] e s c x h = cc
-cell-kept (y ∷ xs) e s c x h = cell-step (is_of s c y) y (first_entry s c xs) (first_entry s c (xs ++ e ∷ [])) x (cell-kept xs e s c x) h
+cell-kept (y ∷ xs) e s c x h = cell-step (is_signal s c y) y.cell (first_cell xs s c) (first_cell (xs ++ e ∷ []) s c) x (cell-kept xs e s c x) h
 
-cell-none : (b : Bool) (x : CellEntry) (o p : Option CellEntry) (y : Cell) → (cell_in o ≡ None → cell_in p ≡ Some y) → cell_in (cond b (Some x) o) ≡ None → cell_in (cond b (Some x) p) ≡ Some y
+cell-none : (b : Bool) (x : Cell) (o p : Option Cell) (y : Cell) → (o ≡ None → p ≡ Some y) → cond b (Some x) o ≡ None → cond b (Some x) p ≡ Some y
 cell-none true x o p y f h = cc
 cell-none false x o p y f h = f h
 
 -- a first cell
-cell-new : (xs : List CellEntry) (e : CellEntry) (s : ℕ) (c : Code) → is_of s c e ≡ true → first_cell xs s c ≡ None → first_cell (xs ++ e ∷ []) s c ≡ Some e.cell
+cell-new : (xs : List CellEntry) (e : CellEntry) (s : ℕ) (c : Code) → is_signal s c e ≡ true → first_cell xs s c ≡ None → first_cell (xs ++ e ∷ []) s c ≡ Some e.cell
 cell-new [] e s c t h = rw t refl
-cell-new (y ∷ xs) e s c t h = cell-none (is_of s c y) y (first_entry s c xs) (first_entry s c (xs ++ e ∷ [])) e.cell (cell-new xs e s c t) h
+cell-new (y ∷ xs) e s c t h = cell-none (is_signal s c y) y.cell (first_cell xs s c) (first_cell (xs ++ e ∷ []) s c) e.cell (cell-new xs e s c t) h
 
 some-cell : (last : Option Track) (c : Code) (epoch : ℕ) (o p : Option Cell) (b : Bool) → b ≡ true → is_some (observed_after last c epoch o) ≡ b → ((x : Cell) → o ≡ Some x → p ≡ Some x) → p ≡ o
 some-cell last c epoch None p b t h f = cc
@@ -61,7 +57,7 @@ through-same old epoch before new shown e he there g =
     (λ q. let p = same_signal e.satellite s e.code c he hs q in
     let here : is_some (shown_at shown s c) ≡ true = subst (λ (x : ℕ). is_some (shown_at shown x c) ≡ true) p.0 (subst (λ (y : Code). is_some (shown_at shown e.satellite y) ≡ true) p.1 there) in
     some-cell (track_at old s c) c epoch (first_cell before s c) (first_cell (before ++ e ∷ []) s c) true refl (ap is_some (sym (g.observed s c hs)) ∙ here) (cell-kept before e s c))
-    (λ ne. cell-other before e s c (other_signal s e.satellite c e.code (λ q. ne (sym q)))) in
+    (λ ne. cell-other before e s c (other_signal e.satellite s e.code c ne)) in
     record {
       tracks = λ s c hs. g.tracks s c hs ∙ ap (track_after (track_at old s c) c epoch) (sym (cells s c hs));
       observed = λ s c hs. g.observed s c hs ∙ ap (observed_after (track_at old s c) c epoch) (sym (cells s c hs));
@@ -90,12 +86,12 @@ through-more old epoch before new after shown e d o he len free digits obs same 
           (λ q. let p = same_signal e.satellite s e.code c he hs q in
           subst (λ (x : ℕ). track_at after x c ≡ track_after (track_at old x c) c epoch (first_cell (before ++ e ∷ []) x c)) p.0
           (subst (λ (y : Code). track_at after e.satellite y ≡ track_after (track_at old e.satellite y) y epoch (first_cell (before ++ e ∷ []) e.satellite y)) p.1 here-tracks))
-          (λ ne. others s c (λ q. ne (sym q)) ∙ g.tracks s c hs ∙ ap (track_after (track_at old s c) c epoch) (sym (cell-other before e s c (other_signal s e.satellite c e.code (λ q. ne (sym q))))));
+          (λ ne. others s c (λ q. ne (sym q)) ∙ g.tracks s c hs ∙ ap (track_after (track_at old s c) c epoch) (sym (cell-other before e s c (other_signal e.satellite s e.code c ne))));
       observed = λ s c hs. by_eq (place_of_signal e.satellite e.code) (place_of_signal s c)
           (λ q. let p = same_signal e.satellite s e.code c he hs q in
           subst (λ (x : ℕ). shown_at (set shown (place_of_signal e.satellite e.code) (Some o)) x c ≡ observed_after (track_at old x c) c epoch (first_cell (before ++ e ∷ []) x c)) p.0
           (subst (λ (y : Code). shown_at (set shown (place_of_signal e.satellite e.code) (Some o)) e.satellite y ≡ observed_after (track_at old e.satellite y) y epoch (first_cell (before ++ e ∷ []) e.satellite y)) p.1 here-observed))
-          (λ ne. get_or-set_other shown (place_of_signal e.satellite e.code) (place_of_signal s c) (Some o) None (λ q. ne (sym q)) ∙ g.observed s c hs ∙ ap (observed_after (track_at old s c) c epoch) (sym (cell-other before e s c (other_signal s e.satellite c e.code (λ q. ne (sym q))))));
+          (λ ne. get_or-set_other shown (place_of_signal e.satellite e.code) (place_of_signal s c) (Some o) None (λ q. ne (sym q)) ∙ g.observed s c hs ∙ ap (observed_after (track_at old s c) c epoch) (sym (cell-other before e s c (other_signal e.satellite s e.code c ne))));
     }
 
 -- what is not shown yet may be shown, also after a cell

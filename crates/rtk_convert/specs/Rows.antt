@@ -1,6 +1,6 @@
 -- The table of an epoch, given the epochs below it. Lists of epochs fall: the greatest stands
 -- first.
-use Rattle.std.specs.Prelude.{ℕ, zero, suc, Bool, false, List, [], ◌∷◌, ◌++◌, map, filter, Option, Some, None, is_some, if◌then◌else◌, ℤ}
+use Rattle.std.specs.Prelude.{ℕ, zero, suc, Bool, false, ◌&&◌, ◌==◌, List, [], ◌∷◌, ◌++◌, map, filter, Option, Some, None, is_some, if◌then◌else◌, ℤ}
 use Rattle.std.specs.List.{list_any}
 use Rattle.rtk_obs.specs.declared.cell.Cell.{Cell}
 use Rattle.rtk_obs.specs.declared.cell.CellEntry.{CellEntry}
@@ -9,10 +9,10 @@ use Rattle.rtk_obs.specs.declared.cell.CellSource.TheVariants.{Legacy, Msm}
 use Rattle.rtk_obs.specs.declared.code.Code.{Code}
 use Rattle.rtk_obs.specs.declared.track.Track.{Track}
 use Rattle.rtk_obs.specs.declared.track.Digits.{Digits}
-use Rattle.rtk_obs.specs.Code.{band_of}
+use Rattle.rtk_obs.specs.Code.{place_of, band_of}
 use Rattle.rtk_obs.specs.Slip.{EpochCell, epoch_cell, is_same_source}
 use Rattle.rtk_obs.specs.Rollover.{last_phase, digits_since, rolled_phase}
-use Rattle.rtk_collect.specs.EpochSet.{EpochSetView, first_entry}
+use Rattle.rtk_collect.specs.EpochSet.{EpochSetView}
 use Rattle.rtk_rinex.specs.declared.epoch_table.Observed.{Observed}
 use Rattle.rtk_rinex.specs.declared.epoch_table.SatelliteRow.{SatelliteRow}
 use Rattle.rtk_rinex.specs.Record.{EpochTableView}
@@ -26,13 +26,13 @@ is_from source e = is_same_source e.cell.source source
 abbrev pub in_turn : List CellEntry → List CellEntry
 in_turn cells = filter (is_from Msm) cells ++ filter (is_from Legacy) cells
 
-abbrev pub cell_in : Option CellEntry → Option Cell
-cell_in None = None
-cell_in (Some e) = Some e.cell
+abbrev pub is_signal : ℕ → Code → CellEntry → Bool
+is_signal satellite code e = (e.satellite == satellite) && (place_of e.code == place_of code)
 
 -- the first cell of a satellite and code
 abbrev pub first_cell : List CellEntry → ℕ → Code → Option Cell
-first_cell cells satellite code = cell_in (first_entry satellite code cells)
+first_cell [] satellite code = None
+first_cell (e ∷ cells) satellite code = if is_signal satellite code e then Some e.cell else first_cell cells satellite code
 
 -- the cell of a satellite and code at an epoch: the cell of a 1074, even one without any value,
 -- else the cell of a 1004
