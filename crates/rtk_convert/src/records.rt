@@ -99,10 +99,10 @@ impl Records {
             → HasClosed self.new setup.now.head.listed (record { epoch = epoch; cells = cells.now } ∷ below)) }
         ensures all { OnOk result ((below : List EpochSetView) → HasClosed self.old setup.now.head.listed below
             → O.taken out.new ≡ with_more (O.taken out.old)
-                (closing setup.now (position_view position.now) (record { epoch = epoch; cells = cells.now }) below)) }
+            (closing setup.now (position_view position.now) (record { epoch = epoch; cells = cells.now }) below)) }
         ensures part { (below : List EpochSetView) → HasClosed self.old setup.now.head.listed below
             → TakesPart (O.taken out.old) (O.taken out.new)
-                (closing setup.now (position_view position.now) (record { epoch = epoch; cells = cells.now }) below) }
+            (closing setup.now (position_view position.now) (record { epoch = epoch; cells = cells.now }) below) }
         ensures later { OnOk result ((later : ℕ) → epoch < later → AllBelow self.new.tracks later) }
         ensures file_failed { NamesFailedWrites Stream.Out result (O.failures out.old) (O.failures out.new) }
         ensures fault { IfErr result IsOutFault }

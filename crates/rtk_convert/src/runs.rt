@@ -71,13 +71,13 @@ fn read_link<R: Source, O: Sink, L: Sink>(
     ensures full { AnyAtGreatest R.calls readers.old → AnyAtGreatest R.calls readers.new }
     ensures ok { OnOk result ((h : History) → RepresentsHistory converter.old h → IsNextLink h link
         → ReadsLink R.given R.is_at_end converter.old.conversion.settings h link readers.old readers.new converter.new
-            (written (O.taken out.old) (L.taken log.old)) (written (O.taken out.new) (L.taken log.new))) }
+        (written (O.taken out.old) (L.taken log.old)) (written (O.taken out.new) (L.taken log.new))) }
     ensures err { IfErr result (λ fault. IsFrameFault fault → (h : History) → RepresentsHistory converter.old h
         → BreaksOffAfterRead R.given converter.old.conversion.settings h link readers.old readers.new
-            (written (O.taken out.old) (L.taken log.old)) (written (O.taken out.new) (L.taken log.new))) }
+        (written (O.taken out.old) (L.taken log.old)) (written (O.taken out.new) (L.taken log.new))) }
     ensures read_failed { (h : History) → RepresentsHistory converter.old h → IsOpen h link → (k : ℕ) → IsErrOf result (ConvertFault.Read k)
         → (k ≡ link) × FailsRead R.given R.failures k readers.old readers.new
-            (written (O.taken out.old) (L.taken log.old)) (written (O.taken out.new) (L.taken log.new)) }
+        (written (O.taken out.old) (L.taken log.old)) (written (O.taken out.new) (L.taken log.new)) }
     ensures fault { IfErr result (λ fault. (h : History) → RepresentsHistory converter.old h → IsOpen h link → IsReadFault fault) }
     ensures file_failed { NamesFailedWrites Stream.Out result (O.failures out.old) (O.failures out.new) }
     ensures report_failed { NamesFailedWrites Stream.Log result (L.failures log.old) (L.failures log.new) }
@@ -108,13 +108,13 @@ fn read_all<R: Source, O: Sink, L: Sink>(
         (written (O.taken out.old) (L.taken log.old)) (written (O.taken out.new) (L.taken log.new))) }
     ensures err { IfErr result (λ fault. IsFrameFault fault
         → BreaksOffReading R.given R.calls converter.old.conversion.settings readers.old readers.new
-            (written (O.taken out.old) (L.taken log.old)) (written (O.taken out.new) (L.taken log.new))) }
+        (written (O.taken out.old) (L.taken log.old)) (written (O.taken out.new) (L.taken log.new))) }
     ensures read_failed { (link : ℕ) → IsErrOf result (ConvertFault.Read link)
         → FailsReading R.given R.failures R.calls converter.old.conversion.settings link readers.old readers.new
-            (written (O.taken out.old) (L.taken log.old)) (written (O.taken out.new) (L.taken log.new)) }
+        (written (O.taken out.old) (L.taken log.old)) (written (O.taken out.new) (L.taken log.new)) }
     ensures endless { IsErrOf result ConvertFault.Endless
         → StaysOpen R.given R.is_at_end converter.old.conversion.settings max_reads readers.old readers.new
-            (written (O.taken out.old) (L.taken log.old)) (written (O.taken out.new) (L.taken log.new))
+        (written (O.taken out.old) (L.taken log.old)) (written (O.taken out.new) (L.taken log.new))
         × HasCalled R.calls readers.old readers.new max_reads }
     ensures fault { IfErr result IsReadingFault }
     ensures no_failed_read { ((link : ℕ) → ¬ (IsErrOf result (ConvertFault.Read link))) → SameFailures R.failures readers.old readers.new }
@@ -162,13 +162,13 @@ pub fn run<R: Source, O: Sink, L: Sink>(
     // Not done: what is out, as far as the run came.
     ensures breaks_off { IfErr result (λ fault. IsFrameFault fault
         → BreaksOffRun R.given R.calls R.is_at_end setup readers.old readers.new
-            (written (O.taken out.old) (L.taken log.old)) (written (O.taken out.new) (L.taken log.new))) }
+        (written (O.taken out.old) (L.taken log.old)) (written (O.taken out.new) (L.taken log.new))) }
     ensures read_failed { (link : ℕ) → IsErrOf result (ConvertFault.Read link)
         → FailsReading R.given R.failures R.calls setup link readers.old readers.new
-            (written (O.taken out.old) (L.taken log.old)) (written (O.taken out.new) (L.taken log.new)) }
+        (written (O.taken out.old) (L.taken log.old)) (written (O.taken out.new) (L.taken log.new)) }
     ensures endless { IsErrOf result ConvertFault.Endless
         → StaysOpen R.given R.is_at_end setup max_reads readers.old readers.new
-            (written (O.taken out.old) (L.taken log.old)) (written (O.taken out.new) (L.taken log.new))
+        (written (O.taken out.old) (L.taken log.old)) (written (O.taken out.new) (L.taken log.new))
         × HasCalled R.calls readers.old readers.new max_reads }
     ensures untouched { IsErrOf result ConvertFault.Setup → (readers.new ≡ readers.old) × (out.new ≡ out.old) × (log.new ≡ log.old) }
 

@@ -1,5 +1,5 @@
 -- The open links of a converter are closed, one after another.
-use Rattle.std.specs.Prelude.{ℕ, List, length}
+use Rattle.std.specs.Prelude.{ℕ, length}
 use Rattle.rtk_convert.specs.History.{History}
 use Rattle.rtk_convert.specs.Converter.{ConverterView, RepresentsHistory, WritesOn, IsAfterClosingAll, BreaksOffClosing}
 use Rattle.rtk_convert.specs.Writing.{Written}
