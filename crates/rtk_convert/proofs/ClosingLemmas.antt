@@ -1,4 +1,6 @@
--- The links are closed, one after another, and the converter ends{is_some}
+-- The links are closed, one after another, and the converter ends.
+use Rattle.std.proofs.Common.{◌≡◌, ℕ, suc, true, false, List, ◌++◌, Option, None, Some, length, inl, inr, refl, ap, append_assoc, sym, subst, ◌∙◌}
+use Rattle.std.specs.Prelude.{is_some}
 use Rattle.rtk_frame.specs.Stream.{with_more}
 use Rattle.rtk_frame.proofs.StreamLemmas.{with_more-with_more}
 use Rattle.rtk_convert.specs.Converter.{ConverterView, RepresentsHistory, WritesOn, WritesInto, BreaksOffAfter, BreaksOffAt, ClosesLink, ClosesLinkInPart, BreaksOffClosing, IsAfterClosingAll, FinishesConverter, FinishesConverterInPart, refusal}

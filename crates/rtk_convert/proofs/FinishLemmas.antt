@@ -66,11 +66,11 @@ some-all s site held now first last o o' l none = λ below f.
       out = subst (λ (t : List EpochSetView). WritesRest o o' (closed_text s site below) (closed_text s site (t ++ below))) (sym all) w.1;
     }
 
-pub some-part : {s : SetupView} {site : PositionView} {held now next : List EpochSetView} {e : EpochSetView} {first last : RecordsView} {o o' o'' : Option (List ℕ)}
+pub some-part : {s : SetupView} {site : PositionView} {held now : List EpochSetView} (next : List EpochSetView) (e : EpochSetView) {first last : RecordsView} {o o' o'' : Option (List ℕ)}
     → SomeClosed s site held now first last o o' → now ≡ next ++ e ∷ []
     → ((below : List EpochSetView) → HasClosed last s.head.listed below → TakesPart o' o'' (closing s site e below))
     → ClosesEpochsInPart s site first held o o''
-some-part {s} {site} {held} {now} {next} {e} {first} {last} {o} {o'} {o''} l cut part = λ below f.
+some-part {s} {site} {held} {now} next e {first} {last} {o} {o'} {o''} l cut part = λ below f.
     let w = l.wrote below f in
     let rest : List EpochSetView = l.gone ++ below in
     let g = closed-grows s site next (e ∷ rest) in

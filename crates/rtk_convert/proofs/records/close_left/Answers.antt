@@ -10,7 +10,7 @@ returns-in_err-close-clause-err g c =
     let e : EpochSetView = record { epoch = c.epoch-epoch.result; cells = c.cells-cells.result.now } in
     let same : c.in-Some.set ≡ e =
     ap (λ (t : ℕ). record c.in-Some.set { epoch = t }) (sym c.epoch-epoch.ensures) ∙ ap (λ xs. record { epoch = c.epoch-epoch.result; cells = xs }) (sym c.cells-cells.ensures.value) in
-    on_err-from c.from_residual.result (some-part c.left.invariant.some
+    on_err-from c.from_residual.result (some-part c.next_left.new.self.sets e c.left.invariant.some
     (c.in-Some.ensures.next ∙ ap (λ (x : EpochSetView). c.next_left.new.self.sets ++ x ∷ []) same) c.close.ensures.part)
 
 pub left-preserved : goal.left-preserved

@@ -19,7 +19,7 @@ returns-clause-ok g c =
     slice_get_read c.self.inside.links.items _ c.args.link c.index_mut.result.now refl (accepted-within (converter c.self.inside.conversion c.self.inside.links.items) c.args.link none) c.index_mut.ensures.value in
     let unended = (accepted (converter c.self.inside.conversion c.self.inside.links.items) c.args.link none).is_open c.index_mut.result.now there in
     on_ok-two c.close.result (λ going all. subst (λ (s : ConverterView). ClosesLink s c.args.link (converter c.close.new.conversion (set c.self.inside.links.items c.args.link c.close.new.self)) before after) c.self.view_is
-    (closes
+    (closes c.close.new.self
     there unended going c.close.ensures.ended all))
     c.close.ensures.going c.close.ensures.ok
 

@@ -33,7 +33,7 @@ returns-clause-err g c =
     slice_get_read c.self.inside.links.items _ c.args.link c.index_mut.result.now refl (accepted-within (converter c.self.inside.conversion c.self.inside.links.items) c.args.link none) c.index_mut.ensures.value in
     let unended = (accepted (converter c.self.inside.conversion c.self.inside.links.items) c.args.link none).is_open c.index_mut.result.now there in
     if_err-map c.feed.result IsFrameFault (λ part. subst (λ (s : ConverterView). FeedsPieceInPart s c.args.link c.args.piece.now before after) c.self.view_is
-    (feeds-part
+    (feeds-part c.args.piece.now
     there unended part))
     c.feed.ensures.err
 

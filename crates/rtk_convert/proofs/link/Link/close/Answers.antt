@@ -29,7 +29,7 @@ frames-preserved g c =
       taken = (
         i.taken.0 ++ c.in-Some.payload.now ∷ [],
         s.taken,
-        gathers-more
+        gathers-more c.in-Some.payload.now
             i.settings i.taken.2 c.in_ok-epoch.ensures.ok c.in_ok-epoch.ensures.epoch c.later-self.ensures,
       );
     }
@@ -39,7 +39,7 @@ returns-in_err-epoch-clause-err g c =
     let i = c.frames.invariant in
     let holds = c.rest.follows.holds-at-none in
     let s = finds-left c.args.self.now.scanner.pending c.frames.self.scanner.pending i.taken.0 c.in-Some.payload c.rest.follows.lender-at-none i.taken.1 (rw c.in-Some.is at holds.2) in
-    on_err-from c.from_residual.result (breaks-off
+    on_err-from c.from_residual.result (breaks-off _ c.in-Some.payload.now
     i.settings s.split i.taken.2 (c.in_err-epoch.ensures.err i.going))
 
 pub returns-in_err-epoch-clause-fault : goal.returns-in_err-epoch-clause-fault
