@@ -4,7 +4,7 @@ use Rattle.rtk_frame.specs.Stream.{with_more, TakesPart}
 use Rattle.rtk_convert.specs.declared.frame_class.FrameClass.{FrameClass}
 use Rattle.rtk_convert.specs.FrameClass.{IsClassOfPayload}
 use Rattle.rtk_convert.specs.Report.{refused_line, one_frame_more}
-use Rattle.rtk_convert.specs.Conversion.{ConversionView, IsAhead}
+use Rattle.rtk_convert.specs.Conversion.{ConversionView, HoldsArrivals, IsAhead}
 use Rattle.rtk_convert.specs.Steps.AcceptedFrame.{AcceptsFrame, BreaksOffAtFrame}
 use Rattle.rtk_convert.specs.Writing.{written}
 use Rattle.rtk_convert.proofs.ArriveLemmas.{state, arrives-arrived, breaks-arrived, arrives-other, arrives-refused, breaks-refused}
@@ -89,3 +89,24 @@ pub returns-in_err-handle_message-in-Dated-clause-report_failed : goal.returns-i
 returns-in_err-handle_message-in-Dated-clause-report_failed g c =
     let p = err_from_is_err_and c.from_residual-in_err-handle_message-in-Dated.result c.from_residual-in_err-handle_message-in-Dated.ensures.1 in
     rw (p.1, p.2) c.in_err-handle_message-in-Dated.ensures.report_failed
+
+pub returns-in_default-clause-held : goal.returns-in_default-clause-held
+returns-in_default-clause-held g c = λ h. subst (λ (x : ConversionView). HoldsArrivals x.window) (sym c.self.view_is) h
+
+pub returns-in-OtherMessage-clause-held : goal.returns-in-OtherMessage-clause-held
+returns-in-OtherMessage-clause-held g c = λ h. subst (λ (x : ConversionView). HoldsArrivals x.window) (sym c.self.view_is) h
+
+pub returns-in-Foreign-clause-held : goal.returns-in-Foreign-clause-held
+returns-in-Foreign-clause-held g c = λ h. subst (λ (x : ConversionView). HoldsArrivals x.window) (sym c.self.view_is) h
+
+pub returns-in_ok-put_lines-in-Refused-clause-held : goal.returns-in_ok-put_lines-in-Refused-clause-held
+returns-in_ok-put_lines-in-Refused-clause-held g c = λ h. subst (λ (x : ConversionView). HoldsArrivals x.window) (sym c.self.view_is) h
+
+pub returns-in_err-put_lines-in-Refused-clause-held : goal.returns-in_err-put_lines-in-Refused-clause-held
+returns-in_err-put_lines-in-Refused-clause-held g c = λ h. subst (λ (x : ConversionView). HoldsArrivals x.window) (sym c.self.view_is) h
+
+pub returns-in_ok-handle_message-in-Dated-clause-held : goal.returns-in_ok-handle_message-in-Dated-clause-held
+returns-in_ok-handle_message-in-Dated-clause-held g c = λ h. c.handle_message.ensures.held (subst (λ (x : ConversionView). HoldsArrivals x.window) (sym c.self.view_is) h)
+
+pub returns-in_err-handle_message-in-Dated-clause-held : goal.returns-in_err-handle_message-in-Dated-clause-held
+returns-in_err-handle_message-in-Dated-clause-held g c = λ h. c.handle_message.ensures.held (subst (λ (x : ConversionView). HoldsArrivals x.window) (sym c.self.view_is) h)
