@@ -1,5 +1,6 @@
 use Rattle.std.proofs.Common.{◌++◌, [], ◌∷◌, refl, ◌∙◌}
 use Rattle.std.proofs.lemmas.Result.{err_from_is_err_and}
+use Rattle.rtk_convert.specs.Writing.{written}
 use Rattle.rtk_convert.proofs.GatheringLemmas.{gathers-none, gathers-more, breaks-off, finds-left}
 use Rattle.rtk_convert.proofs.WritingLemmas.{on_err-from}
 use Rattle.rtk_convert.proofs.link.Link.close.Goals as goal
@@ -8,10 +9,11 @@ pub frames-init : goal.frames-init
 frames-init g c = record {
   going = c.requires.going;
   few = c.requires.few;
+  held = λ h. h;
   settings = refl;
   out_same = refl;
   log_same = refl;
-  taken = ([], refl, gathers-none c.args.conversion.now c.args.number c.args.self.now.newest (g.O.Sink.taken c.args.out.now) (g.L.Sink.taken c.args.log.now));
+  taken = ([], refl, gathers-none c.args.conversion.now c.args.number c.args.self.now.newest (written (g.O.Sink.taken c.args.out.now) (g.L.Sink.taken c.args.log.now)));
 }
 
 pub frames-preserved : goal.frames-preserved
@@ -22,15 +24,14 @@ frames-preserved g c =
     record {
       going = c.in_ok-epoch.ensures.going;
       few = c.accept_frame.ensures.few;
+      held = λ h. c.accept_frame.ensures.held (i.held h);
       settings = c.accept_frame.ensures.settings ∙ i.settings;
       out_same = c.in_ok-epoch.ensures.file_failed ∙ i.out_same;
       log_same = c.in_ok-epoch.ensures.report_failed ∙ i.log_same;
       taken = (
         i.taken.0 ++ c.in-Some.payload.now ∷ [],
         s.taken,
-        gathers-more c.args.conversion.now c.frames.conversion c.accept_frame.new.self c.args.number i.taken.0 c.in-Some.payload.now c.in_ok-epoch.epoch c.args.self.now.newest c.frames.self.newest c.later-self.result
-            (g.O.Sink.taken c.args.out.now) (g.O.Sink.taken c.frames.out) (g.O.Sink.taken c.accept_frame.new.out)
-            (g.L.Sink.taken c.args.log.now) (g.L.Sink.taken c.frames.log) (g.L.Sink.taken c.accept_frame.new.log)
+        gathers-more c.in-Some.payload.now
             i.settings i.taken.2 c.in_ok-epoch.ensures.ok c.in_ok-epoch.ensures.epoch c.later-self.ensures,
       );
     }
@@ -40,9 +41,7 @@ returns-in_err-epoch-clause-err g c =
     let i = c.frames.invariant in
     let holds = c.rest.follows.holds-at-none in
     let s = finds-left c.args.self.now.scanner.pending c.frames.self.scanner.pending i.taken.0 c.in-Some.payload c.rest.follows.lender-at-none i.taken.1 (rw c.in-Some.is at holds.2) in
-    on_err-from c.from_residual.result (breaks-off c.args.conversion.now c.frames.conversion c.args.number _ i.taken.0 _ c.in-Some.payload.now c.args.self.now.newest c.frames.self.newest
-    (g.O.Sink.taken c.args.out.now) (g.O.Sink.taken c.frames.out) (g.O.Sink.taken c.accept_frame.new.out)
-    (g.L.Sink.taken c.args.log.now) (g.L.Sink.taken c.frames.log) (g.L.Sink.taken c.accept_frame.new.log)
+    on_err-from c.from_residual.result (breaks-off _ c.in-Some.payload.now
     i.settings s.split i.taken.2 (c.in_err-epoch.ensures.err i.going))
 
 pub returns-in_err-epoch-clause-fault : goal.returns-in_err-epoch-clause-fault
@@ -59,3 +58,6 @@ pub returns-in_err-epoch-clause-report_failed : goal.returns-in_err-epoch-clause
 returns-in_err-epoch-clause-report_failed g c =
     let p = err_from_is_err_and c.from_residual.result c.from_residual.ensures.1 in
     rw (p.1, p.2, ← c.frames.invariant.log_same) c.in_err-epoch.ensures.report_failed
+
+pub returns-in_err-epoch-clause-held : goal.returns-in_err-epoch-clause-held
+returns-in_err-epoch-clause-held g c = λ h. c.accept_frame.ensures.held (c.frames.invariant.held h)
