@@ -9,7 +9,7 @@ use Rattle.rtk_message.specs.declared.message.Message.TheVariants.{Obs1004, Arp1
 use Rattle.rtk_message.specs.Decoded.{IsValid}
 use Rattle.rtk_obs.specs.declared.cell.CellEntry.{CellEntry}
 use Rattle.rtk_obs.specs.Cell.{AreDifferentSignals, AreDistinct}
-use Rattle.rtk_obs.proofs.DistinctLemmas.{Pairs, cells_of_1004-distinct, cells_of_1074-distinct}
+use Rattle.rtk_obs.proofs.PublicLaws.{cells_of_1004-distinct, cells_of_1074-distinct}
 use Rattle.rtk_collect.specs.Key.{key}
 use Rattle.rtk_collect.specs.EpochSet.{EpochSetView, with_cell, cell_under, conflict, conflicts, EpochsFall}
 use Rattle.rtk_collect.specs.Arrival.{Arrival, At, cells_of}
@@ -30,7 +30,12 @@ HasOtherKey c d = key c ≢ key d
 keys-differ : (a b : CellEntry) → AreDifferentSignals a b → HasOtherKey a b
 keys-differ a b h k = let p = (keys-are-distinct a b).0 k in h p.0 p.1
 
-pairs-differ : (xs : List CellEntry) → AreDistinct xs → Pairs HasOtherKey xs
+-- no two of the cells have one key
+abbrev KeysDiffer : List CellEntry → Type 0
+KeysDiffer [] = Unit {0}
+KeysDiffer (c ∷ cs) = AllByRecursion (HasOtherKey c) cs × KeysDiffer cs
+
+pairs-differ : (xs : List CellEntry) → AreDistinct xs → KeysDiffer xs
 pairs-differ [] h = tt
 pairs-differ (x ∷ xs) h = (
   recursion_from_All (HasOtherKey x) xs (λ j d l. keys-differ x (get_or xs j d) (h 0 (suc j) d (omega arith) (omega arith))),
@@ -46,7 +51,7 @@ after-join : (c : CellEntry) (more kept : List CellEntry) → AllByRecursion (Ha
 after-join c [] kept a b = tt
 after-join c (d ∷ more) kept a b = (with_cell-all (HasOtherKey d) c kept (λ k. a.0 (sym k)) b.0, after-join c more kept a.1 b.1)
 
-none-conflict : (cs kept : List CellEntry) → Pairs HasOtherKey cs → AllByRecursion (λ c. AllByRecursion (HasOtherKey c) kept) cs → conflicts cs kept ≡ []
+none-conflict : (cs kept : List CellEntry) → KeysDiffer cs → AllByRecursion (λ c. AllByRecursion (HasOtherKey c) kept) cs → conflicts cs kept ≡ []
 none-conflict [] kept p a = refl
 none-conflict (c ∷ more) kept p a =
     ap (λ o. conflict c o ++ conflicts more (with_cell c kept)) (none-under c kept a.0) ∙ none-conflict more (with_cell c kept) p.1 (after-join c more kept p.0 a.1)

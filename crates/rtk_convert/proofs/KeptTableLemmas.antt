@@ -15,8 +15,7 @@ use Rattle.rtk_obs.specs.declared.cell.CellEntry.{CellEntry}
 use Rattle.rtk_obs.specs.Cell.{IsInRange}
 use Rattle.rtk_obs.specs.Dating.{IsReference}
 use Rattle.rtk_obs.specs.Position.{IsCoordinate}
-use Rattle.rtk_obs.proofs.LegacyLemmas.{fields_of_valid, cells_in_range as cells_in_range-1004}
-use Rattle.rtk_obs.proofs.MsmLemmas.{cells_in_range as cells_in_range-1074}
+use Rattle.rtk_obs.proofs.PublicLaws.{fields_of_valid, cells_in_range-1004, cells_in_range-1074}
 use Rattle.rtk_collect.specs.EpochSet.{EpochSetView, joined, FirstIsBelow, EpochsFall}
 use Rattle.rtk_collect.specs.Arrival.{Arrival, At, cells_of}
 use Rattle.rtk_collect.specs.Late.{late}
