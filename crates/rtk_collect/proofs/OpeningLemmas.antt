@@ -16,7 +16,7 @@ use Rattle.rtk_collect.specs.Arrival.{Arrival, At, cells_of}
 use Rattle.rtk_collect.specs.Late.{epochs}
 use Rattle.rtk_collect.specs.Accepted.{no_cells, with_arrival, kept, cells_at, closed}
 use Rattle.rtk_collect.specs.Answer.{conflicts_with}
-use Rattle.rtk_collect.specs.Laws.{OpeningConflictsNot, ClosingConflictsNot}
+use Rattle.rtk_collect.specs.Laws.{ClosedAreCounted, KeptOpensNone, OpeningConflictsNot, ClosingConflictsNot}
 use Rattle.rtk_collect.proofs.EqualityLemmas.{keys-are-distinct}
 use Rattle.rtk_collect.proofs.CellsLemmas.{with_cell-all}
 use Rattle.rtk_collect.proofs.ArrivalsLemmas.{leadingN, with_arrival-below, with_arrival-same, below-none, is-late, is-open, kept-falls}
@@ -81,10 +81,10 @@ length-held e cs b (x ∷ xs) f h = elim (cases_order x.epoch e) [
   ]
 ]
 
-pub closed-length : (n : ℕ) (arrivals : List Arrival) → length (closed n arrivals) ≡ length (kept n arrivals) - n
+pub closed-length : ClosedAreCounted
 closed-length n arrivals = ap length (closed-drop n (no_cells 0) arrivals) ∙ length-drop n (kept n arrivals)
 
-pub held-length : (n e : ℕ) (m : Message) (b : List CellEntry) (before : List Arrival) → cells_at e (kept n before) ≡ Some b → length (kept n (At (Some e) m ∷ before)) ≡ length (kept n before)
+pub held-length : KeptOpensNone
 held-length n e m b before h = elim (cases_lt (leadingN e (epochs before)) n) [
   | inl fresh ↦ ap length (is-open n e m before fresh) ∙ length-held e (cells_of m) b (kept n before) (kept-falls n before) h
   | inr over ↦ ap length (is-late n e m before over)

@@ -5,7 +5,7 @@ use Rattle.std.proofs.lemmas.List.Elements.{All-take, All-set, All-replicate}
 use Rattle.rtk_frame.specs.ScannerView.{scanner_view}
 use Rattle.rtk_collect.specs.Accepted.{kept}
 use Rattle.rtk_collect.specs.EpochSet.{EpochSetView}
-use Rattle.rtk_collect.proofs.FewLemmas.{kept-are-few}
+use Rattle.rtk_collect.proofs.PublicLaws.{kept-are-few}
 use Rattle.rtk_convert.specs.Conversion.{ConversionView}
 use Rattle.rtk_convert.specs.Converter.{ConverterView, IsConverterView, RepresentsHistory, HoldsAtMost}
 use Rattle.rtk_convert.specs.FrameClass.{arrivals}

@@ -20,9 +20,7 @@ use Rattle.rtk_collect.specs.EpochSet.{EpochSetView, joined, FirstIsBelow, Epoch
 use Rattle.rtk_collect.specs.Arrival.{Arrival, At, cells_of}
 use Rattle.rtk_collect.specs.Late.{late}
 use Rattle.rtk_collect.specs.Accepted.{first, station, no_cells, with_arrival, kept}
-use Rattle.rtk_collect.proofs.CellsLemmas.{with_cells-all}
-use Rattle.rtk_collect.proofs.ArrivalsLemmas.{with_arrival-new, with_arrival-below, with_arrival-same, kept-falls}
-use Rattle.rtk_collect.proofs.LateLemmas.{kept-late, kept-new}
+use Rattle.rtk_collect.proofs.PublicLaws.{with_cells-all, with_arrival-new, with_arrival-below, with_arrival-same, kept-falls, kept-late, kept-new}
 use Rattle.rtk_rinex.specs.Header.{IsPositionView}
 use Rattle.rtk_rinex.specs.Reading.{IsMoment}
 use Rattle.rtk_rinex.specs.Table.{FilesAreTables}
