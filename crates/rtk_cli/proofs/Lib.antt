@@ -1,4 +1,4 @@
-pub mod CodeListLemmas
-pub mod LawLemmas
-pub mod MomentTextLemmas
-pub mod ShownLemmas
+mod CodeListLemmas
+mod LawLemmas
+mod MomentTextLemmas
+mod ShownLemmas

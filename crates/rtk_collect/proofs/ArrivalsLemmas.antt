@@ -11,6 +11,7 @@ use Rattle.rtk_collect.specs.EpochSet.{EpochSetView, joined, FirstIsBelow, Epoch
 use Rattle.rtk_collect.specs.Arrival.{Arrival, At, cells_of}
 use Rattle.rtk_collect.specs.Late.{with_epoch, epochs, greater, late}
 use Rattle.rtk_collect.specs.Accepted.{no_cells, with_arrival, kept, cells_at}
+use Rattle.rtk_collect.specs.Laws.{GreaterOpens, LesserJoinsOthers, SameJoins, KeptFall}
 use Rattle.rtk_collect.specs.Steps.Search.{leading}
 
 -- an epoch with the cells of one message
@@ -63,13 +64,13 @@ with_epoch-falls e (x ∷ xs) h = elim (cases_order x e) [
   ]
 ]
 
-pub with_arrival-new : (e : ℕ) (cs : List CellEntry) (x : EpochSetView) (xs : List EpochSetView) → x.epoch < e → with_arrival e cs (x ∷ xs) ≡ opened e cs ∷ x ∷ xs
+pub with_arrival-new : GreaterOpens
 with_arrival-new e cs x xs h = rw (lt-ltb x.epoch e h) refl
 
-pub with_arrival-below : (e : ℕ) (cs : List CellEntry) (x : EpochSetView) (xs : List EpochSetView) → e < x.epoch → with_arrival e cs (x ∷ xs) ≡ x ∷ with_arrival e cs xs
+pub with_arrival-below : LesserJoinsOthers
 with_arrival-below e cs x xs h = rw (le-ltb x.epoch e (omega arith), lt-ltb e x.epoch h) refl
 
-pub with_arrival-same : (e : ℕ) (cs : List CellEntry) (x : EpochSetView) (xs : List EpochSetView) → e ≡ x.epoch → with_arrival e cs (x ∷ xs) ≡ joined cs x ∷ xs
+pub with_arrival-same : SameJoins
 with_arrival-same e cs x xs h = rw (le-ltb x.epoch e (omega arith), le-ltb e x.epoch (omega arith)) refl
 
 pub keys-with_arrival : (e : ℕ) (cs : List CellEntry) (xs : List EpochSetView) → keys (with_arrival e cs xs) ≡ with_epoch e (keys xs)
@@ -205,7 +206,7 @@ with_arrival-falls e cs (x ∷ xs) h = elim (cases_order x.epoch e) [
   ]
 ]
 
-pub kept-falls : (n : ℕ) (arrivals : List Arrival) → EpochsFall (kept n arrivals)
+pub kept-falls : KeptFall
 kept-falls n [] = tt
 kept-falls n (At None m ∷ before) = kept-falls n before
 kept-falls n (At (Some e) m ∷ before) = elim (cases_lt (leadingN e (epochs before)) n) [

@@ -1,5 +1,6 @@
 -- How many cells an epoch has, and which epochs are kept.
 use Rattle.std.proofs.Common.{◌≡◌, ℕ, suc, ◌≤◌, Bool, true, false, cond, List, [], ◌∷◌, ◌++◌, length, Option, None, Some, refl, ap, sym, ◌∙◌, map, take, arith, inl, inr, subst, filter}
+use Rattle.std.specs.Prelude.{slice_index}
 use Rattle.std.specs.List.{flat_map, AllByRecursion}
 use Rattle.std.proofs.lemmas.Bool.{cases_order, cases_Bool}
 use Rattle.std.proofs.lemmas.Bool.Decides.{nat_tests}
@@ -14,7 +15,6 @@ use Rattle.rtk_obs.specs.Cell.{is_satellite, IsSatellite}
 use Rattle.rtk_obs.specs.Mask.{join_from}
 use Rattle.rtk_obs.specs.LegacyCells.{first_entries, satellite_entries}
 use Rattle.rtk_obs.specs.MsmCells.{satellites_of, slots_of, coded_entry, slot_entry, code_of_signal, cells_of_1074}
-use Rattle.rtk_obs.proofs.MsmLemmas.{satellite_in}
 use Rattle.rtk_collect.specs.Key.{KeysRise}
 use Rattle.rtk_collect.specs.EpochSet.{EpochSetView}
 use Rattle.rtk_collect.specs.Arrival.{Arrival, At, cells_of}
@@ -58,8 +58,8 @@ all-join f each k (x ∷ xs) = all-append HasSatellite (f k x) (join_from f (suc
 
 of-msm : (m : Msm1074) → AllByRecursion HasSatellite (cells_of_1074 m)
 of-msm m = all-join (slot_entry m) (λ k s.
-    slot-if (is_satellite (satellite_in (satellites_of m) s)) (satellite_in (satellites_of m) s) (coded_entry m k s.row (satellite_in (satellites_of m) s) (code_of_signal s.signal)) refl
-    (λ is. of-coded m k s.row (satellite_in (satellites_of m) s) (code_of_signal s.signal) is)) 0 (slots_of m)
+    slot-if (is_satellite (slice_index (satellites_of m) s.row)) (slice_index (satellites_of m) s.row) (coded_entry m k s.row (slice_index (satellites_of m) s.row) (code_of_signal s.signal)) refl
+    (λ is. of-coded m k s.row (slice_index (satellites_of m) s.row) (code_of_signal s.signal) is)) 0 (slots_of m)
 
 of-message : (m : Message) → AllByRecursion HasSatellite (cells_of m)
 of-message (Obs1004 m) = of-legacy (first_entries m.satellites)

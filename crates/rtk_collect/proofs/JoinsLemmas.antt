@@ -10,6 +10,7 @@ use Rattle.rtk_collect.specs.EpochSet.{EpochSetView, EpochsFall}
 use Rattle.rtk_collect.specs.Arrival.{Arrival, At, cells_of}
 use Rattle.rtk_collect.specs.Late.{epochs, greater, late}
 use Rattle.rtk_collect.specs.Accepted.{no_cells, with_arrival, kept, cells_at, closed}
+use Rattle.rtk_collect.specs.Laws.{ClosedAreRest}
 use Rattle.rtk_collect.specs.Steps.Search.{leading}
 use Rattle.rtk_collect.proofs.ArrivalsLemmas.{keys, leadingN, leadingN-take, leadingN-keys, keys-take, epochs-fall, greater-leading, late-true, late-false, is-late, is-open, same_greatest, kept-falls, take-with_arrival, drop-with_arrival, leading-sets, sets-late, sets-open, cells_at-take, cells_at-none}
 
@@ -55,6 +56,9 @@ closed-test n k d arrivals h =
 
 pub closed-drop : (n : ℕ) (d : EpochSetView) (arrivals : List Arrival) → closed n arrivals ≡ drop n (kept n arrivals)
 closed-drop n d arrivals = filter-drop (λ x. nat_le n (greater (Some x.epoch) (epochs arrivals))) n 0 d (kept n arrivals) (λ k h. closed-test n k d arrivals h) ∙ ap (λ t. drop t (kept n arrivals)) (omega arith)
+
+pub closed-rest : ClosedAreRest
+closed-rest n arrivals = closed-drop n (no_cells 0) arrivals
 
 pub falls-take : (n : ℕ) (xs : List EpochSetView) → EpochsFall xs → EpochsFall (take n xs)
 falls-take zero xs f = tt

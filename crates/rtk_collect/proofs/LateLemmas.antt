@@ -11,7 +11,7 @@ use Rattle.rtk_collect.specs.EpochSet.{EpochSetView, EpochsFall}
 use Rattle.rtk_collect.specs.Arrival.{Arrival, At, cells_of}
 use Rattle.rtk_collect.specs.Late.{epochs, with_epoch, late}
 use Rattle.rtk_collect.specs.Accepted.{no_cells, station, first, kept, closed, with_arrival, IsTaken}
-use Rattle.rtk_collect.specs.Laws.{without_late, AreInTime, LateArrivalsChangeNothing, ClosedOnlyGrow, ClosedFall, ClosedAfter, ExcusedIsKept, StationsAreFinal}
+use Rattle.rtk_collect.specs.Laws.{without_late, AreInTime, LateArrivalsChangeNothing, ClosedOnlyGrow, ClosedFall, ClosedAfter, ExcusedIsKept, StationsAreFinal, LateLeavesKept, InTimeJoinsKept}
 use Rattle.rtk_collect.proofs.ArrivalsLemmas.{leadingN, leadingN-take, late-leading, is-late, is-open, take-with_epoch, take-with_epoch-late, keys, same_greatest, kept-falls, drop-with_arrival}
 use Rattle.rtk_collect.proofs.JoinsLemmas.{same-le, closed-drop, whole, leading-kept}
 use Rattle.rtk_collect.proofs.StationLemmas.{length-keys, and-none, excused-is}
@@ -19,10 +19,10 @@ use Rattle.rtk_collect.proofs.StationLemmas.{length-keys, and-none, excused-is}
 late-above : (n e : ℕ) (m : Message) (before : List Arrival) → late n (At (Some e) m) before ≡ true → n ≤ leadingN e (epochs before)
 late-above n e m before h = leb-true n _ (sym (late-leading n e m before) ∙ h)
 
-pub kept-late : (n e : ℕ) (m : Message) (before : List Arrival) → late n (At (Some e) m) before ≡ true → kept n (At (Some e) m ∷ before) ≡ kept n before
+pub kept-late : LateLeavesKept
 kept-late n e m before h = ap (λ (b : Bool). if b then kept n before else with_arrival e (cells_of m) (kept n before)) h
 
-pub kept-new : (n e : ℕ) (m : Message) (before : List Arrival) → late n (At (Some e) m) before ≡ false → kept n (At (Some e) m ∷ before) ≡ with_arrival e (cells_of m) (kept n before)
+pub kept-new : InTimeJoinsKept
 kept-new n e m before h = ap (λ (b : Bool). if b then kept n before else with_arrival e (cells_of m) (kept n before)) h
 
 without-head : (n : ℕ) (a : Arrival) (before : List Arrival) → late n a before ≡ true → without_late n (a ∷ before) ≡ without_late n before

@@ -1,17 +1,20 @@
-pub mod CellsLemmas
-pub mod FewLemmas
-pub mod ArrivalsLemmas
-pub mod JoinsLemmas
-pub mod OpeningLemmas
-pub mod OffersLemmas
-pub mod StationLemmas
-pub mod WindowLemmas
-pub mod LateLemmas
-pub mod MembersLemmas
-pub mod SetsLemmas
-pub mod EqualityLemmas
-pub mod RisingLemmas
-pub mod MergesLemmas
-pub mod PreferredLemmas
-pub mod DatedLemmas
-pub mod PositionLemmas
+-- The facts of the public laws, which proofs of other crates cite
+pub mod PublicLaws
+-- Laws on the definitions, and what this crate's functions compute
+mod CellsLemmas
+mod FewLemmas
+mod ArrivalsLemmas
+mod JoinsLemmas
+mod OpeningLemmas
+mod OffersLemmas
+mod StationLemmas
+mod WindowLemmas
+mod LateLemmas
+mod MembersLemmas
+mod SetsLemmas
+mod EqualityLemmas
+mod RisingLemmas
+mod MergesLemmas
+mod PreferredLemmas
+mod DatedLemmas
+mod PositionLemmas

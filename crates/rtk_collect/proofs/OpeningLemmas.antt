@@ -9,14 +9,14 @@ use Rattle.rtk_message.specs.declared.message.Message.TheVariants.{Obs1004, Arp1
 use Rattle.rtk_message.specs.Decoded.{IsValid}
 use Rattle.rtk_obs.specs.declared.cell.CellEntry.{CellEntry}
 use Rattle.rtk_obs.specs.Cell.{AreDifferentSignals, AreDistinct}
-use Rattle.rtk_obs.proofs.DistinctLemmas.{Pairs, cells_of_1004-distinct, cells_of_1074-distinct}
+use Rattle.rtk_obs.proofs.PublicLaws.{cells_of_1004-distinct, cells_of_1074-distinct}
 use Rattle.rtk_collect.specs.Key.{key}
 use Rattle.rtk_collect.specs.EpochSet.{EpochSetView, with_cell, cell_under, conflict, conflicts, EpochsFall}
 use Rattle.rtk_collect.specs.Arrival.{Arrival, At, cells_of}
 use Rattle.rtk_collect.specs.Late.{epochs}
 use Rattle.rtk_collect.specs.Accepted.{no_cells, with_arrival, kept, cells_at, closed}
 use Rattle.rtk_collect.specs.Answer.{conflicts_with}
-use Rattle.rtk_collect.specs.Laws.{OpeningConflictsNot, ClosingConflictsNot}
+use Rattle.rtk_collect.specs.Laws.{ClosedAreCounted, KeptOpensNone, OpeningConflictsNot, ClosingConflictsNot}
 use Rattle.rtk_collect.proofs.EqualityLemmas.{keys-are-distinct}
 use Rattle.rtk_collect.proofs.CellsLemmas.{with_cell-all}
 use Rattle.rtk_collect.proofs.ArrivalsLemmas.{leadingN, with_arrival-below, with_arrival-same, below-none, is-late, is-open, kept-falls}
@@ -30,7 +30,12 @@ HasOtherKey c d = key c ≢ key d
 keys-differ : (a b : CellEntry) → AreDifferentSignals a b → HasOtherKey a b
 keys-differ a b h k = let p = (keys-are-distinct a b).0 k in h p.0 p.1
 
-pairs-differ : (xs : List CellEntry) → AreDistinct xs → Pairs HasOtherKey xs
+-- no two of the cells have one key
+abbrev KeysDiffer : List CellEntry → Type 0
+KeysDiffer [] = Unit {0}
+KeysDiffer (c ∷ cs) = AllByRecursion (HasOtherKey c) cs × KeysDiffer cs
+
+pairs-differ : (xs : List CellEntry) → AreDistinct xs → KeysDiffer xs
 pairs-differ [] h = tt
 pairs-differ (x ∷ xs) h = (
   recursion_from_All (HasOtherKey x) xs (λ j d l. keys-differ x (get_or xs j d) (h 0 (suc j) d (omega arith) (omega arith))),
@@ -46,7 +51,7 @@ after-join : (c : CellEntry) (more kept : List CellEntry) → AllByRecursion (Ha
 after-join c [] kept a b = tt
 after-join c (d ∷ more) kept a b = (with_cell-all (HasOtherKey d) c kept (λ k. a.0 (sym k)) b.0, after-join c more kept a.1 b.1)
 
-none-conflict : (cs kept : List CellEntry) → Pairs HasOtherKey cs → AllByRecursion (λ c. AllByRecursion (HasOtherKey c) kept) cs → conflicts cs kept ≡ []
+none-conflict : (cs kept : List CellEntry) → KeysDiffer cs → AllByRecursion (λ c. AllByRecursion (HasOtherKey c) kept) cs → conflicts cs kept ≡ []
 none-conflict [] kept p a = refl
 none-conflict (c ∷ more) kept p a =
     ap (λ o. conflict c o ++ conflicts more (with_cell c kept)) (none-under c kept a.0) ∙ none-conflict more (with_cell c kept) p.1 (after-join c more kept p.0 a.1)
@@ -76,10 +81,10 @@ length-held e cs b (x ∷ xs) f h = elim (cases_order x.epoch e) [
   ]
 ]
 
-pub closed-length : (n : ℕ) (arrivals : List Arrival) → length (closed n arrivals) ≡ length (kept n arrivals) - n
+pub closed-length : ClosedAreCounted
 closed-length n arrivals = ap length (closed-drop n (no_cells 0) arrivals) ∙ length-drop n (kept n arrivals)
 
-pub held-length : (n e : ℕ) (m : Message) (b : List CellEntry) (before : List Arrival) → cells_at e (kept n before) ≡ Some b → length (kept n (At (Some e) m ∷ before)) ≡ length (kept n before)
+pub held-length : KeptOpensNone
 held-length n e m b before h = elim (cases_lt (leadingN e (epochs before)) n) [
   | inl fresh ↦ ap length (is-open n e m before fresh) ∙ length-held e (cells_of m) b (kept n before) (kept-falls n before) h
   | inr over ↦ ap length (is-late n e m before over)

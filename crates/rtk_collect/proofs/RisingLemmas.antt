@@ -45,12 +45,12 @@ under-none : (c : CellEntry) (kept more : List CellEntry) → KeysRise (kept ++ 
 under-none c [] more r = refl
 under-none c (x ∷ xs) more r = let h : key x < key c = rises-before x c xs more r in rw (ne_eqb (key c) (key x) (λ q. omega arith)) (under-none c xs more r.1)
 
-join-behind : (cells kept : List CellEntry) → KeysRise (kept ++ cells) → (with_cells cells kept ≡ kept ++ cells) × (conflicts cells kept ≡ [])
-join-behind [] kept r = (sym (append-nil kept), refl)
-join-behind (c ∷ more) kept r =
+join-after : (cells kept : List CellEntry) → KeysRise (kept ++ cells) → (with_cells cells kept ≡ kept ++ cells) × (conflicts cells kept ≡ [])
+join-after [] kept r = (sym (append-nil kept), refl)
+join-after (c ∷ more) kept r =
     let s : with_cell c kept ≡ kept ++ c ∷ [] = last-cell c kept more r in
     let a : (kept ++ c ∷ []) ++ more ≡ kept ++ c ∷ more = append_assoc kept (c ∷ []) more in
-    let h = join-behind more (kept ++ c ∷ []) (subst KeysRise (sym a) r) in
+    let h = join-after more (kept ++ c ∷ []) (subst KeysRise (sym a) r) in
     (ap (with_cells more) s ∙ h.0 ∙ a, ap (λ o. conflict c o ++ conflicts more (with_cell c kept)) (under-none c kept more r) ∙ ap (conflicts more) s ∙ h.1)
 
 fresh-all : (cells : List CellEntry) → fresh cells [] ≡ length cells
@@ -69,7 +69,7 @@ pub record Alone (cells kept : List CellEntry) : Type 0 where
 
 pub alone : (cells kept : List CellEntry) → kept ≡ [] → KeysRise cells → Alone cells kept
 alone cells kept none r = subst (λ (t : List CellEntry). Alone cells t) (sym none) (record {
-  items = sym (join-behind cells [] r).0;
+  items = sym (join-after cells [] r).0;
   fresh = sym (fresh-all cells);
-  conflicts = sym (join-behind cells [] r).1;
+  conflicts = sym (join-after cells [] r).1;
 })

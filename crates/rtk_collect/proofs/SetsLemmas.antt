@@ -8,7 +8,7 @@ use Rattle.rtk_collect.specs.EpochSet.{EpochSetView, EpochsFall}
 use Rattle.rtk_collect.specs.Arrival.{Arrival, At, cells_of}
 use Rattle.rtk_collect.specs.Late.{late}
 use Rattle.rtk_collect.specs.Accepted.{kept, station, with_arrival, IsTaken, AmongCells, IsTakenCell, IsConsistent}
-use Rattle.rtk_collect.specs.Laws.{HasEpoch, IsKept, SetDecides}
+use Rattle.rtk_collect.specs.Laws.{HasEpoch, IsKept, AllRise, KeptRise, OrderedAreSame, SetDecides}
 use Rattle.rtk_collect.proofs.CellsLemmas.{with_cells-rises}
 use Rattle.rtk_collect.proofs.ArrivalsLemmas.{kept-falls, with_arrival-new, with_arrival-below, with_arrival-same}
 use Rattle.rtk_collect.proofs.MembersLemmas.{kept-are-taken}
@@ -44,10 +44,6 @@ rises-same (x ∷ xs) (y ∷ ys) f g h k =
     let e : x ≡ y = head-cells x y xs ys f g (h x (inl refl)) (k y (inl refl)) in
     let t : xs ≡ ys = rises-same xs ys f.1 g.1 (tail-cells x y xs ys f e h) (tail-cells y x ys xs g (sym e) k) in
     ap (λ z. z ∷ xs) e ∙ ap (λ z. y ∷ z) t
-
-abbrev pub AllRise : List EpochSetView → Type 0
-AllRise [] = Unit {0}
-AllRise (x ∷ xs) = KeysRise x.cells × AllRise xs
 
 has-below : (e : ℕ) (x : EpochSetView) (xs : List EpochSetView) → EpochsFall (x ∷ xs) → HasEpoch e xs → e < x.epoch
 has-below e x [] f m = absurd m
@@ -90,8 +86,7 @@ same-first x y xs ys f g m k = elim m [
 same-open : (x y : EpochSetView) → x.epoch ≡ y.epoch → x.cells ≡ y.cells → x ≡ y
 same-open x y e c = ap (λ t. record { epoch = t; cells = x.cells }) e ∙ ap (λ t. record { epoch = y.epoch; cells = t }) c
 
-pub kept-same : (xs ys : List EpochSetView) → EpochsFall xs → EpochsFall ys → AllRise xs → AllRise ys → ((e : ℕ) → HasEpoch e xs → HasEpoch e ys) → ((e : ℕ) → HasEpoch e ys → HasEpoch e xs)
-    → ((e : ℕ) (c : CellEntry) → IsKept e c xs → IsKept e c ys) → ((e : ℕ) (c : CellEntry) → IsKept e c ys → IsKept e c xs) → xs ≡ ys
+pub kept-same : OrderedAreSame
 kept-same [] [] f g r s h k u v = refl
 kept-same [] (y ∷ ys) f g r s h k u v = absurd (k y.epoch (inl refl))
 kept-same (x ∷ xs) [] f g r s h k u v = absurd (h x.epoch (inl refl))
@@ -111,7 +106,7 @@ arrival-rise e cs (y ∷ ys) h = elim (cases_order y.epoch e) [
   ]
 ]
 
-pub kept-rise : (n : ℕ) (arrivals : List Arrival) → AllRise (kept n arrivals)
+pub kept-rise : KeptRise
 kept-rise n [] = tt
 kept-rise n (At None m ∷ before) = kept-rise n before
 kept-rise n (At (Some e) m ∷ before) = elim (cases_Bool (late n (At (Some e) m) before)) [

@@ -1,5 +1,5 @@
 -- Laws of late arrivals, kept cells and closed epochs.
-use Rattle.std.specs.Prelude.{◌≡◌, ◌↔◌, ◌⊎◌, ℕ, ◌≤◌, Bool, false, not, List, [], ◌∷◌, ◌++◌, length, map, take, All, None, Some, if◌then◌else◌}
+use Rattle.std.specs.Prelude.{◌≡◌, ◌↔◌, ◌⊎◌, ℕ, ◌-◌, ◌<◌, ◌≤◌, Bool, true, false, not, List, [], ◌∷◌, ◌++◌, length, map, take, drop, All, None, Some, if◌then◌else◌}
 use Rattle.std.specs.Bool.{Decides}
 use Rattle.rtk_message.specs.declared.arp1005.Arp1005.{Arp1005 as Message1005}
 use Rattle.rtk_message.specs.declared.arp1006.Arp1006.{Arp1006 as Message1006}
@@ -11,12 +11,12 @@ use Rattle.rtk_obs.specs.declared.code.Code.{Code}
 use Rattle.rtk_collect.specs.declared.conflicts.SatelliteCode.{SatelliteCode}
 use Rattle.rtk_collect.specs.declared.offer.Offer.TheVariants.{Taken}
 use Rattle.rtk_collect.specs.Key.{key, KeysRise}
-use Rattle.rtk_collect.specs.EpochSet.{EpochsFall, EpochSetView, cell_of, first_entry, conflicts}
+use Rattle.rtk_collect.specs.EpochSet.{EpochsFall, EpochSetView, joined, cell_of, first_entry, conflicts}
 use Rattle.rtk_collect.specs.Equal.{equal_cells, equal_1005, equal_1006, equal_stations, is_first}
 use Rattle.rtk_collect.specs.Arrival.{Arrival, At, message_of, cells_of}
 use Rattle.rtk_collect.specs.Late.{epochs, is_excused, late}
 use Rattle.rtk_collect.specs.Answer.{IsRightAnswer}
-use Rattle.rtk_collect.specs.Accepted.{station, kept, closed, IsTaken, AmongCells, IsTakenCell, IsConsistent}
+use Rattle.rtk_collect.specs.Accepted.{station, no_cells, with_arrival, kept, cells_at, closed, IsTaken, AmongCells, IsTakenCell, IsConsistent}
 
 -- the arrivals without those that are late
 abbrev pub without_late : ℕ → List Arrival → List Arrival
@@ -48,6 +48,14 @@ ClosedFall = (n : ℕ) (arrivals : List Arrival) → EpochsFall (closed n arriva
 -- an epoch is closed only once n observation epochs have come
 abbrev pub ClosedAfter : Type 0
 ClosedAfter = (n : ℕ) (arrivals : List Arrival) → (closed n arrivals ≡ []) ⊎ (n ≤ length (epochs arrivals))
+
+-- the closed epochs are the kept ones after the n greatest
+abbrev pub ClosedAreRest : Type 0
+ClosedAreRest = (n : ℕ) (arrivals : List Arrival) → closed n arrivals ≡ drop n (kept n arrivals)
+
+-- so they are as many as the kept ones without n
+abbrev pub ClosedAreCounted : Type 0
+ClosedAreCounted = (n : ℕ) (arrivals : List Arrival) → length (closed n arrivals) ≡ length (kept n arrivals) - n
 
 -- a message equals the kept station message with its number
 abbrev pub is_kept : ℕ → Message → List Arrival → Bool
@@ -89,6 +97,54 @@ KeptAreTaken = (n : ℕ) (arrivals : List Arrival) →
 abbrev pub SetDecides : Type 0
 SetDecides = (n : ℕ) (first second : List Arrival) → IsConsistent n first → IsConsistent n second → ((a : Arrival) → IsTaken n a first ↔ IsTaken n a second)
     → (kept n first ≡ kept n second) × ((k : ℕ) → station n k first ≡ station n k second)
+
+-- a late observation leaves the kept epochs as they are
+abbrev pub LateLeavesKept : Type 0
+LateLeavesKept = (n e : ℕ) (m : Message) (before : List Arrival) → late n (At (Some e) m) before ≡ true → kept n (At (Some e) m ∷ before) ≡ kept n before
+
+-- the cells of one that is not late join them
+abbrev pub InTimeJoinsKept : Type 0
+InTimeJoinsKept = (n e : ℕ) (m : Message) (before : List Arrival) → late n (At (Some e) m) before ≡ false
+    → kept n (At (Some e) m ∷ before) ≡ with_arrival e (cells_of m) (kept n before)
+
+-- an observation whose epoch is kept opens none
+abbrev pub KeptOpensNone : Type 0
+KeptOpensNone = (n e : ℕ) (m : Message) (cells : List CellEntry) (before : List Arrival) → cells_at e (kept n before) ≡ Some cells
+    → length (kept n (At (Some e) m ∷ before)) ≡ length (kept n before)
+
+-- cells of an epoch that is greater than the greatest one open it
+abbrev pub GreaterOpens : Type 0
+GreaterOpens = (e : ℕ) (cells : List CellEntry) (x : EpochSetView) (xs : List EpochSetView) → x.epoch < e
+    → with_arrival e cells (x ∷ xs) ≡ joined cells (no_cells e) ∷ x ∷ xs
+
+-- cells of a lesser epoch leave the greatest one, and join the others
+abbrev pub LesserJoinsOthers : Type 0
+LesserJoinsOthers = (e : ℕ) (cells : List CellEntry) (x : EpochSetView) (xs : List EpochSetView) → e < x.epoch
+    → with_arrival e cells (x ∷ xs) ≡ x ∷ with_arrival e cells xs
+
+-- cells of the greatest epoch join it
+abbrev pub SameJoins : Type 0
+SameJoins = (e : ℕ) (cells : List CellEntry) (x : EpochSetView) (xs : List EpochSetView) → e ≡ x.epoch
+    → with_arrival e cells (x ∷ xs) ≡ joined cells x ∷ xs
+
+-- the kept epochs fall
+abbrev pub KeptFall : Type 0
+KeptFall = (n : ℕ) (arrivals : List Arrival) → EpochsFall (kept n arrivals)
+
+-- the cells of each of these epochs rise by key
+abbrev pub AllRise : List EpochSetView → Type 0
+AllRise [] = Unit {0}
+AllRise (x ∷ xs) = KeysRise x.cells × AllRise xs
+
+-- the cells of each kept epoch rise
+abbrev pub KeptRise : Type 0
+KeptRise = (n : ℕ) (arrivals : List Arrival) → AllRise (kept n arrivals)
+
+-- epochs that fall and whose cells rise are the same if they are the same epochs with the same cells
+abbrev pub OrderedAreSame : Type 0
+OrderedAreSame = (xs ys : List EpochSetView) → EpochsFall xs → EpochsFall ys → AllRise xs → AllRise ys
+    → ((e : ℕ) → HasEpoch e xs → HasEpoch e ys) → ((e : ℕ) → HasEpoch e ys → HasEpoch e xs)
+    → ((e : ℕ) (c : CellEntry) → IsKept e c xs → IsKept e c ys) → ((e : ℕ) (c : CellEntry) → IsKept e c ys → IsKept e c xs) → xs ≡ ys
 
 -- an epoch has at most 1,024 kept cells, for 32 satellites, 16 codes and 2 kinds of message
 abbrev pub KeptAreFew : Type 0

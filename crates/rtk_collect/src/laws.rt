@@ -1,6 +1,9 @@
 //! Laws over the definitions: what late arrivals, repeats and the order of arrivals change.
+//!
+//! Each function here does nothing. Its contract is the law, and a caller that calls it may cite
+//! it; proofs of other crates cite the same facts from `proofs/PublicLaws.antt`.
 
-ghost use Rattle.rtk_collect.specs.Laws.{LateArrivalsChangeNothing, ClosedOnlyGrow, ClosedFall, ClosedAfter, FirstIsPreferred, ExcusedIsKept, StationsAreFinal, KeptAreTaken, SetDecides, KeptAreFew, KeptAreGreatest, OpeningConflictsNot, ClosingConflictsNot, KeysAreDistinct, EqualityDecides};
+ghost use Rattle.rtk_collect.specs.Laws.{LateArrivalsChangeNothing, ClosedOnlyGrow, ClosedFall, ClosedAfter, ClosedAreRest, ClosedAreCounted, FirstIsPreferred, ExcusedIsKept, StationsAreFinal, KeptAreTaken, SetDecides, LateLeavesKept, InTimeJoinsKept, KeptOpensNone, GreaterOpens, LesserJoinsOthers, SameJoins, KeptFall, KeptRise, OrderedAreSame, KeptAreFew, KeptAreGreatest, OpeningConflictsNot, ClosingConflictsNot, KeysAreDistinct, EqualityDecides};
 
 /// If all late arrivals are deleted, each other arrival is late or not as it was, and what is kept
 /// is the same.
@@ -16,6 +19,12 @@ pub fn closed_epochs_only_grow()
     ensures after { ClosedAfter }
 {}
 
+/// The closed epochs are the kept ones after the n greatest.
+pub fn closed_epochs_are_the_rest()
+    ensures rest { ClosedAreRest }
+    ensures count { ClosedAreCounted }
+{}
+
 /// A station message that comes after the window was full is late, unless it equals the kept one
 /// with its number; the kept ones stay.
 pub fn stations_are_final()
@@ -27,6 +36,30 @@ pub fn stations_are_final()
 pub fn set_decides()
     ensures taken { KeptAreTaken }
     ensures same { SetDecides }
+{}
+
+/// An observation that is late leaves the kept epochs as they are, and the cells of one that is not
+/// late join them; if its epoch is kept, it opens none.
+pub fn kept_epochs_of_arrivals()
+    ensures late { LateLeavesKept }
+    ensures in_time { InTimeJoinsKept }
+    ensures held { KeptOpensNone }
+{}
+
+/// Cells that join epochs which fall open an epoch that is greater than the greatest one, join the
+/// greatest one if it is theirs, and else join the others.
+pub fn cells_join_epochs()
+    ensures greater { GreaterOpens }
+    ensures same { SameJoins }
+    ensures lesser { LesserJoinsOthers }
+{}
+
+/// The kept epochs fall, and the cells of each rise by key. Epochs in this order are the same if
+/// they are the same epochs with the same cells.
+pub fn kept_epochs_are_ordered()
+    ensures fall { KeptFall }
+    ensures rise { KeptRise }
+    ensures same { OrderedAreSame }
 {}
 
 /// The n greatest kept epochs are the n greatest distinct epochs that came, and each has at most

@@ -8,8 +8,7 @@ use Rattle.rtk_collect.specs.EpochSet.{EpochSetView}
 use Rattle.rtk_collect.specs.Arrival.{Arrival}
 use Rattle.rtk_collect.specs.Accepted.{station, kept, closed}
 use Rattle.rtk_collect.specs.Laws.{without_late, SetDecides, LateArrivalsChangeNothing}
-use Rattle.rtk_collect.proofs.JoinsLemmas.{closed-drop}
-use Rattle.rtk_collect.proofs.LateLemmas.{closed-only-grow, closed-after}
+use Rattle.rtk_collect.proofs.PublicLaws.{closed-drop, closed-only-grow, closed-after}
 use Rattle.rtk_rinex.specs.Header.{PositionView, header_text}
 use Rattle.rtk_convert.specs.declared.frame_class.FrameClass.{FrameClass}
 use Rattle.rtk_convert.specs.declared.frame_class.FrameClass.TheVariants.{OtherMessage, Refused, Foreign, Dated}

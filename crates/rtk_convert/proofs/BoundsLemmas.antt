@@ -8,8 +8,8 @@ use Rattle.rtk_collect.specs.Accepted.{kept}
 use Rattle.rtk_collect.specs.Arrival.{Arrival}
 use Rattle.rtk_collect.specs.Collector.{CollectorView}
 use Rattle.rtk_collect.specs.EpochSet.{EpochSetView}
+use Rattle.rtk_collect.proofs.PublicLaws.{kept-are-few}
 use Rattle.rtk_collect.specs.Offered.{AnswersArrival}
-use Rattle.rtk_collect.proofs.FewLemmas.{kept-are-few}
 use Rattle.rtk_convert.specs.Conversion.{ConversionView, HoldsArrivals}
 use Rattle.rtk_convert.specs.Converter.{ConverterView, IsConverterView, HoldsAtMost}
 use Rattle.rtk_convert.specs.declared.link.Link.{Link}

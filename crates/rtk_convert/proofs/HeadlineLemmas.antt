@@ -10,10 +10,8 @@ use Rattle.rtk_collect.specs.Accepted.{kept, station}
 use Rattle.rtk_collect.specs.Answer.{class_of, conflicts_of, LateClass}
 use Rattle.rtk_collect.specs.EpochSet.{EpochSetView}
 use Rattle.rtk_collect.specs.Late.{late}
-use Rattle.rtk_collect.proofs.ArrivalsLemmas.{kept-falls}
-use Rattle.rtk_collect.proofs.LateLemmas.{late-change-nothing}
-use Rattle.rtk_collect.proofs.MembersLemmas.{kept-are-taken}
-use Rattle.rtk_collect.proofs.SetsLemmas.{AllRise, kept-same, kept-rise}
+use Rattle.rtk_collect.specs.Laws.{AllRise}
+use Rattle.rtk_collect.proofs.PublicLaws.{kept-falls, late-change-nothing, kept-are-taken, kept-same, kept-rise}
 use Rattle.rtk_convert.specs.declared.frame_class.FrameClass.TheVariants.{Dated}
 use Rattle.rtk_convert.specs.File.{file_of}
 use Rattle.rtk_convert.specs.FileOfArrivals.{site_of_stations, kept_file}

@@ -15,15 +15,12 @@ use Rattle.rtk_obs.specs.declared.cell.CellEntry.{CellEntry}
 use Rattle.rtk_obs.specs.Cell.{IsInRange}
 use Rattle.rtk_obs.specs.Dating.{IsReference}
 use Rattle.rtk_obs.specs.Position.{IsCoordinate}
-use Rattle.rtk_obs.proofs.LegacyLemmas.{fields_of_valid, cells_in_range as cells_in_range-1004}
-use Rattle.rtk_obs.proofs.MsmLemmas.{cells_in_range as cells_in_range-1074}
+use Rattle.rtk_obs.proofs.PublicLaws.{fields_of_valid, cells_in_range-1004, cells_in_range-1074}
 use Rattle.rtk_collect.specs.EpochSet.{EpochSetView, joined}
 use Rattle.rtk_collect.specs.Arrival.{Arrival, At, cells_of}
 use Rattle.rtk_collect.specs.Late.{late}
 use Rattle.rtk_collect.specs.Accepted.{first, station, no_cells, with_arrival, kept}
-use Rattle.rtk_collect.proofs.CellsLemmas.{with_cells-all}
-use Rattle.rtk_collect.proofs.ArrivalsLemmas.{with_arrival-new, with_arrival-below, with_arrival-same, kept-falls}
-use Rattle.rtk_collect.proofs.LateLemmas.{kept-late, kept-new}
+use Rattle.rtk_collect.proofs.PublicLaws.{with_cells-all, with_arrival-new, with_arrival-below, with_arrival-same, kept-falls, kept-late, kept-new}
 use Rattle.rtk_rinex.specs.Header.{IsPositionView}
 use Rattle.rtk_rinex.specs.Reading.{IsMoment}
 use Rattle.rtk_rinex.specs.Table.{FilesAreTables}

@@ -14,8 +14,7 @@ use Rattle.rtk_collect.specs.Arrival.{Arrival, At, cells_of, message_of}
 use Rattle.rtk_collect.specs.Late.{late}
 use Rattle.rtk_collect.specs.Accepted.{kept, cells_at, closed}
 use Rattle.rtk_collect.specs.Answer.{Class, LateClass, TakenClass, class_of, class_of_cells, class_in_time, conflicts_of, conflicts_with}
-use Rattle.rtk_collect.proofs.LateLemmas.{closed-only-grow, kept-late}
-use Rattle.rtk_collect.proofs.OpeningLemmas.{opening-conflicts-not, closed-length, held-length}
+use Rattle.rtk_collect.proofs.PublicLaws.{closed-only-grow, kept-late, opening-conflicts-not, closed-length, held-length}
 use Rattle.rtk_convert.specs.declared.frame_class.FrameClass.{FrameClass}
 use Rattle.rtk_convert.specs.declared.frame_class.FrameClass.TheVariants.{OtherMessage, Refused, Foreign, Dated}
 use Rattle.rtk_convert.specs.FileOfArrivals.{file_so_far}

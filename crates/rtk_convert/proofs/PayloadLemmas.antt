@@ -2,7 +2,7 @@
 use Rattle.std.proofs.Common.{ℕ, zero, suc, inl, inr, List, [], ◌∷◌, sym, subst}
 use Rattle.std.specs.List.{AllByRecursion}
 use Rattle.std.proofs.lemmas.List.Elements.{All-from_recursion}
-use Rattle.rtk_rinex.proofs.TableLemmas.{file-is_shown}
+use Rattle.rtk_rinex.proofs.PublicLaws.{file-is_shown}
 use Rattle.rtk_convert.specs.ArrivalLaws.{HasPayload}
 use Rattle.rtk_convert.specs.CallLaws.{CallsComeToTable}
 use Rattle.rtk_convert.specs.Converter.{IsAfterClosing, IsAfterClosingAll}

@@ -5,8 +5,7 @@ use Rattle.rtk_collect.specs.EpochSet.{EpochSetView}
 use Rattle.rtk_collect.specs.Arrival.{Arrival}
 use Rattle.rtk_collect.specs.Late.{epochs}
 use Rattle.rtk_collect.specs.Accepted.{station, kept, closed}
-use Rattle.rtk_collect.proofs.JoinsLemmas.{closed-drop}
-use Rattle.rtk_collect.proofs.LateLemmas.{closed-only-grow, closed-after, stations-are-final}
+use Rattle.rtk_collect.proofs.PublicLaws.{closed-drop, closed-only-grow, closed-after, stations-are-final}
 use Rattle.rtk_rinex.specs.Header.{PositionView}
 use Rattle.rtk_convert.specs.Setup.{SetupView}
 use Rattle.rtk_convert.specs.FilePrefix.{so_far}

@@ -131,5 +131,8 @@ unfolding first_entries
 first_fields [] h = tt
 first_fields (s ∷ ss) h = (h.0, kept_fields (λ (t : Satellite). not (has_number s.satellite t)) (first_entries ss) (first_fields ss h.1))
 
-pub cells_in_range : (ss : List Satellite) → All HasWidths ss → All IsInRange (cells_of_1004 ss)
-cells_in_range ss h = All-from_recursion IsInRange (cells_of_1004 ss) (used_in_range (first_entries ss) (first_fields ss (recursion_from_All HasWidths ss h)))
+pub cells_in_range-1004 : (ss : List Satellite) → All HasWidths ss → All IsInRange (cells_of_1004 ss)
+cells_in_range-1004 ss h = All-from_recursion IsInRange (cells_of_1004 ss) (used_in_range (first_entries ss) (first_fields ss (recursion_from_All HasWidths ss h)))
+
+pub cells_of_valid : (m : Obs1004) → IsValid m → All IsInRange (cells_of_1004 m.satellites)
+cells_of_valid m h = cells_in_range-1004 m.satellites (fields_of_valid m h)

@@ -1,11 +1,14 @@
-pub mod YearLemmas
-pub mod CodeLemmas
-pub mod CellLemmas
-pub mod RoundingLemmas
-pub mod RolloverLemmas
-pub mod TracksLemmas
-pub mod ScalingLemmas
-pub mod MaskLemmas
-pub mod LegacyLemmas
-pub mod MsmLemmas
-pub mod DistinctLemmas
+-- The facts of the public laws, which proofs of other crates cite
+pub mod PublicLaws
+-- Laws on the definitions, and what this crate's functions compute
+mod YearLemmas
+mod CodeLemmas
+mod CellLemmas
+mod RoundingLemmas
+mod RolloverLemmas
+mod TracksLemmas
+mod ScalingLemmas
+mod MaskLemmas
+mod LegacyLemmas
+mod MsmLemmas
+mod DistinctLemmas

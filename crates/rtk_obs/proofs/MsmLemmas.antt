@@ -36,11 +36,11 @@ numbers_fit : (w : ℕ) (ns : List ℕ) → FieldsFit (numbers w ns) → AllByRe
 numbers_fit w [] h = tt
 numbers_fit w (n ∷ ns) h = (h.0, numbers_fit w ns h.1)
 
-behind_header : (m : Msm1074) → IsValid m → FieldsFit (mask_table m ++ columns m)
-behind_header m h = h.fields_fit.1.1.1.1.1.1.1.1.1.1.1
+after_header : (m : Msm1074) → IsValid m → FieldsFit (mask_table m ++ columns m)
+after_header m h = h.fields_fit.1.1.1.1.1.1.1.1.1.1.1
 
 columns_fit : (m : Msm1074) → IsValid m → FieldsFit (columns m)
-columns_fit m h = fits_right (mask_table m) (columns m) (behind_header m h)
+columns_fit m h = fits_right (mask_table m) (columns m) (after_header m h)
 
 locks_on : (m : Msm1074) → IsValid m → FieldsFit (numbers 4 m.lock_indicator ++ (flags m.half_cycle ++ numbers 6 m.cnr))
 locks_on m h =
@@ -70,7 +70,7 @@ few_signals m = set_bits_from-length 1 32 m.header.signal_mask
 rows_fit : (m : Msm1074) → IsValid m → AllByRecursion (λ b. b < 2 ^ length (signals_of m)) m.cell_mask
 rows_fit m h =
     subst (λ (n : ℕ). AllByRecursion (λ b. b < 2 ^ n) m.cell_mask) (sym (count-signals m h))
-    (numbers_fit (signals m.header) m.cell_mask (fits_left (mask_table m) (columns m) (behind_header m h)))
+    (numbers_fit (signals m.header) m.cell_mask (fits_left (mask_table m) (columns m) (after_header m h)))
 
 length-row_slots : (ss : List ℕ) (row bits : ℕ) → length (row_slots ss row bits) ≡ length (set_bits (length ss) bits)
 length-row_slots ss row bits = length-map (set_bits (length ss) bits) _
@@ -139,8 +139,8 @@ in_range_if : (b : Bool) (satellite : ℕ) (es : List CellEntry) → is_satellit
 in_range_if true satellite es e a = a (satellite_in_range satellite e)
 in_range_if false satellite es e a = tt
 
-pub cells_in_range : (m : Msm1074) → IsValid m → All IsInRange (cells_of_1074 m)
-cells_in_range m h =
+pub cells_in_range-1074 : (m : Msm1074) → IsValid m → All IsInRange (cells_of_1074 m)
+cells_in_range-1074 m h =
     All-from_recursion IsInRange (cells_of_1074 m)
     (all-join_from (slot_entry m) IsInRange 0 (length (slots_of m)) (slots_of m) (omega arith)
     (λ k s below. in_range_if (is_satellite (satellite_in (satellites_of m) s)) (satellite_in (satellites_of m) s) (coded_entry m k s.row (satellite_in (satellites_of m) s) (code_of_signal s.signal)) refl

@@ -14,7 +14,7 @@ use Rattle.rtk_obs.specs.Cell.{IsSatellite}
 use Rattle.rtk_obs.specs.Rollover.{last_after, last_phase, track_of, rolls_since}
 use Rattle.rtk_obs.specs.CellSteps.{Step, epochs_of, IsFalling, PhasesFall}
 use Rattle.rtk_obs.specs.Tracks.{IsLater, track_at, place_of_signal, RepresentsSteps}
-use Rattle.rtk_obs.specs.TracksLaws.{IsGreatest, LastIsGreatest, LaterThanSteps, LaterAfterStep}
+use Rattle.rtk_obs.specs.TracksLaws.{IsGreatest, LastIsGreatest, LaterThanSteps, LaterAfterStep, AllLaterAfterStep}
 
 pub get_or-replicate : {X : Type 0} (n i : ℕ) (y : X) → get_or (replicate n y) i y ≡ y
 get_or-replicate zero i y = refl
@@ -238,14 +238,7 @@ represents_step places now steps a b e t k ha len same place later is r =
 
 -- ---- steps one after another
 
-pub later_empty : (o : Option Track) (x : ℕ) → o ≡ None → IsLater o x
-later_empty o x e = subst (λ (p : Option Track). IsLater p x) (sym e) tt
-
--- an epoch after all last phases and after a step comes after all last phases that the step leaves
-pub all_later_step : (old new : List (Option Track)) (a : ℕ) (b : Code) (e : EpochCell) (x : ℕ)
-    → track_at new a b ≡ last_after (band_of b) (track_at old a b) e
-    → ((s : ℕ) (c : Code) → place_of_signal s c ≢ place_of_signal a b → track_at new s c ≡ track_at old s c)
-    → ((s : ℕ) (c : Code) → IsLater (track_at old s c) x) → e.epoch < x → (s : ℕ) (c : Code) → IsLater (track_at new s c) x
+pub all_later_step : AllLaterAfterStep
 all_later_step old new a b e x same others later h s c =
     by_eq (place_of_signal s c) (place_of_signal a b)
     (λ p. subst (λ (o : Option Track). IsLater o x) (sym (ap (λ (k : ℕ). get_or new k None) p ∙ same)) (later_after_step (band_of b) (track_at old a b) e x (later a b) h))

@@ -1,5 +1,5 @@
 -- Laws on the last phase of a list of epochs and on what a Tracks represents.
-use Rattle.std.specs.Prelude.{◌≡◌, ℕ, ◌<◌, ◌≤◌, true, List, [], ◌∷◌, ◌++◌, Option, filter, MatchOption}
+use Rattle.std.specs.Prelude.{◌≡◌, ◌≢◌, ℕ, ◌<◌, ◌≤◌, true, List, [], ◌∷◌, ◌++◌, Option, filter, MatchOption}
 use Rattle.std.specs.List.{AllByRecursion}
 use Rattle.rtk_obs.specs.declared.code.Band.{Band}
 use Rattle.rtk_obs.specs.declared.code.Code.{Code}
@@ -8,7 +8,8 @@ use Rattle.rtk_obs.specs.Slip.{EpochCell, has_phase}
 use Rattle.rtk_obs.specs.Cell.{IsSatellite}
 use Rattle.rtk_obs.specs.Rollover.{rolls_since, last_after, last_phase}
 use Rattle.rtk_obs.specs.CellSteps.{Step, epochs_of, PhasesFall}
-use Rattle.rtk_obs.specs.Tracks.{IsLater, track_at, RepresentsSteps}
+use Rattle.rtk_obs.specs.Code.{band_of}
+use Rattle.rtk_obs.specs.Tracks.{IsLater, place_of_signal, track_at, RepresentsSteps}
 
 -- the track is the phase at the greatest of these epochs that has one, with the roll count that
 -- follows from the last phase below
@@ -44,3 +45,12 @@ LaterThanSteps =
 abbrev pub LaterAfterStep : Type 0
 LaterAfterStep =
     (band : Band) (last : Option Track) (e : EpochCell) (epoch : ℕ) → IsLater last epoch → e.epoch < epoch → IsLater (last_after band last e) epoch
+
+-- the same of all satellites and codes: an epoch after each last phase and after a step comes after
+-- each last phase that the step leaves
+abbrev pub AllLaterAfterStep : Type 0
+AllLaterAfterStep =
+    (old new : List (Option Track)) (satellite : ℕ) (code : Code) (e : EpochCell) (epoch : ℕ)
+    → track_at new satellite code ≡ last_after (band_of code) (track_at old satellite code) e
+    → ((s : ℕ) (c : Code) → place_of_signal s c ≢ place_of_signal satellite code → track_at new s c ≡ track_at old s c)
+    → ((s : ℕ) (c : Code) → IsLater (track_at old s c) epoch) → e.epoch < epoch → (s : ℕ) (c : Code) → IsLater (track_at new s c) epoch

@@ -86,10 +86,3 @@ pub fn of_civil(reading: Civil) -> Option<GpsMs>
     let rest = time_of_day(reading)?;
     GpsMs::new(u64::from(day) * DAY_MS + u64::from(rest))
 }
-
-/// A reading belongs to one moment, and `of_civil` answers this moment to it.
-pub fn civil_laws()
-    ensures one_moment { (s t : ℕ) (c : Civil) → Reads s c → Reads t c → s ≡ t }
-    ensures all_moments { (t : ℕ) (c : Civil) → Reads t c → c.year ≤ 2100 → t ≤ LAST_MS }
-    ensures reads_back { (t : ℕ) (c : Civil) (answer : Option ℕ) → t ≤ LAST_MS → Reads t c → MatchOption answer ((s : ℕ) → s ≤ LAST_MS → ¬ (Reads s c)) (λ s. Reads s c) → answer ≡ Some t }
-{}

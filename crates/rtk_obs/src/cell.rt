@@ -1,7 +1,6 @@
 //! What a message gives for a satellite and a code at its epoch.
 
-ghost use Rattle.std.specs.Prelude.{◌≡◌, ◌↔◌, IsTrue};
-ghost use Rattle.rtk_obs.specs.declared.cell.Cell.{Cell};
+ghost use Rattle.std.specs.Prelude.{◌≡◌};
 ghost use Rattle.rtk_obs.specs.Cell.{is_satellite};
 
 use crate::code::Code;
@@ -50,8 +49,3 @@ pub(crate) fn is_gps(satellite: u8) -> bool
 {
     1 <= satellite && satellite <= 32
 }
-
-/// `==` on cells is equality of all their fields.
-pub fn cell_laws()
-    ensures equality { (a b : Cell) → IsTrue (⟦<Cell as PartialEq>⟧.eq a b) ↔ (a ≡ b) }
-{}

@@ -140,9 +140,3 @@ impl Code {
         self as usize
     }
 }
-
-/// No two codes have one name, and what `Code::from_name` answers to a code's `name` is the code.
-pub fn code_laws()
-    ensures names { (c d : Code) → name_of c ≡ name_of d → c ≡ d }
-    ensures reads_back { (c : Code) (answer : Option Code) → MatchOption answer ((d : Code) → name_of c ≢ name_of d) (λ d. name_of c ≡ name_of d) → answer ≡ Some c }
-{}

@@ -22,8 +22,3 @@ pub fn date(near: GpsMs, tow: u32) -> GpsMs
     let ahead = (u64::from(tow) + WEEK_MS - first % WEEK_MS) % WEEK_MS;
     GpsMs::at(first + ahead)
 }
-
-/// A time of week has one date near a reference.
-pub fn date_is_unique()
-    ensures { (near tow s t : ℕ) → IsDated near tow s → IsDated near tow t → s ≡ t }
-{}

@@ -21,6 +21,7 @@ mod calendar;
 mod cell;
 mod code;
 mod dating;
+mod laws;
 mod legacy_cells;
 mod lock_time;
 mod mask;
@@ -34,16 +35,20 @@ mod time;
 mod track;
 mod tracks;
 
-pub use calendar::{civil, civil_laws, of_civil};
-pub use cell::{Cell, CellEntry, CellSource, cell_laws};
-pub use code::{Band, Code, code_laws};
-pub use dating::{HALF_WEEK_MS, WEEK_MS, date, date_is_unique};
+pub use calendar::{civil, of_civil};
+pub use cell::{Cell, CellEntry, CellSource};
+pub use code::{Band, Code};
+pub use dating::{HALF_WEEK_MS, WEEK_MS, date};
+pub use laws::{
+    cell_laws, cells_are_distinct, cells_are_in_range, civil_laws, code_laws, date_is_unique,
+    rounded_is_unique, tracks_laws,
+};
 pub use legacy_cells::{cells_1004, put_cells_1004};
 pub use lock_time::{least_lock_legacy, least_lock_msm};
 pub use msm_cells::{cells_1074, put_cells_1074};
 pub use position::Position;
 pub use rollover::rolled;
-pub use rounding::{round_div, rounded_is_unique};
+pub use rounding::round_div;
 pub use time::{Civil, GpsMs, LAST_MS};
 pub use track::{Digits, Track};
-pub use tracks::{SIGNALS, Tracks, place_of_signal, tracks_laws};
+pub use tracks::{SIGNALS, Tracks, place_of_signal};

@@ -29,8 +29,3 @@ pub fn round_div(n: i128, d: i128) -> i128
         -1 - (magnitude - 1) as i128
     }
 }
-
-/// The rounded value is the one whole number that is nearest, and at a tie further from 0.
-pub fn rounded_is_unique()
-    ensures { (n : ℤ) (d : ℕ) (v : ℤ) → 0 < d → IsRounded n d v ↔ (v ≡ rounded n d) }
-{}

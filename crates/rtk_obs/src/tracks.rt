@@ -11,7 +11,6 @@ ghost use Rattle.rtk_obs.specs.Cell.{IsSatellite};
 ghost use Rattle.rtk_obs.specs.Slip.{epoch_cell};
 ghost use Rattle.rtk_obs.specs.Rollover.{last_after, last_phase, digits_since};
 ghost use Rattle.rtk_obs.specs.CellSteps.{Step, step_of, epochs_of};
-ghost use Rattle.rtk_obs.specs.TracksLaws.{LastIsGreatest, LaterThanSteps, LaterAfterStep};
 ghost use Rattle.rtk_obs.specs.Tracks.{IsBounded, IsLater, track_at, place_of_signal, RepresentsSteps};
 
 use crate::cell::Cell;
@@ -133,10 +132,3 @@ impl Tracks {
         digits
     }
 }
-
-/// Laws on the last phase and on what a `Tracks` represents.
-pub fn tracks_laws()
-    ensures greatest { LastIsGreatest }
-    ensures later { LaterThanSteps }
-    ensures after { LaterAfterStep }
-{}

@@ -1,24 +1,27 @@
-pub mod ColumnsLemmas
-pub mod ReadingLemmas
-pub mod HeaderLemmas
-pub mod DigitsLemmas
-pub mod HeaderCodesLemmas
-pub mod HeaderShownLemmas
-pub mod HeaderRowsLemmas
-pub mod HeaderGoodLemmas
-pub mod HeaderSameLemmas
-pub mod HeaderVerdictLemmas
-pub mod HeaderOnlyLemmas
-pub mod RecordLemmas
-pub mod TableLemmas
-pub mod ValuesLemmas
-pub mod EpochLemmas
-pub mod RowLemmas
-pub mod CheckLemmas
-pub mod LineLemmas
-pub mod OneLemmas
-pub mod FormLemmas
-pub mod TextLemmas
-pub mod OneRecordsLemmas
-pub mod OneHeaderLemmas
-pub mod OneFaultLemmas
+-- The facts of the public laws, which proofs of other crates cite
+pub mod PublicLaws
+-- Laws on the definitions, and what this crate's functions compute
+mod ColumnsLemmas
+mod ReadingLemmas
+mod HeaderLemmas
+mod DigitsLemmas
+mod HeaderCodesLemmas
+mod HeaderShownLemmas
+mod HeaderRowsLemmas
+mod HeaderGoodLemmas
+mod HeaderSameLemmas
+mod HeaderVerdictLemmas
+mod HeaderOnlyLemmas
+mod RecordLemmas
+mod TableLemmas
+mod ValuesLemmas
+mod EpochLemmas
+mod RowLemmas
+mod CheckLemmas
+mod LineLemmas
+mod OneLemmas
+mod FormLemmas
+mod TextLemmas
+mod OneRecordsLemmas
+mod OneHeaderLemmas
+mod OneFaultLemmas

@@ -3,7 +3,7 @@
 ghost use Rattle.std.specs.Prelude.{◌≡◌, ◌≤◌};
 ghost use Rattle.rtk_obs.specs.declared.time.TheConstants.{LAST_MS};
 
-use rtk_obs::{Cell, CellSource, Code, Digits, GpsMs, Tracks, rolled};
+use rtk_obs::{Cell, CellSource, Code, Digits, GpsMs, Tracks, rolled, tracks_laws};
 use rtk_test_support::{NOON, holds, same, same_of};
 use std::test::Fail;
 
@@ -47,6 +47,7 @@ fn at(ms: u64) -> GpsMs
 
 // The digits of a cell of satellite 5, and of a second cell 1 s later.
 fn after(code: Code, first: Cell, second: Cell) -> (Digits, Digits) {
+    tracks_laws();
     let mut tracks = Tracks::new();
     let start = at(NOON);
     let end = at(NOON + 1000);
@@ -60,6 +61,7 @@ fn after(code: Code, first: Cell, second: Cell) -> (Digits, Digits) {
 fn after_both(first: Cell, other: u8, between: Cell, third: Cell) -> Digits
     requires { (1 ≤ other) × (other ≤ 32) }
 {
+    tracks_laws();
     let mut tracks = Tracks::new();
     let start = at(NOON);
     let middle = at(NOON + 1000);

@@ -1,6 +1,6 @@
 use Rattle.std.proofs.Common.{ℕ, ◌++◌, Option, sym, ap, ◌∙◌}
 use Rattle.rtk_obs.specs.declared.time.Civil.{Civil}
-use Rattle.rtk_rinex.proofs.ReadingLemmas.{reading_is}
+use Rattle.rtk_rinex.proofs.PublicLaws.{reading_is}
 use Rattle.rtk_convert.specs.ReportText.{civil_text, epoch_text}
 use Rattle.rtk_convert.proofs.report.put_epoch.Goals as goal
 

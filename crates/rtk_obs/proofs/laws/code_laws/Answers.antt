@@ -1,5 +1,5 @@
 use Rattle.rtk_obs.proofs.CodeLemmas.{same_code, reads_back}
-use Rattle.rtk_obs.proofs.code.code_laws.Goals as goal
+use Rattle.rtk_obs.proofs.laws.code_laws.Goals as goal
 
 pub returns : goal.returns
 returns c = record { names = same_code; reads_back = reads_back }

@@ -1,0 +1,9 @@
+-- The laws of src/laws.rt as lemmas, which proofs of other crates cite: each says what a clause there
+-- says.
+
+-- the clauses of `cells_are_distinct`: legacy, msm
+pub use Rattle.rtk_obs.proofs.DistinctLemmas.{cells_of_1004-distinct, cells_of_1074-distinct}
+-- the clause `legacy` of `cells_are_in_range`, in two steps: first the widths of the fields
+pub use Rattle.rtk_obs.proofs.LegacyLemmas.{fields_of_valid, cells_in_range-1004}
+-- and its clause `msm`
+pub use Rattle.rtk_obs.proofs.MsmLemmas.{cells_in_range-1074}

@@ -1,0 +1,75 @@
+//! Laws over the definitions: times, codes, rounding, cells, last phases.
+//!
+//! Each function here does nothing. Its contract is the law, and a caller that calls it may cite
+//! it; proofs of other crates cite the same facts from `proofs/PublicLaws.antt`.
+
+ghost use Rattle.std.specs.Prelude.{◌≡◌, ◌≢◌, ◌↔◌, ℕ, ℤ, ◌<◌, ◌≤◌, List, Option, Some, MatchOption, IsTrue};
+ghost use Rattle.std.specs.List.{All};
+ghost use Rattle.rtk_message.specs.declared.obs1004.Satellite.{Satellite};
+ghost use Rattle.rtk_message.specs.declared.obs1004.Obs1004.{Obs1004};
+ghost use Rattle.rtk_message.specs.declared.msm1074.Msm1074.{Msm1074};
+ghost use Rattle.rtk_message.specs.Obs1004.{IsValid as IsValid1004};
+ghost use Rattle.rtk_message.specs.Msm1074.{IsValid as IsValid1074};
+ghost use Rattle.rtk_obs.specs.declared.time.TheConstants.{LAST_MS};
+ghost use Rattle.rtk_obs.specs.declared.time.Civil.{Civil};
+ghost use Rattle.rtk_obs.specs.declared.code.Code.{Code};
+ghost use Rattle.rtk_obs.specs.declared.cell.Cell.{Cell};
+ghost use Rattle.rtk_obs.specs.Calendar.{Reads};
+ghost use Rattle.rtk_obs.specs.Dating.{IsDated};
+ghost use Rattle.rtk_obs.specs.Rounding.{IsRounded, rounded};
+ghost use Rattle.rtk_obs.specs.Code.{name_of};
+ghost use Rattle.rtk_obs.specs.Cell.{IsInRange, AreDistinct};
+ghost use Rattle.rtk_obs.specs.LegacyCells.{cells_of_1004};
+ghost use Rattle.rtk_obs.specs.MsmCells.{cells_of_1074};
+ghost use Rattle.rtk_obs.specs.TracksLaws.{LastIsGreatest, LaterThanSteps, LaterAfterStep, AllLaterAfterStep};
+
+use crate::cell::Cell;
+
+/// A reading belongs to one moment, and `of_civil` answers this moment to it.
+pub fn civil_laws()
+    ensures one_moment { (s t : ℕ) (c : Civil) → Reads s c → Reads t c → s ≡ t }
+    ensures all_moments { (t : ℕ) (c : Civil) → Reads t c → c.year ≤ 2100 → t ≤ LAST_MS }
+    ensures reads_back { (t : ℕ) (c : Civil) (answer : Option ℕ) → t ≤ LAST_MS → Reads t c → MatchOption answer ((s : ℕ) → s ≤ LAST_MS → ¬ (Reads s c)) (λ s. Reads s c) → answer ≡ Some t }
+{}
+
+/// A time of week has one date near a reference.
+pub fn date_is_unique()
+    ensures { (near tow s t : ℕ) → IsDated near tow s → IsDated near tow t → s ≡ t }
+{}
+
+/// The rounded value is the one whole number that is nearest, and at a tie further from 0.
+pub fn rounded_is_unique()
+    ensures { (n : ℤ) (d : ℕ) (v : ℤ) → 0 < d → IsRounded n d v ↔ (v ≡ rounded n d) }
+{}
+
+/// No two codes have one name, and what `Code::from_name` answers to a code's `name` is the code.
+pub fn code_laws()
+    ensures names { (c d : Code) → name_of c ≡ name_of d → c ≡ d }
+    ensures reads_back { (c : Code) (answer : Option Code) → MatchOption answer ((d : Code) → name_of c ≢ name_of d) (λ d. name_of c ≡ name_of d) → answer ≡ Some c }
+{}
+
+/// `==` on cells is equality of all their fields.
+pub fn cell_laws()
+    ensures equality { (a b : Cell) → IsTrue (⟦<Cell as PartialEq>⟧.eq a b) ↔ (a ≡ b) }
+{}
+
+/// No two cells of a message are of one satellite and code: of any 1004, and of a valid 1074.
+pub fn cells_are_distinct()
+    ensures legacy { (satellites : List Satellite) → AreDistinct (cells_of_1004 satellites) }
+    ensures msm { (m : Msm1074) → IsValid1074 m → AreDistinct (cells_of_1074 m) }
+{}
+
+/// The cells of a valid message are of satellites from 1 to 32, and each has no strength or one
+/// that messages give.
+pub fn cells_are_in_range()
+    ensures legacy { (m : Obs1004) → IsValid1004 m → All IsInRange (cells_of_1004 m.satellites) }
+    ensures msm { (m : Msm1074) → IsValid1074 m → All IsInRange (cells_of_1074 m) }
+{}
+
+/// Laws on the last phase and on what a `Tracks` represents.
+pub fn tracks_laws()
+    ensures greatest { LastIsGreatest }
+    ensures later { LaterThanSteps }
+    ensures after { LaterAfterStep }
+    ensures all { AllLaterAfterStep }
+{}
