@@ -61,8 +61,8 @@ message_text (Of1005 m) = text_1005 m
 message_text (Of1006 m) = text_1006 m
 message_text (Of1074 m) = text_1074 m
 
--- a payload that is no message: the number of another message, or the code of the fault and the number of the
--- message, if there is one
+-- a payload that is no message: the number of another message, or the code of the fault and the
+-- number of the message, if there is one
 abbrev pub unread_text : DecodeFault → List ℕ
 unread_text (Other number) = decimal number ++ codes " other"
 unread_text fault = codes "refused " ++ fault_text fault

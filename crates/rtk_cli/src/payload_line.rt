@@ -39,8 +39,8 @@ fn put_metres(line: &mut Vec<u8>, length: u64) -> Result<(), AllocError>
     line.extend_from_slice(&decimals_of(length))
 }
 
-// By reference, as in `put_reference_point`: a signed field of a message that is read and passed by value has
-// no range for the prover.
+// By reference: a signed field of a message that is read and passed by value has no range for the
+// prover.
 #[tactic(auto, unfolding(crate::specs::Shown::coordinate))]
 fn put_coordinate(line: &mut Vec<u8>, value: &i64) -> Result<(), AllocError>
     ensures { OnOk result (line.new.items ≡ line.old.items ++ coordinate value.now) }
