@@ -120,17 +120,16 @@ fn put_message(line: &mut Vec<u8>, message: &Message) -> Result<(), AllocError>
 fn put_fault(line: &mut Vec<u8>, fault: DecodeFault) -> Result<(), AllocError>
     ensures { OnOk result (line.new.items ≡ line.old.items ++ unread_text fault) }
 {
-    if let DecodeFault::Other { number } = fault {
-        put_number(line, number as u64)?;
-        return line.extend_from_slice(b" other");
+    match fault {
+        DecodeFault::NoNumber => line.extend_from_slice(b"refused M1 -"),
+        DecodeFault::Other { number } => {
+            put_number(line, number as u64)?;
+            line.extend_from_slice(b" other")
+        }
+        DecodeFault::Short { number } => put_named(line, b"refused M3 ", number as u64),
+        DecodeFault::EpochRange { number } => put_named(line, b"refused M4 ", number as u64),
+        DecodeFault::TooManyCells => line.extend_from_slice(b"refused M5 1074"),
     }
-    line.extend_from_slice(b"refused ")?;
-    line.extend_from_slice(fault.code().as_bytes())?;
-    match fault.number() {
-        Some(number) => put_named(line, b" ", number as u64)?,
-        None => line.extend_from_slice(b" -")?,
-    }
-    Ok(())
 }
 
 /// Appends the line of a payload, with its line feed. After a refusal a part of it may stand there.
