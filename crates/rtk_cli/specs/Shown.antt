@@ -13,9 +13,8 @@ use Rattle.rtk_message.specs.declared.arp1005.Arp1005.{Arp1005}
 use Rattle.rtk_message.specs.declared.arp1006.Arp1006.{Arp1006}
 use Rattle.rtk_message.specs.declared.msm1074.Msm1074.{Msm1074}
 use Rattle.rtk_message.specs.declared.fault.DecodeFault.{DecodeFault}
-use Rattle.rtk_message.specs.declared.fault.DecodeFault.TheVariants.{Other}
+use Rattle.rtk_message.specs.declared.fault.DecodeFault.TheVariants.{NoNumber, Other, Short, EpochRange, TooManyCells}
 use Rattle.rtk_message.specs.Decoded.{Decodes}
-use Rattle.rtk_message.specs.FaultCode.{fault_text}
 use Rattle.rtk_message.specs.Msm1074.{satellites, signals, cells}
 
 -- a point and four digits: the part of a whole metre, of a number of 0.0001 m
@@ -61,11 +60,14 @@ message_text (Of1005 m) = text_1005 m
 message_text (Of1006 m) = text_1006 m
 message_text (Of1074 m) = text_1074 m
 
--- a payload that is no message: the number of another message, or the code of the fault and the number of the
+-- a payload that is no message: the number of another message, or the number of the fault and the number of the
 -- message, if there is one
 abbrev pub unread_text : DecodeFault → List ℕ
+unread_text NoNumber = codes "refused M1 -"
 unread_text (Other number) = decimal number ++ codes " other"
-unread_text fault = codes "refused " ++ fault_text fault
+unread_text (Short number) = codes "refused M3 " ++ decimal number
+unread_text (EpochRange number) = codes "refused M4 " ++ decimal number
+unread_text TooManyCells = codes "refused M5 1074"
 
 -- either is ended by a line feed
 abbrev pub line_of : Result Message DecodeFault → List ℕ

@@ -39,8 +39,8 @@ fn put_metres(line: &mut Vec<u8>, length: u64) -> Result<(), AllocError>
     line.extend_from_slice(&decimals_of(length))
 }
 
-// By reference, as in `put_reference_point`: a signed field of a message that is read and passed by value has
-// no range for the prover.
+// By reference: a signed field of a message that is read and passed by value has no range for the
+// prover.
 #[tactic(auto, unfolding(crate::specs::Shown::coordinate))]
 fn put_coordinate(line: &mut Vec<u8>, value: &i64) -> Result<(), AllocError>
     ensures { OnOk result (line.new.items ≡ line.old.items ++ coordinate value.now) }
@@ -120,17 +120,16 @@ fn put_message(line: &mut Vec<u8>, message: &Message) -> Result<(), AllocError>
 fn put_fault(line: &mut Vec<u8>, fault: DecodeFault) -> Result<(), AllocError>
     ensures { OnOk result (line.new.items ≡ line.old.items ++ unread_text fault) }
 {
-    if let DecodeFault::Other { number } = fault {
-        put_number(line, number as u64)?;
-        return line.extend_from_slice(b" other");
+    match fault {
+        DecodeFault::NoNumber => line.extend_from_slice(b"refused M1 -"),
+        DecodeFault::Other { number } => {
+            put_number(line, number as u64)?;
+            line.extend_from_slice(b" other")
+        }
+        DecodeFault::Short { number } => put_named(line, b"refused M3 ", number as u64),
+        DecodeFault::EpochRange { number } => put_named(line, b"refused M4 ", number as u64),
+        DecodeFault::TooManyCells => line.extend_from_slice(b"refused M5 1074"),
     }
-    line.extend_from_slice(b"refused ")?;
-    line.extend_from_slice(fault.code().as_bytes())?;
-    match fault.number() {
-        Some(number) => put_named(line, b" ", number as u64)?,
-        None => line.extend_from_slice(b" -")?,
-    }
-    Ok(())
 }
 
 /// Appends the line of a payload, with its line feed. After a refusal a part of it may stand there.
