@@ -1,5 +1,5 @@
--- The laws of src/laws.rt as lemmas, which proofs of other crates cite: each says what a clause there
--- says.
+-- The laws of src/laws.rt as lemmas, which proofs of other crates cite: each says what a clause
+-- there says.
 
 -- the clauses of `bits_of_a_number`: length, above, rest, split
 pub use Rattle.rtk_bits.proofs.BitsLemmas.{length-bits_of, bits_of-above, bits_of-mod, bits_of-split}

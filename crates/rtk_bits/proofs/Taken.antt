@@ -1,5 +1,5 @@
--- Laws on the field at the front of a list of bits: its number fits, and gives the same bits when it
--- is written.
+-- Laws on the field at the front of a list of bits: its number fits, and gives the same bits when
+-- it is written.
 use Rattle.std.proofs.Common.{◌≡◌, ℕ, ◌^◌, ◌<◌, ◌≤◌, ℤ, Bool, List, ◌++◌, length, take, drop, sym, subst, arith}
 use Rattle.std.proofs.lemmas.List.{take-append-drop, length-take}
 use Rattle.rtk_bits.specs.Bits.{unsigned, signed, bits_of, signed_bits_of, FitsSigned}

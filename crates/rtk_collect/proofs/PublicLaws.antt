@@ -1,12 +1,12 @@
--- The laws of src/laws.rt as lemmas, which proofs of other crates cite: each says what a clause there
--- says, but for `with_cells-all`.
+-- The laws of src/laws.rt as lemmas, which proofs of other crates cite: each says what a clause
+-- there says, but for `with_cells-all`.
 
 -- the clause of `late_arrivals_change_nothing`; the clauses `grow` and `after` of
 -- `closed_epochs_only_grow`; the clause `late` of `stations_are_final`; the clauses `late` and
 -- `in_time` of `kept_epochs_of_arrivals`
 pub use Rattle.rtk_collect.proofs.LateLemmas.{late-change-nothing, closed-only-grow, closed-after, stations-are-final, kept-late, kept-new}
--- the clause `held` of `kept_epochs_of_arrivals`, the clause `count` of `closed_epochs_are_the_rest`,
--- and the clause `opens` of `openings_do_not_conflict`
+-- the clause `held` of `kept_epochs_of_arrivals`, the clause `count` of
+-- `closed_epochs_are_the_rest`, and the clause `opens` of `openings_do_not_conflict`
 pub use Rattle.rtk_collect.proofs.OpeningLemmas.{held-length, closed-length, opening-conflicts-not}
 -- the clause `rest` of `closed_epochs_are_the_rest`, whatever the second argument is
 pub use Rattle.rtk_collect.proofs.JoinsLemmas.{closed-drop}

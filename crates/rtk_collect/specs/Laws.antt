@@ -140,7 +140,7 @@ AllRise (x ∷ xs) = KeysRise x.cells × AllRise xs
 abbrev pub KeptRise : Type 0
 KeptRise = (n : ℕ) (arrivals : List Arrival) → AllRise (kept n arrivals)
 
--- epochs that fall and whose cells rise are the same if they are the same epochs with the same cells
+-- epochs that fall and whose cells rise are one list if they are the same epochs and cells
 abbrev pub OrderedAreSame : Type 0
 OrderedAreSame = (xs ys : List EpochSetView) → EpochsFall xs → EpochsFall ys → AllRise xs → AllRise ys
     → ((e : ℕ) → HasEpoch e xs → HasEpoch e ys) → ((e : ℕ) → HasEpoch e ys → HasEpoch e xs)

@@ -1,5 +1,5 @@
--- The laws of src/laws.rt as lemmas, which proofs of other crates cite: each says what a clause there
--- says.
+-- The laws of src/laws.rt as lemmas, which proofs of other crates cite: each says what a clause
+-- there says.
 
 -- the clauses `payloads` of `final_frames_in_any_cut`, `frames_in_any_cut` and
 -- `frames_after_the_first`, and the clause of `final_frames_after_found`

@@ -1,5 +1,5 @@
--- The laws of src/laws.rt as lemmas, which proofs of other crates cite: each says what a clause there
--- says.
+-- The laws of src/laws.rt as lemmas, which proofs of other crates cite: each says what a clause
+-- there says.
 
 -- the clauses of `cells_are_distinct`: legacy, msm
 pub use Rattle.rtk_obs.proofs.DistinctLemmas.{cells_of_1004-distinct, cells_of_1074-distinct}

@@ -1,5 +1,5 @@
--- The laws of src/laws.rt as lemmas, which proofs of other crates cite: each says what a clause there
--- says.
+-- The laws of src/laws.rt as lemmas, which proofs of other crates cite: each says what a clause
+-- there says.
 
 -- the clause `one` of `one_reading`
 pub use Rattle.rtk_rinex.proofs.ReadingLemmas.{reading_is}
