@@ -10,8 +10,8 @@ use Rattle.rtk_cli.specs.MomentText.{WritesMoment}
 -- the settings are what the options write
 abbrev pub SaysSetup : Options → SetupView → Type 0
 SaysSetup o s =
-    (s.station ≡ o.station) × WritesMoment o.near.now s.near × WritesMoment o.made.now s.heading.made
-    × (s.heading.marker ≡ o.marker.now) × Lists o.codes.now s.heading.listed × (s.window ≡ o.window)
+    (s.station ≡ o.station) × WritesMoment o.near.now s.near × WritesMoment o.made.now s.head.made
+    × (s.head.marker ≡ o.marker.now) × Lists o.codes.now s.head.listed × (s.window ≡ o.window)
 
 -- the job is the conversion that the options and the names of the links say
 abbrev pub SaysConversion : Options → List (List ℕ) → Job → Type 0

@@ -1,4 +1,5 @@
--- A window stays ahead of the last phases: an epoch that closes is above them, and below all that stay.
+-- A window stays ahead of the last phases: an epoch that closes is above them, and below all epochs
+-- that stay.
 use Rattle.std.proofs.Common.{◌≡◌, ℕ, suc, ◌<◌, ◌≤◌, List, [], length, get_or, Option, None, Some, ap, subst, arith}
 use Rattle.std.specs.Prelude.{All}
 use Rattle.std.proofs.lemmas.List.Elements.{All-weaker}

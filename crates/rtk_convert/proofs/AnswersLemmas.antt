@@ -22,7 +22,7 @@ answer-class n a before (Taken closing found) h = h.0
 answer-class n a before (Conflict found) h = h.0
 answer-class n a before Repeat h = h.0
 
--- the lines need the conflicts only where the answer names them
+-- the lines need the conflicts only if the answer names them
 answer-conflicts : (n link number : ℕ) (epoch : Option ℕ) (a : Arrival) (before : List Arrival) (offer : Offer) → IsRightAnswer n a before offer
     → class_lines link number epoch (class_of_offer offer) (conflicts_of n a before) ≡ offer_lines link number epoch offer
 answer-conflicts n link number epoch a before Late h = refl

@@ -56,7 +56,7 @@ whole s before =
     let split : take s.window all ++ closed s.window before ≡ all =
     ap (λ (x : List EpochSetView). take s.window all ++ x) (closed-drop s.window no_cells before) ∙ take-append-drop s.window all in
     let more = closed-grows s site (take s.window all) (closed s.window before) in
-    let last : List ℕ = header_before s site s.near (is_some (first_time s.heading.listed all)) in (
+    let last : List ℕ = header_before s site s.near (is_some (first_time s.head.listed all)) in (
       more.0 ++ last,
       file-closed s site all
           ∙ ap (λ (x : List ℕ). x ++ last) (ap (closed_text s site) (sym split) ∙ more.1 ∙ ap (λ (x : List ℕ). x ++ more.0) (sym (so_far-is s before)))
@@ -77,9 +77,9 @@ first_time-more listed [] below t h = h
 first_time-more listed (e ∷ more) below t h =
     first-kept (first_time listed (more ++ below)) e.epoch t (record_of listed e (more ++ below)) (first_time-more listed more below t h)
 
-first_time-kept : (s : SetupView) (before : List Arrival) (t : ℕ) → first_time s.heading.listed (closed s.window before) ≡ Some t → first_time s.heading.listed (kept s.window before) ≡ Some t
+first_time-kept : (s : SetupView) (before : List Arrival) (t : ℕ) → first_time s.head.listed (closed s.window before) ≡ Some t → first_time s.head.listed (kept s.window before) ≡ Some t
 first_time-kept s before t h =
-    first_time-drop s.window s.heading.listed (kept s.window before) t (ap (first_time s.heading.listed) (sym (closed-drop s.window no_cells before)) ∙ h)
+    first_time-drop s.window s.head.listed (kept s.window before) t (ap (first_time s.head.listed) (sym (closed-drop s.window no_cells before)) ∙ h)
 
 none-closed : (listed : List Code) (xs : List EpochSetView) (t : ℕ) → first_time listed xs ≡ Some t → xs ≡ [] → ⊥
 unfolding first_time
@@ -89,19 +89,19 @@ none-closed listed (x ∷ xs) t h e = cc
 pub header-final : HeaderIsFinal
 header-final s a before t h =
     let g = closed-only-grow s.window (a ∷ []) before in
-    let after : first_time s.heading.listed (closed s.window (a ∷ before)) ≡ Some t =
-    ap (first_time s.heading.listed) g.1 ∙ first_time-more s.heading.listed g.0 (closed s.window before) t h in
+    let after : first_time s.head.listed (closed s.window (a ∷ before)) ≡ Some t =
+    ap (first_time s.head.listed) g.1 ∙ first_time-more s.head.listed g.0 (closed s.window before) t h in
     let site : site_of_kept s.window (a ∷ before) ≡ site_of_kept s.window before = elim (closed-after s.window before) [
-      | inl none ↦ absurd (none-closed s.heading.listed (closed s.window before) t h none)
+      | inl none ↦ absurd (none-closed s.head.listed (closed s.window before) t h none)
       | inr full ↦ site-final s.window a before full
     ] in
-    ap (λ (o : Option ℕ). header_text s.heading (site_of_kept s.window (a ∷ before)) (unwrap_or o s.near)) (first_time-kept s (a ∷ before) t after)
-    ∙ ap (λ (x : PositionView). header_text s.heading x t) site
-    ∙ ap (λ (o : Option ℕ). header_text s.heading (site_of_kept s.window before) (unwrap_or o s.near)) (sym (first_time-kept s before t h))
+    ap (λ (o : Option ℕ). header_text s.head (site_of_kept s.window (a ∷ before)) (unwrap_or o s.near)) (first_time-kept s (a ∷ before) t after)
+    ∙ ap (λ (x : PositionView). header_text s.head x t) site
+    ∙ ap (λ (o : Option ℕ). header_text s.head (site_of_kept s.window before) (unwrap_or o s.near)) (sym (first_time-kept s before t h))
 
 -- ---- frames that are no arrivals
 
-others-step : (f : Found) (x : FrameClass) (before : List Found) → f.finding ≡ x → arrivals (and_if_arrived f x before) ≡ and_arrived x (arrivals before)
+others-step : (f : Found) (x : FrameClass) (before : List Found) → f.class ≡ x → arrivals (and_if_arrived f x before) ≡ and_arrived x (arrivals before)
 others-step f OtherMessage before h = refl
 others-step f (Refused fault) before h = refl
 others-step f Foreign before h = refl
@@ -109,7 +109,7 @@ others-step f (Dated a) before h = ap (λ (x : FrameClass). and_arrived x (arriv
 
 others-same : (found : List Found) → arrivals (only_arrived found) ≡ arrivals found
 others-same [] = refl
-others-same (f ∷ before) = others-step f f.finding (only_arrived before) refl ∙ ap (and_arrived f.finding) (others-same before)
+others-same (f ∷ before) = others-step f f.class (only_arrived before) refl ∙ ap (and_arrived f.class) (others-same before)
 
 pub others-leave : OthersLeaveFile
 others-leave s found = (others-same found, ap (kept_file s) (others-same found))

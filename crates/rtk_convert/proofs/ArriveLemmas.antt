@@ -1,6 +1,6 @@
 -- One arrival: what the conversion represents after it, and what was written.
 use Rattle.std.proofs.Common.{◌≡◌, ℕ, Bool, List, [], ◌∷◌, ◌++◌, Option, None, Some, refl, ap, sym, subst, ◌∙◌, ℤ, pos, inl}
-use Rattle.std.specs.Prelude.{is_some, option_to_list, option_map}
+use Rattle.std.specs.Prelude.{option_to_list, option_map}
 use Rattle.std.proofs.Math.Seq.{take-nil}
 use Rattle.rtk_message.specs.declared.message.Message.{Message}
 use Rattle.rtk_message.specs.declared.message.Message.TheVariants.{Arp1005, Arp1006}
@@ -22,8 +22,7 @@ use Rattle.rtk_frame.proofs.StreamLemmas.{with_more-nil}
 use Rattle.rtk_rinex.specs.Header.{PositionView, position_view}
 use Rattle.rtk_convert.specs.declared.frame_class.FrameClass.TheVariants.{OtherMessage, Refused, Foreign, Dated}
 use Rattle.rtk_convert.specs.declared.counts.Counts.{Counts}
-use Rattle.rtk_convert.specs.File.{first_time, record_of}
-use Rattle.rtk_convert.specs.Steps.ClosedText.{closing_text}
+use Rattle.rtk_convert.specs.Steps.ClosedText.{closing}
 use Rattle.rtk_convert.specs.FileOfArrivals.{site_of_stations, site_of_kept, file_so_far}
 use Rattle.rtk_convert.specs.FrameClass.{IsClassOfPayload, Found, arrivals}
 use Rattle.rtk_convert.specs.Steps.AddedMessage.{closed_by, AddsMessage, AddsMessageInPart}
@@ -33,6 +32,7 @@ use Rattle.rtk_convert.specs.Steps.OfferLines.{offer_lines, class_of_offer}
 use Rattle.rtk_convert.specs.Setup.{SetupView}
 use Rattle.rtk_convert.specs.Conversion.{ConversionView}
 use Rattle.rtk_convert.specs.Steps.AcceptedFrame.{AcceptsFrame, BreaksOffAtFrame}
+use Rattle.rtk_convert.specs.Writing.{Written, written}
 use Rattle.rtk_convert.proofs.AnswersLemmas.{answer-class, answer-lines, answer-closed}
 use Rattle.rtk_convert.proofs.OneTextLemmas.{one-arrived}
 use Rattle.rtk_convert.proofs.SoFarLemmas.{so_far-stays, so_far-closes, so_far-grows}
@@ -65,23 +65,19 @@ site-kept n w arrivals p size holds is =
 -- ---- an arrival
 
 -- it closes no epoch
-pub takes-none-closed : (s : SetupView) (w w' : CollectorView) (c : RecordsView) (k k' : Counts) (b b' : Bool) (link : ℕ) (a : Arrival) (offer : Offer) (o l l' : Option (List ℕ))
+pub takes-none-closed : (s : SetupView) (w w' : CollectorView) (c : RecordsView) (k k' : Counts) (b b' : Bool) (link : ℕ) (a : Arrival) (offer : Offer) (o : Written) (report : Option (List ℕ))
     → w.size ≡ s.window → closed_by offer ≡ None → AnswersArrival w a offer w' → k' ≡ counted_as (class_of_offer offer) k
-    → l' ≡ with_more l (offer_lines link (number_of (message_of a)) (epoch_of a) offer) → AddsMessage (state s w c k b) link a (state s w' c k' b') o o l l'
-takes-none-closed s w w' c k k' b b' link a offer o l l' size none meets counts wrote = λ before after.
+    → report ≡ with_more o.report (offer_lines link (number_of (message_of a)) (epoch_of a) offer) → AddsMessage (state s w c k b) link a (state s w' c k' b') o (written o.file report)
+takes-none-closed s w w' c k k' b b' link a offer o report size none meets counts wrote = λ before after.
     let m = meets before after.window in
     let answer : IsRightAnswer s.window a before offer = subst (λ (n : ℕ). IsRightAnswer n a before offer) size m.0 in
     let same : closed s.window (a ∷ before) ≡ closed s.window before = answer-closed s.window a before offer answer ∙ ap (λ (d : Option EpochSetView). option_to_list d ++ closed s.window before) none in
     record {
-      after = record { window = m.1; closed = subst (λ (xs : List EpochSetView). HasClosed c s.heading.listed xs) (sym same) after.closed };
+      after = record { window = m.1; closed = subst (λ (xs : List EpochSetView). HasClosed c s.head.listed xs) (sym same) after.closed };
       counts = counts ∙ sym (ap (λ (c : Class). counted_as c k) (answer-class s.window a before offer answer));
-      out = writes-none o (file_so_far s before) (file_so_far s (a ∷ before)) (so_far-stays s a before same);
-      log = wrote ∙ ap (with_more l) (sym (answer-lines s.window link a before offer answer));
+      out = writes-none o.file (file_so_far s before) (file_so_far s (a ∷ before)) (so_far-stays s a before same);
+      log = wrote ∙ ap (with_more o.report) (sym (answer-lines s.window link a before offer answer));
     }
-
--- what closing an epoch writes
-abbrev pub closing : SetupView → PositionView → EpochSetView → List EpochSetView → List ℕ
-closing s site e below = closing_text s site e.epoch (is_some (first_time s.heading.listed below)) (record_of s.heading.listed e below)
 
 closing-text : (s : SetupView) (w w' : CollectorView) (a : Arrival) (offer : Offer) (e : EpochSetView) (p : Position) (before : List Arrival) → w.size ≡ s.window → w'.size ≡ s.window
     → closed_by offer ≡ Some e → IsRightAnswer s.window a before offer → RepresentsArrivals w' (a ∷ before) → ((before : List Arrival) → RepresentsArrivals w' before → IsPositionOf w'.size before p)
@@ -91,66 +87,66 @@ closing-text s w w' a offer e p before size size' some answer holds position =
     ∙ ap (λ (x : PositionView). file_so_far s before ++ closing s x e (closed s.window before)) (sym (site-kept s.window w' (a ∷ before) p size' holds (position (a ∷ before) holds)))
 
 -- it closes an epoch
-pub takes-some-closed : (s : SetupView) (w w' : CollectorView) (c c' : RecordsView) (k k' : Counts) (b b' : Bool) (link : ℕ) (a : Arrival) (offer : Offer) (e : EpochSetView) (p : Position) (o o' l l' : Option (List ℕ))
+pub takes-some-closed : (s : SetupView) (w w' : CollectorView) (c c' : RecordsView) (k k' : Counts) (b b' : Bool) (link : ℕ) (a : Arrival) (offer : Offer) (e : EpochSetView) (p : Position) (o o' : Written)
     → w.size ≡ s.window → w'.size ≡ s.window → closed_by offer ≡ Some e → AnswersArrival w a offer w' → ((before : List Arrival) → RepresentsArrivals w' before → IsPositionOf w'.size before p) → k' ≡ counted_as (class_of_offer offer) k
-    → ((below : List EpochSetView) → HasClosed c s.heading.listed below → HasClosed c' s.heading.listed (e ∷ below))
-    → ((below : List EpochSetView) → HasClosed c s.heading.listed below → o' ≡ with_more o (closing s (position_view p) e below))
-    → l' ≡ with_more l (offer_lines link (number_of (message_of a)) (epoch_of a) offer) → AddsMessage (state s w c k b) link a (state s w' c' k' b') o o' l l'
-takes-some-closed s w w' c c' k k' b b' link a offer e p o o' l l' size size' some meets position counts follows out wrote = λ before after.
+    → ((below : List EpochSetView) → HasClosed c s.head.listed below → HasClosed c' s.head.listed (e ∷ below))
+    → ((below : List EpochSetView) → HasClosed c s.head.listed below → o'.file ≡ with_more o.file (closing s (position_view p) e below))
+    → o'.report ≡ with_more o.report (offer_lines link (number_of (message_of a)) (epoch_of a) offer) → AddsMessage (state s w c k b) link a (state s w' c' k' b') o o'
+takes-some-closed s w w' c c' k k' b b' link a offer e p o o' size size' some meets position counts follows out wrote = λ before after.
     let m = meets before after.window in
     let answer : IsRightAnswer s.window a before offer = subst (λ (n : ℕ). IsRightAnswer n a before offer) size m.0 in
     let closes : closed s.window (a ∷ before) ≡ e ∷ closed s.window before = answer-closed s.window a before offer answer ∙ ap (λ (d : Option EpochSetView). option_to_list d ++ closed s.window before) some in
     record {
-      after = record { window = m.1; closed = subst (λ (xs : List EpochSetView). HasClosed c' s.heading.listed xs) (sym closes) (follows (closed s.window before) after.closed) };
+      after = record { window = m.1; closed = subst (λ (xs : List EpochSetView). HasClosed c' s.head.listed xs) (sym closes) (follows (closed s.window before) after.closed) };
       counts = counts ∙ sym (ap (λ (c : Class). counted_as c k) (answer-class s.window a before offer answer));
-      out = writes-text o o' (file_so_far s before) (file_so_far s (a ∷ before)) (closing s (position_view p) e (closed s.window before))
+      out = writes-text o.file o'.file (file_so_far s before) (file_so_far s (a ∷ before)) (closing s (position_view p) e (closed s.window before))
           (closing-text s w w' a offer e p before size size' some answer m.1 position) (out (closed s.window before) after.closed);
-      log = wrote ∙ ap (with_more l) (sym (answer-lines s.window link a before offer answer));
+      log = wrote ∙ ap (with_more o.report) (sym (answer-lines s.window link a before offer answer));
     }
 
 -- ---- it breaks off
 
 -- nothing was written
-pub part-nothing : (s : SetupView) (w : CollectorView) (c : RecordsView) (k : Counts) (b : Bool) (link : ℕ) (a : Arrival) (o l : Option (List ℕ)) → AddsMessageInPart (state s w c k b) link a o o l l
-part-nothing s w c k b link a o l = λ before after.
+pub part-nothing : (s : SetupView) (w : CollectorView) (c : RecordsView) (k : Counts) (b : Bool) (link : ℕ) (a : Arrival) (o : Written) → AddsMessageInPart (state s w c k b) link a o o
+part-nothing s w c k b link a o = λ before after.
     let g = so_far-grows s a before in
-    record { out = part-none o (file_so_far s before) (file_so_far s (a ∷ before)) g.0 g.1; log = takes-none l (frame_lines s.window link (Dated a) before) }
+    record { out = part-none o.file (file_so_far s before) (file_so_far s (a ∷ before)) g.0 g.1; log = takes-none o.report (frame_lines s.window link (Dated a) before) }
 
 -- in its record
-pub part-record : (s : SetupView) (w w' : CollectorView) (c : RecordsView) (k : Counts) (b : Bool) (link : ℕ) (a : Arrival) (offer : Offer) (e : EpochSetView) (p : Position) (o o' l : Option (List ℕ))
+pub part-record : (s : SetupView) (w w' : CollectorView) (c : RecordsView) (k : Counts) (b : Bool) (link : ℕ) (a : Arrival) (offer : Offer) (e : EpochSetView) (p : Position) (o : Written) (file : Option (List ℕ))
     → w.size ≡ s.window → w'.size ≡ s.window → closed_by offer ≡ Some e → AnswersArrival w a offer w' → ((before : List Arrival) → RepresentsArrivals w' before → IsPositionOf w'.size before p)
-    → ((below : List EpochSetView) → HasClosed c s.heading.listed below → TakesPart o o' (closing s (position_view p) e below))
-    → AddsMessageInPart (state s w c k b) link a o o' l l
-part-record s w w' c k b link a offer e p o o' l size size' some meets position out = λ before after.
+    → ((below : List EpochSetView) → HasClosed c s.head.listed below → TakesPart o.file file (closing s (position_view p) e below))
+    → AddsMessageInPart (state s w c k b) link a o (written file o.report)
+part-record s w w' c k b link a offer e p o file size size' some meets position out = λ before after.
     let m = meets before after.window in
     let answer : IsRightAnswer s.window a before offer = subst (λ (n : ℕ). IsRightAnswer n a before offer) size m.0 in
     record {
-      out = part-text o o' (file_so_far s before) (file_so_far s (a ∷ before)) (closing s (position_view p) e (closed s.window before))
+      out = part-text o.file file (file_so_far s before) (file_so_far s (a ∷ before)) (closing s (position_view p) e (closed s.window before))
           (closing-text s w w' a offer e p before size size' some answer m.1 position) (out (closed s.window before) after.closed);
-      log = takes-none l (frame_lines s.window link (Dated a) before);
+      log = takes-none o.report (frame_lines s.window link (Dated a) before);
     }
 
 -- in its lines
-pub part-lines : (s : SetupView) (w w' : CollectorView) (c c' : RecordsView) (k k' : Counts) (b b' : Bool) (link : ℕ) (a : Arrival) (offer : Offer) (o o' l l' : Option (List ℕ)) → w.size ≡ s.window → AnswersArrival w a offer w'
-    → AddsMessage (state s w c k b) link a (state s w' c' k' b') o o' l (with_more l (offer_lines link (number_of (message_of a)) (epoch_of a) offer))
-    → TakesPart l l' (offer_lines link (number_of (message_of a)) (epoch_of a) offer) → AddsMessageInPart (state s w c k b) link a o o' l l'
-part-lines s w w' c c' k k' b b' link a offer o o' l l' size meets takes part = λ before after.
+pub part-lines : (s : SetupView) (w w' : CollectorView) (c c' : RecordsView) (k k' : Counts) (b b' : Bool) (link : ℕ) (a : Arrival) (offer : Offer) (o o' : Written) → w.size ≡ s.window → AnswersArrival w a offer w'
+    → AddsMessage (state s w c k b) link a (state s w' c' k' b') o (written o'.file (with_more o.report (offer_lines link (number_of (message_of a)) (epoch_of a) offer)))
+    → TakesPart o.report o'.report (offer_lines link (number_of (message_of a)) (epoch_of a) offer) → AddsMessageInPart (state s w c k b) link a o o'
+part-lines s w w' c c' k k' b b' link a offer o o' size meets takes part = λ before after.
     let m = meets before after.window in
     let answer : IsRightAnswer s.window a before offer = subst (λ (n : ℕ). IsRightAnswer n a before offer) size m.0 in
     let t = takes before after in
     record {
-      out = part-all o o' (file_so_far s before) (file_so_far s (a ∷ before)) t.out;
-      log = subst (λ (text : List ℕ). TakesPart l l' text) (sym (answer-lines s.window link a before offer answer)) part;
+      out = part-all o.file o'.file (file_so_far s before) (file_so_far s (a ∷ before)) t.out;
+      log = subst (λ (text : List ℕ). TakesPart o.report o'.report text) (sym (answer-lines s.window link a before offer answer)) part;
     }
 
 -- ---- a frame
 
-pub arrives-arrived : (s : SetupView) (w : CollectorView) (c : RecordsView) (new : ConversionView) (k k₁ : Counts) (b b₁ : Bool) (link : ℕ) (payload : List ℕ) (a : Arrival) (o o' l l' : Option (List ℕ))
-    → IsClassOfPayload s payload (Dated a) → k₁ ≡ one_frame_more k → new.settings ≡ s → AddsMessage (state s w c k₁ b₁) link a new o o' l l'
-    → AcceptsFrame (state s w c k b) link payload new o o' l l'
-arrives-arrived s w c new k k₁ b b₁ link payload a o o' l l' comes frames settings takes = λ before rep.
+pub arrives-arrived : (s : SetupView) (w : CollectorView) (c : RecordsView) (new : ConversionView) (k k₁ : Counts) (b b₁ : Bool) (link : ℕ) (payload : List ℕ) (a : Arrival) (o o' : Written)
+    → IsClassOfPayload s payload (Dated a) → k₁ ≡ one_frame_more k → new.settings ≡ s → AddsMessage (state s w c k₁ b₁) link a new o o'
+    → AcceptsFrame (state s w c k b) link payload new o o'
+arrives-arrived s w c new k k₁ b b₁ link payload a o o' comes frames settings takes = λ before rep.
     let t = takes (arrivals before) (record { window = rep.window; closed = rep.closed }) in
-    let found : List Found = record { link = link; finding = Dated a } ∷ before in (
+    let found : List Found = record { link = link; class = Dated a } ∷ before in (
       Dated a,
       comes,
       record {
@@ -159,72 +155,68 @@ arrives-arrived s w c new k k₁ b b₁ link payload a o o' l l' comes frames se
           closed = t.after.closed;
           counts = t.counts ∙ ap (counted_as (class_of s.window a (arrivals before))) (frames ∙ ap one_frame_more rep.counts) ∙ ap (λ (x : SetupView). frame_counts x.window found) (sym settings);
         };
-        out = t.out;
-        log = writes-text l l' (lines s.window before) (lines s.window found) (frame_lines s.window link (Dated a) (arrivals before)) refl t.log;
+        writes = record { out = t.out; log = writes-text o.report o'.report (lines s.window before) (lines s.window found) (frame_lines s.window link (Dated a) (arrivals before)) refl t.log };
         one = one-arrived s link payload a before comes;
       },
     )
 
-pub breaks-arrived : (s : SetupView) (w : CollectorView) (c : RecordsView) (k k₁ : Counts) (b b₁ : Bool) (link : ℕ) (payload : List ℕ) (a : Arrival) (o o' l l' : Option (List ℕ))
-    → IsClassOfPayload s payload (Dated a) → AddsMessageInPart (state s w c k₁ b₁) link a o o' l l' → BreaksOffAtFrame (state s w c k b) link payload o o' l l'
-breaks-arrived s w c k k₁ b b₁ link payload a o o' l l' comes takes = λ before rep.
+pub breaks-arrived : (s : SetupView) (w : CollectorView) (c : RecordsView) (k k₁ : Counts) (b b₁ : Bool) (link : ℕ) (payload : List ℕ) (a : Arrival) (o o' : Written)
+    → IsClassOfPayload s payload (Dated a) → AddsMessageInPart (state s w c k₁ b₁) link a o o' → BreaksOffAtFrame (state s w c k b) link payload o o'
+breaks-arrived s w c k k₁ b b₁ link payload a o o' comes takes = λ before rep.
     let t = takes (arrivals before) (record { window = rep.window; closed = rep.closed }) in (
       Dated a,
       comes,
       record {
         out = t.out;
-        log = part-text l l' (lines s.window before) (lines s.window (record { link = link; finding = Dated a } ∷ before)) (frame_lines s.window link (Dated a) (arrivals before)) refl t.log;
+        log = part-text o.report o'.report (lines s.window before) (lines s.window (record { link = link; class = Dated a } ∷ before)) (frame_lines s.window link (Dated a) (arrivals before)) refl t.log;
         one = one-arrived s link payload a before comes;
       },
     )
 
-pub arrives-other : (s : SetupView) (w : CollectorView) (c : RecordsView) (k k' : Counts) (b b' : Bool) (link : ℕ) (payload : List ℕ) (o l : Option (List ℕ)) → IsClassOfPayload s payload OtherMessage
-    → k' ≡ record (one_frame_more k) { other = count_after k.other } → AcceptsFrame (state s w c k b) link payload (state s w c k' b') o o l l
-arrives-other s w c k k' b b' link payload o l comes counts = λ before rep. (
+pub arrives-other : (s : SetupView) (w : CollectorView) (c : RecordsView) (k k' : Counts) (b b' : Bool) (link : ℕ) (payload : List ℕ) (o : Written) → IsClassOfPayload s payload OtherMessage
+    → k' ≡ record (one_frame_more k) { other = count_after k.other } → AcceptsFrame (state s w c k b) link payload (state s w c k' b') o o
+arrives-other s w c k k' b b' link payload o comes counts = λ before rep. (
   OtherMessage,
   comes,
   record {
     represents = record { window = rep.window; closed = rep.closed; counts = counts ∙ ap (λ (x : Counts). record (one_frame_more x) { other = count_after x.other }) rep.counts };
-    out = writes-none o _ _ refl;
-    log = writes-text l l (lines s.window before) (lines s.window before ++ []) [] refl (sym (with_more-nil l));
+    writes = record { out = writes-none o.file _ _ refl; log = writes-text o.report o.report (lines s.window before) (lines s.window before ++ []) [] refl (sym (with_more-nil o.report)) };
     one = inl refl;
   },
 )
 
-pub arrives-foreign : (s : SetupView) (w : CollectorView) (c : RecordsView) (k k' : Counts) (b b' : Bool) (link : ℕ) (payload : List ℕ) (o l : Option (List ℕ)) → IsClassOfPayload s payload Foreign
-    → k' ≡ record (one_frame_more k) { foreign = count_after k.foreign } → AcceptsFrame (state s w c k b) link payload (state s w c k' b') o o l l
-arrives-foreign s w c k k' b b' link payload o l comes counts = λ before rep. (
+pub arrives-foreign : (s : SetupView) (w : CollectorView) (c : RecordsView) (k k' : Counts) (b b' : Bool) (link : ℕ) (payload : List ℕ) (o : Written) → IsClassOfPayload s payload Foreign
+    → k' ≡ record (one_frame_more k) { foreign = count_after k.foreign } → AcceptsFrame (state s w c k b) link payload (state s w c k' b') o o
+arrives-foreign s w c k k' b b' link payload o comes counts = λ before rep. (
   Foreign,
   comes,
   record {
     represents = record { window = rep.window; closed = rep.closed; counts = counts ∙ ap (λ (x : Counts). record (one_frame_more x) { foreign = count_after x.foreign }) rep.counts };
-    out = writes-none o _ _ refl;
-    log = writes-text l l (lines s.window before) (lines s.window before ++ []) [] refl (sym (with_more-nil l));
+    writes = record { out = writes-none o.file _ _ refl; log = writes-text o.report o.report (lines s.window before) (lines s.window before ++ []) [] refl (sym (with_more-nil o.report)) };
     one = inl refl;
   },
 )
 
-pub arrives-refused : (s : SetupView) (w : CollectorView) (c : RecordsView) (k k' : Counts) (b b' : Bool) (link : ℕ) (payload : List ℕ) (fault : DecodeFault) (o l l' : Option (List ℕ)) → IsClassOfPayload s payload (Refused fault)
-    → k' ≡ record (one_frame_more k) { refused = count_after k.refused } → l' ≡ with_more l (refused_line link fault) → AcceptsFrame (state s w c k b) link payload (state s w c k' b') o o l l'
-arrives-refused s w c k k' b b' link payload fault o l l' comes counts wrote = λ before rep. (
+pub arrives-refused : (s : SetupView) (w : CollectorView) (c : RecordsView) (k k' : Counts) (b b' : Bool) (link : ℕ) (payload : List ℕ) (fault : DecodeFault) (o : Written) (report : Option (List ℕ)) → IsClassOfPayload s payload (Refused fault)
+    → k' ≡ record (one_frame_more k) { refused = count_after k.refused } → report ≡ with_more o.report (refused_line link fault) → AcceptsFrame (state s w c k b) link payload (state s w c k' b') o (written o.file report)
+arrives-refused s w c k k' b b' link payload fault o report comes counts wrote = λ before rep. (
   Refused fault,
   comes,
   record {
     represents = record { window = rep.window; closed = rep.closed; counts = counts ∙ ap (λ (x : Counts). record (one_frame_more x) { refused = count_after x.refused }) rep.counts };
-    out = writes-none o _ _ refl;
-    log = writes-text l l' (lines s.window before) _ (refused_line link fault) refl wrote;
+    writes = record { out = writes-none o.file _ _ refl; log = writes-text o.report report (lines s.window before) _ (refused_line link fault) refl wrote };
     one = inl refl;
   },
 )
 
-pub breaks-refused : (s : SetupView) (w : CollectorView) (c : RecordsView) (k : Counts) (b : Bool) (link : ℕ) (payload : List ℕ) (fault : DecodeFault) (o l l' : Option (List ℕ)) → IsClassOfPayload s payload (Refused fault)
-    → TakesPart l l' (refused_line link fault) → BreaksOffAtFrame (state s w c k b) link payload o o l l'
-breaks-refused s w c k b link payload fault o l l' comes part = λ before rep. (
+pub breaks-refused : (s : SetupView) (w : CollectorView) (c : RecordsView) (k : Counts) (b : Bool) (link : ℕ) (payload : List ℕ) (fault : DecodeFault) (o : Written) (report : Option (List ℕ)) → IsClassOfPayload s payload (Refused fault)
+    → TakesPart o.report report (refused_line link fault) → BreaksOffAtFrame (state s w c k b) link payload o (written o.file report)
+breaks-refused s w c k b link payload fault o report comes part = λ before rep. (
   Refused fault,
   comes,
   record {
-    out = part-all o o _ _ (writes-none o (file_so_far s (arrivals before)) (file_so_far s (arrivals before)) refl);
-    log = part-text l l' (lines s.window before) _ (refused_line link fault) refl part;
+    out = part-all o.file o.file _ _ (writes-none o.file (file_so_far s (arrivals before)) (file_so_far s (arrivals before)) refl);
+    log = part-text o.report report (lines s.window before) _ (refused_line link fault) refl part;
     one = inl refl;
   },
 )
@@ -243,23 +235,22 @@ unfolding empty_window
 holds-new w n e = subst (λ (x : CollectorView). RepresentsArrivals x []) (sym e) (holds-empty n)
 
 -- whether it has stopped is no part of what it represents
-pub arrives-still : (s s' : SetupView) (w w' : CollectorView) (c c' : RecordsView) (k k' : Counts) (b b' d d' : Bool) (link : ℕ) (payload : List ℕ) (o o' l l' : Option (List ℕ))
-    → AcceptsFrame (state s w c k b) link payload (state s' w' c' k' b') o o' l l' → AcceptsFrame (state s w c k d) link payload (state s' w' c' k' d') o o' l l'
-arrives-still s s' w w' c c' k k' b b' d d' link payload o o' l l' arrives = λ before rep.
+pub arrives-still : (s s' : SetupView) (w w' : CollectorView) (c c' : RecordsView) (k k' : Counts) (b b' d d' : Bool) (link : ℕ) (payload : List ℕ) (o o' : Written)
+    → AcceptsFrame (state s w c k b) link payload (state s' w' c' k' b') o o' → AcceptsFrame (state s w c k d) link payload (state s' w' c' k' d') o o'
+arrives-still s s' w w' c c' k k' b b' d d' link payload o o' arrives = λ before rep.
     let t = arrives before (record { window = rep.window; closed = rep.closed; counts = rep.counts }) in (
       t.0,
       t.1,
       record {
         represents = record { window = t.2.represents.window; closed = t.2.represents.closed; counts = t.2.represents.counts };
-        out = t.2.out;
-        log = t.2.log;
+        writes = t.2.writes;
         one = t.2.one;
       },
     )
 
-pub breaks-still : (s : SetupView) (w : CollectorView) (c : RecordsView) (k : Counts) (b d : Bool) (link : ℕ) (payload : List ℕ) (o o' l l' : Option (List ℕ))
-    → BreaksOffAtFrame (state s w c k b) link payload o o' l l' → BreaksOffAtFrame (state s w c k d) link payload o o' l l'
-breaks-still s w c k b d link payload o o' l l' breaks = λ before rep.
+pub breaks-still : (s : SetupView) (w : CollectorView) (c : RecordsView) (k : Counts) (b d : Bool) (link : ℕ) (payload : List ℕ) (o o' : Written)
+    → BreaksOffAtFrame (state s w c k b) link payload o o' → BreaksOffAtFrame (state s w c k d) link payload o o'
+breaks-still s w c k b d link payload o o' breaks = λ before rep.
     let t = breaks before (record { window = rep.window; closed = rep.closed; counts = rep.counts }) in (
       t.0,
       t.1,

@@ -17,9 +17,10 @@ use Rattle.rtk_convert.specs.Headline.{Call, Feed, Close, IsAfterCall, CallsCome
 use Rattle.rtk_convert.specs.History.{History, LinkPast, IsOpen, IsAfterFeed, IsAfterClose, new_history}
 use Rattle.rtk_convert.specs.Report.{lines}
 use Rattle.rtk_convert.specs.Setup.{SetupView}
+use Rattle.rtk_convert.specs.Writing.{Written}
 use Rattle.rtk_convert.proofs.HeadlineLemmas.{headline-of}
 use Rattle.rtk_convert.proofs.ReadLemmas.{open-goes}
-use Rattle.rtk_convert.proofs.RunLemmas.{length-with_piece, length-with_closed, so_far-nothing, written}
+use Rattle.rtk_convert.proofs.RunLemmas.{length-with_piece, length-with_closed, so_far-nothing, written-on}
 
 -- ---- a call is refused exactly if its link is not open
 
@@ -64,79 +65,79 @@ length-calls s links (c ∷ before) h p = length-call s p.0 c h p.2 ∙ length-c
 
 -- ---- what calls come to
 
-pub record HasCome (s : SetupView) (links : ℕ) (calls : List Call) (now : ConverterView) (out_old out log_old log : Option (List ℕ)) : Type 0 where
+pub record HasCome (s : SetupView) (links : ℕ) (calls : List Call) (now : ConverterView) (o0 o1 : Written) : Type 0 where
   pub history : History
   pub come_to : CallsComeTo s links calls history
   pub represents : RepresentsHistory now history
   pub settings : now.conversion.settings ≡ s
-  pub out_is : out ≡ with_more out_old (file_so_far s (arrivals history.found))
-  pub log_is : log ≡ with_more log_old (lines s.window history.found)
+  pub out_is : o1.file ≡ with_more o0.file (file_so_far s (arrivals history.found))
+  pub log_is : o1.report ≡ with_more o0.report (lines s.window history.found)
 
 -- one more that is taken
-taken : (s : SetupView) (links : ℕ) (call : Call) (before : List Call) (mid now : ConverterView) (o0 o1 o2 l0 l1 l2 : Option (List ℕ)) → (p : HasCome s links before mid o0 o1 l0 l1)
+taken : (s : SetupView) (links : ℕ) (call : Call) (before : List Call) (mid now : ConverterView) (o0 o1 o2 : Written) → (p : HasCome s links before mid o0 o1)
     → now.conversion.settings ≡ mid.conversion.settings → (next : History) → IsAfterCall s p.history call next → RepresentsHistory now next
-    → WritesOn s p.history.found next.found o1 o2 l1 l2 → HasCome s links (call ∷ before) now o0 o2 l0 l2
-taken s links call before mid now o0 o1 o2 l0 l1 l2 p same next after represents w = record {
+    → WritesOn s p.history.found next.found o1 o2 → HasCome s links (call ∷ before) now o0 o2
+taken s links call before mid now o0 o1 o2 p same next after represents w = record {
   history = next;
   come_to = (p.history, p.come_to, after);
   represents = represents;
   settings = same ∙ p.settings;
-  out_is = written o0 o1 o2 (file_so_far s (arrivals p.history.found)) (file_so_far s (arrivals next.found)) p.out_is w.out;
-  log_is = written l0 l1 l2 (lines s.window p.history.found) (lines s.window next.found) p.log_is w.log;
+  out_is = written-on o0.file o1.file o2.file (file_so_far s (arrivals p.history.found)) (file_so_far s (arrivals next.found)) p.out_is w.out;
+  log_is = written-on o0.report o1.report o2.report (lines s.window p.history.found) (lines s.window next.found) p.log_is w.log;
 }
 
 -- one more that is refused
-refused : (s : SetupView) (links : ℕ) (call : Call) (before : List Call) (link : ℕ) (mid now : ConverterView) (o0 o1 o2 l0 l1 l2 : Option (List ℕ)) → (p : HasCome s links before mid o0 o1 l0 l1)
-    → IsRefused mid link now o1 o2 l1 l2 → IsAfterCall s p.history call p.history → HasCome s links (call ∷ before) now o0 o2 l0 l2
-refused s links call before link mid now o0 o1 o2 l0 l1 l2 p q after = record {
+refused : (s : SetupView) (links : ℕ) (call : Call) (before : List Call) (link : ℕ) (mid now : ConverterView) (o0 o1 o2 : Written) → (p : HasCome s links before mid o0 o1)
+    → IsRefused mid link now o1 o2 → IsAfterCall s p.history call p.history → HasCome s links (call ∷ before) now o0 o2
+refused s links call before link mid now o0 o1 o2 p q after = record {
   history = p.history;
   come_to = (p.history, p.come_to, after);
   represents = subst (λ (c : ConverterView). RepresentsHistory c p.history) (sym q.same) p.represents;
   settings = ap (λ (c : ConverterView). c.conversion.settings) q.same ∙ p.settings;
-  out_is = q.out ∙ p.out_is;
-  log_is = q.log ∙ p.log_is;
+  out_is = ap (λ (o : Written). o.file) q.written ∙ p.out_is;
+  log_is = ap (λ (o : Written). o.report) q.written ∙ p.log_is;
 }
 
-one-more : (s : SetupView) (links : ℕ) (call : Call) (before : List Call) (mid now : ConverterView) (o0 o1 o2 l0 l1 l2 : Option (List ℕ)) → HasCome s links before mid o0 o1 l0 l1
-    → now.conversion.settings ≡ mid.conversion.settings → IsAnswered mid call now o1 o2 l1 l2 → HasCome s links (call ∷ before) now o0 o2 l0 l2
-one-more s links (Feed link piece) before mid now o0 o1 o2 l0 l1 l2 p same (inl q) =
-    let fed = subst (λ (t : SetupView). (next : History) × IsAfterFeed t p.history link piece next × RepresentsHistory now next × WritesOn t p.history.found next.found o1 o2 l1 l2) p.settings (q.1 p.history p.represents) in
-    taken s links (Feed link piece) before mid now o0 o1 o2 l0 l1 l2 p same fed.0 (inl (goes-open mid p.history link p.represents q.0, fed.1)) fed.2 fed.3
-one-more s links (Feed link piece) before mid now o0 o1 o2 l0 l1 l2 p same (inr q) =
-    refused s links (Feed link piece) before link mid now o0 o1 o2 l0 l1 l2 p q (inr (not-open mid p.history link p.represents q.why, refl))
-one-more s links (Close link) before mid now o0 o1 o2 l0 l1 l2 p same (inl q) =
-    let closed = subst (λ (t : SetupView). (next : History) × IsAfterClose t p.history link next × RepresentsHistory now next × WritesOn t p.history.found next.found o1 o2 l1 l2) p.settings (q.1 p.history p.represents) in
-    taken s links (Close link) before mid now o0 o1 o2 l0 l1 l2 p same closed.0 (inl (goes-open mid p.history link p.represents q.0, closed.1)) closed.2 closed.3
-one-more s links (Close link) before mid now o0 o1 o2 l0 l1 l2 p same (inr q) =
-    refused s links (Close link) before link mid now o0 o1 o2 l0 l1 l2 p q (inr (not-open mid p.history link p.represents q.why, refl))
+one-more : (s : SetupView) (links : ℕ) (call : Call) (before : List Call) (mid now : ConverterView) (o0 o1 o2 : Written) → HasCome s links before mid o0 o1
+    → now.conversion.settings ≡ mid.conversion.settings → IsAnswered mid call now o1 o2 → HasCome s links (call ∷ before) now o0 o2
+one-more s links (Feed link piece) before mid now o0 o1 o2 p same (inl q) =
+    let fed = subst (λ (t : SetupView). (next : History) × IsAfterFeed t p.history link piece next × RepresentsHistory now next × WritesOn t p.history.found next.found o1 o2) p.settings (q.1 p.history p.represents) in
+    taken s links (Feed link piece) before mid now o0 o1 o2 p same fed.0 (inl (goes-open mid p.history link p.represents q.0, fed.1)) fed.2 fed.3
+one-more s links (Feed link piece) before mid now o0 o1 o2 p same (inr q) =
+    refused s links (Feed link piece) before link mid now o0 o1 o2 p q (inr (not-open mid p.history link p.represents q.why, refl))
+one-more s links (Close link) before mid now o0 o1 o2 p same (inl q) =
+    let closed = subst (λ (t : SetupView). (next : History) × IsAfterClose t p.history link next × RepresentsHistory now next × WritesOn t p.history.found next.found o1 o2) p.settings (q.1 p.history p.represents) in
+    taken s links (Close link) before mid now o0 o1 o2 p same closed.0 (inl (goes-open mid p.history link p.represents q.0, closed.1)) closed.2 closed.3
+one-more s links (Close link) before mid now o0 o1 o2 p same (inr q) =
+    refused s links (Close link) before link mid now o0 o1 o2 p q (inr (not-open mid p.history link p.represents q.why, refl))
 
-come : (s : SetupView) (links : ℕ) (first : ConverterView) (calls : List Call) (now : ConverterView) (o0 o1 l0 l1 : Option (List ℕ)) → RepresentsHistory first (new_history links) → first.conversion.settings ≡ s
-    → AreAnswered first calls now o0 o1 l0 l1 → HasCome s links calls now o0 o1 l0 l1
-come s links first [] now o0 o1 l0 l1 r e p = record {
+come : (s : SetupView) (links : ℕ) (first : ConverterView) (calls : List Call) (now : ConverterView) (o0 o1 : Written) → RepresentsHistory first (new_history links) → first.conversion.settings ≡ s
+    → AreAnswered first calls now o0 o1 → HasCome s links calls now o0 o1
+come s links first [] now o0 o1 r e p = record {
   history = new_history links;
   come_to = refl;
   represents = subst (λ (c : ConverterView). RepresentsHistory c (new_history links)) (sym p.0) r;
   settings = ap (λ (c : ConverterView). c.conversion.settings) p.0 ∙ e;
-  out_is = p.1 ∙ sym (with_more-nil o0) ∙ ap (with_more o0) (sym (so_far-nothing s));
-  log_is = p.2 ∙ sym (with_more-nil l0);
+  out_is = ap (λ (o : Written). o.file) p.1 ∙ sym (with_more-nil o0.file) ∙ ap (with_more o0.file) (sym (so_far-nothing s));
+  log_is = ap (λ (o : Written). o.report) p.1 ∙ sym (with_more-nil o0.report);
 }
-come s links first (call ∷ before) now o0 o1 l0 l1 r e p =
-    one-more s links call before p.0 now o0 p.1 o1 l0 p.2 l1 (come s links first before p.0 o0 p.1 l0 p.2 r e p.3) p.5 p.4
+come s links first (call ∷ before) now o0 o1 r e p =
+    one-more s links call before p.0 now o0 p.1 o1 (come s links first before p.0 o0 p.1 r e p.2) p.4 p.3
 
 pub calls-write-kept : CallsWriteKept
-calls-write-kept s links calls counts o0 o2 l0 l2 p =
-    let c = come s links p.first calls p.now o0 p.out l0 p.log p.is_new p.settings p.answered in
-    let end = subst (λ (t : SetupView). (last : History) × FinishesConverterAs t c.history last counts p.out o2 p.log l2) c.settings (p.ended c.history c.represents) in
+calls-write-kept s links calls counts o0 o2 p =
+    let c = come s links p.first calls p.now o0 p.written_mid p.is_new p.settings p.answered in
+    let end = subst (λ (t : SetupView). (last : History) × FinishesConverterAs t c.history last counts p.written_mid o2) c.settings (p.ended c.history c.represents) in
     let few = length-calls s links calls c.history c.come_to in
     record {
       found = end.0.found;
       of_all_pieces = (c.history, end.0, c.come_to, subst (λ (n : ℕ). IsAfterClosingAll s c.history n end.0) few end.1.closed, refl);
-      out = written o0 p.out o2 (file_so_far s (arrivals c.history.found)) (kept_file s (arrivals end.0.found)) c.out_is end.1.out;
-      log = written l0 p.log l2 (lines s.window c.history.found) (report_of s end.0.found) c.log_is end.1.log;
+      out = written-on o0.file p.written_mid.file o2.file (file_so_far s (arrivals c.history.found)) (kept_file s (arrivals end.0.found)) c.out_is end.1.out;
+      log = written-on o0.report p.written_mid.report o2.report (lines s.window c.history.found) (report_of s end.0.found) c.log_is end.1.log;
       counts_are = end.1.counts_are;
     }
 
 pub calls-keep-promise : CallsKeepPromise
-calls-keep-promise s links calls counts o0 o2 l0 l2 p =
-    let w = calls-write-kept s links calls counts o0 o2 l0 l2 p in
-    headline-of s links calls w.found o0 o2 l0 l2 w.of_all_pieces w.out w.log
+calls-keep-promise s links calls counts o0 o2 p =
+    let w = calls-write-kept s links calls counts o0 o2 p in
+    headline-of s links calls w.found o0 o2 w.of_all_pieces w.out w.log

@@ -1,4 +1,4 @@
--- The links closed, one after another, and the end.
+-- The links are closed, one after another, and the converter ends.
 use Rattle.std.proofs.Common.{◌≡◌, ℕ, suc, true, false, List, ◌++◌, Option, None, Some, length, inl, inr, refl, ap, append_assoc, sym, subst, ◌∙◌}
 use Rattle.std.specs.Prelude.{is_some}
 use Rattle.rtk_frame.specs.Stream.{with_more}
@@ -12,17 +12,13 @@ use Rattle.rtk_convert.specs.Steps.Closing.{FinishesConversion, FinishesConversi
 use Rattle.rtk_convert.specs.History.{History, IsAfterClose, fed_on, found_by_close}
 use Rattle.rtk_convert.specs.Report.{lines}
 use Rattle.rtk_convert.specs.Setup.{SetupView}
-use Rattle.rtk_convert.specs.Writing.{WritesRest}
+use Rattle.rtk_convert.specs.Writing.{Written, WritesRest}
 use Rattle.rtk_convert.specs.Steps.WritingInPart.{WritesPartOfRest}
 use Rattle.rtk_convert.specs.declared.counts.Counts.{Counts}
 use Rattle.rtk_convert.specs.declared.fault.ConvertFault.{ConvertFault}
-use Rattle.rtk_convert.proofs.GatheringLemmas.{writes-into}
+use Rattle.rtk_convert.proofs.GatheringLemmas.{writes-nothing, goes-on, writes-into}
 use Rattle.rtk_convert.proofs.ConverterLemmas.{are-many, accepted-open, open-accepted}
-use Rattle.rtk_convert.proofs.WritingLemmas.{writes-none, writes-on}
-
--- what was written, and then what was written on
-pub goes-on : (s : SetupView) (first mid last : List Found) (o0 o1 o2 l0 l1 l2 : Option (List ℕ)) → WritesOn s first mid o0 o1 l0 l1 → WritesOn s mid last o1 o2 l1 l2 → WritesOn s first last o0 o2 l0 l2
-goes-on s first mid last o0 o1 o2 l0 l1 l2 p q = record { out = writes-on o0 o1 o2 _ _ _ p.out q.out; log = writes-on l0 l1 l2 _ _ _ p.log q.log }
+use Rattle.rtk_convert.proofs.WritingLemmas.{writes-on}
 
 into-on : (a b c : Option (List ℕ)) (w x y z : List ℕ) → WritesRest a b w x → WritesInto b c x y z → WritesInto a c w y z
 into-on a b c w x y z p q = (
@@ -34,20 +30,20 @@ into-on a b c w x y z p q = (
   q.5 ∙ ap (λ t. with_more t (q.0 ++ q.1)) p.2 ∙ with_more-with_more a p.0 (q.0 ++ q.1) ∙ ap (with_more a) (sym (append_assoc p.0 q.0 q.1)),
 )
 
--- a call that breaks off after what was written
-pub breaks-after : (s : SetupView) (link : ℕ) (payloads : List (List ℕ)) (first before : List Found) (o0 o1 o2 l0 l1 l2 : Option (List ℕ))
-    → WritesOn s first before o0 o1 l0 l1 → BreaksOffAt s link payloads before o1 o2 l1 l2 → BreaksOffAfter s link payloads first before o0 o2 l0 l2
-breaks-after s link payloads first before o0 o1 o2 l0 l1 l2 p b = record {
+-- a call breaks off after all this was written
+pub breaks-after : (s : SetupView) (link : ℕ) (payloads : List (List ℕ)) (first before : List Found) (o0 o1 o2 : Written)
+    → WritesOn s first before o0 o1 → BreaksOffAt s link payloads before o1 o2 → BreaksOffAfter s link payloads first before o0 o2
+breaks-after s link payloads first before o0 o1 o2 p b = record {
   done = b.done;
   payload = b.payload;
   left = b.left;
   split = b.split;
   found = b.found;
   finds = b.finds;
-  finding = b.finding;
+  class = b.class;
   comes = b.comes;
-  out = into-on o0 o1 o2 _ _ _ _ p.out b.out;
-  log = into-on l0 l1 l2 _ _ _ _ p.log b.log;
+  out = into-on o0.file o1.file o2.file _ _ _ _ p.out b.out;
+  log = into-on o0.report o1.report o2.report _ _ _ _ p.log b.log;
 }
 
 -- a call that is refused is not accepted
@@ -60,24 +56,24 @@ none-given None o e none = sym e
 none-given (Some fault) o e none = absurd cc
 
 -- this number of links were closed
-pub record ClosesSome (old : ConverterView) (h : History) (count : ℕ) (now : ConverterView) (o o' l l' : Option (List ℕ)) : Type 0 where
+pub record ClosesSome (old : ConverterView) (h : History) (count : ℕ) (now : ConverterView) (o o' : Written) : Type 0 where
   pub mid : History
   pub closed : IsAfterClosingAll old.conversion.settings h count mid
   pub represents : RepresentsHistory now mid
-  pub writes : WritesOn old.conversion.settings h.found mid.found o o' l l'
+  pub writes : WritesOn old.conversion.settings h.found mid.found o o'
 
-pub closes-none : (old : ConverterView) (h : History) (o l : Option (List ℕ)) → RepresentsHistory old h → ClosesSome old h 0 old o o l l
-closes-none old h o l r = record {
+pub closes-none : (old : ConverterView) (h : History) (o : Written) → RepresentsHistory old h → ClosesSome old h 0 old o o
+closes-none old h o r = record {
   mid = h;
   closed = refl;
   represents = r;
-  writes = record { out = writes-none o (file_so_far old.conversion.settings (arrivals h.found)) (file_so_far old.conversion.settings (arrivals h.found)) refl; log = writes-none l (lines old.conversion.settings.window h.found) (lines old.conversion.settings.window h.found) refl };
+  writes = writes-nothing old.conversion.settings h.found o;
 }
 
 -- the next is closed already
-pub closes-past : (old now : ConverterView) (h : History) (i : ℕ) (o o' l l' : Option (List ℕ)) → (refusal now i ≡ None → ⊥)
-    → ClosesSome old h i now o o' l l' → ClosesSome old h (suc i) now o o' l l'
-closes-past old now h i o o' l l' refused c = record {
+pub closes-past : (old now : ConverterView) (h : History) (i : ℕ) (o o' : Written) → (refusal now i ≡ None → ⊥)
+    → ClosesSome old h i now o o' → ClosesSome old h (suc i) now o o'
+closes-past old now h i o o' refused c = record {
   mid = c.mid;
   closed = (c.mid, c.closed, inr (λ unended. refused (open-accepted now c.mid i c.represents unended), refl));
   represents = c.represents;
@@ -85,63 +81,63 @@ closes-past old now h i o o' l l' refused c = record {
 }
 
 -- the next is closed now
-pub closes-next : (old now new : ConverterView) (h : History) (i : ℕ) (o o1 o2 l l1 l2 : Option (List ℕ)) → now.conversion.settings ≡ old.conversion.settings → refusal now i ≡ None
-    → ClosesSome old h i now o o1 l l1 → ClosesLink now i new o1 o2 l1 l2 → ClosesSome old h (suc i) new o o2 l l2
-closes-next old now new h i o o1 o2 l l1 l2 settings none c closes =
+pub closes-next : (old now new : ConverterView) (h : History) (i : ℕ) (o o1 o2 : Written) → now.conversion.settings ≡ old.conversion.settings → refusal now i ≡ None
+    → ClosesSome old h i now o o1 → ClosesLink now i new o1 o2 → ClosesSome old h (suc i) new o o2
+closes-next old now new h i o o1 o2 settings none c closes =
     let (next, after, represents, writes) = closes c.mid c.represents in
     record {
       mid = next;
       closed = (c.mid, c.closed, inl (accepted-open now c.mid i c.represents none, subst (λ (s : SetupView). IsAfterClose s c.mid i next) settings after));
       represents = represents;
-      writes = goes-on old.conversion.settings h.found c.mid.found next.found o o1 o2 l l1 l2 c.writes (subst (λ (s : SetupView). WritesOn s c.mid.found next.found o1 o2 l1 l2) settings writes);
+      writes = goes-on old.conversion.settings h.found c.mid.found next.found o o1 o2 c.writes (subst (λ (s : SetupView). WritesOn s c.mid.found next.found o1 o2) settings writes);
     }
 
 -- its closing breaks off
-pub closes-off : (old now : ConverterView) (h : History) (i : ℕ) (o o1 o2 l l1 l2 : Option (List ℕ)) → now.conversion.settings ≡ old.conversion.settings → refusal now i ≡ None
-    → ClosesSome old h i now o o1 l l1 → ClosesLinkInPart now i o1 o2 l1 l2 → BreaksOffClosing old.conversion.settings h i o o2 l l2
-closes-off old now h i o o1 o2 l l1 l2 settings none c part = record {
+pub closes-off : (old now : ConverterView) (h : History) (i : ℕ) (o o1 o2 : Written) → now.conversion.settings ≡ old.conversion.settings → refusal now i ≡ None
+    → ClosesSome old h i now o o1 → ClosesLinkInPart now i o1 o2 → BreaksOffClosing old.conversion.settings h i o o2
+closes-off old now h i o o1 o2 settings none c part = record {
   mid = c.mid;
   closed = c.closed;
   is_open = accepted-open now c.mid i c.represents none;
-  breaks = breaks-after old.conversion.settings i (found_by_close (fed_on i c.mid.links)) h.found c.mid.found o o1 o2 l l1 l2 c.writes
-      (subst (λ (s : SetupView). BreaksOffAt s i (found_by_close (fed_on i c.mid.links)) c.mid.found o1 o2 l1 l2) settings (part c.mid c.represents));
+  breaks = breaks-after old.conversion.settings i (found_by_close (fed_on i c.mid.links)) h.found c.mid.found o o1 o2 c.writes
+      (subst (λ (s : SetupView). BreaksOffAt s i (found_by_close (fed_on i c.mid.links)) c.mid.found o1 o2) settings (part c.mid c.represents));
 }
 
 -- all are closed
-pub closes-all : (old now : ConverterView) (count : ℕ) (o o' l l' : Option (List ℕ)) → count ≡ length old.links
-    → ((h : History) → RepresentsHistory old h → ClosesSome old h count now o o' l l') → ClosesAllLinks old now o o' l l'
-closes-all old now count o o' l l' all c = λ h r.
+pub closes-all : (old now : ConverterView) (count : ℕ) (o o' : Written) → count ≡ length old.links
+    → ((h : History) → RepresentsHistory old h → ClosesSome old h count now o o') → ClosesAllLinks old now o o'
+closes-all old now count o o' all c = λ h r.
     let some = c h r in
     let many : count ≡ length h.links = all ∙ are-many old.links h.links 0 h.found r.links in
     (some.mid, subst (λ (n : ℕ). IsAfterClosingAll old.conversion.settings h n some.mid) many some.closed, some.represents, some.writes)
 
 -- ---- the end
 
-pub ends : (old closed : ConverterView) (counts : Counts) (o o1 o2 l l1 l2 : Option (List ℕ)) → closed.conversion.settings ≡ old.conversion.settings
-    → ClosesAllLinks old closed o o1 l l1 → FinishesConversion closed.conversion counts o1 o2 l1 l2 → FinishesConverter old counts o o2 l l2
-ends old closed counts o o1 o2 l l1 l2 settings all finishes = λ h r.
+pub ends : (old closed : ConverterView) (counts : Counts) (o o1 o2 : Written) → closed.conversion.settings ≡ old.conversion.settings
+    → ClosesAllLinks old closed o o1 → FinishesConversion closed.conversion counts o1 o2 → FinishesConverter old counts o o2
+ends old closed counts o o1 o2 settings all finishes = λ h r.
     let (last, after, represents, writes) = all h r in
     let f = finishes last.found represents.found in (
       last,
       record {
         closed = after;
         counts_are = f.counts_are ∙ ap (λ (s : SetupView). all_counts s last.found) settings;
-        out = writes-on o o1 o2 _ _ _ writes.out (subst (λ (s : SetupView). WritesRest o1 o2 (file_so_far s (arrivals last.found)) (kept_file s (arrivals last.found))) settings f.out);
-        log = writes-on l l1 l2 _ _ _ writes.log (subst (λ (s : SetupView). WritesRest l1 l2 (lines s.window last.found) (report_of s last.found)) settings f.log);
+        out = writes-on o.file o1.file o2.file _ _ _ writes.out (subst (λ (s : SetupView). WritesRest o1.file o2.file (file_so_far s (arrivals last.found)) (kept_file s (arrivals last.found))) settings f.out);
+        log = writes-on o.report o1.report o2.report _ _ _ writes.log (subst (λ (s : SetupView). WritesRest o1.report o2.report (lines s.window last.found) (report_of s last.found)) settings f.log);
       },
     )
 
-pub ends-closing : (old : ConverterView) (o o' l l' : Option (List ℕ)) → ClosesAllLinksInPart old o o' l l' → FinishesConverterInPart old o o' l l'
-ends-closing old o o' l l' part = λ h r. inl (part h r)
+pub ends-closing : (old : ConverterView) (o o' : Written) → ClosesAllLinksInPart old o o' → FinishesConverterInPart old o o'
+ends-closing old o o' part = λ h r. inl (part h r)
 
-pub ends-part : (old closed : ConverterView) (o o1 o2 l l1 l2 : Option (List ℕ)) → closed.conversion.settings ≡ old.conversion.settings
-    → ClosesAllLinks old closed o o1 l l1 → FinishesConversionInPart closed.conversion o1 o2 l1 l2 → FinishesConverterInPart old o o2 l l2
-ends-part old closed o o1 o2 l l1 l2 settings all part = λ h r.
+pub ends-part : (old closed : ConverterView) (o o1 o2 : Written) → closed.conversion.settings ≡ old.conversion.settings
+    → ClosesAllLinks old closed o o1 → FinishesConversionInPart closed.conversion o1 o2 → FinishesConverterInPart old o o2
+ends-part old closed o o1 o2 settings all part = λ h r.
     let (last, after, represents, writes) = all h r in
     let f = part last.found represents.found in
     inr (record {
       last = last;
       closed = after;
-      out = writes-into o o1 o2 _ _ _ writes.out (subst (λ (s : SetupView). WritesPartOfRest o1 o2 (file_so_far s (arrivals last.found)) (kept_file s (arrivals last.found))) settings f.out);
-      log = writes-into l l1 l2 _ _ _ writes.log (subst (λ (s : SetupView). WritesPartOfRest l1 l2 (lines s.window last.found) (report_of s last.found)) settings f.log);
+      out = writes-into o.file o1.file o2.file _ _ _ writes.out (subst (λ (s : SetupView). WritesPartOfRest o1.file o2.file (file_so_far s (arrivals last.found)) (kept_file s (arrivals last.found))) settings f.out);
+      log = writes-into o.report o1.report o2.report _ _ _ writes.log (subst (λ (s : SetupView). WritesPartOfRest o1.report o2.report (lines s.window last.found) (report_of s last.found)) settings f.log);
     })

@@ -17,6 +17,7 @@ use Rattle.rtk_convert.specs.declared.frame_class.FrameClass.{FrameClass}
 use Rattle.rtk_convert.specs.declared.fault.ConvertFault.{ConvertFault}
 use Rattle.rtk_convert.specs.declared.fault.ConvertFault.TheVariants.{LinkClosed, Stopped}
 use Rattle.rtk_convert.specs.declared.link.Link.{Link}
+use Rattle.rtk_convert.specs.Writing.{Written}
 
 abbrev pub converter : ConversionView → List Link → ConverterView
 converter conversion links = record { conversion = conversion; links = links }
@@ -223,11 +224,11 @@ links-new (suc count) n = (record { closed = refl; waiting = λ q. sym nothing-w
 
 -- ---- a piece
 
-pub feeds : (old : ConverterView) (conversion : ConversionView) (i : ℕ) (piece : List ℕ) (l new : Link) (o o' w w' : Option (List ℕ))
+pub feeds : (old : ConverterView) (conversion : ConversionView) (i : ℕ) (piece : List ℕ) (l new : Link) (o o' : Written)
     → slice_get old.links i ≡ Some l → l.scanner.ended ≡ false → conversion.stopped ≡ false → new.scanner.ended ≡ false → new.scanner.pending ≡ pending (l.scanner.pending ++ piece)
-    → AddsFrames old.conversion i (payloads (final_frames (l.scanner.pending ++ piece))) conversion l.newest new.newest o o' w w'
-    → FeedsPiece old i piece (record { conversion = conversion; links = set old.links i new }) o o' w w'
-feeds old conversion i piece l new o o' w w' there unended going still waits gathers = λ h r.
+    → AddsFrames old.conversion i (payloads (final_frames (l.scanner.pending ++ piece))) conversion l.newest new.newest o o'
+    → FeedsPiece old i piece (record { conversion = conversion; links = set old.links i new }) o o'
+feeds old conversion i piece l new o o' there unended going still waits gathers = λ h r.
     let at = link-at i i 0 l old.links h.links h.found r.links there (omega arith) in
     let is_open : at.past.is_closed ≡ false = sym at.is.closed ∙ unended in
     let (after, g) = gathers h.found r.found in
@@ -249,23 +250,23 @@ feeds old conversion i piece l new o o' w w' there unended going still waits gat
       g.writes,
     )
 
-pub feeds-part : (old : ConverterView) (i : ℕ) (piece : List ℕ) (l : Link) (o o' w w' : Option (List ℕ))
+pub feeds-part : (old : ConverterView) (i : ℕ) (piece : List ℕ) (l : Link) (o o' : Written)
     → slice_get old.links i ≡ Some l → l.scanner.ended ≡ false
-    → AddsFramesInPart old.conversion i (payloads (final_frames (l.scanner.pending ++ piece))) o o' w w' → FeedsPieceInPart old i piece o o' w w'
-feeds-part old i piece l o o' w w' there unended gathers = λ h r.
+    → AddsFramesInPart old.conversion i (payloads (final_frames (l.scanner.pending ++ piece))) o o' → FeedsPieceInPart old i piece o o'
+feeds-part old i piece l o o' there unended gathers = λ h r.
     let at = link-at i i 0 l old.links h.links h.found r.links there (omega arith) in
     let is_open : at.past.is_closed ≡ false = sym at.is.closed ∙ unended in
     let found : payloads (final_frames (l.scanner.pending ++ piece)) ≡ found_by_piece (fed_on i h.links) piece =
     ap (λ t. payloads (final_frames (t ++ piece))) (at.is.waiting is_open ∙ ap pending (sym at.fed)) ∙ sym (found-pending (fed_on i h.links) piece) in
-    subst (λ (ps : List (List ℕ)). BreaksOffAt old.conversion.settings i ps h.found o o' w w') found (gathers h.found r.found)
+    subst (λ (ps : List (List ℕ)). BreaksOffAt old.conversion.settings i ps h.found o o') found (gathers h.found r.found)
 
 -- ---- a close
 
-pub closes : (old : ConverterView) (conversion : ConversionView) (i : ℕ) (l new : Link) (o o' w w' : Option (List ℕ))
+pub closes : (old : ConverterView) (conversion : ConversionView) (i : ℕ) (l new : Link) (o o' : Written)
     → slice_get old.links i ≡ Some l → l.scanner.ended ≡ false → conversion.stopped ≡ false → new.scanner.ended ≡ true
-    → AddsFrames old.conversion i (payloads (frames l.scanner.pending)) conversion l.newest new.newest o o' w w'
-    → ClosesLink old i (record { conversion = conversion; links = set old.links i new }) o o' w w'
-closes old conversion i l new o o' w w' there unended going ended gathers = λ h r.
+    → AddsFrames old.conversion i (payloads (frames l.scanner.pending)) conversion l.newest new.newest o o'
+    → ClosesLink old i (record { conversion = conversion; links = set old.links i new }) o o'
+closes old conversion i l new o o' there unended going ended gathers = λ h r.
     let at = link-at i i 0 l old.links h.links h.found r.links there (omega arith) in
     let is_open : at.past.is_closed ≡ false = sym at.is.closed ∙ unended in
     let (after, g) = gathers h.found r.found in
@@ -283,12 +284,12 @@ closes old conversion i l new o o' w w' there unended going ended gathers = λ h
       g.writes,
     )
 
-pub closes-part : (old : ConverterView) (i : ℕ) (l : Link) (o o' w w' : Option (List ℕ))
+pub closes-part : (old : ConverterView) (i : ℕ) (l : Link) (o o' : Written)
     → slice_get old.links i ≡ Some l → l.scanner.ended ≡ false
-    → AddsFramesInPart old.conversion i (payloads (frames l.scanner.pending)) o o' w w' → ClosesLinkInPart old i o o' w w'
-closes-part old i l o o' w w' there unended gathers = λ h r.
+    → AddsFramesInPart old.conversion i (payloads (frames l.scanner.pending)) o o' → ClosesLinkInPart old i o o'
+closes-part old i l o o' there unended gathers = λ h r.
     let at = link-at i i 0 l old.links h.links h.found r.links there (omega arith) in
     let is_open : at.past.is_closed ≡ false = sym at.is.closed ∙ unended in
     let found : payloads (frames l.scanner.pending) ≡ found_by_close (fed_on i h.links) =
     ap (λ t. payloads (frames t)) (at.is.waiting is_open ∙ ap pending (sym at.fed)) ∙ sym (found-left (fed_on i h.links)) in
-    subst (λ (ps : List (List ℕ)). BreaksOffAt old.conversion.settings i ps h.found o o' w w') found (gathers h.found r.found)
+    subst (λ (ps : List (List ℕ)). BreaksOffAt old.conversion.settings i ps h.found o o') found (gathers h.found r.found)

@@ -8,6 +8,7 @@ use Rattle.rtk_convert.specs.ReadSteps.{HasRead, HasCalled}
 use Rattle.rtk_convert.specs.Steps.ReadLink.{ReadsLink, HasReadAll}
 use Rattle.rtk_convert.specs.ReadHistory.{Read, AllClosed, AreAtEnd, IsAfterPiece}
 use Rattle.rtk_convert.specs.Setup.{SetupView}
+use Rattle.rtk_convert.specs.Writing.{Written}
 
 abbrev OpenAt : List LinkPast → ℕ → Type 0
 OpenAt ps k = (fed : List ℕ) × (slice_get ps k ≡ Some (record { fed = fed; is_closed = false }))
@@ -53,9 +54,9 @@ get-replicate (suc n) (suc k) p lt = get-replicate n k p (omega arith)
 pub ends-new : {R : Type 0} (is_at_end : R → Type 0) (readers : List R) → AreAtEnd is_at_end readers (new_history (length readers))
 ends-new is_at_end readers = λ k none lt closed. absurd (closed ([], get-replicate (length readers) k (record { fed = []; is_closed = false }) lt))
 
-pub ends-more : {R : Type 0} (given : R → Option (List ℕ)) (is_at_end : R → Type 0) (s : SetupView) (h : History) (link : ℕ) (mid after : List R) (new : ConverterView) (o1 o2 l1 l2 : Option (List ℕ))
-    → (p : ReadsLink given is_at_end s h link mid after new o1 o2 l1 l2) → AreAtEnd is_at_end mid h → AreAtEnd is_at_end after p.next
-ends-more {R} given is_at_end s h link mid after new o1 o2 l1 l2 p ends = λ k none lt closed. elim (cases_eq k link) [
+pub ends-more : {R : Type 0} (given : R → Option (List ℕ)) (is_at_end : R → Type 0) (s : SetupView) (h : History) (link : ℕ) (mid after : List R) (new : ConverterView) (o1 o2 : Written)
+    → (p : ReadsLink given is_at_end s h link mid after new o1 o2) → AreAtEnd is_at_end mid h → AreAtEnd is_at_end after p.next
+ends-more {R} given is_at_end s h link mid after new o1 o2 p ends = λ k none lt closed. elim (cases_eq k link) [
   | inl same ↦ subst (λ (i : ℕ). is_at_end (slice_index_or after i none)) (sym same)
       (p.at_end none (closed-by-none s h link p.piece p.next p.is_next.after p.is_next.link.is_open (subst (λ (i : ℕ). ¬ (IsOpen p.next i)) same closed)))
   | inr other ↦ subst (λ (x : R). is_at_end x) (sym (p.others k none other))
@@ -64,10 +65,10 @@ ends-more {R} given is_at_end s h link mid after new o1 o2 l1 l2 p ends = λ k n
 
 -- ---- after the last read
 
-pub has-read-all : {R : Type 0} (given : R → Option (List ℕ)) (calls : R → ℕ) (is_at_end : R → Type 0) (s : SetupView) (before after : List R) (reads : List Read) (h : History) (n : ℕ) (new : ConverterView) (o0 o1 l0 l1 : Option (List ℕ))
-    → HasRead given s before after reads h o0 o1 l0 l1 → RepresentsHistory new h → length reads ≡ n → AreAtEnd is_at_end after h → HasCalled calls before after n → AllClosed h
-    → HasReadAll given calls is_at_end s before after new o0 o1 l0 l1
-has-read-all given calls is_at_end s before after reads h n new o0 o1 l0 l1 read r made ends called closed = record {
+pub has-read-all : {R : Type 0} (given : R → Option (List ℕ)) (calls : R → ℕ) (is_at_end : R → Type 0) (s : SetupView) (before after : List R) (reads : List Read) (h : History) (n : ℕ) (new : ConverterView) (o0 o1 : Written)
+    → HasRead given s before after reads h o0 o1 → RepresentsHistory new h → length reads ≡ n → AreAtEnd is_at_end after h → HasCalled calls before after n → AllClosed h
+    → HasReadAll given calls is_at_end s before after new o0 o1
+has-read-all given calls is_at_end s before after reads h n new o0 o1 read r made ends called closed = record {
   reads = reads;
   history = h;
   has_read = read;

@@ -8,7 +8,7 @@ use Rattle.rtk_rinex.specs.Header.{PositionView, header_text}
 use Rattle.rtk_convert.specs.Setup.{SetupView}
 use Rattle.rtk_convert.specs.File.{record_of, records, first_or, first_time, header_of, file_of}
 use Rattle.rtk_convert.specs.FilePrefix.{unless_empty, so_far}
-use Rattle.rtk_convert.specs.Steps.ClosedText.{with_header, closed_text, header_before, closing_text}
+use Rattle.rtk_convert.specs.Steps.ClosedText.{with_header, closed_text, header_before, closing_text, closing}
 
 pub records-more : (listed : List Code) (e : EpochSetView) (below : List EpochSetView) → records listed (e ∷ below) ≡ records listed below ++ record_of listed e below
 unfolding records
@@ -60,49 +60,49 @@ not-empty : (xs text : List ℕ) → xs ≢ [] → unless_empty xs text ≡ text
 not-empty [] text h = absurd (h refl)
 not-empty (x ∷ xs) text h = refl
 
-so_far-step : (s : SetupView) (p : PositionView) (all_epochs closed : List EpochSetView) (o : Option ℕ) → first_time s.heading.listed closed ≡ o
-    → ((t : ℕ) → first_time s.heading.listed closed ≡ Some t → first_time s.heading.listed all_epochs ≡ Some t)
-    → so_far s p all_epochs closed ≡ with_header s p o (records s.heading.listed closed)
-so_far-step s p all_epochs closed None q up = rw (no-records s.heading.listed closed q) refl
+so_far-step : (s : SetupView) (p : PositionView) (all_epochs closed : List EpochSetView) (o : Option ℕ) → first_time s.head.listed closed ≡ o
+    → ((t : ℕ) → first_time s.head.listed closed ≡ Some t → first_time s.head.listed all_epochs ≡ Some t)
+    → so_far s p all_epochs closed ≡ with_header s p o (records s.head.listed closed)
+so_far-step s p all_epochs closed None q up = rw (no-records s.head.listed closed q) refl
 so_far-step s p all_epochs closed (Some t) q up =
-    not-empty (records s.heading.listed closed) (header_of s p all_epochs ++ records s.heading.listed closed) (some-records s.heading.listed closed t q)
-    ∙ ap (λ (o : Option ℕ). header_text s.heading p (unwrap_or o s.near) ++ records s.heading.listed closed) (up t q)
+    not-empty (records s.head.listed closed) (header_of s p all_epochs ++ records s.head.listed closed) (some-records s.head.listed closed t q)
+    ∙ ap (λ (o : Option ℕ). header_text s.head p (unwrap_or o s.near) ++ records s.head.listed closed) (up t q)
 
 -- the file so far is the file of the closed epochs alone
 pub so_far-closed : (n : ℕ) (s : SetupView) (p : PositionView) (epochs : List EpochSetView) → so_far s p epochs (drop n epochs) ≡ closed_text s p (drop n epochs)
 so_far-closed n s p epochs =
-    so_far-step s p epochs (drop n epochs) (first_time s.heading.listed (drop n epochs)) refl (λ t h. first_time-drop n s.heading.listed epochs t h)
+    so_far-step s p epochs (drop n epochs) (first_time s.head.listed (drop n epochs)) refl (λ t h. first_time-drop n s.head.listed epochs t h)
 
 closed-step : (s : SetupView) (p : PositionView) (e : ℕ) (before text : List ℕ) (o : Option ℕ) → (o ≡ None → before ≡ [])
     → with_header s p (first_or o e text) (before ++ text) ≡ with_header s p o before ++ closing_text s p e (is_some o) text
 closed-step s p e before [] None h = refl
 closed-step s p e before (x ∷ text) None h = rw (h refl) refl
-closed-step s p e before [] (Some t) h = rw append-nil (sym (append-nil (header_text s.heading p t ++ before)))
-closed-step s p e before (x ∷ text) (Some t) h = sym (append_assoc (header_text s.heading p t) before (x ∷ text))
+closed-step s p e before [] (Some t) h = rw append-nil (sym (append-nil (header_text s.head p t ++ before)))
+closed-step s p e before (x ∷ text) (Some t) h = sym (append_assoc (header_text s.head p t) before (x ∷ text))
 
 -- what one more closed epoch adds
 pub closed-more : (s : SetupView) (p : PositionView) (e : EpochSetView) (below : List EpochSetView)
-    → closed_text s p (e ∷ below) ≡ closed_text s p below ++ closing_text s p e.epoch (is_some (first_time s.heading.listed below)) (record_of s.heading.listed e below)
+    → closed_text s p (e ∷ below) ≡ closed_text s p below ++ closing s p e below
 unfolding records first_time
-closed-more s p e below = closed-step s p e.epoch (records s.heading.listed below) (record_of s.heading.listed e below) (first_time s.heading.listed below) (no-records s.heading.listed below)
+closed-more s p e below = closed-step s p e.epoch (records s.head.listed below) (record_of s.head.listed e below) (first_time s.head.listed below) (no-records s.head.listed below)
 
 -- more closed epochs only add
 pub closed-grows : (s : SetupView) (p : PositionView) (more closed : List EpochSetView) → (rest : List ℕ) × (closed_text s p (more ++ closed) ≡ closed_text s p closed ++ rest)
 closed-grows s p [] closed = ([], sym (append-nil (closed_text s p closed)))
 closed-grows s p (e ∷ more) closed =
     let before = closed-grows s p more closed in
-    let t : List ℕ = closing_text s p e.epoch (is_some (first_time s.heading.listed (more ++ closed))) (record_of s.heading.listed e (more ++ closed)) in
+    let t : List ℕ = closing s p e (more ++ closed) in
     (before.0 ++ t, closed-more s p e (more ++ closed) ∙ ap (λ (x : List ℕ). x ++ t) before.1 ∙ append_assoc (closed_text s p closed) before.0 t)
 
 file-step : (s : SetupView) (p : PositionView) (text : List ℕ) (o : Option ℕ) → (o ≡ None → text ≡ [])
-    → header_text s.heading p (unwrap_or o s.near) ++ text ≡ with_header s p o text ++ header_before s p s.near (is_some o)
+    → header_text s.head p (unwrap_or o s.near) ++ text ≡ with_header s p o text ++ header_before s p s.near (is_some o)
 file-step s p text None h = rw (h refl, append-nil) refl
-file-step s p text (Some t) h = sym (append-nil (header_text s.heading p t ++ text))
+file-step s p text (Some t) h = sym (append-nil (header_text s.head p t ++ text))
 
 -- the whole file: what is out once all its epochs are closed, and the header if there was no record
 pub file-closed : (s : SetupView) (p : PositionView) (epochs : List EpochSetView)
-    → file_of s p epochs ≡ closed_text s p epochs ++ header_before s p s.near (is_some (first_time s.heading.listed epochs))
-file-closed s p epochs = file-step s p (records s.heading.listed epochs) (first_time s.heading.listed epochs) (no-records s.heading.listed epochs)
+    → file_of s p epochs ≡ closed_text s p epochs ++ header_before s p s.near (is_some (first_time s.head.listed epochs))
+file-closed s p epochs = file-step s p (records s.head.listed epochs) (first_time s.head.listed epochs) (no-records s.head.listed epochs)
 
 -- without a closed epoch nothing is out, whatever the site
 pub closed-none : (s : SetupView) (p q : PositionView) → closed_text s p [] ≡ closed_text s q []

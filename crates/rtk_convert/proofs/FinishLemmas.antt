@@ -13,7 +13,7 @@ use Rattle.rtk_frame.specs.Stream.{with_more, TakesPart}
 use Rattle.rtk_rinex.specs.Header.{PositionView, position_view}
 use Rattle.rtk_convert.specs.declared.counts.Counts.{Counts}
 use Rattle.rtk_convert.specs.File.{first_time, file_of, record_count}
-use Rattle.rtk_convert.specs.Steps.ClosedText.{closed_text, header_before}
+use Rattle.rtk_convert.specs.Steps.ClosedText.{closed_text, closing, header_before}
 use Rattle.rtk_convert.specs.FileOfArrivals.{kept_file, file_so_far}
 use Rattle.rtk_convert.specs.FrameClass.{Found, arrivals}
 use Rattle.rtk_convert.specs.Finish.{all_counts, report_of}
@@ -23,11 +23,11 @@ use Rattle.rtk_convert.specs.Report.{lines, frame_counts}
 use Rattle.rtk_convert.specs.ReportText.{count_lines}
 use Rattle.rtk_convert.specs.Setup.{SetupView}
 use Rattle.rtk_convert.specs.Conversion.{ConversionView}
-use Rattle.rtk_convert.specs.Writing.{WritesRest}
+use Rattle.rtk_convert.specs.Writing.{Written, written, WritesRest}
 use Rattle.rtk_convert.specs.Steps.WritingInPart.{WritesPartOfRest}
 use Rattle.rtk_convert.proofs.FileLemmas.{closed-more, closed-grows, file-closed}
 use Rattle.rtk_convert.proofs.SoFarLemmas.{so_far-is}
-use Rattle.rtk_convert.proofs.ArriveLemmas.{state, closing, site-kept}
+use Rattle.rtk_convert.proofs.ArriveLemmas.{state, site-kept}
 use Rattle.rtk_convert.proofs.AnswersLemmas.{any_epoch}
 use Rattle.rtk_convert.proofs.WritingLemmas.{writes-none, writes-text, writes-on, part-text, part-none, part-all, part-longer, part-on}
 
@@ -35,16 +35,16 @@ use Rattle.rtk_convert.proofs.WritingLemmas.{writes-none, writes-text, writes-on
 pub record SomeClosed (s : SetupView) (site : PositionView) (held now : List EpochSetView) (first last : RecordsView) (o o' : Option (List ℕ)) : Type 0 where
   pub gone : List EpochSetView
   pub split : held ≡ now ++ gone
-  pub wrote : (below : List EpochSetView) → HasClosed first s.heading.listed below
-      → HasClosed last s.heading.listed (gone ++ below) × WritesRest o o' (closed_text s site below) (closed_text s site (gone ++ below))
+  pub wrote : (below : List EpochSetView) → HasClosed first s.head.listed below
+      → HasClosed last s.head.listed (gone ++ below) × WritesRest o o' (closed_text s site below) (closed_text s site (gone ++ below))
 
 pub some-none : (s : SetupView) (site : PositionView) (held : List EpochSetView) (c : RecordsView) (o : Option (List ℕ)) → SomeClosed s site held held c c o o
 some-none s site held c o = record { gone = []; split = sym (append-nil held); wrote = λ below f. (f, writes-none o _ _ refl) }
 
 pub some-more : (s : SetupView) (site : PositionView) (held now next : List EpochSetView) (e : EpochSetView) (first last last' : RecordsView) (o o' o'' : Option (List ℕ))
     → SomeClosed s site held now first last o o' → now ≡ next ++ e ∷ []
-    → ((below : List EpochSetView) → HasClosed last s.heading.listed below → HasClosed last' s.heading.listed (e ∷ below))
-    → ((below : List EpochSetView) → HasClosed last s.heading.listed below → o'' ≡ with_more o' (closing s site e below))
+    → ((below : List EpochSetView) → HasClosed last s.head.listed below → HasClosed last' s.head.listed (e ∷ below))
+    → ((below : List EpochSetView) → HasClosed last s.head.listed below → o'' ≡ with_more o' (closing s site e below))
     → SomeClosed s site held next first last' o o''
 some-more s site held now next e first last last' o o' o'' l cut follows out = record {
   gone = e ∷ l.gone;
@@ -62,13 +62,13 @@ some-all s site held now first last o o' l none = λ below f.
     let w = l.wrote below f in
     let all : held ≡ l.gone = l.split ∙ ap (λ t. t ++ l.gone) none in
     record {
-      follows = subst (λ (t : List EpochSetView). HasClosed last s.heading.listed (t ++ below)) (sym all) w.0;
+      follows = subst (λ (t : List EpochSetView). HasClosed last s.head.listed (t ++ below)) (sym all) w.0;
       out = subst (λ (t : List EpochSetView). WritesRest o o' (closed_text s site below) (closed_text s site (t ++ below))) (sym all) w.1;
     }
 
 pub some-part : (s : SetupView) (site : PositionView) (held now next : List EpochSetView) (e : EpochSetView) (first last : RecordsView) (o o' o'' : Option (List ℕ))
     → SomeClosed s site held now first last o o' → now ≡ next ++ e ∷ []
-    → ((below : List EpochSetView) → HasClosed last s.heading.listed below → TakesPart o' o'' (closing s site e below))
+    → ((below : List EpochSetView) → HasClosed last s.head.listed below → TakesPart o' o'' (closing s site e below))
     → ClosesEpochsInPart s site first held o o''
 some-part s site held now next e first last o o' o'' l cut part = λ below f.
     let w = l.wrote below f in
@@ -92,30 +92,30 @@ so_far-text : (s : SetupView) (w : CollectorView) (A : List Arrival) (p : Positi
 so_far-text s w A p size holds is = so_far-is s A ∙ ap (λ (x : PositionView). closed_text s x (closed s.window A)) (sym (site-kept s.window w A p size holds is))
 
 file-text : (s : SetupView) (w : CollectorView) (A : List Arrival) (p : Position) → w.size ≡ s.window → RepresentsArrivals w A → IsPositionOf w.size A p
-    → kept_file s A ≡ closed_text s (position_view p) (w.sets ++ closed s.window A) ++ header_before s (position_view p) s.near (is_some (first_time s.heading.listed (w.sets ++ closed s.window A)))
+    → kept_file s A ≡ closed_text s (position_view p) (w.sets ++ closed s.window A) ++ header_before s (position_view p) s.near (is_some (first_time s.head.listed (w.sets ++ closed s.window A)))
 file-text s w A p size holds is =
     ap (λ (x : PositionView). file_of s x (kept s.window A)) (sym (site-kept s.window w A p size holds is))
     ∙ ap (file_of s (position_view p)) (sym (kept-all s w A size holds))
     ∙ file-closed s (position_view p) (w.sets ++ closed s.window A)
 
-pub finishes : (s : SetupView) (w : CollectorView) (c c' : RecordsView) (k k' : Counts) (b : Bool) (p : Position) (o o' o'' l l' : Option (List ℕ)) → w.size ≡ s.window
-    → ((before : List Arrival) → RepresentsArrivals w before → IsPositionOf w.size before p) → ClosesEpochs s (position_view p) c w.sets c' o o'
-    → o'' ≡ with_more o' (header_before s (position_view p) s.near c'.header_out) → k' ≡ record k { epochs = c'.count } → l' ≡ with_more l (count_lines k')
-    → FinishesConversion (state s w c k b) k' o o'' l l'
-finishes s w c c' k k' b p o o' o'' l l' size position closes header counts wrote = λ found rep.
+pub finishes : (s : SetupView) (w : CollectorView) (c c' : RecordsView) (k k' : Counts) (b : Bool) (p : Position) (o : Written) (file : Option (List ℕ)) (o' : Written) → w.size ≡ s.window
+    → ((before : List Arrival) → RepresentsArrivals w before → IsPositionOf w.size before p) → ClosesEpochs s (position_view p) c w.sets c' o.file file
+    → o'.file ≡ with_more file (header_before s (position_view p) s.near c'.header_out) → k' ≡ record k { epochs = c'.count } → o'.report ≡ with_more o.report (count_lines k')
+    → FinishesConversion (state s w c k b) k' o o'
+finishes s w c c' k k' b p o file o' size position closes header counts wrote = λ found rep.
     let A : List Arrival = arrivals found in
     let is = position A rep.window in
     let t = closes (closed s.window A) rep.closed in
     let all = kept-all s w A size rep.window in
     let same : k' ≡ all_counts s found =
     counts ∙ ap (λ (x : Counts). record x { epochs = c'.count }) rep.counts
-    ∙ ap (λ (n : ℕ). record (frame_counts s.window found) { epochs = n }) (t.follows.count ∙ ap (record_count s.heading.listed) all) in
+    ∙ ap (λ (n : ℕ). record (frame_counts s.window found) { epochs = n }) (t.follows.count ∙ ap (record_count s.head.listed) all) in
     record {
       counts_are = same;
-      out = writes-on o o' o'' (file_so_far s A) (closed_text s (position_view p) (w.sets ++ closed s.window A)) (kept_file s A)
+      out = writes-on o.file file o'.file (file_so_far s A) (closed_text s (position_view p) (w.sets ++ closed s.window A)) (kept_file s A)
           (t.out.0, t.out.1 ∙ ap (λ x. x ++ t.out.0) (sym (so_far-text s w A p size rep.window is)), t.out.2)
-          (_, file-text s w A p size rep.window is, header ∙ ap (λ (x : Bool). with_more o' (header_before s (position_view p) s.near x)) t.follows.header_out);
-      log = writes-text l l' (lines s.window found) (report_of s found) (count_lines (all_counts s found)) refl (wrote ∙ ap (λ (x : Counts). with_more l (count_lines x)) same);
+          (_, file-text s w A p size rep.window is, header ∙ ap (λ (x : Bool). with_more file (header_before s (position_view p) s.near x)) t.follows.header_out);
+      log = writes-text o.report o'.report (lines s.window found) (report_of s found) (count_lines (all_counts s found)) refl (wrote ∙ ap (λ (x : Counts). with_more o.report (count_lines x)) same);
     }
 
 -- ---- it breaks off
@@ -124,39 +124,39 @@ log-none : (s : SetupView) (found : List Found) (l : Option (List ℕ)) → Writ
 log-none s found l = part-none l (lines s.window found) (report_of s found) (count_lines (all_counts s found)) refl
 
 -- in a record
-pub finish-part-records : (s : SetupView) (w : CollectorView) (c : RecordsView) (k : Counts) (b : Bool) (p : Position) (o o' l : Option (List ℕ)) → w.size ≡ s.window
-    → ((before : List Arrival) → RepresentsArrivals w before → IsPositionOf w.size before p) → ClosesEpochsInPart s (position_view p) c w.sets o o' → FinishesConversionInPart (state s w c k b) o o' l l
-finish-part-records s w c k b p o o' l size position closes = λ found rep.
+pub finish-part-records : (s : SetupView) (w : CollectorView) (c : RecordsView) (k : Counts) (b : Bool) (p : Position) (o : Written) (file : Option (List ℕ)) → w.size ≡ s.window
+    → ((before : List Arrival) → RepresentsArrivals w before → IsPositionOf w.size before p) → ClosesEpochsInPart s (position_view p) c w.sets o.file file → FinishesConversionInPart (state s w c k b) o (written file o.report)
+finish-part-records s w c k b p o file size position closes = λ found rep.
     let A : List Arrival = arrivals found in
     let is = position A rep.window in
     record {
-      out = subst (λ (x : List ℕ). WritesPartOfRest o o' x (kept_file s A)) (sym (so_far-text s w A p size rep.window is))
-          (part-longer o o' (closed_text s (position_view p) (closed s.window A)) (closed_text s (position_view p) (w.sets ++ closed s.window A)) (kept_file s A) _ (file-text s w A p size rep.window is) (closes (closed s.window A) rep.closed));
-      log = log-none s found l;
+      out = subst (λ (x : List ℕ). WritesPartOfRest o.file file x (kept_file s A)) (sym (so_far-text s w A p size rep.window is))
+          (part-longer o.file file (closed_text s (position_view p) (closed s.window A)) (closed_text s (position_view p) (w.sets ++ closed s.window A)) (kept_file s A) _ (file-text s w A p size rep.window is) (closes (closed s.window A) rep.closed));
+      log = log-none s found o.report;
     }
 
 -- in the last header
-pub finish-part-header : (s : SetupView) (w : CollectorView) (c c' : RecordsView) (k : Counts) (b : Bool) (p : Position) (o o' o'' l : Option (List ℕ)) → w.size ≡ s.window
-    → ((before : List Arrival) → RepresentsArrivals w before → IsPositionOf w.size before p) → ClosesEpochs s (position_view p) c w.sets c' o o'
-    → TakesPart o' o'' (header_before s (position_view p) s.near c'.header_out) → FinishesConversionInPart (state s w c k b) o o'' l l
-finish-part-header s w c c' k b p o o' o'' l size position closes part = λ found rep.
+pub finish-part-header : (s : SetupView) (w : CollectorView) (c c' : RecordsView) (k : Counts) (b : Bool) (p : Position) (o : Written) (mid file : Option (List ℕ)) → w.size ≡ s.window
+    → ((before : List Arrival) → RepresentsArrivals w before → IsPositionOf w.size before p) → ClosesEpochs s (position_view p) c w.sets c' o.file mid
+    → TakesPart mid file (header_before s (position_view p) s.near c'.header_out) → FinishesConversionInPart (state s w c k b) o (written file o.report)
+finish-part-header s w c c' k b p o mid file size position closes part = λ found rep.
     let A : List Arrival = arrivals found in
     let is = position A rep.window in
     let t = closes (closed s.window A) rep.closed in
     record {
-      out = part-on o o' o'' (file_so_far s A) (closed_text s (position_view p) (w.sets ++ closed s.window A)) (kept_file s A)
+      out = part-on o.file mid file (file_so_far s A) (closed_text s (position_view p) (w.sets ++ closed s.window A)) (kept_file s A)
           (t.out.0, t.out.1 ∙ ap (λ x. x ++ t.out.0) (sym (so_far-text s w A p size rep.window is)), t.out.2)
-          (part-text o' o'' (closed_text s (position_view p) (w.sets ++ closed s.window A)) (kept_file s A) _ (file-text s w A p size rep.window is)
-          (subst (λ (x : Bool). TakesPart o' o'' (header_before s (position_view p) s.near x)) t.follows.header_out part));
-      log = log-none s found l;
+          (part-text mid file (closed_text s (position_view p) (w.sets ++ closed s.window A)) (kept_file s A) _ (file-text s w A p size rep.window is)
+          (subst (λ (x : Bool). TakesPart mid file (header_before s (position_view p) s.near x)) t.follows.header_out part));
+      log = log-none s found o.report;
     }
 
 -- in the counts
-pub finish-part-counts : (old : ConversionView) (k : Counts) (o o' l l' : Option (List ℕ)) → FinishesConversion old k o o' l (with_more l (count_lines k)) → TakesPart l l' (count_lines k) → FinishesConversionInPart old o o' l l'
-finish-part-counts old k o o' l l' whole part = λ found rep.
+pub finish-part-counts : (old : ConversionView) (k : Counts) (o o' : Written) → FinishesConversion old k o (written o'.file (with_more o.report (count_lines k))) → TakesPart o.report o'.report (count_lines k) → FinishesConversionInPart old o o'
+finish-part-counts old k o o' whole part = λ found rep.
     let t = whole found rep in
     record {
-      out = part-all o o' _ _ t.out;
-      log = part-text l l' (lines old.settings.window found) (report_of old.settings found) (count_lines (all_counts old.settings found)) refl
-          (subst (λ (x : Counts). TakesPart l l' (count_lines x)) t.counts_are part);
+      out = part-all o.file o'.file _ _ t.out;
+      log = part-text o.report o'.report (lines old.settings.window found) (report_of old.settings found) (count_lines (all_counts old.settings found)) refl
+          (subst (λ (x : Counts). TakesPart o.report o'.report (count_lines x)) t.counts_are part);
     }

@@ -16,7 +16,7 @@ use Rattle.rtk_frame.specs.Stream.{with_more}
 use Rattle.rtk_frame.specs.declared.scanner.Answer.TheVariants.{Found, Hungry}
 use Rattle.rtk_frame.proofs.FirstFrame.{after_found, first_payloads}
 use Rattle.rtk_frame.proofs.StreamLemmas.{with_more-with_more}
-use Rattle.rtk_convert.specs.Converter.{WritesInto}
+use Rattle.rtk_convert.specs.Converter.{WritesOn, WritesInto}
 use Rattle.rtk_convert.specs.FileOfArrivals.{file_so_far}
 use Rattle.rtk_convert.specs.FrameClass.{IsEpochOf, IsDatedMessage, IsClassOfReading, IsClassOfPayload, Found as FoundFrame, arrivals}
 use Rattle.rtk_convert.specs.Steps.LinkFrames.{AddsFrames, AddsFramesInPart}
@@ -25,13 +25,13 @@ use Rattle.rtk_convert.specs.Steps.AcceptedFrame.{IsEpochIn, AcceptsFrame, Break
 use Rattle.rtk_convert.specs.Report.{lines}
 use Rattle.rtk_convert.specs.Setup.{SetupView}
 use Rattle.rtk_convert.specs.Conversion.{ConversionView, found_on}
-use Rattle.rtk_convert.specs.Writing.{WritesRest}
+use Rattle.rtk_convert.specs.Writing.{Written, WritesRest}
 use Rattle.rtk_convert.specs.Steps.WritingInPart.{WritesPartOfRest}
 use Rattle.rtk_convert.specs.declared.frame_class.FrameClass.{FrameClass}
 use Rattle.rtk_convert.specs.declared.frame_class.FrameClass.TheVariants.{OtherMessage, Refused, Foreign, Dated}
 use Rattle.rtk_convert.proofs.WritingLemmas.{writes-none, writes-on}
 
--- ---- a payload comes to one finding
+-- ---- a payload has one class
 
 -- bits decode to one message or fault
 decodes-once : (bs : List Bool) (r s : Result Message DecodeFault) → Decodes bs r → Decodes bs s → r ≡ s
@@ -62,23 +62,32 @@ message-once s m (At e x) (At f y) p q =
     let epochs : e ≡ f = epoch-once s.near (tow_of m) e f p.1 q.1 in
     cc
 
-finding-once : (s : SetupView) (r : Result Message DecodeFault) (f g : FrameClass) → IsClassOfReading s r f → IsClassOfReading s r g → f ≡ g
-finding-once s (Err fault) f g p q = p ∙ sym q
-finding-once s (Ok m) OtherMessage g p q = absurd p
-finding-once s (Ok m) (Refused fault) g p q = absurd p
-finding-once s (Ok m) Foreign OtherMessage p q = absurd q
-finding-once s (Ok m) Foreign (Refused fault) p q = absurd q
-finding-once s (Ok m) Foreign Foreign p q = refl
-finding-once s (Ok m) Foreign (Dated b) p q = absurd (p q.0)
-finding-once s (Ok m) (Dated a) OtherMessage p q = absurd q
-finding-once s (Ok m) (Dated a) (Refused fault) p q = absurd q
-finding-once s (Ok m) (Dated a) Foreign p q = absurd (q p.0)
-finding-once s (Ok m) (Dated a) (Dated b) p q = ap Dated (message-once s m a b p.1 q.1)
+class-once : (s : SetupView) (r : Result Message DecodeFault) (f g : FrameClass) → IsClassOfReading s r f → IsClassOfReading s r g → f ≡ g
+class-once s (Err fault) f g p q = p ∙ sym q
+class-once s (Ok m) OtherMessage g p q = absurd p
+class-once s (Ok m) (Refused fault) g p q = absurd p
+class-once s (Ok m) Foreign OtherMessage p q = absurd q
+class-once s (Ok m) Foreign (Refused fault) p q = absurd q
+class-once s (Ok m) Foreign Foreign p q = refl
+class-once s (Ok m) Foreign (Dated b) p q = absurd (p q.0)
+class-once s (Ok m) (Dated a) OtherMessage p q = absurd q
+class-once s (Ok m) (Dated a) (Refused fault) p q = absurd q
+class-once s (Ok m) (Dated a) Foreign p q = absurd (q p.0)
+class-once s (Ok m) (Dated a) (Dated b) p q = ap Dated (message-once s m a b p.1 q.1)
 
 pub comes-once : (s : SetupView) (payload : List ℕ) (f g : FrameClass) → IsClassOfPayload s payload f → IsClassOfPayload s payload g → f ≡ g
 comes-once s payload f g (r, decodes, is) (r', decodes', is') =
     let same : r' ≡ r = decodes-once (bits payload) r' r decodes' decodes in
-    finding-once s r f g is (subst (λ (x : Result Message DecodeFault). IsClassOfReading s x g) same is')
+    class-once s r f g is (subst (λ (x : Result Message DecodeFault). IsClassOfReading s x g) same is')
+
+-- ---- what was written
+
+pub writes-nothing : (s : SetupView) (found : List FoundFrame) (o : Written) → WritesOn s found found o o
+writes-nothing s found o = record { out = writes-none o.file (file_so_far s (arrivals found)) (file_so_far s (arrivals found)) refl; log = writes-none o.report (lines s.window found) (lines s.window found) refl }
+
+-- what was written, and what was written after it
+pub goes-on : (s : SetupView) (first mid last : List FoundFrame) (o0 o1 o2 : Written) → WritesOn s first mid o0 o1 → WritesOn s mid last o1 o2 → WritesOn s first last o0 o2
+goes-on s first mid last o0 o1 o2 p q = record { out = writes-on o0.file o1.file o2.file _ _ _ p.out q.out; log = writes-on o0.report o1.report o2.report _ _ _ p.log q.log }
 
 -- ---- one frame more
 
@@ -87,49 +96,47 @@ pub finds-more : (s : SetupView) (link : ℕ) (done : List (List ℕ)) (payload 
 finds-more s link [] payload f before mid found comes = (f, comes, ap (λ (t : List FoundFrame). found_on link f ∷ t) found)
 finds-more s link (p ∷ ps) payload f before mid (g, here, more) comes = (g, here, finds-more s link ps payload f (found_on link g ∷ before) mid more comes)
 
-pub gathers-none : (old : ConversionView) (link : ℕ) (n : Option ℕ) (o l : Option (List ℕ)) → AddsFrames old link [] old n n o o l l
-gathers-none old link n o l = λ before represents. (
+pub gathers-none : (old : ConversionView) (link : ℕ) (n : Option ℕ) (o : Written) → AddsFrames old link [] old n n o o
+gathers-none old link n o = λ before represents. (
   before,
   record {
     finds = refl;
     represents = represents;
     newest = λ e. e;
-    writes = record { out = writes-none o (file_so_far old.settings (arrivals before)) (file_so_far old.settings (arrivals before)) refl; log = writes-none l (lines old.settings.window before) (lines old.settings.window before) refl };
+    writes = writes-nothing old.settings before o;
   },
 )
 
 newest-more : (link : ℕ) (f : FrameClass) (found : List FoundFrame) → newest_on link (found_on link f ∷ found) ≡ later_of (epoch_found f) (newest_on link found)
 newest-more link f found = grind (arith, common_steps)
 
-pub gathers-more : (old mid new : ConversionView) (link : ℕ) (done : List (List ℕ)) (payload : List ℕ) (epoch n0 n1 n2 : Option ℕ) (o0 o1 o2 l0 l1 l2 : Option (List ℕ))
-    → mid.settings ≡ old.settings → AddsFrames old link done mid n0 n1 o0 o1 l0 l1 → AcceptsFrame mid link payload new o1 o2 l1 l2 → IsEpochIn mid.settings payload epoch → n2 ≡ later_of epoch n1
-    → AddsFrames old link (done ++ payload ∷ []) new n0 n2 o0 o2 l0 l2
-gathers-more old mid new link done payload epoch n0 n1 n2 o0 o1 o2 l0 l1 l2 settings gathers arrives is newest = λ before represents.
+pub gathers-more : (old mid new : ConversionView) (link : ℕ) (done : List (List ℕ)) (payload : List ℕ) (epoch n0 n1 n2 : Option ℕ) (o0 o1 o2 : Written)
+    → mid.settings ≡ old.settings → AddsFrames old link done mid n0 n1 o0 o1 → AcceptsFrame mid link payload new o1 o2 → IsEpochIn mid.settings payload epoch → n2 ≡ later_of epoch n1
+    → AddsFrames old link (done ++ payload ∷ []) new n0 n2 o0 o2
+gathers-more old mid new link done payload epoch n0 n1 n2 o0 o1 o2 settings gathers arrives is newest = λ before represents.
     let (found, g) = gathers before represents in
     let (f, comes, a) = arrives found g.represents in
-    let same : is.0 ≡ f = comes-once mid.settings payload is.0 f is.1 comes in
-    let out = subst (λ (s : SetupView). WritesRest o1 o2 (file_so_far s (arrivals found)) (file_so_far s (arrivals (found_on link f ∷ found)))) settings a.out in
-    let log = subst (λ (s : SetupView). WritesRest l1 l2 (lines s.window found) (lines s.window (found_on link f ∷ found))) settings a.log in (
+    let same : is.0 ≡ f = comes-once mid.settings payload is.0 f is.1 comes in (
       found_on link f ∷ found,
       record {
         finds = finds-more old.settings link done payload f before found g.finds (subst (λ (s : SetupView). IsClassOfPayload s payload f) settings comes);
         represents = a.represents;
         newest = λ e. newest ∙ ap (λ (t : Option ℕ). later_of t n1) (is.2 ∙ ap epoch_found same) ∙ ap (later_of (epoch_found f)) (g.newest e) ∙ sym (newest-more link f found);
-        writes = record { out = writes-on o0 o1 o2 _ _ _ g.writes.out out; log = writes-on l0 l1 l2 _ _ _ g.writes.log log };
+        writes = goes-on old.settings before found (found_on link f ∷ found) o0 o1 o2 g.writes (subst (λ (s : SetupView). WritesOn s found (found_on link f ∷ found) o1 o2) settings a.writes);
       },
     )
 
 pub writes-into : (a b c : Option (List ℕ)) (x y z : List ℕ) → WritesRest a b x y → WritesPartOfRest b c y z → WritesInto a c x y z
 writes-into a b c x y z p q = (p.0, q.0, q.1, p.1, q.2, q.3 ∙ ap (λ t. with_more t q.0) p.2 ∙ with_more-with_more a p.0 q.0)
 
-pub breaks-off : (old mid : ConversionView) (link : ℕ) (all done left : List (List ℕ)) (payload : List ℕ) (n0 n1 : Option ℕ) (o0 o1 o2 l0 l1 l2 : Option (List ℕ))
-    → mid.settings ≡ old.settings → all ≡ done ++ (payload ∷ left) → AddsFrames old link done mid n0 n1 o0 o1 l0 l1 → BreaksOffAtFrame mid link payload o1 o2 l1 l2
-    → AddsFramesInPart old link all o0 o2 l0 l2
-breaks-off old mid link all done left payload n0 n1 o0 o1 o2 l0 l1 l2 settings split gathers breaks = λ before represents.
+pub breaks-off : (old mid : ConversionView) (link : ℕ) (all done left : List (List ℕ)) (payload : List ℕ) (n0 n1 : Option ℕ) (o0 o1 o2 : Written)
+    → mid.settings ≡ old.settings → all ≡ done ++ (payload ∷ left) → AddsFrames old link done mid n0 n1 o0 o1 → BreaksOffAtFrame mid link payload o1 o2
+    → AddsFramesInPart old link all o0 o2
+breaks-off old mid link all done left payload n0 n1 o0 o1 o2 settings split gathers breaks = λ before represents.
     let (found, g) = gathers before represents in
     let (f, comes, b) = breaks found g.represents in
-    let out = subst (λ (s : SetupView). WritesPartOfRest o1 o2 (file_so_far s (arrivals found)) (file_so_far s (arrivals (found_on link f ∷ found)))) settings b.out in
-    let log = subst (λ (s : SetupView). WritesPartOfRest l1 l2 (lines s.window found) (lines s.window (found_on link f ∷ found))) settings b.log in
+    let out = subst (λ (s : SetupView). WritesPartOfRest o1.file o2.file (file_so_far s (arrivals found)) (file_so_far s (arrivals (found_on link f ∷ found)))) settings b.out in
+    let log = subst (λ (s : SetupView). WritesPartOfRest o1.report o2.report (lines s.window found) (lines s.window (found_on link f ∷ found))) settings b.log in
     record {
       done = done;
       payload = payload;
@@ -137,10 +144,10 @@ breaks-off old mid link all done left payload n0 n1 o0 o1 o2 l0 l1 l2 settings s
       split = split;
       found = found;
       finds = g.finds;
-      finding = f;
+      class = f;
       comes = subst (λ (s : SetupView). IsClassOfPayload s payload f) settings comes;
-      out = writes-into o0 o1 o2 _ _ _ g.writes.out out;
-      log = writes-into l0 l1 l2 _ _ _ g.writes.log log;
+      out = writes-into o0.file o1.file o2.file _ _ _ g.writes.out out;
+      log = writes-into o0.report o1.report o2.report _ _ _ g.writes.log log;
     }
 
 -- ---- the scanner's answers
@@ -148,7 +155,8 @@ breaks-off old mid link all done left payload n0 n1 o0 o1 o2 l0 l1 l2 settings s
 rest-is : (at : ℕ) (p : List ℕ) → take (length p - at) (drop at p) ≡ drop at p
 rest-is at p = grind (arith, common_steps)
 
--- of a piece p after the pending bytes s0, the next frame was found: s2 is pending, and the place next was reached
+-- of a piece p after the pending bytes s0, the next frame was found: s2 is pending, and the place
+-- next was reached
 pub record FindsNext (s0 p s1 s2 : List ℕ) (at next : ℕ) (done : List (List ℕ)) (payload : List ℕ) : Type 0 where
   pub split : payloads (final_frames (s0 ++ p)) ≡ done ++ (payload ∷ payloads (final_frames (s2 ++ drop next p)))
   pub taken : payloads (final_frames (s0 ++ p)) ≡ (done ++ payload ∷ []) ++ payloads (final_frames (s2 ++ drop next p))
@@ -177,7 +185,7 @@ finds-next s0 p s1 at used done payload scan within some whole waiting answer =
       smaller = grind (arith);
     }
 
--- it was searched to its end
+-- the piece was searched to its end
 pub record FindsNoMore (s0 p s2 : List ℕ) (done : List (List ℕ)) : Type 0 where
   pub all : payloads (final_frames (s0 ++ p)) ≡ done
   pub waiting : s2 ≡ pending (s0 ++ p)

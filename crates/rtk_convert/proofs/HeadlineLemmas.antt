@@ -28,6 +28,7 @@ use Rattle.rtk_convert.specs.Steps.ReadToEnd.{RunsAs}
 use Rattle.rtk_convert.specs.Report.{lines, frame_lines, class_lines}
 use Rattle.rtk_convert.specs.ReportText.{late_line, count_lines}
 use Rattle.rtk_convert.specs.Setup.{SetupView}
+use Rattle.rtk_convert.specs.Writing.{Written}
 use Rattle.rtk_convert.specs.Conversion.{found_on}
 use Rattle.rtk_convert.proofs.ArrivalLawsLemmas.{late-leave}
 use Rattle.rtk_convert.proofs.HistoryLemmas.{found-once}
@@ -125,11 +126,11 @@ late-part s link a before (f ∷ later) over =
     let p = late-part s link a before later over in
     let front = lines s.window before in
     let line = late_line link (number_of (message_of a)) (epoch_of a) in
-    let more = frame_lines s.window f.link f.finding (arrivals (later ++ found_on link (Dated a) ∷ before)) in
+    let more = frame_lines s.window f.link f.class (arrivals (later ++ found_on link (Dated a) ∷ before)) in
     (p.0 ++ more, ap (λ t. t ++ more) p.1 ∙ append_assoc front (line ++ p.0) more ∙ ap (λ t. front ++ t) (append_assoc line p.0 more))
 
-pub late-listed : (s : SetupView) (found : List Found) (log_old log_new : Option (List ℕ)) → log_new ≡ with_more log_old (report_of s found) → LateAreListed s found log_old log_new
-late-listed s found log_old log_new w link a before p =
+pub late-listed : (s : SetupView) (found : List Found) (report_old report_new : Option (List ℕ)) → report_new ≡ with_more report_old (report_of s found) → LateAreListed s found report_old report_new
+late-listed s found report_old report_new w link a before p =
     let front = lines s.window before in
     let line = late_line link (number_of (message_of a)) (epoch_of a) in
     let more = count_lines (all_counts s found) in
@@ -148,15 +149,15 @@ late-nothing s found =
 
 -- ---- the whole sentence
 
-pub headline-of : (s : SetupView) (links : ℕ) (calls : List Call) (found : List Found) (out_old out_new log_old log_new : Option (List ℕ)) → FindAll s links calls found
-    → out_new ≡ with_more out_old (kept_file s (arrivals found)) → log_new ≡ with_more log_old (report_of s found)
-    → Headline s links calls out_old out_new log_old log_new
-headline-of s links calls found out_old out_new log_old log_new all out log = record {
+pub headline-of : (s : SetupView) (links : ℕ) (calls : List Call) (found : List Found) (o o' : Written) → FindAll s links calls found
+    → o'.file ≡ with_more o.file (kept_file s (arrivals found)) → o'.report ≡ with_more o.report (report_of s found)
+    → Headline s links calls o o'
+headline-of s links calls found o o' all out log = record {
   found = found;
   of_all_pieces = all;
   file_of_the_set = λ good. (kept_file s (arrivals found), out, file-of-set s found good);
   file_of_a_table = λ settings. (kept_file s (arrivals found), out, calls-table s links calls found settings all);
-  late_are_listed = late-listed s found log_old log_new log;
+  late_are_listed = late-listed s found o.report o'.report log;
   late_change_nothing = late-nothing s found;
 }
 
@@ -178,9 +179,9 @@ closing-closed : (s : SetupView) (h : History) (n : ℕ) → AllClosed h → IsA
 closing-closed s h zero closed = refl
 closing-closed s h (suc n) closed = (h, closing-closed s h n closed, inr (closed n, refl))
 
-pub run-headline : {R : Type 0} (given : R → Option (List ℕ)) (calls : R → ℕ) (is_at_end : R → Type 0) (s : SetupView) (before after : List R) (counts : Counts) (out_old out_new log_old log_new : Option (List ℕ))
-    → RunsAs given calls is_at_end s before after counts out_old out_new log_old log_new → RunHeadline given calls is_at_end s before after counts out_old out_new log_old log_new
-run-headline given calls is_at_end s before after counts out_old out_new log_old log_new p =
+pub run-headline : {R : Type 0} (given : R → Option (List ℕ)) (calls : R → ℕ) (is_at_end : R → Type 0) (s : SetupView) (before after : List R) (counts : Counts) (o o' : Written)
+    → RunsAs given calls is_at_end s before after counts o o' → RunHeadline given calls is_at_end s before after counts o o'
+run-headline given calls is_at_end s before after counts o o' p =
     let all : FindAll s (length before) (calls_of p.reads) p.history.found =
     (p.history, p.history, calls-come-to s (length before) p.reads p.history p.comes_to, closing-closed s p.history (length before) p.closed, refl) in
     record {
@@ -189,14 +190,15 @@ run-headline given calls is_at_end s before after counts out_old out_new log_old
       called = p.called;
       to_their_ends = p.at_end;
       in_order = (p.history, p.comes_to, p.closed);
-      headline = headline-of s (length before) (calls_of p.reads) p.history.found out_old out_new log_old log_new all p.out p.log;
+      headline = headline-of s (length before) (calls_of p.reads) p.history.found o o' all p.out p.log;
       kept = record { found = p.history.found; of_all_pieces = all; out = p.out; log = p.log; counts_are = p.counts_are };
     }
 
--- the headline says no less: its list of found frames is the list of the history, since calls find one
-pub headline-runs-as : {R : Type 0} (given : R → Option (List ℕ)) (calls : R → ℕ) (is_at_end : R → Type 0) (s : SetupView) (before after : List R) (counts : Counts) (out_old out_new log_old log_new : Option (List ℕ))
-    → RunHeadline given calls is_at_end s before after counts out_old out_new log_old log_new → RunsAs given calls is_at_end s before after counts out_old out_new log_old log_new
-headline-runs-as given calls is_at_end s before after counts out_old out_new log_old log_new p =
+-- the headline says no less: its list of found frames is the list of the history, since calls find
+-- one
+pub headline-runs-as : {R : Type 0} (given : R → Option (List ℕ)) (calls : R → ℕ) (is_at_end : R → Type 0) (s : SetupView) (before after : List R) (counts : Counts) (o o' : Written)
+    → RunHeadline given calls is_at_end s before after counts o o' → RunsAs given calls is_at_end s before after counts o o'
+headline-runs-as given calls is_at_end s before after counts o o' p =
     let h : History = p.in_order.0 in
     let all : FindAll s (length before) (calls_of p.reads) h.found =
     (h, h, calls-come-to s (length before) p.reads h p.in_order.1, closing-closed s h (length before) p.in_order.2, refl) in
@@ -209,7 +211,7 @@ headline-runs-as given calls is_at_end s before after counts out_old out_new log
       gave = p.gave;
       called = p.called;
       at_end = p.to_their_ends;
-      out = p.kept.out ∙ ap (λ (f : List Found). with_more out_old (kept_file s (arrivals f))) same;
-      log = p.kept.log ∙ ap (λ (f : List Found). with_more log_old (report_of s f)) same;
+      out = p.kept.out ∙ ap (λ (f : List Found). with_more o.file (kept_file s (arrivals f))) same;
+      log = p.kept.log ∙ ap (λ (f : List Found). with_more o.report (report_of s f)) same;
       counts_are = p.kept.counts_are ∙ ap (λ (f : List Found). all_counts s f) same;
     }

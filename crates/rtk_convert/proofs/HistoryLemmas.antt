@@ -1,4 +1,5 @@
--- A call comes to one history, and any calls find one list of frames; one link is next, and reads come to one history.
+-- A call comes to one history, and any calls find one list of frames; one link is next, and reads
+-- come to one history.
 use Rattle.std.proofs.Common.{◌≡◌, ℕ, ◌<◌, arith, zero, suc, List, [], ◌∷◌, inl, inr, ap, sym, subst, ◌∙◌}
 use Rattle.rtk_convert.specs.Converter.{IsAfterClosing, IsAfterClosingAll}
 use Rattle.rtk_convert.specs.FrameClass.{Found}

@@ -17,7 +17,7 @@ use Rattle.rtk_obs.specs.Dating.{IsReference}
 use Rattle.rtk_obs.specs.Position.{IsCoordinate}
 use Rattle.rtk_obs.proofs.LegacyLemmas.{fields_of_valid, cells_in_range as cells_in_range-1004}
 use Rattle.rtk_obs.proofs.MsmLemmas.{cells_in_range as cells_in_range-1074}
-use Rattle.rtk_collect.specs.EpochSet.{EpochSetView, joined, FirstIsBelow, EpochsFall}
+use Rattle.rtk_collect.specs.EpochSet.{EpochSetView, joined}
 use Rattle.rtk_collect.specs.Arrival.{Arrival, At, cells_of}
 use Rattle.rtk_collect.specs.Late.{late}
 use Rattle.rtk_collect.specs.Accepted.{first, station, no_cells, with_arrival, kept}
@@ -68,7 +68,7 @@ and-good s (Dated (At e m)) before near payload c h = (good-by s payload c.0 e m
 
 arrivals-good : (s : SetupView) (found : List Found) → IsReference s.near → AllByRecursion (HasPayload s) found → AllByRecursion IsGoodArrival (arrivals found)
 arrivals-good s [] near h = tt
-arrivals-good s (f ∷ before) near h = and-good s f.finding (arrivals before) near h.0.0 h.0.1 (arrivals-good s before near h.1)
+arrivals-good s (f ∷ before) near h = and-good s f.class (arrivals before) near h.0.0 h.0.1 (arrivals-good s before near h.1)
 
 -- ---- so are the kept epochs
 
@@ -142,7 +142,7 @@ site-good short (Some (Arp1005 m)) s t = site_of_1005-good short s
 site-good short (Some (Arp1006 m)) s v = (coordinate m.x v.1.1.1.1.1.1.0, coordinate m.y v.1.1.1.1.1.1.1.1.1.0, coordinate m.z v.1.1.1.1.1.1.1.1.1.1.1.0, v.1.1.1.1.1.1.1.1.1.1.1.1.0)
 site-good short (Some (Msm1074 m)) s t = site_of_1005-good short s
 
--- ---- so the file is a table's
+-- ---- so the file is the text of a table
 
 pub kept-file-is_table : FilesAreTables → KeptFileIsTable
 kept-file-is_table law s found settings h =

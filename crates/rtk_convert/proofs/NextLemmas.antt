@@ -36,7 +36,7 @@ pub record IsNextBelow (h : History) (n b : ℕ) : Type 0 where
   pub least : (k : ℕ) → k < n → IsOpen h k → IsUpTo (newest_on b h.found) (newest_on k h.found)
   pub lowest : (k : ℕ) → k < b → IsOpen h k → ¬ (IsUpTo (newest_on k h.found) (newest_on b h.found))
 
--- and if there is none, all of them are closed
+-- and if there is no such link, all of them are closed
 abbrev pub NextBelow : History → ℕ → Option ℕ → Type 0
 NextBelow h n None = (k : ℕ) → k < n → ¬ (IsOpen h k)
 NextBelow h n (Some b) = IsNextBelow h n b

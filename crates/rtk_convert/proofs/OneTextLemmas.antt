@@ -74,14 +74,14 @@ one-text s link (At (Some e) m) before valid = elim (cases_Bool (late s.window (
   | inr fresh ↦ one-in-time s link e m before (cells_at e (kept s.window before)) valid fresh refl
 ]
 
--- a payload that comes to an arrival adds to one text at most
+-- a payload that is an arrival adds to one text at most
 pub one-arrived : (s : SetupView) (link : ℕ) (payload : List ℕ) (a : Arrival) (before : List Found) → IsClassOfPayload s payload (Dated a) → AddsToOne s (found_on link (Dated a)) before
 one-arrived s link payload a before comes = elim (one-text s link a (arrivals before) (comes-valid s payload a comes)) [
   | inl same ↦ inl same
   | inr none ↦ inr (ap (λ (t : List ℕ). lines s.window before ++ t) none ∙ append-nil (lines s.window before))
 ]
 
--- and so does each frame: those of no arrival leave the file
+-- and so does each frame: a frame that is no arrival leaves the file as it is
 pub one-added : (s : SetupView) (payload : List ℕ) (f : FrameClass) (link : ℕ) (before : List Found) → IsClassOfPayload s payload f → AddsToOne s (found_on link f) before
 one-added s payload OtherMessage link before comes = inl refl
 one-added s payload (Refused fault) link before comes = inl refl

@@ -17,6 +17,7 @@ use Rattle.rtk_convert.specs.ReadSteps.{read_of, found_by_read, AnyAtGreatest, H
 use Rattle.rtk_convert.specs.Steps.ReadLink.{ReadsLink, BreaksOffAfterRead}
 use Rattle.rtk_convert.specs.ReadHistory.{Read, piece_on, bytes_of, IsAfterPiece, Gave}
 use Rattle.rtk_convert.specs.Setup.{SetupView}
+use Rattle.rtk_convert.specs.Writing.{Written}
 
 -- ---- the counts of calls
 
@@ -115,11 +116,11 @@ found-some link h [] some = absurd (omega arith)
 found-some link h (x ∷ piece) some = refl
 
 pub reads-piece : {R E : Type 0} (given : R → Option (List ℕ)) (is_at_end : R → Type 0) (failures calls : R → ℕ) (s : SetupView) (h : History) (link count : ℕ) (before after : List R) (buf : List ℕ)
-    (new : ConverterView) (out_old out_new log_old log_new : Option (List ℕ)) → count ≢ 0 → count ≤ length buf → length buf ≡ 512 → IsNextLink h link
+    (new : ConverterView) (o o' : Written) → count ≢ 0 → count ≤ length buf → length buf ≡ 512 → IsNextLink h link
     → ReadsOne {R = R} {E = E} given failures calls before after link (Ok count) buf
-    → ((next : History) × IsAfterFeed s h link (take count buf) next × RepresentsHistory new next × WritesOn s h.found next.found out_old out_new log_old log_new)
-    → ReadsLink given is_at_end s h link before after new out_old out_new log_old log_new
-reads-piece given is_at_end failures calls s h link count before after buf new out_old out_new log_old log_new some bound room is_next read fed =
+    → ((next : History) × IsAfterFeed s h link (take count buf) next × RepresentsHistory new next × WritesOn s h.found next.found o o')
+    → ReadsLink given is_at_end s h link before after new o o'
+reads-piece given is_at_end failures calls s h link count before after buf new o o' some bound room is_next read fed =
     let long = length-take-le count buf bound in
     record {
       piece = take count buf;
@@ -137,11 +138,11 @@ reads-piece given is_at_end failures calls s h link count before after buf new o
     }
 
 pub reads-end : {R E : Type 0} (given : R → Option (List ℕ)) (is_at_end : R → Type 0) (failures calls : R → ℕ) (s : SetupView) (h : History) (link count : ℕ) (before after : List R) (buf : List ℕ)
-    (new : ConverterView) (out_old out_new log_old log_new : Option (List ℕ)) → count ≡ 0 → IsNextLink h link
+    (new : ConverterView) (o o' : Written) → count ≡ 0 → IsNextLink h link
     → ReadsOne {R = R} {E = E} given failures calls before after link (Ok count) buf → ((none : R) → is_at_end (slice_index_or after link none))
-    → ((next : History) × IsAfterClose s h link next × RepresentsHistory new next × WritesOn s h.found next.found out_old out_new log_old log_new)
-    → ReadsLink given is_at_end s h link before after new out_old out_new log_old log_new
-reads-end given is_at_end failures calls s h link count before after buf new out_old out_new log_old log_new none is_next read ended closed = record {
+    → ((next : History) × IsAfterClose s h link next × RepresentsHistory new next × WritesOn s h.found next.found o o')
+    → ReadsLink given is_at_end s h link before after new o o'
+reads-end given is_at_end failures calls s h link count before after buf new o o' none is_next read ended closed = record {
   piece = [];
   next = closed.0;
   is_next = record { link = is_next; few = omega arith; after = closed.1 };
@@ -153,25 +154,25 @@ reads-end given is_at_end failures calls s h link count before after buf new out
 }
 
 pub breaks-piece : {R E : Type 0} (given : R → Option (List ℕ)) (failures calls : R → ℕ) (s : SetupView) (h : History) (link count : ℕ) (before after : List R) (buf : List ℕ)
-    (out_old out_new log_old log_new : Option (List ℕ)) → count ≢ 0 → count ≤ length buf → length buf ≡ 512
+    (o o' : Written) → count ≢ 0 → count ≤ length buf → length buf ≡ 512
     → ReadsOne {R = R} {E = E} given failures calls before after link (Ok count) buf
-    → BreaksOffAt s link (found_by_piece (fed_on link h.links) (take count buf)) h.found out_old out_new log_old log_new
-    → BreaksOffAfterRead given s h link before after out_old out_new log_old log_new
-breaks-piece given failures calls s h link count before after buf out_old out_new log_old log_new some bound room read breaks =
+    → BreaksOffAt s link (found_by_piece (fed_on link h.links) (take count buf)) h.found o o'
+    → BreaksOffAfterRead given s h link before after o o'
+breaks-piece given failures calls s h link count before after buf o o' some bound room read breaks =
     let long = length-take-le count buf bound in
     record {
       piece = take count buf;
       few = omega (arith, long);
       gave = gave-read given failures calls before after link count buf read;
-      breaks = subst (λ (ps : List (List ℕ)). BreaksOffAt s link ps h.found out_old out_new log_old log_new) (sym (found-some link h (take count buf) (omega (arith, long, some)))) breaks;
+      breaks = subst (λ (ps : List (List ℕ)). BreaksOffAt s link ps h.found o o') (sym (found-some link h (take count buf) (omega (arith, long, some)))) breaks;
     }
 
 pub breaks-end : {R E : Type 0} (given : R → Option (List ℕ)) (failures calls : R → ℕ) (s : SetupView) (h : History) (link count : ℕ) (before after : List R) (buf : List ℕ)
-    (out_old out_new log_old log_new : Option (List ℕ)) → count ≡ 0
+    (o o' : Written) → count ≡ 0
     → ReadsOne {R = R} {E = E} given failures calls before after link (Ok count) buf
-    → BreaksOffAt s link (found_by_close (fed_on link h.links)) h.found out_old out_new log_old log_new
-    → BreaksOffAfterRead given s h link before after out_old out_new log_old log_new
-breaks-end given failures calls s h link count before after buf out_old out_new log_old log_new none read breaks = record {
+    → BreaksOffAt s link (found_by_close (fed_on link h.links)) h.found o o'
+    → BreaksOffAfterRead given s h link before after o o'
+breaks-end given failures calls s h link count before after buf o o' none read breaks = record {
   piece = [];
   few = omega arith;
   gave = subst (λ (n : ℕ). Gave given before after (read_of link (take n buf) ∷ [])) none (gave-read given failures calls before after link count buf read);

@@ -24,7 +24,7 @@ use Rattle.rtk_convert.specs.Report.{lines}
 use Rattle.rtk_convert.specs.Run.{BreaksOffReading, BreaksOffAtEnd, FailsReading}
 use Rattle.rtk_convert.specs.Steps.ReadToEnd.{RunsAs}
 use Rattle.rtk_convert.specs.Setup.{SetupView}
-use Rattle.rtk_convert.specs.Writing.{WritesRest}
+use Rattle.rtk_convert.specs.Writing.{Written, WritesRest}
 use Rattle.rtk_convert.proofs.ReadLemmas.{gave-none, gave-more}
 
 -- ---- how many links there are
@@ -53,38 +53,38 @@ pub so_far-nothing : (s : SetupView) → file_so_far s [] ≡ []
 unfolding records
 so_far-nothing s = refl
 
--- what was written on, after all that was out before
-pub written : (a b c : Option (List ℕ)) (x y : List ℕ) → b ≡ with_more a x → WritesRest b c x y → c ≡ with_more a y
-written a b c x y p w = w.2 ∙ ap (λ o. with_more o w.0) p ∙ with_more-with_more a x w.0 ∙ ap (with_more a) (sym w.1)
+-- what was written after all that was out before
+pub written-on : (a b c : Option (List ℕ)) (x y : List ℕ) → b ≡ with_more a x → WritesRest b c x y → c ≡ with_more a y
+written-on a b c x y p w = w.2 ∙ ap (λ o. with_more o w.0) p ∙ with_more-with_more a x w.0 ∙ ap (with_more a) (sym w.1)
 
-pub has_read-nothing : {R : Type 0} (given : R → Option (List ℕ)) (s : SetupView) (readers : List R) (out log : Option (List ℕ))
-    → HasRead given s readers readers [] (new_history (length readers)) out out log log
-has_read-nothing given s readers out log = record {
+pub has_read-nothing : {R : Type 0} (given : R → Option (List ℕ)) (s : SetupView) (readers : List R) (o : Written)
+    → HasRead given s readers readers [] (new_history (length readers)) o o
+has_read-nothing given s readers o = record {
   comes_to = refl;
   gave = gave-none given readers;
-  out = sym (with_more-nil out) ∙ ap (with_more out) (sym (so_far-nothing s));
-  log = sym (with_more-nil log);
+  out = sym (with_more-nil o.file) ∙ ap (with_more o.file) (sym (so_far-nothing s));
+  log = sym (with_more-nil o.report);
 }
 
-pub has_read-more : {R : Type 0} (given : R → Option (List ℕ)) (is_at_end : R → Type 0) (s : SetupView) (h : History) (link : ℕ) (before mid after : List R) (reads : List Read) (new : ConverterView) (o0 o1 o2 l0 l1 l2 : Option (List ℕ))
-    → HasRead given s before mid reads h o0 o1 l0 l1 → (p : ReadsLink given is_at_end s h link mid after new o1 o2 l1 l2)
-    → HasRead given s before after (read_of link p.piece ∷ reads) p.next o0 o2 l0 l2
-has_read-more given is_at_end s h link before mid after reads new o0 o1 o2 l0 l1 l2 q p = record {
+pub has_read-more : {R : Type 0} (given : R → Option (List ℕ)) (is_at_end : R → Type 0) (s : SetupView) (h : History) (link : ℕ) (before mid after : List R) (reads : List Read) (new : ConverterView) (o0 o1 o2 : Written)
+    → HasRead given s before mid reads h o0 o1 → (p : ReadsLink given is_at_end s h link mid after new o1 o2)
+    → HasRead given s before after (read_of link p.piece ∷ reads) p.next o0 o2
+has_read-more given is_at_end s h link before mid after reads new o0 o1 o2 q p = record {
   comes_to = (h, q.comes_to, p.is_next);
   gave = gave-more given before mid after reads (read_of link p.piece) q.gave p.gave;
-  out = written o0 o1 o2 (file_so_far s (arrivals h.found)) (file_so_far s (arrivals p.next.found)) q.out p.writes.out;
-  log = written l0 l1 l2 (lines s.window h.found) (lines s.window p.next.found) q.log p.writes.log;
+  out = written-on o0.file o1.file o2.file (file_so_far s (arrivals h.found)) (file_so_far s (arrivals p.next.found)) q.out p.writes.out;
+  log = written-on o0.report o1.report o2.report (lines s.window h.found) (lines s.window p.next.found) q.log p.writes.log;
 }
 
--- ---- where it breaks off
+-- ---- the run breaks off
 
 into : (a b c : Option (List ℕ)) (x y z : List ℕ) → b ≡ with_more a x → WritesInto b c x y z → WritesInto a c [] y z
 into a b c x y z p w = (x ++ w.0, w.1, w.2, w.3, w.4, w.5 ∙ ap (λ o. with_more o (w.0 ++ w.1)) p ∙ with_more-with_more a x (w.0 ++ w.1) ∙ ap (with_more a) (sym (append_assoc x w.0 w.1)))
 
-pub breaks-reading : {R : Type 0} (given : R → Option (List ℕ)) (calls : R → ℕ) (s : SetupView) (h : History) (link : ℕ) (before mid after : List R) (reads : List Read) (o0 o1 o2 l0 l1 l2 : Option (List ℕ))
-    → HasRead given s before mid reads h o0 o1 l0 l1 → IsNextLink h link → BreaksOffAfterRead given s h link mid after o1 o2 l1 l2 → HasCalled calls before after (length reads + 1)
-    → BreaksOffReading given calls s before after o0 o2 l0 l2
-breaks-reading given calls s h link before mid after reads o0 o1 o2 l0 l1 l2 q n p called = record {
+pub breaks-reading : {R : Type 0} (given : R → Option (List ℕ)) (calls : R → ℕ) (s : SetupView) (h : History) (link : ℕ) (before mid after : List R) (reads : List Read) (o0 o1 o2 : Written)
+    → HasRead given s before mid reads h o0 o1 → IsNextLink h link → BreaksOffAfterRead given s h link mid after o1 o2 → HasCalled calls before after (length reads + 1)
+    → BreaksOffReading given calls s before after o0 o2
+breaks-reading given calls s h link before mid after reads o0 o1 o2 q n p called = record {
   reads = reads;
   history = h;
   comes_to = q.comes_to;
@@ -101,11 +101,11 @@ breaks-reading given calls s h link before mid after reads o0 o1 o2 l0 l1 l2 q n
     split = p.breaks.split;
     found = p.breaks.found;
     finds = p.breaks.finds;
-    finding = p.breaks.finding;
+    class = p.breaks.class;
     comes = p.breaks.comes;
-    out = subst (λ (t : List ℕ). WritesInto o0 o2 t (file_so_far s (arrivals p.breaks.found)) (file_so_far s (arrivals (found_on link p.breaks.finding ∷ p.breaks.found)))) (sym (so_far-nothing s))
-        (into o0 o1 o2 _ _ _ q.out p.breaks.out);
-    log = into l0 l1 l2 _ _ _ q.log p.breaks.log;
+    out = subst (λ (t : List ℕ). WritesInto o0.file o2.file t (file_so_far s (arrivals p.breaks.found)) (file_so_far s (arrivals (found_on link p.breaks.class ∷ p.breaks.found)))) (sym (so_far-nothing s))
+        (into o0.file o1.file o2.file _ _ _ q.out p.breaks.out);
+    log = into o0.report o1.report o2.report _ _ _ q.log p.breaks.log;
   };
 }
 
@@ -117,17 +117,17 @@ gave-same given a b c reads p q = record {
       q.bytes k none within ∙ with_more-nil (given (slice_index_or b k none)) ∙ p.bytes k none lt;
 }
 
-pub fails-reading : {R : Type 0} (given : R → Option (List ℕ)) (failures calls : R → ℕ) (s : SetupView) (h : History) (link : ℕ) (before mid after : List R) (reads : List Read) (o0 o1 o2 l0 l1 l2 : Option (List ℕ))
-    → HasRead given s before mid reads h o0 o1 l0 l1 → IsNextLink h link → ((k : ℕ) (none : R) → failures (slice_index_or mid k none) ≡ failures (slice_index_or before k none))
-    → FailsRead given failures link mid after o1 o2 l1 l2 → HasCalled calls before after (length reads + 1) → FailsReading given failures calls s link before after o0 o2 l0 l2
-fails-reading given failures calls s h link before mid after reads o0 o1 o2 l0 l1 l2 q n same p called = record {
+pub fails-reading : {R : Type 0} (given : R → Option (List ℕ)) (failures calls : R → ℕ) (s : SetupView) (h : History) (link : ℕ) (before mid after : List R) (reads : List Read) (o0 o1 o2 : Written)
+    → HasRead given s before mid reads h o0 o1 → IsNextLink h link → ((k : ℕ) (none : R) → failures (slice_index_or mid k none) ≡ failures (slice_index_or before k none))
+    → FailsRead given failures link mid after o1 o2 → HasCalled calls before after (length reads + 1) → FailsReading given failures calls s link before after o0 o2
+fails-reading given failures calls s h link before mid after reads o0 o1 o2 q n same p called = record {
   reads = reads;
   history = h;
   has_read = record {
     comes_to = q.comes_to;
     gave = gave-same given before mid after reads q.gave p.gave;
-    out = p.out ∙ q.out;
-    log = p.log ∙ q.log;
+    out = ap (λ (o : Written). o.file) p.written ∙ q.out;
+    log = ap (λ (o : Written). o.report) p.written ∙ q.log;
   };
   called = called;
   is_next = n;
@@ -146,10 +146,10 @@ closing-none s h (suc n) last closed p =
       | inr stays ↦ stays.1 ∙ same
     ]
 
-pub runs-as : {R : Type 0} (given : R → Option (List ℕ)) (calls : R → ℕ) (is_at_end : R → Type 0) (s : SetupView) (before after : List R) (converter : ConverterView) (counts : Counts) (o0 o1 o2 l0 l1 l2 : Option (List ℕ))
-    → (p : HasReadAll given calls is_at_end s before after converter o0 o1 l0 l1) → (last : History) → FinishesConverterAs s p.history last counts o1 o2 l1 l2
-    → RunsAs given calls is_at_end s before after counts o0 o2 l0 l2
-runs-as given calls is_at_end s before after converter counts o0 o1 o2 l0 l1 l2 p last e =
+pub runs-as : {R : Type 0} (given : R → Option (List ℕ)) (calls : R → ℕ) (is_at_end : R → Type 0) (s : SetupView) (before after : List R) (converter : ConverterView) (counts : Counts) (o0 o1 o2 : Written)
+    → (p : HasReadAll given calls is_at_end s before after converter o0 o1) → (last : History) → FinishesConverterAs s p.history last counts o1 o2
+    → RunsAs given calls is_at_end s before after counts o0 o2
+runs-as given calls is_at_end s before after converter counts o0 o1 o2 p last e =
     let same = closing-none s p.history (length p.history.links) last p.closed e.closed in
     record {
       reads = p.reads;
@@ -159,20 +159,20 @@ runs-as given calls is_at_end s before after converter counts o0 o1 o2 l0 l1 l2 
       gave = p.has_read.gave;
       called = p.called;
       at_end = p.at_end;
-      out = written o0 o1 o2 (file_so_far s (arrivals p.history.found)) (kept_file s (arrivals last.found)) p.has_read.out e.out ∙ ap (λ (h : History). with_more o0 (kept_file s (arrivals h.found))) same;
-      log = written l0 l1 l2 (lines s.window p.history.found) (report_of s last.found) p.has_read.log e.log ∙ ap (λ (h : History). with_more l0 (report_of s h.found)) same;
+      out = written-on o0.file o1.file o2.file (file_so_far s (arrivals p.history.found)) (kept_file s (arrivals last.found)) p.has_read.out e.out ∙ ap (λ (h : History). with_more o0.file (kept_file s (arrivals h.found))) same;
+      log = written-on o0.report o1.report o2.report (lines s.window p.history.found) (report_of s last.found) p.has_read.log e.log ∙ ap (λ (h : History). with_more o0.report (report_of s h.found)) same;
       counts_are = e.counts_are ∙ ap (λ (h : History). all_counts s h.found) same;
     }
 
 -- once all links were closed, the end breaks off with no frame in hand
-pub breaks-ending : {R : Type 0} (given : R → Option (List ℕ)) (calls : R → ℕ) (is_at_end : R → Type 0) (s : SetupView) (before after : List R) (converter : ConverterView) (o0 o1 o2 l0 l1 l2 : Option (List ℕ))
-    → (p : HasReadAll given calls is_at_end s before after converter o0 o1 l0 l1)
-    → ((link : ℕ) × BreaksOffClosing s p.history link o1 o2 l1 l2) ⊎ BreaksOffFinishing s p.history o1 o2 l1 l2
-    → BreaksOffAtEnd given calls is_at_end s before after o0 o2 l0 l2
-breaks-ending given calls is_at_end s before after converter o0 o1 o2 l0 l1 l2 p (inl breaks) =
+pub breaks-ending : {R : Type 0} (given : R → Option (List ℕ)) (calls : R → ℕ) (is_at_end : R → Type 0) (s : SetupView) (before after : List R) (converter : ConverterView) (o0 o1 o2 : Written)
+    → (p : HasReadAll given calls is_at_end s before after converter o0 o1)
+    → ((link : ℕ) × BreaksOffClosing s p.history link o1 o2) ⊎ BreaksOffFinishing s p.history o1 o2
+    → BreaksOffAtEnd given calls is_at_end s before after o0 o2
+breaks-ending given calls is_at_end s before after converter o0 o1 o2 p (inl breaks) =
     let same = closing-none s p.history breaks.0 breaks.1.mid p.closed breaks.1.closed in
     absurd (p.closed breaks.0 (subst (λ (h : History). IsOpen h breaks.0) same breaks.1.is_open))
-breaks-ending given calls is_at_end s before after converter o0 o1 o2 l0 l1 l2 p (inr breaks) =
+breaks-ending given calls is_at_end s before after converter o0 o1 o2 p (inr breaks) =
     let same = closing-none s p.history (length p.history.links) breaks.last p.closed breaks.closed in
     record {
       reads = p.reads;
@@ -182,8 +182,8 @@ breaks-ending given calls is_at_end s before after converter o0 o1 o2 l0 l1 l2 p
       gave = p.has_read.gave;
       called = p.called;
       at_end = p.at_end;
-      out = subst (λ (h : History). WritesInto o0 o2 [] (file_so_far s (arrivals h.found)) (kept_file s (arrivals h.found))) same (into o0 o1 o2 _ _ _ p.has_read.out breaks.out);
-      log = subst (λ (h : History). WritesInto l0 l2 [] (lines s.window h.found) (report_of s h.found)) same (into l0 l1 l2 _ _ _ p.has_read.log breaks.log);
+      out = subst (λ (h : History). WritesInto o0.file o2.file [] (file_so_far s (arrivals h.found)) (kept_file s (arrivals h.found))) same (into o0.file o1.file o2.file _ _ _ p.has_read.out breaks.out);
+      log = subst (λ (h : History). WritesInto o0.report o2.report [] (lines s.window h.found) (report_of s h.found)) same (into o0.report o1.report o2.report _ _ _ p.has_read.log breaks.log);
     }
 
 pub links-few : (links : ℕ) (P : Type 0) → (P → ⊥) → (¬ (IsLinkCount links) → P) → IsLinkCount links

@@ -1,6 +1,5 @@
 -- How the file so far grows with an arrival.
 use Rattle.std.proofs.Common.{◌≡◌, ℕ, ◌≤◌, List, [], ◌∷◌, ◌++◌, drop, length, Option, ap, sym, ◌∙◌, inl, inr}
-use Rattle.std.specs.Prelude.{is_some}
 use Rattle.rtk_message.specs.declared.message.Message.{Message}
 use Rattle.rtk_collect.specs.EpochSet.{EpochSetView}
 use Rattle.rtk_collect.specs.Arrival.{Arrival}
@@ -10,9 +9,8 @@ use Rattle.rtk_collect.proofs.JoinsLemmas.{closed-drop}
 use Rattle.rtk_collect.proofs.LateLemmas.{closed-only-grow, closed-after, stations-are-final}
 use Rattle.rtk_rinex.specs.Header.{PositionView}
 use Rattle.rtk_convert.specs.Setup.{SetupView}
-use Rattle.rtk_convert.specs.File.{record_of, first_time}
 use Rattle.rtk_convert.specs.FilePrefix.{so_far}
-use Rattle.rtk_convert.specs.Steps.ClosedText.{closed_text, closing_text}
+use Rattle.rtk_convert.specs.Steps.ClosedText.{closed_text, closing}
 use Rattle.rtk_convert.specs.FileOfArrivals.{site_of_stations, site_of_kept, file_so_far}
 use Rattle.rtk_convert.proofs.FileLemmas.{so_far-closed, closed-more, closed-grows, closed-none}
 
@@ -48,11 +46,10 @@ so_far-stays s a before h =
 
 -- one that closes an epoch
 pub so_far-closes : (s : SetupView) (a : Arrival) (e : EpochSetView) (before : List Arrival) → closed s.window (a ∷ before) ≡ e ∷ closed s.window before
-    → file_so_far s (a ∷ before) ≡ file_so_far s before
-    ++ closing_text s (site_of_kept s.window (a ∷ before)) e.epoch (is_some (first_time s.heading.listed (closed s.window before))) (record_of s.heading.listed e (closed s.window before))
+    → file_so_far s (a ∷ before) ≡ file_so_far s before ++ closing s (site_of_kept s.window (a ∷ before)) e (closed s.window before)
 so_far-closes s a e before h =
     let site = site_of_kept s.window (a ∷ before) in
-    let more : List ℕ = closing_text s site e.epoch (is_some (first_time s.heading.listed (closed s.window before))) (record_of s.heading.listed e (closed s.window before)) in
+    let more : List ℕ = closing s site e (closed s.window before) in
     so_far-is s (a ∷ before) ∙ ap (closed_text s site) h ∙ closed-more s site e (closed s.window before)
     ∙ ap (λ (x : List ℕ). x ++ more) (text-final s a before ∙ sym (so_far-is s before))
 

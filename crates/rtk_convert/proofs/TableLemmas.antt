@@ -1,4 +1,5 @@
--- The file of a set is the text of a well-formed table, since it is a header and the records of rising epochs.
+-- The file of a set is the text of a well-formed table, since it is a header and the records of
+-- rising epochs.
 use Rattle.std.proofs.Common.{◌≡◌, ℕ, suc, ◌<◌, Bool, true, false, cond, List, [], ◌∷◌, ◌++◌, length, get_or, Option, None, Some, refl, ap, sym, ◌∙◌, arith}
 use Rattle.std.specs.Prelude.{filter, flat_map, All, AllPairs, IfSome, unwrap_or, nat_lt}
 use Rattle.std.proofs.lemmas.Bool.Decides.{nat_tests}
@@ -149,17 +150,17 @@ starts near (e ∷ xs) = refl
 pub file-is_table : FilesAreTables → FileIsTable
 unfolding has_record
 file-is_table law s site epochs settings good_site fall good =
-    let xs : List EpochTableView = tables s.heading.listed epochs in
+    let xs : List EpochTableView = tables s.head.listed epochs in
     let some : List EpochTableView = with_record xs in
     let first : ℕ = unwrap_or (first_of some) s.near in
     let near : IsMoment s.near = let to = settings.1.to in omega arith in
-    let all : All IsEpochTableView xs = all-tables IsEpochTableView s.heading.listed (table-good s.heading.listed) epochs good in
-    let widths : All (λ (e : EpochTableView). HasWidth (length s.heading.listed) e.rows) xs =
-    all-tables (λ (e : EpochTableView). HasWidth (length s.heading.listed) e.rows) s.heading.listed (λ e below g. rows-width (observed_at e below) s.heading.listed) epochs good in
-    let shown = law s.heading site first xs settings.2 good_site (first-moment s.near some near (all-kept IsEpochTableView has_record xs all)) all widths (tables-rise s.heading.listed epochs fall) (starts s.near some) in (
-      shown_table s.heading site first xs,
+    let all : All IsEpochTableView xs = all-tables IsEpochTableView s.head.listed (table-good s.head.listed) epochs good in
+    let widths : All (λ (e : EpochTableView). HasWidth (length s.head.listed) e.rows) xs =
+    all-tables (λ (e : EpochTableView). HasWidth (length s.head.listed) e.rows) s.head.listed (λ e below g. rows-width (observed_at e below) s.head.listed) epochs good in
+    let shown = law s.head site first xs settings.2 good_site (first-moment s.near some near (all-kept IsEpochTableView has_record xs all)) all widths (tables-rise s.head.listed epochs fall) (starts s.near some) in (
+      shown_table s.head site first xs,
       shown.table,
-      ap (λ (o : Option ℕ). header_text s.heading site (unwrap_or o s.near) ++ records s.heading.listed epochs) (first-same s.heading.listed epochs)
-          ∙ ap (λ (text : List ℕ). header_text s.heading site first ++ text) (sym (tables-text s.heading.listed epochs))
+      ap (λ (o : Option ℕ). header_text s.head site (unwrap_or o s.near) ++ records s.head.listed epochs) (first-same s.head.listed epochs)
+          ∙ ap (λ (text : List ℕ). header_text s.head site first ++ text) (sym (tables-text s.head.listed epochs))
           ∙ shown.text,
     )

@@ -35,7 +35,7 @@ pub if_err-map : {T E : Type 0} (r : Result T E) (F : E → Type 0) {P Q : Type 
 if_err-map (Ok x) F f p = tt
 if_err-map (Err e) F f p = λ is. f p
 
--- nothing was written, and nothing was to be
+-- nothing was written, and there was nothing to write
 pub writes-none : (o : Option (List ℕ)) (first second : List ℕ) → second ≡ first → WritesRest o o first second
 writes-none o first second e = ([], e ∙ sym (append-nil first), sym (with_more-nil o))
 
@@ -45,7 +45,7 @@ writes-text before after first second text e w = (text, e, w)
 pub writes-on : (a b c : Option (List ℕ)) (x y z : List ℕ) → WritesRest a b x y → WritesRest b c y z → WritesRest a c x z
 writes-on a b c x y z p q = (p.0 ++ q.0, q.1 ∙ ap (λ t. t ++ q.0) p.1 ∙ append_assoc x p.0 q.0, q.2 ∙ ap (λ t. with_more t q.0) p.2 ∙ with_more-with_more a p.0 q.0)
 
--- a part of the text that was to be
+-- a part of the text was written
 pub part-text : (before after : Option (List ℕ)) (first second text : List ℕ) → second ≡ first ++ text → TakesPart before after text → WritesPartOfRest before after first second
 part-text before after first second text e g = (take g.0 text, drop g.0 text, e ∙ ap (λ t. first ++ t) (sym (take-append-drop g.0 text)), g.2)
 
@@ -58,7 +58,7 @@ part-all before after first second w = (w.0, [], w.1 ∙ ap (λ t. first ++ t) (
 pub takes-none : (o : Option (List ℕ)) (text : List ℕ) → TakesPart o o text
 takes-none o text = (0, omega arith, sym (with_more-nil o))
 
--- a part of a text is one of a longer text
+-- a part of a text is a part of a longer text
 pub part-longer : (before after : Option (List ℕ)) (first second third rest : List ℕ) → third ≡ second ++ rest → WritesPartOfRest before after first second → WritesPartOfRest before after first third
 part-longer before after first second third rest e p =
     (p.0, p.1 ++ rest, e ∙ ap (λ t. t ++ rest) p.2 ∙ append_assoc first (p.0 ++ p.1) rest ∙ ap (λ t. first ++ t) (append_assoc p.0 p.1 rest), p.3)

@@ -12,7 +12,7 @@ use Rattle.rtk_convert.specs.FrameClass.{IsClassOfPayload, Found, arrivals}
 use Rattle.rtk_convert.specs.Setup.{SetupView, IsSetupView}
 use Rattle.rtk_convert.specs.Conversion.{found_on, AddsToOne}
 
--- two lists of consistent arrivals with one set of those in time have one file
+-- two lists of consistent arrivals with the same arrivals in time have the same file
 abbrev pub OneSetHasOneFile : Type 0
 OneSetHasOneFile =
     (s : SetupView) (first second : List Arrival) → IsConsistent s.window first → IsConsistent s.window second
@@ -25,7 +25,8 @@ LateLeaveFile = (s : SetupView) (before : List Arrival) → kept_file s (without
 abbrev pub Begins : List ℕ → List ℕ → Type 0
 Begins text whole = (rest : List ℕ) × (whole ≡ text ++ rest)
 
--- what is out so far begins what is out after further arrivals, and their whole file
+-- the file so far begins the file so far after more arrivals, and the whole file of all these
+-- arrivals
 abbrev pub SoFarBegins : Type 0
 SoFarBegins =
     (s : SetupView) (later before : List Arrival) → Begins (file_so_far s before) (file_so_far s (later ++ before))
@@ -34,7 +35,7 @@ SoFarBegins =
 -- once a closed epoch has a record the header stays
 abbrev pub HeaderIsFinal : Type 0
 HeaderIsFinal =
-    (s : SetupView) (a : Arrival) (before : List Arrival) (t : ℕ) → first_time s.heading.listed (closed s.window before) ≡ Some t
+    (s : SetupView) (a : Arrival) (before : List Arrival) (t : ℕ) → first_time s.head.listed (closed s.window before) ≡ Some t
     → header_of s (site_of_kept s.window (a ∷ before)) (kept s.window (a ∷ before)) ≡ header_of s (site_of_kept s.window before) (kept s.window before)
 
 abbrev pub and_if_arrived : Found → FrameClass → List Found → List Found
@@ -43,21 +44,22 @@ and_if_arrived f (Refused fault) before = before
 and_if_arrived f Foreign before = before
 and_if_arrived f (Dated a) before = f ∷ before
 
--- without frames that hold another message, are refused or come from another station
+-- the found frames that are dated messages of the chosen station, without all others
 abbrev pub only_arrived : List Found → List Found
 only_arrived [] = []
-only_arrived (f ∷ before) = and_if_arrived f f.finding (only_arrived before)
+only_arrived (f ∷ before) = and_if_arrived f f.class (only_arrived before)
 
--- with these deleted the arrivals are the same, and so is the file
+-- with all others deleted the arrivals are the same, and so is the file
 abbrev pub OthersLeaveFile : Type 0
 OthersLeaveFile =
     (s : SetupView) (found : List Found) → (arrivals (only_arrived found) ≡ arrivals found) × (kept_file s (arrivals (only_arrived found)) ≡ kept_file s (arrivals found))
 
--- a found frame has a payload that comes to its finding
+-- a found frame has a payload of its class
 abbrev pub HasPayload : SetupView → Found → Type 0
-HasPayload s f = (payload : List ℕ) × IsClassOfPayload s payload f.finding
+HasPayload s f = (payload : List ℕ) × IsClassOfPayload s payload f.class
 
--- the file of found frames, whatever their payloads, is the text of a well-formed table, which the checker accepts
+-- the file of found frames, whatever their payloads, is the text of a well-formed table, which the
+-- checker accepts
 abbrev pub KeptFileIsTable : Type 0
 KeptFileIsTable =
     (s : SetupView) (found : List Found) → IsSetupView s → All (HasPayload s) found → IsTextOfTable (kept_file s (arrivals found))

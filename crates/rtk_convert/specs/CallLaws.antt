@@ -1,5 +1,6 @@
--- The promise for any list of calls, and what they write, by the contracts of `feed`, `close` and `finish`.
-use Rattle.std.specs.Prelude.{◌≡◌, ◌⊎◌, ℕ, List, [], ◌∷◌, Option, None, Some}
+-- The promise for any list of calls, and what they write, by the contracts of `feed`, `close` and
+-- `finish`.
+use Rattle.std.specs.Prelude.{◌≡◌, ◌⊎◌, ℕ, List, [], ◌∷◌, None, Some}
 use Rattle.rtk_convert.specs.declared.counts.Counts.{Counts}
 use Rattle.rtk_convert.specs.declared.fault.ConvertFault.TheVariants.{NoLink, LinkClosed}
 use Rattle.rtk_convert.specs.Converter.{ConverterView, RepresentsHistory, refusal, FeedsPiece, ClosesLink, FinishesConverter}
@@ -9,51 +10,50 @@ use Rattle.rtk_convert.specs.FrameClass.{Found, arrivals}
 use Rattle.rtk_convert.specs.Headline.{Call, Feed, Close, FindAll, Headline, WritesKept}
 use Rattle.rtk_convert.specs.History.{new_history}
 use Rattle.rtk_convert.specs.Setup.{SetupView, IsSetupView}
+use Rattle.rtk_convert.specs.Writing.{Written}
 
--- a call is refused, since there is no such link or it is closed, and nothing comes of it
-pub record IsRefused (old : ConverterView) (link : ℕ) (new : ConverterView) (out_old out_new log_old log_new : Option (List ℕ)) : Type 0 where
+-- a call is refused, since the link doesn't exist or is closed, and nothing comes of it
+pub record IsRefused (old : ConverterView) (link : ℕ) (new : ConverterView) (written_old written_new : Written) : Type 0 where
   pub why : (refusal old link ≡ Some NoLink) ⊎ (refusal old link ≡ Some LinkClosed)
   pub same : new ≡ old
-  pub out : out_new ≡ out_old
-  pub log : log_new ≡ log_old
+  pub written : written_new ≡ written_old
 
--- a call is answered Ok, or refused so
-abbrev pub IsAnswered : ConverterView → Call → ConverterView → Option (List ℕ) → Option (List ℕ) → Option (List ℕ) → Option (List ℕ) → Type 0
-IsAnswered old (Feed link piece) new out_old out_new log_old log_new =
-    ((refusal old link ≡ None) × FeedsPiece old link piece new out_old out_new log_old log_new) ⊎ IsRefused old link new out_old out_new log_old log_new
-IsAnswered old (Close link) new out_old out_new log_old log_new =
-    ((refusal old link ≡ None) × ClosesLink old link new out_old out_new log_old log_new) ⊎ IsRefused old link new out_old out_new log_old log_new
+-- a call is answered Ok, or it is refused in this way
+abbrev pub IsAnswered : ConverterView → Call → ConverterView → Written → Written → Type 0
+IsAnswered old (Feed link piece) new written_old written_new =
+    ((refusal old link ≡ None) × FeedsPiece old link piece new written_old written_new) ⊎ IsRefused old link new written_old written_new
+IsAnswered old (Close link) new written_old written_new =
+    ((refusal old link ≡ None) × ClosesLink old link new written_old written_new) ⊎ IsRefused old link new written_old written_new
 
--- so are all calls of a list, newest first, one after another on this converter
-abbrev pub AreAnswered : ConverterView → List Call → ConverterView → Option (List ℕ) → Option (List ℕ) → Option (List ℕ) → Option (List ℕ) → Type 0
-AreAnswered first [] now out_old out_new log_old log_new = (now ≡ first) × (out_new ≡ out_old) × (log_new ≡ log_old)
-AreAnswered first (call ∷ before) now out_old out_new log_old log_new =
-    (mid : ConverterView) × (out : Option (List ℕ)) × (log : Option (List ℕ)) × AreAnswered first before mid out_old out log_old log
-    × IsAnswered mid call now out out_new log log_new × (now.conversion.settings ≡ mid.conversion.settings)
+-- all calls of a list, newest first, are answered so, one after another on this converter
+abbrev pub AreAnswered : ConverterView → List Call → ConverterView → Written → Written → Type 0
+AreAnswered first [] now written_old written_new = (now ≡ first) × (written_new ≡ written_old)
+AreAnswered first (call ∷ before) now written_old written_new =
+    (mid : ConverterView) × (written_mid : Written) × AreAnswered first before mid written_old written_mid
+    × IsAnswered mid call now written_mid written_new × (now.conversion.settings ≡ mid.conversion.settings)
 
 -- any calls on a new converter, and then its end, which answers the counts
-pub record IsConversionBy (s : SetupView) (links : ℕ) (calls : List Call) (counts : Counts) (out_old out_new log_old log_new : Option (List ℕ)) : Type 0 where
+pub record IsConversionBy (s : SetupView) (links : ℕ) (calls : List Call) (counts : Counts) (written_old written_new : Written) : Type 0 where
   pub first : ConverterView
   pub now : ConverterView
-  pub out : Option (List ℕ)
-  pub log : Option (List ℕ)
+  pub written_mid : Written
   pub is_new : RepresentsHistory first (new_history links)
   pub settings : first.conversion.settings ≡ s
-  pub answered : AreAnswered first calls now out_old out log_old log
-  pub ended : FinishesConverter now counts out out_new log log_new
+  pub answered : AreAnswered first calls now written_old written_mid
+  pub ended : FinishesConverter now counts written_mid written_new
 
--- they keep the promise
+-- such calls keep the promise
 abbrev pub CallsKeepPromise : Type 0
 CallsKeepPromise =
-    (s : SetupView) (links : ℕ) (calls : List Call) (counts : Counts) (out_old out_new log_old log_new : Option (List ℕ))
-    → IsConversionBy s links calls counts out_old out_new log_old log_new → Headline s links calls out_old out_new log_old log_new
+    (s : SetupView) (links : ℕ) (calls : List Call) (counts : Counts) (written_old written_new : Written)
+    → IsConversionBy s links calls counts written_old written_new → Headline s links calls written_old written_new
 
 -- such calls write what is kept
 abbrev pub CallsWriteKept : Type 0
 CallsWriteKept =
-    (s : SetupView) (links : ℕ) (calls : List Call) (counts : Counts) (out_old out_new log_old log_new : Option (List ℕ))
-    → IsConversionBy s links calls counts out_old out_new log_old log_new → WritesKept s links calls counts out_old out_new log_old log_new
+    (s : SetupView) (links : ℕ) (calls : List Call) (counts : Counts) (written_old written_new : Written)
+    → IsConversionBy s links calls counts written_old written_new → WritesKept s links calls counts written_old written_new
 
--- of good settings, the file of all frames that any calls find is the text of a well-formed table
+-- with a good setup the file of all frames that any calls find is the text of a well-formed table
 abbrev pub CallsComeToTable : Type 0
 CallsComeToTable = (s : SetupView) (links : ℕ) (calls : List Call) (found : List Found) → IsSetupView s → FindAll s links calls found → IsTextOfTable (kept_file s (arrivals found))

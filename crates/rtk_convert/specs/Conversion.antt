@@ -25,32 +25,34 @@ pub record ConversionView : Type 0 where
   -- a call broke off
   pub stopped : Bool
 
--- a conversion represents these found frames: its window holds what is kept of their arrivals, and it has the last
--- phases of the closed epochs, whether the header is out, how many records are, and the counts of the frames
+-- a conversion represents these found frames: its window holds what is kept of their arrivals; it
+-- knows the last phases of the closed epochs, whether the header is written, and how many records
+-- are; and it has the counts of the frames
 pub record RepresentsFound (s : ConversionView) (found : List Found) : Type 0 where
   pub window : RepresentsArrivals s.window (arrivals found)
-  pub closed : HasClosed s.closed s.settings.heading.listed (closed s.settings.window (arrivals found))
+  pub closed : HasClosed s.closed s.settings.head.listed (closed s.settings.window (arrivals found))
   pub counts : s.counts ≡ frame_counts s.settings.window found
 
--- of a satellite and code: it has a last phase only once the window is full, and then one below all of its epochs
+-- a satellite and code have a last phase only once the window is full, and then of an epoch below
+-- all open ones
 abbrev pub IsUnder : Option Track → CollectorView → Type 0
 IsUnder None w = Unit {0}
 IsUnder (Some t) w = (length w.sets ≡ w.size) × All (λ x. t.epoch < x.epoch) w.sets
 
--- all last phases are below the window
+-- all last phases are of epochs below the window
 abbrev pub IsAhead : CollectorView → RecordsView → Type 0
 IsAhead w c = (satellite : ℕ) (code : Code) → IsSatellite satellite → IsUnder (track_at c.tracks satellite code) w
 
--- the window has the places that were set up, and at most as many epochs; unless a call broke off it is ahead of the last
--- phases
+-- the window has as many places as the setup says, and no more epochs than places; and unless a
+-- call broke off all last phases are of epochs below it
 pub record IsConversionView (s : ConversionView) : Type 0 where
   pub places : s.window.size ≡ s.settings.window
   pub few : length s.window.sets ≤ s.window.size
   pub ahead : s.stopped ≡ false → IsAhead s.window s.closed
 
 abbrev pub found_on : ℕ → FrameClass → Found
-found_on link f = record { link = link; finding = f }
+found_on link f = record { link = link; class = f }
 
--- of what a frame adds to the file so far and to the lines, one at least is empty
+-- a frame adds to the file or to the lines, never to both
 abbrev pub AddsToOne : SetupView → Found → List Found → Type 0
 AddsToOne s f before = (file_so_far s (arrivals (f ∷ before)) ≡ file_so_far s (arrivals before)) ⊎ (lines s.window (f ∷ before) ≡ lines s.window before)

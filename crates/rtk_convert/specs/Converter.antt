@@ -15,7 +15,7 @@ use Rattle.rtk_convert.specs.History.{LinkPast, History, Finds, IsOpen, IsAfterF
 use Rattle.rtk_convert.specs.Report.{lines}
 use Rattle.rtk_convert.specs.Setup.{SetupView}
 use Rattle.rtk_convert.specs.Conversion.{ConversionView, found_on, RepresentsFound}
-use Rattle.rtk_convert.specs.Writing.{WritesRest}
+use Rattle.rtk_convert.specs.Writing.{Written, WritesRest}
 
 pub record ConverterView : Type 0 where
   -- what all links together have come to
@@ -26,7 +26,8 @@ pub record ConverterView : Type 0 where
 abbrev pub IsLinkCount : ℕ → Type 0
 IsLinkCount n = IsInRange 1 16 n
 
--- a converter has 1 to 16 links, of each at most the bytes of the longest frame, and at most as many epochs as were set up
+-- a converter has 1 to 16 links, each holds at most the bytes of the longest frame, and at most as
+-- many epochs are open as the setup says
 pub record IsConverterView (c : ConverterView) : Type 0 where
   pub few : IsLinkCount (length c.links)
   pub short : All (λ l. length l.scanner.pending ≤ 1029) c.links
@@ -40,8 +41,8 @@ link_refusal (Some l) = if l.scanner.ended then Some LinkClosed else None
 abbrev pub refusal : ConverterView → ℕ → Option ConvertFault
 refusal c link = if c.conversion.stopped then Some Stopped else link_refusal (slice_get c.links link)
 
--- a link is open or closed as its past is; while it is open it holds the bytes that wait for more; and it has the newest
--- epoch that came on it
+-- a link represents its past: it is closed exactly if that is closed; while it is open it holds the
+-- bytes that wait for more; and it has the newest epoch that came on it
 pub record RepresentsLink (l : Link) (p : LinkPast) (number : ℕ) (found : List Found) : Type 0 where
   pub closed : l.scanner.ended ≡ p.is_closed
   pub waiting : p.is_closed ≡ false → l.scanner.pending ≡ pending p.fed
@@ -60,102 +61,105 @@ pub record RepresentsHistory (c : ConverterView) (h : History) : Type 0 where
   pub links : RepresentLinks c.links h.links 0 h.found
   pub found : RepresentsFound c.conversion h.found
 
--- what a converter holds: of each link at most the bytes of the longest frame; at most as many open epochs as the setup
--- says; and unless a call broke off, of each of these at most 1,024 cells: 32 satellites, 16 codes, 2 kinds of message
+-- what a converter holds: of each link at most the bytes of the longest frame; at most as many open
+-- epochs as the setup says; and unless a call broke off, of each of these at most 1,024 cells: 32
+-- satellites, 16 codes, 2 kinds of message
 pub record HoldsAtMost (c : ConverterView) : Type 0 where
   pub bytes : All (λ l. length l.scanner.pending ≤ 1029) c.links
   pub epochs : length c.conversion.window.sets ≤ c.conversion.settings.window
   pub cells : (h : History) → RepresentsHistory c h → All (λ e. length e.cells ≤ 1024) c.conversion.window.sets
 
--- what was written is the rest of the file so far and of the lines: what they have now and did not have before
-pub record WritesOn (s : SetupView) (before after : List Found) (out_old out_new log_old log_new : Option (List ℕ)) : Type 0 where
-  pub out : WritesRest out_old out_new (file_so_far s (arrivals before)) (file_so_far s (arrivals after))
-  pub log : WritesRest log_old log_new (lines s.window before) (lines s.window after)
+-- what the frames after `before` add to the file and to the lines was written
+pub record WritesOn (s : SetupView) (before after : List Found) (written_old written_new : Written) : Type 0 where
+  pub out : WritesRest written_old.file written_new.file (file_so_far s (arrivals before)) (file_so_far s (arrivals after))
+  pub log : WritesRest written_old.report written_new.report (lines s.window before) (lines s.window after)
 
--- a piece more on a link, whatever the history was
-abbrev pub FeedsPiece : ConverterView → ℕ → List ℕ → ConverterView → Option (List ℕ) → Option (List ℕ) → Option (List ℕ) → Option (List ℕ) → Type 0
-FeedsPiece old link piece new out_old out_new log_old log_new = (h : History) → RepresentsHistory old h
+-- one more piece is fed on a link, whatever the history was
+abbrev pub FeedsPiece : ConverterView → ℕ → List ℕ → ConverterView → Written → Written → Type 0
+FeedsPiece old link piece new written_old written_new = (h : History) → RepresentsHistory old h
     → (next : History) × IsAfterFeed old.conversion.settings h link piece next × RepresentsHistory new next
-    × WritesOn old.conversion.settings h.found next.found out_old out_new log_old log_new
+    × WritesOn old.conversion.settings h.found next.found written_old written_new
 
--- a link closed, whatever the history was
-abbrev pub ClosesLink : ConverterView → ℕ → ConverterView → Option (List ℕ) → Option (List ℕ) → Option (List ℕ) → Option (List ℕ) → Type 0
-ClosesLink old link new out_old out_new log_old log_new = (h : History) → RepresentsHistory old h
+-- a link is closed, whatever the history was
+abbrev pub ClosesLink : ConverterView → ℕ → ConverterView → Written → Written → Type 0
+ClosesLink old link new written_old written_new = (h : History) → RepresentsHistory old h
     → (next : History) × IsAfterClose old.conversion.settings h link next × RepresentsHistory new next
-    × WritesOn old.conversion.settings h.found next.found out_old out_new log_old log_new
+    × WritesOn old.conversion.settings h.found next.found written_old written_new
 
--- the first text begins the second, and the second the third: what was written is the rest of the second, and then a
--- first part of the rest of the third
+-- the first text begins the second, and the second the third: what was written is the rest of the
+-- second, and then a first part of the rest of the third
 abbrev pub WritesInto : Option (List ℕ) → Option (List ℕ) → List ℕ → List ℕ → List ℕ → Type 0
 WritesInto before after first second third = (more : List ℕ) × (part : List ℕ) × (rest : List ℕ)
     × (second ≡ first ++ more) × (third ≡ second ++ (part ++ rest)) × (after ≡ with_more before (more ++ part))
 
--- a call breaks off at one of the frames that it finds after those before: what was written since there were those first
--- is what all frames up to this one add, and a first part of what this one adds
-pub record BreaksOffAfter (s : SetupView) (link : ℕ) (payloads : List (List ℕ)) (first before : List Found) (out_old out_new log_old log_new : Option (List ℕ)) : Type 0 where
+-- a call breaks off at one of the frames that it finds after the frames `before`. Since the frames
+-- `first` were found, all that was added up to this frame was written, and a first part of what
+-- this frame adds.
+pub record BreaksOffAfter (s : SetupView) (link : ℕ) (payloads : List (List ℕ)) (first before : List Found) (written_old written_new : Written) : Type 0 where
   pub done : List (List ℕ)
   pub payload : List ℕ
   pub left : List (List ℕ)
   pub split : payloads ≡ done ++ payload ∷ left
   pub found : List Found
   pub finds : Finds s link done before found
-  pub finding : FrameClass
-  pub comes : IsClassOfPayload s payload finding
-  pub out : WritesInto out_old out_new (file_so_far s (arrivals first)) (file_so_far s (arrivals found)) (file_so_far s (arrivals (found_on link finding ∷ found)))
-  pub log : WritesInto log_old log_new (lines s.window first) (lines s.window found) (lines s.window (found_on link finding ∷ found))
+  pub class : FrameClass
+  pub comes : IsClassOfPayload s payload class
+  pub out : WritesInto written_old.file written_new.file (file_so_far s (arrivals first)) (file_so_far s (arrivals found)) (file_so_far s (arrivals (found_on link class ∷ found)))
+  pub log : WritesInto written_old.report written_new.report (lines s.window first) (lines s.window found) (lines s.window (found_on link class ∷ found))
 
-abbrev pub BreaksOffAt : SetupView → ℕ → List (List ℕ) → List Found → Option (List ℕ) → Option (List ℕ) → Option (List ℕ) → Option (List ℕ) → Type 0
-BreaksOffAt s link payloads before out_old out_new log_old log_new = BreaksOffAfter s link payloads before before out_old out_new log_old log_new
+abbrev pub BreaksOffAt : SetupView → ℕ → List (List ℕ) → List Found → Written → Written → Type 0
+BreaksOffAt s link payloads before written_old written_new = BreaksOffAfter s link payloads before before written_old written_new
 
--- a piece breaks off, whatever the history was
-abbrev pub FeedsPieceInPart : ConverterView → ℕ → List ℕ → Option (List ℕ) → Option (List ℕ) → Option (List ℕ) → Option (List ℕ) → Type 0
-FeedsPieceInPart old link piece out_old out_new log_old log_new = (h : History) → RepresentsHistory old h
-    → BreaksOffAt old.conversion.settings link (found_by_piece (fed_on link h.links) piece) h.found out_old out_new log_old log_new
+-- feeding a piece breaks off, whatever the history was
+abbrev pub FeedsPieceInPart : ConverterView → ℕ → List ℕ → Written → Written → Type 0
+FeedsPieceInPart old link piece written_old written_new = (h : History) → RepresentsHistory old h
+    → BreaksOffAt old.conversion.settings link (found_by_piece (fed_on link h.links) piece) h.found written_old written_new
 
--- the closing of a link breaks off
-abbrev pub ClosesLinkInPart : ConverterView → ℕ → Option (List ℕ) → Option (List ℕ) → Option (List ℕ) → Option (List ℕ) → Type 0
-ClosesLinkInPart old link out_old out_new log_old log_new = (h : History) → RepresentsHistory old h
-    → BreaksOffAt old.conversion.settings link (found_by_close (fed_on link h.links)) h.found out_old out_new log_old log_new
+-- closing a link breaks off, whatever the history was
+abbrev pub ClosesLinkInPart : ConverterView → ℕ → Written → Written → Type 0
+ClosesLinkInPart old link written_old written_new = (h : History) → RepresentsHistory old h
+    → BreaksOffAt old.conversion.settings link (found_by_close (fed_on link h.links)) h.found written_old written_new
 
 -- ---- the end
 
--- a link closed, if it is open
+-- a link is closed if it is open
 abbrev pub IsAfterClosing : SetupView → History → ℕ → History → Type 0
 IsAfterClosing s h link next = (IsOpen h link × IsAfterClose s h link next) ⊎ ((IsOpen h link → ⊥) × (next ≡ h))
 
--- the first n links closed, the lower first
+-- the first n links are closed if they are open, the lower number first
 abbrev pub IsAfterClosingAll : SetupView → History → ℕ → History → Type 0
 IsAfterClosingAll s h zero next = next ≡ h
 IsAfterClosingAll s h (suc n) next = (mid : History) × IsAfterClosingAll s h n mid × IsAfterClosing s mid n next
 
 -- the end of a converter: its open links are closed, the file and the report are whole
-pub record FinishesConverterAs (s : SetupView) (h last : History) (counts : Counts) (out_old out_new log_old log_new : Option (List ℕ)) : Type 0 where
+pub record FinishesConverterAs (s : SetupView) (h last : History) (counts : Counts) (written_old written_new : Written) : Type 0 where
   pub closed : IsAfterClosingAll s h (length h.links) last
   pub counts_are : counts ≡ all_counts s last.found
-  pub out : WritesRest out_old out_new (file_so_far s (arrivals h.found)) (kept_file s (arrivals last.found))
-  pub log : WritesRest log_old log_new (lines s.window h.found) (report_of s last.found)
+  pub out : WritesRest written_old.file written_new.file (file_so_far s (arrivals h.found)) (kept_file s (arrivals last.found))
+  pub log : WritesRest written_old.report written_new.report (lines s.window h.found) (report_of s last.found)
 
--- whatever the history was
-abbrev pub FinishesConverter : ConverterView → Counts → Option (List ℕ) → Option (List ℕ) → Option (List ℕ) → Option (List ℕ) → Type 0
-FinishesConverter old counts out_old out_new log_old log_new = (h : History) → RepresentsHistory old h
-    → (last : History) × FinishesConverterAs old.conversion.settings h last counts out_old out_new log_old log_new
+-- the same, whatever the history was
+abbrev pub FinishesConverter : ConverterView → Counts → Written → Written → Type 0
+FinishesConverter old counts written_old written_new = (h : History) → RepresentsHistory old h
+    → (last : History) × FinishesConverterAs old.conversion.settings h last counts written_old written_new
 
--- the end breaks off at a frame of a link that it closes: those below are closed
-pub record BreaksOffClosing (s : SetupView) (h : History) (link : ℕ) (out_old out_new log_old log_new : Option (List ℕ)) : Type 0 where
+-- the end breaks off at a frame of a link that it closes: the links of lower numbers are closed
+pub record BreaksOffClosing (s : SetupView) (h : History) (link : ℕ) (written_old written_new : Written) : Type 0 where
   pub mid : History
   pub closed : IsAfterClosingAll s h link mid
   pub is_open : IsOpen mid link
-  pub breaks : BreaksOffAfter s link (found_by_close (fed_on link mid.links)) h.found mid.found out_old out_new log_old log_new
+  pub breaks : BreaksOffAfter s link (found_by_close (fed_on link mid.links)) h.found mid.found written_old written_new
 
--- or once all are closed: what is out lies between the file so far and the file
-pub record BreaksOffFinishing (s : SetupView) (h : History) (out_old out_new log_old log_new : Option (List ℕ)) : Type 0 where
+-- the end breaks off once all links are closed: what is written lies between the file so far and
+-- the file
+pub record BreaksOffFinishing (s : SetupView) (h : History) (written_old written_new : Written) : Type 0 where
   pub last : History
   pub closed : IsAfterClosingAll s h (length h.links) last
-  pub out : WritesInto out_old out_new (file_so_far s (arrivals h.found)) (file_so_far s (arrivals last.found)) (kept_file s (arrivals last.found))
-  pub log : WritesInto log_old log_new (lines s.window h.found) (lines s.window last.found) (report_of s last.found)
+  pub out : WritesInto written_old.file written_new.file (file_so_far s (arrivals h.found)) (file_so_far s (arrivals last.found)) (kept_file s (arrivals last.found))
+  pub log : WritesInto written_old.report written_new.report (lines s.window h.found) (lines s.window last.found) (report_of s last.found)
 
--- whatever the history was
-abbrev pub FinishesConverterInPart : ConverterView → Option (List ℕ) → Option (List ℕ) → Option (List ℕ) → Option (List ℕ) → Type 0
-FinishesConverterInPart old out_old out_new log_old log_new = (h : History) → RepresentsHistory old h
-    → ((link : ℕ) × BreaksOffClosing old.conversion.settings h link out_old out_new log_old log_new)
-    ⊎ BreaksOffFinishing old.conversion.settings h out_old out_new log_old log_new
+-- the same, whatever the history was
+abbrev pub FinishesConverterInPart : ConverterView → Written → Written → Type 0
+FinishesConverterInPart old written_old written_new = (h : History) → RepresentsHistory old h
+    → ((link : ℕ) × BreaksOffClosing old.conversion.settings h link written_old written_new)
+    ⊎ BreaksOffFinishing old.conversion.settings h written_old written_new

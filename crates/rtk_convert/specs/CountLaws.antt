@@ -14,6 +14,6 @@ pub record AreCountsOf (frames : ℕ) (c : Counts) : Type 0 where
   pub frames_are : c.frames ≡ frames
   pub classes_are : in_classes c ≡ frames
 
--- and the counts of found frames are such, if a count can hold their number
+-- the counts of found frames are such counts, if a count can hold the number of the frames
 abbrev pub EachFrameInOneClass : Type 0
 EachFrameInOneClass = (s : SetupView) (found : List Found) → length found < 2 ^ 64 → AreCountsOf (length found) (all_counts s found)

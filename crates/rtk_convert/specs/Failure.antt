@@ -20,12 +20,13 @@ IsReadingFault (Read link) = Unit {0}
 IsReadingFault Endless = Unit {0}
 IsReadingFault _ = ⊥
 
--- the number of readers is no good one, or one of these
+-- the number of readers is not 1 to 16, or one of these faults
 abbrev pub IsRunFault : ConvertFault → Type 0
 IsRunFault Setup = Unit {0}
 IsRunFault fault = IsReadingFault fault
 
--- the count of a stream's failed writes after a call with this fault: it has risen if the fault names the stream
+-- a call had this fault: the count of a stream's failed writes has risen if the fault names the
+-- stream, else it is unchanged
 abbrev pub FailsWrites : Stream → ConvertFault → ℕ → ℕ → Type 0
 FailsWrites Out (Write Out) before after = CountRises before after
 FailsWrites Log (Write Log) before after = CountRises before after

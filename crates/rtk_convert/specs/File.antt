@@ -1,5 +1,5 @@
--- The file of a set of messages, defined from the set at once. A set is seen as the site of its station and its epochs, which
--- fall: after an epoch, with its cells, come the lower ones.
+-- The file of a set of messages, defined from the whole set. A set is seen as the position of its
+-- station and its epochs with their cells. The epochs fall: the greatest stands first.
 use Rattle.std.specs.Prelude.{ℕ, List, [], ◌∷◌, ◌++◌, Option, None, Some, unwrap_or}
 use Rattle.rtk_obs.specs.declared.code.Code.{Code}
 use Rattle.rtk_frame.specs.Stream.{count_after}
@@ -9,8 +9,8 @@ use Rattle.rtk_rinex.specs.Record.{record_text}
 use Rattle.rtk_convert.specs.Rows.{table_of}
 use Rattle.rtk_convert.specs.Setup.{SetupView}
 
--- the record of an epoch, given the epochs below it; empty where no listed observation is written
--- (a phase may be rolled to 0 or outside the limits, so this depends on the epochs below)
+-- the record of an epoch, given the epochs below it; empty if no listed observation is written (a
+-- phase may be rolled to 0 or outside the limits, so this depends on the epochs below)
 abbrev pub record_of : List Code → EpochSetView → List EpochSetView → List ℕ
 record_of listed e below = record_text (table_of listed e below)
 
@@ -19,7 +19,8 @@ unfoldable pub records : List Code → List EpochSetView → List ℕ
 records listed [] = []
 records listed (e ∷ below) = records listed below ++ record_of listed e below
 
--- the time before, if there is one; else the time of an epoch with this record, unless the record is empty
+-- the first time after one more epoch: the one before, if there is one; else the time of this
+-- epoch, unless its record is empty
 abbrev pub first_or : Option ℕ → ℕ → List ℕ → Option ℕ
 first_or (Some first) epoch text = Some first
 first_or None epoch [] = None
@@ -32,11 +33,11 @@ first_time listed (e ∷ below) = first_or (first_time listed below) e.epoch (re
 
 -- the header: its first time is the time of the first record; without a record it is the reference
 abbrev pub header_of : SetupView → PositionView → List EpochSetView → List ℕ
-header_of s site epochs = header_text s.heading site (unwrap_or (first_time s.heading.listed epochs) s.near)
+header_of s site epochs = header_text s.head site (unwrap_or (first_time s.head.listed epochs) s.near)
 
 -- the file: the header, then the records of all epochs, rising
 abbrev pub file_of : SetupView → PositionView → List EpochSetView → List ℕ
-file_of s site epochs = header_of s site epochs ++ records s.heading.listed epochs
+file_of s site epochs = header_of s site epochs ++ records s.head.listed epochs
 
 abbrev pub one_more_if_any : List ℕ → ℕ → ℕ
 one_more_if_any [] n = n

@@ -13,11 +13,11 @@ pub record IsGoodEpoch (e : EpochSetView) : Type 0 where
   pub time : IsMoment e.epoch
   pub cells : All IsInRange e.cells
 
--- it is the text of a well-formed table, which the checker accepts
+-- this is the text of a well-formed table, which the checker accepts
 abbrev pub IsTextOfTable : List ℕ → Type 0
 IsTextOfTable text = (t : WellFormedTable) × IsWellFormedTable t × (text ≡ table_text t)
 
--- so is the file of every set
+-- the file of every set is such a text
 abbrev pub FileIsTable : Type 0
 FileIsTable =
     (s : SetupView) (site : PositionView) (epochs : List EpochSetView) → IsSetupView s → IsPositionView site → EpochsFall epochs → All IsGoodEpoch epochs

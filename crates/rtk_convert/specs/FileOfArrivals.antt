@@ -1,4 +1,5 @@
--- The file of what is kept of arrivals, newest first, and what of it is out so far.
+-- The file of the arrivals that are kept, and the part of it that is written so far. Lists of
+-- arrivals are newest first.
 use Rattle.std.specs.Prelude.{ℕ, pos, List, Option, Some}
 use Rattle.rtk_message.specs.declared.message.Message.{Message}
 use Rattle.rtk_message.specs.declared.message.Message.TheVariants.{Arp1005, Arp1006}
@@ -9,7 +10,7 @@ use Rattle.rtk_convert.specs.Setup.{SetupView}
 use Rattle.rtk_convert.specs.File.{file_of}
 use Rattle.rtk_convert.specs.FilePrefix.{so_far}
 
--- zeros
+-- the position if no station message came: zeros
 abbrev pub no_site : PositionView
 no_site = record { x = pos 0; y = pos 0; z = pos 0; height = 0 }
 
@@ -18,20 +19,21 @@ abbrev pub site_of_1005 : Option Message → PositionView
 site_of_1005 (Some (Arp1005 m)) = record { x = m.x; y = m.y; z = m.z; height = 0 }
 site_of_1005 _ = no_site
 
--- the position and height of the 1006 (DF025 to DF028), else the position of the 1005, else zeros (this project's rule)
+-- the position and height of the 1006 (DF025 to DF028), else the position of the 1005, else zeros
+-- (this project's rule)
 abbrev pub site_of_stations : Option Message → Option Message → PositionView
 site_of_stations arp1005 (Some (Arp1006 m)) = record { x = m.x; y = m.y; z = m.z; height = m.height }
 site_of_stations arp1005 _ = site_of_1005 arp1005
 
--- by the station messages that are kept
+-- the position by the station messages that are kept
 abbrev pub site_of_kept : ℕ → List Arrival → PositionView
 site_of_kept n arrivals = site_of_stations (station n 1005 arrivals) (station n 1006 arrivals)
 
--- the file of what is kept of the arrivals
+-- the file of what is kept of these arrivals
 abbrev pub kept_file : SetupView → List Arrival → List ℕ
 kept_file s arrivals = file_of s (site_of_kept s.window arrivals) (kept s.window arrivals)
 
--- what of it is out once these arrivals have come: nothing until a closed epoch has a record, then the header and the
--- records of the closed epochs
+-- the part of it that is written once these arrivals have come: nothing until a closed epoch has a
+-- record; then the header and the records of the closed epochs
 abbrev pub file_so_far : SetupView → List Arrival → List ℕ
 file_so_far s arrivals = so_far s (site_of_kept s.window arrivals) (kept s.window arrivals) (closed s.window arrivals)

@@ -10,7 +10,7 @@ use Rattle.rtk_convert.specs.Setup.{SetupView}
 
 -- the counts of all found frames, and the count of the records of the file
 abbrev pub all_counts : SetupView → List Found → Counts
-all_counts s found = record (frame_counts s.window found) { epochs = record_count s.heading.listed (kept s.window (arrivals found)) }
+all_counts s found = record (frame_counts s.window found) { epochs = record_count s.head.listed (kept s.window (arrivals found)) }
 
 -- the report of all found frames: their lines, then the counts
 abbrev pub report_of : SetupView → List Found → List ℕ

@@ -1,4 +1,4 @@
--- What the payload of a frame is to a conversion.
+-- What the payload of a frame means for a conversion.
 use Rattle.std.specs.Prelude.{◌≡◌, ◌≢◌, ℕ, List, [], ◌∷◌, Option, None, Some, Result, Ok, Err}
 use Rattle.rtk_bits.specs.Bits.{bits}
 use Rattle.rtk_message.specs.declared.message.Message.{Message}
@@ -11,7 +11,8 @@ use Rattle.rtk_convert.specs.Setup.{SetupView}
 use Rattle.rtk_convert.specs.declared.frame_class.FrameClass.{FrameClass}
 use Rattle.rtk_convert.specs.declared.frame_class.FrameClass.TheVariants.{OtherMessage, Refused, Foreign, Dated}
 
--- the epoch of a message: the moment of its time of week (DF004) nearest to the reference; a station message has none
+-- the epoch of a message: the moment of its time of week (DF004) nearest to the reference; a
+-- station message has none
 abbrev pub IsEpochOf : ℕ → Option ℕ → Option ℕ → Type 0
 IsEpochOf near None None = Unit {0}
 IsEpochOf near (Some tow) (Some t) = IsDated near tow t
@@ -22,7 +23,7 @@ IsEpochOf near (Some tow) None = ⊥
 abbrev pub IsDatedMessage : SetupView → Message → Arrival → Type 0
 IsDatedMessage s m (At epoch message) = (message ≡ m) × IsEpochOf s.near (tow_of m) epoch
 
--- a payload that is no message
+-- the class of a payload that is no message
 abbrev pub class_of_fault : DecodeFault → FrameClass
 class_of_fault NoNumber = Refused NoNumber
 class_of_fault (Other number) = OtherMessage
@@ -30,7 +31,7 @@ class_of_fault (Short number) = Refused (Short number)
 class_of_fault (EpochRange number) = Refused (EpochRange number)
 class_of_fault TooManyCells = Refused TooManyCells
 
--- what is read is this to a conversion
+-- the class of what a payload is read as
 abbrev pub IsClassOfReading : SetupView → Result Message DecodeFault → FrameClass → Type 0
 IsClassOfReading s (Err fault) f = f ≡ class_of_fault fault
 IsClassOfReading s (Ok m) OtherMessage = ⊥
@@ -38,14 +39,15 @@ IsClassOfReading s (Ok m) (Refused fault) = ⊥
 IsClassOfReading s (Ok m) Foreign = station_of m ≢ s.station
 IsClassOfReading s (Ok m) (Dated a) = (station_of m ≡ s.station) × IsDatedMessage s m a
 
--- a payload comes to this
+-- the class of a payload
 abbrev pub IsClassOfPayload : SetupView → List ℕ → FrameClass → Type 0
 IsClassOfPayload s payload f = (reading : Result Message DecodeFault) × Decodes (bits payload) reading × IsClassOfReading s reading f
 
--- a found frame: the link that it came on, counted from 0, and what its payload comes to. Lists of them are newest first
+-- a found frame: the link on which it came, counted from 0, and the class of its payload. Lists of
+-- found frames are newest first.
 pub record Found : Type 0 where
   pub link : ℕ
-  pub finding : FrameClass
+  pub class : FrameClass
 
 abbrev pub and_arrived : FrameClass → List Arrival → List Arrival
 and_arrived OtherMessage before = before
@@ -53,7 +55,7 @@ and_arrived (Refused fault) before = before
 and_arrived Foreign before = before
 and_arrived (Dated a) before = a ∷ before
 
--- the arrivals among them
+-- the arrivals among found frames
 abbrev pub arrivals : List Found → List Arrival
 arrivals [] = []
-arrivals (f ∷ before) = and_arrived f.finding (arrivals before)
+arrivals (f ∷ before) = and_arrived f.class (arrivals before)

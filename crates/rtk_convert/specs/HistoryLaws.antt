@@ -1,5 +1,5 @@
--- Laws: a payload comes to one finding, so a call to one history, and any calls find one list of frames; one link is next,
--- so reads come to one history. All of it is this project's rule.
+-- Laws: a payload has one class, so a call comes to one history, and any calls find one list of
+-- frames; one link is next, so reads come to one history (this project's rules).
 use Rattle.std.specs.Prelude.{◌≡◌, ℕ, List}
 use Rattle.rtk_convert.specs.declared.frame_class.FrameClass.{FrameClass}
 use Rattle.rtk_convert.specs.Converter.{IsAfterClosingAll}
@@ -21,7 +21,7 @@ ClosesToOne = (s : SetupView) (h : History) (link : ℕ) (a b : History) → IsA
 abbrev pub EndsAtOne : Type 0
 EndsAtOne = (s : SetupView) (h : History) (links : ℕ) (a b : History) → IsAfterClosingAll s h links a → IsAfterClosingAll s h links b → a ≡ b
 
--- so what is said of the frames that calls find is said of one list, wherever it is said
+-- so each statement on the frames that calls find is a statement on the same list
 abbrev pub CallsFindOne : Type 0
 CallsFindOne = (s : SetupView) (links : ℕ) (calls : List Call) (one other : List Found) → FindAll s links calls one → FindAll s links calls other → one ≡ other
 

@@ -1,4 +1,4 @@
--- The reads of a run, newest first, and the history that they come to. All of it is this project's rule.
+-- The reads of a run, newest first, and the history that they come to (this project's rule).
 use Rattle.std.specs.Prelude.{◌≡◌, ℕ, ◌<◌, ◌≤◌, ◌==◌, if◌then◌else◌, List, [], ◌∷◌, ◌++◌, length, Option, slice_index_or}
 use Rattle.rtk_frame.specs.Stream.{with_more}
 use Rattle.rtk_convert.specs.History.{History, new_history, IsOpen, IsAfterFeed, IsAfterClose, IsNextLink}
@@ -9,7 +9,7 @@ pub record Read : Type 0 where
   pub link : ℕ
   pub piece : List ℕ
 
--- the history after a read of a link: the bytes are fed, and without bytes the link is closed
+-- the history after a read of a link: its bytes are fed; a read without bytes closes the link
 abbrev pub IsAfterPiece : SetupView → History → ℕ → List ℕ → History → Type 0
 IsAfterPiece s h link [] next = IsAfterClose s h link next
 IsAfterPiece s h link (x ∷ piece) next = IsAfterFeed s h link (x ∷ piece) next

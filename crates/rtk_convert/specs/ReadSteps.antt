@@ -7,6 +7,7 @@ use Rattle.rtk_convert.specs.History.{History, fed_on, found_by_piece, found_by_
 use Rattle.rtk_convert.specs.ReadHistory.{Read, IsHistoryOf, Gave}
 use Rattle.rtk_convert.specs.Report.{lines}
 use Rattle.rtk_convert.specs.Setup.{SetupView}
+use Rattle.rtk_convert.specs.Writing.{Written}
 
 -- a read of a link that gave these bytes
 abbrev pub read_of : ℕ → List ℕ → Read
@@ -17,12 +18,12 @@ abbrev pub found_by_read : ℕ → History → List ℕ → List (List ℕ)
 found_by_read link h [] = found_by_close (fed_on link h.links)
 found_by_read link h (x ∷ piece) = found_by_piece (fed_on link h.links) (x ∷ piece)
 
--- what the reads so far found is out: exactly the file so far, and the lines
-pub record HasRead {R : Type 0} (given : R → Option (List ℕ)) (s : SetupView) (before after : List R) (reads : List Read) (h : History) (out_old out_new log_old log_new : Option (List ℕ)) : Type 0 where
+-- after these reads exactly the file so far and the lines are written
+pub record HasRead {R : Type 0} (given : R → Option (List ℕ)) (s : SetupView) (before after : List R) (reads : List Read) (h : History) (written_old written_new : Written) : Type 0 where
   pub comes_to : IsHistoryOf s (length before) reads h
   pub gave : Gave given before after reads
-  pub out : out_new ≡ with_more out_old (file_so_far s (arrivals h.found))
-  pub log : log_new ≡ with_more log_old (lines s.window h.found)
+  pub out : written_new.file ≡ with_more written_old.file (file_so_far s (arrivals h.found))
+  pub log : written_new.report ≡ with_more written_old.report (lines s.window h.found)
 
 -- the counts of failed reads are as they were
 abbrev pub SameFailures : {R : Type 0} → (R → ℕ) → List R → List R → Type 0
@@ -34,6 +35,6 @@ SameFailures {R} failures before after = (k : ℕ) (none : R) → failures (slic
 abbrev pub AnyAtGreatest : {R : Type 0} → (R → ℕ) → List R → Type 0
 AnyAtGreatest {R} calls readers = (k : ℕ) × (k < length readers) × ((none : R) → greatest_count ≤ calls (slice_index_or readers k none))
 
--- the counts of calls rose by n in all, as far as they can tell
+-- the counts of calls rose by n in all, or one of them stands at its greatest value
 abbrev pub HasCalled : {R : Type 0} → (R → ℕ) → List R → List R → ℕ → Type 0
 HasCalled calls before after n = (sum_by calls after ≡ sum_by calls before + n) ⊎ AnyAtGreatest calls after

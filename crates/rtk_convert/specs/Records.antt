@@ -14,7 +14,8 @@ pub record RecordsView : Type 0 where
   -- how many records are out
   pub count : ℕ
 
--- these are the closed epochs, falling: the header is out once one of them has a record
+-- these are the closed epochs, falling: each satellite and code has its last phase, the header is
+-- written once one of them has a record, and their records are counted
 pub record HasClosed (c : RecordsView) (listed : List Code) (epochs : List EpochSetView) : Type 0 where
   pub phases : HasLastPhases c.tracks epochs
   pub header_out : c.header_out ≡ is_some (first_time listed epochs)

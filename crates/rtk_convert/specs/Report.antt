@@ -1,4 +1,5 @@
--- The report of a list of found frames, newest first: a line for each that is refused, late or in conflict, and counts.
+-- The report of a list of found frames, newest first: a line for each that is refused, late or in
+-- conflict, and the counts.
 use Rattle.std.specs.Prelude.{ℕ, List, [], ◌∷◌, ◌++◌, flat_map, codes, decimal, Option, None, Some}
 use Rattle.rtk_frame.specs.Stream.{count_after}
 use Rattle.rtk_message.specs.declared.fault.DecodeFault.{DecodeFault}
@@ -37,7 +38,7 @@ abbrev pub conflict_lines : ℕ → ℕ → Option ℕ → List SatelliteCode �
 conflict_lines link number None cells = conflict_line link number
 conflict_lines link number (Some e) cells = cell_lines link number (Some e) cells
 
--- the lines of a message of a class, by its number and epoch and the cells of it that conflict
+-- the lines of a message of this class, from its number, its epoch and its cells that conflict
 abbrev pub class_lines : ℕ → ℕ → Option ℕ → Class → List SatelliteCode → List ℕ
 class_lines link number epoch LateClass cells = late_line link number epoch
 class_lines link number epoch TakenClass cells = cell_lines link number epoch cells
@@ -54,7 +55,7 @@ frame_lines n link (Dated a) before = class_lines link (number_of (message_of a)
 -- the lines of all found frames, in order
 abbrev pub lines : ℕ → List Found → List ℕ
 lines n [] = []
-lines n (f ∷ before) = lines n before ++ frame_lines n f.link f.finding (arrivals before)
+lines n (f ∷ before) = lines n before ++ frame_lines n f.link f.class (arrivals before)
 
 -- ---- counts: each stays at its greatest value
 
@@ -67,7 +68,7 @@ counted_as TakenClass c = record c { taken = count_after c.taken }
 counted_as RepeatClass c = record c { repeat = count_after c.repeat }
 counted_as ConflictClass c = record c { conflict = count_after c.conflict }
 
--- each frame is in exactly one of the seven counts
+-- the counts after one more frame: it is in exactly one of these seven
 abbrev pub counted : ℕ → FrameClass → List Arrival → Counts → Counts
 counted n OtherMessage before c = record c { other = count_after c.other }
 counted n (Refused fault) before c = record c { refused = count_after c.refused }
@@ -77,7 +78,7 @@ counted n (Dated a) before c = counted_as (class_of n a before) c
 abbrev pub one_frame_more : Counts → Counts
 one_frame_more c = record c { frames = count_after c.frames }
 
--- the counts of frames
+-- the counts of all found frames
 abbrev pub frame_counts : ℕ → List Found → Counts
 frame_counts n [] = no_counts
-frame_counts n (f ∷ before) = counted n f.finding (arrivals before) (one_frame_more (frame_counts n before))
+frame_counts n (f ∷ before) = counted n f.class (arrivals before) (one_frame_more (frame_counts n before))

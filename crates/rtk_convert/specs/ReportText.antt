@@ -1,4 +1,5 @@
--- The lines of a report (this project's rule). Links are counted from 1; moments are read as GPS time.
+-- The lines of a report (this project's rule). Links are counted from 1; moments are read as GPS
+-- time.
 use Rattle.std.specs.Prelude.{ℕ, ◌+◌, List, [], ◌∷◌, ◌++◌, codes, decimal, Option, None, Some}
 use Rattle.rtk_obs.specs.declared.code.Code.{Code}
 use Rattle.rtk_obs.specs.declared.time.Civil.{Civil}
@@ -37,7 +38,8 @@ conflict_line link number = arrival_text link (codes " conflict ") number None +
 unfoldable pub signal_text : ℕ → Code → List ℕ
 signal_text satellite code = codes " G" ++ last_digits 2 satellite ++ 32 ∷ name_of code
 
--- a cell that differs from the one before, as in: link 1 conflict 1074 2024-05-17 12:00:00.000 G05 1C
+-- a cell that differs from the one before, as in: link 1 conflict 1074 2024-05-17 12:00:00.000 G05
+-- 1C
 abbrev pub cell_conflict_line : ℕ → ℕ → ℕ → ℕ → Code → List ℕ
 cell_conflict_line link number epoch satellite code =
     arrival_text link (codes " conflict ") number (Some epoch) ++ signal_text satellite code ++ 10 ∷ []

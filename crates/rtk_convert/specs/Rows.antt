@@ -1,4 +1,5 @@
--- The table of an epoch, given the epochs below it. Lists of epochs fall: after an epoch come the lower ones.
+-- The table of an epoch, given the epochs below it. Lists of epochs fall: the greatest stands
+-- first.
 use Rattle.std.specs.Prelude.{ℕ, zero, suc, Bool, false, ◌&&◌, ◌==◌, List, [], ◌∷◌, ◌++◌, map, filter, Option, Some, None, is_some, if◌then◌else◌, ℤ}
 use Rattle.std.specs.List.{list_any}
 use Rattle.rtk_obs.specs.declared.cell.Cell.{Cell}
@@ -28,12 +29,13 @@ in_turn cells = filter (is_from Msm) cells ++ filter (is_from Legacy) cells
 abbrev pub is_signal : ℕ → Code → CellEntry → Bool
 is_signal satellite code e = (e.satellite == satellite) && (place_of e.code == place_of code)
 
--- the first of a satellite and code
+-- the first cell of a satellite and code
 abbrev pub first_cell : List CellEntry → ℕ → Code → Option Cell
 first_cell [] satellite code = None
 first_cell (e ∷ cells) satellite code = if is_signal satellite code e then Some e.cell else first_cell cells satellite code
 
--- the cell of a satellite and code at an epoch: the cell of a 1074, even one without any value, else the cell of a 1004
+-- the cell of a satellite and code at an epoch: the cell of a 1074, even one without any value,
+-- else the cell of a 1004
 abbrev pub cell_at : List CellEntry → ℕ → Code → Option Cell
 cell_at cells satellite code = first_cell (in_turn cells) satellite code
 
@@ -50,7 +52,7 @@ cells_at_epochs (e ∷ below) satellite code = and_below e.epoch (cell_at e.cell
 abbrev pub last_phase_of : List EpochSetView → ℕ → Code → Option Track
 last_phase_of below satellite code = last_phase (band_of code) (cells_at_epochs below satellite code)
 
--- ---- what is shown of it (RINEX 3.05, Table A3)
+-- ---- what a cell shows (RINEX 3.05, Table A3)
 
 abbrev pub rolled_or_none : Option ℤ → ℤ → Option ℤ
 rolled_or_none None rolls = None

@@ -10,31 +10,34 @@ use Rattle.rtk_convert.specs.ReadSteps.{read_of, found_by_read, HasRead, HasCall
 use Rattle.rtk_convert.specs.ReadHistory.{Read, IsHistoryOf, AllClosed, AreAtEnd, AllAtEnd, Gave}
 use Rattle.rtk_convert.specs.Report.{lines}
 use Rattle.rtk_convert.specs.Setup.{SetupView}
+use Rattle.rtk_convert.specs.Writing.{Written}
 
 -- ---- as far as it came
 
--- a read of a link failed; exactly the file so far and the lines of what was read before are out
-pub record FailsReading {R : Type 0} (given : R → Option (List ℕ)) (failures calls : R → ℕ) (s : SetupView) (link : ℕ) (before after : List R) (out_old out_new log_old log_new : Option (List ℕ)) : Type 0 where
+-- a read of a link failed; exactly the file so far and the lines of what was read before it are
+-- written
+pub record FailsReading {R : Type 0} (given : R → Option (List ℕ)) (failures calls : R → ℕ) (s : SetupView) (link : ℕ) (before after : List R) (written_old written_new : Written) : Type 0 where
   pub reads : List Read
   pub history : History
-  pub has_read : HasRead given s before after reads history out_old out_new log_old log_new
+  pub has_read : HasRead given s before after reads history written_old written_new
   pub called : HasCalled calls before after (length reads + 1)
   pub is_next : IsNextLink history link
   pub failed : (none : R) → CountRises (failures (slice_index_or before link none)) (failures (slice_index_or after link none))
 
--- a link is still open after this number of reads; exactly the file so far and the lines of what was read are out
-pub record StaysOpen {R : Type 0} (given : R → Option (List ℕ)) (is_at_end : R → Type 0) (s : SetupView) (max_reads : ℕ) (before after : List R) (out_old out_new log_old log_new : Option (List ℕ)) : Type 0 where
+-- a link is still open after this number of reads; exactly the file so far and the lines of what
+-- was read are written
+pub record StaysOpen {R : Type 0} (given : R → Option (List ℕ)) (is_at_end : R → Type 0) (s : SetupView) (max_reads : ℕ) (before after : List R) (written_old written_new : Written) : Type 0 where
   pub reads : List Read
   pub history : History
-  pub has_read : HasRead given s before after reads history out_old out_new log_old log_new
+  pub has_read : HasRead given s before after reads history written_old written_new
   pub made : length reads ≡ max_reads
   pub at_end : AreAtEnd is_at_end after history
   pub link : ℕ
   pub is_open : IsOpen history link
 
--- the run breaks off at a frame that its last read found: of all frames found since none was, those before this one are
--- written, and a first part of what this one adds
-pub record BreaksOffReading {R : Type 0} (given : R → Option (List ℕ)) (calls : R → ℕ) (s : SetupView) (before after : List R) (out_old out_new log_old log_new : Option (List ℕ)) : Type 0 where
+-- the run breaks off at a frame that its last read found: all that the frames before this one add
+-- is written, and a first part of what this one adds
+pub record BreaksOffReading {R : Type 0} (given : R → Option (List ℕ)) (calls : R → ℕ) (s : SetupView) (before after : List R) (written_old written_new : Written) : Type 0 where
   pub reads : List Read
   pub history : History
   pub comes_to : IsHistoryOf s (length before) reads history
@@ -44,16 +47,15 @@ pub record BreaksOffReading {R : Type 0} (given : R → Option (List ℕ)) (call
   pub few : length piece ≤ 512
   pub gave : Gave given before after (read_of link piece ∷ reads)
   pub called : HasCalled calls before after (length reads + 1)
-  pub cut : BreaksOffAfter s link (found_by_read link history piece) [] history.found out_old out_new log_old log_new
+  pub cut : BreaksOffAfter s link (found_by_read link history piece) [] history.found written_old written_new
 
--- nothing was read, and nothing is out
-pub record IsUntouched {R : Type 0} (before after : List R) (out_old out_new log_old log_new : Option (List ℕ)) : Type 0 where
+-- nothing was read, and nothing is written
+pub record IsUntouched {R : Type 0} (before after : List R) (written_old written_new : Written) : Type 0 where
   pub readers : after ≡ before
-  pub out : out_new ≡ out_old
-  pub log : log_new ≡ log_old
+  pub written : written_new ≡ written_old
 
 -- the run breaks off at its end: what the links gave is written, and a first part of the rest
-pub record BreaksOffAtEnd {R : Type 0} (given : R → Option (List ℕ)) (calls : R → ℕ) (is_at_end : R → Type 0) (s : SetupView) (before after : List R) (out_old out_new log_old log_new : Option (List ℕ)) : Type 0 where
+pub record BreaksOffAtEnd {R : Type 0} (given : R → Option (List ℕ)) (calls : R → ℕ) (is_at_end : R → Type 0) (s : SetupView) (before after : List R) (written_old written_new : Written) : Type 0 where
   pub reads : List Read
   pub history : History
   pub comes_to : IsHistoryOf s (length before) reads history
@@ -61,12 +63,12 @@ pub record BreaksOffAtEnd {R : Type 0} (given : R → Option (List ℕ)) (calls 
   pub gave : Gave given before after reads
   pub called : HasCalled calls before after (length reads)
   pub at_end : AllAtEnd is_at_end after
-  pub out : WritesInto out_old out_new [] (file_so_far s (arrivals history.found)) (kept_file s (arrivals history.found))
-  pub log : WritesInto log_old log_new [] (lines s.window history.found) (report_of s history.found)
+  pub out : WritesInto written_old.file written_new.file [] (file_so_far s (arrivals history.found)) (kept_file s (arrivals history.found))
+  pub log : WritesInto written_old.report written_new.report [] (lines s.window history.found) (report_of s history.found)
 
 -- memory was refused, or a write failed: before anything was read, at a frame, or at the end
-abbrev pub BreaksOffRun : {R : Type 0} → (R → Option (List ℕ)) → (R → ℕ) → (R → Type 0) → SetupView → List R → List R → Option (List ℕ) → Option (List ℕ) → Option (List ℕ) → Option (List ℕ) → Type 0
-BreaksOffRun given calls is_at_end s before after out_old out_new log_old log_new =
-    IsUntouched before after out_old out_new log_old log_new
-    ⊎ (BreaksOffReading given calls s before after out_old out_new log_old log_new
-    ⊎ BreaksOffAtEnd given calls is_at_end s before after out_old out_new log_old log_new)
+abbrev pub BreaksOffRun : {R : Type 0} → (R → Option (List ℕ)) → (R → ℕ) → (R → Type 0) → SetupView → List R → List R → Written → Written → Type 0
+BreaksOffRun given calls is_at_end s before after written_old written_new =
+    IsUntouched before after written_old written_new
+    ⊎ (BreaksOffReading given calls s before after written_old written_new
+    ⊎ BreaksOffAtEnd given calls is_at_end s before after written_old written_new)

@@ -9,7 +9,7 @@ pub record SetupView : Type 0 where
   pub station : ℕ
   -- the moment near which times of week are dated
   pub near : ℕ
-  pub heading : HeadView
+  pub head : HeadView
   -- how many epochs are open at once
   pub window : ℕ
 
@@ -22,4 +22,4 @@ abbrev pub IsWindow : ℕ → Type 0
 IsWindow window = IsInRange 2 4096 window
 
 abbrev pub IsSetupView : SetupView → Type 0
-IsSetupView s = IsStation s.station × IsReference s.near × IsHeadView s.heading × IsWindow s.window
+IsSetupView s = IsStation s.station × IsReference s.near × IsHeadView s.head × IsWindow s.window

@@ -8,6 +8,7 @@ ghost use Rattle.rtk_convert.specs.Steps.AddedMessage.{AddsMessage, AddsMessageI
 ghost use Rattle.rtk_convert.specs.Report.{counted_as};
 ghost use Rattle.rtk_convert.specs.Steps.OfferLines.{class_of_offer};
 ghost use Rattle.rtk_convert.specs.Conversion.{RepresentsFound, IsAhead};
+ghost use Rattle.rtk_convert.specs.Writing.{written};
 
 use crate::counts::Counts;
 use crate::fault::{ConvertFault, Stream};
@@ -43,7 +44,8 @@ impl Model for Conversion {
 
     ghost view = { λ c. record { settings = c.setup; window = c.collector; closed = c.records; counts = c.counts; stopped = c.stopped } };
 
-    ghost invariant = { λ c. IsConversionView (record { settings = c.setup; window = c.collector; closed = c.records; counts = c.counts; stopped = c.stopped }) };
+    ghost invariant = { λ c. IsConversionView
+        (record { settings = c.setup; window = c.collector; closed = c.records; counts = c.counts; stopped = c.stopped }) };
 }
 
 impl Conversion {
@@ -100,8 +102,10 @@ impl Conversion {
         ensures going { OnOk result (self.new.stopped ≡ false) }
         ensures halts { OnErr result (self.new.stopped ≡ true) }
         ensures epoch { IfOk result (λ epoch. IsEpochIn self.old.settings payload.now epoch) }
-        ensures ok { OnOk result (AcceptsFrame self.old link payload.now self.new (O.taken out.old) (O.taken out.new) (L.taken log.old) (L.taken log.new)) }
-        ensures err { OnErr result (self.old.stopped ≡ false → BreaksOffAtFrame self.old link payload.now (O.taken out.old) (O.taken out.new) (L.taken log.old) (L.taken log.new)) }
+        ensures ok { OnOk result (AcceptsFrame self.old link payload.now self.new
+            (written (O.taken out.old) (L.taken log.old)) (written (O.taken out.new) (L.taken log.new))) }
+        ensures err { OnErr result (self.old.stopped ≡ false → BreaksOffAtFrame self.old link payload.now
+            (written (O.taken out.old) (L.taken log.old)) (written (O.taken out.new) (L.taken log.new))) }
         ensures fault { self.old.stopped ≡ false → IfErr result IsFrameFault }
         ensures cause { OnErr result (self.old.stopped ≡ false → HasCause self.old.settings payload.now) }
         ensures file_failed { NamesFailedWrites Stream.Out result (O.failures out.old) (O.failures out.new) }
@@ -116,7 +120,7 @@ impl Conversion {
         Ok(epoch)
     }
 
-    // Takes the payload of a frame. Whether it has stopped is left as it is.
+    // Handles the payload of a frame. `stopped` stays as it is.
     fn handle_payload<O: Sink, L: Sink>(
         &mut self,
         link: u8,
@@ -131,8 +135,10 @@ impl Conversion {
         ensures stopped { self.new.stopped ≡ true }
         ensures ahead { OnOk result (IsAhead self.new.window self.new.closed) }
         ensures epoch { IfOk result (λ epoch. IsEpochIn self.old.settings payload.now epoch) }
-        ensures ok { OnOk result (AcceptsFrame self.old link payload.now self.new (O.taken out.old) (O.taken out.new) (L.taken log.old) (L.taken log.new)) }
-        ensures err { OnErr result (BreaksOffAtFrame self.old link payload.now (O.taken out.old) (O.taken out.new) (L.taken log.old) (L.taken log.new)) }
+        ensures ok { OnOk result (AcceptsFrame self.old link payload.now self.new
+            (written (O.taken out.old) (L.taken log.old)) (written (O.taken out.new) (L.taken log.new))) }
+        ensures err { OnErr result (BreaksOffAtFrame self.old link payload.now
+            (written (O.taken out.old) (L.taken log.old)) (written (O.taken out.new) (L.taken log.new))) }
         ensures fault { IfErr result IsFrameFault }
         ensures cause { OnErr result (HasCause self.old.settings payload.now) }
         ensures file_failed { NamesFailedWrites Stream.Out result (O.failures out.old) (O.failures out.new) }
@@ -178,8 +184,10 @@ impl Conversion {
         ensures few { length self.new.window.sets ≤ self.new.settings.window }
         ensures stopped { self.new.stopped ≡ true }
         ensures ahead { OnOk result (IsAhead self.new.window self.new.closed) }
-        ensures ok { OnOk result (AddsMessage self.old link dated self.new (O.taken out.old) (O.taken out.new) (L.taken log.old) (L.taken log.new)) }
-        ensures err { OnErr result (AddsMessageInPart self.old link dated (O.taken out.old) (O.taken out.new) (L.taken log.old) (L.taken log.new)) }
+        ensures ok { OnOk result (AddsMessage self.old link dated self.new
+            (written (O.taken out.old) (L.taken log.old)) (written (O.taken out.new) (L.taken log.new))) }
+        ensures err { OnErr result (AddsMessageInPart self.old link dated
+            (written (O.taken out.old) (L.taken log.old)) (written (O.taken out.new) (L.taken log.new))) }
         ensures fault { IfErr result IsFrameFault }
         ensures file_failed { NamesFailedWrites Stream.Out result (O.failures out.old) (O.failures out.new) }
         ensures report_failed { NamesFailedWrites Stream.Log result (L.failures log.old) (L.failures log.new) }
@@ -214,8 +222,10 @@ impl Conversion {
     ) -> Result<Counts, ConvertFault>
         ensures stopped { (result ≡ Err ConvertFault.Stopped) ↔ (self.stopped ≡ true) }
         ensures still { self.stopped ≡ true → (out.new ≡ out.old) × (log.new ≡ log.old) }
-        ensures ok { IfOk result (λ counts. FinishesConversion self counts (O.taken out.old) (O.taken out.new) (L.taken log.old) (L.taken log.new)) }
-        ensures err { OnErr result (self.stopped ≡ false → FinishesConversionInPart self (O.taken out.old) (O.taken out.new) (L.taken log.old) (L.taken log.new)) }
+        ensures ok { IfOk result (λ counts. FinishesConversion self counts
+            (written (O.taken out.old) (L.taken log.old)) (written (O.taken out.new) (L.taken log.new))) }
+        ensures err { OnErr result (self.stopped ≡ false → FinishesConversionInPart self
+            (written (O.taken out.old) (L.taken log.old)) (written (O.taken out.new) (L.taken log.new))) }
         ensures fault { self.stopped ≡ false → IfErr result IsFrameFault }
         ensures file_failed { NamesFailedWrites Stream.Out result (O.failures out.old) (O.failures out.new) }
         ensures report_failed { NamesFailedWrites Stream.Log result (L.failures log.old) (L.failures log.new) }

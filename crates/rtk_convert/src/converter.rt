@@ -6,6 +6,7 @@ ghost use Rattle.rtk_convert.specs.Converter.{IsLinkCount, HoldsAtMost, Represen
 ghost use Rattle.rtk_convert.specs.Steps.AllLinks.{ClosesAllLinks, ClosesAllLinksInPart};
 ghost use Rattle.rtk_convert.specs.Failure.{IsFrameFault, NamesFailedWrites};
 ghost use Rattle.rtk_convert.specs.History.{History, new_history, IsOpen, newest_on};
+ghost use Rattle.rtk_convert.specs.Writing.{written};
 
 use crate::conversion::Conversion;
 use crate::counts::Counts;
@@ -20,7 +21,8 @@ use std::marker::Model;
 /// Converts what 1 to 16 links carry of one station to a file and a report.
 ///
 /// Its memory is bounded, as the clauses `bounds` say: of each link it holds at most 1,029 bytes,
-/// and in all at most as many open epochs as the setup says. A call that breaks off (V4, V5) stops it: each later call answers V8.
+/// and in all at most as many open epochs as the setup says. A call that breaks off (V4, V5) stops
+/// it: each later call answers V8.
 #[derive(Drop)]
 pub struct Converter {
     conversion: Conversion,
@@ -86,7 +88,7 @@ impl Converter {
         self.links.len()
     }
 
-    /// Whether there is such a link and it is open.
+    /// Whether the link exists and is open.
     pub fn is_open(&self, link: usize) -> bool
         ensures { (h : History) → RepresentsHistory self.now h → Decides result (IsOpen h link) }
     {
@@ -129,12 +131,15 @@ impl Converter {
         log: &mut L,
     ) -> Result<(), ConvertFault>
         // Done: what the links come to, and what is written.
-        ensures ok { OnOk result (FeedsPiece self.old link piece.now self.new (O.taken out.old) (O.taken out.new) (L.taken log.old) (L.taken log.new)) }
+        ensures ok { OnOk result (FeedsPiece self.old link piece.now self.new
+            (written (O.taken out.old) (L.taken log.old)) (written (O.taken out.new) (L.taken log.new))) }
         ensures going { OnOk result (self.new.conversion.stopped ≡ false) }
 
         // Not done: nothing is changed, or what is out.
-        ensures refused { IfSome (refusal self.old link) (λ fault. IsErrOf result fault × (self.new ≡ self.old) × (out.new ≡ out.old) × (log.new ≡ log.old)) }
-        ensures err { IfErr result (λ fault. IsFrameFault fault → FeedsPieceInPart self.old link piece.now (O.taken out.old) (O.taken out.new) (L.taken log.old) (L.taken log.new)) }
+        ensures refused { IfSome (refusal self.old link) (λ fault. IsErrOf result fault
+            × (self.new ≡ self.old) × (out.new ≡ out.old) × (log.new ≡ log.old)) }
+        ensures err { IfErr result (λ fault. IsFrameFault fault → FeedsPieceInPart self.old link piece.now
+            (written (O.taken out.old) (L.taken log.old)) (written (O.taken out.new) (L.taken log.new))) }
         ensures halts { IfErr result (λ fault. IsFrameFault fault → self.new.conversion.stopped ≡ true) }
 
         // When each fault; a stream that failed is named.
@@ -161,12 +166,15 @@ impl Converter {
         log: &mut L,
     ) -> Result<(), ConvertFault>
         // Done: what the links come to, and what is written.
-        ensures ok { OnOk result (ClosesLink self.old link self.new (O.taken out.old) (O.taken out.new) (L.taken log.old) (L.taken log.new)) }
+        ensures ok { OnOk result (ClosesLink self.old link self.new
+            (written (O.taken out.old) (L.taken log.old)) (written (O.taken out.new) (L.taken log.new))) }
         ensures going { OnOk result (self.new.conversion.stopped ≡ false) }
 
         // Not done: nothing is changed, or what is out.
-        ensures refused { IfSome (refusal self.old link) (λ fault. IsErrOf result fault × (self.new ≡ self.old) × (out.new ≡ out.old) × (log.new ≡ log.old)) }
-        ensures err { IfErr result (λ fault. IsFrameFault fault → ClosesLinkInPart self.old link (O.taken out.old) (O.taken out.new) (L.taken log.old) (L.taken log.new)) }
+        ensures refused { IfSome (refusal self.old link) (λ fault. IsErrOf result fault
+            × (self.new ≡ self.old) × (out.new ≡ out.old) × (log.new ≡ log.old)) }
+        ensures err { IfErr result (λ fault. IsFrameFault fault → ClosesLinkInPart self.old link
+            (written (O.taken out.old) (L.taken log.old)) (written (O.taken out.new) (L.taken log.new))) }
         ensures halts { IfErr result (λ fault. IsFrameFault fault → self.new.conversion.stopped ≡ true) }
 
         // When each fault; a stream that failed is named.
@@ -191,8 +199,10 @@ impl Converter {
         ensures settings { self.new.conversion.settings ≡ self.old.conversion.settings }
         ensures going { OnOk result (self.new.conversion.stopped ≡ false) }
         ensures fault { IfErr result IsFrameFault }
-        ensures ok { OnOk result (ClosesAllLinks self.old self.new (O.taken out.old) (O.taken out.new) (L.taken log.old) (L.taken log.new)) }
-        ensures err { OnErr result (ClosesAllLinksInPart self.old (O.taken out.old) (O.taken out.new) (L.taken log.old) (L.taken log.new)) }
+        ensures ok { OnOk result (ClosesAllLinks self.old self.new
+            (written (O.taken out.old) (L.taken log.old)) (written (O.taken out.new) (L.taken log.new))) }
+        ensures err { OnErr result (ClosesAllLinksInPart self.old
+            (written (O.taken out.old) (L.taken log.old)) (written (O.taken out.new) (L.taken log.new))) }
         ensures file_failed { NamesFailedWrites Stream.Out result (O.failures out.old) (O.failures out.new) }
         ensures report_failed { NamesFailedWrites Stream.Log result (L.failures log.old) (L.failures log.new) }
     {
@@ -208,11 +218,13 @@ impl Converter {
     /// Closes the links that are open, the lower number first, and ends the file and the report.
     pub fn finish<O: Sink, L: Sink>(self, out: &mut O, log: &mut L) -> Result<Counts, ConvertFault>
         // Done: the file and the report are whole.
-        ensures ok { IfOk result (λ counts. FinishesConverter self counts (O.taken out.old) (O.taken out.new) (L.taken log.old) (L.taken log.new)) }
+        ensures ok { IfOk result (λ counts. FinishesConverter self counts
+            (written (O.taken out.old) (L.taken log.old)) (written (O.taken out.new) (L.taken log.new))) }
 
         // Not done: nothing is changed, or what is out.
         ensures still { self.conversion.stopped ≡ true → (out.new ≡ out.old) × (log.new ≡ log.old) }
-        ensures err { IfErr result (λ fault. IsFrameFault fault → FinishesConverterInPart self (O.taken out.old) (O.taken out.new) (L.taken log.old) (L.taken log.new)) }
+        ensures err { IfErr result (λ fault. IsFrameFault fault → FinishesConverterInPart self
+            (written (O.taken out.old) (L.taken log.old)) (written (O.taken out.new) (L.taken log.new))) }
 
         // When each fault; a stream that failed is named.
         ensures stopped { self.conversion.stopped ≡ true → IsErrOf result ConvertFault.Stopped }

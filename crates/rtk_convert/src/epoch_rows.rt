@@ -8,14 +8,13 @@ ghost use Rattle.rtk_obs.specs.Cell.{IsInRange, IsSatellite};
 ghost use Rattle.rtk_collect.specs.EpochSet.{EpochSetView};
 ghost use Rattle.rtk_rinex.specs.Record.{IsStrengthOrNone, HasWidth};
 ghost use Rattle.rtk_convert.specs.Rows.{is_from, rolled_or_none, observed_with, or_nothing, row_with, rows_to, table_of};
-ghost use Rattle.rtk_convert.specs.LastPhases.{HasLastPhases, ShowsNothing};
-ghost use Rattle.rtk_convert.specs.Steps.ShownCells.{AllBelow, shown_at, is_at, IsThrough, MayShow, AreStrengths};
+ghost use Rattle.rtk_convert.specs.LastPhases.{HasLastPhases};
+ghost use Rattle.rtk_convert.specs.Steps.ShownCells.{AllBelow, shown_at, is_at, IsThrough, MayShow, ShowsNothing, AreStrengths};
 
-use rtk_obs::{Cell, CellEntry, CellSource, Code, Digits, GpsMs, Tracks, rolled};
+use rtk_obs::{
+    Cell, CellEntry, CellSource, Code, Digits, GpsMs, SIGNALS, Tracks, place_of_signal, rolled,
+};
 use rtk_rinex::{EpochTable, Observed};
-
-// Satellites times codes.
-pub(crate) const PLACES: usize = 512;
 
 // What a code shows if it has no cell.
 const NOTHING: Observed = Observed {
@@ -47,9 +46,9 @@ fn observed(cell: &Cell, digits: Digits) -> Observed
     }
 }
 
-// Goes through a cell, unless one of its satellite and code came before it.
+// Takes a cell, unless a cell of its satellite and code came before it.
 fn step_entry(tracks: &mut Tracks, shown: &mut [Option<Observed>], epoch: GpsMs, entry: &CellEntry)
-    requires places { length shown.old ≡ PLACES }
+    requires places { length shown.old ≡ SIGNALS }
     requires range { IsInRange entry.now }
     requires later { MayShow tracks.old shown.old epoch }
     requires strengths { AreStrengths shown.old }
@@ -59,7 +58,7 @@ fn step_entry(tracks: &mut Tracks, shown: &mut [Option<Observed>], epoch: GpsMs,
     ensures strengths { AreStrengths shown.new }
     ensures others { (k : ℕ) → is_at k entry.now ≡ false → slice_index_or shown.new k None ≡ slice_index_or shown.old k None }
 {
-    let place = usize::from(entry.satellite - 1) * 16 + entry.code.place();
+    let place = place_of_signal(entry.satellite, entry.code);
     if shown[place].is_some() {
         return;
     }
@@ -67,7 +66,7 @@ fn step_entry(tracks: &mut Tracks, shown: &mut [Option<Observed>], epoch: GpsMs,
     shown[place] = Some(observed(&entry.cell, digits));
 }
 
-// Goes through the cells that came in one kind of message.
+// Takes the cells that came in one kind of message, one after another.
 fn step_source(
     tracks: &mut Tracks,
     shown: &mut [Option<Observed>],
@@ -75,7 +74,7 @@ fn step_source(
     entries: &[CellEntry],
     source: CellSource,
 )
-    requires places { length shown.old ≡ PLACES }
+    requires places { length shown.old ≡ SIGNALS }
     requires ranges { All IsInRange entries.now }
     requires later { MayShow tracks.old shown.old epoch }
     requires strengths { AreStrengths shown.old }
@@ -84,7 +83,7 @@ fn step_source(
     ensures later { MayShow tracks.new shown.new epoch }
     ensures strengths { AreStrengths shown.new }
     ensures others { (k : ℕ) → list_any (is_at k) entries.now ≡ false → slice_index_or shown.new k None ≡ slice_index_or shown.old k None }
-    ensures places { length shown.new ≡ PLACES }
+    ensures places { length shown.new ≡ SIGNALS }
 {
     for entry in entries {
         if entry.cell.source == source {
@@ -95,11 +94,11 @@ fn step_source(
 
 // What a satellite and code show.
 fn shown_by(shown: &[Option<Observed>], satellite: u8, code: Code) -> Observed
-    requires places { length shown.now ≡ PLACES }
+    requires places { length shown.now ≡ SIGNALS }
     requires satellite { IsSatellite satellite }
     ensures { result ≡ or_nothing (shown_at shown.now satellite code) }
 {
-    match shown[usize::from(satellite - 1) * 16 + code.place()] {
+    match shown[place_of_signal(satellite, code)] {
         Some(observed) => observed,
         None => NOTHING,
     }
@@ -112,7 +111,7 @@ fn put_observed(
     listed: &[Code],
     observed: &mut [Observed],
 )
-    requires places { length shown.now ≡ PLACES }
+    requires places { length shown.now ≡ SIGNALS }
     requires satellite { IsSatellite satellite }
     requires width { length observed.old ≡ length listed.now }
     ensures { observed.new ≡ map (λ code. or_nothing (shown_at shown.now satellite code)) listed.now }
@@ -124,12 +123,12 @@ fn put_observed(
 
 // Has a satellite a cell of a listed code?
 fn has_listed(shown: &[Option<Observed>], satellite: u8, listed: &[Code]) -> bool
-    requires places { length shown.now ≡ PLACES }
+    requires places { length shown.now ≡ SIGNALS }
     requires satellite { IsSatellite satellite }
     ensures { result ≡ list_any (λ code. is_some (shown_at shown.now satellite code)) listed.now }
 {
     for code in listed {
-        if shown[usize::from(satellite - 1) * 16 + code.place()].is_some() {
+        if shown[place_of_signal(satellite, *code)].is_some() {
             return true;
         }
     }
@@ -138,7 +137,7 @@ fn has_listed(shown: &[Option<Observed>], satellite: u8, listed: &[Code]) -> boo
 
 // Writes the rows of an epoch into the table.
 fn put_rows(shown: &[Option<Observed>], epoch: GpsMs, listed: &[Code], table: &mut EpochTable)
-    requires places { length shown.now ≡ PLACES }
+    requires places { length shown.now ≡ SIGNALS }
     requires strengths { AreStrengths shown.now }
     requires few { length listed.now ≤ 16 }
     ensures time { table.new.time ≡ epoch }
@@ -157,22 +156,22 @@ fn put_rows(shown: &[Option<Observed>], epoch: GpsMs, listed: &[Code], table: &m
 
 // Clears what these cells showed. Nothing else may show anything before.
 fn clear(shown: &mut [Option<Observed>], entries: &[CellEntry])
-    requires places { length shown.old ≡ PLACES }
+    requires places { length shown.old ≡ SIGNALS }
     requires ranges { All IsInRange entries.now }
     requires only { (k : ℕ) → list_any (is_at k) entries.now ≡ false → slice_index_or shown.old k None ≡ None }
-    ensures places { length shown.new ≡ PLACES }
+    ensures places { length shown.new ≡ SIGNALS }
     ensures nothing { ShowsNothing shown.new }
 {
     for entry in entries {
-        shown[usize::from(entry.satellite - 1) * 16 + entry.code.place()] = None;
+        shown[place_of_signal(entry.satellite, entry.code)] = None;
     }
 }
 
 /// Makes the table of a closed epoch from its cells; their phases are then the last ones.
 ///
-/// All satellites and codes are gone through, listed or not, since a later phase is compared with
-/// the last one of its satellite and code, whenever that was. `shown` is room for what they show;
-/// only the places that were used are cleared after each epoch.
+/// Each cell is compared with the last phase of its satellite and code, listed or not, since a
+/// later phase is compared with this one, whenever it was. `shown` is room for what they show; only
+/// the places that were used are cleared after each epoch.
 pub(crate) fn fill_table(
     tracks: &mut Tracks,
     shown: &mut [Option<Observed>],
@@ -184,13 +183,15 @@ pub(crate) fn fill_table(
     requires ranges { All IsInRange entries.now }
     requires few { length listed.now ≤ 16 }
     requires later { AllBelow tracks.old epoch }
-    requires places { length shown.old ≡ PLACES }
+    requires places { length shown.old ≡ SIGNALS }
     requires nothing { ShowsNothing shown.old }
-    ensures table { (below : List EpochSetView) → HasLastPhases tracks.old below → table.new ≡ table_of listed.now (record { epoch = epoch; cells = entries.now }) below }
-    ensures phases { (below : List EpochSetView) → HasLastPhases tracks.old below → HasLastPhases tracks.new (record { epoch = epoch; cells = entries.now } ∷ below) }
+    ensures table { (below : List EpochSetView) → HasLastPhases tracks.old below
+        → table.new ≡ table_of listed.now (record { epoch = epoch; cells = entries.now }) below }
+    ensures phases { (below : List EpochSetView) → HasLastPhases tracks.old below
+        → HasLastPhases tracks.new (record { epoch = epoch; cells = entries.now } ∷ below) }
     ensures later { (later : ℕ) → epoch < later → AllBelow tracks.new later }
     ensures width { HasWidth (length listed.now) table.new.rows }
-    ensures places { length shown.new ≡ PLACES }
+    ensures places { length shown.new ≡ SIGNALS }
     ensures nothing { ShowsNothing shown.new }
 {
     step_source(tracks, shown, epoch, entries, CellSource::Msm);

@@ -30,17 +30,17 @@ pub fn set_decides_file()
     late_arrivals_change_nothing();
 }
 
-/// What is out only grows, and begins the file of all that arrives later; its header stays.
+/// What is written only grows, and begins the file of all that arrives later; its header stays.
 pub fn file_only_grows()
     ensures begins { SoFarBegins }
     ensures header { HeaderIsFinal }
 {}
 
-/// A payload comes to one finding, so each call on a link comes to one history, and any calls find
-/// one list of frames. One link is next at most, and reads come to one history: so the order of
-/// reading is a function of the history.
+/// A payload has one class, so each call on a link comes to one history, and any calls find one
+/// list of frames. At most one link is next, and reads come to one history: so the order of reading
+/// is a function of the history.
 pub fn one_history_of_calls()
-    ensures finding { ComesToOne }
+    ensures class { ComesToOne }
     ensures feed { FeedsToOne }
     ensures close { ClosesToOne }
     ensures end { EndsAtOne }
@@ -54,8 +54,8 @@ pub fn frames_add_to_one()
     ensures { FrameAddsToOne }
 {}
 
-/// Each found frame is counted in one class: of fewer than 2^64 the count of frames is their
-/// number, and so is the sum of the seven counts after it.
+/// Each found frame is counted in one class: if there are fewer than 2^64, the count of frames is
+/// their number, and so is the sum of the seven counts after it.
 pub fn each_frame_in_one_class()
     ensures { EachFrameInOneClass }
 {}
@@ -65,10 +65,10 @@ pub fn set_has_one_file()
     ensures { SetHasOneFile }
 {}
 
-/// Any calls of `feed` and `close` on a new converter, each answered Ok, V2 or V3, and then `finish`
-/// keep the promise: by their contracts alone. Whatever bodies equal keys carry, they write the
-/// file of what came first in time under each key, and the report of all frames, whose counts are
-/// answered.
+/// Any calls of `feed` and `close` on a new converter, each answered Ok, V2 or V3, and then
+/// `finish` keep the promise: by their contracts alone. Whatever bodies equal keys carry, they
+/// write the file of what came first in time under each key, and the report of all frames, whose
+/// counts are answered.
 pub fn calls_keep_promise()
     ensures headline { CallsKeepPromise }
     ensures kept { CallsWriteKept }

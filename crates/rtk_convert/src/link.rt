@@ -5,6 +5,7 @@ ghost use Rattle.rtk_frame.specs.Frames.{final_frames, frames, payloads, pending
 ghost use Rattle.rtk_convert.specs.Failure.{IsFrameFault, NamesFailedWrites};
 ghost use Rattle.rtk_convert.specs.Steps.LinkFrames.{AddsFrames, AddsFramesInPart};
 ghost use Rattle.rtk_convert.specs.History.{later_of};
+ghost use Rattle.rtk_convert.specs.Writing.{written};
 
 use crate::conversion::Conversion;
 use crate::fault::{ConvertFault, Stream};
@@ -52,10 +53,11 @@ impl Link {
         ensures few { length conversion.new.window.sets ≤ conversion.new.settings.window }
         ensures going { OnOk result (conversion.new.stopped ≡ false) }
         ensures halts { OnErr result (conversion.new.stopped ≡ true) }
-        ensures ok { OnOk result (AddsFrames conversion.old number (payloads (final_frames (self.old.scanner.pending ++ piece.now))) conversion.new self.old.newest self.new.newest
-            (O.taken out.old) (O.taken out.new) (L.taken log.old) (L.taken log.new)) }
+        ensures ok { OnOk result (AddsFrames conversion.old number (payloads (final_frames (self.old.scanner.pending ++ piece.now)))
+            conversion.new self.old.newest self.new.newest
+            (written (O.taken out.old) (L.taken log.old)) (written (O.taken out.new) (L.taken log.new))) }
         ensures err { OnErr result (AddsFramesInPart conversion.old number (payloads (final_frames (self.old.scanner.pending ++ piece.now)))
-            (O.taken out.old) (O.taken out.new) (L.taken log.old) (L.taken log.new)) }
+            (written (O.taken out.old) (L.taken log.old)) (written (O.taken out.new) (L.taken log.new))) }
         ensures fault { IfErr result IsFrameFault }
         ensures file_failed { NamesFailedWrites Stream.Out result (O.failures out.old) (O.failures out.new) }
         ensures report_failed { NamesFailedWrites Stream.Log result (L.failures log.old) (L.failures log.new) }
@@ -88,10 +90,11 @@ impl Link {
         ensures few { length conversion.new.window.sets ≤ conversion.new.settings.window }
         ensures going { OnOk result (conversion.new.stopped ≡ false) }
         ensures halts { OnErr result (conversion.new.stopped ≡ true) }
-        ensures ok { OnOk result (AddsFrames conversion.old number (payloads (frames self.old.scanner.pending)) conversion.new self.old.newest self.new.newest
-            (O.taken out.old) (O.taken out.new) (L.taken log.old) (L.taken log.new)) }
+        ensures ok { OnOk result (AddsFrames conversion.old number (payloads (frames self.old.scanner.pending))
+            conversion.new self.old.newest self.new.newest
+            (written (O.taken out.old) (L.taken log.old)) (written (O.taken out.new) (L.taken log.new))) }
         ensures err { OnErr result (AddsFramesInPart conversion.old number (payloads (frames self.old.scanner.pending))
-            (O.taken out.old) (O.taken out.new) (L.taken log.old) (L.taken log.new)) }
+            (written (O.taken out.old) (L.taken log.old)) (written (O.taken out.new) (L.taken log.new))) }
         ensures fault { IfErr result IsFrameFault }
         ensures file_failed { NamesFailedWrites Stream.Out result (O.failures out.old) (O.failures out.new) }
         ensures report_failed { NamesFailedWrites Stream.Log result (L.failures log.old) (L.failures log.new) }

@@ -56,10 +56,12 @@ pub(crate) fn put_record<O: Sink>(
     table: &EpochTable,
     out: &mut O,
 ) -> Result<bool, ConvertFault>
-    requires width { HasWidth (length setup.now.heading.listed) table.now.rows }
+    requires width { HasWidth (length setup.now.head.listed) table.now.rows }
     ensures any { IfOk result (λ any. any ≡ is_any (record_text table.now)) }
-    ensures all { OnOk result (O.taken out.new ≡ with_more (O.taken out.old) (closing_text setup.now (position_view position.now) table.now.time header_out (record_text table.now))) }
-    ensures part { TakesPart (O.taken out.old) (O.taken out.new) (closing_text setup.now (position_view position.now) table.now.time header_out (record_text table.now)) }
+    ensures all { OnOk result (O.taken out.new ≡ with_more (O.taken out.old)
+        (closing_text setup.now (position_view position.now) table.now.time header_out (record_text table.now))) }
+    ensures part { TakesPart (O.taken out.old) (O.taken out.new)
+        (closing_text setup.now (position_view position.now) table.now.time header_out (record_text table.now)) }
     ensures file_failed { NamesFailedWrites Stream.Out result (O.failures out.old) (O.failures out.new) }
     ensures fault { IfErr result IsOutFault }
 {
@@ -88,8 +90,10 @@ pub(crate) fn put_last_header<O: Sink>(
     header_out: bool,
     out: &mut O,
 ) -> Result<(), ConvertFault>
-    ensures all { OnOk result (O.taken out.new ≡ with_more (O.taken out.old) (header_before setup.now (position_view position.now) setup.now.near header_out)) }
-    ensures part { TakesPart (O.taken out.old) (O.taken out.new) (header_before setup.now (position_view position.now) setup.now.near header_out) }
+    ensures all { OnOk result (O.taken out.new ≡ with_more (O.taken out.old)
+        (header_before setup.now (position_view position.now) setup.now.near header_out)) }
+    ensures part { TakesPart (O.taken out.old) (O.taken out.new)
+        (header_before setup.now (position_view position.now) setup.now.near header_out) }
     ensures file_failed { NamesFailedWrites Stream.Out result (O.failures out.old) (O.failures out.new) }
     ensures fault { IfErr result IsOutFault }
 {

@@ -3,8 +3,7 @@
 ghost use Rattle.rtk_collect.specs.EpochSet.{EpochSetView};
 ghost use Rattle.rtk_convert.specs.Failure.{NamesFailedWrites};
 ghost use Rattle.rtk_convert.specs.Steps.Faults.{IsOutFault};
-ghost use Rattle.rtk_convert.specs.File.{first_time, record_of};
-ghost use Rattle.rtk_convert.specs.Steps.ClosedText.{closing_text};
+ghost use Rattle.rtk_convert.specs.Steps.ClosedText.{closing};
 ghost use Rattle.rtk_convert.specs.Steps.Closing.{AllAbove, ClosesEpochs, ClosesEpochsInPart};
 ghost use Rattle.rtk_convert.specs.Steps.ShownCells.{AllBelow};
 ghost use Rattle.rtk_convert.specs.Records.{HasClosed};
@@ -12,15 +11,15 @@ ghost use Rattle.rtk_frame.specs.Stream.{with_more, TakesPart};
 ghost use Rattle.rtk_obs.specs.Cell.{IsInRange};
 ghost use Rattle.rtk_obs.specs.declared.code.Code.{Code};
 ghost use Rattle.rtk_rinex.specs.Header.{position_view};
-ghost use Rattle.std.specs.Prelude.{◌≡◌, ◌≢◌, ℕ, ◌<◌, [], ◌∷◌, List, All, false, is_some, OnOk, IfErr, IsErrOf, length, OnErr};
+ghost use Rattle.std.specs.Prelude.{◌≡◌, ◌≢◌, ℕ, ◌<◌, [], ◌∷◌, List, All, false, OnOk, IfErr, IsErrOf, length, OnErr};
 
-use crate::epoch_rows::{PLACES, fill_table};
+use crate::epoch_rows::fill_table;
 use crate::fault::{ConvertFault, Stream};
 use crate::output::put_record;
 use crate::setup::Setup;
 use rtk_collect::Left;
 use rtk_frame::Sink;
-use rtk_obs::{CellEntry, GpsMs, Position, Tracks};
+use rtk_obs::{CellEntry, GpsMs, Position, SIGNALS, Tracks};
 use rtk_rinex::{EpochTable, Observed};
 use std::alloc::Global;
 use std::marker::Model;
@@ -33,17 +32,17 @@ use std::marker::Model;
 #[derive(Drop)]
 pub(crate) struct Records {
     tracks: Tracks,
-    shown: [Option<Observed>; PLACES],
+    shown: [Option<Observed>; SIGNALS],
     table: EpochTable,
     header_out: bool,
     count: u64,
 }
 
-// Clauses see all but the table, which is filled anew for each epoch, and the room, in which
-// nothing is left of an epoch.
+// Clauses don't see the table, which is filled anew for each epoch, nor the room, which is empty
+// between epochs.
 impl Model for Records {
     ghost use Rattle.std.specs.Prelude.{◌≡◌, length};
-    ghost use Rattle.rtk_convert.specs.LastPhases.{ShowsNothing};
+    ghost use Rattle.rtk_convert.specs.Steps.ShownCells.{ShowsNothing};
     ghost use Rattle.rtk_convert.specs.Records.{RecordsView};
 
     ghost Value = { RecordsView };
@@ -54,15 +53,15 @@ impl Model for Records {
 }
 
 impl Records {
-    /// No epoch is closed yet. `any` fills the table until the first epoch does; which one is no matter.
-    pub(crate) fn new(any: GpsMs) -> Records
+    /// No epoch is closed yet. The table has this time until the first epoch is closed.
+    pub(crate) fn new(start: GpsMs) -> Records
         ensures follows { (listed : List Code) → HasClosed result listed [] }
         ensures below { (epoch : ℕ) → AllBelow result.tracks epoch }
     {
         Records {
             tracks: Tracks::new(),
-            shown: [None; PLACES],
-            table: EpochTable::new(any),
+            shown: [None; SIGNALS],
+            table: EpochTable::new(start),
             header_out: false,
             count: 0,
         }
@@ -84,7 +83,7 @@ impl Records {
 
     /// Writes the record of an epoch that closes, if it has one, and the header before the first.
     ///
-    /// After a fault nothing is said of the value.
+    /// After a fault nothing is said of the last phases, the header and the count.
     pub(crate) fn close<O: Sink>(
         &mut self,
         alloc: Global,
@@ -96,11 +95,14 @@ impl Records {
     ) -> Result<(), ConvertFault>
         requires ranges { All IsInRange cells.now }
         requires later { AllBelow self.old.tracks epoch }
-        ensures follows { OnOk result ((below : List EpochSetView) → HasClosed self.old setup.now.heading.listed below → HasClosed self.new setup.now.heading.listed (record { epoch = epoch; cells = cells.now } ∷ below)) }
-        ensures all { OnOk result ((below : List EpochSetView) → HasClosed self.old setup.now.heading.listed below
-            → O.taken out.new ≡ with_more (O.taken out.old) (closing_text setup.now (position_view position.now) epoch (is_some (first_time setup.now.heading.listed below)) (record_of setup.now.heading.listed (record { epoch = epoch; cells = cells.now }) below))) }
-        ensures part { (below : List EpochSetView) → HasClosed self.old setup.now.heading.listed below
-            → TakesPart (O.taken out.old) (O.taken out.new) (closing_text setup.now (position_view position.now) epoch (is_some (first_time setup.now.heading.listed below)) (record_of setup.now.heading.listed (record { epoch = epoch; cells = cells.now }) below)) }
+        ensures follows { OnOk result ((below : List EpochSetView) → HasClosed self.old setup.now.head.listed below
+            → HasClosed self.new setup.now.head.listed (record { epoch = epoch; cells = cells.now } ∷ below)) }
+        ensures all { OnOk result ((below : List EpochSetView) → HasClosed self.old setup.now.head.listed below
+            → O.taken out.new ≡ with_more (O.taken out.old)
+            (closing setup.now (position_view position.now) (record { epoch = epoch; cells = cells.now }) below)) }
+        ensures part { (below : List EpochSetView) → HasClosed self.old setup.now.head.listed below
+            → TakesPart (O.taken out.old) (O.taken out.new)
+            (closing setup.now (position_view position.now) (record { epoch = epoch; cells = cells.now }) below) }
         ensures later { OnOk result ((later : ℕ) → epoch < later → AllBelow self.new.tracks later) }
         ensures file_failed { NamesFailedWrites Stream.Out result (O.failures out.old) (O.failures out.new) }
         ensures fault { IfErr result IsOutFault }
@@ -125,8 +127,8 @@ impl Records {
     }
 }
 
-/// Writes the records of the epochs that are left, rising, with the header before the first one of
-/// the file.
+/// Writes the records of the epochs that are left, rising, and the header before the first record
+/// of the file.
 pub(crate) fn close_left<O: Sink>(
     alloc: Global,
     setup: &Setup,
@@ -136,8 +138,10 @@ pub(crate) fn close_left<O: Sink>(
     out: &mut O,
 ) -> Result<(), ConvertFault>
     requires above { AllAbove records.old left.old.sets }
-    ensures ok { OnOk result (ClosesEpochs setup.now (position_view position.now) records.old left.old.sets records.new (O.taken out.old) (O.taken out.new)) }
-    ensures err { OnErr result (ClosesEpochsInPart setup.now (position_view position.now) records.old left.old.sets (O.taken out.old) (O.taken out.new)) }
+    ensures ok { OnOk result (ClosesEpochs setup.now (position_view position.now) records.old left.old.sets records.new
+        (O.taken out.old) (O.taken out.new)) }
+    ensures err { OnErr result (ClosesEpochsInPart setup.now (position_view position.now) records.old left.old.sets
+        (O.taken out.old) (O.taken out.new)) }
     ensures file_failed { NamesFailedWrites Stream.Out result (O.failures out.old) (O.failures out.new) }
     ensures fault { IfErr result IsOutFault }
 {

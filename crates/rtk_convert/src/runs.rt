@@ -10,6 +10,7 @@ ghost use Rattle.rtk_convert.specs.ReadSteps.{AnyAtGreatest, HasCalled, SameFail
 ghost use Rattle.rtk_convert.specs.Steps.ReadLink.{ReadsLink, BreaksOffAfterRead, FailsRead, HasReadAll};
 ghost use Rattle.rtk_convert.specs.ReadHistory.{AllClosed};
 ghost use Rattle.rtk_convert.specs.Run.{FailsReading, StaysOpen, BreaksOffReading, BreaksOffRun};
+ghost use Rattle.rtk_convert.specs.Writing.{written};
 
 use crate::converter::Converter;
 use crate::counts::Counts;
@@ -19,7 +20,7 @@ use rtk_frame::{Sink, Source, read_one};
 use rtk_obs::GpsMs;
 use std::alloc::Global;
 
-// Is an epoch before another? `None` is before all.
+// Is an epoch before another one? `None` is before all epochs.
 fn is_before(epoch: Option<GpsMs>, other: Option<GpsMs>) -> bool
     ensures { Decides result (¬ (IsUpTo other epoch)) }
 {
@@ -69,11 +70,14 @@ fn read_link<R: Source, O: Sink, L: Sink>(
     ensures called { HasCalled R.calls readers.old readers.new 1 }
     ensures full { AnyAtGreatest R.calls readers.old → AnyAtGreatest R.calls readers.new }
     ensures ok { OnOk result ((h : History) → RepresentsHistory converter.old h → IsNextLink h link
-        → ReadsLink R.given R.is_at_end converter.old.conversion.settings h link readers.old readers.new converter.new (O.taken out.old) (O.taken out.new) (L.taken log.old) (L.taken log.new)) }
+        → ReadsLink R.given R.is_at_end converter.old.conversion.settings h link readers.old readers.new converter.new
+        (written (O.taken out.old) (L.taken log.old)) (written (O.taken out.new) (L.taken log.new))) }
     ensures err { IfErr result (λ fault. IsFrameFault fault → (h : History) → RepresentsHistory converter.old h
-        → BreaksOffAfterRead R.given converter.old.conversion.settings h link readers.old readers.new (O.taken out.old) (O.taken out.new) (L.taken log.old) (L.taken log.new)) }
+        → BreaksOffAfterRead R.given converter.old.conversion.settings h link readers.old readers.new
+        (written (O.taken out.old) (L.taken log.old)) (written (O.taken out.new) (L.taken log.new))) }
     ensures read_failed { (h : History) → RepresentsHistory converter.old h → IsOpen h link → (k : ℕ) → IsErrOf result (ConvertFault.Read k)
-        → (k ≡ link) × FailsRead R.given R.failures k readers.old readers.new (O.taken out.old) (O.taken out.new) (L.taken log.old) (L.taken log.new) }
+        → (k ≡ link) × FailsRead R.given R.failures k readers.old readers.new
+        (written (O.taken out.old) (L.taken log.old)) (written (O.taken out.new) (L.taken log.new)) }
     ensures fault { IfErr result (λ fault. (h : History) → RepresentsHistory converter.old h → IsOpen h link → IsReadFault fault) }
     ensures file_failed { NamesFailedWrites Stream.Out result (O.failures out.old) (O.failures out.new) }
     ensures report_failed { NamesFailedWrites Stream.Log result (L.failures log.old) (L.failures log.new) }
@@ -100,13 +104,17 @@ fn read_all<R: Source, O: Sink, L: Sink>(
     requires fresh { RepresentsHistory converter.old (new_history (length readers.old)) }
     ensures settings { converter.new.conversion.settings ≡ converter.old.conversion.settings }
     ensures reads { sum_by R.calls readers.new ≤ sum_by R.calls readers.old + max_reads }
-    ensures ok { OnOk result (HasReadAll R.given R.calls R.is_at_end converter.old.conversion.settings readers.old readers.new converter.new (O.taken out.old) (O.taken out.new) (L.taken log.old) (L.taken log.new)) }
+    ensures ok { OnOk result (HasReadAll R.given R.calls R.is_at_end converter.old.conversion.settings readers.old readers.new converter.new
+        (written (O.taken out.old) (L.taken log.old)) (written (O.taken out.new) (L.taken log.new))) }
     ensures err { IfErr result (λ fault. IsFrameFault fault
-        → BreaksOffReading R.given R.calls converter.old.conversion.settings readers.old readers.new (O.taken out.old) (O.taken out.new) (L.taken log.old) (L.taken log.new)) }
+        → BreaksOffReading R.given R.calls converter.old.conversion.settings readers.old readers.new
+        (written (O.taken out.old) (L.taken log.old)) (written (O.taken out.new) (L.taken log.new))) }
     ensures read_failed { (link : ℕ) → IsErrOf result (ConvertFault.Read link)
-        → FailsReading R.given R.failures R.calls converter.old.conversion.settings link readers.old readers.new (O.taken out.old) (O.taken out.new) (L.taken log.old) (L.taken log.new) }
+        → FailsReading R.given R.failures R.calls converter.old.conversion.settings link readers.old readers.new
+        (written (O.taken out.old) (L.taken log.old)) (written (O.taken out.new) (L.taken log.new)) }
     ensures endless { IsErrOf result ConvertFault.Endless
-        → StaysOpen R.given R.is_at_end converter.old.conversion.settings max_reads readers.old readers.new (O.taken out.old) (O.taken out.new) (L.taken log.old) (L.taken log.new)
+        → StaysOpen R.given R.is_at_end converter.old.conversion.settings max_reads readers.old readers.new
+        (written (O.taken out.old) (L.taken log.old)) (written (O.taken out.new) (L.taken log.new))
         × HasCalled R.calls readers.old readers.new max_reads }
     ensures fault { IfErr result IsReadingFault }
     ensures no_failed_read { ((link : ℕ) → ¬ (IsErrOf result (ConvertFault.Read link))) → SameFailures R.failures readers.old readers.new }
@@ -126,12 +134,13 @@ fn read_all<R: Source, O: Sink, L: Sink>(
     }
 }
 
-/// Converts what the readers give, each of them a link: the file goes to `out`, the report to `log`.
+/// Converts what the readers give, each of them a link: the file goes to `out`, the report to
+/// `log`.
 ///
-/// The next read is of the open link whose newest epoch is the least; a link that had none comes
-/// first, and of those alike the lowest. It asks for 512 bytes. A read of none closes the link, and
-/// when all are closed the conversion ends. The order in which messages come, and so which are
-/// late, depends on how many bytes each read gives.
+/// The next read is of the open link whose newest epoch is the least; a link that had no epoch yet
+/// comes first, and among equal ones the lowest number. It asks for 512 bytes. A read that gives
+/// none closes its link, and when all links are closed the conversion ends. The order in which
+/// messages come, and so which are late, depends on how many bytes each read gives.
 ///
 /// The clause `headline` is the promise of a conversion in one sentence; `calls_keep_promise` says
 /// the same of any calls of a `Converter`, and `set_has_one_file` that the set decides the file.
@@ -147,15 +156,19 @@ pub fn run<R: Source, O: Sink, L: Sink>(
     max_reads: u64,
 ) -> Result<Counts, ConvertFault>
     // Done: the promise.
-    ensures headline { IfOk result (λ counts. RunHeadline R.given R.calls R.is_at_end setup readers.old readers.new counts (O.taken out.old) (O.taken out.new) (L.taken log.old) (L.taken log.new)) }
+    ensures headline { IfOk result (λ counts. RunHeadline R.given R.calls R.is_at_end setup readers.old readers.new counts
+        (written (O.taken out.old) (L.taken log.old)) (written (O.taken out.new) (L.taken log.new))) }
 
     // Not done: what is out, as far as the run came.
     ensures breaks_off { IfErr result (λ fault. IsFrameFault fault
-        → BreaksOffRun R.given R.calls R.is_at_end setup readers.old readers.new (O.taken out.old) (O.taken out.new) (L.taken log.old) (L.taken log.new)) }
+        → BreaksOffRun R.given R.calls R.is_at_end setup readers.old readers.new
+        (written (O.taken out.old) (L.taken log.old)) (written (O.taken out.new) (L.taken log.new))) }
     ensures read_failed { (link : ℕ) → IsErrOf result (ConvertFault.Read link)
-        → FailsReading R.given R.failures R.calls setup link readers.old readers.new (O.taken out.old) (O.taken out.new) (L.taken log.old) (L.taken log.new) }
+        → FailsReading R.given R.failures R.calls setup link readers.old readers.new
+        (written (O.taken out.old) (L.taken log.old)) (written (O.taken out.new) (L.taken log.new)) }
     ensures endless { IsErrOf result ConvertFault.Endless
-        → StaysOpen R.given R.is_at_end setup max_reads readers.old readers.new (O.taken out.old) (O.taken out.new) (L.taken log.old) (L.taken log.new)
+        → StaysOpen R.given R.is_at_end setup max_reads readers.old readers.new
+        (written (O.taken out.old) (L.taken log.old)) (written (O.taken out.new) (L.taken log.new))
         × HasCalled R.calls readers.old readers.new max_reads }
     ensures untouched { IsErrOf result ConvertFault.Setup → (readers.new ≡ readers.old) × (out.new ≡ out.old) × (log.new ≡ log.old) }
 

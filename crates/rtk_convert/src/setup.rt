@@ -39,9 +39,9 @@ impl Model for Setup {
 
     ghost Value = { SetupView };
 
-    ghost view = { λ s. record { station = s.station; near = s.near; heading = s.head; window = s.window } };
+    ghost view = { λ s. record { station = s.station; near = s.near; head = s.head; window = s.window } };
 
-    ghost invariant = { λ s. IsSetupView (record { station = s.station; near = s.near; heading = s.head; window = s.window }) };
+    ghost invariant = { λ s. IsSetupView (record { station = s.station; near = s.near; head = s.head; window = s.window }) };
 }
 
 impl Setup {
@@ -49,9 +49,9 @@ impl Setup {
 
     /// The setup of these parts, if they are good; else the first cause why there is none.
     pub fn new(station: u16, near: GpsMs, head: Head, window: usize) -> Result<Setup, SetupFault>
-        ensures setup { IfOk result (λ s. s ≡ record { station = station; near = near; heading = head; window = window }) }
+        ensures setup { IfOk result (λ s. s ≡ record { station = station; near = near; head = head; window = window }) }
         ensures good { IfOk result IsSetupView }
-        ensures fault { IfErr result (IsSetupFault (record { station = station; near = near; heading = head; window = window })) }
+        ensures fault { IfErr result (IsSetupFault (record { station = station; near = near; head = head; window = window })) }
     {
         if station > 4095 {
             return Err(SetupFault::Station);
@@ -88,7 +88,7 @@ impl Setup {
 
     /// What is known of the file before its observations.
     pub fn head(&self) -> &Head
-        ensures value { result.now ≡ self.now.heading }
+        ensures value { result.now ≡ self.now.head }
         ensures good { IsHeadView result.now }
     {
         &self.head

@@ -1,4 +1,4 @@
--- What one frame adds to a conversion, and on which frames a call may break off.
+-- What one frame adds to a conversion, and at which frames a call may break off.
 use Rattle.std.specs.Prelude.{ℕ, List, ◌∷◌, Option, ◌≡◌}
 use Rattle.rtk_convert.specs.declared.frame_class.FrameClass.{FrameClass}
 use Rattle.rtk_convert.specs.declared.frame_class.FrameClass.TheVariants.{OtherMessage, Refused, Foreign, Dated}
@@ -6,45 +6,47 @@ use Rattle.rtk_convert.specs.FileOfArrivals.{file_so_far}
 use Rattle.rtk_convert.specs.FrameClass.{IsClassOfPayload, Found, arrivals}
 use Rattle.rtk_convert.specs.Report.{lines}
 use Rattle.rtk_convert.specs.Setup.{SetupView}
-use Rattle.rtk_convert.specs.Writing.{WritesRest}
+use Rattle.rtk_convert.specs.Writing.{Written}
+use Rattle.rtk_convert.specs.Converter.{WritesOn}
 use Rattle.rtk_convert.specs.Steps.WritingInPart.{WritesPartOfRest}
 use Rattle.rtk_convert.specs.Conversion.{ConversionView, RepresentsFound, found_on, AddsToOne}
 use Rattle.rtk_convert.specs.History.{epoch_found}
 
--- a frame with this finding arrives on a link after those before: the conversion then represents the frames with this
--- one, and what was written is what the file so far and the lines have past those before, of which one at least is empty
-pub record AcceptsFrameAs (old : ConversionView) (link : ℕ) (f : FrameClass) (before : List Found) (new : ConversionView) (out_old out_new log_old log_new : Option (List ℕ)) : Type 0 where
+-- a frame of this class comes on a link, after the frames `before`: the conversion then represents
+-- all of them, what the frame adds to the file and to the lines was written, and it adds to one of
+-- the two at most
+pub record AcceptsFrameAs (old : ConversionView) (link : ℕ) (f : FrameClass) (before : List Found) (new : ConversionView) (written_old written_new : Written) : Type 0 where
   pub represents : RepresentsFound new (found_on link f ∷ before)
-  pub out : WritesRest out_old out_new (file_so_far old.settings (arrivals before)) (file_so_far old.settings (arrivals (found_on link f ∷ before)))
-  pub log : WritesRest log_old log_new (lines old.settings.window before) (lines old.settings.window (found_on link f ∷ before))
+  pub writes : WritesOn old.settings before (found_on link f ∷ before) written_old written_new
   pub one : AddsToOne old.settings (found_on link f) before
 
--- the call breaks off: what was written is a first part of that
-pub record BreaksOffAtFrameAs (old : ConversionView) (link : ℕ) (f : FrameClass) (before : List Found) (out_old out_new log_old log_new : Option (List ℕ)) : Type 0 where
-  pub out : WritesPartOfRest out_old out_new (file_so_far old.settings (arrivals before)) (file_so_far old.settings (arrivals (found_on link f ∷ before)))
-  pub log : WritesPartOfRest log_old log_new (lines old.settings.window before) (lines old.settings.window (found_on link f ∷ before))
+-- the call breaks off: a first part of that was written
+pub record BreaksOffAtFrameAs (old : ConversionView) (link : ℕ) (f : FrameClass) (before : List Found) (written_old written_new : Written) : Type 0 where
+  pub out : WritesPartOfRest written_old.file written_new.file (file_so_far old.settings (arrivals before)) (file_so_far old.settings (arrivals (found_on link f ∷ before)))
+  pub log : WritesPartOfRest written_old.report written_new.report (lines old.settings.window before) (lines old.settings.window (found_on link f ∷ before))
   pub one : AddsToOne old.settings (found_on link f) before
 
--- whatever was found before
-abbrev pub AcceptsFrame : ConversionView → ℕ → List ℕ → ConversionView → Option (List ℕ) → Option (List ℕ) → Option (List ℕ) → Option (List ℕ) → Type 0
-AcceptsFrame old link payload new out_old out_new log_old log_new = (before : List Found) → RepresentsFound old before
-    → (f : FrameClass) × IsClassOfPayload old.settings payload f × AcceptsFrameAs old link f before new out_old out_new log_old log_new
+-- the same, whatever was found before
+abbrev pub AcceptsFrame : ConversionView → ℕ → List ℕ → ConversionView → Written → Written → Type 0
+AcceptsFrame old link payload new written_old written_new = (before : List Found) → RepresentsFound old before
+    → (f : FrameClass) × IsClassOfPayload old.settings payload f × AcceptsFrameAs old link f before new written_old written_new
 
-abbrev pub BreaksOffAtFrame : ConversionView → ℕ → List ℕ → Option (List ℕ) → Option (List ℕ) → Option (List ℕ) → Option (List ℕ) → Type 0
-BreaksOffAtFrame old link payload out_old out_new log_old log_new = (before : List Found) → RepresentsFound old before
-    → (f : FrameClass) × IsClassOfPayload old.settings payload f × BreaksOffAtFrameAs old link f before out_old out_new log_old log_new
+abbrev pub BreaksOffAtFrame : ConversionView → ℕ → List ℕ → Written → Written → Type 0
+BreaksOffAtFrame old link payload written_old written_new = (before : List Found) → RepresentsFound old before
+    → (f : FrameClass) × IsClassOfPayload old.settings payload f × BreaksOffAtFrameAs old link f before written_old written_new
 
--- another message, or one of another station, takes no memory and writes nothing
+-- a call may break off at a frame of this class; a message of another number or station takes no
+-- memory and writes nothing
 abbrev pub MayBreakOff : FrameClass → Type 0
 MayBreakOff OtherMessage = ⊥
 MayBreakOff (Refused fault) = Unit {0}
 MayBreakOff Foreign = ⊥
 MayBreakOff (Dated a) = Unit {0}
 
--- the payload comes to a finding on which a call may break off
+-- the payload has a class at which a call may break off
 abbrev pub HasCause : SetupView → List ℕ → Type 0
 HasCause s payload = (f : FrameClass) × IsClassOfPayload s payload f × MayBreakOff f
 
--- the same of the payload of a frame
+-- the observation epoch in the payload of a frame; `None` if it holds none
 abbrev pub IsEpochIn : SetupView → List ℕ → Option ℕ → Type 0
 IsEpochIn s payload epoch = (f : FrameClass) × IsClassOfPayload s payload f × (epoch ≡ epoch_found f)

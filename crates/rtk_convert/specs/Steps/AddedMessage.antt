@@ -13,7 +13,7 @@ use Rattle.rtk_convert.specs.FileOfArrivals.{file_so_far}
 use Rattle.rtk_convert.specs.Records.{HasClosed}
 use Rattle.rtk_convert.specs.Report.{frame_lines, counted_as}
 use Rattle.rtk_convert.specs.Conversion.{ConversionView}
-use Rattle.rtk_convert.specs.Writing.{WritesRest}
+use Rattle.rtk_convert.specs.Writing.{Written, WritesRest}
 use Rattle.rtk_convert.specs.Steps.WritingInPart.{WritesPartOfRest}
 
 -- the epoch that is closed by an arrival with this answer
@@ -23,28 +23,29 @@ closed_by (Taken closing found) = closing
 closed_by (Conflict found) = None
 closed_by Repeat = None
 
--- its window, and what it knows of the closed epochs, is what these arrivals give
+-- the conversion represents these arrivals: its window holds what is kept of them, and it knows the
+-- closed epochs
 pub record RepresentsEpochs (s : ConversionView) (before : List Arrival) : Type 0 where
   pub window : RepresentsArrivals s.window before
-  pub closed : HasClosed s.closed s.settings.heading.listed (closed s.settings.window before)
+  pub closed : HasClosed s.closed s.settings.head.listed (closed s.settings.window before)
 
--- an arrival after those before it
-pub record AddsMessageAs (old : ConversionView) (link : ℕ) (a : Arrival) (before : List Arrival) (new : ConversionView) (out_old out_new log_old log_new : Option (List ℕ)) : Type 0 where
+-- one more arrival: what the conversion represents after it, and what was written
+pub record AddsMessageAs (old : ConversionView) (link : ℕ) (a : Arrival) (before : List Arrival) (new : ConversionView) (written_old written_new : Written) : Type 0 where
   pub after : RepresentsEpochs new (a ∷ before)
   pub counts : new.counts ≡ counted_as (class_of old.settings.window a before) old.counts
-  pub out : WritesRest out_old out_new (file_so_far old.settings before) (file_so_far old.settings (a ∷ before))
-  pub log : log_new ≡ with_more log_old (frame_lines old.settings.window link (Dated a) before)
+  pub out : WritesRest written_old.file written_new.file (file_so_far old.settings before) (file_so_far old.settings (a ∷ before))
+  pub log : written_new.report ≡ with_more written_old.report (frame_lines old.settings.window link (Dated a) before)
 
--- the call breaks off
-pub record AddsMessagePartAs (old : ConversionView) (link : ℕ) (a : Arrival) (before : List Arrival) (out_old out_new log_old log_new : Option (List ℕ)) : Type 0 where
-  pub out : WritesPartOfRest out_old out_new (file_so_far old.settings before) (file_so_far old.settings (a ∷ before))
-  pub log : TakesPart log_old log_new (frame_lines old.settings.window link (Dated a) before)
+-- the call breaks off: a first part of that was written
+pub record AddsMessagePartAs (old : ConversionView) (link : ℕ) (a : Arrival) (before : List Arrival) (written_old written_new : Written) : Type 0 where
+  pub out : WritesPartOfRest written_old.file written_new.file (file_so_far old.settings before) (file_so_far old.settings (a ∷ before))
+  pub log : TakesPart written_old.report written_new.report (frame_lines old.settings.window link (Dated a) before)
 
--- whatever arrived before
-abbrev pub AddsMessage : ConversionView → ℕ → Arrival → ConversionView → Option (List ℕ) → Option (List ℕ) → Option (List ℕ) → Option (List ℕ) → Type 0
-AddsMessage old link a new out_old out_new log_old log_new =
-    (before : List Arrival) → RepresentsEpochs old before → AddsMessageAs old link a before new out_old out_new log_old log_new
+-- the same, whatever arrived before
+abbrev pub AddsMessage : ConversionView → ℕ → Arrival → ConversionView → Written → Written → Type 0
+AddsMessage old link a new written_old written_new =
+    (before : List Arrival) → RepresentsEpochs old before → AddsMessageAs old link a before new written_old written_new
 
-abbrev pub AddsMessageInPart : ConversionView → ℕ → Arrival → Option (List ℕ) → Option (List ℕ) → Option (List ℕ) → Option (List ℕ) → Type 0
-AddsMessageInPart old link a out_old out_new log_old log_new =
-    (before : List Arrival) → RepresentsEpochs old before → AddsMessagePartAs old link a before out_old out_new log_old log_new
+abbrev pub AddsMessageInPart : ConversionView → ℕ → Arrival → Written → Written → Type 0
+AddsMessageInPart old link a written_old written_new =
+    (before : List Arrival) → RepresentsEpochs old before → AddsMessagePartAs old link a before written_old written_new

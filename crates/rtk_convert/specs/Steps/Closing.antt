@@ -1,4 +1,4 @@
--- The left epochs are closed, and a conversion ends.
+-- The epochs that are left are closed, and a conversion ends.
 use Rattle.std.specs.Prelude.{◌≡◌, ℕ, List, ◌++◌, Option, All}
 use Rattle.rtk_collect.specs.EpochSet.{EpochSetView}
 use Rattle.rtk_rinex.specs.Header.{PositionView}
@@ -11,41 +11,41 @@ use Rattle.rtk_convert.specs.Records.{RecordsView, HasClosed}
 use Rattle.rtk_convert.specs.Report.{lines}
 use Rattle.rtk_convert.specs.Setup.{SetupView}
 use Rattle.rtk_convert.specs.Conversion.{ConversionView, RepresentsFound}
-use Rattle.rtk_convert.specs.Writing.{WritesRest}
+use Rattle.rtk_convert.specs.Writing.{Written, WritesRest}
 use Rattle.rtk_convert.specs.Steps.WritingInPart.{WritesPartOfRest}
 use Rattle.rtk_convert.specs.Finish.{all_counts, report_of}
 
--- all these epochs are above the last phases
+-- all last phases are of epochs below each of these
 abbrev pub AllAbove : RecordsView → List EpochSetView → Type 0
 AllAbove c epochs = All (λ e. AllBelow c.tracks e.epoch) epochs
 
--- these epochs closed, after those below
+-- these epochs were closed, after the lower epochs `below`
 pub record ClosesEpochsAs (s : SetupView) (site : PositionView) (old : RecordsView) (epochs below : List EpochSetView) (new : RecordsView) (out_old out_new : Option (List ℕ)) : Type 0 where
-  pub follows : HasClosed new s.heading.listed (epochs ++ below)
+  pub follows : HasClosed new s.head.listed (epochs ++ below)
   pub out : WritesRest out_old out_new (closed_text s site below) (closed_text s site (epochs ++ below))
 
--- whatever epochs were closed before
+-- the same, whatever epochs were closed before
 abbrev pub ClosesEpochs : SetupView → PositionView → RecordsView → List EpochSetView → RecordsView → Option (List ℕ) → Option (List ℕ) → Type 0
 ClosesEpochs s site old epochs new out_old out_new =
-    (below : List EpochSetView) → HasClosed old s.heading.listed below → ClosesEpochsAs s site old epochs below new out_old out_new
+    (below : List EpochSetView) → HasClosed old s.head.listed below → ClosesEpochsAs s site old epochs below new out_old out_new
 
 abbrev pub ClosesEpochsInPart : SetupView → PositionView → RecordsView → List EpochSetView → Option (List ℕ) → Option (List ℕ) → Type 0
 ClosesEpochsInPart s site old epochs out_old out_new =
-    (below : List EpochSetView) → HasClosed old s.heading.listed below → WritesPartOfRest out_old out_new (closed_text s site below) (closed_text s site (epochs ++ below))
+    (below : List EpochSetView) → HasClosed old s.head.listed below → WritesPartOfRest out_old out_new (closed_text s site below) (closed_text s site (epochs ++ below))
 
--- the end, whatever was found: what was written is what the file and the report have past what was out
-pub record FinishesConversionAs (old : ConversionView) (found : List Found) (counts : Counts) (out_old out_new log_old log_new : Option (List ℕ)) : Type 0 where
+-- the end: the rest of the file and of the report was written, and these are the counts
+pub record FinishesConversionAs (old : ConversionView) (found : List Found) (counts : Counts) (written_old written_new : Written) : Type 0 where
   pub counts_are : counts ≡ all_counts old.settings found
-  pub out : WritesRest out_old out_new (file_so_far old.settings (arrivals found)) (kept_file old.settings (arrivals found))
-  pub log : WritesRest log_old log_new (lines old.settings.window found) (report_of old.settings found)
+  pub out : WritesRest written_old.file written_new.file (file_so_far old.settings (arrivals found)) (kept_file old.settings (arrivals found))
+  pub log : WritesRest written_old.report written_new.report (lines old.settings.window found) (report_of old.settings found)
 
-abbrev pub FinishesConversion : ConversionView → Counts → Option (List ℕ) → Option (List ℕ) → Option (List ℕ) → Option (List ℕ) → Type 0
-FinishesConversion old counts out_old out_new log_old log_new = (found : List Found) → RepresentsFound old found → FinishesConversionAs old found counts out_old out_new log_old log_new
+abbrev pub FinishesConversion : ConversionView → Counts → Written → Written → Type 0
+FinishesConversion old counts written_old written_new = (found : List Found) → RepresentsFound old found → FinishesConversionAs old found counts written_old written_new
 
--- it breaks off
-pub record FinishesConversionPartAs (old : ConversionView) (found : List Found) (out_old out_new log_old log_new : Option (List ℕ)) : Type 0 where
-  pub out : WritesPartOfRest out_old out_new (file_so_far old.settings (arrivals found)) (kept_file old.settings (arrivals found))
-  pub log : WritesPartOfRest log_old log_new (lines old.settings.window found) (report_of old.settings found)
+-- the end breaks off: a first part of the rest was written
+pub record FinishesConversionPartAs (old : ConversionView) (found : List Found) (written_old written_new : Written) : Type 0 where
+  pub out : WritesPartOfRest written_old.file written_new.file (file_so_far old.settings (arrivals found)) (kept_file old.settings (arrivals found))
+  pub log : WritesPartOfRest written_old.report written_new.report (lines old.settings.window found) (report_of old.settings found)
 
-abbrev pub FinishesConversionInPart : ConversionView → Option (List ℕ) → Option (List ℕ) → Option (List ℕ) → Option (List ℕ) → Type 0
-FinishesConversionInPart old out_old out_new log_old log_new = (found : List Found) → RepresentsFound old found → FinishesConversionPartAs old found out_old out_new log_old log_new
+abbrev pub FinishesConversionInPart : ConversionView → Written → Written → Type 0
+FinishesConversionInPart old written_old written_new = (found : List Found) → RepresentsFound old found → FinishesConversionPartAs old found written_old written_new

@@ -4,22 +4,24 @@ use Rattle.rtk_convert.specs.Converter.{WritesOn, BreaksOffAt}
 use Rattle.rtk_convert.specs.FrameClass.{Found}
 use Rattle.rtk_convert.specs.History.{Finds, newest_on}
 use Rattle.rtk_convert.specs.Conversion.{ConversionView, RepresentsFound}
+use Rattle.rtk_convert.specs.Writing.{Written}
 
--- frames with these payloads come on a link, after those before: the conversion then represents all of them, the link
--- still has the newest epoch that came on it, and what was written is what the file so far and the lines have past those before
+-- frames with these payloads come on a link, after the frames `before`: the conversion then
+-- represents all of them, the link has the newest epoch that came on it, and what they add to the
+-- file and to the lines was written
 pub record AddsFramesAs (old : ConversionView) (link : ℕ) (payloads : List (List ℕ)) (before after : List Found) (new : ConversionView)
-    (newest_old newest_new : Option ℕ) (out_old out_new log_old log_new : Option (List ℕ)) : Type 0 where
+    (newest_old newest_new : Option ℕ) (written_old written_new : Written) : Type 0 where
   pub finds : Finds old.settings link payloads before after
   pub represents : RepresentsFound new after
   pub newest : newest_old ≡ newest_on link before → newest_new ≡ newest_on link after
-  pub writes : WritesOn old.settings before after out_old out_new log_old log_new
+  pub writes : WritesOn old.settings before after written_old written_new
 
--- whatever was found before
-abbrev pub AddsFrames : ConversionView → ℕ → List (List ℕ) → ConversionView → Option ℕ → Option ℕ → Option (List ℕ) → Option (List ℕ) → Option (List ℕ) → Option (List ℕ) → Type 0
-AddsFrames old link payloads new newest_old newest_new out_old out_new log_old log_new = (before : List Found) → RepresentsFound old before
-    → (after : List Found) × AddsFramesAs old link payloads before after new newest_old newest_new out_old out_new log_old log_new
+-- the same, whatever was found before
+abbrev pub AddsFrames : ConversionView → ℕ → List (List ℕ) → ConversionView → Option ℕ → Option ℕ → Written → Written → Type 0
+AddsFrames old link payloads new newest_old newest_new written_old written_new = (before : List Found) → RepresentsFound old before
+    → (after : List Found) × AddsFramesAs old link payloads before after new newest_old newest_new written_old written_new
 
--- it breaks off at one of them
-abbrev pub AddsFramesInPart : ConversionView → ℕ → List (List ℕ) → Option (List ℕ) → Option (List ℕ) → Option (List ℕ) → Option (List ℕ) → Type 0
-AddsFramesInPart old link payloads out_old out_new log_old log_new = (before : List Found) → RepresentsFound old before
-    → BreaksOffAt old.settings link payloads before out_old out_new log_old log_new
+-- a call breaks off at one of these frames
+abbrev pub AddsFramesInPart : ConversionView → ℕ → List (List ℕ) → Written → Written → Type 0
+AddsFramesInPart old link payloads written_old written_new = (before : List Found) → RepresentsFound old before
+    → BreaksOffAt old.settings link payloads before written_old written_new

@@ -6,9 +6,11 @@ use Rattle.rtk_convert.specs.History.{History}
 use Rattle.rtk_convert.specs.ReadHistory.{Read, IsNextRead, AllClosed, AllAtEnd, Gave}
 use Rattle.rtk_convert.specs.Setup.{SetupView}
 use Rattle.rtk_convert.specs.ReadSteps.{read_of, found_by_read, HasRead, HasCalled}
+use Rattle.rtk_convert.specs.Writing.{Written}
 
--- one more read, of a link: its bytes are taken, and what they find is written; one that gave none has met the end
-pub record ReadsLink {R : Type 0} (given : R → Option (List ℕ)) (is_at_end : R → Type 0) (s : SetupView) (h : History) (link : ℕ) (before after : List R) (new : ConverterView) (out_old out_new log_old log_new : Option (List ℕ)) : Type 0 where
+-- one more read of a link: its bytes are fed, and what the frames in them add is written; a read
+-- that gave no bytes has met the end
+pub record ReadsLink {R : Type 0} (given : R → Option (List ℕ)) (is_at_end : R → Type 0) (s : SetupView) (h : History) (link : ℕ) (before after : List R) (new : ConverterView) (written_old written_new : Written) : Type 0 where
   pub piece : List ℕ
   pub next : History
   pub is_next : IsNextRead s h (read_of link piece) next
@@ -16,27 +18,26 @@ pub record ReadsLink {R : Type 0} (given : R → Option (List ℕ)) (is_at_end :
   pub others : (k : ℕ) (none : R) → k ≢ link → slice_index_or after k none ≡ slice_index_or before k none
   pub at_end : (none : R) → piece ≡ [] → is_at_end (slice_index_or after link none)
   pub represents : RepresentsHistory new next
-  pub writes : WritesOn s h.found next.found out_old out_new log_old log_new
+  pub writes : WritesOn s h.found next.found written_old written_new
 
 -- a read after which the converter breaks off
-pub record BreaksOffAfterRead {R : Type 0} (given : R → Option (List ℕ)) (s : SetupView) (h : History) (link : ℕ) (before after : List R) (out_old out_new log_old log_new : Option (List ℕ)) : Type 0 where
+pub record BreaksOffAfterRead {R : Type 0} (given : R → Option (List ℕ)) (s : SetupView) (h : History) (link : ℕ) (before after : List R) (written_old written_new : Written) : Type 0 where
   pub piece : List ℕ
   pub few : length piece ≤ 512
   pub gave : Gave given before after (read_of link piece ∷ [])
-  pub breaks : BreaksOffAt s link (found_by_read link h piece) h.found out_old out_new log_old log_new
+  pub breaks : BreaksOffAt s link (found_by_read link h piece) h.found written_old written_new
 
 -- a read of a link failed, and nothing came of it
-pub record FailsRead {R : Type 0} (given : R → Option (List ℕ)) (failures : R → ℕ) (link : ℕ) (before after : List R) (out_old out_new log_old log_new : Option (List ℕ)) : Type 0 where
+pub record FailsRead {R : Type 0} (given : R → Option (List ℕ)) (failures : R → ℕ) (link : ℕ) (before after : List R) (written_old written_new : Written) : Type 0 where
   pub gave : Gave given before after []
   pub failed : (none : R) → CountRises (failures (slice_index_or before link none)) (failures (slice_index_or after link none))
-  pub out : out_new ≡ out_old
-  pub log : log_new ≡ log_old
+  pub written : written_new ≡ written_old
 
 -- all links were read to their ends, by as many calls as there are reads
-pub record HasReadAll {R : Type 0} (given : R → Option (List ℕ)) (calls : R → ℕ) (is_at_end : R → Type 0) (s : SetupView) (before after : List R) (new : ConverterView) (out_old out_new log_old log_new : Option (List ℕ)) : Type 0 where
+pub record HasReadAll {R : Type 0} (given : R → Option (List ℕ)) (calls : R → ℕ) (is_at_end : R → Type 0) (s : SetupView) (before after : List R) (new : ConverterView) (written_old written_new : Written) : Type 0 where
   pub reads : List Read
   pub history : History
-  pub has_read : HasRead given s before after reads history out_old out_new log_old log_new
+  pub has_read : HasRead given s before after reads history written_old written_new
   pub closed : AllClosed history
   pub called : HasCalled calls before after (length reads)
   pub at_end : AllAtEnd is_at_end after

@@ -1,4 +1,5 @@
--- The cells of an epoch are gone through: what is shown, and which phases are the last ones then.
+-- The cells of an epoch are taken one after another: what they show, and which phases are the last
+-- ones.
 use Rattle.std.specs.Prelude.{◌≡◌, ◌==◌, ℕ, Bool, List, Option, Some, None, IfSome, slice_index_or}
 use Rattle.rtk_obs.specs.declared.cell.Cell.{Cell}
 use Rattle.rtk_obs.specs.declared.cell.CellEntry.{CellEntry}
@@ -13,7 +14,7 @@ use Rattle.rtk_rinex.specs.declared.epoch_table.Observed.{Observed}
 use Rattle.rtk_rinex.specs.Record.{IsStrengthOrNone}
 use Rattle.rtk_convert.specs.Rows.{first_cell, observed_after}
 
--- all of them are of epochs below this one
+-- all last phases are of epochs below this one
 abbrev pub AllBelow : List (Option Track) → ℕ → Type 0
 AllBelow tracks epoch = (satellite : ℕ) (code : Code) → IsSatellite satellite → IsLater (track_at tracks satellite code) epoch
 
@@ -24,22 +25,27 @@ abbrev pub track_after : Option Track → Code → ℕ → Option Cell → Optio
 track_after last code epoch None = last
 track_after last code epoch (Some c) = last_after (band_of code) last (epoch_cell epoch c)
 
--- these cells of an epoch were gone through: the first of each satellite and code is shown, and its phase is the last one
+-- these cells of an epoch were taken: of each satellite and code the first cell is shown, and its
+-- phase is the last one
 pub record IsThrough (old : List (Option Track)) (epoch : ℕ) (cells : List CellEntry) (new : List (Option Track)) (shown : List (Option Observed)) : Type 0 where
   pub tracks : (satellite : ℕ) (code : Code) → IsSatellite satellite
       → track_at new satellite code ≡ track_after (track_at old satellite code) code epoch (first_cell cells satellite code)
   pub observed : (satellite : ℕ) (code : Code) → IsSatellite satellite
       → shown_at shown satellite code ≡ observed_after (track_at old satellite code) code epoch (first_cell cells satellite code)
 
--- if a satellite and code shows nothing yet, its last phase is of an epoch before this one
+-- if a satellite and code show nothing yet, their last phase is of an epoch before this one
 abbrev pub MayShow : List (Option Track) → List (Option Observed) → ℕ → Type 0
 MayShow tracks shown epoch =
     (satellite : ℕ) (code : Code) → IsSatellite satellite → shown_at shown satellite code ≡ None → IsLater (track_at tracks satellite code) epoch
 
--- the strengths shown are such as messages give
+-- no place shows anything
+abbrev pub ShowsNothing : List (Option Observed) → Type 0
+ShowsNothing shown = (k : ℕ) → slice_index_or shown k None ≡ None
+
+-- the strengths that are shown are strengths that messages can have
 abbrev pub AreStrengths : List (Option Observed) → Type 0
 AreStrengths shown = (k : ℕ) → IfSome (slice_index_or shown k None) (λ o. IsStrengthOrNone o.strength_millidbhz)
 
--- it is the place of a cell's satellite and code
+-- the cell has the place k by its satellite and code
 abbrev pub is_at : ℕ → CellEntry → Bool
 is_at k e = k == place_of_signal e.satellite e.code

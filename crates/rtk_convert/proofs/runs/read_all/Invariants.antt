@@ -4,12 +4,13 @@ use Rattle.rtk_convert.specs.Converter.{RepresentsHistory}
 use Rattle.rtk_convert.specs.History.{History}
 use Rattle.rtk_convert.specs.ReadSteps.{HasRead, HasCalled, SameFailures}
 use Rattle.rtk_convert.specs.ReadHistory.{Read, AreAtEnd}
+use Rattle.rtk_convert.specs.Writing.{written}
 use Rattle.rtk_convert.proofs.runs.read_all.Given as goal
 
 abbrev pub invariant-reads : goal.invariant-reads
 invariant-reads g l = record {
   so_far : (reads : List Read) × (h : History)
-      × HasRead g.R.Source.given l.fn.converter.conversion.settings l.fn.readers l.readers reads h (g.O.Sink.taken l.fn.out) (g.O.Sink.taken l.out) (g.L.Sink.taken l.fn.log) (g.L.Sink.taken l.log)
+      × HasRead g.R.Source.given l.fn.converter.conversion.settings l.fn.readers l.readers reads h (written (g.O.Sink.taken l.fn.out) (g.L.Sink.taken l.fn.log)) (written (g.O.Sink.taken l.out) (g.L.Sink.taken l.log))
       × RepresentsHistory l.converter h × (length reads ≡ l._made) × AreAtEnd g.R.Source.is_at_end l.readers h;
   settings : l.converter.conversion.settings ≡ l.fn.converter.conversion.settings;
   room : length l.buf ≡ 512;

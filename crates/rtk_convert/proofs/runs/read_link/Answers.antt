@@ -1,5 +1,6 @@
 use Rattle.std.proofs.Common.{Ok, refl, ap, ◌∙◌, arith}
 use Rattle.std.proofs.lemmas.Result.{IfErr-weaker, IfErr-at_err}
+use Rattle.rtk_convert.specs.Writing.{written}
 use Rattle.rtk_convert.proofs.WritingLemmas.{on_ok-map}
 use Rattle.rtk_convert.proofs.ReadLemmas.{calls-at_most, called, stays-full, reads-piece, reads-end, breaks-piece, breaks-end, open-goes, fault-read, no-failed}
 use Rattle.rtk_convert.proofs.runs.read_link.Goals as goal
@@ -25,12 +26,12 @@ returns-clause-called g c = called g.R.Source.given g.R.Source.failures g.R.Sour
 pub returns-then-count-eq0-clause-ok : goal.returns-then-count-eq0-clause-ok
 returns-then-count-eq0-clause-ok g c =
     on_ok-map c.close.result (λ closes h r n. reads-end g.R.Source.given g.R.Source.is_at_end g.R.Source.failures g.R.Source.calls c.args.converter.now.conversion.settings h c.args.link c.in-Ok.count c.args.readers.now c.read_one.new.sources c.read_one.new.buf c.close.new.self
-    (g.O.Sink.taken c.args.out.now) (g.O.Sink.taken c.close.new.out) (g.L.Sink.taken c.args.log.now) (g.L.Sink.taken c.close.new.log) c.if-count-eq0.true n c.in-Ok.ensures.read (λ none. c.in-Ok.ensures.at_end none (let room = c.requires.room in omega (arith, room)) (ap Ok c.if-count-eq0.true)) (closes h r)) c.close.ensures.ok
+    (written (g.O.Sink.taken c.args.out.now) (g.L.Sink.taken c.args.log.now)) (written (g.O.Sink.taken c.close.new.out) (g.L.Sink.taken c.close.new.log)) c.if-count-eq0.true n c.in-Ok.ensures.read (λ none. c.in-Ok.ensures.at_end none (let room = c.requires.room in omega (arith, room)) (ap Ok c.if-count-eq0.true)) (closes h r)) c.close.ensures.ok
 
 pub returns-then-count-eq0-clause-err : goal.returns-then-count-eq0-clause-err
 returns-then-count-eq0-clause-err g c =
     IfErr-weaker c.close.result _ _ (λ fault breaks frame h r. breaks-end g.R.Source.given g.R.Source.failures g.R.Source.calls c.args.converter.now.conversion.settings h c.args.link c.in-Ok.count c.args.readers.now c.read_one.new.sources c.read_one.new.buf
-    (g.O.Sink.taken c.args.out.now) (g.O.Sink.taken c.close.new.out) (g.L.Sink.taken c.args.log.now) (g.L.Sink.taken c.close.new.log) c.if-count-eq0.true c.in-Ok.ensures.read (breaks frame h r)) c.close.ensures.err
+    (written (g.O.Sink.taken c.args.out.now) (g.L.Sink.taken c.args.log.now)) (written (g.O.Sink.taken c.close.new.out) (g.L.Sink.taken c.close.new.log)) c.if-count-eq0.true c.in-Ok.ensures.read (breaks frame h r)) c.close.ensures.err
 
 pub returns-then-count-eq0-clause-read_failed : goal.returns-then-count-eq0-clause-read_failed
 returns-then-count-eq0-clause-read_failed g c = λ h r o k is_read. absurd (IfErr-at_err _ is_read (c.close.ensures.fault (open-goes c.args.converter.now h c.args.link r o)))
@@ -38,12 +39,12 @@ returns-then-count-eq0-clause-read_failed g c = λ h r o k is_read. absurd (IfEr
 pub returns-clause-ok : goal.returns-clause-ok
 returns-clause-ok g c =
     on_ok-map c.feed.result (λ feeds h r n. reads-piece g.R.Source.given g.R.Source.is_at_end g.R.Source.failures g.R.Source.calls c.args.converter.now.conversion.settings h c.args.link c.in-Ok.count c.args.readers.now c.read_one.new.sources c.read_one.new.buf c.feed.new.self
-    (g.O.Sink.taken c.args.out.now) (g.O.Sink.taken c.feed.new.out) (g.L.Sink.taken c.args.log.now) (g.L.Sink.taken c.feed.new.log) c.if-count-eq0.false c.in-Ok.ensures.bound (c.read_one.auto.buf ∙ c.requires.room) n c.in-Ok.ensures.read (feeds h r)) c.feed.ensures.ok
+    (written (g.O.Sink.taken c.args.out.now) (g.L.Sink.taken c.args.log.now)) (written (g.O.Sink.taken c.feed.new.out) (g.L.Sink.taken c.feed.new.log)) c.if-count-eq0.false c.in-Ok.ensures.bound (c.read_one.auto.buf ∙ c.requires.room) n c.in-Ok.ensures.read (feeds h r)) c.feed.ensures.ok
 
 pub returns-clause-err : goal.returns-clause-err
 returns-clause-err g c =
     IfErr-weaker c.feed.result _ _ (λ fault breaks frame h r. breaks-piece g.R.Source.given g.R.Source.failures g.R.Source.calls c.args.converter.now.conversion.settings h c.args.link c.in-Ok.count c.args.readers.now c.read_one.new.sources c.read_one.new.buf
-    (g.O.Sink.taken c.args.out.now) (g.O.Sink.taken c.feed.new.out) (g.L.Sink.taken c.args.log.now) (g.L.Sink.taken c.feed.new.log) c.if-count-eq0.false c.in-Ok.ensures.bound (c.read_one.auto.buf ∙ c.requires.room) c.in-Ok.ensures.read (breaks frame h r)) c.feed.ensures.err
+    (written (g.O.Sink.taken c.args.out.now) (g.L.Sink.taken c.args.log.now)) (written (g.O.Sink.taken c.feed.new.out) (g.L.Sink.taken c.feed.new.log)) c.if-count-eq0.false c.in-Ok.ensures.bound (c.read_one.auto.buf ∙ c.requires.room) c.in-Ok.ensures.read (breaks frame h r)) c.feed.ensures.err
 
 pub returns-clause-read_failed : goal.returns-clause-read_failed
 returns-clause-read_failed g c = λ h r o k is_read. absurd (IfErr-at_err _ is_read (c.feed.ensures.fault (open-goes c.args.converter.now h c.args.link r o)))

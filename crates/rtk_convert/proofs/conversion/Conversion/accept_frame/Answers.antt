@@ -2,15 +2,18 @@ use Rattle.std.proofs.Common.{true, false, sym, subst}
 use Rattle.std.proofs.lemmas.Result.{err_from_is_err_and}
 use Rattle.rtk_convert.specs.Conversion.{ConversionView, IsAhead}
 use Rattle.rtk_convert.specs.Steps.AcceptedFrame.{AcceptsFrame, BreaksOffAtFrame}
+use Rattle.rtk_convert.specs.Writing.{written}
 use Rattle.rtk_convert.proofs.ArriveLemmas.{state, arrives-still, breaks-still}
 use Rattle.rtk_convert.proofs.WritingLemmas.{on_err-from}
 use Rattle.rtk_convert.proofs.conversion.Conversion.accept_frame.Goals as goal
 
 pub returns-clause-ok : goal.returns-clause-ok
 returns-clause-ok g c =
-    subst (λ (x : ConversionView). AcceptsFrame x c.args.link c.args.payload.now (state c.self-2.inside.setup c.self-2.inside.collector c.self-2.inside.records c.self-2.inside.counts false) (g.O.Sink.taken c.args.out.now) (g.O.Sink.taken c.handle_payload.new.out) (g.L.Sink.taken c.args.log.now) (g.L.Sink.taken c.handle_payload.new.log)) c.self.view_is
-    (arrives-still c.self.inside.setup c.self-2.inside.setup c.self.inside.collector c.self-2.inside.collector c.self.inside.records c.self-2.inside.records c.self.inside.counts c.self-2.inside.counts true c.self-2.inside.stopped c.self.inside.stopped false c.args.link c.args.payload.now (g.O.Sink.taken c.args.out.now) (g.O.Sink.taken c.handle_payload.new.out) (g.L.Sink.taken c.args.log.now) (g.L.Sink.taken c.handle_payload.new.log)
-    (subst (λ (x : ConversionView). AcceptsFrame (state c.self.inside.setup c.self.inside.collector c.self.inside.records c.self.inside.counts true) c.args.link c.args.payload.now x (g.O.Sink.taken c.args.out.now) (g.O.Sink.taken c.handle_payload.new.out) (g.L.Sink.taken c.args.log.now) (g.L.Sink.taken c.handle_payload.new.log)) (sym c.self-2.view_is) c.in_ok-epoch.ensures.ok))
+    let before = written (g.O.Sink.taken c.args.out.now) (g.L.Sink.taken c.args.log.now) in
+    let after = written (g.O.Sink.taken c.handle_payload.new.out) (g.L.Sink.taken c.handle_payload.new.log) in
+    subst (λ (x : ConversionView). AcceptsFrame x c.args.link c.args.payload.now (state c.self-2.inside.setup c.self-2.inside.collector c.self-2.inside.records c.self-2.inside.counts false) before after) c.self.view_is
+    (arrives-still c.self.inside.setup c.self-2.inside.setup c.self.inside.collector c.self-2.inside.collector c.self.inside.records c.self-2.inside.records c.self.inside.counts c.self-2.inside.counts true c.self-2.inside.stopped c.self.inside.stopped false c.args.link c.args.payload.now before after
+    (subst (λ (x : ConversionView). AcceptsFrame (state c.self.inside.setup c.self.inside.collector c.self.inside.records c.self.inside.counts true) c.args.link c.args.payload.now x before after) (sym c.self-2.view_is) c.in_ok-epoch.ensures.ok))
 
 pub invariant_of-self-2 : goal.invariant_of-self-2
 invariant_of-self-2 g c = record {
@@ -20,9 +23,12 @@ invariant_of-self-2 g c = record {
 }
 
 pub returns-in_err-epoch-clause-err : goal.returns-in_err-epoch-clause-err
-returns-in_err-epoch-clause-err g c = on_err-from c.from_residual.result (λ going.
-    subst (λ (x : ConversionView). BreaksOffAtFrame x c.args.link c.args.payload.now (g.O.Sink.taken c.args.out.now) (g.O.Sink.taken c.handle_payload.new.out) (g.L.Sink.taken c.args.log.now) (g.L.Sink.taken c.handle_payload.new.log)) c.self.view_is
-    (breaks-still c.self.inside.setup c.self.inside.collector c.self.inside.records c.self.inside.counts true c.self.inside.stopped c.args.link c.args.payload.now (g.O.Sink.taken c.args.out.now) (g.O.Sink.taken c.handle_payload.new.out) (g.L.Sink.taken c.args.log.now) (g.L.Sink.taken c.handle_payload.new.log) c.in_err-epoch.ensures.err))
+returns-in_err-epoch-clause-err g c =
+    let before = written (g.O.Sink.taken c.args.out.now) (g.L.Sink.taken c.args.log.now) in
+    let after = written (g.O.Sink.taken c.handle_payload.new.out) (g.L.Sink.taken c.handle_payload.new.log) in
+    on_err-from c.from_residual.result (λ going.
+    subst (λ (x : ConversionView). BreaksOffAtFrame x c.args.link c.args.payload.now before after) c.self.view_is
+    (breaks-still c.self.inside.setup c.self.inside.collector c.self.inside.records c.self.inside.counts true c.self.inside.stopped c.args.link c.args.payload.now before after c.in_err-epoch.ensures.err))
 
 pub returns-in_err-epoch-clause-fault : goal.returns-in_err-epoch-clause-fault
 returns-in_err-epoch-clause-fault g c = λ going.

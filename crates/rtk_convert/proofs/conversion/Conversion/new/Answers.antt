@@ -17,7 +17,7 @@ invariant_of-result c = record {
 pub returns-clause-represents : goal.returns-clause-represents
 returns-clause-represents c = record {
   window = holds-new c.new-collector.result c.window.result c.new-collector.ensures;
-  closed = c.new-records.ensures.follows c.args.setup.heading.listed;
+  closed = c.new-records.ensures.follows c.args.setup.head.listed;
   counts = refl;
 }
 

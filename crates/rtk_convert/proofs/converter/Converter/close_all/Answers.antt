@@ -1,6 +1,7 @@
 use Rattle.std.proofs.lemmas.Grind.{common_steps}
 use Rattle.std.proofs.Common.{◌≡◌, ◌+◌, ℕ, length, None, suc, refl, sym, subst, ◌∙◌, arith}
 use Rattle.rtk_convert.specs.Converter.{ConverterView, refusal}
+use Rattle.rtk_convert.specs.Writing.{written}
 use Rattle.rtk_convert.proofs.ClosingLemmas.{ClosesSome, some-refused, none-given, closes-none, closes-past, closes-next, closes-off, closes-all}
 use Rattle.rtk_convert.proofs.WritingLemmas.{on_err-from}
 use Rattle.rtk_convert.proofs.converter.Converter.close_all.Goals as goal
@@ -11,11 +12,13 @@ links-init g c = record {
   settings = refl;
   out_same = refl;
   log_same = refl;
-  closed = λ h r. closes-none c.args.self.now h (g.O.Sink.taken c.args.out.now) (g.L.Sink.taken c.args.log.now) r;
+  closed = λ h r. closes-none c.args.self.now h (written (g.O.Sink.taken c.args.out.now) (g.L.Sink.taken c.args.log.now)) r;
 }
 
 pub links-preserved-then-is_some : goal.links-preserved-then-is_some
 links-preserved-then-is_some g c =
+    let before = written (g.O.Sink.taken c.args.out.now) (g.L.Sink.taken c.args.log.now) in
+    let after = written (g.O.Sink.taken c.links.out) (g.L.Sink.taken c.links.log) in
     let i = c.links.invariant in
     let next : suc c.links.link ≡ c.links.link + 1 = omega arith in
     let refused : refusal c.links.self c.links.link ≡ None → ⊥ = some-refused c.refusal.result (refusal c.links.self c.links.link) c.refusal.ensures (sym c.is_some.ensures ∙ c.if-is_some.true) in
@@ -24,12 +27,14 @@ links-preserved-then-is_some g c =
       settings = i.settings;
       out_same = i.out_same;
       log_same = i.log_same;
-      closed = λ h r. subst (λ (n : ℕ). ClosesSome c.args.self.now h n c.links.self (g.O.Sink.taken c.args.out.now) (g.O.Sink.taken c.links.out) (g.L.Sink.taken c.args.log.now) (g.L.Sink.taken c.links.log)) next
-          (closes-past c.args.self.now c.links.self h c.links.link (g.O.Sink.taken c.args.out.now) (g.O.Sink.taken c.links.out) (g.L.Sink.taken c.args.log.now) (g.L.Sink.taken c.links.log) refused (i.closed h r));
+      closed = λ h r. subst (λ (n : ℕ). ClosesSome c.args.self.now h n c.links.self before after) next
+          (closes-past c.args.self.now c.links.self h c.links.link before after refused (i.closed h r));
     }
 
 pub links-preserved : goal.links-preserved
 links-preserved g c =
+    let before = written (g.O.Sink.taken c.args.out.now) (g.L.Sink.taken c.args.log.now) in
+    let after = written (g.O.Sink.taken c.close.new.out) (g.L.Sink.taken c.close.new.log) in
     let i = c.links.invariant in
     let next : suc c.links.link ≡ c.links.link + 1 = omega arith in
     let none : refusal c.links.self c.links.link ≡ None = none-given c.refusal.result (refusal c.links.self c.links.link) c.refusal.ensures (sym c.is_some.ensures ∙ c.if-is_some.false) in
@@ -38,8 +43,8 @@ links-preserved g c =
       settings = c.close.ensures.settings ∙ i.settings;
       out_same = c.in_ok-close.ensures.file_failed ∙ i.out_same;
       log_same = c.in_ok-close.ensures.report_failed ∙ i.log_same;
-      closed = λ h r. subst (λ (n : ℕ). ClosesSome c.args.self.now h n c.close.new.self (g.O.Sink.taken c.args.out.now) (g.O.Sink.taken c.close.new.out) (g.L.Sink.taken c.args.log.now) (g.L.Sink.taken c.close.new.log)) next
-          (closes-next c.args.self.now c.links.self c.close.new.self h c.links.link (g.O.Sink.taken c.args.out.now) (g.O.Sink.taken c.links.out) (g.O.Sink.taken c.close.new.out) (g.L.Sink.taken c.args.log.now) (g.L.Sink.taken c.links.log) (g.L.Sink.taken c.close.new.log)
+      closed = λ h r. subst (λ (n : ℕ). ClosesSome c.args.self.now h n c.close.new.self before after) next
+          (closes-next c.args.self.now c.links.self c.close.new.self h c.links.link before (written (g.O.Sink.taken c.links.out) (g.L.Sink.taken c.links.log)) after
           i.settings none (i.closed h r) c.in_ok-close.ensures.ok);
     }
 
@@ -49,7 +54,7 @@ returns-in_err-close-clause-err g c =
     let none : refusal c.links.self c.links.link ≡ None = none-given c.refusal.result (refusal c.links.self c.links.link) c.refusal.ensures (sym c.is_some.ensures ∙ c.if-is_some.false) in
     on_err-from c.from_residual.result (λ h r. (
       c.links.link,
-      closes-off c.args.self.now c.links.self h c.links.link (g.O.Sink.taken c.args.out.now) (g.O.Sink.taken c.links.out) (g.O.Sink.taken c.close.new.out) (g.L.Sink.taken c.args.log.now) (g.L.Sink.taken c.links.log) (g.L.Sink.taken c.close.new.log)
+      closes-off c.args.self.now c.links.self h c.links.link (written (g.O.Sink.taken c.args.out.now) (g.L.Sink.taken c.args.log.now)) (written (g.O.Sink.taken c.links.out) (g.L.Sink.taken c.links.log)) (written (g.O.Sink.taken c.close.new.out) (g.L.Sink.taken c.close.new.log))
           i.settings none (i.closed h r) (c.in_err-close.ensures.err (c.in_err-close.ensures.fault none)),
     ))
 
@@ -60,4 +65,4 @@ returns-clause-ok g c =
     let le = c.links.auto.link-end in
     let end : c.links.link ≡ c.len-link-end.result = grind (arith) in
     let all : c.links.link ≡ length c.args.self.now.links = subst (λ (s : ConverterView). c.links.link ≡ length s.links) c.self.view_is (end ∙ len) in
-    closes-all c.args.self.now c.links.self c.links.link (g.O.Sink.taken c.args.out.now) (g.O.Sink.taken c.links.out) (g.L.Sink.taken c.args.log.now) (g.L.Sink.taken c.links.log) all c.links.invariant.closed
+    closes-all c.args.self.now c.links.self c.links.link (written (g.O.Sink.taken c.args.out.now) (g.L.Sink.taken c.args.log.now)) (written (g.O.Sink.taken c.links.out) (g.L.Sink.taken c.links.log)) all c.links.invariant.closed

@@ -2,27 +2,33 @@ use Rattle.std.proofs.Common.{◌≡◌, false, sym, subst}
 use Rattle.rtk_convert.specs.Converter.{ConverterView, FinishesConverter}
 use Rattle.rtk_convert.specs.Failure.{IsFrameFault}
 use Rattle.rtk_convert.specs.Steps.Closing.{FinishesConversion, FinishesConversionInPart}
+use Rattle.rtk_convert.specs.Writing.{written}
 use Rattle.rtk_convert.proofs.ClosingLemmas.{ends, ends-part}
 use Rattle.rtk_convert.proofs.WritingLemmas.{if_ok-map, if_err-map}
 use Rattle.rtk_convert.proofs.converter.Converter.finish.Goals as goal
 
 pub returns-clause-ok : goal.returns-clause-ok
 returns-clause-ok g c =
+    let before = written (g.O.Sink.taken c.args.out.now) (g.L.Sink.taken c.args.log.now) in
+    let mid = written (g.O.Sink.taken c.close_all.new.out) (g.L.Sink.taken c.close_all.new.log) in
+    let after = written (g.O.Sink.taken c.finish.new.out) (g.L.Sink.taken c.finish.new.log) in
     if_ok-map c.finish.result
-    (λ counts. FinishesConversion c.closing.inside.conversion counts (g.O.Sink.taken c.close_all.new.out) (g.O.Sink.taken c.finish.new.out) (g.L.Sink.taken c.close_all.new.log) (g.L.Sink.taken c.finish.new.log))
-    (λ counts. FinishesConverter c.args.self counts (g.O.Sink.taken c.args.out.now) (g.O.Sink.taken c.finish.new.out) (g.L.Sink.taken c.args.log.now) (g.L.Sink.taken c.finish.new.log))
-    (λ counts f. ends c.args.self c.close_all.new.self counts (g.O.Sink.taken c.args.out.now) (g.O.Sink.taken c.close_all.new.out) (g.O.Sink.taken c.finish.new.out) (g.L.Sink.taken c.args.log.now) (g.L.Sink.taken c.close_all.new.log) (g.L.Sink.taken c.finish.new.log)
+    (λ counts. FinishesConversion c.closing.inside.conversion counts mid after)
+    (λ counts. FinishesConverter c.args.self counts before after)
+    (λ counts f. ends c.args.self c.close_all.new.self counts before mid after
     c.in_ok-close_all.ensures.settings c.in_ok-close_all.ensures.ok
-    (subst (λ (s : ConverterView). FinishesConversion s.conversion counts (g.O.Sink.taken c.close_all.new.out) (g.O.Sink.taken c.finish.new.out) (g.L.Sink.taken c.close_all.new.log) (g.L.Sink.taken c.finish.new.log)) c.closing.view_is f))
+    (subst (λ (s : ConverterView). FinishesConversion s.conversion counts mid after) c.closing.view_is f))
     c.finish.ensures.ok
 
 pub returns-clause-err : goal.returns-clause-err
 returns-clause-err g c =
+    let mid = written (g.O.Sink.taken c.close_all.new.out) (g.L.Sink.taken c.close_all.new.log) in
+    let after = written (g.O.Sink.taken c.finish.new.out) (g.L.Sink.taken c.finish.new.log) in
     let going : c.closing.inside.conversion.stopped ≡ false = subst (λ (s : ConverterView). s.conversion.stopped ≡ false) (sym c.closing.view_is) c.in_ok-close_all.ensures.going in
     if_err-map c.finish.result IsFrameFault
-    (λ part. ends-part c.args.self c.close_all.new.self (g.O.Sink.taken c.args.out.now) (g.O.Sink.taken c.close_all.new.out) (g.O.Sink.taken c.finish.new.out) (g.L.Sink.taken c.args.log.now) (g.L.Sink.taken c.close_all.new.log) (g.L.Sink.taken c.finish.new.log)
+    (λ part. ends-part c.args.self c.close_all.new.self (written (g.O.Sink.taken c.args.out.now) (g.L.Sink.taken c.args.log.now)) mid after
     c.in_ok-close_all.ensures.settings c.in_ok-close_all.ensures.ok
-    (subst (λ (s : ConverterView). FinishesConversionInPart s.conversion (g.O.Sink.taken c.close_all.new.out) (g.O.Sink.taken c.finish.new.out) (g.L.Sink.taken c.close_all.new.log) (g.L.Sink.taken c.finish.new.log)) c.closing.view_is (part going)))
+    (subst (λ (s : ConverterView). FinishesConversionInPart s.conversion mid after) c.closing.view_is (part going)))
     c.finish.ensures.err
 
 pub returns-clause-file_failed : goal.returns-clause-file_failed

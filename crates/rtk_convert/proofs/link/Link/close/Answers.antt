@@ -1,5 +1,6 @@
 use Rattle.std.proofs.Common.{◌++◌, [], ◌∷◌, refl, ◌∙◌}
 use Rattle.std.proofs.lemmas.Result.{err_from_is_err_and}
+use Rattle.rtk_convert.specs.Writing.{written}
 use Rattle.rtk_convert.proofs.GatheringLemmas.{gathers-none, gathers-more, breaks-off, finds-left}
 use Rattle.rtk_convert.proofs.WritingLemmas.{on_err-from}
 use Rattle.rtk_convert.proofs.link.Link.close.Goals as goal
@@ -11,7 +12,7 @@ frames-init g c = record {
   settings = refl;
   out_same = refl;
   log_same = refl;
-  taken = ([], refl, gathers-none c.args.conversion.now c.args.number c.args.self.now.newest (g.O.Sink.taken c.args.out.now) (g.L.Sink.taken c.args.log.now));
+  taken = ([], refl, gathers-none c.args.conversion.now c.args.number c.args.self.now.newest (written (g.O.Sink.taken c.args.out.now) (g.L.Sink.taken c.args.log.now)));
 }
 
 pub frames-preserved : goal.frames-preserved
@@ -29,8 +30,7 @@ frames-preserved g c =
         i.taken.0 ++ c.in-Some.payload.now ∷ [],
         s.taken,
         gathers-more c.args.conversion.now c.frames.conversion c.accept_frame.new.self c.args.number i.taken.0 c.in-Some.payload.now c.in_ok-epoch.epoch c.args.self.now.newest c.frames.self.newest c.later-self.result
-            (g.O.Sink.taken c.args.out.now) (g.O.Sink.taken c.frames.out) (g.O.Sink.taken c.accept_frame.new.out)
-            (g.L.Sink.taken c.args.log.now) (g.L.Sink.taken c.frames.log) (g.L.Sink.taken c.accept_frame.new.log)
+            (written (g.O.Sink.taken c.args.out.now) (g.L.Sink.taken c.args.log.now)) (written (g.O.Sink.taken c.frames.out) (g.L.Sink.taken c.frames.log)) (written (g.O.Sink.taken c.accept_frame.new.out) (g.L.Sink.taken c.accept_frame.new.log))
             i.settings i.taken.2 c.in_ok-epoch.ensures.ok c.in_ok-epoch.ensures.epoch c.later-self.ensures,
       );
     }
@@ -41,8 +41,7 @@ returns-in_err-epoch-clause-err g c =
     let holds = c.rest.follows.holds-at-none in
     let s = finds-left c.args.self.now.scanner.pending c.frames.self.scanner.pending i.taken.0 c.in-Some.payload c.rest.follows.lender-at-none i.taken.1 (rw c.in-Some.is at holds.2) in
     on_err-from c.from_residual.result (breaks-off c.args.conversion.now c.frames.conversion c.args.number _ i.taken.0 _ c.in-Some.payload.now c.args.self.now.newest c.frames.self.newest
-    (g.O.Sink.taken c.args.out.now) (g.O.Sink.taken c.frames.out) (g.O.Sink.taken c.accept_frame.new.out)
-    (g.L.Sink.taken c.args.log.now) (g.L.Sink.taken c.frames.log) (g.L.Sink.taken c.accept_frame.new.log)
+    (written (g.O.Sink.taken c.args.out.now) (g.L.Sink.taken c.args.log.now)) (written (g.O.Sink.taken c.frames.out) (g.L.Sink.taken c.frames.log)) (written (g.O.Sink.taken c.accept_frame.new.out) (g.L.Sink.taken c.accept_frame.new.log))
     i.settings s.split i.taken.2 (c.in_err-epoch.ensures.err i.going))
 
 pub returns-in_err-epoch-clause-fault : goal.returns-in_err-epoch-clause-fault

@@ -1,5 +1,6 @@
 use Rattle.std.proofs.Common.{◌++◌, ◌∷◌, [], refl, ◌∙◌, arith}
 use Rattle.std.proofs.lemmas.Result.{err_from_is_err_and}
+use Rattle.rtk_convert.specs.Writing.{written}
 use Rattle.rtk_convert.proofs.GatheringLemmas.{gathers-none, gathers-more, breaks-off, finds-next}
 use Rattle.rtk_convert.proofs.WritingLemmas.{on_err-from}
 use Rattle.rtk_convert.proofs.link.Link.feed.Goals as goal
@@ -14,7 +15,7 @@ frames-init g c = record {
   out_same = refl;
   log_same = refl;
   waiting = refl;
-  taken = ([], refl, gathers-none c.args.conversion.now c.args.number c.args.self.now.newest (g.O.Sink.taken c.args.out.now) (g.L.Sink.taken c.args.log.now));
+  taken = ([], refl, gathers-none c.args.conversion.now c.args.number c.args.self.now.newest (written (g.O.Sink.taken c.args.out.now) (g.L.Sink.taken c.args.log.now)));
 }
 
 pub frames-preserved : goal.frames-preserved
@@ -36,8 +37,7 @@ frames-preserved g c =
         i.taken.0 ++ c.in-Found.payload.now ∷ [],
         s.taken,
         gathers-more c.args.conversion.now c.frames.conversion c.accept_frame.new.self c.args.number i.taken.0 c.in-Found.payload.now c.in_ok-epoch.epoch c.args.self.now.newest c.frames.self.newest c.later-self.result
-            (g.O.Sink.taken c.args.out.now) (g.O.Sink.taken c.frames.out) (g.O.Sink.taken c.accept_frame.new.out)
-            (g.L.Sink.taken c.args.log.now) (g.L.Sink.taken c.frames.log) (g.L.Sink.taken c.accept_frame.new.log)
+            (written (g.O.Sink.taken c.args.out.now) (g.L.Sink.taken c.args.log.now)) (written (g.O.Sink.taken c.frames.out) (g.L.Sink.taken c.frames.log)) (written (g.O.Sink.taken c.accept_frame.new.out) (g.L.Sink.taken c.accept_frame.new.log))
             i.settings i.taken.2 c.in_ok-epoch.ensures.ok c.in_ok-epoch.ensures.epoch c.later-self.ensures,
       );
     }
@@ -49,8 +49,7 @@ returns-in_err-epoch-clause-err g c =
     let s = finds-next c.args.self.now.scanner.pending c.args.piece.now c.frames.self.scanner.pending c.frames.at c.feed-fed.result.used i.taken.0 c.in-Found.payload c.feed-fed.follows.lender-at-none
     i.within c.feed-fed.ensures.used i.taken.1 i.waiting (rw c.in-Found.is at holds.2) in
     on_err-from c.from_residual.result (breaks-off c.args.conversion.now c.frames.conversion c.args.number _ i.taken.0 _ c.in-Found.payload.now c.args.self.now.newest c.frames.self.newest
-    (g.O.Sink.taken c.args.out.now) (g.O.Sink.taken c.frames.out) (g.O.Sink.taken c.accept_frame.new.out)
-    (g.L.Sink.taken c.args.log.now) (g.L.Sink.taken c.frames.log) (g.L.Sink.taken c.accept_frame.new.log)
+    (written (g.O.Sink.taken c.args.out.now) (g.L.Sink.taken c.args.log.now)) (written (g.O.Sink.taken c.frames.out) (g.L.Sink.taken c.frames.log)) (written (g.O.Sink.taken c.accept_frame.new.out) (g.L.Sink.taken c.accept_frame.new.log))
     i.settings s.split i.taken.2 (c.in_err-epoch.ensures.err i.going))
 
 pub returns-in_err-epoch-clause-fault : goal.returns-in_err-epoch-clause-fault

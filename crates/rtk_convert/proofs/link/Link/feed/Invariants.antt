@@ -1,9 +1,10 @@
 use Rattle.std.proofs.Common.{◌≡◌, ◌≤◌, ◌+◌, ◌-◌, ℕ, false, List, ◌++◌, length, drop}
 use Rattle.rtk_frame.specs.Frames.{final_frames, payloads, pending}
 use Rattle.rtk_convert.specs.Steps.LinkFrames.{AddsFrames}
+use Rattle.rtk_convert.specs.Writing.{written}
 use Rattle.rtk_convert.proofs.link.Link.feed.Given as goal
 
--- some frames arrived, and the others stand in what is left
+-- some frames were taken, and the others stand in what is left
 abbrev pub invariant-frames : goal.invariant-frames
 invariant-frames g l = record {
   within : l.at ≤ length l.piece;
@@ -15,7 +16,7 @@ invariant-frames g l = record {
   log_same : g.L.Sink.failures l.log ≡ g.L.Sink.failures l.fn.log;
   waiting : pending (l.fn.self.scanner.pending ++ l.piece) ≡ pending (l.self.scanner.pending ++ drop l.at l.piece);
   taken : (done : List (List ℕ)) × (payloads (final_frames (l.fn.self.scanner.pending ++ l.piece)) ≡ done ++ payloads (final_frames (l.self.scanner.pending ++ drop l.at l.piece)))
-      × AddsFrames l.fn.conversion l.number done l.conversion l.fn.self.newest l.self.newest (g.O.Sink.taken l.fn.out) (g.O.Sink.taken l.out) (g.L.Sink.taken l.fn.log) (g.L.Sink.taken l.log);
+      × AddsFrames l.fn.conversion l.number done l.conversion l.fn.self.newest l.self.newest (written (g.O.Sink.taken l.fn.out) (g.L.Sink.taken l.fn.log)) (written (g.O.Sink.taken l.out) (g.L.Sink.taken l.log));
 }
 
 abbrev pub decreases-frames : goal.decreases-frames

@@ -14,10 +14,10 @@ returns-then-not-has_record-clause-follows g c = λ below f.
     let e : EpochSetView = record { epoch = c.args.epoch; cells = c.args.cells.now } in
     let listed = c.codes-listed.ensures.value ∙ ap (λ (h : HeadView). h.listed) c.head.ensures.value in
     let old : RecordsView = record { tracks = c.self.inside.tracks; header_out = c.self.inside.header_out; count = c.self.inside.count } in
-    let before = subst (λ (x : RecordsView). HasClosed x c.args.setup.now.heading.listed below) (sym c.self.view_is) f in
+    let before = subst (λ (x : RecordsView). HasClosed x c.args.setup.now.head.listed below) (sym c.self.view_is) f in
     let inside = subst (λ (l : List Code). HasClosed old l below) (sym listed) before in
     let text = c.in_ok-has_record.ensures.any ∙ ap (λ (t : EpochTableView). is_any (record_text t)) (c.fill_table.ensures.table below inside.phases) ∙ ap (λ (l : List Code). is_any (record_of l e below)) listed in
-    follows-no old (record { tracks = c.fill_table.new.tracks; header_out = c.self.inside.header_out; count = c.self.inside.count }) c.args.setup.now.heading.listed e below
+    follows-no old (record { tracks = c.fill_table.new.tracks; header_out = c.self.inside.header_out; count = c.self.inside.count }) c.args.setup.now.head.listed e below
     (c.fill_table.ensures.phases below before.phases) refl refl (sym text ∙ c.if-not-has_record.true) before
 
 pub returns-clause-follows : goal.returns-clause-follows
@@ -25,8 +25,8 @@ returns-clause-follows g c = λ below f.
     let e : EpochSetView = record { epoch = c.args.epoch; cells = c.args.cells.now } in
     let listed = c.codes-listed.ensures.value ∙ ap (λ (h : HeadView). h.listed) c.head.ensures.value in
     let old : RecordsView = record { tracks = c.self.inside.tracks; header_out = c.self.inside.header_out; count = c.self.inside.count } in
-    let before = subst (λ (x : RecordsView). HasClosed x c.args.setup.now.heading.listed below) (sym c.self.view_is) f in
+    let before = subst (λ (x : RecordsView). HasClosed x c.args.setup.now.head.listed below) (sym c.self.view_is) f in
     let inside = subst (λ (l : List Code). HasClosed old l below) (sym listed) before in
     let text = c.in_ok-has_record.ensures.any ∙ ap (λ (t : EpochTableView). is_any (record_text t)) (c.fill_table.ensures.table below inside.phases) ∙ ap (λ (l : List Code). is_any (record_of l e below)) listed in
-    follows-yes old (record { tracks = c.fill_table.new.tracks; header_out = true; count = c.saturating_add-self-inside.result }) c.args.setup.now.heading.listed e below
+    follows-yes old (record { tracks = c.fill_table.new.tracks; header_out = true; count = c.saturating_add-self-inside.result }) c.args.setup.now.head.listed e below
     (c.fill_table.ensures.phases below before.phases) refl c.saturating_add-self-inside.ensures (sym text ∙ c.if-not-has_record.false) before
