@@ -71,9 +71,9 @@ closes-none old h o r = record {
 }
 
 -- the next is closed already
-pub closes-past : (old now : ConverterView) (h : History) (i : ℕ) (o o' : Written) → (refusal now i ≡ None → ⊥)
+pub closes-past : {old now : ConverterView} {h : History} {i : ℕ} {o o' : Written} → (refusal now i ≡ None → ⊥)
     → ClosesSome old h i now o o' → ClosesSome old h (suc i) now o o'
-closes-past old now h i o o' refused c = record {
+closes-past {old} {now} {h} {i} {o} {o'} refused c = record {
   mid = c.mid;
   closed = (c.mid, c.closed, inr (λ unended. refused (open-accepted now c.mid i c.represents unended), refl));
   represents = c.represents;
@@ -81,9 +81,9 @@ closes-past old now h i o o' refused c = record {
 }
 
 -- the next is closed now
-pub closes-next : (old now new : ConverterView) (h : History) (i : ℕ) (o o1 o2 : Written) → now.conversion.settings ≡ old.conversion.settings → refusal now i ≡ None
+pub closes-next : {old now new : ConverterView} {h : History} {i : ℕ} {o o1 o2 : Written} → now.conversion.settings ≡ old.conversion.settings → refusal now i ≡ None
     → ClosesSome old h i now o o1 → ClosesLink now i new o1 o2 → ClosesSome old h (suc i) new o o2
-closes-next old now new h i o o1 o2 settings none c closes =
+closes-next {old} {now} {new} {h} {i} {o} {o1} {o2} settings none c closes =
     let (next, after, represents, writes) = closes c.mid c.represents in
     record {
       mid = next;
@@ -93,9 +93,9 @@ closes-next old now new h i o o1 o2 settings none c closes =
     }
 
 -- its closing breaks off
-pub closes-off : (old now : ConverterView) (h : History) (i : ℕ) (o o1 o2 : Written) → now.conversion.settings ≡ old.conversion.settings → refusal now i ≡ None
+pub closes-off : {old now : ConverterView} {h : History} {i : ℕ} {o o1 o2 : Written} → now.conversion.settings ≡ old.conversion.settings → refusal now i ≡ None
     → ClosesSome old h i now o o1 → ClosesLinkInPart now i o1 o2 → BreaksOffClosing old.conversion.settings h i o o2
-closes-off old now h i o o1 o2 settings none c part = record {
+closes-off {old} {now} {h} {i} {o} {o1} {o2} settings none c part = record {
   mid = c.mid;
   closed = c.closed;
   is_open = accepted-open now c.mid i c.represents none;
@@ -104,18 +104,18 @@ closes-off old now h i o o1 o2 settings none c part = record {
 }
 
 -- all are closed
-pub closes-all : (old now : ConverterView) (count : ℕ) (o o' : Written) → count ≡ length old.links
+pub closes-all : {old now : ConverterView} {count : ℕ} {o o' : Written} → count ≡ length old.links
     → ((h : History) → RepresentsHistory old h → ClosesSome old h count now o o') → ClosesAllLinks old now o o'
-closes-all old now count o o' all c = λ h r.
+closes-all {old} {now} {count} {o} {o'} all c = λ h r.
     let some = c h r in
     let many : count ≡ length h.links = all ∙ are-many old.links h.links 0 h.found r.links in
     (some.mid, subst (λ (n : ℕ). IsAfterClosingAll old.conversion.settings h n some.mid) many some.closed, some.represents, some.writes)
 
 -- ---- the end
 
-pub ends : (old closed : ConverterView) (counts : Counts) (o o1 o2 : Written) → closed.conversion.settings ≡ old.conversion.settings
+pub ends : {old closed : ConverterView} {counts : Counts} {o o1 o2 : Written} → closed.conversion.settings ≡ old.conversion.settings
     → ClosesAllLinks old closed o o1 → FinishesConversion closed.conversion counts o1 o2 → FinishesConverter old counts o o2
-ends old closed counts o o1 o2 settings all finishes = λ h r.
+ends {old} {closed} {counts} {o} {o1} {o2} settings all finishes = λ h r.
     let (last, after, represents, writes) = all h r in
     let f = finishes last.found represents.found in (
       last,
@@ -130,9 +130,9 @@ ends old closed counts o o1 o2 settings all finishes = λ h r.
 pub ends-closing : (old : ConverterView) (o o' : Written) → ClosesAllLinksInPart old o o' → FinishesConverterInPart old o o'
 ends-closing old o o' part = λ h r. inl (part h r)
 
-pub ends-part : (old closed : ConverterView) (o o1 o2 : Written) → closed.conversion.settings ≡ old.conversion.settings
+pub ends-part : {old closed : ConverterView} {o o1 o2 : Written} → closed.conversion.settings ≡ old.conversion.settings
     → ClosesAllLinks old closed o o1 → FinishesConversionInPart closed.conversion o1 o2 → FinishesConverterInPart old o o2
-ends-part old closed o o1 o2 settings all part = λ h r.
+ends-part {old} {closed} {o} {o1} {o2} settings all part = λ h r.
     let (last, after, represents, writes) = all h r in
     let f = part last.found represents.found in
     inr (record {

@@ -224,11 +224,11 @@ links-new (suc count) n = (record { closed = refl; waiting = λ q. sym nothing-w
 
 -- ---- a piece
 
-pub feeds : (old : ConverterView) (conversion : ConversionView) (i : ℕ) (piece : List ℕ) (l new : Link) (o o' : Written)
+pub feeds : {old : ConverterView} {conversion : ConversionView} {i : ℕ} {piece : List ℕ} {l new : Link} {o o' : Written}
     → slice_get old.links i ≡ Some l → l.scanner.ended ≡ false → conversion.stopped ≡ false → new.scanner.ended ≡ false → new.scanner.pending ≡ pending (l.scanner.pending ++ piece)
     → AddsFrames old.conversion i (payloads (final_frames (l.scanner.pending ++ piece))) conversion l.newest new.newest o o'
     → FeedsPiece old i piece (record { conversion = conversion; links = set old.links i new }) o o'
-feeds old conversion i piece l new o o' there unended going still waits gathers = λ h r.
+feeds {old} {conversion} {i} {piece} {l} {new} {o} {o'} there unended going still waits gathers = λ h r.
     let at = link-at i i 0 l old.links h.links h.found r.links there (omega arith) in
     let is_open : at.past.is_closed ≡ false = sym at.is.closed ∙ unended in
     let (after, g) = gathers h.found r.found in
@@ -250,10 +250,10 @@ feeds old conversion i piece l new o o' there unended going still waits gathers 
       g.writes,
     )
 
-pub feeds-part : (old : ConverterView) (i : ℕ) (piece : List ℕ) (l : Link) (o o' : Written)
+pub feeds-part : {old : ConverterView} {i : ℕ} (piece : List ℕ) {l : Link} {o o' : Written}
     → slice_get old.links i ≡ Some l → l.scanner.ended ≡ false
     → AddsFramesInPart old.conversion i (payloads (final_frames (l.scanner.pending ++ piece))) o o' → FeedsPieceInPart old i piece o o'
-feeds-part old i piece l o o' there unended gathers = λ h r.
+feeds-part {old} {i} piece {l} {o} {o'} there unended gathers = λ h r.
     let at = link-at i i 0 l old.links h.links h.found r.links there (omega arith) in
     let is_open : at.past.is_closed ≡ false = sym at.is.closed ∙ unended in
     let found : payloads (final_frames (l.scanner.pending ++ piece)) ≡ found_by_piece (fed_on i h.links) piece =
@@ -262,11 +262,11 @@ feeds-part old i piece l o o' there unended gathers = λ h r.
 
 -- ---- a close
 
-pub closes : (old : ConverterView) (conversion : ConversionView) (i : ℕ) (l new : Link) (o o' : Written)
+pub closes : {old : ConverterView} {conversion : ConversionView} {i : ℕ} {l : Link} (new : Link) {o o' : Written}
     → slice_get old.links i ≡ Some l → l.scanner.ended ≡ false → conversion.stopped ≡ false → new.scanner.ended ≡ true
     → AddsFrames old.conversion i (payloads (frames l.scanner.pending)) conversion l.newest new.newest o o'
     → ClosesLink old i (record { conversion = conversion; links = set old.links i new }) o o'
-closes old conversion i l new o o' there unended going ended gathers = λ h r.
+closes {old} {conversion} {i} {l} new {o} {o'} there unended going ended gathers = λ h r.
     let at = link-at i i 0 l old.links h.links h.found r.links there (omega arith) in
     let is_open : at.past.is_closed ≡ false = sym at.is.closed ∙ unended in
     let (after, g) = gathers h.found r.found in
@@ -284,10 +284,10 @@ closes old conversion i l new o o' there unended going ended gathers = λ h r.
       g.writes,
     )
 
-pub closes-part : (old : ConverterView) (i : ℕ) (l : Link) (o o' : Written)
+pub closes-part : {old : ConverterView} {i : ℕ} {l : Link} {o o' : Written}
     → slice_get old.links i ≡ Some l → l.scanner.ended ≡ false
     → AddsFramesInPart old.conversion i (payloads (frames l.scanner.pending)) o o' → ClosesLinkInPart old i o o'
-closes-part old i l o o' there unended gathers = λ h r.
+closes-part {old} {i} {l} {o} {o'} there unended gathers = λ h r.
     let at = link-at i i 0 l old.links h.links h.found r.links there (omega arith) in
     let is_open : at.past.is_closed ≡ false = sym at.is.closed ∙ unended in
     let found : payloads (frames l.scanner.pending) ≡ found_by_close (fed_on i h.links) =

@@ -41,12 +41,12 @@ pub record SomeClosed (s : SetupView) (site : PositionView) (held now : List Epo
 pub some-none : (s : SetupView) (site : PositionView) (held : List EpochSetView) (c : RecordsView) (o : Option (List ℕ)) → SomeClosed s site held held c c o o
 some-none s site held c o = record { gone = []; split = sym (append-nil held); wrote = λ below f. (f, writes-none o _ _ refl) }
 
-pub some-more : (s : SetupView) (site : PositionView) (held now next : List EpochSetView) (e : EpochSetView) (first last last' : RecordsView) (o o' o'' : Option (List ℕ))
+pub some-more : {s : SetupView} {site : PositionView} {held now next : List EpochSetView} {e : EpochSetView} {first last last' : RecordsView} {o o' o'' : Option (List ℕ)}
     → SomeClosed s site held now first last o o' → now ≡ next ++ e ∷ []
     → ((below : List EpochSetView) → HasClosed last s.head.listed below → HasClosed last' s.head.listed (e ∷ below))
     → ((below : List EpochSetView) → HasClosed last s.head.listed below → o'' ≡ with_more o' (closing s site e below))
     → SomeClosed s site held next first last' o o''
-some-more s site held now next e first last last' o o' o'' l cut follows out = record {
+some-more {s} {site} {held} {now} {next} {e} {first} {last} {last'} {o} {o'} {o''} l cut follows out = record {
   gone = e ∷ l.gone;
   split = l.split ∙ ap (λ t. t ++ l.gone) cut ∙ append_assoc next (e ∷ []) l.gone;
   wrote = λ below f.
@@ -66,11 +66,11 @@ some-all s site held now first last o o' l none = λ below f.
       out = subst (λ (t : List EpochSetView). WritesRest o o' (closed_text s site below) (closed_text s site (t ++ below))) (sym all) w.1;
     }
 
-pub some-part : (s : SetupView) (site : PositionView) (held now next : List EpochSetView) (e : EpochSetView) (first last : RecordsView) (o o' o'' : Option (List ℕ))
+pub some-part : {s : SetupView} {site : PositionView} {held now : List EpochSetView} (next : List EpochSetView) (e : EpochSetView) {first last : RecordsView} {o o' o'' : Option (List ℕ)}
     → SomeClosed s site held now first last o o' → now ≡ next ++ e ∷ []
     → ((below : List EpochSetView) → HasClosed last s.head.listed below → TakesPart o' o'' (closing s site e below))
     → ClosesEpochsInPart s site first held o o''
-some-part s site held now next e first last o o' o'' l cut part = λ below f.
+some-part {s} {site} {held} {now} next e {first} {last} {o} {o'} {o''} l cut part = λ below f.
     let w = l.wrote below f in
     let rest : List EpochSetView = l.gone ++ below in
     let g = closed-grows s site next (e ∷ rest) in
@@ -98,11 +98,11 @@ file-text s w A p size holds is =
     ∙ ap (file_of s (position_view p)) (sym (kept-all s w A size holds))
     ∙ file-closed s (position_view p) (w.sets ++ closed s.window A)
 
-pub finishes : (s : SetupView) (w : CollectorView) (c c' : RecordsView) (k k' : Counts) (b : Bool) (p : Position) (o : Written) (file : Option (List ℕ)) (o' : Written) → w.size ≡ s.window
+pub finishes : {s : SetupView} {w : CollectorView} {c c' : RecordsView} {k k' : Counts} {b : Bool} {p : Position} {o : Written} {file : Option (List ℕ)} {o' : Written} → w.size ≡ s.window
     → ((before : List Arrival) → RepresentsArrivals w before → IsPositionOf w.size before p) → ClosesEpochs s (position_view p) c w.sets c' o.file file
     → o'.file ≡ with_more file (header_before s (position_view p) s.near c'.header_out) → k' ≡ record k { epochs = c'.count } → o'.report ≡ with_more o.report (count_lines k')
     → FinishesConversion (state s w c k b) k' o o'
-finishes s w c c' k k' b p o file o' size position closes header counts wrote = λ found rep.
+finishes {s} {w} {c} {c'} {k} {k'} {b} {p} {o} {file} {o'} size position closes header counts wrote = λ found rep.
     let A : List Arrival = arrivals found in
     let is = position A rep.window in
     let t = closes (closed s.window A) rep.closed in
@@ -124,9 +124,9 @@ log-none : (s : SetupView) (found : List Found) (l : Option (List ℕ)) → Writ
 log-none s found l = part-none l (lines s.window found) (report_of s found) (count_lines (all_counts s found)) refl
 
 -- in a record
-pub finish-part-records : (s : SetupView) (w : CollectorView) (c : RecordsView) (k : Counts) (b : Bool) (p : Position) (o : Written) (file : Option (List ℕ)) → w.size ≡ s.window
+pub finish-part-records : {s : SetupView} {w : CollectorView} {c : RecordsView} {k : Counts} {b : Bool} {p : Position} {o : Written} {file : Option (List ℕ)} → w.size ≡ s.window
     → ((before : List Arrival) → RepresentsArrivals w before → IsPositionOf w.size before p) → ClosesEpochsInPart s (position_view p) c w.sets o.file file → FinishesConversionInPart (state s w c k b) o (written file o.report)
-finish-part-records s w c k b p o file size position closes = λ found rep.
+finish-part-records {s} {w} {c} {k} {b} {p} {o} {file} size position closes = λ found rep.
     let A : List Arrival = arrivals found in
     let is = position A rep.window in
     record {
@@ -136,10 +136,10 @@ finish-part-records s w c k b p o file size position closes = λ found rep.
     }
 
 -- in the last header
-pub finish-part-header : (s : SetupView) (w : CollectorView) (c c' : RecordsView) (k : Counts) (b : Bool) (p : Position) (o : Written) (mid file : Option (List ℕ)) → w.size ≡ s.window
+pub finish-part-header : {s : SetupView} {w : CollectorView} {c c' : RecordsView} {k : Counts} {b : Bool} {p : Position} {o : Written} {mid file : Option (List ℕ)} → w.size ≡ s.window
     → ((before : List Arrival) → RepresentsArrivals w before → IsPositionOf w.size before p) → ClosesEpochs s (position_view p) c w.sets c' o.file mid
     → TakesPart mid file (header_before s (position_view p) s.near c'.header_out) → FinishesConversionInPart (state s w c k b) o (written file o.report)
-finish-part-header s w c c' k b p o mid file size position closes part = λ found rep.
+finish-part-header {s} {w} {c} {c'} {k} {b} {p} {o} {mid} {file} size position closes part = λ found rep.
     let A : List Arrival = arrivals found in
     let is = position A rep.window in
     let t = closes (closed s.window A) rep.closed in
@@ -152,8 +152,8 @@ finish-part-header s w c c' k b p o mid file size position closes part = λ foun
     }
 
 -- in the counts
-pub finish-part-counts : (old : ConversionView) (k : Counts) (o o' : Written) → FinishesConversion old k o (written o'.file (with_more o.report (count_lines k))) → TakesPart o.report o'.report (count_lines k) → FinishesConversionInPart old o o'
-finish-part-counts old k o o' whole part = λ found rep.
+pub finish-part-counts : {old : ConversionView} {k : Counts} {o o' : Written} → FinishesConversion old k o (written o'.file (with_more o.report (count_lines k))) → TakesPart o.report o'.report (count_lines k) → FinishesConversionInPart old o o'
+finish-part-counts {old} {k} {o} {o'} whole part = λ found rep.
     let t = whole found rep in
     record {
       out = part-all o.file o'.file _ _ t.out;

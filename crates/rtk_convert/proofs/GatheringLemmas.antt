@@ -110,10 +110,10 @@ gathers-none old link n o = λ before represents. (
 newest-more : (link : ℕ) (f : FrameClass) (found : List FoundFrame) → newest_on link (found_on link f ∷ found) ≡ later_of (epoch_found f) (newest_on link found)
 newest-more link f found = grind (arith, common_steps)
 
-pub gathers-more : (old mid new : ConversionView) (link : ℕ) (done : List (List ℕ)) (payload : List ℕ) (epoch n0 n1 n2 : Option ℕ) (o0 o1 o2 : Written)
+pub gathers-more : {old mid new : ConversionView} {link : ℕ} {done : List (List ℕ)} (payload : List ℕ) {epoch n0 n1 n2 : Option ℕ} {o0 o1 o2 : Written}
     → mid.settings ≡ old.settings → AddsFrames old link done mid n0 n1 o0 o1 → AcceptsFrame mid link payload new o1 o2 → IsEpochIn mid.settings payload epoch → n2 ≡ later_of epoch n1
     → AddsFrames old link (done ++ payload ∷ []) new n0 n2 o0 o2
-gathers-more old mid new link done payload epoch n0 n1 n2 o0 o1 o2 settings gathers arrives is newest = λ before represents.
+gathers-more {old} {mid} {new} {link} {done} payload {epoch} {n0} {n1} {n2} {o0} {o1} {o2} settings gathers arrives is newest = λ before represents.
     let (found, g) = gathers before represents in
     let (f, comes, a) = arrives found g.represents in
     let same : is.0 ≡ f = comes-once mid.settings payload is.0 f is.1 comes in (
@@ -129,10 +129,10 @@ gathers-more old mid new link done payload epoch n0 n1 n2 o0 o1 o2 settings gath
 pub writes-into : (a b c : Option (List ℕ)) (x y z : List ℕ) → WritesRest a b x y → WritesPartOfRest b c y z → WritesInto a c x y z
 writes-into a b c x y z p q = (p.0, q.0, q.1, p.1, q.2, q.3 ∙ ap (λ t. with_more t q.0) p.2 ∙ with_more-with_more a p.0 q.0)
 
-pub breaks-off : (old mid : ConversionView) (link : ℕ) (all done left : List (List ℕ)) (payload : List ℕ) (n0 n1 : Option ℕ) (o0 o1 o2 : Written)
+pub breaks-off : {old mid : ConversionView} {link : ℕ} {all done : List (List ℕ)} (left : List (List ℕ)) (payload : List ℕ) {n0 n1 : Option ℕ} {o0 o1 o2 : Written}
     → mid.settings ≡ old.settings → all ≡ done ++ (payload ∷ left) → AddsFrames old link done mid n0 n1 o0 o1 → BreaksOffAtFrame mid link payload o1 o2
     → AddsFramesInPart old link all o0 o2
-breaks-off old mid link all done left payload n0 n1 o0 o1 o2 settings split gathers breaks = λ before represents.
+breaks-off {old} {mid} {link} {all} {done} left payload {n0} {n1} {o0} {o1} {o2} settings split gathers breaks = λ before represents.
     let (found, g) = gathers before represents in
     let (f, comes, b) = breaks found g.represents in
     let out = subst (λ (s : SetupView). WritesPartOfRest o1.file o2.file (file_so_far s (arrivals found)) (file_so_far s (arrivals (found_on link f ∷ found)))) settings b.out in

@@ -10,8 +10,7 @@ returns-in_err-close-clause-err g c =
     let e : EpochSetView = record { epoch = c.epoch-epoch.result; cells = c.cells-cells.result.now } in
     let same : c.in-Some.set ≡ e =
     ap (λ (t : ℕ). record c.in-Some.set { epoch = t }) (sym c.epoch-epoch.ensures) ∙ ap (λ xs. record { epoch = c.epoch-epoch.result; cells = xs }) (sym c.cells-cells.ensures.value) in
-    on_err-from c.from_residual.result (some-part c.args.setup.now (position_view c.args.position.now) c.args.left.now.sets c.left.left.sets c.next_left.new.self.sets e c.args.records.now c.left.records
-    (g.O.Sink.taken c.args.out.now) (g.O.Sink.taken c.left.out) (g.O.Sink.taken c.close.new.out) c.left.invariant.some
+    on_err-from c.from_residual.result (some-part c.next_left.new.self.sets e c.left.invariant.some
     (c.in-Some.ensures.next ∙ ap (λ (x : EpochSetView). c.next_left.new.self.sets ++ x ∷ []) same) c.close.ensures.part)
 
 pub left-preserved : goal.left-preserved
@@ -20,8 +19,7 @@ left-preserved g c =
     let same : c.in-Some.set ≡ e =
     ap (λ (t : ℕ). record c.in-Some.set { epoch = t }) (sym c.epoch-epoch.ensures) ∙ ap (λ xs. record { epoch = c.epoch-epoch.result; cells = xs }) (sym c.cells-cells.ensures.value) in
     record {
-      some = some-more c.args.setup.now (position_view c.args.position.now) c.args.left.now.sets c.left.left.sets c.next_left.new.self.sets e c.args.records.now c.left.records c.close.new.self
-          (g.O.Sink.taken c.args.out.now) (g.O.Sink.taken c.left.out) (g.O.Sink.taken c.close.new.out) c.left.invariant.some
+      some = some-more c.left.invariant.some
           (c.in-Some.ensures.next ∙ ap (λ (x : EpochSetView). c.next_left.new.self.sets ++ x ∷ []) same) c.in_ok-close.ensures.follows c.in_ok-close.ensures.all;
       above = λ k d lt sat code hs.
           let below = c.in-Some.ensures.least k d lt in

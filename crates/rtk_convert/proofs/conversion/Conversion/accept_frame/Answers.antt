@@ -12,7 +12,7 @@ returns-clause-ok g c =
     let before = written (g.O.Sink.taken c.args.out.now) (g.L.Sink.taken c.args.log.now) in
     let after = written (g.O.Sink.taken c.handle_payload.new.out) (g.L.Sink.taken c.handle_payload.new.log) in
     subst (λ (x : ConversionView). AcceptsFrame x c.args.link c.args.payload.now (state c.self-2.inside.setup c.self-2.inside.collector c.self-2.inside.records c.self-2.inside.counts false) before after) c.self.view_is
-    (arrives-still c.self.inside.setup c.self-2.inside.setup c.self.inside.collector c.self-2.inside.collector c.self.inside.records c.self-2.inside.records c.self.inside.counts c.self-2.inside.counts true c.self-2.inside.stopped c.self.inside.stopped false c.args.link c.args.payload.now before after
+    (arrives-still c.args.payload.now
     (subst (λ (x : ConversionView). AcceptsFrame (state c.self.inside.setup c.self.inside.collector c.self.inside.records c.self.inside.counts true) c.args.link c.args.payload.now x before after) (sym c.self-2.view_is) c.in_ok-epoch.ensures.ok))
 
 pub invariant_of-self-2 : goal.invariant_of-self-2
@@ -28,7 +28,7 @@ returns-in_err-epoch-clause-err g c =
     let after = written (g.O.Sink.taken c.handle_payload.new.out) (g.L.Sink.taken c.handle_payload.new.log) in
     on_err-from c.from_residual.result (λ going.
     subst (λ (x : ConversionView). BreaksOffAtFrame x c.args.link c.args.payload.now before after) c.self.view_is
-    (breaks-still c.self.inside.setup c.self.inside.collector c.self.inside.records c.self.inside.counts true c.self.inside.stopped c.args.link c.args.payload.now before after c.in_err-epoch.ensures.err))
+    (breaks-still c.args.payload.now c.in_err-epoch.ensures.err))
 
 pub returns-in_err-epoch-clause-fault : goal.returns-in_err-epoch-clause-fault
 returns-in_err-epoch-clause-fault g c = λ going.

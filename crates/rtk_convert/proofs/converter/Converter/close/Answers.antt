@@ -19,8 +19,7 @@ returns-clause-ok g c =
     slice_get_read c.self.inside.links.items _ c.args.link c.index_mut.result.now refl (accepted-within (converter c.self.inside.conversion c.self.inside.links.items) c.args.link none) c.index_mut.ensures.value in
     let unended = (accepted (converter c.self.inside.conversion c.self.inside.links.items) c.args.link none).is_open c.index_mut.result.now there in
     on_ok-two c.close.result (λ going all. subst (λ (s : ConverterView). ClosesLink s c.args.link (converter c.close.new.conversion (set c.self.inside.links.items c.args.link c.close.new.self)) before after) c.self.view_is
-    (closes (converter c.self.inside.conversion c.self.inside.links.items) c.close.new.conversion c.args.link c.index_mut.result.now c.close.new.self
-    before after
+    (closes c.close.new.self
     there unended going c.close.ensures.ended all))
     c.close.ensures.going c.close.ensures.ok
 
@@ -34,8 +33,7 @@ returns-clause-err g c =
     slice_get_read c.self.inside.links.items _ c.args.link c.index_mut.result.now refl (accepted-within (converter c.self.inside.conversion c.self.inside.links.items) c.args.link none) c.index_mut.ensures.value in
     let unended = (accepted (converter c.self.inside.conversion c.self.inside.links.items) c.args.link none).is_open c.index_mut.result.now there in
     if_err-map c.close.result IsFrameFault (λ part. subst (λ (s : ConverterView). ClosesLinkInPart s c.args.link before after) c.self.view_is
-    (closes-part (converter c.self.inside.conversion c.self.inside.links.items) c.args.link c.index_mut.result.now
-    before after
+    (closes-part
     there unended part))
     c.close.ensures.err
 

@@ -28,7 +28,7 @@ links-preserved-then-is_some g c =
       out_same = i.out_same;
       log_same = i.log_same;
       closed = λ h r. subst (λ (n : ℕ). ClosesSome c.args.self.now h n c.links.self before after) next
-          (closes-past c.args.self.now c.links.self h c.links.link before after refused (i.closed h r));
+          (closes-past refused (i.closed h r));
     }
 
 pub links-preserved : goal.links-preserved
@@ -44,7 +44,7 @@ links-preserved g c =
       out_same = c.in_ok-close.ensures.file_failed ∙ i.out_same;
       log_same = c.in_ok-close.ensures.report_failed ∙ i.log_same;
       closed = λ h r. subst (λ (n : ℕ). ClosesSome c.args.self.now h n c.close.new.self before after) next
-          (closes-next c.args.self.now c.links.self c.close.new.self h c.links.link before (written (g.O.Sink.taken c.links.out) (g.L.Sink.taken c.links.log)) after
+          (closes-next
           i.settings none (i.closed h r) c.in_ok-close.ensures.ok);
     }
 
@@ -54,7 +54,7 @@ returns-in_err-close-clause-err g c =
     let none : refusal c.links.self c.links.link ≡ None = none-given c.refusal.result (refusal c.links.self c.links.link) c.refusal.ensures (sym c.is_some.ensures ∙ c.if-is_some.false) in
     on_err-from c.from_residual.result (λ h r. (
       c.links.link,
-      closes-off c.args.self.now c.links.self h c.links.link (written (g.O.Sink.taken c.args.out.now) (g.L.Sink.taken c.args.log.now)) (written (g.O.Sink.taken c.links.out) (g.L.Sink.taken c.links.log)) (written (g.O.Sink.taken c.close.new.out) (g.L.Sink.taken c.close.new.log))
+      closes-off
           i.settings none (i.closed h r) (c.in_err-close.ensures.err (c.in_err-close.ensures.fault none)),
     ))
 
@@ -65,4 +65,4 @@ returns-clause-ok g c =
     let le = c.links.auto.link-end in
     let end : c.links.link ≡ c.len-link-end.result = grind (arith) in
     let all : c.links.link ≡ length c.args.self.now.links = subst (λ (s : ConverterView). c.links.link ≡ length s.links) c.self.view_is (end ∙ len) in
-    closes-all c.args.self.now c.links.self c.links.link (written (g.O.Sink.taken c.args.out.now) (g.L.Sink.taken c.args.log.now)) (written (g.O.Sink.taken c.links.out) (g.L.Sink.taken c.links.log)) all c.links.invariant.closed
+    closes-all all c.links.invariant.closed

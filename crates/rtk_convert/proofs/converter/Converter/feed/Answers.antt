@@ -19,8 +19,7 @@ returns-clause-ok g c =
     slice_get_read c.self.inside.links.items _ c.args.link c.index_mut.result.now refl (accepted-within (converter c.self.inside.conversion c.self.inside.links.items) c.args.link none) c.index_mut.ensures.value in
     let unended = (accepted (converter c.self.inside.conversion c.self.inside.links.items) c.args.link none).is_open c.index_mut.result.now there in
     on_ok-three c.feed.result (λ going waits all. subst (λ (s : ConverterView). FeedsPiece s c.args.link c.args.piece.now (converter c.feed.new.conversion (set c.self.inside.links.items c.args.link c.feed.new.self)) before after) c.self.view_is
-    (feeds (converter c.self.inside.conversion c.self.inside.links.items) c.feed.new.conversion c.args.link c.args.piece.now c.index_mut.result.now c.feed.new.self
-    before after
+    (feeds
     there unended going c.feed.ensures.is_open waits all))
     c.feed.ensures.going c.feed.ensures.pending c.feed.ensures.ok
 
@@ -34,8 +33,7 @@ returns-clause-err g c =
     slice_get_read c.self.inside.links.items _ c.args.link c.index_mut.result.now refl (accepted-within (converter c.self.inside.conversion c.self.inside.links.items) c.args.link none) c.index_mut.ensures.value in
     let unended = (accepted (converter c.self.inside.conversion c.self.inside.links.items) c.args.link none).is_open c.index_mut.result.now there in
     if_err-map c.feed.result IsFrameFault (λ part. subst (λ (s : ConverterView). FeedsPieceInPart s c.args.link c.args.piece.now before after) c.self.view_is
-    (feeds-part (converter c.self.inside.conversion c.self.inside.links.items) c.args.link c.args.piece.now c.index_mut.result.now
-    before after
+    (feeds-part c.args.piece.now
     there unended part))
     c.feed.ensures.err
 

@@ -15,7 +15,7 @@ returns-clause-ok g c =
     if_ok-map c.finish.result
     (λ counts. FinishesConversion c.closing.inside.conversion counts mid after)
     (λ counts. FinishesConverter c.args.self counts before after)
-    (λ counts f. ends c.args.self c.close_all.new.self counts before mid after
+    (λ counts f. ends
     c.in_ok-close_all.ensures.settings c.in_ok-close_all.ensures.ok
     (subst (λ (s : ConverterView). FinishesConversion s.conversion counts mid after) c.closing.view_is f))
     c.finish.ensures.ok
@@ -26,7 +26,7 @@ returns-clause-err g c =
     let after = written (g.O.Sink.taken c.finish.new.out) (g.L.Sink.taken c.finish.new.log) in
     let going : c.closing.inside.conversion.stopped ≡ false = subst (λ (s : ConverterView). s.conversion.stopped ≡ false) (sym c.closing.view_is) c.in_ok-close_all.ensures.going in
     if_err-map c.finish.result IsFrameFault
-    (λ part. ends-part c.args.self c.close_all.new.self (written (g.O.Sink.taken c.args.out.now) (g.L.Sink.taken c.args.log.now)) mid after
+    (λ part. ends-part
     c.in_ok-close_all.ensures.settings c.in_ok-close_all.ensures.ok
     (subst (λ (s : ConverterView). FinishesConversionInPart s.conversion mid after) c.closing.view_is (part going)))
     c.finish.ensures.err

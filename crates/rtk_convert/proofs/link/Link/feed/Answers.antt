@@ -36,8 +36,7 @@ frames-preserved g c =
       taken = (
         i.taken.0 ++ c.in-Found.payload.now ∷ [],
         s.taken,
-        gathers-more c.args.conversion.now c.frames.conversion c.accept_frame.new.self c.args.number i.taken.0 c.in-Found.payload.now c.in_ok-epoch.epoch c.args.self.now.newest c.frames.self.newest c.later-self.result
-            (written (g.O.Sink.taken c.args.out.now) (g.L.Sink.taken c.args.log.now)) (written (g.O.Sink.taken c.frames.out) (g.L.Sink.taken c.frames.log)) (written (g.O.Sink.taken c.accept_frame.new.out) (g.L.Sink.taken c.accept_frame.new.log))
+        gathers-more c.in-Found.payload.now
             i.settings i.taken.2 c.in_ok-epoch.ensures.ok c.in_ok-epoch.ensures.epoch c.later-self.ensures,
       );
     }
@@ -48,8 +47,7 @@ returns-in_err-epoch-clause-err g c =
     let holds = c.feed-fed.follows.holds-at-none in
     let s = finds-next c.args.self.now.scanner.pending c.args.piece.now c.frames.self.scanner.pending c.frames.at c.feed-fed.result.used i.taken.0 c.in-Found.payload c.feed-fed.follows.lender-at-none
     i.within c.feed-fed.ensures.used i.taken.1 i.waiting (rw c.in-Found.is at holds.2) in
-    on_err-from c.from_residual.result (breaks-off c.args.conversion.now c.frames.conversion c.args.number _ i.taken.0 _ c.in-Found.payload.now c.args.self.now.newest c.frames.self.newest
-    (written (g.O.Sink.taken c.args.out.now) (g.L.Sink.taken c.args.log.now)) (written (g.O.Sink.taken c.frames.out) (g.L.Sink.taken c.frames.log)) (written (g.O.Sink.taken c.accept_frame.new.out) (g.L.Sink.taken c.accept_frame.new.log))
+    on_err-from c.from_residual.result (breaks-off _ c.in-Found.payload.now
     i.settings s.split i.taken.2 (c.in_err-epoch.ensures.err i.going))
 
 pub returns-in_err-epoch-clause-fault : goal.returns-in_err-epoch-clause-fault
