@@ -4,6 +4,7 @@ use Rattle.rtk_obs.specs.declared.code.Code.{Code}
 use Rattle.rtk_obs.specs.declared.track.Track.{Track}
 use Rattle.rtk_obs.specs.Cell.{IsSatellite}
 use Rattle.rtk_obs.specs.Tracks.{track_at}
+use Rattle.rtk_collect.specs.Arrival.{Arrival}
 use Rattle.rtk_collect.specs.Accepted.{closed}
 use Rattle.rtk_collect.specs.Collector.{CollectorView, RepresentsArrivals}
 use Rattle.rtk_convert.specs.declared.frame_class.FrameClass.{FrameClass}
@@ -32,6 +33,10 @@ pub record RepresentsFound (s : ConversionView) (found : List Found) : Type 0 wh
   pub window : RepresentsArrivals s.window (arrivals found)
   pub closed : HasClosed s.closed s.settings.head.listed (closed s.settings.window (arrivals found))
   pub counts : s.counts ≡ frame_counts s.settings.window found
+
+-- the window holds what is kept of some arrivals
+abbrev pub HoldsArrivals : CollectorView → Type 0
+HoldsArrivals w = (before : List Arrival) × RepresentsArrivals w before
 
 -- a satellite and code have a last phase only once the window is full, and then of an epoch below
 -- all open ones

@@ -14,7 +14,7 @@ use Rattle.rtk_convert.specs.Finish.{all_counts, report_of}
 use Rattle.rtk_convert.specs.History.{LinkPast, History, Finds, IsOpen, IsAfterFeed, IsAfterClose, fed_on, found_by_piece, found_by_close, newest_on}
 use Rattle.rtk_convert.specs.Report.{lines}
 use Rattle.rtk_convert.specs.Setup.{SetupView}
-use Rattle.rtk_convert.specs.Conversion.{ConversionView, found_on, RepresentsFound}
+use Rattle.rtk_convert.specs.Conversion.{ConversionView, HoldsArrivals, found_on, RepresentsFound}
 use Rattle.rtk_convert.specs.Writing.{Written, WritesRest}
 
 pub record ConverterView : Type 0 where
@@ -26,12 +26,14 @@ pub record ConverterView : Type 0 where
 abbrev pub IsLinkCount : ℕ → Type 0
 IsLinkCount n = IsInRange 1 16 n
 
--- a converter has 1 to 16 links, each holds at most the bytes of the longest frame, and at most as
--- many epochs are open as the setup says
+-- a converter has 1 to 16 links, each holds at most the bytes of the longest frame; at most as many
+-- epochs are open as the setup says; and the window holds what is kept of some arrivals, also after
+-- a call that broke off
 pub record IsConverterView (c : ConverterView) : Type 0 where
   pub few : IsLinkCount (length c.links)
   pub short : All (λ l. length l.scanner.pending ≤ 1029) c.links
   pub epochs : length c.conversion.window.sets ≤ c.conversion.settings.window
+  pub held : HoldsArrivals c.conversion.window
 
 -- why a call on a link is refused at once: the first cause that holds
 abbrev pub link_refusal : Option Link → Option ConvertFault
@@ -62,12 +64,12 @@ pub record RepresentsHistory (c : ConverterView) (h : History) : Type 0 where
   pub found : RepresentsFound c.conversion h.found
 
 -- what a converter holds: of each link at most the bytes of the longest frame; at most as many open
--- epochs as the setup says; and unless a call broke off, of each of these at most 1,024 cells: 32
--- satellites, 16 codes, 2 kinds of message
+-- epochs as the setup says; and of each of these at most 1,024 cells, for 32 satellites, 16 codes and
+-- 2 kinds of message
 pub record HoldsAtMost (c : ConverterView) : Type 0 where
   pub bytes : All (λ l. length l.scanner.pending ≤ 1029) c.links
   pub epochs : length c.conversion.window.sets ≤ c.conversion.settings.window
-  pub cells : (h : History) → RepresentsHistory c h → All (λ e. length e.cells ≤ 1024) c.conversion.window.sets
+  pub cells : All (λ e. length e.cells ≤ 1024) c.conversion.window.sets
 
 -- what the frames after `before` add to the file and to the lines was written
 pub record WritesOn (s : SetupView) (before after : List Found) (written_old written_new : Written) : Type 0 where

@@ -7,7 +7,7 @@ ghost use Rattle.rtk_convert.specs.Steps.AcceptedFrame.{IsEpochIn, AcceptsFrame,
 ghost use Rattle.rtk_convert.specs.Steps.AddedMessage.{AddsMessage, AddsMessageInPart, closed_by};
 ghost use Rattle.rtk_convert.specs.Report.{counted_as};
 ghost use Rattle.rtk_convert.specs.Steps.OfferLines.{class_of_offer};
-ghost use Rattle.rtk_convert.specs.Conversion.{RepresentsFound, IsAhead};
+ghost use Rattle.rtk_convert.specs.Conversion.{RepresentsFound, HoldsArrivals, IsAhead};
 ghost use Rattle.rtk_convert.specs.Writing.{written};
 
 use crate::counts::Counts;
@@ -97,6 +97,7 @@ impl Conversion {
     ) -> Result<Option<GpsMs>, ConvertFault>
         ensures settings { self.new.settings ≡ self.old.settings }
         ensures few { length self.new.window.sets ≤ self.new.settings.window }
+        ensures held { HoldsArrivals self.old.window → HoldsArrivals self.new.window }
         ensures stopped { (result ≡ Err ConvertFault.Stopped) ↔ (self.old.stopped ≡ true) }
         ensures still { self.old.stopped ≡ true → (out.new ≡ out.old) × (log.new ≡ log.old) }
         ensures going { OnOk result (self.new.stopped ≡ false) }
@@ -132,6 +133,7 @@ impl Conversion {
         requires ahead { IsAhead self.old.window self.old.closed }
         ensures settings { self.new.settings ≡ self.old.settings }
         ensures few { length self.new.window.sets ≤ self.new.settings.window }
+        ensures held { HoldsArrivals self.old.window → HoldsArrivals self.new.window }
         ensures stopped { self.new.stopped ≡ true }
         ensures ahead { OnOk result (IsAhead self.new.window self.new.closed) }
         ensures epoch { IfOk result (λ epoch. IsEpochIn self.old.settings payload.now epoch) }
@@ -182,6 +184,7 @@ impl Conversion {
         requires ahead { IsAhead self.old.window self.old.closed }
         ensures settings { self.new.settings ≡ self.old.settings }
         ensures few { length self.new.window.sets ≤ self.new.settings.window }
+        ensures held { HoldsArrivals self.old.window → HoldsArrivals self.new.window }
         ensures stopped { self.new.stopped ≡ true }
         ensures ahead { OnOk result (IsAhead self.new.window self.new.closed) }
         ensures ok { OnOk result (AddsMessage self.old link dated self.new

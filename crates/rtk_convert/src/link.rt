@@ -2,6 +2,7 @@
 
 ghost use Rattle.std.specs.Prelude.{◌≡◌, ◌≢◌, ◌≤◌, ◌++◌, length, true, false, OnOk, OnErr, IsErrOf, IfErr};
 ghost use Rattle.rtk_frame.specs.Frames.{final_frames, frames, payloads, pending};
+ghost use Rattle.rtk_convert.specs.Conversion.{HoldsArrivals};
 ghost use Rattle.rtk_convert.specs.Failure.{IsFrameFault, NamesFailedWrites};
 ghost use Rattle.rtk_convert.specs.Steps.LinkFrames.{AddsFrames, AddsFramesInPart};
 ghost use Rattle.rtk_convert.specs.History.{later_of};
@@ -51,6 +52,7 @@ impl Link {
         ensures short { length self.new.scanner.pending ≤ 1029 }
         ensures settings { conversion.new.settings ≡ conversion.old.settings }
         ensures few { length conversion.new.window.sets ≤ conversion.new.settings.window }
+        ensures held { HoldsArrivals conversion.old.window → HoldsArrivals conversion.new.window }
         ensures going { OnOk result (conversion.new.stopped ≡ false) }
         ensures halts { OnErr result (conversion.new.stopped ≡ true) }
         ensures ok { OnOk result (AddsFrames conversion.old number (payloads (final_frames (self.old.scanner.pending ++ piece.now)))
@@ -88,6 +90,7 @@ impl Link {
         ensures short { length self.new.scanner.pending ≤ 1029 }
         ensures settings { conversion.new.settings ≡ conversion.old.settings }
         ensures few { length conversion.new.window.sets ≤ conversion.new.settings.window }
+        ensures held { HoldsArrivals conversion.old.window → HoldsArrivals conversion.new.window }
         ensures going { OnOk result (conversion.new.stopped ≡ false) }
         ensures halts { OnErr result (conversion.new.stopped ≡ true) }
         ensures ok { OnOk result (AddsFrames conversion.old number (payloads (frames self.old.scanner.pending))

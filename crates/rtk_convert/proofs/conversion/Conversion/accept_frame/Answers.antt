@@ -1,7 +1,7 @@
 use Rattle.std.proofs.Common.{true, false, sym, subst}
 use Rattle.std.proofs.lemmas.Result.{err_from_is_err_and}
-use Rattle.rtk_convert.specs.Conversion.{ConversionView, IsAhead}
-use Rattle.rtk_convert.specs.Steps.AcceptedFrame.{AcceptsFrame, BreaksOffAtFrame}
+use Rattle.rtk_convert.specs.Conversion.{ConversionView, HoldsArrivals, IsAhead}
+use Rattle.rtk_convert.specs.Steps.AcceptedFrame.{AcceptsFrame, BreaksOffAtFrame, HasCause, IsEpochIn}
 use Rattle.rtk_convert.specs.Writing.{written}
 use Rattle.rtk_convert.proofs.ArriveLemmas.{state, arrives-still, breaks-still}
 use Rattle.rtk_convert.proofs.WritingLemmas.{on_err-from}
@@ -47,3 +47,15 @@ returns-in_err-epoch-clause-report_failed g c =
 
 pub returns-in_err-epoch-clause-few : goal.returns-in_err-epoch-clause-few
 returns-in_err-epoch-clause-few g c = c.handle_payload.ensures.few
+
+pub returns-clause-held : goal.returns-clause-held
+returns-clause-held g c = λ h. subst (λ (x : ConversionView). HoldsArrivals x.window) (sym c.self-2.view_is) (c.handle_payload.ensures.held (subst (λ (x : ConversionView). HoldsArrivals x.window) (sym c.self.view_is) h))
+
+pub returns-in_err-epoch-clause-held : goal.returns-in_err-epoch-clause-held
+returns-in_err-epoch-clause-held g c = λ h. c.handle_payload.ensures.held (subst (λ (x : ConversionView). HoldsArrivals x.window) (sym c.self.view_is) h)
+
+pub returns-in_err-epoch-clause-cause : goal.returns-in_err-epoch-clause-cause
+returns-in_err-epoch-clause-cause g c = on_err-from c.from_residual.result (λ going. subst (λ (x : ConversionView). HasCause x.settings c.args.payload.now) c.self.view_is c.in_err-epoch.ensures.cause)
+
+pub returns-clause-epoch : goal.returns-clause-epoch
+returns-clause-epoch g c = subst (λ (x : ConversionView). IsEpochIn x.settings c.args.payload.now c.in_ok-epoch.epoch) c.self.view_is c.in_ok-epoch.ensures.epoch

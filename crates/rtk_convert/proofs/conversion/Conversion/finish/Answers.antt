@@ -10,7 +10,6 @@ use Rattle.rtk_convert.specs.Conversion.{ConversionView}
 use Rattle.rtk_convert.specs.Writing.{written}
 use Rattle.rtk_convert.proofs.AheadLemmas.{ahead-all}
 use Rattle.rtk_convert.proofs.FinishLemmas.{finishes, finish-part-records, finish-part-header, finish-part-counts}
-use Rattle.rtk_convert.proofs.ArriveLemmas.{state}
 use Rattle.rtk_convert.proofs.WritingLemmas.{takes-none, on_err-from}
 use Rattle.rtk_convert.proofs.HandedLemmas.{out-frame, log-frame, out-leaves-report}
 use Rattle.rtk_convert.proofs.conversion.Conversion.finish.Goals as goal

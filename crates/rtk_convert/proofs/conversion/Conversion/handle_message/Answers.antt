@@ -6,10 +6,11 @@ use Rattle.rtk_collect.specs.Arrival.{epoch_of, message_of}
 use Rattle.rtk_frame.specs.Stream.{with_more, TakesPart}
 use Rattle.rtk_convert.specs.Steps.AddedMessage.{closed_by, AddsMessage, AddsMessageInPart}
 use Rattle.rtk_convert.specs.Steps.OfferLines.{offer_lines}
-use Rattle.rtk_convert.specs.Conversion.{ConversionView, IsAhead}
+use Rattle.rtk_convert.specs.Conversion.{ConversionView, HoldsArrivals, IsAhead}
 use Rattle.rtk_convert.specs.Writing.{written}
 use Rattle.rtk_convert.proofs.AheadLemmas.{ahead-stays, ahead-closes, ahead-after}
 use Rattle.rtk_convert.proofs.ArriveLemmas.{state, takes-none-closed, takes-some-closed, part-nothing, part-record, part-lines}
+use Rattle.rtk_convert.proofs.BoundsLemmas.{held-offered}
 use Rattle.rtk_convert.proofs.WritingLemmas.{on_ok-map, on_err-from}
 use Rattle.rtk_convert.proofs.HandedLemmas.{out-frame, log-frame, out-leaves-report, log-leaves-file}
 use Rattle.rtk_convert.proofs.conversion.Conversion.handle_message.Goals as goal
@@ -136,3 +137,18 @@ returns-clause-file_failed g c = log-leaves-file c.put_lines-2.result c.in_ok-cl
 
 pub returns-clause-report_failed : goal.returns-clause-report_failed
 returns-clause-report_failed g c = c.put_lines-2.ensures.report_failed
+
+pub returns-in_default-clause-held : goal.returns-in_default-clause-held
+returns-in_default-clause-held g c = λ h. subst HoldsArrivals (sym c.in_default.ensures.err) (subst (λ (x : ConversionView). HoldsArrivals x.window) (sym c.self.view_is) h)
+
+pub returns-in_default-offered-clause-held : goal.returns-in_default-offered-clause-held
+returns-in_default-offered-clause-held g c = λ h. held-offered c.self.inside.collector c.offer.new.self c.args.dated c.in-Ok.offer c.in-Ok.ensures.answer (subst (λ (x : ConversionView). HoldsArrivals x.window) (sym c.self.view_is) h)
+
+pub returns-in_default-closed_by-clause-held : goal.returns-in_default-closed_by-clause-held
+returns-in_default-closed_by-clause-held g c = λ h. held-offered c.self.inside.collector c.offer.new.self c.args.dated c.in-Ok.offer c.in-Ok.ensures.answer (subst (λ (x : ConversionView). HoldsArrivals x.window) (sym c.self.view_is) h)
+
+pub returns-in_err-close-clause-held : goal.returns-in_err-close-clause-held
+returns-in_err-close-clause-held g c = λ h. held-offered c.self.inside.collector c.offer.new.self c.args.dated c.in-Ok.offer c.in-Ok.ensures.answer (subst (λ (x : ConversionView). HoldsArrivals x.window) (sym c.self.view_is) h)
+
+pub returns-clause-held : goal.returns-clause-held
+returns-clause-held g c = λ h. held-offered c.self.inside.collector c.offer.new.self c.args.dated c.in-Ok.offer c.in-Ok.ensures.answer (subst (λ (x : ConversionView). HoldsArrivals x.window) (sym c.self.view_is) h)

@@ -2,10 +2,11 @@ use Rattle.std.proofs.Common.{ℕ, List, refl, sym, ap, subst, ◌∙◌}
 use Rattle.std.proofs.lemmas.Result.{err_from_is_err_and}
 use Rattle.rtk_frame.specs.Stream.{with_more, TakesPart}
 use Rattle.rtk_convert.specs.declared.frame_class.FrameClass.{FrameClass}
+use Rattle.rtk_convert.specs.declared.frame_class.FrameClass.TheVariants.{Dated}
 use Rattle.rtk_convert.specs.FrameClass.{IsClassOfPayload}
 use Rattle.rtk_convert.specs.Report.{refused_line, one_frame_more}
-use Rattle.rtk_convert.specs.Conversion.{ConversionView, IsAhead}
-use Rattle.rtk_convert.specs.Steps.AcceptedFrame.{AcceptsFrame, BreaksOffAtFrame}
+use Rattle.rtk_convert.specs.Conversion.{ConversionView, HoldsArrivals, IsAhead}
+use Rattle.rtk_convert.specs.Steps.AcceptedFrame.{AcceptsFrame, BreaksOffAtFrame, HasCause}
 use Rattle.rtk_convert.specs.Writing.{written}
 use Rattle.rtk_convert.proofs.ArriveLemmas.{state, arrives-arrived, breaks-arrived, arrives-other, arrives-refused, breaks-refused}
 use Rattle.rtk_convert.proofs.WritingLemmas.{takes-none, on_err-from}
@@ -89,3 +90,29 @@ pub returns-in_err-handle_message-in-Dated-clause-report_failed : goal.returns-i
 returns-in_err-handle_message-in-Dated-clause-report_failed g c =
     let p = err_from_is_err_and c.from_residual-in_err-handle_message-in-Dated.result c.from_residual-in_err-handle_message-in-Dated.ensures.1 in
     rw (p.1, p.2) c.in_err-handle_message-in-Dated.ensures.report_failed
+
+pub returns-in_default-clause-held : goal.returns-in_default-clause-held
+returns-in_default-clause-held g c = λ h. subst (λ (x : ConversionView). HoldsArrivals x.window) (sym c.self.view_is) h
+
+pub returns-in-OtherMessage-clause-held : goal.returns-in-OtherMessage-clause-held
+returns-in-OtherMessage-clause-held g c = λ h. subst (λ (x : ConversionView). HoldsArrivals x.window) (sym c.self.view_is) h
+
+pub returns-in-Foreign-clause-held : goal.returns-in-Foreign-clause-held
+returns-in-Foreign-clause-held g c = λ h. subst (λ (x : ConversionView). HoldsArrivals x.window) (sym c.self.view_is) h
+
+pub returns-in_ok-put_lines-in-Refused-clause-held : goal.returns-in_ok-put_lines-in-Refused-clause-held
+returns-in_ok-put_lines-in-Refused-clause-held g c = λ h. subst (λ (x : ConversionView). HoldsArrivals x.window) (sym c.self.view_is) h
+
+pub returns-in_err-put_lines-in-Refused-clause-held : goal.returns-in_err-put_lines-in-Refused-clause-held
+returns-in_err-put_lines-in-Refused-clause-held g c = λ h. subst (λ (x : ConversionView). HoldsArrivals x.window) (sym c.self.view_is) h
+
+pub returns-in_ok-handle_message-in-Dated-clause-held : goal.returns-in_ok-handle_message-in-Dated-clause-held
+returns-in_ok-handle_message-in-Dated-clause-held g c = λ h. c.handle_message.ensures.held (subst (λ (x : ConversionView). HoldsArrivals x.window) (sym c.self.view_is) h)
+
+pub returns-in_err-handle_message-in-Dated-clause-held : goal.returns-in_err-handle_message-in-Dated-clause-held
+returns-in_err-handle_message-in-Dated-clause-held g c = λ h. c.handle_message.ensures.held (subst (λ (x : ConversionView). HoldsArrivals x.window) (sym c.self.view_is) h)
+
+pub returns-in_err-handle_message-in-Dated-clause-cause : goal.returns-in_err-handle_message-in-Dated-clause-cause
+returns-in_err-handle_message-in-Dated-clause-cause g c =
+    let comes = subst (λ (f : FrameClass). IsClassOfPayload c.self.inside.setup c.args.payload.now f) c.in-Dated.is c.classify.ensures in
+    on_err-from c.from_residual-in_err-handle_message-in-Dated.result (subst (λ (x : ConversionView). HasCause x.settings c.args.payload.now) c.self.view_is (Dated c.in-Dated.dated, comes, tt))

@@ -9,6 +9,7 @@ pub frames-init : goal.frames-init
 frames-init g c = record {
   going = c.requires.going;
   few = c.requires.few;
+  held = λ h. h;
   settings = refl;
   out_same = refl;
   log_same = refl;
@@ -23,6 +24,7 @@ frames-preserved g c =
     record {
       going = c.in_ok-epoch.ensures.going;
       few = c.accept_frame.ensures.few;
+      held = λ h. c.accept_frame.ensures.held (i.held h);
       settings = c.accept_frame.ensures.settings ∙ i.settings;
       out_same = c.in_ok-epoch.ensures.file_failed ∙ i.out_same;
       log_same = c.in_ok-epoch.ensures.report_failed ∙ i.log_same;
@@ -56,3 +58,6 @@ pub returns-in_err-epoch-clause-report_failed : goal.returns-in_err-epoch-clause
 returns-in_err-epoch-clause-report_failed g c =
     let p = err_from_is_err_and c.from_residual.result c.from_residual.ensures.1 in
     rw (p.1, p.2, ← c.frames.invariant.log_same) c.in_err-epoch.ensures.report_failed
+
+pub returns-in_err-epoch-clause-held : goal.returns-in_err-epoch-clause-held
+returns-in_err-epoch-clause-held g c = λ h. c.accept_frame.ensures.held (c.frames.invariant.held h)

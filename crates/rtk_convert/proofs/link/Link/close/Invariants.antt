@@ -1,5 +1,6 @@
 use Rattle.std.proofs.Common.{◌≡◌, ◌≤◌, ℕ, false, List, ◌++◌, length}
 use Rattle.rtk_frame.specs.Frames.{frames, payloads}
+use Rattle.rtk_convert.specs.Conversion.{HoldsArrivals}
 use Rattle.rtk_convert.specs.Steps.LinkFrames.{AddsFrames}
 use Rattle.rtk_convert.specs.Writing.{written}
 use Rattle.rtk_convert.proofs.link.Link.close.Given as goal
@@ -9,6 +10,7 @@ abbrev pub invariant-frames : goal.invariant-frames
 invariant-frames g l = record {
   going : l.conversion.stopped ≡ false;
   few : length l.conversion.window.sets ≤ l.conversion.settings.window;
+  held : HoldsArrivals l.fn.conversion.window → HoldsArrivals l.conversion.window;
   settings : l.conversion.settings ≡ l.fn.conversion.settings;
   out_same : g.O.Sink.failures l.out ≡ g.O.Sink.failures l.fn.out;
   log_same : g.L.Sink.failures l.log ≡ g.L.Sink.failures l.fn.log;

@@ -11,6 +11,7 @@ frames-init g c = record {
   is_open = c.requires.is_open;
   going = c.requires.going;
   few = c.requires.few;
+  held = λ h. h;
   settings = refl;
   out_same = refl;
   log_same = refl;
@@ -29,6 +30,7 @@ frames-preserved g c =
       is_open = holds.0;
       going = c.in_ok-epoch.ensures.going;
       few = c.accept_frame.ensures.few;
+      held = λ h. c.accept_frame.ensures.held (i.held h);
       settings = c.accept_frame.ensures.settings ∙ i.settings;
       out_same = c.in_ok-epoch.ensures.file_failed ∙ i.out_same;
       log_same = c.in_ok-epoch.ensures.report_failed ∙ i.log_same;
@@ -64,3 +66,6 @@ pub returns-in_err-epoch-clause-report_failed : goal.returns-in_err-epoch-clause
 returns-in_err-epoch-clause-report_failed g c =
     let p = err_from_is_err_and c.from_residual.result c.from_residual.ensures.1 in
     rw (p.1, p.2, ← c.frames.invariant.log_same) c.in_err-epoch.ensures.report_failed
+
+pub returns-in_err-epoch-clause-held : goal.returns-in_err-epoch-clause-held
+returns-in_err-epoch-clause-held g c = λ h. c.accept_frame.ensures.held (c.frames.invariant.held h)

@@ -1,5 +1,6 @@
 use Rattle.std.proofs.Common.{◌≡◌, ◌≤◌, ◌+◌, ◌-◌, ℕ, false, List, ◌++◌, length, drop}
 use Rattle.rtk_frame.specs.Frames.{final_frames, payloads, pending}
+use Rattle.rtk_convert.specs.Conversion.{HoldsArrivals}
 use Rattle.rtk_convert.specs.Steps.LinkFrames.{AddsFrames}
 use Rattle.rtk_convert.specs.Writing.{written}
 use Rattle.rtk_convert.proofs.link.Link.feed.Given as goal
@@ -11,6 +12,7 @@ invariant-frames g l = record {
   is_open : l.self.scanner.ended ≡ false;
   going : l.conversion.stopped ≡ false;
   few : length l.conversion.window.sets ≤ l.conversion.settings.window;
+  held : HoldsArrivals l.fn.conversion.window → HoldsArrivals l.conversion.window;
   settings : l.conversion.settings ≡ l.fn.conversion.settings;
   out_same : g.O.Sink.failures l.out ≡ g.O.Sink.failures l.fn.out;
   log_same : g.L.Sink.failures l.log ≡ g.L.Sink.failures l.fn.log;
