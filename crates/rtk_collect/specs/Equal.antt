@@ -1,5 +1,5 @@
 -- Equal bodies: two values are equal if all their fields are.
-use Rattle.std.specs.Prelude.{Bool, true, false, Option, None, Some, ◌&&◌, ◌==◌}
+use Rattle.std.specs.Prelude.{Bool, false, Option, None, Some, ◌&&◌, ◌==◌}
 use Rattle.std.proofs.Math.Bool.{beq}
 use Rattle.std.specs.Ordering.{int_eq}
 use Rattle.std.specs.Option.{option_eq}

@@ -1,6 +1,6 @@
 -- The report of a list of found frames, newest first: a line for each that is refused, late or in
 -- conflict, and the counts.
-use Rattle.std.specs.Prelude.{ℕ, List, [], ◌∷◌, ◌++◌, flat_map, codes, decimal, Option, None, Some}
+use Rattle.std.specs.Prelude.{ℕ, List, [], ◌∷◌, ◌++◌, flat_map, codes, Option, None, Some}
 use Rattle.rtk_frame.specs.Stream.{count_after}
 use Rattle.rtk_message.specs.declared.fault.DecodeFault.{DecodeFault}
 use Rattle.rtk_message.specs.FaultCode.{fault_text}
