@@ -196,11 +196,11 @@ def many_links(rng: Random, turn: int) -> Capture:
 
 
 def locks(rng: Random, turn: int) -> Capture:
-    """Few satellites over many epochs, with lock times about the time between them."""
+    """Few satellites over many epochs in order, with lock times about the time between them."""
     step = rng.choice((legacy_lock_time(turn % 128), msm_lock_time(turn % 16))) + rng.randint(-1, 1)
     step = max(step, 1)
     is_calm = rng.random() < 0.7
-    setup = any_setup(rng, any_window(rng, is_calm))
+    setup = any_setup(rng, rng.choice((2, 3, 64)))
     sender = Sender(rng, setup, pick_near_lock(step), is_calm, is_small=True)
     count = min(rng.randint(4, 20), WEEK_MS // 2 // step)
     times = [(setup.near + at * step) % WEEK_MS for at in range(count)]

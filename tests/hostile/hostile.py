@@ -25,12 +25,12 @@ from typing import NamedTuple
 
 from captures import capture_of
 from program import Program
-from properties import EVERY, IN_TURN, NOT_MET, Property, case_of
+from properties import EVERY, NOT_MET, OFTEN, SELDOM, Property, case_of
 from wire import crc24q
 
 CAPTURES = 12_000
 SEED = 20260524
-IN_TURN_EACH = 3
+MORE_EACH = 4  # of the properties that are not checked on every capture
 SECONDS_EACH = 120
 
 
@@ -79,15 +79,14 @@ def _look(task: Task) -> Looked:
     rng = Random(f"properties {task.seed} {task.number}")
     case = case_of(capture, Program(task.program), rng)
     looked = Looked(task.number, capture.scene, [], {})
-    at = rng.randrange(len(IN_TURN))
-    turns = IN_TURN[at:] + IN_TURN[:at]
-    for entry in EVERY + turns:
+    turns = rng.sample(SELDOM, len(SELDOM)) + rng.sample(OFTEN, len(OFTEN))
+    for entry in [*EVERY, *turns]:
         answer = entry.holds(case)
         if answer is not NOT_MET:
             looked.checked.append(entry.name)
             if answer:
                 looked.failed[entry.name] = answer
-        if len(looked.checked) == len(EVERY) + IN_TURN_EACH:
+        if len(looked.checked) == len(EVERY) + MORE_EACH:
             break
     if task.keep is not None:
         keep(Path(task.keep), task.number, capture.setup.words(), capture.links)
@@ -145,7 +144,7 @@ def main() -> int:
             results = list(pool.imap(look, tasks, chunksize=10))
     scenes = Counter(looked.scene for looked in results)
     print("captures: " + ", ".join(f"{count} {scene}" for scene, count in scenes.items()))
-    passed = [told(entry, results) for entry in EVERY + IN_TURN]
+    passed = [told(entry, results) for entry in EVERY + SELDOM + OFTEN]
     print(f"{passed.count(True)} passed, {passed.count(False)} failed")
     return 0 if all(passed) else 1
 

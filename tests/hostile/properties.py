@@ -307,9 +307,9 @@ def file_only_grows(case: Case) -> Answer:
     begin the file of the whole capture (`file_only_grows`)."""
     text = case.links[0]
     frames: list[Placed] = frames_of(text)
-    if len(case.links) > 1 or len(frames) < 2:
+    if len(case.links) > 1 or len(frames) < 3:
         return NOT_MET
-    text = text[: case.rng.choice(frames[:-1]).end]
+    text = text[: case.rng.choice(frames[len(frames) // 2 : -1]).end]
     due = convert(case.capture.setup, [text])
     if due.closed == 0:
         return NOT_MET
@@ -335,17 +335,21 @@ class Property(NamedTuple):
 # On every capture.
 EVERY = (Property(as_modelled, 100), Property(counts_add_up, 100), Property(file_is_valid, 100))
 
-# Taken in turns, some of them on each capture.
-IN_TURN = (
-    Property(shown_as_modelled, 20),
+# Tried first, each in its turn, since few captures meet their premises.
+SELDOM = (
+    Property(frames_left_out_of_links, 10),
+    Property(same_with_link_before, 8),
+    Property(untaken_left_out, 15),
+    Property(file_only_grows, 4),
+)
+
+# Tried then, each in its turn.
+OFTEN = (
     Property(frames_left_out, 10),
-    Property(same_with_link_again, 20),
     Property(same_dealt_to_two, 10),
-    Property(frames_left_out_of_links, 5),
-    Property(same_in_any_order, 10),
-    Property(hex_shown_as_bytes, 20),
-    Property(untaken_left_out, 5),
-    Property(same_with_link_before, 5),
-    Property(file_only_grows, 2),
+    Property(same_in_any_order, 20),
+    Property(same_with_link_again, 20),
     Property(same_on_standard_input, 20),
+    Property(shown_as_modelled, 20),
+    Property(hex_shown_as_bytes, 20),
 )
