@@ -40,6 +40,9 @@ LAST_MADE = moment("2100-12-31T23:59:59")
 MARKERS = ("BASE", "-X", "--codes", "A  B", "~!'\"\\$`", "x" * 60)
 STEPS = (1, 31, 32, 33, 500, 1000, 1000, 1000, 30_000, 262_144, 900_000, WEEK_MS // 40)
 
+# The lock time indicators of a 1004 where its table turns.
+LEGACY_TURNS = (0, 23, 24, 47, 48, 71, 72, 95, 96, 119, 120, 126, 127)
+
 
 def any_setup(rng: Random, window: int) -> Setup:
     seconds = rng.randint(FIRST_NEAR // 1000, LAST_NEAR // 1000)
@@ -48,7 +51,7 @@ def any_setup(rng: Random, window: int) -> Setup:
         near=rng.choice(NEARS + (1000 * seconds,)),
         made=1000 * rng.randint(0, LAST_MADE // 1000),
         marker=rng.choice(MARKERS),
-        codes=tuple(rng.sample(CODES, rng.choice((1, 2, 3, 4, 5, 8, 9, 16, 16)))),
+        codes=tuple(rng.sample(CODES, rng.choice((1, 2, 3, 5, 9, 16, 16, 16)))),
         window=window,
     )
 
@@ -197,14 +200,18 @@ def many_links(rng: Random, turn: int) -> Capture:
 
 def locks(rng: Random, turn: int) -> Capture:
     """Few satellites over many epochs in order, with lock times about the time between them."""
-    step = rng.choice((legacy_lock_time(turn % 128), msm_lock_time(turn % 16))) + rng.randint(-1, 1)
-    step = max(step, 1)
+    legacy = rng.choice((turn // 2 % 128, rng.choice(LEGACY_TURNS)))
+    step = max(2, legacy_lock_time(legacy) if turn % 2 else msm_lock_time(turn // 2 % 16))
     is_calm = rng.random() < 0.7
     setup = any_setup(rng, rng.choice((2, 3, 64)))
     sender = Sender(rng, setup, pick_near_lock(step), is_calm, is_small=True)
+    sender.satellites, sender.most = sender.satellites[:2], 4
     count = min(rng.randint(4, 20), WEEK_MS // 2 // step)
-    times = [(setup.near + at * step) % WEEK_MS for at in range(count)]
-    frames = [sender.frame(sender.observation(time)) for time in times for _ in range(2)]
+    times = [(setup.near + at * step + rng.randint(-1, 1)) % WEEK_MS for at in range(count)]
+    frames = []
+    for time in times:
+        frames.append(sender.frame(sender.legacy(time)))
+        frames.append(sender.frame(sender.observation(time)))
     return Capture("", setup, [b"".join(frames)])
 
 
@@ -251,7 +258,7 @@ def good_outer(rng: Random, turn: int) -> Capture:
 
 def masks(rng: Random, turn: int) -> Capture:
     """Cell masks of 0 to 64 bits and above, and legacy messages of 0 to 31 satellites."""
-    satellites, signals = turn % 65, turn // 65 % 33
+    satellites, signals = turn % 65, (turn // 65 * 2 + turn % 2) % 33
     if satellites * signals > 70:
         signals = rng.randint(0, 70 // satellites)
     is_calm = rng.random() < 0.6

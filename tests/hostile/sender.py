@@ -6,7 +6,7 @@ from __future__ import annotations
 from random import Random
 from typing import Callable, TypeVar
 
-from messages import legacy_lock_time, msm_lock_time
+from messages import SIGNALS, legacy_lock_time, msm_lock_time
 from model import Setup
 from wire import (
     HEADERS,
@@ -37,10 +37,14 @@ def pick_any(rng: Random, entry: Field) -> int:
 
 def pick_end(rng: Random, entry: Field) -> int:
     """Also the marks of no value: the least of a signed field, the most of the rough range, 0."""
-    return rng.choice((entry.least, entry.least + 1, 0, entry.most - 1, entry.most))
+    ends = (entry.least, entry.least + 1, -1 if entry.signed else 1, 0, entry.most - 1, entry.most)
+    return rng.choice(ends)
 
 
 def pick_zero(rng: Random, entry: Field) -> int:
+    """Most often 0; of a rough range a fraction that makes ties of the range in mm."""
+    if entry.name == "rough_fraction":
+        return rng.choice((0, 256, 512, 768))
     return 0 if rng.random() < 0.9 else pick_any(rng, entry)
 
 
@@ -63,6 +67,15 @@ def pick_near_lock(step: int) -> Pick:
     return pick
 
 
+def with_equal_l2(row: Fields, by: int) -> Fields:
+    """A satellite of a 1004 with another L1 range, and another offset of the same L2 phase."""
+    changes = {"l1_range": by, "l2_range": -by, "l2_offset": -40 * by}
+    entries = [entry for entry in LEGACY_SATELLITE if entry.name in changes]
+    moved = {entry.name: row[entry.name] + changes[entry.name] for entry in entries}
+    fits = all(entry.least < moved[entry.name] <= entry.most for entry in entries)
+    return row | moved if fits else row
+
+
 class Sender:
     """The messages of one capture. A calm sender tells each cell and each position in one way."""
 
@@ -75,9 +88,9 @@ class Sender:
         self.is_calm = is_calm
         self.most = rng.choice((1, 2, 3)) if is_small else rng.choice((3, 8, 31, 64))
         self.satellites = rng.sample(range(1, 33), 2 if is_small else 12)
-        self.signals = rng.sample((2, 3, 4, 8, 9, 10, 15, 16, 17, 22, 23, 24, 30, 31, 32), 4)
+        self.signals = rng.sample(sorted(SIGNALS), 2 if is_small else 4)
         if rng.random() < 0.5:
-            self.satellites += rng.sample(range(64), 2)
+            self.satellites += rng.sample((0, 33, 40, 63, rng.randrange(64)), 2)
             self.signals += rng.sample(range(1, 33), 2)
         self.told_rows: dict[int, dict[int, Fields]] = {}
         self.told_satellites: dict[int, dict[int, Fields]] = {}
@@ -112,6 +125,8 @@ class Sender:
             row = self.row(LEGACY_SATELLITE)
             if satellite not in seen:
                 row = self.told(told, satellite, LEGACY_SATELLITE)
+                if not self.is_calm and self.rng.random() < 0.2:
+                    row = with_equal_l2(row, self.rng.choice((-1, 1, 100)))
             seen.add(satellite)
             rows.append(row | {"satellite": satellite})
         header = self.header(1004, tow=tow, satellites=len(rows), **values)
@@ -152,8 +167,9 @@ class Sender:
         if sent and self.rng.random() < 0.4:
             payload = self.rng.choice(sent)
             if not self.is_calm:
-                bit = 1 << self.rng.randrange(8 * len(payload) - 24)
-                changed = int.from_bytes(payload, "big") ^ bit
+                width = 8 * len(payload) - 24
+                bit = self.rng.randrange(self.rng.choice((16, 32, width)))
+                changed = int.from_bytes(payload, "big") ^ 1 << bit
                 payload = changed.to_bytes(len(payload), "big")
         else:
             payload = self.rng.choice((self.legacy, self.msm))(tow)
@@ -194,7 +210,8 @@ class Sender:
                 widths = ((13, 5), (64, 2), (33, 2), (3, 22), (64, 32))
                 satellites, signals = self.rng.choice(widths)
                 masks = {"satellite_mask": (1 << satellites) - 1, "signal_mask": (1 << signals) - 1}
-                header = self.header(1074, tow=tow, **masks)
+                time = self.rng.choice((tow, tow, (1 << 30) - 1))
+                header = self.header(1074, tow=time, **masks)
                 rest = self.rng.randbytes(self.rng.choice((0, 9, 700)))
                 return payload_of(Message(header)) + rest
         payload = self.rng.choice((self.observation(tow), self.station()))
