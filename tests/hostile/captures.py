@@ -100,7 +100,7 @@ def damaged(rng: Random, frame: bytes) -> bytes:
 
 
 def nested(rng: Random, frame: bytes) -> bytes:
-    """A frame inside the payload of another, which is good, or damaged behind it."""
+    """A frame inside the payload of another, which is good, or damaged in its last byte."""
     before = rng.choice((b"", b"\x3f\xb0", rng.randbytes(rng.randrange(40))))
     payload = (before + frame + rng.randbytes(rng.randrange(20)))[:MOST_PAYLOAD]
     outer = frame_of(payload, rng.randrange(64))
@@ -116,7 +116,7 @@ def interrupted(rng: Random, frame: bytes, inner: bytes) -> bytes:
 
 
 def noise(rng: Random, frame: bytes) -> bytes:
-    """Bytes between frames; where they are made of a frame, then of this one."""
+    """Bytes between frames; if they are made of a frame, then of this one."""
     match rng.randrange(9):
         case 0:
             return rng.randbytes(rng.randrange(17))
@@ -138,7 +138,7 @@ def noise(rng: Random, frame: bytes) -> bytes:
 
 
 def with_noise(rng: Random, frames: list[bytes], share: float) -> list[bytes]:
-    """The frames, most of them whole, with noise before some of them and behind the last."""
+    """The frames, most of them whole, with noise before some of them and after the last."""
     parts = []
     for frame in frames:
         if rng.random() < share:
@@ -228,7 +228,7 @@ def late(rng: Random, turn: int) -> Capture:
 
 def preambles(rng: Random, turn: int) -> Capture:
     """A false preamble at each distance before a frame, which often is as long as to end about the
-    end of a frame behind it."""
+    end of a frame after it."""
     distance = turn % (LONGEST_FRAME + 1)
     setup = any_setup(rng, 64)
     sender = Sender(rng, setup, pick_any, is_calm=True, is_small=True)
@@ -244,7 +244,7 @@ def preambles(rng: Random, turn: int) -> Capture:
 
 
 def good_outer(rng: Random, turn: int) -> Capture:
-    """A good frame of any length over the frames behind it, so that only what stands behind its end
+    """A good frame of any length over the frames after it, so that only what stands after its end
     is found; or the same with a checksum that is one off."""
     setup = any_setup(rng, 64)
     sender = Sender(rng, setup, pick_any, is_calm=True, is_small=True)

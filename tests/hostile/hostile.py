@@ -104,8 +104,8 @@ def keep(folder: Path, number: int, words: list[str], links: list[bytes]) -> Non
 
 
 def told(entry: Property, results: list[Looked]) -> bool | None:
-    """Prints what came of a property, and answers whether it passed; nothing where it had no need
-    to be checked and was not."""
+    """Prints what came of a property, and answers whether it passed; None if it had no need to be
+    checked and was not."""
     checked = sum(entry.name in looked.checked for looked in results)
     failed = [looked for looked in results if entry.name in looked.failed]
     due = entry.floor * len(results) // 100

@@ -90,7 +90,7 @@ def _cell_mask_width(header: Fields) -> int:
 
 
 def _read_rest(bits: BitReader, header: Fields) -> Message:
-    """What stands behind the header."""
+    """What stands after the header."""
     message = Message(header)
     if header["number"] == 1004:
         message.satellites = [bits.take_row(LEGACY_SATELLITE) for _ in range(header["satellites"])]
@@ -138,7 +138,7 @@ LIGHT = 299_792_458
 
 
 class Cell(NamedTuple):
-    """What a message tells of a satellite and a code. Two cells agree where all of it is equal."""
+    """What a message tells of a satellite and a code. Two cells agree if all of it is equal."""
 
     range: int | None  # mm
     phase: int | None  # millicycles

@@ -102,7 +102,7 @@ class Link:
         return found
 
     def epoch_of(self, message: Message | Refusal) -> int:
-        """-1 where it has none, or isn't of the station."""
+        """-1 if it has none, or isn't of the station."""
         if isinstance(message, Refusal) or message.header["station"] != self.setup.station:
             return -1
         tow = message.header.get("tow")
@@ -185,7 +185,7 @@ class Kept:
         return "taken" if is_new else "conflict" if told else "repeat", told
 
     def shown_cells(self, epoch: int) -> dict[tuple[int, str], Cell]:
-        """One cell for each satellite and code: that of a 1074 before that of a 1004."""
+        """One cell for each satellite and code: if a 1074 tells it, then the cell of the 1074."""
         rising = sorted(self.epochs[epoch].items(), key=lambda item: item[0][2])
         return {(satellite, code): cell for (satellite, code, _), cell in rising}
 
@@ -234,7 +234,7 @@ class Records:
         self.last: dict[tuple[int, str], Step] = {}
 
     def record(self, epoch: int, cells: dict[tuple[int, str], Cell]) -> list[str]:
-        """The lines of an epoch, none where no satellite has a value."""
+        """The lines of an epoch, none if no satellite has a value."""
         columns = {
             (satellite, code): self._columns(epoch, (satellite, code), cell)
             for (satellite, code), cell in cells.items()

@@ -11,7 +11,7 @@ from model import Setup
 
 
 class Ended(NamedTuple):
-    """How a run ended: its status, negative where a signal ended it, and what it wrote."""
+    """How a run ended: its status, negative if a signal ended it, and what it wrote."""
 
     status: int
     out: bytes

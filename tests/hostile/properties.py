@@ -1,6 +1,6 @@
 """What must hold of the program on each capture.
 
-A property answers how it fails; nothing where it holds; and `NOT_MET` where its premise does not
+A property answers how it fails, an empty text if it holds, and `NOT_MET` if its premise does not
 hold for this capture, so that nothing was checked. The premises are those of the laws that
 rtk_convert proves over *found frames* (`set_decides_file`, `file_only_grows`): if bytes are taken
 out of a capture or put elsewhere, another frame may come to light or be lost, as after a false
@@ -52,7 +52,7 @@ def case_of(capture: Capture, program: Program, rng: Random) -> Case:
 
 
 def difference(is_: bytes, due: bytes) -> str:
-    """The first line in which two texts differ; nothing where they are equal."""
+    """The first line in which two texts differ; nothing if they are equal."""
     if is_ == due:
         return HOLDS
     lines, due_lines = is_.split(b"\n"), due.split(b"\n")
@@ -79,7 +79,7 @@ def ends_with(run: Ended, status: int, out: bytes | None, err: bytes | None) -> 
 
 
 def counts_of(report: bytes) -> dict[str, int]:
-    """The nine counts at the end of a report; fewer where they don't stand there."""
+    """The nine counts at the end of a report; fewer if they don't stand there."""
     lines = report.decode(errors="replace").split("\n")[-10:-1]
     words = [line.split(" ") for line in lines]
     return {pair[0]: int(pair[1]) for pair in words if len(pair) == 2 and pair[1].isdigit()}
@@ -176,7 +176,7 @@ def same_on_standard_input(case: Case) -> Answer:
 
 def without(case: Case, kinds: tuple[str, ...]) -> tuple[list[bytes], list[Judged]] | None:
     """The links with some frames of these kinds taken out, one or all, and the frames that remain;
-    nothing where there are none, or where other frames would be found than those that remain."""
+    nothing if there are none, or if other frames would be found than those that remain."""
     candidates = [judged for judged in case.due.frames if judged.kind in kinds]
     if not candidates:
         return None
@@ -196,12 +196,14 @@ def without(case: Case, kinds: tuple[str, ...]) -> tuple[list[bytes], list[Judge
 
 def frames_left_out(case: Case) -> Answer:
     """A frame of another kind, of another station or refused that is taken out of a capture of one
-    link leaves the file; of the report only its own line and counts go."""
+    link leaves the file; of the report only its own line and counts go. The law on found frames is
+    the clause `others` of `set_decides_file`."""
     return _left_out_of_one_link(case, ("other", "foreign", "refused"))
 
 
 def untaken_left_out(case: Case) -> Answer:
-    """A frame that is late, a repeat or in conflict leaves the file too: nothing of it is new."""
+    """A frame that is late, a repeat or in conflict leaves the file too: nothing of it is new. Of
+    late ones the law is the clause `late` of `set_decides_file`."""
     return _left_out_of_one_link(case, ("late", "repeat", "conflict"))
 
 
@@ -216,7 +218,7 @@ def _left_out_of_one_link(case: Case, kinds: tuple[str, ...]) -> Answer:
 
 
 def frames_left_out_of_links(case: Case) -> Answer:
-    """The same of several links, where nothing is late and nothing in conflict before and after:
+    """The same of several links, if nothing is late and nothing in conflict before and after:
     the reads of 512 bytes are cut elsewhere, and so the order of messages is another."""
     if len(case.links) == 1 or not is_clean(case.base):
         return NOT_MET
@@ -225,13 +227,14 @@ def frames_left_out_of_links(case: Case) -> Answer:
 
 
 def _same_set(case: Case, links: list[bytes]) -> Answer:
-    """The file of other links that carry the same set of messages, if all come in time there."""
+    """The file of other links that carry the same set of messages, if all come in time there. The
+    law on found frames is the clause `same` of `set_decides_file`."""
     run = case.convert(links)
     return ends_with(run, 0, case.base.out, None) if is_clean(run) else NOT_MET
 
 
 def same_with_link_again(case: Case) -> Answer:
-    """A link named again behind its first place leaves the file, whatever is late or in conflict.
+    """A link named again after its first place leaves the file, whatever is late or in conflict.
 
     A copy never reads ahead of the link, since of links alike the first is read, so all that it
     says came before: nothing is taken of it, and nothing comes later for it."""
@@ -256,7 +259,7 @@ def same_with_link_again(case: Case) -> Answer:
 
 
 def same_with_link_before(case: Case) -> Answer:
-    """A link named also before other links is read in another order: the file is the same where
+    """A link named also before other links is read in another order: the file is the same if
     nothing is late and nothing in conflict before and after."""
     link = case.rng.randrange(len(case.links))
     if link == 0 or len(case.links) == MOST_LINKS or not is_clean(case.base):
@@ -277,7 +280,7 @@ def payloads_of(links: Iterable[bytes]) -> Counter[bytes]:
 
 
 def same_dealt_to_two(case: Case) -> Answer:
-    """The frames of one link dealt to two, with the bytes between them, give the same file where
+    """The frames of one link dealt to two, with the bytes between them, give the same file if
     nothing is late and nothing in conflict before and after."""
     if len(case.links) > 1 or not is_clean(case.base):
         return NOT_MET

@@ -83,7 +83,7 @@ class Message:
 
 
 class BitWriter:
-    """Bits behind each other, the most significant first."""
+    """Bits one after another, the most significant first."""
 
     def __init__(self) -> None:
         self.number = 0
@@ -109,7 +109,7 @@ class BitWriter:
 
 
 class BitReader:
-    """The bits of some bytes, from the first on; EOFError where fewer are left than asked for."""
+    """The bits of some bytes, from the first on; EOFError if fewer are left than asked for."""
 
     def __init__(self, content: bytes) -> None:
         self.number = int.from_bytes(content, "big")
@@ -182,7 +182,7 @@ def frame_of(payload: bytes, reserved: int = 0) -> bytes:
 
 
 def size_at(text: bytes, place: int) -> int | None:
-    """How many bytes a frame at this place, which holds a preamble, must have; None where too few
+    """How many bytes a frame at this place, which holds a preamble, must have; None if too few
     bytes follow to tell."""
     if len(text) - place < 3:
         return None
