@@ -230,7 +230,8 @@ def _same_set(case: Case, links: list[bytes]) -> Answer:
     """The file of other links that carry the same set of messages, if all come in time there. The
     law on found frames is the clause `same` of `set_decides_file`."""
     run = case.convert(links)
-    return ends_with(run, 0, case.base.out, None) if is_clean(run) else NOT_MET
+    is_met = run.status != 0 or is_clean(run)
+    return ends_with(run, 0, case.base.out, None) if is_met else NOT_MET
 
 
 def same_with_link_again(case: Case) -> Answer:
