@@ -1,0 +1,264 @@
+"""The slow model, first part: the frames of a text, what a payload says, and its cells.
+
+Each rule is written as it is told and not as a program would do it in one pass.
+"""
+
+from __future__ import annotations
+
+from typing import NamedTuple
+
+from wire import (
+    HEADERS,
+    LEGACY_SATELLITE,
+    MSM_CELL,
+    MSM_SATELLITE,
+    PREAMBLE,
+    WEEK_MS,
+    BitReader,
+    Fields,
+    Message,
+    is_frame,
+    size_at,
+)
+
+
+class Placed(NamedTuple):
+    """A frame of a text: where it begins, and its payload."""
+
+    place: int
+    payload: bytes
+
+    @property
+    def end(self) -> int:
+        return self.place + 6 + len(self.payload)
+
+
+def scan(text: bytes, ended: bool) -> tuple[list[Placed], int]:
+    """The frames from left to right, none over another, and the place from which bytes wait for
+    more: the first preamble whose frame would reach past the text. In an ended text none waits."""
+    frames = []
+    place = text.find(PREAMBLE)
+    while place >= 0:
+        size = size_at(text, place)
+        is_whole = size is not None and place + size <= len(text)
+        if not is_whole and not ended:
+            return frames, place
+        if is_whole and is_frame(text[place : place + size]):
+            frames.append(Placed(place, text[place + 3 : place + size - 3]))
+            place += size
+        else:
+            place += 1
+        place = text.find(PREAMBLE, place)
+    return frames, len(text)
+
+
+def frames_of(text: bytes) -> list[Placed]:
+    return scan(text, ended=True)[0]
+
+
+class Refusal(NamedTuple):
+    """Why a payload is no message that is read."""
+
+    fault: str
+    number: int | None
+
+    def __str__(self) -> str:
+        return f"{self.fault} {'-' if self.number is None else self.number}"
+
+
+def read_message(payload: bytes) -> Message | Refusal:
+    """The message that a payload begins with, or the first cause why there is none."""
+    if 8 * len(payload) < 12:
+        return Refusal("M1", None)
+    number = BitReader(payload).take(12)
+    if number not in HEADERS:
+        return Refusal("M2", number)
+    bits = BitReader(payload)
+    try:
+        header = bits.take_row(HEADERS[number])
+        if header.get("tow", 0) >= WEEK_MS:
+            return Refusal("M4", number)
+        if number == 1074 and _cell_mask_width(header) > 64:
+            return Refusal("M5", number)
+        return _read_rest(bits, header)
+    except EOFError:
+        return Refusal("M3", number)
+
+
+def _cell_mask_width(header: Fields) -> int:
+    return header["satellite_mask"].bit_count() * header["signal_mask"].bit_count()
+
+
+def _read_rest(bits: BitReader, header: Fields) -> Message:
+    """What stands after the header."""
+    message = Message(header)
+    if header["number"] == 1004:
+        message.satellites = [bits.take_row(LEGACY_SATELLITE) for _ in range(header["satellites"])]
+    if header["number"] == 1074:
+        message.cell_mask = [bits.take(1) for _ in range(_cell_mask_width(header))]
+        satellites = header["satellite_mask"].bit_count()
+        message.satellites = bits.take_columns(MSM_SATELLITE, satellites)
+        message.cells = bits.take_columns(MSM_CELL, sum(message.cell_mask))
+    return message
+
+
+def fixed(value: int, decimals: int) -> str:
+    """A whole number of 10^-decimals, as a decimal number."""
+    whole, part = divmod(abs(value), 10**decimals)
+    return f"{'-' if value < 0 else ''}{whole}.{part:0{decimals}}"
+
+
+def show_line(payload: bytes) -> str:
+    message = read_message(payload)
+    if isinstance(message, Refusal):
+        return f"{message.number} other" if message.fault == "M2" else f"refused {message}"
+    header = message.header
+    begin = f"{header['number']} station {header['station']}"
+    match header["number"]:
+        case 1004:
+            return f"{begin} tow {header['tow']} satellites {header['satellites']}"
+        case 1074:
+            satellites, signals = header["satellite_mask"], header["signal_mask"]
+            masks = f"satellites {satellites.bit_count()} signals {signals.bit_count()}"
+            return f"{begin} tow {header['tow']} {masks} cells {sum(message.cell_mask)}"
+    position = " ".join(f"{axis} {fixed(header[axis], 4)}" for axis in "xyz")
+    height = f" height {fixed(header['height'], 4)}" if "height" in header else ""
+    return f"{begin} {position}{height}"
+
+
+CODES = "1C 1P 1W 1S 1L 1X 2C 2D 2P 2W 2S 2L 2X 5I 5Q 5X".split()
+SIGNALS = {
+    **{2: "1C", 3: "1P", 4: "1W", 8: "2C", 9: "2P", 10: "2W", 15: "2S", 16: "2L", 17: "2X"},
+    **{22: "5I", 23: "5Q", 24: "5X", 30: "1S", 31: "1L", 32: "1X"},
+}
+L1_CODES = ("1C", "1P")
+L2_CODES = ("2X", "2P", "2D", "2W")
+FREQUENCY = {"1": 1_575_420_000, "2": 1_227_600_000, "5": 1_176_450_000}
+LIGHT = 299_792_458
+
+
+class Cell(NamedTuple):
+    """What a message tells of a satellite and a code. Two cells agree if all of it is equal."""
+
+    range: int | None  # mm
+    phase: int | None  # millicycles
+    strength: int | None  # thousandths of a dB-Hz
+    lock_time: int  # ms
+    half: bool
+    source: int  # the message's number
+    offset: int | None  # of a phase of a 1004: in 0.0005 m from the L1 range
+
+
+CellOf = tuple[int, str, Cell]  # with its satellite and code
+
+
+def rounded(numerator: int, denominator: int) -> int:
+    """The nearest whole number, ties away from zero."""
+    magnitude = (2 * abs(numerator) + denominator) // (2 * denominator)
+    return -magnitude if numerator < 0 else magnitude
+
+
+def legacy_lock_time(indicator: int) -> int:
+    """The least lock time in ms at an indicator of 0 to 127."""
+    if indicator == 127:
+        return 937_000
+    for first, factor, less in ((120, 32, 3096), (96, 16, 1176), (72, 8, 408), (48, 4, 120)):
+        if indicator >= first:
+            return 1000 * (factor * indicator - less)
+    return 1000 * (2 * indicator - 24 if indicator >= 24 else indicator)
+
+
+def msm_lock_time(indicator: int) -> int:
+    """The same at an indicator of 0 to 15."""
+    return 0 if indicator == 0 else 2 ** (indicator + 4)
+
+
+def cells_of(message: Message) -> list[CellOf]:
+    """The cells of satellites 1 to 32 and known signals, in the order of the message."""
+    if message.header["number"] == 1004:
+        return _legacy_cells(message)
+    return _msm_cells(message)
+
+
+def _legacy_cells(message: Message) -> list[CellOf]:
+    cells: list[CellOf] = []
+    seen = set()
+    for row in message.satellites:
+        satellite = row["satellite"]
+        if 1 <= satellite <= 32 and satellite not in seen:
+            cells.append((satellite, L1_CODES[row["l1_code"]], _l1_cell(row)))
+            cells.append((satellite, L2_CODES[row["l2_code"]], _l2_cell(row)))
+        seen.add(satellite)
+    return cells
+
+
+def _l1_range(row: Fields) -> int:
+    """In 0.0005 m."""
+    return 40 * row["l1_range"] + 2 * LIGHT * row["modulus_ambiguity"]
+
+
+def _legacy_phase(row: Fields, offset: int, band: str) -> int:
+    # 0.0005 m in millicycles is f / (2 c), f in Hz
+    return rounded((_l1_range(row) + offset) * FREQUENCY[band], 2 * LIGHT)
+
+
+def _l1_cell(row: Fields) -> Cell:
+    has_both = row["l1_offset"] != -(1 << 19)
+    return Cell(
+        range=rounded(_l1_range(row), 2) if has_both else None,
+        phase=_legacy_phase(row, row["l1_offset"], "1") if has_both else None,
+        strength=250 * row["l1_cnr"] or None,
+        lock_time=legacy_lock_time(row["l1_lock"]),
+        half=False,
+        source=1004,
+        offset=row["l1_offset"] if has_both else None,
+    )
+
+
+def _l2_cell(row: Fields) -> Cell:
+    has_range = row["l2_range"] != -(1 << 13)
+    has_phase = row["l2_offset"] != -(1 << 19)
+    return Cell(
+        range=rounded(_l1_range(row) + 40 * row["l2_range"], 2) if has_range else None,
+        phase=_legacy_phase(row, row["l2_offset"], "2") if has_phase else None,
+        strength=250 * row["l2_cnr"] or None,
+        lock_time=legacy_lock_time(row["l2_lock"]),
+        half=False,
+        source=1004,
+        offset=row["l2_offset"] if has_phase else None,
+    )
+
+
+def set_bits(mask: int, width: int) -> list[int]:
+    """The identifiers of a mask, whose first bit is identifier 1."""
+    return [i for i in range(1, width + 1) if mask >> width - i & 1]
+
+
+def _msm_cells(message: Message) -> list[CellOf]:
+    satellites = set_bits(message.header["satellite_mask"], 64)
+    signals = set_bits(message.header["signal_mask"], 32)
+    pairs = [(at, signal) for at in range(len(satellites)) for signal in signals]
+    set_pairs = [pair for pair, is_set in zip(pairs, message.cell_mask, strict=True) if is_set]
+    cells: list[CellOf] = []
+    for (at, signal), row in zip(set_pairs, message.cells, strict=True):
+        if satellites[at] <= 32 and signal in SIGNALS:
+            code = SIGNALS[signal]
+            cells.append((satellites[at], code, _msm_cell(message.satellites[at], row, code)))
+    return cells
+
+
+def _msm_cell(satellite: Fields, row: Fields, code: str) -> Cell:
+    rough = (satellite["rough_ms"] << 29) + (satellite["rough_fraction"] << 19)  # 2^-29 ms
+    has_rough = satellite["rough_ms"] != 255
+    has_range = has_rough and row["fine_range"] != -(1 << 14)
+    has_phase = has_rough and row["fine_phase"] != -(1 << 21)
+    phase = (rough + row["fine_phase"]) * FREQUENCY[code[0]]
+    return Cell(
+        range=rounded((rough + 32 * row["fine_range"]) * LIGHT, 1 << 29) if has_range else None,
+        phase=rounded(phase, 1 << 29) if has_phase else None,
+        strength=1000 * row["cnr"] or None,
+        lock_time=msm_lock_time(row["lock"]),
+        half=row["half_cycle"] == 1,
+        source=1074,
+        offset=None,
+    )

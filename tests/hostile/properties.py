@@ -1,0 +1,359 @@
+"""What must hold of the program on each capture.
+
+A property answers how it fails, an empty text if it holds, and `NOT_MET` if its premise does not
+hold for this capture, so that nothing was checked. The premises are those of the laws that
+rtk_convert proves over *found frames* (`set_decides_file`, `file_only_grows`): if bytes are taken
+out of a capture or put elsewhere, another frame may come to light or be lost, as after a false
+preamble. The laws say nothing of that, so each such property first looks, by the model's own scan,
+whether the frames found are those that were meant.
+"""
+
+from __future__ import annotations
+
+import re
+from collections import Counter
+from dataclasses import dataclass
+from random import Random
+from typing import Callable, Iterable, NamedTuple
+
+from captures import Capture
+from messages import Placed, frames_of, show_line
+from model import COUNTS, KINDS, Conversion, Judged, convert, report_of
+from program import Ended, Program
+from wire import frame_of
+
+MOST_LINKS = 16
+HOLDS = ""
+NOT_MET = None
+Answer = str | None
+
+
+@dataclass
+class Case:
+    """A capture, what the model says of it, and what the program made of it."""
+
+    capture: Capture
+    due: Conversion
+    program: Program
+    base: Ended
+    rng: Random
+
+    def convert(self, links: list[bytes], on_stdin: int | None = None) -> Ended:
+        return self.program.convert(self.capture.setup, links, on_stdin)
+
+    @property
+    def links(self) -> list[bytes]:
+        return list(self.capture.links)
+
+
+def case_of(capture: Capture, program: Program, rng: Random) -> Case:
+    due = convert(capture.setup, capture.links)
+    return Case(capture, due, program, program.convert(capture.setup, capture.links), rng)
+
+
+def difference(is_: bytes, due: bytes) -> str:
+    """The first line in which two texts differ; nothing if they are equal."""
+    if is_ == due:
+        return HOLDS
+    lines, due_lines = is_.split(b"\n"), due.split(b"\n")
+    at = sum(1 for _ in _equal_begin(lines, due_lines))
+    line = b"".join(lines[at : at + 1]).decode(errors="replace")
+    due_line = b"".join(due_lines[at : at + 1]).decode(errors="replace")
+    return f"line {at + 1} is {line!r} and not {due_line!r}"
+
+
+def _equal_begin(first: list[bytes], second: list[bytes]) -> Iterable[bytes]:
+    for one, other in zip(first, second):
+        if one != other:
+            return
+        yield one
+
+
+def ends_with(run: Ended, status: int, out: bytes | None, err: bytes | None) -> str:
+    """How a run differs from this status and these texts; a text that isn't given may be any."""
+    if run.status != status:
+        return f"status {run.status} and not {status}, {run.err[-100:].decode(errors='replace')!r}"
+    out_differs = HOLDS if out is None else difference(run.out, out)
+    err_differs = HOLDS if err is None else difference(run.err, err)
+    return f"standard output: {out_differs}" if out_differs else err_differs
+
+
+def counts_of(report: bytes) -> dict[str, int]:
+    """The nine counts at the end of a report; fewer if they don't stand there."""
+    lines = report.decode(errors="replace").split("\n")[-10:-1]
+    words = [line.split(" ") for line in lines]
+    return {pair[0]: int(pair[1]) for pair in words if len(pair) == 2 and pair[1].isdigit()}
+
+
+def is_clean(run: Ended) -> bool:
+    """Nothing is late and nothing in conflict."""
+    return b" late " not in run.err and b" conflict " not in run.err
+
+
+def as_modelled(case: Case) -> Answer:
+    """File and report are, byte for byte, those of the slow model."""
+    return ends_with(case.base, 0, case.due.file.encode(), case.due.report.encode())
+
+
+REPORT_LINE = re.compile(
+    r"link (?:[1-9]|1[0-6]) (?:"
+    r"refused (?:M1 -|M3 100[456]|M3 1074|M4 1004|M4 1074|M5 1074)"
+    r"|(?:late|conflict) 100[56] -"
+    r"|late (?:1004|1074) \d{4}-\d\d-\d\d \d\d:\d\d:\d\d\.\d{3}"
+    r"|conflict (?:1004|1074) \d{4}-\d\d-\d\d \d\d:\d\d:\d\d\.\d{3} G\d\d [125][A-Z]"
+    r")"
+)
+
+
+def counts_add_up(case: Case) -> Answer:
+    """The nine counts stand at the end, frames are the sum of the seven after it, and the lines
+    above and the records are as many as is counted."""
+    counts = counts_of(case.base.err)
+    if tuple(counts) != COUNTS:
+        return f"the counts are {tuple(counts)}"
+    if counts["frames"] != sum(counts[kind] for kind in KINDS):
+        return f"the counts don't add up: {counts}"
+    lines = case.base.err.decode(errors="replace").split("\n")[:-10]
+    bad = [line for line in lines if not REPORT_LINE.fullmatch(line)]
+    if bad:
+        return f"a line of the report is {bad[0]!r}"
+    told = Counter(line.split(" ")[2] for line in lines)
+    if (told["late"], told["refused"]) != (counts["late"], counts["refused"]):
+        return f"{counts} and lines {told}"
+    if told["conflict"] < counts["conflict"]:
+        return f"{counts['conflict']} conflicts and {told['conflict']} lines"
+    records = case.base.out.count(b"\n>")
+    return HOLDS if records == counts["epochs"] else f"{records} records and {counts}"
+
+
+def file_is_valid(case: Case) -> Answer:
+    """`check` says that the file is valid, with the run's own counts."""
+    epochs = counts_of(case.base.err).get("epochs")
+    satellites = case.base.out.partition(b"END OF HEADER")[2].count(b"\nG")
+    line = f"valid: {epochs} epochs, {satellites} satellite lines\n"
+    return ends_with(case.program.check(case.base.out), 0, line.encode(), b"")
+
+
+def shown_as_modelled(case: Case) -> Answer:
+    """`show` has a line for each frame, and of one link's frames as many of each kind as the report
+    of `convert` counts."""
+    text = case.rng.choice(case.links)
+    lines = [show_line(frame.payload) for frame in frames_of(text)]
+    shown = case.program.show(text)
+    differs = ends_with(shown, 0, "".join(f"{line}\n" for line in lines).encode(), b"")
+    if differs or len(case.links) > 1:
+        return differs
+    counts = counts_of(case.base.err)
+    starts = [line.split(b" ") for line in shown.out.splitlines()]
+    station = str(case.capture.setup.station).encode()
+    told = {
+        "frames": len(starts),
+        "other": sum(words[1] == b"other" for words in starts),
+        "refused": sum(words[0] == b"refused" for words in starts),
+        "foreign": sum(words[1] == b"station" and words[2] != station for words in starts),
+    }
+    return HOLDS if told.items() <= counts.items() else f"shown {told}, counted {counts}"
+
+
+def hex_shown_as_bytes(case: Case) -> Answer:
+    """`show --hex` of the digits, of either case and with blanks, is `show` of the bytes."""
+    text = case.rng.choice(case.links)
+    digits = "".join(case.rng.choice((digit, digit.upper())) for digit in text.hex())
+    cuts = sorted(case.rng.choices(range(len(digits) + 1), k=case.rng.randrange(20)))
+    parts = [digits[at:end] for at, end in zip([0, *cuts], [*cuts, len(digits)], strict=True)]
+    blanks = case.rng.choices((" ", "\t", "\n", "\r\n", "  "), k=len(parts))
+    hex_text = "".join(part + blank for part, blank in zip(parts, blanks, strict=True))
+    shown = case.program.show(text)
+    by_hex = case.program.show(hex_text.encode(), "--hex")
+    return ends_with(by_hex, shown.status, shown.out, shown.err)
+
+
+def same_on_standard_input(case: Case) -> Answer:
+    """A link may be given as standard input: file and report are the same."""
+    link = case.rng.randrange(len(case.links))
+    return ends_with(case.convert(case.links, link), 0, case.base.out, case.base.err)
+
+
+def without(case: Case, kinds: tuple[str, ...]) -> tuple[list[bytes], list[Judged]] | None:
+    """The links with some frames of these kinds taken out, one or all, and the frames that remain;
+    nothing if there are none, or if other frames would be found than those that remain."""
+    candidates = [judged for judged in case.due.frames if judged.kind in kinds]
+    if not candidates:
+        return None
+    gone = candidates if case.rng.random() < 0.3 else [case.rng.choice(candidates)]
+    links = []
+    for number, text in enumerate(case.links):
+        frames = [judged.found.frame for judged in gone if judged.found.link == number]
+        for frame in reversed(frames):
+            text = text[: frame.place] + text[frame.end :]
+        payloads = [frame.payload for frame in frames_of(case.links[number]) if frame not in frames]
+        if payloads != [frame.payload for frame in frames_of(text)]:
+            return None
+        links.append(text)
+    left = [judged for judged in case.due.frames if judged not in gone]
+    return links, left
+
+
+def frames_left_out(case: Case) -> Answer:
+    """A frame of another kind, of another station or refused that is taken out of a capture of one
+    link leaves the file; of the report only its own line and counts go. The law on found frames is
+    the clause `others` of `set_decides_file`."""
+    return _left_out_of_one_link(case, ("other", "foreign", "refused"))
+
+
+def untaken_left_out(case: Case) -> Answer:
+    """A frame that is late, a repeat or in conflict leaves the file too: nothing of it is new. Of
+    late ones the law is the clause `late` of `set_decides_file`."""
+    return _left_out_of_one_link(case, ("late", "repeat", "conflict"))
+
+
+def _left_out_of_one_link(case: Case, kinds: tuple[str, ...]) -> Answer:
+    if len(case.links) > 1:
+        return NOT_MET
+    rest = without(case, kinds)
+    if rest is None:
+        return NOT_MET
+    report = report_of(rest[1], case.due.epochs)
+    return ends_with(case.convert(rest[0]), 0, case.base.out, report.encode())
+
+
+def frames_left_out_of_links(case: Case) -> Answer:
+    """The same of several links, if nothing is late and nothing in conflict before and after:
+    the reads of 512 bytes are cut elsewhere, and so the order of messages is another."""
+    if len(case.links) == 1 or not is_clean(case.base):
+        return NOT_MET
+    rest = without(case, ("other", "foreign", "refused"))
+    return NOT_MET if rest is None else _same_set(case, rest[0])
+
+
+def _same_set(case: Case, links: list[bytes]) -> Answer:
+    """The file of other links that carry the same set of messages, if all come in time there. The
+    law on found frames is the clause `same` of `set_decides_file`."""
+    run = case.convert(links)
+    is_met = run.status != 0 or is_clean(run)
+    return ends_with(run, 0, case.base.out, None) if is_met else NOT_MET
+
+
+def same_with_link_again(case: Case) -> Answer:
+    """A link named again after its first place leaves the file, whatever is late or in conflict.
+
+    A copy never reads ahead of the link, since of links alike the first is read, so all that it
+    says came before: nothing is taken of it, and nothing comes later for it."""
+    links, link = case.links, case.rng.randrange(len(case.links))
+    most = MOST_LINKS - len(links)
+    if most == 0:
+        return NOT_MET
+    for _ in range(case.rng.choice((1, 1, 1, 2, most))):
+        if len(links) < MOST_LINKS:
+            links.insert(case.rng.randint(link + 1, len(links)), case.links[link])
+    run = case.convert(links)
+    differs = ends_with(run, 0, case.base.out, None)
+    copies = len(links) - len(case.links)
+    before, after = counts_of(case.base.err), counts_of(run.err)
+    own = Counter(judged.kind for judged in case.due.frames if judged.found.link == link)
+    due = {name: before[name] + copies * own[name] for name in ("other", "refused", "foreign")}
+    due["frames"] = before["frames"] + copies * own.total()
+    due |= {name: before[name] for name in ("taken", "epochs")}
+    if differs or due.items() <= after.items():
+        return differs
+    return f"counts {after} with {copies} copies of link {link + 1}, before {before}"
+
+
+def same_with_link_before(case: Case) -> Answer:
+    """A link named also before other links is read in another order: the file is the same if
+    nothing is late and nothing in conflict before and after."""
+    link = case.rng.randrange(len(case.links))
+    if link == 0 or len(case.links) == MOST_LINKS or not is_clean(case.base):
+        return NOT_MET
+    links = case.links
+    links.insert(case.rng.randrange(link), links[link])
+    return _same_set(case, links)
+
+
+def pieces_of(text: bytes) -> list[bytes]:
+    """The frames of a text, each with the bytes before it, and then what is left."""
+    ends = [0, *(frame.end for frame in frames_of(text))]
+    return [text[at:end] for at, end in zip(ends, [*ends[1:], len(text)], strict=True)]
+
+
+def payloads_of(links: Iterable[bytes]) -> Counter[bytes]:
+    return Counter(frame.payload for text in links for frame in frames_of(text))
+
+
+def same_dealt_to_two(case: Case) -> Answer:
+    """The frames of one link dealt to two, with the bytes between them, give the same file if
+    nothing is late and nothing in conflict before and after."""
+    if len(case.links) > 1 or not is_clean(case.base):
+        return NOT_MET
+    links = [b"", b""]
+    for piece in pieces_of(case.links[0]):
+        links[case.rng.randrange(2)] += piece
+    if payloads_of(links) != payloads_of(case.links):
+        return NOT_MET
+    return _same_set(case, links)
+
+
+def same_in_any_order(case: Case) -> Answer:
+    """The frames of all links in any order on 1 to 16 links, and some of them again: as above."""
+    if not is_clean(case.base):
+        return NOT_MET
+    frames = [frame_of(judged.found.frame.payload) for judged in case.due.frames]
+    frames += [case.rng.choice(frames) for _ in frames if case.rng.random() < 0.2]
+    case.rng.shuffle(frames)
+    links = [b""] * case.rng.choice((1, 2, 3, MOST_LINKS, case.rng.randint(1, MOST_LINKS)))
+    for frame in frames:
+        links[case.rng.randrange(len(links))] += frame
+    return _same_set(case, links)
+
+
+def file_only_grows(case: Case) -> Answer:
+    """The records of the epochs that are closed at the end of a frame, with the header before them,
+    begin the file of the whole capture (`file_only_grows`)."""
+    text = case.links[0]
+    frames: list[Placed] = frames_of(text)
+    if len(case.links) > 1 or len(frames) < 3:
+        return NOT_MET
+    text = text[: case.rng.choice(frames[len(frames) // 2 : -1]).end]
+    due = convert(case.capture.setup, [text])
+    if due.closed == 0:
+        return NOT_MET
+    run = case.convert([text])
+    records = run.out.split(b"\n>")
+    begin = b"\n>".join(records[: due.closed + 1]).rstrip(b"\n") + b"\n"
+    if run.status != 0 or len(records) <= due.closed:
+        return f"status {run.status}, {len(records) - 1} records and {due.closed} closed"
+    return HOLDS if case.base.out.startswith(begin) else difference(case.base.out, begin)
+
+
+class Property(NamedTuple):
+    """A property and in how many of a hundred captures it must at least have been checked."""
+
+    holds: Callable[[Case], Answer]
+    floor: int
+
+    @property
+    def name(self) -> str:
+        return self.holds.__name__
+
+
+# On every capture.
+EVERY = (Property(as_modelled, 100), Property(counts_add_up, 100), Property(file_is_valid, 100))
+
+# Tried first, each in its turn, since few captures meet their premises.
+SELDOM = (
+    Property(frames_left_out_of_links, 10),
+    Property(same_with_link_before, 8),
+    Property(untaken_left_out, 15),
+    Property(file_only_grows, 4),
+)
+
+# Tried then, each in its turn.
+OFTEN = (
+    Property(frames_left_out, 10),
+    Property(same_dealt_to_two, 10),
+    Property(same_in_any_order, 20),
+    Property(same_with_link_again, 20),
+    Property(same_on_standard_input, 20),
+    Property(shown_as_modelled, 20),
+    Property(hex_shown_as_bytes, 20),
+)
