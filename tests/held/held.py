@@ -8,7 +8,7 @@ import sys
 from collections.abc import Iterable
 from pathlib import Path
 
-from captures import NOON, SATELLITES, capture, legacy, minutes, single_satellite
+from streams import NOON, SATELLITES, capture, legacy, minutes, single_satellite
 
 OPTIONS = (
     "--station 2003 --near 2024-05-17T12:00:00 --made 2024-05-17T13:00:00 --marker BASE"

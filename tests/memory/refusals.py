@@ -11,7 +11,7 @@ from typing import NamedTuple
 
 sys.path.insert(0, str(Path(__file__).resolve().parent.parent / "held"))
 
-from captures import single_satellite, split_epochs  # noqa: E402
+from streams import single_satellite, split_epochs  # noqa: E402
 
 OUT_OF_MEMORY = b"rtcm2rinex: out of memory\n"
 
@@ -117,7 +117,7 @@ class Sweep:
 
     def run(self) -> bool:
         """Prints how it went."""
-        name = " ".join(self.scene.words)[:100] or "no word"
+        name = name_of(self.scene.words)
         if self.whole.status != self.scene.status:
             print(f"FAILED {name}: status {self.whole.status} without refusal")
             return False
@@ -134,22 +134,32 @@ class Sweep:
         return True
 
 
+OPTIONS = {
+    "station": "2003",
+    "near": "2024-05-17T12:00:00",
+    "made": "2024-05-17T13:00:00",
+    "marker": "BASE",
+    "codes": "1C,2W,5X",
+}
+
+
 def convert(*links: str, **options: str) -> list[str]:
     """A conversion of the station of the examples, with other values of some options."""
-    values = {
-        "station": "2003",
-        "near": "2024-05-17T12:00:00",
-        "made": "2024-05-17T13:00:00",
-        "marker": "BASE",
-        "codes": "1C,2W,5X",
-    }
-    given = (values | options).items()
+    given = (OPTIONS | options).items()
     return ["convert", *(word for name, value in given for word in (f"--{name}", value)), *links]
 
 
-def scenes(examples: str) -> Iterator[Scene]:
-    base, late = f"{examples}/base.rtcm", f"{examples}/late.rtcm"
-    first, second = f"{examples}/session_link1.rtcm", f"{examples}/session_link2.rtcm"
+def name_of(words: list[str]) -> str:
+    """The words without the options that all conversions have."""
+    name = " ".join(words)
+    for option, value in OPTIONS.items():
+        name = name.replace(f" --{option} {value}", "")
+    return name[:100] or "no word"
+
+
+def scenes() -> Iterator[Scene]:
+    base, late = "examples/base.rtcm", "examples/late.rtcm"
+    first, second = "examples/session_link1.rtcm", "examples/session_link2.rtcm"
 
     # What is asked for.
     yield Scene(["--help"])
@@ -158,10 +168,10 @@ def scenes(examples: str) -> Iterator[Scene]:
 
     # Work that is done, and work that isn't.
     yield Scene(["show", base])
-    yield Scene(["show", "--hex", "stdin"], given=f"{examples}/arp1005.hex")
+    yield Scene(["show", "--hex", "stdin"], given="examples/arp1005.hex")
     yield Scene(["show", "--hex", base], status=1)
     yield Scene(["show", "nowhere"], status=1)
-    yield Scene(["check", f"{examples}/base.rnx"])
+    yield Scene(["check", "examples/base.rnx"])
     yield Scene(["check", base], status=3)
     yield Scene(convert(base))
     yield Scene(convert(late, window="2"))
@@ -191,9 +201,10 @@ def scenes(examples: str) -> Iterator[Scene]:
 def main() -> None:
     path, folder, examples = sys.argv[1:]
     program = Program(path, folder)
+    os.symlink(examples, "examples")
     Path("split").write_bytes(split_epochs())
     Path("many").write_bytes(single_satellite(4100))
-    passed = [Sweep(program, scene).run() for scene in scenes(examples)]
+    passed = [Sweep(program, scene).run() for scene in scenes()]
     print(f"{passed.count(True)} passed, {passed.count(False)} failed")
     sys.exit(not all(passed))
 

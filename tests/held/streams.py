@@ -1,4 +1,4 @@
-"""Captures of many epochs, made of the messages of one station."""
+"""Streams of many epochs, made of the messages of one station."""
 
 from __future__ import annotations
 
