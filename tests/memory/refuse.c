@@ -1,6 +1,6 @@
-// Preloaded under a program: refuses the growth of memory whose number REFUSED_GROWTH says, counted from 1, and each
-// later one too where a `+` stands behind the number. At each refusal it writes a byte to descriptor 9, so that the
-// caller knows that the program met one.
+// Preloaded under a program: refuses the growth of memory whose number REFUSED_GROWTH says, counted
+// from 1, and each later one too where a `+` stands behind the number. At each refusal it writes a
+// byte to descriptor 9, so that the caller knows that the program met one.
 // It needs no header, so that the toolchain's own compiler builds it.
 
 typedef unsigned long size_t;

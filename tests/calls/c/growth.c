@@ -1,13 +1,15 @@
-// Linked into the program of the rows, which AddressSanitizer watches: its malloc and realloc call the two functions
-// below, and these refuse the growth that the program names.
-// It needs no header, so that the toolchain's own compiler builds it.
+// Linked into the program of the rows, which `rt try` builds with AddressSanitizer: the malloc and
+// realloc of that call the last two functions here, and these refuse the growth that the program
+// names. It needs no header, so that the toolchain's own compiler builds it.
 
 typedef unsigned long size_t;
 void *___interceptor_malloc(size_t size);
 void *___interceptor_realloc(void *old, size_t size);
 
-// The growths up to the refused one, itself counted; 0 where none is to be refused. How many were refused.
-static unsigned long left, refusals;
+// The growths up to the refused one, itself counted; 0 where none is to be refused.
+static unsigned long left;
+
+static unsigned long refusals;
 
 // Refuses the growth with this number, counted from 1; none with 0.
 void refuse_growth(unsigned long number) {
