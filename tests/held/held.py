@@ -21,7 +21,7 @@ CELL = 64
 FEWEST_CELLS = 4
 EPOCH = 64
 READ_AHEAD, WAITING = 32_768, 1_029
-LINK = 45_000
+LINK = 52_000
 GATHERED = 2 * 65_536
 
 # The cells of an epoch: a 1004 gives two of a satellite, a 1074 one of each signal.
@@ -179,8 +179,9 @@ def grows_with_window(runs: Runs, tests: Tests) -> None:
 
 
 def grows_with_links(runs: Runs, tests: Tests) -> None:
-    held = {links: runs.most(64, ["01"] * links, counts_of(1, links)) for links in (1, 2, 16)}
-    for links in (2, 16):
+    numbers = (1, 2, 5, 9, 16)
+    held = {links: runs.most(64, ["01"] * links, counts_of(1, links)) for links in numbers}
+    for links in numbers[1:]:
         tests.within(
             f"{links} links over one",
             held[links] - held[1],
