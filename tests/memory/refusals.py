@@ -173,6 +173,7 @@ def scenes() -> Iterator[Scene]:
     yield Scene(["show", "nowhere"], status=1)
     yield Scene(["check", "examples/base.rnx"])
     yield Scene(["check", base], status=3)
+    yield Scene(["check", "wrong"], status=3)
     yield Scene(convert(base))
     yield Scene(convert(late, window="2"))
     yield Scene(convert("stdin", second, window="4"), given=first)
@@ -199,14 +200,16 @@ def scenes() -> Iterator[Scene]:
 
 
 def main() -> None:
-    path, folder, examples = sys.argv[1:]
+    path, folder, examples, *names = sys.argv[1:]
     program = Program(path, folder)
     os.symlink(examples, "examples")
+    Path("wrong").write_bytes(Path("examples/base.rnx").read_bytes().replace(b"45.000", b"45.100"))
     Path("split").write_bytes(split_epochs())
     Path("many").write_bytes(single_satellite(4100))
-    passed = [Sweep(program, scene).run() for scene in scenes()]
+    wanted = [it for it in scenes() if not names or name_of(it.words) in names]
+    passed = [Sweep(program, scene).run() for scene in wanted]
     print(f"{passed.count(True)} passed, {passed.count(False)} failed")
-    sys.exit(not all(passed))
+    sys.exit(not passed or not all(passed))
 
 
 if __name__ == "__main__":
