@@ -1,5 +1,6 @@
-// Preloaded under a program: refuses the growth of memory whose number REFUSED_GROWTH says, counted from 1, and then
-// writes a byte to descriptor 9, so that the caller knows that the program met the refusal.
+// Preloaded under a program: refuses the growth of memory whose number REFUSED_GROWTH says, counted
+// from 1, and each later one too where a `+` stands behind the number. At each refusal it writes a
+// byte to descriptor 9, so that the caller knows that the program met one.
 // It needs no header, so that the toolchain's own compiler builds it.
 
 typedef unsigned long size_t;
@@ -13,11 +14,15 @@ static long growths;
 
 static int is_refused(void) {
     static long refused;
+    static int with_later;
     if (refused == 0) {
         const char *text = getenv("REFUSED_GROWTH");
-        refused = text ? strtol(text, 0, 10) : -1;
+        char *end = 0;
+        refused = text ? strtol(text, &end, 10) : -1;
+        with_later = text && *end == '+';
     }
-    if (++growths != refused) return 0;
+    growths++;
+    if (growths != refused && !(with_later && growths > refused)) return 0;
     write(9, "!", 1);
     return 1;
 }

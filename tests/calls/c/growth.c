@@ -1,0 +1,42 @@
+// Linked into the program of the rows, which `rt try` builds with AddressSanitizer: the malloc and
+// realloc of that call the last two functions here, and these refuse the growth that the program
+// names. It needs no header, so that the toolchain's own compiler builds it.
+
+typedef unsigned long size_t;
+void *___interceptor_malloc(size_t size);
+void *___interceptor_realloc(void *old, size_t size);
+
+// The growths up to the refused one, itself counted; 0 where none is to be refused.
+static unsigned long left;
+
+static unsigned long refusals;
+
+// Refuses the growth with this number, counted from 1; none with 0.
+void refuse_growth(unsigned long number) {
+    left = number;
+    refusals = 0;
+}
+
+// Refuses none from now on.
+void allow_growth(void) {
+    left = 0;
+}
+
+// How many growths were refused since one was named.
+unsigned long refused_growths(void) {
+    return refusals;
+}
+
+static int is_refused(void) {
+    if (left == 0 || --left > 0) return 0;
+    refusals++;
+    return 1;
+}
+
+void *__interceptor_malloc(size_t size) {
+    return is_refused() ? 0 : ___interceptor_malloc(size);
+}
+
+void *__interceptor_realloc(void *old, size_t size) {
+    return is_refused() ? 0 : ___interceptor_realloc(old, size);
+}

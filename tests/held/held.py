@@ -1,0 +1,213 @@
+"""Runs `convert` on captures of different lengths and asks how many bytes it held at most."""
+
+from __future__ import annotations
+
+import os
+import subprocess
+import sys
+from collections.abc import Iterable
+from pathlib import Path
+
+from streams import NOON, SATELLITES, SIGNALS, capture, legacy, minutes, single_satellite
+
+OPTIONS = (
+    "--station 2003 --near 2024-05-17T12:00:00 --made 2024-05-17T13:00:00 --marker BASE"
+    " --codes 1C,2W,5X --window"
+).split()
+COUNTS = "frames other refused foreign taken repeat conflict late epochs".split()
+
+# What docs/MANUAL.md says that each open epoch, each link and what is gathered takes.
+CELL = 64
+FEWEST_CELLS = 4
+EPOCH = 64
+READ_AHEAD, WAITING = 32_768, 1_029
+LINK = 52_000
+GATHERED = 2 * 65_536
+
+# The cells of an epoch: a 1004 gives two of a satellite, a 1074 one of each signal.
+CELLS = len(SATELLITES) * (2 + len(SIGNALS))
+WINDOWS = (64, 1000, 4096)
+
+# By which memory can come besides malloc and realloc.
+OTHER_CALLS = (
+    "calloc reallocarray memalign aligned_alloc posix_memalign valloc pvalloc mmap mmap64 mremap"
+    " brk sbrk shmat"
+).split()
+
+
+class Failed(Exception):
+    """A run that did not come to its counts."""
+
+
+class Runs:
+    """The program with the counting library under it, in a folder of its own."""
+
+    def __init__(self, program: str, folder: str) -> None:
+        self.program = program
+        self.folder = Path(folder)
+        self.environment = os.environ | {"LD_PRELOAD": "./held.so"}
+        self.told = os.open(self.folder / "greatest", os.O_RDWR | os.O_CREAT)
+        os.dup2(self.told, 9)
+
+    def write(self, name: str, parts: Iterable[bytes]) -> None:
+        with open(self.folder / name, "wb") as file:
+            file.writelines(parts)
+
+    def held(
+        self, window: int, links: list[str], want: dict[str, int], stdin: str = ""
+    ) -> tuple[int, int]:
+        """How many bytes are held at most, and from the fourth read on, by a run whose counts are
+        these. What comes later may hide below what is held at the beginning."""
+        os.ftruncate(9, 0)
+        with open(self.folder / stdin if stdin else os.devnull, "rb") as given:
+            ran = subprocess.run(
+                [self.program, "convert", *OPTIONS, str(window), *links],
+                cwd=self.folder,
+                env=self.environment,
+                stdin=given,
+                stdout=subprocess.DEVNULL,
+                stderr=subprocess.PIPE,
+                pass_fds=[9],
+            )
+        lines = [line.split() for line in ran.stderr.decode().splitlines()[-len(COUNTS) :]]
+        counts = {words[0]: int(words[1]) for words in lines if words[1:] and words[1].isdigit()}
+        if ran.returncode != 0 or counts != dict.fromkeys(COUNTS, 0) | want:
+            words = " ".join(["convert", *links, f"--window {window}"])
+            raise Failed(f"{words}: status {ran.returncode}, {counts}, and not {want}")
+        told = os.pread(9, 40, 0)
+        return int(told[:20]), int(told[20:])
+
+    def most(self, window: int, links: list[str], want: dict[str, int], stdin: str = "") -> int:
+        return self.held(window, links, want, stdin)[0]
+
+
+class Tests:
+    """Each test by its name, and whether it passed."""
+
+    def __init__(self) -> None:
+        self.failed: list[bool] = []
+
+    def passes(self, line: str, is_good: bool) -> None:
+        print(f"{'ok' if is_good else 'FAILED'} {line}")
+        self.failed.append(not is_good)
+
+    def same(self, name: str, numbers: list[tuple[int, ...]]) -> None:
+        """A test that passes where all numbers are the same."""
+        shown = ", ".join(" ".join(map(str, it)) for it in numbers)
+        self.passes(f"{name}: {shown}", len(set(numbers)) == 1)
+
+    def within(self, name: str, number: int, least: int, most: int) -> None:
+        self.passes(f"{name}: {number} ({least} to {most})", least <= number <= most)
+
+    def end(self) -> None:
+        print(f"{self.failed.count(False)} passed, {self.failed.count(True)} failed")
+        sys.exit(any(self.failed))
+
+
+# An hour, ten hours and a day, by the names of their files.
+HOURS = {"01": 1, "10": 10, "24": 24}
+
+# How many messages of one kind a file has, by the end of its name.
+FEW_AND_MANY = {"a": 5_000, "b": 50_000}
+
+
+def write_captures(runs: Runs) -> None:
+    parts = list(minutes(60 * max(HOURS.values())))
+    for name, hours in HOURS.items():
+        runs.write(name, parts[: 60 * hours])
+    first = capture(legacy(NOON, SATELLITES[:1]))
+    foreign = capture(legacy(NOON, SATELLITES, station=7))
+    runs.write("single", [single_satellite(5000)])
+    for name, count in FEW_AND_MANY.items():
+        runs.write(f"late_{name}", [single_satellite(3), first * count])
+        runs.write(f"foreign_{name}", [foreign] * count)
+        runs.write(f"zeros_{name}", [bytes(100)] * count)
+
+
+def counts_of(hours: int, links: int) -> dict[str, int]:
+    """Of so many hours, the same on each link."""
+    seconds = 3600 * hours
+    frames = 2 * seconds + 60 * hours
+    taken = 2 * seconds + 1
+    return {
+        "frames": links * frames,
+        "taken": taken,
+        "repeat": links * frames - taken,
+        "epochs": seconds,
+    }
+
+
+def lengths_alike(runs: Runs, tests: Tests) -> None:
+    """An hour, ten hours and a day: the same number of bytes."""
+    for window in (2, 64):
+        due = {name: counts_of(hours, 1) for name, hours in HOURS.items()}
+        tests.same(
+            f"window {window}, an hour, ten hours and a day of standard input",
+            [runs.held(window, ["stdin"], due[name], stdin=name) for name in HOURS],
+        )
+        tests.same(
+            f"window {window}, an hour, ten hours and a day of a file",
+            [runs.held(window, [name], due[name]) for name in HOURS],
+        )
+    tests.same(
+        "an hour, ten hours and a day on two links",
+        [runs.held(64, [name, name], counts_of(hours, 2)) for name, hours in HOURS.items()],
+    )
+    few_and_many = FEW_AND_MANY.items()
+    late = [{"frames": 3 + n, "taken": 3, "epochs": 3, "late": n} for _, n in few_and_many]
+    foreign = [{"frames": n, "foreign": n} for _, n in few_and_many]
+    for kind, wants in (("late", late), ("foreign", foreign), ("zeros", [{}, {}])):
+        names = [f"{kind}_{name}" for name in FEW_AND_MANY]
+        held = [runs.held(2, [name], want) for name, want in zip(names, wants, strict=True)]
+        tests.same(f"few and many of {kind}", held)
+
+
+def grows_with_window(runs: Runs, tests: Tests) -> None:
+    """Each epoch of the window takes so much for each of its cells, and a little more."""
+    due = counts_of(10, 1)
+    single = {"frames": 5000, "taken": 5000, "epochs": 5000}
+    for name, cells, counts in (("10", CELLS, due), ("single", 2, single)):
+        held = {size: runs.most(size, [name], counts) for size in (2, *WINDOWS)}
+        for size in WINDOWS:
+            room = CELL * max(cells, FEWEST_CELLS)
+            tests.within(
+                f"window {size} over window 2, of epochs of {cells} cells",
+                held[size] - held[2],
+                (size - 2) * room,
+                (size - 2) * (room + EPOCH),
+            )
+
+
+def grows_with_links(runs: Runs, tests: Tests) -> None:
+    numbers = (1, 2, 5, 9, 16)
+    held = {links: runs.most(64, ["01"] * links, counts_of(1, links)) for links in numbers}
+    for links in numbers[1:]:
+        tests.within(
+            f"{links} links over one",
+            held[links] - held[1],
+            (links - 1) * (READ_AHEAD + WAITING),
+            (links - 1) * LINK,
+        )
+    followed = runs.most(64, ["stdin"], counts_of(1, 1), stdin="01")
+    gathered = held[1] - followed
+    tests.within("gathered where no link is standard input", gathered, GATHERED, GATHERED)
+
+
+def main() -> None:
+    program, folder = sys.argv[1:]
+    tests = Tests()
+    content = Path(program).read_bytes()
+    others = [name for name in OTHER_CALLS if b"\0%b\0" % name.encode() in content]
+    tests.within("calls by which the count would miss memory", len(others), 0, 0)
+    runs = Runs(program, folder)
+    write_captures(runs)
+    for part in (lengths_alike, grows_with_window, grows_with_links):
+        try:
+            part(runs, tests)
+        except Failed as failed:
+            tests.passes(str(failed), False)
+    tests.end()
+
+
+if __name__ == "__main__":
+    main()

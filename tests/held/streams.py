@@ -1,0 +1,117 @@
+"""Streams of many epochs, made of the messages of one station."""
+
+from __future__ import annotations
+
+import sys
+from collections.abc import Iterator
+from pathlib import Path
+
+sys.path.insert(0, str(Path(__file__).resolve().parent.parent / "hostile"))
+
+from wire import HEADERS, LEGACY_SATELLITE, MSM_CELL, MSM_SATELLITE  # noqa: E402
+from wire import Fields, Message, Table, frame_of, payload_of  # noqa: E402
+
+STATION = 2003
+MIDNIGHT = 432_000_000  # 2024-05-17 00:00:00 in ms of its week
+NOON = 475_200_000
+SATELLITES = (3, 8, 17, 29)
+SIGNALS = (2, 24)  # the codes 1C and 5X
+
+
+def row(fields: Table, **values: int) -> Fields:
+    """A row of a table, zero where no value is given."""
+    return {entry.name: 0 for entry in fields} | values
+
+
+def mask(identifiers: tuple[int, ...], width: int) -> int:
+    return sum(1 << width - identifier for identifier in identifiers)
+
+
+def point() -> Message:
+    """A 1005."""
+    place = {"x": 11_141_045_999, "y": -48_507_297_108, "z": 39_755_214_643}
+    return Message(row(HEADERS[1005], number=1005, station=STATION, gps=1, **place))
+
+
+def legacy(tow: int, satellites: tuple[int, ...], station: int = STATION) -> Message:
+    """A 1004 whose phases have held lock for long."""
+    rows = [
+        row(
+            LEGACY_SATELLITE,
+            **{"satellite": satellite, "l1_range": 5_000_000 + 1000 * satellite},
+            **{"modulus_ambiguity": 70, "l1_lock": 127, "l1_cnr": 180},
+            **{"l2_code": 3, "l2_range": 100, "l2_lock": 127, "l2_cnr": 140},
+        )
+        for satellite in satellites
+    ]
+    head = {"number": 1004, "station": station, "tow": tow, "satellites": len(rows)}
+    return Message(row(HEADERS[1004], **head), rows)
+
+
+def msm(tow: int, satellites: tuple[int, ...], cnr: int = 45) -> Message:
+    """A 1074 with each signal of each satellite."""
+    masks = {"satellite_mask": mask(satellites, 64), "signal_mask": mask(SIGNALS, 32)}
+    head = {"number": 1074, "station": STATION, "tow": tow}
+    count = len(satellites) * len(SIGNALS)
+    rows = [row(MSM_SATELLITE, rough_ms=70, rough_fraction=12 * it) for it in satellites]
+    cells = [row(MSM_CELL, lock=15, cnr=cnr) for _ in range(count)]
+    return Message(row(HEADERS[1074], **head, **masks), rows, [1] * count, cells)
+
+
+class Template:
+    """A message of which the time of week and the phases change, and nothing else."""
+
+    def __init__(self, message: Message, phases: list[Fields], name: str) -> None:
+        self.number = int.from_bytes(payload_of(message), "big")
+        self.size = len(payload_of(message))
+        self.tow = self.place(message, message.header, "tow")
+        self.phases = [self.place(message, fields, name) for fields in phases]
+
+    def place(self, message: Message, fields: Fields, name: str) -> int:
+        """How many bits stand behind the field, which is 0."""
+        fields[name] = 1
+        other = int.from_bytes(payload_of(message), "big")
+        fields[name] = 0
+        return (self.number ^ other).bit_length() - 1
+
+    def frame(self, tow: int, phase: int) -> bytes:
+        number = self.number | tow << self.tow
+        for place in self.phases:
+            number |= phase << place
+        return frame_of(number.to_bytes(self.size, "big"))
+
+
+def minutes(count: int) -> Iterator[bytes]:
+    """The first minutes of a day: each second a 1004 and a 1074, of the same satellites and codes;
+    each minute the same 1005 before them."""
+    older = legacy(0, SATELLITES)
+    newer = msm(0, SATELLITES)
+    templates = (
+        Template(older, older.satellites, "l1_offset"),
+        Template(newer, newer.cells, "fine_phase"),
+    )
+    station = frame_of(payload_of(point()))
+    for minute in range(count):
+        seconds = range(60 * minute, 60 * minute + 60)
+        frames = [it.frame(MIDNIGHT + 1000 * at, 7 * at % 1001) for at in seconds for it in templates]
+        yield station + b"".join(frames)
+
+
+def capture(*messages: Message) -> bytes:
+    return b"".join(frame_of(payload_of(message)) for message in messages)
+
+
+def split_epochs() -> bytes:
+    """Epochs whose 1074 come in parts, of which one comes again and one in conflict."""
+    parts: list[Message] = []
+    for second in range(5):
+        tow = NOON + 1000 * second
+        parts += [msm(tow, SATELLITES[:2]), legacy(tow, SATELLITES), msm(tow, SATELLITES[2:])]
+        parts += [msm(tow, SATELLITES[:2]), msm(tow, SATELLITES[1:], cnr=20)]
+    return capture(point(), *parts)
+
+
+def single_satellite(count: int) -> bytes:
+    """So many epochs of a 1004 of one satellite."""
+    template = Template(legacy(0, SATELLITES[:1]), [], "")
+    return b"".join(template.frame(NOON + 1000 * second, 0) for second in range(count))

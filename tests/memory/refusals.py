@@ -1,0 +1,216 @@
+"""Runs the program on command lines, with each growth of memory refused in turn."""
+
+from __future__ import annotations
+
+import os
+import sys
+from collections.abc import Iterator
+from dataclasses import dataclass
+from pathlib import Path
+from typing import NamedTuple
+
+sys.path.insert(0, str(Path(__file__).resolve().parent.parent / "held"))
+
+from streams import single_satellite, split_epochs  # noqa: E402
+
+OUT_OF_MEMORY = b"rtcm2rinex: out of memory\n"
+
+
+class Ran(NamedTuple):
+    """How a run ended: its status, or minus the signal that ended it."""
+
+    status: int
+    out: bytes
+    err: bytes
+    refusals: int
+
+
+class Program:
+    """The program with the refusing library under it; its words name files of the folder."""
+
+    def __init__(self, path: str, folder: str) -> None:
+        self.path = path
+        os.chdir(folder)
+
+    def run(self, words: list[str], given: str, refused: str) -> Ran:
+        """`refused` is the number of the refused growth, with a `+` where all later ones are too."""
+        environment = os.environ | {"LD_PRELOAD": "./refuse.so", "REFUSED_GROWTH": refused}
+        new = os.O_WRONLY | os.O_CREAT | os.O_TRUNC
+        streams = [(os.POSIX_SPAWN_OPEN, 0, given, os.O_RDONLY, 0)]
+        for descriptor, name in ((1, "out"), (2, "err"), (9, "refusals")):
+            streams.append((os.POSIX_SPAWN_OPEN, descriptor, name, new, 0o600))
+        child = os.posix_spawn(
+            self.path, ["rtcm2rinex", *words], environment, file_actions=streams
+        )
+        status = os.waitstatus_to_exitcode(os.waitpid(child, 0)[1])
+        out, err = Path("out").read_bytes(), Path("err").read_bytes()
+        return Ran(status, out, err, os.stat("refusals").st_size)
+
+
+@dataclass
+class Scene:
+    """A command line, the status that is due, and what standard input is."""
+
+    words: list[str]
+    status: int = 0
+    given: str = os.devnull
+    # Whether clap looks for a word like one of these. What it can't look at for want of memory it goes on without.
+    looks: bool = False
+
+    def fault(self, whole: Ran, ran: Ran, with_later: bool) -> str | None:
+        """What is wrong with a run in which growth is refused."""
+        if ran.refusals == 0:
+            return None if ran == whole else "no refusal was met, and the run is another one"
+        if self.looks and not with_later and ran[:3] == whole[:3]:
+            return None
+        told = ran.err.removesuffix(OUT_OF_MEMORY)
+        if ran.status != 1 or told == ran.err:
+            return f"status {ran.status}, {ran.err[-60:]!r}"
+        if not whole.out.startswith(ran.out):
+            return "what is out is no prefix"
+        if not whole.err.startswith(told) or told and not told.endswith(b"\n"):
+            return "what is told is no prefix"
+        return None
+
+
+class Sweep:
+    """One scene with its growths refused in turn."""
+
+    def __init__(self, program: Program, scene: Scene) -> None:
+        self.program = program
+        self.scene = scene
+        self.whole = program.run(scene.words, scene.given, "0")
+        self.tried: dict[int, bool] = {}
+        self.faults: list[str] = []
+
+    def meets(self, number: int, with_later: bool = False) -> bool:
+        """Whether a run met the refusal of this growth; the run is judged."""
+        refused = f"{number}+" if with_later else f"{number}"
+        ran = self.program.run(self.scene.words, self.scene.given, refused)
+        fault = self.scene.fault(self.whole, ran, with_later)
+        if fault is not None:
+            self.faults.append(f"with growth {refused} refused: {fault}")
+        return ran.refusals > 0
+
+    def numbers(self) -> Iterator[int]:
+        """The first hundred, and then fewer and fewer."""
+        number = 1
+        while number < 100_000:
+            yield number
+            number += max(1, (number - 84) // 16)
+
+    def growths(self) -> int:
+        """How many there are. All of the first hundred and of the last twenty are refused."""
+        most = 0
+        for number in self.numbers():
+            if not self.meets(number):
+                break
+            most = number
+        low, high = most, number
+        while high - low > 1:
+            middle = (low + high) // 2
+            low, high = (middle, high) if self.meets(middle) else (low, middle)
+        for number in range(max(most + 1, low - 19), low):
+            if not self.meets(number):
+                self.faults.append(f"growth {number} isn't met, and {low} is")
+        return low
+
+    def run(self) -> bool:
+        """Prints how it went."""
+        name = name_of(self.scene.words)
+        if self.whole.status != self.scene.status:
+            print(f"FAILED {name}: status {self.whole.status} without refusal")
+            return False
+        growths = self.growths()
+        # With all later growths refused too.
+        for number in range(1, growths + 1, max(1, growths // 12)):
+            if not self.meets(number, with_later=True):
+                self.faults.append(f"growth {number} isn't met")
+        if growths == 0 or self.faults:
+            why = self.faults[0] if self.faults else "no growth"
+            print(f"FAILED {name}: {why} ({len(self.faults)} runs)")
+            return False
+        print(f"ok {name}: {growths} growths")
+        return True
+
+
+OPTIONS = {
+    "station": "2003",
+    "near": "2024-05-17T12:00:00",
+    "made": "2024-05-17T13:00:00",
+    "marker": "BASE",
+    "codes": "1C,2W,5X",
+}
+
+
+def convert(*links: str, **options: str) -> list[str]:
+    """A conversion of the station of the examples, with other values of some options."""
+    given = (OPTIONS | options).items()
+    return ["convert", *(word for name, value in given for word in (f"--{name}", value)), *links]
+
+
+def name_of(words: list[str]) -> str:
+    """The words without the options that all conversions have."""
+    name = " ".join(words)
+    for option, value in OPTIONS.items():
+        name = name.replace(f" --{option} {value}", "")
+    return name[:100] or "no word"
+
+
+def scenes() -> Iterator[Scene]:
+    base, late = "examples/base.rtcm", "examples/late.rtcm"
+    first, second = "examples/session_link1.rtcm", "examples/session_link2.rtcm"
+
+    # What is asked for.
+    yield Scene(["--help"])
+    yield Scene(["help", "convert"])
+    yield Scene(["--version"])
+
+    # Work that is done, and work that isn't.
+    yield Scene(["show", base])
+    yield Scene(["show", "--hex", "stdin"], given="examples/arp1005.hex")
+    yield Scene(["show", "--hex", base], status=1)
+    yield Scene(["show", "nowhere"], status=1)
+    yield Scene(["check", "examples/base.rnx"])
+    yield Scene(["check", base], status=3)
+    yield Scene(["check", "wrong"], status=3)
+    yield Scene(convert(base))
+    yield Scene(convert(late, window="2"))
+    yield Scene(convert("stdin", second, window="4"), given=first)
+    yield Scene(convert(*[first, second] * 8))
+    yield Scene(convert("split", window="2"))
+    yield Scene(convert("many", window="4096"))
+    yield Scene(convert(base, "nowhere"), status=1)
+
+    # Words that are refused: by clap, and by us.
+    yield Scene([], status=2)
+    yield Scene(["shew", "a"], status=2, looks=True)
+    yield Scene(["show", "--hax", "a"], status=2, looks=True)
+    yield Scene(convert("a", windo="2"), status=2, looks=True)
+    yield Scene(["show"], status=2)
+    yield Scene(["show", "a", "b"], status=2)
+    yield Scene(["show", "--hex", "--hex", "a"], status=2)
+    yield Scene(convert("a", station="4096"), status=2)
+    yield Scene(convert("a", near="noon"), status=2)
+    yield Scene(convert("a", codes="1C,9Z"), status=2)
+    yield Scene(convert("a", marker=" "), status=2)
+    yield Scene(convert("stdin", "stdin"), status=2)
+    yield Scene(convert(*"abcdefghijklmnopq"), status=2)
+    yield Scene(convert("a", near="1980-01-06T00:00:00"), status=2)
+
+
+def main() -> None:
+    path, folder, examples, *names = sys.argv[1:]
+    program = Program(path, folder)
+    os.symlink(examples, "examples")
+    Path("wrong").write_bytes(Path("examples/base.rnx").read_bytes().replace(b"45.000", b"45.100"))
+    Path("split").write_bytes(split_epochs())
+    Path("many").write_bytes(single_satellite(4100))
+    wanted = [it for it in scenes() if not names or name_of(it.words) in names]
+    passed = [Sweep(program, scene).run() for scene in wanted]
+    print(f"{passed.count(True)} passed, {passed.count(False)} failed")
+    sys.exit(not passed or not all(passed))
+
+
+if __name__ == "__main__":
+    main()
