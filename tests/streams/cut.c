@@ -1,0 +1,103 @@
+// Preloaded under the program: how its reads, writes and opens go, as the environment says. Calls
+// are counted from 1.
+//   FAULT=E          the errno of what fails (28 if it isn't said); with 0 a write takes nothing
+//   TAKES_1=K        standard output takes K bytes in all and then fails; TAKES_2: standard error
+//   FAILS_READ=N     the read of this number and those after it fail
+//   FAILS_OPEN=N     the open of this number fails
+//   PIECE=K          a read or a write passes K bytes at most
+//   INTERRUPTS=WORD  every second call is interrupted before it does anything: of the reads, the
+//                    writes or the opens
+//   STOPS_READ=N     the program stops itself before the read of this number
+//   ENDLESS=N        each read gives one zero byte; that of number N and each after it also writes
+//                    a byte to descriptor 9
+// It needs no header, so that the toolchain's own compiler builds it. In a program of another name
+// it does nothing.
+
+typedef unsigned long size_t;
+extern char *program_invocation_short_name;
+int *__errno_location(void);
+char *getenv(const char *name);
+long strtol(const char *text, char **end, int base);
+int strcmp(const char *one, const char *other);
+int raise(int signal);
+void *dlsym(void *where, const char *name);
+
+enum { INTERRUPTED = 4, NO_SPACE = 28, STOP = 19 };
+
+static long fault, takes[3], fails_read, fails_open, piece, stops_read, endless;
+static int interrupts; // the first letter of the word
+static long reads, opens, taken[3], calls;
+static long (*next_read)(int, void *, size_t);
+static long (*next_write)(int, const void *, size_t);
+static int (*next_open)(const char *, int, unsigned);
+
+static long number(const char *name, long otherwise) {
+    const char *text = getenv(name);
+    return text ? strtol(text, 0, 10) : otherwise;
+}
+
+static void prepare(void) {
+    static int is_ready;
+    if (is_ready) return;
+    is_ready = 1;
+    next_read = (long (*)(int, void *, size_t))dlsym((void *)-1L, "read");
+    next_write = (long (*)(int, const void *, size_t))dlsym((void *)-1L, "write");
+    next_open = (int (*)(const char *, int, unsigned))dlsym((void *)-1L, "open");
+    takes[1] = takes[2] = -1;
+    if (strcmp(program_invocation_short_name, "rtcm2rinex") != 0) return;
+    fault = number("FAULT", NO_SPACE);
+    takes[1] = number("TAKES_1", -1);
+    takes[2] = number("TAKES_2", -1);
+    fails_read = number("FAILS_READ", 0);
+    fails_open = number("FAILS_OPEN", 0);
+    piece = number("PIECE", 0);
+    stops_read = number("STOPS_READ", 0);
+    endless = number("ENDLESS", 0);
+    interrupts = getenv("INTERRUPTS") ? getenv("INTERRUPTS")[0] : 0;
+}
+
+static long fail(long error) {
+    if (error == 0) return 0;
+    *__errno_location() = error;
+    return -1;
+}
+
+static int is_interrupted(int kind) {
+    return interrupts == kind && ++calls % 2 == 1;
+}
+
+long read(int descriptor, void *bytes, size_t count) {
+    prepare();
+    if (is_interrupted('r')) return fail(INTERRUPTED);
+    ++reads;
+    if (endless) {
+        if (reads >= endless) next_write(9, "!", 1);
+        *(char *)bytes = 0;
+        return 1;
+    }
+    if (reads == stops_read) raise(STOP);
+    if (fails_read && reads >= fails_read) return fail(fault);
+    return next_read(descriptor, bytes, piece && count > piece ? piece : count);
+}
+
+long write(int descriptor, const void *bytes, size_t count) {
+    prepare();
+    if (is_interrupted('w')) return fail(INTERRUPTED);
+    if (piece && count > piece) count = piece;
+    if (descriptor != 1 && descriptor != 2) return next_write(descriptor, bytes, count);
+    if (takes[descriptor] >= 0) {
+        size_t room = takes[descriptor] - taken[descriptor];
+        if (room == 0 && count > 0) return fail(fault);
+        if (count > room) count = room;
+    }
+    long done = next_write(descriptor, bytes, count);
+    if (done > 0) taken[descriptor] += done;
+    return done;
+}
+
+int open(const char *name, int flags, unsigned mode) {
+    prepare();
+    if (is_interrupted('o')) return fail(INTERRUPTED);
+    if (++opens == fails_open) return fail(fault);
+    return next_open(name, flags, mode);
+}
