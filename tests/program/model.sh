@@ -22,9 +22,9 @@ leaves long_pipe 0 long_capture.rnx long_capture.report
 
 # Both streams in one place: up to 65,536 bytes of the report are gathered, so the file comes first; of a longer report the
 # lines that fill the room come before it.
-
+: >err
 "$program" convert $options --codes 1C,2W --window 2 gathered_report.1 >out 2>&1 </dev/null; status=$?
-cat gathered_report.rnx gathered_report.report >both; : >err
+cat gathered_report.rnx gathered_report.report >both
 leaves a_report_that_is_gathered 0 both /dev/null
 "$program" convert $options --codes 1C,2W --window 2 longer_report.1 >out 2>&1 </dev/null; status=$?
 { head -n 1598 longer_report.report; cat longer_report.rnx; tail -n +1599 longer_report.report; } >both
@@ -42,4 +42,4 @@ expect check_of_10_mb 0 'valid: 450 epochs, 14400 satellite lines' ''
 "$program" check zero.rnx >out 2>err </dev/null; status=$?
 leaves check_of_10_mb_with_a_zero 3 zero.line /dev/null
 
-ends 34
+ends 35

@@ -11,7 +11,7 @@ from random import Random
 from conversion import Conversion
 from observations import moment
 from rinex import body, epoch_line, header
-from rtcm import frame, legacy, msm, scan, station_message
+from rtcm import frame, legacy, msm, station_message
 
 NOON = 475_200_000
 NEAR, MADE = moment("2024-05-17T12:00:00"), moment("2024-05-17T13:00:00")
@@ -75,10 +75,11 @@ def save(name, text):
         file.write(text if isinstance(text, bytes) else text.encode())
 
 
-def case(cases, name, links, window=64, codes="1C,2W", told=None):
+def case(cases, name, links, window=64, codes="1C,2W", told=None, line=""):
+    """`told` is the report and `line` a line of the file, if they are known in words."""
     text, said = convert(links, window, codes)
-    if told is not None and said != told:
-        sys.exit(f"cases: {name}: the model reports\n{said}and not\n{told}")
+    if (told is not None and said != told) or line not in text:
+        sys.exit(f"cases: {name}: the model writes\n{text}{said}and not\n{line}{told}")
     names = [f"{name}.{number}" for number in range(1, len(links) + 1)]
     for link, content in zip(names, links):
         save(link, content)
@@ -196,6 +197,12 @@ def windows(cases):
             *[f"link 1 late 1004 {TOLD}00.000"] * count, taken=2, late=count, epochs=0))
 
 
+def ties(cases):
+    """The exact range is 21060420.1745 m."""
+    case(cases, "tie_away_from_zero", [frame(msm(NOON, {5: (70, 256)}, {(5, 2): {}}))], told=report(taken=1, epochs=1),
+        line="G05  21060420.175   110673255.000\n")
+
+
 # ---------------------------------------------------------------- a long capture
 
 
@@ -302,7 +309,7 @@ def long_file():
 def main():
     hold_to_examples()
     with open("cases", "w") as cases:
-        for write in (links_of_sixteen, refusals, closes, order_of_reading, windows, long_captures):
+        for write in (links_of_sixteen, refusals, closes, order_of_reading, windows, ties, long_captures):
             write(cases)
     long_file()
 
