@@ -28,6 +28,8 @@ Usage: rtcm2rinex check <FILE>
 For more information, try '--help'."
 
 mkdir folder
+ln -s nowhere dangling
+cp "$base" closed && chmod 000 closed
 sed '4s/GEODETIC/GEODESIC/' "$base" >line4
 sed '16s/45.000/45.100/' "$base" >line16
 head -c -1 "$base" >cut
@@ -58,6 +60,9 @@ check "$root/examples/late.rnx" </dev/null
 expect yes_late 0 'valid: 5 epochs, 10 satellite lines' ''
 check folder </dev/null;         expect a_directory 1 '' 'rtcm2rinex: read failed'
 check nowhere </dev/null;        expect missing_file 1 '' 'rtcm2rinex: cannot open nowhere'
+check dangling </dev/null;       expect a_link_to_nothing 1 '' 'rtcm2rinex: cannot open dangling'
+bound ./program check closed </dev/null >out 2>err; status=$?
+expect a_file_that_may_not_be_read 1 '' 'rtcm2rinex: cannot open closed'
 check '' </dev/null;             expect empty_name 1 '' 'rtcm2rinex: cannot open '
 "$program" check "$base" >&- 2>err; status=$?; : >out
 expect closed_output 1 '' 'rtcm2rinex: write failed'
@@ -66,4 +71,10 @@ check --help </dev/null;         expect check_help 0 "$help" ''
 expect help_check 0 "$help" ''
 check </dev/null;                expect no_file 2 '' "$no_file"
 
-ends 22
+# The longest input that is judged, of zeros that take no room on the disk, and one byte more.
+truncate -s 1073741824 zeros
+check zeros </dev/null;          expect longest_input 3 'line 1: C5 Truncated' ''
+truncate -s 1073741825 zeros
+check zeros </dev/null;          expect input_too_long 1 '' 'rtcm2rinex: input too long'
+
+ends 26

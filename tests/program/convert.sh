@@ -72,14 +72,12 @@ for _ in $(seq 100); do
     sleep 0.2
 done
 sed -n '1,20p' "$examples/late.rnx" >followed
-status=0
-mv out whole_out && mv err whole_err && cp whole_out out && cp whole_err err
-leaves followed 0 followed /dev/null
+same followed out followed
+same followed_report err /dev/null
 tail -c +185 "$examples/late.rtcm" >&9
 exec 9>&-
 wait $running
 status=$?
-mv whole_out out && mv whole_err err
 sed 's/^link 1/link 2/' "$examples/late.report" >late.report
 leaves followed_to_its_end 0 "$examples/late.rnx" late.report
 
@@ -88,13 +86,22 @@ mkdir folder
 convert 1C nowhere "$base" </dev/null;                fails missing_link 1 'cannot open nowhere'
 convert 1C "$base" nowhere </dev/null;                fails missing_link_after_another 1 'cannot open nowhere'
 { convert 1C stdin nowhere; cat >rest; } <"$base";    fails missing_link_after_standard_input 1 'cannot open nowhere'
-cp rest out; : >err; status=0;                        leaves nothing_read_before_all_links_are_open 0 "$base" /dev/null
+same nothing_read_before_all_links_are_open rest "$base"
 convert 1C '' </dev/null;                             fails empty_name 1 'cannot open '
+ln -s nowhere dangling
+convert 1C "$base" dangling </dev/null;               fails a_link_to_nothing 1 'cannot open dangling'
+cp "$base" closed && chmod 000 closed
+bound ./program convert $options --codes 1C closed >out 2>err </dev/null; status=$?
+fails a_link_that_may_not_be_read 1 'cannot open closed'
 convert 1C folder </dev/null;                         fails a_directory 1 'read failed'
 convert 1C stdin <folder;                             fails a_directory_as_standard_input 1 'read failed'
 convert 1C "$(printf '\377')" </dev/null;             fails a_link_that_is_no_text 1 'read failed'
 "$program" convert $options --codes 1C stdin <&- >out 2>err; status=$?
 fails closed_standard_input 1 'read failed'
+"$program" convert $options --codes 1C stdin "$base" <&- >out 2>err; status=$?
+fails closed_standard_input_before_a_file 1 'read failed'
+"$program" convert $options --codes 1C "$base" stdin <&- >out 2>err; status=$?
+fails closed_standard_input_behind_a_file 1 'read failed'
 
 # A link that fails after epochs have closed: these and their report are out. Both streams in one place: the file comes first.
 convert 1C,2W --window 2 "$examples/late.rtcm" folder </dev/null
@@ -209,10 +216,17 @@ words '' '' '' '';                                    expect no_link 2 '' "error
 
 Usage: rtcm2rinex convert --station <N> --near <T> --made <T> --marker <NAME> --codes <LIST> <LINK>...
 $try"
-run convert --station 1 --station 1 a;                expect station_twice 2 '' "error: the argument '--station <N>' cannot be used multiple times
+for option in 'station N 1' 'near T x' 'made T x' 'marker NAME x' 'codes LIST x' 'window N 2'; do
+    set -- $option
+    run convert "--$1" "$3" "--$1" "$3" a
+    expect "$1_twice" 2 '' "error: the argument '--$1 <$2>' cannot be used multiple times
 
 $usage
 $try"
+    run convert a "--$1"
+    expect "$1_without_a_value" 2 '' "error: a value is required for '--$1 <$2>' but none was supplied
+$try"
+done
 bad_value station_of_4096 --station 4096 '4096 is not in 0..=4095'
 bad_value station_of_no_digits --station x 'invalid digit found in string'
 bad_value window_of_1 --window 1 '1 is not in 2..=4096'
@@ -234,9 +248,15 @@ leaves closed_output 1 /dev/null told_in_full
 : >err
 leaves closed_standard_error 1 "$examples/base.rnx" /dev/null
 
-# The command of the README.
+# The command of the README. Under a limit on the size of files, 8 blocks of 512 bytes, it ends as on a full disk.
 "$root/bin/rtcm2rinex" convert $options --codes 1C,2W "$base" >out 2>err </dev/null
 status=$?
 leaves start_convert 0 "$examples/base.rnx" base.report
+head -c 4096 "$session.rnx" >part
+cat "$session.report" write_failed >part_err
+(ulimit -f 8; exec "$root/bin/rtcm2rinex" convert $options --codes 1C,2W,5X "$session.rtcm") >out 2>err </dev/null; status=$?
+leaves start_convert_with_a_limit_of_size 1 part part_err
+(ulimit -f 8; exec "$root/bin/rtcm2rinex" convert $options --codes 1C,2W,5X stdin) >out 2>err <"$session.rtcm"; status=$?
+leaves start_convert_followed_with_a_limit_of_size 1 part write_failed
 
-ends 99
+ends 117

@@ -125,6 +125,11 @@ expect tabs_line_ends_and_both_cases 0 'refused M1 -' ''
 run show nowhere </dev/null;              expect missing_file 1 '' 'rtcm2rinex: cannot open nowhere'
 run show 'no where' </dev/null;           expect missing_file_with_a_blank 1 '' 'rtcm2rinex: cannot open no where'
 run show '' </dev/null;                   expect empty_name 1 '' 'rtcm2rinex: cannot open '
+ln -s nowhere dangling
+run show dangling </dev/null;             expect a_link_to_nothing 1 '' 'rtcm2rinex: cannot open dangling'
+cp arp.rtcm closed && chmod 000 closed
+bound ./program show closed </dev/null >out 2>err; status=$?
+expect a_file_that_may_not_be_read 1 '' 'rtcm2rinex: cannot open closed'
 run show folder </dev/null;               expect a_directory 1 '' 'rtcm2rinex: read failed'
 run show stdin <folder;                   expect a_directory_as_standard_input 1 '' 'rtcm2rinex: read failed'
 "$program" show stdin <&- >out 2>err; status=$?
@@ -141,6 +146,18 @@ expect closed_output 1 '' 'rtcm2rinex: write failed'
 expect pipe_closed_at_once 1 '' 'rtcm2rinex: write failed'
 "$program" show nowhere >out 2>&-; status=$?; : >err
 expect closed_standard_error 1 '' ''
+
+# The longest inputs with frames to their ends, and one byte more; as hex text that byte is a line end.
+for _ in 1 2 3 4 5; do cat frames frames >twice; mv twice frames; done
+yes '1019 other' | head -n 2097152 >lines
+run show frames </dev/null;               leaves longest_input_of_frames 0 lines /dev/null
+printf '\0' >>frames
+run show frames </dev/null;               expect frames_too_long 1 '' 'rtcm2rinex: input too long'
+yes D300023FB0D71D73 | head -n 1048576 | tr -d '\n' >frames.hex
+head -n 1048576 lines >hex_lines
+run show --hex frames.hex </dev/null;     leaves longest_hex_of_frames 0 hex_lines /dev/null
+echo >>frames.hex
+run show --hex frames.hex </dev/null;     expect hex_of_frames_too_long 1 '' 'rtcm2rinex: input too long'
 
 for words in --help -h help; do
     run $words </dev/null;                expect "$words" 0 "$help" ''
@@ -168,5 +185,9 @@ start show "$root/examples/msm.rtcm" </dev/null;        expect start_msm 0 "$msm
 start show --hex "$root/examples/arp1005.hex" </dev/null; expect start_hex 0 "$arp" ''
 start show nowhere </dev/null;            expect start_failed 1 '' 'rtcm2rinex: cannot open nowhere'
 start show </dev/null;                    expect start_refused 2 '' "$no_file"
+# Under a limit on the size of files, a block of 512 bytes, it ends as on a full disk.
+head -c 8192 frames >some; head -c 512 lines >part; echo 'rtcm2rinex: write failed' >part_err
+(ulimit -f 1; exec "$root/bin/rtcm2rinex" show some) >out 2>err </dev/null; status=$?
+leaves start_show_with_a_limit_of_size 1 part part_err
 
-ends 49
+ends 56

@@ -1,0 +1,45 @@
+#!/bin/sh
+# Runs `convert`, `show` and `check` on captures and files that a model writes (model/): it computes what is due from the
+# formats, message by message and all at once, and shares nothing with the program. The program is $1.
+. "$(dirname "$(readlink -f "$0")")/common"
+options='--station 2003 --near 2024-05-17T12:00:00 --made 2024-05-17T13:00:00 --marker BASE'
+python3 -B "$root/tests/program/model/cases.py" "$root/examples" || exit 1
+
+# The captures, each with its file and its report.
+while read -r name window codes links; do
+    "$program" convert $options --codes "$codes" --window "$window" $links >out 2>err </dev/null
+    status=$?
+    leaves "$name" 0 "$name.rnx" "$name.report"
+done <cases
+
+# The long capture through standard input, as a file and in pieces.
+codes=$(sed -n 's/^long_capture [0-9]* \([^ ]*\) .*/\1/p' cases)
+"$program" convert $options --codes "$codes" stdin <long_capture.1 >out 2>err; status=$?
+leaves long_standard_input 0 long_capture.rnx long_capture.report
+split -b 700 long_capture.1 piece.
+for piece in piece.*; do cat "$piece"; done | "$program" convert $options --codes "$codes" stdin >out 2>err; status=$?
+leaves long_pipe 0 long_capture.rnx long_capture.report
+
+# Both streams in one place: up to 65,536 bytes of the report are gathered, so the file comes first; of a longer report the
+# lines that fill the room come before it.
+: >err
+"$program" convert $options --codes 1C,2W --window 2 gathered_report.1 >out 2>&1 </dev/null; status=$?
+cat gathered_report.rnx gathered_report.report >both
+leaves a_report_that_is_gathered 0 both /dev/null
+"$program" convert $options --codes 1C,2W --window 2 longer_report.1 >out 2>&1 </dev/null; status=$?
+{ head -n 1598 longer_report.report; cat longer_report.rnx; tail -n +1599 longer_report.report; } >both
+leaves a_report_beyond_what_is_gathered 0 both /dev/null
+
+# The same refusals as lines of `show`.
+for name in each_refusal not_refused; do
+    "$program" show "$name.1" >out 2>err </dev/null; status=$?
+    leaves "show_$name" 0 "$name.lines" /dev/null
+done
+
+# A file of 10 MB, and the same with a zero in its last line.
+"$program" check long.rnx >out 2>err </dev/null; status=$?
+expect check_of_10_mb 0 'valid: 450 epochs, 14400 satellite lines' ''
+"$program" check zero.rnx >out 2>err </dev/null; status=$?
+leaves check_of_10_mb_with_a_zero 3 zero.line /dev/null
+
+ends 35
