@@ -98,10 +98,6 @@ convert 1C stdin <folder;                             fails a_directory_as_stand
 convert 1C "$(printf '\377')" </dev/null;             fails a_link_that_is_no_text 1 'read failed'
 "$program" convert $options --codes 1C stdin <&- >out 2>err; status=$?
 fails closed_standard_input 1 'read failed'
-"$program" convert $options --codes 1C stdin "$base" <&- >out 2>err; status=$?
-fails closed_standard_input_before_a_file 1 'read failed'
-"$program" convert $options --codes 1C "$base" stdin <&- >out 2>err; status=$?
-fails closed_standard_input_behind_a_file 1 'read failed'
 
 # A link that fails after epochs have closed: these and their report are out. Both streams in one place: the file comes first.
 convert 1C,2W --window 2 "$examples/late.rtcm" folder </dev/null
@@ -259,4 +255,4 @@ leaves start_convert_with_a_limit_of_size 1 part part_err
 (ulimit -f 8; exec "$root/bin/rtcm2rinex" convert $options --codes 1C,2W,5X stdin) >out 2>err <"$session.rtcm"; status=$?
 leaves start_convert_followed_with_a_limit_of_size 1 part write_failed
 
-ends 117
+ends 115
