@@ -33,7 +33,7 @@
 //! }
 //! ```
 //!
-//! Its tests: crates/rtk_tests_output/src/convert.rt and convert/
+//! Its tests: crates/rtk_tests_convert/src/convert.rt and convert/
 #![tactic(auto)]
 
 mod conversion;

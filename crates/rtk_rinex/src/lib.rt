@@ -21,7 +21,7 @@
 //! }
 //! ```
 //!
-//! Its tests: crates/rtk_tests_output/src/rinex.rt and rinex/
+//! Its tests: crates/rtk_tests_rinex/src/rinex.rt and rinex/
 #![tactic(auto)]
 
 mod check_fault;

@@ -49,3 +49,17 @@ pub fn holds_of<R: Display + Drop>(row: R, is: bool) -> Result<(), Fail>
 {
     same_of(row, &is, &true)
 }
+
+/// Do these parts, one after another, make the text?
+pub fn consists_of(text: &[u8], parts: &[&str]) -> bool
+    ensures { Decides result (text.now ≡ flat_map (λ part. part.now) parts.now) }
+{
+    let mut rest = text;
+    for part in parts {
+        let Some(next) = rest.strip_prefix(part.as_bytes()) else {
+            return false;
+        };
+        rest = next;
+    }
+    rest.is_empty()
+}

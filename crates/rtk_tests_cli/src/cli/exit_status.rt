@@ -1,6 +1,5 @@
 //! How a conversion ends: the exit status and the fault line.
 
-use crate::convert::NOTHING;
 use rtk_cli::conversion_status;
 use rtk_convert::{ConvertFault, Counts, Stream};
 use rtk_test_support::{same, same_of};
@@ -40,9 +39,9 @@ impl Eprint for Told {
 }
 
 // What a conversion came to, whether its file and its report are out, and what is told.
-const ENDS: [(Result<Counts, ConvertFault>, bool, u8, &str); 12] = [
-    (Ok(NOTHING), true, 0, ""),
-    (Ok(NOTHING), false, 1, "rtcm2rinex: write failed\n"),
+const ENDS: [(Result<(), ConvertFault>, bool, u8, &str); 12] = [
+    (Ok(()), true, 0, ""),
+    (Ok(()), false, 1, "rtcm2rinex: write failed\n"),
     (
         Err(ConvertFault::OutOfMemory),
         true,
@@ -110,6 +109,7 @@ fn statuses_and_lines(rt: HostRuntime) -> Result<(), Fail> {
         let told = Told {
             text: RefCell::new(String::new(rt.alloc())),
         };
+        let done = done.map(|()| Counts::default());
         same_of(line, &conversion_status(&told, done, is_out), &status)?;
         let text = told.text.into_inner();
         same(&text.as_str(), &line)?;

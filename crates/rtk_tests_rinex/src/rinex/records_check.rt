@@ -1,8 +1,8 @@
 //! Tests of whole lines after a good header, of a larger file, and of the texts of faults.
 
-use super::table_check::{EPOCH, SATELLITE, fault_of, file};
+use super::table_check::{fault_of, file};
 use rtk_rinex::{Cause, CheckFault, check};
-use rtk_test_support::{same, same_of};
+use rtk_test_support::{EPOCH_LINE, SATELLITE_LINE, same, same_of};
 use std::test::Fail;
 
 // Satellite lines at the limits of their values, and the fault.
@@ -43,7 +43,7 @@ const SATELLITE_LINES: [(&str, Option<(usize, Cause)>); 16] = [
 #[test]
 fn limits_of_a_satellite_line(rt: HostRuntime) -> Result<(), Fail> {
     for &(line, want) in &SATELLITE_LINES {
-        let bytes = file(rt.alloc(), [EPOCH, line, "\n"].as_slice())?;
+        let bytes = file(rt.alloc(), [EPOCH_LINE, line, "\n"].as_slice())?;
         same_of(line, &fault_of(rt.alloc(), bytes.as_slice()), &want)?;
     }
     Ok(())
@@ -60,8 +60,8 @@ const ENDS: [(&str, Cause); 4] = [
 #[test]
 fn longest_satellite_line(rt: HostRuntime) -> Result<(), Fail> {
     for &(end, cause) in &ENDS {
-        let line = SATELLITE.get(..97).ok_or("a short line")?;
-        let bytes = file(rt.alloc(), [EPOCH, line, end, "\n"].as_slice())?;
+        let line = SATELLITE_LINE.get(..97).ok_or("a short line")?;
+        let bytes = file(rt.alloc(), [EPOCH_LINE, line, end, "\n"].as_slice())?;
         same_of(
             end,
             &fault_of(rt.alloc(), bytes.as_slice()),
@@ -79,7 +79,7 @@ fn a_file_of_an_hour_is_good(rt: HostRuntime) -> Result<(), Fail> {
         bytes.extend_from_slice(b"> 2024 05 17 12 ")?;
         bytes.extend_from_slice(&clock)?;
         bytes.extend_from_slice(b"  0.0000000  0  1\n")?;
-        bytes.extend_from_slice(SATELLITE.as_bytes())?;
+        bytes.extend_from_slice(SATELLITE_LINE.as_bytes())?;
     }
     let table = check(rt.alloc(), bytes.as_slice())?;
     same(&(table.epochs(), table.satellites()), &(60, 60))

@@ -3,9 +3,8 @@
 ghost use Rattle.rtk_rinex.specs.Record.{IsStrengthOrNone, HasWidth};
 
 use super::{CODES, part};
-use crate::convert::consists_of;
 use rtk_rinex::{EpochTable, Head, Observed, record};
-use rtk_test_support::{MADE, NOON, holds, moment, same, same_of};
+use rtk_test_support::{MADE, NOON, consists_of, holds, moment, same, same_of};
 use std::alloc::Global;
 use std::test::Fail;
 

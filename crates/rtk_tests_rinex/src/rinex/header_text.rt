@@ -3,28 +3,10 @@
 use super::{CODES, part};
 use rtk_obs::{Code, Position};
 use rtk_rinex::{Head, HeadFault, header};
-use rtk_test_support::{MADE, NOON, holds, moment, same};
+use rtk_test_support::{HEADER, MADE, NOON, holds, moment, same};
 use std::alloc::Global;
 use std::fmt::Write;
 use std::test::Fail;
-
-/// The header of an example file: station BASE, codes 1C and 2W.
-pub const HEADER: &str = concat!(
-    "     3.05           OBSERVATION DATA    G                   RINEX VERSION / TYPE\n",
-    "rtcm2rinex                              20240517 130000 UTC PGM / RUN BY / DATE \n",
-    "BASE                                                        MARKER NAME         \n",
-    "GEODETIC                                                    MARKER TYPE         \n",
-    "                                                            OBSERVER / AGENCY   \n",
-    "                                                            REC # / TYPE / VERS \n",
-    "                                                            ANT # / TYPE        \n",
-    "  1114104.5999 -4850729.7108  3975521.4643                  APPROX POSITION XYZ \n",
-    "        0.0000        0.0000        0.0000                  ANTENNA: DELTA H/E/N\n",
-    "G    6 C1C L1C S1C C2W L2W S2W                              SYS / # / OBS TYPES \n",
-    "DBHZ                                                        SIGNAL STRENGTH UNIT\n",
-    "  2024     5    17    12     0    0.0000000     GPS         TIME OF FIRST OBS   \n",
-    "G                                                           SYS / PHASE SHIFT   \n",
-    "                                                            END OF HEADER       \n",
-);
 
 fn position(x: i64, y: i64, z: i64, height: u16) -> Result<Position, Fail> {
     Ok(Position::new(x, y, z, height).ok_or("no position")?)

@@ -4,7 +4,7 @@ mod header_check;
 mod header_text;
 mod record_text;
 mod records_check;
-pub(crate) mod table_check;
+mod table_check;
 
 use rtk_obs::Code;
 use std::test::Fail;

@@ -1,9 +1,8 @@
 //! Tests of headers that are read back.
 
-use super::header_text::HEADER;
 use super::table_check::fault_of;
 use rtk_rinex::Cause;
-use rtk_test_support::same;
+use rtk_test_support::{HEADER, same};
 use std::alloc::Global;
 use std::test::Fail;
 

@@ -1,9 +1,8 @@
 //! `check` over sources and sinks that fail. What it says of files is tested by the program.
 
-use crate::rinex::table_check::{EPOCH, SATELLITE, file};
 use rtk_cli::{ToolFault, check_file};
 use rtk_frame::{After, MemSink, MemSource};
-use rtk_test_support::{holds, same, same_of};
+use rtk_test_support::{EPOCH_LINE, HEADER, SATELLITE_LINE, holds, same, same_of};
 use std::alloc::Global;
 use std::test::Fail;
 
@@ -15,7 +14,9 @@ fn checked(
     after: After,
     room: usize,
 ) -> Result<(Result<bool, ToolFault>, MemSink), Fail> {
-    let text = file(alloc, [EPOCH, SATELLITE].as_slice())?;
+    let mut text = Vec::from_slice(alloc, HEADER.as_bytes())?;
+    text.extend_from_slice(EPOCH_LINE.as_bytes())?;
+    text.extend_from_slice(SATELLITE_LINE.as_bytes())?;
     let mut reader = MemSource::new(alloc, text.as_slice(), 512, after)?;
     let mut out = MemSink::new(alloc, room, 7)?;
     let answer = check_file(alloc, &mut reader, &mut out);

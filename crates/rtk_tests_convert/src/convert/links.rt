@@ -5,11 +5,11 @@ ghost use Rattle.std.specs.Prelude.{◌≤◌};
 use super::payloads::*;
 use super::runs::EXAMPLE;
 use super::texts::*;
-use super::{consists_of, setup};
+use super::setup;
 use rtk_convert::{ConvertFault, Converter, Stream};
 use rtk_frame::{MemSink, encode_frame};
 use rtk_obs::GpsMs;
-use rtk_test_support::{NOON, holds, moment, same, same_of};
+use rtk_test_support::{NOON, consists_of, holds, moment, same, same_of};
 use std::alloc::Global;
 use std::test::Fail;
 

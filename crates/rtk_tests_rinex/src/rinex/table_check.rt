@@ -2,17 +2,10 @@
 
 ghost use Rattle.std.specs.Prelude.{◌<◌};
 
-use super::header_text::HEADER;
 use rtk_rinex::{Cause, CheckFault, check, text};
-use rtk_test_support::{holds, same, same_of};
+use rtk_test_support::{EPOCH_LINE, HEADER, SATELLITE_LINE, holds, same, same_of};
 use std::alloc::Global;
 use std::test::Fail;
-
-/// The record of the example file, as the columns of its two lines.
-pub(crate) const EPOCH: &str = "> 2024 05 17 12 00  0.0000000  0  1\n";
-
-pub(crate) const SATELLITE: &str =
-    "G05  21085472.060 7 110804903.547 7        45.000    21085474.060 5  86341483.283 5        35.000\n";
 
 // The example header, and these lines after it.
 pub(crate) fn file(alloc: Global, lines: &[&str]) -> Result<Vec<u8>, Fail> {
@@ -32,7 +25,7 @@ pub(super) fn fault_of(alloc: Global, bytes: &[u8]) -> Option<(usize, Cause)> {
 
 #[test]
 fn the_example_file_is_read_and_written_again(rt: HostRuntime) -> Result<(), Fail> {
-    let bytes = file(rt.alloc(), [EPOCH, SATELLITE].as_slice())?;
+    let bytes = file(rt.alloc(), [EPOCH_LINE, SATELLITE_LINE].as_slice())?;
     let table = check(rt.alloc(), bytes.as_slice())?;
     same(&(table.epochs(), table.satellites()), &(1, 1))?;
     let again = text(rt.alloc(), &table)?;
@@ -44,8 +37,8 @@ fn the_example_file_is_read_and_written_again(rt: HostRuntime) -> Result<(), Fai
 // The line that a letter stands for.
 fn line_of(letter: u8) -> &'static str {
     match letter {
-        b'E' => EPOCH,
-        b'S' => SATELLITE,
+        b'E' => EPOCH_LINE,
+        b'S' => SATELLITE_LINE,
         b'L' => "> 2024 05 17 12 00  0.0010000  0  2\n",
         b'm' => "> 2024 05 17 12 00  0.0010000  0 32\n",
         b'n' => "> 2024 05 17 12 00  0.0010000  0 33\n",
@@ -130,7 +123,7 @@ const EPOCH_LINES: [&str; 14] = [
 #[test]
 fn each_column_of_an_epoch_line_is_read(rt: HostRuntime) -> Result<(), Fail> {
     for &line in &EPOCH_LINES {
-        let bytes = file(rt.alloc(), [line, SATELLITE].as_slice())?;
+        let bytes = file(rt.alloc(), [line, SATELLITE_LINE].as_slice())?;
         same_of(
             line,
             &fault_of(rt.alloc(), bytes.as_slice()),
@@ -172,8 +165,8 @@ const CHANGES: [(usize, &str, Cause); 24] = [
 fn changed(alloc: Global, place: usize, new: &str) -> Result<Vec<u8>, Fail>
     requires { place < 100 }
 {
-    let line = SATELLITE.as_bytes();
-    let mut bytes = file(alloc, [EPOCH].as_slice())?;
+    let line = SATELLITE_LINE.as_bytes();
+    let mut bytes = file(alloc, [EPOCH_LINE].as_slice())?;
     bytes.extend_from_slice(line.get(..place).ok_or("no front")?)?;
     bytes.extend_from_slice(new.as_bytes())?;
     bytes.extend_from_slice(line.get(place + new.len()..).ok_or("no end")?)?;

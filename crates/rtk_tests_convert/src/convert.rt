@@ -17,7 +17,7 @@ use rtk_convert::{ConvertFault, Counts, Setup, SetupFault, Stream, run};
 use rtk_frame::{After, MemSink, MemSource, encode_frame};
 use rtk_obs::Code;
 use rtk_rinex::Head;
-use rtk_test_support::{MADE, NOON, holds, moment, same};
+use rtk_test_support::{MADE, NOON, consists_of, holds, moment, same};
 use runs::{BROKEN, ENDED, Run};
 use std::alloc::Global;
 use std::test::Fail;
@@ -30,8 +30,8 @@ fn setup(station: u16, near: u64, window: usize) -> Result<Setup, Fail> {
     Ok(Setup::new(station, moment(near)?, head, window)?)
 }
 
-/// The counts of a conversion in which nothing was found.
-pub(crate) const NOTHING: Counts = Counts {
+// The counts of a conversion in which nothing was found.
+const NOTHING: Counts = Counts {
     frames: 0,
     other: 0,
     refused: 0,
@@ -72,18 +72,6 @@ fn converted(alloc: Global, bytes: &[u8], max_reads: u64) -> Result<(Counts, Wri
     links.push(MemSource::new(alloc, bytes, 512, After::End)?)?;
     let counts = run_links(alloc, links, &mut written, max_reads)??;
     Ok((counts, written))
-}
-
-// Do these parts, one after another, make the text?
-pub(crate) fn consists_of(text: &[u8], parts: &[&str]) -> bool {
-    let mut rest = text;
-    for part in parts {
-        let Some(next) = rest.strip_prefix(part.as_bytes()) else {
-            return false;
-        };
-        rest = next;
-    }
-    rest.is_empty()
 }
 
 // The file that was written consists of these parts, and the report is this one.

@@ -1,0 +1,5 @@
+//! The tests of rtk_cli.
+#![tactic(auto)]
+
+#[cfg(test)]
+mod cli;

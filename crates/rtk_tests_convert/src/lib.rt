@@ -1,0 +1,5 @@
+//! The tests of rtk_convert.
+#![tactic(auto)]
+
+#[cfg(test)]
+mod convert;

@@ -1,0 +1,5 @@
+//! The tests of rtk_rinex.
+#![tactic(auto)]
+
+#[cfg(test)]
+mod rinex;
