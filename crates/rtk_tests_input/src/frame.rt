@@ -4,7 +4,9 @@ ghost use Rattle.std.specs.Prelude.{◌≡◌, ◌<◌, false};
 
 mod streams;
 
-use rtk_frame::{Answer, FrameFault, Scanner, crc24q, encode_frame, next_frame};
+use rtk_frame::{
+    Answer, FrameFault, Scanner, StreamFault, crc24q, encode_frame, next_frame,
+};
 use rtk_test_support::{holds, holds_of, same, same_of};
 use std::alloc::{AllocError, Global};
 use std::test::Fail;
@@ -161,6 +163,21 @@ fn a_payload_has_at_most_1023_bytes(rt: HostRuntime) -> Result<(), Fail> {
     holds(longest.as_slice().starts_with(&[0xD3, 0x03, 0xFF, 0]))?;
     let longer = encode_frame(rt.alloc(), &[0; 1024]);
     holds(matches!(longer, Err(FrameFault::TooLong)))
+}
+
+// The faults of a frame and their texts.
+const FAULTS: [(FrameFault, &str); 2] = [
+    (FrameFault::TooLong, "F1 payload of more than 1023 bytes"),
+    (FrameFault::OutOfMemory, "F2 out of memory"),
+];
+
+#[test]
+fn faults_have_their_texts(rt: HostRuntime) -> Result<(), Fail> {
+    let alloc = rt.alloc();
+    for &(fault, want) in &FAULTS {
+        same(&fault.to_string(alloc)?.as_str(), &want)?;
+    }
+    same(&StreamFault.to_string(alloc)?.as_str(), &"the stream failed")
 }
 
 // The next frame of the text stands at this place and is the example of the standard.

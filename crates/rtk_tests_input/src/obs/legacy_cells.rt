@@ -74,7 +74,7 @@ fn cells_of(satellite: Satellite) -> Result<(CellEntry, CellEntry), Fail> {
 }
 
 // DF012, DF017 and DF018; the phase on L1; range and phase on L2. Exact fractions, rounded.
-const VALUES: [((i32, i16, i32), i64, (i64, i64)); 3] = [
+const VALUES: [((i32, i16, i32), i64, (i64, i64)); 5] = [
     (
         (0, 100, 0),
         110_804_903_547,
@@ -89,6 +89,17 @@ const VALUES: [((i32, i16, i32), i64, (i64, i64)); 3] = [
         (-270_881, 100, 0),
         110_804_191_802,
         (21_085_474_060, 86_341_483_283),
+    ),
+    // beside the invalid marks, and the greatest
+    (
+        (-524_287, -8191, -524_287),
+        110_803_525_973,
+        (21_085_308_240, 86_340_409_849),
+    ),
+    (
+        (524_287, 8191, 524_287),
+        110_806_281_120,
+        (21_085_635_880, 86_342_556_717),
     ),
 ];
 

@@ -139,6 +139,22 @@ fn msm_values() -> Result<(), Fail> {
     Ok(())
 }
 
+// DF397 and DF398, the range and the phase on L1: the least, and the greatest below the invalid mark.
+const ROUGH: [((u8, u16), i64, i64); 3] = [
+    ((0, 0), 0, 0),
+    ((254, 512), 76_297_180_561, 400_944_390_000),
+    ((254, 1023), 76_446_784_024, 401_730_561_504),
+];
+
+#[test]
+fn msm_rough_ranges() -> Result<(), Fail> {
+    for &(rough, range, phase) in &ROUGH {
+        let got = msm_cell(2, fields(rough, (0, 0)))?;
+        same_of(format_args!("{rough:?}"), &got, &cell(Some(range), Some(phase)))?;
+    }
+    Ok(())
+}
+
 // The invalid marks of DF397, DF400 and DF401; a CNR of 0 and other bits.
 #[test]
 fn msm_invalid_marks() -> Result<(), Fail> {
