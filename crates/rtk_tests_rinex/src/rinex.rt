@@ -1,7 +1,9 @@
-//! An example file, the limits of the columns, and heads and files that are refused.
+//! An example file, the limits of the columns, the longest record, and heads and files that are
+//! refused.
 
 mod header_check;
 mod header_text;
+mod longest;
 mod record_text;
 mod records_check;
 mod table_check;

@@ -6,7 +6,7 @@ use rtk_test_support::{EPOCH_LINE, SATELLITE_LINE, same, same_of};
 use std::test::Fail;
 
 // Satellite lines at the limits of their values, and the fault.
-const SATELLITE_LINES: [(&str, Option<(usize, Cause)>); 16] = [
+const SATELLITE_LINES: [(&str, Option<(usize, Cause)>); 20] = [
     ("G01        -0.001", None),
     ("G329999999999.999", None),
     ("G32-999999999.999", None),
@@ -14,6 +14,16 @@ const SATELLITE_LINES: [(&str, Option<(usize, Cause)>); 16] = [
     ("G05         0.001 1                        11.750", None),
     ("G05         0.001 2                        12.000", None),
     ("G05         0.001 9                        63.750", None),
+    ("G05         0.001 1                         0.250", None),
+    ("G05         0.001 7                        45.250", None),
+    (
+        "G05         0.001 1                         0.125",
+        Some((16, Cause::Value)),
+    ),
+    (
+        "G05         0.001 7                        45.125",
+        Some((16, Cause::Value)),
+    ),
     (
         "G05         0.001 1                        12.000",
         Some((16, Cause::Value)),
@@ -49,7 +59,7 @@ fn limits_of_a_satellite_line(rt: HostRuntime) -> Result<(), Fail> {
     Ok(())
 }
 
-// Behind the 97 columns of the example's line; two codes have 99.
+// What follows the 97 columns of the example's line; two codes have 99.
 const ENDS: [(&str, Cause); 4] = [
     (" ", Cause::Columns),
     ("\r", Cause::Value),
