@@ -4,8 +4,8 @@ ghost use Rattle.std.specs.Prelude.{◌≤◌};
 
 use super::payloads::*;
 use super::runs::EXAMPLE;
-use super::texts::*;
 use super::setup;
+use super::texts::*;
 use rtk_convert::{ConvertFault, Converter, Stream};
 use rtk_frame::{MemSink, encode_frame};
 use rtk_obs::GpsMs;
@@ -16,8 +16,8 @@ use std::test::Fail;
 // Room for a whole file and a whole report.
 const WHOLE: usize = 65_536;
 
-/// A converter of two links, for the station of the payloads and a window of two epochs, with its
-/// file and its report.
+/// A converter for the station of the payloads and a window of two epochs, with its file and its
+/// report.
 #[derive(Drop)]
 struct Converting {
     converter: Converter,
@@ -26,12 +26,24 @@ struct Converting {
 }
 
 impl Converting {
-    // The file and the report have so much room, and take so much for each write.
+    // Of two links. The file and the report have so much room, and take so much for each write.
     fn new(alloc: Global, room: (usize, usize), writes: (usize, usize)) -> Result<Converting, Fail>
         requires { (1 ≤ writes.0) × (1 ≤ writes.1) }
     {
+        Converting::of_links(alloc, 2, room, writes)
+    }
+
+    // The same of so many links.
+    fn of_links(
+        alloc: Global,
+        links: usize,
+        room: (usize, usize),
+        writes: (usize, usize),
+    ) -> Result<Converting, Fail>
+        requires { (1 ≤ writes.0) × (1 ≤ writes.1) }
+    {
         Ok(Converting {
-            converter: Converter::new(alloc, setup(2003, NOON, 2)?, 2)?,
+            converter: Converter::new(alloc, setup(2003, NOON, 2)?, links)?,
             out: MemSink::new(alloc, room.0, writes.0)?,
             log: MemSink::new(alloc, room.1, writes.1)?,
         })
@@ -45,10 +57,15 @@ impl Converting {
         payload: &[u8],
     ) -> Result<Option<ConvertFault>, Fail> {
         let frame = encode_frame(alloc, payload)?;
+        Ok(self.feed_bytes(link, &frame))
+    }
+
+    // What is wrong with bytes on a link, or nothing.
+    fn feed_bytes(&mut self, link: usize, bytes: &[u8]) -> Option<ConvertFault> {
         let fed = self
             .converter
-            .feed(link, &frame, &mut self.out, &mut self.log);
-        Ok(fed.err())
+            .feed(link, bytes, &mut self.out, &mut self.log);
+        fed.err()
     }
 
     fn close(&mut self, link: usize) -> Option<ConvertFault> {
@@ -253,4 +270,76 @@ fn a_full_report_leaves_the_whole_file(rt: HostRuntime) -> Result<(), Fail> {
     let failed = Some(ConvertFault::Write { stream });
     same(&(fault, log.bytes()), &(failed, b"frames 2\no".as_slice()))?;
     holds(consists_of(out.bytes(), &EXAMPLE))
+}
+
+// The last link conflicts and is late, and so is a 1006 of another one.
+const SIXTEEN: [Fed; 7] = [
+    (0, P_WITH_HEIGHT, None),
+    (15, P_WITH_GREATER_HEIGHT, None),
+    (0, Q, None),
+    (8, Q_1, None),
+    (9, Q_2, None),
+    (15, Q, None),
+    (10, P_WITH_GREATER_HEIGHT, None),
+];
+
+#[test]
+fn reports_name_each_of_sixteen_links(rt: HostRuntime) -> Result<(), Fail> {
+    let alloc = rt.alloc();
+    let mut converting = Converting::of_links(alloc, 16, (WHOLE, WHOLE), (WHOLE, WHOLE))?;
+    check_feeds(alloc, &mut converting, &SIXTEEN)?;
+    let want = concat!(
+        "link 16 conflict 1006 -\n",
+        "link 16 late 1004 2024-05-17 12:00:00.000\n",
+        "link 11 late 1006 -\n",
+    );
+    same(&converting.log.bytes(), &want.as_bytes())
+}
+
+// None of these is an observation of the station.
+const WITHOUT_EPOCH: [Fed; 4] = [
+    (0, P, None),
+    (0, OTHER_NUMBER, None),
+    (0, Q_3_OF_STATION_7, None),
+    (0, Q_CUT_SHORT, None),
+];
+
+#[test]
+fn observations_of_the_station_alone_have_a_newest_epoch(rt: HostRuntime) -> Result<(), Fail> {
+    let alloc = rt.alloc();
+    let mut converting = Converting::new(alloc, (WHOLE, WHOLE), (WHOLE, WHOLE))?;
+    check_feeds(alloc, &mut converting, &WITHOUT_EPOCH)?;
+    same(&converting.newest(0), &None)?;
+    check_feeds(alloc, &mut converting, &[(0, Q_1, None)])?;
+    check_feeds(alloc, &mut converting, &WITHOUT_EPOCH)?;
+    same(&converting.newest(0), &Some(moment(NOON + 1000)?))
+}
+
+/// Which link is closed before the end, if one is, and the line of the conflict.
+const FOUND_LAST: [(Option<usize>, &str); 3] = [
+    (None, "link 2 conflict 1005 -\n"),
+    (Some(0), "link 2 conflict 1005 -\n"),
+    (Some(1), "link 1 conflict 1005 -\n"),
+];
+
+// A preamble that asks for 1,023 bytes of payload stands before the frame of each link, so that it
+// is found where the link is closed, and at the end the lower link is closed first.
+#[test]
+fn links_are_closed_from_the_lowest_on(rt: HostRuntime) -> Result<(), Fail> {
+    let alloc = rt.alloc();
+    for &(closed, conflict) in &FOUND_LAST {
+        let mut converting = Converting::new(alloc, (WHOLE, WHOLE), (WHOLE, WHOLE))?;
+        for &(link, payload) in &[(0, P), (1, P_OF_ANOTHER_YEAR)] {
+            same(&converting.feed_bytes(link, b"\xD3\x03\xFF"), &None)?;
+            same(&converting.feed(alloc, link, payload)?, &None)?;
+        }
+        if let Some(link) = closed {
+            same(&converting.close(link), &None)?;
+        }
+        let (fault, _, log) = converting.finish();
+        same(&fault, &None)?;
+        let counts = "frames 2\nother 0\nrefused 0\nforeign 0\ntaken 1\nrepeat 0\nconflict 1\nlate 0\nepochs 0\n";
+        holds(consists_of(log.bytes(), &[conflict, counts]))?;
+    }
+    Ok(())
 }

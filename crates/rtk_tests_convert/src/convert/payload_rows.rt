@@ -129,7 +129,7 @@ pub(crate) const EPOCHS: [Row; 8] = [
 ];
 
 /// Late, conflicting and refused messages.
-pub(crate) const REPORTS: [Row; 6] = [
+pub(crate) const REPORTS: [Row; 7] = [
     // A station message after two epochs is late.
     Row {
         payloads: &[Q, Q_1, P],
@@ -173,6 +173,18 @@ pub(crate) const REPORTS: [Row; 6] = [
         payloads: &[TOO_MANY_CELLS, OUTSIDE_THE_WEEK, ONE_BYTE],
         file: &[TOP, NO_SITE, TYPES, FIRST_AT_NOON, END],
         report: "link 1 refused M5 1074\nlink 1 refused M4 1004\nlink 1 refused M1 -\nframes 3\nother 0\nrefused 3\nforeign 0\ntaken 0\nrepeat 0\nconflict 0\nlate 0\nepochs 0\n",
+    },
+    // Each message that is cut short, and a 1074 outside the week.
+    Row {
+        payloads: &[
+            Q_CUT_SHORT,
+            P_CUT_SHORT,
+            P_WITH_HEIGHT_CUT_SHORT,
+            MSM_5_CUT_SHORT,
+            MSM_OUTSIDE_THE_WEEK,
+        ],
+        file: &[TOP, NO_SITE, TYPES, FIRST_AT_NOON, END],
+        report: "link 1 refused M3 1004\nlink 1 refused M3 1005\nlink 1 refused M3 1006\nlink 1 refused M3 1074\nlink 1 refused M4 1074\nframes 5\nother 0\nrefused 5\nforeign 0\ntaken 0\nrepeat 0\nconflict 0\nlate 0\nepochs 0\n",
     },
     // Epochs far ahead of the others make these late.
     Row {
