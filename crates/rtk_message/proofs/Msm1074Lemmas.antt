@@ -6,7 +6,7 @@ use Rattle.rtk_message.specs.declared.msm1074.MsmHeader.{MsmHeader}
 use Rattle.rtk_message.specs.declared.msm1074.Msm1074.{Msm1074}
 use Rattle.rtk_message.specs.Fields.{week_ms, tow_in, FieldsFit, TakesAll}
 use Rattle.rtk_message.specs.FieldLaws.{fit-append, fit-left}
-use Rattle.rtk_message.specs.Columns.{numbers, integers, flags}
+use Rattle.rtk_message.specs.FieldColumns.{numbers, integers, flags}
 use Rattle.rtk_message.specs.Msm1074.{header_table, satellites, signals, mask_table, columns, table, HasLengths, IsValid, first_fault, mask_bits_in}
 use Rattle.rtk_message.specs.Steps.EachFits.{EachFits}
 use Rattle.rtk_message.specs.Msm1074Laws.{header_says, due, cells_says}

@@ -10,7 +10,7 @@ use Rattle.rtk_bits.proofs.PublicLaws.{unsigned-append, unsigned_lt, unsigned-bi
 use Rattle.rtk_message.specs.Fields.{Field, bits_of_fields, FieldsFit}
 use Rattle.rtk_message.specs.FieldLaws.{SameForm, one_list, total}
 use Rattle.rtk_message.specs.FieldLaws.{bits_of_fields-append, fit-left}
-use Rattle.rtk_message.specs.Columns.{numbers, integers, flags}
+use Rattle.rtk_message.specs.FieldColumns.{numbers, integers, flags}
 
 -- ---- lengths
 

@@ -1,6 +1,6 @@
 //! Columns of fields: a value for each satellite or cell, and the cell mask.
 
-ghost use Rattle.rtk_message.specs.Columns.{numbers};
+ghost use Rattle.rtk_message.specs.FieldColumns.{numbers};
 ghost use Rattle.rtk_message.specs.Fields.{TakesAll, FieldsFit};
 ghost use Rattle.rtk_message.specs.Steps.FieldSteps.{PutsAll};
 ghost use Rattle.std.specs.Prelude.{◌≡◌, ◌≤◌, ◌*◌, ◌+◌, [], length, OnOk, sum_by, count_ones, ◌<◌, ◌∷◌, ◌++◌, map, List, Bool, IsTrue, ◌↔◌};

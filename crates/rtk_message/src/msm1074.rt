@@ -3,7 +3,7 @@
 ghost use Rattle.std.specs.Prelude.{◌≡◌, ◌≤◌, ◌<◌, [], ◌+◌, ◌*◌, length, OnOk, IsTrue, ◌↔◌, count_ones, sum_by};
 ghost use Rattle.rtk_message.specs.Fields.{week_ms, TakesAll, FieldsFit};
 ghost use Rattle.rtk_message.specs.Steps.FieldSteps.{PutsAll};
-ghost use Rattle.rtk_message.specs.Columns.{numbers};
+ghost use Rattle.rtk_message.specs.FieldColumns.{numbers};
 ghost use Rattle.rtk_message.specs.Msm1074.{header_table, HasLengths};
 ghost use Rattle.rtk_message.specs.Steps.EachFits.{EachFits};
 

@@ -6,7 +6,7 @@ use Rattle.std.proofs.lemmas.List.{length-map}
 use Rattle.std.proofs.lemmas.List.Elements.{All-from_recursion, All-get_or}
 use Rattle.std.proofs.lemmas.Bool.Decides.{nat_tests}
 use Rattle.rtk_message.specs.Fields.{Field, FieldsFit}
-use Rattle.rtk_message.specs.Columns.{numbers, integers, flags}
+use Rattle.rtk_message.specs.FieldColumns.{numbers, integers, flags}
 use Rattle.rtk_message.specs.Msm1074.{IsValid, satellites, signals, cells, mask_table, columns}
 use Rattle.rtk_message.specs.declared.msm1074.Msm1074.{Msm1074}
 use Rattle.rtk_obs.specs.declared.code.Code.{Code}

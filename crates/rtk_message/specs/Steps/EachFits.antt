@@ -1,6 +1,6 @@
 -- The columns of a 1074, each by itself.
 use Rattle.rtk_message.specs.Fields.{FieldsFit}
-use Rattle.rtk_message.specs.Columns.{numbers, integers}
+use Rattle.rtk_message.specs.FieldColumns.{numbers, integers}
 use Rattle.rtk_message.specs.Msm1074.{signals}
 use Rattle.rtk_message.specs.declared.msm1074.Msm1074.{Msm1074}
 

@@ -1,6 +1,6 @@
 use Rattle.std.proofs.Common.{◌≤◌, ◌*◌, ◌<◌, sum_by, count_ones, ◌∙◌, arith, rules}
 use Rattle.rtk_message.specs.Fields.{TakesAll}
-use Rattle.rtk_message.specs.Columns.{numbers}
+use Rattle.rtk_message.specs.FieldColumns.{numbers}
 use Rattle.rtk_message.proofs.ColumnLemmas.{ones-few}
 use Rattle.rtk_message.proofs.FieldLemmas.{took_both}
 use Rattle.rtk_message.proofs.Msm1074Lemmas.{is_late, is_many, is_cut_mask, is_cut_rest, few_of}

@@ -1,6 +1,6 @@
 use Rattle.std.proofs.Common.{arith, rules, refl}
 use Rattle.rtk_message.specs.Steps.FieldSteps.{PutsAll}
-use Rattle.rtk_message.specs.Columns.{numbers}
+use Rattle.rtk_message.specs.FieldColumns.{numbers}
 use Rattle.rtk_message.proofs.FieldLemmas.{put_both}
 use Rattle.rtk_message.proofs.ColumnLemmas.{flags-fit}
 use Rattle.rtk_message.proofs.Msm1074Lemmas.{each_fits}
