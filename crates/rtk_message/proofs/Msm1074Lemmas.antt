@@ -5,7 +5,7 @@ use Rattle.rtk_message.specs.declared.fault.DecodeFault.TheVariants.{Short, Epoc
 use Rattle.rtk_message.specs.declared.msm1074.MsmHeader.{MsmHeader}
 use Rattle.rtk_message.specs.declared.msm1074.Msm1074.{Msm1074}
 use Rattle.rtk_message.specs.Fields.{week_ms, tow_in, FieldsFit, TakesAll}
-use Rattle.rtk_message.specs.FieldLaws.{fit-append, fit-left}
+use Rattle.rtk_message.specs.FieldLaws.{fit-append, fit-parts}
 use Rattle.rtk_message.specs.FieldColumns.{numbers, integers, flags}
 use Rattle.rtk_message.specs.Msm1074.{header_table, satellites, signals, mask_table, columns, table, HasLengths, IsValid, first_fault, mask_bits_in}
 use Rattle.rtk_message.specs.Steps.EachFits.{EachFits}
@@ -48,14 +48,14 @@ is_cut_rest {h = h} ns took mask len time few size short =
 
 pub each_fits : (m : Msm1074) → FieldsFit (table m) → EachFits m
 each_fits m p =
-    let a = fit-left (header_table m.header) (mask_table m ++ columns m) p in
-    let b = fit-left (mask_table m) (columns m) a.1 in
-    let c = fit-left (numbers 8 m.rough_ms) _ b.1 in
-    let d = fit-left (numbers 10 m.rough_fraction) _ c.1 in
-    let e = fit-left (integers 15 m.fine_range) _ d.1 in
-    let f = fit-left (integers 22 m.fine_phase) _ e.1 in
-    let g = fit-left (numbers 4 m.lock_indicator) _ f.1 in
-    let h = fit-left (flags m.half_cycle) _ g.1 in
+    let a = fit-parts (header_table m.header) (mask_table m ++ columns m) p in
+    let b = fit-parts (mask_table m) (columns m) a.1 in
+    let c = fit-parts (numbers 8 m.rough_ms) _ b.1 in
+    let d = fit-parts (numbers 10 m.rough_fraction) _ c.1 in
+    let e = fit-parts (integers 15 m.fine_range) _ d.1 in
+    let f = fit-parts (integers 22 m.fine_phase) _ e.1 in
+    let g = fit-parts (numbers 4 m.lock_indicator) _ f.1 in
+    let h = fit-parts (flags m.half_cycle) _ g.1 in
     record { cell_mask = b.0; rough_ms = c.0; rough_fraction = d.0; fine_range = e.0; fine_phase = f.0; lock_indicator = g.0; cnr = h.1 }
 
 pub all_fit : (m : Msm1074) → FieldsFit (header_table m.header) → EachFits m → FieldsFit (table m)

@@ -5,7 +5,7 @@ use Rattle.std.proofs.lemmas.List.{take_at, drop_at}
 use Rattle.rtk_bits.specs.Bits.{unsigned}
 use Rattle.rtk_message.specs.Fields.{week_ms, tow_in, Field, u, flag, bits_of_fields, FieldsFit, TakesAll}
 use Rattle.rtk_message.specs.FieldLaws.{total, length-bits_of_fields}
-use Rattle.rtk_message.specs.FieldLaws.{bits_of_fields-append, fit-left, number_taken}
+use Rattle.rtk_message.specs.FieldLaws.{bits_of_fields-append, fit-parts, number_taken}
 use Rattle.rtk_message.specs.FieldColumns.{numbers, integers, flags}
 use Rattle.rtk_message.specs.ColumnLaws.{total-numbers, total-integers, total-flags, ones-numbers, peel, peel_numbers, peel_integers, peel_flags, last_numbers}
 use Rattle.rtk_message.specs.declared.msm1074.MsmHeader.{MsmHeader}
@@ -95,7 +95,7 @@ length-columns m l =
 -- the parts of a table
 pub split : (fs gs : List Field) (bs rest : List Bool) → FieldsFit (fs ++ gs) → bs ≡ bits_of_fields (fs ++ gs) ++ rest → TakesAll fs bs (bits_of_fields gs ++ rest)
 split fs gs bs rest fit e = record {
-  fit = (fit-left fs gs fit).0;
+  fit = (fit-parts fs gs fit).0;
   is = e ∙ ap (λ (t : List Bool). t ++ rest) (bits_of_fields-append fs gs) ∙ append_assoc (bits_of_fields fs) (bits_of_fields gs) rest;
 }
 
@@ -105,7 +105,7 @@ is_accepted m rest valid =
     let bs = bits_of_fields (table m) ++ rest in
     let after_header = mask_table m ++ columns m in
     let head : TakesAll (header_table h) bs (bits_of_fields after_header ++ rest) = split (header_table h) after_header bs rest valid.fields_fit refl in
-    let mask : TakesAll (mask_table m) (bits_of_fields after_header ++ rest) (bits_of_fields (columns m) ++ rest) = split (mask_table m) (columns m) (bits_of_fields after_header ++ rest) rest (fit-left (header_table h) after_header valid.fields_fit).1 refl in
+    let mask : TakesAll (mask_table m) (bits_of_fields after_header ++ rest) (bits_of_fields (columns m) ++ rest) = split (mask_table m) (columns m) (bits_of_fields after_header ++ rest) rest (fit-parts (header_table h) after_header valid.fields_fit).1 refl in
     let says = header_says head in
     let time : h.tow < week_ms = valid.time_in_week in
     let count = cells_says m.cell_mask head mask valid.lengths.cell_mask in
