@@ -9,6 +9,7 @@ use Rattle.rtk_message.specs.Fields.{Field, FieldsFit}
 use Rattle.rtk_message.specs.FieldColumns.{numbers, integers, flags}
 use Rattle.rtk_message.specs.Msm1074.{IsValid, satellites, signals, cells, mask_table, columns}
 use Rattle.rtk_message.specs.declared.msm1074.Msm1074.{Msm1074}
+use Rattle.rtk_message.proofs.PublicLaws.{fit-parts}
 use Rattle.rtk_obs.specs.declared.code.Code.{Code}
 use Rattle.rtk_obs.specs.declared.cell.CellEntry.{CellEntry}
 use Rattle.rtk_obs.specs.declared.msm_cells.Slot.{Slot}
@@ -25,12 +26,10 @@ satellite_in satellites s = get_or satellites (s.row) 0
 -- ---- widths
 
 fits_right : (fs gs : List Field) → FieldsFit (fs ++ gs) → FieldsFit gs
-fits_right [] gs h = h
-fits_right (f ∷ fs) gs h = fits_right fs gs h.1
+fits_right fs gs h = (fit-parts fs gs h).1
 
 fits_left : (fs gs : List Field) → FieldsFit (fs ++ gs) → FieldsFit fs
-fits_left [] gs h = tt
-fits_left (f ∷ fs) gs h = (h.0, fits_left fs gs h.1)
+fits_left fs gs h = (fit-parts fs gs h).0
 
 numbers_fit : (w : ℕ) (ns : List ℕ) → FieldsFit (numbers w ns) → AllByRecursion (λ n. n < 2 ^ w) ns
 numbers_fit w [] h = tt
