@@ -4,7 +4,7 @@ use Rattle.rtk_message.specs.FieldColumns.{numbers}
 use Rattle.rtk_message.proofs.ColumnLemmas.{ones-few}
 use Rattle.rtk_message.proofs.FieldLemmas.{took_both}
 use Rattle.rtk_message.proofs.Msm1074Lemmas.{is_late, is_many, is_cut_mask, is_cut_rest, few_of}
-use Rattle.rtk_message.specs.Msm1074.{signals}
+use Rattle.rtk_message.specs.Msm1074.{signal_count}
 use Rattle.rtk_message.proofs.msm1074.Msm1074Layout.read.Goals as goal
 
 pub returns-then-self-ge-WEEK_MS-clause-fault : goal.returns-then-self-ge-WEEK_MS-clause-fault
@@ -27,7 +27,7 @@ returns-then-remaining-satellites-2-clause-fault c =
     let h = c.next_header-self.result in
     let ns = c.read_mask.new.mask in
     let few : c.satellite_count-satellites.result * c.signal_count-signals.result ≤ 64 = few_of c.has_too_many_cells.ensures c.if-has_too_many_cells.false in
-    let mask : TakesAll (numbers (signals h) ns) c.next_header-self.new.reader c.read_mask.new.reader = rw (← c.signal_count-signals.ensures.value) c.read_mask.ensures.fields in
+    let mask : TakesAll (numbers (signal_count h) ns) c.next_header-self.new.reader c.read_mask.new.reader = rw (← c.signal_count-signals.ensures.value) c.read_mask.ensures.fields in
     is_cut_rest ns c.next_header-self.ensures.fields mask (c.read_mask.ensures.count ∙ c.satellite_count-satellites.ensures.value) (omega (arith, c.if-self-ge-WEEK_MS.false))
     (rw (← c.satellite_count-satellites.ensures.value, ← c.signal_count-signals.ensures.value) few)
     (rw (← c.satellite_count-satellites.ensures.value, ← c.signal_count-signals.ensures.value) c.read_mask.ensures.left)
@@ -47,7 +47,7 @@ returns-clause-fields c =
     let h = c.next_header-self.result in
     let ns = c.read_mask.new.mask in
     let few : c.satellite_count-satellites.result * c.signal_count-signals.result ≤ 64 = few_of c.has_too_many_cells.ensures c.if-has_too_many_cells.false in
-    let mask : TakesAll (numbers (signals h) ns) c.next_header-self.new.reader c.read_mask.new.reader = rw (← c.signal_count-signals.ensures.value) c.read_mask.ensures.fields in
+    let mask : TakesAll (numbers (signal_count h) ns) c.next_header-self.new.reader c.read_mask.new.reader = rw (← c.signal_count-signals.ensures.value) c.read_mask.ensures.fields in
     let t = took_both c.next_header-self.ensures.fields (took_both mask (took_both c.read_column.ensures.fields (took_both c.read_column-2.ensures.fields (took_both c.read_column-3.ensures.fields
     (took_both c.read_column-4.ensures.fields (took_both c.read_column-5.ensures.fields (took_both c.read_column-6.ensures.fields c.read_column-7.ensures.fields))))))) in
     let sats = c.satellite_count-satellites.ensures.value in
