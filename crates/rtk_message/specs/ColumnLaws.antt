@@ -1,5 +1,5 @@
--- A column as fields: taken and put element by element, its length, and that its bits can be read
--- in one way only.
+-- A column as fields: how many bits it has, how many of them are set, and that they can be read in
+-- one way only.
 use Rattle.std.proofs.Common.{◌≡◌, ℕ, ℤ, ◌+◌, ◌*◌, ◌≤◌, Bool, List, [], ◌∷◌, ◌++◌, length, refl, sym, ap, ◌∙◌, arith, append_assoc, sum_by, count_ones}
 use Rattle.std.proofs.lemmas.List.Sums.{sum_by-cons}
 use Rattle.std.proofs.lemmas.Nat.{ones_cat}
@@ -8,8 +8,7 @@ use Rattle.std.proofs.Math.Nat.{mod-eq_of_lt}
 use Rattle.rtk_bits.specs.Bits.{unsigned, bits_of}
 use Rattle.rtk_bits.proofs.PublicLaws.{unsigned-append, unsigned_lt, unsigned-bits_of}
 use Rattle.rtk_message.specs.Fields.{Field, bits_of_fields, FieldsFit}
-use Rattle.rtk_message.specs.FieldLaws.{SameForm, one_list, total}
-use Rattle.rtk_message.specs.FieldLaws.{bits_of_fields-append, fit-parts}
+use Rattle.rtk_message.specs.FieldLaws.{SameForm, one_list, total, bits_of_fields-append, fit-parts}
 use Rattle.rtk_message.specs.FieldColumns.{numbers, integers, flags}
 
 -- ---- lengths

@@ -4,8 +4,7 @@ use Rattle.std.proofs.lemmas.Bool.{le-ltb, lt-leb}
 use Rattle.std.proofs.lemmas.List.{take_at, drop_at}
 use Rattle.rtk_bits.specs.Bits.{unsigned}
 use Rattle.rtk_message.specs.Fields.{week_ms, tow_in, Field, u, flag, bits_of_fields, FieldsFit, TakesAll}
-use Rattle.rtk_message.specs.FieldLaws.{total, length-bits_of_fields}
-use Rattle.rtk_message.specs.FieldLaws.{bits_of_fields-append, fit-parts, number_taken}
+use Rattle.rtk_message.specs.FieldLaws.{total, length-bits_of_fields, bits_of_fields-append, fit-parts, number_taken}
 use Rattle.rtk_message.specs.FieldColumns.{numbers, integers, flags}
 use Rattle.rtk_message.specs.ColumnLaws.{total-numbers, total-integers, total-flags, ones-numbers, peel, peel_numbers, peel_integers, peel_flags, last_numbers}
 use Rattle.rtk_message.specs.declared.msm1074.MsmHeader.{MsmHeader}
@@ -152,5 +151,3 @@ is_unique m n a b p q e =
     let h1 = s1.here in let h2 = s2.here in let h3 = s3.here in let h4 = s4.here in let h5 = s5.here in let h6 = s6.here in let h7 = s7.here in
     let all : make m.header m.cell_mask m.rough_ms m.rough_fraction m.fine_range m.fine_phase m.lock_indicator m.half_cycle m.cnr ≡ make n.header n.cell_mask n.rough_ms n.rough_fraction n.fine_range n.fine_phase n.lock_indicator n.half_cycle n.cnr = cc in
     sym (made m) ∙ all ∙ made n
-
--- ---- parts of bits that a table spells

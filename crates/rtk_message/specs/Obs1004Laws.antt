@@ -93,5 +93,3 @@ is_unique m n a b p q e =
     let list : m.satellites ≡ n.satellites = same_satellites m.satellites n.satellites tails.0 in
     let all : make m.station m.tow m.synchronous m.smoothing m.smoothing_interval m.satellites ≡ make n.station n.tow n.synchronous n.smoothing n.smoothing_interval n.satellites = cc in
     sym (made m) ∙ all ∙ made n
-
--- ---- steps of loops over satellites

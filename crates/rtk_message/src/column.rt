@@ -53,7 +53,7 @@ pub(crate) fn put_mask(
 }
 
 /// How many cells the mask has: the bits set in all rows.
-pub(crate) fn ones(mask: &Column<u32>) -> u32
+pub(crate) fn count_cells(mask: &Column<u32>) -> u32
     ensures { result ≡ sum_by count_ones mask.now }
 {
     let mut sum = 0;

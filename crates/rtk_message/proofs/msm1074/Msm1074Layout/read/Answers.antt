@@ -31,7 +31,7 @@ returns-then-remaining-satellites-2-clause-fault c =
     is_cut_rest ns c.next_header-self.ensures.fields mask (c.read_mask.ensures.count ∙ c.satellite_count-satellites.ensures.value) (omega (arith, c.if-self-ge-WEEK_MS.false))
     (rw (← c.satellite_count-satellites.ensures.value, ← c.signal_count-signals.ensures.value) few)
     (rw (← c.satellite_count-satellites.ensures.value, ← c.signal_count-signals.ensures.value) c.read_mask.ensures.left)
-    (omega (arith, c.if-remaining-satellites-2.true, c.remaining-3.ensures, c.satellite_count-satellites.ensures.value, c.ones-cells.ensures))
+    (omega (arith, c.if-remaining-satellites-2.true, c.remaining-3.ensures, c.satellite_count-satellites.ensures.value, c.count_cells-cells.ensures))
 
 -- a cell mask of at most 64 bits has at most 64 cells
 pub prove-unreachable-requires : goal.prove-unreachable-requires
@@ -40,7 +40,7 @@ prove-unreachable-requires c =
     let few : c.satellite_count-satellites.result * c.signal_count-signals.result ≤ 64 = few_of c.has_too_many_cells.ensures c.if-has_too_many_cells.false in
     let cells : sum_by count_ones ns ≤ c.signal_count-signals.result * c.satellite_count-satellites.result =
     rw (← c.read_mask.ensures.count) (ones-few c.signal_count-signals.result ns c.read_mask.ensures.fields.fit) in
-    absurd (omega (arith, few, cells, c.ones-cells.ensures, c.if-prove.true))
+    absurd (omega (arith, few, cells, c.count_cells-cells.ensures, c.if-prove.true))
 
 pub returns-clause-fields : goal.returns-clause-fields
 returns-clause-fields c =
@@ -51,7 +51,7 @@ returns-clause-fields c =
     let t = took_both c.next_header-self.ensures.fields (took_both mask (took_both c.read_column.ensures.fields (took_both c.read_column-2.ensures.fields (took_both c.read_column-3.ensures.fields
     (took_both c.read_column-4.ensures.fields (took_both c.read_column-5.ensures.fields (took_both c.read_column-6.ensures.fields c.read_column-7.ensures.fields))))))) in
     let sats = c.satellite_count-satellites.ensures.value in
-    let cells = c.ones-cells.ensures in (
+    let cells = c.count_cells-cells.ensures in (
       record {
         fields_fit = t.fit;
         time_in_week = c.if-self-ge-WEEK_MS.false;
