@@ -15,7 +15,7 @@ use Rattle.rtk_message.specs.declared.msm1074.Msm1074.{Msm1074}
 use Rattle.rtk_message.specs.declared.fault.DecodeFault.{DecodeFault}
 use Rattle.rtk_message.specs.declared.fault.DecodeFault.TheVariants.{NoNumber, Other, Short, EpochRange, TooManyCells}
 use Rattle.rtk_message.specs.Decoded.{Decodes}
-use Rattle.rtk_message.specs.Msm1074.{satellites, signals, cells}
+use Rattle.rtk_message.specs.Msm1074.{satellite_count, signal_count, cell_count}
 
 -- a point and four digits: the part of a whole metre, of a number of 0.0001 m
 abbrev pub four_decimals : ℕ → List ℕ
@@ -51,8 +51,8 @@ text_1006 m = codes "1006" ++ reference_point m.arp ++ codes " height " ++ metre
 abbrev pub text_1074 : Msm1074 → List ℕ
 text_1074 m =
     codes "1074 station " ++ decimal m.header.station ++ codes " tow " ++ decimal m.header.tow
-    ++ codes " satellites " ++ decimal (satellites m.header) ++ codes " signals " ++ decimal (signals m.header)
-    ++ codes " cells " ++ decimal (cells m)
+    ++ codes " satellites " ++ decimal (satellite_count m.header) ++ codes " signals " ++ decimal (signal_count m.header)
+    ++ codes " cells " ++ decimal (cell_count m)
 
 abbrev pub message_text : Message → List ℕ
 message_text (Of1004 m) = text_1004 m

@@ -8,7 +8,7 @@ use Rattle.rtk_bits.specs.Bits.{bits_of}
 use Rattle.rtk_message.specs.Fields.{Field, u, field_bits, bits_of_fields, FieldFits, FieldsFit, TakesAll}
 use Rattle.rtk_message.specs.Steps.FieldSteps.{TakesField, Puts, PutsAll}
 use Rattle.rtk_message.specs.FieldLaws.{fit-append}
-use Rattle.rtk_message.specs.Columns.{numbers, flags}
+use Rattle.rtk_message.specs.FieldColumns.{numbers, flags}
 use Rattle.rtk_message.proofs.FieldLemmas.{took, took_none, took_both, put, put_none, put_both}
 
 module _ {X : Type 0} (f : X → Field) where

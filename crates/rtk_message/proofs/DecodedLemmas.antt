@@ -10,7 +10,8 @@ use Rattle.rtk_message.specs.declared.message.Message.{Message}
 use Rattle.rtk_message.specs.declared.message.Message.TheVariants.{Obs1004, Arp1005, Arp1006, Msm1074}
 use Rattle.rtk_message.specs.declared.fault.DecodeFault.{DecodeFault}
 use Rattle.rtk_message.specs.Fields.{Field, u, bits_of_fields}
-use Rattle.rtk_message.specs.Decoded.{number_of, fields_after_number, Encodes, BeginsAfterNumber, Decodes, first_fault, fault_after_number}
+use Rattle.rtk_message.specs.Decoded.{number_of, fields_after_number, Encodes, Decodes, first_fault, fault_after_number}
+use Rattle.rtk_message.specs.Steps.AfterNumber.{BeginsAfterNumber}
 use Rattle.rtk_message.specs.Obs1004Laws as obs1004
 use Rattle.rtk_message.specs.Arp1005Laws as arp1005
 use Rattle.rtk_message.specs.Arp1006Laws as arp1006

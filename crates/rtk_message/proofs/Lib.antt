@@ -1,3 +1,5 @@
+-- The facts of the public laws, which proofs of other crates cite
+pub mod PublicLaws
 mod ColumnLemmas
 mod DecodedLemmas
 mod EqualLemmas

@@ -7,7 +7,7 @@ use Rattle.rtk_message.specs.declared.fault.DecodeFault.TheVariants.{Short, Epoc
 use Rattle.rtk_message.specs.declared.obs1004.Satellite.{Satellite}
 use Rattle.rtk_message.specs.Fields.{week_ms, tow_in, FieldsFit, TakesAll}
 use Rattle.rtk_message.specs.Steps.FieldSteps.{PutsAll}
-use Rattle.rtk_message.specs.FieldLaws.{fit-left}
+use Rattle.rtk_message.specs.FieldLaws.{fit-parts}
 use Rattle.rtk_message.specs.Obs1004.{satellite_table, header, first_fault, satellite_bits}
 use Rattle.rtk_message.specs.Obs1004Laws.{header_says}
 use Rattle.rtk_message.proofs.FieldLemmas.{took_both, put_both}
@@ -29,8 +29,8 @@ is_cut {t = t} {bs = bs} took h short =
 
 pub fit_at : (xs : List Satellite) (k : ℕ) (d : Satellite) → k < length xs → FieldsFit (flat_map satellite_table xs) → FieldsFit (satellite_table (get_or xs k d))
 fit_at [] k d h p = absurd (omega arith)
-fit_at (x ∷ xs) zero d h p = (fit-left (satellite_table x) (flat_map satellite_table xs) p).0
-fit_at (x ∷ xs) (suc k) d h p = fit_at xs k d (omega arith) (fit-left (satellite_table x) (flat_map satellite_table xs) p).1
+fit_at (x ∷ xs) zero d h p = (fit-parts (satellite_table x) (flat_map satellite_table xs) p).0
+fit_at (x ∷ xs) (suc k) d h p = fit_at xs k d (omega arith) (fit-parts (satellite_table x) (flat_map satellite_table xs) p).1
 
 pub rows_push : (xs : List Satellite) (x : Satellite) → flat_map satellite_table (xs ++ x ∷ []) ≡ flat_map satellite_table xs ++ satellite_table x
 rows_push xs x = sym (flat_map_more satellite_table [] xs x)

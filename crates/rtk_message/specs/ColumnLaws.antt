@@ -1,5 +1,5 @@
--- A column as fields: taken and put element by element, its length, and that its bits can be read
--- in one way only.
+-- A column as fields: how many bits it has, how many of them are set, and that they can be read in
+-- one way only.
 use Rattle.std.proofs.Common.{◌≡◌, ℕ, ℤ, ◌+◌, ◌*◌, ◌≤◌, Bool, List, [], ◌∷◌, ◌++◌, length, refl, sym, ap, ◌∙◌, arith, append_assoc, sum_by, count_ones}
 use Rattle.std.proofs.lemmas.List.Sums.{sum_by-cons}
 use Rattle.std.proofs.lemmas.Nat.{ones_cat}
@@ -8,9 +8,8 @@ use Rattle.std.proofs.Math.Nat.{mod-eq_of_lt}
 use Rattle.rtk_bits.specs.Bits.{unsigned, bits_of}
 use Rattle.rtk_bits.proofs.PublicLaws.{unsigned-append, unsigned_lt, unsigned-bits_of}
 use Rattle.rtk_message.specs.Fields.{Field, bits_of_fields, FieldsFit}
-use Rattle.rtk_message.specs.FieldLaws.{SameForm, one_list, total}
-use Rattle.rtk_message.specs.FieldLaws.{bits_of_fields-append, fit-left}
-use Rattle.rtk_message.specs.Columns.{numbers, integers, flags}
+use Rattle.rtk_message.specs.FieldLaws.{SameForm, one_list, total, bits_of_fields-append, fit-parts}
+use Rattle.rtk_message.specs.FieldColumns.{numbers, integers, flags}
 
 -- ---- lengths
 
@@ -48,8 +47,8 @@ pub record Same (X : Type 0) (xs ys : X) (fs gs : List Field) (a b : List Bool) 
 
 pub peel : (hs ks fs gs : List Field) (a b : List Bool) → SameForm hs ks → FieldsFit (hs ++ fs) → FieldsFit (ks ++ gs) → bits_of_fields (hs ++ fs) ++ a ≡ bits_of_fields (ks ++ gs) ++ b → Same (List Field) hs ks fs gs a b
 peel hs ks fs gs a b form p q e =
-    let fp = fit-left hs fs p in
-    let fq = fit-left ks gs q in
+    let fp = fit-parts hs fs p in
+    let fq = fit-parts ks gs q in
     let one = one_list hs ks (bits_of_fields fs ++ a) (bits_of_fields gs ++ b) form fp.0 fq.0
     (sym (ap (λ (t : List Bool). t ++ a) (bits_of_fields-append hs fs) ∙ append_assoc (bits_of_fields hs) (bits_of_fields fs) a) ∙ e ∙ (ap (λ (t : List Bool). t ++ b) (bits_of_fields-append ks gs) ∙ append_assoc (bits_of_fields ks) (bits_of_fields gs) b)) in
     record { here = one.0; left = fp.1; right = fq.1; after = one.1 }

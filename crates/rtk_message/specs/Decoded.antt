@@ -55,12 +55,6 @@ pub record Encodes (bs : List Bool) (m : Message) : Type 0 where
   pub valid : IsValid m
   pub begins : (rest : List Bool) × (bs ≡ bits_of_fields (table m) ++ rest)
 
--- the bits after this number begin with the fields of a valid message that has it
-pub record BeginsAfterNumber (number : ℕ) (bs : List Bool) (m : Message) : Type 0 where
-  pub has_number : number_of m ≡ number
-  pub valid : IsValid m
-  pub begins : (rest : List Bool) × (bs ≡ bits_of_fields (fields_after_number m) ++ rest)
-
 -- the bytes are the fields of the message, with zero bits up to a whole byte
 abbrev pub IsPayloadOf : Message → List ℕ → Type 0
 IsPayloadOf m payload = bits payload ≡ bits_of_fields (table m) ++ padding (length (bits_of_fields (table m)))

@@ -38,9 +38,9 @@ pub fit-append : (fs gs : List Field) → FieldsFit fs → FieldsFit gs → Fiel
 fit-append [] gs p q = q
 fit-append (f ∷ fs) gs p q = (p.0, fit-append fs gs p.1 q)
 
-pub fit-left : (fs gs : List Field) → FieldsFit (fs ++ gs) → FieldsFit fs × FieldsFit gs
-fit-left [] gs p = (tt, p)
-fit-left (f ∷ fs) gs p = let r = fit-left fs gs p.1 in ((p.0, r.0), r.1)
+pub fit-parts : (fs gs : List Field) → FieldsFit (fs ++ gs) → FieldsFit fs × FieldsFit gs
+fit-parts [] gs p = (tt, p)
+fit-parts (f ∷ fs) gs p = let r = fit-parts fs gs p.1 in ((p.0, r.0), r.1)
 
 -- the number in a field with n bits before it
 pub number_taken : (before : List Field) (w n : ℕ) (fs : List Field) (bs rest : List Bool) (k : ℕ) → total before ≡ k → n < 2 ^ w → bs ≡ bits_of_fields (before ++ u w n ∷ fs) ++ rest → unsigned (take w (drop k bs)) ≡ n

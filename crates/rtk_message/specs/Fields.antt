@@ -39,7 +39,8 @@ bits_of_fields (f ∷ fs) = field_bits f ++ bits_of_fields fs
 abbrev pub FieldsFit : List Field → Type 0
 FieldsFit fs = AllByRecursion FieldFits fs
 
--- the bits begin with these fields, each of which fits its width, and `left` are the bits after them
+-- the bits begin with these fields, each of which fits its width, and `left` are the bits after
+-- them
 pub record TakesAll (fs : List Field) (from left : List Bool) : Type 0 where
   pub fit : FieldsFit fs
   pub is : from ≡ bits_of_fields fs ++ left

@@ -6,7 +6,7 @@ pub mod Arp1005
 pub mod Arp1005Laws
 pub mod Arp1006
 pub mod Arp1006Laws
-pub mod Columns
+pub mod FieldColumns
 pub mod ColumnLaws
 pub mod Msm1074
 pub mod Msm1074Laws

@@ -3,7 +3,7 @@
 use Rattle.std.specs.Prelude.{◌≡◌, ℕ, ◌+◌, ◌*◌, ◌≤◌, ◌<◌, Bool, List, [], ◌∷◌, ◌++◌, length, sum_by, count_ones, take, drop, Option, Some, None, nat_lt, nat_le, if◌then◌else◌}
 use Rattle.rtk_bits.specs.Bits.{unsigned}
 use Rattle.rtk_message.specs.Fields.{week_ms, tow_in, Field, u, flag, FieldsFit}
-use Rattle.rtk_message.specs.Columns.{numbers, integers, flags}
+use Rattle.rtk_message.specs.FieldColumns.{numbers, integers, flags}
 use Rattle.rtk_message.specs.declared.fault.DecodeFault.{DecodeFault}
 use Rattle.rtk_message.specs.declared.fault.DecodeFault.TheVariants.{Short, EpochRange, TooManyCells}
 use Rattle.rtk_message.specs.declared.msm1074.MsmHeader.{MsmHeader}
@@ -16,20 +16,20 @@ header_table h =
     u 2 h.clock_steering ∷ u 2 h.external_clock ∷ flag h.smoothing ∷ u 3 h.smoothing_interval ∷
     u 64 h.satellite_mask ∷ u 32 h.signal_mask ∷ []
 
--- the satellites and the signals of the message: the bits set in their masks
-abbrev pub satellites : MsmHeader → ℕ
-satellites h = count_ones h.satellite_mask
+-- how many satellites and how many signals the message has: the bits set in their masks
+abbrev pub satellite_count : MsmHeader → ℕ
+satellite_count h = count_ones h.satellite_mask
 
-abbrev pub signals : MsmHeader → ℕ
-signals h = count_ones h.signal_mask
+abbrev pub signal_count : MsmHeader → ℕ
+signal_count h = count_ones h.signal_mask
 
--- the cell mask (DF396), satellite by satellite: a row of one bit for each signal, the signals
--- rising
+-- the cell mask (DF396): for each satellite a row of one bit for each signal; satellites and signals
+-- rise
 abbrev pub mask_table : Msm1074 → List Field
-mask_table m = numbers (signals m.header) m.cell_mask
+mask_table m = numbers (signal_count m.header) m.cell_mask
 
--- each field for all satellites or cells before the next field: DF397 and DF398 of the satellites,
--- DF400, DF401, DF402, DF420 and DF403 of the cells
+-- each field is given for all satellites or cells before the next field: DF397 and DF398 for the
+-- satellites, DF400, DF401, DF402, DF420 and DF403 for the cells
 abbrev pub columns : Msm1074 → List Field
 columns m =
     numbers 8 m.rough_ms ++ (numbers 10 m.rough_fraction ++
@@ -38,20 +38,20 @@ columns m =
 abbrev pub table : Msm1074 → List Field
 table m = header_table m.header ++ (mask_table m ++ columns m)
 
--- the cells of the message: the bits set in the cell mask
-abbrev pub cells : Msm1074 → ℕ
-cells m = sum_by count_ones m.cell_mask
+-- how many cells the message has: the bits set in the cell mask
+abbrev pub cell_count : Msm1074 → ℕ
+cell_count m = sum_by count_ones m.cell_mask
 
--- each column has an entry for each satellite, or for each cell
+-- each column has as many entries as there are satellites, or cells
 pub record HasLengths (m : Msm1074) : Type 0 where
-  pub cell_mask : length m.cell_mask ≡ satellites m.header
-  pub rough_ms : length m.rough_ms ≡ satellites m.header
-  pub rough_fraction : length m.rough_fraction ≡ satellites m.header
-  pub fine_range : length m.fine_range ≡ cells m
-  pub fine_phase : length m.fine_phase ≡ cells m
-  pub lock_indicator : length m.lock_indicator ≡ cells m
-  pub half_cycle : length m.half_cycle ≡ cells m
-  pub cnr : length m.cnr ≡ cells m
+  pub cell_mask : length m.cell_mask ≡ satellite_count m.header
+  pub rough_ms : length m.rough_ms ≡ satellite_count m.header
+  pub rough_fraction : length m.rough_fraction ≡ satellite_count m.header
+  pub fine_range : length m.fine_range ≡ cell_count m
+  pub fine_phase : length m.fine_phase ≡ cell_count m
+  pub lock_indicator : length m.lock_indicator ≡ cell_count m
+  pub half_cycle : length m.half_cycle ≡ cell_count m
+  pub cnr : length m.cnr ≡ cell_count m
 
 -- no column has an entry
 pub record HasNoCells (m : Msm1074) : Type 0 where
@@ -69,20 +69,20 @@ pub record HasNoCells (m : Msm1074) : Type 0 where
 pub record IsValid (m : Msm1074) : Type 0 where
   pub fields_fit : FieldsFit (table m)
   pub time_in_week : m.header.tow < week_ms
-  pub mask_bits : satellites m.header * signals m.header ≤ 64
+  pub mask_bits : satellite_count m.header * signal_count m.header ≤ 64
   pub lengths : HasLengths m
 
 -- ---- the first fault of bits after the number
 
--- the satellites, by DF394
+-- how many satellites there are, by DF394
 abbrev pub satellite_count_in : List Bool → ℕ
 satellite_count_in bs = count_ones (unsigned (take 64 (drop 61 bs)))
 
--- the bits of the cell mask: satellites times signals, by DF394 and DF395
+-- how many bits the cell mask has: satellites times signals, by DF394 and DF395
 abbrev pub mask_bits_in : List Bool → ℕ
 mask_bits_in bs = satellite_count_in bs * count_ones (unsigned (take 32 (drop 125 bs)))
 
--- the cells, by DF396
+-- how many cells there are, by DF396
 abbrev pub cell_count_in : List Bool → ℕ
 cell_count_in bs = count_ones (unsigned (take (mask_bits_in bs) (drop 157 bs)))
 

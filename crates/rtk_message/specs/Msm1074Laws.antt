@@ -4,29 +4,28 @@ use Rattle.std.proofs.lemmas.Bool.{le-ltb, lt-leb}
 use Rattle.std.proofs.lemmas.List.{take_at, drop_at}
 use Rattle.rtk_bits.specs.Bits.{unsigned}
 use Rattle.rtk_message.specs.Fields.{week_ms, tow_in, Field, u, flag, bits_of_fields, FieldsFit, TakesAll}
-use Rattle.rtk_message.specs.FieldLaws.{total, length-bits_of_fields}
-use Rattle.rtk_message.specs.FieldLaws.{bits_of_fields-append, fit-left, number_taken}
-use Rattle.rtk_message.specs.Columns.{numbers, integers, flags}
+use Rattle.rtk_message.specs.FieldLaws.{total, length-bits_of_fields, bits_of_fields-append, fit-parts, number_taken}
+use Rattle.rtk_message.specs.FieldColumns.{numbers, integers, flags}
 use Rattle.rtk_message.specs.ColumnLaws.{total-numbers, total-integers, total-flags, ones-numbers, peel, peel_numbers, peel_integers, peel_flags, last_numbers}
 use Rattle.rtk_message.specs.declared.msm1074.MsmHeader.{MsmHeader}
 use Rattle.rtk_message.specs.declared.msm1074.Msm1074.{Msm1074}
-use Rattle.rtk_message.specs.Msm1074.{header_table, satellites, signals, mask_table, columns, table, cells, HasLengths, IsValid, first_fault, satellite_count_in, mask_bits_in, cell_count_in}
+use Rattle.rtk_message.specs.Msm1074.{header_table, satellite_count, signal_count, mask_table, columns, table, cell_count, HasLengths, IsValid, first_fault, satellite_count_in, mask_bits_in, cell_count_in}
 
 -- what the header says about the bits
 pub record SaysHeader1074 (h : MsmHeader) (bs rest : List Bool) : Type 0 where
   pub tow_is : tow_in bs ≡ h.tow
-  pub satellites_is : satellite_count_in bs ≡ satellites h
-  pub mask_bits_is : mask_bits_in bs ≡ satellites h * signals h
+  pub satellites_is : satellite_count_in bs ≡ satellite_count h
+  pub mask_bits_is : mask_bits_in bs ≡ satellite_count h * signal_count h
   pub after : drop 157 bs ≡ rest
   pub len : length bs ≡ 157 + length rest
 
 pub header_says : {h : MsmHeader} {bs rest : List Bool} → TakesAll (header_table h) bs rest → SaysHeader1074 h bs rest
 header_says {h = h} {bs = bs} {rest = rest} took =
     let f = took.fit in
-    let sat : satellite_count_in bs ≡ satellites h =
+    let sat : satellite_count_in bs ≡ satellite_count h =
     ap count_ones (number_taken (u 12 h.station ∷ u 30 h.tow ∷ flag h.multiple_message ∷ u 3 h.issue_of_data_station ∷ u 7 h.reserved ∷ u 2 h.clock_steering ∷ u 2 h.external_clock ∷ flag h.smoothing ∷ u 3 h.smoothing_interval ∷ [])
     64 h.satellite_mask (u 32 h.signal_mask ∷ []) bs rest 61 refl f.1.1.1.1.1.1.1.1.1.0 took.is) in
-    let sig : count_ones (unsigned (take 32 (drop 125 bs))) ≡ signals h =
+    let sig : count_ones (unsigned (take 32 (drop 125 bs))) ≡ signal_count h =
     ap count_ones (number_taken (u 12 h.station ∷ u 30 h.tow ∷ flag h.multiple_message ∷ u 3 h.issue_of_data_station ∷ u 7 h.reserved ∷ u 2 h.clock_steering ∷ u 2 h.external_clock ∷ flag h.smoothing ∷ u 3 h.smoothing_interval ∷ u 64 h.satellite_mask ∷ [])
     32 h.signal_mask [] bs rest 125 refl f.1.1.1.1.1.1.1.1.1.1.0 took.is) in
     record {
@@ -41,7 +40,7 @@ header_says {h = h} {bs = bs} {rest = rest} took =
 abbrev pub due : List Bool → ℕ
 due bs = 157 + mask_bits_in bs + 18 * satellite_count_in bs + 48 * cell_count_in bs
 
-is_whole : {h : MsmHeader} {bs rest : List Bool} → TakesAll (header_table h) bs rest → h.tow < week_ms → satellites h * signals h ≤ 64 → due bs ≤ length bs → first_fault bs ≡ None
+is_whole : {h : MsmHeader} {bs rest : List Bool} → TakesAll (header_table h) bs rest → h.tow < week_ms → satellite_count h * signal_count h ≤ 64 → due bs ≤ length bs → first_fault bs ≡ None
 is_whole {h = h} {bs = bs} took time few enough =
     let says = header_says took in
     let long : ltb (length bs) 157 ≡ false = le-ltb (length bs) 157 (omega (arith, says.len)) in
@@ -51,14 +50,14 @@ is_whole {h = h} {bs = bs} took time few enough =
     rw (long, when, big, enough_bits) refl
 
 -- the bits and the table give the same number of cells
-pub cells_says : {h : MsmHeader} {bs rest after : List Bool} (ns : List ℕ) → TakesAll (header_table h) bs rest → TakesAll (numbers (signals h) ns) rest after → length ns ≡ satellites h → cell_count_in bs ≡ sum_by count_ones ns
+pub cells_says : {h : MsmHeader} {bs rest after : List Bool} (ns : List ℕ) → TakesAll (header_table h) bs rest → TakesAll (numbers (signal_count h) ns) rest after → length ns ≡ satellite_count h → cell_count_in bs ≡ sum_by count_ones ns
 cells_says {h = h} {bs = bs} {rest = rest} {after = after} ns took mask len =
     let says = header_says took in
-    let fs = bits_of_fields (numbers (signals h) ns) in
-    let size : length fs ≡ satellites h * signals h = length-bits_of_fields (numbers (signals h) ns) ∙ total-numbers (signals h) ns ∙ rw len (omega arith) in
-    rw (says.mask_bits_is, says.after, mask.is, take_at fs after (satellites h * signals h) size) (ones-numbers (signals h) ns mask.fit)
+    let fs = bits_of_fields (numbers (signal_count h) ns) in
+    let size : length fs ≡ satellite_count h * signal_count h = length-bits_of_fields (numbers (signal_count h) ns) ∙ total-numbers (signal_count h) ns ∙ rw len (omega arith) in
+    rw (says.mask_bits_is, says.after, mask.is, take_at fs after (satellite_count h * signal_count h) size) (ones-numbers (signal_count h) ns mask.fit)
 
-length-columns : (m : Msm1074) → HasLengths m → length (bits_of_fields (columns m)) ≡ 18 * satellites m.header + 48 * cells m
+length-columns : (m : Msm1074) → HasLengths m → length (bits_of_fields (columns m)) ≡ 18 * satellite_count m.header + 48 * cell_count m
 length-columns m l =
     let s6 = flags m.half_cycle ++ numbers 6 m.cnr in
     let s5 = numbers 4 m.lock_indicator ++ s6 in
@@ -95,7 +94,7 @@ length-columns m l =
 -- the parts of a table
 pub split : (fs gs : List Field) (bs rest : List Bool) → FieldsFit (fs ++ gs) → bs ≡ bits_of_fields (fs ++ gs) ++ rest → TakesAll fs bs (bits_of_fields gs ++ rest)
 split fs gs bs rest fit e = record {
-  fit = (fit-left fs gs fit).0;
+  fit = (fit-parts fs gs fit).0;
   is = e ∙ ap (λ (t : List Bool). t ++ rest) (bits_of_fields-append fs gs) ∙ append_assoc (bits_of_fields fs) (bits_of_fields gs) rest;
 }
 
@@ -105,12 +104,12 @@ is_accepted m rest valid =
     let bs = bits_of_fields (table m) ++ rest in
     let after_header = mask_table m ++ columns m in
     let head : TakesAll (header_table h) bs (bits_of_fields after_header ++ rest) = split (header_table h) after_header bs rest valid.fields_fit refl in
-    let mask : TakesAll (mask_table m) (bits_of_fields after_header ++ rest) (bits_of_fields (columns m) ++ rest) = split (mask_table m) (columns m) (bits_of_fields after_header ++ rest) rest (fit-left (header_table h) after_header valid.fields_fit).1 refl in
+    let mask : TakesAll (mask_table m) (bits_of_fields after_header ++ rest) (bits_of_fields (columns m) ++ rest) = split (mask_table m) (columns m) (bits_of_fields after_header ++ rest) rest (fit-parts (header_table h) after_header valid.fields_fit).1 refl in
     let says = header_says head in
     let time : h.tow < week_ms = valid.time_in_week in
     let count = cells_says m.cell_mask head mask valid.lengths.cell_mask in
-    let l1 : length (bits_of_fields after_header ++ rest) ≡ signals h * satellites h + length (bits_of_fields (columns m) ++ rest) =
-    ap length mask.is ∙ length-append (bits_of_fields (mask_table m)) (bits_of_fields (columns m) ++ rest) ∙ ap (λ (k : ℕ). k + length (bits_of_fields (columns m) ++ rest)) (length-bits_of_fields (mask_table m) ∙ total-numbers (signals h) m.cell_mask ∙ ap (λ (k : ℕ). signals h * k) valid.lengths.cell_mask) in
+    let l1 : length (bits_of_fields after_header ++ rest) ≡ signal_count h * satellite_count h + length (bits_of_fields (columns m) ++ rest) =
+    ap length mask.is ∙ length-append (bits_of_fields (mask_table m)) (bits_of_fields (columns m) ++ rest) ∙ ap (λ (k : ℕ). k + length (bits_of_fields (columns m) ++ rest)) (length-bits_of_fields (mask_table m) ∙ total-numbers (signal_count h) m.cell_mask ∙ ap (λ (k : ℕ). signal_count h * k) valid.lengths.cell_mask) in
     is_whole head (omega (arith, time)) valid.mask_bits (omega (arith, says.len, says.mask_bits_is, says.satellites_is, count, l1, length-append (bits_of_fields (columns m)) rest, length-columns m valid.lengths))
 
 pub make_header : ℕ → ℕ → Bool → ℕ → ℕ → ℕ → ℕ → Bool → ℕ → ℕ → ℕ → MsmHeader
@@ -138,10 +137,10 @@ is_unique m n a b p q e =
     let k = q.lengths in
     let s0 = peel (header_table m.header) (header_table n.header) (mask_table m ++ columns m) (mask_table n ++ columns n) a b (refl, (refl, (refl, (refl, (refl, (refl, (refl, (refl, (refl, tt))))))))) p.fields_fit q.fields_fit e in
     let header : m.header ≡ n.header = same_header m.header n.header s0.here in
-    let sats : satellites m.header ≡ satellites n.header = ap satellites header in
-    let sigs : signals m.header ≡ signals n.header = ap signals header in
-    let s1 = peel_numbers (signals m.header) (signals n.header) m.cell_mask n.cell_mask (columns m) (columns n) a b sigs (l.cell_mask ∙ sats ∙ sym k.cell_mask) s0.left s0.right s0.after in
-    let count : cells m ≡ cells n = ap (sum_by count_ones) s1.here in
+    let sats : satellite_count m.header ≡ satellite_count n.header = ap satellite_count header in
+    let sigs : signal_count m.header ≡ signal_count n.header = ap signal_count header in
+    let s1 = peel_numbers (signal_count m.header) (signal_count n.header) m.cell_mask n.cell_mask (columns m) (columns n) a b sigs (l.cell_mask ∙ sats ∙ sym k.cell_mask) s0.left s0.right s0.after in
+    let count : cell_count m ≡ cell_count n = ap (sum_by count_ones) s1.here in
     let s2 = peel_numbers 8 8 m.rough_ms n.rough_ms _ _ a b refl (l.rough_ms ∙ sats ∙ sym k.rough_ms) s1.left s1.right s1.after in
     let s3 = peel_numbers 10 10 m.rough_fraction n.rough_fraction _ _ a b refl (l.rough_fraction ∙ sats ∙ sym k.rough_fraction) s2.left s2.right s2.after in
     let s4 = peel_integers 15 m.fine_range n.fine_range _ _ a b (omega arith) (l.fine_range ∙ count ∙ sym k.fine_range) s3.left s3.right s3.after in
@@ -152,5 +151,3 @@ is_unique m n a b p q e =
     let h1 = s1.here in let h2 = s2.here in let h3 = s3.here in let h4 = s4.here in let h5 = s5.here in let h6 = s6.here in let h7 = s7.here in
     let all : make m.header m.cell_mask m.rough_ms m.rough_fraction m.fine_range m.fine_phase m.lock_indicator m.half_cycle m.cnr ≡ make n.header n.cell_mask n.rough_ms n.rough_fraction n.fine_range n.fine_phase n.lock_indicator n.half_cycle n.cnr = cc in
     sym (made m) ∙ all ∙ made n
-
--- ---- parts of bits that a table spells

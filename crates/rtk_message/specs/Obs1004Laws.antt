@@ -3,7 +3,7 @@ use Rattle.std.proofs.Common.{◌≡◌, ℕ, ℤ, Bool, false, List, [], ◌∷
 use Rattle.std.specs.List.{flat_map}
 use Rattle.std.proofs.lemmas.Bool.{le-ltb, lt-leb}
 use Rattle.rtk_message.specs.Fields.{week_ms, tow_in, u, flag, bits_of_fields, FieldsFit, TakesAll}
-use Rattle.rtk_message.specs.FieldLaws.{length-bits_of_fields, SameForm, one_list, bits_of_fields-append, fit-left, number_taken}
+use Rattle.rtk_message.specs.FieldLaws.{length-bits_of_fields, SameForm, one_list, bits_of_fields-append, fit-parts, number_taken}
 use Rattle.rtk_message.specs.declared.obs1004.Satellite.{Satellite}
 use Rattle.rtk_message.specs.declared.obs1004.Obs1004.{Obs1004}
 use Rattle.rtk_message.specs.Obs1004.{satellite_table, header, header_table, table, IsValid, first_fault, satellite_bits}
@@ -37,7 +37,7 @@ is_whole {t = t} {bs = bs} took h enough =
 -- the two parts of a table
 parts : (m : Obs1004) (bs rest : List Bool) → FieldsFit (table m) → bs ≡ bits_of_fields (table m) ++ rest → TakesAll (header_table m) bs (bits_of_fields (flat_map satellite_table m.satellites) ++ rest)
 parts m bs rest fit e = record {
-  fit = (fit-left (header_table m) (flat_map satellite_table m.satellites) fit).0;
+  fit = (fit-parts (header_table m) (flat_map satellite_table m.satellites) fit).0;
   is = e ∙ ap (λ (t : List Bool). t ++ rest) (bits_of_fields-append (header_table m) (flat_map satellite_table m.satellites)) ∙ append_assoc (bits_of_fields (header_table m)) (bits_of_fields (flat_map satellite_table m.satellites)) rest;
 }
 
@@ -82,8 +82,8 @@ pub is_unique : (m n : Obs1004) (a b : List Bool) → IsValid m → IsValid n �
 is_unique m n a b p q e =
     let sm = flat_map satellite_table m.satellites in
     let sn = flat_map satellite_table n.satellites in
-    let fm = fit-left (header_table m) sm p.fields_fit in
-    let fn = fit-left (header_table n) sn q.fields_fit in
+    let fm = fit-parts (header_table m) sm p.fields_fit in
+    let fn = fit-parts (header_table n) sn q.fields_fit in
     let tm = parts m (bits_of_fields (table m) ++ a) a p.fields_fit refl in
     let tn = parts n (bits_of_fields (table m) ++ a) b q.fields_fit e in
     let heads = one_list (header_table m) (header_table n) (bits_of_fields sm ++ a) (bits_of_fields sn ++ b) (refl, (refl, (refl, (refl, tt)))) fm.0 fn.0 (sym tm.is ∙ tn.is) in
@@ -93,5 +93,3 @@ is_unique m n a b p q e =
     let list : m.satellites ≡ n.satellites = same_satellites m.satellites n.satellites tails.0 in
     let all : make m.station m.tow m.synchronous m.smoothing m.smoothing_interval m.satellites ≡ make n.station n.tow n.synchronous n.smoothing n.smoothing_interval n.satellites = cc in
     sym (made m) ∙ all ∙ made n
-
--- ---- steps of loops over satellites

@@ -1,6 +1,6 @@
 //! Columns of fields: a value for each satellite or cell, and the cell mask.
 
-ghost use Rattle.rtk_message.specs.Columns.{numbers};
+ghost use Rattle.rtk_message.specs.FieldColumns.{numbers};
 ghost use Rattle.rtk_message.specs.Fields.{TakesAll, FieldsFit};
 ghost use Rattle.rtk_message.specs.Steps.FieldSteps.{PutsAll};
 ghost use Rattle.std.specs.Prelude.{◌≡◌, ◌≤◌, ◌*◌, ◌+◌, [], length, OnOk, sum_by, count_ones, ◌<◌, ◌∷◌, ◌++◌, map, List, Bool, IsTrue, ◌↔◌};
@@ -53,7 +53,7 @@ pub(crate) fn put_mask(
 }
 
 /// How many cells the mask has: the bits set in all rows.
-pub(crate) fn ones(mask: &Column<u32>) -> u32
+pub(crate) fn count_cells(mask: &Column<u32>) -> u32
     ensures { result ≡ sum_by count_ones mask.now }
 {
     let mut sum = 0;

@@ -1,9 +1,10 @@
 //! From the bytes of a payload to its message.
 
-ghost use Rattle.std.specs.Prelude.{◌≡◌, Some, Option, IfOk, IfErr};
+ghost use Rattle.std.specs.Prelude.{◌≡◌, Some, IfOk, IfErr};
 ghost use Rattle.rtk_bits.specs.Bits.{bits};
 ghost use Rattle.rtk_message.specs.declared.message.Message.{Message};
-ghost use Rattle.rtk_message.specs.Decoded.{Decodes, BeginsAfterNumber, fault_after_number};
+ghost use Rattle.rtk_message.specs.Decoded.{Decodes, fault_after_number};
+ghost use Rattle.rtk_message.specs.Steps.AfterNumber.{BeginsAfterNumber};
 
 use crate::arp1005::Arp1005;
 use crate::arp1006::Arp1006;

@@ -1,6 +1,9 @@
-//! Laws of `==`: two messages are equal exactly if all their fields are the same.
+//! Laws of `==`, which says whether all fields of two messages are the same, and a law of fields
+//! that fit.
 
+ghost use Rattle.std.specs.Prelude.{List, ◌++◌};
 ghost use Rattle.rtk_message.specs.Equality.{SaysEqual};
+ghost use Rattle.rtk_message.specs.Fields.{Field, FieldsFit};
 
 use crate::message::Message;
 use crate::msm1074::Msm1074;
@@ -26,3 +29,9 @@ pub fn equal_1074(a: &Msm1074, b: &Msm1074) -> bool
 {
     a == b
 }
+
+/// A law: if fields and others after them fit their widths, then the fields fit by themselves, and
+/// so do the others. Proofs of other crates cite it from `proofs/PublicLaws.antt`.
+pub fn parts_of_fields_fit()
+    ensures { (fs gs : List Field) → FieldsFit (fs ++ gs) → FieldsFit fs × FieldsFit gs }
+{}

@@ -1,13 +1,12 @@
 //! Message 1074: GPS observations of any signals (MSM4), column by column.
 
-ghost use Rattle.std.specs.Prelude.{◌≡◌, ◌≤◌, ◌<◌, [], ◌+◌, ◌*◌, length, OnOk, IsTrue, ◌↔◌, count_ones, sum_by};
+ghost use Rattle.std.specs.Prelude.{◌≡◌, ◌≤◌, ◌<◌, ◌+◌, ◌*◌, length, OnOk, IsTrue, ◌↔◌, count_ones};
 ghost use Rattle.rtk_message.specs.Fields.{week_ms, TakesAll, FieldsFit};
 ghost use Rattle.rtk_message.specs.Steps.FieldSteps.{PutsAll};
-ghost use Rattle.rtk_message.specs.Columns.{numbers};
 ghost use Rattle.rtk_message.specs.Msm1074.{header_table, HasLengths};
 ghost use Rattle.rtk_message.specs.Steps.EachFits.{EachFits};
 
-use crate::column::{Column, column_fits, ones, put_column, put_mask, read_column, read_mask};
+use crate::column::{Column, column_fits, count_cells, put_column, put_mask, read_column, read_mask};
 use crate::fault::DecodeFault;
 use crate::field::{WEEK_MS, next_word, put_flag, put_u};
 use crate::layout::Layout;
@@ -201,7 +200,7 @@ impl Layout for Msm1074 {
             return Err(DecodeFault::Short { number: 1074 });
         }
         read_mask(&mut self.cell_mask, reader, satellites, signals);
-        let cells = ones(&self.cell_mask) as usize;
+        let cells = count_cells(&self.cell_mask) as usize;
         prove!(cells <= 64);
         if reader.remaining() < (18 * satellites + 48 * cells) as u128 {
             return Err(DecodeFault::Short { number: 1074 });
@@ -256,7 +255,7 @@ impl Msm1074 {
         {
             return false;
         }
-        let cells = ones(&self.cell_mask) as usize;
+        let cells = count_cells(&self.cell_mask) as usize;
         if self.fine_range.len() != cells
             || self.fine_phase.len() != cells
             || self.lock_indicator.len() != cells

@@ -6,9 +6,10 @@ use Rattle.std.proofs.lemmas.List.{length-map}
 use Rattle.std.proofs.lemmas.List.Elements.{All-from_recursion, All-get_or}
 use Rattle.std.proofs.lemmas.Bool.Decides.{nat_tests}
 use Rattle.rtk_message.specs.Fields.{Field, FieldsFit}
-use Rattle.rtk_message.specs.Columns.{numbers, integers, flags}
-use Rattle.rtk_message.specs.Msm1074.{IsValid, satellites, signals, cells, mask_table, columns}
+use Rattle.rtk_message.specs.FieldColumns.{numbers, integers, flags}
+use Rattle.rtk_message.specs.Msm1074.{IsValid, satellite_count, signal_count, cell_count, mask_table, columns}
 use Rattle.rtk_message.specs.declared.msm1074.Msm1074.{Msm1074}
+use Rattle.rtk_message.proofs.PublicLaws.{fit-parts}
 use Rattle.rtk_obs.specs.declared.code.Code.{Code}
 use Rattle.rtk_obs.specs.declared.cell.CellEntry.{CellEntry}
 use Rattle.rtk_obs.specs.declared.msm_cells.Slot.{Slot}
@@ -25,12 +26,10 @@ satellite_in satellites s = get_or satellites (s.row) 0
 -- ---- widths
 
 fits_right : (fs gs : List Field) → FieldsFit (fs ++ gs) → FieldsFit gs
-fits_right [] gs h = h
-fits_right (f ∷ fs) gs h = fits_right fs gs h.1
+fits_right fs gs h = (fit-parts fs gs h).1
 
 fits_left : (fs gs : List Field) → FieldsFit (fs ++ gs) → FieldsFit fs
-fits_left [] gs h = tt
-fits_left (f ∷ fs) gs h = (h.0, fits_left fs gs h.1)
+fits_left fs gs h = (fit-parts fs gs h).0
 
 numbers_fit : (w : ℕ) (ns : List ℕ) → FieldsFit (numbers w ns) → AllByRecursion (λ n. n < 2 ^ w) ns
 numbers_fit w [] h = tt
@@ -58,10 +57,10 @@ cnr_fits m h = numbers_fit 6 m.cnr (fits_right (flags m.half_cycle) (numbers 6 m
 
 -- ---- counts
 
-pub count-satellites : (m : Msm1074) → IsValid m → length (satellites_of m) ≡ satellites m.header
+pub count-satellites : (m : Msm1074) → IsValid m → length (satellites_of m) ≡ satellite_count m.header
 count-satellites m h = count-set_bits_from 1 64 m.header.satellite_mask h.fields_fit.1.1.1.1.1.1.1.1.1.0
 
-pub count-signals : (m : Msm1074) → IsValid m → length (signals_of m) ≡ signals m.header
+pub count-signals : (m : Msm1074) → IsValid m → length (signals_of m) ≡ signal_count m.header
 count-signals m h = count-set_bits_from 1 32 m.header.signal_mask h.fields_fit.1.1.1.1.1.1.1.1.1.1.0
 
 pub few_signals : (m : Msm1074) → length (signals_of m) ≤ 32
@@ -70,12 +69,12 @@ few_signals m = set_bits_from-length 1 32 m.header.signal_mask
 rows_fit : (m : Msm1074) → IsValid m → AllByRecursion (λ b. b < 2 ^ length (signals_of m)) m.cell_mask
 rows_fit m h =
     subst (λ (n : ℕ). AllByRecursion (λ b. b < 2 ^ n) m.cell_mask) (sym (count-signals m h))
-    (numbers_fit (signals m.header) m.cell_mask (fits_left (mask_table m) (columns m) (after_header m h)))
+    (numbers_fit (signal_count m.header) m.cell_mask (fits_left (mask_table m) (columns m) (after_header m h)))
 
 length-row_slots : (ss : List ℕ) (row bits : ℕ) → length (row_slots ss row bits) ≡ length (set_bits (length ss) bits)
 length-row_slots ss row bits = length-map (set_bits (length ss) bits) _
 
-pub count-slots : (m : Msm1074) → IsValid m → length (slots_of m) ≡ cells m
+pub count-slots : (m : Msm1074) → IsValid m → length (slots_of m) ≡ cell_count m
 count-slots m h =
     length-join_from (row_slots (signals_of m)) count_ones (λ b. b < 2 ^ length (signals_of m))
     (λ k bits below. length-row_slots (signals_of m) k bits ∙ count-set_bits_from 1 (length (signals_of m)) bits below)
@@ -87,7 +86,7 @@ few_slots m h =
     (λ k bits. rw (length-row_slots (signals_of m) k bits) (set_bits_from-length 1 (length (signals_of m)) bits)) 0 m.cell_mask in
     let rows = h.lengths.cell_mask in
     let signals_are = count-signals m h in
-    let all : length (slots_of m) ≤ satellites m.header * signals m.header = rw rows at (rw signals_are at most) in
+    let all : length (slots_of m) ≤ satellite_count m.header * signal_count m.header = rw rows at (rw signals_are at most) in
     omega (arith, all, h.mask_bits)
 
 pub room_at : (m : Msm1074) → IsValid m → (i d : ℕ) → i < length m.cell_mask
@@ -107,12 +106,12 @@ of_row : (ss : List ℕ) (row n : ℕ) (f : ℕ → ℕ) (ps : List ℕ) → row
 of_row ss row n f [] h = tt
 of_row ss row n f (p ∷ ps) h = (h, of_row ss row n f ps h)
 
-pub slots_below : (m : Msm1074) → IsValid m → All (λ s. s.row < satellites m.header) (slots_of m)
+pub slots_below : (m : Msm1074) → IsValid m → All (λ s. s.row < satellite_count m.header) (slots_of m)
 slots_below m h =
-    All-from_recursion (λ (s : Slot). s.row < satellites m.header) (slots_of m)
-    (all-join_from (row_slots (signals_of m)) (λ s. s.row < satellites m.header) 0 (satellites m.header) m.cell_mask
+    All-from_recursion (λ (s : Slot). s.row < satellite_count m.header) (slots_of m)
+    (all-join_from (row_slots (signals_of m)) (λ s. s.row < satellite_count m.header) 0 (satellite_count m.header) m.cell_mask
     (omega (arith, h.lengths.cell_mask))
-    (λ j bits below. of_row (signals_of m) j (satellites m.header) _ (set_bits (length (signals_of m)) bits) below))
+    (λ j bits below. of_row (signals_of m) j (satellite_count m.header) _ (set_bits (length (signals_of m)) bits) below))
 
 -- ---- ranges
 

@@ -2,7 +2,7 @@
 
 ghost use Rattle.std.specs.Prelude.{◌≡◌, ◌+◌, ◌^◌, ◌≤◌, ◌<◌, ◌++◌, [], length, slice_index, IfSome, negsuc, unsigned_abs};
 ghost use Rattle.std.specs.List.{All};
-ghost use Rattle.rtk_message.specs.Msm1074.{IsValid, satellites, cells};
+ghost use Rattle.rtk_message.specs.Msm1074.{IsValid, satellite_count, cell_count};
 ghost use Rattle.rtk_obs.specs.Cell.{IsInRange, AreDistinct};
 ghost use Rattle.rtk_obs.specs.LockTime.{least_lock_of_msm};
 ghost use Rattle.rtk_obs.specs.Scaling.{range_time};
@@ -162,7 +162,7 @@ fn phase(band: Band, rough: Option<i64>, fine: i32) -> Option<i64>
 // The least lock time of the cell with this place.
 fn lock_time(message: &Msm1074, cell: usize) -> u32
     requires valid { IsValid message.now }
-    requires cell { cell < cells message.now }
+    requires cell { cell < cell_count message.now }
     ensures { result ≡ least_lock_of_msm (slice_index message.now.lock_indicator cell) }
 {
     least_lock_msm(message.lock_indicator.as_slice()[cell])
@@ -171,8 +171,8 @@ fn lock_time(message: &Msm1074, cell: usize) -> u32
 // The cell with this place in the message, of the satellite of a row.
 fn msm_cell(message: &Msm1074, cell: usize, row: usize, band: Band) -> Cell
     requires valid { IsValid message.now }
-    requires cell { cell < cells message.now }
-    requires row { row < satellites message.now.header }
+    requires cell { cell < cell_count message.now }
+    requires row { row < satellite_count message.now.header }
     ensures { result ≡ msm_cell_of message.now cell row band }
 {
     let rough = rough(
@@ -200,8 +200,8 @@ fn push_cell(
 )
     requires valid { IsValid message.now }
     requires numbers { numbers.now ≡ satellites_of message.now }
-    requires cell { cell < cells message.now }
-    requires row { slot.row < satellites message.now.header }
+    requires cell { cell < cell_count message.now }
+    requires row { slot.row < satellite_count message.now.header }
     requires room { length found.old.items < 64 }
     ensures { found.new.items ≡ found.old.items ++ slot_entry message.now cell slot }
 {

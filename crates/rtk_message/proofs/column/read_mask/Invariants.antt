@@ -1,6 +1,6 @@
 use Rattle.std.proofs.Common.{◌≡◌, length}
 use Rattle.rtk_message.specs.Fields.{TakesAll}
-use Rattle.rtk_message.specs.Columns.{numbers}
+use Rattle.rtk_message.specs.FieldColumns.{numbers}
 use Rattle.rtk_message.proofs.column.read_mask.Given as goal
 
 abbrev pub invariant-loop : goal.invariant-loop

@@ -1,6 +1,6 @@
 use Rattle.std.proofs.Common.{◌<◌, ◌∙◌, ap, length, length-append, get_or, arith}
 use Rattle.std.proofs.lemmas.List.Elements.{All-same}
-use Rattle.rtk_message.specs.Msm1074.{satellites}
+use Rattle.rtk_message.specs.Msm1074.{satellite_count}
 use Rattle.rtk_obs.specs.declared.msm_cells.Slot.{Slot}
 use Rattle.rtk_obs.specs.MsmCells.{slot_entry, slots_of}
 use Rattle.rtk_obs.proofs.MaskLemmas.{join_from-none, join_from-more}
@@ -19,7 +19,7 @@ push_cell-requires-clause-cell c =
 
 pub push_cell-requires-clause-row : goal.push_cell-requires-clause-row
 push_cell-requires-clause-row c =
-    All-same (λ (s : Slot). s.row < satellites c.args.message.now.header) c.as_slice-slots.result.now (slots_of c.args.message.now)
+    All-same (λ (s : Slot). s.row < satellite_count c.args.message.now.header) c.as_slice-slots.result.now (slots_of c.args.message.now)
     (c.as_slice-slots.ensures.value ∙ c.slots-slot_list.ensures) (slots_below c.args.message.now c.requires.valid)
     c.loop-cell.cell _ c.loop-cell-test.true
 

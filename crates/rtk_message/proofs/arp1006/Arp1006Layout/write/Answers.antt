@@ -1,13 +1,13 @@
 use Rattle.std.proofs.Common.{[], ◌∷◌}
 use Rattle.rtk_message.specs.Fields.{u}
 use Rattle.rtk_message.specs.Steps.FieldSteps.{PutsAll}
-use Rattle.rtk_message.specs.FieldLaws.{fit-left}
+use Rattle.rtk_message.specs.FieldLaws.{fit-parts}
 use Rattle.rtk_message.specs.Arp1005.{table}
 use Rattle.rtk_message.proofs.FieldLemmas.{put, put_none, put_both}
 use Rattle.rtk_message.proofs.arp1006.Arp1006Layout.write.Goals as goal
 
 pub write-requires : goal.write-requires
-write-requires c = (fit-left (table c.args.self.now.arp) (u 16 c.args.self.now.height ∷ []) c.requires).0
+write-requires c = (fit-parts (table c.args.self.now.arp) (u 16 c.args.self.now.height ∷ []) c.requires).0
 
 pub returns : goal.returns
 returns c =

@@ -1,10 +1,10 @@
 use Rattle.std.proofs.Common.{◌≤◌, ◌*◌, ◌<◌, sum_by, count_ones, ◌∙◌, arith, rules}
 use Rattle.rtk_message.specs.Fields.{TakesAll}
-use Rattle.rtk_message.specs.Columns.{numbers}
+use Rattle.rtk_message.specs.FieldColumns.{numbers}
 use Rattle.rtk_message.proofs.ColumnLemmas.{ones-few}
 use Rattle.rtk_message.proofs.FieldLemmas.{took_both}
 use Rattle.rtk_message.proofs.Msm1074Lemmas.{is_late, is_many, is_cut_mask, is_cut_rest, few_of}
-use Rattle.rtk_message.specs.Msm1074.{signals}
+use Rattle.rtk_message.specs.Msm1074.{signal_count}
 use Rattle.rtk_message.proofs.msm1074.Msm1074Layout.read.Goals as goal
 
 pub returns-then-self-ge-WEEK_MS-clause-fault : goal.returns-then-self-ge-WEEK_MS-clause-fault
@@ -27,11 +27,11 @@ returns-then-remaining-satellites-2-clause-fault c =
     let h = c.next_header-self.result in
     let ns = c.read_mask.new.mask in
     let few : c.satellite_count-satellites.result * c.signal_count-signals.result ≤ 64 = few_of c.has_too_many_cells.ensures c.if-has_too_many_cells.false in
-    let mask : TakesAll (numbers (signals h) ns) c.next_header-self.new.reader c.read_mask.new.reader = rw (← c.signal_count-signals.ensures.value) c.read_mask.ensures.fields in
+    let mask : TakesAll (numbers (signal_count h) ns) c.next_header-self.new.reader c.read_mask.new.reader = rw (← c.signal_count-signals.ensures.value) c.read_mask.ensures.fields in
     is_cut_rest ns c.next_header-self.ensures.fields mask (c.read_mask.ensures.count ∙ c.satellite_count-satellites.ensures.value) (omega (arith, c.if-self-ge-WEEK_MS.false))
     (rw (← c.satellite_count-satellites.ensures.value, ← c.signal_count-signals.ensures.value) few)
     (rw (← c.satellite_count-satellites.ensures.value, ← c.signal_count-signals.ensures.value) c.read_mask.ensures.left)
-    (omega (arith, c.if-remaining-satellites-2.true, c.remaining-3.ensures, c.satellite_count-satellites.ensures.value, c.ones-cells.ensures))
+    (omega (arith, c.if-remaining-satellites-2.true, c.remaining-3.ensures, c.satellite_count-satellites.ensures.value, c.count_cells-cells.ensures))
 
 -- a cell mask of at most 64 bits has at most 64 cells
 pub prove-unreachable-requires : goal.prove-unreachable-requires
@@ -40,18 +40,18 @@ prove-unreachable-requires c =
     let few : c.satellite_count-satellites.result * c.signal_count-signals.result ≤ 64 = few_of c.has_too_many_cells.ensures c.if-has_too_many_cells.false in
     let cells : sum_by count_ones ns ≤ c.signal_count-signals.result * c.satellite_count-satellites.result =
     rw (← c.read_mask.ensures.count) (ones-few c.signal_count-signals.result ns c.read_mask.ensures.fields.fit) in
-    absurd (omega (arith, few, cells, c.ones-cells.ensures, c.if-prove.true))
+    absurd (omega (arith, few, cells, c.count_cells-cells.ensures, c.if-prove.true))
 
 pub returns-clause-fields : goal.returns-clause-fields
 returns-clause-fields c =
     let h = c.next_header-self.result in
     let ns = c.read_mask.new.mask in
     let few : c.satellite_count-satellites.result * c.signal_count-signals.result ≤ 64 = few_of c.has_too_many_cells.ensures c.if-has_too_many_cells.false in
-    let mask : TakesAll (numbers (signals h) ns) c.next_header-self.new.reader c.read_mask.new.reader = rw (← c.signal_count-signals.ensures.value) c.read_mask.ensures.fields in
+    let mask : TakesAll (numbers (signal_count h) ns) c.next_header-self.new.reader c.read_mask.new.reader = rw (← c.signal_count-signals.ensures.value) c.read_mask.ensures.fields in
     let t = took_both c.next_header-self.ensures.fields (took_both mask (took_both c.read_column.ensures.fields (took_both c.read_column-2.ensures.fields (took_both c.read_column-3.ensures.fields
     (took_both c.read_column-4.ensures.fields (took_both c.read_column-5.ensures.fields (took_both c.read_column-6.ensures.fields c.read_column-7.ensures.fields))))))) in
     let sats = c.satellite_count-satellites.ensures.value in
-    let cells = c.ones-cells.ensures in (
+    let cells = c.count_cells-cells.ensures in (
       record {
         fields_fit = t.fit;
         time_in_week = c.if-self-ge-WEEK_MS.false;
