@@ -17,7 +17,7 @@ use Rattle.rtk_collect.specs.Equal.{equal_cells}
 use Rattle.rtk_collect.specs.Key.{key, key_at, rank_of, Above, KeysRise}
 use Rattle.rtk_collect.proofs.EqualityLemmas.{place-less, rank-less}
 use Rattle.rtk_collect.specs.EpochSet.{with_cell, with_cells, cell_under, one_more, fresh, conflict, conflicts}
-use Rattle.rtk_collect.specs.Steps.Search.{lower}
+use Rattle.rtk_collect.specs.Steps.OrderedPlaces.{lower}
 
 -- some cell, for a list that wants one
 abbrev pub any_cell : CellEntry

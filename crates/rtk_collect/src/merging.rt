@@ -3,7 +3,7 @@
 ghost use Rattle.std.specs.Prelude.{◌≡◌, ◌≢◌, ◌≤◌, ◌<◌, ◌+◌, [], ◌∷◌, ◌++◌, not, length, slice_index_or, vec_len, vec_capacity, IsTrue, if◌then◌else◌};
 ghost use Rattle.rtk_collect.specs.Key.{key, KeysRise};
 ghost use Rattle.rtk_collect.specs.EpochSet.{with_cell, with_cells, cell_under, fresh, conflict, conflicts};
-ghost use Rattle.rtk_collect.specs.Steps.Search.{lower};
+ghost use Rattle.rtk_collect.specs.Steps.OrderedPlaces.{lower};
 
 use crate::conflicts::{Conflicts, Joined, SatelliteCode};
 use rtk_obs::{CellEntry, CellSource};

@@ -5,7 +5,7 @@ ghost use Rattle.std.specs.List.{insert};
 ghost use Rattle.rtk_obs.specs.Cell.{IsInRange};
 ghost use Rattle.rtk_collect.specs.EpochSet.{EpochSetView, joined, fresh, conflicts, EpochsFall};
 ghost use Rattle.rtk_collect.specs.Accepted.{no_cells};
-ghost use Rattle.rtk_collect.specs.Steps.Search.{leading};
+ghost use Rattle.rtk_collect.specs.Steps.OrderedPlaces.{leading};
 ghost use Rattle.rtk_collect.specs.Steps.Observed.{IsAnswerOf, AddsCells, WouldTakeCells};
 
 use crate::conflicts::{Conflicts, Joined};

@@ -20,8 +20,8 @@ ms_of_day c = ((c.hour * 60 + c.minute) * 60 + c.second) * 1000 + c.millisecond
 -- the reading's day is as many days after 1980-01-06 as the moment has whole days of 86,400
 -- seconds, and its time of day is the rest (this project's rule: GPS time is read without leap
 -- seconds)
-abbrev pub Reads : ℕ → Civil → Type 0
-Reads t c = IsOnDay (t / 86_400_000) c × IsTimeOfDay c × (ms_of_day c ≡ t % 86_400_000)
+abbrev pub ReadsAs : ℕ → Civil → Type 0
+ReadsAs t c = IsOnDay (t / 86_400_000) c × IsTimeOfDay c × (ms_of_day c ≡ t % 86_400_000)
 
 -- a year that a moment can have
 abbrev pub IsInYears : ℕ → Type 0

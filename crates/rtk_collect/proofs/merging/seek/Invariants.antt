@@ -1,5 +1,5 @@
 use Rattle.std.proofs.Common.{◌≤◌, ◌-◌, length}
-use Rattle.rtk_collect.specs.Steps.Search.{lower}
+use Rattle.rtk_collect.specs.Steps.OrderedPlaces.{lower}
 use Rattle.rtk_collect.proofs.merging.seek.Given as goal
 
 abbrev pub invariant-loop-at : goal.invariant-loop-at

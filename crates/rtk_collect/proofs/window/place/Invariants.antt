@@ -1,5 +1,5 @@
 use Rattle.std.proofs.Common.{◌≤◌, ◌-◌, length}
-use Rattle.rtk_collect.specs.Steps.Search.{leading}
+use Rattle.rtk_collect.specs.Steps.OrderedPlaces.{leading}
 use Rattle.rtk_collect.proofs.window.place.Given as goal
 
 -- the place is between the two
