@@ -1,7 +1,7 @@
 -- The digits of a reading's text, and the reading that they are of.
 use Rattle.std.proofs.Common.{◌≡◌, ℕ, ◌+◌, ◌*◌, ◌/◌, ◌%◌, ◌<◌, ◌≤◌, List, get_or, arith, sym, ap, subst, ◌∙◌, Option, None, Some, MatchOption}
 use Rattle.rtk_obs.specs.declared.time.TheConstants.{LAST_MS}
-use Rattle.rtk_obs.specs.Calendar.{Reads}
+use Rattle.rtk_obs.specs.Calendar.{ReadsAs}
 use Rattle.rtk_obs.specs.declared.time.Civil.{Civil}
 use Rattle.rtk_cli.specs.MomentText.{moment_text, HasDigits, WritesMoment}
 
@@ -53,12 +53,12 @@ reads-back text century rest month day hour minute second r₀ r₁ r₂ r₃ r�
     (r₂ c.month h.1 (at 5) (at 6)) (r₃ c.day h.2 (at 8) (at 9)) (r₄ c.hour h.3 (at 11) (at 12))
     (r₅ c.minute h.4 (at 14) (at 15)) (r₆ c.second h.5 (at 17) (at 18)) (sym h.6)
 
-written-once : (text : List ℕ) (r : Civil) → HasDigits r → text ≡ moment_text r → (t : ℕ) → WritesMoment text t → Reads t r
-written-once text r h e t (c, reads, k, f) = subst (λ (x : Civil). Reads t x) (one-reading c r k h (sym f ∙ e)) reads
+written-once : (text : List ℕ) (r : Civil) → HasDigits r → text ≡ moment_text r → (t : ℕ) → WritesMoment text t → ReadsAs t r
+written-once text r h e t (c, reads, k, f) = subst (λ (x : Civil). ReadsAs t x) (one-reading c r k h (sym f ∙ e)) reads
 
 -- a text writes the moment of its date and time
 pub writes : (o : Option ℕ) (text : List ℕ) (r : Civil) → HasDigits r → text ≡ moment_text r
-    → MatchOption o ((t : ℕ) → t ≤ LAST_MS → ¬ (Reads t r)) (λ t. Reads t r)
+    → MatchOption o ((t : ℕ) → t ≤ LAST_MS → ¬ (ReadsAs t r)) (λ t. ReadsAs t r)
     → MatchOption o ((t : ℕ) → t ≤ LAST_MS → ¬ (WritesMoment text t)) (λ t. WritesMoment text t)
 writes None text r h e none = λ t late w. none t late (written-once text r h e t w)
 writes (Some t) text r h e reads = (r, reads, h, e)

@@ -1,7 +1,7 @@
 -- A moment as the words of a command line write it: a whole second, as 2024-05-17T12:00:00 (ISO 8601).
 use Rattle.std.specs.Prelude.{◌≡◌, ℕ, ◌<◌, List, ◌∷◌, ◌++◌}
 use Rattle.rtk_obs.specs.declared.time.Civil.{Civil}
-use Rattle.rtk_obs.specs.Calendar.{Reads}
+use Rattle.rtk_obs.specs.Calendar.{ReadsAs}
 use Rattle.rtk_rinex.specs.Columns.{last_digits}
 
 -- a reading to the second
@@ -18,4 +18,4 @@ HasDigits c =
 
 -- the text writes a moment: it is the text of the moment's date and time, which has a whole second
 abbrev pub WritesMoment : List ℕ → ℕ → Type 0
-WritesMoment text t = (c : Civil) × Reads t c × HasDigits c × (text ≡ moment_text c)
+WritesMoment text t = (c : Civil) × ReadsAs t c × HasDigits c × (text ≡ moment_text c)

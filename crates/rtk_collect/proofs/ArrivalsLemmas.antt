@@ -12,7 +12,7 @@ use Rattle.rtk_collect.specs.Arrival.{Arrival, At, cells_of}
 use Rattle.rtk_collect.specs.Late.{with_epoch, epochs, greater, late}
 use Rattle.rtk_collect.specs.Accepted.{no_cells, with_arrival, kept, cells_at}
 use Rattle.rtk_collect.specs.Laws.{GreaterOpens, LesserJoinsOthers, SameJoins, KeptFall}
-use Rattle.rtk_collect.specs.Steps.Search.{leading}
+use Rattle.rtk_collect.specs.Steps.OrderedPlaces.{leading}
 
 -- an epoch with the cells of one message
 abbrev pub opened : ℕ → List CellEntry → EpochSetView

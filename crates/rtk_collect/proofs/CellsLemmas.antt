@@ -17,7 +17,7 @@ use Rattle.rtk_collect.specs.Equal.{equal_cells}
 use Rattle.rtk_collect.specs.Key.{key, key_at, rank_of, Above, KeysRise}
 use Rattle.rtk_collect.proofs.EqualityLemmas.{place-less, rank-less}
 use Rattle.rtk_collect.specs.EpochSet.{with_cell, with_cells, cell_under, one_more, fresh, conflict, conflicts}
-use Rattle.rtk_collect.specs.Steps.Search.{lower}
+use Rattle.rtk_collect.specs.Steps.OrderedPlaces.{lower}
 
 -- some cell, for a list that wants one
 abbrev pub any_cell : CellEntry
@@ -204,14 +204,14 @@ with_cells-none (c ∷ more) kept f h = none-step c (cell_under (key c) kept) mo
 
 -- the steps of the code
 
-pub seek-from : (k i : ℕ) (d : CellEntry) (xs : List CellEntry) → KeysRise xs → i ≤ length xs → 0 < i → key (get_or xs (i - 1) d) < k → i ≤ lower k xs
-seek-from k i d xs r l p h = let q : i - 1 < lower k xs = lower-past k (i - 1) d xs r (omega arith) h in omega arith
+pub place-from : (k i : ℕ) (d : CellEntry) (xs : List CellEntry) → KeysRise xs → i ≤ length xs → 0 < i → key (get_or xs (i - 1) d) < k → i ≤ lower k xs
+place-from k i d xs r l p h = let q : i - 1 < lower k xs = lower-past k (i - 1) d xs r (omega arith) h in omega arith
 
-pub seek-next : (k i : ℕ) (d : CellEntry) (xs : List CellEntry) → KeysRise xs → i < length xs → key (get_or xs i d) < k → i + 1 ≤ lower k xs
-seek-next k i d xs r l h = let q : i < lower k xs = lower-past k i d xs r l h in omega arith
+pub place-next : (k i : ℕ) (d : CellEntry) (xs : List CellEntry) → KeysRise xs → i < length xs → key (get_or xs i d) < k → i + 1 ≤ lower k xs
+place-next k i d xs r l h = let q : i < lower k xs = lower-past k i d xs r l h in omega arith
 
-pub seek-ends : (k i : ℕ) (d : CellEntry) (xs : List CellEntry) → i ≤ lower k xs → i < length xs → k ≤ key (get_or xs i d) → i ≡ lower k xs
-seek-ends k i d xs p l h = let q : lower k xs ≤ i = lower-stop k i d xs l h in omega arith
+pub place-ends : (k i : ℕ) (d : CellEntry) (xs : List CellEntry) → i ≤ lower k xs → i < length xs → k ≤ key (get_or xs i d) → i ≡ lower k xs
+place-ends k i d xs p l h = let q : lower k xs ≤ i = lower-stop k i d xs l h in omega arith
 
 pub drop-at : (i : ℕ) (d : CellEntry) (cells : List CellEntry) → i < length cells → drop i cells ≡ get_or cells i d ∷ drop (i + 1) cells
 drop-at i d cells h = rw (add-one, drop-cons cells i d) refl

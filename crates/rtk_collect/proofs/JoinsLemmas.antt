@@ -11,7 +11,7 @@ use Rattle.rtk_collect.specs.Arrival.{Arrival, At, cells_of}
 use Rattle.rtk_collect.specs.Late.{epochs, greater, late}
 use Rattle.rtk_collect.specs.Accepted.{no_cells, with_arrival, kept, cells_at, closed}
 use Rattle.rtk_collect.specs.Laws.{ClosedAreRest}
-use Rattle.rtk_collect.specs.Steps.Search.{leading}
+use Rattle.rtk_collect.specs.Steps.OrderedPlaces.{leading}
 use Rattle.rtk_collect.proofs.ArrivalsLemmas.{keys, leadingN, leadingN-take, leadingN-keys, keys-take, epochs-fall, greater-leading, late-true, late-false, is-late, is-open, same_greatest, kept-falls, take-with_arrival, drop-with_arrival, leading-sets, sets-late, sets-open, cells_at-take, cells_at-none}
 
 -- the closed epochs are the ones after the n greatest

@@ -4,7 +4,7 @@ use Rattle.std.specs.Prelude.{◌≤ℤ◌, ◌<ℤ◌}
 use Rattle.std.proofs.lemmas.Int.{ints, to_z-of_z}
 use mir.Val.{SFits, to_z, of_z}
 use mir.Syntax.{w64}
-use Rattle.rtk_obs.specs.Position.{IsCoordinate}
+use Rattle.rtk_obs.specs.Coordinates.{IsCoordinate}
 
 abbrev FitsField : ℤ → Type 0
 FitsField v = (negsuc 137438953471 ≤ℤ v) × (v <ℤ pos 137438953472)

@@ -8,7 +8,7 @@ use Rattle.rtk_collect.specs.EpochSet.{EpochSetView, EpochsFall}
 use Rattle.rtk_collect.specs.Arrival.{Arrival, At, cells_of}
 use Rattle.rtk_collect.specs.Late.{late}
 use Rattle.rtk_collect.specs.Accepted.{kept, station, with_arrival, IsTaken, AmongCells, IsTakenCell, IsConsistent}
-use Rattle.rtk_collect.specs.Laws.{HasEpoch, IsKept, AllRise, KeptRise, OrderedAreSame, SetDecides}
+use Rattle.rtk_collect.specs.Laws.{HasEpoch, IsKept, CellsRise, KeptRise, OrderedAreSame, SetDecides}
 use Rattle.rtk_collect.proofs.CellsLemmas.{with_cells-rises}
 use Rattle.rtk_collect.proofs.ArrivalsLemmas.{kept-falls, with_arrival-new, with_arrival-below, with_arrival-same}
 use Rattle.rtk_collect.proofs.MembersLemmas.{kept-are-taken}
@@ -96,13 +96,13 @@ kept-same (x ∷ xs) (y ∷ ys) f g r s h k u v =
     let t : xs ≡ ys = kept-same xs ys f.1 g.1 r.1 s.1 (tail-has x y xs ys f e h) (tail-has y x ys xs g (sym e) k) (tail-kept x y xs ys f e u) (tail-kept y x ys xs g (sym e) v) in
     ap (λ z. z ∷ xs) (same-open x y e c) ∙ ap (λ z. y ∷ z) t
 
-arrival-rise : (e : ℕ) (cs : List CellEntry) (xs : List EpochSetView) → AllRise xs → AllRise (with_arrival e cs xs)
+arrival-rise : (e : ℕ) (cs : List CellEntry) (xs : List EpochSetView) → CellsRise xs → CellsRise (with_arrival e cs xs)
 arrival-rise e cs [] h = (with_cells-rises cs [] tt, tt)
 arrival-rise e cs (y ∷ ys) h = elim (cases_order y.epoch e) [
-  | inl same ↦ subst AllRise (sym (with_arrival-same e cs y ys (sym same))) (with_cells-rises cs y.cells h.0, h.1)
+  | inl same ↦ subst CellsRise (sym (with_arrival-same e cs y ys (sym same))) (with_cells-rises cs y.cells h.0, h.1)
   | inr more ↦ elim more [
-    | inl new ↦ subst AllRise (sym (with_arrival-new e cs y ys new)) (with_cells-rises cs [] tt, h)
-    | inr below ↦ subst AllRise (sym (with_arrival-below e cs y ys below)) (h.0, arrival-rise e cs ys h.1)
+    | inl new ↦ subst CellsRise (sym (with_arrival-new e cs y ys new)) (with_cells-rises cs [] tt, h)
+    | inr below ↦ subst CellsRise (sym (with_arrival-below e cs y ys below)) (h.0, arrival-rise e cs ys h.1)
   ]
 ]
 
@@ -110,8 +110,8 @@ pub kept-rise : KeptRise
 kept-rise n [] = tt
 kept-rise n (At None m ∷ before) = kept-rise n before
 kept-rise n (At (Some e) m ∷ before) = elim (cases_Bool (late n (At (Some e) m) before)) [
-  | inl over ↦ subst AllRise (sym (kept-late n e m before over)) (kept-rise n before)
-  | inr fresh ↦ subst AllRise (sym (kept-new n e m before fresh)) (arrival-rise e (cells_of m) (kept n before) (kept-rise n before))
+  | inl over ↦ subst CellsRise (sym (kept-late n e m before over)) (kept-rise n before)
+  | inr fresh ↦ subst CellsRise (sym (kept-new n e m before fresh)) (arrival-rise e (cells_of m) (kept n before) (kept-rise n before))
 ]
 
 -- the same arrivals came in time, so the same cells did

@@ -14,7 +14,7 @@ use Rattle.rtk_collect.specs.EpochSet.{EpochSetView, joined, fresh, conflicts, E
 use Rattle.rtk_collect.specs.Arrival.{Arrival, At, cells_of}
 use Rattle.rtk_collect.specs.Accepted.{with_arrival, kept, cells_at, closed}
 use Rattle.rtk_collect.specs.Late.{epochs}
-use Rattle.rtk_collect.specs.Steps.Search.{leading}
+use Rattle.rtk_collect.specs.Steps.OrderedPlaces.{leading}
 use Rattle.rtk_collect.specs.Answer.{IsRightAnswer, TakenClass, RepeatClass, ConflictClass, class_of_cells, class_of}
 use Rattle.rtk_collect.specs.Steps.Observed.{IsAnswerOf, AddsCells}
 use Rattle.rtk_collect.specs.Offered.{ClosesBelow, ClosesLeast, NotBelow}

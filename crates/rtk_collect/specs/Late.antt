@@ -47,7 +47,7 @@ abbrev pub is_excused : ℕ → Arrival → List Arrival → Bool
 is_excused n (At None m) before = is_repeat_of n m (first_with (number_of m) before)
 is_excused n (At (Some e) m) before = false
 
--- late: at least n distinct greater observation epochs came before, and it is no repeat of a station
--- message that came before n epochs did (this project's rule)
+-- late: at least n distinct greater observation epochs came before, and it is no repeat of a
+-- station message that came before n epochs did (this project's rule)
 abbrev pub late : ℕ → Arrival → List Arrival → Bool
 late n a before = nat_le n (greater (epoch_of a) (epochs before)) && not (is_excused n a before)

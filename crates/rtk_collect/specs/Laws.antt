@@ -92,8 +92,8 @@ KeptAreTaken = (n : ℕ) (arrivals : List Arrival) →
     × (IsConsistent n arrivals → ((e : ℕ) (c : CellEntry) → IsTakenCell n e c arrivals → IsKept e c (kept n arrivals))
     × ((m : Message) → IsTaken n (At None m) arrivals → station n (number_of m) arrivals ≡ Some m))
 
--- what is kept of consistent arrivals depends only on which of them were not late: not on their order
--- or number
+-- what is kept of consistent arrivals depends only on which of them were not late: not on their
+-- order or number
 abbrev pub SetDecides : Type 0
 SetDecides = (n : ℕ) (first second : List Arrival) → IsConsistent n first → IsConsistent n second → ((a : Arrival) → IsTaken n a first ↔ IsTaken n a second)
     → (kept n first ≡ kept n second) × ((k : ℕ) → station n k first ≡ station n k second)
@@ -132,17 +132,17 @@ abbrev pub KeptFall : Type 0
 KeptFall = (n : ℕ) (arrivals : List Arrival) → EpochsFall (kept n arrivals)
 
 -- the cells of each of these epochs rise by key
-abbrev pub AllRise : List EpochSetView → Type 0
-AllRise [] = Unit {0}
-AllRise (x ∷ xs) = KeysRise x.cells × AllRise xs
+abbrev pub CellsRise : List EpochSetView → Type 0
+CellsRise [] = Unit {0}
+CellsRise (x ∷ xs) = KeysRise x.cells × CellsRise xs
 
 -- the cells of each kept epoch rise
 abbrev pub KeptRise : Type 0
-KeptRise = (n : ℕ) (arrivals : List Arrival) → AllRise (kept n arrivals)
+KeptRise = (n : ℕ) (arrivals : List Arrival) → CellsRise (kept n arrivals)
 
 -- epochs that fall and whose cells rise are one list if they are the same epochs and cells
 abbrev pub OrderedAreSame : Type 0
-OrderedAreSame = (xs ys : List EpochSetView) → EpochsFall xs → EpochsFall ys → AllRise xs → AllRise ys
+OrderedAreSame = (xs ys : List EpochSetView) → EpochsFall xs → EpochsFall ys → CellsRise xs → CellsRise ys
     → ((e : ℕ) → HasEpoch e xs → HasEpoch e ys) → ((e : ℕ) → HasEpoch e ys → HasEpoch e xs)
     → ((e : ℕ) (c : CellEntry) → IsKept e c xs → IsKept e c ys) → ((e : ℕ) (c : CellEntry) → IsKept e c ys → IsKept e c xs) → xs ≡ ys
 
@@ -154,7 +154,8 @@ KeptAreFew = (n : ℕ) (arrivals : List Arrival) → All (λ x. length x.cells �
 abbrev pub KeptAreGreatest : Type 0
 KeptAreGreatest = (n : ℕ) (arrivals : List Arrival) → map (λ x. x.epoch) (take n (kept n arrivals)) ≡ take n (epochs arrivals)
 
--- if a message opens its epoch, none of its cells conflicts, since no two have one satellite and code
+-- if a message opens its epoch, none of its cells conflicts, since no two of them have one
+-- satellite and code
 abbrev pub OpeningConflictsNot : Type 0
 OpeningConflictsNot = (m : Message) → IsValid m → conflicts (cells_of m) [] ≡ []
 
@@ -167,8 +168,8 @@ ClosingConflictsNot = (n : ℕ) (a : Arrival) (before : List Arrival) (set : Epo
 abbrev pub KeysAreDistinct : Type 0
 KeysAreDistinct = (c d : CellEntry) → (key c ≡ key d) ↔ ((c.satellite ≡ d.satellite) × (c.code ≡ d.code) × (c.cell.source ≡ d.cell.source))
 
--- if keys rise, the first cell of a satellite and code came in a 1074, if such a cell is there, else
--- in a 1004
+-- if keys rise, the first cell of a satellite and code came in a 1074, if there is such a cell,
+-- else in a 1004
 abbrev pub FirstIsPreferred : Type 0
 FirstIsPreferred = (satellite : ℕ) (code : Code) (cells : List CellEntry) → KeysRise cells → first_entry satellite code cells ≡ cell_of satellite code cells
 

@@ -6,7 +6,7 @@ pub mod Late
 pub mod Accepted
 pub mod Answer
 pub mod Collector
-pub mod Position
+pub mod StationPosition
 pub mod Offered
 pub mod Steps
 pub mod Laws

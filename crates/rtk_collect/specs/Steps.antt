@@ -1,4 +1,4 @@
 -- Words of private functions, which no public clause says.
-pub mod Search
+pub mod OrderedPlaces
 pub mod Slot
 pub mod Observed

@@ -6,7 +6,7 @@ ghost use Rattle.rtk_message.specs.Arp1006 as arp1006_spec;
 ghost use Rattle.rtk_message.specs.declared.message.Message.TheVariants.{Arp1005 as MessageArp1005, Arp1006 as MessageArp1006};
 ghost use Rattle.rtk_collect.specs.Arrival.{Arrival, At};
 ghost use Rattle.rtk_collect.specs.Collector.{RepresentsArrivals};
-ghost use Rattle.rtk_collect.specs.Position.{IsPosition, IsPositionOf};
+ghost use Rattle.rtk_collect.specs.StationPosition.{IsPosition, IsPositionOf};
 ghost use Rattle.rtk_collect.specs.Offered.{AnswersArrival, ClosesBelow, ClosesLeast, LeastNeverFalls, WouldBeTaken};
 
 use crate::dated::Dated;

@@ -6,7 +6,7 @@ ghost use Rattle.rtk_collect.specs.Key.{KeysRise};
 ghost use Rattle.rtk_collect.specs.EpochSet.{joined, fresh, conflicts};
 
 use crate::conflicts::{Conflicts, Joined};
-use crate::merging::{compare, interleave, merge, rises};
+use crate::merging::{compare, has_rising_keys, interleave, merge};
 use rtk_obs::{CellEntry, GpsMs};
 use std::alloc::{AllocError, Global};
 use std::marker::Model;
@@ -73,7 +73,7 @@ impl EpochSet {
         ensures err { OnErr result (self.new ≡ self.old) }
         ensures refused { OnErr result (0 < fresh cells.now self.old.cells) }
     {
-        if self.cells.is_empty() && rises(cells) {
+        if self.cells.is_empty() && has_rising_keys(cells) {
             // The common case: the cells of the epoch as they stand. `?` would do the same, but its
             // answer has another form in the proof, where each clause on `Err` takes a step more.
             if let Err(_) = self.cells.extend_from_slice(cells) {
@@ -89,7 +89,7 @@ impl EpochSet {
         if fresh == 0 {
             return Ok(found);
         }
-        if rises(cells) {
+        if has_rising_keys(cells) {
             return self.join_rising(cells, fresh);
         }
         if let Err(_) = self.cells.reserve(fresh) {

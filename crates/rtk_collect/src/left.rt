@@ -3,7 +3,7 @@
 ghost use Rattle.std.specs.Prelude.{◌≡◌, ◌<◌, [], ◌∷◌, ◌++◌, IfSome, IfNone, All};
 ghost use Rattle.rtk_collect.specs.Collector.{IsLeftView};
 ghost use Rattle.rtk_collect.specs.Offered.{NotBelow};
-ghost use Rattle.rtk_collect.specs.Position.{IsPosition};
+ghost use Rattle.rtk_collect.specs.StationPosition.{IsPosition};
 
 use crate::epoch_set::EpochSet;
 use crate::stations::{Stations, position};

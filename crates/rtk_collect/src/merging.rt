@@ -3,7 +3,7 @@
 ghost use Rattle.std.specs.Prelude.{◌≡◌, ◌≢◌, ◌≤◌, ◌<◌, ◌+◌, [], ◌∷◌, ◌++◌, not, length, slice_index_or, vec_len, vec_capacity, IsTrue, if◌then◌else◌};
 ghost use Rattle.rtk_collect.specs.Key.{key, KeysRise};
 ghost use Rattle.rtk_collect.specs.EpochSet.{with_cell, with_cells, cell_under, fresh, conflict, conflicts};
-ghost use Rattle.rtk_collect.specs.Steps.Search.{lower};
+ghost use Rattle.rtk_collect.specs.Steps.OrderedPlaces.{lower};
 
 use crate::conflicts::{Conflicts, Joined, SatelliteCode};
 use rtk_obs::{CellEntry, CellSource};
@@ -20,7 +20,7 @@ fn key_of(entry: &CellEntry) -> usize
 }
 
 /// Whether the keys of the cells rise.
-pub(crate) fn rises(cells: &[CellEntry]) -> bool
+pub(crate) fn has_rising_keys(cells: &[CellEntry]) -> bool
     ensures { IsTrue result → KeysRise cells.now }
 {
     let mut at = 1;
@@ -45,12 +45,12 @@ pub(crate) fn compare(cells: &[CellEntry], kept: &[CellEntry]) -> Joined
     let mut at = 0;
     for cell in cells {
         let key = key_of(cell);
-        at = seek(kept, at, key);
-        match cell_at(kept, at, key) {
+        at = place_of_key(kept, at, key);
+        match kept_cell(kept, at, key) {
             None => count += 1,
             Some(first) => {
                 if first.cell != cell.cell {
-                    conflicts.push(name_of(cell));
+                    conflicts.push(satellite_code(cell));
                 }
             }
         }
@@ -72,9 +72,9 @@ pub(crate) fn merge(kept: &mut Vec<CellEntry>, cells: &[CellEntry]) -> Conflicts
     let mut conflicts = Conflicts::new();
     let mut at = 0;
     for cell in cells {
-        at = seek(kept, at, key_of(cell));
+        at = place_of_key(kept, at, key_of(cell));
         if put(kept, at, *cell) {
-            conflicts.push(name_of(cell));
+            conflicts.push(satellite_code(cell));
         }
     }
     conflicts
@@ -112,7 +112,7 @@ pub(crate) fn interleave(
             continue;
         }
         if kept[at].cell != cell.cell {
-            conflicts.push(name_of(cell));
+            conflicts.push(satellite_code(cell));
         }
     }
     append_all(all, &kept[at..]);
@@ -141,7 +141,7 @@ fn append_all(all: &mut Vec<CellEntry>, cells: &[CellEntry])
 }
 
 // The satellite and the code of a cell.
-fn name_of(entry: &CellEntry) -> SatelliteCode
+fn satellite_code(entry: &CellEntry) -> SatelliteCode
     ensures { result ≡ record { satellite = entry.now.satellite; code = entry.now.code } }
 {
     SatelliteCode {
@@ -175,7 +175,7 @@ fn put(kept: &mut Vec<CellEntry>, at: usize, entry: CellEntry) -> bool
     ensures capacity { vec_capacity kept.old ≤ vec_capacity kept.new }
     ensures conflict { conflict entry (cell_under (key entry) kept.old.items) ≡ (if result then record { satellite = entry.satellite; code = entry.code } ∷ [] else []) }
 {
-    if let Some(first) = cell_at(kept, at, key_of(&entry)) {
+    if let Some(first) = kept_cell(kept, at, key_of(&entry)) {
         return first.cell != entry.cell;
     }
     if let Err(_) = kept.insert(at, entry) {
@@ -185,7 +185,7 @@ fn put(kept: &mut Vec<CellEntry>, at: usize, entry: CellEntry) -> bool
 }
 
 // The place of a key: how many cells have a lesser one. The search begins at a guess.
-fn seek(kept: &[CellEntry], guess: usize, key: usize) -> usize
+fn place_of_key(kept: &[CellEntry], guess: usize, key: usize) -> usize
     requires guess { guess ≤ length kept.now }
     requires rises { KeysRise kept.now }
     ensures { result ≡ lower key kept.now }
@@ -201,7 +201,7 @@ fn seek(kept: &[CellEntry], guess: usize, key: usize) -> usize
 }
 
 // The cell with a key, from its place.
-fn cell_at(kept: &[CellEntry], at: usize, key: usize) -> Option<CellEntry>
+fn kept_cell(kept: &[CellEntry], at: usize, key: usize) -> Option<CellEntry>
     requires rises { KeysRise kept.now }
     requires place { at ≡ lower key kept.now }
     ensures { result ≡ cell_under key kept.now }

@@ -5,7 +5,7 @@ ghost use Rattle.rtk_message.specs.Arp1006 as arp1006_spec;
 ghost use Rattle.std.specs.Prelude.{◌≡◌};
 ghost use Rattle.std.specs.Option.{ForSome};
 ghost use Rattle.rtk_obs.specs.PositionFields.{HasFields};
-ghost use Rattle.rtk_collect.specs.Position.{IsPosition};
+ghost use Rattle.rtk_collect.specs.StationPosition.{IsPosition};
 ghost use Rattle.rtk_collect.specs.Steps.Slot.{AnswersStationMessage};
 
 use crate::conflicts::Conflicts;

@@ -5,7 +5,7 @@ ghost use Rattle.std.specs.List.{insert};
 ghost use Rattle.rtk_obs.specs.Cell.{IsInRange};
 ghost use Rattle.rtk_collect.specs.EpochSet.{EpochSetView, joined, fresh, conflicts, EpochsFall};
 ghost use Rattle.rtk_collect.specs.Accepted.{no_cells};
-ghost use Rattle.rtk_collect.specs.Steps.Search.{leading};
+ghost use Rattle.rtk_collect.specs.Steps.OrderedPlaces.{leading};
 ghost use Rattle.rtk_collect.specs.Steps.Observed.{IsAnswerOf, AddsCells, WouldTakeCells};
 
 use crate::conflicts::{Conflicts, Joined};
@@ -16,7 +16,7 @@ use std::alloc::{AllocError, Global};
 use std::collections::VecDeque;
 
 /// How many epochs of the window are greater.
-pub(crate) fn place(sets: &VecDeque<EpochSet>, epoch: GpsMs) -> usize
+pub(crate) fn place_of_epoch(sets: &VecDeque<EpochSet>, epoch: GpsMs) -> usize
     requires { EpochsFall sets.now.items }
     ensures { result ≡ leading epoch sets.now.items }
 {
@@ -116,12 +116,12 @@ pub(crate) fn offer_cells(
     ensures err { OnErr result (sets.new.items ≡ sets.old.items) }
     ensures refused { OnErr result (WouldTakeCells places epoch cells.now sets.old.items) }
 {
-    let at = place(sets, epoch);
+    let at = place_of_epoch(sets, epoch);
     if has_epoch(sets, at, epoch) {
         let Ok(joined) = join_at(sets, at, cells) else {
             return Err(AllocError);
         };
-        return Ok(answer_of(joined));
+        return Ok(answer_of_joined(joined));
     }
     if at == places {
         return Ok(Offer::Late);
@@ -134,7 +134,7 @@ pub(crate) fn offer_cells(
 }
 
 // What became of cells that joined an epoch of the window.
-fn answer_of(joined: Joined) -> Offer
+fn answer_of_joined(joined: Joined) -> Offer
     ensures { IsAnswerOf joined.fresh joined.conflicts result }
 {
     let conflicts = joined.conflicts;

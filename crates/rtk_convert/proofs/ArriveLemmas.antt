@@ -16,7 +16,7 @@ use Rattle.rtk_collect.specs.Accepted.{station, closed}
 use Rattle.rtk_collect.specs.Answer.{Class, IsRightAnswer, class_of}
 use Rattle.rtk_collect.specs.Collector.{CollectorView, RepresentsArrivals}
 use Rattle.rtk_collect.specs.Offered.{AnswersArrival}
-use Rattle.rtk_collect.specs.Position.{IsPosition, IsPositionOf}
+use Rattle.rtk_collect.specs.StationPosition.{IsPosition, IsPositionOf}
 use Rattle.rtk_frame.specs.Stream.{with_more, TakesPart, count_after}
 use Rattle.rtk_frame.proofs.PublicLaws.{with_more-nil}
 use Rattle.rtk_rinex.specs.Header.{PositionView, position_view}

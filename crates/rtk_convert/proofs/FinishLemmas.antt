@@ -7,7 +7,7 @@ use Rattle.rtk_collect.specs.EpochSet.{EpochSetView}
 use Rattle.rtk_collect.specs.Arrival.{Arrival}
 use Rattle.rtk_collect.specs.Accepted.{kept, closed}
 use Rattle.rtk_collect.specs.Collector.{CollectorView, RepresentsArrivals}
-use Rattle.rtk_collect.specs.Position.{IsPositionOf}
+use Rattle.rtk_collect.specs.StationPosition.{IsPositionOf}
 use Rattle.rtk_collect.proofs.PublicLaws.{closed-drop}
 use Rattle.rtk_frame.specs.Stream.{with_more, TakesPart}
 use Rattle.rtk_rinex.specs.Header.{PositionView, position_view}

@@ -10,14 +10,13 @@ use Rattle.rtk_collect.specs.Accepted.{kept, station}
 use Rattle.rtk_collect.specs.Answer.{class_of, conflicts_of, LateClass}
 use Rattle.rtk_collect.specs.EpochSet.{EpochSetView}
 use Rattle.rtk_collect.specs.Late.{late}
-use Rattle.rtk_collect.specs.Laws.{AllRise}
 use Rattle.rtk_collect.proofs.PublicLaws.{kept-falls, late-change-nothing, kept-are-taken, kept-same, kept-rise}
 use Rattle.rtk_convert.specs.declared.frame_class.FrameClass.TheVariants.{Dated}
 use Rattle.rtk_convert.specs.File.{file_of}
 use Rattle.rtk_convert.specs.FileOfArrivals.{site_of_stations, kept_file}
 use Rattle.rtk_convert.specs.FrameClass.{Found, arrivals}
 use Rattle.rtk_convert.specs.Finish.{all_counts, report_of}
-use Rattle.rtk_convert.specs.Headline.{Call, IsAfterCall, CallsComeTo, FindAll, EqualKeysCarryEqualBodies, CameInTime, Content, IsStationOf, IsContentOf, CellsRise, EachOnce, IsFileOf, HasLineAfter, LateAreListed, LateChangeNothing, Headline, SetHasOneFile, call_of, calls_of, RunHeadline}
+use Rattle.rtk_convert.specs.Headline.{Call, IsAfterCall, CallsComeTo, FindAll, EqualKeysCarryEqualBodies, CameInTime, Content, IsStationOf, IsContentOf, EachOnce, IsFileOf, HasLineAfter, LateAreListed, LateChangeNothing, Headline, SetHasOneFile, call_of, calls_of, RunHeadline}
 use Rattle.rtk_convert.specs.Converter.{IsAfterClosingAll}
 use Rattle.rtk_convert.specs.declared.counts.Counts.{Counts}
 use Rattle.rtk_convert.specs.History.{History, IsOpen}
@@ -60,17 +59,9 @@ content-of s found good =
       arp1006 = station-of s found 1006 good;
     }
 
-rise : (xs : List EpochSetView) → AllRise xs → CellsRise xs
-rise [] p = tt
-rise (x ∷ xs) p = (p.0, rise xs p.1)
-
-rise-back : (xs : List EpochSetView) → CellsRise xs → AllRise xs
-rise-back [] p = tt
-rise-back (x ∷ xs) p = (p.0, rise-back xs p.1)
-
 each-once : (s : SetupView) (found : List Found) → EachOnce (content s found)
 unfolding content
-each-once s found = record { epochs = kept-falls s.window (arrivals found); cells = rise (kept s.window (arrivals found)) (kept-rise s.window (arrivals found)) }
+each-once s found = record { epochs = kept-falls s.window (arrivals found); cells = kept-rise s.window (arrivals found) }
 
 pub file-of-set : (s : SetupView) (found : List Found) → EqualKeysCarryEqualBodies s found → IsFileOf s (CameInTime s found) (kept_file s (arrivals found))
 unfolding content
@@ -91,7 +82,7 @@ same-file-of : (s : SetupView) (set other : Arrival → Type 0) (first second : 
 same-file-of s set other first second same p q =
     let c : Content = p.0 in
     let d : Content = q.0 in
-    let epochs = kept-same c.epochs d.epochs p.2.epochs q.2.epochs (rise-back c.epochs p.2.cells) (rise-back d.epochs q.2.cells)
+    let epochs = kept-same c.epochs d.epochs p.2.epochs q.2.epochs p.2.cells q.2.cells
     (λ e h. let m = (p.1.epochs e).0 h in (q.1.epochs e).1 (m.0, (same (At (Some e) m.0)).0 m.1))
     (λ e h. let m = (q.1.epochs e).0 h in (p.1.epochs e).1 (m.0, (same (At (Some e) m.0)).1 m.1))
     (λ e x h. let m = (p.1.cells e x).0 h in (q.1.cells e x).1 (m.0, (same (At (Some e) m.0)).0 m.1, m.2))

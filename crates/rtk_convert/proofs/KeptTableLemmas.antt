@@ -14,7 +14,7 @@ use Rattle.rtk_message.specs.Decoded.{Decodes, IsValid, number_of, tow_of}
 use Rattle.rtk_obs.specs.declared.cell.CellEntry.{CellEntry}
 use Rattle.rtk_obs.specs.Cell.{IsInRange}
 use Rattle.rtk_obs.specs.Dating.{IsReference}
-use Rattle.rtk_obs.specs.Position.{IsCoordinate}
+use Rattle.rtk_obs.specs.Coordinates.{IsCoordinate}
 use Rattle.rtk_obs.proofs.PublicLaws.{fields_of_valid, cells_in_range-1004, cells_in_range-1074}
 use Rattle.rtk_collect.specs.EpochSet.{EpochSetView, joined}
 use Rattle.rtk_collect.specs.Arrival.{Arrival, At, cells_of}

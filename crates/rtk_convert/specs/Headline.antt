@@ -10,9 +10,8 @@ use Rattle.rtk_obs.specs.declared.cell.CellEntry.{CellEntry}
 use Rattle.rtk_collect.specs.Arrival.{Arrival, At, epoch_of, message_of, cells_of}
 use Rattle.rtk_collect.specs.Accepted.{kept, IsTaken, AmongCells, IsConsistent}
 use Rattle.rtk_collect.specs.EpochSet.{EpochSetView, EpochsFall}
-use Rattle.rtk_collect.specs.Key.{KeysRise}
 use Rattle.rtk_collect.specs.Late.{late}
-use Rattle.rtk_collect.specs.Laws.{without_late, AreInTime, IsKept, HasEpoch}
+use Rattle.rtk_collect.specs.Laws.{without_late, AreInTime, IsKept, HasEpoch, CellsRise}
 use Rattle.rtk_convert.specs.declared.frame_class.FrameClass.TheVariants.{Dated}
 use Rattle.rtk_convert.specs.declared.counts.Counts.{Counts}
 use Rattle.rtk_convert.specs.Converter.{IsAfterClosing, IsAfterClosingAll}
@@ -88,10 +87,6 @@ abbrev pub CameInTime : SetupView → List Found → Arrival → Type 0
 CameInTime s found a = IsTaken s.window a (arrivals found)
 
 -- ---- "each taken once"
-
-abbrev pub CellsRise : List EpochSetView → Type 0
-CellsRise [] = Unit {0}
-CellsRise (x ∷ below) = KeysRise x.cells × CellsRise below
 
 -- no epoch stands twice, since they fall; no two cells of an epoch have one key, since keys rise
 pub record EachOnce (c : Content) : Type 0 where

@@ -3,7 +3,7 @@ use Rattle.std.proofs.Common.{◌≡◌, ℕ, ◌+◌, ◌≤◌, arith, refl, a
 use Rattle.std.specs.Prelude.{MatchOption}
 use Rattle.rtk_obs.specs.declared.time.Civil.{Civil}
 use Rattle.rtk_obs.specs.declared.time.TheConstants.{LAST_MS}
-use Rattle.rtk_obs.specs.Calendar.{Reads}
+use Rattle.rtk_obs.specs.Calendar.{ReadsAs}
 use Rattle.std.proofs.lemmas.Int.{by_lt_z}
 use Rattle.jiff_core.specs.declared.civil.date.Date.{Date}
 use Rattle.jiff_core.specs.Calendar.{day_count, IsCivilDate}
@@ -47,17 +47,17 @@ count_2101 : day_count (pos 2101) 1 1 ≡ 4_419_800
 count_2101 = day_count-early (pos 2101) 12100 1 1 refl (omega arith) (omega arith) (omega arith)
 
 -- a reading of a year up to 2100 is of a day before 2101-01-01
-pub up_to_2100 : (t : ℕ) (c : Civil) → Reads t c → c.year ≤ 2100 → t ≤ 3_818_015_999_999
+pub up_to_2100 : (t : ℕ) (c : Civil) → ReadsAs t c → c.year ≤ 2100 → t ≤ 3_818_015_999_999
 up_to_2100 t c r h =
     let before : pos c.year <ℤ pos 2101 = omega (arith, signed_arith) in
     omega (arith, signed_arith, r.0.1, days_from_civil-day_count (pos c.year) c.month c.day, count_2101, day_count-lt_year (pos c.year) c.month c.day (pos 2101) 1 1 r.0.0 (omega arith) before)
 
 -- ---- the moment of a reading
 
-pub one_moment : (s t : ℕ) (c : Civil) → Reads s c → Reads t c → s ≡ t
+pub one_moment : (s t : ℕ) (c : Civil) → ReadsAs s c → ReadsAs t c → s ≡ t
 one_moment s t c p q = omega (arith, signed_arith, p, q)
 
 -- the answer to the reading of a moment is the moment
-pub reads_back : (t : ℕ) (c : Civil) (answer : Option ℕ) → t ≤ LAST_MS → Reads t c → MatchOption answer ((s : ℕ) → s ≤ LAST_MS → ¬ (Reads s c)) (λ s. Reads s c) → answer ≡ Some t
+pub reads_back : (t : ℕ) (c : Civil) (answer : Option ℕ) → t ≤ LAST_MS → ReadsAs t c → MatchOption answer ((s : ℕ) → s ≤ LAST_MS → ¬ (ReadsAs s c)) (λ s. ReadsAs s c) → answer ≡ Some t
 reads_back t c None before is m = absurd (m t before is)
 reads_back t c (Some s) before is m = ap (λ (n : ℕ). Some n) (one_moment s t c m is)

@@ -3,7 +3,7 @@ pub mod Calendar
 pub mod Rounding
 pub mod LockTime
 pub mod Code
-pub mod Position
+pub mod Coordinates
 pub mod PositionFields
 pub mod Scaling
 pub mod Mask

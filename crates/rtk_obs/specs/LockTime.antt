@@ -1,7 +1,8 @@
 -- Least lock times in ms.
 use Rattle.std.specs.Prelude.{ℕ, zero, suc, ◌+◌, ◌-◌, ◌*◌, ◌^◌, nat_le, if◌then◌else◌}
 
--- the least lock time in ms at an indicator of 0 to 127, which stands for whole seconds (RTCM 10403.3, DF013 and DF019)
+-- the least lock time in ms at an indicator of 0 to 127, which stands for whole seconds (RTCM
+-- 10403.3, DF013 and DF019)
 abbrev pub least_lock_of_legacy : ℕ → ℕ
 least_lock_of_legacy i = 1000 * (
     if nat_le i 23 then i

@@ -7,8 +7,8 @@ set_bits_from place zero mask = []
 set_bits_from place (suc w) mask =
     if nat_le (2 ^ w) mask then place ∷ set_bits_from (suc place) w (mask - 2 ^ w) else set_bits_from (suc place) w mask
 
--- the places of the set bits of a mask of w bits: the first bit is the most significant one, and has
--- place 1
+-- the places of the set bits of a mask of w bits: the first bit is the most significant one, and
+-- has place 1
 abbrev pub set_bits : ℕ → ℕ → List ℕ
 set_bits w mask = set_bits_from 1 w mask
 

@@ -1,4 +1,4 @@
--- The cells of a 1074 (RTCM 10403.3, MSM4). Which code of RINEX a signal of Table 3.5-91 has is this
+-- The cells of a 1074 (RTCM 10403.3, MSM4). The RINEX code of each signal of Table 3.5-91 is this
 -- project's assignment.
 use Rattle.std.specs.Prelude.{ℕ, ◌-◌, ◌==◌, ℤ, pos, negsuc, ◌+ℤ◌, false, List, [], ◌∷◌, length, map, slice_index, slice_index_or, Option, Some, None, if◌then◌else◌}
 use Rattle.rtk_message.specs.declared.msm1074.Msm1074.{Msm1074}

@@ -55,7 +55,8 @@ digits_since band last e =
     if has_phase e then record { slip = slip_since last e; half = e.cell.half; rolls = rolls_since band last e }
     else record { slip = false; half = false; rolls = pos 0 }
 
--- a value within the limits of an observation of RINEX: three decimals in 14 columns, in thousandths
+-- a value, in thousandths, within the limits of an observation of RINEX: three decimals in 14
+-- columns
 abbrev pub within_limits : ℤ → Option ℤ
 within_limits v =
     if int_le (negsuc 999_999_999_998) v && int_le v (pos 9_999_999_999_999) then Some v else None

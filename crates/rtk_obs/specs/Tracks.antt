@@ -32,7 +32,8 @@ pub record HasPlaces (tracks : List (Option Track)) : Type 0 where
   pub count : length tracks ≡ SIGNALS
   pub bounded : AllBounded tracks
 
--- the phases of each satellite and code came in rising order, and their last one stands at its place
+-- the phases of each satellite and code came in rising order, and the last of them stands at the
+-- place of this satellite and code
 pub record RepresentsSteps (tracks : List (Option Track)) (steps : List Step) : Type 0 where
   pub rising : (satellite : ℕ) (code : Code) → IsSatellite satellite → PhasesFall (epochs_of satellite code steps)
   pub last : (satellite : ℕ) (code : Code) → IsSatellite satellite

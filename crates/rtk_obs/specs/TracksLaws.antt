@@ -26,8 +26,8 @@ pub record IsGreatest (band : Band) (epochs : List EpochCell) (t : Track) : Type
   pub rolls : t.rolls ≡ rolls_since band (last_phase band below) seen
   pub greatest : AllByRecursion (λ e. e.epoch ≤ t.epoch) (filter has_phase epochs)
 
--- if the phases fall, the last one is the phase at the greatest epoch; there is none only if no epoch
--- has a phase
+-- if the phases fall, the last one is the phase at the greatest epoch; there is none only if no
+-- epoch has a phase
 abbrev pub LastIsGreatest : Type 0
 LastIsGreatest =
     (band : Band) (epochs : List EpochCell) → PhasesFall epochs

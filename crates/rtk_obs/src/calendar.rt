@@ -3,7 +3,7 @@
 ghost use Rattle.std.specs.Prelude.{◌≡◌, ℕ, ◌≤◌, pos, ◌≤ℤ◌, Option, Some, MatchOption};
 ghost use Rattle.std.specs.Option.{SomeIff};
 ghost use Rattle.rtk_obs.specs.declared.time.TheConstants.{LAST_MS};
-ghost use Rattle.rtk_obs.specs.Calendar.{IsOnDay, IsTimeOfDay, Reads, IsInYears, ms_of_day};
+ghost use Rattle.rtk_obs.specs.Calendar.{IsOnDay, IsTimeOfDay, ReadsAs, IsInYears, ms_of_day};
 ghost use Rattle.rtk_obs.specs.declared.time.Civil.{Civil};
 
 use crate::time::{Civil, GpsMs};
@@ -24,7 +24,7 @@ fn year_of(date: Date) -> u16
 
 /// The civil reading of a moment, in GPS time: days of 86,400 seconds.
 pub fn civil(time: GpsMs) -> Civil
-    ensures reading { Reads time result }
+    ensures reading { ReadsAs time result }
     ensures years { IsInYears result.year }
 {
     let ms = time.ms();
@@ -80,7 +80,7 @@ fn time_of_day(reading: Civil) -> Option<u32>
 /// The moment that a reading names; `None` exactly if the calendar has no such day, the clock
 /// has no such time, or the moment lies outside `GpsMs`.
 pub fn of_civil(reading: Civil) -> Option<GpsMs>
-    ensures { MatchOption result ((t : ℕ) → t ≤ LAST_MS → ¬ (Reads t reading)) (λ t. Reads t reading) }
+    ensures { MatchOption result ((t : ℕ) → t ≤ LAST_MS → ¬ (ReadsAs t reading)) (λ t. ReadsAs t reading) }
 {
     let day = day_of(reading)?;
     let rest = time_of_day(reading)?;

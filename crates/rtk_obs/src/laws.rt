@@ -14,7 +14,7 @@ ghost use Rattle.rtk_obs.specs.declared.time.TheConstants.{LAST_MS};
 ghost use Rattle.rtk_obs.specs.declared.time.Civil.{Civil};
 ghost use Rattle.rtk_obs.specs.declared.code.Code.{Code};
 ghost use Rattle.rtk_obs.specs.declared.cell.Cell.{Cell};
-ghost use Rattle.rtk_obs.specs.Calendar.{Reads};
+ghost use Rattle.rtk_obs.specs.Calendar.{ReadsAs};
 ghost use Rattle.rtk_obs.specs.Dating.{IsDated};
 ghost use Rattle.rtk_obs.specs.Rounding.{IsRounded, rounded};
 ghost use Rattle.rtk_obs.specs.Code.{name_of};
@@ -27,9 +27,9 @@ use crate::cell::Cell;
 
 /// A reading belongs to one moment, and `of_civil` answers this moment to it.
 pub fn civil_laws()
-    ensures one_moment { (s t : ℕ) (c : Civil) → Reads s c → Reads t c → s ≡ t }
-    ensures all_moments { (t : ℕ) (c : Civil) → Reads t c → c.year ≤ 2100 → t ≤ LAST_MS }
-    ensures reads_back { (t : ℕ) (c : Civil) (answer : Option ℕ) → t ≤ LAST_MS → Reads t c → MatchOption answer ((s : ℕ) → s ≤ LAST_MS → ¬ (Reads s c)) (λ s. Reads s c) → answer ≡ Some t }
+    ensures one_moment { (s t : ℕ) (c : Civil) → ReadsAs s c → ReadsAs t c → s ≡ t }
+    ensures all_moments { (t : ℕ) (c : Civil) → ReadsAs t c → c.year ≤ 2100 → t ≤ LAST_MS }
+    ensures reads_back { (t : ℕ) (c : Civil) (answer : Option ℕ) → t ≤ LAST_MS → ReadsAs t c → MatchOption answer ((s : ℕ) → s ≤ LAST_MS → ¬ (ReadsAs s c)) (λ s. ReadsAs s c) → answer ≡ Some t }
 {}
 
 /// A time of week has one date near a reference.

@@ -1,7 +1,7 @@
 //! The position of a station's antenna.
 
 ghost use Rattle.std.specs.Prelude.{◌≡◌, ◌↔◌, IsTrue, MatchOption};
-ghost use Rattle.rtk_obs.specs.Position.{IsCoordinate};
+ghost use Rattle.rtk_obs.specs.Coordinates.{IsCoordinate};
 
 /// The antenna reference point of a station and the height of the antenna, in 0.0001 m.
 ///
@@ -30,7 +30,7 @@ fn is_coordinate(v: i64) -> bool
 }
 
 impl Position {
-    ghost use Rattle.rtk_obs.specs.Position.{AreCoordinates};
+    ghost use Rattle.rtk_obs.specs.Coordinates.{AreCoordinates};
     ghost use Rattle.rtk_obs.specs.PositionFields.{HasFields};
 
     /// The position with these fields; `None` exactly if a coordinate doesn't fit 38 bits.

@@ -5,7 +5,7 @@ use Rattle.std.proofs.lemmas.Fmt.{length-decimal-le}
 use Rattle.jiff_core.proofs.SignedLemmas.{signed_arith}
 use Rattle.jiff_core.proofs.CalendarLemmas.{days_in_month_bounds}
 use Rattle.rtk_obs.specs.declared.time.Civil.{Civil}
-use Rattle.rtk_obs.specs.Calendar.{Reads}
+use Rattle.rtk_obs.specs.Calendar.{ReadsAs}
 use Rattle.rtk_rinex.specs.Columns.{right, decimals}
 use Rattle.rtk_rinex.specs.Reading.{IsMoment, reading_of, seconds_of}
 use Rattle.rtk_rinex.specs.Record.{epoch_date_text, epoch_columns, epoch_line}
@@ -102,7 +102,7 @@ epoch-shows line t n h k e =
     }
 
 -- a reading belongs to one moment
-pub one_moment : (s t : ℕ) (c : Civil) → Reads s c → Reads t c → s ≡ t
+pub one_moment : (s t : ℕ) (c : Civil) → ReadsAs s c → ReadsAs t c → s ≡ t
 one_moment s t c h g =
     let days : pos (3657 + s / 86_400_000) ≡ pos (3657 + t / 86_400_000) = sym h.0.1 ∙ g.0.1 in
     omega (arith, signed_arith, h.2, g.2)

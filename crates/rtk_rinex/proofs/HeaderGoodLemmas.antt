@@ -14,7 +14,7 @@ use Rattle.std.proofs.lemmas.List.Elements.{All-nil, All-cons, All-head, All-tai
 use Rattle.rtk_obs.specs.declared.code.Code.{Code}
 use Rattle.rtk_obs.specs.declared.code.Code.TheVariants.{C1C, C1P, C1W, C1S, C1L, C1X, C2C, C2D, C2P, C2W, C2S, C2L, C2X, C5I, C5Q, C5X}
 use Rattle.rtk_obs.specs.declared.time.Civil.{Civil}
-use Rattle.rtk_obs.specs.Position.{IsCoordinate}
+use Rattle.rtk_obs.specs.Coordinates.{IsCoordinate}
 use Rattle.rtk_rinex.specs.Columns.{left, right, decimals, fixed, last_digits, is_negative}
 use Rattle.rtk_rinex.specs.Reading.{IsMoment, reading_of, seconds_of}
 use Rattle.rtk_rinex.specs.Header.{HeadView, PositionView, IsHeadView, IsPositionView, made_text, types_of, types, first_text}

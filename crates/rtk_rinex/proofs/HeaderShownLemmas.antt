@@ -8,8 +8,8 @@ use Rattle.std.proofs.lemmas.List.{replicate-append-replicate, take_all, append-
 use Rattle.jiff_core.proofs.SignedLemmas.{signed_arith}
 use Rattle.jiff_core.proofs.CalendarLemmas.{days_in_month_bounds}
 use Rattle.rtk_obs.specs.declared.time.Civil.{Civil}
-use Rattle.rtk_obs.specs.Calendar.{Reads}
-use Rattle.rtk_obs.specs.Position.{IsCoordinate}
+use Rattle.rtk_obs.specs.Calendar.{ReadsAs}
+use Rattle.rtk_obs.specs.Coordinates.{IsCoordinate}
 use Rattle.rtk_rinex.specs.Columns.{left, right, decimals, fixed}
 use Rattle.rtk_rinex.specs.Reading.{IsMoment, reading_of, seconds_of}
 use Rattle.rtk_rinex.specs.Record.{trim_end}
@@ -46,7 +46,7 @@ Fits-reading_of t h =
     }
 
 -- a reading belongs to one moment
-pub one_moment : (s t : ℕ) (c : Civil) → Reads s c → Reads t c → s ≡ t
+pub one_moment : (s t : ℕ) (c : Civil) → ReadsAs s c → ReadsAs t c → s ≡ t
 one_moment s t c h g =
     let days : pos (3657 + s / 86_400_000) ≡ pos (3657 + t / 86_400_000) = sym h.0.1 ∙ g.0.1 in
     omega (arith, signed_arith, h.2, g.2)

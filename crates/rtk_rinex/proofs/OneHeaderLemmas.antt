@@ -7,7 +7,7 @@ use Rattle.std.proofs.lemmas.Grind.{flat_map-append}
 use Rattle.std.proofs.lemmas.List.{append-nil}
 use Rattle.std.proofs.lemmas.List.Elements.{All-nil, All-head, All-tail}
 use Rattle.rtk_obs.specs.declared.time.Civil.{Civil}
-use Rattle.rtk_obs.specs.Calendar.{Reads}
+use Rattle.rtk_obs.specs.Calendar.{ReadsAs}
 use Rattle.rtk_rinex.specs.declared.check_fault.Cause.{Cause}
 use Rattle.rtk_rinex.specs.declared.check_fault.Cause.TheVariants.{HeaderLine, Columns, Value, Order, Truncated, OutOfMemory}
 use Rattle.rtk_rinex.specs.Reading.{reading_of}
@@ -53,7 +53,7 @@ one_first h c s d t u g f lines e =
     let left = first_is (line_at (9 + (lines_of h + 1)) (header_text h s t)) _ t g.first a in
     let right = first_is (line_at (9 + (lines_of h + 1)) (header_text h s t)) _ u f.first b in
     let reading : reading_of u ≡ reading_of t = sym right.reading ∙ left.reading in
-    one_moment t u (reading_of t) (reading-reads t g.first) (subst (λ (c : Civil). Reads u c) reading (reading-reads u f.first))
+    one_moment t u (reading_of t) (reading-reads t g.first) (subst (λ (c : Civil). ReadsAs u c) reading (reading-reads u f.first))
 
 pub one_header : (h c : HeadView) (s d : PositionView) (t u : ℕ) (x y : List ℕ) → IsGood h s t → IsGood c d u → header_text h s t ++ x ≡ header_text c d u ++ y
     → AreAlike h c s d t u x y

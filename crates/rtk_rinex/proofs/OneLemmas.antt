@@ -8,7 +8,7 @@ use Rattle.std.proofs.lemmas.List.Kept.{AllPairs-cons}
 use Rattle.std.proofs.lemmas.List.{append-nil, nil_from_length}
 use Rattle.rtk_rinex.specs.declared.epoch_table.SatelliteRow.{SatelliteRow}
 use Rattle.rtk_obs.specs.declared.time.Civil.{Civil}
-use Rattle.rtk_obs.specs.Calendar.{Reads}
+use Rattle.rtk_obs.specs.Calendar.{ReadsAs}
 use Rattle.rtk_rinex.specs.Reading.{IsMoment, reading_of}
 use Rattle.rtk_rinex.specs.Record.{EpochTableView, epoch_line, satellite_line, record_text}
 use Rattle.rtk_rinex.specs.Table.{IsTableRow, IsTableEpoch, StartsAt}
@@ -32,7 +32,7 @@ one_epoch_line t u n m h k a b e =
     let s = epoch-shows (take 35 line) t n h a left in
     let r = epoch-shows (take 35 line) u m k b right in
     let reading : reading_of u ≡ reading_of t = sym r.reading ∙ s.reading in
-    (one_moment t u (reading_of t) (reading-reads t h) (subst (λ (c : Civil). Reads u c) reading (reading-reads u k)), sym s.count ∙ r.count)
+    (one_moment t u (reading_of t) (reading-reads t h) (subst (λ (c : Civil). ReadsAs u c) reading (reading-reads u k)), sym s.count ∙ r.count)
 
 pub one_row : (n : ℕ) (r s : SatelliteRow) → n ≤ 16 → IsTableRow n r → IsTableRow n s → satellite_line r ≡ satellite_line s → r ≡ s
 one_row n r s le h g e =

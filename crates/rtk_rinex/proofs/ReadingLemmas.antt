@@ -8,7 +8,7 @@ use Rattle.jiff_core.proofs.SignedLemmas.{signed_arith}
 use Rattle.jiff_core.proofs.MarchLemmas.{day_count-early, day_count-late}
 use Rattle.jiff_core.proofs.CalendarLemmas.{days_from_civil-day_count, days_in_month_bounds, day_count-lt_year, day_count-lt_month, day_count-day, day_count-next_month, day_count-next_year, day_count-last_of_year}
 use Rattle.rtk_obs.specs.declared.time.Civil.{Civil}
-use Rattle.rtk_obs.specs.Calendar.{Reads}
+use Rattle.rtk_obs.specs.Calendar.{ReadsAs}
 use Rattle.rtk_rinex.specs.Reading.{IsMoment, CivilDate, date_after, reading_of}
 
 abbrev IsGood : CivilDate → Type 0
@@ -92,7 +92,7 @@ same_civil c d year month day hour minute second millisecond =
     year month day hour minute second millisecond
 
 -- what reads a moment is its reading
-pub reading_is : (t : ℕ) (c : Civil) → Reads t c → c ≡ reading_of t
+pub reading_is : (t : ℕ) (c : Civil) → ReadsAs t c → c ≡ reading_of t
 reading_is t c h =
     let k = t / 86_400_000 in
     let date = date_after k in
@@ -121,7 +121,7 @@ year-bound k h =
     ]
 
 -- the reading of a moment reads it
-pub reading-reads : (t : ℕ) → IsMoment t → Reads t (reading_of t)
+pub reading-reads : (t : ℕ) → IsMoment t → ReadsAs t (reading_of t)
 reading-reads t h =
     let k = t / 86_400_000 in
     let date = date_after k in

@@ -1,7 +1,7 @@
 //! The check of a header: what its lines show is written again, and the two texts are compared.
 
 ghost use Rattle.rtk_obs.specs.Code.{name_of};
-ghost use Rattle.rtk_obs.specs.Position.{AreCoordinates};
+ghost use Rattle.rtk_obs.specs.Coordinates.{AreCoordinates};
 ghost use Rattle.rtk_obs.specs.PositionFields.{HasFields};
 ghost use Rattle.rtk_obs.specs.declared.code.Code.{Code};
 ghost use Rattle.rtk_rinex.specs.Columns.{right, fixed};

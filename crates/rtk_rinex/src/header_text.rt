@@ -1,7 +1,7 @@
 //! The text of a header, a function for each line that has more than fixed entries.
 
 ghost use Rattle.std.specs.Prelude.{◌≡◌, ℕ, ◌+◌, ◌*◌, ◌≤◌, ◌<◌, [], ◌∷◌, ◌++◌, take, drop, length, OnOk, IfOk, codes, decimal, pos};
-ghost use Rattle.rtk_obs.specs.Position.{IsCoordinate};
+ghost use Rattle.rtk_obs.specs.Coordinates.{IsCoordinate};
 ghost use Rattle.rtk_rinex.specs.Columns.{left, right, fixed};
 ghost use Rattle.rtk_rinex.specs.Header.{header_line, made_text, first_lines, position_view, position_lines, types_of, types, continuation_line, types_lines, first_text, last_lines, header_text};
 

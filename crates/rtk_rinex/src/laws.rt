@@ -5,15 +5,15 @@
 
 ghost use Rattle.std.specs.Prelude.{◌≡◌, ℕ};
 ghost use Rattle.rtk_obs.specs.declared.time.Civil.{Civil};
-ghost use Rattle.rtk_obs.specs.Calendar.{Reads};
+ghost use Rattle.rtk_obs.specs.Calendar.{ReadsAs};
 ghost use Rattle.rtk_rinex.specs.CheckTable.{OneFault, FaultMeansNoTable};
 ghost use Rattle.rtk_rinex.specs.Reading.{IsMoment, reading_of};
 ghost use Rattle.rtk_rinex.specs.Table.{RecordsAreOfTables, FilesAreTables};
 
 /// A moment has one reading, which `reading_of` gives.
 pub fn one_reading()
-    ensures one { (t : ℕ) (c : Civil) → Reads t c → c ≡ reading_of t }
-    ensures reads { (t : ℕ) → IsMoment t → Reads t (reading_of t) }
+    ensures one { (t : ℕ) (c : Civil) → ReadsAs t c → c ≡ reading_of t }
+    ensures reads { (t : ℕ) → IsMoment t → ReadsAs t (reading_of t) }
 {}
 
 /// The record of an epoch has no bytes, or it is the record of an epoch of a well-formed table.

@@ -16,9 +16,9 @@ loop-cell-preserved c =
     let cell = get_or cells i any_cell in
     let rest = fresh (drop (i + 1) cells) kept in
     let low = lower-length c.key_of-key.result kept in
-    let o = rw c.key_of-key.ensures at c.cell_at.ensures in
-    let f = fresh-step i any_cell c.cell_at.result cells kept l o in
-    elim c.match-cell_at.branch [
+    let o = rw c.key_of-key.ensures at c.kept_cell.ensures in
+    let f = fresh-step i any_cell c.kept_cell.result cells kept l o in
+    elim c.match-kept_cell.branch [
       | in-None w ↦
           let n = ap (λ t. one_more t rest) w.in-None.is in
           record { at = omega arith; bound = omega (arith, w.count-is, inv.bound); count = omega (arith, w.count-is, inv.count, f, n); few = rw w.conflicts-is (omega (arith, inv.few)); conflicts = λ e. absurd (omega (arith, w.count-is, e)) }
@@ -31,7 +31,7 @@ loop-cell-preserved c =
             bound = omega (arith, w.count-is, inv.bound);
             count = omega (arith, w.count-is, inv.count, f, n);
             few = rw (w.conflicts-is, w.push.ensures) (push-few c.loop-cell.conflicts _ i inv.few);
-            conflicts = λ e. rw (w.conflicts-is, w.push.ensures, w.name_of.ensures) (kept-conflicts i any_cell first cells kept c.loop-cell.conflicts _ (conflicts cells kept) l c.requires.rises (sym o ∙ w.in-Some.is) told (inv.conflicts (omega (arith, w.count-is, e))));
+            conflicts = λ e. rw (w.conflicts-is, w.push.ensures, w.satellite_code.ensures) (kept-conflicts i any_cell first cells kept c.loop-cell.conflicts _ (conflicts cells kept) l c.requires.rises (sym o ∙ w.in-Some.is) told (inv.conflicts (omega (arith, w.count-is, e))));
           }
       | in-Some+else-ne w ↦
           let first = w.in-Some.first in

@@ -34,7 +34,7 @@ loop-next-preserved-then-ne c =
     record {
       at = c.loop-next.invariant.at;
       few = rw c.push.ensures (push-few c.loop-next.conflicts _ c.loop-next.next c.loop-next.invariant.few);
-      merges = rw (c.push.ensures, c.name_of.ensures) (put-same c.args.cells.now c.args.kept.now c.loop-next.next c.loop-next.at any_cell c.loop-next.all.items c.loop-next.conflicts _ _
+      merges = rw (c.push.ensures, c.satellite_code.ensures) (put-same c.args.cells.now c.args.kept.now c.loop-next.next c.loop-next.at any_cell c.loop-next.all.items c.loop-next.conflicts _ _
           c.loop-next.invariant.merges c.loop-next-test.true same.0 (sym c.key_of-wanted.ensures ∙ sym (same.1 any_cell)) told);
     }
 

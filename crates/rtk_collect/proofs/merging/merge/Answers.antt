@@ -19,7 +19,7 @@ loop-cell-preserved c =
     let l = c.loop-cell-test.true in
     let p = c.put.ensures.items in
     let low = lower-length c.key_of.result kept in
-    let place = rw c.deref.ensures.value at c.seek-at.ensures in
+    let place = rw c.deref.ensures.value at c.place_of_key-at.ensures in
     let longer = with_cell-longer (get_or cells i any_cell) kept in
     let at_le = ap length p in
     let items = merge-items i any_cell cells kept new _ l p c.loop-cell.invariant.items in
@@ -29,7 +29,7 @@ loop-cell-preserved c =
       | then-put w ↦
           let n = rw w.if-put.true at c.put.ensures.conflict in
           let f = merge-conflicts i any_cell cells kept new c.loop-cell.conflicts _ _ l p n c.loop-cell.invariant.conflicts in
-          record { at = omega arith; rises = rises; room = room; few = rw (w.conflicts-is, w.push.ensures) (push-few c.loop-cell.conflicts _ i c.loop-cell.invariant.few); items = items; conflicts = rw (w.conflicts-is, w.push.ensures, w.name_of.ensures) f }
+          record { at = omega arith; rises = rises; room = room; few = rw (w.conflicts-is, w.push.ensures) (push-few c.loop-cell.conflicts _ i c.loop-cell.invariant.few); items = items; conflicts = rw (w.conflicts-is, w.push.ensures, w.satellite_code.ensures) f }
       | else-put w ↦
           let n = rw w.if-put.false at c.put.ensures.conflict in
           let f = merge-conflicts i any_cell cells kept new c.loop-cell.conflicts _ _ l p n c.loop-cell.invariant.conflicts in

@@ -16,23 +16,23 @@ invariant_of-self-2 c = rw (c.merge-conflicts.ensures.items, c.reserve.ensures.i
 
 pub returns-in-Err-clause-refused : goal.returns-in-Err-clause-refused
 returns-in-Err-clause-refused c =
-    let a = alone c.args.cells.now c.self.inside.cells.items (no-cells c.self.inside.cells.items _ c.self.inside.cells.ok.0 (sym c.is_empty.ensures ∙ c.if-is_empty.true)) (c.if-rises.ensures refl) in
+    let a = alone c.args.cells.now c.self.inside.cells.items (no-cells c.self.inside.cells.items _ c.self.inside.cells.ok.0 (sym c.is_empty.ensures ∙ c.if-is_empty.true)) (c.if-has_rising_keys.ensures refl) in
     subst (λ (s : EpochSetView). 0 < fresh c.args.cells.now s.cells) c.self.view_is (omega (arith, c.in-Err.ensures.full, c.self.inside.cells.ok.1, a.fresh))
 
-pub returns-then-rises-clause-set : goal.returns-then-rises-clause-set
-returns-then-rises-clause-set c =
-    let a = alone c.args.cells.now c.self.inside.cells.items (no-cells c.self.inside.cells.items _ c.self.inside.cells.ok.0 (sym c.is_empty.ensures ∙ c.if-is_empty.true)) (c.if-rises.ensures refl) in
+pub returns-then-has_rising_keys-clause-set : goal.returns-then-has_rising_keys-clause-set
+returns-then-has_rising_keys-clause-set c =
+    let a = alone c.args.cells.now c.self.inside.cells.items (no-cells c.self.inside.cells.items _ c.self.inside.cells.ok.0 (sym c.is_empty.ensures ∙ c.if-is_empty.true)) (c.if-has_rising_keys.ensures refl) in
     subst (λ (s : EpochSetView). record { epoch = c.self.inside.epoch; cells = c.extend_from_slice.new.self.items } ≡ joined c.args.cells.now s) c.self.view_is
     (ap (λ (t : List CellEntry). record { epoch = c.self.inside.epoch; cells = t }) (c.in_default.ensures.items ∙ a.items))
 
-pub returns-then-rises-clause-fresh : goal.returns-then-rises-clause-fresh
-returns-then-rises-clause-fresh c =
-    let a = alone c.args.cells.now c.self.inside.cells.items (no-cells c.self.inside.cells.items _ c.self.inside.cells.ok.0 (sym c.is_empty.ensures ∙ c.if-is_empty.true)) (c.if-rises.ensures refl) in
+pub returns-then-has_rising_keys-clause-fresh : goal.returns-then-has_rising_keys-clause-fresh
+returns-then-has_rising_keys-clause-fresh c =
+    let a = alone c.args.cells.now c.self.inside.cells.items (no-cells c.self.inside.cells.items _ c.self.inside.cells.ok.0 (sym c.is_empty.ensures ∙ c.if-is_empty.true)) (c.if-has_rising_keys.ensures refl) in
     subst (λ (s : EpochSetView). length c.args.cells.now ≡ fresh c.args.cells.now s.cells) c.self.view_is a.fresh
 
-pub returns-then-rises-clause-conflicts : goal.returns-then-rises-clause-conflicts
-returns-then-rises-clause-conflicts c =
-    let a = alone c.args.cells.now c.self.inside.cells.items (no-cells c.self.inside.cells.items _ c.self.inside.cells.ok.0 (sym c.is_empty.ensures ∙ c.if-is_empty.true)) (c.if-rises.ensures refl) in
+pub returns-then-has_rising_keys-clause-conflicts : goal.returns-then-has_rising_keys-clause-conflicts
+returns-then-has_rising_keys-clause-conflicts c =
+    let a = alone c.args.cells.now c.self.inside.cells.items (no-cells c.self.inside.cells.items _ c.self.inside.cells.ok.0 (sym c.is_empty.ensures ∙ c.if-is_empty.true)) (c.if-has_rising_keys.ensures refl) in
     subst (λ (s : EpochSetView). c.new.result ≡ conflicts c.args.cells.now s.cells) c.self.view_is (c.new.ensures ∙ a.conflicts)
 
 -- no key is new

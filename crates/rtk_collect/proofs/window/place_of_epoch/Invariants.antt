@@ -1,6 +1,6 @@
 use Rattle.std.proofs.Common.{◌≤◌, ◌-◌, length}
-use Rattle.rtk_collect.specs.Steps.Search.{leading}
-use Rattle.rtk_collect.proofs.window.place.Given as goal
+use Rattle.rtk_collect.specs.Steps.OrderedPlaces.{leading}
+use Rattle.rtk_collect.proofs.window.place_of_epoch.Given as goal
 
 -- the place is between the two
 abbrev pub invariant-loop-low : goal.invariant-loop-low

@@ -1,6 +1,6 @@
 use Rattle.std.proofs.Common.{◌≤◌, ◌-◌, length, take}
 use Rattle.rtk_collect.specs.Key.{KeysRise}
-use Rattle.rtk_collect.proofs.merging.rises.Given as goal
+use Rattle.rtk_collect.proofs.merging.has_rising_keys.Given as goal
 
 -- the cells before `at` rise
 abbrev pub invariant-loop-at : goal.invariant-loop-at

@@ -1,7 +1,7 @@
 use Rattle.std.proofs.Common.{arith}
 use Rattle.rtk_collect.proofs.CellsLemmas.{any_cell}
 use Rattle.rtk_collect.proofs.RisingLemmas.{rises-one, rises-more}
-use Rattle.rtk_collect.proofs.merging.rises.Goals as goal
+use Rattle.rtk_collect.proofs.merging.has_rising_keys.Goals as goal
 
 pub loop-at-init : goal.loop-at-init
 loop-at-init c = record { first = omega arith; rises = rises-one c.args.cells.now }

@@ -1,6 +1,6 @@
 use Rattle.std.proofs.Common.{◌∙◌, sym, arith}
 use Rattle.rtk_collect.proofs.CellsLemmas.{any_cell, found-here, absent-here, absent-past}
-use Rattle.rtk_collect.proofs.merging.cell_at.Goals as goal
+use Rattle.rtk_collect.proofs.merging.kept_cell.Goals as goal
 
 pub returns-then-key_of-key : goal.returns-then-key_of-key
 returns-then-key_of-key c = sym (found-here c.args.key c.args.at any_cell c.args.kept.now c.requires.place (omega (arith, c.if-at-kept.false)) (sym c.key_of.ensures ∙ c.if-key_of-key.true))

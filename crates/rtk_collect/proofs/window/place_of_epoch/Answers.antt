@@ -2,7 +2,7 @@ use Rattle.std.proofs.Common.{◌≡◌, ◌≤◌, ◌<◌, ◌+◌, ◌-◌, �
 use Rattle.std.proofs.lemmas.Bool.Decides.{nat_tests}
 use Rattle.rtk_collect.specs.EpochSet.{EpochSetView}
 use Rattle.rtk_collect.proofs.JoinsLemmas.{leading-length, leading-past, leading-stop}
-use Rattle.rtk_collect.proofs.window.place.Goals as goal
+use Rattle.rtk_collect.proofs.window.place_of_epoch.Goals as goal
 
 gt-true : (a b : ℕ) → is_gt (nat_cmp a b) ≡ true → b < a
 gt-true a b h = grind (arith, nat_tests)

@@ -1,6 +1,6 @@
 use Rattle.std.proofs.Common.{◌≤◌, ◌-◌, length}
-use Rattle.rtk_collect.specs.Steps.Search.{lower}
-use Rattle.rtk_collect.proofs.merging.seek.Given as goal
+use Rattle.rtk_collect.specs.Steps.OrderedPlaces.{lower}
+use Rattle.rtk_collect.proofs.merging.place_of_key.Given as goal
 
 abbrev pub invariant-loop-at : goal.invariant-loop-at
 invariant-loop-at l = l.at ≤ length l.kept
