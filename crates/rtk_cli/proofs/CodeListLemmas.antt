@@ -47,7 +47,8 @@ next-of (d ∷ done) (c ∷ more) rest e =
     (sym (drop-name d (comma_names done ++ 44 ∷ rest)) ∙ ap (λ (t : List ℕ). drop 2 t) (sym (append_assoc (name_of d) (comma_names done) (44 ∷ rest)) ∙ ap (λ (t : List ℕ). drop 1 t) e)
     ∙ drop-name c (comma_names more))
 
--- what the next name is not: shorter than a name, no name, or followed by another character than a comma
+-- what the next name is not: shorter than a name, no name, or followed by another character than a
+-- comma
 pub no-short : (rest : List ℕ) → length rest < 2 → Next rest → ⊥
 no-short rest short n =
     omega (arith, short, ap length n.split, length-append (name_of n.code) (comma_names n.more), two-characters n.code)

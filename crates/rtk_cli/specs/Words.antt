@@ -25,7 +25,8 @@ IsWithinLimits (Convert setup links) =
 IsWithinLimits (Show hex file) = Unit {0}
 IsWithinLimits (Check file) = Unit {0}
 
--- after a text of clap's the program ends with status 0 or 2; which of them is not said here (this project's rule)
+-- after a text of clap's the program ends with status 0 or 2; which of them is not said here
+-- (this project's rule)
 abbrev pub HasStatus : WordsFault → Type 0
 HasStatus (Clap text status) = (status ≡ 0) ⊎ (status ≡ 2)
 HasStatus (Bad line) = Unit {0}
