@@ -4,7 +4,7 @@ use Rattle.std.proofs.Math.Seq.{take-append_seam, drop-append_seam}
 use Rattle.rtk_obs.specs.declared.code.Code.{Code}
 use Rattle.rtk_obs.specs.declared.code.Code.TheVariants.{C1C, C1P, C1W, C1S, C1L, C1X, C2C, C2D, C2P, C2W, C2S, C2L, C2X, C5I, C5Q, C5X}
 use Rattle.rtk_obs.specs.Code.{name_of}
-use Rattle.rtk_cli.specs.CodeList.{comma_names}
+use Rattle.rtk_cli.specs.Steps.CodeList.{comma_names}
 
 two-characters : (c : Code) → length (name_of c) ≡ 2
 two-characters C1C = refl

@@ -1,17 +1,8 @@
--- What `convert` takes of its links, and the status that it ends with. All numbers are this
--- project's rule.
-use Rattle.std.specs.Prelude.{ℕ, ◌*◌, Bool, true, false, Result, Ok, Err}
+-- The status that `convert` ends with. All numbers are this project's rule.
+use Rattle.std.specs.Prelude.{ℕ, Bool, true, false, Result, Ok, Err}
 use Rattle.rtk_convert.specs.declared.counts.Counts.{Counts}
 use Rattle.rtk_convert.specs.declared.fault.ConvertFault.{ConvertFault}
 use Rattle.rtk_convert.specs.declared.fault.ConvertFault.TheVariants.{Setup, NoLink, LinkClosed, OutOfMemory, Write, Read, Endless, Stopped}
-
--- the most reads of a conversion: 1,000,000,000
-abbrev pub most_reads : ℕ
-most_reads = 1000000000
-
--- the bytes of a link that are read ahead at once: 64 times the 512 that a conversion asks for
-abbrev pub read_at_once : ℕ
-read_at_once = 64 * 512
 
 -- the exit status after a fault: 1 if memory was refused, a write or a read failed, or an input
 -- does not end; 2 if the conversion itself is refused
