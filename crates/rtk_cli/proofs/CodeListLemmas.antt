@@ -4,7 +4,7 @@ use Rattle.std.proofs.Math.Seq.{take-append_seam, drop-append_seam}
 use Rattle.rtk_obs.specs.declared.code.Code.{Code}
 use Rattle.rtk_obs.specs.declared.code.Code.TheVariants.{C1C, C1P, C1W, C1S, C1L, C1X, C2C, C2D, C2P, C2W, C2S, C2L, C2X, C5I, C5Q, C5X}
 use Rattle.rtk_obs.specs.Code.{name_of}
-use Rattle.rtk_cli.specs.CodeList.{comma_names}
+use Rattle.rtk_cli.specs.Steps.CodeList.{comma_names}
 
 two-characters : (c : Code) → length (name_of c) ≡ 2
 two-characters C1C = refl
@@ -25,11 +25,11 @@ two-characters C5Q = refl
 two-characters C5X = refl
 
 -- the first name of a list, and what follows it
-take-name : (c : Code) (behind : List ℕ) → take 2 (name_of c ++ behind) ≡ name_of c
-take-name c behind = ap (λ (n : ℕ). take n (name_of c ++ behind)) (sym (two-characters c)) ∙ take-append_seam (name_of c) behind
+take-name : (c : Code) (after : List ℕ) → take 2 (name_of c ++ after) ≡ name_of c
+take-name c after = ap (λ (n : ℕ). take n (name_of c ++ after)) (sym (two-characters c)) ∙ take-append_seam (name_of c) after
 
-drop-name : (c : Code) (behind : List ℕ) → drop 2 (name_of c ++ behind) ≡ behind
-drop-name c behind = ap (λ (n : ℕ). drop n (name_of c ++ behind)) (sym (two-characters c)) ∙ drop-append_seam (name_of c) behind
+drop-name : (c : Code) (after : List ℕ) → drop 2 (name_of c ++ after) ≡ after
+drop-name c after = ap (λ (n : ℕ). drop n (name_of c ++ after)) (sym (two-characters c)) ∙ drop-append_seam (name_of c) after
 
 -- the text after a comma is the next code's name and the further names
 pub record Next (rest : List ℕ) : Type 0 where
@@ -47,7 +47,8 @@ next-of (d ∷ done) (c ∷ more) rest e =
     (sym (drop-name d (comma_names done ++ 44 ∷ rest)) ∙ ap (λ (t : List ℕ). drop 2 t) (sym (append_assoc (name_of d) (comma_names done) (44 ∷ rest)) ∙ ap (λ (t : List ℕ). drop 1 t) e)
     ∙ drop-name c (comma_names more))
 
--- what the next name is not: shorter than a name, no name, or followed by another character than a comma
+-- what the next name is not: shorter than a name, no name, or followed by another character than a
+-- comma
 pub no-short : (rest : List ℕ) → length rest < 2 → Next rest → ⊥
 no-short rest short n =
     omega (arith, short, ap length n.split, length-append (name_of n.code) (comma_names n.more), two-characters n.code)
@@ -59,6 +60,6 @@ first-comma : (more : List Code) (x : ℕ) (xs : List ℕ) → x ∷ xs ≡ comm
 first-comma [] x xs e = absurd (let bad : length (x ∷ xs) ≡ 0 = ap length e in omega (arith, bad))
 first-comma (c ∷ more) x xs e = ap (λ (t : List ℕ). get_or t 0 0) e
 
-pub no-other : (rest behind next : List ℕ) (x : ℕ) → behind ≡ drop 2 rest → behind ≡ x ∷ next → x ≢ 44 → Next rest → ⊥
-no-other rest behind next x e first other n =
+pub no-other : (rest after next : List ℕ) (x : ℕ) → after ≡ drop 2 rest → after ≡ x ∷ next → x ≢ 44 → Next rest → ⊥
+no-other rest after next x e first other n =
     other (first-comma n.more x next (sym first ∙ e ∙ ap (λ (t : List ℕ). drop 2 t) n.split ∙ drop-name n.code (comma_names n.more)))

@@ -3,7 +3,7 @@ use Rattle.std.proofs.Common.{◌≡◌, ℕ, ◌+◌, ◌*◌, ◌/◌, ◌%◌
 use Rattle.rtk_obs.specs.declared.time.TheConstants.{LAST_MS}
 use Rattle.rtk_obs.specs.Calendar.{ReadsAs}
 use Rattle.rtk_obs.specs.declared.time.Civil.{Civil}
-use Rattle.rtk_cli.specs.MomentText.{moment_text, HasDigits, WritesMoment}
+use Rattle.rtk_cli.specs.Steps.MomentText.{moment_text, HasDigits, WritesMoment}
 
 -- what two digits are read as
 abbrev pub IsRead : ℕ → ℕ → ℕ → Type 0

@@ -58,7 +58,7 @@ record Next (capture : List ℕ) (place : ℕ) (payload : List ℕ) (ahead : Lis
   others : List Frame
   splits : ahead ≡ frame ∷ others
   is_payload : frame.payload ≡ payload
-  behind : IsFramesFrom capture (place + length payload + 6) others
+  after : IsFramesFrom capture (place + length payload + 6) others
 
 same_place : (capture : List ℕ) (from a b : ℕ) → from ≤ a → from ≤ b → IsFrameAt capture a → IsFrameAt capture b → NoneBetween capture from a → NoneBetween capture from b → a ≡ b
 same_place capture from a b le me at bt none more = elim (cases_order a b) [
@@ -77,7 +77,7 @@ next capture from place payload (f ∷ fs) le frame e none (fle, fat, fpay, fnon
       others = fs;
       splits = refl;
       is_payload = pay;
-      behind = subst (λ p. IsFramesFrom capture p fs) there fmore;
+      after = subst (λ p. IsFramesFrom capture p fs) there fmore;
     }
 
 -- one frame more was found, and its line is pending
@@ -89,7 +89,7 @@ step capture from place count payload pending line before now so_far le frame e 
       ahead = n.others;
       taken = so_far.taken;
       all = so_far.all ∙ ap (λ fs. so_far.found ++ fs) n.splits ∙ sym (append_assoc so_far.found (n.frame ∷ []) n.others);
-      are_ahead = n.behind;
+      are_ahead = n.after;
       are_lines = subst (AreLinesOf (so_far.found ++ n.frame ∷ [])) (append_assoc so_far.taken pending line)
           (lines-snoc so_far.found n.frame (so_far.taken ++ pending) line so_far.are_lines (subst (λ p. IsLineOf p line) (sym n.is_payload) one));
       were_taken = so_far.were_taken;

@@ -1,5 +1,5 @@
--- The command `check`: what it says of a text, and the line that says it. The forms of the lines are this
--- project's rule.
+-- The command `check`: what it says of a text, and the line that says it. The forms of the lines
+-- are this project's rule.
 use Rattle.std.specs.Prelude.{◌≡◌, ◌≢◌, ℕ, Bool, true, false, List, [], ◌∷◌, ◌++◌, codes, decimal, Option}
 use Rattle.rtk_frame.specs.Stream.{with_more, TakesPart}
 use Rattle.rtk_rinex.specs.CheckTable.{HoldsTable, IsFault, IsWithoutTable}
@@ -25,12 +25,14 @@ valid_text epochs satellites =
 abbrev pub check_fault_text : CheckFault → List ℕ
 check_fault_text fault = codes "line " ++ decimal fault.line ++ codes ": " ++ cause_text fault.cause ++ 10 ∷ []
 
--- a yes: the text is the text of a well-formed table, and the line tells how many records and satellite lines it has
+-- a yes: the text is the text of a well-formed table, and the line tells how many records and
+-- satellite lines it has
 abbrev pub SaysYes : List ℕ → List ℕ → Type 0
 SaysYes text line =
     (epochs : ℕ) × (satellites : ℕ) × HoldsTable text epochs satellites × (line ≡ valid_text epochs satellites)
 
--- a no: the text is the text of no well-formed table, and the line tells its first fault, which is not want of memory
+-- a no: the text is the text of no well-formed table, and the line tells its first fault, which is
+-- not missing memory
 abbrev pub SaysNo : List ℕ → List ℕ → Type 0
 SaysNo text line =
     (fault : CheckFault) × IsFault text fault × (fault.cause ≢ OutOfMemory) × IsWithoutTable text fault.cause

@@ -1,19 +1,11 @@
--- What `convert` takes of its links, and the status that it ends with. All numbers are this project's rule.
-use Rattle.std.specs.Prelude.{ℕ, ◌*◌, Bool, true, false, Result, Ok, Err}
+-- The status that `convert` ends with. All numbers are this project's rule.
+use Rattle.std.specs.Prelude.{ℕ, Bool, true, false, Result, Ok, Err}
 use Rattle.rtk_convert.specs.declared.counts.Counts.{Counts}
 use Rattle.rtk_convert.specs.declared.fault.ConvertFault.{ConvertFault}
 use Rattle.rtk_convert.specs.declared.fault.ConvertFault.TheVariants.{Setup, NoLink, LinkClosed, OutOfMemory, Write, Read, Endless, Stopped}
 
--- the most reads of a conversion: 1,000,000,000
-abbrev pub most_reads : ℕ
-most_reads = 1000000000
-
--- the bytes of a link that are read ahead at once: 64 times the 512 that a conversion asks for
-abbrev pub read_at_once : ℕ
-read_at_once = 64 * 512
-
--- the exit status after a fault: 1 if memory was refused, a write or a read failed, or an input does not end; 2 if
--- the conversion itself is refused
+-- the exit status after a fault: 1 if memory was refused, a write or a read failed, or an input
+-- does not end; 2 if the conversion itself is refused
 abbrev pub status_of_fault : ConvertFault → ℕ
 status_of_fault Setup = 2
 status_of_fault NoLink = 2
@@ -24,8 +16,8 @@ status_of_fault (Read link) = 1
 status_of_fault Endless = 1
 status_of_fault Stopped = 2
 
--- the exit status of a conversion, by its answer and by whether all that it wrote is out: 0 if it was done and all
--- is out, 1 if it was done and not all is out
+-- the exit status of a conversion, by its answer and by whether all that it wrote is out: 0 if it
+-- was done and all is out, 1 if it was done and not all is out
 abbrev pub status_of : Result Counts ConvertFault → Bool → ℕ
 status_of (Ok counts) true = 0
 status_of (Ok counts) false = 1

@@ -1,10 +1,8 @@
 pub mod CheckFile
-pub mod CodeList
-pub mod ConvertWords
 pub mod Converting
 pub mod Hex
 pub mod Input
-pub mod MomentText
 pub mod Show
 pub mod Shown
 pub mod Words
+pub mod Steps

@@ -60,8 +60,8 @@ message_text (Of1005 m) = text_1005 m
 message_text (Of1006 m) = text_1006 m
 message_text (Of1074 m) = text_1074 m
 
--- a payload that is no message: the number of another message, or the number of the fault and the number of the
--- message, if there is one
+-- a payload that is no message: the number of another message; or that it is refused, the code of
+-- the fault, and the number of the message or a hyphen
 abbrev pub unread_text : DecodeFault → List ℕ
 unread_text NoNumber = codes "refused M1 -"
 unread_text (Other number) = decimal number ++ codes " other"

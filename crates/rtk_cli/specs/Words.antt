@@ -1,9 +1,7 @@
 -- What the words of a command line may give.
-use Rattle.std.specs.Prelude.{◌≡◌, ◌≢◌, ◌⊎◌, ℕ, ◌≤◌, Bool, nat_eq, List, length, map, count_by, codes}
+use Rattle.std.specs.Prelude.{◌≡◌, ◌⊎◌, ℕ, ◌≤◌, Bool, nat_eq, List, length, map, count_by, codes}
 use Rattle.std.specs.Int.{IsInRange}
 use Rattle.std.specs.Cmp.Lexicographic.{pointwise}
-use Rattle.clap.specs.declared.error.kind.ErrorKind.{ErrorKind}
-use Rattle.clap.specs.declared.error.kind.ErrorKind.TheVariants.{DisplayHelp, DisplayVersion}
 use Rattle.rtk_convert.specs.Setup.{IsStation, IsWindow}
 use Rattle.rtk_cli.specs.declared.words.Job.{Job}
 use Rattle.rtk_cli.specs.declared.words.Job.TheVariants.{Convert, Show, Check}
@@ -25,14 +23,9 @@ IsWithinLimits (Convert setup links) =
 IsWithinLimits (Show hex file) = Unit {0}
 IsWithinLimits (Check file) = Unit {0}
 
--- after a text of clap's the program ends with status 0 or 2; which of them is not said here (this project's rule)
+-- after a text of clap's the program ends with status 0 or 2; which of them is not said here
+-- (this project's rule)
 abbrev pub HasStatus : WordsFault → Type 0
 HasStatus (Clap text status) = (status ≡ 0) ⊎ (status ≡ 2)
 HasStatus (Bad line) = Unit {0}
 HasStatus OutOfMemory = Unit {0}
-
--- the status that goes with a text of clap's: 0 where help or the version was asked for, else 2
--- (this project's rule)
-abbrev pub IsStatusOf : ErrorKind → ℕ → Type 0
-IsStatusOf kind status = ((kind ≡ DisplayHelp) ⊎ (kind ≡ DisplayVersion) → status ≡ 0)
-    × ((kind ≢ DisplayHelp) × (kind ≢ DisplayVersion) → status ≡ 2)

@@ -2,7 +2,7 @@
 
 ghost use Rattle.std.specs.Prelude.{◌≡◌, ◌≢◌, List, IfOk, IfErr};
 ghost use Rattle.rtk_obs.specs.declared.code.Code.{Code};
-ghost use Rattle.rtk_cli.specs.CodeList.{Lists};
+ghost use Rattle.rtk_cli.specs.Steps.CodeList.{Lists};
 ghost use Rattle.rtk_cli.specs.declared.words.BadWords.TheVariants.{Codes};
 ghost use Rattle.rtk_cli.specs.declared.words.WordsFault.TheVariants.{Bad, OutOfMemory};
 

@@ -2,7 +2,8 @@
 
 ghost use Rattle.std.specs.Prelude.{◌≡◌, ℕ, IfOk, IfErr, IfSome};
 ghost use Rattle.clap.specs.Values.{kind_of};
-ghost use Rattle.rtk_cli.specs.Words.{HasStatus, IsStatusOf, IsWithinLimits};
+ghost use Rattle.rtk_cli.specs.Steps.ClapStatus.{IsStatusOf};
+ghost use Rattle.rtk_cli.specs.Words.{HasStatus, IsWithinLimits};
 ghost use Rattle.rtk_cli.specs.declared.words.WordsFault.TheVariants.{Clap};
 
 use crate::convert_words::{Options, conversion};

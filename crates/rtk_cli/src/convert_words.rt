@@ -1,7 +1,7 @@
 //! The words of `convert`: what its options and links say.
 
 ghost use Rattle.std.specs.Prelude.{◌≡◌, map, IfOk, IfErr, MatchOption};
-ghost use Rattle.rtk_cli.specs.ConvertWords.{SaysConversion};
+ghost use Rattle.rtk_cli.specs.Steps.ConvertWords.{SaysConversion};
 ghost use Rattle.rtk_cli.specs.declared.words.WordsFault.TheVariants.{Bad};
 ghost use Rattle.rtk_cli.specs.Words.{AreLinkNames, HasStatus, IsWithinLimits};
 

@@ -3,7 +3,8 @@
 ghost use Rattle.std.specs.Prelude.{◌≡◌, ◌≤◌, ◌+◌, sum_by, IfOk, IsErrOf};
 ghost use Rattle.std.specs.Io.Buffered.{reader_capacity};
 ghost use Rattle.rtk_convert.specs.ReadSteps.{HasCalled};
-ghost use Rattle.rtk_cli.specs.Converting.{most_reads, read_at_once, status_of};
+ghost use Rattle.rtk_cli.specs.Converting.{status_of};
+ghost use Rattle.rtk_cli.specs.Steps.ReadLimits.{most_reads, read_at_once};
 
 use crate::exit_status::{DONE, FAILED, REFUSED, fail, fail_to_open, refuse};
 use crate::files::{Capture, Reads, Writes};

@@ -3,7 +3,7 @@
 ghost use Rattle.std.specs.Prelude.{◌≡◌, ◌≢◌, ℕ, ◌+◌, ◌/◌, ◌%◌, ◌<◌, ◌≤◌, MatchOption};
 ghost use Rattle.rtk_obs.specs.declared.time.Civil.{Civil};
 ghost use Rattle.rtk_obs.specs.declared.time.TheConstants.{LAST_MS};
-ghost use Rattle.rtk_cli.specs.MomentText.{moment_text, HasDigits, WritesMoment};
+ghost use Rattle.rtk_cli.specs.Steps.MomentText.{moment_text, HasDigits, WritesMoment};
 
 use rtk_obs::{Civil, GpsMs, of_civil};
 

@@ -67,11 +67,11 @@ one_satellite line s t h g e f = sym ((named line s h e).3) ∙ (named line t g 
 
 -- ---- texts, one piece more
 
-pub text-more : {X : Type 0} (f : X → List ℕ) (xs : List X) (x : X) (bytes rest line behind : List ℕ)
-    → bytes ≡ flat_map f xs ++ rest → rest ≡ line ++ behind → line ≡ f x → bytes ≡ flat_map f (xs ++ x ∷ []) ++ behind
-text-more f xs x bytes rest line behind e g h =
-    e ∙ ap (λ (t : List ℕ). flat_map f xs ++ t) g ∙ sym (append_assoc (flat_map f xs) line behind)
-    ∙ ap (λ (t : List ℕ). t ++ behind) (ap (λ (t : List ℕ). flat_map f xs ++ t) h ∙ flat_map_more f [] xs x)
+pub text-more : {X : Type 0} (f : X → List ℕ) (xs : List X) (x : X) (bytes rest line after : List ℕ)
+    → bytes ≡ flat_map f xs ++ rest → rest ≡ line ++ after → line ≡ f x → bytes ≡ flat_map f (xs ++ x ∷ []) ++ after
+text-more f xs x bytes rest line after e g h =
+    e ∙ ap (λ (t : List ℕ). flat_map f xs ++ t) g ∙ sym (append_assoc (flat_map f xs) line after)
+    ∙ ap (λ (t : List ℕ). t ++ after) (ap (λ (t : List ℕ). flat_map f xs ++ t) h ∙ flat_map_more f [] xs x)
 
 pub out-more : {X : Type 0} (f : X → List ℕ) (xs : List X) (x : X) (old mid new line : List ℕ)
     → mid ≡ old ++ flat_map f xs → new ≡ mid ++ line → line ≡ f x → new ≡ old ++ flat_map f (xs ++ x ∷ [])
@@ -137,10 +137,10 @@ pub satellite_lines-more : (epochs : List EpochTableView) (e : EpochTableView) �
 satellite_lines-more epochs e = sum_by-append (λ (e : EpochTableView). length e.rows) epochs (e ∷ []) ∙ omega arith
 
 -- the text of a record, of its epoch line and its rows
-pub record-is : (bytes line behind : List ℕ) (c : Civil) (rows : List SatelliteRow) (count : ℕ) (rest text : List ℕ)
-    → bytes ≡ line ++ behind → line ≡ epoch_line c count → behind ≡ flat_map satellite_line rows ++ rest → length rows ≡ count
+pub record-is : (bytes line after : List ℕ) (c : Civil) (rows : List SatelliteRow) (count : ℕ) (rest text : List ℕ)
+    → bytes ≡ line ++ after → line ≡ epoch_line c count → after ≡ flat_map satellite_line rows ++ rest → length rows ≡ count
     → text ≡ epoch_line c (length rows) ++ flat_map satellite_line rows → bytes ≡ text ++ rest
-record-is bytes line behind c rows count rest text e f g h t =
+record-is bytes line after c rows count rest text e f g h t =
     let first : line ≡ epoch_line c (length rows) = f ∙ ap (λ (n : ℕ). epoch_line c n) (sym h) in
     e ∙ ap (λ (xs : List ℕ). line ++ xs) g ∙ ap (λ (xs : List ℕ). xs ++ (flat_map satellite_line rows ++ rest)) first
     ∙ sym (append_assoc (epoch_line c (length rows)) (flat_map satellite_line rows) rest) ∙ ap (λ (xs : List ℕ). xs ++ rest) (sym t)

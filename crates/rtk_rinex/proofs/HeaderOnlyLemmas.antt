@@ -53,9 +53,9 @@ only_shown text rest h c s d t u shows g e =
     let inside : 3 * m / 13 < lines_of h = omega (arith, less, lt, n) in
     name_is text h.listed m e g.heading.1.0 (omega (arith, less, lt, n))
     (agreed text h s t k (9 + 3 * m / 13) g a (omega (arith, inside)) (omega (arith, inside)) ∙ ap (λ (r : List ℕ). ended r) (in_types h s t (3 * m / 13) inside)))) in
-    let behind : 9 + (lines_of h + 1) ≡ 10 + lines_of h = omega arith in
+    let last_place : 9 + (lines_of h + 1) ≡ 10 + lines_of h = omega arith in
     let row_is : line_at (10 + lines_of h) text ≡ ended (row (first_text (reading_of t)) (codes "TIME OF FIRST OBS")) =
-    agreed text h s t k (10 + lines_of h) g a (omega arith) (omega arith) ∙ ap (λ (r : List ℕ). ended r) (ap (λ (m : ℕ). get_or (rows h s t) m []) (sym behind) ∙ in_last h s t 1) in
+    agreed text h s t k (10 + lines_of h) g a (omega arith) (omega arith) ∙ ap (λ (r : List ℕ). ended r) (ap (λ (m : ℕ). get_or (rows h s t) m []) (sym last_place) ∙ in_last h s t 1) in
     let first : u ≡ t = shows.first n (row_is ∙ sym (row_ended (first_text (reading_of t)) (codes "TIME OF FIRST OBS"))) in (
       same_heading h.marker c.marker h.listed c.listed h.made c.made (sym marker) (sym listed) (sym made),
       same_site s.x d.x s.y d.y s.z d.z s.height d.height (sym place.0) (sym place.1) (sym place.2) (sym height),

@@ -57,8 +57,8 @@ pub length-rows : (h : HeadView) (s : PositionView) (t : ℕ) → length (rows h
 unfolding rows
 length-rows h s t =
     let m = length-type_rows 0 (lines_of h) h.listed in
-    let behind = length-append (type_rows 0 (lines_of h) h.listed) (last_rows t) in
-    length-append (first_rows h s) (type_rows 0 (lines_of h) h.listed ++ last_rows t) ∙ omega (arith, m, behind)
+    let after_first = length-append (type_rows 0 (lines_of h) h.listed) (last_rows t) in
+    length-append (first_rows h s) (type_rows 0 (lines_of h) h.listed ++ last_rows t) ∙ omega (arith, m, after_first)
 
 pub in_first : (h : HeadView) (s : PositionView) (t k : ℕ) → k < 9 → get_or (rows h s t) k [] ≡ get_or (first_rows h s) k []
 unfolding rows
@@ -89,8 +89,8 @@ line_within h s t k g lt =
     let n = length-rows h s t in
     ap (line_at k) (sym (rows_text h s t g.heading.1.0)) ∙ line_in (rows h s t) k (rows_good h s t g.heading g.site g.first) (omega (arith, n, lt))
 
-pub line_behind : (h : HeadView) (s : PositionView) (t k : ℕ) → IsGood h s t → 13 + lines_of h ≤ k → line_at k (header_text h s t) ≡ []
-line_behind h s t k g le =
+pub line_after_header : (h : HeadView) (s : PositionView) (t k : ℕ) → IsGood h s t → 13 + lines_of h ≤ k → line_at k (header_text h s t) ≡ []
+line_after_header h s t k g le =
     let n = length-rows h s t in
     ap (line_at k) (sym (rows_text h s t g.heading.1.0)) ∙ line_past (rows h s t) k (rows_good h s t g.heading g.site g.first) (omega (arith, n, le))
 
@@ -282,14 +282,14 @@ row_same text h c s d t u k shows g a lt =
       | inr front ↦
           let low : k < 9 = front.1 in
           in_first c d u k low ∙ front_same text h c s d t u k shows low (agreed text h s t k k g a (omega arith) lt ∙ ap (λ (r : List ℕ). ended r) (in_first h s t k low)) ∙ sym (in_first h s t k low)
-      | inl behind ↦
-          let n = same_count text h c s d t u k shows g a behind.1 in
+      | inl later ↦
+          let n = same_count text h c s d t u k shows g a later.1 in
           let lines : lines_of c ≡ lines_of h = ap (λ (m : ℕ). row_count m) n in
           elim (leb_tells (9 + lines_of h) k) [
             | inr types ↦
                 let j = k - 9 in
-                let place : 9 + j ≡ k = omega (arith, behind.1) in
-                let within : j < lines_of h = omega (arith, behind.1, types.1) in
+                let place : 9 + j ≡ k = omega (arith, later.1) in
+                let within : j < lines_of h = omega (arith, later.1, types.1) in
                 let other : j < lines_of c = omega (arith, within, lines) in
                 ap (λ (m : ℕ). get_or (rows c d u) m []) (sym place) ∙ in_types c d u j other
                 ∙ types_agree text h c s d t u k j shows g a (omega (arith, place)) within n
@@ -312,12 +312,12 @@ line_same text h c s d t u k shows g f a =
       | inl past ↦
           let n = same_count text h c s d t u k shows g a (omega (arith, past.1)) in
           let lines : lines_of c ≡ lines_of h = ap (λ (m : ℕ). row_count m) n in
-          line_behind c d u k f (omega (arith, past.1, lines)) ∙ sym (line_behind h s t k g past.1) ∙ a k (omega arith)
+          line_after_header c d u k f (omega (arith, past.1, lines)) ∙ sym (line_after_header h s t k g past.1) ∙ a k (omega arith)
       | inr within ↦
           let other : k < 13 + lines_of c = elim (leb_tells 9 k) [
             | inr front ↦ omega (arith, front.1)
-            | inl behind ↦
-                let lines : lines_of c ≡ lines_of h = ap (λ (m : ℕ). row_count m) (same_count text h c s d t u k shows g a behind.1) in
+            | inl later ↦
+                let lines : lines_of c ≡ lines_of h = ap (λ (m : ℕ). row_count m) (same_count text h c s d t u k shows g a later.1) in
                 omega (arith, within.1, lines)
           ] in
           line_within c d u k f other ∙ ap (λ (r : List ℕ). ended r) (row_same text h c s d t u k shows g a within.1) ∙ sym (line_within h s t k g within.1) ∙ a k (omega arith)

@@ -198,9 +198,9 @@ parts_next text line more c d u k p l is x =
           let row_is : line_at k file ≡ ended w = own k within.1 ∙ line_within h s t k g within.1 in
           let m = length-rows h s t in
           let good : IsRow w = rows_good h s t g.heading g.site g.first k [] (omega (arith, m, within.1)) in
-          let behind : drop (81 * k) file ≡ line ++ 10 ∷ rest = ap (λ (xs : List ℕ). drop (81 * k) xs) e ∙ drop-exact (81 * k) front (line ++ 10 ∷ rest) f.0 in
+          let after_front : drop (81 * k) file ≡ line ++ 10 ∷ rest = ap (λ (xs : List ℕ). drop (81 * k) xs) e ∙ drop-exact (81 * k) front (line ++ 10 ∷ rest) f.0 in
           let split : w ++ 10 ∷ drop 81 (drop (81 * k) file) ≡ line ++ 10 ∷ rest =
-          sym (append_assoc w (10 ∷ []) (drop 81 (drop (81 * k) file))) ∙ (rw (← row_is) (take-append-drop 81 (drop (81 * k) file))) ∙ behind in
+          sym (append_assoc w (10 ∷ []) (drop 81 (drop (81 * k) file))) ∙ (rw (← row_is) (take-append-drop 81 (drop (81 * k) file))) ∙ after_front in
           let same : w ≡ line = one_line w line (drop 81 (drop (81 * k) file)) rest good.plain l split in
           let long : length (ended line) ≡ 81 = length-append line (10 ∷ []) ∙ (let b = ap length same in omega (arith, b, good.length)) in
           let here : line_at k text ≡ ended line = ap (λ (xs : List ℕ). take 81 xs) (is ∙ sym (append_assoc line (10 ∷ []) more)) ∙ take-exact 81 (ended line) more long in

@@ -16,7 +16,7 @@ use Rattle.rtk_rinex.proofs.HeaderSameLemmas.{IsGood}
 use Rattle.rtk_rinex.proofs.FormLemmas.{IsTold}
 use Rattle.rtk_rinex.proofs.TextLemmas.{no_records}
 use Rattle.rtk_rinex.proofs.OneRecordsLemmas.{IsSame, one_of_records}
-use Rattle.rtk_rinex.proofs.OneHeaderLemmas.{HasFaultAfter, found-behind, one_header, one_number, no_header, one_of_header}
+use Rattle.rtk_rinex.proofs.OneHeaderLemmas.{HasFaultAfter, has-fault-after, one_header, one_number, no_header, one_of_header}
 
 told_of : (c : Cause) → c ≢ OutOfMemory → IsTold c
 told_of HeaderLine h = tt
@@ -26,19 +26,19 @@ told_of Order h = tt
 told_of Truncated h = tt
 told_of OutOfMemory h = absurd (h refl)
 
-behind-of : (bytes : List ℕ) (f : CheckFault) (a : IsFaultOfHeader bytes f) → IsTold f.cause → HasFaultAfter a.0 bytes f.cause
-behind-of bytes f a t = found-behind a.0 bytes f.cause t a.2
+header-fault-of : (bytes : List ℕ) (f : CheckFault) (a : IsFaultOfHeader bytes f) → IsTold f.cause → HasFaultAfter a.0 bytes f.cause
+header-fault-of bytes f a t = has-fault-after a.0 bytes f.cause t a.2
 
 has-header : (bytes : List ℕ) (f : CheckFault) → IsFaultAfterHeader bytes f → HasHeader bytes
 has-header bytes f b = (header_text b.head b.site b.first, b.rest, (b.head, b.site, b.first, b.heading, b.good_site, b.moment, refl), b.text)
 
 of_header : (bytes : List ℕ) (f g : CheckFault) → IsFaultOfHeader bytes f → IsFaultOfHeader bytes g → IsTold f.cause → IsTold g.cause → IsSame f g
 of_header bytes f g a b t u =
-    let one = one_of_header a.0 b.0 bytes f.cause g.cause (behind-of bytes f a t) (behind-of bytes g b u) t u in
+    let one = one_of_header a.0 b.0 bytes f.cause g.cause (header-fault-of bytes f a t) (header-fault-of bytes g b u) t u in
     (omega (arith, a.1, b.1, one.0), one.1)
 
 header_or_records : (bytes : List ℕ) (f g : CheckFault) → IsFaultOfHeader bytes f → IsFaultAfterHeader bytes g → IsTold f.cause → ⊥
-header_or_records bytes f g a b t = no_header a.0 bytes f.cause t (behind-of bytes f a t) (has-header bytes g b)
+header_or_records bytes f g a b t = no_header a.0 bytes f.cause t (header-fault-of bytes f a t) (has-header bytes g b)
 
 of_records : (bytes : List ℕ) (f g : CheckFault) → IsFaultAfterHeader bytes f → IsFaultAfterHeader bytes g → IsTold f.cause → IsTold g.cause → IsSame f g
 of_records bytes f g a b t u =
@@ -88,6 +88,6 @@ pub fault-none : FaultMeansNoTable
 fault-none bytes f a h u is e =
     let told = told_of f.cause h in
     ⊎_elim
-    (λ head. no_header head.0 bytes f.cause told (behind-of bytes f head told) (table-header bytes u is e))
+    (λ head. no_header head.0 bytes f.cause told (header-fault-of bytes f head told) (table-header bytes u is e))
     (λ records. records_or_table bytes f records told u is e)
     a

@@ -142,13 +142,13 @@ stands n bytes cause b =
       fault = rw front at b.6;
     }
 
-pub found-behind : (n : ℕ) (bytes : List ℕ) (cause : Cause) → IsTold cause → IsFaultAfter n bytes cause → HasFaultAfter n bytes cause
-found-behind n bytes HeaderLine told b = stands n bytes HeaderLine b
-found-behind n bytes Columns told b = stands n bytes Columns b
-found-behind n bytes Value told b = stands n bytes Value b
-found-behind n bytes Order told b = stands n bytes Order b
-found-behind n bytes Truncated told b = stands n bytes Truncated b
-found-behind n bytes OutOfMemory told b = absurd told
+pub has-fault-after : (n : ℕ) (bytes : List ℕ) (cause : Cause) → IsTold cause → IsFaultAfter n bytes cause → HasFaultAfter n bytes cause
+has-fault-after n bytes HeaderLine told b = stands n bytes HeaderLine b
+has-fault-after n bytes Columns told b = stands n bytes Columns b
+has-fault-after n bytes Value told b = stands n bytes Value b
+has-fault-after n bytes Order told b = stands n bytes Order b
+has-fault-after n bytes Truncated told b = stands n bytes Truncated b
+has-fault-after n bytes OutOfMemory told b = absurd told
 
 -- a header is a table without epochs
 table_begins : (text x : List ℕ) → IsHeader (text ++ x) → BeginsTable text
@@ -258,27 +258,27 @@ one_line_cause front other rest Value d t u a b = absurd a
 one_line_cause front other rest Order d t u a b = absurd a
 one_line_cause front other rest OutOfMemory d t u a b = absurd t
 
-behind_more : (n m : ℕ) (bytes : List ℕ) (c d : Cause) (a : HasFaultAfter n bytes c) (b : HasFaultAfter m bytes d) (more : List (List ℕ))
+lines_with_more : (n m : ℕ) (bytes : List ℕ) (c d : Cause) (a : HasFaultAfter n bytes c) (b : HasFaultAfter m bytes d) (more : List (List ℕ))
     → IsTold c → IsTold d → b.lines ≡ a.lines ++ more → a.rest ≡ text_of more ++ b.rest → (n ≡ m) × (c ≡ d)
-behind_more n m bytes c d a b [] t u e text =
+lines_with_more n m bytes c d a b [] t u e text =
     let size = ap length (e ∙ append-nil a.lines) in
     let fault : IsLineFault (text_of b.lines) a.rest d = rw text b.fault in
     (omega (arith, size, a.size, b.size), one_line_cause (text_of a.lines) (text_of b.lines) a.rest c d t u a.fault fault)
-behind_more n m bytes c d a b (l ∷ more) t u e text =
+lines_with_more n m bytes c d a b (l ∷ more) t u e text =
     absurd (goes_on n bytes c a b.lines l more b.rest b.begins.0 t b.are_lines e text b.begins.1)
 
-behind_ordered : (n m : ℕ) (bytes : List ℕ) (c d : Cause) → HasFaultAfter n bytes c → HasFaultAfter m bytes d → IsTold c → IsTold d
+lines_ordered : (n m : ℕ) (bytes : List ℕ) (c d : Cause) → HasFaultAfter n bytes c → HasFaultAfter m bytes d → IsTold c → IsTold d
     → n ≤ m → (n ≡ m) × (c ≡ d)
-behind_ordered n m bytes c d a b t u le =
+lines_ordered n m bytes c d a b t u le =
     let goes = same_lines a.lines b.lines a.rest b.rest a.are_lines b.are_lines (omega (arith, a.size, b.size, le)) (sym a.text ∙ b.text) in
-    behind_more n m bytes c d a b goes.more t u goes.list goes.text
+    lines_with_more n m bytes c d a b goes.more t u goes.list goes.text
 
 pub one_of_header : (n m : ℕ) (bytes : List ℕ) (c d : Cause) → HasFaultAfter n bytes c → HasFaultAfter m bytes d → IsTold c → IsTold d
     → (n ≡ m) × (c ≡ d)
 one_of_header n m bytes c d a b t u =
     elim (leb_tells n m) [
-      | inl low ↦ behind_ordered n m bytes c d a b t u low.1
+      | inl low ↦ lines_ordered n m bytes c d a b t u low.1
       | inr high ↦
-          let turned = behind_ordered m n bytes d c b a u t (omega (arith, high.1)) in
+          let turned = lines_ordered m n bytes d c b a u t (omega (arith, high.1)) in
           (sym turned.0, sym turned.1)
     ]

@@ -112,16 +112,16 @@ IsSame f g = (f.line ≡ g.line) × (f.cause ≡ g.cause)
 pub turned : (f g : CheckFault) → IsSame g f → IsSame f g
 turned f g s = (sym s.0, sym s.1)
 
-rows_behind : (n count before : ℕ) (bytes : List ℕ) (f g : CheckFault) (a : IsFaultOfRows n count before bytes f) (b : IsFaultOfRows n count before bytes g)
+rows_with_more : (n count before : ℕ) (bytes : List ℕ) (f g : CheckFault) (a : IsFaultOfRows n count before bytes f) (b : IsFaultOfRows n count before bytes g)
     → (more : List SatelliteRow) → IsTold f.cause → IsTold g.cause
     → b.rows ≡ a.rows ++ more → a.rest ≡ flat_map satellite_line more ++ b.rest → IsSame f g
-rows_behind n count before bytes f g a b [] t u e text =
+rows_with_more n count before bytes f g a b [] t u e text =
     let rows : b.rows ≡ a.rows = e ∙ append-nil a.rows in
     let cause = rw (rows, ← text) at b.cause in (
       a.line ∙ (let size = ap length rows in omega (arith, size)) ∙ sym b.line,
       one_beginning (IsSatelliteFault n (last_satellite None a.rows)) a.rest f.cause g.cause (one_satellite_cause n (last_satellite None a.rows)) t u a.cause cause,
     )
-rows_behind n count before bytes f g a b (r ∷ more) t u e text =
+rows_with_more n count before bytes f g a b (r ∷ more) t u e text =
     let good : All (IsTableRow n) (a.rows ++ r ∷ more) = rw e at (rows-all n None b.rows b.are_rows) in
     let rise : AllPairs Below (a.rows ++ r ∷ more) = rw e at (rows-rise n None b.rows b.are_rows) in
     absurd (no_satellite_fault n (last_satellite None a.rows) a.rest f.cause r (flat_map satellite_line more ++ b.rest) t a.cause
@@ -132,7 +132,7 @@ rows_ordered : (n count before : ℕ) (bytes : List ℕ) (f g : CheckFault) → 
     → IsTold f.cause → IsTold g.cause → length a.rows ≤ length b.rows → IsSame f g
 rows_ordered n count before bytes f g le a b t u long =
     let goes = same_rows n a.rows b.rows a.rest b.rest le (rows-all n None a.rows a.are_rows) (rows-all n None b.rows b.are_rows) long (sym a.text ∙ b.text) in
-    rows_behind n count before bytes f g a b goes.more t u goes.list goes.text
+    rows_with_more n count before bytes f g a b goes.more t u goes.list goes.text
 
 one_of_rows : (n count before : ℕ) (bytes : List ℕ) (f g : CheckFault) → n ≤ 16 → IsFaultOfRows n count before bytes f → IsFaultOfRows n count before bytes g
     → IsTold f.cause → IsTold g.cause → IsSame f g
@@ -167,9 +167,9 @@ line_or_rows : (n first : ℕ) (last : Option ℕ) (before : ℕ) (text : List �
 line_or_rows n first last before text f g a b t =
     good_line first last text f.cause b.time b.count b.rest t a.cause b.moment b.range b.next b.text
 
-one_behind_line : (n first : ℕ) (last : Option ℕ) (before : ℕ) (text : List ℕ) (f g : CheckFault) → n ≤ 16 → IsFaultAfterEpochLine n first last before text f
+one_after_line : (n first : ℕ) (last : Option ℕ) (before : ℕ) (text : List ℕ) (f g : CheckFault) → n ≤ 16 → IsFaultAfterEpochLine n first last before text f
     → IsFaultAfterEpochLine n first last before text g → IsTold f.cause → IsTold g.cause → IsSame f g
-one_behind_line n first last before text f g le a b t u =
+one_after_line n first last before text f g le a b t u =
     let line = same_line (epoch_line (reading_of a.time) a.count) (epoch_line (reading_of b.time) b.count) a.rest b.rest
     (epoch_line-line a.time a.count a.moment (omega (arith, a.range))) (epoch_line-line b.time b.count b.moment (omega (arith, b.range))) (sym a.text ∙ b.text) in
     let one = one_epoch_line a.time b.time a.count b.count a.moment b.moment a.range b.range line.0 in
@@ -186,7 +186,7 @@ one_of_record n first last before text f g le a b t u =
     b)
     (λ rows. ⊎_elim
     (λ line. absurd (line_or_rows n first last before text g f line rows u))
-    (λ other. one_behind_line n first last before text f g le rows other t u)
+    (λ other. one_after_line n first last before text f g le rows other t u)
     b)
     a
 
@@ -204,13 +204,13 @@ same_records n (a ∷ epochs) (b ∷ others) x y le h g long e =
     let rest = same_records n epochs others x y le (All-tail (IsTableEpoch n) a epochs h) (All-tail (IsTableEpoch n) b others g) (omega arith) one.1 in
     record { more = rest.more; list = same_cons a b (epochs ++ rest.more) others one.0 rest.list; text = rest.text }
 
-records_behind : (n first before : ℕ) (bytes : List ℕ) (f g : CheckFault) → n ≤ 16 → (a : IsFaultOfRecords n first before bytes f) (b : IsFaultOfRecords n first before bytes g)
+records_with_more : (n first before : ℕ) (bytes : List ℕ) (f g : CheckFault) → n ≤ 16 → (a : IsFaultOfRecords n first before bytes f) (b : IsFaultOfRecords n first before bytes g)
     → (more : List EpochTableView) → IsTold f.cause → IsTold g.cause → b.epochs ≡ a.epochs ++ more → a.rest ≡ flat_map record_text more ++ b.rest → IsSame f g
-records_behind n first before bytes f g le a b [] t u e text =
+records_with_more n first before bytes f g le a b [] t u e text =
     let epochs : b.epochs ≡ a.epochs = e ∙ append-nil a.epochs in
     let next : IsFaultOfRecord n first (last_time None a.epochs) (before + record_lines a.epochs) a.rest g = rw (epochs, ← text) at b.next in
     one_of_record n first (last_time None a.epochs) (before + record_lines a.epochs) a.rest f g le a.next next t u
-records_behind n first before bytes f g le a b (q ∷ more) t u e text =
+records_with_more n first before bytes f g le a b (q ∷ more) t u e text =
     let good : All (IsTableEpoch n) (a.epochs ++ q ∷ more) = rw e at (epochs-all n first None b.epochs b.are_epochs) in
     let rise : AllPairs Earlier (a.epochs ++ q ∷ more) = rw e at (epochs-rise n first None b.epochs b.are_epochs) in
     let start : StartsAt first (a.epochs ++ q ∷ more) = rw e at (epochs-start n first b.epochs b.are_epochs) in
@@ -222,7 +222,7 @@ records_ordered : (n first before : ℕ) (bytes : List ℕ) (f g : CheckFault) �
     → IsTold f.cause → IsTold g.cause → length a.epochs ≤ length b.epochs → IsSame f g
 records_ordered n first before bytes f g le a b t u long =
     let goes = same_records n a.epochs b.epochs a.rest b.rest le (epochs-all n first None a.epochs a.are_epochs) (epochs-all n first None b.epochs b.are_epochs) long (sym a.text ∙ b.text) in
-    records_behind n first before bytes f g le a b goes.more t u goes.list goes.text
+    records_with_more n first before bytes f g le a b goes.more t u goes.list goes.text
 
 -- records have one fault
 pub one_of_records : (n first before : ℕ) (bytes : List ℕ) (f g : CheckFault) → n ≤ 16 → IsFaultOfRecords n first before bytes f → IsFaultOfRecords n first before bytes g

@@ -69,9 +69,9 @@ same_table : (h k : HeadView) (s t : PositionView) (f g : ℕ) (a b : List Epoch
 same_table h k s t f g a b e₁ e₂ e₃ e₄ = cc
 
 -- the header of a table's text, and its epochs' text
-epochs-behind : (bytes rest : List ℕ) (h : HeadView) (s : PositionView) (first : ℕ) (u : WellFormedTable) → bytes ≡ header_text h s first ++ rest
+epochs-after-header : (bytes rest : List ℕ) (h : HeadView) (s : PositionView) (first : ℕ) (u : WellFormedTable) → bytes ≡ header_text h s first ++ rest
     → bytes ≡ table_text u → u.head ≡ h → u.site ≡ s → u.first ≡ first → rest ≡ flat_map record_text u.epochs
-epochs-behind bytes rest h s first u e f a b c =
+epochs-after-header bytes rest h s first u e f a b c =
     let same : header_text u.head u.site u.first ≡ header_text h s first = rw (a, b, c) refl in
     append_cancel_left (header_text h s first) rest (flat_map record_text u.epochs)
     (sym e ∙ f ∙ ap (λ (t : List ℕ). t ++ flat_map record_text u.epochs) same)
@@ -112,7 +112,7 @@ holds bytes rest old new h s first records lines heading site moment e only r =
       text = e ∙ ap (λ (t : List ℕ). header_text h s first ++ t) r.text;
       only = λ u is f.
           let o = only u.head u.site u.first (flat_map record_text u.epochs) is.head is.site is.first f in
-          let rest_is = epochs-behind bytes rest h s first u e f o.0 o.1 o.2 in
+          let rest_is = epochs-after-header bytes rest h s first u e f o.0 o.1 o.2 in
           let good : All (IsTableEpoch n) u.epochs = rw o.0 at is.epochs in
           same_table u.head h u.site s u.first first u.epochs r.epochs o.0 o.1 o.2 (same_list n r.epochs u.epochs le all good (sym r.text ∙ rest_is));
       epochs = r.count;
@@ -143,9 +143,9 @@ rows-fault n before text f rows others (r ∷ more) rest y told b h p e t less =
     no_satellite_fault n (last_satellite None rows) rest f.cause r (flat_map satellite_line more ++ y) told b is (row-next rows r more rise)
     (t ∙ append_assoc (satellite_line r) (flat_map satellite_line more) y)
 
-behind-fault : (n first : ℕ) (last : Option ℕ) (before : ℕ) (text : List ℕ) (f : CheckFault) (a : EpochTableView) (y : List ℕ) → n ≤ 16 → IsTold f.cause
+fault-after-line : (n first : ℕ) (last : Option ℕ) (before : ℕ) (text : List ℕ) (f : CheckFault) (a : EpochTableView) (y : List ℕ) → n ≤ 16 → IsTold f.cause
     → IsFaultAfterEpochLine n first last before text f → IsTableEpoch n a → text ≡ record_text a ++ y → ⊥
-behind-fault n first last before text f a y le told b h e =
+fault-after-line n first last before text f a y le told b h e =
     let c = count-of n a h in
     let line = same_line (epoch_line (reading_of b.time) b.count) (epoch_line (reading_of a.time) (length a.rows)) b.rest (flat_map satellite_line a.rows ++ y)
     (epoch_line-line b.time b.count b.moment (omega (arith, b.range))) (epoch_line-of n a h) (sym b.text ∙ e ∙ epoch-front n a y h) in
@@ -160,15 +160,15 @@ pub record-fault : (n first : ℕ) (last : Option ℕ) (before : ℕ) (text : Li
 record-fault n first last before text f a y le told b h next e =
     ⊎_elim
     (λ line. no_epoch_fault n first last text f.cause a (flat_map satellite_line a.rows ++ y) told line.cause h next (e ∙ epoch-front n a y h))
-    (λ behind. behind-fault n first last before text f a y le told behind h e) b
+    (λ after. fault-after-line n first last before text f a y le told after h e) b
 
 end-fault : (n first : ℕ) (last : Option ℕ) (before : ℕ) (text : List ℕ) (f : CheckFault) → IsFaultOfRecord n first last before text f → text ≡ [] → ⊥
 end-fault n first last before text f b e =
     ⊎_elim (λ line. line.some e)
-    (λ behind.
-    let long = length-line (epoch_line (reading_of behind.time) behind.count) behind.time behind.count behind.moment behind.range refl in
-    let zero = ap length (sym behind.text ∙ e) in
-    omega (arith, long, length-append (epoch_line (reading_of behind.time) behind.count) behind.rest, zero))
+    (λ after.
+    let long = length-line (epoch_line (reading_of after.time) after.count) after.time after.count after.moment after.range refl in
+    let zero = ap length (sym after.text ∙ e) in
+    omega (arith, long, length-append (epoch_line (reading_of after.time) after.count) after.rest, zero))
     b
 
 next-fault : (n first before : ℕ) (f : CheckFault) (epochs others more : List EpochTableView) (rest : List ℕ) → n ≤ 16 → IsTold f.cause
@@ -202,7 +202,7 @@ pub records-none : (bytes rest : List ℕ) (h : HeadView) (s : PositionView) (fi
 records-none bytes rest h s first lines f heading e only r =
     without bytes f.cause (λ told u is same.
     let o = only u.head u.site u.first (flat_map record_text u.epochs) is.head is.site is.first same in
-    let rest_is = epochs-behind bytes rest h s first u e same o.0 o.1 o.2 in
+    let rest_is = epochs-after-header bytes rest h s first u e same o.0 o.1 o.2 in
     let good : All (IsTableEpoch (length h.listed)) u.epochs = rw o.0 at is.epochs in
     let start : StartsAt first u.epochs = rw o.2 at is.starts in
     no_records (length h.listed) first lines rest f u.epochs heading.1.0.1 told r good is.rise start rest_is)

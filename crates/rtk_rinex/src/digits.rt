@@ -23,7 +23,7 @@ pub(crate) fn after(text: &[u8], from: usize) -> &[u8]
 }
 
 /// The bytes of a text in `width` columns after the first `from`, as far as the text has them.
-pub(crate) fn columns(text: &[u8], from: usize, width: usize) -> &[u8]
+pub(crate) fn columns_at(text: &[u8], from: usize, width: usize) -> &[u8]
     ensures value { result.now ≡ take width (drop from text.now) }
     ensures len { length result.now ≤ width }
 {
@@ -44,7 +44,7 @@ fn with_digit(value: u64, byte: u8) -> u64
 }
 
 /// The number that the digits of a text write, whatever stands between them.
-pub(crate) fn digits(text: &[u8]) -> u64
+pub(crate) fn number_of_digits(text: &[u8]) -> u64
     requires { length text.now ≤ 18 }
     ensures value { result ≡ digits_from 0 text.now }
     ensures width { result < 10 ^ length text.now }
@@ -70,11 +70,11 @@ fn contains_minus(text: &[u8]) -> bool
 }
 
 /// The number that the digits of a text write, negative if it has a minus sign.
-pub(crate) fn number(text: &[u8]) -> i64
+pub(crate) fn number_in(text: &[u8]) -> i64
     requires { length text.now ≤ 18 }
     ensures { result ≡ number_in text.now }
 {
-    let magnitude = digits(text) as i64;
+    let magnitude = number_of_digits(text) as i64;
     if contains_minus(text) {
         -magnitude
     } else {
@@ -83,17 +83,17 @@ pub(crate) fn number(text: &[u8]) -> i64
 }
 
 /// The number that the digits in these columns write.
-pub(crate) fn number_in(line: &[u8], from: usize, width: usize) -> u64
+pub(crate) fn number_at(line: &[u8], from: usize, width: usize) -> u64
     requires { width ≤ 18 }
     ensures value { result ≡ digits_from 0 (take width (drop from line.now)) }
     ensures bound { result < 10 ^ width }
 {
-    digits(columns(line, from, width))
+    number_of_digits(columns_at(line, from, width))
 }
 
 /// The number in 14 columns, negative if they have a minus sign.
-pub(crate) fn signed_in(line: &[u8], from: usize) -> i64
+pub(crate) fn signed_number_at(line: &[u8], from: usize) -> i64
     ensures { result ≡ number_in (take 14 (drop from line.now)) }
 {
-    number(columns(line, from, 14))
+    number_in(columns_at(line, from, 14))
 }

@@ -6,7 +6,7 @@ ghost use Rattle.rtk_rinex.specs.Reading.{IsMoment, reading_of};
 ghost use Rattle.rtk_rinex.specs.Record.{epoch_columns, epoch_line};
 ghost use Rattle.rtk_rinex.specs.Steps.CheckValues.{seconds_in, civil_in, count_in};
 
-use crate::digits::digits;
+use crate::digits::number_of_digits;
 use crate::record_text::put_epoch_line;
 use rtk_obs::{Civil, GpsMs, of_civil};
 use std::alloc::AllocError;
@@ -30,11 +30,11 @@ fn reading_in(line: &[u8], seconds: u64) -> Civil
     ensures { result ≡ civil_in line.now }
 {
     Civil {
-        year: digits(&line[2..6]) as u16,
-        month: digits(&line[7..9]) as u8,
-        day: digits(&line[10..12]) as u8,
-        hour: digits(&line[13..15]) as u8,
-        minute: digits(&line[16..18]) as u8,
+        year: number_of_digits(&line[2..6]) as u16,
+        month: number_of_digits(&line[7..9]) as u8,
+        day: number_of_digits(&line[10..12]) as u8,
+        hour: number_of_digits(&line[13..15]) as u8,
+        minute: number_of_digits(&line[16..18]) as u8,
         second: (seconds / 10_000_000) as u8,
         millisecond: (seconds / 10_000 % 1000) as u16,
     }
@@ -49,7 +49,7 @@ fn stamp_in(columns: &[u8]) -> Option<EpochStamp>
         (λ s. IsMoment s.time × IsInRange 1 32 s.count × (s.reading ≡ reading_of s.time)
         × ((t n : ℕ) → IsMoment t → IsInRange 1 32 n → columns.now ≡ epoch_columns (reading_of t) n → (s.time ≡ t) × (s.count ≡ n))) }
 {
-    let seconds = digits(&columns[18..29]);
+    let seconds = number_of_digits(&columns[18..29]);
     if seconds >= 600_000_000 {
         return None;
     }
@@ -57,7 +57,7 @@ fn stamp_in(columns: &[u8]) -> Option<EpochStamp>
     let Some(time) = of_civil(reading) else {
         return None;
     };
-    let count = digits(columns.split_at(32).1) as usize;
+    let count = number_of_digits(columns.split_at(32).1) as usize;
     if count == 0 || count > 32 {
         return None;
     }

@@ -16,7 +16,7 @@ ghost use Rattle.std.specs.Int.{IsInRange};
 ghost use Rattle.std.specs.Prelude.{◌≡◌, ◌≢◌, ℕ, ◌+◌, ◌*◌, ◌%◌, ◌/◌, ◌<◌, ◌≤◌, List, ◌++◌, length, take, drop, codes, decimal, pos, AllPairs, slice_index_or, MatchOption, ◌^◌, ◌∷◌, Decides, IfOk, IfErr};
 
 use crate::check_fault::{Cause, CheckFault};
-use crate::digits::{columns, number_in, signed_in};
+use crate::digits::{columns_at, number_at, signed_number_at};
 use crate::head::{Head, is_marker};
 use crate::header_text::put_header;
 use crate::record_text::trimmed_len;
@@ -55,12 +55,12 @@ fn made_reading(line: &[u8]) -> Civil
     ensures { result ≡ made_civil line.now }
 {
     Civil {
-        year: number_in(line, 40, 4) as u16,
-        month: number_in(line, 44, 2) as u8,
-        day: number_in(line, 46, 2) as u8,
-        hour: number_in(line, 49, 2) as u8,
-        minute: number_in(line, 51, 2) as u8,
-        second: number_in(line, 53, 2) as u8,
+        year: number_at(line, 40, 4) as u16,
+        month: number_at(line, 44, 2) as u8,
+        day: number_at(line, 46, 2) as u8,
+        hour: number_at(line, 49, 2) as u8,
+        minute: number_at(line, 51, 2) as u8,
+        second: number_at(line, 53, 2) as u8,
         millisecond: 0,
     }
 }
@@ -82,7 +82,7 @@ fn read_marker(line: &[u8]) -> &[u8]
     ensures good { IsMarker result.now }
     ensures shown { (m : List ℕ) → IsMarker m → line.now ≡ header_line m (codes "MARKER NAME") → result.now ≡ m }
 {
-    let content = columns(line, 0, 60);
+    let content = columns_at(line, 0, 60);
     let marker = content.split_at(trimmed_len(content)).0;
     if !is_marker(marker) {
         return b"-";
@@ -97,9 +97,9 @@ fn position_in(line: &[u8], height: u16) -> Option<Position>
         (HasFields (number_in (take 14 (drop 0 line.now))) (number_in (take 14 (drop 14 line.now))) (number_in (take 14 (drop 28 line.now))) height) }
 {
     Position::new(
-        signed_in(line, 0),
-        signed_in(line, 14),
-        signed_in(line, 28),
+        signed_number_at(line, 0),
+        signed_number_at(line, 14),
+        signed_number_at(line, 28),
         height,
     )
 }
@@ -125,7 +125,7 @@ fn read_height(line: &[u8]) -> u16
     ensures { (h : ℕ) → h < 65_536
         → line.now ≡ header_line (fixed 4 14 (pos h) ++ codes "        0.0000        0.0000") (codes "ANTENNA: DELTA H/E/N") → result ≡ h }
 {
-    let height = number_in(line, 0, 14);
+    let height = number_at(line, 0, 14);
     if height > 65_535 {
         return 0;
     }
@@ -138,7 +138,7 @@ fn read_code_count(line: &[u8]) -> usize
     ensures shown { (n : ℕ) (rest : List ℕ) → IsInRange 1 16 n
         → line.now ≡ header_line (codes "G  " ++ right 3 (decimal (3 * n)) ++ rest) (codes "SYS / # / OBS TYPES") → result ≡ n }
 {
-    let count = number_in(line, 3, 3) as usize / 3;
+    let count = number_at(line, 3, 3) as usize / 3;
     if count == 0 || count > 16 {
         return 1;
     }
@@ -150,7 +150,7 @@ fn text_line(text: &[u8], lines: usize) -> &[u8]
     requires { 81 * lines < 2 ^ 64 }
     ensures { result.now ≡ line_at lines text.now }
 {
-    columns(text, 81 * lines, 81)
+    columns_at(text, 81 * lines, 81)
 }
 
 // The name of a code in the lines of observation types, before which `before` codes stand.
@@ -158,7 +158,7 @@ fn read_name(text: &[u8], before: usize) -> &[u8]
     requires { before < 16 }
     ensures { result.now ≡ name_at before text.now }
 {
-    columns(
+    columns_at(
         text_line(text, 9 + 3 * before / 13),
         8 + 4 * (3 * before % 13),
         2,
@@ -228,11 +228,11 @@ fn first_reading(line: &[u8], seconds: u64) -> Civil
     ensures { result ≡ first_civil line.now }
 {
     Civil {
-        year: number_in(line, 2, 4) as u16,
-        month: number_in(line, 10, 2) as u8,
-        day: number_in(line, 16, 2) as u8,
-        hour: number_in(line, 22, 2) as u8,
-        minute: number_in(line, 28, 2) as u8,
+        year: number_at(line, 2, 4) as u16,
+        month: number_at(line, 10, 2) as u8,
+        day: number_at(line, 16, 2) as u8,
+        hour: number_at(line, 22, 2) as u8,
+        minute: number_at(line, 28, 2) as u8,
         second: (seconds / 10_000_000) as u8,
         millisecond: (seconds / 10_000 % 1000) as u16,
     }
@@ -242,7 +242,7 @@ fn first_reading(line: &[u8], seconds: u64) -> Civil
 fn read_first(line: &[u8]) -> GpsMs
     ensures { (t : ℕ) → IsMoment t → line.now ≡ header_line (first_text (reading_of t)) (codes "TIME OF FIRST OBS") → result ≡ t }
 {
-    let seconds = number_in(line, 30, 13);
+    let seconds = number_at(line, 30, 13);
     if seconds >= 600_000_000 {
         return first_moment();
     }
@@ -269,7 +269,7 @@ pub(crate) struct HeaderRead {
 
 // The parts that the lines of a text show. They are good parts in any case; if the text begins with
 // a header, they are the parts of this header.
-fn shown(text: &[u8]) -> HeaderRead
+fn read_header(text: &[u8]) -> HeaderRead
     ensures only { IsOnlyHeader text.now result.head (position_view result.position) result.first }
     ensures good { IsHeadView result.head × IsPositionView (position_view result.position) × IsMoment result.first }
     ensures size { (length (header_text result.head (position_view result.position) result.first) ≡ result.used) × (result.used ≡ 81 * result.lines) }
@@ -342,7 +342,7 @@ pub(crate) fn check_header(out: &mut Vec<u8>, text: &[u8]) -> Result<HeaderRead,
     ensures fault { IfErr result (IsFaultOfHeader text.now) }
     ensures none { IfErr result (λ f. IsWithoutHeader text.now f.cause) }
 {
-    let read = shown(text);
+    let read = read_header(text);
     let start = out.as_slice().len();
     let Ok(()) = put_header(out, &read.head, &read.position, read.first) else {
         return Err(CheckFault {

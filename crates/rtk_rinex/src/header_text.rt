@@ -32,7 +32,7 @@ fn put_left(out: &mut Vec<u8>, text: &[u8], width: usize) -> Result<(), AllocErr
 }
 
 // Appends a line: what stands in its first 60 columns, and its label.
-fn put_line(out: &mut Vec<u8>, content: &[u8], label: &[u8]) -> Result<(), AllocError>
+fn put_header_line(out: &mut Vec<u8>, content: &[u8], label: &[u8]) -> Result<(), AllocError>
     requires content { length content.now ≤ 60 }
     requires label { length label.now ≤ 20 }
     ensures { OnOk result (out.new.items ≡ out.old.items ++ header_line content.now label.now) }
@@ -70,17 +70,17 @@ fn put_first_lines(out: &mut Vec<u8>, marker: &[u8], made: Civil) -> Result<(), 
     requires { length marker.now ≤ 60 }
     ensures { OnOk result (out.new.items ≡ out.old.items ++ first_lines marker.now made) }
 {
-    put_line(
+    put_header_line(
         out,
         b"     3.05           OBSERVATION DATA    G",
         b"RINEX VERSION / TYPE",
     )?;
-    put_line(out, made_content(made).as_slice(), b"PGM / RUN BY / DATE")?;
-    put_line(out, marker, b"MARKER NAME")?;
-    put_line(out, b"GEODETIC", b"MARKER TYPE")?;
-    put_line(out, b"", b"OBSERVER / AGENCY")?;
-    put_line(out, b"", b"REC # / TYPE / VERS")?;
-    put_line(out, b"", b"ANT # / TYPE")?;
+    put_header_line(out, made_content(made).as_slice(), b"PGM / RUN BY / DATE")?;
+    put_header_line(out, marker, b"MARKER NAME")?;
+    put_header_line(out, b"GEODETIC", b"MARKER TYPE")?;
+    put_header_line(out, b"", b"OBSERVER / AGENCY")?;
+    put_header_line(out, b"", b"REC # / TYPE / VERS")?;
+    put_header_line(out, b"", b"ANT # / TYPE")?;
     Ok(())
 }
 
@@ -108,12 +108,12 @@ fn height_content(height: u16) -> ArrayVec<u8, 60>
 fn put_position_lines(out: &mut Vec<u8>, position: &Position) -> Result<(), AllocError>
     ensures { OnOk result (out.new.items ≡ out.old.items ++ position_lines (position_view position.now)) }
 {
-    put_line(
+    put_header_line(
         out,
         position_content(position).as_slice(),
         b"APPROX POSITION XYZ",
     )?;
-    put_line(
+    put_header_line(
         out,
         height_content(position.height).as_slice(),
         b"ANTENNA: DELTA H/E/N",
@@ -173,7 +173,7 @@ fn put_continuation_line(out: &mut Vec<u8>, text: &[u8]) -> Result<(), AllocErro
     if text.len() == 0 {
         return Ok(());
     }
-    put_line(out, continuation_content(text).as_slice(), TYPES)?;
+    put_header_line(out, continuation_content(text).as_slice(), TYPES)?;
     Ok(())
 }
 
@@ -183,7 +183,7 @@ fn put_types_lines(out: &mut Vec<u8>, listed: &[Code]) -> Result<(), AllocError>
 {
     let types = types_of_codes(listed);
     let text = types.as_slice();
-    put_line(
+    put_header_line(
         out,
         types_content(3 * listed.len(), front(text, 52)).as_slice(),
         TYPES,
@@ -216,10 +216,10 @@ fn put_last_lines(out: &mut Vec<u8>, first: Civil) -> Result<(), AllocError>
     requires millisecond { first.millisecond < 1000 }
     ensures { OnOk result (out.new.items ≡ out.old.items ++ last_lines first) }
 {
-    put_line(out, b"DBHZ", b"SIGNAL STRENGTH UNIT")?;
-    put_line(out, first_content(first).as_slice(), b"TIME OF FIRST OBS")?;
-    put_line(out, b"G", b"SYS / PHASE SHIFT")?;
-    put_line(out, b"", b"END OF HEADER")?;
+    put_header_line(out, b"DBHZ", b"SIGNAL STRENGTH UNIT")?;
+    put_header_line(out, first_content(first).as_slice(), b"TIME OF FIRST OBS")?;
+    put_header_line(out, b"G", b"SYS / PHASE SHIFT")?;
+    put_header_line(out, b"", b"END OF HEADER")?;
     Ok(())
 }
 

@@ -120,7 +120,7 @@ fn is_present(value: Option<i64>) -> bool
     }
 }
 
-fn shows(observed: &Observed) -> bool
+fn has_observation(observed: &Observed) -> bool
     ensures { result ≡ has_observation observed.now }
 {
     is_present(observed.range_mm)
@@ -129,11 +129,11 @@ fn shows(observed: &Observed) -> bool
 }
 
 /// Is an observation of the satellite written, so that it has a line?
-pub(crate) fn is_shown(row: &SatelliteRow) -> bool
+pub(crate) fn has_line(row: &SatelliteRow) -> bool
     ensures { result ≡ has_line row.now }
 {
     for observed in row.observed.as_slice() {
-        if shows(observed) {
+        if has_observation(observed) {
             return true;
         }
     }
@@ -146,7 +146,7 @@ fn line_count(rows: &[SatelliteRow]) -> usize
 {
     let mut count = 0;
     for row in rows {
-        if is_shown(row) {
+        if has_line(row) {
             count += 1;
         }
     }
@@ -186,7 +186,7 @@ fn put_satellite_lines(out: &mut Vec<u8>, rows: &[SatelliteRow]) -> Result<(), A
     ensures { OnOk result (out.new.items ≡ out.old.items ++ flat_map satellite_line (filter has_line rows.now)) }
 {
     for row in rows {
-        if is_shown(row) {
+        if has_line(row) {
             put_satellite_line(out, row)?;
         }
     }

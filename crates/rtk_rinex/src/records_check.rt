@@ -12,7 +12,7 @@ ghost use Rattle.std.specs.Int.{IsInRange};
 ghost use Rattle.std.specs.Prelude.{◌≡◌, ◌≢◌, ℕ, ◌+◌, ◌-◌, ◌*◌, ◌<◌, ◌≤◌, ◌++◌, [], ◌∷◌, length, take, slice_get, Option, Some, IsTrue, ◌↔◌, IfOk, IfErr, MatchOption, ◌^◌, List, flat_map, None};
 
 use crate::check_fault::{Cause, CheckFault};
-use crate::digits::digits;
+use crate::digits::number_of_digits;
 use crate::epoch_line_check::{EpochStamp, read_epoch_line};
 use crate::epoch_table::SatelliteRow;
 use crate::header_check::line_end;
@@ -61,7 +61,7 @@ fn satellite_named(line: &[u8]) -> Option<u8>
     let [mark, tens, units, ..] = line else {
         return None;
     };
-    let satellite = digits(&[*tens, *units]) as u8;
+    let satellite = number_of_digits(&[*tens, *units]) as u8;
     if satellite == 0 || satellite > 32 || *mark != b'G' {
         return None;
     }

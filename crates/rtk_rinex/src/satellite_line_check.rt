@@ -7,10 +7,10 @@ ghost use Rattle.rtk_rinex.specs.Table.{IsAbsentOrWritten, IsLock, IsObserved, I
 ghost use Rattle.rtk_rinex.specs.Steps.CheckValues.{are_blanks, value_in, strength_in, slip_in, half_in, observed_in, observations_in, row_in};
 
 use crate::columns::add;
-use crate::digits::{digits, number};
+use crate::digits::{number_in, number_of_digits};
 use crate::epoch_line_check::is_end_from;
 use crate::epoch_table::{Observed, SatelliteRow};
-use crate::record_text::{is_shown, is_written_value, put_satellite_line};
+use crate::record_text::{has_line, is_written_value, put_satellite_line};
 use arrayvec::ArrayVec;
 use std::alloc::AllocError;
 
@@ -81,7 +81,7 @@ fn is_table_row(row: &SatelliteRow, width: usize) -> bool
         && row.satellite <= 32
         && row.observed.len() == width
         && are_observed(row.observed.as_slice())
-        && is_shown(row)
+        && has_line(row)
 }
 
 #[tactic(auto, unfolding(crate::specs::Steps::CheckValues::are_blanks))]
@@ -97,18 +97,18 @@ fn contains_only_blanks(text: &[u8]) -> bool
 }
 
 // The value that 14 columns show.
-fn value(field: &[u8]) -> Option<i64>
+fn value_in(field: &[u8]) -> Option<i64>
     requires { length field.now ≤ 14 }
     ensures { result ≡ value_in field.now }
 {
     if contains_only_blanks(field) {
         None
     } else {
-        Some(number(field))
+        Some(number_in(field))
     }
 }
 
-fn strength(value: Option<i64>) -> Option<u32>
+fn strength_in(value: Option<i64>) -> Option<u32>
     ensures { result ≡ strength_in value }
 {
     match value {
@@ -125,7 +125,7 @@ fn strength(value: Option<i64>) -> Option<u32>
 }
 
 // The slip that the loss-of-lock digit at the front of a text shows.
-fn slip(text: &[u8]) -> bool
+fn slip_in(text: &[u8]) -> bool
     ensures { result ≡ slip_in text.now }
 {
     match text {
@@ -135,7 +135,7 @@ fn slip(text: &[u8]) -> bool
 }
 
 // The half-cycle ambiguity that the loss-of-lock digit at the front of a text shows.
-fn half(text: &[u8]) -> bool
+fn half_in(text: &[u8]) -> bool
     ensures { result ≡ half_in text.now }
 {
     match text {
@@ -145,7 +145,7 @@ fn half(text: &[u8]) -> bool
 }
 
 // What 48 columns show of a code.
-fn observed(columns: &[u8]) -> Observed
+fn observed_in(columns: &[u8]) -> Observed
     requires { length columns.now ≡ 48 }
     ensures { result ≡ observed_in columns.now }
 {
@@ -153,11 +153,11 @@ fn observed(columns: &[u8]) -> Observed
     let (_, lock) = columns.split_at(30);
     let (_, last) = columns.split_at(32);
     Observed {
-        range_mm: value(columns.split_at(14).0),
-        phase_millicycles: value(phase.split_at(14).0),
-        strength_millidbhz: strength(value(last.split_at(14).0)),
-        slip: slip(lock),
-        half: half(lock),
+        range_mm: value_in(columns.split_at(14).0),
+        phase_millicycles: value_in(phase.split_at(14).0),
+        strength_millidbhz: strength_in(value_in(last.split_at(14).0)),
+        slip: slip_in(lock),
+        half: half_in(lock),
     }
 }
 
@@ -182,7 +182,7 @@ fn cells_in(columns: &[u8], width: usize) -> ArrayVec<Observed, 16>
 {
     let mut cells = ArrayVec::new();
     for k in 0..width {
-        cells.push(observed(&columns[48 * k..48 * k + 48]));
+        cells.push(observed_in(&columns[48 * k..48 * k + 48]));
     }
     cells
 }
@@ -196,7 +196,7 @@ fn row_shown(line: &[u8], width: usize) -> SatelliteRow
     let padded = padded(line);
     let columns = padded.as_slice();
     SatelliteRow {
-        satellite: digits(&columns[1..3]) as u8,
+        satellite: number_of_digits(&columns[1..3]) as u8,
         observed: cells_in(&columns[3..], width),
     }
 }

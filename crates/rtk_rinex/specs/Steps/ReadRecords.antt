@@ -1,4 +1,5 @@
--- The records that were read so far: they begin the text, and their lines were appended to the output.
+-- The records that were read so far: they begin the text, and their lines were appended to the
+-- output.
 use Rattle.std.specs.Prelude.{◌≡◌, ℕ, List, ◌++◌, length, flat_map, Option, None}
 use Rattle.rtk_rinex.specs.Record.{EpochTableView, satellite_line, record_text}
 use Rattle.rtk_rinex.specs.Table.{IsTableEpoch}

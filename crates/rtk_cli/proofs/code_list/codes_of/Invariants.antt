@@ -1,5 +1,5 @@
 use Rattle.std.proofs.Common.{◌≡◌, ◌∷◌, ◌++◌, length}
-use Rattle.rtk_cli.specs.CodeList.{comma_names}
+use Rattle.rtk_cli.specs.Steps.CodeList.{comma_names}
 use Rattle.rtk_cli.proofs.code_list.codes_of.Given as goal
 
 abbrev pub invariant-loop-name : goal.invariant-loop-name

@@ -1,7 +1,7 @@
 use Rattle.std.proofs.Common.{◌≡◌, ℕ, true, false, List, ap, sym, ◌∙◌, subst}
 use Rattle.std.specs.Cmp.Lexicographic.{pointwise}
 use Rattle.std.proofs.lemmas.Cmp.{nat_list_eq_equiv}
-use Rattle.rtk_cli.specs.MomentText.{moment_text}
+use Rattle.rtk_cli.specs.Steps.MomentText.{moment_text}
 use Rattle.rtk_cli.proofs.MomentTextLemmas.{reads-back}
 use Rattle.rtk_cli.proofs.moment_text.reading_of.Goals as goal
 

@@ -34,15 +34,15 @@ loop-found-preserved g c = record {
 pub loop-found-preserved-in-Continue-1 : goal.loop-found-preserved-in-Continue-1
 loop-found-preserved-in-Continue-1 g c =
     let before : Option (List ℕ) = g.W.Sink.taken c.args.out.now in
-    let behind : ℕ = c.in-Some.found.place + length c.in-Some.found.payload.now + 6 in
+    let after : ℕ = c.in-Some.found.place + length c.in-Some.found.payload.now + 6 in
     let more = stepped c.args.capture.now c.loop-found.from c.in-Some.found.place c.loop-found.count c.in-Some.found.payload.now
     c.loop-found.lines.items c.put_line.new.lines.items before (g.W.Sink.taken c.loop-found.out)
     c.loop-found.invariant.shown c.in-Some.ensures.least c.in-Ok.ensures in
     record {
       within = omega (arith, c.in-Some.ensures.within);
       few = omega (arith, c.in-Some.ensures.least.0);
-      shown = subst (λ (lines : List ℕ). Progress c.args.capture.now behind before (g.W.Sink.taken c.flush.new.out) lines (c.loop-found.count + 1)) (sym c.in_ok-flush.ensures.none)
-          (flushed c.args.capture.now behind (c.loop-found.count + 1) c.put_line.new.lines.items before (g.W.Sink.taken c.loop-found.out) (g.W.Sink.taken c.flush.new.out) more c.in_ok-flush.ensures.taken);
+      shown = subst (λ (lines : List ℕ). Progress c.args.capture.now after before (g.W.Sink.taken c.flush.new.out) lines (c.loop-found.count + 1)) (sym c.in_ok-flush.ensures.none)
+          (flushed c.args.capture.now after (c.loop-found.count + 1) c.put_line.new.lines.items before (g.W.Sink.taken c.loop-found.out) (g.W.Sink.taken c.flush.new.out) more c.in_ok-flush.ensures.taken);
       failures = c.in_ok-flush.ensures.no_fault ∙ c.loop-found.invariant.failures;
     }
 

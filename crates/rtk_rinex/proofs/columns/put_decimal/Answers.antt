@@ -59,12 +59,12 @@ loop-rest-preserved c =
     let back : l.at - 2 + 1 + 1 ≡ l.at = omega arith in
     let second : l.at - 2 + 1 < length l.field = omega arith in
     let two = l.rest % 100 in
-    let behind = set l.field (l.at - 2 + 1) (48 + two % 10) in
-    let first : l.at - 2 < length behind = simp length-set (omega arith) in record {
+    let with_ones = set l.field (l.at - 2 + 1) (48 + two % 10) in
+    let first : l.at - 2 < length with_ones = simp length-set (omega arith) in record {
       room = omega arith;
       within = grind (arith, common_steps);
       before = take-set _ (l.at - 2) _ ∙ take-set-le (l.at - 2) l.field (l.at - 2 + 1) _ (omega arith)
           ∙ sym (take-take (l.at - 2) l.at l.field (omega arith)) ∙ ap (take (l.at - 2)) l.invariant.before ∙ take-take (l.at - 2) l.at _ (omega arith);
       start = grind (arith, common_steps);
-      written = rw (drop-set behind (l.at - 2) _ first, drop-set l.field (l.at - 2 + 1) _ second, back) (rw (decimal-two l.rest c.loop-rest-test.true l.auto.rest-fits.fits, append_assoc) at l.invariant.written);
+      written = rw (drop-set with_ones (l.at - 2) _ first, drop-set l.field (l.at - 2 + 1) _ second, back) (rw (decimal-two l.rest c.loop-rest-test.true l.auto.rest-fits.fits, append_assoc) at l.invariant.written);
     }

@@ -8,7 +8,7 @@ use Rattle.rtk_rinex.proofs.epoch_line_check.stamp_in.Goals.{then-count-eq0-via-
 
 pub returns-then-seconds-ge600000000 : goal.returns-then-seconds-ge600000000
 returns-then-seconds-ge600000000 c = λ t n h k e.
-    let s = epoch-shows c.args.columns.now t n h k e in omega (arith, s.seconds, c.digits-seconds.ensures.value)
+    let s = epoch-shows c.args.columns.now t n h k e in omega (arith, s.seconds, c.number_of_digits-seconds.ensures.value)
 
 pub returns-in_default : goal.returns-in_default
 returns-in_default c = λ t n h k e.
@@ -19,7 +19,7 @@ returns-in_default c = λ t n h k e.
 pub returns-then-count-eq0 : goal.returns-then-count-eq0
 returns-then-count-eq0 c = λ t n h k e.
     let s = epoch-shows c.args.columns.now t n h k e in
-    let same : c.digits-count.result ≡ n = c.digits-count.ensures.value ∙ ap (digits_from 0) c.split_at.ensures.back ∙ s.count in
+    let same : c.number_of_digits-count.result ≡ n = c.number_of_digits-count.ensures.value ∙ ap (digits_from 0) c.split_at.ensures.back ∙ s.count in
     elim c.then-count-eq0.branch [
       | then-count-eq0-via-then-count-eq0 w ↦ omega arith
       | then-count-eq0-via-else-count-eq0+then-count-gt32 w ↦ omega arith
@@ -32,7 +32,7 @@ returns c = (
   reading_is c.in-Some.time c.reading_in-reading.result c.in-Some.ensures,
   λ t n h k e.
       let s = epoch-shows c.args.columns.now t n h k e in
-      let count : c.digits-count.result ≡ n = c.digits-count.ensures.value ∙ ap (digits_from 0) c.split_at.ensures.back ∙ s.count in
+      let count : c.number_of_digits-count.result ≡ n = c.number_of_digits-count.ensures.value ∙ ap (digits_from 0) c.split_at.ensures.back ∙ s.count in
       let shown : c.reading_in-reading.result ≡ reading_of t = c.reading_in-reading.ensures ∙ s.reading in
       (one_moment c.in-Some.time t (reading_of t) (rw shown at c.in-Some.ensures) (reading-reads t h), count),
 )

@@ -9,27 +9,27 @@ use Rattle.rtk_rinex.proofs.header_check.check_header.Goals.{in-Some-line_end, i
 
 pub returns-in_default-unlike_line-clause-size : goal.returns-in_default-unlike_line-clause-size
 returns-in_default-unlike_line-clause-size c =
-    let r = c.shown-read.result in
-    let g : IsGood r.head (position_view r.position) r.first = record { heading = c.shown-read.ensures.good.0; site = c.shown-read.ensures.good.1; first = c.shown-read.ensures.good.2 } in
+    let r = c.read_header-read.result in
+    let g : IsGood r.head (position_view r.position) r.first = record { heading = c.read_header-read.ensures.good.0; site = c.read_header-read.ensures.good.1; first = c.read_header-read.ensures.good.2 } in
     let long = length-header r.head (position_view r.position) r.first g in
-    let lines : 13 + lines_of r.head ≡ r.lines = omega (arith, long, c.shown-read.ensures.size.0, c.shown-read.ensures.size.1) in
-    (sym c.shown-read.ensures.size.0, rw lines at (are_lines r.head (position_view r.position) r.first g))
+    let lines : 13 + lines_of r.head ≡ r.lines = omega (arith, long, c.read_header-read.ensures.size.0, c.read_header-read.ensures.size.1) in
+    (sym c.read_header-read.ensures.size.0, rw lines at (are_lines r.head (position_view r.position) r.first g))
 
 header_is : (c : goal.Joined-line_end)
-    → c.split_at.result.1.now ≡ header_text c.shown-read.result.head (position_view c.shown-read.result.position) c.shown-read.result.first
+    → c.split_at.result.1.now ≡ header_text c.read_header-read.result.head (position_view c.read_header-read.result.position) c.read_header-read.result.first
 header_is c =
-    let r = c.shown-read.result in
+    let r = c.read_header-read.result in
     let h = header_text r.head (position_view r.position) r.first in
     let start = length c.as_slice-start.result.now in
     c.split_at.ensures.back ∙ ap (λ (xs : List ℕ). drop start xs) (c.as_slice.ensures.value ∙ c.in-Ok.ensures)
     ∙ drop-exact start c.args.out.now.items h (ap length (sym c.as_slice-start.ensures.value))
 
-parts : (c : goal.Joined-line_end) → PartsAt c.args.text.now c.shown-read.result.head (position_view c.shown-read.result.position) c.shown-read.result.first c.in-Some.k
+parts : (c : goal.Joined-line_end) → PartsAt c.args.text.now c.read_header-read.result.head (position_view c.read_header-read.result.position) c.read_header-read.result.first c.in-Some.k
 parts c =
     let e = rw (header_is c) at c.in-Some.ensures in
     record {
-      good = record { heading = c.shown-read.ensures.good.0; site = c.shown-read.ensures.good.1; first = c.shown-read.ensures.good.2 };
-      back = c.shown-read.ensures.shown;
+      good = record { heading = c.read_header-read.ensures.good.0; site = c.read_header-read.ensures.good.1; first = c.read_header-read.ensures.good.2 };
+      back = c.read_header-read.ensures.shown;
       below = e.0;
       front = e.1;
       unlike = e.2;
@@ -38,7 +38,7 @@ parts c =
 pub returns-clause-fault : goal.returns-clause-fault
 returns-clause-fault c =
     let text = c.args.text.now in
-    let r = c.shown-read.result in
+    let r = c.read_header-read.result in
     let k = c.in-Some.k in
     let p = parts c in
     let whole = sym (take-append-drop (81 * k) text) in (
@@ -71,7 +71,7 @@ returns-clause-fault c =
 
 pub returns-clause-none : goal.returns-clause-none
 returns-clause-none c =
-    let r = c.shown-read.result in
+    let r = c.read_header-read.result in
     let none = parts_none c.args.text.now r.head (position_view r.position) r.first c.in-Some.k (parts c) in
     elim c.match-line_end.branch [
       | in-Some-line_end w ↦ rw w.cause-is none

@@ -5,7 +5,7 @@ use Rattle.rtk_rinex.proofs.header_check.read_code_count.Goals.{then-count-eq0-v
 
 pub returns-then-count-eq0-clause-shown : goal.returns-then-count-eq0-clause-shown
 returns-then-count-eq0-clause-shown c = λ n rest h e.
-    let shown : c.number_in.result ≡ 3 * n = c.number_in.ensures.value ∙ count_is c.args.line.now _ rest n h e in
+    let shown : c.number_at.result ≡ 3 * n = c.number_at.ensures.value ∙ count_is c.args.line.now _ rest n h e in
     elim c.then-count-eq0.branch [
       | then-count-eq0-via-then-count-eq0 w ↦ absurd (omega (arith, shown, h, w.if-count-eq0.true))
       | then-count-eq0-via-else-count-eq0+then-count-gt16 w ↦ absurd (omega (arith, shown, h, w.if-count-gt16.true))
@@ -13,4 +13,4 @@ returns-then-count-eq0-clause-shown c = λ n rest h e.
 
 pub returns-clause-shown : goal.returns-clause-shown
 returns-clause-shown c = λ n rest h e.
-    let shown : c.number_in.result ≡ 3 * n = c.number_in.ensures.value ∙ count_is c.args.line.now _ rest n h e in omega (arith, shown)
+    let shown : c.number_at.result ≡ 3 * n = c.number_at.ensures.value ∙ count_is c.args.line.now _ rest n h e in omega (arith, shown)

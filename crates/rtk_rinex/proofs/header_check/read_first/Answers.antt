@@ -6,7 +6,7 @@ use Rattle.rtk_rinex.proofs.header_check.read_first.Goals as goal
 
 pub returns-then-seconds-ge600000000 : goal.returns-then-seconds-ge600000000
 returns-then-seconds-ge600000000 c = λ t h e.
-    let s = first_is c.args.line.now _ t h e in absurd (omega (arith, s.seconds, c.number_in-seconds.ensures.value))
+    let s = first_is c.args.line.now _ t h e in absurd (omega (arith, s.seconds, c.number_at-seconds.ensures.value))
 
 pub returns-in_default : goal.returns-in_default
 returns-in_default c = λ t h e.

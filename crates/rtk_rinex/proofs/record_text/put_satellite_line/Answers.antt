@@ -19,5 +19,5 @@ returns c =
     let front : trim_end (old ++ 71 ∷ rest) ≡ old ++ 71 ∷ trim_end rest = trim_end-front old 71 rest mark in
     let cut = rw c.deref.ensures.value at c.trimmed_len-end.ensures.value in
     let kept = c.truncate.ensures.items ∙ cut ∙ ap trim_end text ∙ front in
-    let behind : (old ++ 71 ∷ trim_end rest) ++ 10 ∷ [] ≡ old ++ ((71 ∷ trim_end rest) ++ 10 ∷ []) = append_assoc old (71 ∷ trim_end rest) (10 ∷ []) in
-    c.in_ok-push-4.ensures.items ∙ ap (λ (bytes : List ℕ). bytes ++ 10 ∷ []) kept ∙ behind ∙ rw one refl
+    let joined : (old ++ 71 ∷ trim_end rest) ++ 10 ∷ [] ≡ old ++ ((71 ∷ trim_end rest) ++ 10 ∷ []) = append_assoc old (71 ∷ trim_end rest) (10 ∷ []) in
+    c.in_ok-push-4.ensures.items ∙ ap (λ (bytes : List ℕ). bytes ++ 10 ∷ []) kept ∙ joined ∙ rw one refl

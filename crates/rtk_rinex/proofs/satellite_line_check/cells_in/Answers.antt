@@ -8,6 +8,6 @@ loop-k-preserved c =
     let next : suc k ≡ k + 1 = omega arith in
     let width : 48 * k + 48 - 48 * k ≡ 48 = omega arith in
     record {
-      value = c.push.ensures.items ∙ rw (c.loop-k.invariant.value, c.observed.ensures, width) (ap (λ (n : ℕ). observations_in n c.args.columns.now) next);
+      value = c.push.ensures.items ∙ rw (c.loop-k.invariant.value, c.observed_in.ensures, width) (ap (λ (n : ℕ). observations_in n c.args.columns.now) next);
       len = omega (arith, c.push.ensures.len, c.loop-k.invariant.len);
     }

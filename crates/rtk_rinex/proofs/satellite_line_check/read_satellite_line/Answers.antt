@@ -26,7 +26,7 @@ returns-else-is_end_from c = λ r h e.
     let s = row-shows c.args.width c.args.line.now r c.requires h e in
     let row = c.row_shown-row.result in
     let same : row ≡ r = c.row_shown-row.ensures ∙ ap (row_in c.args.width) c.split_at.ensures.front ∙ s.row in
-    let behind = appended c.args.out.now.items c.put_satellite_line.new.out.items (satellite_line row) (length c.as_slice-start.result.now) c.in_ok-put_satellite_line.ensures
+    let written = appended c.args.out.now.items c.put_satellite_line.new.out.items (satellite_line row) (length c.as_slice-start.result.now) c.in_ok-put_satellite_line.ensures
     (ap length (sym c.as_slice-start.ensures.value)) in
     clash c.is_end_from.result c.if-is_end_from.false
-    (c.is_end_from.ensures.1 (ap (drop (length c.as_slice-start.result.now)) c.as_slice.ensures.value ∙ behind ∙ ap satellite_line same ∙ sym e))
+    (c.is_end_from.ensures.1 (ap (drop (length c.as_slice-start.result.now)) c.as_slice.ensures.value ∙ written ∙ ap satellite_line same ∙ sym e))

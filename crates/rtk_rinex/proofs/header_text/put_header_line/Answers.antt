@@ -1,6 +1,6 @@
 use Rattle.std.proofs.Common.{append_assoc}
 use Rattle.rtk_rinex.specs.Header.{header_line}
-use Rattle.rtk_rinex.proofs.header_text.put_line.Goals as goal
+use Rattle.rtk_rinex.proofs.header_text.put_header_line.Goals as goal
 
 pub returns : goal.returns
 unfolding header_line

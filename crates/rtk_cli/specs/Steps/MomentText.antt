@@ -1,4 +1,5 @@
--- A moment as the words of a command line write it: a whole second, as 2024-05-17T12:00:00 (ISO 8601).
+-- A moment as the words of a command line write it: a whole second, as 2024-05-17T12:00:00
+-- (ISO 8601).
 use Rattle.std.specs.Prelude.{◌≡◌, ℕ, ◌<◌, List, ◌∷◌, ◌++◌}
 use Rattle.rtk_obs.specs.declared.time.Civil.{Civil}
 use Rattle.rtk_obs.specs.Calendar.{ReadsAs}
@@ -10,7 +11,8 @@ moment_text c =
     last_digits 4 c.year ++ 45 ∷ last_digits 2 c.month ++ 45 ∷ last_digits 2 c.day
     ++ 84 ∷ last_digits 2 c.hour ++ 58 ∷ last_digits 2 c.minute ++ 58 ∷ last_digits 2 c.second
 
--- each number of the reading has its digits: four of the year, two of the others, none of the millisecond
+-- each number of the reading fits its digits: four for the year, two for the others; the
+-- millisecond, which has none, is 0
 abbrev pub HasDigits : Civil → Type 0
 HasDigits c =
     (c.year < 10_000) × (c.month < 100) × (c.day < 100) × (c.hour < 100) × (c.minute < 100) × (c.second < 100)

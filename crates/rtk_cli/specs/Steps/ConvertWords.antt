@@ -4,8 +4,8 @@ use Rattle.rtk_convert.specs.Setup.{SetupView}
 use Rattle.rtk_cli.specs.declared.convert_words.Options.{Options}
 use Rattle.rtk_cli.specs.declared.words.Job.{Job}
 use Rattle.rtk_cli.specs.declared.words.Job.TheVariants.{Convert, Show, Check}
-use Rattle.rtk_cli.specs.CodeList.{Lists}
-use Rattle.rtk_cli.specs.MomentText.{WritesMoment}
+use Rattle.rtk_cli.specs.Steps.CodeList.{Lists}
+use Rattle.rtk_cli.specs.Steps.MomentText.{WritesMoment}
 
 -- the settings are what the options write
 abbrev pub SaysSetup : Options → SetupView → Type 0

@@ -7,7 +7,7 @@ use Rattle.rtk_rinex.specs.Steps.HeaderShown.{line_at}
 use Rattle.rtk_rinex.proofs.HeaderRowsLemmas.{row_count}
 use Rattle.rtk_rinex.proofs.HeaderSameLemmas.{Shows, IsGood, length-header, line_same}
 use Rattle.rtk_rinex.proofs.HeaderOnlyLemmas.{only_shown}
-use Rattle.rtk_rinex.proofs.header_check.shown.Goals as goal
+use Rattle.rtk_rinex.proofs.header_check.read_header.Goals as goal
 
 listed_is : (c : goal.After-read_first-first) → c.in-Ok.head.listed ≡ take c.read_code_count-count.result c.read_codes-codes.result
 listed_is c =

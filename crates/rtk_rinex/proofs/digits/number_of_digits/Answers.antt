@@ -2,7 +2,7 @@ use Rattle.std.proofs.Common.{◌≡◌, arith, refl, take, length}
 use Rattle.std.proofs.lemmas.Grind.{take_at_read}
 use Rattle.rtk_rinex.specs.Steps.Digits.{digits_from}
 use Rattle.rtk_rinex.proofs.DigitsLemmas.{digits_from-append, pow-le, pow-more}
-use Rattle.rtk_rinex.proofs.digits.digits.Goals as goal
+use Rattle.rtk_rinex.proofs.digits.number_of_digits.Goals as goal
 
 pub loop-byte-init : goal.loop-byte-init
 unfolding digits_from

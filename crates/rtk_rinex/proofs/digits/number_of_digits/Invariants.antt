@@ -1,6 +1,6 @@
 use Rattle.std.proofs.Common.{◌≡◌, ◌<◌, ◌^◌, take}
 use Rattle.rtk_rinex.specs.Steps.Digits.{digits_from}
-use Rattle.rtk_rinex.proofs.digits.digits.Given as goal
+use Rattle.rtk_rinex.proofs.digits.number_of_digits.Given as goal
 
 abbrev pub invariant-loop-byte : goal.invariant-loop-byte
 invariant-loop-byte l = record {
