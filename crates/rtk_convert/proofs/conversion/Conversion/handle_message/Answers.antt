@@ -27,7 +27,7 @@ returns-in_default-offered-clause-err g c =
 
 pub returns-in_default-closed_by-clause-ahead : goal.returns-in_default-closed_by-clause-ahead
 returns-in_default-closed_by-clause-ahead g c =
-    let ahead : IsAhead c.self.inside.collector c.self.inside.records = subst (λ (x : ConversionView). IsAhead x.window x.closed) (sym c.self.view_is) c.requires.ahead in
+    let ahead : IsAhead c.self.inside.collector c.self.inside.records = subst (λ (x : ConversionView). IsAhead x.collector x.records) (sym c.self.view_is) c.requires.ahead in
     on_ok-map c.put_lines.result (λ wrote. ahead-stays c.self.inside.collector c.offer.new.self c.self.inside.records c.offer.ensures.least ahead) c.put_lines.ensures.all
 
 pub returns-in_default-closed_by-clause-ok : goal.returns-in_default-closed_by-clause-ok
@@ -56,7 +56,7 @@ close-requires-clause-later g c =
     let same : c.in-Some.set ≡ e =
     ap (λ (t : ℕ). record c.in-Some.set { epoch = t }) (sym c.epoch-epoch-2.ensures) ∙ ap (λ xs. record { epoch = c.epoch-epoch-2.result; cells = xs }) (sym c.cells-cells.ensures.value) in
     let some : closed_by c.in-Ok.offer ≡ Some e = sym c.closed_by.ensures ∙ c.in-Some.is ∙ ap Some same in
-    ahead-closes c.self.inside.collector c.self.inside.records c.in-Ok.offer e some c.in-Ok.ensures.least_closes (subst (λ (x : ConversionView). IsAhead x.window x.closed) (sym c.self.view_is) c.requires.ahead)
+    ahead-closes c.self.inside.collector c.self.inside.records c.in-Ok.offer e some c.in-Ok.ensures.least_closes (subst (λ (x : ConversionView). IsAhead x.collector x.records) (sym c.self.view_is) c.requires.ahead)
 
 pub returns-clause-ahead : goal.returns-clause-ahead
 returns-clause-ahead g c =
@@ -139,16 +139,16 @@ pub returns-clause-report_failed : goal.returns-clause-report_failed
 returns-clause-report_failed g c = c.put_lines-2.ensures.report_failed
 
 pub returns-in_default-clause-held : goal.returns-in_default-clause-held
-returns-in_default-clause-held g c = λ h. subst HoldsArrivals (sym c.in_default.ensures.err) (subst (λ (x : ConversionView). HoldsArrivals x.window) (sym c.self.view_is) h)
+returns-in_default-clause-held g c = λ h. subst HoldsArrivals (sym c.in_default.ensures.err) (subst (λ (x : ConversionView). HoldsArrivals x.collector) (sym c.self.view_is) h)
 
 pub returns-in_default-offered-clause-held : goal.returns-in_default-offered-clause-held
-returns-in_default-offered-clause-held g c = λ h. held-offered c.self.inside.collector c.offer.new.self c.args.dated c.in-Ok.offer c.in-Ok.ensures.answer (subst (λ (x : ConversionView). HoldsArrivals x.window) (sym c.self.view_is) h)
+returns-in_default-offered-clause-held g c = λ h. held-offered c.self.inside.collector c.offer.new.self c.args.dated c.in-Ok.offer c.in-Ok.ensures.answer (subst (λ (x : ConversionView). HoldsArrivals x.collector) (sym c.self.view_is) h)
 
 pub returns-in_default-closed_by-clause-held : goal.returns-in_default-closed_by-clause-held
-returns-in_default-closed_by-clause-held g c = λ h. held-offered c.self.inside.collector c.offer.new.self c.args.dated c.in-Ok.offer c.in-Ok.ensures.answer (subst (λ (x : ConversionView). HoldsArrivals x.window) (sym c.self.view_is) h)
+returns-in_default-closed_by-clause-held g c = λ h. held-offered c.self.inside.collector c.offer.new.self c.args.dated c.in-Ok.offer c.in-Ok.ensures.answer (subst (λ (x : ConversionView). HoldsArrivals x.collector) (sym c.self.view_is) h)
 
 pub returns-in_err-close-clause-held : goal.returns-in_err-close-clause-held
-returns-in_err-close-clause-held g c = λ h. held-offered c.self.inside.collector c.offer.new.self c.args.dated c.in-Ok.offer c.in-Ok.ensures.answer (subst (λ (x : ConversionView). HoldsArrivals x.window) (sym c.self.view_is) h)
+returns-in_err-close-clause-held g c = λ h. held-offered c.self.inside.collector c.offer.new.self c.args.dated c.in-Ok.offer c.in-Ok.ensures.answer (subst (λ (x : ConversionView). HoldsArrivals x.collector) (sym c.self.view_is) h)
 
 pub returns-clause-held : goal.returns-clause-held
-returns-clause-held g c = λ h. held-offered c.self.inside.collector c.offer.new.self c.args.dated c.in-Ok.offer c.in-Ok.ensures.answer (subst (λ (x : ConversionView). HoldsArrivals x.window) (sym c.self.view_is) h)
+returns-clause-held g c = λ h. held-offered c.self.inside.collector c.offer.new.self c.args.dated c.in-Ok.offer c.in-Ok.ensures.answer (subst (λ (x : ConversionView). HoldsArrivals x.collector) (sym c.self.view_is) h)

@@ -9,7 +9,7 @@ use Rattle.rtk_convert.proofs.converter.Converter.close_all.Goals as goal
 pub links-init : goal.links-init
 links-init g c = record {
   going = c.requires.going;
-  settings = refl;
+  same_setup = refl;
   out_same = refl;
   log_same = refl;
   closed = λ h r. closes-none c.args.self.now h (written (g.O.Sink.taken c.args.out.now) (g.L.Sink.taken c.args.log.now)) r;
@@ -24,7 +24,7 @@ links-preserved-then-is_some g c =
     let refused : refusal c.links.self c.links.link ≡ None → ⊥ = some-refused c.refusal.result (refusal c.links.self c.links.link) c.refusal.ensures (sym c.is_some.ensures ∙ c.if-is_some.true) in
     record {
       going = i.going;
-      settings = i.settings;
+      same_setup = i.same_setup;
       out_same = i.out_same;
       log_same = i.log_same;
       closed = λ h r. subst (λ (n : ℕ). ClosesSome c.args.self.now h n c.links.self before after) next
@@ -40,12 +40,12 @@ links-preserved g c =
     let none : refusal c.links.self c.links.link ≡ None = none-given c.refusal.result (refusal c.links.self c.links.link) c.refusal.ensures (sym c.is_some.ensures ∙ c.if-is_some.false) in
     record {
       going = c.in_ok-close.ensures.going;
-      settings = c.close.ensures.settings ∙ i.settings;
+      same_setup = c.close.ensures.same_setup ∙ i.same_setup;
       out_same = c.in_ok-close.ensures.file_failed ∙ i.out_same;
       log_same = c.in_ok-close.ensures.report_failed ∙ i.log_same;
       closed = λ h r. subst (λ (n : ℕ). ClosesSome c.args.self.now h n c.close.new.self before after) next
           (closes-next
-          i.settings none (i.closed h r) c.in_ok-close.ensures.ok);
+          i.same_setup none (i.closed h r) c.in_ok-close.ensures.ok);
     }
 
 pub returns-in_err-close-clause-err : goal.returns-in_err-close-clause-err
@@ -55,7 +55,7 @@ returns-in_err-close-clause-err g c =
     on_err-from c.from_residual.result (λ h r. (
       c.links.link,
       closes-off
-          i.settings none (i.closed h r) (c.in_err-close.ensures.err (c.in_err-close.ensures.fault none)),
+          i.same_setup none (i.closed h r) (c.in_err-close.ensures.err (c.in_err-close.ensures.fault none)),
     ))
 
 pub returns-clause-ok : goal.returns-clause-ok
