@@ -158,7 +158,7 @@ impl Conversion {
             }
             FrameClass::Refused(fault) => {
                 self.counts.refused = self.counts.refused.saturating_add(1);
-                let Ok(line) = report::refused(self.alloc, link, fault) else {
+                let Ok(line) = report::refused_line(self.alloc, link, fault) else {
                     return Err(ConvertFault::OutOfMemory);
                 };
                 put_lines(log, &line)?;
@@ -200,10 +200,10 @@ impl Conversion {
         let Ok(offer) = self.collector.offer(dated) else {
             return Err(ConvertFault::OutOfMemory);
         };
-        let Ok(lines) = report::offered(self.alloc, link, number, epoch, &offer) else {
+        let Ok(lines) = report::offer_lines(self.alloc, link, number, epoch, &offer) else {
             return Err(ConvertFault::OutOfMemory);
         };
-        count(&mut self.counts, &offer);
+        count_message(&mut self.counts, &offer);
         let Some(set) = closed_by(offer) else {
             return put_lines(log, &lines);
         };
@@ -244,7 +244,7 @@ impl Conversion {
         put_last_header(alloc, &setup, &position, records.header_out(), out)?;
         let mut counts = self.counts;
         counts.epochs = records.count();
-        let Ok(lines) = report::counts(alloc, &counts) else {
+        let Ok(lines) = report::count_lines(alloc, &counts) else {
             return Err(ConvertFault::OutOfMemory);
         };
         put_lines(log, &lines)?;
@@ -263,7 +263,7 @@ fn closed_by(offer: Offer) -> Option<EpochSet>
 }
 
 // Counts a message with this answer.
-fn count(counts: &mut Counts, offer: &Offer)
+fn count_message(counts: &mut Counts, offer: &Offer)
     ensures { counts.new ≡ counted_as (class_of_offer offer.now) counts.old }
 {
     match offer {

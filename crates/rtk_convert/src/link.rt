@@ -24,7 +24,7 @@ pub(crate) struct Link {
 }
 
 // The later of two epochs.
-fn later(a: Option<GpsMs>, b: Option<GpsMs>) -> Option<GpsMs>
+fn later_of(a: Option<GpsMs>, b: Option<GpsMs>) -> Option<GpsMs>
     ensures { result ≡ later_of a b }
 {
     match (a, b) {
@@ -72,7 +72,7 @@ impl Link {
                 return Ok(());
             };
             let epoch = conversion.accept_frame(number, payload, out, log)?;
-            self.newest = later(epoch, self.newest);
+            self.newest = later_of(epoch, self.newest);
         }
     }
 
@@ -104,7 +104,7 @@ impl Link {
     {
         'frames: while let Some(payload) = self.scanner.rest() {
             let epoch = conversion.accept_frame(number, payload, out, log)?;
-            self.newest = later(epoch, self.newest);
+            self.newest = later_of(epoch, self.newest);
         }
         Ok(())
     }

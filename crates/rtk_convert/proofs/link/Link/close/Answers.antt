@@ -32,7 +32,7 @@ frames-preserved g c =
         i.taken.0 ++ c.in-Some.payload.now ∷ [],
         s.taken,
         gathers-more c.in-Some.payload.now
-            i.same_setup i.taken.2 c.in_ok-epoch.ensures.ok c.in_ok-epoch.ensures.epoch c.later-self.ensures,
+            i.same_setup i.taken.2 c.in_ok-epoch.ensures.ok c.in_ok-epoch.ensures.epoch c.later_of-self.ensures,
       );
     }
 
