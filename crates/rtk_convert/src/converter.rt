@@ -206,7 +206,7 @@ impl Converter {
         ensures file_failed { NamesFailedWrites Stream.Out result (O.failures out.old) (O.failures out.new) }
         ensures report_failed { NamesFailedWrites Stream.Log result (L.failures log.old) (L.failures log.new) }
     {
-        'links: for link in 0..self.links.len() {
+        for link in 0..self.links.len() {
             if self.refusal(link).is_some() {
                 continue;
             }

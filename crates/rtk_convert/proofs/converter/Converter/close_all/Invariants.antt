@@ -6,8 +6,8 @@ use Rattle.rtk_convert.proofs.ClosingLemmas.{ClosesSome}
 use Rattle.rtk_convert.proofs.converter.Converter.close_all.Given as goal
 
 -- the links below were closed, whatever the history was
-abbrev pub invariant-links : goal.invariant-links
-invariant-links g l = record {
+abbrev pub invariant-loop-link : goal.invariant-loop-link
+invariant-loop-link g l = record {
   going : l.self.conversion.stopped ≡ false;
   same_setup : l.self.conversion.setup ≡ l.fn.self.conversion.setup;
   out_same : g.O.Sink.failures l.out ≡ g.O.Sink.failures l.fn.out;
