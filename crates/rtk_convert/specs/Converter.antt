@@ -64,8 +64,8 @@ pub record RepresentsHistory (c : ConverterView) (h : History) : Type 0 where
   pub found : RepresentsFound c.conversion h.found
 
 -- what a converter holds: of each link at most the bytes of the longest frame; at most as many open
--- epochs as the setup says; and of each of these at most 1,024 cells, for 32 satellites, 16 codes and
--- 2 kinds of message
+-- epochs as the setup says; and of each of these at most 1,024 cells, for 32 satellites, 16 codes
+-- and 2 kinds of message
 pub record HoldsAtMost (c : ConverterView) : Type 0 where
   pub bytes : All (λ l. length l.scanner.pending ≤ 1029) c.links
   pub epochs : length c.conversion.collector.sets ≤ c.conversion.setup.window

@@ -1,4 +1,4 @@
-//! The tests of the crates for the file, the links and the words, each module named after the crate that it tests.
+//! The tests of rtk_rinex, rtk_convert and rtk_cli; each module is named after its crate.
 #![tactic(auto)]
 
 #[cfg(test)]
