@@ -39,7 +39,7 @@ use Rattle.rtk_convert.proofs.SoFarLemmas.{so_far-stays, so_far-closes, so_far-g
 use Rattle.rtk_convert.proofs.WritingLemmas.{writes-none, writes-text, part-text, part-none, part-all, takes-none}
 
 abbrev pub state : SetupView → CollectorView → RecordsView → Counts → Bool → ConversionView
-state s w c k b = record { settings = s; window = w; closed = c; counts = k; stopped = b }
+state s w c k b = record { setup = s; collector = w; records = c; counts = k; stopped = b }
 
 -- ---- the site
 
@@ -142,9 +142,9 @@ part-lines {s} {w} {w'} {c} {c'} {k} {k'} {b} {link} {a} offer {o} {o'} size mee
 -- ---- a frame
 
 pub arrives-arrived : {s : SetupView} {w : CollectorView} {c : RecordsView} {new : ConversionView} {k k₁ : Counts} {b b₁ : Bool} {link : ℕ} (payload : List ℕ) {a : Arrival} {o o' : Written}
-    → IsClassOfPayload s payload (Dated a) → k₁ ≡ one_frame_more k → new.settings ≡ s → AddsMessage (state s w c k₁ b₁) link a new o o'
+    → IsClassOfPayload s payload (Dated a) → k₁ ≡ one_frame_more k → new.setup ≡ s → AddsMessage (state s w c k₁ b₁) link a new o o'
     → AcceptsFrame (state s w c k b) link payload new o o'
-arrives-arrived {s} {w} {c} {new} {k} {k₁} {b} {b₁} {link} payload {a} {o} {o'} comes frames settings takes = λ before rep.
+arrives-arrived {s} {w} {c} {new} {k} {k₁} {b} {b₁} {link} payload {a} {o} {o'} comes frames same_setup takes = λ before rep.
     let t = takes (arrivals before) (record { window = rep.window; closed = rep.closed }) in
     let found : List Found = record { link = link; class = Dated a } ∷ before in (
       Dated a,
@@ -153,7 +153,7 @@ arrives-arrived {s} {w} {c} {new} {k} {k₁} {b} {b₁} {link} payload {a} {o} {
         represents = record {
           window = t.after.window;
           closed = t.after.closed;
-          counts = t.counts ∙ ap (counted_as (class_of s.window a (arrivals before))) (frames ∙ ap one_frame_more rep.counts) ∙ ap (λ (x : SetupView). frame_counts x.window found) (sym settings);
+          counts = t.counts ∙ ap (counted_as (class_of s.window a (arrivals before))) (frames ∙ ap one_frame_more rep.counts) ∙ ap (λ (x : SetupView). frame_counts x.window found) (sym same_setup);
         };
         writes = record { out = t.out; log = writes-text o.report o'.report (lines s.window before) (lines s.window found) (frame_lines s.window link (Dated a) (arrivals before)) refl t.log };
         one = one-arrived s link payload a before comes;

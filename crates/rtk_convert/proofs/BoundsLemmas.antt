@@ -25,21 +25,21 @@ cells-few w p =
     subst (All (λ (e : EpochSetView). length e.cells ≤ 1024)) (sym p.1.sets)
     (All-take (λ (e : EpochSetView). length e.cells ≤ 1024) w.size (kept w.size p.0) (kept-are-few w.size p.0))
 
-pub bounded : (c : ConverterView) → All (λ (l : Link). length l.scanner.pending ≤ 1029) c.links → length c.conversion.window.sets ≤ c.conversion.settings.window
-    → HoldsArrivals c.conversion.window → HoldsAtMost c
-bounded c short epochs held = record { bytes = short; epochs = epochs; cells = cells-few c.conversion.window held }
+pub bounded : (c : ConverterView) → All (λ (l : Link). length l.scanner.pending ≤ 1029) c.links → length c.conversion.collector.sets ≤ c.conversion.setup.window
+    → HoldsArrivals c.conversion.collector → HoldsAtMost c
+bounded c short epochs held = record { bytes = short; epochs = epochs; cells = cells-few c.conversion.collector held }
 
 pub bounded-before : (c : ConverterView) → IsConverterView c → HoldsAtMost c
 bounded-before c p = bounded c p.short p.epochs p.held
 
 -- after a call on one link
 pub bounded-after : (conversion : ConversionView) (links : List Link) (k : ℕ) (l : Link) → All (λ (l : Link). length l.scanner.pending ≤ 1029) links → length l.scanner.pending ≤ 1029
-    → length conversion.window.sets ≤ conversion.settings.window → HoldsArrivals conversion.window → HoldsAtMost (converter conversion (set links k l))
+    → length conversion.collector.sets ≤ conversion.setup.window → HoldsArrivals conversion.collector → HoldsAtMost (converter conversion (set links k l))
 bounded-after conversion links k l all short epochs held =
     bounded (converter conversion (set links k l)) (All-set (λ (l : Link). length l.scanner.pending ≤ 1029) links k l short all) epochs held
 
 -- of new links
 pub bounded-new : (conversion : ConversionView) (links : List Link) (n : ℕ) → links ≡ replicate n (record { scanner = scanner_view [] false; newest = None })
-    → length conversion.window.sets ≤ conversion.settings.window → HoldsArrivals conversion.window → HoldsAtMost (converter conversion links)
+    → length conversion.collector.sets ≤ conversion.setup.window → HoldsArrivals conversion.collector → HoldsAtMost (converter conversion links)
 bounded-new conversion links n new epochs held =
     bounded (converter conversion links) (subst (All (λ (l : Link). length l.scanner.pending ≤ 1029)) (sym new) (All-replicate (λ (l : Link). length l.scanner.pending ≤ 1029) n (record { scanner = scanner_view [] false; newest = None }) (omega arith))) epochs held

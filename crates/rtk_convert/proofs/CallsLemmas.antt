@@ -69,19 +69,19 @@ pub record HasCome (s : SetupView) (links : ℕ) (calls : List Call) (now : Conv
   pub history : History
   pub come_to : CallsComeTo s links calls history
   pub represents : RepresentsHistory now history
-  pub settings : now.conversion.settings ≡ s
+  pub setup : now.conversion.setup ≡ s
   pub out_is : o1.file ≡ with_more o0.file (file_so_far s (arrivals history.found))
   pub log_is : o1.report ≡ with_more o0.report (lines s.window history.found)
 
 -- one more that is taken
 taken : (s : SetupView) (links : ℕ) (call : Call) (before : List Call) (mid now : ConverterView) (o0 o1 o2 : Written) → (p : HasCome s links before mid o0 o1)
-    → now.conversion.settings ≡ mid.conversion.settings → (next : History) → IsAfterCall s p.history call next → RepresentsHistory now next
+    → now.conversion.setup ≡ mid.conversion.setup → (next : History) → IsAfterCall s p.history call next → RepresentsHistory now next
     → WritesOn s p.history.found next.found o1 o2 → HasCome s links (call ∷ before) now o0 o2
 taken s links call before mid now o0 o1 o2 p same next after represents w = record {
   history = next;
   come_to = (p.history, p.come_to, after);
   represents = represents;
-  settings = same ∙ p.settings;
+  setup = same ∙ p.setup;
   out_is = written-on o0.file o1.file o2.file (file_so_far s (arrivals p.history.found)) (file_so_far s (arrivals next.found)) p.out_is w.out;
   log_is = written-on o0.report o1.report o2.report (lines s.window p.history.found) (lines s.window next.found) p.log_is w.log;
 }
@@ -93,31 +93,31 @@ refused s links call before link mid now o0 o1 o2 p q after = record {
   history = p.history;
   come_to = (p.history, p.come_to, after);
   represents = subst (λ (c : ConverterView). RepresentsHistory c p.history) (sym q.same) p.represents;
-  settings = ap (λ (c : ConverterView). c.conversion.settings) q.same ∙ p.settings;
+  setup = ap (λ (c : ConverterView). c.conversion.setup) q.same ∙ p.setup;
   out_is = ap (λ (o : Written). o.file) q.written ∙ p.out_is;
   log_is = ap (λ (o : Written). o.report) q.written ∙ p.log_is;
 }
 
 one-more : (s : SetupView) (links : ℕ) (call : Call) (before : List Call) (mid now : ConverterView) (o0 o1 o2 : Written) → HasCome s links before mid o0 o1
-    → now.conversion.settings ≡ mid.conversion.settings → IsAnswered mid call now o1 o2 → HasCome s links (call ∷ before) now o0 o2
+    → now.conversion.setup ≡ mid.conversion.setup → IsAnswered mid call now o1 o2 → HasCome s links (call ∷ before) now o0 o2
 one-more s links (Feed link piece) before mid now o0 o1 o2 p same (inl q) =
-    let fed = subst (λ (t : SetupView). (next : History) × IsAfterFeed t p.history link piece next × RepresentsHistory now next × WritesOn t p.history.found next.found o1 o2) p.settings (q.1 p.history p.represents) in
+    let fed = subst (λ (t : SetupView). (next : History) × IsAfterFeed t p.history link piece next × RepresentsHistory now next × WritesOn t p.history.found next.found o1 o2) p.setup (q.1 p.history p.represents) in
     taken s links (Feed link piece) before mid now o0 o1 o2 p same fed.0 (inl (goes-open mid p.history link p.represents q.0, fed.1)) fed.2 fed.3
 one-more s links (Feed link piece) before mid now o0 o1 o2 p same (inr q) =
     refused s links (Feed link piece) before link mid now o0 o1 o2 p q (inr (not-open mid p.history link p.represents q.why, refl))
 one-more s links (Close link) before mid now o0 o1 o2 p same (inl q) =
-    let closed = subst (λ (t : SetupView). (next : History) × IsAfterClose t p.history link next × RepresentsHistory now next × WritesOn t p.history.found next.found o1 o2) p.settings (q.1 p.history p.represents) in
+    let closed = subst (λ (t : SetupView). (next : History) × IsAfterClose t p.history link next × RepresentsHistory now next × WritesOn t p.history.found next.found o1 o2) p.setup (q.1 p.history p.represents) in
     taken s links (Close link) before mid now o0 o1 o2 p same closed.0 (inl (goes-open mid p.history link p.represents q.0, closed.1)) closed.2 closed.3
 one-more s links (Close link) before mid now o0 o1 o2 p same (inr q) =
     refused s links (Close link) before link mid now o0 o1 o2 p q (inr (not-open mid p.history link p.represents q.why, refl))
 
-come : (s : SetupView) (links : ℕ) (first : ConverterView) (calls : List Call) (now : ConverterView) (o0 o1 : Written) → RepresentsHistory first (new_history links) → first.conversion.settings ≡ s
+come : (s : SetupView) (links : ℕ) (first : ConverterView) (calls : List Call) (now : ConverterView) (o0 o1 : Written) → RepresentsHistory first (new_history links) → first.conversion.setup ≡ s
     → AreAnswered first calls now o0 o1 → HasCome s links calls now o0 o1
 come s links first [] now o0 o1 r e p = record {
   history = new_history links;
   come_to = refl;
   represents = subst (λ (c : ConverterView). RepresentsHistory c (new_history links)) (sym p.0) r;
-  settings = ap (λ (c : ConverterView). c.conversion.settings) p.0 ∙ e;
+  setup = ap (λ (c : ConverterView). c.conversion.setup) p.0 ∙ e;
   out_is = ap (λ (o : Written). o.file) p.1 ∙ sym (with_more-nil o0.file) ∙ ap (with_more o0.file) (sym (so_far-nothing s));
   log_is = ap (λ (o : Written). o.report) p.1 ∙ sym (with_more-nil o0.report);
 }
@@ -126,8 +126,8 @@ come s links first (call ∷ before) now o0 o1 r e p =
 
 pub calls-write-kept : CallsWriteKept
 calls-write-kept s links calls counts o0 o2 p =
-    let c = come s links p.first calls p.now o0 p.written_mid p.is_new p.settings p.answered in
-    let end = subst (λ (t : SetupView). (last : History) × FinishesConverterAs t c.history last counts p.written_mid o2) c.settings (p.ended c.history c.represents) in
+    let c = come s links p.first calls p.now o0 p.written_mid p.is_new p.setup p.answered in
+    let end = subst (λ (t : SetupView). (last : History) × FinishesConverterAs t c.history last counts p.written_mid o2) c.setup (p.ended c.history c.represents) in
     let few = length-calls s links calls c.history c.come_to in
     record {
       found = end.0.found;

@@ -58,16 +58,16 @@ none-given (Some fault) o e none = absurd cc
 -- this number of links were closed
 pub record ClosesSome (old : ConverterView) (h : History) (count : ℕ) (now : ConverterView) (o o' : Written) : Type 0 where
   pub mid : History
-  pub closed : IsAfterClosingAll old.conversion.settings h count mid
+  pub closed : IsAfterClosingAll old.conversion.setup h count mid
   pub represents : RepresentsHistory now mid
-  pub writes : WritesOn old.conversion.settings h.found mid.found o o'
+  pub writes : WritesOn old.conversion.setup h.found mid.found o o'
 
 pub closes-none : (old : ConverterView) (h : History) (o : Written) → RepresentsHistory old h → ClosesSome old h 0 old o o
 closes-none old h o r = record {
   mid = h;
   closed = refl;
   represents = r;
-  writes = writes-nothing old.conversion.settings h.found o;
+  writes = writes-nothing old.conversion.setup h.found o;
 }
 
 -- the next is closed already
@@ -81,26 +81,26 @@ closes-past {old} {now} {h} {i} {o} {o'} refused c = record {
 }
 
 -- the next is closed now
-pub closes-next : {old now new : ConverterView} {h : History} {i : ℕ} {o o1 o2 : Written} → now.conversion.settings ≡ old.conversion.settings → refusal now i ≡ None
+pub closes-next : {old now new : ConverterView} {h : History} {i : ℕ} {o o1 o2 : Written} → now.conversion.setup ≡ old.conversion.setup → refusal now i ≡ None
     → ClosesSome old h i now o o1 → ClosesLink now i new o1 o2 → ClosesSome old h (suc i) new o o2
-closes-next {old} {now} {new} {h} {i} {o} {o1} {o2} settings none c closes =
+closes-next {old} {now} {new} {h} {i} {o} {o1} {o2} same_setup none c closes =
     let (next, after, represents, writes) = closes c.mid c.represents in
     record {
       mid = next;
-      closed = (c.mid, c.closed, inl (accepted-open now c.mid i c.represents none, subst (λ (s : SetupView). IsAfterClose s c.mid i next) settings after));
+      closed = (c.mid, c.closed, inl (accepted-open now c.mid i c.represents none, subst (λ (s : SetupView). IsAfterClose s c.mid i next) same_setup after));
       represents = represents;
-      writes = goes-on old.conversion.settings h.found c.mid.found next.found o o1 o2 c.writes (subst (λ (s : SetupView). WritesOn s c.mid.found next.found o1 o2) settings writes);
+      writes = goes-on old.conversion.setup h.found c.mid.found next.found o o1 o2 c.writes (subst (λ (s : SetupView). WritesOn s c.mid.found next.found o1 o2) same_setup writes);
     }
 
 -- its closing breaks off
-pub closes-off : {old now : ConverterView} {h : History} {i : ℕ} {o o1 o2 : Written} → now.conversion.settings ≡ old.conversion.settings → refusal now i ≡ None
-    → ClosesSome old h i now o o1 → ClosesLinkInPart now i o1 o2 → BreaksOffClosing old.conversion.settings h i o o2
-closes-off {old} {now} {h} {i} {o} {o1} {o2} settings none c part = record {
+pub closes-off : {old now : ConverterView} {h : History} {i : ℕ} {o o1 o2 : Written} → now.conversion.setup ≡ old.conversion.setup → refusal now i ≡ None
+    → ClosesSome old h i now o o1 → ClosesLinkInPart now i o1 o2 → BreaksOffClosing old.conversion.setup h i o o2
+closes-off {old} {now} {h} {i} {o} {o1} {o2} same_setup none c part = record {
   mid = c.mid;
   closed = c.closed;
   is_open = accepted-open now c.mid i c.represents none;
-  breaks = breaks-after old.conversion.settings i (found_by_close (fed_on i c.mid.links)) h.found c.mid.found o o1 o2 c.writes
-      (subst (λ (s : SetupView). BreaksOffAt s i (found_by_close (fed_on i c.mid.links)) c.mid.found o1 o2) settings (part c.mid c.represents));
+  breaks = breaks-after old.conversion.setup i (found_by_close (fed_on i c.mid.links)) h.found c.mid.found o o1 o2 c.writes
+      (subst (λ (s : SetupView). BreaksOffAt s i (found_by_close (fed_on i c.mid.links)) c.mid.found o1 o2) same_setup (part c.mid c.represents));
 }
 
 -- all are closed
@@ -109,35 +109,35 @@ pub closes-all : {old now : ConverterView} {count : ℕ} {o o' : Written} → co
 closes-all {old} {now} {count} {o} {o'} all c = λ h r.
     let some = c h r in
     let many : count ≡ length h.links = all ∙ are-many old.links h.links 0 h.found r.links in
-    (some.mid, subst (λ (n : ℕ). IsAfterClosingAll old.conversion.settings h n some.mid) many some.closed, some.represents, some.writes)
+    (some.mid, subst (λ (n : ℕ). IsAfterClosingAll old.conversion.setup h n some.mid) many some.closed, some.represents, some.writes)
 
 -- ---- the end
 
-pub ends : {old closed : ConverterView} {counts : Counts} {o o1 o2 : Written} → closed.conversion.settings ≡ old.conversion.settings
+pub ends : {old closed : ConverterView} {counts : Counts} {o o1 o2 : Written} → closed.conversion.setup ≡ old.conversion.setup
     → ClosesAllLinks old closed o o1 → FinishesConversion closed.conversion counts o1 o2 → FinishesConverter old counts o o2
-ends {old} {closed} {counts} {o} {o1} {o2} settings all finishes = λ h r.
+ends {old} {closed} {counts} {o} {o1} {o2} same_setup all finishes = λ h r.
     let (last, after, represents, writes) = all h r in
     let f = finishes last.found represents.found in (
       last,
       record {
         closed = after;
-        counts_are = f.counts_are ∙ ap (λ (s : SetupView). all_counts s last.found) settings;
-        out = writes-on o.file o1.file o2.file _ _ _ writes.out (subst (λ (s : SetupView). WritesRest o1.file o2.file (file_so_far s (arrivals last.found)) (kept_file s (arrivals last.found))) settings f.out);
-        log = writes-on o.report o1.report o2.report _ _ _ writes.log (subst (λ (s : SetupView). WritesRest o1.report o2.report (lines s.window last.found) (report_of s last.found)) settings f.log);
+        counts_are = f.counts_are ∙ ap (λ (s : SetupView). all_counts s last.found) same_setup;
+        out = writes-on o.file o1.file o2.file _ _ _ writes.out (subst (λ (s : SetupView). WritesRest o1.file o2.file (file_so_far s (arrivals last.found)) (kept_file s (arrivals last.found))) same_setup f.out);
+        log = writes-on o.report o1.report o2.report _ _ _ writes.log (subst (λ (s : SetupView). WritesRest o1.report o2.report (lines s.window last.found) (report_of s last.found)) same_setup f.log);
       },
     )
 
 pub ends-closing : (old : ConverterView) (o o' : Written) → ClosesAllLinksInPart old o o' → FinishesConverterInPart old o o'
 ends-closing old o o' part = λ h r. inl (part h r)
 
-pub ends-part : {old closed : ConverterView} {o o1 o2 : Written} → closed.conversion.settings ≡ old.conversion.settings
+pub ends-part : {old closed : ConverterView} {o o1 o2 : Written} → closed.conversion.setup ≡ old.conversion.setup
     → ClosesAllLinks old closed o o1 → FinishesConversionInPart closed.conversion o1 o2 → FinishesConverterInPart old o o2
-ends-part {old} {closed} {o} {o1} {o2} settings all part = λ h r.
+ends-part {old} {closed} {o} {o1} {o2} same_setup all part = λ h r.
     let (last, after, represents, writes) = all h r in
     let f = part last.found represents.found in
     inr (record {
       last = last;
       closed = after;
-      out = writes-into o.file o1.file o2.file _ _ _ writes.out (subst (λ (s : SetupView). WritesPartOfRest o1.file o2.file (file_so_far s (arrivals last.found)) (kept_file s (arrivals last.found))) settings f.out);
-      log = writes-into o.report o1.report o2.report _ _ _ writes.log (subst (λ (s : SetupView). WritesPartOfRest o1.report o2.report (lines s.window last.found) (report_of s last.found)) settings f.log);
+      out = writes-into o.file o1.file o2.file _ _ _ writes.out (subst (λ (s : SetupView). WritesPartOfRest o1.file o2.file (file_so_far s (arrivals last.found)) (kept_file s (arrivals last.found))) same_setup f.out);
+      log = writes-into o.report o1.report o2.report _ _ _ writes.log (subst (λ (s : SetupView). WritesPartOfRest o1.report o2.report (lines s.window last.found) (report_of s last.found)) same_setup f.log);
     })

@@ -234,7 +234,7 @@ feeds {old} {conversion} {i} {piece} {l} {new} {o} {o'} there unended going stil
     let found : payloads (final_frames (l.scanner.pending ++ piece)) ≡ found_by_piece (fed_on i h.links) piece =
     ap (λ t. payloads (final_frames (t ++ piece))) (at.is.waiting is_open ∙ ap pending (sym at.fed)) ∙ sym (found-pending (fed_on i h.links) piece) in (
       record { links = with_piece i piece h.links; found = after },
-      record { links = refl; found = subst (λ (ps : List (List ℕ)). Finds old.conversion.settings i ps h.found after) found g.finds },
+      record { links = refl; found = subst (λ (ps : List (List ℕ)). Finds old.conversion.setup i ps h.found after) found g.finds },
       record {
         going = going;
         links = links-fed i i 0 piece l new old.links h.links h.found after r.links there (omega arith)
@@ -243,7 +243,7 @@ feeds {old} {conversion} {i} {piece} {l} {new} {o} {o'} there unended going stil
               waiting = λ q. waits ∙ ap (λ t. pending (t ++ piece)) (is.waiting q) ∙ sym (pending_cut p.fed piece);
               newest = g.newest is.newest;
             })
-            (λ j other. others-newest old.conversion.settings i j (payloads (final_frames (l.scanner.pending ++ piece))) h.found after other g.finds);
+            (λ j other. others-newest old.conversion.setup i j (payloads (final_frames (l.scanner.pending ++ piece))) h.found after other g.finds);
         found = g.represents;
       },
       g.writes,
@@ -257,7 +257,7 @@ feeds-part {old} {i} piece {l} {o} {o'} there unended gathers = λ h r.
     let is_open : at.past.is_closed ≡ false = sym at.is.closed ∙ unended in
     let found : payloads (final_frames (l.scanner.pending ++ piece)) ≡ found_by_piece (fed_on i h.links) piece =
     ap (λ t. payloads (final_frames (t ++ piece))) (at.is.waiting is_open ∙ ap pending (sym at.fed)) ∙ sym (found-pending (fed_on i h.links) piece) in
-    subst (λ (ps : List (List ℕ)). BreaksOffAt old.conversion.settings i ps h.found o o') found (gathers h.found r.found)
+    subst (λ (ps : List (List ℕ)). BreaksOffAt old.conversion.setup i ps h.found o o') found (gathers h.found r.found)
 
 -- ---- a close
 
@@ -272,12 +272,12 @@ closes {old} {conversion} {i} {l} new {o} {o'} there unended going ended gathers
     let found : payloads (frames l.scanner.pending) ≡ found_by_close (fed_on i h.links) =
     ap (λ t. payloads (frames t)) (at.is.waiting is_open ∙ ap pending (sym at.fed)) ∙ sym (found-left (fed_on i h.links)) in (
       record { links = with_closed i h.links; found = after },
-      record { links = refl; found = subst (λ (ps : List (List ℕ)). Finds old.conversion.settings i ps h.found after) found g.finds },
+      record { links = refl; found = subst (λ (ps : List (List ℕ)). Finds old.conversion.setup i ps h.found after) found g.finds },
       record {
         going = going;
         links = links-closed i i 0 l new old.links h.links h.found after r.links there (omega arith)
             (λ p is. record { closed = ended; waiting = λ q. absurd cc; newest = g.newest is.newest })
-            (λ j other. others-newest old.conversion.settings i j (payloads (frames l.scanner.pending)) h.found after other g.finds);
+            (λ j other. others-newest old.conversion.setup i j (payloads (frames l.scanner.pending)) h.found after other g.finds);
         found = g.represents;
       },
       g.writes,
@@ -291,4 +291,4 @@ closes-part {old} {i} {l} {o} {o'} there unended gathers = λ h r.
     let is_open : at.past.is_closed ≡ false = sym at.is.closed ∙ unended in
     let found : payloads (frames l.scanner.pending) ≡ found_by_close (fed_on i h.links) =
     ap (λ t. payloads (frames t)) (at.is.waiting is_open ∙ ap pending (sym at.fed)) ∙ sym (found-left (fed_on i h.links)) in
-    subst (λ (ps : List (List ℕ)). BreaksOffAt old.conversion.settings i ps h.found o o') found (gathers h.found r.found)
+    subst (λ (ps : List (List ℕ)). BreaksOffAt old.conversion.setup i ps h.found o o') found (gathers h.found r.found)

@@ -157,6 +157,6 @@ finish-part-counts {old} {k} {o} {o'} whole part = λ found rep.
     let t = whole found rep in
     record {
       out = part-all o.file o'.file _ _ t.out;
-      log = part-text o.report o'.report (lines old.settings.window found) (report_of old.settings found) (count_lines (all_counts old.settings found)) refl
+      log = part-text o.report o'.report (lines old.setup.window found) (report_of old.setup found) (count_lines (all_counts old.setup found)) refl
           (subst (λ (x : Counts). TakesPart o.report o'.report (count_lines x)) t.counts_are part);
     }

@@ -103,7 +103,7 @@ gathers-none old link n o = λ before represents. (
     finds = refl;
     represents = represents;
     newest = λ e. e;
-    writes = writes-nothing old.settings before o;
+    writes = writes-nothing old.setup before o;
   },
 )
 
@@ -111,18 +111,18 @@ newest-more : (link : ℕ) (f : FrameClass) (found : List FoundFrame) → newest
 newest-more link f found = grind (arith, common_steps)
 
 pub gathers-more : {old mid new : ConversionView} {link : ℕ} {done : List (List ℕ)} (payload : List ℕ) {epoch n0 n1 n2 : Option ℕ} {o0 o1 o2 : Written}
-    → mid.settings ≡ old.settings → AddsFrames old link done mid n0 n1 o0 o1 → AcceptsFrame mid link payload new o1 o2 → IsEpochIn mid.settings payload epoch → n2 ≡ later_of epoch n1
+    → mid.setup ≡ old.setup → AddsFrames old link done mid n0 n1 o0 o1 → AcceptsFrame mid link payload new o1 o2 → IsEpochIn mid.setup payload epoch → n2 ≡ later_of epoch n1
     → AddsFrames old link (done ++ payload ∷ []) new n0 n2 o0 o2
-gathers-more {old} {mid} {new} {link} {done} payload {epoch} {n0} {n1} {n2} {o0} {o1} {o2} settings gathers arrives is newest = λ before represents.
+gathers-more {old} {mid} {new} {link} {done} payload {epoch} {n0} {n1} {n2} {o0} {o1} {o2} same_setup gathers arrives is newest = λ before represents.
     let (found, g) = gathers before represents in
     let (f, comes, a) = arrives found g.represents in
-    let same : is.0 ≡ f = comes-once mid.settings payload is.0 f is.1 comes in (
+    let same : is.0 ≡ f = comes-once mid.setup payload is.0 f is.1 comes in (
       found_on link f ∷ found,
       record {
-        finds = finds-more old.settings link done payload f before found g.finds (subst (λ (s : SetupView). IsClassOfPayload s payload f) settings comes);
+        finds = finds-more old.setup link done payload f before found g.finds (subst (λ (s : SetupView). IsClassOfPayload s payload f) same_setup comes);
         represents = a.represents;
         newest = λ e. newest ∙ ap (λ (t : Option ℕ). later_of t n1) (is.2 ∙ ap epoch_found same) ∙ ap (later_of (epoch_found f)) (g.newest e) ∙ sym (newest-more link f found);
-        writes = goes-on old.settings before found (found_on link f ∷ found) o0 o1 o2 g.writes (subst (λ (s : SetupView). WritesOn s found (found_on link f ∷ found) o1 o2) settings a.writes);
+        writes = goes-on old.setup before found (found_on link f ∷ found) o0 o1 o2 g.writes (subst (λ (s : SetupView). WritesOn s found (found_on link f ∷ found) o1 o2) same_setup a.writes);
       },
     )
 
@@ -130,13 +130,13 @@ pub writes-into : (a b c : Option (List ℕ)) (x y z : List ℕ) → WritesRest 
 writes-into a b c x y z p q = (p.0, q.0, q.1, p.1, q.2, q.3 ∙ ap (λ t. with_more t q.0) p.2 ∙ with_more-with_more a p.0 q.0)
 
 pub breaks-off : {old mid : ConversionView} {link : ℕ} {all done : List (List ℕ)} (left : List (List ℕ)) (payload : List ℕ) {n0 n1 : Option ℕ} {o0 o1 o2 : Written}
-    → mid.settings ≡ old.settings → all ≡ done ++ (payload ∷ left) → AddsFrames old link done mid n0 n1 o0 o1 → BreaksOffAtFrame mid link payload o1 o2
+    → mid.setup ≡ old.setup → all ≡ done ++ (payload ∷ left) → AddsFrames old link done mid n0 n1 o0 o1 → BreaksOffAtFrame mid link payload o1 o2
     → AddsFramesInPart old link all o0 o2
-breaks-off {old} {mid} {link} {all} {done} left payload {n0} {n1} {o0} {o1} {o2} settings split gathers breaks = λ before represents.
+breaks-off {old} {mid} {link} {all} {done} left payload {n0} {n1} {o0} {o1} {o2} same_setup split gathers breaks = λ before represents.
     let (found, g) = gathers before represents in
     let (f, comes, b) = breaks found g.represents in
-    let out = subst (λ (s : SetupView). WritesPartOfRest o1.file o2.file (file_so_far s (arrivals found)) (file_so_far s (arrivals (found_on link f ∷ found)))) settings b.out in
-    let log = subst (λ (s : SetupView). WritesPartOfRest o1.report o2.report (lines s.window found) (lines s.window (found_on link f ∷ found))) settings b.log in
+    let out = subst (λ (s : SetupView). WritesPartOfRest o1.file o2.file (file_so_far s (arrivals found)) (file_so_far s (arrivals (found_on link f ∷ found)))) same_setup b.out in
+    let log = subst (λ (s : SetupView). WritesPartOfRest o1.report o2.report (lines s.window found) (lines s.window (found_on link f ∷ found))) same_setup b.log in
     record {
       done = done;
       payload = payload;
@@ -145,7 +145,7 @@ breaks-off {old} {mid} {link} {all} {done} left payload {n0} {n1} {o0} {o1} {o2}
       found = found;
       finds = g.finds;
       class = f;
-      comes = subst (λ (s : SetupView). IsClassOfPayload s payload f) settings comes;
+      comes = subst (λ (s : SetupView). IsClassOfPayload s payload f) same_setup comes;
       out = writes-into o0.file o1.file o2.file _ _ _ g.writes.out out;
       log = writes-into o0.report o1.report o2.report _ _ _ g.writes.log log;
     }

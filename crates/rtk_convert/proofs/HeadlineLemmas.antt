@@ -145,7 +145,7 @@ headline-of s links calls found o o' all out log = record {
   found = found;
   of_all_pieces = all;
   file_of_the_set = λ good. (kept_file s (arrivals found), out, file-of-set s found good);
-  file_of_a_table = λ settings. (kept_file s (arrivals found), out, calls-table s links calls found settings all);
+  file_of_a_table = λ good_setup. (kept_file s (arrivals found), out, calls-table s links calls found good_setup all);
   late_are_listed = late-listed s found o.report o'.report log;
   late_change_nothing = late-nothing s found;
 }

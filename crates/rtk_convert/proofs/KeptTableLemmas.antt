@@ -142,10 +142,10 @@ site-good short (Some (Msm1074 m)) s t = site_of_1005-good short s
 -- ---- so the file is the text of a table
 
 pub kept-file-is_table : FilesAreTables → KeptFileIsTable
-kept-file-is_table law s found settings h =
+kept-file-is_table law s found good_setup h =
     let n : ℕ = s.window in
-    let good = arrivals-good s found settings.1 (recursion_from_All (HasPayload s) found h) in
-    file-is_table law s (site_of_kept n (arrivals found)) (kept n (arrivals found)) settings
+    let good = arrivals-good s found good_setup.1 (recursion_from_All (HasPayload s) found h) in
+    file-is_table law s (site_of_kept n (arrivals found)) (kept n (arrivals found)) good_setup
     (site-good (station n 1005 (arrivals found)) (station n 1006 (arrivals found)) (station-good n 1005 (arrivals found) good) (station-good n 1006 (arrivals found) good))
     (kept-falls n (arrivals found))
     (All-from_recursion IsGoodEpoch (kept n (arrivals found)) (kept-good n (arrivals found) good))

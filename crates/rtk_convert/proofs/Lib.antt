@@ -1,29 +1,29 @@
-pub mod PlacesLemmas
-pub mod ThroughLemmas
-pub mod RowsLemmas
-pub mod FileLemmas
-pub mod TableLemmas
-pub mod KeptTableLemmas
-pub mod RecordsLemmas
-pub mod WritingLemmas
-pub mod HandedLemmas
-pub mod SoFarLemmas
-pub mod AnswersLemmas
-pub mod AheadLemmas
-pub mod OneTextLemmas
-pub mod ArriveLemmas
-pub mod FinishLemmas
-pub mod ArrivalLawsLemmas
-pub mod GatheringLemmas
-pub mod ConverterLemmas
-pub mod ClosingLemmas
-pub mod NextLemmas
-pub mod ReadLemmas
-pub mod RunLemmas
-pub mod EndsLemmas
-pub mod PayloadLemmas
-pub mod HeadlineLemmas
-pub mod BoundsLemmas
-pub mod CallsLemmas
-pub mod HistoryLemmas
-pub mod CountLemmas
+mod PlacesLemmas
+mod ThroughLemmas
+mod RowsLemmas
+mod FileLemmas
+mod TableLemmas
+mod KeptTableLemmas
+mod RecordsLemmas
+mod WritingLemmas
+mod HandedLemmas
+mod SoFarLemmas
+mod AnswersLemmas
+mod AheadLemmas
+mod OneTextLemmas
+mod ArriveLemmas
+mod FinishLemmas
+mod ArrivalLawsLemmas
+mod GatheringLemmas
+mod ConverterLemmas
+mod ClosingLemmas
+mod NextLemmas
+mod ReadLemmas
+mod RunLemmas
+mod EndsLemmas
+mod PayloadLemmas
+mod HeadlineLemmas
+mod BoundsLemmas
+mod CallsLemmas
+mod HistoryLemmas
+mod CountLemmas

@@ -38,6 +38,6 @@ end-payloads s h zero last p have = subst (λ (x : History). HavePayloads s x.fo
 end-payloads s h (suc n) last p have = closing-payloads s p.0 n last p.2 (end-payloads s h n p.0 p.1 have)
 
 pub calls-table : CallsComeToTable
-calls-table s links calls found settings p =
+calls-table s links calls found good_setup p =
     let have = subst (HavePayloads s) (sym p.4) (end-payloads s p.0 links p.1 p.3 (come-payloads s links calls p.0 p.2)) in
-    kept-file-is_table file-is_shown s found settings (All-from_recursion (HasPayload s) found have)
+    kept-file-is_table file-is_shown s found good_setup (All-from_recursion (HasPayload s) found have)

@@ -149,15 +149,15 @@ starts near (e ∷ xs) = refl
 
 pub file-is_table : FilesAreTables → FileIsTable
 unfolding has_record
-file-is_table law s site epochs settings good_site fall good =
+file-is_table law s site epochs good_setup good_site fall good =
     let xs : List EpochTableView = tables s.head.listed epochs in
     let some : List EpochTableView = with_record xs in
     let first : ℕ = unwrap_or (first_of some) s.near in
-    let near : IsMoment s.near = let to = settings.1.to in omega arith in
+    let near : IsMoment s.near = let to = good_setup.1.to in omega arith in
     let all : All IsEpochTableView xs = all-tables IsEpochTableView s.head.listed (table-good s.head.listed) epochs good in
     let widths : All (λ (e : EpochTableView). HasWidth (length s.head.listed) e.rows) xs =
     all-tables (λ (e : EpochTableView). HasWidth (length s.head.listed) e.rows) s.head.listed (λ e below g. rows-width (observed_at e below) s.head.listed) epochs good in
-    let shown = law s.head site first xs settings.2 good_site (first-moment s.near some near (all-kept IsEpochTableView has_record xs all)) all widths (tables-rise s.head.listed epochs fall) (starts s.near some) in (
+    let shown = law s.head site first xs good_setup.2 good_site (first-moment s.near some near (all-kept IsEpochTableView has_record xs all)) all widths (tables-rise s.head.listed epochs fall) (starts s.near some) in (
       shown_table s.head site first xs,
       shown.table,
       ap (λ (o : Option ℕ). header_text s.head site (unwrap_or o s.near) ++ records s.head.listed epochs) (first-same s.head.listed epochs)

@@ -30,7 +30,7 @@ abbrev pub AreAnswered : ConverterView → List Call → ConverterView → Writt
 AreAnswered first [] now written_old written_new = (now ≡ first) × (written_new ≡ written_old)
 AreAnswered first (call ∷ before) now written_old written_new =
     (mid : ConverterView) × (written_mid : Written) × AreAnswered first before mid written_old written_mid
-    × IsAnswered mid call now written_mid written_new × (now.conversion.settings ≡ mid.conversion.settings)
+    × IsAnswered mid call now written_mid written_new × (now.conversion.setup ≡ mid.conversion.setup)
 
 -- any calls on a new converter, and then its end, which answers the counts
 pub record IsConversionBy (s : SetupView) (links : ℕ) (calls : List Call) (counts : Counts) (written_old written_new : Written) : Type 0 where
@@ -38,7 +38,7 @@ pub record IsConversionBy (s : SetupView) (links : ℕ) (calls : List Call) (cou
   pub now : ConverterView
   pub written_mid : Written
   pub is_new : RepresentsHistory first (new_history links)
-  pub settings : first.conversion.settings ≡ s
+  pub setup : first.conversion.setup ≡ s
   pub answered : AreAnswered first calls now written_old written_mid
   pub ended : FinishesConverter now counts written_mid written_new
 

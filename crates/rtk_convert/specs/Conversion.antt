@@ -16,11 +16,11 @@ use Rattle.rtk_convert.specs.Report.{lines, frame_counts}
 use Rattle.rtk_convert.specs.Setup.{SetupView}
 
 pub record ConversionView : Type 0 where
-  pub settings : SetupView
+  pub setup : SetupView
   -- the open epochs and the station messages
-  pub window : CollectorView
+  pub collector : CollectorView
   -- what is known of the closed epochs
-  pub closed : RecordsView
+  pub records : RecordsView
   -- the counts of frames
   pub counts : Counts
   -- a call broke off
@@ -30,9 +30,9 @@ pub record ConversionView : Type 0 where
 -- knows the last phases of the closed epochs, whether the header is written, and how many records
 -- are; and it has the counts of the frames
 pub record RepresentsFound (s : ConversionView) (found : List Found) : Type 0 where
-  pub window : RepresentsArrivals s.window (arrivals found)
-  pub closed : HasClosed s.closed s.settings.head.listed (closed s.settings.window (arrivals found))
-  pub counts : s.counts ≡ frame_counts s.settings.window found
+  pub window : RepresentsArrivals s.collector (arrivals found)
+  pub closed : HasClosed s.records s.setup.head.listed (closed s.setup.window (arrivals found))
+  pub counts : s.counts ≡ frame_counts s.setup.window found
 
 -- the window holds what is kept of some arrivals
 abbrev pub HoldsArrivals : CollectorView → Type 0
@@ -51,9 +51,9 @@ IsAhead w c = (satellite : ℕ) (code : Code) → IsSatellite satellite → IsUn
 -- the window has as many places as the setup says, and no more epochs than places; and unless a
 -- call broke off all last phases are of epochs below it
 pub record IsConversionView (s : ConversionView) : Type 0 where
-  pub places : s.window.size ≡ s.settings.window
-  pub few : length s.window.sets ≤ s.window.size
-  pub ahead : s.stopped ≡ false → IsAhead s.window s.closed
+  pub places : s.collector.size ≡ s.setup.window
+  pub few : length s.collector.sets ≤ s.collector.size
+  pub ahead : s.stopped ≡ false → IsAhead s.collector s.records
 
 abbrev pub found_on : ℕ → FrameClass → Found
 found_on link f = record { link = link; class = f }

@@ -32,8 +32,8 @@ IsLinkCount n = IsInRange 1 16 n
 pub record IsConverterView (c : ConverterView) : Type 0 where
   pub few : IsLinkCount (length c.links)
   pub short : All (λ l. length l.scanner.pending ≤ 1029) c.links
-  pub epochs : length c.conversion.window.sets ≤ c.conversion.settings.window
-  pub held : HoldsArrivals c.conversion.window
+  pub epochs : length c.conversion.collector.sets ≤ c.conversion.setup.window
+  pub held : HoldsArrivals c.conversion.collector
 
 -- why a call on a link is refused at once: the first cause that holds
 abbrev pub link_refusal : Option Link → Option ConvertFault
@@ -64,12 +64,12 @@ pub record RepresentsHistory (c : ConverterView) (h : History) : Type 0 where
   pub found : RepresentsFound c.conversion h.found
 
 -- what a converter holds: of each link at most the bytes of the longest frame; at most as many open
--- epochs as the setup says; and of each of these at most 1,024 cells, for 32 satellites, 16 codes and
--- 2 kinds of message
+-- epochs as the setup says; and of each of these at most 1,024 cells, for 32 satellites, 16 codes
+-- and 2 kinds of message
 pub record HoldsAtMost (c : ConverterView) : Type 0 where
   pub bytes : All (λ l. length l.scanner.pending ≤ 1029) c.links
-  pub epochs : length c.conversion.window.sets ≤ c.conversion.settings.window
-  pub cells : All (λ e. length e.cells ≤ 1024) c.conversion.window.sets
+  pub epochs : length c.conversion.collector.sets ≤ c.conversion.setup.window
+  pub cells : All (λ e. length e.cells ≤ 1024) c.conversion.collector.sets
 
 -- what the frames after `before` add to the file and to the lines was written
 pub record WritesOn (s : SetupView) (before after : List Found) (written_old written_new : Written) : Type 0 where
@@ -79,14 +79,14 @@ pub record WritesOn (s : SetupView) (before after : List Found) (written_old wri
 -- one more piece is fed on a link, whatever the history was
 abbrev pub FeedsPiece : ConverterView → ℕ → List ℕ → ConverterView → Written → Written → Type 0
 FeedsPiece old link piece new written_old written_new = (h : History) → RepresentsHistory old h
-    → (next : History) × IsAfterFeed old.conversion.settings h link piece next × RepresentsHistory new next
-    × WritesOn old.conversion.settings h.found next.found written_old written_new
+    → (next : History) × IsAfterFeed old.conversion.setup h link piece next × RepresentsHistory new next
+    × WritesOn old.conversion.setup h.found next.found written_old written_new
 
 -- a link is closed, whatever the history was
 abbrev pub ClosesLink : ConverterView → ℕ → ConverterView → Written → Written → Type 0
 ClosesLink old link new written_old written_new = (h : History) → RepresentsHistory old h
-    → (next : History) × IsAfterClose old.conversion.settings h link next × RepresentsHistory new next
-    × WritesOn old.conversion.settings h.found next.found written_old written_new
+    → (next : History) × IsAfterClose old.conversion.setup h link next × RepresentsHistory new next
+    × WritesOn old.conversion.setup h.found next.found written_old written_new
 
 -- the first text begins the second, and the second the third: what was written is the rest of the
 -- second, and then a first part of the rest of the third
@@ -115,12 +115,12 @@ BreaksOffAt s link payloads before written_old written_new = BreaksOffAfter s li
 -- feeding a piece breaks off, whatever the history was
 abbrev pub FeedsPieceInPart : ConverterView → ℕ → List ℕ → Written → Written → Type 0
 FeedsPieceInPart old link piece written_old written_new = (h : History) → RepresentsHistory old h
-    → BreaksOffAt old.conversion.settings link (found_by_piece (fed_on link h.links) piece) h.found written_old written_new
+    → BreaksOffAt old.conversion.setup link (found_by_piece (fed_on link h.links) piece) h.found written_old written_new
 
 -- closing a link breaks off, whatever the history was
 abbrev pub ClosesLinkInPart : ConverterView → ℕ → Written → Written → Type 0
 ClosesLinkInPart old link written_old written_new = (h : History) → RepresentsHistory old h
-    → BreaksOffAt old.conversion.settings link (found_by_close (fed_on link h.links)) h.found written_old written_new
+    → BreaksOffAt old.conversion.setup link (found_by_close (fed_on link h.links)) h.found written_old written_new
 
 -- ---- the end
 
@@ -143,7 +143,7 @@ pub record FinishesConverterAs (s : SetupView) (h last : History) (counts : Coun
 -- the same, whatever the history was
 abbrev pub FinishesConverter : ConverterView → Counts → Written → Written → Type 0
 FinishesConverter old counts written_old written_new = (h : History) → RepresentsHistory old h
-    → (last : History) × FinishesConverterAs old.conversion.settings h last counts written_old written_new
+    → (last : History) × FinishesConverterAs old.conversion.setup h last counts written_old written_new
 
 -- the end breaks off at a frame of a link that it closes: the links of lower numbers are closed
 pub record BreaksOffClosing (s : SetupView) (h : History) (link : ℕ) (written_old written_new : Written) : Type 0 where
@@ -163,5 +163,5 @@ pub record BreaksOffFinishing (s : SetupView) (h : History) (written_old written
 -- the same, whatever the history was
 abbrev pub FinishesConverterInPart : ConverterView → Written → Written → Type 0
 FinishesConverterInPart old written_old written_new = (h : History) → RepresentsHistory old h
-    → ((link : ℕ) × BreaksOffClosing old.conversion.settings h link written_old written_new)
-    ⊎ BreaksOffFinishing old.conversion.settings h written_old written_new
+    → ((link : ℕ) × BreaksOffClosing old.conversion.setup h link written_old written_new)
+    ⊎ BreaksOffFinishing old.conversion.setup h written_old written_new

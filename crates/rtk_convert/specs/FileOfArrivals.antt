@@ -25,7 +25,7 @@ site_of_1005 (Some (Arp1005 m)) = site_of m 0
 site_of_1005 _ = no_site
 
 -- the position and height (DF028) of the 1006, else the position of the 1005, else zeros (this
--- project\'s rule)
+-- project's rule)
 abbrev pub site_of_stations : Option Message → Option Message → PositionView
 site_of_stations arp1005 (Some (Arp1006 m)) = site_of m.arp m.height
 site_of_stations arp1005 _ = site_of_1005 arp1005

@@ -42,19 +42,19 @@ impl Model for Conversion {
 
     ghost Value = { ConversionView };
 
-    ghost view = { λ c. record { settings = c.setup; window = c.collector; closed = c.records; counts = c.counts; stopped = c.stopped } };
+    ghost view = { λ c. record { setup = c.setup; collector = c.collector; records = c.records; counts = c.counts; stopped = c.stopped } };
 
     ghost invariant = { λ c. IsConversionView
-        (record { settings = c.setup; window = c.collector; closed = c.records; counts = c.counts; stopped = c.stopped }) };
+        (record { setup = c.setup; collector = c.collector; records = c.records; counts = c.counts; stopped = c.stopped }) };
 }
 
 impl Conversion {
     /// Nothing was found yet. It takes no memory.
     pub(crate) fn new(alloc: Global, setup: Setup) -> Conversion
         ensures represents { RepresentsFound result [] }
-        ensures settings { result.settings ≡ setup }
+        ensures same_setup { result.setup ≡ setup }
         ensures going { result.stopped ≡ false }
-        ensures few { length result.window.sets ≤ setup.window }
+        ensures few { length result.collector.sets ≤ setup.window }
     {
         let collector = Collector::new(alloc, setup.window());
         let records = Records::new(setup.near());
@@ -95,20 +95,20 @@ impl Conversion {
         out: &mut O,
         log: &mut L,
     ) -> Result<Option<GpsMs>, ConvertFault>
-        ensures settings { self.new.settings ≡ self.old.settings }
-        ensures few { length self.new.window.sets ≤ self.new.settings.window }
-        ensures held { HoldsArrivals self.old.window → HoldsArrivals self.new.window }
+        ensures same_setup { self.new.setup ≡ self.old.setup }
+        ensures few { length self.new.collector.sets ≤ self.new.setup.window }
+        ensures held { HoldsArrivals self.old.collector → HoldsArrivals self.new.collector }
         ensures stopped { (result ≡ Err ConvertFault.Stopped) ↔ (self.old.stopped ≡ true) }
         ensures still { self.old.stopped ≡ true → (out.new ≡ out.old) × (log.new ≡ log.old) }
         ensures going { OnOk result (self.new.stopped ≡ false) }
         ensures halts { OnErr result (self.new.stopped ≡ true) }
-        ensures epoch { IfOk result (λ epoch. IsEpochIn self.old.settings payload.now epoch) }
+        ensures epoch { IfOk result (λ epoch. IsEpochIn self.old.setup payload.now epoch) }
         ensures ok { OnOk result (AcceptsFrame self.old link payload.now self.new
             (written (O.taken out.old) (L.taken log.old)) (written (O.taken out.new) (L.taken log.new))) }
         ensures err { OnErr result (self.old.stopped ≡ false → BreaksOffAtFrame self.old link payload.now
             (written (O.taken out.old) (L.taken log.old)) (written (O.taken out.new) (L.taken log.new))) }
         ensures fault { self.old.stopped ≡ false → IfErr result IsFrameFault }
-        ensures cause { OnErr result (self.old.stopped ≡ false → HasCause self.old.settings payload.now) }
+        ensures cause { OnErr result (self.old.stopped ≡ false → HasCause self.old.setup payload.now) }
         ensures file_failed { NamesFailedWrites Stream.Out result (O.failures out.old) (O.failures out.new) }
         ensures report_failed { NamesFailedWrites Stream.Log result (L.failures log.old) (L.failures log.new) }
     {
@@ -130,19 +130,19 @@ impl Conversion {
         log: &mut L,
     ) -> Result<Option<GpsMs>, ConvertFault>
         requires stopped { self.old.stopped ≡ true }
-        requires ahead { IsAhead self.old.window self.old.closed }
-        ensures settings { self.new.settings ≡ self.old.settings }
-        ensures few { length self.new.window.sets ≤ self.new.settings.window }
-        ensures held { HoldsArrivals self.old.window → HoldsArrivals self.new.window }
+        requires ahead { IsAhead self.old.collector self.old.records }
+        ensures same_setup { self.new.setup ≡ self.old.setup }
+        ensures few { length self.new.collector.sets ≤ self.new.setup.window }
+        ensures held { HoldsArrivals self.old.collector → HoldsArrivals self.new.collector }
         ensures stopped { self.new.stopped ≡ true }
-        ensures ahead { OnOk result (IsAhead self.new.window self.new.closed) }
-        ensures epoch { IfOk result (λ epoch. IsEpochIn self.old.settings payload.now epoch) }
+        ensures ahead { OnOk result (IsAhead self.new.collector self.new.records) }
+        ensures epoch { IfOk result (λ epoch. IsEpochIn self.old.setup payload.now epoch) }
         ensures ok { OnOk result (AcceptsFrame self.old link payload.now self.new
             (written (O.taken out.old) (L.taken log.old)) (written (O.taken out.new) (L.taken log.new))) }
         ensures err { OnErr result (BreaksOffAtFrame self.old link payload.now
             (written (O.taken out.old) (L.taken log.old)) (written (O.taken out.new) (L.taken log.new))) }
         ensures fault { IfErr result IsFrameFault }
-        ensures cause { OnErr result (HasCause self.old.settings payload.now) }
+        ensures cause { OnErr result (HasCause self.old.setup payload.now) }
         ensures file_failed { NamesFailedWrites Stream.Out result (O.failures out.old) (O.failures out.new) }
         ensures report_failed { NamesFailedWrites Stream.Log result (L.failures log.old) (L.failures log.new) }
     {
@@ -158,7 +158,7 @@ impl Conversion {
             }
             FrameClass::Refused(fault) => {
                 self.counts.refused = self.counts.refused.saturating_add(1);
-                let Ok(line) = report::refused(self.alloc, link, fault) else {
+                let Ok(line) = report::refused_line(self.alloc, link, fault) else {
                     return Err(ConvertFault::OutOfMemory);
                 };
                 put_lines(log, &line)?;
@@ -181,12 +181,12 @@ impl Conversion {
         log: &mut L,
     ) -> Result<(), ConvertFault>
         requires stopped { self.old.stopped ≡ true }
-        requires ahead { IsAhead self.old.window self.old.closed }
-        ensures settings { self.new.settings ≡ self.old.settings }
-        ensures few { length self.new.window.sets ≤ self.new.settings.window }
-        ensures held { HoldsArrivals self.old.window → HoldsArrivals self.new.window }
+        requires ahead { IsAhead self.old.collector self.old.records }
+        ensures same_setup { self.new.setup ≡ self.old.setup }
+        ensures few { length self.new.collector.sets ≤ self.new.setup.window }
+        ensures held { HoldsArrivals self.old.collector → HoldsArrivals self.new.collector }
         ensures stopped { self.new.stopped ≡ true }
-        ensures ahead { OnOk result (IsAhead self.new.window self.new.closed) }
+        ensures ahead { OnOk result (IsAhead self.new.collector self.new.records) }
         ensures ok { OnOk result (AddsMessage self.old link dated self.new
             (written (O.taken out.old) (L.taken log.old)) (written (O.taken out.new) (L.taken log.new))) }
         ensures err { OnErr result (AddsMessageInPart self.old link dated
@@ -200,10 +200,10 @@ impl Conversion {
         let Ok(offer) = self.collector.offer(dated) else {
             return Err(ConvertFault::OutOfMemory);
         };
-        let Ok(lines) = report::offered(self.alloc, link, number, epoch, &offer) else {
+        let Ok(lines) = report::offer_lines(self.alloc, link, number, epoch, &offer) else {
             return Err(ConvertFault::OutOfMemory);
         };
-        count(&mut self.counts, &offer);
+        count_message(&mut self.counts, &offer);
         let Some(set) = closed_by(offer) else {
             return put_lines(log, &lines);
         };
@@ -244,7 +244,7 @@ impl Conversion {
         put_last_header(alloc, &setup, &position, records.header_out(), out)?;
         let mut counts = self.counts;
         counts.epochs = records.count();
-        let Ok(lines) = report::counts(alloc, &counts) else {
+        let Ok(lines) = report::count_lines(alloc, &counts) else {
             return Err(ConvertFault::OutOfMemory);
         };
         put_lines(log, &lines)?;
@@ -263,7 +263,7 @@ fn closed_by(offer: Offer) -> Option<EpochSet>
 }
 
 // Counts a message with this answer.
-fn count(counts: &mut Counts, offer: &Offer)
+fn count_message(counts: &mut Counts, offer: &Offer)
     ensures { counts.new ≡ counted_as (class_of_offer offer.now) counts.old }
 {
     match offer {

@@ -64,7 +64,7 @@ impl Converter {
     /// Nothing was fed yet. The links are counted from 0.
     pub fn new(alloc: Global, setup: Setup, links: usize) -> Result<Converter, ConvertFault>
         ensures ok { IfOk result (λ c. RepresentsHistory c (new_history links)) }
-        ensures settings { IfOk result (λ c. c.conversion.settings ≡ setup) }
+        ensures same_setup { IfOk result (λ c. c.conversion.setup ≡ setup) }
         ensures as_many { IfOk result (λ c. length c.links ≡ links) }
         ensures setup { IsErrOf result ConvertFault.Setup ↔ ¬ (IsLinkCount links) }
         ensures fault { IfErr result (λ fault. IsLinkCount links → fault ≡ ConvertFault.OutOfMemory) }
@@ -148,7 +148,7 @@ impl Converter {
         ensures report_failed { NamesFailedWrites Stream.Log result (L.failures log.old) (L.failures log.new) }
 
         // Whatever the answer.
-        ensures settings { self.new.conversion.settings ≡ self.old.conversion.settings }
+        ensures same_setup { self.new.conversion.setup ≡ self.old.conversion.setup }
         ensures as_many { length self.new.links ≡ length self.old.links }
         ensures bounds { HoldsAtMost self.new }
     {
@@ -183,7 +183,7 @@ impl Converter {
         ensures report_failed { NamesFailedWrites Stream.Log result (L.failures log.old) (L.failures log.new) }
 
         // Whatever the answer.
-        ensures settings { self.new.conversion.settings ≡ self.old.conversion.settings }
+        ensures same_setup { self.new.conversion.setup ≡ self.old.conversion.setup }
         ensures as_many { length self.new.links ≡ length self.old.links }
         ensures bounds { HoldsAtMost self.new }
     {
@@ -196,7 +196,7 @@ impl Converter {
     // Closes the links that are open, the lower number first.
     fn close_all<O: Sink, L: Sink>(&mut self, out: &mut O, log: &mut L) -> Result<(), ConvertFault>
         requires going { self.old.conversion.stopped ≡ false }
-        ensures settings { self.new.conversion.settings ≡ self.old.conversion.settings }
+        ensures same_setup { self.new.conversion.setup ≡ self.old.conversion.setup }
         ensures going { OnOk result (self.new.conversion.stopped ≡ false) }
         ensures fault { IfErr result IsFrameFault }
         ensures ok { OnOk result (ClosesAllLinks self.old self.new
@@ -206,7 +206,7 @@ impl Converter {
         ensures file_failed { NamesFailedWrites Stream.Out result (O.failures out.old) (O.failures out.new) }
         ensures report_failed { NamesFailedWrites Stream.Log result (L.failures log.old) (L.failures log.new) }
     {
-        'links: for link in 0..self.links.len() {
+        for link in 0..self.links.len() {
             if self.refusal(link).is_some() {
                 continue;
             }

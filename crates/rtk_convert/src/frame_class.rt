@@ -23,7 +23,7 @@ pub enum FrameClass {
 }
 
 // A message with the moment of its time of week that is nearest to the reference.
-fn dated(setup: &Setup, message: Message) -> Dated
+fn dated_message(setup: &Setup, message: Message) -> Dated
     requires { IsValid message }
     ensures { IsDatedMessage setup.now message result }
 {
@@ -43,7 +43,7 @@ pub(crate) fn classify(setup: &Setup, payload: &[u8]) -> FrameClass
             if message.station() != setup.station() {
                 return FrameClass::Foreign;
             }
-            FrameClass::Dated(dated(setup, message))
+            FrameClass::Dated(dated_message(setup, message))
         }
         Err(DecodeFault::Other { .. }) => FrameClass::OtherMessage,
         Err(fault) => FrameClass::Refused(fault),

@@ -24,7 +24,7 @@ pub(crate) struct Link {
 }
 
 // The later of two epochs.
-fn later(a: Option<GpsMs>, b: Option<GpsMs>) -> Option<GpsMs>
+fn later_of(a: Option<GpsMs>, b: Option<GpsMs>) -> Option<GpsMs>
     ensures { result ≡ later_of a b }
 {
     match (a, b) {
@@ -46,13 +46,13 @@ impl Link {
     ) -> Result<(), ConvertFault>
         requires is_open { self.old.scanner.ended ≡ false }
         requires going { conversion.old.stopped ≡ false }
-        requires few { length conversion.old.window.sets ≤ conversion.old.settings.window }
+        requires few { length conversion.old.collector.sets ≤ conversion.old.setup.window }
         ensures is_open { self.new.scanner.ended ≡ false }
         ensures pending { OnOk result (self.new.scanner.pending ≡ pending (self.old.scanner.pending ++ piece.now)) }
         ensures short { length self.new.scanner.pending ≤ 1029 }
-        ensures settings { conversion.new.settings ≡ conversion.old.settings }
-        ensures few { length conversion.new.window.sets ≤ conversion.new.settings.window }
-        ensures held { HoldsArrivals conversion.old.window → HoldsArrivals conversion.new.window }
+        ensures same_setup { conversion.new.setup ≡ conversion.old.setup }
+        ensures few { length conversion.new.collector.sets ≤ conversion.new.setup.window }
+        ensures held { HoldsArrivals conversion.old.collector → HoldsArrivals conversion.new.collector }
         ensures going { OnOk result (conversion.new.stopped ≡ false) }
         ensures halts { OnErr result (conversion.new.stopped ≡ true) }
         ensures ok { OnOk result (AddsFrames conversion.old number (payloads (final_frames (self.old.scanner.pending ++ piece.now)))
@@ -72,7 +72,7 @@ impl Link {
                 return Ok(());
             };
             let epoch = conversion.accept_frame(number, payload, out, log)?;
-            self.newest = later(epoch, self.newest);
+            self.newest = later_of(epoch, self.newest);
         }
     }
 
@@ -85,12 +85,12 @@ impl Link {
         log: &mut L,
     ) -> Result<(), ConvertFault>
         requires going { conversion.old.stopped ≡ false }
-        requires few { length conversion.old.window.sets ≤ conversion.old.settings.window }
+        requires few { length conversion.old.collector.sets ≤ conversion.old.setup.window }
         ensures ended { self.new.scanner.ended ≡ true }
         ensures short { length self.new.scanner.pending ≤ 1029 }
-        ensures settings { conversion.new.settings ≡ conversion.old.settings }
-        ensures few { length conversion.new.window.sets ≤ conversion.new.settings.window }
-        ensures held { HoldsArrivals conversion.old.window → HoldsArrivals conversion.new.window }
+        ensures same_setup { conversion.new.setup ≡ conversion.old.setup }
+        ensures few { length conversion.new.collector.sets ≤ conversion.new.setup.window }
+        ensures held { HoldsArrivals conversion.old.collector → HoldsArrivals conversion.new.collector }
         ensures going { OnOk result (conversion.new.stopped ≡ false) }
         ensures halts { OnErr result (conversion.new.stopped ≡ true) }
         ensures ok { OnOk result (AddsFrames conversion.old number (payloads (frames self.old.scanner.pending))
@@ -104,7 +104,7 @@ impl Link {
     {
         'frames: while let Some(payload) = self.scanner.rest() {
             let epoch = conversion.accept_frame(number, payload, out, log)?;
-            self.newest = later(epoch, self.newest);
+            self.newest = later_of(epoch, self.newest);
         }
         Ok(())
     }

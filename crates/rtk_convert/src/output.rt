@@ -16,7 +16,7 @@ use rtk_rinex::{EpochTable, header, record};
 use std::alloc::{AllocError, Global};
 
 // Writes a text to the file.
-fn put<O: Sink>(out: &mut O, text: &[u8]) -> Result<(), ConvertFault>
+fn put_text<O: Sink>(out: &mut O, text: &[u8]) -> Result<(), ConvertFault>
     ensures all { OnOk result (O.taken out.new ≡ with_more (O.taken out.old) text.now) }
     ensures part { TakesPart (O.taken out.old) (O.taken out.new) text.now }
     ensures file_failed { NamesFailedWrites Stream.Out result (O.failures out.old) (O.failures out.new) }
@@ -72,13 +72,13 @@ pub(crate) fn put_record<O: Sink>(
         return Ok(false);
     }
     if header_out {
-        put(out, &text)?;
+        put_text(out, &text)?;
         return Ok(true);
     }
     let Ok(whole) = with_header(alloc, setup, position, table.time(), &text) else {
         return Err(ConvertFault::OutOfMemory);
     };
-    put(out, &whole)?;
+    put_text(out, &whole)?;
     Ok(true)
 }
 
@@ -103,7 +103,7 @@ pub(crate) fn put_last_header<O: Sink>(
     let Ok(text) = header(alloc, setup.head(), position, setup.near()) else {
         return Err(ConvertFault::OutOfMemory);
     };
-    put(out, &text)
+    put_text(out, &text)
 }
 
 /// Writes lines to the report.

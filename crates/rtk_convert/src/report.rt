@@ -170,7 +170,7 @@ fn put_conflicts(
 
 /// The lines of a message with this number and epoch that got this answer. No memory is taken if
 /// there are none.
-pub(crate) fn offered(
+pub(crate) fn offer_lines(
     alloc: Global,
     link: u8,
     number: u16,
@@ -209,7 +209,11 @@ fn put_fault(line: &mut Vec<u8>, fault: DecodeFault) -> Result<(), AllocError>
 }
 
 /// The line of a payload that is refused.
-pub(crate) fn refused(alloc: Global, link: u8, fault: DecodeFault) -> Result<Vec<u8>, AllocError>
+pub(crate) fn refused_line(
+    alloc: Global,
+    link: u8,
+    fault: DecodeFault,
+) -> Result<Vec<u8>, AllocError>
     ensures { IfOk result (λ line. line.items ≡ refused_line link fault) }
 {
     let mut line = Vec::new(alloc);
@@ -229,7 +233,7 @@ fn put_count(lines: &mut Vec<u8>, name: &[u8], count: u64) -> Result<(), AllocEr
 }
 
 /// The lines of the counts, at the end of the report.
-pub(crate) fn counts(alloc: Global, counts: &Counts) -> Result<Vec<u8>, AllocError>
+pub(crate) fn count_lines(alloc: Global, counts: &Counts) -> Result<Vec<u8>, AllocError>
     ensures { IfOk result (λ lines. lines.items ≡ count_lines counts.now) }
 {
     let mut lines = Vec::new(alloc);

@@ -64,16 +64,16 @@ fn read_link<R: Source, O: Sink, L: Sink>(
     requires link { link < length readers.old }
     requires links { length readers.old ≤ 16 }
     requires room { length buf.old ≡ 512 }
-    ensures settings { converter.new.conversion.settings ≡ converter.old.conversion.settings }
+    ensures same_setup { converter.new.conversion.setup ≡ converter.old.conversion.setup }
     ensures as_many { length readers.new ≡ length readers.old }
     ensures reads { sum_by R.calls readers.new ≤ sum_by R.calls readers.old + 1 }
     ensures called { HasCalled R.calls readers.old readers.new 1 }
     ensures full { AnyAtGreatest R.calls readers.old → AnyAtGreatest R.calls readers.new }
     ensures ok { OnOk result ((h : History) → RepresentsHistory converter.old h → IsNextLink h link
-        → ReadsLink R.given R.is_at_end converter.old.conversion.settings h link readers.old readers.new converter.new
+        → ReadsLink R.given R.is_at_end converter.old.conversion.setup h link readers.old readers.new converter.new
         (written (O.taken out.old) (L.taken log.old)) (written (O.taken out.new) (L.taken log.new))) }
     ensures err { IfErr result (λ fault. IsFrameFault fault → (h : History) → RepresentsHistory converter.old h
-        → BreaksOffAfterRead R.given converter.old.conversion.settings h link readers.old readers.new
+        → BreaksOffAfterRead R.given converter.old.conversion.setup h link readers.old readers.new
         (written (O.taken out.old) (L.taken log.old)) (written (O.taken out.new) (L.taken log.new))) }
     ensures read_failed { (h : History) → RepresentsHistory converter.old h → IsOpen h link → (k : ℕ) → IsErrOf result (ConvertFault.Read k)
         → (k ≡ link) × FailsRead R.given R.failures k readers.old readers.new
@@ -102,18 +102,18 @@ fn read_all<R: Source, O: Sink, L: Sink>(
 ) -> Result<(), ConvertFault>
     requires links { length readers.old ≤ 16 }
     requires fresh { RepresentsHistory converter.old (new_history (length readers.old)) }
-    ensures settings { converter.new.conversion.settings ≡ converter.old.conversion.settings }
+    ensures same_setup { converter.new.conversion.setup ≡ converter.old.conversion.setup }
     ensures reads { sum_by R.calls readers.new ≤ sum_by R.calls readers.old + max_reads }
-    ensures ok { OnOk result (HasReadAll R.given R.calls R.is_at_end converter.old.conversion.settings readers.old readers.new converter.new
+    ensures ok { OnOk result (HasReadAll R.given R.calls R.is_at_end converter.old.conversion.setup readers.old readers.new converter.new
         (written (O.taken out.old) (L.taken log.old)) (written (O.taken out.new) (L.taken log.new))) }
     ensures err { IfErr result (λ fault. IsFrameFault fault
-        → BreaksOffReading R.given R.calls converter.old.conversion.settings readers.old readers.new
+        → BreaksOffReading R.given R.calls converter.old.conversion.setup readers.old readers.new
         (written (O.taken out.old) (L.taken log.old)) (written (O.taken out.new) (L.taken log.new))) }
     ensures read_failed { (link : ℕ) → IsErrOf result (ConvertFault.Read link)
-        → FailsReading R.given R.failures R.calls converter.old.conversion.settings link readers.old readers.new
+        → FailsReading R.given R.failures R.calls converter.old.conversion.setup link readers.old readers.new
         (written (O.taken out.old) (L.taken log.old)) (written (O.taken out.new) (L.taken log.new)) }
     ensures endless { IsErrOf result ConvertFault.Endless
-        → StaysOpen R.given R.is_at_end converter.old.conversion.settings max_reads readers.old readers.new
+        → StaysOpen R.given R.is_at_end converter.old.conversion.setup max_reads readers.old readers.new
         (written (O.taken out.old) (L.taken log.old)) (written (O.taken out.new) (L.taken log.new))
         × HasCalled R.calls readers.old readers.new max_reads }
     ensures fault { IfErr result IsReadingFault }

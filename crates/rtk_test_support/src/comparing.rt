@@ -1,5 +1,5 @@
-//! Comparisons of a test. They are calls and no `assert_eq!`, since each of those costs the proof of a test some
-//! seconds and a call nearly nothing.
+//! Comparisons of a test. They are calls and no `assert_eq!`, since each of those costs the proof
+//! of a test some seconds and a call nearly nothing.
 
 ghost use Rattle.std.specs.Prelude.{◌≡◌, true, false, IfOk, IfErr};
 

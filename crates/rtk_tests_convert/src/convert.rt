@@ -278,7 +278,8 @@ fn captures_cut_anywhere(rt: HostRuntime) -> Result<(), Fail> {
 fn frame_after(alloc: Global, seconds: u32) -> Result<Vec<u8>, Fail>
     requires { seconds < 3000 }
 {
-    let [a, b, c, d] = ((475_200_000 + 1000 * seconds) << 2).to_be_bytes(); // DF004 and two bits that are 0
+    // DF004 and two bits that are 0.
+    let [a, b, c, d] = ((475_200_000 + 1000 * seconds) << 2).to_be_bytes();
     let mut payload = Vec::from_slice(alloc, Q)?;
     for &(at, byte) in &[(3, a), (4, b), (5, c), (6, d)] {
         if let Some(place) = payload.as_mut_slice().get_mut(at) {

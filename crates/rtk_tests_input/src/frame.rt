@@ -222,7 +222,7 @@ fn frames_without_a_payload() -> Result<(), Fail> {
     Ok(())
 }
 
-// In pieces of this size the text gives the frame of the standard and no other, by `feed` or by `rest`.
+// In pieces of this size the text gives the frame of the standard alone, by `feed` or `rest`.
 fn check_in_pieces(alloc: Global, text: &Text, bytes: &[u8], size: usize) -> Result<(), Fail>
     requires { 0 < size }
 {

@@ -1,4 +1,4 @@
-//! The tests of the crates from bytes to the window, each module named after the crate that it tests.
+//! The tests of the crates from bytes to the window; each module is named after its crate.
 #![tactic(auto)]
 
 #[cfg(test)]

@@ -17,23 +17,23 @@ use Rattle.rtk_convert.specs.History.{epoch_found}
 -- the two at most
 pub record AcceptsFrameAs (old : ConversionView) (link : ℕ) (f : FrameClass) (before : List Found) (new : ConversionView) (written_old written_new : Written) : Type 0 where
   pub represents : RepresentsFound new (found_on link f ∷ before)
-  pub writes : WritesOn old.settings before (found_on link f ∷ before) written_old written_new
-  pub one : AddsToOne old.settings (found_on link f) before
+  pub writes : WritesOn old.setup before (found_on link f ∷ before) written_old written_new
+  pub one : AddsToOne old.setup (found_on link f) before
 
 -- the call breaks off: a first part of that was written
 pub record BreaksOffAtFrameAs (old : ConversionView) (link : ℕ) (f : FrameClass) (before : List Found) (written_old written_new : Written) : Type 0 where
-  pub out : WritesPartOfRest written_old.file written_new.file (file_so_far old.settings (arrivals before)) (file_so_far old.settings (arrivals (found_on link f ∷ before)))
-  pub log : WritesPartOfRest written_old.report written_new.report (lines old.settings.window before) (lines old.settings.window (found_on link f ∷ before))
-  pub one : AddsToOne old.settings (found_on link f) before
+  pub out : WritesPartOfRest written_old.file written_new.file (file_so_far old.setup (arrivals before)) (file_so_far old.setup (arrivals (found_on link f ∷ before)))
+  pub log : WritesPartOfRest written_old.report written_new.report (lines old.setup.window before) (lines old.setup.window (found_on link f ∷ before))
+  pub one : AddsToOne old.setup (found_on link f) before
 
 -- the same, whatever was found before
 abbrev pub AcceptsFrame : ConversionView → ℕ → List ℕ → ConversionView → Written → Written → Type 0
 AcceptsFrame old link payload new written_old written_new = (before : List Found) → RepresentsFound old before
-    → (f : FrameClass) × IsClassOfPayload old.settings payload f × AcceptsFrameAs old link f before new written_old written_new
+    → (f : FrameClass) × IsClassOfPayload old.setup payload f × AcceptsFrameAs old link f before new written_old written_new
 
 abbrev pub BreaksOffAtFrame : ConversionView → ℕ → List ℕ → Written → Written → Type 0
 BreaksOffAtFrame old link payload written_old written_new = (before : List Found) → RepresentsFound old before
-    → (f : FrameClass) × IsClassOfPayload old.settings payload f × BreaksOffAtFrameAs old link f before written_old written_new
+    → (f : FrameClass) × IsClassOfPayload old.setup payload f × BreaksOffAtFrameAs old link f before written_old written_new
 
 -- a call may break off at a frame of this class; a message of another number or station takes no
 -- memory and writes nothing

@@ -26,20 +26,20 @@ closed_by Repeat = None
 -- the conversion represents these arrivals: its window holds what is kept of them, and it knows the
 -- closed epochs
 pub record RepresentsEpochs (s : ConversionView) (before : List Arrival) : Type 0 where
-  pub window : RepresentsArrivals s.window before
-  pub closed : HasClosed s.closed s.settings.head.listed (closed s.settings.window before)
+  pub window : RepresentsArrivals s.collector before
+  pub closed : HasClosed s.records s.setup.head.listed (closed s.setup.window before)
 
 -- one more arrival: what the conversion represents after it, and what was written
 pub record AddsMessageAs (old : ConversionView) (link : ℕ) (a : Arrival) (before : List Arrival) (new : ConversionView) (written_old written_new : Written) : Type 0 where
   pub after : RepresentsEpochs new (a ∷ before)
-  pub counts : new.counts ≡ counted_as (class_of old.settings.window a before) old.counts
-  pub out : WritesRest written_old.file written_new.file (file_so_far old.settings before) (file_so_far old.settings (a ∷ before))
-  pub log : written_new.report ≡ with_more written_old.report (frame_lines old.settings.window link (Dated a) before)
+  pub counts : new.counts ≡ counted_as (class_of old.setup.window a before) old.counts
+  pub out : WritesRest written_old.file written_new.file (file_so_far old.setup before) (file_so_far old.setup (a ∷ before))
+  pub log : written_new.report ≡ with_more written_old.report (frame_lines old.setup.window link (Dated a) before)
 
 -- the call breaks off: a first part of that was written
 pub record AddsMessagePartAs (old : ConversionView) (link : ℕ) (a : Arrival) (before : List Arrival) (written_old written_new : Written) : Type 0 where
-  pub out : WritesPartOfRest written_old.file written_new.file (file_so_far old.settings before) (file_so_far old.settings (a ∷ before))
-  pub log : TakesPart written_old.report written_new.report (frame_lines old.settings.window link (Dated a) before)
+  pub out : WritesPartOfRest written_old.file written_new.file (file_so_far old.setup before) (file_so_far old.setup (a ∷ before))
+  pub log : TakesPart written_old.report written_new.report (frame_lines old.setup.window link (Dated a) before)
 
 -- the same, whatever arrived before
 abbrev pub AddsMessage : ConversionView → ℕ → Arrival → ConversionView → Written → Written → Type 0

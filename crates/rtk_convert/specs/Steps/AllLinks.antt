@@ -7,9 +7,9 @@ use Rattle.rtk_convert.specs.Writing.{Written}
 -- all open links were closed, whatever the history was
 abbrev pub ClosesAllLinks : ConverterView → ConverterView → Written → Written → Type 0
 ClosesAllLinks old new written_old written_new = (h : History) → RepresentsHistory old h
-    → (last : History) × IsAfterClosingAll old.conversion.settings h (length h.links) last × RepresentsHistory new last
-    × WritesOn old.conversion.settings h.found last.found written_old written_new
+    → (last : History) × IsAfterClosingAll old.conversion.setup h (length h.links) last × RepresentsHistory new last
+    × WritesOn old.conversion.setup h.found last.found written_old written_new
 
 abbrev pub ClosesAllLinksInPart : ConverterView → Written → Written → Type 0
 ClosesAllLinksInPart old written_old written_new = (h : History) → RepresentsHistory old h
-    → (link : ℕ) × BreaksOffClosing old.conversion.settings h link written_old written_new
+    → (link : ℕ) × BreaksOffClosing old.conversion.setup h link written_old written_new

@@ -35,17 +35,17 @@ ClosesEpochsInPart s site old epochs out_old out_new =
 
 -- the end: the rest of the file and of the report was written, and these are the counts
 pub record FinishesConversionAs (old : ConversionView) (found : List Found) (counts : Counts) (written_old written_new : Written) : Type 0 where
-  pub counts_are : counts ≡ all_counts old.settings found
-  pub out : WritesRest written_old.file written_new.file (file_so_far old.settings (arrivals found)) (kept_file old.settings (arrivals found))
-  pub log : WritesRest written_old.report written_new.report (lines old.settings.window found) (report_of old.settings found)
+  pub counts_are : counts ≡ all_counts old.setup found
+  pub out : WritesRest written_old.file written_new.file (file_so_far old.setup (arrivals found)) (kept_file old.setup (arrivals found))
+  pub log : WritesRest written_old.report written_new.report (lines old.setup.window found) (report_of old.setup found)
 
 abbrev pub FinishesConversion : ConversionView → Counts → Written → Written → Type 0
 FinishesConversion old counts written_old written_new = (found : List Found) → RepresentsFound old found → FinishesConversionAs old found counts written_old written_new
 
 -- the end breaks off: a first part of the rest was written
 pub record FinishesConversionPartAs (old : ConversionView) (found : List Found) (written_old written_new : Written) : Type 0 where
-  pub out : WritesPartOfRest written_old.file written_new.file (file_so_far old.settings (arrivals found)) (kept_file old.settings (arrivals found))
-  pub log : WritesPartOfRest written_old.report written_new.report (lines old.settings.window found) (report_of old.settings found)
+  pub out : WritesPartOfRest written_old.file written_new.file (file_so_far old.setup (arrivals found)) (kept_file old.setup (arrivals found))
+  pub log : WritesPartOfRest written_old.report written_new.report (lines old.setup.window found) (report_of old.setup found)
 
 abbrev pub FinishesConversionInPart : ConversionView → Written → Written → Type 0
 FinishesConversionInPart old written_old written_new = (found : List Found) → RepresentsFound old found → FinishesConversionPartAs old found written_old written_new

@@ -11,10 +11,10 @@ use Rattle.rtk_convert.specs.Writing.{Written}
 -- file and to the lines was written
 pub record AddsFramesAs (old : ConversionView) (link : ℕ) (payloads : List (List ℕ)) (before after : List Found) (new : ConversionView)
     (newest_old newest_new : Option ℕ) (written_old written_new : Written) : Type 0 where
-  pub finds : Finds old.settings link payloads before after
+  pub finds : Finds old.setup link payloads before after
   pub represents : RepresentsFound new after
   pub newest : newest_old ≡ newest_on link before → newest_new ≡ newest_on link after
-  pub writes : WritesOn old.settings before after written_old written_new
+  pub writes : WritesOn old.setup before after written_old written_new
 
 -- the same, whatever was found before
 abbrev pub AddsFrames : ConversionView → ℕ → List (List ℕ) → ConversionView → Option ℕ → Option ℕ → Written → Written → Type 0
@@ -24,4 +24,4 @@ AddsFrames old link payloads new newest_old newest_new written_old written_new =
 -- a call breaks off at one of these frames
 abbrev pub AddsFramesInPart : ConversionView → ℕ → List (List ℕ) → Written → Written → Type 0
 AddsFramesInPart old link payloads written_old written_new = (before : List Found) → RepresentsFound old before
-    → BreaksOffAt old.settings link payloads before written_old written_new
+    → BreaksOffAt old.setup link payloads before written_old written_new

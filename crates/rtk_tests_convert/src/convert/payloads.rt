@@ -28,7 +28,8 @@ pub(crate) const P_CUT_SHORT: &[u8] =
 pub(crate) const P_OF_STATION_7: &[u8] =
     b"\x3E\xD0\x07\x02\x02\x98\x0E\xDE\xEF\x34\xB4\xBD\x62\xAC\x09\x41\x98\x6F\x33";
 
-/// A 1004 of station 2003 at 12:00:00: satellite 5, DF011 5000000, DF014 70, DF017 100, 45 and 35 dB-Hz.
+/// A 1004 of station 2003 at 12:00:00, with satellite 5: DF011 5000000, DF014 70, DF017 100, and
+/// C/N0 of 45 and 35 dB-Hz.
 pub(crate) const Q: &[u8] =
     b"\x3E\xC7\xD3\x71\x4B\xE8\x00\x10\x14\x98\x96\x80\x00\x00\x01\x51\xAD\x30\x19\x00\x00\x00\x2C\x60";
 

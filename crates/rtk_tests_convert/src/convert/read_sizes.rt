@@ -8,8 +8,8 @@ use rtk_test_support::{NOON, same};
 use std::alloc::Global;
 use std::test::Fail;
 
-/// A source that has this number of bytes, gives at most `per_read` of them for each read, and notes how
-/// many it was asked for.
+/// A source that has this number of bytes, gives at most `per_read` of them for each read, and
+/// notes how many it was asked for.
 #[derive(Drop)]
 struct Noting {
     left: usize,

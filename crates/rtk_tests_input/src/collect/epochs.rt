@@ -88,8 +88,8 @@ fn a_window_of_4096_closes_its_least_epoch(rt: HostRuntime) -> Result<(), Fail> 
     check_all(&mut collector, &FULL)
 }
 
-// A random list for a window of three places, answered by another program that keeps the whole history:
-// second, satellite, DF015, answer.
+// A random list for a window of three places, answered by another program that keeps the whole
+// history: second, satellite, DF015, answer.
 const RANDOM: [(u32, u8, u8, Answer); 32] = [
     (5, 2, 181, Taken),
     (2, 1, 180, Taken),
@@ -154,8 +154,7 @@ fn a_random_list_is_answered_as_by_the_whole_history(rt: HostRuntime) -> Result<
     check_random_left(collector)
 }
 
-// The epochs that are left, by their milliseconds after noon, with the strength of 1C of their satellites from
-// 1 on.
+// The epochs that are left, in ms after noon, with the strengths of 1C of satellites 1, 2 and on.
 const RANDOM_LEFT: [(u64, &[u32]); 3] = [
     (7000, &[45_000, 45_250]),
     (8000, &[45_000]),

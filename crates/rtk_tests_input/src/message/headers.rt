@@ -1,4 +1,5 @@
-//! The order of the small fields before the observations: no two of one width have the same values in all rows.
+//! The order of the small fields before the observations: no two of one width have the same values
+//! in all rows.
 
 use rtk_message::*;
 use rtk_test_support::{holds, holds_of, same};
@@ -20,8 +21,8 @@ const NO_INDICATOR: Arp1005 = Arp1005 {
     z: -137_438_953_472,
 };
 
-// Points, each after its payload as a 1006 with a height of 4.0000. The payload of the 1005 has another
-// number and no height.
+// Points, each after its payload as a 1006 with a height of 4.0000. The payload of the 1005 has
+// another number and no height.
 const POINTS: [([u8; 21], Arp1005); 3] = [
     (
         [

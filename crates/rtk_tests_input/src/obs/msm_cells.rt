@@ -108,7 +108,7 @@ fn msm_cell(signal: u32, fields: MsmFields) -> Result<Cell, Fail>
     Ok(first.cell)
 }
 
-// Each band (signals 2, 8, 22), a tie, the least and greatest fine values; exact fractions, rounded.
+// Each band (signals 2, 8, 22), a tie, the least and greatest fine values: fractions, rounded.
 const VALUES: [(u32, u16, (i16, i32), i64, i64); 7] = [
     (2, 512, (0, 0), 21_135_368_289, 111_067_110_000),
     (2, 256, (0, 0), 21_060_420_175, 110_673_255_000),

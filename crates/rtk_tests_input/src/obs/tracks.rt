@@ -165,7 +165,7 @@ fn digits_of_a_third_phase() -> Result<(), Fail> {
     Ok(())
 }
 
-// A phase in thousandths of a cycle, rolls of 1500 cycles, and the sum, where F14.3 has room for it.
+// A phase in thousandths of a cycle, rolls of 1500 cycles, and the sum, if F14.3 has room for it.
 const ROLLED: [(i64, i64, Option<i64>); 7] = [
     (9_999_999_999_999, 0, Some(9_999_999_999_999)),
     (9_999_999_999_999, 1, None),

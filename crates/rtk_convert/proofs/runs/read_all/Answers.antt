@@ -14,8 +14,8 @@ use Rattle.rtk_convert.proofs.runs.read_all.Goals as goal
 
 pub reads-init : goal.reads-init
 reads-init g c = record {
-  so_far = ([], new_history (length c.args.readers.now), has_read-nothing g.R.Source.given c.args.converter.now.conversion.settings c.args.readers.now (written (g.O.Sink.taken c.args.out.now) (g.L.Sink.taken c.args.log.now)), c.requires.fresh, refl, ends-new g.R.Source.is_at_end c.args.readers.now);
-  settings = refl;
+  so_far = ([], new_history (length c.args.readers.now), has_read-nothing g.R.Source.given c.args.converter.now.conversion.setup c.args.readers.now (written (g.O.Sink.taken c.args.out.now) (g.L.Sink.taken c.args.log.now)), c.requires.fresh, refl, ends-new g.R.Source.is_at_end c.args.readers.now);
+  same_setup = refl;
   room = refl;
   made = omega arith;
   called = inl (omega arith);
@@ -28,7 +28,7 @@ pub read_link-requires-clause-link : goal.read_link-requires-clause-link
 read_link-requires-clause-link g c =
     let so = c.reads.invariant.so_far in
     let a = are_links-length c.reads.converter.links so.1.links 0 so.1.found so.3.links in
-    let b = length-links c.args.converter.now.conversion.settings (length c.args.readers.now) so.0 so.1 so.2.comes_to in
+    let b = length-links c.args.converter.now.conversion.setup (length c.args.readers.now) so.0 so.1 so.2.comes_to in
     let d = so.2.gave.as_many in
     let lt = c.in-Some.ensures.within in
     omega (arith, a, b, d, lt)
@@ -40,10 +40,10 @@ returns-in_err-read_link-clause-err g c =
     let p = err_from_is_err_and c.from_residual.result c.from_residual.ensures.1 in
     rw (p.1, p.2) (λ frame.
     let so = c.reads.invariant.so_far in
-    breaks-reading g.R.Source.given g.R.Source.calls c.args.converter.now.conversion.settings so.1 c.in-Some.link c.args.readers.now c.reads.readers c.read_link.new.readers so.0
+    breaks-reading g.R.Source.given g.R.Source.calls c.args.converter.now.conversion.setup so.1 c.in-Some.link c.args.readers.now c.reads.readers c.read_link.new.readers so.0
     (written (g.O.Sink.taken c.args.out.now) (g.L.Sink.taken c.args.log.now)) mid after
     so.2 (c.in-Some.ensures.next so.1 so.3)
-    (subst (λ (s : SetupView). BreaksOffAfterRead g.R.Source.given s so.1 c.in-Some.link c.reads.readers c.read_link.new.readers mid after) c.reads.invariant.settings (c.in_err-read_link.ensures.err frame so.1 so.3))
+    (subst (λ (s : SetupView). BreaksOffAfterRead g.R.Source.given s so.1 c.in-Some.link c.reads.readers c.read_link.new.readers mid after) c.reads.invariant.same_setup (c.in_err-read_link.ensures.err frame so.1 so.3))
     (subst (λ (n : ℕ). HasCalled g.R.Source.calls c.args.readers.now c.read_link.new.readers (n + 1)) (sym so.4)
     (called-more g.R.Source.calls c.args.readers.now c.reads.readers c.read_link.new.readers c.reads._made c.reads.invariant.called c.read_link.ensures.full c.read_link.ensures.called)))
 
@@ -53,7 +53,7 @@ returns-in_err-read_link-clause-read_failed g c = λ link is_read.
     let so = c.reads.invariant.so_far in
     let n = c.in-Some.ensures.next so.1 so.3 in
     let both = c.in_err-read_link.ensures.read_failed so.1 so.3 n.is_open link (sym (p.1 ∙ ap Err p.2) ∙ is_read) in
-    fails-reading g.R.Source.given g.R.Source.failures g.R.Source.calls c.args.converter.now.conversion.settings so.1 link c.args.readers.now c.reads.readers c.read_link.new.readers so.0
+    fails-reading g.R.Source.given g.R.Source.failures g.R.Source.calls c.args.converter.now.conversion.setup so.1 link c.args.readers.now c.reads.readers c.read_link.new.readers so.0
     (written (g.O.Sink.taken c.args.out.now) (g.L.Sink.taken c.args.log.now)) (written (g.O.Sink.taken c.reads.out) (g.L.Sink.taken c.reads.log)) (written (g.O.Sink.taken c.read_link.new.out) (g.L.Sink.taken c.read_link.new.log))
     so.2 (subst (λ (k : ℕ). IsNextLink so.1 k) (sym both.0) n) c.reads.invariant.reads_same both.1
     (subst (λ (n : ℕ). HasCalled g.R.Source.calls c.args.readers.now c.read_link.new.readers (n + 1)) (sym so.4)
@@ -64,21 +64,21 @@ reads-preserved g c =
     let mid = written (g.O.Sink.taken c.reads.out) (g.L.Sink.taken c.reads.log) in
     let after = written (g.O.Sink.taken c.read_link.new.out) (g.L.Sink.taken c.read_link.new.log) in
     let so = c.reads.invariant.so_far in
-    let p : ReadsLink g.R.Source.given g.R.Source.is_at_end c.args.converter.now.conversion.settings so.1 c.in-Some.link c.reads.readers c.read_link.new.readers c.read_link.new.converter mid after =
-    subst (λ (s : SetupView). ReadsLink g.R.Source.given g.R.Source.is_at_end s so.1 c.in-Some.link c.reads.readers c.read_link.new.readers c.read_link.new.converter mid after) c.reads.invariant.settings
+    let p : ReadsLink g.R.Source.given g.R.Source.is_at_end c.args.converter.now.conversion.setup so.1 c.in-Some.link c.reads.readers c.read_link.new.readers c.read_link.new.converter mid after =
+    subst (λ (s : SetupView). ReadsLink g.R.Source.given g.R.Source.is_at_end s so.1 c.in-Some.link c.reads.readers c.read_link.new.readers c.read_link.new.converter mid after) c.reads.invariant.same_setup
     (c.in_ok-read_link.ensures.ok so.1 so.3 (c.in-Some.ensures.next so.1 so.3)) in
     record {
       so_far = (
         read_of c.in-Some.link p.piece ∷ so.0,
         p.next,
-        has_read-more g.R.Source.given g.R.Source.is_at_end c.args.converter.now.conversion.settings so.1 c.in-Some.link c.args.readers.now c.reads.readers c.read_link.new.readers so.0 c.read_link.new.converter
+        has_read-more g.R.Source.given g.R.Source.is_at_end c.args.converter.now.conversion.setup so.1 c.in-Some.link c.args.readers.now c.reads.readers c.read_link.new.readers so.0 c.read_link.new.converter
             (written (g.O.Sink.taken c.args.out.now) (g.L.Sink.taken c.args.log.now)) mid after so.2 p,
         p.represents,
         (let made = so.4 in omega (arith, made)),
-        ends-more g.R.Source.given g.R.Source.is_at_end c.args.converter.now.conversion.settings so.1 c.in-Some.link c.reads.readers c.read_link.new.readers c.read_link.new.converter
+        ends-more g.R.Source.given g.R.Source.is_at_end c.args.converter.now.conversion.setup so.1 c.in-Some.link c.reads.readers c.read_link.new.readers c.read_link.new.converter
             mid after p so.5,
       );
-      settings = c.read_link.ensures.settings ∙ c.reads.invariant.settings;
+      same_setup = c.read_link.ensures.same_setup ∙ c.reads.invariant.same_setup;
       room = c.read_link.auto.buf ∙ c.reads.invariant.room;
       made = let one = c.read_link.ensures.reads in let all = c.reads.invariant.made in omega (arith, one, all);
       called = called-more g.R.Source.calls c.args.readers.now c.reads.readers c.read_link.new.readers c.reads._made c.reads.invariant.called c.read_link.ensures.full c.read_link.ensures.called;
@@ -90,17 +90,17 @@ reads-preserved g c =
 pub returns-in_default-clause-ok : goal.returns-in_default-clause-ok
 returns-in_default-clause-ok g c =
     let so = c.reads.invariant.so_far in
-    has-read-all g.R.Source.given g.R.Source.calls g.R.Source.is_at_end c.args.converter.now.conversion.settings c.args.readers.now c.reads.readers so.0 so.1 c.reads._made c.reads.converter
+    has-read-all g.R.Source.given g.R.Source.calls g.R.Source.is_at_end c.args.converter.now.conversion.setup c.args.readers.now c.reads.readers so.0 so.1 c.reads._made c.reads.converter
     (written (g.O.Sink.taken c.args.out.now) (g.L.Sink.taken c.args.log.now)) (written (g.O.Sink.taken c.reads.out) (g.L.Sink.taken c.reads.log)) so.2 so.3 so.4 so.5 c.reads.invariant.called (c.in_default.ensures.next so.1 so.3)
 
 pub returns-in-None-clause-ok : goal.returns-in-None-clause-ok
 returns-in-None-clause-ok g c =
     let so = c.reads.invariant.so_far in
-    has-read-all g.R.Source.given g.R.Source.calls g.R.Source.is_at_end c.args.converter.now.conversion.settings c.args.readers.now c.reads.readers so.0 so.1 c.reads._made c.reads.converter
+    has-read-all g.R.Source.given g.R.Source.calls g.R.Source.is_at_end c.args.converter.now.conversion.setup c.args.readers.now c.reads.readers so.0 so.1 c.reads._made c.reads.converter
     (written (g.O.Sink.taken c.args.out.now) (g.L.Sink.taken c.args.log.now)) (written (g.O.Sink.taken c.reads.out) (g.L.Sink.taken c.reads.log)) so.2 so.3 so.4 so.5 c.reads.invariant.called (c.in-None.ensures.next so.1 so.3)
 
-pub returns-in_err-read_link-clause-settings : goal.returns-in_err-read_link-clause-settings
-returns-in_err-read_link-clause-settings g c = c.read_link.ensures.settings ∙ c.reads.invariant.settings
+pub returns-in_err-read_link-clause-same_setup : goal.returns-in_err-read_link-clause-same_setup
+returns-in_err-read_link-clause-same_setup g c = c.read_link.ensures.same_setup ∙ c.reads.invariant.same_setup
 
 pub returns-in_err-read_link-clause-ok : goal.returns-in_err-read_link-clause-ok
 returns-in_err-read_link-clause-ok g c =

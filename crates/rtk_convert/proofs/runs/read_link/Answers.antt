@@ -25,12 +25,12 @@ returns-clause-called g c = called g.R.Source.given g.R.Source.failures g.R.Sour
 
 pub returns-then-count-eq0-clause-ok : goal.returns-then-count-eq0-clause-ok
 returns-then-count-eq0-clause-ok g c =
-    on_ok-map c.close.result (λ closes h r n. reads-end g.R.Source.given g.R.Source.is_at_end g.R.Source.failures g.R.Source.calls c.args.converter.now.conversion.settings h c.args.link c.in-Ok.count c.args.readers.now c.read_one.new.sources c.read_one.new.buf c.close.new.self
+    on_ok-map c.close.result (λ closes h r n. reads-end g.R.Source.given g.R.Source.is_at_end g.R.Source.failures g.R.Source.calls c.args.converter.now.conversion.setup h c.args.link c.in-Ok.count c.args.readers.now c.read_one.new.sources c.read_one.new.buf c.close.new.self
     (written (g.O.Sink.taken c.args.out.now) (g.L.Sink.taken c.args.log.now)) (written (g.O.Sink.taken c.close.new.out) (g.L.Sink.taken c.close.new.log)) c.if-count-eq0.true n c.in-Ok.ensures.read (λ none. c.in-Ok.ensures.at_end none (let room = c.requires.room in omega (arith, room)) (ap Ok c.if-count-eq0.true)) (closes h r)) c.close.ensures.ok
 
 pub returns-then-count-eq0-clause-err : goal.returns-then-count-eq0-clause-err
 returns-then-count-eq0-clause-err g c =
-    IfErr-weaker c.close.result _ _ (λ fault breaks frame h r. breaks-end g.R.Source.given g.R.Source.failures g.R.Source.calls c.args.converter.now.conversion.settings h c.args.link c.in-Ok.count c.args.readers.now c.read_one.new.sources c.read_one.new.buf
+    IfErr-weaker c.close.result _ _ (λ fault breaks frame h r. breaks-end g.R.Source.given g.R.Source.failures g.R.Source.calls c.args.converter.now.conversion.setup h c.args.link c.in-Ok.count c.args.readers.now c.read_one.new.sources c.read_one.new.buf
     (written (g.O.Sink.taken c.args.out.now) (g.L.Sink.taken c.args.log.now)) (written (g.O.Sink.taken c.close.new.out) (g.L.Sink.taken c.close.new.log)) c.if-count-eq0.true c.in-Ok.ensures.read (breaks frame h r)) c.close.ensures.err
 
 pub returns-then-count-eq0-clause-read_failed : goal.returns-then-count-eq0-clause-read_failed
@@ -38,12 +38,12 @@ returns-then-count-eq0-clause-read_failed g c = λ h r o k is_read. absurd (IfEr
 
 pub returns-clause-ok : goal.returns-clause-ok
 returns-clause-ok g c =
-    on_ok-map c.feed.result (λ feeds h r n. reads-piece g.R.Source.given g.R.Source.is_at_end g.R.Source.failures g.R.Source.calls c.args.converter.now.conversion.settings h c.args.link c.in-Ok.count c.args.readers.now c.read_one.new.sources c.read_one.new.buf c.feed.new.self
+    on_ok-map c.feed.result (λ feeds h r n. reads-piece g.R.Source.given g.R.Source.is_at_end g.R.Source.failures g.R.Source.calls c.args.converter.now.conversion.setup h c.args.link c.in-Ok.count c.args.readers.now c.read_one.new.sources c.read_one.new.buf c.feed.new.self
     (written (g.O.Sink.taken c.args.out.now) (g.L.Sink.taken c.args.log.now)) (written (g.O.Sink.taken c.feed.new.out) (g.L.Sink.taken c.feed.new.log)) c.if-count-eq0.false c.in-Ok.ensures.bound (c.read_one.auto.buf ∙ c.requires.room) n c.in-Ok.ensures.read (feeds h r)) c.feed.ensures.ok
 
 pub returns-clause-err : goal.returns-clause-err
 returns-clause-err g c =
-    IfErr-weaker c.feed.result _ _ (λ fault breaks frame h r. breaks-piece g.R.Source.given g.R.Source.failures g.R.Source.calls c.args.converter.now.conversion.settings h c.args.link c.in-Ok.count c.args.readers.now c.read_one.new.sources c.read_one.new.buf
+    IfErr-weaker c.feed.result _ _ (λ fault breaks frame h r. breaks-piece g.R.Source.given g.R.Source.failures g.R.Source.calls c.args.converter.now.conversion.setup h c.args.link c.in-Ok.count c.args.readers.now c.read_one.new.sources c.read_one.new.buf
     (written (g.O.Sink.taken c.args.out.now) (g.L.Sink.taken c.args.log.now)) (written (g.O.Sink.taken c.feed.new.out) (g.L.Sink.taken c.feed.new.log)) c.if-count-eq0.false c.in-Ok.ensures.bound (c.read_one.auto.buf ∙ c.requires.room) c.in-Ok.ensures.read (breaks frame h r)) c.feed.ensures.err
 
 pub returns-clause-read_failed : goal.returns-clause-read_failed

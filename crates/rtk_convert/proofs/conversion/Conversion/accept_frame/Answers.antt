@@ -19,7 +19,7 @@ pub invariant_of-self-2 : goal.invariant_of-self-2
 invariant_of-self-2 g c = record {
   places = c.self-2.invariant.places;
   few = c.self-2.invariant.few;
-  ahead = λ going. subst (λ (x : ConversionView). IsAhead x.window x.closed) (sym c.self-2.view_is) c.in_ok-epoch.ensures.ahead;
+  ahead = λ going. subst (λ (x : ConversionView). IsAhead x.collector x.records) (sym c.self-2.view_is) c.in_ok-epoch.ensures.ahead;
 }
 
 pub returns-in_err-epoch-clause-err : goal.returns-in_err-epoch-clause-err
@@ -49,13 +49,13 @@ pub returns-in_err-epoch-clause-few : goal.returns-in_err-epoch-clause-few
 returns-in_err-epoch-clause-few g c = c.handle_payload.ensures.few
 
 pub returns-clause-held : goal.returns-clause-held
-returns-clause-held g c = λ h. subst (λ (x : ConversionView). HoldsArrivals x.window) (sym c.self-2.view_is) (c.handle_payload.ensures.held (subst (λ (x : ConversionView). HoldsArrivals x.window) (sym c.self.view_is) h))
+returns-clause-held g c = λ h. subst (λ (x : ConversionView). HoldsArrivals x.collector) (sym c.self-2.view_is) (c.handle_payload.ensures.held (subst (λ (x : ConversionView). HoldsArrivals x.collector) (sym c.self.view_is) h))
 
 pub returns-in_err-epoch-clause-held : goal.returns-in_err-epoch-clause-held
-returns-in_err-epoch-clause-held g c = λ h. c.handle_payload.ensures.held (subst (λ (x : ConversionView). HoldsArrivals x.window) (sym c.self.view_is) h)
+returns-in_err-epoch-clause-held g c = λ h. c.handle_payload.ensures.held (subst (λ (x : ConversionView). HoldsArrivals x.collector) (sym c.self.view_is) h)
 
 pub returns-in_err-epoch-clause-cause : goal.returns-in_err-epoch-clause-cause
-returns-in_err-epoch-clause-cause g c = on_err-from c.from_residual.result (λ going. subst (λ (x : ConversionView). HasCause x.settings c.args.payload.now) c.self.view_is c.in_err-epoch.ensures.cause)
+returns-in_err-epoch-clause-cause g c = on_err-from c.from_residual.result (λ going. subst (λ (x : ConversionView). HasCause x.setup c.args.payload.now) c.self.view_is c.in_err-epoch.ensures.cause)
 
 pub returns-clause-epoch : goal.returns-clause-epoch
-returns-clause-epoch g c = subst (λ (x : ConversionView). IsEpochIn x.settings c.args.payload.now c.in_ok-epoch.epoch) c.self.view_is c.in_ok-epoch.ensures.epoch
+returns-clause-epoch g c = subst (λ (x : ConversionView). IsEpochIn x.setup c.args.payload.now c.in_ok-epoch.epoch) c.self.view_is c.in_ok-epoch.ensures.epoch

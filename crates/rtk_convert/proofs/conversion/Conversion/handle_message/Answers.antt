@@ -20,34 +20,34 @@ returns-in_default-clause-err g c =
     let before = written (g.O.Sink.taken c.args.out.now) (g.L.Sink.taken c.args.log.now) in
     subst (λ (x : ConversionView). AddsMessageInPart x c.args.link c.args.dated before before) c.self.view_is (part-nothing)
 
-pub returns-in_default-offered-clause-err : goal.returns-in_default-offered-clause-err
-returns-in_default-offered-clause-err g c =
+pub returns-in_default-offer_lines-clause-err : goal.returns-in_default-offer_lines-clause-err
+returns-in_default-offer_lines-clause-err g c =
     let before = written (g.O.Sink.taken c.args.out.now) (g.L.Sink.taken c.args.log.now) in
     subst (λ (x : ConversionView). AddsMessageInPart x c.args.link c.args.dated before before) c.self.view_is (part-nothing)
 
 pub returns-in_default-closed_by-clause-ahead : goal.returns-in_default-closed_by-clause-ahead
 returns-in_default-closed_by-clause-ahead g c =
-    let ahead : IsAhead c.self.inside.collector c.self.inside.records = subst (λ (x : ConversionView). IsAhead x.window x.closed) (sym c.self.view_is) c.requires.ahead in
+    let ahead : IsAhead c.self.inside.collector c.self.inside.records = subst (λ (x : ConversionView). IsAhead x.collector x.records) (sym c.self.view_is) c.requires.ahead in
     on_ok-map c.put_lines.result (λ wrote. ahead-stays c.self.inside.collector c.offer.new.self c.self.inside.records c.offer.ensures.least ahead) c.put_lines.ensures.all
 
 pub returns-in_default-closed_by-clause-ok : goal.returns-in_default-closed_by-clause-ok
 returns-in_default-closed_by-clause-ok g c =
     let before = written (g.O.Sink.taken c.args.out.now) (g.L.Sink.taken c.args.log.now) in
-    let text : c.in-Ok-offered.lines.items ≡ offer_lines c.args.link (number_of (message_of c.args.dated)) (epoch_of c.args.dated) c.in-Ok.offer =
-    c.in-Ok-offered.ensures ∙ ap (λ (n : ℕ). offer_lines c.args.link n c.epoch-epoch.result c.in-Ok.offer) (c.number-number.ensures ∙ ap number_of c.message.ensures.value)
+    let text : c.in-Ok-offer_lines.lines.items ≡ offer_lines c.args.link (number_of (message_of c.args.dated)) (epoch_of c.args.dated) c.in-Ok.offer =
+    c.in-Ok-offer_lines.ensures ∙ ap (λ (n : ℕ). offer_lines c.args.link n c.epoch-epoch.result c.in-Ok.offer) (c.number-number.ensures ∙ ap number_of c.message.ensures.value)
     ∙ ap (λ (e : Option ℕ). offer_lines c.args.link (number_of (message_of c.args.dated)) e c.in-Ok.offer) c.epoch-epoch.ensures.value in
     let none : closed_by c.in-Ok.offer ≡ None = sym c.closed_by.ensures ∙ c.in_default-closed_by.is in
-    on_ok-map c.put_lines.result (λ wrote. subst (λ (x : ConversionView). AddsMessage x c.args.link c.args.dated (state c.self.inside.setup c.offer.new.self c.self.inside.records c.count.new.counts c.self.inside.stopped) before (written (g.O.Sink.taken c.args.out.now) (g.L.Sink.taken c.put_lines.new.log))) c.self.view_is (takes-none-closed c.in-Ok.offer c.self.invariant.places none c.in-Ok.ensures.answer c.count.ensures (wrote ∙ ap (with_more (g.L.Sink.taken c.args.log.now)) (c.deref.ensures.value ∙ text)))) c.put_lines.ensures.all
+    on_ok-map c.put_lines.result (λ wrote. subst (λ (x : ConversionView). AddsMessage x c.args.link c.args.dated (state c.self.inside.setup c.offer.new.self c.self.inside.records c.count_message.new.counts c.self.inside.stopped) before (written (g.O.Sink.taken c.args.out.now) (g.L.Sink.taken c.put_lines.new.log))) c.self.view_is (takes-none-closed c.in-Ok.offer c.self.invariant.places none c.in-Ok.ensures.answer c.count_message.ensures (wrote ∙ ap (with_more (g.L.Sink.taken c.args.log.now)) (c.deref.ensures.value ∙ text)))) c.put_lines.ensures.all
 
 pub returns-in_default-closed_by-clause-err : goal.returns-in_default-closed_by-clause-err
 returns-in_default-closed_by-clause-err g c =
     let before = written (g.O.Sink.taken c.args.out.now) (g.L.Sink.taken c.args.log.now) in
     let after = written (g.O.Sink.taken c.args.out.now) (g.L.Sink.taken c.put_lines.new.log) in
-    let text : c.in-Ok-offered.lines.items ≡ offer_lines c.args.link (number_of (message_of c.args.dated)) (epoch_of c.args.dated) c.in-Ok.offer =
-    c.in-Ok-offered.ensures ∙ ap (λ (n : ℕ). offer_lines c.args.link n c.epoch-epoch.result c.in-Ok.offer) (c.number-number.ensures ∙ ap number_of c.message.ensures.value)
+    let text : c.in-Ok-offer_lines.lines.items ≡ offer_lines c.args.link (number_of (message_of c.args.dated)) (epoch_of c.args.dated) c.in-Ok.offer =
+    c.in-Ok-offer_lines.ensures ∙ ap (λ (n : ℕ). offer_lines c.args.link n c.epoch-epoch.result c.in-Ok.offer) (c.number-number.ensures ∙ ap number_of c.message.ensures.value)
     ∙ ap (λ (e : Option ℕ). offer_lines c.args.link (number_of (message_of c.args.dated)) e c.in-Ok.offer) c.epoch-epoch.ensures.value in
     let none : closed_by c.in-Ok.offer ≡ None = sym c.closed_by.ensures ∙ c.in_default-closed_by.is in
-    on_err-from c.put_lines.result (subst (λ (x : ConversionView). AddsMessageInPart x c.args.link c.args.dated before after) c.self.view_is (part-lines c.in-Ok.offer c.self.invariant.places c.in-Ok.ensures.answer (takes-none-closed c.in-Ok.offer c.self.invariant.places none c.in-Ok.ensures.answer c.count.ensures refl)
+    on_err-from c.put_lines.result (subst (λ (x : ConversionView). AddsMessageInPart x c.args.link c.args.dated before after) c.self.view_is (part-lines c.in-Ok.offer c.self.invariant.places c.in-Ok.ensures.answer (takes-none-closed c.in-Ok.offer c.self.invariant.places none c.in-Ok.ensures.answer c.count_message.ensures refl)
     (subst (λ (t : List ℕ). TakesPart (g.L.Sink.taken c.args.log.now) (g.L.Sink.taken c.put_lines.new.log) t) (c.deref.ensures.value ∙ text) c.put_lines.ensures.part)))
 
 pub close-requires-clause-later : goal.close-requires-clause-later
@@ -56,7 +56,7 @@ close-requires-clause-later g c =
     let same : c.in-Some.set ≡ e =
     ap (λ (t : ℕ). record c.in-Some.set { epoch = t }) (sym c.epoch-epoch-2.ensures) ∙ ap (λ xs. record { epoch = c.epoch-epoch-2.result; cells = xs }) (sym c.cells-cells.ensures.value) in
     let some : closed_by c.in-Ok.offer ≡ Some e = sym c.closed_by.ensures ∙ c.in-Some.is ∙ ap Some same in
-    ahead-closes c.self.inside.collector c.self.inside.records c.in-Ok.offer e some c.in-Ok.ensures.least_closes (subst (λ (x : ConversionView). IsAhead x.window x.closed) (sym c.self.view_is) c.requires.ahead)
+    ahead-closes c.self.inside.collector c.self.inside.records c.in-Ok.offer e some c.in-Ok.ensures.least_closes (subst (λ (x : ConversionView). IsAhead x.collector x.records) (sym c.self.view_is) c.requires.ahead)
 
 pub returns-clause-ahead : goal.returns-clause-ahead
 returns-clause-ahead g c =
@@ -70,29 +70,29 @@ pub returns-clause-ok : goal.returns-clause-ok
 returns-clause-ok g c =
     let before = written (g.O.Sink.taken c.args.out.now) (g.L.Sink.taken c.args.log.now) in
     let after = written (g.O.Sink.taken c.close.new.out) (g.L.Sink.taken c.put_lines-2.new.log) in
-    let text : c.in-Ok-offered.lines.items ≡ offer_lines c.args.link (number_of (message_of c.args.dated)) (epoch_of c.args.dated) c.in-Ok.offer =
-    c.in-Ok-offered.ensures ∙ ap (λ (n : ℕ). offer_lines c.args.link n c.epoch-epoch.result c.in-Ok.offer) (c.number-number.ensures ∙ ap number_of c.message.ensures.value)
+    let text : c.in-Ok-offer_lines.lines.items ≡ offer_lines c.args.link (number_of (message_of c.args.dated)) (epoch_of c.args.dated) c.in-Ok.offer =
+    c.in-Ok-offer_lines.ensures ∙ ap (λ (n : ℕ). offer_lines c.args.link n c.epoch-epoch.result c.in-Ok.offer) (c.number-number.ensures ∙ ap number_of c.message.ensures.value)
     ∙ ap (λ (e : Option ℕ). offer_lines c.args.link (number_of (message_of c.args.dated)) e c.in-Ok.offer) c.epoch-epoch.ensures.value in
     let e : EpochSetView = record { epoch = c.epoch-epoch-2.result; cells = c.cells-cells.result.now } in
     let same : c.in-Some.set ≡ e =
     ap (λ (t : ℕ). record c.in-Some.set { epoch = t }) (sym c.epoch-epoch-2.ensures) ∙ ap (λ xs. record { epoch = c.epoch-epoch-2.result; cells = xs }) (sym c.cells-cells.ensures.value) in
     let some : closed_by c.in-Ok.offer ≡ Some e = sym c.closed_by.ensures ∙ c.in-Some.is ∙ ap Some same in
     let size = c.in-Ok.ensures.size ∙ c.self.invariant.places in
-    on_ok-map c.put_lines-2.result (λ wrote. subst (λ (x : ConversionView). AddsMessage x c.args.link c.args.dated (state c.self.inside.setup c.offer.new.self c.close.new.self c.count.new.counts c.self.inside.stopped) before after) c.self.view_is (takes-some-closed c.in-Ok.offer c.self.invariant.places size some c.in-Ok.ensures.answer c.station-position.ensures.kept c.count.ensures c.in_ok-close.ensures.follows c.in_ok-close.ensures.all (wrote ∙ ap (with_more (g.L.Sink.taken c.args.log.now)) (c.deref-2.ensures.value ∙ text)))) c.put_lines-2.ensures.all
+    on_ok-map c.put_lines-2.result (λ wrote. subst (λ (x : ConversionView). AddsMessage x c.args.link c.args.dated (state c.self.inside.setup c.offer.new.self c.close.new.self c.count_message.new.counts c.self.inside.stopped) before after) c.self.view_is (takes-some-closed c.in-Ok.offer c.self.invariant.places size some c.in-Ok.ensures.answer c.station-position.ensures.kept c.count_message.ensures c.in_ok-close.ensures.follows c.in_ok-close.ensures.all (wrote ∙ ap (with_more (g.L.Sink.taken c.args.log.now)) (c.deref-2.ensures.value ∙ text)))) c.put_lines-2.ensures.all
 
 pub returns-clause-err : goal.returns-clause-err
 returns-clause-err g c =
     let before = written (g.O.Sink.taken c.args.out.now) (g.L.Sink.taken c.args.log.now) in
     let after = written (g.O.Sink.taken c.close.new.out) (g.L.Sink.taken c.put_lines-2.new.log) in
-    let text : c.in-Ok-offered.lines.items ≡ offer_lines c.args.link (number_of (message_of c.args.dated)) (epoch_of c.args.dated) c.in-Ok.offer =
-    c.in-Ok-offered.ensures ∙ ap (λ (n : ℕ). offer_lines c.args.link n c.epoch-epoch.result c.in-Ok.offer) (c.number-number.ensures ∙ ap number_of c.message.ensures.value)
+    let text : c.in-Ok-offer_lines.lines.items ≡ offer_lines c.args.link (number_of (message_of c.args.dated)) (epoch_of c.args.dated) c.in-Ok.offer =
+    c.in-Ok-offer_lines.ensures ∙ ap (λ (n : ℕ). offer_lines c.args.link n c.epoch-epoch.result c.in-Ok.offer) (c.number-number.ensures ∙ ap number_of c.message.ensures.value)
     ∙ ap (λ (e : Option ℕ). offer_lines c.args.link (number_of (message_of c.args.dated)) e c.in-Ok.offer) c.epoch-epoch.ensures.value in
     let e : EpochSetView = record { epoch = c.epoch-epoch-2.result; cells = c.cells-cells.result.now } in
     let same : c.in-Some.set ≡ e =
     ap (λ (t : ℕ). record c.in-Some.set { epoch = t }) (sym c.epoch-epoch-2.ensures) ∙ ap (λ xs. record { epoch = c.epoch-epoch-2.result; cells = xs }) (sym c.cells-cells.ensures.value) in
     let some : closed_by c.in-Ok.offer ≡ Some e = sym c.closed_by.ensures ∙ c.in-Some.is ∙ ap Some same in
     let size = c.in-Ok.ensures.size ∙ c.self.invariant.places in
-    on_err-from c.put_lines-2.result (subst (λ (x : ConversionView). AddsMessageInPart x c.args.link c.args.dated before after) c.self.view_is (part-lines c.in-Ok.offer c.self.invariant.places c.in-Ok.ensures.answer (takes-some-closed c.in-Ok.offer c.self.invariant.places size some c.in-Ok.ensures.answer c.station-position.ensures.kept c.count.ensures c.in_ok-close.ensures.follows c.in_ok-close.ensures.all refl)
+    on_err-from c.put_lines-2.result (subst (λ (x : ConversionView). AddsMessageInPart x c.args.link c.args.dated before after) c.self.view_is (part-lines c.in-Ok.offer c.self.invariant.places c.in-Ok.ensures.answer (takes-some-closed c.in-Ok.offer c.self.invariant.places size some c.in-Ok.ensures.answer c.station-position.ensures.kept c.count_message.ensures c.in_ok-close.ensures.follows c.in_ok-close.ensures.all refl)
     (subst (λ (t : List ℕ). TakesPart (g.L.Sink.taken c.args.log.now) (g.L.Sink.taken c.put_lines-2.new.log) t) (c.deref-2.ensures.value ∙ text) c.put_lines-2.ensures.part)))
 
 pub returns-in_err-close-clause-err : goal.returns-in_err-close-clause-err
@@ -139,16 +139,16 @@ pub returns-clause-report_failed : goal.returns-clause-report_failed
 returns-clause-report_failed g c = c.put_lines-2.ensures.report_failed
 
 pub returns-in_default-clause-held : goal.returns-in_default-clause-held
-returns-in_default-clause-held g c = λ h. subst HoldsArrivals (sym c.in_default.ensures.err) (subst (λ (x : ConversionView). HoldsArrivals x.window) (sym c.self.view_is) h)
+returns-in_default-clause-held g c = λ h. subst HoldsArrivals (sym c.in_default.ensures.err) (subst (λ (x : ConversionView). HoldsArrivals x.collector) (sym c.self.view_is) h)
 
-pub returns-in_default-offered-clause-held : goal.returns-in_default-offered-clause-held
-returns-in_default-offered-clause-held g c = λ h. held-offered c.self.inside.collector c.offer.new.self c.args.dated c.in-Ok.offer c.in-Ok.ensures.answer (subst (λ (x : ConversionView). HoldsArrivals x.window) (sym c.self.view_is) h)
+pub returns-in_default-offer_lines-clause-held : goal.returns-in_default-offer_lines-clause-held
+returns-in_default-offer_lines-clause-held g c = λ h. held-offered c.self.inside.collector c.offer.new.self c.args.dated c.in-Ok.offer c.in-Ok.ensures.answer (subst (λ (x : ConversionView). HoldsArrivals x.collector) (sym c.self.view_is) h)
 
 pub returns-in_default-closed_by-clause-held : goal.returns-in_default-closed_by-clause-held
-returns-in_default-closed_by-clause-held g c = λ h. held-offered c.self.inside.collector c.offer.new.self c.args.dated c.in-Ok.offer c.in-Ok.ensures.answer (subst (λ (x : ConversionView). HoldsArrivals x.window) (sym c.self.view_is) h)
+returns-in_default-closed_by-clause-held g c = λ h. held-offered c.self.inside.collector c.offer.new.self c.args.dated c.in-Ok.offer c.in-Ok.ensures.answer (subst (λ (x : ConversionView). HoldsArrivals x.collector) (sym c.self.view_is) h)
 
 pub returns-in_err-close-clause-held : goal.returns-in_err-close-clause-held
-returns-in_err-close-clause-held g c = λ h. held-offered c.self.inside.collector c.offer.new.self c.args.dated c.in-Ok.offer c.in-Ok.ensures.answer (subst (λ (x : ConversionView). HoldsArrivals x.window) (sym c.self.view_is) h)
+returns-in_err-close-clause-held g c = λ h. held-offered c.self.inside.collector c.offer.new.self c.args.dated c.in-Ok.offer c.in-Ok.ensures.answer (subst (λ (x : ConversionView). HoldsArrivals x.collector) (sym c.self.view_is) h)
 
 pub returns-clause-held : goal.returns-clause-held
-returns-clause-held g c = λ h. held-offered c.self.inside.collector c.offer.new.self c.args.dated c.in-Ok.offer c.in-Ok.ensures.answer (subst (λ (x : ConversionView). HoldsArrivals x.window) (sym c.self.view_is) h)
+returns-clause-held g c = λ h. held-offered c.self.inside.collector c.offer.new.self c.args.dated c.in-Ok.offer c.in-Ok.ensures.answer (subst (λ (x : ConversionView). HoldsArrivals x.collector) (sym c.self.view_is) h)

@@ -28,7 +28,7 @@ returns-in-OtherMessage-clause-ok g c =
     subst (λ (x : ConversionView). AcceptsFrame x c.args.link c.args.payload.now (state c.self.inside.setup c.self.inside.collector c.self.inside.records (record (record c.self.inside.counts { frames = c.saturating_add-self-inside.result }) { other = c.saturating_add-self-inside-in-OtherMessage.result }) c.self.inside.stopped) before before) c.self.view_is (arrives-other c.args.payload.now comes counts)
 
 pub returns-in_ok-put_lines-in-Refused-clause-ahead : goal.returns-in_ok-put_lines-in-Refused-clause-ahead
-returns-in_ok-put_lines-in-Refused-clause-ahead g c = subst (λ (x : ConversionView). IsAhead x.window x.closed) (sym c.self.view_is) c.requires.ahead
+returns-in_ok-put_lines-in-Refused-clause-ahead g c = subst (λ (x : ConversionView). IsAhead x.collector x.records) (sym c.self.view_is) c.requires.ahead
 
 pub returns-in_ok-put_lines-in-Refused-clause-ok : goal.returns-in_ok-put_lines-in-Refused-clause-ok
 returns-in_ok-put_lines-in-Refused-clause-ok g c =
@@ -49,7 +49,7 @@ returns-in_ok-handle_message-in-Dated-clause-ok g c =
     let before = written (g.O.Sink.taken c.args.out.now) (g.L.Sink.taken c.args.log.now) in
     let after = written (g.O.Sink.taken c.handle_message.new.out) (g.L.Sink.taken c.handle_message.new.log) in
     let comes = subst (λ (f : FrameClass). IsClassOfPayload c.self.inside.setup c.args.payload.now f) c.in-Dated.is c.classify.ensures in
-    subst (λ (x : ConversionView). AcceptsFrame x c.args.link c.args.payload.now c.handle_message.new.self before after) c.self.view_is (arrives-arrived c.args.payload.now comes (ap (λ (n : ℕ). record c.self.inside.counts { frames = n }) c.saturating_add-self-inside.ensures) c.handle_message.ensures.settings c.in_ok-handle_message-in-Dated.ensures.ok)
+    subst (λ (x : ConversionView). AcceptsFrame x c.args.link c.args.payload.now c.handle_message.new.self before after) c.self.view_is (arrives-arrived c.args.payload.now comes (ap (λ (n : ℕ). record c.self.inside.counts { frames = n }) c.saturating_add-self-inside.ensures) c.handle_message.ensures.same_setup c.in_ok-handle_message-in-Dated.ensures.ok)
 
 pub returns-in_err-handle_message-in-Dated-clause-err : goal.returns-in_err-handle_message-in-Dated-clause-err
 returns-in_err-handle_message-in-Dated-clause-err g c =
@@ -59,7 +59,7 @@ returns-in_err-handle_message-in-Dated-clause-err g c =
     on_err-from c.from_residual-in_err-handle_message-in-Dated.result (subst (λ (x : ConversionView). BreaksOffAtFrame x c.args.link c.args.payload.now before after) c.self.view_is (breaks-arrived c.args.payload.now comes c.in_err-handle_message-in-Dated.ensures.err))
 
 pub returns-in-OtherMessage-clause-ahead : goal.returns-in-OtherMessage-clause-ahead
-returns-in-OtherMessage-clause-ahead g c = subst (λ (x : ConversionView). IsAhead x.window x.closed) (sym c.self.view_is) c.requires.ahead
+returns-in-OtherMessage-clause-ahead g c = subst (λ (x : ConversionView). IsAhead x.collector x.records) (sym c.self.view_is) c.requires.ahead
 
 pub returns-in_err-put_lines-in-Refused-clause-fault : goal.returns-in_err-put_lines-in-Refused-clause-fault
 returns-in_err-put_lines-in-Refused-clause-fault g c =
@@ -92,27 +92,27 @@ returns-in_err-handle_message-in-Dated-clause-report_failed g c =
     rw (p.1, p.2) c.in_err-handle_message-in-Dated.ensures.report_failed
 
 pub returns-in_default-clause-held : goal.returns-in_default-clause-held
-returns-in_default-clause-held g c = λ h. subst (λ (x : ConversionView). HoldsArrivals x.window) (sym c.self.view_is) h
+returns-in_default-clause-held g c = λ h. subst (λ (x : ConversionView). HoldsArrivals x.collector) (sym c.self.view_is) h
 
 pub returns-in-OtherMessage-clause-held : goal.returns-in-OtherMessage-clause-held
-returns-in-OtherMessage-clause-held g c = λ h. subst (λ (x : ConversionView). HoldsArrivals x.window) (sym c.self.view_is) h
+returns-in-OtherMessage-clause-held g c = λ h. subst (λ (x : ConversionView). HoldsArrivals x.collector) (sym c.self.view_is) h
 
 pub returns-in-Foreign-clause-held : goal.returns-in-Foreign-clause-held
-returns-in-Foreign-clause-held g c = λ h. subst (λ (x : ConversionView). HoldsArrivals x.window) (sym c.self.view_is) h
+returns-in-Foreign-clause-held g c = λ h. subst (λ (x : ConversionView). HoldsArrivals x.collector) (sym c.self.view_is) h
 
 pub returns-in_ok-put_lines-in-Refused-clause-held : goal.returns-in_ok-put_lines-in-Refused-clause-held
-returns-in_ok-put_lines-in-Refused-clause-held g c = λ h. subst (λ (x : ConversionView). HoldsArrivals x.window) (sym c.self.view_is) h
+returns-in_ok-put_lines-in-Refused-clause-held g c = λ h. subst (λ (x : ConversionView). HoldsArrivals x.collector) (sym c.self.view_is) h
 
 pub returns-in_err-put_lines-in-Refused-clause-held : goal.returns-in_err-put_lines-in-Refused-clause-held
-returns-in_err-put_lines-in-Refused-clause-held g c = λ h. subst (λ (x : ConversionView). HoldsArrivals x.window) (sym c.self.view_is) h
+returns-in_err-put_lines-in-Refused-clause-held g c = λ h. subst (λ (x : ConversionView). HoldsArrivals x.collector) (sym c.self.view_is) h
 
 pub returns-in_ok-handle_message-in-Dated-clause-held : goal.returns-in_ok-handle_message-in-Dated-clause-held
-returns-in_ok-handle_message-in-Dated-clause-held g c = λ h. c.handle_message.ensures.held (subst (λ (x : ConversionView). HoldsArrivals x.window) (sym c.self.view_is) h)
+returns-in_ok-handle_message-in-Dated-clause-held g c = λ h. c.handle_message.ensures.held (subst (λ (x : ConversionView). HoldsArrivals x.collector) (sym c.self.view_is) h)
 
 pub returns-in_err-handle_message-in-Dated-clause-held : goal.returns-in_err-handle_message-in-Dated-clause-held
-returns-in_err-handle_message-in-Dated-clause-held g c = λ h. c.handle_message.ensures.held (subst (λ (x : ConversionView). HoldsArrivals x.window) (sym c.self.view_is) h)
+returns-in_err-handle_message-in-Dated-clause-held g c = λ h. c.handle_message.ensures.held (subst (λ (x : ConversionView). HoldsArrivals x.collector) (sym c.self.view_is) h)
 
 pub returns-in_err-handle_message-in-Dated-clause-cause : goal.returns-in_err-handle_message-in-Dated-clause-cause
 returns-in_err-handle_message-in-Dated-clause-cause g c =
     let comes = subst (λ (f : FrameClass). IsClassOfPayload c.self.inside.setup c.args.payload.now f) c.in-Dated.is c.classify.ensures in
-    on_err-from c.from_residual-in_err-handle_message-in-Dated.result (subst (λ (x : ConversionView). HasCause x.settings c.args.payload.now) c.self.view_is (Dated c.in-Dated.dated, comes, tt))
+    on_err-from c.from_residual-in_err-handle_message-in-Dated.result (subst (λ (x : ConversionView). HasCause x.setup c.args.payload.now) c.self.view_is (Dated c.in-Dated.dated, comes, tt))

@@ -6,63 +6,63 @@ use Rattle.rtk_convert.proofs.ClosingLemmas.{ClosesSome, some-refused, none-give
 use Rattle.rtk_convert.proofs.WritingLemmas.{on_err-from}
 use Rattle.rtk_convert.proofs.converter.Converter.close_all.Goals as goal
 
-pub links-init : goal.links-init
-links-init g c = record {
+pub loop-link-init : goal.loop-link-init
+loop-link-init g c = record {
   going = c.requires.going;
-  settings = refl;
+  same_setup = refl;
   out_same = refl;
   log_same = refl;
   closed = λ h r. closes-none c.args.self.now h (written (g.O.Sink.taken c.args.out.now) (g.L.Sink.taken c.args.log.now)) r;
 }
 
-pub links-preserved-then-is_some : goal.links-preserved-then-is_some
-links-preserved-then-is_some g c =
+pub loop-link-preserved-then-is_some : goal.loop-link-preserved-then-is_some
+loop-link-preserved-then-is_some g c =
     let before = written (g.O.Sink.taken c.args.out.now) (g.L.Sink.taken c.args.log.now) in
-    let after = written (g.O.Sink.taken c.links.out) (g.L.Sink.taken c.links.log) in
-    let i = c.links.invariant in
-    let next : suc c.links.link ≡ c.links.link + 1 = omega arith in
-    let refused : refusal c.links.self c.links.link ≡ None → ⊥ = some-refused c.refusal.result (refusal c.links.self c.links.link) c.refusal.ensures (sym c.is_some.ensures ∙ c.if-is_some.true) in
+    let after = written (g.O.Sink.taken c.loop-link.out) (g.L.Sink.taken c.loop-link.log) in
+    let i = c.loop-link.invariant in
+    let next : suc c.loop-link.link ≡ c.loop-link.link + 1 = omega arith in
+    let refused : refusal c.loop-link.self c.loop-link.link ≡ None → ⊥ = some-refused c.refusal.result (refusal c.loop-link.self c.loop-link.link) c.refusal.ensures (sym c.is_some.ensures ∙ c.if-is_some.true) in
     record {
       going = i.going;
-      settings = i.settings;
+      same_setup = i.same_setup;
       out_same = i.out_same;
       log_same = i.log_same;
-      closed = λ h r. subst (λ (n : ℕ). ClosesSome c.args.self.now h n c.links.self before after) next
+      closed = λ h r. subst (λ (n : ℕ). ClosesSome c.args.self.now h n c.loop-link.self before after) next
           (closes-past refused (i.closed h r));
     }
 
-pub links-preserved : goal.links-preserved
-links-preserved g c =
+pub loop-link-preserved : goal.loop-link-preserved
+loop-link-preserved g c =
     let before = written (g.O.Sink.taken c.args.out.now) (g.L.Sink.taken c.args.log.now) in
     let after = written (g.O.Sink.taken c.close.new.out) (g.L.Sink.taken c.close.new.log) in
-    let i = c.links.invariant in
-    let next : suc c.links.link ≡ c.links.link + 1 = omega arith in
-    let none : refusal c.links.self c.links.link ≡ None = none-given c.refusal.result (refusal c.links.self c.links.link) c.refusal.ensures (sym c.is_some.ensures ∙ c.if-is_some.false) in
+    let i = c.loop-link.invariant in
+    let next : suc c.loop-link.link ≡ c.loop-link.link + 1 = omega arith in
+    let none : refusal c.loop-link.self c.loop-link.link ≡ None = none-given c.refusal.result (refusal c.loop-link.self c.loop-link.link) c.refusal.ensures (sym c.is_some.ensures ∙ c.if-is_some.false) in
     record {
       going = c.in_ok-close.ensures.going;
-      settings = c.close.ensures.settings ∙ i.settings;
+      same_setup = c.close.ensures.same_setup ∙ i.same_setup;
       out_same = c.in_ok-close.ensures.file_failed ∙ i.out_same;
       log_same = c.in_ok-close.ensures.report_failed ∙ i.log_same;
       closed = λ h r. subst (λ (n : ℕ). ClosesSome c.args.self.now h n c.close.new.self before after) next
           (closes-next
-          i.settings none (i.closed h r) c.in_ok-close.ensures.ok);
+          i.same_setup none (i.closed h r) c.in_ok-close.ensures.ok);
     }
 
 pub returns-in_err-close-clause-err : goal.returns-in_err-close-clause-err
 returns-in_err-close-clause-err g c =
-    let i = c.links.invariant in
-    let none : refusal c.links.self c.links.link ≡ None = none-given c.refusal.result (refusal c.links.self c.links.link) c.refusal.ensures (sym c.is_some.ensures ∙ c.if-is_some.false) in
+    let i = c.loop-link.invariant in
+    let none : refusal c.loop-link.self c.loop-link.link ≡ None = none-given c.refusal.result (refusal c.loop-link.self c.loop-link.link) c.refusal.ensures (sym c.is_some.ensures ∙ c.if-is_some.false) in
     on_err-from c.from_residual.result (λ h r. (
-      c.links.link,
+      c.loop-link.link,
       closes-off
-          i.settings none (i.closed h r) (c.in_err-close.ensures.err (c.in_err-close.ensures.fault none)),
+          i.same_setup none (i.closed h r) (c.in_err-close.ensures.err (c.in_err-close.ensures.fault none)),
     ))
 
 pub returns-clause-ok : goal.returns-clause-ok
 returns-clause-ok g c =
     let len : c.len-link-end.result ≡ length c.self.inside.links.items = grind (arith, common_steps, c.len-link-end.ensures) in
-    let test = c.links-test.false in
-    let le = c.links.auto.link-end in
-    let end : c.links.link ≡ c.len-link-end.result = grind (arith) in
-    let all : c.links.link ≡ length c.args.self.now.links = subst (λ (s : ConverterView). c.links.link ≡ length s.links) c.self.view_is (end ∙ len) in
-    closes-all all c.links.invariant.closed
+    let test = c.loop-link-test.false in
+    let le = c.loop-link.auto.link-end in
+    let end : c.loop-link.link ≡ c.len-link-end.result = grind (arith) in
+    let all : c.loop-link.link ≡ length c.args.self.now.links = subst (λ (s : ConverterView). c.loop-link.link ≡ length s.links) c.self.view_is (end ∙ len) in
+    closes-all all c.loop-link.invariant.closed

@@ -16,7 +16,7 @@ returns-clause-ok g c =
     (λ counts. FinishesConversion c.closing.inside.conversion counts mid after)
     (λ counts. FinishesConverter c.args.self counts before after)
     (λ counts f. ends
-    c.in_ok-close_all.ensures.settings c.in_ok-close_all.ensures.ok
+    c.in_ok-close_all.ensures.same_setup c.in_ok-close_all.ensures.ok
     (subst (λ (s : ConverterView). FinishesConversion s.conversion counts mid after) c.closing.view_is f))
     c.finish.ensures.ok
 
@@ -27,7 +27,7 @@ returns-clause-err g c =
     let going : c.closing.inside.conversion.stopped ≡ false = subst (λ (s : ConverterView). s.conversion.stopped ≡ false) (sym c.closing.view_is) c.in_ok-close_all.ensures.going in
     if_err-map c.finish.result IsFrameFault
     (λ part. ends-part
-    c.in_ok-close_all.ensures.settings c.in_ok-close_all.ensures.ok
+    c.in_ok-close_all.ensures.same_setup c.in_ok-close_all.ensures.ok
     (subst (λ (s : ConverterView). FinishesConversionInPart s.conversion mid after) c.closing.view_is (part going)))
     c.finish.ensures.err
 

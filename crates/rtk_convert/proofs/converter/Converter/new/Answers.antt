@@ -16,4 +16,4 @@ returns-clause-ok c = record {
 
 pub returns-clause-bounds : goal.returns-clause-bounds
 returns-clause-bounds c =
-    bounded-new c.new.result c.in_ok-links.links.items c.args.links c.in_ok-links.ensures.new (subst (λ (s : SetupView). length c.new.result.window.sets ≤ s.window) (sym c.new.ensures.settings) c.new.ensures.few) ([], c.new.ensures.represents.window)
+    bounded-new c.new.result c.in_ok-links.links.items c.args.links c.in_ok-links.ensures.new (subst (λ (s : SetupView). length c.new.result.collector.sets ≤ s.window) (sym c.new.ensures.same_setup) c.new.ensures.few) ([], c.new.ensures.represents.window)

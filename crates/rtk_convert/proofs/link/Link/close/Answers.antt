@@ -10,7 +10,7 @@ frames-init g c = record {
   going = c.requires.going;
   few = c.requires.few;
   held = λ h. h;
-  settings = refl;
+  same_setup = refl;
   out_same = refl;
   log_same = refl;
   taken = ([], refl, gathers-none c.args.conversion.now c.args.number c.args.self.now.newest (written (g.O.Sink.taken c.args.out.now) (g.L.Sink.taken c.args.log.now)));
@@ -25,14 +25,14 @@ frames-preserved g c =
       going = c.in_ok-epoch.ensures.going;
       few = c.accept_frame.ensures.few;
       held = λ h. c.accept_frame.ensures.held (i.held h);
-      settings = c.accept_frame.ensures.settings ∙ i.settings;
+      same_setup = c.accept_frame.ensures.same_setup ∙ i.same_setup;
       out_same = c.in_ok-epoch.ensures.file_failed ∙ i.out_same;
       log_same = c.in_ok-epoch.ensures.report_failed ∙ i.log_same;
       taken = (
         i.taken.0 ++ c.in-Some.payload.now ∷ [],
         s.taken,
         gathers-more c.in-Some.payload.now
-            i.settings i.taken.2 c.in_ok-epoch.ensures.ok c.in_ok-epoch.ensures.epoch c.later-self.ensures,
+            i.same_setup i.taken.2 c.in_ok-epoch.ensures.ok c.in_ok-epoch.ensures.epoch c.later_of-self.ensures,
       );
     }
 
@@ -42,7 +42,7 @@ returns-in_err-epoch-clause-err g c =
     let holds = c.rest.follows.holds-at-none in
     let s = finds-left c.args.self.now.scanner.pending c.frames.self.scanner.pending i.taken.0 c.in-Some.payload c.rest.follows.lender-at-none i.taken.1 (rw c.in-Some.is at holds.2) in
     on_err-from c.from_residual.result (breaks-off _ c.in-Some.payload.now
-    i.settings s.split i.taken.2 (c.in_err-epoch.ensures.err i.going))
+    i.same_setup s.split i.taken.2 (c.in_err-epoch.ensures.err i.going))
 
 pub returns-in_err-epoch-clause-fault : goal.returns-in_err-epoch-clause-fault
 returns-in_err-epoch-clause-fault g c =

@@ -9,9 +9,9 @@ use Rattle.rtk_convert.proofs.link.Link.close.Given as goal
 abbrev pub invariant-frames : goal.invariant-frames
 invariant-frames g l = record {
   going : l.conversion.stopped ≡ false;
-  few : length l.conversion.window.sets ≤ l.conversion.settings.window;
-  held : HoldsArrivals l.fn.conversion.window → HoldsArrivals l.conversion.window;
-  settings : l.conversion.settings ≡ l.fn.conversion.settings;
+  few : length l.conversion.collector.sets ≤ l.conversion.setup.window;
+  held : HoldsArrivals l.fn.conversion.collector → HoldsArrivals l.conversion.collector;
+  same_setup : l.conversion.setup ≡ l.fn.conversion.setup;
   out_same : g.O.Sink.failures l.out ≡ g.O.Sink.failures l.fn.out;
   log_same : g.L.Sink.failures l.log ≡ g.L.Sink.failures l.fn.log;
   taken : (done : List (List ℕ)) × (payloads (frames l.fn.self.scanner.pending) ≡ done ++ payloads (frames l.self.scanner.pending))

@@ -12,7 +12,7 @@ frames-init g c = record {
   going = c.requires.going;
   few = c.requires.few;
   held = λ h. h;
-  settings = refl;
+  same_setup = refl;
   out_same = refl;
   log_same = refl;
   waiting = refl;
@@ -31,7 +31,7 @@ frames-preserved g c =
       going = c.in_ok-epoch.ensures.going;
       few = c.accept_frame.ensures.few;
       held = λ h. c.accept_frame.ensures.held (i.held h);
-      settings = c.accept_frame.ensures.settings ∙ i.settings;
+      same_setup = c.accept_frame.ensures.same_setup ∙ i.same_setup;
       out_same = c.in_ok-epoch.ensures.file_failed ∙ i.out_same;
       log_same = c.in_ok-epoch.ensures.report_failed ∙ i.log_same;
       waiting = s.waiting;
@@ -39,7 +39,7 @@ frames-preserved g c =
         i.taken.0 ++ c.in-Found.payload.now ∷ [],
         s.taken,
         gathers-more c.in-Found.payload.now
-            i.settings i.taken.2 c.in_ok-epoch.ensures.ok c.in_ok-epoch.ensures.epoch c.later-self.ensures,
+            i.same_setup i.taken.2 c.in_ok-epoch.ensures.ok c.in_ok-epoch.ensures.epoch c.later_of-self.ensures,
       );
     }
 
@@ -50,7 +50,7 @@ returns-in_err-epoch-clause-err g c =
     let s = finds-next c.args.self.now.scanner.pending c.args.piece.now c.frames.self.scanner.pending c.frames.at c.feed-fed.result.used i.taken.0 c.in-Found.payload c.feed-fed.follows.lender-at-none
     i.within c.feed-fed.ensures.used i.taken.1 i.waiting (rw c.in-Found.is at holds.2) in
     on_err-from c.from_residual.result (breaks-off _ c.in-Found.payload.now
-    i.settings s.split i.taken.2 (c.in_err-epoch.ensures.err i.going))
+    i.same_setup s.split i.taken.2 (c.in_err-epoch.ensures.err i.going))
 
 pub returns-in_err-epoch-clause-fault : goal.returns-in_err-epoch-clause-fault
 returns-in_err-epoch-clause-fault g c =

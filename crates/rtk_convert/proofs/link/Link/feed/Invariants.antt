@@ -11,9 +11,9 @@ invariant-frames g l = record {
   within : l.at ≤ length l.piece;
   is_open : l.self.scanner.ended ≡ false;
   going : l.conversion.stopped ≡ false;
-  few : length l.conversion.window.sets ≤ l.conversion.settings.window;
-  held : HoldsArrivals l.fn.conversion.window → HoldsArrivals l.conversion.window;
-  settings : l.conversion.settings ≡ l.fn.conversion.settings;
+  few : length l.conversion.collector.sets ≤ l.conversion.setup.window;
+  held : HoldsArrivals l.fn.conversion.collector → HoldsArrivals l.conversion.collector;
+  same_setup : l.conversion.setup ≡ l.fn.conversion.setup;
   out_same : g.O.Sink.failures l.out ≡ g.O.Sink.failures l.fn.out;
   log_same : g.L.Sink.failures l.log ≡ g.L.Sink.failures l.fn.log;
   waiting : pending (l.fn.self.scanner.pending ++ l.piece) ≡ pending (l.self.scanner.pending ++ drop l.at l.piece);

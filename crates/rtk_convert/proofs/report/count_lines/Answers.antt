@@ -1,6 +1,6 @@
 use Rattle.std.proofs.Common.{refl}
 use Rattle.rtk_convert.specs.ReportText.{count_lines}
-use Rattle.rtk_convert.proofs.report.counts.Goals as goal
+use Rattle.rtk_convert.proofs.report.count_lines.Goals as goal
 
 pub returns : goal.returns
 unfolding count_lines
