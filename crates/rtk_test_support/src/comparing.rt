@@ -1,7 +1,7 @@
 //! Comparisons of a test. They are calls and no `assert_eq!`, since each of those costs the proof
 //! of a test some seconds and a call nearly nothing.
 
-ghost use Rattle.std.specs.Prelude.{◌≡◌, true, false, IfOk, IfErr};
+ghost use Rattle.std.specs.Prelude.{◌≡◌, true, false, IfOk, IfErr, IsTrue, flat_map};
 
 use std::fmt::{Debug, Display};
 use std::test::Fail;
@@ -52,7 +52,7 @@ pub fn holds_of<R: Display + Drop>(row: R, is: bool) -> Result<(), Fail>
 
 /// Do these parts, one after another, make the text?
 pub fn consists_of(text: &[u8], parts: &[&str]) -> bool
-    ensures { Decides result (text.now ≡ flat_map (λ part. part.now) parts.now) }
+    ensures { IsTrue result → text.now ≡ flat_map (λ part. part.now) parts.now }
 {
     let mut rest = text;
     for part in parts {
