@@ -3,10 +3,9 @@ use Rattle.std.proofs.Common.{◌≡◌, ◌≢◌, ℕ, zero, suc, ◌+◌, ◌
 use Rattle.std.proofs.Math.ListN.{drop_of_length-le}
 use Rattle.std.proofs.Math.Seq.{drop-append-add, take-add}
 use Rattle.std.proofs.lemmas.List.{take_all}
-use Rattle.rtk_frame.specs.Frames.{Frame, frame_at, frames_from, final_from, pending_from, final_frames, frames, pending}
+use Rattle.rtk_frame.specs.Frames.{Frame, frame_at, frames_from, final_from, pending_from, final_frames, frames, pending, IsFirst}
 use Rattle.rtk_frame.specs.Frame.{payload_length, payload_of, begins_frame, begins_partial}
 use Rattle.rtk_frame.specs.Steps.Scanning.{Passed, Scanned, FrameFree, Searched}
-use Rattle.rtk_frame.specs.Frames.{IsFirst}
 use Rattle.rtk_frame.proofs.Fronts.{not_preamble, partial_not_frame, frame_is_whole, neither_stays}
 use Rattle.rtk_frame.proofs.Pieces.{frames_not, frames_frame, final_not, final_frame, final_partial, pending_not, pending_partial}
 

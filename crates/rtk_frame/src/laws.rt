@@ -30,14 +30,14 @@ pub fn frames_of_a_text()
 {}
 
 /// The final frames are the text's frames that have no free place before them at which a frame may
-/// begin once more bytes have come. No other list has this property.
+/// begin when more bytes come. No other list has this property.
 pub fn final_frames_of_a_text()
     ensures are { (b : List ℕ) → AreFinal b (frames b) (final_frames b) }
     ensures only { (b : List ℕ) (fs : List Frame) → AreFinal b (frames b) fs → fs ≡ final_frames b }
 {}
 
-/// The pending bytes are the suffix of a text from the first free place on at which a frame may
-/// begin once more bytes have come. No other list has this property.
+/// The pending bytes are the suffix of a text from the first free place at which a frame may begin
+/// when more bytes come. No other list has this property.
 pub fn pending_of_a_text()
     ensures is { (b : List ℕ) → IsPending b (frames b) (pending b) }
     ensures only { (b s : List ℕ) → IsPending b (frames b) s → s ≡ pending b }
@@ -60,8 +60,8 @@ pub fn frames_in_any_cut()
         ≡ payloads (final_frames b) ++ payloads (frames (pending b)) }
 {}
 
-/// If more bytes follow a text, the pending bytes are those of the text's pending bytes with the
-/// bytes that follow.
+/// If more bytes follow a text, all of them together have the same pending bytes as the text's
+/// pending bytes with the bytes that follow.
 pub fn pending_in_any_cut()
     ensures { (b c : List ℕ) → pending (b ++ c) ≡ pending (pending b ++ c) }
 {}
@@ -95,15 +95,15 @@ pub fn final_frames_after_found()
         × (pending (h ++ piece) ≡ pending (rest ++ drop used piece)) }
 {}
 
-/// Nothing more is no change, and what passed in two parts has passed as one text.
+/// If no more bytes pass, nothing changes; bytes that passed in two parts have passed as one text.
 pub fn passed_bytes_join()
     ensures none { (known : Option (List ℕ)) → with_more known [] ≡ known }
     ensures parts { (known : Option (List ℕ)) (more rest : List ℕ)
         → with_more (with_more known more) rest ≡ with_more known (more ++ rest) }
 {}
 
-/// Once one of many sources was read, the calls of all of them together rose by one at most, and by
-/// one if the count of its calls was below its greatest value.
+/// When one of many sources is read, the calls of all of them together rise by at most one, and by
+/// exactly one if the count of calls of that source was below its greatest value.
 pub fn calls_of_one_read<R: Source>()
     ensures at_most { (before after : List R) (link : ℕ) (result : Result ℕ StreamFault) (buf : List ℕ) (none : R)
         → link < length before → ReadsOne R.given R.failures R.calls before after link result buf

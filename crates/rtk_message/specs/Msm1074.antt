@@ -23,8 +23,8 @@ satellite_count h = count_ones h.satellite_mask
 abbrev pub signal_count : MsmHeader → ℕ
 signal_count h = count_ones h.signal_mask
 
--- the cell mask (DF396): for each satellite a row of one bit for each signal; satellites and signals
--- rise
+-- the cell mask (DF396): for each satellite a row of one bit for each signal; the satellites rise,
+-- and in each row the signals
 abbrev pub mask_table : Msm1074 → List Field
 mask_table m = numbers (signal_count m.header) m.cell_mask
 
