@@ -88,8 +88,8 @@ pending text = pending_from 0 text
 -- ---- cuts
 
 -- the same frame, once n bytes stand before the text
-abbrev pub later : ℕ → Frame → Frame
-later n f = record { place = n + f.place; payload = f.payload }
+abbrev pub shifted : ℕ → Frame → Frame
+shifted n f = record { place = n + f.place; payload = f.payload }
 
 -- the first of these frames of the text has this payload, and the rest of the text is what follows
 -- it

@@ -7,7 +7,7 @@
 ghost use Rattle.std.specs.Prelude.{◌≡◌, ℕ, ◌+◌, ◌-◌, ◌<◌, ◌≤◌, List, [], ◌∷◌, ◌++◌, map, take, drop, length, Option, Result, slice_index_or, sum_by};
 ghost use Rattle.rtk_frame.specs.Frame.{IsFrameAt, payload_of, framed};
 ghost use Rattle.rtk_frame.specs.Frames.{Frame, end_of, payloads, IsFramesFrom, AreFinal, IsPending};
-ghost use Rattle.rtk_frame.specs.Frames.{frames, final_frames, pending, later, IsFirst};
+ghost use Rattle.rtk_frame.specs.Frames.{frames, final_frames, pending, shifted, IsFirst};
 ghost use Rattle.rtk_frame.specs.Stream.{greatest_count, with_more, ReadsOne};
 ghost use Rattle.rtk_frame.specs.declared.stream.StreamFault.{StreamFault};
 
@@ -47,7 +47,7 @@ pub fn pending_of_a_text()
 /// pending bytes with the bytes that follow.
 pub fn final_frames_in_any_cut()
     ensures placed { (b c : List ℕ) → final_frames (b ++ c) ≡ final_frames b
-        ++ map (later (length b - length (pending b))) (final_frames (pending b ++ c)) }
+        ++ map (shifted (length b - length (pending b))) (final_frames (pending b ++ c)) }
     ensures payloads { (b c : List ℕ) → payloads (final_frames (b ++ c))
         ≡ payloads (final_frames b) ++ payloads (final_frames (pending b ++ c)) }
 {}
@@ -55,7 +55,7 @@ pub fn final_frames_in_any_cut()
 /// The frames of a text are its final frames, and then the frames of its pending bytes.
 pub fn frames_in_any_cut()
     ensures placed { (b : List ℕ) → frames b ≡ final_frames b
-        ++ map (later (length b - length (pending b))) (frames (pending b)) }
+        ++ map (shifted (length b - length (pending b))) (frames (pending b)) }
     ensures payloads { (b : List ℕ) → payloads (frames b)
         ≡ payloads (final_frames b) ++ payloads (frames (pending b)) }
 {}
@@ -69,7 +69,7 @@ pub fn pending_in_any_cut()
 /// The text after its first frame has the other frames.
 pub fn frames_after_the_first()
     ensures placed { (b : List ℕ) (f : Frame) (others : List Frame) → frames b ≡ f ∷ others
-        → others ≡ map (later (end_of f)) (frames (drop (end_of f) b)) }
+        → others ≡ map (shifted (end_of f)) (frames (drop (end_of f) b)) }
     ensures payloads { (b payload rest : List ℕ) → IsFirst (frames b) b payload rest
         → payloads (frames b) ≡ payload ∷ payloads (frames rest) }
 {}
@@ -77,7 +77,7 @@ pub fn frames_after_the_first()
 /// The text after its first final frame has the other final frames, and the same pending bytes.
 pub fn final_frames_after_the_first()
     ensures placed { (b : List ℕ) (f : Frame) (others : List Frame) → final_frames b ≡ f ∷ others
-        → (others ≡ map (later (end_of f)) (final_frames (drop (end_of f) b)))
+        → (others ≡ map (shifted (end_of f)) (final_frames (drop (end_of f) b)))
         × (pending b ≡ pending (drop (end_of f) b)) }
     ensures payloads { (b payload rest : List ℕ) → IsFirst (final_frames b) b payload rest
         → (payloads (final_frames b) ≡ payload ∷ payloads (final_frames rest))
