@@ -12,8 +12,8 @@ use Rattle.rtk_message.specs.Steps.EachFits.{EachFits}
 use Rattle.rtk_message.specs.Msm1074Laws.{header_says, due, cells_says}
 use Rattle.rtk_message.proofs.ColumnLemmas.{flags-fit}
 
-pub is_late : {h : MsmHeader} {bs rest : List Bool} → TakesAll (header_table h) bs rest → week_ms ≤ h.tow → first_fault bs ≡ Some (EpochRange 1074)
-is_late {h = h} {bs = bs} took late =
+pub is_out_of_week : {h : MsmHeader} {bs rest : List Bool} → TakesAll (header_table h) bs rest → week_ms ≤ h.tow → first_fault bs ≡ Some (EpochRange 1074)
+is_out_of_week {h = h} {bs = bs} took late =
     let says = header_says took in
     let long : ltb (length bs) 157 ≡ false = le-ltb (length bs) 157 (omega (arith, says.len)) in
     let when : leb week_ms (tow_in bs) ≡ true = le-leb week_ms (tow_in bs) (omega (arith, says.tow_is, late)) in

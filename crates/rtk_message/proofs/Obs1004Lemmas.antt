@@ -12,8 +12,8 @@ use Rattle.rtk_message.specs.Obs1004.{satellite_table, header_fields, first_faul
 use Rattle.rtk_message.specs.Obs1004Laws.{header_says}
 use Rattle.rtk_message.proofs.FieldLemmas.{took_both, put_both}
 
-pub is_late : {s t : ℕ} {y : Bool} {n : ℕ} {k : Bool} {v : ℕ} {bs rest : List Bool} → TakesAll (header_fields s t y n k v) bs rest → week_ms ≤ t → first_fault bs ≡ Some (EpochRange 1004)
-is_late {t = t} {bs = bs} took h =
+pub is_out_of_week : {s t : ℕ} {y : Bool} {n : ℕ} {k : Bool} {v : ℕ} {bs rest : List Bool} → TakesAll (header_fields s t y n k v) bs rest → week_ms ≤ t → first_fault bs ≡ Some (EpochRange 1004)
+is_out_of_week {t = t} {bs = bs} took h =
     let says = header_says took in
     let long : ltb (length bs) 52 ≡ false = le-ltb (length bs) 52 (omega (arith, says.len)) in
     let late : leb week_ms (tow_in bs) ≡ true = le-leb week_ms (tow_in bs) (omega (arith, says.tow_is)) in
