@@ -72,6 +72,7 @@ flip_cut (true ∷ a) (suc n) (y ∷ b) h = ap (λ z. not y ∷ z) (flip_cut a n
 flip_cut (false ∷ a) (suc n) (y ∷ b) h = ap (λ z. y ∷ z) (flip_cut a n b (omega arith))
 
 -- ---- a table for each place
+
 -- z followed by zeros
 abbrev pub IsColumn : ℕ → ℕ → ℕ → Type 0
 IsColumn m z t = (xs : List Bool) → divide (8 + m) (bits_of 8 z ++ (zeros m ++ xs)) ≡ flip (bits_of 32 t) xs

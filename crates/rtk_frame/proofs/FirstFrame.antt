@@ -3,7 +3,7 @@ use Rattle.std.proofs.Common.{◌≡◌, ℕ, zero, suc, ◌+◌, ◌-◌, ◌�
 use Rattle.std.proofs.lemmas.List.{take-append-drop}
 use mathlib.Core.List.{map-append}
 use Rattle.rtk_frame.specs.Frame.{payload_length, payload_of, begins_frame, begins_partial}
-use Rattle.rtk_frame.specs.Frames.{Frame, end_of, payloads, frame_at, frames_from, final_from, pending_from, frames, final_frames, pending, later, IsFirst}
+use Rattle.rtk_frame.specs.Frames.{Frame, end_of, payloads, frame_at, frames_from, final_from, pending_from, frames, final_frames, pending, shifted, IsFirst}
 use Rattle.rtk_frame.proofs.Fronts.{frame_is_whole}
 use Rattle.rtk_frame.proofs.Pieces.{frames_frame, frames_not, final_frame, final_partial, final_not, pending_frame, pending_not, frames_later, final_later, frames_cut, final_cut, pending_cut}
 
@@ -66,7 +66,7 @@ unfolding FramesAfter frames_from
 frames_after_from [] p f others e = absurd (cc)
 frames_after_from (x ∷ xs) p f others e = frames_after_here x xs p (begins_frame (x ∷ xs)) refl (frames_after_from xs (p + 1)) f others e
 
-pub frames_after : (b : List ℕ) (f : Frame) (others : List Frame) → frames b ≡ f ∷ others → others ≡ map (later (end_of f)) (frames (drop (end_of f) b))
+pub frames_after : (b : List ℕ) (f : Frame) (others : List Frame) → frames b ≡ f ∷ others → others ≡ map (shifted (end_of f)) (frames (drop (end_of f) b))
 unfolding FramesAfter
 frames_after b f others e =
     let z : end_of f - 0 ≡ end_of f = omega arith in
@@ -105,7 +105,7 @@ final_after_from [] p f others e = absurd (cc)
 final_after_from (x ∷ xs) p f others e =
     final_after_here x xs p (begins_frame (x ∷ xs)) (begins_partial (x ∷ xs)) refl refl (final_after_from xs (p + 1)) f others e
 
-pub final_after : (b : List ℕ) (f : Frame) (others : List Frame) → final_frames b ≡ f ∷ others → (others ≡ map (later (end_of f)) (final_frames (drop (end_of f) b))) × (pending b ≡ pending (drop (end_of f) b))
+pub final_after : (b : List ℕ) (f : Frame) (others : List Frame) → final_frames b ≡ f ∷ others → (others ≡ map (shifted (end_of f)) (final_frames (drop (end_of f) b))) × (pending b ≡ pending (drop (end_of f) b))
 unfolding FinalAfter
 final_after b f others e =
     let z : end_of f - 0 ≡ end_of f = omega arith in
@@ -116,12 +116,12 @@ final_after b f others e =
     )
 
 -- ---- over payloads alone
-payloads_later : (n : ℕ) (fs : List Frame) → payloads (map (later n) fs) ≡ payloads fs
+payloads_later : (n : ℕ) (fs : List Frame) → payloads (map (shifted n) fs) ≡ payloads fs
 payloads_later n [] = refl
 payloads_later n (f ∷ fs) = ap (λ z. f.payload ∷ z) (payloads_later n fs)
 
-payloads_of_cut : (fs gs hs : List Frame) (n : ℕ) → fs ≡ gs ++ map (later n) hs → payloads fs ≡ payloads gs ++ payloads hs
-payloads_of_cut fs gs hs n e = ap payloads e ∙ map-append (λ (f : Frame). f.payload) gs (map (later n) hs) ∙ ap (λ z. payloads gs ++ z) (payloads_later n hs)
+payloads_of_cut : (fs gs hs : List Frame) (n : ℕ) → fs ≡ gs ++ map (shifted n) hs → payloads fs ≡ payloads gs ++ payloads hs
+payloads_of_cut fs gs hs n e = ap payloads e ∙ map-append (λ (f : Frame). f.payload) gs (map (shifted n) hs) ∙ ap (λ z. payloads gs ++ z) (payloads_later n hs)
 
 pub final_payloads_cut : (b c : List ℕ) → payloads (final_frames (b ++ c)) ≡ payloads (final_frames b) ++ payloads (final_frames (pending b ++ c))
 final_payloads_cut b c = payloads_of_cut (final_frames (b ++ c)) (final_frames b) (final_frames (pending b ++ c)) (length b - length (pending b)) (final_cut b c)

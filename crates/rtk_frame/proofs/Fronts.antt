@@ -6,7 +6,7 @@ use Rattle.std.proofs.lemmas.Bool.Decides.{nat_tests}
 use Rattle.rtk_frame.specs.Checksum.{crc}
 use Rattle.rtk_frame.specs.Frame.{payload_length, payload_of, three_bytes, begins_frame, begins_partial}
 
--- the three facts of a text that holds what its length says
+-- two texts have the same at their front
 pub record Same (s t : List ℕ) : Type 0 where
   pub len : payload_length t ≡ payload_length s
   pub payload : payload_of t ≡ payload_of s
@@ -51,7 +51,7 @@ pub same_begins : (s c : List ℕ) → payload_length s + 6 ≤ length s → beg
 same_begins s c h =
     begins_by_length (s ++ c) ∙ ap (by_length (s ++ c)) (same_length s c h) ∙ by_length_same s c (payload_length s) h ∙ sym (begins_by_length s)
 
--- whole: the place is not open if all the bytes that the length asks for are there
+-- a text that has all bytes that its length asks for begins with no partial frame
 pub whole_not_partial : (s : List ℕ) → payload_length s + 6 ≤ length s → begins_partial s ≡ false
 unfolding begins_partial
 whole_not_partial s h = grind (arith, nat_tests)
@@ -66,12 +66,12 @@ same_when_whole s c h =
       partial = whole_not_partial (s ++ c) (omega (arith, l, length-append s c)) ∙ sym (whole_not_partial s h);
     }
 
--- a frame that stands is whole
+-- a text that begins with a frame has all bytes that its length asks for
 pub frame_is_whole : (s : List ℕ) → begins_frame s ≡ true → payload_length s + 6 ≤ length s
 unfolding begins_frame
 frame_is_whole s h = grind (arith, nat_tests)
 
--- if no frame stands at the place and it is not open, this stays so as the text grows
+-- a text that begins with no frame and with no partial frame stays so as it grows
 other_byte : (x : ℕ) (xs : List ℕ) → (x == 0xD3) ≡ false → (begins_frame (x ∷ xs) ≡ false) × (begins_partial (x ∷ xs) ≡ false)
 unfolding begins_frame begins_partial
 other_byte x xs h = (rw h refl, rw h refl)
@@ -89,7 +89,7 @@ neither_by x xs c false h f o = other_byte x (xs ++ c) h
 pub neither_stays : (x : ℕ) (xs c : List ℕ) → begins_frame (x ∷ xs) ≡ false → begins_partial (x ∷ xs) ≡ false → (begins_frame (x ∷ (xs ++ c)) ≡ false) × (begins_partial (x ∷ (xs ++ c)) ≡ false)
 neither_stays x xs c f o = neither_by x xs c (x == 0xD3) refl f o
 
--- what the first bytes say
+-- a text whose first byte is no preamble begins with no frame and with no partial frame
 pub not_preamble : (s : List ℕ) → get_or s 0 0 ≢ 0xD3 → (begins_frame s ≡ false) × (begins_partial s ≡ false)
 unfolding begins_frame begins_partial
 not_preamble s h = let e : (get_or s 0 0 == 0xD3) ≡ false = grind (arith, nat_tests) in (rw e refl, rw e refl)

@@ -27,7 +27,7 @@ none_by : (b : List ℕ) (from n j : ℕ) → NoneFrom b from n → ((i : ℕ) �
 none_by b from n j none front p true t l m = none p l (grind (arith, nat_tests))
 none_by b from n j none front p false t l m = no_frame_before b n j p front (grind (arith, nat_tests)) m
 
--- nor at the bytes after it that are no preamble
+-- and none at the bytes that follow, up to the next preamble
 pub none_before_preamble : (b : List ℕ) (from n j : ℕ) → NoneFrom b from n → ((i : ℕ) → i < j → get_or (take (length b - n) (drop n b)) i 0 ≢ 0xD3) → NoneFrom b from (n + j)
 none_before_preamble b from n j none front p l m = none_by b from n j none (λ i k. rw (rest_of b n) at (front i k)) p (nat_lt p n) refl l m
 
@@ -35,7 +35,7 @@ next_by : (b : List ℕ) (from n : ℕ) → NoneFrom b from n → begins_frame (
 next_by b from n none here p true t l m = none p l (grind (arith, nat_tests))
 next_by b from n none here p false t l m = let e : n ≡ p = grind (arith, nat_tests) in ap (λ k. begins_frame (drop k b)) (sym e) ∙ here
 
--- nor at one place more
+-- and none at the next place
 pub none_next : (b : List ℕ) (from n : ℕ) → NoneFrom b from n → begins_frame (drop n b) ≡ false → NoneFrom b from (n + 1)
 none_next b from n none here p l m = next_by b from n none here p (nat_lt p n) refl l m
 
@@ -44,7 +44,7 @@ front_by s (Whole n) l h other = absurd (other n refl)
 front_by s (Partial n) l h other = partial_or_empty s l h.2
 front_by s Other l h other = h.1
 
--- if no frame is at the front
+-- if what is at the front is no whole frame, no frame begins there
 pub none_at_front : (b : List ℕ) (n : ℕ) (f : Front) → n < length b → IsFront (take (length b - n) (drop n b)) f → ((m : ℕ) → f ≡ Whole m → ⊥) → begins_frame (drop n b) ≡ false
 none_at_front b n f l h other = front_by (drop n b) f (omega (arith, length-drop n b)) (subst (λ (s : List ℕ). IsFront s f) (rest_of b n) h) other
 

@@ -3,10 +3,9 @@ use Rattle.std.proofs.Common.{◌≡◌, ◌≢◌, ℕ, zero, suc, ◌+◌, ◌
 use Rattle.std.proofs.Math.ListN.{drop_of_length-le}
 use Rattle.std.proofs.Math.Seq.{drop-append-add, take-add}
 use Rattle.std.proofs.lemmas.List.{take_all}
-use Rattle.rtk_frame.specs.Frames.{Frame, frame_at, frames_from, final_from, pending_from, final_frames, frames, pending}
+use Rattle.rtk_frame.specs.Frames.{Frame, frame_at, frames_from, final_from, pending_from, final_frames, frames, pending, IsFirst}
 use Rattle.rtk_frame.specs.Frame.{payload_length, payload_of, begins_frame, begins_partial}
 use Rattle.rtk_frame.specs.Steps.Scanning.{Passed, Scanned, FrameFree, Searched}
-use Rattle.rtk_frame.specs.Frames.{IsFirst}
 use Rattle.rtk_frame.proofs.Fronts.{not_preamble, partial_not_frame, frame_is_whole, neither_stays}
 use Rattle.rtk_frame.proofs.Pieces.{frames_not, frames_frame, final_not, final_frame, final_partial, pending_not, pending_partial}
 
@@ -38,11 +37,11 @@ pub pending_passed : (front t : List ℕ) → Passed front t → pending_from 0 
 pending_passed [] t h = refl
 pending_passed (x ∷ front) t h = pending_not x (front ++ t) 0 h.0 h.1 ∙ pending_passed front t h.2
 
--- nothing passed yet
+-- before the first place is passed
 pub scanned_start : (text : List ℕ) → Scanned text text
 scanned_start text = record { front = []; is = refl; passed = tt }
 
--- more comes
+-- more bytes come
 pub scanned_more : (text s c : List ℕ) → Scanned text s → Scanned (text ++ c) (s ++ c)
 scanned_more text s c h = record {
   front = h.front;
@@ -151,11 +150,11 @@ scanned_over text (x ∷ xs) (suc n) l h k =
     let here = not_preamble (x ∷ xs) (h 0 (omega arith)) in
     scanned_over text xs n (omega arith) (λ i m. h (suc i) (omega arith)) (scanned_next text (x ∷ xs) (omega arith) here.0 here.1 k)
 
--- nothing more came
+-- no more bytes come
 pub scanned_none : (text s : List ℕ) → Scanned text s → Scanned (text ++ []) s
 scanned_none text s h = subst (λ (t : List ℕ). Scanned t s) (sym (append-nil text)) h
 
--- what comes at an empty rest, and is no preamble
+-- if no byte waits, the bytes that come are passed up to the next preamble
 pub scanned_skip : (text s c : List ℕ) (n : ℕ) → length s ≡ 0 → n ≤ length c → ((i : ℕ) → i < n → get_or c i 0 ≢ 0xD3) → Scanned text s → Scanned (text ++ take n c) s
 scanned_skip text [] c n z l h k =
     let taken : List ℕ = take n c in

@@ -35,11 +35,11 @@ with_more-take known i n bytes = rw (with_more-with_more, take-add)
 pub failures_after-some : (before n : ℕ) (b : Bool) → n ≢ 0 → failures_after before (n == 0 && b) ≡ before
 failures_after-some before n b some = let e : (n == 0) ≡ false = grind arith in rw e refl
 
--- bytes were given, and no zero bytes yet
+-- bytes were given, and no zeros yet
 pub given-bytes : (i n z : ℕ) (bytes : List ℕ) → z ≡ 0 → take (i + n) bytes ++ replicate z 0 ≡ (take i bytes ++ replicate z 0) ++ take n (drop i bytes)
 given-bytes i n z bytes none = rw none (simp append-nil (take-add i n bytes))
 
--- zero bytes were given after the bytes
+-- zeros were given after the bytes
 pub given-zeros : (front : List ℕ) (z n : ℕ) → front ++ replicate (z + n) 0 ≡ (front ++ replicate z 0) ++ replicate n 0
 given-zeros front z n = rw (← replicate-append-replicate {A = ℕ} z n 0, append_assoc)
 

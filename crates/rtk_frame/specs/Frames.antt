@@ -30,8 +30,8 @@ abbrev pub IsFree : List Frame → ℕ → Type 0
 IsFree [] p = Unit {0}
 IsFree (f ∷ fs) p = ((p < f.place) ⊎ (end_of f ≤ p)) × IsFree fs p
 
--- a place outside the text's frames at which a partial frame is: a frame may begin there once more
--- bytes have come
+-- a place outside the text's frames at which a partial frame is: a frame may begin there when more
+-- bytes come
 abbrev pub Waits : List ℕ → List Frame → ℕ → Type 0
 Waits text fs p = IsFree fs p × IsPartialFrameAt text p
 
@@ -88,8 +88,8 @@ pending text = pending_from 0 text
 -- ---- cuts
 
 -- the same frame, once n bytes stand before the text
-abbrev pub later : ℕ → Frame → Frame
-later n f = record { place = n + f.place; payload = f.payload }
+abbrev pub shifted : ℕ → Frame → Frame
+shifted n f = record { place = n + f.place; payload = f.payload }
 
 -- the first of these frames of the text has this payload, and the rest of the text is what follows
 -- it

@@ -5,7 +5,7 @@ use Rattle.rtk_frame.specs.declared.memory.After.{After}
 
 -- a source over memory
 pub record MemSourceView : Type 0 where
-  -- all bytes given so far, zero bytes included
+  -- all bytes given so far, with the zeros that came after its own bytes
   pub given : List ℕ
   -- its bytes that are not yet given
   pub left : List ℕ

@@ -1,7 +1,7 @@
 //! The tables of the checksum: a remainder for each byte, alone and before one to seven zero bytes.
 
-/// For each byte, the remainder of its bits and 24 zero bits after them by the generator 1864CFB,
-/// in the upper 24 bits.
+/// For each byte: its bits, with 24 zero bits after them, are divided by the generator 1864CFB. The
+/// remainder stands in the upper 24 bits.
 pub(crate) static TABLE0: [u32; 256] = [
     0x00000000, 0x864CFB00, 0x8AD50D00, 0x0C99F600, 0x93E6E100, 0x15AA1A00, 0x1933EC00, 0x9F7F1700,
     0xA1813900, 0x27CDC200, 0x2B543400, 0xAD18CF00, 0x3267D800, 0xB42B2300, 0xB8B2D500, 0x3EFE2E00,

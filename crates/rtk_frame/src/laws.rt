@@ -7,7 +7,7 @@
 ghost use Rattle.std.specs.Prelude.{◌≡◌, ℕ, ◌+◌, ◌-◌, ◌<◌, ◌≤◌, List, [], ◌∷◌, ◌++◌, map, take, drop, length, Option, Result, slice_index_or, sum_by};
 ghost use Rattle.rtk_frame.specs.Frame.{IsFrameAt, payload_of, framed};
 ghost use Rattle.rtk_frame.specs.Frames.{Frame, end_of, payloads, IsFramesFrom, AreFinal, IsPending};
-ghost use Rattle.rtk_frame.specs.Frames.{frames, final_frames, pending, later, IsFirst};
+ghost use Rattle.rtk_frame.specs.Frames.{frames, final_frames, pending, shifted, IsFirst};
 ghost use Rattle.rtk_frame.specs.Stream.{greatest_count, with_more, ReadsOne};
 ghost use Rattle.rtk_frame.specs.declared.stream.StreamFault.{StreamFault};
 
@@ -30,14 +30,14 @@ pub fn frames_of_a_text()
 {}
 
 /// The final frames are the text's frames that have no free place before them at which a frame may
-/// begin once more bytes have come. No other list has this property.
+/// begin when more bytes come. No other list has this property.
 pub fn final_frames_of_a_text()
     ensures are { (b : List ℕ) → AreFinal b (frames b) (final_frames b) }
     ensures only { (b : List ℕ) (fs : List Frame) → AreFinal b (frames b) fs → fs ≡ final_frames b }
 {}
 
-/// The pending bytes are the suffix of a text from the first free place on at which a frame may
-/// begin once more bytes have come. No other list has this property.
+/// The pending bytes are the suffix of a text from the first free place at which a frame may begin
+/// when more bytes come. No other list has this property.
 pub fn pending_of_a_text()
     ensures is { (b : List ℕ) → IsPending b (frames b) (pending b) }
     ensures only { (b s : List ℕ) → IsPending b (frames b) s → s ≡ pending b }
@@ -47,7 +47,7 @@ pub fn pending_of_a_text()
 /// pending bytes with the bytes that follow.
 pub fn final_frames_in_any_cut()
     ensures placed { (b c : List ℕ) → final_frames (b ++ c) ≡ final_frames b
-        ++ map (later (length b - length (pending b))) (final_frames (pending b ++ c)) }
+        ++ map (shifted (length b - length (pending b))) (final_frames (pending b ++ c)) }
     ensures payloads { (b c : List ℕ) → payloads (final_frames (b ++ c))
         ≡ payloads (final_frames b) ++ payloads (final_frames (pending b ++ c)) }
 {}
@@ -55,13 +55,13 @@ pub fn final_frames_in_any_cut()
 /// The frames of a text are its final frames, and then the frames of its pending bytes.
 pub fn frames_in_any_cut()
     ensures placed { (b : List ℕ) → frames b ≡ final_frames b
-        ++ map (later (length b - length (pending b))) (frames (pending b)) }
+        ++ map (shifted (length b - length (pending b))) (frames (pending b)) }
     ensures payloads { (b : List ℕ) → payloads (frames b)
         ≡ payloads (final_frames b) ++ payloads (frames (pending b)) }
 {}
 
-/// If more bytes follow a text, the pending bytes are those of the text's pending bytes with the
-/// bytes that follow.
+/// If more bytes follow a text, all of them together have the same pending bytes as the text's
+/// pending bytes with the bytes that follow.
 pub fn pending_in_any_cut()
     ensures { (b c : List ℕ) → pending (b ++ c) ≡ pending (pending b ++ c) }
 {}
@@ -69,7 +69,7 @@ pub fn pending_in_any_cut()
 /// The text after its first frame has the other frames.
 pub fn frames_after_the_first()
     ensures placed { (b : List ℕ) (f : Frame) (others : List Frame) → frames b ≡ f ∷ others
-        → others ≡ map (later (end_of f)) (frames (drop (end_of f) b)) }
+        → others ≡ map (shifted (end_of f)) (frames (drop (end_of f) b)) }
     ensures payloads { (b payload rest : List ℕ) → IsFirst (frames b) b payload rest
         → payloads (frames b) ≡ payload ∷ payloads (frames rest) }
 {}
@@ -77,7 +77,7 @@ pub fn frames_after_the_first()
 /// The text after its first final frame has the other final frames, and the same pending bytes.
 pub fn final_frames_after_the_first()
     ensures placed { (b : List ℕ) (f : Frame) (others : List Frame) → final_frames b ≡ f ∷ others
-        → (others ≡ map (later (end_of f)) (final_frames (drop (end_of f) b)))
+        → (others ≡ map (shifted (end_of f)) (final_frames (drop (end_of f) b)))
         × (pending b ≡ pending (drop (end_of f) b)) }
     ensures payloads { (b payload rest : List ℕ) → IsFirst (final_frames b) b payload rest
         → (payloads (final_frames b) ≡ payload ∷ payloads (final_frames rest))
@@ -95,15 +95,15 @@ pub fn final_frames_after_found()
         × (pending (h ++ piece) ≡ pending (rest ++ drop used piece)) }
 {}
 
-/// Nothing more is no change, and what passed in two parts has passed as one text.
+/// If no more bytes pass, nothing changes; bytes that passed in two parts have passed as one text.
 pub fn passed_bytes_join()
     ensures none { (known : Option (List ℕ)) → with_more known [] ≡ known }
     ensures parts { (known : Option (List ℕ)) (more rest : List ℕ)
         → with_more (with_more known more) rest ≡ with_more known (more ++ rest) }
 {}
 
-/// Once one of many sources was read, the calls of all of them together rose by one at most, and by
-/// one if the count of its calls was below its greatest value.
+/// When one of many sources is read, the calls of all of them together rise by at most one, and by
+/// exactly one if the count of calls of that source was below its greatest value.
 pub fn calls_of_one_read<R: Source>()
     ensures at_most { (before after : List R) (link : ℕ) (result : Result ℕ StreamFault) (buf : List ℕ) (none : R)
         → link < length before → ReadsOne R.given R.failures R.calls before after link result buf

@@ -14,7 +14,8 @@ pub enum After {
     End,
     /// Each further read fails.
     Failure,
-    /// Each further read gives zero bytes. It fails if there would be more than 2^128 - 1 of them.
+    /// Each further read gives bytes that are 0. It fails if there would be more than 2^128 - 1 of
+    /// them.
     Zeros,
 }
 

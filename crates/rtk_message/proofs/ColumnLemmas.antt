@@ -53,7 +53,7 @@ flags-fit (b ∷ bs) = (tt, flags-fit bs)
 pub one_step : (w k : ℕ) → w * (k + 1) ≡ w * k + w
 one_step w k = omega arith
 
--- and a row has no more than its width
+-- the rows have at most as many set bits as they have bits
 pub ones-few : (w : ℕ) (ns : List ℕ) → FieldsFit (numbers w ns) → sum_by count_ones ns ≤ w * length ns
 ones-few w [] fit = omega arith
 ones-few w (n ∷ ns) fit =
@@ -90,7 +90,7 @@ fewer_left most n k so_far count few is same = omega arith
 pub rest_is : (k so_far count : ℕ) → k ≡ so_far → so_far ≤ count → count ≡ so_far + (count - k)
 rest_is k so_far count is some = omega arith
 
--- they are still there
+-- the bits of these fields are still there
 pub enough_left : (width so_far fields count total left : ℕ) → so_far + fields ≤ count → width * count ≤ total → total ≡ width * so_far + left → width * fields ≤ left
 enough_left width so_far fields count total left room enough e =
     let product : width * (so_far + fields) ≤ width * count = mul-le-mul_left width room in

@@ -39,7 +39,7 @@ pub took_rest : {fs : List Field} {from rest : List Bool} (left : List Bool) →
 took_rest [] p none = p
 took_rest (b ∷ bs) p none = absurd (omega arith)
 
--- fields that use up the bits taken at once
+-- fields that take all bits of a word leave the bits after the word
 pub took_word : {fs : List Field} {word left from rest : List Bool} → TakesAll fs word left → length left ≡ 0 → from ≡ word ++ rest → TakesAll fs from rest
 took_word {fs = fs} {left = left} {rest = rest} p none e =
     took_rest left (record { fit = p.fit; is = e ∙ ap (λ (t : List Bool). t ++ rest) p.is ∙ append_assoc (bits_of_fields fs) left rest }) none

@@ -1,5 +1,6 @@
 -- The facts of the public laws, which proofs of other crates cite
 pub mod PublicLaws
+-- Laws on the definitions, and what this crate's functions compute
 mod ColumnLemmas
 mod DecodedLemmas
 mod EqualLemmas

@@ -7,13 +7,13 @@ use Rattle.rtk_message.specs.declared.msm1074.Msm1074.{Msm1074}
 use Rattle.rtk_message.specs.Fields.{week_ms, tow_in, FieldsFit, TakesAll}
 use Rattle.rtk_message.specs.FieldLaws.{fit-append, fit-parts}
 use Rattle.rtk_message.specs.FieldColumns.{numbers, integers, flags}
-use Rattle.rtk_message.specs.Msm1074.{header_table, satellite_count, signal_count, mask_table, columns, table, HasLengths, IsValid, first_fault, mask_bits_in}
+use Rattle.rtk_message.specs.Msm1074.{header_table, satellite_count, signal_count, mask_table, column_table, table, HasLengths, IsValid, first_fault, mask_bits_in}
 use Rattle.rtk_message.specs.Steps.EachFits.{EachFits}
 use Rattle.rtk_message.specs.Msm1074Laws.{header_says, due, cells_says}
 use Rattle.rtk_message.proofs.ColumnLemmas.{flags-fit}
 
-pub is_late : {h : MsmHeader} {bs rest : List Bool} → TakesAll (header_table h) bs rest → week_ms ≤ h.tow → first_fault bs ≡ Some (EpochRange 1074)
-is_late {h = h} {bs = bs} took late =
+pub is_out_of_week : {h : MsmHeader} {bs rest : List Bool} → TakesAll (header_table h) bs rest → week_ms ≤ h.tow → first_fault bs ≡ Some (EpochRange 1074)
+is_out_of_week {h = h} {bs = bs} took late =
     let says = header_says took in
     let long : ltb (length bs) 157 ≡ false = le-ltb (length bs) 157 (omega (arith, says.len)) in
     let when : leb week_ms (tow_in bs) ≡ true = le-leb week_ms (tow_in bs) (omega (arith, says.tow_is, late)) in
@@ -48,8 +48,8 @@ is_cut_rest {h = h} ns took mask len time few size short =
 
 pub each_fits : (m : Msm1074) → FieldsFit (table m) → EachFits m
 each_fits m p =
-    let a = fit-parts (header_table m.header) (mask_table m ++ columns m) p in
-    let b = fit-parts (mask_table m) (columns m) a.1 in
+    let a = fit-parts (header_table m.header) (mask_table m ++ column_table m) p in
+    let b = fit-parts (mask_table m) (column_table m) a.1 in
     let c = fit-parts (numbers 8 m.rough_ms) _ b.1 in
     let d = fit-parts (numbers 10 m.rough_fraction) _ c.1 in
     let e = fit-parts (integers 15 m.fine_range) _ d.1 in
@@ -60,8 +60,8 @@ each_fits m p =
 
 pub all_fit : (m : Msm1074) → FieldsFit (header_table m.header) → EachFits m → FieldsFit (table m)
 all_fit m h p =
-    fit-append (header_table m.header) (mask_table m ++ columns m) h
-    (fit-append (mask_table m) (columns m) p.cell_mask
+    fit-append (header_table m.header) (mask_table m ++ column_table m) h
+    (fit-append (mask_table m) (column_table m) p.cell_mask
     (fit-append (numbers 8 m.rough_ms) _ p.rough_ms
     (fit-append (numbers 10 m.rough_fraction) _ p.rough_fraction
     (fit-append (integers 15 m.fine_range) _ p.fine_range

@@ -8,18 +8,18 @@ use Rattle.rtk_message.specs.declared.obs1004.Satellite.{Satellite}
 use Rattle.rtk_message.specs.Fields.{week_ms, tow_in, FieldsFit, TakesAll}
 use Rattle.rtk_message.specs.Steps.FieldSteps.{PutsAll}
 use Rattle.rtk_message.specs.FieldLaws.{fit-parts}
-use Rattle.rtk_message.specs.Obs1004.{satellite_table, header, first_fault, satellite_bits}
+use Rattle.rtk_message.specs.Obs1004.{satellite_table, header_fields, first_fault, satellite_bits}
 use Rattle.rtk_message.specs.Obs1004Laws.{header_says}
 use Rattle.rtk_message.proofs.FieldLemmas.{took_both, put_both}
 
-pub is_late : {s t : ℕ} {y : Bool} {n : ℕ} {k : Bool} {v : ℕ} {bs rest : List Bool} → TakesAll (header s t y n k v) bs rest → week_ms ≤ t → first_fault bs ≡ Some (EpochRange 1004)
-is_late {t = t} {bs = bs} took h =
+pub is_out_of_week : {s t : ℕ} {y : Bool} {n : ℕ} {k : Bool} {v : ℕ} {bs rest : List Bool} → TakesAll (header_fields s t y n k v) bs rest → week_ms ≤ t → first_fault bs ≡ Some (EpochRange 1004)
+is_out_of_week {t = t} {bs = bs} took h =
     let says = header_says took in
     let long : ltb (length bs) 52 ≡ false = le-ltb (length bs) 52 (omega (arith, says.len)) in
     let late : leb week_ms (tow_in bs) ≡ true = le-leb week_ms (tow_in bs) (omega (arith, says.tow_is)) in
     rw (long, late) refl
 
-pub is_cut : {s t : ℕ} {y : Bool} {n : ℕ} {k : Bool} {v : ℕ} {bs rest : List Bool} → TakesAll (header s t y n k v) bs rest → t < week_ms → length rest < 125 * n → first_fault bs ≡ Some (Short 1004)
+pub is_cut : {s t : ℕ} {y : Bool} {n : ℕ} {k : Bool} {v : ℕ} {bs rest : List Bool} → TakesAll (header_fields s t y n k v) bs rest → t < week_ms → length rest < 125 * n → first_fault bs ≡ Some (Short 1004)
 is_cut {t = t} {bs = bs} took h short =
     let says = header_says took in
     let long : ltb (length bs) 52 ≡ false = le-ltb (length bs) 52 (omega (arith, says.len)) in

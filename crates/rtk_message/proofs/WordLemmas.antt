@@ -16,7 +16,7 @@ low_bits n width most =
     let k : 64 - (64 - width) ≡ width = omega arith in
     rw (ones_shr 64 (64 - width) (omega arith), k) (and_mask n width)
 
--- the first ones of the bits that are left
+-- a field at the front of the bits that are left
 pub word_field : (left width bits : ℕ) → width ≤ left → width ≤ 64
     → TakesField (u width (bit_and (bits / 2 ^ (left - width)) ((2 ^ 64 - 1) / 2 ^ (64 - width)))) (bits_of left bits) (bits_of (left - width) bits)
 word_field left width bits enough most =

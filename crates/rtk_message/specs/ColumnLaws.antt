@@ -38,14 +38,15 @@ ones-numbers w (n ∷ ns) fit =
 
 -- ---- one reading
 
--- if two columns are the same, so is what follows them
-pub record Same (X : Type 0) (xs ys : X) (fs gs : List Field) (a b : List Bool) : Type 0 where
+-- two columns at the front of the bits are the same; the fields after them fit, and their bits are
+-- the same too
+pub record SameFront (X : Type 0) (xs ys : X) (fs gs : List Field) (a b : List Bool) : Type 0 where
   pub here : xs ≡ ys
   pub left : FieldsFit fs
   pub right : FieldsFit gs
   pub after : bits_of_fields fs ++ a ≡ bits_of_fields gs ++ b
 
-pub peel : (hs ks fs gs : List Field) (a b : List Bool) → SameForm hs ks → FieldsFit (hs ++ fs) → FieldsFit (ks ++ gs) → bits_of_fields (hs ++ fs) ++ a ≡ bits_of_fields (ks ++ gs) ++ b → Same (List Field) hs ks fs gs a b
+pub peel : (hs ks fs gs : List Field) (a b : List Bool) → SameForm hs ks → FieldsFit (hs ++ fs) → FieldsFit (ks ++ gs) → bits_of_fields (hs ++ fs) ++ a ≡ bits_of_fields (ks ++ gs) ++ b → SameFront (List Field) hs ks fs gs a b
 peel hs ks fs gs a b form p q e =
     let fp = fit-parts hs fs p in
     let fq = fit-parts ks gs q in
@@ -98,17 +99,17 @@ same-flags (m ∷ ms) (n ∷ ns) e =
 same-flags [] (n ∷ ns) e = absurd cc
 same-flags (m ∷ ms) [] e = absurd cc
 
-pub peel_numbers : (w v : ℕ) (ms ns : List ℕ) (fs gs : List Field) (a b : List Bool) → w ≡ v → length ms ≡ length ns → FieldsFit (numbers w ms ++ fs) → FieldsFit (numbers v ns ++ gs) → bits_of_fields (numbers w ms ++ fs) ++ a ≡ bits_of_fields (numbers v ns ++ gs) ++ b → Same (List ℕ) ms ns fs gs a b
+pub peel_numbers : (w v : ℕ) (ms ns : List ℕ) (fs gs : List Field) (a b : List Bool) → w ≡ v → length ms ≡ length ns → FieldsFit (numbers w ms ++ fs) → FieldsFit (numbers v ns ++ gs) → bits_of_fields (numbers w ms ++ fs) ++ a ≡ bits_of_fields (numbers v ns ++ gs) ++ b → SameFront (List ℕ) ms ns fs gs a b
 peel_numbers w v ms ns fs gs a b k len p q e =
     let s = peel (numbers w ms) (numbers v ns) fs gs a b (form-numbers w v ms ns k len) p q e in
     record { here = same-numbers w v ms ns s.here; left = s.left; right = s.right; after = s.after }
 
-pub peel_integers : (w : ℕ) (ms ns : List ℤ) (fs gs : List Field) (a b : List Bool) → 1 ≤ w → length ms ≡ length ns → FieldsFit (integers w ms ++ fs) → FieldsFit (integers w ns ++ gs) → bits_of_fields (integers w ms ++ fs) ++ a ≡ bits_of_fields (integers w ns ++ gs) ++ b → Same (List ℤ) ms ns fs gs a b
+pub peel_integers : (w : ℕ) (ms ns : List ℤ) (fs gs : List Field) (a b : List Bool) → 1 ≤ w → length ms ≡ length ns → FieldsFit (integers w ms ++ fs) → FieldsFit (integers w ns ++ gs) → bits_of_fields (integers w ms ++ fs) ++ a ≡ bits_of_fields (integers w ns ++ gs) ++ b → SameFront (List ℤ) ms ns fs gs a b
 peel_integers w ms ns fs gs a b h len p q e =
     let s = peel (integers w ms) (integers w ns) fs gs a b (form-integers w ms ns h len) p q e in
     record { here = same-integers w ms ns s.here; left = s.left; right = s.right; after = s.after }
 
-pub peel_flags : (ms ns : List Bool) (fs gs : List Field) (a b : List Bool) → length ms ≡ length ns → FieldsFit (flags ms ++ fs) → FieldsFit (flags ns ++ gs) → bits_of_fields (flags ms ++ fs) ++ a ≡ bits_of_fields (flags ns ++ gs) ++ b → Same (List Bool) ms ns fs gs a b
+pub peel_flags : (ms ns : List Bool) (fs gs : List Field) (a b : List Bool) → length ms ≡ length ns → FieldsFit (flags ms ++ fs) → FieldsFit (flags ns ++ gs) → bits_of_fields (flags ms ++ fs) ++ a ≡ bits_of_fields (flags ns ++ gs) ++ b → SameFront (List Bool) ms ns fs gs a b
 peel_flags ms ns fs gs a b len p q e =
     let s = peel (flags ms) (flags ns) fs gs a b (form-flags ms ns len) p q e in
     record { here = same-flags ms ns s.here; left = s.left; right = s.right; after = s.after }

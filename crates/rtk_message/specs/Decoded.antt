@@ -61,7 +61,7 @@ IsPayloadOf m payload = bits payload ≡ bits_of_fields (table m) ++ padding (le
 
 -- ---- the first fault, in the order in which causes are looked for
 
--- after this number
+-- the first fault of the bits after this number
 abbrev pub fault_after_number : ℕ → List Bool → Option DecodeFault
 fault_after_number n bs =
     if n == 1004 then obs1004.first_fault bs else

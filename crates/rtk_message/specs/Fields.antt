@@ -1,4 +1,4 @@
--- Fields, their bits, and what it is to take a field from bits and to put one after them.
+-- Fields, their bits, and what it is to take fields from bits.
 use Rattle.std.specs.Prelude.{◌≡◌, ℕ, ℤ, ◌<◌, ◌^◌, Bool, List, [], ◌∷◌, ◌++◌, take, drop}
 use Rattle.std.specs.List.{AllByRecursion}
 use Rattle.rtk_bits.specs.Bits.{bits_of, unsigned, signed_bits_of, FitsSigned}
@@ -15,7 +15,7 @@ field_bits (u w n) = bits_of w n
 field_bits (i w z) = signed_bits_of w z
 field_bits (flag b) = b ∷ []
 
--- the milliseconds of a week; a time of week (DF004) is less
+-- the milliseconds of a week; a time of week (DF004) is less than this number
 abbrev pub week_ms : ℕ
 week_ms = 604_800_000
 

@@ -23,20 +23,20 @@ satellite_count h = count_ones h.satellite_mask
 abbrev pub signal_count : MsmHeader → ℕ
 signal_count h = count_ones h.signal_mask
 
--- the cell mask (DF396): for each satellite a row of one bit for each signal; satellites and signals
--- rise
+-- the cell mask (DF396): for each satellite a row of one bit for each signal; the satellites rise,
+-- and in each row the signals
 abbrev pub mask_table : Msm1074 → List Field
 mask_table m = numbers (signal_count m.header) m.cell_mask
 
 -- each field is given for all satellites or cells before the next field: DF397 and DF398 for the
 -- satellites, DF400, DF401, DF402, DF420 and DF403 for the cells
-abbrev pub columns : Msm1074 → List Field
-columns m =
+abbrev pub column_table : Msm1074 → List Field
+column_table m =
     numbers 8 m.rough_ms ++ (numbers 10 m.rough_fraction ++
     (integers 15 m.fine_range ++ (integers 22 m.fine_phase ++ (numbers 4 m.lock_indicator ++ (flags m.half_cycle ++ numbers 6 m.cnr)))))
 
 abbrev pub table : Msm1074 → List Field
-table m = header_table m.header ++ (mask_table m ++ columns m)
+table m = header_table m.header ++ (mask_table m ++ column_table m)
 
 -- how many cells the message has: the bits set in the cell mask
 abbrev pub cell_count : Msm1074 → ℕ

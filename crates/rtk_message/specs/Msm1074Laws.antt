@@ -9,7 +9,7 @@ use Rattle.rtk_message.specs.FieldColumns.{numbers, integers, flags}
 use Rattle.rtk_message.specs.ColumnLaws.{total-numbers, total-integers, total-flags, ones-numbers, peel, peel_numbers, peel_integers, peel_flags, last_numbers}
 use Rattle.rtk_message.specs.declared.msm1074.MsmHeader.{MsmHeader}
 use Rattle.rtk_message.specs.declared.msm1074.Msm1074.{Msm1074}
-use Rattle.rtk_message.specs.Msm1074.{header_table, satellite_count, signal_count, mask_table, columns, table, cell_count, HasLengths, IsValid, first_fault, satellite_count_in, mask_bits_in, cell_count_in}
+use Rattle.rtk_message.specs.Msm1074.{header_table, satellite_count, signal_count, mask_table, column_table, table, cell_count, HasLengths, IsValid, first_fault, satellite_count_in, mask_bits_in, cell_count_in}
 
 -- what the header says about the bits
 pub record SaysHeader1074 (h : MsmHeader) (bs rest : List Bool) : Type 0 where
@@ -57,8 +57,8 @@ cells_says {h = h} {bs = bs} {rest = rest} {after = after} ns took mask len =
     let size : length fs ≡ satellite_count h * signal_count h = length-bits_of_fields (numbers (signal_count h) ns) ∙ total-numbers (signal_count h) ns ∙ rw len (omega arith) in
     rw (says.mask_bits_is, says.after, mask.is, take_at fs after (satellite_count h * signal_count h) size) (ones-numbers (signal_count h) ns mask.fit)
 
-length-columns : (m : Msm1074) → HasLengths m → length (bits_of_fields (columns m)) ≡ 18 * satellite_count m.header + 48 * cell_count m
-length-columns m l =
+length-column_table : (m : Msm1074) → HasLengths m → length (bits_of_fields (column_table m)) ≡ 18 * satellite_count m.header + 48 * cell_count m
+length-column_table m l =
     let s6 = flags m.half_cycle ++ numbers 6 m.cnr in
     let s5 = numbers 4 m.lock_indicator ++ s6 in
     let s4 = integers 22 m.fine_phase ++ s5 in
@@ -102,15 +102,15 @@ pub is_accepted : (m : Msm1074) (rest : List Bool) → IsValid m → first_fault
 is_accepted m rest valid =
     let h = m.header in
     let bs = bits_of_fields (table m) ++ rest in
-    let after_header = mask_table m ++ columns m in
+    let after_header = mask_table m ++ column_table m in
     let head : TakesAll (header_table h) bs (bits_of_fields after_header ++ rest) = split (header_table h) after_header bs rest valid.fields_fit refl in
-    let mask : TakesAll (mask_table m) (bits_of_fields after_header ++ rest) (bits_of_fields (columns m) ++ rest) = split (mask_table m) (columns m) (bits_of_fields after_header ++ rest) rest (fit-parts (header_table h) after_header valid.fields_fit).1 refl in
+    let mask : TakesAll (mask_table m) (bits_of_fields after_header ++ rest) (bits_of_fields (column_table m) ++ rest) = split (mask_table m) (column_table m) (bits_of_fields after_header ++ rest) rest (fit-parts (header_table h) after_header valid.fields_fit).1 refl in
     let says = header_says head in
     let time : h.tow < week_ms = valid.time_in_week in
     let count = cells_says m.cell_mask head mask valid.lengths.cell_mask in
-    let l1 : length (bits_of_fields after_header ++ rest) ≡ signal_count h * satellite_count h + length (bits_of_fields (columns m) ++ rest) =
-    ap length mask.is ∙ length-append (bits_of_fields (mask_table m)) (bits_of_fields (columns m) ++ rest) ∙ ap (λ (k : ℕ). k + length (bits_of_fields (columns m) ++ rest)) (length-bits_of_fields (mask_table m) ∙ total-numbers (signal_count h) m.cell_mask ∙ ap (λ (k : ℕ). signal_count h * k) valid.lengths.cell_mask) in
-    is_whole head (omega (arith, time)) valid.mask_bits (omega (arith, says.len, says.mask_bits_is, says.satellites_is, count, l1, length-append (bits_of_fields (columns m)) rest, length-columns m valid.lengths))
+    let l1 : length (bits_of_fields after_header ++ rest) ≡ signal_count h * satellite_count h + length (bits_of_fields (column_table m) ++ rest) =
+    ap length mask.is ∙ length-append (bits_of_fields (mask_table m)) (bits_of_fields (column_table m) ++ rest) ∙ ap (λ (k : ℕ). k + length (bits_of_fields (column_table m) ++ rest)) (length-bits_of_fields (mask_table m) ∙ total-numbers (signal_count h) m.cell_mask ∙ ap (λ (k : ℕ). signal_count h * k) valid.lengths.cell_mask) in
+    is_whole head (omega (arith, time)) valid.mask_bits (omega (arith, says.len, says.mask_bits_is, says.satellites_is, count, l1, length-append (bits_of_fields (column_table m)) rest, length-column_table m valid.lengths))
 
 pub make_header : ℕ → ℕ → Bool → ℕ → ℕ → ℕ → ℕ → Bool → ℕ → ℕ → ℕ → MsmHeader
 make_header station tow multiple_message issue_of_data_station reserved clock_steering external_clock smoothing smoothing_interval satellite_mask signal_mask = record { station = station; tow = tow; multiple_message = multiple_message; issue_of_data_station = issue_of_data_station; reserved = reserved; clock_steering = clock_steering; external_clock = external_clock; smoothing = smoothing; smoothing_interval = smoothing_interval; satellite_mask = satellite_mask; signal_mask = signal_mask }
@@ -135,11 +135,11 @@ pub is_unique : (m n : Msm1074) (a b : List Bool) → IsValid m → IsValid n �
 is_unique m n a b p q e =
     let l = p.lengths in
     let k = q.lengths in
-    let s0 = peel (header_table m.header) (header_table n.header) (mask_table m ++ columns m) (mask_table n ++ columns n) a b (refl, (refl, (refl, (refl, (refl, (refl, (refl, (refl, (refl, tt))))))))) p.fields_fit q.fields_fit e in
+    let s0 = peel (header_table m.header) (header_table n.header) (mask_table m ++ column_table m) (mask_table n ++ column_table n) a b (refl, (refl, (refl, (refl, (refl, (refl, (refl, (refl, (refl, tt))))))))) p.fields_fit q.fields_fit e in
     let header : m.header ≡ n.header = same_header m.header n.header s0.here in
     let sats : satellite_count m.header ≡ satellite_count n.header = ap satellite_count header in
     let sigs : signal_count m.header ≡ signal_count n.header = ap signal_count header in
-    let s1 = peel_numbers (signal_count m.header) (signal_count n.header) m.cell_mask n.cell_mask (columns m) (columns n) a b sigs (l.cell_mask ∙ sats ∙ sym k.cell_mask) s0.left s0.right s0.after in
+    let s1 = peel_numbers (signal_count m.header) (signal_count n.header) m.cell_mask n.cell_mask (column_table m) (column_table n) a b sigs (l.cell_mask ∙ sats ∙ sym k.cell_mask) s0.left s0.right s0.after in
     let count : cell_count m ≡ cell_count n = ap (sum_by count_ones) s1.here in
     let s2 = peel_numbers 8 8 m.rough_ms n.rough_ms _ _ a b refl (l.rough_ms ∙ sats ∙ sym k.rough_ms) s1.left s1.right s1.after in
     let s3 = peel_numbers 10 10 m.rough_fraction n.rough_fraction _ _ a b refl (l.rough_fraction ∙ sats ∙ sym k.rough_fraction) s2.left s2.right s2.after in

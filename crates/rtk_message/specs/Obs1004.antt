@@ -16,13 +16,13 @@ satellite_table s =
     u 2 s.l2_code ∷ i 14 s.l2_range_difference ∷ i 20 s.l2_phase_difference ∷ u 7 s.l2_lock_indicator ∷ u 8 s.l2_cnr ∷ []
 
 -- the header: DF003 to DF008
-abbrev pub header : ℕ → ℕ → Bool → ℕ → Bool → ℕ → List Field
-header station tow synchronous count smoothing smoothing_interval =
+abbrev pub header_fields : ℕ → ℕ → Bool → ℕ → Bool → ℕ → List Field
+header_fields station tow synchronous count smoothing smoothing_interval =
     u 12 station ∷ u 30 tow ∷ flag synchronous ∷ u 5 count ∷ flag smoothing ∷ u 3 smoothing_interval ∷ []
 
 -- the count (DF006) is the number of satellites
 abbrev pub header_table : Obs1004 → List Field
-header_table m = header m.station m.tow m.synchronous (length m.satellites) m.smoothing m.smoothing_interval
+header_table m = header_fields m.station m.tow m.synchronous (length m.satellites) m.smoothing m.smoothing_interval
 
 abbrev pub table : Obs1004 → List Field
 table m = header_table m ++ flat_map satellite_table m.satellites

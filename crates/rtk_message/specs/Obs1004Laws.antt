@@ -6,7 +6,7 @@ use Rattle.rtk_message.specs.Fields.{week_ms, tow_in, u, flag, bits_of_fields, F
 use Rattle.rtk_message.specs.FieldLaws.{length-bits_of_fields, SameForm, one_list, bits_of_fields-append, fit-parts, number_taken}
 use Rattle.rtk_message.specs.declared.obs1004.Satellite.{Satellite}
 use Rattle.rtk_message.specs.declared.obs1004.Obs1004.{Obs1004}
-use Rattle.rtk_message.specs.Obs1004.{satellite_table, header, header_table, table, IsValid, first_fault, satellite_bits}
+use Rattle.rtk_message.specs.Obs1004.{satellite_table, header_fields, header_table, table, IsValid, first_fault, satellite_bits}
 
 pub length-satellites : (xs : List Satellite) → length (bits_of_fields (flat_map satellite_table xs)) ≡ 125 * length xs
 length-satellites [] = refl
@@ -19,14 +19,14 @@ pub record SaysHeader1004 (bs rest : List Bool) (tow count : ℕ) : Type 0 where
   pub count_is : satellite_bits bs ≡ 125 * count
   pub len : length bs ≡ 52 + length rest
 
-pub header_says : {s t : ℕ} {y : Bool} {n : ℕ} {k : Bool} {v : ℕ} {bs rest : List Bool} → TakesAll (header s t y n k v) bs rest → SaysHeader1004 bs rest t n
+pub header_says : {s t : ℕ} {y : Bool} {n : ℕ} {k : Bool} {v : ℕ} {bs rest : List Bool} → TakesAll (header_fields s t y n k v) bs rest → SaysHeader1004 bs rest t n
 header_says {s = s} {t = t} {y = y} {n = n} {k = k} {v = v} {bs = bs} {rest = rest} took = record {
   tow_is = number_taken (u 12 s ∷ []) 30 t (flag y ∷ u 5 n ∷ flag k ∷ u 3 v ∷ []) bs rest 12 refl took.fit.1.0 took.is;
   count_is = ap (λ (m : ℕ). 125 * m) (number_taken (u 12 s ∷ u 30 t ∷ flag y ∷ []) 5 n (flag k ∷ u 3 v ∷ []) bs rest 43 refl took.fit.1.1.1.0 took.is);
-  len = ap length took.is ∙ length-append (bits_of_fields (header s t y n k v)) rest ∙ ap (λ (m : ℕ). m + length rest) (length-bits_of_fields (header s t y n k v));
+  len = ap length took.is ∙ length-append (bits_of_fields (header_fields s t y n k v)) rest ∙ ap (λ (m : ℕ). m + length rest) (length-bits_of_fields (header_fields s t y n k v));
 }
 
-is_whole : {s t : ℕ} {y : Bool} {n : ℕ} {k : Bool} {v : ℕ} {bs rest : List Bool} → TakesAll (header s t y n k v) bs rest → t < week_ms → 125 * n ≤ length rest → first_fault bs ≡ None
+is_whole : {s t : ℕ} {y : Bool} {n : ℕ} {k : Bool} {v : ℕ} {bs rest : List Bool} → TakesAll (header_fields s t y n k v) bs rest → t < week_ms → 125 * n ≤ length rest → first_fault bs ≡ None
 is_whole {t = t} {bs = bs} took h enough =
     let says = header_says took in
     let long : ltb (length bs) 52 ≡ false = le-ltb (length bs) 52 (omega (arith, says.len)) in

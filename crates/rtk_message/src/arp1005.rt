@@ -123,7 +123,8 @@ pub(crate) fn next_reference_point(reader: &mut BitReader<'_>) -> Arp1005
 }
 
 impl Arp1005 {
-    // By value, so that the range of each field's type is known.
+    // Takes the message by value: the prover then knows that each field is in the range of its
+    // type.
     fn fields_fit(self) -> bool
         ensures { IsTrue result ↔ FieldsFit (table self) }
     {

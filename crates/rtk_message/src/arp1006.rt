@@ -70,7 +70,8 @@ impl Layout for Arp1006 {
 }
 
 impl Arp1006 {
-    // By value, so that the range of the height is known.
+    // Takes the message by value: the prover then knows that the height is in the range of its
+    // type, 16 bits.
     fn fields_fit(self) -> bool
         ensures { IsTrue result ↔ FieldsFit (table self) }
     {

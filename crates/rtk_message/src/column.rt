@@ -52,7 +52,7 @@ pub(crate) fn put_mask(
     Ok(())
 }
 
-/// How many cells the mask has: the bits set in all rows.
+/// How many cells the mask has: the bits that are set in its rows.
 pub(crate) fn count_cells(mask: &Column<u32>) -> u32
     ensures { result ≡ sum_by count_ones mask.now }
 {
@@ -63,7 +63,8 @@ pub(crate) fn count_cells(mask: &Column<u32>) -> u32
     sum
 }
 
-/// One field of each satellite or of each cell, at most 64 of them. A contract sees the list.
+/// The values of one field, for each satellite or for each cell: at most 64. A contract sees the
+/// list.
 #[derive(Drop)]
 pub struct Column<T> {
     list: ArrayVec<T, 64>,
@@ -166,8 +167,8 @@ pub(crate) fn read_column<T: FieldValue>(
     }
 }
 
-// Reads fields at once, and adds them to a column. The bits that a column was read from begin with
-// its fields, and the reader has those after them: this stays so.
+// Reads some fields at once, and adds their values to the column. The clause `fields` says: if the
+// bits `from` were the fields of the column and then the bits of the reader, they still are.
 #[inline(always)]
 fn read_fields<T: FieldValue>(
     column: &mut Column<T>,
@@ -187,8 +188,9 @@ fn read_fields<T: FieldValue>(
     push_fields(column, &mut word, fields, width);
 }
 
-// Takes fields from a word, and adds them to a column. The bits that a column was read from begin
-// with its fields, and the word has those after them: this stays so.
+// Takes some fields from a word, and adds their values to the column. The clause `fields` says: if
+// the bits `from` were the fields of the column, then the bits of the word, and then the bits
+// `rest`, they still are.
 #[inline(always)]
 fn push_fields<T: FieldValue>(column: &mut Column<T>, word: &mut Word, fields: usize, width: usize)
     requires room { length column.old + fields ≤ 64 }

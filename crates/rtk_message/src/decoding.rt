@@ -15,7 +15,8 @@ use crate::msm1074::Msm1074;
 use crate::obs1004::Obs1004;
 use rtk_bits::BitReader;
 
-/// The message that the payload begins with, or the first fault in the order of `DecodeFault`.
+/// The message that the payload begins with. If it begins with no message, the answer is the first
+/// fault; `DecodeFault` says in which order faults are looked for.
 ///
 /// Bits after the last field are not part of the message. No memory is allocated.
 #[inline(never)]
@@ -36,10 +37,10 @@ pub fn decode(payload: &[u8]) -> Result<Message, DecodeFault>
     }
 }
 
-// Each type has a function of its own, and no one of them is inlined. A function clears the memory
-// of its locals when it is called, which is here the memory of one message only. And a function
-// that is not inlined writes its result where its caller wants it, which saves moves of a thousand
-// bytes.
+// Each message type has a function of its own that is not inlined, for two reasons. A function
+// clears the memory of its locals when it is called: here this is the memory of one message, and in
+// `decode` it would be that of all four. And a function that is not inlined writes its result where
+// its caller wants it, so a message of a thousand bytes is moved once less.
 #[inline(never)]
 fn read_1004(mut reader: BitReader<'_>) -> Result<Message, DecodeFault>
     ensures message { IfOk result (λ m. BeginsAfterNumber 1004 reader.entry m) }

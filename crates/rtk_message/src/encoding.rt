@@ -13,8 +13,8 @@ use crate::message::Message;
 use rtk_bits::BitWriter;
 use std::alloc::{AllocError, Global};
 
-/// The bits of the message's fields, with zero bits up to a whole byte. An `Err` means that memory
-/// was refused.
+/// The bytes of a payload: the fields of the message, filled up to a whole byte with zero bits. An
+/// `Err` means that memory was refused.
 pub fn encode(alloc: Global, message: &Message) -> Result<Vec<u8>, AllocError>
     requires { IsValid message.now }
     ensures { IfOk result (λ payload. IsPayloadOf message.now payload.items) }

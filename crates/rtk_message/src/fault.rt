@@ -2,13 +2,16 @@
 
 use thiserror::Error;
 
-/// Why a payload is not read as a message: the first cause that holds, in this order. Only `Short`
-/// is tested twice: for the fixed part before the time of week is looked at, and for the rest after
-/// the cell mask is looked at.
+/// Why a payload is not read as a message: the first cause that holds. The causes are looked for in
+/// the order of the variants; only the place of `Short` depends on where the payload ends.
+///
+/// For a message that is read, `Short` is the cause if the payload ends in the fixed part. If it
+/// ends after that part, `EpochRange` and `TooManyCells` are looked for before `Short`: so a 1004
+/// whose time of week is out of range is refused as `EpochRange`, even without its satellites.
 ///
 /// The fixed part is the header of a 1004 (64 bits) or of a 1074 (169 bits), and the whole of a
-/// 1005 (152 bits) or a 1006 (168 bits). Source: RTCM 10403.3, data fields DF002, DF004 and DF394
-/// to DF396.
+/// 1005 (152 bits) or a 1006 (168 bits), each with its message number. Source: RTCM 10403.3, data
+/// fields DF002, DF004 and DF394 to DF396.
 #[derive(Clone, Copy, Debug, PartialEq, Eq, Error)]
 pub enum DecodeFault {
     /// The payload has fewer than 12 bits, so there is no message number (DF002).
@@ -32,7 +35,7 @@ impl DecodeFault {
     ghost use Rattle.std.specs.Prelude.{◌≡◌};
     ghost use Rattle.rtk_message.specs.FaultCode.{fault_code, fault_number};
 
-    /// The code of the cause, as texts show it: `M1` to `M5`, in the order of the causes.
+    /// The code of the cause, as texts show it: `M1` to `M5`, in the order of the variants.
     pub fn code(&self) -> &'static str
         ensures { result.now ≡ fault_code self.now }
     {

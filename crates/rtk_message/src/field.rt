@@ -297,7 +297,7 @@ impl FieldValue for bool {
     }
 }
 
-/// The milliseconds of a week. A time of week (DF004) is less.
+/// The milliseconds of a week. A time of week (DF004) is less than this number.
 pub const WEEK_MS: u32 = 604_800_000;
 
 /// Puts an unsigned field.

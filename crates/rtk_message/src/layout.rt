@@ -1,5 +1,4 @@
-//! What holds for each message type: its bits are the fields of its table, and nothing else is
-//! used.
+//! What each message type promises: it reads and writes the fields of its table, and no other bits.
 
 ghost use Rattle.std.specs.Prelude.{◌≡◌, ℕ, ◌++◌, Bool, List, Option, Some, None, IfErr, OnOk, IsTrue, ◌↔◌};
 ghost use Rattle.rtk_message.specs.Fields.{Field, bits_of_fields, TakesAll};
@@ -24,20 +23,21 @@ pub trait Layout: Sized {
     /// counts and masks give.
     ghost IsValid: { Self → Type 0 };
 
-    /// The first cause why bits, which are those after the number, don't begin with such a message.
+    /// The first cause why the bits after a number don't begin with such a message; `None` if there
+    /// is no cause.
     ghost first_fault: { List Bool → Option DecodeFault };
 
     /// Which values have no satellites and no cells.
     ghost IsEmpty: { Self → Type 0 };
 
-    /// A message to read into: all fields 0, no satellites, no cells.
+    /// An empty message, which `read` fills: its fields are 0, it has no satellites and no cells.
     fn empty() -> Self
         ensures { IsEmpty result };
 
     /// Reads the fields after the number into an empty message.
     ///
-    /// It reads in place, since a message of a thousand bytes is slow to move. After an `Err` the
-    /// message may have any value, and the reader stands somewhere in the fields.
+    /// It reads in place, since a message of a thousand bytes is slow to move. After an `Err`
+    /// nothing is known of the message, nor of the bits that the reader has left.
     fn read(&mut self, reader: &mut BitReader<'_>) -> Result<(), DecodeFault>
         requires { IsEmpty self.old }
         ensures fields { OnOk result (IsValid self.new × TakesAll (table self.new) reader.old reader.new) }
@@ -56,6 +56,6 @@ pub trait Layout: Sized {
     /// Bits that begin with a message have no fault.
     ghost accepted: { (m : Self) (rest : List Bool) → IsValid m → first_fault (bits_of_fields (table m) ++ rest) ≡ None };
 
-    /// No bits begin with two messages.
+    /// No bits begin with two different messages.
     ghost unique: { (m n : Self) (a b : List Bool) → IsValid m → IsValid n → bits_of_fields (table m) ++ a ≡ bits_of_fields (table n) ++ b → m ≡ n };
 }

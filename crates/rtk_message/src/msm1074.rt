@@ -107,7 +107,7 @@ impl MsmHeader {
         Ok(())
     }
 
-    // Whether each field fits, and the time of week lies in a week.
+    // Whether each field fits its width, and the time of week is less than a week.
     fn fits(self) -> bool
         ensures { IsTrue result ↔ (FieldsFit (header_table self) × (self.tow < week_ms)) }
     {

@@ -7,7 +7,7 @@ use Rattle.std.proofs.lemmas.List.Elements.{All-from_recursion, All-get_or}
 use Rattle.std.proofs.lemmas.Bool.Decides.{nat_tests}
 use Rattle.rtk_message.specs.Fields.{Field, FieldsFit}
 use Rattle.rtk_message.specs.FieldColumns.{numbers, integers, flags}
-use Rattle.rtk_message.specs.Msm1074.{IsValid, satellite_count, signal_count, cell_count, mask_table, columns}
+use Rattle.rtk_message.specs.Msm1074.{IsValid, satellite_count, signal_count, cell_count, mask_table, column_table}
 use Rattle.rtk_message.specs.declared.msm1074.Msm1074.{Msm1074}
 use Rattle.rtk_message.proofs.PublicLaws.{fit-parts}
 use Rattle.rtk_obs.specs.declared.code.Code.{Code}
@@ -35,11 +35,11 @@ numbers_fit : (w : ℕ) (ns : List ℕ) → FieldsFit (numbers w ns) → AllByRe
 numbers_fit w [] h = tt
 numbers_fit w (n ∷ ns) h = (h.0, numbers_fit w ns h.1)
 
-after_header : (m : Msm1074) → IsValid m → FieldsFit (mask_table m ++ columns m)
+after_header : (m : Msm1074) → IsValid m → FieldsFit (mask_table m ++ column_table m)
 after_header m h = h.fields_fit.1.1.1.1.1.1.1.1.1.1.1
 
-columns_fit : (m : Msm1074) → IsValid m → FieldsFit (columns m)
-columns_fit m h = fits_right (mask_table m) (columns m) (after_header m h)
+columns_fit : (m : Msm1074) → IsValid m → FieldsFit (column_table m)
+columns_fit m h = fits_right (mask_table m) (column_table m) (after_header m h)
 
 locks_on : (m : Msm1074) → IsValid m → FieldsFit (numbers 4 m.lock_indicator ++ (flags m.half_cycle ++ numbers 6 m.cnr))
 locks_on m h =
@@ -69,7 +69,7 @@ few_signals m = set_bits_from-length 1 32 m.header.signal_mask
 rows_fit : (m : Msm1074) → IsValid m → AllByRecursion (λ b. b < 2 ^ length (signals_of m)) m.cell_mask
 rows_fit m h =
     subst (λ (n : ℕ). AllByRecursion (λ b. b < 2 ^ n) m.cell_mask) (sym (count-signals m h))
-    (numbers_fit (signal_count m.header) m.cell_mask (fits_left (mask_table m) (columns m) (after_header m h)))
+    (numbers_fit (signal_count m.header) m.cell_mask (fits_left (mask_table m) (column_table m) (after_header m h)))
 
 length-row_slots : (ss : List ℕ) (row bits : ℕ) → length (row_slots ss row bits) ≡ length (set_bits (length ss) bits)
 length-row_slots ss row bits = length-map (set_bits (length ss) bits) _

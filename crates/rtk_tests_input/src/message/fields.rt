@@ -81,7 +81,7 @@ fn observations_have_their_fields() -> Result<(), Fail> {
     )
 }
 
-fn read_1074(payload: &[u8]) -> Result<Msm1074, Fail> {
+fn decoded_1074(payload: &[u8]) -> Result<Msm1074, Fail> {
     match decode(payload) {
         Ok(Message::Msm1074(read)) => Ok(read),
         _ => Err("no 1074".into()),
@@ -91,7 +91,7 @@ fn read_1074(payload: &[u8]) -> Result<Msm1074, Fail> {
 // The first bit of a mask stands for identifier 1, the first of a row for the first signal.
 #[test]
 fn masks_begin_with_their_first_identifier() -> Result<(), Fail> {
-    let read = read_1074(&TWO_CELLS)?;
+    let read = decoded_1074(&TWO_CELLS)?;
     same(
         &(read.header.satellite_mask, read.header.signal_mask),
         &(1 << 59 | 1 << 57, 1 << 30 | 1 << 22),
@@ -100,13 +100,13 @@ fn masks_begin_with_their_first_identifier() -> Result<(), Fail> {
     // Both cells are satellite 5's: the mask is 11 00 in place of 10 01.
     let mut one_row = TWO_CELLS;
     one_row[21] = 0x62;
-    let read = read_1074(&one_row)?;
+    let read = decoded_1074(&one_row)?;
     same(&read.cell_mask.as_slice(), &[0b11, 0b00].as_slice())
 }
 
 #[test]
 fn columns_go_satellite_by_satellite() -> Result<(), Fail> {
-    let read = read_1074(&TWO_CELLS)?;
+    let read = decoded_1074(&TWO_CELLS)?;
     same(&read.rough_ms.as_slice(), &[70, 71].as_slice())?;
     same(&read.rough_fraction.as_slice(), &[512, 513].as_slice())?;
     same(&read.fine_range.as_slice(), &[100, -100].as_slice())?;

@@ -3,12 +3,12 @@ use Rattle.rtk_message.specs.Fields.{TakesAll}
 use Rattle.rtk_message.specs.FieldColumns.{numbers}
 use Rattle.rtk_message.proofs.ColumnLemmas.{ones-few}
 use Rattle.rtk_message.proofs.FieldLemmas.{took_both}
-use Rattle.rtk_message.proofs.Msm1074Lemmas.{is_late, is_many, is_cut_mask, is_cut_rest, few_of}
+use Rattle.rtk_message.proofs.Msm1074Lemmas.{is_out_of_week, is_many, is_cut_mask, is_cut_rest, few_of}
 use Rattle.rtk_message.specs.Msm1074.{signal_count}
 use Rattle.rtk_message.proofs.msm1074.Msm1074Layout.read.Goals as goal
 
 pub returns-then-self-ge-WEEK_MS-clause-fault : goal.returns-then-self-ge-WEEK_MS-clause-fault
-returns-then-self-ge-WEEK_MS-clause-fault c = is_late c.next_header-self.ensures.fields (omega (arith, c.if-self-ge-WEEK_MS.true))
+returns-then-self-ge-WEEK_MS-clause-fault c = is_out_of_week c.next_header-self.ensures.fields (omega (arith, c.if-self-ge-WEEK_MS.true))
 
 pub returns-then-has_too_many_cells-clause-fault : goal.returns-then-has_too_many_cells-clause-fault
 returns-then-has_too_many_cells-clause-fault c =
