@@ -12,7 +12,7 @@ use crate::cell::{Cell, CellEntry, CellSource, is_gps};
 use crate::code::{Band, Code};
 use crate::lock_time::least_lock_msm;
 use crate::mask::places_of_bits;
-use crate::scaling::{phase_from_time, range_from_time, strength, unless_mark};
+use crate::scaling::{phase_from_time, range_from_time, strength_from_steps, unless_mark};
 use arrayvec::ArrayVec;
 use rtk_message::Msm1074;
 
@@ -26,7 +26,7 @@ const NO_FINE_RANGE: i32 = -16_384;
 const NO_FINE_PHASE: i32 = -2_097_152;
 
 // Thousandths of a dB-Hz in a step of DF403.
-const STRENGTH_STEP: u32 = 1000;
+const MSM_STRENGTH_STEP: u32 = 1000;
 
 // Which signal of which satellite a cell is.
 #[derive(Clone, Copy, Default)]
@@ -78,7 +78,7 @@ fn push_row(slots: &mut ArrayVec<Slot, 64>, signals: &[u8], row: u8, bits: u32)
 }
 
 // The signals of the message, rising.
-fn signals(message: &Msm1074) -> ArrayVec<u8, 64>
+fn signal_identifiers(message: &Msm1074) -> ArrayVec<u8, 64>
     ensures { result.items ≡ signals_of message.now }
 {
     places_of_bits(u64::from(message.header.signal_mask), 32)
@@ -89,7 +89,7 @@ fn slots(message: &Msm1074) -> ArrayVec<Slot, 64>
     requires { IsValid message.now }
     ensures { result.items ≡ slots_of message.now }
 {
-    let signal_list = signals(message);
+    let signal_list = signal_identifiers(message);
     let signals = signal_list.as_slice();
     let rows = message.cell_mask.as_slice();
     let mut slots = ArrayVec::new();
@@ -129,7 +129,7 @@ fn fine_range(rough: i64, fine: Option<i32>) -> Option<i64>
     }
 }
 
-fn range(rough: Option<i64>, fine: i16) -> Option<i64>
+fn msm_range(rough: Option<i64>, fine: i16) -> Option<i64>
     requires { IfSome rough (λ r. unsigned_abs r ≤ 2 ^ 38) }
     ensures { result ≡ msm_range_of rough fine }
 {
@@ -149,7 +149,7 @@ fn fine_phase(band: Band, rough: i64, fine: Option<i32>) -> Option<i64>
     }
 }
 
-fn phase(band: Band, rough: Option<i64>, fine: i32) -> Option<i64>
+fn msm_phase(band: Band, rough: Option<i64>, fine: i32) -> Option<i64>
     requires { IfSome rough (λ r. unsigned_abs r ≤ 2 ^ 38) }
     ensures { result ≡ msm_phase_of band rough fine }
 {
@@ -180,9 +180,9 @@ fn msm_cell(message: &Msm1074, cell: usize, row: usize, band: Band) -> Cell
         message.rough_fraction.as_slice()[row],
     );
     Cell {
-        range_mm: range(rough, message.fine_range.as_slice()[cell]),
-        phase_millicycles: phase(band, rough, message.fine_phase.as_slice()[cell]),
-        strength_millidbhz: strength(STRENGTH_STEP, message.cnr.as_slice()[cell]),
+        range_mm: msm_range(rough, message.fine_range.as_slice()[cell]),
+        phase_millicycles: msm_phase(band, rough, message.fine_phase.as_slice()[cell]),
+        strength_millidbhz: strength_from_steps(MSM_STRENGTH_STEP, message.cnr.as_slice()[cell]),
         lock_time_ms: lock_time(message, cell),
         half: message.half_cycle.as_slice()[cell],
         source: CellSource::Msm,

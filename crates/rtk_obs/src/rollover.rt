@@ -8,7 +8,7 @@ ghost use Rattle.rtk_obs.specs.declared.time.TheConstants.{LAST_MS};
 
 use crate::cell::{Cell, CellSource};
 use crate::code::Band;
-use crate::slip::slipped;
+use crate::slip::has_slipped;
 use crate::track::Track;
 
 // 750 cycles in the unit of an offset times Hz: 1,500,000 times 299,792,458.
@@ -58,14 +58,14 @@ pub(crate) fn rolls_after(band: Band, last: Track, epoch: u64, cell: &Cell) -> i
     ensures value { result ≡ rolls_after band last (epoch_cell epoch cell.now) }
     ensures bound { unsigned_abs result ≤ epoch }
 {
-    if slipped(last, epoch, cell) || !are_legacy(last.source, cell.source) {
+    if has_slipped(last, epoch, cell) || !are_legacy(last.source, cell.source) {
         return 0;
     }
     rolls_from(band, last.rolls, last.offset, cell.offset)
 }
 
 // A value within the limits.
-fn limited(value: i128) -> Option<i64>
+fn within_limits(value: i128) -> Option<i64>
     ensures { result ≡ within_limits value }
 {
     if value < -999_999_999_999 {
@@ -82,5 +82,5 @@ fn limited(value: i128) -> Option<i64>
 pub fn rolled(phase: i64, rolls: i64) -> Option<i64>
     ensures { result ≡ rolled_phase phase rolls }
 {
-    limited(i128::from(phase) + 1_500_000 * i128::from(rolls))
+    within_limits(i128::from(phase) + 1_500_000 * i128::from(rolls))
 }

@@ -73,7 +73,7 @@ pub(crate) fn phase_from_time(band: Band, time: i64) -> i64
 
 /// A signal strength in thousandths of a dB-Hz, from its number of steps; 0 steps mean that it is
 /// not given.
-pub(crate) fn strength(step: u32, steps: u8) -> Option<u32>
+pub(crate) fn strength_from_steps(step: u32, steps: u8) -> Option<u32>
     requires { step ≤ 1000 }
     ensures { result ≡ strength_of step steps }
 {
