@@ -59,8 +59,8 @@ pub fn cells_are_distinct()
     ensures msm { (m : Msm1074) → IsValid1074 m → AreDistinct (cells_of_1074 m) }
 {}
 
-/// The cells of a valid message are of satellites from 1 to 32, and each has no strength or one
-/// that messages give.
+/// The cells of a valid message are of satellites from 1 to 32, and a cell with a strength has one
+/// that a message can give.
 pub fn cells_are_in_range()
     ensures legacy { (m : Obs1004) → IsValid1004 m → All IsInRange (cells_of_1004 m.satellites) }
     ensures msm { (m : Msm1074) → IsValid1074 m → All IsInRange (cells_of_1074 m) }

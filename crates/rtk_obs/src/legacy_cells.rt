@@ -49,7 +49,7 @@ fn l1_length(satellite: &Satellite) -> i64
     40 * i64::from(satellite.l1_range) + 599_584_916 * i64::from(satellite.modulus_ambiguity)
 }
 
-// The range of L1, which needs the phase.
+// The range of L1; an invalid mark of its phase (DF012) leaves out the range too.
 fn l1_range(length: i64, offset: Option<i32>) -> Option<i64>
     requires { unsigned_abs length ≤ 2 ^ 39 }
     ensures { result ≡ l1_range_of length offset }
@@ -153,7 +153,7 @@ fn has_entry(satellites: &[Satellite], number: u8) -> bool
     satellites.iter().any(|s| s.satellite == number)
 }
 
-// Does an entry of this satellite give cells, if these others stand before it?
+// Does an entry of this satellite give cells, if these other entries stand before it?
 fn is_used(others: &[Satellite], number: u8) -> bool
     ensures { result ≡ (is_satellite number && not (list_any (has_number number) others.now)) }
 {

@@ -77,7 +77,7 @@ fn push_row(slots: &mut ArrayVec<Slot, 64>, signals: &[u8], row: u8, bits: u32)
     }
 }
 
-// The signals of the message, rising.
+// The signal identifiers of the message (DF395), rising.
 fn signal_identifiers(message: &Msm1074) -> ArrayVec<u8, 64>
     ensures { result.items ≡ signals_of message.now }
 {
@@ -110,7 +110,7 @@ fn rough(ms: u8, fraction: u16) -> Option<i64>
     Some(536_870_912 * i64::from(ms) + 524_288 * i64::from(fraction))
 }
 
-// The time of light by a fine range, in 2^-29 ms.
+// The travel time of the signal, from the rough range and a fine one, in 2^-29 ms.
 fn fine_time(rough: i64, fine: i32) -> i64
     requires { unsigned_abs rough ≤ 2 ^ 38 }
     ensures value { result ≡ range_time rough fine }
@@ -159,7 +159,7 @@ fn msm_phase(band: Band, rough: Option<i64>, fine: i32) -> Option<i64>
     }
 }
 
-// The least lock time of the cell with this place.
+// The least lock time of the cell at this place.
 fn lock_time(message: &Msm1074, cell: usize) -> u32
     requires valid { IsValid message.now }
     requires cell { cell < cells message.now }
@@ -168,7 +168,7 @@ fn lock_time(message: &Msm1074, cell: usize) -> u32
     least_lock_msm(message.lock_indicator.as_slice()[cell])
 }
 
-// The cell with this place in the message, of the satellite of a row.
+// The cell at this place in the message, of the satellite of a row.
 fn msm_cell(message: &Msm1074, cell: usize, row: usize, band: Band) -> Cell
     requires valid { IsValid message.now }
     requires cell { cell < cells message.now }
@@ -190,7 +190,7 @@ fn msm_cell(message: &Msm1074, cell: usize, row: usize, band: Band) -> Cell
     }
 }
 
-// Adds the cell with this place, if its satellite is 1 to 32 and its signal has a code.
+// Adds the cell at this place, if its satellite is 1 to 32 and its signal has a code.
 fn push_cell(
     found: &mut ArrayVec<CellEntry, 64>,
     message: &Msm1074,

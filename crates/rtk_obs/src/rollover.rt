@@ -11,10 +11,10 @@ use crate::code::Band;
 use crate::slip::has_slipped;
 use crate::track::Track;
 
-// 750 cycles in the unit of an offset times Hz: 1,500,000 times 299,792,458.
+// 750 cycles as an offset, in 0.0005 m, times a frequency, in Hz: 1,500,000 * 299,792,458.
 const HALF_ROLL: i64 = 449_688_687_000_000;
 
-// The roll at this change of the offset: -1, 0 or 1.
+// The roll that this change of the offset shows: -1, 0 or 1.
 fn roll(band: Band, change: i64) -> i64
     requires low { negsuc 4_294_967_295 ≤ℤ change }
     requires high { change ≤ℤ pos 4_294_967_295 }
@@ -64,7 +64,7 @@ pub(crate) fn rolls_after(band: Band, last: Track, epoch: u64, cell: &Cell) -> i
     rolls_from(band, last.rolls, last.offset, cell.offset)
 }
 
-// A value within the limits.
+// The value, if it is within the limits of an observation.
 fn within_limits(value: i128) -> Option<i64>
     ensures { result ≡ within_limits value }
 {

@@ -54,7 +54,7 @@ pub fn place_of_signal(satellite: u8, code: Code) -> usize
     usize::from(satellite - 1) * 16 + code.place()
 }
 
-// The digits of a cell after the last phase.
+// The digits of a cell, whose phase is compared with the last one.
 fn digits_after(band: Band, last: Option<Track>, epoch: u64, cell: &Cell) -> Digits
     requires later { IsLater last epoch }
     requires range { epoch ≤ LAST_MS }
@@ -111,7 +111,7 @@ impl Tracks {
         }
     }
 
-    /// The digits of a cell of a satellite and code; its phase is then their last one.
+    /// The digits of a cell of a satellite and code, whose phase is the last one from then on.
     ///
     /// A cell without a phase has neither slip nor half-cycle mark nor rolls, and changes nothing.
     pub fn step(&mut self, satellite: u8, code: Code, epoch: GpsMs, cell: &Cell) -> Digits
