@@ -74,7 +74,7 @@ pub(crate) fn merge(kept: &mut Vec<CellEntry>, cells: &[CellEntry]) -> Conflicts
     let mut at = 0;
     for cell in cells {
         at = place_of_key(kept, at, key_of(cell));
-        if put(kept, at, *cell) {
+        if add_new(kept, at, *cell) {
             conflicts.push(satellite_code(cell));
         }
     }
@@ -168,7 +168,7 @@ fn has_key(kept: &[CellEntry], at: usize, wanted: usize) -> bool
 }
 
 // Adds a cell at its place if its key is new, and says whether it conflicts.
-fn put(kept: &mut Vec<CellEntry>, at: usize, entry: CellEntry) -> bool
+fn add_new(kept: &mut Vec<CellEntry>, at: usize, entry: CellEntry) -> bool
     requires rises { KeysRise kept.old.items }
     requires place { at ≡ lower (key entry) kept.old.items }
     requires room { vec_len kept.old + fresh (entry ∷ []) kept.old.items ≤ vec_capacity kept.old }
