@@ -27,7 +27,7 @@ class_by (c ∷ cs) = ConflictClass
 -- the class of cells that come in time, by what is kept of their epoch
 abbrev pub class_of_cells : List CellEntry → Option (List CellEntry) → Class
 class_of_cells cells None = TakenClass
-class_of_cells cells (Some sets) = if nat_lt 0 (fresh cells sets) then TakenClass else class_by (conflicts cells sets)
+class_of_cells cells (Some held) = if nat_lt 0 (fresh cells held) then TakenClass else class_by (conflicts cells held)
 
 -- the class of a station message that comes in time, by the kept one with its number
 abbrev pub class_of_station : Message → Option Message → Class
@@ -46,7 +46,7 @@ class_of n a before = if late n a before then LateClass else class_in_time n a b
 -- the conflicts of cells with what is kept of their epoch
 abbrev pub conflicts_with : List CellEntry → Option (List CellEntry) → List SatelliteCode
 conflicts_with cells None = conflicts cells []
-conflicts_with cells (Some sets) = conflicts cells sets
+conflicts_with cells (Some held) = conflicts cells held
 
 -- satellites and codes of the cells of an arrival that conflict, in the order of its message
 abbrev pub conflicts_of : ℕ → Arrival → List Arrival → List SatelliteCode
