@@ -48,7 +48,7 @@ above-at k (suc i) d [] h = tt
 above-at k zero d (x ∷ xs) h = h (omega arith)
 above-at k (suc i) d (x ∷ xs) h = above-at k i d xs (λ l. h (omega arith))
 
--- ---- what is put so far, and what has yet to join what
+-- ---- what is merged so far, and what is still to be merged
 
 pub record Merges (cells kept all rest held : List CellEntry) (found : List SatelliteCode) (cap : ℕ) : Type 0 where
   pub items : all ++ with_cells rest held ≡ with_cells cells kept

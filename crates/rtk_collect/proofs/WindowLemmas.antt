@@ -67,7 +67,7 @@ pub least-is : (front : List EpochSetView) (o : Option EpochSetView) → EpochsF
 least-is front None f = tt
 least-is front (Some s) f = All-from_recursion (λ (x : EpochSetView). s.epoch < x.epoch) front (last-below front s f)
 
--- the last epoch is at least each bound under all
+-- the last epoch is at least each lower bound of all of them
 last-least : (e : ℕ) (front : List EpochSetView) (s : EpochSetView) → AtLeast e (front ++ s ∷ []) → e ≤ s.epoch
 last-least e [] s h = h.0
 last-least e (x ∷ front) s h = last-least e front s h.1

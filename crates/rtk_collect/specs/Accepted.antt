@@ -28,14 +28,14 @@ abbrev pub with_arrival : ℕ → List CellEntry → List EpochSetView → List 
 with_arrival e cells [] = joined cells (no_cells e) ∷ []
 with_arrival e cells (x ∷ xs) = if nat_lt x.epoch e then joined cells (no_cells e) ∷ x ∷ xs else (if nat_lt e x.epoch then x ∷ with_arrival e cells xs else joined cells x ∷ xs)
 
--- the epochs that an observation opened that was not late, falling, each with the first cell under
--- each key
+-- the epochs of the observations that were not late, falling, each with the first cell under each
+-- key
 abbrev pub kept : ℕ → List Arrival → List EpochSetView
 kept n [] = []
 kept n (At None m ∷ before) = kept n before
 kept n (At (Some e) m ∷ before) = if late n (At (Some e) m) before then kept n before else with_arrival e (cells_of m) (kept n before)
 
--- the cells of an epoch, if it is open
+-- the cells of an epoch, if it is one of these
 abbrev pub cells_at : ℕ → List EpochSetView → Option (List CellEntry)
 cells_at e [] = None
 cells_at e (x ∷ xs) = if e == x.epoch then Some x.cells else cells_at e xs

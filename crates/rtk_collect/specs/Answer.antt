@@ -19,33 +19,34 @@ pub data Class : Type 0 where
   RepeatClass : Class
   ConflictClass : Class
 
--- if no cell is new: a conflict, if there is one
+-- the class if no cell is new: a conflict, if there is one, else a repeat
 abbrev pub class_by : List SatelliteCode → Class
 class_by [] = RepeatClass
 class_by (c ∷ cs) = ConflictClass
 
--- of cells that come in time, by what is kept of their epoch
+-- the class of cells that come in time, by what is kept of their epoch
 abbrev pub class_of_cells : List CellEntry → Option (List CellEntry) → Class
 class_of_cells cells None = TakenClass
-class_of_cells cells (Some sets) = if nat_lt 0 (fresh cells sets) then TakenClass else class_by (conflicts cells sets)
+class_of_cells cells (Some held) = if nat_lt 0 (fresh cells held) then TakenClass else class_by (conflicts cells held)
 
--- of a station message that comes in time, by the kept one with its number
+-- the class of a station message that comes in time, by the kept one with its number
 abbrev pub class_of_station : Message → Option Message → Class
 class_of_station m None = TakenClass
 class_of_station m (Some x) = if equal_stations x m then RepeatClass else ConflictClass
 
--- of an arrival that comes in time
+-- the class of an arrival that comes in time
 abbrev pub class_in_time : ℕ → Arrival → List Arrival → Class
 class_in_time n (At None m) before = class_of_station m (station n (number_of m) before)
 class_in_time n (At (Some e) m) before = class_of_cells (cells_of m) (cells_at e (kept n before))
 
--- of an arrival after the ones before it (this project's rule)
+-- the class of an arrival after the ones before it (this project's rule)
 abbrev pub class_of : ℕ → Arrival → List Arrival → Class
 class_of n a before = if late n a before then LateClass else class_in_time n a before
 
+-- the conflicts of cells with what is kept of their epoch
 abbrev pub conflicts_with : List CellEntry → Option (List CellEntry) → List SatelliteCode
 conflicts_with cells None = conflicts cells []
-conflicts_with cells (Some sets) = conflicts cells sets
+conflicts_with cells (Some held) = conflicts cells held
 
 -- satellites and codes of the cells of an arrival that conflict, in the order of its message
 abbrev pub conflicts_of : ℕ → Arrival → List Arrival → List SatelliteCode

@@ -37,7 +37,7 @@ first_with k [] = None
 first_with k (At (Some e) m ∷ before) = first_with k before
 first_with k (At None m ∷ before) = first_of (first_with k before) (if number_of m == k then Some (record { message = m; epochs_before = length (epochs before) }) else None)
 
--- the first one is an equal message that came before n epochs
+-- the first one is an equal message, and fewer than n epochs had come before it
 abbrev pub is_repeat_of : ℕ → Message → Option First → Bool
 is_repeat_of n m None = false
 is_repeat_of n m (Some f) = equal_stations f.message m && nat_lt f.epochs_before n
@@ -48,6 +48,6 @@ is_excused n (At None m) before = is_repeat_of n m (first_with (number_of m) bef
 is_excused n (At (Some e) m) before = false
 
 -- late: at least n distinct greater observation epochs came before, and it is no repeat of a
--- station message that came before n epochs did (this project's rule)
+-- station message before which fewer than n epochs had come (this project's rule)
 abbrev pub late : ℕ → Arrival → List Arrival → Bool
 late n a before = nat_le n (greater (epoch_of a) (epochs before)) && not (is_excused n a before)

@@ -53,7 +53,7 @@ ClosedAfter = (n : ℕ) (arrivals : List Arrival) → (closed n arrivals ≡ [])
 abbrev pub ClosedAreRest : Type 0
 ClosedAreRest = (n : ℕ) (arrivals : List Arrival) → closed n arrivals ≡ drop n (kept n arrivals)
 
--- so they are as many as the kept ones without n
+-- so there are n fewer of them than kept ones, or none
 abbrev pub ClosedAreCounted : Type 0
 ClosedAreCounted = (n : ℕ) (arrivals : List Arrival) → length (closed n arrivals) ≡ length (kept n arrivals) - n
 
@@ -83,7 +83,7 @@ HasEpoch e (x ∷ xs) = (x.epoch ≡ e) ⊎ HasEpoch e xs
 
 -- the kept epochs are the epochs of the observations that were not late; each kept cell and station
 -- message came in an arrival that was not late; and if the arrivals are consistent, each cell and
--- station message that came so is kept: no part of a split epoch is dropped
+-- station message that came in such an arrival is kept: no part of a split epoch is dropped
 abbrev pub KeptAreTaken : Type 0
 KeptAreTaken = (n : ℕ) (arrivals : List Arrival) →
     ((e : ℕ) → HasEpoch e (kept n arrivals) ↔ ((m : Message) × IsTaken n (At (Some e) m) arrivals))
@@ -102,7 +102,7 @@ SetDecides = (n : ℕ) (first second : List Arrival) → IsConsistent n first �
 abbrev pub LateLeavesKept : Type 0
 LateLeavesKept = (n e : ℕ) (m : Message) (before : List Arrival) → late n (At (Some e) m) before ≡ true → kept n (At (Some e) m ∷ before) ≡ kept n before
 
--- the cells of one that is not late join them
+-- the cells of an observation that is not late join the kept epochs
 abbrev pub InTimeJoinsKept : Type 0
 InTimeJoinsKept = (n e : ℕ) (m : Message) (before : List Arrival) → late n (At (Some e) m) before ≡ false
     → kept n (At (Some e) m ∷ before) ≡ with_arrival e (cells_of m) (kept n before)

@@ -19,7 +19,7 @@ ClosesBelow (Conflict found) sets = Unit {0}
 ClosesBelow Repeat sets = Unit {0}
 ClosesBelow Late sets = Unit {0}
 
--- an epoch is not below the least of these: each bound under them is one under it
+-- an epoch is not below the least of these: each lower bound of them is a lower bound of it
 abbrev pub NotBelow : EpochSetView → List EpochSetView → Type 0
 NotBelow set sets = (e : ℕ) → All (λ x. e ≤ x.epoch) sets → e ≤ set.epoch
 

@@ -63,7 +63,8 @@ impl EpochSet {
         &self.cells
     }
 
-    /// Takes the cells whose keys are new. Only these take memory, before the first is added.
+    /// Takes the cells whose keys are new. Memory is taken for these alone, before the first one is
+    /// added.
     pub(crate) fn join(&mut self, cells: &[CellEntry]) -> Result<Joined, AllocError>
         requires few { length cells.now ≤ 64 }
         requires range { All IsInRange cells.now }
@@ -74,8 +75,8 @@ impl EpochSet {
         ensures refused { OnErr result (0 < fresh cells.now self.old.cells) }
     {
         if self.cells.is_empty() && has_rising_keys(cells) {
-            // The common case: the cells of the epoch as they stand. `?` would do the same, but its
-            // answer has another form in the proof, where each clause on `Err` takes a step more.
+            // The common case: the epoch has no cell yet, and the cells are copied as they stand.
+            // `?` would do the same, but then the proof of each clause on `Err` is a step longer.
             if let Err(_) = self.cells.extend_from_slice(cells) {
                 return Err(AllocError);
             }

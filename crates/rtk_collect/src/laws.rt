@@ -5,8 +5,8 @@
 
 ghost use Rattle.rtk_collect.specs.Laws.{LateArrivalsChangeNothing, ClosedOnlyGrow, ClosedFall, ClosedAfter, ClosedAreRest, ClosedAreCounted, FirstIsPreferred, ExcusedIsKept, StationsAreFinal, KeptAreTaken, SetDecides, LateLeavesKept, InTimeJoinsKept, KeptOpensNone, GreaterOpens, LesserJoinsOthers, SameJoins, KeptFall, KeptRise, OrderedAreSame, KeptAreFew, KeptAreGreatest, OpeningConflictsNot, ClosingConflictsNot, KeysAreDistinct, EqualityDecides};
 
-/// If all late arrivals are deleted, each other arrival is late or not as it was, and what is kept
-/// is the same.
+/// If all late arrivals are deleted, a further arrival is late exactly if it was late before the
+/// deletion, and what is kept is the same.
 pub fn late_arrivals_change_nothing()
     ensures { LateArrivalsChangeNothing }
 {}
@@ -38,16 +38,16 @@ pub fn set_decides()
     ensures same { SetDecides }
 {}
 
-/// An observation that is late leaves the kept epochs as they are, and the cells of one that is not
-/// late join them; if its epoch is kept, it opens none.
+/// A late observation leaves the kept epochs as they are. The cells of any other observation join
+/// them; if its epoch is one of them, it opens none.
 pub fn kept_epochs_of_arrivals()
     ensures late { LateLeavesKept }
     ensures in_time { InTimeJoinsKept }
     ensures held { KeptOpensNone }
 {}
 
-/// Cells that join epochs which fall open an epoch that is greater than the greatest one, join the
-/// greatest one if it is theirs, and else join the others.
+/// Where cells go among epochs that fall, by the greatest of these: cells of a greater epoch open
+/// their own, cells of the same epoch join it, and cells of a lesser epoch go among the others.
 pub fn cells_join_epochs()
     ensures greater { GreaterOpens }
     ensures same { SameJoins }
@@ -75,8 +75,8 @@ pub fn openings_do_not_conflict()
     ensures closes { ClosingConflictsNot }
 {}
 
-/// In the order of an epoch's cells the first of a satellite and code came in a 1074, if such a
-/// cell is there, else in a 1004.
+/// In the order of an epoch's cells the first of a satellite and code came in a 1074, if there is
+/// such a cell, else in a 1004.
 pub fn first_is_preferred()
     ensures { FirstIsPreferred }
 {}

@@ -8,7 +8,7 @@ ghost use Rattle.rtk_collect.specs.Steps.OrderedPlaces.{lower};
 use crate::conflicts::{Conflicts, Joined, SatelliteCode};
 use rtk_obs::{CellEntry, CellSource};
 
-// The place of a cell in the order of an epoch: by satellite, code and kind of message.
+// The key of a cell, by which the cells of an epoch rise: satellite, code and kind of message.
 fn key_of(entry: &CellEntry) -> usize
     ensures { result ≡ key entry.now }
 {
@@ -33,7 +33,8 @@ pub(crate) fn has_rising_keys(cells: &[CellEntry]) -> bool
     true
 }
 
-/// How many of the cells have a key under which no cell is kept; if none has, also which conflict.
+/// How many of the cells are new: no kept cell has their key. If none is new, also which of them
+/// conflict.
 pub(crate) fn compare(cells: &[CellEntry], kept: &[CellEntry]) -> Joined
     requires rises { KeysRise kept.now }
     requires few { length cells.now ≤ 64 }
@@ -61,7 +62,7 @@ pub(crate) fn compare(cells: &[CellEntry], kept: &[CellEntry]) -> Joined
     }
 }
 
-/// Adds the cells whose keys are new, and says which conflict. There is room for them.
+/// Adds the cells whose keys are new, for which there is room, and says which cells conflict.
 pub(crate) fn merge(kept: &mut Vec<CellEntry>, cells: &[CellEntry]) -> Conflicts
     requires rises { KeysRise kept.old.items }
     requires few { length cells.now ≤ 64 }
@@ -73,7 +74,7 @@ pub(crate) fn merge(kept: &mut Vec<CellEntry>, cells: &[CellEntry]) -> Conflicts
     let mut at = 0;
     for cell in cells {
         at = place_of_key(kept, at, key_of(cell));
-        if put(kept, at, *cell) {
+        if add_new(kept, at, *cell) {
             conflicts.push(satellite_code(cell));
         }
     }
@@ -81,7 +82,7 @@ pub(crate) fn merge(kept: &mut Vec<CellEntry>, cells: &[CellEntry]) -> Conflicts
 }
 
 /// Puts the cells, whose keys rise, and the kept ones into a list that has room for them, in the
-/// order of their keys, and says which conflict.
+/// order of their keys, and says which cells conflict.
 pub(crate) fn interleave(
     kept: &[CellEntry],
     cells: &[CellEntry],
@@ -150,7 +151,7 @@ fn satellite_code(entry: &CellEntry) -> SatelliteCode
     }
 }
 
-// Has the cell at a place a lesser key?
+// Is there a cell at this place whose key is less than the wanted one?
 fn has_lesser(kept: &[CellEntry], at: usize, wanted: usize) -> bool
     ensures yes { IsTrue result → (at < length kept.now) × ((d : CellEntry) → key (slice_index_or kept.now at d) < wanted) }
     ensures no { IsTrue (not result) → at < length kept.now → ((d : CellEntry) → wanted ≤ key (slice_index_or kept.now at d)) }
@@ -158,7 +159,7 @@ fn has_lesser(kept: &[CellEntry], at: usize, wanted: usize) -> bool
     at < kept.len() && key_of(&kept[at]) < wanted
 }
 
-// Has the cell at a place this key?
+// Is there a cell at this place whose key is the wanted one?
 fn has_key(kept: &[CellEntry], at: usize, wanted: usize) -> bool
     ensures yes { IsTrue result → (at < length kept.now) × ((d : CellEntry) → key (slice_index_or kept.now at d) ≡ wanted) }
     ensures no { IsTrue (not result) → at < length kept.now → ((d : CellEntry) → key (slice_index_or kept.now at d) ≢ wanted) }
@@ -167,7 +168,7 @@ fn has_key(kept: &[CellEntry], at: usize, wanted: usize) -> bool
 }
 
 // Adds a cell at its place if its key is new, and says whether it conflicts.
-fn put(kept: &mut Vec<CellEntry>, at: usize, entry: CellEntry) -> bool
+fn add_new(kept: &mut Vec<CellEntry>, at: usize, entry: CellEntry) -> bool
     requires rises { KeysRise kept.old.items }
     requires place { at ≡ lower (key entry) kept.old.items }
     requires room { vec_len kept.old + fresh (entry ∷ []) kept.old.items ≤ vec_capacity kept.old }
@@ -200,7 +201,7 @@ fn place_of_key(kept: &[CellEntry], guess: usize, key: usize) -> usize
     at
 }
 
-// The cell with a key, from its place.
+// The kept cell with this key, whose place is `at`.
 fn kept_cell(kept: &[CellEntry], at: usize, key: usize) -> Option<CellEntry>
     requires rises { KeysRise kept.now }
     requires place { at ≡ lower key kept.now }

@@ -6,7 +6,7 @@ use crate::epoch_set::EpochSet;
 /// What became of an offered message.
 #[derive(Drop)]
 pub enum Offer {
-    /// A cell is new, or the message opened its epoch; or it is the first of its number.
+    /// A cell is new, or the message opened its epoch; or it is the first 1005 or the first 1006.
     Taken {
         /// The epoch that this closes, with its kept cells.
         closed: Option<EpochSet>,
@@ -15,12 +15,13 @@ pub enum Offer {
     },
     /// Nothing is new, and nothing conflicts.
     Repeat,
-    /// No cell is new, and some conflict with the kept ones; or it differs from the first of its
-    /// number.
+    /// No cell is new, and some conflict with the kept ones; or it is a 1005 or 1006 that differs
+    /// from the first one.
     Conflict {
         /// The cells of the message that conflict; none for a 1005 or 1006.
         conflicts: Conflicts,
     },
-    /// As many greater epochs came before as the window has places.
+    /// It came too late: at least as many greater epochs came before it as the window has places.
+    /// For a 1005 or 1006 all epochs count, and a repeat of the kept one is never late.
     Late,
 }

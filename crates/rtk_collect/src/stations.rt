@@ -20,8 +20,8 @@ pub(crate) struct Stations {
     pub(crate) arp1006: Option<Arp1006>,
 }
 
-/// Keeps the first station message of its number, if the window isn't full, and says what became
-/// of it.
+/// Keeps a station message if it is the first of its number and the window isn't full, and says
+/// what became of it.
 pub(crate) fn offer_station<T: PartialEq + Copy>(
     slot: &mut Option<T>,
     message: T,
@@ -70,8 +70,8 @@ pub(crate) fn position(stations: Stations) -> Position
     }
 }
 
-// The antenna reference point with this height. By value, so that the range of each field's type is
-// known.
+// The antenna reference point with this height. It is passed by value, so that the prover knows the
+// range of each field's type.
 fn position_of(arp: Arp1005, height: u16) -> Position
     requires { arp1005_spec.IsValid arp }
     ensures { HasFields arp.x arp.y arp.z height result }

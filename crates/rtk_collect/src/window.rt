@@ -15,7 +15,7 @@ use rtk_obs::{CellEntry, GpsMs};
 use std::alloc::{AllocError, Global};
 use std::collections::VecDeque;
 
-/// How many epochs of the window are greater.
+/// The place of an epoch in the window: how many of the window's epochs are greater.
 pub(crate) fn place_of_epoch(sets: &VecDeque<EpochSet>, epoch: GpsMs) -> usize
     requires { EpochsFall sets.now.items }
     ensures { result ≡ leading epoch sets.now.items }
@@ -33,7 +33,7 @@ pub(crate) fn place_of_epoch(sets: &VecDeque<EpochSet>, epoch: GpsMs) -> usize
     low
 }
 
-/// Whether the window has an epoch, from its place.
+/// Whether the window has this epoch, whose place is `at`.
 pub(crate) fn has_epoch(sets: &VecDeque<EpochSet>, at: usize, epoch: GpsMs) -> bool
     requires place { at ≡ leading epoch sets.now.items }
     ensures found { IsTrue result → (at < length sets.now.items) × ((d : EpochSetView) → (slice_index_or sets.now.items at d).epoch ≡ epoch) }
@@ -87,7 +87,7 @@ pub(crate) fn open_at(
     Ok(joined.conflicts)
 }
 
-/// Takes out the least epoch, if there are more than the window has places.
+/// Takes out the least epoch, if there are more epochs than places.
 pub(crate) fn close_least(sets: &mut VecDeque<EpochSet>, places: usize) -> Option<EpochSet>
     requires { length sets.old.items ≤ places + 1 }
     ensures items { sets.old.items ≡ sets.new.items ++ option_to_list result }

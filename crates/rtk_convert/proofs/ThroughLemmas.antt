@@ -15,7 +15,8 @@ use Rattle.rtk_rinex.specs.declared.epoch_table.Observed.{Observed}
 use Rattle.rtk_rinex.specs.Record.{IsStrengthOrNone}
 use Rattle.rtk_convert.specs.Rows.{is_signal, first_cell, observed_with, observed_after, and_below}
 use Rattle.rtk_convert.specs.Steps.ShownCells.{shown_at, track_after, IsThrough, MayShow, AreStrengths}
-use Rattle.rtk_convert.proofs.PlacesLemmas.{by_eq, same_signal, same_test, other_signal, place_inside}
+use Rattle.rtk_obs.proofs.PublicLaws.{place_inside, same_signal}
+use Rattle.rtk_convert.proofs.PlacesLemmas.{by_eq, same_test, other_signal}
 
 -- a cell of another satellite or code changes nothing for them
 cell-other : (xs : List CellEntry) (e : CellEntry) (s : ℕ) (c : Code) → is_signal s c e ≡ false → first_cell (xs ++ e ∷ []) s c ≡ first_cell xs s c

@@ -9,8 +9,7 @@ use Rattle.jiff_core.proofs.SignedLemmas.{signed_arith}
 use borrow.Author.Differences.{up, down}
 use Rattle.rtk_obs.specs.Rounding.{IsRounded, rounded_magnitude, rounded}
 
--- the same of magnitudes: n lies at most half a unit below v * d, and less than half a unit above
--- it
+-- the same of magnitudes: n is at most half a unit below v * d and under half a unit above it
 abbrev pub IsNearest : ℕ → ℕ → ℕ → Type 0
 IsNearest n d v = (2 * (v * d) ≤ 2 * n + d) × (2 * n < 2 * (v * d) + d)
 

@@ -93,6 +93,15 @@ same_code c d e = sym (code_at-place_of c) ∙ (ap code_at e ∙ code_at-place_o
 same_place : (a b c d : ℕ) → 1 ≤ a → 1 ≤ c → b < 16 → d < 16 → (a - 1) * 16 + b ≡ (c - 1) * 16 + d → (a ≡ c) × (b ≡ d)
 same_place a b c d ha hc hb hd e = omega arith
 
+-- a place is the place of one satellite and one code
+pub same_signal : (a b : ℕ) (c d : Code) → IsSatellite a → IsSatellite b → place_of_signal a c ≡ place_of_signal b d → (a ≡ b) × (c ≡ d)
+same_signal a b c d ha hb e =
+    let s = same_place a (place_of c) b (place_of d) ha.0 hb.0 (place_bound c) (place_bound d) e in
+    (s.0, same_code c d s.1)
+
+pub place_inside : (s : ℕ) (c : Code) → IsSatellite s → place_of_signal s c < 512
+place_inside s c h = let a = h.0 in let b = h.1 in let p = place_bound c in omega arith
+
 same_test : (a b c d : ℕ) → a ≡ c → b ≡ d → (nat_eq a c && nat_eq b d) ≡ true
 same_test a b c d e f = grind (arith, nat_tests)
 

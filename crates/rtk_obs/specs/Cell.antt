@@ -26,7 +26,7 @@ pub record IsInRange (e : CellEntry) : Type 0 where
   pub satellite : IsSatellite e.satellite
   pub strength : IfSome e.cell.strength_millidbhz IsStrength
 
--- of different satellites, or of one satellite and different codes
+-- two cells are of different satellites, or of one satellite and different codes
 abbrev pub AreDifferentSignals : CellEntry → CellEntry → Type 0
 AreDifferentSignals a b = a.satellite ≡ b.satellite → a.code ≢ b.code
 

@@ -1,7 +1,8 @@
 -- The set bits of a mask, and a list that is made place by place.
 use Rattle.std.specs.Prelude.{ℕ, zero, suc, ◌-◌, ◌^◌, nat_le, List, [], ◌∷◌, ◌++◌, if◌then◌else◌}
 
--- the places of the set bits among the w low bits of a mask; the most significant has this place
+-- the places of the set bits among the w low bits of a mask; the most significant of the w bits has
+-- this place
 unfoldable pub set_bits_from : ℕ → ℕ → ℕ → List ℕ
 set_bits_from place zero mask = []
 set_bits_from place (suc w) mask =
@@ -12,7 +13,7 @@ set_bits_from place (suc w) mask =
 abbrev pub set_bits : ℕ → ℕ → List ℕ
 set_bits w mask = set_bits_from 1 w mask
 
--- what f gives of each element and its place, joined, from a place on
+-- the lists that f gives for each element and its place, joined; the first element has place k
 unfoldable pub join_from : {X Y : Type 0} → (ℕ → X → List Y) → ℕ → List X → List Y
 join_from f k [] = []
 join_from f k (x ∷ xs) = f k x ++ join_from f (suc k) xs

@@ -31,7 +31,7 @@ code_of_signal s =
 abbrev pub satellites_of : Msm1074 → List ℕ
 satellites_of m = set_bits 64 m.header.satellite_mask
 
--- its signals, by DF395
+-- the signals of the message, by DF395
 abbrev pub signals_of : Msm1074 → List ℕ
 signals_of m = set_bits 32 m.header.signal_mask
 
@@ -83,12 +83,12 @@ msm_cell_of m k row band = record {
   offset = None;
 }
 
--- the entry of a cell whose signal has a code
+-- the entry of a cell, if its signal has a code
 abbrev pub coded_entry : Msm1074 → ℕ → ℕ → ℕ → Option Code → List CellEntry
 coded_entry m k row satellite None = []
 coded_entry m k row satellite (Some code) = entry_of satellite code (msm_cell_of m k row (band_of code)) ∷ []
 
--- and whose satellite is one from 1 to 32
+-- the entry of a cell, if its satellite is one from 1 to 32 and its signal has a code
 abbrev pub slot_entry : Msm1074 → ℕ → Slot → List CellEntry
 slot_entry m k s =
     if is_satellite (slice_index (satellites_of m) s.row) then coded_entry m k s.row (slice_index (satellites_of m) s.row) (code_of_signal s.signal)

@@ -29,7 +29,7 @@ rolls_after band last e =
     if has_slipped last e || not (is_legacy last.source && is_legacy e.cell.source) then pos 0
     else rolls_between band last.rolls last.offset e.cell.offset
 
--- and 0 if there is no earlier phase
+-- the roll count of a phase; 0 if there is no earlier one
 abbrev pub rolls_since : Band → Option Track → EpochCell → ℤ
 rolls_since band None e = pos 0
 rolls_since band (Some last) e = rolls_after band last e

@@ -31,13 +31,13 @@ range_of_length length = rounded length 2
 abbrev pub phase_of_length : Band → ℤ → ℤ
 phase_of_length band length = rounded (length *ℤ pos (frequency_of band)) 599_584_916
 
--- ---- 1074: times of light in 2^-29 ms
+-- ---- 1074: travel times of the signal in 2^-29 ms
 
 -- the rough range: DF397 in ms, and DF398 in 2^-10 ms
 abbrev pub rough_time : ℕ → ℕ → ℤ
 rough_time ms fraction = pos (536_870_912 * ms + 524_288 * fraction)
 
--- with a fine range: DF400 in 2^-24 ms
+-- the rough range and a fine one: DF400 in 2^-24 ms
 abbrev pub range_time : ℤ → ℤ → ℤ
 range_time rough fine = rough +ℤ pos 32 *ℤ fine
 

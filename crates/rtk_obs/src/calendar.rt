@@ -14,7 +14,7 @@ const DAY_MS: u64 = 86_400_000;
 // The days from jiff's first day, -9999-01-01, to 1980-01-06.
 const FIRST_DAY: u32 = 4_371_587 + 3657;
 
-// The year of a date that lies after the year 0.
+// The year of a date that isn't before the year 0.
 fn year_of(date: Date) -> u16
     requires { pos 0 ≤ℤ date.year }
     ensures { pos result ≡ date.year }
@@ -42,7 +42,7 @@ pub fn civil(time: GpsMs) -> Civil
 }
 
 // The days from 1980-01-06 to the day of a reading, if the calendar has that day and it isn't
-// earlier.
+// before 1980-01-06.
 fn day_of(reading: Civil) -> Option<u32>
     ensures { MatchOption result ((k : ℕ) → ¬ (IsOnDay k reading)) (λ k. IsOnDay k reading) }
 {

@@ -26,11 +26,12 @@ pub struct Cell {
     pub strength_millidbhz: Option<u32>,
     /// The least time of continuous lock in ms.
     pub lock_time_ms: u32,
-    /// The half-cycle ambiguity is open; never of a 1004.
+    /// The half-cycle ambiguity is open (DF420); always false in a cell of a 1004.
     pub half: bool,
     /// The kind of message.
     pub source: CellSource,
-    /// The phase less the pseudorange of L1, in 0.0005 m (DF012, DF018): of a phase of a 1004.
+    /// The phase less the pseudorange of L1, in 0.0005 m (DF012, DF018); only a phase of a 1004 has
+    /// it.
     pub offset: Option<i32>,
 }
 

@@ -1,4 +1,4 @@
-//! Laws over the definitions: times, codes, rounding, cells, last phases.
+//! Laws over the definitions: times, codes, rounding, cells, places, last phases.
 //!
 //! Each function here does nothing. Its contract is the law, and a caller that calls it may cite
 //! it; proofs of other crates cite the same facts from `proofs/PublicLaws.antt`.
@@ -17,10 +17,11 @@ ghost use Rattle.rtk_obs.specs.declared.cell.Cell.{Cell};
 ghost use Rattle.rtk_obs.specs.Calendar.{ReadsAs};
 ghost use Rattle.rtk_obs.specs.Dating.{IsDated};
 ghost use Rattle.rtk_obs.specs.Rounding.{IsRounded, rounded};
-ghost use Rattle.rtk_obs.specs.Code.{name_of};
-ghost use Rattle.rtk_obs.specs.Cell.{IsInRange, AreDistinct};
+ghost use Rattle.rtk_obs.specs.Code.{name_of, place_of};
+ghost use Rattle.rtk_obs.specs.Cell.{IsSatellite, IsInRange, AreDistinct};
 ghost use Rattle.rtk_obs.specs.LegacyCells.{cells_of_1004};
 ghost use Rattle.rtk_obs.specs.MsmCells.{cells_of_1074};
+ghost use Rattle.rtk_obs.specs.Tracks.{place_of_signal};
 ghost use Rattle.rtk_obs.specs.TracksLaws.{LastIsGreatest, LaterThanSteps, LaterAfterStep, AllLaterAfterStep};
 
 use crate::cell::Cell;
@@ -59,11 +60,19 @@ pub fn cells_are_distinct()
     ensures msm { (m : Msm1074) → IsValid1074 m → AreDistinct (cells_of_1074 m) }
 {}
 
-/// The cells of a valid message are of satellites from 1 to 32, and each has no strength or one
-/// that messages give.
+/// The cells of a valid message are of satellites from 1 to 32, and a cell with a strength has one
+/// that a message can give.
 pub fn cells_are_in_range()
     ensures legacy { (m : Obs1004) → IsValid1004 m → All IsInRange (cells_of_1004 m.satellites) }
     ensures msm { (m : Msm1074) → IsValid1074 m → All IsInRange (cells_of_1074 m) }
+{}
+
+/// A place among all signals belongs to one satellite and one code. The places of codes are below
+/// 16, and the places of signals below 512.
+pub fn places_are_distinct()
+    ensures code_bound { (c : Code) → place_of c < 16 }
+    ensures signal_bound { (satellite : ℕ) (c : Code) → IsSatellite satellite → place_of_signal satellite c < 512 }
+    ensures distinct { (a b : ℕ) (c d : Code) → IsSatellite a → IsSatellite b → place_of_signal a c ≡ place_of_signal b d → (a ≡ b) × (c ≡ d) }
 {}
 
 /// Laws on the last phase and on what a `Tracks` represents.

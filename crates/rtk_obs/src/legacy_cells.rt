@@ -11,7 +11,7 @@ ghost use Rattle.rtk_obs.specs.Steps.LegacyFields.{HasWidths};
 use crate::cell::{Cell, CellEntry, CellSource, is_gps};
 use crate::code::{Band, Code};
 use crate::lock_time::least_lock_legacy;
-use crate::scaling::{phase_from_length, range_from_length, strength, unless_mark};
+use crate::scaling::{phase_from_length, range_from_length, strength_from_steps, unless_mark};
 use arrayvec::ArrayVec;
 use rtk_message::{Obs1004, Satellite};
 
@@ -22,7 +22,7 @@ const NO_PHASE: i32 = -524_288;
 const NO_RANGE: i32 = -8192;
 
 // Thousandths of a dB-Hz in a step of DF015 and DF020.
-const STRENGTH_STEP: u32 = 250;
+const LEGACY_STRENGTH_STEP: u32 = 250;
 
 fn l1_code(indicator: bool) -> Code
     ensures { result ≡ l1_code_of indicator }
@@ -49,7 +49,7 @@ fn l1_length(satellite: &Satellite) -> i64
     40 * i64::from(satellite.l1_range) + 599_584_916 * i64::from(satellite.modulus_ambiguity)
 }
 
-// The range of L1, which needs the phase.
+// The range of L1; an invalid mark of its phase (DF012) leaves out the range too.
 fn l1_range(length: i64, offset: Option<i32>) -> Option<i64>
     requires { unsigned_abs length ≤ 2 ^ 39 }
     ensures { result ≡ l1_range_of length offset }
@@ -79,7 +79,7 @@ fn l2_range(length: i64, difference: Option<i32>) -> Option<i64>
     }
 }
 
-fn phase(band: Band, length: i64, offset: Option<i32>) -> Option<i64>
+fn legacy_phase(band: Band, length: i64, offset: Option<i32>) -> Option<i64>
     requires { unsigned_abs length ≤ 2 ^ 39 }
     ensures { result ≡ legacy_phase_of band length offset }
 {
@@ -97,8 +97,8 @@ fn l1_cell(satellite: &Satellite) -> Cell
     let offset = unless_mark(satellite.l1_phase_difference, NO_PHASE);
     Cell {
         range_mm: l1_range(length, offset),
-        phase_millicycles: phase(Band::L1, length, offset),
-        strength_millidbhz: strength(STRENGTH_STEP, satellite.l1_cnr),
+        phase_millicycles: legacy_phase(Band::L1, length, offset),
+        strength_millidbhz: strength_from_steps(LEGACY_STRENGTH_STEP, satellite.l1_cnr),
         lock_time_ms: least_lock_legacy(satellite.l1_lock_indicator),
         half: false,
         source: CellSource::Legacy,
@@ -115,8 +115,8 @@ fn l2_cell(satellite: &Satellite) -> Cell
     let offset = unless_mark(satellite.l2_phase_difference, NO_PHASE);
     Cell {
         range_mm: l2_range(length, difference),
-        phase_millicycles: phase(Band::L2, length, offset),
-        strength_millidbhz: strength(STRENGTH_STEP, satellite.l2_cnr),
+        phase_millicycles: legacy_phase(Band::L2, length, offset),
+        strength_millidbhz: strength_from_steps(LEGACY_STRENGTH_STEP, satellite.l2_cnr),
         lock_time_ms: least_lock_legacy(satellite.l2_lock_indicator),
         half: false,
         source: CellSource::Legacy,
@@ -153,7 +153,7 @@ fn has_entry(satellites: &[Satellite], number: u8) -> bool
     satellites.iter().any(|s| s.satellite == number)
 }
 
-// Does an entry of this satellite give cells, if these others stand before it?
+// Does an entry of this satellite give cells, if these other entries stand before it?
 fn is_used(others: &[Satellite], number: u8) -> bool
     ensures { result ≡ (is_satellite number && not (list_any (has_number number) others.now)) }
 {

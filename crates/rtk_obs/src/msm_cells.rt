@@ -12,7 +12,7 @@ use crate::cell::{Cell, CellEntry, CellSource, is_gps};
 use crate::code::{Band, Code};
 use crate::lock_time::least_lock_msm;
 use crate::mask::places_of_bits;
-use crate::scaling::{phase_from_time, range_from_time, strength, unless_mark};
+use crate::scaling::{phase_from_time, range_from_time, strength_from_steps, unless_mark};
 use arrayvec::ArrayVec;
 use rtk_message::Msm1074;
 
@@ -26,7 +26,7 @@ const NO_FINE_RANGE: i32 = -16_384;
 const NO_FINE_PHASE: i32 = -2_097_152;
 
 // Thousandths of a dB-Hz in a step of DF403.
-const STRENGTH_STEP: u32 = 1000;
+const MSM_STRENGTH_STEP: u32 = 1000;
 
 // Which signal of which satellite a cell is.
 #[derive(Clone, Copy, Default)]
@@ -77,8 +77,8 @@ fn push_row(slots: &mut ArrayVec<Slot, 64>, signals: &[u8], row: u8, bits: u32)
     }
 }
 
-// The signals of the message, rising.
-fn signals(message: &Msm1074) -> ArrayVec<u8, 64>
+// The signal identifiers of the message (DF395), rising.
+fn signal_identifiers(message: &Msm1074) -> ArrayVec<u8, 64>
     ensures { result.items ≡ signals_of message.now }
 {
     places_of_bits(u64::from(message.header.signal_mask), 32)
@@ -89,7 +89,7 @@ fn slots(message: &Msm1074) -> ArrayVec<Slot, 64>
     requires { IsValid message.now }
     ensures { result.items ≡ slots_of message.now }
 {
-    let signal_list = signals(message);
+    let signal_list = signal_identifiers(message);
     let signals = signal_list.as_slice();
     let rows = message.cell_mask.as_slice();
     let mut slots = ArrayVec::new();
@@ -110,7 +110,7 @@ fn rough(ms: u8, fraction: u16) -> Option<i64>
     Some(536_870_912 * i64::from(ms) + 524_288 * i64::from(fraction))
 }
 
-// The time of light by a fine range, in 2^-29 ms.
+// The travel time of the signal, from the rough range and a fine one, in 2^-29 ms.
 fn fine_time(rough: i64, fine: i32) -> i64
     requires { unsigned_abs rough ≤ 2 ^ 38 }
     ensures value { result ≡ range_time rough fine }
@@ -129,7 +129,7 @@ fn fine_range(rough: i64, fine: Option<i32>) -> Option<i64>
     }
 }
 
-fn range(rough: Option<i64>, fine: i16) -> Option<i64>
+fn msm_range(rough: Option<i64>, fine: i16) -> Option<i64>
     requires { IfSome rough (λ r. unsigned_abs r ≤ 2 ^ 38) }
     ensures { result ≡ msm_range_of rough fine }
 {
@@ -149,7 +149,7 @@ fn fine_phase(band: Band, rough: i64, fine: Option<i32>) -> Option<i64>
     }
 }
 
-fn phase(band: Band, rough: Option<i64>, fine: i32) -> Option<i64>
+fn msm_phase(band: Band, rough: Option<i64>, fine: i32) -> Option<i64>
     requires { IfSome rough (λ r. unsigned_abs r ≤ 2 ^ 38) }
     ensures { result ≡ msm_phase_of band rough fine }
 {
@@ -159,7 +159,7 @@ fn phase(band: Band, rough: Option<i64>, fine: i32) -> Option<i64>
     }
 }
 
-// The least lock time of the cell with this place.
+// The least lock time of the cell at this place.
 fn lock_time(message: &Msm1074, cell: usize) -> u32
     requires valid { IsValid message.now }
     requires cell { cell < cell_count message.now }
@@ -168,7 +168,7 @@ fn lock_time(message: &Msm1074, cell: usize) -> u32
     least_lock_msm(message.lock_indicator.as_slice()[cell])
 }
 
-// The cell with this place in the message, of the satellite of a row.
+// The cell at this place in the message, of the satellite of a row.
 fn msm_cell(message: &Msm1074, cell: usize, row: usize, band: Band) -> Cell
     requires valid { IsValid message.now }
     requires cell { cell < cell_count message.now }
@@ -180,9 +180,9 @@ fn msm_cell(message: &Msm1074, cell: usize, row: usize, band: Band) -> Cell
         message.rough_fraction.as_slice()[row],
     );
     Cell {
-        range_mm: range(rough, message.fine_range.as_slice()[cell]),
-        phase_millicycles: phase(band, rough, message.fine_phase.as_slice()[cell]),
-        strength_millidbhz: strength(STRENGTH_STEP, message.cnr.as_slice()[cell]),
+        range_mm: msm_range(rough, message.fine_range.as_slice()[cell]),
+        phase_millicycles: msm_phase(band, rough, message.fine_phase.as_slice()[cell]),
+        strength_millidbhz: strength_from_steps(MSM_STRENGTH_STEP, message.cnr.as_slice()[cell]),
         lock_time_ms: lock_time(message, cell),
         half: message.half_cycle.as_slice()[cell],
         source: CellSource::Msm,
@@ -190,7 +190,7 @@ fn msm_cell(message: &Msm1074, cell: usize, row: usize, band: Band) -> Cell
     }
 }
 
-// Adds the cell with this place, if its satellite is 1 to 32 and its signal has a code.
+// Adds the cell at this place, if its satellite is 1 to 32 and its signal has a code.
 fn push_cell(
     found: &mut ArrayVec<CellEntry, 64>,
     message: &Msm1074,

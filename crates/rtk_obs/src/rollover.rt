@@ -8,13 +8,13 @@ ghost use Rattle.rtk_obs.specs.declared.time.TheConstants.{LAST_MS};
 
 use crate::cell::{Cell, CellSource};
 use crate::code::Band;
-use crate::slip::slipped;
+use crate::slip::has_slipped;
 use crate::track::Track;
 
-// 750 cycles in the unit of an offset times Hz: 1,500,000 times 299,792,458.
+// 750 cycles as an offset, in 0.0005 m, times a frequency, in Hz: 1,500,000 * 299,792,458.
 const HALF_ROLL: i64 = 449_688_687_000_000;
 
-// The roll at this change of the offset: -1, 0 or 1.
+// The roll that this change of the offset shows: -1, 0 or 1.
 fn roll(band: Band, change: i64) -> i64
     requires low { negsuc 4_294_967_295 ≤ℤ change }
     requires high { change ≤ℤ pos 4_294_967_295 }
@@ -58,14 +58,14 @@ pub(crate) fn rolls_after(band: Band, last: Track, epoch: u64, cell: &Cell) -> i
     ensures value { result ≡ rolls_after band last (epoch_cell epoch cell.now) }
     ensures bound { unsigned_abs result ≤ epoch }
 {
-    if slipped(last, epoch, cell) || !are_legacy(last.source, cell.source) {
+    if has_slipped(last, epoch, cell) || !are_legacy(last.source, cell.source) {
         return 0;
     }
     rolls_from(band, last.rolls, last.offset, cell.offset)
 }
 
-// A value within the limits.
-fn limited(value: i128) -> Option<i64>
+// The value, if it is within the limits of an observation.
+fn within_limits(value: i128) -> Option<i64>
     ensures { result ≡ within_limits value }
 {
     if value < -999_999_999_999 {
@@ -82,5 +82,5 @@ fn limited(value: i128) -> Option<i64>
 pub fn rolled(phase: i64, rolls: i64) -> Option<i64>
     ensures { result ≡ rolled_phase phase rolls }
 {
-    limited(i128::from(phase) + 1_500_000 * i128::from(rolls))
+    within_limits(i128::from(phase) + 1_500_000 * i128::from(rolls))
 }

@@ -3,7 +3,7 @@
 ghost use Rattle.std.specs.Prelude.{◌≡◌, ℕ, ℤ, ◌^◌, ◌<◌, ◌≤◌, ◌↔◌, ◌<ℤ◌, pos, unsigned_abs};
 ghost use Rattle.rtk_obs.specs.Rounding.{IsRounded, rounded_magnitude, rounded};
 
-// The nearest whole number to n / d; of two, the greater one.
+// The whole number nearest to n / d; of two equally near, the greater one.
 fn round_magnitude(n: u128, d: u128) -> u128
     requires positive { 0 < d }
     requires small { n ≤ 2 ^ 127 }

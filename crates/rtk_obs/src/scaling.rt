@@ -9,10 +9,10 @@ use crate::code::Band;
 // The speed of light, in m/s.
 const LIGHT: u32 = 299_792_458;
 
-// Twice the speed of light: 0.0005 m in a millicycle's unit.
+// Twice the speed of light, c: a length in 0.0005 m times f / (2 * c) is a phase in millicycles.
 const TWICE_LIGHT: u32 = 599_584_916;
 
-// 2^29, the units of time of a 1074 in a ms.
+// 2^29: so many units of the times of a 1074 are a ms.
 const MS: u32 = 536_870_912;
 
 // The whole number nearest to n * factor / divisor, a tie going up, in 64 bits.
@@ -55,7 +55,7 @@ pub(crate) fn phase_from_length(band: Band, length: i64) -> i64
     scaled(length, band.frequency(), TWICE_LIGHT)
 }
 
-/// The time of light, in 2^-29 ms, as a range in mm.
+/// A travel time of the signal, in 2^-29 ms, as a range in mm.
 pub(crate) fn range_from_time(time: i64) -> i64
     requires { unsigned_abs time ≤ 2 ^ 40 }
     ensures { result ≡ range_of_time time }
@@ -63,7 +63,7 @@ pub(crate) fn range_from_time(time: i64) -> i64
     scaled(time, LIGHT, MS)
 }
 
-/// The time of light, in 2^-29 ms, as a phase in millicycles.
+/// A travel time of the signal, in 2^-29 ms, as a phase in millicycles.
 pub(crate) fn phase_from_time(band: Band, time: i64) -> i64
     requires { unsigned_abs time ≤ 2 ^ 40 }
     ensures { result ≡ phase_of_time band time }
@@ -73,7 +73,7 @@ pub(crate) fn phase_from_time(band: Band, time: i64) -> i64
 
 /// A signal strength in thousandths of a dB-Hz, from its number of steps; 0 steps mean that it is
 /// not given.
-pub(crate) fn strength(step: u32, steps: u8) -> Option<u32>
+pub(crate) fn strength_from_steps(step: u32, steps: u8) -> Option<u32>
     requires { step ≤ 1000 }
     ensures { result ≡ strength_of step steps }
 {

@@ -8,7 +8,7 @@ use crate::track::Track;
 
 /// Is the lock time shorter than the time since the last phase, or shorter than the last lock time
 /// from the same kind of message?
-pub(crate) fn slipped(last: Track, epoch: u64, cell: &Cell) -> bool
+pub(crate) fn has_slipped(last: Track, epoch: u64, cell: &Cell) -> bool
     requires { last.epoch ≤ epoch }
     ensures { result ≡ has_slipped last (epoch_cell epoch cell.now) }
 {

@@ -16,7 +16,7 @@ ghost use Rattle.rtk_obs.specs.Tracks.{IsBounded, IsLater, track_at, place_of_si
 use crate::cell::Cell;
 use crate::code::{Band, Code};
 use crate::rollover::rolls_after;
-use crate::slip::slipped;
+use crate::slip::has_slipped;
 use crate::time::GpsMs;
 use crate::track::{Digits, Track};
 use std::marker::Model;
@@ -54,8 +54,8 @@ pub fn place_of_signal(satellite: u8, code: Code) -> usize
     usize::from(satellite - 1) * 16 + code.place()
 }
 
-// The digits of a cell after the last phase.
-fn digits(band: Band, last: Option<Track>, epoch: u64, cell: &Cell) -> Digits
+// The digits of a cell, whose phase is compared with the last one.
+fn digits_after(band: Band, last: Option<Track>, epoch: u64, cell: &Cell) -> Digits
     requires later { IsLater last epoch }
     requires range { epoch ≤ LAST_MS }
     requires bounded { IsBounded last }
@@ -71,7 +71,7 @@ fn digits(band: Band, last: Option<Track>, epoch: u64, cell: &Cell) -> Digits
     }
     match last {
         Some(last) => Digits {
-            slip: slipped(last, epoch, cell),
+            slip: has_slipped(last, epoch, cell),
             half: cell.half,
             rolls: rolls_after(band, last, epoch, cell),
         },
@@ -84,7 +84,7 @@ fn digits(band: Band, last: Option<Track>, epoch: u64, cell: &Cell) -> Digits
 }
 
 // The last phase after a cell with these digits.
-fn track_after(last: Option<Track>, digits: Digits, epoch: u64, cell: &Cell) -> Option<Track>
+fn last_after(last: Option<Track>, digits: Digits, epoch: u64, cell: &Cell) -> Option<Track>
     ensures value { (band : Band) → digits ≡ digits_since band last (epoch_cell epoch cell.now) → result ≡ last_after band last (epoch_cell epoch cell.now) }
     ensures bound { IsBounded last → unsigned_abs digits.rolls ≤ epoch → IsBounded result }
 {
@@ -111,7 +111,7 @@ impl Tracks {
         }
     }
 
-    /// The digits of a cell of a satellite and code; its phase is then their last one.
+    /// The digits of a cell of a satellite and code, whose phase is the last one from then on.
     ///
     /// A cell without a phase has neither slip nor half-cycle mark nor rolls, and changes nothing.
     pub fn step(&mut self, satellite: u8, code: Code, epoch: GpsMs, cell: &Cell) -> Digits
@@ -127,8 +127,8 @@ impl Tracks {
         let epoch = epoch.ms();
         let place = place_of_signal(satellite, code);
         let last = self.last[place];
-        let digits = digits(code.band(), last, epoch, cell);
-        self.last[place] = track_after(last, digits, epoch, cell);
+        let digits = digits_after(code.band(), last, epoch, cell);
+        self.last[place] = last_after(last, digits, epoch, cell);
         digits
     }
 }

@@ -2,7 +2,7 @@ use Rattle.std.proofs.Common.{◌≤◌, ◌+◌, ◌-◌, length, drop, vec_cap
 use Rattle.rtk_collect.proofs.MergesLemmas.{Merges}
 use Rattle.rtk_collect.proofs.merging.interleave.Given as goal
 
--- what is left to do of both does the rest
+-- to merge what is left of both lists gives the whole result
 abbrev pub invariant-loop-next : goal.invariant-loop-next
 invariant-loop-next l = record {
   at : l.at ≤ length l.kept;

@@ -3,10 +3,10 @@ use Rattle.std.proofs.lemmas.List.{append-nil}
 use Rattle.rtk_collect.specs.Key.{KeysRise}
 use Rattle.rtk_collect.proofs.CellsLemmas.{any_cell, push-few, merge-items, merge-conflicts, merge-room, put-room, with_cell-rises, with_cell-longer, lower-length}
 use Rattle.rtk_collect.proofs.merging.merge.Goals as goal
-use Rattle.rtk_collect.proofs.merging.merge.Goals.{then-put, else-put}
+use Rattle.rtk_collect.proofs.merging.merge.Goals.{then-add_new, else-add_new}
 
-pub put-requires-clause-room : goal.put-requires-clause-room
-put-requires-clause-room c =
+pub add_new-requires-clause-room : goal.add_new-requires-clause-room
+add_new-requires-clause-room c =
     let h = put-room c.loop-cell.cell-index any_cell c.args.cells.now c.loop-cell.kept.items _ c.loop-cell-test.true c.loop-cell.invariant.room in
     rw c.loop-cell.kept.ok.0 h
 
@@ -15,23 +15,23 @@ loop-cell-preserved c =
     let i = c.loop-cell.cell-index in
     let cells = c.args.cells.now in
     let kept = c.loop-cell.kept.items in
-    let new = c.put.new.kept.items in
+    let new = c.add_new.new.kept.items in
     let l = c.loop-cell-test.true in
-    let p = c.put.ensures.items in
+    let p = c.add_new.ensures.items in
     let low = lower-length c.key_of.result kept in
     let place = rw c.deref.ensures.value at c.place_of_key-at.ensures in
     let longer = with_cell-longer (get_or cells i any_cell) kept in
     let at_le = ap length p in
     let items = merge-items i any_cell cells kept new _ l p c.loop-cell.invariant.items in
     let rises : KeysRise new = rw p (with_cell-rises (get_or cells i any_cell) kept c.loop-cell.invariant.rises) in
-    let room = merge-room i any_cell cells kept new _ _ l c.loop-cell.invariant.rises p c.loop-cell.invariant.room c.put.ensures.capacity in
-    elim c.if-put.branch [
-      | then-put w ↦
-          let n = rw w.if-put.true at c.put.ensures.conflict in
+    let room = merge-room i any_cell cells kept new _ _ l c.loop-cell.invariant.rises p c.loop-cell.invariant.room c.add_new.ensures.capacity in
+    elim c.if-add_new.branch [
+      | then-add_new w ↦
+          let n = rw w.if-add_new.true at c.add_new.ensures.conflict in
           let f = merge-conflicts i any_cell cells kept new c.loop-cell.conflicts _ _ l p n c.loop-cell.invariant.conflicts in
           record { at = omega arith; rises = rises; room = room; few = rw (w.conflicts-is, w.push.ensures) (push-few c.loop-cell.conflicts _ i c.loop-cell.invariant.few); items = items; conflicts = rw (w.conflicts-is, w.push.ensures, w.satellite_code.ensures) f }
-      | else-put w ↦
-          let n = rw w.if-put.false at c.put.ensures.conflict in
+      | else-add_new w ↦
+          let n = rw w.if-add_new.false at c.add_new.ensures.conflict in
           let f = merge-conflicts i any_cell cells kept new c.loop-cell.conflicts _ _ l p n c.loop-cell.invariant.conflicts in
           record { at = omega arith; rises = rises; room = room; few = rw w.conflicts-is (omega (arith, c.loop-cell.invariant.few)); items = items; conflicts = rw (w.conflicts-is, ← append-nil c.loop-cell.conflicts) f }
     ]

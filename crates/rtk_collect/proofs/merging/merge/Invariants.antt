@@ -3,7 +3,7 @@ use Rattle.rtk_collect.specs.Key.{KeysRise}
 use Rattle.rtk_collect.specs.EpochSet.{fresh, with_cells, conflicts}
 use Rattle.rtk_collect.proofs.merging.merge.Given as goal
 
--- what is left to do of the message does the rest
+-- to join the cells that are left of the message gives the whole result
 abbrev pub invariant-loop-cell : goal.invariant-loop-cell
 invariant-loop-cell l = record {
   at : l.at ≤ length l.kept.items;

@@ -7,4 +7,4 @@ use Rattle.rtk_obs.proofs.rollover.rolled.Goals as goal
 pub returns : goal.returns
 returns c =
     let sum : to_z w128 (of_z w128 (to_z w128 (of_z w128 c.from.result) +ℤ to_z w128 (of_z w128 (pos 1_500_000 *ℤ to_z w128 (of_z w128 c.from-2.result))))) ≡ c.args.phase +ℤ pos 1_500_000 *ℤ c.args.rolls = omega (arith, ints) in
-    c.limited.ensures ∙ ap within_limits sum
+    c.within_limits.ensures ∙ ap within_limits sum

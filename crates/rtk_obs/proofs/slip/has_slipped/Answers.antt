@@ -1,5 +1,5 @@
 use Rattle.std.proofs.Common.{rules}
-use Rattle.rtk_obs.proofs.slip.slipped.Goals as goal
+use Rattle.rtk_obs.proofs.slip.has_slipped.Goals as goal
 
 pub returns-then-eq : goal.returns-then-eq
 returns-then-eq c = search rules depth 5 fits 300

@@ -5,7 +5,7 @@ use Rattle.rtk_collect.specs.Key.{key}
 use Rattle.rtk_collect.specs.EpochSet.{cell_under}
 use Rattle.rtk_collect.proofs.CellsLemmas.{conflict-is, with_cell-sets, with_cell-absent, lower-length}
 use Rattle.rtk_collect.proofs.EqualityLemmas.{sources-same}
-use Rattle.rtk_collect.proofs.merging.put.Goals as goal
+use Rattle.rtk_collect.proofs.merging.add_new.Goals as goal
 
 pub returns-in-Some-clause-items : goal.returns-in-Some-clause-items
 returns-in-Some-clause-items c = sym (with_cell-sets c.args.entry c.in-Some.first c.args.kept.now.items c.requires.rises (sym (rw (c.key_of.ensures, c.deref.ensures.value) at c.in-Some.ensures)))
