@@ -17,9 +17,9 @@ use std::alloc::{AllocError, Global};
 /// The most bytes of an input of `check_file`, which holds it whole.
 pub const CHECK_LIMIT: usize = 1_073_741_824;
 
-// What is said of a text, and the line that says it.
+// Whether a text is valid, and the line that says so or why not.
 #[derive(Drop)]
-struct CheckAnswer {
+struct Verdict {
     is_valid: bool,
     line: Vec<u8>,
 }
@@ -58,9 +58,9 @@ fn fault_line(alloc: Global, fault: CheckFault) -> Result<Vec<u8>, AllocError>
     Ok(line)
 }
 
-// The answer of a text.
-fn answer_of(alloc: Global, text: &[u8]) -> Result<CheckAnswer, ToolFault>
-    ensures says { IfOk result (λ answer. SaysVerdict text.now answer.is_valid answer.line.items) }
+// What is said of a text.
+fn verdict_of(alloc: Global, text: &[u8]) -> Result<Verdict, ToolFault>
+    ensures says { IfOk result (λ verdict. SaysVerdict text.now verdict.is_valid verdict.line.items) }
     ensures memory { IfErr result (λ fault. fault ≡ OutOfMemory) }
 {
     let (is_valid, line) = match check(alloc, text) {
@@ -69,7 +69,7 @@ fn answer_of(alloc: Global, text: &[u8]) -> Result<CheckAnswer, ToolFault>
         Err(fault) => (false, fault_line(alloc, fault)),
     };
     match line {
-        Ok(line) => Ok(CheckAnswer { is_valid, line }),
+        Ok(line) => Ok(Verdict { is_valid, line }),
         Err(_) => Err(ToolFault::OutOfMemory),
     }
 }
@@ -110,9 +110,9 @@ pub fn check_file<R: Source, W: Sink>(
     ensures nothing { IfErr result (λ fault. fault ≢ Output → W.taken out.new ≡ W.taken out.old) }
 {
     let text = read_whole(alloc, reader, CHECK_LIMIT)?;
-    let answer = answer_of(alloc, text.as_slice())?;
-    if write_all(out, answer.line.as_slice()).is_err() {
+    let verdict = verdict_of(alloc, text.as_slice())?;
+    if write_all(out, verdict.line.as_slice()).is_err() {
         return Err(ToolFault::Output);
     }
-    Ok(answer.is_valid)
+    Ok(verdict.is_valid)
 }

@@ -41,7 +41,7 @@ pub(crate) fn refuse<R: Eprint>(rt: &R, line: BadWords) -> u8
 }
 
 /// Shows clap's text: what was asked for on standard output, a refusal on standard error.
-pub(crate) fn tell<R: Print + Eprint>(rt: &R, text: &str, status: u8) -> u8
+pub(crate) fn print_clap_text<R: Print + Eprint>(rt: &R, text: &str, status: u8) -> u8
     ensures { result ≤ REFUSED }
 {
     if status != DONE {

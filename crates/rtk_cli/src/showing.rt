@@ -10,7 +10,7 @@ ghost use Rattle.rtk_cli.specs.declared.words.ToolFault.TheVariants.{Input, TooL
 
 use crate::hex_input::decode_hex;
 use crate::input::read_whole;
-use crate::payload_line::put_line;
+use crate::payload_line::put_payload_line;
 use crate::words::ToolFault;
 use rtk_frame::laws::frames_of_a_text;
 use rtk_frame::{Sink, Source, next_frame, write_all};
@@ -23,7 +23,7 @@ pub const SHOW_LIMIT: usize = 16_777_216;
 const FULL: usize = 65_536;
 
 // The capture that the input is.
-fn captured(alloc: Global, text: Vec<u8>, hex: bool) -> Result<Vec<u8>, ToolFault>
+fn capture_from(alloc: Global, text: Vec<u8>, hex: bool) -> Result<Vec<u8>, ToolFault>
     ensures bytes { IfOk result (λ bytes. capture_of hex text.items ≡ Some bytes.items) }
     ensures not_hex { IsErrOf result NotHex → IsNone (capture_of hex text.items) }
     ensures else_memory { IfErr result (λ fault. fault ≢ NotHex → fault ≡ OutOfMemory) }
@@ -65,7 +65,7 @@ fn show_capture<W: Sink>(alloc: Global, capture: &[u8], out: &mut W) -> Result<u
     let mut from = 0;
     let mut count = 0u64;
     while let Some(found) = next_frame(capture, from) {
-        let Ok(()) = put_line(&mut lines, found.payload) else {
+        let Ok(()) = put_payload_line(&mut lines, found.payload) else {
             return Err(ToolFault::OutOfMemory);
         };
         from = found.place + found.payload.len() + 6;
@@ -120,6 +120,6 @@ pub fn show<R: Source, W: Sink>(
         IsBeforeOutput fault → W.taken out.new ≡ W.taken out.old) }
 {
     let text = read_whole(alloc, reader, SHOW_LIMIT)?;
-    let capture = captured(alloc, text, hex)?;
+    let capture = capture_from(alloc, text, hex)?;
     show_capture(alloc, capture.as_slice(), out)
 }
