@@ -1,5 +1,5 @@
-//! The command `check`: whether a text is one of this project's files, and which line is the first
-//! to blame.
+//! The command `check`: whether a text is one of this project's files, and if not, the first line
+//! that is wrong.
 
 ghost use Rattle.std.specs.Prelude.{◌≡◌, ◌≢◌, ◌+◌, ◌≤◌, ◌++◌, Err, length, IfOk, OnOk, IfErr, IsErrOf};
 ghost use Rattle.rtk_frame.specs.Stream.{CountRises};
@@ -88,11 +88,11 @@ pub fn check_file<R: Source, W: Sink>(
     ensures told { IfOk result (λ valid. GivesText (R.given reader.old) (R.given reader.new) (λ text.
         (length text ≤ CHECK_LIMIT) × Tells text valid (W.taken out.old) (W.taken out.new))) }
 
-    // What is told of was read to its end.
+    // What the answer is about was read to its end.
     ensures to_the_end { result ≢ Err Input → result ≢ Err TooLong → result ≢ Err OutOfMemory
         → R.is_at_end reader.new }
 
-    // Each fault only where its cause is, and no call failed without its fault.
+    // Each fault comes only if its cause is there, and no call fails without its fault.
     ensures input { IsErrOf result Input → CountRises (R.failures reader.old) (R.failures reader.new) }
     ensures no_failed_read { result ≢ Err Input → R.failures reader.new ≡ R.failures reader.old }
     ensures too_long { IsErrOf result TooLong
@@ -101,7 +101,7 @@ pub fn check_file<R: Source, W: Sink>(
     ensures output { IsErrOf result Output → CountRises (W.failures out.old) (W.failures out.new) }
     ensures no_failed_write { result ≢ Err Output → W.failures out.new ≡ W.failures out.old }
 
-    // Whatever the answer, so much was read at most, and so much is out.
+    // Whatever the answer: at most this much was read, and this much is out.
     ensures within { GivesText (R.given reader.old) (R.given reader.new) (λ text.
         length text ≤ CHECK_LIMIT + 1) }
     ensures part { IsErrOf result Output

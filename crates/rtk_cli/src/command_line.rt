@@ -95,8 +95,8 @@ fn links_arg<'a>(alloc: Global) -> Arg<'a> {
         .num_args(1..)
 }
 
-// What each conversion is told. The words stand in two functions, for the same reason as each
-// option has its own.
+// `convert` with the options that it must have. Its arguments stand in two functions for the same
+// reason for which each option has its own.
 fn convert_with_required<'a>(alloc: Global) -> Result<Command<'a>, AllocError> {
     Command::new(alloc, "convert")
         .about("Converts captures of one station to a RINEX 3.05 observation file")
@@ -120,7 +120,7 @@ fn program_alone<'a>(alloc: Global) -> Result<Command<'a>, AllocError> {
         .bin_name(NAME)
 }
 
-// The program takes its commands one by one: the check of a function that takes them all is long.
+// The commands are added one by one: the check of a function that adds them all takes long.
 fn program_with_convert<'a>(alloc: Global) -> Result<Command<'a>, AllocError> {
     program_alone(alloc)?
         .no_binary_name(true)
@@ -152,7 +152,8 @@ fn clap_fault(alloc: Global, error: &Error) -> WordsFault
     }
 }
 
-// What clap should have refused: words without a command or a value that each command needs.
+// The fault of words that clap should have refused: a command is missing, or a value that the
+// command needs.
 fn missing_word_fault(alloc: Global, program: &mut Command<'_>) -> WordsFault
     ensures { HasStatus result }
 {

@@ -83,7 +83,7 @@ fn line_of_setup(fault: SetupFault) -> BadWords {
     }
 }
 
-/// The links that words name; `None` exactly where they are not 1 to 16, or standard input stands
+/// The links that words name; `None` exactly if they are not 1 to 16, or standard input stands
 /// twice.
 pub(crate) fn links_of<'a>(names: &[&'a str]) -> Option<ArrayVec<&'a str, 16>>
     ensures { MatchOption result (¬ (AreLinkNames (map (λ n. n.now) names.now)))

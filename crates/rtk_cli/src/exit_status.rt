@@ -1,4 +1,4 @@
-//! How the program ends: its exit statuses, and what it says where the work is not done.
+//! How the program ends: its exit statuses, and what it says if the work is not done.
 
 ghost use Rattle.std.specs.Prelude.{◌≡◌, ◌≤◌};
 
@@ -16,7 +16,7 @@ pub(crate) const REFUSED: u8 = 2;
 /// `check` says no: the text is not one that `convert` could have written.
 pub(crate) const NOT_VALID: u8 = 3;
 
-/// Says why the work is not done. Where standard error is closed nobody hears it.
+/// Says why the work is not done. If standard error is closed nobody reads it.
 pub(crate) fn fail<R: Eprint>(rt: &R, fault: ToolFault) -> u8
     ensures { result ≡ FAILED }
 {

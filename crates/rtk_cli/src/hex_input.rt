@@ -8,7 +8,7 @@ use crate::words::ToolFault;
 use hex::FromHexError;
 use std::alloc::Global;
 
-// A byte that stands between hex digits and says nothing.
+// A byte that may stand between hex digits and is left out.
 fn is_blank_byte(byte: u8) -> bool
     ensures { result ≡ is_white_space byte }
 {

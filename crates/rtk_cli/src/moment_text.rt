@@ -7,7 +7,7 @@ ghost use Rattle.rtk_cli.specs.Steps.MomentText.{moment_text, HasDigits, WritesM
 
 use rtk_obs::{Civil, GpsMs, of_civil};
 
-// The number that two digits write; of other characters some number below 100.
+// The number that two digits write; for other characters some number below 100.
 fn two_digit_number(tens: u8, ones: u8) -> u8
     ensures value { (n : ℕ) → n < 100 → tens ≡ 48 + n / 10 % 10 → ones ≡ 48 + n % 10 → result ≡ n }
     ensures bound { result < 100 }
@@ -70,7 +70,7 @@ fn reading_in_text(text: &[u8]) -> Option<Civil>
 }
 
 /// The moment that a text writes, as `2024-05-17T12:00:00`: a whole second, in 19 characters.
-/// `None` exactly where the text is no such text, the day or the time of day doesn't exist, or the
+/// `None` exactly if the text has another form, the day or the time of day doesn't exist, or the
 /// moment lies outside `GpsMs`.
 pub(crate) fn moment_of(text: &[u8]) -> Option<GpsMs>
     ensures { MatchOption result ((t : ℕ) → t ≤ LAST_MS → ¬ (WritesMoment text.now t)) (λ t. WritesMoment text.now t) }

@@ -132,7 +132,8 @@ fn put_unread(line: &mut Vec<u8>, fault: DecodeFault) -> Result<(), AllocError>
     }
 }
 
-/// Appends the line of a payload, with its line feed. After a refusal a part of it may stand there.
+/// Appends the line of a payload, with its line feed. If memory is refused, a part of the line may
+/// stand there.
 pub(crate) fn put_payload_line(lines: &mut Vec<u8>, payload: &[u8]) -> Result<(), AllocError>
     ensures { OnOk result ((line : List ℕ) × IsLineOf payload.now line
         × (lines.new.items ≡ lines.old.items ++ line)) }

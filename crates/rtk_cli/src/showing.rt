@@ -19,7 +19,7 @@ use std::alloc::Global;
 /// The most bytes of an input of `show`, which holds it whole.
 pub const SHOW_LIMIT: usize = 16_777_216;
 
-/// So many bytes of lines are written at once.
+/// Lines are written when they have this many bytes, and at the end.
 const FULL: usize = 65_536;
 
 // The capture that the input is.
@@ -81,8 +81,8 @@ fn show_capture<W: Sink>(alloc: Global, capture: &[u8], out: &mut W) -> Result<u
 /// Reads an input whole, as bytes or as hex text, and writes a line for each frame of the capture
 /// that it is. Answers how many lines.
 ///
-/// The faults are looked for in the order of `ToolFault`, but for memory and a failed write, which
-/// come where they come.
+/// The faults are looked for in the order of `ToolFault`, but refused memory and a failed write are
+/// faults when they are met.
 pub fn show<R: Source, W: Sink>(
     alloc: Global,
     reader: &mut R,
@@ -97,7 +97,7 @@ pub fn show<R: Source, W: Sink>(
     ensures to_the_end { result ≢ Err Input → result ≢ Err TooLong → result ≢ Err OutOfMemory
         → R.is_at_end reader.new }
 
-    // Each fault only where its cause is, and no call failed without its fault.
+    // Each fault comes only if its cause is there, and no call fails without its fault.
     ensures input { IsErrOf result Input → CountRises (R.failures reader.old) (R.failures reader.new) }
     ensures no_failed_read { result ≢ Err Input → R.failures reader.new ≡ R.failures reader.old }
     ensures too_long { IsErrOf result TooLong
@@ -111,7 +111,7 @@ pub fn show<R: Source, W: Sink>(
         → GivesText (R.given reader.old) (R.given reader.new) (λ text.
         (length text ≤ SHOW_LIMIT) × IsSome (capture_of hex text)) }
 
-    // Whatever the answer, so much was read at most, and so much is out.
+    // Whatever the answer: at most this much was read, and this much is out.
     ensures within { GivesText (R.given reader.old) (R.given reader.new) (λ text.
         length text ≤ SHOW_LIMIT + 1) }
     ensures part { GivesText (R.given reader.old) (R.given reader.new) (λ text.

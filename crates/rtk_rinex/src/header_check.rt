@@ -104,7 +104,7 @@ fn position_in(line: &[u8], height: u16) -> Option<Position>
     )
 }
 
-// The position that its line shows, of this height.
+// The position that its line shows, with this height.
 fn read_position(line: &[u8], height: u16) -> Position
     ensures height { result.height ≡ height }
     ensures shown { (s : PositionView) → IsPositionView s
@@ -153,7 +153,7 @@ fn text_line(text: &[u8], lines: usize) -> &[u8]
     columns_at(text, 81 * lines, 81)
 }
 
-// The name of a code in the lines of observation types, before which `before` codes stand.
+// The name of the code that follows `before` codes in the lines of observation types.
 fn read_name(text: &[u8], before: usize) -> &[u8]
     requires { before < 16 }
     ensures { result.now ≡ name_at before text.now }
