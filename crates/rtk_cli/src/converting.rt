@@ -99,8 +99,8 @@ fn convert<R: Source, O: Sink, L: Sink>(
     rtk_convert::run(alloc, setup, links, out, log, MOST_READS)
 }
 
-/// The exit status of a conversion, by its answer and by whether all that it wrote is out; the fault
-/// line goes to standard error.
+/// The exit status of a conversion, by its answer and by whether all that it wrote is out; the
+/// fault line goes to standard error.
 pub fn conversion_status<R: Eprint>(rt: &R, done: Result<Counts, ConvertFault>, is_out: bool) -> u8
     ensures { result ≡ status_of done is_out }
 {
