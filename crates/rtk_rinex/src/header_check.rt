@@ -22,7 +22,7 @@ use crate::header_text::put_header;
 use crate::record_text::trimmed_len;
 use rtk_obs::{Civil, Code, GpsMs, Position, of_civil};
 
-const ALL: [Code; 16] = [
+const ALL_CODES: [Code; 16] = [
     Code::C1C,
     Code::C1P,
     Code::C1W,
@@ -214,7 +214,7 @@ fn read_codes(text: &[u8]) -> [Code; 16]
     ensures shown { (listed : List Code) (i : ℕ) (d : Code) → AllPairs (λ a b. a ≢ b) listed → i < length listed → i < 16
         → ((j : ℕ) → j ≤ i → name_at j text.now ≡ name_of (slice_index_or listed j d)) → slice_index_or result i d ≡ slice_index_or listed i d }
 {
-    let mut all = ALL;
+    let mut all = ALL_CODES;
     for i in 0..16 {
         move_named_code(&mut all, read_name(text, i), i);
     }
