@@ -7,7 +7,7 @@ use Rattle.hex.specs.Hex.{decode_of}
 abbrev pub is_white_space : ℕ → Bool
 is_white_space byte = (byte == 32) || (byte == 9) || (byte == 13) || (byte == 10)
 
--- the bytes of a hex text: without blanks, tabs and line ends it is pairs of hex digits, a pair a
--- byte; none where it isn't
+-- the bytes of a hex text: without blanks, tabs and line ends it is pairs of hex digits, a pair for
+-- each byte; none if it is not
 abbrev pub bytes_of_hex : List ℕ → Option (List ℕ)
 bytes_of_hex text = result_ok (decode_of (filter (λ byte. not (is_white_space byte)) text))

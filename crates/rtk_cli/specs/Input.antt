@@ -8,7 +8,7 @@ use Rattle.rtk_cli.specs.Hex.{bytes_of_hex}
 abbrev pub GivesText : Option (List ℕ) → Option (List ℕ) → (List ℕ → Type 0) → Type 0
 GivesText before after P = (text : List ℕ) × (after ≡ with_more before text) × P text
 
--- the capture that an input is: its bytes, or, where it is hex text, the bytes that it stands for
+-- the capture that an input is: its bytes, or, if it is hex text, the bytes that it stands for
 -- (this project's rule)
 abbrev pub capture_of : Bool → List ℕ → Option (List ℕ)
 capture_of false text = Some text

@@ -25,7 +25,7 @@ four_decimals n = 46 ∷ (48 + n / 1000 % 10) ∷ (48 + n / 100 % 10) ∷ (48 + 
 unfoldable pub metres : ℕ → List ℕ
 metres n = decimal (n / 10000) ++ four_decimals n
 
--- a coordinate in 0.0001 m: a minus sign where it is negative, and its length
+-- a coordinate in 0.0001 m: a minus sign if it is negative, and its length
 unfoldable pub coordinate : ℤ → List ℕ
 coordinate v = sign_text (is_negative v) ++ metres (unsigned_abs v)
 
@@ -69,7 +69,7 @@ unread_text (Short number) = codes "refused M3 " ++ decimal number
 unread_text (EpochRange number) = codes "refused M4 " ++ decimal number
 unread_text TooManyCells = codes "refused M5 1074"
 
--- either is ended by a line feed
+-- the line of a message or of a payload that is no message: its text, and a line feed
 abbrev pub line_of : Result Message DecodeFault → List ℕ
 line_of (Ok m) = message_text m ++ 10 ∷ []
 line_of (Err fault) = unread_text fault ++ 10 ∷ []

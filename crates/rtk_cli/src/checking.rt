@@ -1,5 +1,5 @@
-//! The command `check`: whether a text is one of this project's files, and which line is the first
-//! to blame.
+//! The command `check`: whether a text is one of this project's files, and if not, the first line
+//! that is wrong.
 
 ghost use Rattle.std.specs.Prelude.{◌≡◌, ◌≢◌, ◌+◌, ◌≤◌, ◌++◌, Err, length, IfOk, OnOk, IfErr, IsErrOf};
 ghost use Rattle.rtk_frame.specs.Stream.{CountRises};
@@ -17,9 +17,9 @@ use std::alloc::{AllocError, Global};
 /// The most bytes of an input of `check_file`, which holds it whole.
 pub const CHECK_LIMIT: usize = 1_073_741_824;
 
-// What is said of a text, and the line that says it.
+// Whether a text is valid, and the line that says so or why not.
 #[derive(Drop)]
-struct CheckAnswer {
+struct Verdict {
     is_valid: bool,
     line: Vec<u8>,
 }
@@ -58,9 +58,9 @@ fn fault_line(alloc: Global, fault: CheckFault) -> Result<Vec<u8>, AllocError>
     Ok(line)
 }
 
-// The answer of a text.
-fn answer_of(alloc: Global, text: &[u8]) -> Result<CheckAnswer, ToolFault>
-    ensures says { IfOk result (λ answer. SaysVerdict text.now answer.is_valid answer.line.items) }
+// What is said of a text.
+fn verdict_of(alloc: Global, text: &[u8]) -> Result<Verdict, ToolFault>
+    ensures says { IfOk result (λ verdict. SaysVerdict text.now verdict.is_valid verdict.line.items) }
     ensures memory { IfErr result (λ fault. fault ≡ OutOfMemory) }
 {
     let (is_valid, line) = match check(alloc, text) {
@@ -69,7 +69,7 @@ fn answer_of(alloc: Global, text: &[u8]) -> Result<CheckAnswer, ToolFault>
         Err(fault) => (false, fault_line(alloc, fault)),
     };
     match line {
-        Ok(line) => Ok(CheckAnswer { is_valid, line }),
+        Ok(line) => Ok(Verdict { is_valid, line }),
         Err(_) => Err(ToolFault::OutOfMemory),
     }
 }
@@ -88,11 +88,11 @@ pub fn check_file<R: Source, W: Sink>(
     ensures told { IfOk result (λ valid. GivesText (R.given reader.old) (R.given reader.new) (λ text.
         (length text ≤ CHECK_LIMIT) × Tells text valid (W.taken out.old) (W.taken out.new))) }
 
-    // What is told of was read to its end.
+    // What the answer is about was read to its end.
     ensures to_the_end { result ≢ Err Input → result ≢ Err TooLong → result ≢ Err OutOfMemory
         → R.is_at_end reader.new }
 
-    // Each fault only where its cause is, and no call failed without its fault.
+    // Each fault comes only if its cause is there, and no call fails without its fault.
     ensures input { IsErrOf result Input → CountRises (R.failures reader.old) (R.failures reader.new) }
     ensures no_failed_read { result ≢ Err Input → R.failures reader.new ≡ R.failures reader.old }
     ensures too_long { IsErrOf result TooLong
@@ -101,7 +101,7 @@ pub fn check_file<R: Source, W: Sink>(
     ensures output { IsErrOf result Output → CountRises (W.failures out.old) (W.failures out.new) }
     ensures no_failed_write { result ≢ Err Output → W.failures out.new ≡ W.failures out.old }
 
-    // Whatever the answer, so much was read at most, and so much is out.
+    // Whatever the answer: at most this much was read, and this much is out.
     ensures within { GivesText (R.given reader.old) (R.given reader.new) (λ text.
         length text ≤ CHECK_LIMIT + 1) }
     ensures part { IsErrOf result Output
@@ -110,9 +110,9 @@ pub fn check_file<R: Source, W: Sink>(
     ensures nothing { IfErr result (λ fault. fault ≢ Output → W.taken out.new ≡ W.taken out.old) }
 {
     let text = read_whole(alloc, reader, CHECK_LIMIT)?;
-    let answer = answer_of(alloc, text.as_slice())?;
-    if write_all(out, answer.line.as_slice()).is_err() {
+    let verdict = verdict_of(alloc, text.as_slice())?;
+    if write_all(out, verdict.line.as_slice()).is_err() {
         return Err(ToolFault::Output);
     }
-    Ok(answer.is_valid)
+    Ok(verdict.is_valid)
 }

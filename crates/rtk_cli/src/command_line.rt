@@ -22,72 +22,72 @@ const VERSION: &str = "0.1.0";
 const WINDOW: &str = "64";
 
 // The name of the one input of a command.
-fn file<'a>(alloc: Global, help: &'a str) -> Arg<'a> {
+fn file_arg<'a>(alloc: Global, help: &'a str) -> Arg<'a> {
     Arg::new(alloc, "FILE").help(help).required(true)
 }
 
 // An argument by its name with two hyphens.
-fn flag<'a>(alloc: Global, name: &'a str, help: &'a str) -> Arg<'a> {
+fn flag_arg<'a>(alloc: Global, name: &'a str, help: &'a str) -> Arg<'a> {
     Arg::new(alloc, name).long(name).help(help)
 }
 
-fn hex<'a>(alloc: Global) -> Arg<'a> {
-    flag(alloc, "hex", "The capture is hex text").action(ArgAction::SetTrue)
+fn hex_arg<'a>(alloc: Global) -> Arg<'a> {
+    flag_arg(alloc, "hex", "The capture is hex text").action(ArgAction::SetTrue)
 }
 
-fn show<'a>(alloc: Global) -> Result<Command<'a>, AllocError> {
+fn show_command<'a>(alloc: Global) -> Result<Command<'a>, AllocError> {
     Command::new(alloc, "show")
         .about("Shows the messages of a capture, a line for each frame")
-        .arg(hex(alloc))?
-        .arg(file(alloc, "The capture, or stdin for standard input"))
+        .arg(hex_arg(alloc))?
+        .arg(file_arg(alloc, "The capture, or stdin for standard input"))
 }
 
-fn check<'a>(alloc: Global) -> Result<Command<'a>, AllocError> {
+fn check_command<'a>(alloc: Global) -> Result<Command<'a>, AllocError> {
     Command::new(alloc, "check")
         .about("Checks whether a file is one that convert could have written")
-        .arg(file(alloc, "The file, or stdin for standard input"))
+        .arg(file_arg(alloc, "The file, or stdin for standard input"))
 }
 
 // An option of `convert` that has a value. Each has a function of its own, since the check of a
 // function that builds them all takes minutes.
-fn option<'a>(alloc: Global, name: &'a str, value: &'a str, help: &'a str) -> Arg<'a> {
-    flag(alloc, name, help).value_name(value)
+fn option_arg<'a>(alloc: Global, name: &'a str, value: &'a str, help: &'a str) -> Arg<'a> {
+    flag_arg(alloc, name, help).value_name(value)
 }
 
-fn station<'a>(alloc: Global) -> Arg<'a> {
-    option(alloc, "station", "N", "The reference station, 0 to 4095")
+fn station_arg<'a>(alloc: Global) -> Arg<'a> {
+    option_arg(alloc, "station", "N", "The reference station, 0 to 4095")
         .required(true)
         .value_parser(value_parser!(u16).range(0..=4095))
 }
 
-fn near<'a>(alloc: Global) -> Arg<'a> {
+fn near_arg<'a>(alloc: Global) -> Arg<'a> {
     let help = "A GPS time within half a week of all messages";
-    option(alloc, "near", "T", help).required(true)
+    option_arg(alloc, "near", "T", help).required(true)
 }
 
-fn made<'a>(alloc: Global) -> Arg<'a> {
+fn made_arg<'a>(alloc: Global) -> Arg<'a> {
     let help = "The UTC time that the file shows as its making";
-    option(alloc, "made", "T", help).required(true)
+    option_arg(alloc, "made", "T", help).required(true)
 }
 
-fn marker<'a>(alloc: Global) -> Arg<'a> {
-    option(alloc, "marker", "NAME", "The marker's name")
+fn marker_arg<'a>(alloc: Global) -> Arg<'a> {
+    option_arg(alloc, "marker", "NAME", "The marker's name")
         .required(true)
         .allow_hyphen_values(true)
 }
 
-fn codes<'a>(alloc: Global) -> Arg<'a> {
-    option(alloc, "codes", "LIST", "The observation codes, as 1C,2W").required(true)
+fn codes_arg<'a>(alloc: Global) -> Arg<'a> {
+    option_arg(alloc, "codes", "LIST", "The observation codes, as 1C,2W").required(true)
 }
 
-fn window<'a>(alloc: Global) -> Arg<'a> {
+fn window_arg<'a>(alloc: Global) -> Arg<'a> {
     let help = "How many epochs are kept open, 2 to 4096";
-    option(alloc, "window", "N", help)
+    option_arg(alloc, "window", "N", help)
         .default_value(WINDOW)
         .value_parser(value_parser!(u16).range(2..=4096))
 }
 
-fn links<'a>(alloc: Global) -> Arg<'a> {
+fn links_arg<'a>(alloc: Global) -> Arg<'a> {
     Arg::new(alloc, "LINK")
         .help("The captures, 1 to 16; stdin is standard input")
         .required(true)
@@ -95,49 +95,49 @@ fn links<'a>(alloc: Global) -> Arg<'a> {
         .num_args(1..)
 }
 
-// What each conversion is told. The words stand in two functions, for the same reason as each
-// option has its own.
-fn required_options<'a>(alloc: Global) -> Result<Command<'a>, AllocError> {
+// `convert` with the options that it must have. Its arguments stand in two functions for the same
+// reason for which each option has its own.
+fn convert_with_required<'a>(alloc: Global) -> Result<Command<'a>, AllocError> {
     Command::new(alloc, "convert")
         .about("Converts captures of one station to a RINEX 3.05 observation file")
-        .arg(station(alloc))?
-        .arg(near(alloc))?
-        .arg(made(alloc))?
-        .arg(marker(alloc))
+        .arg(station_arg(alloc))?
+        .arg(near_arg(alloc))?
+        .arg(made_arg(alloc))?
+        .arg(marker_arg(alloc))
 }
 
-fn convert<'a>(alloc: Global) -> Result<Command<'a>, AllocError> {
-    required_options(alloc)?
-        .arg(codes(alloc))?
-        .arg(window(alloc))?
-        .arg(links(alloc))
+fn convert_command<'a>(alloc: Global) -> Result<Command<'a>, AllocError> {
+    convert_with_required(alloc)?
+        .arg(codes_arg(alloc))?
+        .arg(window_arg(alloc))?
+        .arg(links_arg(alloc))
 }
 
-fn root<'a>(alloc: Global) -> Result<Command<'a>, AllocError> {
+fn program_alone<'a>(alloc: Global) -> Result<Command<'a>, AllocError> {
     Command::new(alloc, NAME)
         .about("RTCM 3 observation streams to RINEX 3.05")
         .version(VERSION)
         .bin_name(NAME)
 }
 
-// The program takes its commands one by one: the check of a function that takes them all is long.
-fn with_convert<'a>(alloc: Global) -> Result<Command<'a>, AllocError> {
-    root(alloc)?
+// The commands are added one by one: the check of a function that adds them all takes long.
+fn program_with_convert<'a>(alloc: Global) -> Result<Command<'a>, AllocError> {
+    program_alone(alloc)?
         .no_binary_name(true)
         .subcommand_required(true)
-        .subcommand(convert(alloc)?)
+        .subcommand(convert_command(alloc)?)
 }
 
-fn with_show<'a>(alloc: Global) -> Result<Command<'a>, AllocError> {
-    with_convert(alloc)?.subcommand(show(alloc)?)
+fn program_with_show<'a>(alloc: Global) -> Result<Command<'a>, AllocError> {
+    program_with_convert(alloc)?.subcommand(show_command(alloc)?)
 }
 
-fn program<'a>(alloc: Global) -> Result<Command<'a>, AllocError> {
-    with_show(alloc)?.subcommand(check(alloc)?)
+fn program_command<'a>(alloc: Global) -> Result<Command<'a>, AllocError> {
+    program_with_show(alloc)?.subcommand(check_command(alloc)?)
 }
 
 // The text that clap has for an error. What was asked for, as help, goes to standard output.
-fn refused(alloc: Global, error: &Error) -> WordsFault
+fn clap_fault(alloc: Global, error: &Error) -> WordsFault
     ensures zero_or_two { HasStatus result }
     ensures status { (text : _) (status : ℕ)
         → result ≡ Clap text status → IsStatusOf (kind_of error.now) status }
@@ -152,21 +152,22 @@ fn refused(alloc: Global, error: &Error) -> WordsFault
     }
 }
 
-// What clap should have refused: words without a command or a value that each command needs.
-fn refused_by_us(alloc: Global, program: &mut Command<'_>) -> WordsFault
+// The fault of words that clap should have refused: a command is missing, or a value that the
+// command needs.
+fn missing_word_fault(alloc: Global, program: &mut Command<'_>) -> WordsFault
     ensures { HasStatus result }
 {
     match program.error(
         ErrorKind::MissingRequiredArgument,
         "a command or a value is missing",
     ) {
-        Ok(error) => refused(alloc, &error),
+        Ok(error) => clap_fault(alloc, &error),
         Err(_) => WordsFault::OutOfMemory,
     }
 }
 
 // The values of the options of `convert`. clap refuses words that lack one, so there is always one.
-fn options<'a>(matches: &ArgMatches<'a>) -> Option<Options<'a>> {
+fn option_values<'a>(matches: &ArgMatches<'a>) -> Option<Options<'a>> {
     Some(Options {
         station: matches.get_one::<u16>("station")?,
         near: matches.get_str("near")?,
@@ -197,14 +198,14 @@ pub fn job<'a>(alloc: Global, words: &'a [&'a str]) -> Result<Job<'a>, WordsFaul
     ensures limits { IfOk result IsWithinLimits }
     ensures status { IfErr result HasStatus }
 {
-    let mut program = program(alloc)?;
+    let mut program = program_command(alloc)?;
     let matches = match program.try_get_matches_from_mut(words) {
         Ok(matches) => matches,
-        Err(error) => return Err(refused(alloc, &error)),
+        Err(error) => return Err(clap_fault(alloc, &error)),
     };
     let job = match matches.subcommand() {
         Some(("convert", convert)) => {
-            if let Some(options) = options(convert) {
+            if let Some(options) = option_values(convert) {
                 return conversion(alloc, &options, convert.get_strs("LINK").unwrap_or(&[]));
             }
             None
@@ -215,6 +216,6 @@ pub fn job<'a>(alloc: Global, words: &'a [&'a str]) -> Result<Job<'a>, WordsFaul
     };
     match job {
         Some(job) => Ok(job),
-        None => Err(refused_by_us(alloc, &mut program)),
+        None => Err(missing_word_fault(alloc, &mut program)),
     }
 }

@@ -42,26 +42,26 @@ pub(crate) fn conversion<'a>(
     ensures status { IfErr result HasStatus }
 {
     let Some(near) = moment_of(options.near.as_bytes()) else {
-        return Err(bad(BadWords::Near));
+        return Err(words_fault(BadWords::Near));
     };
     let Some(made) = moment_of(options.made.as_bytes()) else {
-        return Err(bad(BadWords::Made));
+        return Err(words_fault(BadWords::Made));
     };
     let codes = codes_of(alloc, options.codes.as_bytes())?;
     let head = match Head::new(options.marker.as_bytes(), codes.as_slice(), made) {
         Ok(head) => head,
-        Err(fault) => return Err(bad(line_of_head(fault))),
+        Err(fault) => return Err(words_fault(line_of_head(fault))),
     };
     let Some(links) = links_of(names) else {
-        return Err(bad(BadWords::Links));
+        return Err(words_fault(BadWords::Links));
     };
     match Setup::new(options.station, near, head, usize::from(options.window)) {
         Ok(setup) => Ok(Job::Convert { setup, links }),
-        Err(fault) => Err(bad(line_of_setup(fault))),
+        Err(fault) => Err(words_fault(line_of_setup(fault))),
     }
 }
 
-fn bad(line: BadWords) -> WordsFault
+fn words_fault(line: BadWords) -> WordsFault
     ensures { result ≡ Bad line }
 {
     WordsFault::Bad { line }
@@ -83,7 +83,7 @@ fn line_of_setup(fault: SetupFault) -> BadWords {
     }
 }
 
-/// The links that words name; `None` exactly where they are not 1 to 16, or standard input stands
+/// The links that words name; `None` exactly if they are not 1 to 16, or standard input stands
 /// twice.
 pub(crate) fn links_of<'a>(names: &[&'a str]) -> Option<ArrayVec<&'a str, 16>>
     ensures { MatchOption result (¬ (AreLinkNames (map (λ n. n.now) names.now)))

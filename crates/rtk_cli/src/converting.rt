@@ -16,11 +16,12 @@ use std::fs::Files;
 use std::io::{BufReader, BufWriter, Write};
 use std::{fs, io};
 
-/// So many bytes of a capture are read at once. It is a multiple of the 512 that a conversion asks
+/// How many bytes of a capture are read at once. It is a multiple of the 512 that a conversion asks
 /// for, so that a file gives it 512 at a time, up to its end.
 const READ_AT_ONCE: usize = 32_768;
 
-/// So many bytes of the file and of the report are gathered, where no link is standard input.
+/// How many bytes of the file and of the report are gathered before they are written, if no link is
+/// standard input.
 const GATHERED: usize = 65_536;
 
 /// The most reads of a conversion.
@@ -98,7 +99,7 @@ fn convert<R: Source, O: Sink, L: Sink>(
     rtk_convert::run(alloc, setup, links, out, log, MOST_READS)
 }
 
-/// The exit status of a conversion that was done or broke off and whose output is out or not; the
+/// The exit status of a conversion, by its answer and by whether all that it wrote is out; the
 /// fault line goes to standard error.
 pub fn conversion_status<R: Eprint>(rt: &R, done: Result<Counts, ConvertFault>, is_out: bool) -> u8
     ensures { result ≡ status_of done is_out }
@@ -118,7 +119,7 @@ pub fn conversion_status<R: Eprint>(rt: &R, done: Result<Counts, ConvertFault>, 
 }
 
 /// Converts captures: the file goes to standard output, the report to `report`. All captures are
-/// opened before one is read. Where one is standard input each write goes straight on, so that the
+/// opened before one is read. If one is standard input each write goes straight on, so that the
 /// file can be followed. At the end the file is out before the report, and the report before a
 /// fault line.
 pub(crate) fn convert_links<R: Files + Input + Print + Eprint + AllocGlobal, W: Write + Drop>(

@@ -1,4 +1,4 @@
-//! How the program ends: its exit statuses, and what it says where the work is not done.
+//! How the program ends: its exit statuses, and what it says if the work is not done.
 
 ghost use Rattle.std.specs.Prelude.{◌≡◌, ◌≤◌};
 
@@ -16,7 +16,7 @@ pub(crate) const REFUSED: u8 = 2;
 /// `check` says no: the text is not one that `convert` could have written.
 pub(crate) const NOT_VALID: u8 = 3;
 
-/// Says why the work is not done. Where standard error is closed nobody hears it.
+/// Says why the work is not done. If standard error is closed nobody reads it.
 pub(crate) fn fail<R: Eprint>(rt: &R, fault: ToolFault) -> u8
     ensures { result ≡ FAILED }
 {
@@ -41,7 +41,7 @@ pub(crate) fn refuse<R: Eprint>(rt: &R, line: BadWords) -> u8
 }
 
 /// Shows clap's text: what was asked for on standard output, a refusal on standard error.
-pub(crate) fn tell<R: Print + Eprint>(rt: &R, text: &str, status: u8) -> u8
+pub(crate) fn print_clap_text<R: Print + Eprint>(rt: &R, text: &str, status: u8) -> u8
     ensures { result ≤ REFUSED }
 {
     if status != DONE {

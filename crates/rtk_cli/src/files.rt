@@ -23,7 +23,7 @@ impl<F: Read + Drop, I: Read + Drop> Read for Capture<F, I> {
     }
 }
 
-/// A reader of std's as a source. Nothing is known of its bytes; its calls are counted.
+/// A reader of std as a source. Nothing is known of its bytes; its calls are counted.
 #[derive(Drop)]
 pub(crate) struct Reads<R: Read> {
     inner: R,
@@ -72,7 +72,7 @@ impl<R: Read> Source for Reads<R> {
     }
 }
 
-/// A writer of std's as a sink. Nothing is known of its bytes; its failed calls are counted.
+/// A writer of std as a sink. Nothing is known of its bytes; its failed calls are counted.
 #[derive(Drop)]
 pub(crate) struct Writes<W: Write> {
     inner: W,

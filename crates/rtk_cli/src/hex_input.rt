@@ -8,8 +8,8 @@ use crate::words::ToolFault;
 use hex::FromHexError;
 use std::alloc::Global;
 
-// A byte that stands between hex digits and says nothing.
-fn is_blank_byte(byte: u8) -> bool
+// A byte that may stand between hex digits and is left out.
+fn is_white_space(byte: u8) -> bool
     ensures { result ≡ is_white_space byte }
 {
     matches!(byte, b' ' | b'\t' | b'\r' | b'\n')
@@ -24,7 +24,7 @@ pub(crate) fn decode_hex(alloc: Global, text: &[u8]) -> Result<Vec<u8>, ToolFaul
 {
     let mut digits = Vec::with_capacity(alloc, text.len()).map_err(|_| ToolFault::OutOfMemory)?;
     for byte in text {
-        if !is_blank_byte(*byte) && digits.push(*byte).is_err() {
+        if !is_white_space(*byte) && digits.push(*byte).is_err() {
             return Err(ToolFault::OutOfMemory);
         }
     }

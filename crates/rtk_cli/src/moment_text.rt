@@ -7,8 +7,8 @@ ghost use Rattle.rtk_cli.specs.Steps.MomentText.{moment_text, HasDigits, WritesM
 
 use rtk_obs::{Civil, GpsMs, of_civil};
 
-// The number that two digits write; of other characters some number below 100.
-fn two_digits(tens: u8, ones: u8) -> u8
+// The number that two digits write; for other characters some number below 100.
+fn two_digit_number(tens: u8, ones: u8) -> u8
     ensures value { (n : ℕ) → n < 100 → tens ≡ 48 + n / 10 % 10 → ones ≡ 48 + n % 10 → result ≡ n }
     ensures bound { result < 100 }
 {
@@ -45,21 +45,21 @@ fn text_of(reading: Civil) -> [u8; 19]
 }
 
 // The date and time that a text writes. Whether there is such a day and time is not looked at.
-fn reading_of(text: &[u8]) -> Option<Civil>
+fn reading_in_text(text: &[u8]) -> Option<Civil>
     ensures { MatchOption result ((c : Civil) → HasDigits c → text.now ≢ moment_text c)
         (λ c. HasDigits c × (text.now ≡ moment_text c)) }
 {
     if text.len() != 19 {
         return None;
     }
-    let century = two_digits(text[0], text[1]);
+    let century = two_digit_number(text[0], text[1]);
     let reading = Civil {
-        year: u16::from(century) * 100 + u16::from(two_digits(text[2], text[3])),
-        month: two_digits(text[5], text[6]),
-        day: two_digits(text[8], text[9]),
-        hour: two_digits(text[11], text[12]),
-        minute: two_digits(text[14], text[15]),
-        second: two_digits(text[17], text[18]),
+        year: u16::from(century) * 100 + u16::from(two_digit_number(text[2], text[3])),
+        month: two_digit_number(text[5], text[6]),
+        day: two_digit_number(text[8], text[9]),
+        hour: two_digit_number(text[11], text[12]),
+        minute: two_digit_number(text[14], text[15]),
+        second: two_digit_number(text[17], text[18]),
         millisecond: 0,
     };
     if text_of(reading).as_slice() == text {
@@ -70,12 +70,12 @@ fn reading_of(text: &[u8]) -> Option<Civil>
 }
 
 /// The moment that a text writes, as `2024-05-17T12:00:00`: a whole second, in 19 characters.
-/// `None` exactly where the text is no such text, the day or the time of day doesn't exist, or the
+/// `None` exactly if the text has another form, the day or the time of day doesn't exist, or the
 /// moment lies outside `GpsMs`.
 pub(crate) fn moment_of(text: &[u8]) -> Option<GpsMs>
     ensures { MatchOption result ((t : ℕ) → t ≤ LAST_MS → ¬ (WritesMoment text.now t)) (λ t. WritesMoment text.now t) }
 {
-    let Some(reading) = reading_of(text) else {
+    let Some(reading) = reading_in_text(text) else {
         return None;
     };
     of_civil(reading)

@@ -105,7 +105,7 @@ fn put_1074(line: &mut Vec<u8>, message: &Msm1074) -> Result<(), AllocError>
     Ok(())
 }
 
-fn put_message(line: &mut Vec<u8>, message: &Message) -> Result<(), AllocError>
+fn put_message_text(line: &mut Vec<u8>, message: &Message) -> Result<(), AllocError>
     requires { IsValid message.now }
     ensures { OnOk result (line.new.items ≡ line.old.items ++ message_text message.now) }
 {
@@ -117,7 +117,7 @@ fn put_message(line: &mut Vec<u8>, message: &Message) -> Result<(), AllocError>
     }
 }
 
-fn put_fault(line: &mut Vec<u8>, fault: DecodeFault) -> Result<(), AllocError>
+fn put_unread(line: &mut Vec<u8>, fault: DecodeFault) -> Result<(), AllocError>
     ensures { OnOk result (line.new.items ≡ line.old.items ++ unread_text fault) }
 {
     match fault {
@@ -132,14 +132,15 @@ fn put_fault(line: &mut Vec<u8>, fault: DecodeFault) -> Result<(), AllocError>
     }
 }
 
-/// Appends the line of a payload, with its line feed. After a refusal a part of it may stand there.
-pub(crate) fn put_line(lines: &mut Vec<u8>, payload: &[u8]) -> Result<(), AllocError>
+/// Appends the line of a payload, with its line feed. If memory is refused, a part of the line may
+/// stand there.
+pub(crate) fn put_payload_line(lines: &mut Vec<u8>, payload: &[u8]) -> Result<(), AllocError>
     ensures { OnOk result ((line : List ℕ) × IsLineOf payload.now line
         × (lines.new.items ≡ lines.old.items ++ line)) }
 {
     match decode(payload) {
-        Ok(message) => put_message(lines, &message)?,
-        Err(fault) => put_fault(lines, fault)?,
+        Ok(message) => put_message_text(lines, &message)?,
+        Err(fault) => put_unread(lines, fault)?,
     }
     lines.push(b'\n')?;
     Ok(())
@@ -150,6 +151,6 @@ pub fn show_line(alloc: Global, payload: &[u8]) -> Result<Vec<u8>, AllocError>
     ensures { IfOk result (λ line. IsLineOf payload.now line.items) }
 {
     let mut line = Vec::new(alloc);
-    put_line(&mut line, payload)?;
+    put_payload_line(&mut line, payload)?;
     Ok(line)
 }

@@ -6,7 +6,7 @@ ghost use Rattle.std.specs.Prelude.{◌≤◌};
 use crate::checking::check_file;
 use crate::command_line::job;
 use crate::converting::convert_links;
-use crate::exit_status::{DONE, NOT_VALID, REFUSED, fail, fail_to_open, refuse, tell};
+use crate::exit_status::{DONE, NOT_VALID, REFUSED, fail, fail_to_open, print_clap_text, refuse};
 use crate::files::{Reads, Writes};
 use crate::showing::show;
 use crate::words::{Job, STDIN, ToolFault, WordsFault};
@@ -78,7 +78,7 @@ fn run_words<R: Files + Input + Print + Eprint + AllocGlobal, W: Write + Drop>(
         Ok(Job::Convert { setup, links }) => convert_links(rt, report, setup, links.as_slice()),
         Ok(Job::Show { hex, file }) => show_file(rt, hex, file),
         Ok(Job::Check { file }) => check_named(rt, file),
-        Err(WordsFault::Clap { text, status }) => tell(rt, text.as_str(), status),
+        Err(WordsFault::Clap { text, status }) => print_clap_text(rt, text.as_str(), status),
         Err(WordsFault::Bad { line }) => refuse(rt, line),
         Err(WordsFault::OutOfMemory) => fail(rt, ToolFault::OutOfMemory),
     }

@@ -10,7 +10,7 @@ ghost use Rattle.rtk_cli.specs.declared.words.ToolFault.TheVariants.{Input, TooL
 
 use crate::hex_input::decode_hex;
 use crate::input::read_whole;
-use crate::payload_line::put_line;
+use crate::payload_line::put_payload_line;
 use crate::words::ToolFault;
 use rtk_frame::laws::frames_of_a_text;
 use rtk_frame::{Sink, Source, next_frame, write_all};
@@ -19,11 +19,11 @@ use std::alloc::Global;
 /// The most bytes of an input of `show`, which holds it whole.
 pub const SHOW_LIMIT: usize = 16_777_216;
 
-/// So many bytes of lines are written at once.
+/// Lines are written when they have this many bytes, and at the end.
 const FULL: usize = 65_536;
 
 // The capture that the input is.
-fn captured(alloc: Global, text: Vec<u8>, hex: bool) -> Result<Vec<u8>, ToolFault>
+fn capture_from(alloc: Global, text: Vec<u8>, hex: bool) -> Result<Vec<u8>, ToolFault>
     ensures bytes { IfOk result (λ bytes. capture_of hex text.items ≡ Some bytes.items) }
     ensures not_hex { IsErrOf result NotHex → IsNone (capture_of hex text.items) }
     ensures else_memory { IfErr result (λ fault. fault ≢ NotHex → fault ≡ OutOfMemory) }
@@ -65,7 +65,7 @@ fn show_capture<W: Sink>(alloc: Global, capture: &[u8], out: &mut W) -> Result<u
     let mut from = 0;
     let mut count = 0u64;
     while let Some(found) = next_frame(capture, from) {
-        let Ok(()) = put_line(&mut lines, found.payload) else {
+        let Ok(()) = put_payload_line(&mut lines, found.payload) else {
             return Err(ToolFault::OutOfMemory);
         };
         from = found.place + found.payload.len() + 6;
@@ -81,8 +81,8 @@ fn show_capture<W: Sink>(alloc: Global, capture: &[u8], out: &mut W) -> Result<u
 /// Reads an input whole, as bytes or as hex text, and writes a line for each frame of the capture
 /// that it is. Answers how many lines.
 ///
-/// The faults are looked for in the order of `ToolFault`, but for memory and a failed write, which
-/// come where they come.
+/// The faults are looked for in the order of `ToolFault`, but refused memory and a failed write are
+/// faults when they are met.
 pub fn show<R: Source, W: Sink>(
     alloc: Global,
     reader: &mut R,
@@ -97,7 +97,7 @@ pub fn show<R: Source, W: Sink>(
     ensures to_the_end { result ≢ Err Input → result ≢ Err TooLong → result ≢ Err OutOfMemory
         → R.is_at_end reader.new }
 
-    // Each fault only where its cause is, and no call failed without its fault.
+    // Each fault comes only if its cause is there, and no call fails without its fault.
     ensures input { IsErrOf result Input → CountRises (R.failures reader.old) (R.failures reader.new) }
     ensures no_failed_read { result ≢ Err Input → R.failures reader.new ≡ R.failures reader.old }
     ensures too_long { IsErrOf result TooLong
@@ -111,7 +111,7 @@ pub fn show<R: Source, W: Sink>(
         → GivesText (R.given reader.old) (R.given reader.new) (λ text.
         (length text ≤ SHOW_LIMIT) × IsSome (capture_of hex text)) }
 
-    // Whatever the answer, so much was read at most, and so much is out.
+    // Whatever the answer: at most this much was read, and this much is out.
     ensures within { GivesText (R.given reader.old) (R.given reader.new) (λ text.
         length text ≤ SHOW_LIMIT + 1) }
     ensures part { GivesText (R.given reader.old) (R.given reader.new) (λ text.
@@ -120,6 +120,6 @@ pub fn show<R: Source, W: Sink>(
         IsBeforeOutput fault → W.taken out.new ≡ W.taken out.old) }
 {
     let text = read_whole(alloc, reader, SHOW_LIMIT)?;
-    let capture = captured(alloc, text, hex)?;
+    let capture = capture_from(alloc, text, hex)?;
     show_capture(alloc, capture.as_slice(), out)
 }

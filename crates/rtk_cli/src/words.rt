@@ -47,7 +47,8 @@ pub enum BadWords {
     /// 1 to 16, or one stands twice.
     #[error("bad --codes")]
     Codes,
-    /// The marker's name has not 1 to 60 characters of ASCII, or a blank first or last.
+    /// The marker's name does not have 1 to 60 printable characters of ASCII, or the first or the
+    /// last one is a blank.
     #[error("bad --marker")]
     Marker,
     /// The links are not 1 to 16, or standard input stands twice.

@@ -1,5 +1,5 @@
--- The first fault in the records of a text: with the lines before it a file can begin, with the
--- line of the fault it can not.
+-- The first fault in the records of a text: a file can begin with the lines before it, but not with
+-- these and the line of the fault.
 use Rattle.std.specs.Prelude.{◌≡◌, ◌≢◌, ◌<◌, ℕ, ◌+◌, List, [], ◌∷◌, ◌++◌, length, flat_map, sum_by, Option, Some, None, ◌⊎◌}
 use Rattle.std.specs.Int.{IsInRange}
 use Rattle.rtk_rinex.specs.Reading.{IsMoment, reading_of}

@@ -36,7 +36,7 @@ IsLineFault front rest HeaderLine =
 IsLineFault front rest OutOfMemory = Unit {0}
 IsLineFault front rest _ = ⊥
 
--- a fault in the line after n lines, which begin a header and are no whole one
+-- a fault in the line after n lines, which begin a header and are not a whole one
 abbrev pub IsFaultAfter : ℕ → List ℕ → Cause → Type 0
 IsFaultAfter n bytes OutOfMemory = Unit {0}
 IsFaultAfter n bytes cause =

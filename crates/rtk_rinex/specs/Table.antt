@@ -20,7 +20,7 @@ abbrev pub IsAbsentOrWritten : Option ℤ → Type 0
 IsAbsentOrWritten None = Unit {0}
 IsAbsentOrWritten (Some v) = IsTrue (is_written v)
 
--- a phase that isn't there has no loss-of-lock indicator
+-- without a phase there is no loss-of-lock indicator
 abbrev pub IsLock : Option ℤ → Bool → Bool → Type 0
 IsLock None slip half = (slip ≡ false) × (half ≡ false)
 IsLock (Some v) slip half = Unit {0}
@@ -94,7 +94,7 @@ pub record IsShownByRecord (n : ℕ) (e : EpochTableView) : Type 0 where
   pub well_formed : (shown_epoch e).rows ≢ [] → IsTableEpoch n (shown_epoch e)
   pub empty : (shown_epoch e).rows ≡ [] → record_text e ≡ []
 
--- so it is for each epoch of good rows, with as many observations as codes
+-- this holds for each epoch of good rows, with as many observations as codes
 abbrev pub RecordsAreOfTables : Type 0
 RecordsAreOfTables = (n : ℕ) (e : EpochTableView) → IsEpochTableView e → HasWidth n e.rows → IsShownByRecord n e
 
@@ -111,7 +111,7 @@ pub record IsShownByFile (h : HeadView) (s : PositionView) (first : ℕ) (epochs
   pub table : IsWellFormedTable (shown_table h s first epochs)
   pub text : header_text h s first ++ flat_map record_text epochs ≡ table_text (shown_table h s first epochs)
 
--- so it is for all rising epochs of good rows, with as many observations as codes, if the first
+-- this holds for all rising epochs of good rows, with as many observations as codes, if the first
 -- epoch with a record is at the header's first time
 abbrev pub FilesAreTables : Type 0
 FilesAreTables =

@@ -5,7 +5,7 @@ use thiserror::Error;
 /// What is wrong with a line. The program prints the same codes, `C1` to `C6`.
 #[derive(Clone, Copy, Debug, PartialEq, Eq, Error)]
 pub enum Cause {
-    /// No header begins with the lines as far as this one.
+    /// No header begins with these lines, from the first one to this one.
     #[error("C1 HeaderLine")]
     HeaderLine,
     /// An epoch line or a satellite line is out of form.
@@ -18,10 +18,10 @@ pub enum Cause {
     /// first time.
     #[error("C4 Order")]
     Order,
-    /// The text ends where a line is due, or the line has no LF.
+    /// The text ends although a line must follow, or the line has no LF.
     #[error("C5 Truncated")]
     Truncated,
-    /// A growth of memory was refused.
+    /// Memory was refused.
     #[error("C6 OutOfMemory")]
     OutOfMemory,
 }

@@ -28,7 +28,7 @@ pub(crate) fn put_decimal(field: &mut [u8], number: u64) -> usize
 {
     let mut rest = number;
     let mut at = field.len();
-    // A division waits for the one before it, so one by 100 is worth two by 10.
+    // Each division waits for the one before it, so one by 100 takes the time of one by 10.
     while rest >= 100 {
         let two = (rest % 100) as u8;
         rest /= 100;

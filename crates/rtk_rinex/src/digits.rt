@@ -30,7 +30,7 @@ pub(crate) fn columns_at(text: &[u8], from: usize, width: usize) -> &[u8]
     front(after(text, from), width)
 }
 
-// One more character of a number.
+// The number after one more character: a digit is added to it, any other is passed over.
 fn with_digit(value: u64, byte: u8) -> u64
     requires { value < 10 ^ 18 }
     ensures value { result ≡ spec.with_digit value byte }

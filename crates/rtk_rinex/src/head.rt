@@ -13,7 +13,8 @@ use thiserror::Error;
 /// Why there is no head of these parts: the first cause that holds, in this order.
 #[derive(Clone, Copy, Debug, PartialEq, Eq, Error)]
 pub enum HeadFault {
-    /// The marker has not 1 to 60 bytes, or one outside 0x20 to 0x7E, or a blank first or last.
+    /// The marker does not have 1 to 60 bytes, or one lies outside 0x20 to 0x7E, or the first or
+    /// the last one is a blank.
     #[error("H1 bad marker")]
     Marker,
     /// There are not 1 to 16 codes, or one stands twice.

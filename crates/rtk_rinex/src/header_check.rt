@@ -22,7 +22,7 @@ use crate::header_text::put_header;
 use crate::record_text::trimmed_len;
 use rtk_obs::{Civil, Code, GpsMs, Position, of_civil};
 
-const ALL: [Code; 16] = [
+const ALL_CODES: [Code; 16] = [
     Code::C1C,
     Code::C1P,
     Code::C1W,
@@ -104,7 +104,7 @@ fn position_in(line: &[u8], height: u16) -> Option<Position>
     )
 }
 
-// The position that its line shows, of this height.
+// The position that its line shows, with this height.
 fn read_position(line: &[u8], height: u16) -> Position
     ensures height { result.height ≡ height }
     ensures shown { (s : PositionView) → IsPositionView s
@@ -153,7 +153,7 @@ fn text_line(text: &[u8], lines: usize) -> &[u8]
     columns_at(text, 81 * lines, 81)
 }
 
-// The name of a code in the lines of observation types, before which `before` codes stand.
+// The name of the code that follows `before` codes in the lines of observation types.
 fn read_name(text: &[u8], before: usize) -> &[u8]
     requires { before < 16 }
     ensures { result.now ≡ name_at before text.now }
@@ -214,7 +214,7 @@ fn read_codes(text: &[u8]) -> [Code; 16]
     ensures shown { (listed : List Code) (i : ℕ) (d : Code) → AllPairs (λ a b. a ≢ b) listed → i < length listed → i < 16
         → ((j : ℕ) → j ≤ i → name_at j text.now ≡ name_of (slice_index_or listed j d)) → slice_index_or result i d ≡ slice_index_or listed i d }
 {
-    let mut all = ALL;
+    let mut all = ALL_CODES;
     for i in 0..16 {
         move_named_code(&mut all, read_name(text, i), i);
     }

@@ -1,4 +1,4 @@
--- The number that columns show, whatever stands in them. It counts only once its own text equals
+-- The number that columns show, whatever stands in them. It counts only if its own text equals
 -- those columns.
 use Rattle.std.specs.Prelude.{ℕ, ◌+◌, ◌-◌, ◌*◌, nat_le, ◌==◌, Bool, ◌&&◌, if◌then◌else◌, List, [], ◌∷◌, ℤ, pos, neg_ℤ}
 use Rattle.std.specs.List.{list_any}

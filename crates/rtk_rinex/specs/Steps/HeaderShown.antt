@@ -1,5 +1,5 @@
 -- The places of the parts of a header: its lines have 81 bytes each, and 13 observation types stand
--- on a line. What columns show counts only once its own text equals those columns.
+-- on a line. What columns show counts only if its own text equals those columns.
 use Rattle.std.specs.Prelude.{◌≡◌, ◌≢◌, ℕ, ◌+◌, ◌*◌, ◌/◌, ◌%◌, List, length, take, drop, AllPairs, Contains}
 use Rattle.rtk_obs.specs.declared.code.Code.{Code}
 use Rattle.rtk_obs.specs.declared.time.Civil.{Civil}

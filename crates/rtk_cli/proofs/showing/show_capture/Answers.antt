@@ -14,8 +14,8 @@ loop-found-init g c =
     }
 
 -- no memory for a line: what was taken before is out
-pub returns-in_default-put_line-clause-part : goal.returns-in_default-put_line-clause-part
-returns-in_default-put_line-clause-part g c =
+pub returns-in_default-put_payload_line-clause-part : goal.returns-in_default-put_payload_line-clause-part
+returns-in_default-put_payload_line-clause-part g c =
     part_now c.args.capture.now c.loop-found.from c.loop-found.count c.loop-found.lines.items (g.W.Sink.taken c.args.out.now)
     (g.W.Sink.taken c.loop-found.out) c.loop-found.invariant.shown
 
@@ -25,7 +25,7 @@ loop-found-preserved g c = record {
   within = omega (arith, c.in-Some.ensures.within);
   few = omega (arith, c.in-Some.ensures.least.0);
   shown = stepped c.args.capture.now c.loop-found.from c.in-Some.found.place c.loop-found.count c.in-Some.found.payload.now
-      c.loop-found.lines.items c.put_line.new.lines.items (g.W.Sink.taken c.args.out.now) (g.W.Sink.taken c.loop-found.out)
+      c.loop-found.lines.items c.put_payload_line.new.lines.items (g.W.Sink.taken c.args.out.now) (g.W.Sink.taken c.loop-found.out)
       c.loop-found.invariant.shown c.in-Some.ensures.least c.in-Ok.ensures;
   failures = c.loop-found.invariant.failures;
 }
@@ -36,13 +36,13 @@ loop-found-preserved-in-Continue-1 g c =
     let before : Option (List ℕ) = g.W.Sink.taken c.args.out.now in
     let after : ℕ = c.in-Some.found.place + length c.in-Some.found.payload.now + 6 in
     let more = stepped c.args.capture.now c.loop-found.from c.in-Some.found.place c.loop-found.count c.in-Some.found.payload.now
-    c.loop-found.lines.items c.put_line.new.lines.items before (g.W.Sink.taken c.loop-found.out)
+    c.loop-found.lines.items c.put_payload_line.new.lines.items before (g.W.Sink.taken c.loop-found.out)
     c.loop-found.invariant.shown c.in-Some.ensures.least c.in-Ok.ensures in
     record {
       within = omega (arith, c.in-Some.ensures.within);
       few = omega (arith, c.in-Some.ensures.least.0);
       shown = subst (λ (lines : List ℕ). Progress c.args.capture.now after before (g.W.Sink.taken c.flush.new.out) lines (c.loop-found.count + 1)) (sym c.in_ok-flush.ensures.none)
-          (flushed c.args.capture.now after (c.loop-found.count + 1) c.put_line.new.lines.items before (g.W.Sink.taken c.loop-found.out) (g.W.Sink.taken c.flush.new.out) more c.in_ok-flush.ensures.taken);
+          (flushed c.args.capture.now after (c.loop-found.count + 1) c.put_payload_line.new.lines.items before (g.W.Sink.taken c.loop-found.out) (g.W.Sink.taken c.flush.new.out) more c.in_ok-flush.ensures.taken);
       failures = c.in_ok-flush.ensures.no_fault ∙ c.loop-found.invariant.failures;
     }
 
@@ -51,10 +51,10 @@ pub returns-in_err-flush-clause-part : goal.returns-in_err-flush-clause-part
 returns-in_err-flush-clause-part g c =
     let before : Option (List ℕ) = g.W.Sink.taken c.args.out.now in
     let more = stepped c.args.capture.now c.loop-found.from c.in-Some.found.place c.loop-found.count c.in-Some.found.payload.now
-    c.loop-found.lines.items c.put_line.new.lines.items before (g.W.Sink.taken c.loop-found.out)
+    c.loop-found.lines.items c.put_payload_line.new.lines.items before (g.W.Sink.taken c.loop-found.out)
     c.loop-found.invariant.shown c.in-Some.ensures.least c.in-Ok.ensures in
     part_then c.args.capture.now (c.in-Some.found.place + length c.in-Some.found.payload.now + 6) (c.loop-found.count + 1)
-    c.put_line.new.lines.items before (g.W.Sink.taken c.loop-found.out) (g.W.Sink.taken c.flush.new.out) more c.in_err-flush.ensures.part
+    c.put_payload_line.new.lines.items before (g.W.Sink.taken c.loop-found.out) (g.W.Sink.taken c.flush.new.out) more c.in_err-flush.ensures.part
 
 -- of the last lines some are written
 pub returns-in_err-flush-2-clause-part : goal.returns-in_err-flush-2-clause-part
