@@ -43,7 +43,7 @@ abbrev pub and_below : ℕ → Option Cell → List EpochCell → List EpochCell
 and_below epoch None below = below
 and_below epoch (Some cell) below = epoch_cell epoch cell ∷ below
 
--- the cells of a satellite and code at these epochs, be the code listed or not
+-- the cells of a satellite and code at these epochs, whether the code is listed or not
 abbrev pub cells_at_epochs : List EpochSetView → ℕ → Code → List EpochCell
 cells_at_epochs [] satellite code = []
 cells_at_epochs (e ∷ below) satellite code = and_below e.epoch (cell_at e.cells satellite code) (cells_at_epochs below satellite code)
