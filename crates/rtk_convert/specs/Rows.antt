@@ -74,11 +74,9 @@ observed_at e below satellite code = observed_after (last_phase_of below satelli
 
 -- ---- the table
 
-abbrev pub nothing_observed : Observed
-nothing_observed = record { range_mm = None; phase_millicycles = None; strength_millidbhz = None; slip = false; half = false }
-
+-- what is observed, or a record without any value
 abbrev pub or_nothing : Option Observed → Observed
-or_nothing None = nothing_observed
+or_nothing None = record { range_mm = None; phase_millicycles = None; strength_millidbhz = None; slip = false; half = false }
 or_nothing (Some o) = o
 
 -- what the listed codes of a satellite show, in their order
