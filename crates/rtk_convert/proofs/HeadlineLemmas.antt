@@ -21,7 +21,6 @@ use Rattle.rtk_convert.specs.Converter.{IsAfterClosingAll}
 use Rattle.rtk_convert.specs.declared.counts.Counts.{Counts}
 use Rattle.rtk_convert.specs.History.{History, IsOpen}
 use Rattle.rtk_convert.specs.ReadHistory.{Read, IsAfterPiece, IsNextRead, IsHistoryOf, AllClosed}
-use Rattle.rtk_convert.specs.Steps.ReadToEnd.{RunsAs}
 use Rattle.rtk_convert.specs.Report.{lines, frame_lines, class_lines}
 use Rattle.rtk_convert.specs.ReportText.{late_line, count_lines}
 use Rattle.rtk_convert.specs.Setup.{SetupView}
@@ -30,6 +29,7 @@ use Rattle.rtk_convert.specs.Conversion.{found_on}
 use Rattle.rtk_convert.proofs.ArrivalLawsLemmas.{late-leave}
 use Rattle.rtk_convert.proofs.HistoryLemmas.{found-once}
 use Rattle.rtk_convert.proofs.PayloadLemmas.{calls-table}
+use Rattle.rtk_convert.proofs.RunLemmas.{RunsAs}
 
 -- ---- the file of the set
 

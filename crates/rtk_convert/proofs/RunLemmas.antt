@@ -19,10 +19,9 @@ use Rattle.rtk_convert.specs.Finish.{all_counts, report_of}
 use Rattle.rtk_convert.specs.History.{History, LinkPast, new_history, IsOpen, IsNextLink, with_piece, with_closed}
 use Rattle.rtk_convert.specs.ReadSteps.{read_of, HasRead, HasCalled}
 use Rattle.rtk_convert.specs.Steps.ReadLink.{ReadsLink, BreaksOffAfterRead, FailsRead, HasReadAll}
-use Rattle.rtk_convert.specs.ReadHistory.{Read, AllClosed, IsHistoryOf, IsAfterPiece, Gave}
+use Rattle.rtk_convert.specs.ReadHistory.{Read, AllClosed, AllAtEnd, IsHistoryOf, IsAfterPiece, Gave}
 use Rattle.rtk_convert.specs.Report.{lines}
 use Rattle.rtk_convert.specs.Run.{BreaksOffReading, BreaksOffAtEnd, FailsReading}
-use Rattle.rtk_convert.specs.Steps.ReadToEnd.{RunsAs}
 use Rattle.rtk_convert.specs.Setup.{SetupView}
 use Rattle.rtk_convert.specs.Writing.{Written, WritesRest}
 use Rattle.rtk_convert.proofs.ReadLemmas.{gave-none, gave-more}
@@ -135,6 +134,20 @@ fails-reading given failures calls s h link before mid after reads o0 o1 o2 q n 
 }
 
 -- ---- the end
+
+-- all links were read to their ends, by as many calls as there are reads, and the file and the
+-- report of what they gave are written
+pub record RunsAs {R : Type 0} (given : R → Option (List ℕ)) (calls : R → ℕ) (is_at_end : R → Type 0) (s : SetupView) (before after : List R) (counts : Counts) (written_old written_new : Written) : Type 0 where
+  pub reads : List Read
+  pub history : History
+  pub comes_to : IsHistoryOf s (length before) reads history
+  pub closed : AllClosed history
+  pub gave : Gave given before after reads
+  pub called : HasCalled calls before after (length reads)
+  pub at_end : AllAtEnd is_at_end after
+  pub out : written_new.file ≡ with_more written_old.file (kept_file s (arrivals history.found))
+  pub log : written_new.report ≡ with_more written_old.report (report_of s history.found)
+  pub counts_are : counts ≡ all_counts s history.found
 
 -- closed links are left as they are
 pub closing-none : (s : SetupView) (h : History) (n : ℕ) (last : History) → AllClosed h → IsAfterClosingAll s h n last → last ≡ h

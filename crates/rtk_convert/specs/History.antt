@@ -89,7 +89,7 @@ later_of None b = b
 later_of (Some a) None = Some a
 later_of (Some a) (Some b) = Some (max a b)
 
--- the greatest observation epoch that came on a link, be the message late or not
+-- the greatest observation epoch that came on a link, whether the message is late or not
 abbrev pub newest_on : ℕ → List Found → Option ℕ
 newest_on link [] = None
 newest_on link (f ∷ before) = if f.link == link then later_of (epoch_found f.class) (newest_on link before) else newest_on link before

@@ -43,7 +43,7 @@ abbrev pub and_below : ℕ → Option Cell → List EpochCell → List EpochCell
 and_below epoch None below = below
 and_below epoch (Some cell) below = epoch_cell epoch cell ∷ below
 
--- the cells of a satellite and code at these epochs, be the code listed or not
+-- the cells of a satellite and code at these epochs, whether the code is listed or not
 abbrev pub cells_at_epochs : List EpochSetView → ℕ → Code → List EpochCell
 cells_at_epochs [] satellite code = []
 cells_at_epochs (e ∷ below) satellite code = and_below e.epoch (cell_at e.cells satellite code) (cells_at_epochs below satellite code)
@@ -74,11 +74,9 @@ observed_at e below satellite code = observed_after (last_phase_of below satelli
 
 -- ---- the table
 
-abbrev pub nothing_observed : Observed
-nothing_observed = record { range_mm = None; phase_millicycles = None; strength_millidbhz = None; slip = false; half = false }
-
+-- what is observed, or a record without any value
 abbrev pub or_nothing : Option Observed → Observed
-or_nothing None = nothing_observed
+or_nothing None = record { range_mm = None; phase_millicycles = None; strength_millidbhz = None; slip = false; half = false }
 or_nothing (Some o) = o
 
 -- what the listed codes of a satellite show, in their order

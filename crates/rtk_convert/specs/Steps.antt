@@ -9,4 +9,3 @@ pub mod Closing
 pub mod LinkFrames
 pub mod AllLinks
 pub mod ReadLink
-pub mod ReadToEnd

@@ -49,7 +49,7 @@ impl Model for Conversion {
 }
 
 impl Conversion {
-    /// Nothing was found yet. It takes no memory.
+    /// A conversion that has found no frame yet. This takes no memory.
     pub(crate) fn new(alloc: Global, setup: Setup) -> Conversion
         ensures represents { RepresentsFound result [] }
         ensures same_setup { result.setup ≡ setup }
@@ -87,7 +87,7 @@ impl Conversion {
 
     /// Takes the payload of a frame that was found on a link, counted from 0: writes the record of
     /// the epoch that it closes to `out`, and its lines to `log`. Answers its epoch, if it is an
-    /// observation of the chosen station, be it late or not.
+    /// observation of the chosen station, whether it is late or not.
     pub(crate) fn accept_frame<O: Sink, L: Sink>(
         &mut self,
         link: u8,
@@ -172,7 +172,7 @@ impl Conversion {
         }
     }
 
-    // Offers a message to the window.
+    // Offers a message to the window, counts it, and writes what comes of it.
     fn handle_message<O: Sink, L: Sink>(
         &mut self,
         link: u8,

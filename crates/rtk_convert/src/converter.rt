@@ -61,7 +61,7 @@ fn new_links(alloc: Global, count: usize) -> Result<Vec<Link>, ConvertFault>
 }
 
 impl Converter {
-    /// Nothing was fed yet. The links are counted from 0.
+    /// A converter whose links are open and empty. Links are counted from 0.
     pub fn new(alloc: Global, setup: Setup, links: usize) -> Result<Converter, ConvertFault>
         ensures ok { IfOk result (λ c. RepresentsHistory c (new_history links)) }
         ensures same_setup { IfOk result (λ c. c.conversion.setup ≡ setup) }

@@ -19,7 +19,7 @@ pub struct Counts {
     pub repeat: u64,
     /// Messages with nothing new that differ from what is kept.
     pub conflict: u64,
-    /// Messages that came after their epoch was closed.
+    /// Messages that came too late: after as many greater epochs as the window holds.
     pub late: u64,
     /// Records of the file.
     pub epochs: u64,

@@ -1,4 +1,4 @@
-//! From the cells of a closed epoch to the table of its record.
+//! The table of a closed epoch, made from its cells.
 
 ghost use Rattle.std.specs.Prelude.{◌≡◌, ℕ, ◌+◌, ◌<◌, ◌≤◌, List, [], ◌∷◌, ◌++◌, length, map, filter, false, Option, Some, None, All, IfSome, slice_index_or, is_some};
 ghost use Rattle.std.specs.List.{list_any};
@@ -121,7 +121,7 @@ fn put_observed(
     }
 }
 
-// Has a satellite a cell of a listed code?
+// Does a satellite have a cell of a listed code?
 fn has_listed(shown: &[Option<Observed>], satellite: u8, listed: &[Code]) -> bool
     requires places { length shown.now ≡ SIGNALS }
     requires satellite { IsSatellite satellite }
@@ -154,7 +154,7 @@ fn put_rows(shown: &[Option<Observed>], epoch: GpsMs, listed: &[Code], table: &m
     }
 }
 
-// Clears what these cells showed. Nothing else may show anything before.
+// Clears the places of these cells. The caller sees to it that all other places are empty.
 fn clear(shown: &mut [Option<Observed>], entries: &[CellEntry])
     requires places { length shown.old ≡ SIGNALS }
     requires ranges { All IsInRange entries.now }
@@ -167,11 +167,12 @@ fn clear(shown: &mut [Option<Observed>], entries: &[CellEntry])
     }
 }
 
-/// Makes the table of a closed epoch from its cells; their phases are then the last ones.
+/// Makes the table of a closed epoch from its cells, and keeps their phases as the last phases of
+/// their satellites and codes.
 ///
-/// Each cell is compared with the last phase of its satellite and code, listed or not, since a
-/// later phase is compared with this one, whenever it was. `shown` is room for what they show; only
-/// the places that were used are cleared after each epoch.
+/// A cell is compared with the last phase of its satellite and code, however old that is, also if
+/// its code is not listed. `shown` is room for what the cells show: it is empty before and after
+/// this call, so only the places that were used are cleared.
 pub(crate) fn fill_table(
     tracks: &mut Tracks,
     shown: &mut [Option<Observed>],

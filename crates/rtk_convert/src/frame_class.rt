@@ -22,7 +22,7 @@ pub enum FrameClass {
     Dated(Dated),
 }
 
-// A message with the moment of its time of week that is nearest to the reference.
+// A message with its epoch: the moment of its time of week that is nearest to the reference.
 fn dated_message(setup: &Setup, message: Message) -> Dated
     requires { IsValid message }
     ensures { IsDatedMessage setup.now message result }

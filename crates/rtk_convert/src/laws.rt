@@ -19,8 +19,8 @@ pub fn file_laws()
     files_are_tables();
 }
 
-/// If equal keys carry equal bodies, the file depends on the set of messages in time alone; late
-/// messages change nothing, nor do frames that are other, refused or foreign.
+/// If equal keys carry equal bodies, the file depends only on the set of messages that came in
+/// time. Late messages change nothing, nor do frames that are other, refused or foreign.
 pub fn set_decides_file()
     ensures same { OneSetHasOneFile }
     ensures late { LateLeaveFile }
@@ -30,15 +30,15 @@ pub fn set_decides_file()
     late_arrivals_change_nothing();
 }
 
-/// What is written only grows, and begins the file of all that arrives later; its header stays.
+/// Each later file begins with what is written, whatever arrives after it; its header stays.
 pub fn file_only_grows()
     ensures begins { SoFarBegins }
     ensures header { HeaderIsFinal }
 {}
 
-/// A payload has one class, so each call on a link comes to one history, and any calls find one
-/// list of frames. At most one link is next, and reads come to one history: so the order of reading
-/// is a function of the history.
+/// A payload has one class. So the same calls always find the same frames, and come to the same
+/// history. At most one link is next. So the history alone decides which link is read next, and the
+/// same reads always come to the same history.
 pub fn one_history_of_calls()
     ensures class { ComesToOne }
     ensures feed { FeedsToOne }
@@ -66,9 +66,9 @@ pub fn set_has_one_file()
 {}
 
 /// Any calls of `feed` and `close` on a new converter, each answered Ok, V2 or V3, and then
-/// `finish` keep the promise: by their contracts alone. Whatever bodies equal keys carry, they
-/// write the file of what came first in time under each key, and the report of all frames, whose
-/// counts are answered.
+/// `finish` keep the promise, by their contracts alone. If equal keys carry different bodies, the
+/// file has for each key the body that came first in time. Either way the report and the counts are
+/// of all frames.
 pub fn calls_keep_promise()
     ensures headline { CallsKeepPromise }
     ensures kept { CallsWriteKept }

@@ -1,4 +1,4 @@
-//! From 1 to 16 links to one RINEX file and a report: a run reads the links and writes both.
+//! One RINEX file and a report from 1 to 16 links: a run reads the links and writes both.
 //!
 //! ```rust
 //! use rtk_convert::{Converter, Setup};
@@ -7,7 +7,7 @@
 //! use rtk_rinex::Head;
 //! use std::alloc::{AllocError, Global};
 //!
-//! // Of one link on which no frame comes: the file is a header alone, and no frame is counted.
+//! // One link without a frame: the file is a header alone, and no frame is counted.
 //! fn example(alloc: Global) -> Result<bool, AllocError> {
 //!     let Some(noon) = GpsMs::new(1_399_982_400_000) else {
 //!         return Ok(false);

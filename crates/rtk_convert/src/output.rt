@@ -1,4 +1,4 @@
-//! What is written to the file: records, and the header before the first one or at the end.
+//! Writes to the file and to the report: the header, the record of an epoch, and lines.
 
 ghost use Rattle.std.specs.Prelude.{◌≡◌, ◌≢◌, ◌++◌, length, OnOk, OnErr, IfOk, IfErr, IsErrOf, false};
 ghost use Rattle.rtk_convert.specs.Failure.{NamesFailedWrites};
@@ -45,9 +45,10 @@ fn with_header(
     Ok(whole)
 }
 
-/// Writes the record of a closed epoch, if it has one, and the header before the first one: one
-/// write, so that a header is never out without a record before the end. Answers whether there is
-/// a record.
+/// Writes the record of a closed epoch, if it has one, and answers whether it has one.
+///
+/// The header and the first record go out as one text, so a header without a record is written at
+/// the end alone.
 pub(crate) fn put_record<O: Sink>(
     alloc: Global,
     setup: &Setup,

@@ -1,4 +1,4 @@
-//! The records of the closed epochs, one after another, and at the end of the epochs still open.
+//! Writes the records of epochs as they close, and at the end of the epochs that are still open.
 
 ghost use Rattle.rtk_collect.specs.EpochSet.{EpochSetView};
 ghost use Rattle.rtk_convert.specs.Failure.{NamesFailedWrites};
@@ -53,7 +53,7 @@ impl Model for Records {
 }
 
 impl Records {
-    /// No epoch is closed yet. The table has this time until the first epoch is closed.
+    /// Records without a closed epoch. The table has this time until the first epoch is closed.
     pub(crate) fn new(start: GpsMs) -> Records
         ensures follows { (listed : List Code) → HasClosed result listed [] }
         ensures below { (epoch : ℕ) → AllBelow result.tracks epoch }

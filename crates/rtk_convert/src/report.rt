@@ -56,7 +56,7 @@ fn four_digits(n: u16) -> [u8; 4]
     ]
 }
 
-// A reading, as 2024-05-17 12:00:00.000.
+// A civil time, as 2024-05-17 12:00:00.000.
 fn put_civil(line: &mut Vec<u8>, time: Civil) -> Result<(), AllocError>
     ensures { OnOk result (line.new.items ≡ line.old.items ++ civil_text time) }
 {
@@ -76,7 +76,7 @@ fn put_civil(line: &mut Vec<u8>, time: Civil) -> Result<(), AllocError>
     Ok(())
 }
 
-// The epoch of a message, or a hyphen.
+// The epoch of a message; a hyphen if it has none.
 fn put_epoch(line: &mut Vec<u8>, epoch: Option<GpsMs>) -> Result<(), AllocError>
     ensures { OnOk result (line.new.items ≡ line.old.items ++ epoch_text epoch) }
 {
@@ -150,7 +150,8 @@ fn put_cells(
     Ok(())
 }
 
-// The line of a station message that differs from the kept one, or a line for each such cell.
+// For a station message the line that it differs from the kept one; for an observation a line for
+// each cell that does.
 fn put_conflicts(
     lines: &mut Vec<u8>,
     link: u8,
@@ -168,8 +169,8 @@ fn put_conflicts(
     Ok(())
 }
 
-/// The lines of a message with this number and epoch that got this answer. No memory is taken if
-/// there are none.
+/// The lines of a message, from its number, its epoch and the answer that it got. A message without
+/// a line takes no memory.
 pub(crate) fn offer_lines(
     alloc: Global,
     link: u8,
@@ -196,7 +197,7 @@ pub(crate) fn offer_lines(
     Ok(lines)
 }
 
-// The code of a fault, and the number of the message or a hyphen.
+// The code of a fault, and the number of the message; a hyphen if it has none.
 fn put_fault(line: &mut Vec<u8>, fault: DecodeFault) -> Result<(), AllocError>
     ensures { OnOk result (line.new.items ≡ line.old.items ++ fault_text fault) }
 {

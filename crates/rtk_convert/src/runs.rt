@@ -138,9 +138,10 @@ fn read_all<R: Source, O: Sink, L: Sink>(
 /// `log`.
 ///
 /// The next read is of the open link whose newest epoch is the least; a link that had no epoch yet
-/// comes first, and among equal ones the lowest number. It asks for 512 bytes. A read that gives
-/// none closes its link, and when all links are closed the conversion ends. The order in which
-/// messages come, and so which are late, depends on how many bytes each read gives.
+/// comes first, and of links with equal ones the one with the lowest number. A read asks for 512
+/// bytes. One that gives none closes its link, and when all links are closed the conversion ends.
+/// The order in which messages come, and so which are late, depends on how many bytes each read
+/// gives.
 ///
 /// The clause `headline` is the promise of a conversion in one sentence; `calls_keep_promise` says
 /// the same of any calls of a `Converter`, and `set_has_one_file` that the set decides the file.
