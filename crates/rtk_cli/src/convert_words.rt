@@ -50,14 +50,14 @@ pub(crate) fn conversion<'a>(
     let codes = codes_of(alloc, options.codes.as_bytes())?;
     let head = match Head::new(options.marker.as_bytes(), codes.as_slice(), made) {
         Ok(head) => head,
-        Err(fault) => return Err(words_fault(line_of_head(fault))),
+        Err(fault) => return Err(words_fault(bad_words_of_head(fault))),
     };
     let Some(links) = links_of(names) else {
         return Err(words_fault(BadWords::Links));
     };
     match Setup::new(options.station, near, head, usize::from(options.window)) {
         Ok(setup) => Ok(Job::Convert { setup, links }),
-        Err(fault) => Err(words_fault(line_of_setup(fault))),
+        Err(fault) => Err(words_fault(bad_words_of_setup(fault))),
     }
 }
 
@@ -67,7 +67,7 @@ fn words_fault(line: BadWords) -> WordsFault
     WordsFault::Bad { line }
 }
 
-fn line_of_head(fault: HeadFault) -> BadWords {
+fn bad_words_of_head(fault: HeadFault) -> BadWords {
     match fault {
         HeadFault::Marker => BadWords::Marker,
         HeadFault::Codes => BadWords::Codes,
@@ -75,7 +75,7 @@ fn line_of_head(fault: HeadFault) -> BadWords {
     }
 }
 
-fn line_of_setup(fault: SetupFault) -> BadWords {
+fn bad_words_of_setup(fault: SetupFault) -> BadWords {
     match fault {
         SetupFault::Station => BadWords::Station,
         SetupFault::Near => BadWords::Near,
