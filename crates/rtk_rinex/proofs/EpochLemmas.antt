@@ -1,11 +1,9 @@
 -- What an epoch line shows is its moment and its count.
-use Rattle.std.proofs.Common.{◌≡◌, ℕ, ◌+◌, ◌/◌, ◌^◌, ◌<◌, List, [], ◌∷◌, ◌++◌, length, take, drop, decimal, codes, false, arith, refl, sym, ◌∙◌, append_assoc, length-append, pos}
+use Rattle.std.proofs.Common.{◌≡◌, ℕ, ◌+◌, ◌/◌, ◌^◌, ◌<◌, List, [], ◌∷◌, ◌++◌, length, take, drop, decimal, codes, false, arith, refl, ◌∙◌, append_assoc, length-append, pos}
 use Rattle.std.specs.Int.{IsInRange}
 use Rattle.std.proofs.lemmas.Fmt.{length-decimal-le}
-use Rattle.jiff_core.proofs.SignedLemmas.{signed_arith}
 use Rattle.jiff_core.proofs.CalendarLemmas.{days_in_month_bounds}
 use Rattle.rtk_obs.specs.declared.time.Civil.{Civil}
-use Rattle.rtk_obs.specs.Calendar.{ReadsAs}
 use Rattle.rtk_rinex.specs.Columns.{right, decimals}
 use Rattle.rtk_rinex.specs.Reading.{IsMoment, reading_of, seconds_of}
 use Rattle.rtk_rinex.specs.Record.{epoch_date_text, epoch_columns, epoch_line}
@@ -100,12 +98,6 @@ epoch-shows line t n h k e =
       reading = rw e (civil_of-columns (reading_of t) n fits);
       count = rw e (count_of-columns (reading_of t) n fits few);
     }
-
--- a reading belongs to one moment
-pub one_moment : (s t : ℕ) (c : Civil) → ReadsAs s c → ReadsAs t c → s ≡ t
-one_moment s t c h g =
-    let days : pos (3657 + s / 86_400_000) ≡ pos (3657 + t / 86_400_000) = sym h.0.1 ∙ g.0.1 in
-    omega (arith, signed_arith, h.2, g.2)
 
 -- an epoch line has 36 bytes, and the last one is LF
 pub length-line : (line : List ℕ) (t n : ℕ) → IsMoment t → IsInRange 1 32 n → line ≡ epoch_line (reading_of t) n → length line ≡ 36

@@ -5,10 +5,8 @@ use Rattle.std.proofs.lemmas.Fmt.{length-decimal-le}
 use Rattle.std.proofs.lemmas.Int.{ints}
 use Rattle.std.proofs.lemmas.Option.{slice_get-get_or}
 use Rattle.std.proofs.lemmas.List.{replicate-append-replicate, take_all, append-nil}
-use Rattle.jiff_core.proofs.SignedLemmas.{signed_arith}
 use Rattle.jiff_core.proofs.CalendarLemmas.{days_in_month_bounds}
 use Rattle.rtk_obs.specs.declared.time.Civil.{Civil}
-use Rattle.rtk_obs.specs.Calendar.{ReadsAs}
 use Rattle.rtk_obs.specs.Coordinates.{IsCoordinate}
 use Rattle.rtk_rinex.specs.Columns.{left, right, decimals, fixed}
 use Rattle.rtk_rinex.specs.Reading.{IsMoment, reading_of, seconds_of}
@@ -44,12 +42,6 @@ Fits-reading_of t h =
       second = omega arith;
       millisecond = omega arith;
     }
-
--- a reading belongs to one moment
-pub one_moment : (s t : ℕ) (c : Civil) → ReadsAs s c → ReadsAs t c → s ≡ t
-one_moment s t c h g =
-    let days : pos (3657 + s / 86_400_000) ≡ pos (3657 + t / 86_400_000) = sym h.0.1 ∙ g.0.1 in
-    omega (arith, signed_arith, h.2, g.2)
 
 -- ---- the moment at which the file is made
 
