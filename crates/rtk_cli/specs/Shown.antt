@@ -15,6 +15,7 @@ use Rattle.rtk_message.specs.declared.msm1074.Msm1074.{Msm1074}
 use Rattle.rtk_message.specs.declared.fault.DecodeFault.{DecodeFault}
 use Rattle.rtk_message.specs.declared.fault.DecodeFault.TheVariants.{NoNumber, Other, Short, EpochRange, TooManyCells}
 use Rattle.rtk_message.specs.Decoded.{Decodes}
+use Rattle.rtk_message.specs.FaultCode.{fault_text}
 use Rattle.rtk_message.specs.Msm1074.{satellite_count, signal_count, cell_count}
 
 -- a point and four digits: the part of a whole metre, of a number of 0.0001 m
@@ -60,14 +61,17 @@ message_text (Of1005 m) = text_1005 m
 message_text (Of1006 m) = text_1006 m
 message_text (Of1074 m) = text_1074 m
 
--- a payload that is no message: the number of another message; or that it is refused, the code of
--- the fault, and the number of the message or a hyphen
+-- as in: refused M3 1005
+abbrev pub refusal_text : DecodeFault → List ℕ
+refusal_text fault = codes "refused " ++ fault_text fault
+
+-- a payload that is no message: the number of another message, or why it is refused
 abbrev pub unread_text : DecodeFault → List ℕ
-unread_text NoNumber = codes "refused M1 -"
+unread_text NoNumber = refusal_text NoNumber
 unread_text (Other number) = decimal number ++ codes " other"
-unread_text (Short number) = codes "refused M3 " ++ decimal number
-unread_text (EpochRange number) = codes "refused M4 " ++ decimal number
-unread_text TooManyCells = codes "refused M5 1074"
+unread_text (Short number) = refusal_text (Short number)
+unread_text (EpochRange number) = refusal_text (EpochRange number)
+unread_text TooManyCells = refusal_text TooManyCells
 
 -- the line of a message or of a payload that is no message: its text, and a line feed
 abbrev pub line_of : Result Message DecodeFault → List ℕ

@@ -2,8 +2,9 @@
 
 ghost use Rattle.std.specs.Prelude.{◌≡◌, ◌++◌, ◌∷◌, [], List, ℕ, decimal, IfOk, OnOk};
 ghost use Rattle.rtk_message.specs.Decoded.{IsValid};
+ghost use Rattle.rtk_message.specs.FaultCode.{fault_text};
 ghost use Rattle.rtk_message.specs.Msm1074.{HasLengths};
-ghost use Rattle.rtk_cli.specs.Shown.{four_decimals, metres, coordinate, reference_point, text_1004, text_1005, text_1006, text_1074, message_text, unread_text, IsLineOf};
+ghost use Rattle.rtk_cli.specs.Shown.{four_decimals, metres, coordinate, reference_point, text_1004, text_1005, text_1006, text_1074, message_text, refusal_text, unread_text, IsLineOf};
 
 use itoa::Buffer;
 use rtk_message::{Arp1005, Arp1006, DecodeFault, Message, Msm1074, Obs1004, decode};
@@ -117,18 +118,34 @@ fn put_message_text(line: &mut Vec<u8>, message: &Message) -> Result<(), AllocEr
     }
 }
 
+// The code of a fault, and the number of the message or a hyphen.
+fn put_fault_text(line: &mut Vec<u8>, fault: DecodeFault) -> Result<(), AllocError>
+    ensures { OnOk result (line.new.items ≡ line.old.items ++ fault_text fault) }
+{
+    line.extend_from_slice(fault.code().as_bytes())?;
+    match fault.number() {
+        Some(number) => put_named(line, b" ", number as u64)?,
+        None => line.extend_from_slice(b" -")?,
+    }
+    Ok(())
+}
+
+fn put_refusal(line: &mut Vec<u8>, fault: DecodeFault) -> Result<(), AllocError>
+    ensures { OnOk result (line.new.items ≡ line.old.items ++ refusal_text fault) }
+{
+    line.extend_from_slice(b"refused ")?;
+    put_fault_text(line, fault)
+}
+
 fn put_unread(line: &mut Vec<u8>, fault: DecodeFault) -> Result<(), AllocError>
     ensures { OnOk result (line.new.items ≡ line.old.items ++ unread_text fault) }
 {
     match fault {
-        DecodeFault::NoNumber => line.extend_from_slice(b"refused M1 -"),
         DecodeFault::Other { number } => {
             put_number(line, number as u64)?;
             line.extend_from_slice(b" other")
         }
-        DecodeFault::Short { number } => put_named(line, b"refused M3 ", number as u64),
-        DecodeFault::EpochRange { number } => put_named(line, b"refused M4 ", number as u64),
-        DecodeFault::TooManyCells => line.extend_from_slice(b"refused M5 1074"),
+        _ => put_refusal(line, fault),
     }
 }
 
