@@ -2,19 +2,10 @@
 -- are this project's rule.
 use Rattle.std.specs.Prelude.{◌≡◌, ◌≢◌, ℕ, Bool, true, false, List, [], ◌∷◌, ◌++◌, codes, decimal, Option}
 use Rattle.rtk_frame.specs.Stream.{with_more, TakesPart}
+use Rattle.rtk_rinex.specs.CauseText.{cause_text}
 use Rattle.rtk_rinex.specs.CheckTable.{HoldsTable, IsFault, IsWithoutTable}
-use Rattle.rtk_rinex.specs.declared.check_fault.Cause.{Cause}
-use Rattle.rtk_rinex.specs.declared.check_fault.Cause.TheVariants.{HeaderLine, Columns, Value, Order, Truncated, OutOfMemory}
+use Rattle.rtk_rinex.specs.declared.check_fault.Cause.TheVariants.{OutOfMemory}
 use Rattle.rtk_rinex.specs.declared.check_fault.CheckFault.{CheckFault}
-
--- the number and the name of a cause
-abbrev pub cause_text : Cause → List ℕ
-cause_text HeaderLine = codes "C1 HeaderLine"
-cause_text Columns = codes "C2 Columns"
-cause_text Value = codes "C3 Value"
-cause_text Order = codes "C4 Order"
-cause_text Truncated = codes "C5 Truncated"
-cause_text OutOfMemory = codes "C6 OutOfMemory"
 
 -- the line of a table with these numbers of records and satellite lines; a line feed ends it
 abbrev pub valid_text : ℕ → ℕ → List ℕ

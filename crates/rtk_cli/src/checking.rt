@@ -4,7 +4,8 @@
 ghost use Rattle.std.specs.Prelude.{◌≡◌, ◌≢◌, ◌+◌, ◌≤◌, ◌++◌, Err, length, IfOk, OnOk, IfErr, IsErrOf};
 ghost use Rattle.rtk_frame.specs.Stream.{CountRises};
 ghost use Rattle.rtk_cli.specs.Input.{GivesText};
-ghost use Rattle.rtk_cli.specs.CheckFile.{cause_text, valid_text, check_fault_text, SaysVerdict, Tells, TellsPart};
+ghost use Rattle.rtk_rinex.specs.CauseText.{cause_text};
+ghost use Rattle.rtk_cli.specs.CheckFile.{valid_text, check_fault_text, SaysVerdict, Tells, TellsPart};
 ghost use Rattle.rtk_cli.specs.declared.words.ToolFault.TheVariants.{Input, TooLong, NotHex, OutOfMemory, Output};
 
 use crate::input::read_whole;
@@ -37,14 +38,7 @@ fn valid_line(alloc: Global, table: &Table) -> Result<Vec<u8>, AllocError>
 fn put_cause(line: &mut Vec<u8>, cause: Cause) -> Result<(), AllocError>
     ensures { OnOk result (line.new.items ≡ line.old.items ++ cause_text cause) }
 {
-    match cause {
-        Cause::HeaderLine => line.extend_from_slice(b"C1 HeaderLine"),
-        Cause::Columns => line.extend_from_slice(b"C2 Columns"),
-        Cause::Value => line.extend_from_slice(b"C3 Value"),
-        Cause::Order => line.extend_from_slice(b"C4 Order"),
-        Cause::Truncated => line.extend_from_slice(b"C5 Truncated"),
-        Cause::OutOfMemory => line.extend_from_slice(b"C6 OutOfMemory"),
-    }
+    line.extend_from_slice(cause.as_str().as_bytes())
 }
 
 fn fault_line(alloc: Global, fault: CheckFault) -> Result<Vec<u8>, AllocError>

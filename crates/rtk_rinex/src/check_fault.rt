@@ -2,28 +2,47 @@
 
 use thiserror::Error;
 
-/// What is wrong with a line. The program prints the same codes, `C1` to `C6`.
+/// What is wrong with a line.
 #[derive(Clone, Copy, Debug, PartialEq, Eq, Error)]
 pub enum Cause {
     /// No header begins with these lines, from the first one to this one.
-    #[error("C1 HeaderLine")]
+    #[error("{}", self.as_str())]
     HeaderLine,
     /// An epoch line or a satellite line is out of form.
-    #[error("C2 Columns")]
+    #[error("{}", self.as_str())]
     Columns,
     /// An observation or its digits are not as they are written, or the satellite has none.
-    #[error("C3 Value")]
+    #[error("{}", self.as_str())]
     Value,
     /// An epoch or a satellite is not greater than the one before, or the first epoch is not at the
     /// first time.
-    #[error("C4 Order")]
+    #[error("{}", self.as_str())]
     Order,
     /// The text ends although a line must follow, or the line has no LF.
-    #[error("C5 Truncated")]
+    #[error("{}", self.as_str())]
     Truncated,
     /// Memory was refused.
-    #[error("C6 OutOfMemory")]
+    #[error("{}", self.as_str())]
     OutOfMemory,
+}
+
+impl Cause {
+    ghost use Rattle.std.specs.Prelude.{◌≡◌};
+    ghost use Rattle.rtk_rinex.specs.CauseText.{cause_text};
+
+    /// The code and the name of the cause, as the program shows them: `C1 HeaderLine`.
+    pub fn as_str(&self) -> &'static str
+        ensures { result.now ≡ cause_text self.now }
+    {
+        match self {
+            Cause::HeaderLine => "C1 HeaderLine",
+            Cause::Columns => "C2 Columns",
+            Cause::Value => "C3 Value",
+            Cause::Order => "C4 Order",
+            Cause::Truncated => "C5 Truncated",
+            Cause::OutOfMemory => "C6 OutOfMemory",
+        }
+    }
 }
 
 /// The first line of a text that has a fault, and its cause.
