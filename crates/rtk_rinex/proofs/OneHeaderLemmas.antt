@@ -17,9 +17,9 @@ use Rattle.rtk_rinex.specs.Lines.{HasNoEnd}
 use Rattle.rtk_rinex.specs.HeaderFault.{AreLines, IsHeader, BeginsHeader, BeginsTable, IsLineFault, IsFaultAfter}
 use Rattle.rtk_rinex.specs.Steps.HeaderRead.{HasHeader}
 use Rattle.rtk_rinex.specs.Table.{IsTableEpoch}
-use Rattle.rtk_rinex.proofs.ReadingLemmas.{reading-reads}
+use Rattle.rtk_rinex.proofs.ReadingLemmas.{reading-reads, one_moment}
 use Rattle.rtk_rinex.proofs.DigitsLemmas.{take-exact, drop-exact}
-use Rattle.rtk_rinex.proofs.HeaderShownLemmas.{first_is, one_moment}
+use Rattle.rtk_rinex.proofs.HeaderShownLemmas.{first_is}
 use Rattle.rtk_rinex.proofs.HeaderRowsLemmas.{row_ended, ended, text_of, row_count}
 use Rattle.rtk_rinex.proofs.HeaderSameLemmas.{IsGood, lines_of, length-header, line_within, in_last}
 use Rattle.rtk_rinex.proofs.HeaderVerdictLemmas.{line_front, count_shown, are_lines}

@@ -15,8 +15,8 @@ use Rattle.rtk_rinex.specs.Table.{IsTableRow, IsTableEpoch, StartsAt}
 use Rattle.rtk_rinex.specs.CheckLine.{IsNextTime, IsNextSatellite}
 use Rattle.rtk_rinex.specs.Lines.{IsLine}
 use Rattle.rtk_rinex.specs.CheckText.{AreEpochs, last_satellite, last_time}
-use Rattle.rtk_rinex.proofs.ReadingLemmas.{reading-reads}
-use Rattle.rtk_rinex.proofs.EpochLemmas.{epoch-shows, line-columns, length-line, one_moment}
+use Rattle.rtk_rinex.proofs.ReadingLemmas.{reading-reads, one_moment}
+use Rattle.rtk_rinex.proofs.EpochLemmas.{epoch-shows, line-columns, length-line}
 use Rattle.rtk_rinex.proofs.RowLemmas.{row-shows}
 use Rattle.rtk_rinex.proofs.CheckLemmas.{record-lines}
 use Rattle.rtk_rinex.proofs.LineLemmas.{satellite_line-line, epoch_line-line, same_line}

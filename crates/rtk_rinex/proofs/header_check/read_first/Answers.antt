@@ -1,7 +1,7 @@
 use Rattle.std.proofs.Common.{◌≡◌, ◌∙◌, arith}
 use Rattle.rtk_rinex.specs.Reading.{reading_of}
-use Rattle.rtk_rinex.proofs.ReadingLemmas.{reading-reads}
-use Rattle.rtk_rinex.proofs.HeaderShownLemmas.{first_is, one_moment}
+use Rattle.rtk_rinex.proofs.ReadingLemmas.{reading-reads, one_moment}
+use Rattle.rtk_rinex.proofs.HeaderShownLemmas.{first_is}
 use Rattle.rtk_rinex.proofs.header_check.read_first.Goals as goal
 
 pub returns-then-seconds-ge600000000 : goal.returns-then-seconds-ge600000000

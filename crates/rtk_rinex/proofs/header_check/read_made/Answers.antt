@@ -1,7 +1,7 @@
 use Rattle.std.proofs.Common.{◌≡◌, ◌∙◌}
 use Rattle.rtk_rinex.specs.Reading.{reading_of}
-use Rattle.rtk_rinex.proofs.ReadingLemmas.{reading-reads}
-use Rattle.rtk_rinex.proofs.HeaderShownLemmas.{made_is, one_moment}
+use Rattle.rtk_rinex.proofs.ReadingLemmas.{reading-reads, one_moment}
+use Rattle.rtk_rinex.proofs.HeaderShownLemmas.{made_is}
 use Rattle.rtk_rinex.proofs.header_check.read_made.Goals as goal
 
 pub returns-in_default-clause-shown : goal.returns-in_default-clause-shown
