@@ -1,14 +1,13 @@
 -- What an epoch line shows is its moment and its count.
-use Rattle.std.proofs.Common.{◌≡◌, ℕ, ◌+◌, ◌/◌, ◌^◌, ◌<◌, List, [], ◌∷◌, ◌++◌, length, take, drop, decimal, codes, false, arith, refl, ◌∙◌, append_assoc, length-append, pos}
+use Rattle.std.proofs.Common.{◌≡◌, ℕ, ◌+◌, ◌/◌, ◌^◌, ◌<◌, List, [], ◌∷◌, ◌++◌, length, take, drop, decimal, codes, false, arith, refl, ◌∙◌, append_assoc, length-append}
 use Rattle.std.specs.Int.{IsInRange}
 use Rattle.std.proofs.lemmas.Fmt.{length-decimal-le}
-use Rattle.jiff_core.proofs.CalendarLemmas.{days_in_month_bounds}
 use Rattle.rtk_obs.specs.declared.time.Civil.{Civil}
 use Rattle.rtk_rinex.specs.Columns.{right, decimals}
 use Rattle.rtk_rinex.specs.Reading.{IsMoment, reading_of, seconds_of}
 use Rattle.rtk_rinex.specs.Record.{epoch_date_text, epoch_columns, epoch_line}
 use Rattle.rtk_rinex.specs.Steps.CheckValues.{seconds_in, civil_in, count_in}
-use Rattle.rtk_rinex.proofs.ReadingLemmas.{same_civil, reading-reads, year-bound}
+use Rattle.rtk_rinex.proofs.ReadingLemmas.{same_civil, Fits, Fits-reading_of}
 use Rattle.rtk_rinex.proofs.DigitsLemmas.{digits_from-last_2, digits_from-last_4, digits_from-seconds, digits_from-right, length-right, take-exact, drop-exact}
 
 length-seconds : (n : ℕ) → n < 10 ^ 10 → length (right 11 (decimals 7 false n)) ≡ 11
@@ -18,16 +17,6 @@ length-seconds n h =
 
 length-count : (n : ℕ) → n < 1000 → length (right 3 (decimal n)) ≡ 3
 length-count n h = length-right 3 (decimal n) (length-decimal-le 3 n (omega arith) (omega arith) (omega arith))
-
--- a reading whose fields fit their columns
-pub record Fits (c : Civil) : Type 0 where
-  pub year : c.year < 10_000
-  pub month : c.month < 100
-  pub day : c.day < 100
-  pub hour : c.hour < 100
-  pub minute : c.minute < 100
-  pub second : c.second < 60
-  pub millisecond : c.millisecond < 1000
 
 pub seconds_in-columns : (c : Civil) (n : ℕ) → Fits c → seconds_in (epoch_columns c n) ≡ seconds_of c
 seconds_in-columns c n h =
@@ -65,21 +54,6 @@ count_of-columns c n h k =
     let last : List ℕ = right 3 (decimal n) in
     let from : drop 32 (front ++ last) ≡ last = drop-exact 32 front last ((columns-lengths c n h k).0) in
     rw from (digits_from-right 3 n (omega arith))
-
-pub Fits-reading_of : (t : ℕ) → IsMoment t → Fits (reading_of t)
-Fits-reading_of t h =
-    let reads = reading-reads t h in
-    let late = year-bound (t / 86_400_000) (omega arith) in
-    let day = reads.0.0.2.1 in
-    record {
-      year = omega arith;
-      month = omega (arith, reads.0.0.1.1);
-      day = omega (arith, day, days_in_month_bounds (pos (reading_of t).year) (reading_of t).month);
-      hour = omega arith;
-      minute = omega arith;
-      second = omega arith;
-      millisecond = omega arith;
-    }
 
 -- a line that is an epoch line shows its moment's reading and its count
 pub record ShowsEpoch (line : List ℕ) (t n : ℕ) : Type 0 where

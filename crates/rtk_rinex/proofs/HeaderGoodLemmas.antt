@@ -21,7 +21,8 @@ use Rattle.rtk_rinex.specs.Header.{HeadView, PositionView, IsHeadView, IsPositio
 use Rattle.rtk_rinex.specs.Lines.{HasNoEnd}
 use Rattle.rtk_rinex.specs.Steps.HeaderShown.{line_at}
 use Rattle.rtk_rinex.proofs.DigitsLemmas.{take-exact, length-left, length-right}
-use Rattle.rtk_rinex.proofs.HeaderShownLemmas.{Fits, Fits-reading_of, length-fixed, IsCoordinate-height, length-seconds}
+use Rattle.rtk_rinex.proofs.ReadingLemmas.{Fits, Fits-reading_of}
+use Rattle.rtk_rinex.proofs.HeaderShownLemmas.{length-fixed, IsCoordinate-height, length-seconds}
 use Rattle.rtk_rinex.proofs.HeaderRowsLemmas.{row, ended, text_of, types_head, types_line, type_rows, row_count, first_rows, last_rows, rows}
 
 -- ---- texts without LF

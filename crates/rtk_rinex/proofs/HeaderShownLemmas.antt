@@ -1,11 +1,10 @@
 -- The lines of a header show its values.
-use Rattle.std.proofs.Common.{◌≡◌, ◌≢◌, ℕ, zero, suc, ◌+◌, ◌-◌, ◌*◌, ◌/◌, ◌%◌, ◌^◌, ◌<◌, ◌≤◌, List, [], ◌∷◌, ◌++◌, length, take, drop, replicate, get_or, slice_get, Some, decimal, codes, Bool, true, false, arith, refl, sym, ◌∙◌, ap, append_assoc, length-append, ℤ, pos, negsuc, unsigned_abs}
+use Rattle.std.proofs.Common.{◌≡◌, ◌≢◌, ℕ, zero, suc, ◌+◌, ◌-◌, ◌*◌, ◌/◌, ◌%◌, ◌^◌, ◌<◌, ◌≤◌, List, [], ◌∷◌, ◌++◌, length, take, drop, replicate, get_or, slice_get, Some, decimal, codes, true, false, arith, refl, sym, ◌∙◌, ap, append_assoc, length-append, ℤ, pos, negsuc, unsigned_abs}
 use Rattle.std.specs.Int.{IsInRange}
 use Rattle.std.proofs.lemmas.Fmt.{length-decimal-le}
 use Rattle.std.proofs.lemmas.Int.{ints}
 use Rattle.std.proofs.lemmas.Option.{slice_get-get_or}
 use Rattle.std.proofs.lemmas.List.{replicate-append-replicate, take_all, append-nil}
-use Rattle.jiff_core.proofs.CalendarLemmas.{days_in_month_bounds}
 use Rattle.rtk_obs.specs.declared.time.Civil.{Civil}
 use Rattle.rtk_obs.specs.Coordinates.{IsCoordinate}
 use Rattle.rtk_rinex.specs.Columns.{left, right, decimals, fixed}
@@ -14,34 +13,9 @@ use Rattle.rtk_rinex.specs.Record.{trim_end}
 use Rattle.rtk_rinex.specs.Header.{header_line, made_text, first_text, IsMarker}
 use Rattle.rtk_rinex.specs.Steps.Digits.{digits_from, number_in}
 use Rattle.rtk_rinex.specs.Steps.HeaderShown.{number_at, made_civil, first_civil}
-use Rattle.rtk_rinex.proofs.ReadingLemmas.{same_civil, reading-reads, year-bound}
+use Rattle.rtk_rinex.proofs.ReadingLemmas.{same_civil, Fits, Fits-reading_of}
 use Rattle.rtk_rinex.proofs.RecordLemmas.{trim_end-blank, trim_end-done}
 use Rattle.rtk_rinex.proofs.DigitsLemmas.{digits_from-last_2, digits_from-last_4, digits_from-seconds, digits_from-right, digits_from-tenthousandths, number_of-fixed_4, length-left, take-exact, piece, length-right}
-
--- a reading whose fields fit their columns
-pub record Fits (c : Civil) : Type 0 where
-  pub year : c.year < 10_000
-  pub month : c.month < 100
-  pub day : c.day < 100
-  pub hour : c.hour < 100
-  pub minute : c.minute < 100
-  pub second : c.second < 60
-  pub millisecond : c.millisecond < 1000
-
-pub Fits-reading_of : (t : ℕ) → IsMoment t → Fits (reading_of t)
-Fits-reading_of t h =
-    let reads = reading-reads t h in
-    let late = year-bound (t / 86_400_000) (omega arith) in
-    let day = reads.0.0.2.1 in
-    record {
-      year = omega arith;
-      month = omega (arith, reads.0.0.1.1);
-      day = omega (arith, day, days_in_month_bounds (pos (reading_of t).year) (reading_of t).month);
-      hour = omega arith;
-      minute = omega arith;
-      second = omega arith;
-      millisecond = omega arith;
-    }
 
 -- ---- the moment at which the file is made
 
@@ -253,6 +227,3 @@ marker_is line label m h e =
     let r : line ≡ left 60 m ++ (left 20 label ++ 10 ∷ []) = e ∙ append_assoc (left 60 m) (left 20 label) (10 ∷ []) in
     let long : length (left 60 m) ≡ 60 = length-left 60 m (omega (arith, h.0)) in
     rw (r, take-exact 60 (left 60 m) (left 20 label ++ 10 ∷ []) long) (trimmed-marker m h)
-
-pub clash : (b : Bool) → b ≡ false → b ≡ true → ⊥
-clash b e f = let apart : false ≡ true = sym e ∙ f in cc

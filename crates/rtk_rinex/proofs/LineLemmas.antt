@@ -11,7 +11,7 @@ use Rattle.rtk_rinex.specs.Reading.{IsMoment, reading_of, seconds_of}
 use Rattle.rtk_rinex.specs.Record.{is_written, observation, observations, lli_digit, strength_digit, strength_value, before_trimmed, trim_end, satellite_line, epoch_date_text, epoch_columns, epoch_line}
 use Rattle.rtk_rinex.specs.Lines.{HasNoEnd, IsLine}
 use Rattle.rtk_rinex.proofs.ValuesLemmas.{written-magnitude}
-use Rattle.rtk_rinex.proofs.EpochLemmas.{Fits-reading_of}
+use Rattle.rtk_rinex.proofs.ReadingLemmas.{Fits-reading_of}
 
 abbrev IsNoEnd : ℕ → Type 0
 IsNoEnd x = x ≢ 10

@@ -130,3 +130,28 @@ reading-reads t h =
     let year : IsYear (pos date.year) = (omega (arith, signed_arith), omega (arith, signed_arith)) in
     let day : days_from_civil (pos date.year) date.month date.day ≡ pos (3657 + k) = omega (arith, signed_arith, days_from_civil-day_count (pos date.year) date.month date.day, good.1) in
     (((year, good.0.1, good.0.2), day), (omega arith, omega arith, omega arith, omega arith), omega arith)
+
+-- a reading whose fields fit their columns
+pub record Fits (c : Civil) : Type 0 where
+  pub year : c.year < 10_000
+  pub month : c.month < 100
+  pub day : c.day < 100
+  pub hour : c.hour < 100
+  pub minute : c.minute < 100
+  pub second : c.second < 60
+  pub millisecond : c.millisecond < 1000
+
+pub Fits-reading_of : (t : ℕ) → IsMoment t → Fits (reading_of t)
+Fits-reading_of t h =
+    let reads = reading-reads t h in
+    let late = year-bound (t / 86_400_000) (omega arith) in
+    let day = reads.0.0.2.1 in
+    record {
+      year = omega arith;
+      month = omega (arith, reads.0.0.1.1);
+      day = omega (arith, day, days_in_month_bounds (pos (reading_of t).year) (reading_of t).month);
+      hour = omega arith;
+      minute = omega arith;
+      second = omega arith;
+      millisecond = omega arith;
+    }

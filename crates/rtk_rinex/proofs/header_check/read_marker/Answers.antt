@@ -1,5 +1,6 @@
 use Rattle.std.proofs.Common.{◌∙◌}
-use Rattle.rtk_rinex.proofs.HeaderShownLemmas.{marker_is, clash}
+use Rattle.rtk_rinex.proofs.HeaderShownLemmas.{marker_is}
+use Rattle.rtk_rinex.proofs.ValuesLemmas.{clash}
 use Rattle.rtk_rinex.proofs.header_check.read_marker.Goals as goal
 
 pub returns-then-not-is_marker-clause-shown : goal.returns-then-not-is_marker-clause-shown
