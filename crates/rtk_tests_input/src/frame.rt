@@ -2,7 +2,7 @@
 
 ghost use Rattle.std.specs.Prelude.{◌≡◌, ◌<◌, false};
 
-mod streams;
+mod stream;
 
 use rtk_frame::{Answer, FrameFault, Scanner, crc24q, encode_frame, next_frame};
 use rtk_test_support::{holds, holds_of, same, same_of};
