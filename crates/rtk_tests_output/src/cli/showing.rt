@@ -1,4 +1,5 @@
 //! `show` over whole captures, as bytes and as hex text.
+
 use super::check_shown;
 use rtk_frame::{After, MemSink, MemSource};
 use std::alloc::Global;
