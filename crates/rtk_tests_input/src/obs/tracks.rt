@@ -133,7 +133,7 @@ fn rolls_of_offsets() -> Result<(), Fail> {
 }
 
 // The third phase comes 31 s after the first one. Its digits look at the last phase of the
-// satellite: at the first one where it had none between, or another satellite had one.
+// satellite: at the first one, if the cell between has no phase or is another satellite's.
 #[test]
 fn digits_of_a_third_phase() -> Result<(), Fail> {
     let first = legacy(28_000, 0);

@@ -49,7 +49,7 @@ fn limits_of_a_satellite_line(rt: HostRuntime) -> Result<(), Fail> {
     Ok(())
 }
 
-// Behind the 97 columns of the example's line; two codes have 99.
+// After the 97 columns of the example's line; two codes have 99.
 const ENDS: [(&str, Cause); 4] = [
     (" ", Cause::Columns),
     ("\r", Cause::Value),
