@@ -66,7 +66,7 @@ impl Converter {
         ensures ok { IfOk result (λ c. RepresentsHistory c (new_history links)) }
         ensures same_setup { IfOk result (λ c. c.conversion.setup ≡ setup) }
         ensures as_many { IfOk result (λ c. length c.links ≡ links) }
-        ensures setup { IsErrOf result ConvertFault.Setup ↔ ¬ (IsLinkCount links) }
+        ensures link_count { IsErrOf result ConvertFault.Setup ↔ ¬ (IsLinkCount links) }
         ensures fault { IfErr result (λ fault. IsLinkCount links → fault ≡ ConvertFault.OutOfMemory) }
         ensures bounds { IfOk result HoldsAtMost }
     {

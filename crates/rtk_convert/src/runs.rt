@@ -174,7 +174,7 @@ pub fn run<R: Source, O: Sink, L: Sink>(
     ensures untouched { IsErrOf result ConvertFault.Setup → (readers.new ≡ readers.old) × (out.new ≡ out.old) × (log.new ≡ log.old) }
 
     // When each fault, and how many reads; a stream or a reader that failed is named.
-    ensures setup { IsErrOf result ConvertFault.Setup ↔ ¬ (IsLinkCount (length readers.old)) }
+    ensures link_count { IsErrOf result ConvertFault.Setup ↔ ¬ (IsLinkCount (length readers.old)) }
     ensures fault { IfErr result IsRunFault }
     ensures reads { sum_by R.calls readers.new ≤ sum_by R.calls readers.old + max_reads }
     ensures file_failed { NamesFailedWrites Stream.Out result (O.failures out.old) (O.failures out.new) }

@@ -6,7 +6,7 @@ ghost use Rattle.std.specs.Prelude.{◌≡◌, true, false, IfOk, IfErr, IsTrue,
 use std::fmt::{Debug, Display};
 use std::test::Fail;
 
-/// A test goes on where what it got is what it wants, and fails with both where not.
+/// Ok if the test got what it wants; else a failure that shows both values.
 pub fn same<T: PartialEq + Debug>(got: &T, want: &T) -> Result<(), Fail>
     ensures equal { IfOk result (λ _. T.eq got.now want.now ≡ true) }
     ensures other { IfErr result (λ _. T.eq got.now want.now ≡ false) }
@@ -34,7 +34,7 @@ pub fn same_of<R: Display + Drop, T: PartialEq + Debug>(
     }
 }
 
-/// A test goes on where this holds, and fails where not.
+/// Ok if this holds; else a failure.
 pub fn holds(is: bool) -> Result<(), Fail>
     ensures so { IfOk result (λ _. is ≡ true) }
     ensures not_so { IfErr result (λ _. is ≡ false) }

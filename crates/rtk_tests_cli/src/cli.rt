@@ -7,7 +7,7 @@ mod exit_status;
 mod faults;
 mod long;
 mod payload_line;
-mod rows;
+mod showing;
 
 use rtk_cli::{ToolFault, show};
 use rtk_frame::{MemSink, MemSource};

@@ -3,7 +3,7 @@
 ghost use Rattle.std.specs.Prelude.{◌<◌};
 
 mod cell_rows;
-mod links;
+mod converter;
 mod payload_rows;
 mod payloads;
 mod read_sizes;

@@ -1,8 +1,8 @@
 //! Lists of offers, and the answer to each.
 
-mod cells;
-mod epochs;
+mod merging;
 mod stations;
+mod window;
 
 use rtk_collect::{Collector, Dated, EpochSet, Left, Offer, SatelliteCode};
 use rtk_message::{Message, Obs1004, Satellite, Satellites, decode};

@@ -2,7 +2,7 @@
 
 ghost use Rattle.std.specs.Prelude.{◌≡◌, ◌<◌, false};
 
-mod streams;
+mod stream;
 
 use rtk_frame::{
     Answer, FrameFault, Scanner, StreamFault, crc24q, encode_frame, next_frame,

@@ -39,7 +39,7 @@ const ROOMS: [(usize, Result<bool, ToolFault>); 4] = [
     (35, Ok(true)),
 ];
 
-// A first part of the line is out, and all of it where there is room.
+// A first part of the line is out, and all of it if there is room.
 #[test]
 fn rooms_for_the_line(rt: HostRuntime) -> Result<(), Fail> {
     for &(room, want) in &ROOMS {

@@ -20,7 +20,7 @@ const OPTIONS: [&str; 11] = [
     "1C,2W",
 ];
 
-// Behind the options: the words, the window and the links.
+// After the options: the words, the window and the links.
 const ROWS: [(&[&str], usize, &[&str]); 6] = [
     (&["--window", "2", "stdin"], 2, &["stdin"]),
     (&["stdin"], 64, &["stdin"]),
@@ -44,7 +44,7 @@ const ROWS: [(&[&str], usize, &[&str]); 6] = [
     ),
 ];
 
-// Have the links these names, in this order?
+// Do the links have these names, in this order?
 fn are_named(links: &[&str], names: &[&str]) -> bool {
     links.len() == names.len() && links.iter().zip(names).all(|(link, name)| *link == *name)
 }

@@ -1,4 +1,4 @@
-//! `show` where more is read and written than at once: reads of 4,096 bytes, writes of 65,536.
+//! `show` of more than is read or written at once: reads of 4,096 bytes, writes of 65,536.
 
 use super::check_shown;
 use rtk_cli::ToolFault;

@@ -60,7 +60,7 @@ pub(crate) const EPOCHS: [Row; 8] = [
         ],
         report: "frames 4\nother 0\nrefused 0\nforeign 0\ntaken 2\nrepeat 2\nconflict 0\nlate 0\nepochs 1\n",
     },
-    // Also where it has no value.
+    // Also if it has no value.
     Row {
         payloads: &[Q, MSM_5_INVALID],
         file: &[

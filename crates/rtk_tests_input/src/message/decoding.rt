@@ -21,7 +21,7 @@ fn faults_come_in_their_order() -> Result<(), Fail> {
         (&[0x3f, 0xb0], DecodeFault::Other { number: 1019 }),
         (&[0xff, 0xff], DecodeFault::Other { number: 4095 }),
         (&[0x3e, 0xc0], SHORT_1004),
-        // Cut inside the header, also where the time is late.
+        // Cut inside the header, also if the time of week is out of range.
         (&no_satellite_left[..7], SHORT_1004),
         (&late_and_no_satellite_left[..7], SHORT_1004),
         // The time before the rest.

@@ -46,7 +46,7 @@ fn at(ms: u64) -> GpsMs
 }
 
 // The digits of a cell of satellite 5, and of a second cell 1 s later.
-fn after(code: Code, first: Cell, second: Cell) -> (Digits, Digits) {
+fn digits_of_two(code: Code, first: Cell, second: Cell) -> (Digits, Digits) {
     tracks_laws();
     let mut tracks = Tracks::new();
     let start = at(NOON);
@@ -58,7 +58,7 @@ fn after(code: Code, first: Cell, second: Cell) -> (Digits, Digits) {
 
 // The digits of a cell of satellite 5 that follows a cell of its own 31 s before and a cell of any
 // satellite 30 s before.
-fn after_both(first: Cell, other: u8, between: Cell, third: Cell) -> Digits
+fn digits_of_third(first: Cell, other: u8, between: Cell, third: Cell) -> Digits
     requires { (1 ≤ other) × (other ≤ 32) }
 {
     tracks_laws();
@@ -95,7 +95,7 @@ fn loss_of_lock() -> Result<(), Fail> {
         (legacy(5000, 300_000), legacy(0, -270_881), (true, false)),
     ];
     for &(first, second, (slip, half)) in &rows {
-        let (early, late) = after(Code::C1C, first, second);
+        let (early, late) = digits_of_two(Code::C1C, first, second);
         same_of(
             format_args!("the first phase"),
             &shown(early),
@@ -122,7 +122,7 @@ const OFFSETS: [(Code, i32, i32, i64); 9] = [
 #[test]
 fn rolls_of_offsets() -> Result<(), Fail> {
     for &(code, first, second, rolls) in &OFFSETS {
-        let (_, digits) = after(code, legacy(5000, first), legacy(6000, second));
+        let (_, digits) = digits_of_two(code, legacy(5000, first), legacy(6000, second));
         same_of(
             format_args!("{code:?} {second}"),
             &shown(digits),
@@ -133,7 +133,7 @@ fn rolls_of_offsets() -> Result<(), Fail> {
 }
 
 // The third phase comes 31 s after the first one. Its digits look at the last phase of the
-// satellite: at the first one where it had none between, or another satellite had one.
+// satellite: at the first one, if the cell between has no phase or is another satellite's.
 #[test]
 fn digits_of_a_third_phase() -> Result<(), Fail> {
     let first = legacy(28_000, 0);
@@ -155,7 +155,7 @@ fn digits_of_a_third_phase() -> Result<(), Fail> {
     ];
     for &(first, other, between, third, want) in &rows {
         holds(1 <= other && other <= 32)?;
-        let digits = after_both(first, other, between, third);
+        let digits = digits_of_third(first, other, between, third);
         same_of(
             format_args!("{other} {between:?} {third:?}"),
             &shown(digits),

@@ -12,12 +12,12 @@ use Rattle.rtk_convert.proofs.RunLemmas.{runs-as, breaks-ending, links-few, read
 use Rattle.rtk_convert.proofs.runs.run.Goals as goal
 
 pub read_all-requires-clause-links : goal.read_all-requires-clause-links
-read_all-requires-clause-links g c = (links-few (length c.args.readers.now) _ (λ e. cc) c.in_ok-converter.ensures.setup.1).1
+read_all-requires-clause-links g c = (links-few (length c.args.readers.now) _ (λ e. cc) c.in_ok-converter.ensures.link_count.1).1
 
-pub returns-in-Err-clause-setup : goal.returns-in-Err-clause-setup
-returns-in-Err-clause-setup g c = (
+pub returns-in-Err-clause-link_count : goal.returns-in-Err-clause-link_count
+returns-in-Err-clause-link_count g c = (
   λ is_setup few. IfErr-at_err IsReadingFault is_setup c.in-Err.ensures.fault,
-  λ many. absurd (many (links-few (length c.args.readers.now) _ (λ e. cc) c.in_ok-converter.ensures.setup.1)),
+  λ many. absurd (many (links-few (length c.args.readers.now) _ (λ e. cc) c.in_ok-converter.ensures.link_count.1)),
 )
 
 pub returns-in-Err-clause-fault : goal.returns-in-Err-clause-fault
@@ -41,10 +41,10 @@ returns-in-Err-clause-endless g c = λ is_endless.
       both.1,
     )
 
-pub returns-clause-setup : goal.returns-clause-setup
-returns-clause-setup g c = (
+pub returns-clause-link_count : goal.returns-clause-link_count
+returns-clause-link_count g c = (
   λ is_setup few. IfErr-at_err _ is_setup (c.finish.ensures.fault c.in_default.ensures.ok.represents.going),
-  λ many. absurd (many (links-few (length c.args.readers.now) _ (λ e. cc) c.in_ok-converter.ensures.setup.1)),
+  λ many. absurd (many (links-few (length c.args.readers.now) _ (λ e. cc) c.in_ok-converter.ensures.link_count.1)),
 )
 
 pub returns-clause-fault : goal.returns-clause-fault

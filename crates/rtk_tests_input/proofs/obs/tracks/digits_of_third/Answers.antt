@@ -1,6 +1,6 @@
 use Rattle.std.proofs.Common.{arith}
 use Rattle.rtk_obs.specs.declared.code.Code.TheVariants.{C1C}
-use Rattle.rtk_tests_input.proofs.obs.tracks.after_both.Goals as goal
+use Rattle.rtk_tests_input.proofs.obs.tracks.digits_of_third.Goals as goal
 
 pub step-early-requires-clause-later : goal.step-early-requires-clause-later
 step-early-requires-clause-later c = rw (c.new-tracks.ensures.empty 5 C1C) tt

@@ -1,7 +1,7 @@
 //! `show` over whole captures, as bytes and as hex text.
+
 use super::check_shown;
 use rtk_frame::{After, MemSink, MemSource};
-use rtk_test_support::same;
 use std::alloc::Global;
 use std::test::Fail;
 

@@ -1,5 +1,5 @@
 use Rattle.std.proofs.Common.{arith}
-use Rattle.rtk_tests_input.proofs.obs.tracks.after.Goals as goal
+use Rattle.rtk_tests_input.proofs.obs.tracks.digits_of_two.Goals as goal
 
 pub step-early-requires-clause-later : goal.step-early-requires-clause-later
 step-early-requires-clause-later c = rw (c.new-tracks.ensures.empty 5 c.args.code) tt
