@@ -14,7 +14,7 @@ use Rattle.rtk_rinex.specs.declared.epoch_table.SatelliteRow.{SatelliteRow}
 use Rattle.rtk_obs.specs.Tracks.{place_of_signal}
 use Rattle.rtk_rinex.specs.Record.{EpochTableView, HasWidth, IsRow, IsStrengthOrNone}
 use Rattle.rtk_convert.specs.Steps.ShownCells.{shown_at, AreStrengths}
-use Rattle.rtk_convert.specs.Rows.{or_nothing, row_with, row_if_any, rows_to, table_with}
+use Rattle.rtk_convert.specs.Rows.{or_nothing, row_with, row_if_any, rows_to}
 
 pub rows_to-zero : (f : ℕ → Code → Option Observed) (listed : List Code) → rows_to f listed 0 ≡ []
 unfolding rows_to
@@ -58,7 +58,7 @@ table_at : ℕ → List SatelliteRow → EpochTableView
 table_at epoch rows = record { time = epoch; rows = rows }
 
 pub table-same : (t : EpochTableView) (epoch : ℕ) (f g : ℕ → Code → Option Observed) (listed : List Code) → t.time ≡ epoch → t.rows ≡ rows_to f listed 32
-    → ((s : ℕ) (c : Code) → IsSatellite s → f s c ≡ g s c) → t ≡ table_with epoch g listed
+    → ((s : ℕ) (c : Code) → IsSatellite s → f s c ≡ g s c) → t ≡ record { time = epoch; rows = rows_to g listed 32 }
 unfolding table_at
 table-same t epoch f g listed time rows h =
     ap (λ (e : ℕ). table_at e t.rows) time ∙ ap (table_at epoch) (rows ∙ rows_to-same f g listed 32 (omega arith) h)

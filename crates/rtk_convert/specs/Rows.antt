@@ -93,9 +93,6 @@ unfoldable pub rows_to : (ℕ → Code → Option Observed) → List Code → �
 rows_to shown listed zero = []
 rows_to shown listed (suc n) = rows_to shown listed n ++ row_if_any shown listed (suc n)
 
-abbrev pub table_with : ℕ → (ℕ → Code → Option Observed) → List Code → EpochTableView
-table_with epoch shown listed = record { time = epoch; rows = rows_to shown listed 32 }
-
 -- the table of an epoch for the listed codes, given the epochs below it
 abbrev pub table_of : List Code → EpochSetView → List EpochSetView → EpochTableView
-table_of listed e below = table_with e.epoch (observed_at e below) listed
+table_of listed e below = record { time = e.epoch; rows = rows_to (observed_at e below) listed 32 }
