@@ -1,6 +1,6 @@
 //! Bytes of a link: sources and sinks, frames of RTCM 3 and their checksum, and a scanner.
 //!
-//! Its tests: crates/rtk_tests_input/src/frame.rt and frame/streams.rt.
+//! Its tests: crates/rtk_tests_input/src/frame.rt and frame/stream.rt.
 //!
 //! ```rust
 //! use rtk_frame::{Answer, FrameFault, Scanner, encode_frame};
