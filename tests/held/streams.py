@@ -68,7 +68,7 @@ class Template:
         self.phases = [self.place(message, fields, name) for fields in phases]
 
     def place(self, message: Message, fields: Fields, name: str) -> int:
-        """How many bits stand behind the field, which is 0."""
+        """How many bits stand after the field, which is 0."""
         fields[name] = 1
         other = int.from_bytes(payload_of(message), "big")
         fields[name] = 0

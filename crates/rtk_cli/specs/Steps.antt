@@ -1,4 +1,4 @@
--- The words of private clauses: how the promises are kept. No clause of a public call needs them.
+-- Definitions that only private clauses use.
 pub mod ClapStatus
 pub mod CodeList
 pub mod MomentText

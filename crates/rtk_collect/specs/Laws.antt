@@ -49,7 +49,7 @@ ClosedFall = (n : ℕ) (arrivals : List Arrival) → EpochsFall (closed n arriva
 abbrev pub ClosedAfter : Type 0
 ClosedAfter = (n : ℕ) (arrivals : List Arrival) → (closed n arrivals ≡ []) ⊎ (n ≤ length (epochs arrivals))
 
--- the closed epochs are the kept ones after the n greatest
+-- the closed epochs are the kept epochs except the n greatest
 abbrev pub ClosedAreRest : Type 0
 ClosedAreRest = (n : ℕ) (arrivals : List Arrival) → closed n arrivals ≡ drop n (kept n arrivals)
 
@@ -140,7 +140,7 @@ CellsRise (x ∷ xs) = KeysRise x.cells × CellsRise xs
 abbrev pub KeptRise : Type 0
 KeptRise = (n : ℕ) (arrivals : List Arrival) → CellsRise (kept n arrivals)
 
--- epochs that fall and whose cells rise are one list if they are the same epochs and cells
+-- two lists of epochs that fall, with cells that rise, are equal if their epochs and cells are
 abbrev pub OrderedAreSame : Type 0
 OrderedAreSame = (xs ys : List EpochSetView) → EpochsFall xs → EpochsFall ys → CellsRise xs → CellsRise ys
     → ((e : ℕ) → HasEpoch e xs → HasEpoch e ys) → ((e : ℕ) → HasEpoch e ys → HasEpoch e xs)

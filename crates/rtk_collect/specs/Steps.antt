@@ -1,4 +1,4 @@
--- Words of private functions, which no public clause says.
+-- Definitions that only private clauses use.
 pub mod OrderedPlaces
 pub mod Slot
 pub mod Observed

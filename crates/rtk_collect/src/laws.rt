@@ -19,7 +19,7 @@ pub fn closed_epochs_only_grow()
     ensures after { ClosedAfter }
 {}
 
-/// The closed epochs are the kept ones after the n greatest.
+/// The closed epochs are the kept epochs except the n greatest.
 pub fn closed_epochs_are_the_rest()
     ensures rest { ClosedAreRest }
     ensures count { ClosedAreCounted }

@@ -1,3 +1,4 @@
+-- Definitions that only private clauses use.
 pub mod WritingInPart
 pub mod Faults
 pub mod ShownCells

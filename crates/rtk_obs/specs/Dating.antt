@@ -7,7 +7,7 @@ pub record IsReference (near : ℕ) : Type 0 where
   pub from : week_ms ≤ near
   pub to : near ≤ 3_786_479_999_999
 
--- t leaves this time of week, and lies from half a week before the reference on and less than half
+-- t has this time of week; it is not less than half a week before the reference, and less than half
 -- a week after it
 pub record IsDated (near tow t : ℕ) : Type 0 where
   pub time_of_week : t % week_ms ≡ tow

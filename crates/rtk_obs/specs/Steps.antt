@@ -1,2 +1,2 @@
--- Words of private functions, which no public clause says.
+-- Definitions that only private clauses use.
 pub mod LegacyFields

@@ -1,4 +1,4 @@
-//! Why a text is not one of this project's files.
+//! Why a text is not the text of a well-formed table.
 
 use thiserror::Error;
 

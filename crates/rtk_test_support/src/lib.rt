@@ -1,4 +1,4 @@
-//! What the tests are written with: comparisons whose failure ends a test, moments, and the example file.
+//! What tests are written with: comparisons whose failure ends a test, moments, an example file.
 #![tactic(auto)]
 
 mod comparing;

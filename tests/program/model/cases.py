@@ -175,14 +175,14 @@ def order_of_reading(cases):
     # link 2 has come to second 5, though late, so link 3, which has no epoch, is read before the rest of it
     case(cases, "late_message_is_newest_epoch", [at(10) + at(11), block(at(5)) + one, other], window=2, told=report(
         f"link 2 late 1004 {TOLD}05.000", second, taken=3, conflict=1, late=1, epochs=3))
-    # the last frame of a block comes with it, and one that ends a byte behind it does not
+    # the last frame of a block comes with it, and one that ends a byte after it does not
     case(cases, "a_read_of_512_bytes", [block(at(10)) + one, block(at(15), other)], told=report(
         first, taken=3, conflict=1, epochs=3))
     case(cases, "no_read_of_513_bytes", [block(at(10), one, 513), block(at(5)) + other], told=report(
         first, taken=3, conflict=1, epochs=3))
-    # the same where the program reads ahead again, behind 32,768 bytes
+    # the same where the program reads ahead again, after 32,768 bytes
     ahead = block(at(15)) + bytes(63 * 512) + block(at(26), other)
-    case(cases, "a_read_behind_32768_bytes", [block(at(25)) + one, ahead], told=report(
+    case(cases, "a_read_after_32768_bytes", [block(at(25)) + one, ahead], told=report(
         first, taken=4, conflict=1, epochs=4))
 
 
@@ -246,7 +246,7 @@ def session(random, epochs):
         pairs += [msm_pair(random, tow, part) for part in (satellites[:4], satellites[4:])]
         if second % 10 == 0:
             pairs += [(it, it) for it in (b"\x3f\xb0", legacy(tow, [], station=second), legacy(tow, [], count=1), b"")]
-    # bits behind the last field, and the reserved ones of a frame, mean nothing
+    # bits after the last field, and the reserved ones of a frame, mean nothing
     extra = [random.randbytes(random.randrange(3)) if len(good) > 20 else b"" for good, _ in pairs]
     return [tuple(frame(it + more, random.randrange(64)) for it in pair) for pair, more in zip(pairs, extra)]
 

@@ -139,7 +139,8 @@ fn msm_values() -> Result<(), Fail> {
     Ok(())
 }
 
-// DF397 and DF398, the range and the phase on L1: the least, and the greatest below the invalid mark.
+// DF397 and DF398, and the range and the phase on L1: the least, and the greatest below the
+// invalid mark.
 const ROUGH: [((u8, u16), i64, i64); 3] = [
     ((0, 0), 0, 0),
     ((254, 512), 76_297_180_561, 400_944_390_000),
