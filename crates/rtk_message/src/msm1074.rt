@@ -6,7 +6,9 @@ ghost use Rattle.rtk_message.specs.Steps.FieldSteps.{PutsAll};
 ghost use Rattle.rtk_message.specs.Msm1074.{header_table, HasLengths};
 ghost use Rattle.rtk_message.specs.Steps.EachFits.{EachFits};
 
-use crate::column::{Column, column_fits, count_cells, put_column, put_mask, read_column, read_mask};
+use crate::column::{
+    Column, column_fits, count_cells, put_column, put_mask, read_column, read_mask,
+};
 use crate::fault::DecodeFault;
 use crate::field::{WEEK_MS, next_word, put_flag, put_u};
 use crate::layout::Layout;

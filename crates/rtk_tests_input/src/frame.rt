@@ -4,9 +4,7 @@ ghost use Rattle.std.specs.Prelude.{◌≡◌, ◌<◌, false};
 
 mod stream;
 
-use rtk_frame::{
-    Answer, FrameFault, Scanner, StreamFault, crc24q, encode_frame, next_frame,
-};
+use rtk_frame::{Answer, FrameFault, Scanner, StreamFault, crc24q, encode_frame, next_frame};
 use rtk_test_support::{holds, holds_of, same, same_of};
 use std::alloc::{AllocError, Global};
 use std::test::Fail;
@@ -177,7 +175,10 @@ fn faults_have_their_texts(rt: HostRuntime) -> Result<(), Fail> {
     for &(fault, want) in &FAULTS {
         same(&fault.to_string(alloc)?.as_str(), &want)?;
     }
-    same(&StreamFault.to_string(alloc)?.as_str(), &"the stream failed")
+    same(
+        &StreamFault.to_string(alloc)?.as_str(),
+        &"the stream failed",
+    )
 }
 
 // The next frame of the text stands at this place and is the example of the standard.

@@ -338,7 +338,8 @@ fn links_are_closed_from_the_lowest_on(rt: HostRuntime) -> Result<(), Fail> {
         }
         let (fault, _, log) = converting.finish();
         same(&fault, &None)?;
-        let counts = "frames 2\nother 0\nrefused 0\nforeign 0\ntaken 1\nrepeat 0\nconflict 1\nlate 0\nepochs 0\n";
+        let counts =
+            "frames 2\nother 0\nrefused 0\nforeign 0\ntaken 1\nrepeat 0\nconflict 1\nlate 0\nepochs 0\n";
         holds(consists_of(log.bytes(), &[conflict, counts]))?;
     }
     Ok(())

@@ -151,7 +151,11 @@ const ROUGH: [((u8, u16), i64, i64); 3] = [
 fn msm_rough_ranges() -> Result<(), Fail> {
     for &(rough, range, phase) in &ROUGH {
         let got = msm_cell(2, fields(rough, (0, 0)))?;
-        same_of(format_args!("{rough:?}"), &got, &cell(Some(range), Some(phase)))?;
+        same_of(
+            format_args!("{rough:?}"),
+            &got,
+            &cell(Some(range), Some(phase)),
+        )?;
     }
     Ok(())
 }
