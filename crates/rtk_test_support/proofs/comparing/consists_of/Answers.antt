@@ -27,9 +27,9 @@ loop-part-preserved c =
     let found = c.in-Some.ensures.cases in
     let part = c.as_bytes.result.now in
     let front : take (length part) c.loop-part.rest.now ≡ part =
-      (pointwise_decides (λ a b. (eqb-true a b, eq-eqb a b)) _ _).0 found.0 in
+    (pointwise_decides (λ a b. (eqb-true a b, eq-eqb a b)) _ _).0 found.0 in
     let rest : c.loop-part.rest.now ≡ part ++ c.in-Some.next.now =
-      sym (take-append-drop (length part) c.loop-part.rest.now) ∙ ap (λ p. p ++ drop (length part) c.loop-part.rest.now) front
-      ∙ ap (λ after. part ++ after) (sym found.1) in
+    sym (take-append-drop (length part) c.loop-part.rest.now) ∙ ap (λ p. p ++ drop (length part) c.loop-part.rest.now) front
+    ∙ ap (λ after. part ++ after) (sym found.1) in
     after_part c.args.text.now c.loop-part.rest.now c.in-Some.next.now c.args.parts.now c.loop-part.part-index (record { ref_ptr = (0, 0); now = [] })
-      c.loop-part-test.true c.loop-part.invariant (rest ∙ ap (λ p. p ++ c.in-Some.next.now) c.as_bytes.ensures.value)
+    c.loop-part-test.true c.loop-part.invariant (rest ∙ ap (λ p. p ++ c.in-Some.next.now) c.as_bytes.ensures.value)
