@@ -1,6 +1,7 @@
 //! The longest record, 32 satellites with all sixteen codes, and a file of ten megabytes of it:
 //! written, checked, and written again.
 
+ghost use Rattle.std.specs.Prelude.{◌≡◌, length, IfOk};
 ghost use Rattle.rtk_rinex.specs.Record.{IsStrengthOrNone};
 
 use super::CODES;
@@ -42,7 +43,9 @@ fn satellite_lines(alloc: Global) -> Result<Vec<u8>, Fail> {
 }
 
 // The head of all sixteen codes, and its header.
-fn head_and_header(alloc: Global) -> Result<(Head, Vec<u8>), Fail> {
+fn head_and_header(alloc: Global) -> Result<(Head, Vec<u8>), Fail>
+    ensures { IfOk result (λ made. length made.0.listed ≡ 16) }
+{
     let head = Head::new(b"BASE", &CODES, moment(MADE)?)?;
     let position = Position::new(0, 0, 0, 0).ok_or("no position")?;
     let lines = header(alloc, &head, &position, moment(NOON)?)?;
