@@ -155,6 +155,22 @@ fn a_field_is_written_into_a_ninth_byte(rt: HostRuntime) -> Result<(), Fail> {
     same(&writer.finish().as_slice(), &NINE_BYTES.as_slice())
 }
 
+// The least and the greatest width, with the greatest numbers: 1, 64 ones, 0, 63 ones, 0 and six
+// zeros.
+#[test]
+fn fields_of_1_and_of_64_bits_are_written(rt: HostRuntime) -> Result<(), Fail> {
+    let mut writer = BitWriter::new(rt.alloc());
+    writer.put_u(1, 1)?;
+    writer.put_u(64, u64::MAX)?;
+    writer.put_i(64, i64::MAX)?;
+    writer.put_i(1, 0)?;
+    writer.put_u(6, 0)?;
+    let mut want = [0xff; 17];
+    want[8] = 0xbf;
+    want[16] = 0x80;
+    same(&writer.finish().as_slice(), &want.as_slice())
+}
+
 #[test]
 fn too_few_bits_are_left_alone() -> Result<(), Fail> {
     let mut reader = BitReader::new(&[0x3e, 0xd7, 0xd3]);

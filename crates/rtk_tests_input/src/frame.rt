@@ -4,7 +4,9 @@ ghost use Rattle.std.specs.Prelude.{◌≡◌, ◌<◌, false};
 
 mod stream;
 
-use rtk_frame::{Answer, FrameFault, Scanner, StreamFault, crc24q, encode_frame, next_frame};
+use rtk_frame::{
+    Answer, FrameFault, LONGEST_FRAME, Scanner, StreamFault, crc24q, encode_frame, next_frame,
+};
 use rtk_test_support::{holds, holds_of, same, same_of};
 use std::alloc::{AllocError, Global};
 use std::test::Fail;
@@ -157,7 +159,7 @@ fn frames_are_written(rt: HostRuntime) -> Result<(), Fail> {
 #[test]
 fn a_payload_has_at_most_1023_bytes(rt: HostRuntime) -> Result<(), Fail> {
     let longest = encode_frame(rt.alloc(), &LONGEST)?;
-    same(&longest.len(), &1029)?;
+    same(&(longest.len(), LONGEST_FRAME), &(1029, 1029))?;
     holds(longest.as_slice().starts_with(&[0xD3, 0x03, 0xFF, 0]))?;
     let longer = encode_frame(rt.alloc(), &[0; 1024]);
     holds(matches!(longer, Err(FrameFault::TooLong)))

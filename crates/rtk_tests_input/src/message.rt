@@ -5,3 +5,5 @@ mod encoding;
 mod fields;
 mod headers;
 mod payloads;
+
+pub use encoding::column_of;

@@ -2,9 +2,10 @@
 
 use super::Answer::{Conflict, Repeat, Taken};
 use super::Offered::{Legacy, Msm, Payload, Smoothed};
-use super::{NOON, P, Q, Step, check_all, next_left};
+use super::{NOON, P, Q, Step, check, check_all, next_left};
+use crate::message::column_of;
 use rtk_collect::{Collector, EpochSet, SatelliteCode};
-use rtk_message::Satellite;
+use rtk_message::{Message, Msm1074, MsmHeader, Obs1004, Satellite, Satellites};
 use rtk_obs::{CellSource, Code};
 use rtk_test_support::{holds, same};
 use std::alloc::Global;
@@ -76,6 +77,57 @@ fn the_parts_of_an_epoch_join_in_any_order(rt: HostRuntime) -> Result<(), Fail> 
         check_joined(rt.alloc(), steps, &BOTH_LEFT)?;
     }
     Ok(())
+}
+
+// A 1074 of 64 cells, of signals 2, 8, 15 and 22 of these sixteen satellites.
+fn full_1074(satellite_mask: u64) -> Message {
+    Message::Msm1074(Msm1074 {
+        header: MsmHeader {
+            satellite_mask,
+            signal_mask: 1 << 30 | 1 << 24 | 1 << 17 | 1 << 10,
+            ..MsmHeader::default()
+        },
+        cell_mask: column_of(16, 0xf),
+        rough_ms: column_of(16, 70),
+        rough_fraction: column_of(16, 512),
+        fine_range: column_of(64, 0),
+        fine_phase: column_of(64, 0),
+        lock_indicator: column_of(64, 0),
+        half_cycle: column_of(64, false),
+        cnr: column_of(64, 40),
+    })
+}
+
+// A 1004 of satellites 31, 30 and on to 1, with two cells each.
+fn full_1004() -> Message {
+    let mut satellites = Satellites::new();
+    for satellite in (1..32).rev() {
+        if satellites.len() < 31 {
+            satellites.push(Satellite { satellite, ..Q });
+        }
+    }
+    Message::Obs1004(Obs1004 {
+        station: 2003,
+        tow: 475_200_000,
+        synchronous: false,
+        smoothing: false,
+        smoothing_interval: 0,
+        satellites,
+    })
+}
+
+#[test]
+fn the_longest_messages_of_an_epoch_join(rt: HostRuntime) -> Result<(), Fail> {
+    let mut collector = Collector::new(rt.alloc(), 2);
+    check(&mut collector, full_1074(0xffff << 48), 0, Taken, &[])?;
+    check(&mut collector, full_1074(0xffff << 32), 0, Taken, &[])?;
+    check(&mut collector, full_1004(), 0, Taken, &[])?;
+    check(&mut collector, full_1074(0xffff << 48), 0, Repeat, &[])?;
+    check(&mut collector, full_1004(), 0, Repeat, &[])?;
+    let mut left = collector.close();
+    let set = next_left(&mut left)?;
+    same(&set.cells().len(), &(64 + 64 + 62))?;
+    holds(left.next_left().is_none())
 }
 
 const ONLY_L1: Satellite = Satellite {

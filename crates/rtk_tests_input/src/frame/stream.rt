@@ -37,6 +37,24 @@ fn a_source_gives_its_bytes_two_at_a_time_and_then_what_comes_after(
     Ok(())
 }
 
+// A source of no bytes: what comes after them, and the answer of each read by one byte.
+const NO_BYTES: [(After, Result<usize, StreamFault>); 3] = [
+    (After::End, Ok(0)),
+    (After::Failure, Err(StreamFault)),
+    (After::Zeros, Ok(1)),
+];
+
+#[test]
+fn a_source_of_no_bytes_and_a_sink_without_room(rt: HostRuntime) -> Result<(), Fail> {
+    for &(after, answer) in &NO_BYTES {
+        let mut source = MemSource::new(rt.alloc(), &[], 1, after)?;
+        same_of(format_args!("{after:?}"), &source.read(&mut [9]), &answer)?;
+    }
+    let mut sink = MemSink::new(rt.alloc(), 0, 1)?;
+    same(&sink.write(b"s"), &Err(StreamFault))?;
+    same(&sink.bytes().len(), &0)
+}
+
 // The room of a buffer, and its bytes then.
 const ROOMS: [(usize, [u8; 2]); 4] = [(1, [1, 9]), (0, [1, 9]), (2, [2, 3]), (1, [0, 3])];
 

@@ -90,7 +90,9 @@ fn a_1004_of_31_satellites_has_493_bytes(rt: HostRuntime) -> Result<(), Fail> {
     holds(message.fits())?;
     let payload = encode(rt.alloc(), &message)?;
     same(&payload.len(), &493)?;
-    holds(decode(&payload) == Ok(message))
+    holds(decode(&payload) == Ok(message))?;
+    // The last field ends in the third bit of the last byte.
+    check_cut(&payload, DecodeFault::Short { number: 1004 })
 }
 
 #[test]
@@ -114,10 +116,21 @@ fn a_1074_of_64_cells_has_450_bytes(rt: HostRuntime) -> Result<(), Fail> {
     holds(message.fits())?;
     let payload = encode(rt.alloc(), &message)?;
     same(&payload.len(), &450)?;
-    holds(decode(&payload) == Ok(message))
+    holds(decode(&payload) == Ok(message))?;
+    // The last field ends in the first bit of the last byte.
+    check_cut(&payload, DecodeFault::Short { number: 1074 })
 }
 
-fn column_of<T: Copy + Default>(count: usize, value: T) -> Column<T> {
+// Without its last byte the payload is refused.
+fn check_cut(payload: &[u8], want: DecodeFault) -> Result<(), Fail> {
+    let Some((_, cut)) = payload.split_last() else {
+        return Err("no bytes".into());
+    };
+    same(&decode(cut).err(), &Some(want))
+}
+
+/// This value as many times, at most 64.
+pub fn column_of<T: Copy + Default>(count: usize, value: T) -> Column<T> {
     let mut column = Column::new();
     for _ in 0..count {
         if column.len() < 64 {

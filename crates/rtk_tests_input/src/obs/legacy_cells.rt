@@ -175,6 +175,32 @@ fn legacy_codes() -> Result<(), Fail> {
     Ok(())
 }
 
+// DF015 and DF020, and the strengths in thousandths of a dB-Hz: the least and the greatest.
+const STRENGTHS: [((u8, u8), (u32, u32)); 2] = [
+    ((1, 255), (250, 63_750)),
+    ((255, 1), (63_750, 250)),
+];
+
+#[test]
+fn legacy_strengths() -> Result<(), Fail> {
+    for &((l1_cnr, l2_cnr), (l1, l2)) in &STRENGTHS {
+        let satellite = Satellite {
+            l1_cnr,
+            l2_cnr,
+            ..satellite_5(0, 100, 0)
+        };
+        let (first, second) = cells_of(satellite)?;
+        same(
+            &(
+                first.cell.strength_millidbhz,
+                second.cell.strength_millidbhz,
+            ),
+            &(Some(l1), Some(l2)),
+        )?;
+    }
+    Ok(())
+}
+
 // A second satellite, and how many cells the message gives.
 const SATELLITES: [(u8, usize); 6] = [(0, 2), (1, 4), (5, 2), (32, 4), (33, 2), (63, 2)];
 

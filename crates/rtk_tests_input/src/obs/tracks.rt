@@ -166,10 +166,12 @@ fn digits_of_a_third_phase() -> Result<(), Fail> {
 }
 
 // A phase in thousandths of a cycle, rolls of 1500 cycles, and the sum, if F14.3 has room for it.
-const ROLLED: [(i64, i64, Option<i64>); 7] = [
+const ROLLED: [(i64, i64, Option<i64>); 9] = [
     (9_999_999_999_999, 0, Some(9_999_999_999_999)),
+    (10_000_000_000_000, 0, None),
     (9_999_999_999_999, 1, None),
     (-999_999_999_999, 0, Some(-999_999_999_999)),
+    (-1_000_000_000_000, 0, None),
     (-999_999_999_999, -1, None),
     (110_804_191_802, 1, Some(110_805_691_802)),
     (110_804_191_802, -2, Some(110_801_191_802)),
