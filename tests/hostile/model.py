@@ -240,7 +240,7 @@ class Records:
             for (satellite, code), cell in cells.items()
         }
         lines = []
-        for satellite in range(1, 33):
+        for satellite in sorted({satellite for satellite, _ in cells}):
             line = "".join(columns.get((satellite, code), " " * 48) for code in self.codes)
             if line.strip():
                 lines.append(f"G{satellite:02}{line}".rstrip())

@@ -336,8 +336,9 @@ class Property(NamedTuple):
         return self.holds.__name__
 
 
-# On every capture.
-EVERY = (Property(as_modelled, 100), Property(counts_add_up, 100), Property(file_is_valid, 100))
+# On every capture: what the run that all start from shows, and what one more run does.
+FREE = (Property(as_modelled, 100), Property(counts_add_up, 100))
+VALID = (Property(file_is_valid, 100),)
 
 # Tried first, each in its turn, since few captures meet their premises.
 SELDOM = (
@@ -357,3 +358,5 @@ OFTEN = (
     Property(shown_as_modelled, 20),
     Property(hex_shown_as_bytes, 20),
 )
+
+ALL = FREE + VALID + SELDOM + OFTEN
