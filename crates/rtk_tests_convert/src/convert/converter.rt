@@ -344,3 +344,22 @@ fn links_are_closed_from_the_lowest_on(rt: HostRuntime) -> Result<(), Fail> {
     }
     Ok(())
 }
+
+const ONE_OTHER: &str =
+    "frames 1\nother 1\nrefused 0\nforeign 0\ntaken 0\nrepeat 0\nconflict 0\nlate 0\nepochs 0\n";
+
+// The longest frame has 1,029 bytes: a payload of 1,023, three bytes before it, and the checksum.
+#[test]
+fn a_link_holds_the_longest_frame_up_to_its_last_byte(rt: HostRuntime) -> Result<(), Fail> {
+    let alloc = rt.alloc();
+    let mut payload = Vec::from_slice(alloc, OTHER_NUMBER)?;
+    payload.resize(1023, 0)?;
+    let frame = encode_frame(alloc, &payload)?;
+    same(&frame.len(), &1029)?;
+    let mut converting = Converting::of_links(alloc, 1, (WHOLE, WHOLE), (WHOLE, WHOLE))?;
+    for byte in &frame {
+        same(&converting.feed_bytes(0, &[*byte]), &None)?;
+    }
+    let (fault, _, log) = converting.finish();
+    same(&(fault, log.bytes()), &(None, ONE_OTHER.as_bytes()))
+}
