@@ -140,4 +140,8 @@ ends-part {old} {closed} {o} {o1} {o2} same_setup all part = λ h r.
       closed = after;
       out = writes-into o.file o1.file o2.file _ _ _ writes.out (subst (λ (s : SetupView). WritesPartOfRest o1.file o2.file (file_so_far s (arrivals last.found)) (kept_file s (arrivals last.found))) same_setup f.out);
       log = writes-into o.report o1.report o2.report _ _ _ writes.log (subst (λ (s : SetupView). WritesPartOfRest o1.report o2.report (lines s.window last.found) (report_of s last.found)) same_setup f.log);
+      counts_last = elim f.counts_last [
+        | inl same ↦ inl (subst (λ (r : Option (List ℕ)). WritesRest o.report r (lines old.conversion.setup.window h.found) (lines old.conversion.setup.window last.found)) (sym same) writes.log)
+        | inr whole ↦ inr (writes-on o.file o1.file o2.file _ _ _ writes.out (subst (λ (s : SetupView). WritesRest o1.file o2.file (file_so_far s (arrivals last.found)) (kept_file s (arrivals last.found))) same_setup whole))
+      ];
     })

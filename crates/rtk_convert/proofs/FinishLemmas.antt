@@ -1,5 +1,5 @@
 -- The end: the epochs that are left close one after another.
-use Rattle.std.proofs.Common.{◌≡◌, ℕ, Bool, List, [], ◌∷◌, ◌++◌, take, Option, refl, ap, append_assoc, sym, subst, ◌∙◌}
+use Rattle.std.proofs.Common.{◌≡◌, ℕ, Bool, List, [], ◌∷◌, ◌++◌, take, Option, inl, inr, refl, ap, append_assoc, sym, subst, ◌∙◌}
 use Rattle.std.specs.Prelude.{is_some}
 use Rattle.std.proofs.lemmas.List.{append-nil, take-append-drop}
 use Rattle.rtk_obs.specs.declared.position.Position.{Position}
@@ -133,6 +133,7 @@ finish-part-records {s} {w} {c} {k} {b} {p} {o} {file} size position closes = λ
       out = subst (λ (x : List ℕ). WritesPartOfRest o.file file x (kept_file s A)) (sym (so_far-text s w A p size rep.window is))
           (part-longer o.file file (closed_text s (position_view p) (closed s.window A)) (closed_text s (position_view p) (w.sets ++ closed s.window A)) (kept_file s A) _ (file-text s w A p size rep.window is) (closes (closed s.window A) rep.closed));
       log = log-none s found o.report;
+      counts_last = inl refl;
     }
 
 -- in the last header
@@ -149,6 +150,7 @@ finish-part-header {s} {w} {c} {c'} {k} {b} {p} {o} {mid} {file} size position c
           (part-text mid file (closed_text s (position_view p) (w.sets ++ closed s.window A)) (kept_file s A) _ (file-text s w A p size rep.window is)
           (subst (λ (x : Bool). TakesPart mid file (header_before s (position_view p) s.near x)) t.follows.header_out part));
       log = log-none s found o.report;
+      counts_last = inl refl;
     }
 
 -- in the counts
@@ -159,4 +161,5 @@ finish-part-counts {old} {k} {o} {o'} whole part = λ found rep.
       out = part-all o.file o'.file _ _ t.out;
       log = part-text o.report o'.report (lines old.setup.window found) (report_of old.setup found) (count_lines (all_counts old.setup found)) refl
           (subst (λ (x : Counts). TakesPart o.report o'.report (count_lines x)) t.counts_are part);
+      counts_last = inr t.out;
     }

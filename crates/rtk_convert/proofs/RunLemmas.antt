@@ -197,6 +197,10 @@ breaks-ending given calls is_at_end s before after converter o0 o1 o2 p (inr bre
       at_end = p.at_end;
       out = subst (λ (h : History). WritesInto o0.file o2.file [] (file_so_far s (arrivals h.found)) (kept_file s (arrivals h.found))) same (into o0.file o1.file o2.file _ _ _ p.has_read.out breaks.out);
       log = subst (λ (h : History). WritesInto o0.report o2.report [] (lines s.window h.found) (report_of s h.found)) same (into o0.report o1.report o2.report _ _ _ p.has_read.log breaks.log);
+      counts_last = elim breaks.counts_last [
+        | inl alone ↦ inl (written-on o0.report o1.report o2.report (lines s.window p.history.found) (lines s.window breaks.last.found) p.has_read.log alone ∙ ap (λ (h : History). with_more o0.report (lines s.window h.found)) same)
+        | inr whole ↦ inr (written-on o0.file o1.file o2.file (file_so_far s (arrivals p.history.found)) (kept_file s (arrivals breaks.last.found)) p.has_read.out whole ∙ ap (λ (h : History). with_more o0.file (kept_file s (arrivals h.found))) same)
+      ];
     }
 
 pub links-few : (links : ℕ) (P : Type 0) → (P → ⊥) → (¬ (IsLinkCount links) → P) → IsLinkCount links

@@ -153,12 +153,14 @@ pub record BreaksOffClosing (s : SetupView) (h : History) (link : ℕ) (written_
   pub breaks : BreaksOffAfter s link (found_by_close (fed_on link mid.links)) h.found mid.found written_old written_new
 
 -- the end breaks off once all links are closed: what is written lies between the file so far and
--- the file
+-- the file; and the report has the lines alone, without a byte of the counts, or the file is whole
 pub record BreaksOffFinishing (s : SetupView) (h : History) (written_old written_new : Written) : Type 0 where
   pub last : History
   pub closed : IsAfterClosingAll s h (length h.links) last
   pub out : WritesInto written_old.file written_new.file (file_so_far s (arrivals h.found)) (file_so_far s (arrivals last.found)) (kept_file s (arrivals last.found))
   pub log : WritesInto written_old.report written_new.report (lines s.window h.found) (lines s.window last.found) (report_of s last.found)
+  pub counts_last : WritesRest written_old.report written_new.report (lines s.window h.found) (lines s.window last.found)
+      ⊎ WritesRest written_old.file written_new.file (file_so_far s (arrivals h.found)) (kept_file s (arrivals last.found))
 
 -- the same, whatever the history was
 abbrev pub FinishesConverterInPart : ConverterView → Written → Written → Type 0

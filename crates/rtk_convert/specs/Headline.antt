@@ -161,8 +161,8 @@ calls_of [] = []
 calls_of (r ∷ before) = call_of r.link r.piece ∷ calls_of before
 
 -- the sentence for the pieces that the readers gave, to their ends, in reads of the link that was
--- next; and for the same pieces what is kept, the report and the counts. `calls` counts the reads of
--- a reader; `calls_of reads` are the calls of the converter that these reads are
+-- next; and for the same pieces what is kept, the report and the counts. `calls` counts the reads
+-- of a reader; `calls_of reads` are the calls of the converter that these reads are
 pub record RunHeadline {R : Type 0} (given : R → Option (List ℕ)) (calls : R → ℕ) (is_at_end : R → Type 0) (s : SetupView) (before after : List R) (counts : Counts) (written_old written_new : Written) : Type 0 where
   pub reads : List Read
   pub gave : Gave given before after reads

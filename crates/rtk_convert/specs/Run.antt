@@ -1,6 +1,6 @@
 -- What a run does: the file and the report of what its readers gave, or how far it came.
 use Rattle.std.specs.Prelude.{◌≡◌, ◌⊎◌, ℕ, ◌+◌, ◌≤◌, List, [], ◌∷◌, length, Option, slice_index_or}
-use Rattle.rtk_frame.specs.Stream.{CountRises}
+use Rattle.rtk_frame.specs.Stream.{CountRises, with_more}
 use Rattle.rtk_convert.specs.Converter.{WritesInto, BreaksOffAfter}
 use Rattle.rtk_convert.specs.FileOfArrivals.{kept_file, file_so_far}
 use Rattle.rtk_convert.specs.FrameClass.{arrivals}
@@ -54,7 +54,8 @@ pub record IsUntouched {R : Type 0} (before after : List R) (written_old written
   pub readers : after ≡ before
   pub written : written_new ≡ written_old
 
--- the run breaks off at its end: what the links gave is written, and a first part of the rest
+-- the run breaks off at its end: what the links gave is written, and a first part of the rest; the
+-- report has the lines alone, without a byte of the counts, or the file is whole
 pub record BreaksOffAtEnd {R : Type 0} (given : R → Option (List ℕ)) (calls : R → ℕ) (is_at_end : R → Type 0) (s : SetupView) (before after : List R) (written_old written_new : Written) : Type 0 where
   pub reads : List Read
   pub history : History
@@ -65,6 +66,8 @@ pub record BreaksOffAtEnd {R : Type 0} (given : R → Option (List ℕ)) (calls 
   pub at_end : AllAtEnd is_at_end after
   pub out : WritesInto written_old.file written_new.file [] (file_so_far s (arrivals history.found)) (kept_file s (arrivals history.found))
   pub log : WritesInto written_old.report written_new.report [] (lines s.window history.found) (report_of s history.found)
+  pub counts_last : (written_new.report ≡ with_more written_old.report (lines s.window history.found))
+      ⊎ (written_new.file ≡ with_more written_old.file (kept_file s (arrivals history.found)))
 
 -- memory was refused, or a write failed: before anything was read, at a frame, or at the end
 abbrev pub BreaksOffRun : {R : Type 0} → (R → Option (List ℕ)) → (R → ℕ) → (R → Type 0) → SetupView → List R → List R → Written → Written → Type 0

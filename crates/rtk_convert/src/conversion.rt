@@ -20,7 +20,7 @@ use crate::setup::Setup;
 use rtk_collect::{Collector, Dated, EpochSet, Offer};
 use rtk_frame::Sink;
 use rtk_obs::GpsMs;
-use std::alloc::Global;
+use std::alloc::{AllocError, Global};
 use std::marker::Model;
 
 /// The state of a conversion: the open epochs and the station messages, the last phases of the
@@ -37,28 +37,30 @@ pub(crate) struct Conversion {
     stopped: bool,
 }
 
+// The first part of the invariant names every field, as that of a converter does.
 impl Model for Conversion {
+    ghost use Rattle.std.specs.Prelude.{◌≡◌};
     ghost use Rattle.rtk_convert.specs.Conversion.{ConversionView, IsConversionView};
 
     ghost Value = { ConversionView };
 
     ghost view = { λ c. record { setup = c.setup; collector = c.collector; records = c.records; counts = c.counts; stopped = c.stopped } };
 
-    ghost invariant = { λ c. IsConversionView
-        (record { setup = c.setup; collector = c.collector; records = c.records; counts = c.counts; stopped = c.stopped }) };
+    ghost invariant = { λ c. (c ≡ record { alloc = c.alloc; setup = c.setup; collector = c.collector; records = c.records; counts = c.counts; stopped = c.stopped })
+        × IsConversionView (record { setup = c.setup; collector = c.collector; records = c.records; counts = c.counts; stopped = c.stopped }) };
 }
 
 impl Conversion {
-    /// A conversion that has found no frame yet. This takes no memory.
-    pub(crate) fn new(alloc: Global, setup: Setup) -> Conversion
-        ensures represents { RepresentsFound result [] }
-        ensures same_setup { result.setup ≡ setup }
-        ensures going { result.stopped ≡ false }
-        ensures few { length result.collector.sets ≤ setup.window }
+    /// A conversion that has found no frame yet.
+    pub(crate) fn new(alloc: Global, setup: Setup) -> Result<Conversion, AllocError>
+        ensures represents { IfOk result (λ c. RepresentsFound c []) }
+        ensures same_setup { IfOk result (λ c. c.setup ≡ setup) }
+        ensures going { IfOk result (λ c. c.stopped ≡ false) }
+        ensures few { IfOk result (λ c. length c.collector.sets ≤ setup.window) }
     {
+        let records = Records::new(alloc, setup.near())?;
         let collector = Collector::new(alloc, setup.window());
-        let records = Records::new(setup.near());
-        Conversion {
+        Ok(Conversion {
             alloc,
             setup,
             collector,
@@ -75,7 +77,7 @@ impl Conversion {
                 epochs: 0,
             },
             stopped: false,
-        }
+        })
     }
 
     /// Whether a call broke off.

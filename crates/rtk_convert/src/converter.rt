@@ -29,14 +29,18 @@ pub struct Converter {
     links: Vec<Link>,
 }
 
+// The first part of the invariant names every field: a field that holds more bytes can't be added
+// beside those whose bounds the clauses see.
 impl Model for Converter {
+    ghost use Rattle.std.specs.Prelude.{◌≡◌};
     ghost use Rattle.rtk_convert.specs.Converter.{ConverterView, IsConverterView};
 
     ghost Value = { ConverterView };
 
     ghost view = { λ c. record { conversion = c.conversion; links = c.links.items } };
 
-    ghost invariant = { λ c. IsConverterView (record { conversion = c.conversion; links = c.links.items }) };
+    ghost invariant = { λ c. (c ≡ record { conversion = c.conversion; links = c.links })
+        × IsConverterView (record { conversion = c.conversion; links = c.links.items }) };
 }
 
 // New links: each is open, and nothing was fed on it.
@@ -67,17 +71,18 @@ impl Converter {
         ensures same_setup { IfOk result (λ c. c.conversion.setup ≡ setup) }
         ensures as_many { IfOk result (λ c. length c.links ≡ links) }
         ensures link_count { IsErrOf result ConvertFault.Setup ↔ ¬ (IsLinkCount links) }
+        // V4 comes only if memory is refused: tests/calls, rows `Converter::new of ..`.
         ensures fault { IfErr result (λ fault. IsLinkCount links → fault ≡ ConvertFault.OutOfMemory) }
         ensures bounds { IfOk result HoldsAtMost }
     {
         if links < 1 || links > 16 {
             return Err(ConvertFault::Setup);
         }
+        let Ok(conversion) = Conversion::new(alloc, setup) else {
+            return Err(ConvertFault::OutOfMemory);
+        };
         let links = new_links(alloc, links)?;
-        Ok(Converter {
-            conversion: Conversion::new(alloc, setup),
-            links,
-        })
+        Ok(Converter { conversion, links })
     }
 
     /// How many links there are.
@@ -143,6 +148,7 @@ impl Converter {
         ensures halts { IfErr result (λ fault. IsFrameFault fault → self.new.conversion.stopped ≡ true) }
 
         // When each fault; a stream that failed is named.
+        // V4 comes only if memory is refused: tests/calls, rows `feed ..`.
         ensures fault { refusal self.old link ≡ None → IfErr result IsFrameFault }
         ensures file_failed { NamesFailedWrites Stream.Out result (O.failures out.old) (O.failures out.new) }
         ensures report_failed { NamesFailedWrites Stream.Log result (L.failures log.old) (L.failures log.new) }
@@ -178,6 +184,7 @@ impl Converter {
         ensures halts { IfErr result (λ fault. IsFrameFault fault → self.new.conversion.stopped ≡ true) }
 
         // When each fault; a stream that failed is named.
+        // V4 comes only if memory is refused: tests/calls, rows `close of ..`.
         ensures fault { refusal self.old link ≡ None → IfErr result IsFrameFault }
         ensures file_failed { NamesFailedWrites Stream.Out result (O.failures out.old) (O.failures out.new) }
         ensures report_failed { NamesFailedWrites Stream.Log result (L.failures log.old) (L.failures log.new) }
@@ -228,6 +235,7 @@ impl Converter {
 
         // When each fault; a stream that failed is named.
         ensures stopped { self.conversion.stopped ≡ true → IsErrOf result ConvertFault.Stopped }
+        // V4 comes only if memory is refused: tests/calls, rows `finish ..`.
         ensures fault { self.conversion.stopped ≡ false → IfErr result IsFrameFault }
         ensures file_failed { NamesFailedWrites Stream.Out result (O.failures out.old) (O.failures out.new) }
         ensures report_failed { NamesFailedWrites Stream.Log result (L.failures log.old) (L.failures log.new) }

@@ -47,8 +47,8 @@ fn with_header(
 
 /// Writes the record of a closed epoch, if it has one, and answers whether it has one.
 ///
-/// The header and the first record go out as one text, so a header without a record is written at
-/// the end alone.
+/// The header and the first record go out as one text. So a header without a record is only
+/// written when the conversion ends.
 pub(crate) fn put_record<O: Sink>(
     alloc: Global,
     setup: &Setup,

@@ -9,9 +9,10 @@ ghost use Rattle.rtk_convert.specs.Steps.ShownCells.{AllBelow};
 ghost use Rattle.rtk_convert.specs.Records.{HasClosed};
 ghost use Rattle.rtk_frame.specs.Stream.{with_more, TakesPart};
 ghost use Rattle.rtk_obs.specs.Cell.{IsInRange};
+ghost use Rattle.rtk_obs.specs.Tracks.{RepresentsSteps};
 ghost use Rattle.rtk_obs.specs.declared.code.Code.{Code};
 ghost use Rattle.rtk_rinex.specs.Header.{position_view};
-ghost use Rattle.std.specs.Prelude.{◌≡◌, ◌≢◌, ℕ, ◌<◌, [], ◌∷◌, List, All, false, OnOk, IfErr, IsErrOf, length, OnErr};
+ghost use Rattle.std.specs.Prelude.{◌≡◌, ◌≢◌, ℕ, ◌<◌, [], ◌∷◌, List, All, None, false, replicate, OnOk, IfOk, IfErr, IsErrOf, length, OnErr};
 
 use crate::epoch_rows::fill_table;
 use crate::fault::{ConvertFault, Stream};
@@ -21,25 +22,26 @@ use rtk_collect::Left;
 use rtk_frame::Sink;
 use rtk_obs::{CellEntry, GpsMs, Position, SIGNALS, Tracks};
 use rtk_rinex::{EpochTable, Observed};
-use std::alloc::Global;
+use std::alloc::{AllocError, Global};
 use std::marker::Model;
 
 /// What is known of the closed epochs: the last phases, whether the header is written, and how many
 /// records are written.
 ///
 /// The table is kept from epoch to epoch, and so is the room for what its cells show: both are
-/// large, and a local would be cleared as a whole each time that its function is called.
+/// large, and a local would be cleared as a whole each time that its function is called. The three
+/// large parts lie on the heap, so that no function on the way to them needs a large stack.
 #[derive(Drop)]
 pub(crate) struct Records {
-    tracks: Tracks,
-    shown: [Option<Observed>; SIGNALS],
-    table: EpochTable,
+    tracks: Box<Tracks>,
+    shown: Vec<Option<Observed>>,
+    table: Box<EpochTable>,
     header_out: bool,
     count: u64,
 }
 
 // Clauses don't see the table, which is filled anew for each epoch, nor the room, which is empty
-// between epochs.
+// between epochs. The first part of the invariant names every field, as that of a converter does.
 impl Model for Records {
     ghost use Rattle.std.specs.Prelude.{◌≡◌, length};
     ghost use Rattle.rtk_convert.specs.Steps.ShownCells.{ShowsNothing};
@@ -47,24 +49,51 @@ impl Model for Records {
 
     ghost Value = { RecordsView };
 
-    ghost view = { λ r. record { tracks = r.tracks; header_out = r.header_out; count = r.count } };
+    ghost view = { λ r. record { tracks = r.tracks.value; header_out = r.header_out; count = r.count } };
 
-    ghost invariant = { λ r. (length r.shown ≡ 512) × ShowsNothing r.shown };
+    ghost invariant = { λ r. (r ≡ record { tracks = r.tracks; shown = r.shown; table = r.table; header_out = r.header_out; count = r.count })
+        × (length r.shown.items ≡ 512) × ShowsNothing r.shown.items };
+}
+
+// Tracks without a phase. This and the next function are alone in needing the stack for a large
+// part, which is gone when they return.
+#[inline(never)]
+fn new_tracks(alloc: Global) -> Result<Box<Tracks>, AllocError>
+    ensures { IfOk result (λ tracks. RepresentsSteps tracks.value []) }
+{
+    Ok(Box::new(alloc, Tracks::new())?)
+}
+
+// A table without a row.
+#[inline(never)]
+fn new_table(alloc: Global, start: GpsMs) -> Result<Box<EpochTable>, AllocError>
+    ensures { IfOk result (λ table. table.value ≡ record { time = start; rows = [] }) }
+{
+    Ok(Box::new(alloc, EpochTable::new(start))?)
+}
+
+// Room for what the places of an epoch show, which is nothing yet.
+fn new_shown(alloc: Global) -> Result<Vec<Option<Observed>>, AllocError>
+    ensures { IfOk result (λ shown. shown.items ≡ replicate SIGNALS None) }
+{
+    let mut shown = Vec::new(alloc);
+    shown.resize(SIGNALS, None)?;
+    Ok(shown)
 }
 
 impl Records {
     /// Records without a closed epoch. The table has this time until the first epoch is closed.
-    pub(crate) fn new(start: GpsMs) -> Records
-        ensures follows { (listed : List Code) → HasClosed result listed [] }
-        ensures below { (epoch : ℕ) → AllBelow result.tracks epoch }
+    pub(crate) fn new(alloc: Global, start: GpsMs) -> Result<Records, AllocError>
+        ensures follows { IfOk result (λ r. (listed : List Code) → HasClosed r listed []) }
+        ensures below { IfOk result (λ r. (epoch : ℕ) → AllBelow r.tracks epoch) }
     {
-        Records {
-            tracks: Tracks::new(),
-            shown: [None; SIGNALS],
-            table: EpochTable::new(start),
+        Ok(Records {
+            tracks: new_tracks(alloc)?,
+            shown: new_shown(alloc)?,
+            table: new_table(alloc, start)?,
             header_out: false,
             count: 0,
-        }
+        })
     }
 
     /// Whether the header is written.

@@ -1,5 +1,5 @@
 -- The epochs that are left are closed, and a conversion ends.
-use Rattle.std.specs.Prelude.{◌≡◌, ℕ, List, ◌++◌, Option, All}
+use Rattle.std.specs.Prelude.{◌≡◌, ◌⊎◌, ℕ, List, ◌++◌, Option, All}
 use Rattle.rtk_collect.specs.EpochSet.{EpochSetView}
 use Rattle.rtk_rinex.specs.Header.{PositionView}
 use Rattle.rtk_convert.specs.declared.counts.Counts.{Counts}
@@ -42,10 +42,13 @@ pub record FinishesConversionAs (old : ConversionView) (found : List Found) (cou
 abbrev pub FinishesConversion : ConversionView → Counts → Written → Written → Type 0
 FinishesConversion old counts written_old written_new = (found : List Found) → RepresentsFound old found → FinishesConversionAs old found counts written_old written_new
 
--- the end breaks off: a first part of the rest was written
+-- the end breaks off: a first part of the rest was written, and of the report nothing unless the
+-- file is whole
 pub record FinishesConversionPartAs (old : ConversionView) (found : List Found) (written_old written_new : Written) : Type 0 where
   pub out : WritesPartOfRest written_old.file written_new.file (file_so_far old.setup (arrivals found)) (kept_file old.setup (arrivals found))
   pub log : WritesPartOfRest written_old.report written_new.report (lines old.setup.window found) (report_of old.setup found)
+  pub counts_last : (written_new.report ≡ written_old.report)
+      ⊎ WritesRest written_old.file written_new.file (file_so_far old.setup (arrivals found)) (kept_file old.setup (arrivals found))
 
 abbrev pub FinishesConversionInPart : ConversionView → Written → Written → Type 0
 FinishesConversionInPart old written_old written_new = (found : List Found) → RepresentsFound old found → FinishesConversionPartAs old found written_old written_new

@@ -1,4 +1,4 @@
-use Rattle.std.proofs.Common.{true, false, sym, subst}
+use Rattle.std.proofs.Common.{true, false, refl, sym, subst}
 use Rattle.std.proofs.lemmas.Result.{err_from_is_err_and}
 use Rattle.rtk_convert.specs.Conversion.{ConversionView, HoldsArrivals, IsAhead}
 use Rattle.rtk_convert.specs.Steps.AcceptedFrame.{AcceptsFrame, BreaksOffAtFrame, HasCause, IsEpochIn}
@@ -16,11 +16,14 @@ returns-clause-ok g c =
     (subst (λ (x : ConversionView). AcceptsFrame (state c.self.inside.setup c.self.inside.collector c.self.inside.records c.self.inside.counts true) c.args.link c.args.payload.now x before after) (sym c.self-2.view_is) c.in_ok-epoch.ensures.ok))
 
 pub invariant_of-self-2 : goal.invariant_of-self-2
-invariant_of-self-2 g c = record {
-  places = c.self-2.invariant.places;
-  few = c.self-2.invariant.few;
-  ahead = λ going. subst (λ (x : ConversionView). IsAhead x.collector x.records) (sym c.self-2.view_is) c.in_ok-epoch.ensures.ahead;
-}
+invariant_of-self-2 g c = (
+  refl,
+  record {
+    places = c.self-2.invariant.1.places;
+    few = c.self-2.invariant.1.few;
+    ahead = λ going. subst (λ (x : ConversionView). IsAhead x.collector x.records) (sym c.self-2.view_is) c.in_ok-epoch.ensures.ahead;
+  },
+)
 
 pub returns-in_err-epoch-clause-err : goal.returns-in_err-epoch-clause-err
 returns-in_err-epoch-clause-err g c =

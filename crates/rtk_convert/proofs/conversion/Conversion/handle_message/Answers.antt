@@ -37,7 +37,7 @@ returns-in_default-closed_by-clause-ok g c =
     c.in-Ok-offer_lines.ensures ∙ ap (λ (n : ℕ). offer_lines c.args.link n c.epoch-epoch.result c.in-Ok.offer) (c.number-number.ensures ∙ ap number_of c.message.ensures.value)
     ∙ ap (λ (e : Option ℕ). offer_lines c.args.link (number_of (message_of c.args.dated)) e c.in-Ok.offer) c.epoch-epoch.ensures.value in
     let none : closed_by c.in-Ok.offer ≡ None = sym c.closed_by.ensures ∙ c.in_default-closed_by.is in
-    on_ok-map c.put_lines.result (λ wrote. subst (λ (x : ConversionView). AddsMessage x c.args.link c.args.dated (state c.self.inside.setup c.offer.new.self c.self.inside.records c.count_message.new.counts c.self.inside.stopped) before (written (g.O.Sink.taken c.args.out.now) (g.L.Sink.taken c.put_lines.new.log))) c.self.view_is (takes-none-closed c.in-Ok.offer c.self.invariant.places none c.in-Ok.ensures.answer c.count_message.ensures (wrote ∙ ap (with_more (g.L.Sink.taken c.args.log.now)) (c.deref.ensures.value ∙ text)))) c.put_lines.ensures.all
+    on_ok-map c.put_lines.result (λ wrote. subst (λ (x : ConversionView). AddsMessage x c.args.link c.args.dated (state c.self.inside.setup c.offer.new.self c.self.inside.records c.count_message.new.counts c.self.inside.stopped) before (written (g.O.Sink.taken c.args.out.now) (g.L.Sink.taken c.put_lines.new.log))) c.self.view_is (takes-none-closed c.in-Ok.offer c.self.invariant.1.places none c.in-Ok.ensures.answer c.count_message.ensures (wrote ∙ ap (with_more (g.L.Sink.taken c.args.log.now)) (c.deref.ensures.value ∙ text)))) c.put_lines.ensures.all
 
 pub returns-in_default-closed_by-clause-err : goal.returns-in_default-closed_by-clause-err
 returns-in_default-closed_by-clause-err g c =
@@ -47,7 +47,7 @@ returns-in_default-closed_by-clause-err g c =
     c.in-Ok-offer_lines.ensures ∙ ap (λ (n : ℕ). offer_lines c.args.link n c.epoch-epoch.result c.in-Ok.offer) (c.number-number.ensures ∙ ap number_of c.message.ensures.value)
     ∙ ap (λ (e : Option ℕ). offer_lines c.args.link (number_of (message_of c.args.dated)) e c.in-Ok.offer) c.epoch-epoch.ensures.value in
     let none : closed_by c.in-Ok.offer ≡ None = sym c.closed_by.ensures ∙ c.in_default-closed_by.is in
-    on_err-from c.put_lines.result (subst (λ (x : ConversionView). AddsMessageInPart x c.args.link c.args.dated before after) c.self.view_is (part-lines c.in-Ok.offer c.self.invariant.places c.in-Ok.ensures.answer (takes-none-closed c.in-Ok.offer c.self.invariant.places none c.in-Ok.ensures.answer c.count_message.ensures refl)
+    on_err-from c.put_lines.result (subst (λ (x : ConversionView). AddsMessageInPart x c.args.link c.args.dated before after) c.self.view_is (part-lines c.in-Ok.offer c.self.invariant.1.places c.in-Ok.ensures.answer (takes-none-closed c.in-Ok.offer c.self.invariant.1.places none c.in-Ok.ensures.answer c.count_message.ensures refl)
     (subst (λ (t : List ℕ). TakesPart (g.L.Sink.taken c.args.log.now) (g.L.Sink.taken c.put_lines.new.log) t) (c.deref.ensures.value ∙ text) c.put_lines.ensures.part)))
 
 pub close-requires-clause-later : goal.close-requires-clause-later
@@ -77,8 +77,8 @@ returns-clause-ok g c =
     let same : c.in-Some.set ≡ e =
     ap (λ (t : ℕ). record c.in-Some.set { epoch = t }) (sym c.epoch-epoch-2.ensures) ∙ ap (λ xs. record { epoch = c.epoch-epoch-2.result; cells = xs }) (sym c.cells-cells.ensures.value) in
     let some : closed_by c.in-Ok.offer ≡ Some e = sym c.closed_by.ensures ∙ c.in-Some.is ∙ ap Some same in
-    let size = c.in-Ok.ensures.size ∙ c.self.invariant.places in
-    on_ok-map c.put_lines-2.result (λ wrote. subst (λ (x : ConversionView). AddsMessage x c.args.link c.args.dated (state c.self.inside.setup c.offer.new.self c.close.new.self c.count_message.new.counts c.self.inside.stopped) before after) c.self.view_is (takes-some-closed c.in-Ok.offer c.self.invariant.places size some c.in-Ok.ensures.answer c.station-position.ensures.kept c.count_message.ensures c.in_ok-close.ensures.follows c.in_ok-close.ensures.all (wrote ∙ ap (with_more (g.L.Sink.taken c.args.log.now)) (c.deref-2.ensures.value ∙ text)))) c.put_lines-2.ensures.all
+    let size = c.in-Ok.ensures.size ∙ c.self.invariant.1.places in
+    on_ok-map c.put_lines-2.result (λ wrote. subst (λ (x : ConversionView). AddsMessage x c.args.link c.args.dated (state c.self.inside.setup c.offer.new.self c.close.new.self c.count_message.new.counts c.self.inside.stopped) before after) c.self.view_is (takes-some-closed c.in-Ok.offer c.self.invariant.1.places size some c.in-Ok.ensures.answer c.station-position.ensures.kept c.count_message.ensures c.in_ok-close.ensures.follows c.in_ok-close.ensures.all (wrote ∙ ap (with_more (g.L.Sink.taken c.args.log.now)) (c.deref-2.ensures.value ∙ text)))) c.put_lines-2.ensures.all
 
 pub returns-clause-err : goal.returns-clause-err
 returns-clause-err g c =
@@ -91,8 +91,8 @@ returns-clause-err g c =
     let same : c.in-Some.set ≡ e =
     ap (λ (t : ℕ). record c.in-Some.set { epoch = t }) (sym c.epoch-epoch-2.ensures) ∙ ap (λ xs. record { epoch = c.epoch-epoch-2.result; cells = xs }) (sym c.cells-cells.ensures.value) in
     let some : closed_by c.in-Ok.offer ≡ Some e = sym c.closed_by.ensures ∙ c.in-Some.is ∙ ap Some same in
-    let size = c.in-Ok.ensures.size ∙ c.self.invariant.places in
-    on_err-from c.put_lines-2.result (subst (λ (x : ConversionView). AddsMessageInPart x c.args.link c.args.dated before after) c.self.view_is (part-lines c.in-Ok.offer c.self.invariant.places c.in-Ok.ensures.answer (takes-some-closed c.in-Ok.offer c.self.invariant.places size some c.in-Ok.ensures.answer c.station-position.ensures.kept c.count_message.ensures c.in_ok-close.ensures.follows c.in_ok-close.ensures.all refl)
+    let size = c.in-Ok.ensures.size ∙ c.self.invariant.1.places in
+    on_err-from c.put_lines-2.result (subst (λ (x : ConversionView). AddsMessageInPart x c.args.link c.args.dated before after) c.self.view_is (part-lines c.in-Ok.offer c.self.invariant.1.places c.in-Ok.ensures.answer (takes-some-closed c.in-Ok.offer c.self.invariant.1.places size some c.in-Ok.ensures.answer c.station-position.ensures.kept c.count_message.ensures c.in_ok-close.ensures.follows c.in_ok-close.ensures.all refl)
     (subst (λ (t : List ℕ). TakesPart (g.L.Sink.taken c.args.log.now) (g.L.Sink.taken c.put_lines-2.new.log) t) (c.deref-2.ensures.value ∙ text) c.put_lines-2.ensures.part)))
 
 pub returns-in_err-close-clause-err : goal.returns-in_err-close-clause-err
@@ -102,8 +102,8 @@ returns-in_err-close-clause-err g c =
     let same : c.in-Some.set ≡ e =
     ap (λ (t : ℕ). record c.in-Some.set { epoch = t }) (sym c.epoch-epoch-2.ensures) ∙ ap (λ xs. record { epoch = c.epoch-epoch-2.result; cells = xs }) (sym c.cells-cells.ensures.value) in
     let some : closed_by c.in-Ok.offer ≡ Some e = sym c.closed_by.ensures ∙ c.in-Some.is ∙ ap Some same in
-    let size = c.in-Ok.ensures.size ∙ c.self.invariant.places in
-    on_err-from c.from_residual.result (subst (λ (x : ConversionView). AddsMessageInPart x c.args.link c.args.dated before (written (g.O.Sink.taken c.close.new.out) (g.L.Sink.taken c.args.log.now))) c.self.view_is (part-record c.in-Ok.offer c.self.invariant.places size some c.in-Ok.ensures.answer c.station-position.ensures.kept c.close.ensures.part))
+    let size = c.in-Ok.ensures.size ∙ c.self.invariant.1.places in
+    on_err-from c.from_residual.result (subst (λ (x : ConversionView). AddsMessageInPart x c.args.link c.args.dated before (written (g.O.Sink.taken c.close.new.out) (g.L.Sink.taken c.args.log.now))) c.self.view_is (part-record c.in-Ok.offer c.self.invariant.1.places size some c.in-Ok.ensures.answer c.station-position.ensures.kept c.close.ensures.part))
 
 pub returns-in_default-closed_by-clause-fault : goal.returns-in_default-closed_by-clause-fault
 returns-in_default-closed_by-clause-fault g c = log-frame c.put_lines.result c.put_lines.ensures.fault

@@ -8,16 +8,19 @@ few-new : (w : CollectorView) (size : ℕ) → w ≡ record { size = size; sets 
 few-new w size p = subst (λ (x : CollectorView). length x.sets ≤ x.size) (sym p) (omega arith)
 
 pub invariant_of-result : goal.invariant_of-result
-invariant_of-result c = record {
-  places = ap (λ (w : CollectorView). w.size) c.new-collector.ensures ∙ c.window.ensures.value;
-  few = few-new c.new-collector.result c.window.result c.new-collector.ensures;
-  ahead = λ going. ahead-none c.new-collector.result c.new-records.result (c.new-records.ensures.below 0);
-}
+invariant_of-result c = (
+  refl,
+  record {
+    places = ap (λ (w : CollectorView). w.size) c.new-collector.ensures ∙ c.window.ensures.value;
+    few = few-new c.new-collector.result c.window.result c.new-collector.ensures;
+    ahead = λ going. ahead-none c.new-collector.result c.in_ok-records.records (c.in_ok-records.ensures.below 0);
+  },
+)
 
 pub returns-clause-represents : goal.returns-clause-represents
 returns-clause-represents c = record {
   window = holds-new c.new-collector.result c.window.result c.new-collector.ensures;
-  closed = c.new-records.ensures.follows c.args.setup.head.listed;
+  closed = c.in_ok-records.ensures.follows c.args.setup.head.listed;
   counts = refl;
 }
 

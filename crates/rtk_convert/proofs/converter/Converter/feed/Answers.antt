@@ -39,8 +39,8 @@ returns-clause-err g c =
 
 pub returns-in-Some-clause-bounds : goal.returns-in-Some-clause-bounds
 returns-in-Some-clause-bounds g c =
-    bounded-before c.args.self.now (subst IsConverterView c.self.view_is (record { few = c.self.invariant.few; short = c.self.invariant.short; epochs = c.self.invariant.epochs; held = c.self.invariant.held }))
+    bounded-before c.args.self.now (subst IsConverterView c.self.view_is (record { few = c.self.invariant.1.few; short = c.self.invariant.1.short; epochs = c.self.invariant.1.epochs; held = c.self.invariant.1.held }))
 
 pub returns-clause-bounds : goal.returns-clause-bounds
 returns-clause-bounds g c =
-    bounded-after c.feed.new.conversion c.self.inside.links.items c.args.link c.feed.new.self c.self.invariant.short c.feed.ensures.short c.feed.ensures.few (c.feed.ensures.held c.self.invariant.held)
+    bounded-after c.feed.new.conversion c.self.inside.links.items c.args.link c.feed.new.self c.self.invariant.1.short c.feed.ensures.short c.feed.ensures.few (c.feed.ensures.held c.self.invariant.1.held)

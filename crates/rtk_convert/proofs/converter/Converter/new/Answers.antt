@@ -9,11 +9,11 @@ use Rattle.rtk_convert.proofs.converter.Converter.new.Goals as goal
 
 pub returns-clause-ok : goal.returns-clause-ok
 returns-clause-ok c = record {
-  going = c.new.ensures.going;
+  going = c.in-Ok.ensures.going;
   links = subst (λ (ls : List Link). RepresentLinks ls (new_history c.args.links).links 0 (new_history c.args.links).found) (sym c.in_ok-links.ensures.new) (links-new c.args.links 0);
-  found = c.new.ensures.represents;
+  found = c.in-Ok.ensures.represents;
 }
 
 pub returns-clause-bounds : goal.returns-clause-bounds
 returns-clause-bounds c =
-    bounded-new c.new.result c.in_ok-links.links.items c.args.links c.in_ok-links.ensures.new (subst (λ (s : SetupView). length c.new.result.collector.sets ≤ s.window) (sym c.new.ensures.same_setup) c.new.ensures.few) ([], c.new.ensures.represents.window)
+    bounded-new c.in-Ok.conversion c.in_ok-links.links.items c.args.links c.in_ok-links.ensures.new (subst (λ (s : SetupView). length c.in-Ok.conversion.collector.sets ≤ s.window) (sym c.in-Ok.ensures.same_setup) c.in-Ok.ensures.few) ([], c.in-Ok.ensures.represents.window)
