@@ -36,7 +36,6 @@ SEED = 20260524
 MORE_EACH = 4  # of the properties that few captures meet, or many, if none are drawn
 SECONDS_EACH = 120
 SHOWN = 5  # captures on which a property has failed
-MEMORY = "/dev/shm"  # runs are short, so that files on a disk would take much of their time
 
 
 class Task(NamedTuple):
@@ -174,7 +173,7 @@ def main() -> int:
     numbers = range(words.first, words.first + words.captures)
     tasks = (Task(words.seed, number, words.draws, keep_in) for number in numbers)
     tally = Tally()
-    with tempfile.TemporaryDirectory(dir=MEMORY if os.path.isdir(MEMORY) else None) as folder:
+    with tempfile.TemporaryDirectory() as folder:
         with Pool(words.jobs, begin_worker, (folder, path)) as pool:
             for looked in pool.imap(look, tasks, chunksize=10):
                 tally.add(looked)

@@ -156,13 +156,15 @@ def shown_as_modelled(case: Case) -> Answer:
 
 
 def hex_shown_as_bytes(case: Case) -> Answer:
-    """`show --hex` of the digits, of either case and with blanks, is `show` of the bytes."""
+    """`show --hex` of the digits, in parts of either case with blanks after them, is `show` of the
+    bytes."""
     text = case.rng.choice(case.links)
-    digits = "".join(case.rng.choice((digit, digit.upper())) for digit in text.hex())
+    digits = text.hex()
     cuts = sorted(case.rng.choices(range(len(digits) + 1), k=case.rng.randrange(20)))
     parts = [digits[at:end] for at, end in zip([0, *cuts], [*cuts, len(digits)], strict=True)]
     blanks = case.rng.choices((" ", "\t", "\n", "\r\n", "  "), k=len(parts))
-    hex_text = "".join(part + blank for part, blank in zip(parts, blanks, strict=True))
+    cased = (case.rng.choice((part, part.upper())) for part in parts)
+    hex_text = "".join(part + blank for part, blank in zip(cased, blanks, strict=True))
     shown = case.program.show(text)
     by_hex = case.program.show(hex_text.encode(), "--hex")
     return ends_with(by_hex, shown.status, shown.out, shown.err)

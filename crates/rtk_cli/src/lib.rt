@@ -11,7 +11,7 @@
 //! }
 //! ```
 //!
-//! Its tests: crates/rtk_tests_cli/src/cli.rt and cli/, and tests/program
+//! Its tests: tests/values/src/cli.rt.in and cli/, and tests/program
 #![tactic(auto)]
 
 mod checking;

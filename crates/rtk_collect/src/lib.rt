@@ -16,7 +16,7 @@
 //! }
 //! ```
 //!
-//! Its tests: crates/rtk_tests_input/src/collect.rt and collect/
+//! Its tests: tests/values/src/collect.rt.in and collect/
 #![tactic(auto)]
 
 mod collector;

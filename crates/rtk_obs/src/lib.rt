@@ -14,7 +14,7 @@
 //! }
 //! ```
 //!
-//! Its tests: crates/rtk_tests_input/src/obs.rt and obs/
+//! Its tests: tests/values/src/obs.rt.in and obs/
 #![tactic(auto)]
 
 mod calendar;

@@ -21,7 +21,7 @@
 //! }
 //! ```
 //!
-//! Its tests: crates/rtk_tests_rinex/src/rinex.rt and rinex/
+//! Its tests: tests/values/src/rinex.rt.in and rinex/
 #![tactic(auto)]
 
 mod check_fault;

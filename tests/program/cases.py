@@ -6,24 +6,60 @@ The file `cases` has a line for each: its name, window, codes and links. Before 
 stands in the folder EXAMPLES, which another program made; and where a report stands here in words, it must write that."""
 
 import sys
+from pathlib import Path
 from random import Random
 
-from conversion import Conversion
-from observations import moment
-from rinex import body, epoch_line, header
-from rtcm import frame, legacy, msm, station_message
+sys.path.insert(0, str(Path(__file__).resolve().parents[1] / "hostile"))
+
+import model  # noqa: E402
+from messages import CODES  # noqa: E402
+from model import Setup, moment  # noqa: E402
+from wire import HEADERS, LEGACY_SATELLITE, MSM_CELL, Message, frame_of, payload_of  # noqa: E402
 
 NOON = 475_200_000
 NEAR, MADE = moment("2024-05-17T12:00:00"), moment("2024-05-17T13:00:00")
 TOLD = "2024-05-17 12:00:"
 EXAMPLES = sys.argv[1]
 SATELLITE = {
-    "satellite": 5, "l1_range": 5_000_000, "l1_lock": 5, "modulus": 70, "l1_cnr": 180, "l2_code": 3, "l2_range": 100,
+    "satellite": 5, "l1_range": 5_000_000, "l1_lock": 5, "modulus_ambiguity": 70, "l1_cnr": 180, "l2_code": 3, "l2_range": 100,
     "l2_lock": 5, "l2_cnr": 140,
 }
 NO_NUMBER = bytes.fromhex("D3000047EA4B")
 # A frame of 1,029 bytes seems to begin here.
 FALSE_PREAMBLE = bytes.fromhex("D303FF")
+
+
+def row(table, values):
+    """The fields of a table; those that are not named are 0."""
+    return dict.fromkeys((entry.name for entry in table), 0) | values
+
+
+def header(number, station=2003, **fields):
+    return row(HEADERS[number], {"number": number, "station": station, **fields})
+
+
+def legacy(tow, entries, station=2003, **fields):
+    """The payload of a 1004; the entry of a satellite is a dictionary of its fields."""
+    rows = [row(LEGACY_SATELLITE, it) for it in entries]
+    return payload_of(Message(header(1004, station, **{"tow": tow, "satellites": len(rows), **fields}), rows))
+
+
+def msm(tow, rough, cells):
+    """The payload of a 1074: `rough` has the whole ms and the fraction of each satellite, `cells` the fields of each
+    satellite and signal."""
+    satellites, signals = sorted(rough), sorted({signal for _, signal in cells})
+    masks = {"satellite_mask": sum(1 << 64 - it for it in satellites), "signal_mask": sum(1 << 32 - it for it in signals)}
+    return payload_of(Message(
+        header(1074, tow=tow, **masks),
+        [dict(zip(("rough_ms", "rough_fraction"), rough[it])) for it in satellites],
+        [(satellite, signal) in cells for satellite in satellites for signal in signals],
+        [row(MSM_CELL, cells[it]) for it in sorted(cells)],
+    ))
+
+
+def station_message(number, **fields):
+    """The payload of a 1005 or a 1006."""
+    return payload_of(Message(header(number, **fields)))
 
 
 def example(name):
@@ -37,21 +73,22 @@ ARP = BASE[:25]
 
 def at(seconds, **fields):
     """The frame of a 1004 of satellite 5, so many seconds after noon."""
-    return frame(legacy(NOON + 1000 * seconds, [{**SATELLITE, **fields}]))
+    return frame_of(legacy(NOON + 1000 * seconds, [{**SATELLITE, **fields}]))
 
 
 def bare(seconds, station=2003):
     """The frame of a 1004 without satellites."""
-    return frame(legacy(NOON + 1000 * seconds, [], station))
+    return frame_of(legacy(NOON + 1000 * seconds, [], station))
 
 
 def place(number, **fields):
     """The frame of a 1005 or a 1006."""
-    fields = {"x": 11_141_045_999, "y": -48_507_297_108, "z": 39_755_214_643, "height": 15_000, **fields}
-    return frame(station_message(number, **fields))
+    values = {"x": 11_141_045_999, "y": -48_507_297_108, "z": 39_755_214_643, "height": 15_000}
+    names = [entry.name for entry in HEADERS[number]]
+    return frame_of(station_message(number, **{it: n for it, n in (values | fields).items() if it in names}))
 
 
-def payload_of(frame):
+def payload_in(frame):
     return frame[3:-3]
 
 
@@ -67,7 +104,8 @@ def report(*lines, **counts):
 
 
 def convert(links, window=64, codes="1C,2W"):
-    return Conversion(links, codes.split(","), window, NEAR, MADE, "BASE", 2003).results()
+    """The file and the report."""
+    return model.convert(Setup(2003, NEAR, MADE, "BASE", tuple(codes.split(",")), window), links)[:2]
 
 
 def save(name, text):
@@ -115,7 +153,7 @@ def links_of_sixteen(cases):
         *(f"link {it} late 1004 {TOLD}05.000" for it in range(2, 17)), taken=2, late=15, epochs=2))
     case(cases, "late_1006_of_link_16", [b""] * 15 + [at(0) + at(1) + place(1006)], window=2, told=report(
         "link 16 late 1006 -", taken=2, late=1, epochs=2))
-    case(cases, "conflict_of_1006_on_link_16", [ARP + place(1006)] + [b""] * 14 + [place(1006, oscillator=1)], told=report(
+    case(cases, "conflict_of_1006_on_link_16", [ARP + place(1006)] + [b""] * 14 + [place(1006, single_oscillator=1)], told=report(
         "link 16 conflict 1006 -", taken=2, conflict=1, epochs=0))
     # one that equals the kept one is never late, one that differs is late and no more in conflict
     case(cases, "kept_1006_is_never_late", [place(1006) + at(0) + at(1) + place(1006) + place(1006, z=1) + ARP], window=2, told=report(
@@ -132,23 +170,23 @@ def refusals(cases):
         (b"\x3e", "M1 -"),
         (legacy(NOON, [])[:-1], "M3 1004"),
         (legacy(NOON, [SATELLITE])[:-1], "M3 1004"),
-        (legacy(NOON, [], count=1), "M3 1004"),
-        (legacy(too_late, [], count=1), "M4 1004"),
-        (payload_of(ARP)[:-1], "M3 1005"),
-        (payload_of(place(1006))[:-1], "M3 1006"),
+        (legacy(NOON, [], satellites=1), "M3 1004"),
+        (legacy(too_late, [], satellites=1), "M4 1004"),
+        (payload_in(ARP)[:-1], "M3 1005"),
+        (payload_in(place(1006))[:-1], "M3 1006"),
         # a 1005 whose first 12 bits are 1006
-        (b"\x3e\xe7" + payload_of(ARP)[2:], "M3 1006"),
+        (b"\x3e\xe7" + payload_in(ARP)[2:], "M3 1006"),
         (msm(NOON, {5: (70, 0)}, cell)[:21], "M3 1074"),
         (msm(NOON, {5: (70, 0)}, cell)[:-1], "M3 1074"),
         (msm(too_late, rough, five_by_thirteen), "M4 1074"),
         (msm(NOON, rough, five_by_thirteen)[:22], "M5 1074"),
     )
-    text = b"".join(frame(payload) for payload, _ in rows)
+    text = b"".join(frame_of(payload) for payload, _ in rows)
     case(cases, "each_refusal", [text], told=report(*(f"link 1 refused {why}" for _, why in rows), refused=len(rows), epochs=0))
     save("each_refusal.lines", "".join(f"refused {why}\n" for _, why in rows))
     # the last good time of week, and 64 cells
     good = legacy(604_799_999, []), msm(NOON, {it: (70, 0) for it in range(1, 17)}, {(it, signal): {} for it in range(1, 17) for signal in (2, 3, 4, 8)})
-    case(cases, "not_refused", [b"".join(map(frame, good))], told=report(taken=2, epochs=1))
+    case(cases, "not_refused", [b"".join(map(frame_of, good))], told=report(taken=2, epochs=1))
     save("not_refused.lines", "1004 station 2003 tow 604799999 satellites 0\n1074 station 2003 tow 475200000 satellites 16 signals 4 cells 64\n")
 
 
@@ -199,7 +237,7 @@ def windows(cases):
 
 def ties(cases):
     """The exact range is 21060420.1745 m."""
-    case(cases, "tie_away_from_zero", [frame(msm(NOON, {5: (70, 256)}, {(5, 2): {}}))], told=report(taken=1, epochs=1),
+    case(cases, "tie_away_from_zero", [frame_of(msm(NOON, {5: (70, 256)}, {(5, 2): {}}))], told=report(taken=1, epochs=1),
         line="G05  21060420.175   110673255.000\n")
 
 
@@ -215,9 +253,9 @@ def some(random, width):
 def legacy_pair(random, tow, satellites):
     """A 1004, and one whose first satellite differs."""
     rows = [{
-        "satellite": it, "l1_code": int(random.random() < 0.1), "l1_range": some(random, 24), "l1_phase": some(random, -20),
-        "l1_lock": some(random, 7), "modulus": random.randint(60, 90), "l1_cnr": some(random, 8), "l2_code": 3,
-        "l2_range": some(random, -14), "l2_phase": some(random, -20), "l2_lock": some(random, 7), "l2_cnr": some(random, 8),
+        "satellite": it, "l1_code": int(random.random() < 0.1), "l1_range": some(random, 24), "l1_offset": some(random, -20),
+        "l1_lock": some(random, 7), "modulus_ambiguity": random.randint(60, 90), "l1_cnr": some(random, 8), "l2_code": 3,
+        "l2_range": some(random, -14), "l2_offset": some(random, -20), "l2_lock": some(random, 7), "l2_cnr": some(random, 8),
     } for it in satellites]
     other = [{**rows[0], "l1_cnr": rows[0]["l1_cnr"] ^ 1}, *rows[1:]]
     return legacy(tow, rows), legacy(tow, other)
@@ -227,7 +265,7 @@ def msm_pair(random, tow, satellites):
     """A 1074, and one whose last cell differs."""
     rough = {it: (255 if random.random() < 0.03 else random.randint(60, 90), some(random, 10)) for it in satellites}
     cells = {(it, signal): {
-        "fine_range": some(random, -15), "fine_phase": some(random, -22), "lock": some(random, 4), "half": some(random, 1),
+        "fine_range": some(random, -15), "fine_phase": some(random, -22), "lock": some(random, 4), "half_cycle": some(random, 1),
         "cnr": some(random, 6),
     } for it in satellites for signal in (2, 24)}
     last = max(cells)
@@ -240,15 +278,15 @@ def session(random, epochs):
     for second in range(epochs):
         tow = NOON + 1000 * second
         if second % 25 == 0:
-            pairs.append((payload_of(place(1006)), payload_of(place(1006, x=second))))
+            pairs.append((payload_in(place(1006)), payload_in(place(1006, x=second))))
         satellites = sorted(random.sample(range(1, 36), 8))
         pairs.append(legacy_pair(random, tow, satellites))
         pairs += [msm_pair(random, tow, part) for part in (satellites[:4], satellites[4:])]
         if second % 10 == 0:
-            pairs += [(it, it) for it in (b"\x3f\xb0", legacy(tow, [], station=second), legacy(tow, [], count=1), b"")]
+            pairs += [(it, it) for it in (b"\x3f\xb0", legacy(tow, [], station=second), legacy(tow, [], satellites=1), b"")]
     # bits after the last field, and the reserved ones of a frame, mean nothing
     extra = [random.randbytes(random.randrange(3)) if len(good) > 20 else b"" for good, _ in pairs]
-    return [tuple(frame(it + more, random.randrange(64)) for it in pair) for pair, more in zip(pairs, extra)]
+    return [tuple(frame_of(it + more, random.randrange(64)) for it in pair) for pair, more in zip(pairs, extra)]
 
 
 def damaged(random, pairs):
@@ -287,18 +325,25 @@ def long_captures(cases):
 
 
 def shown(random):
-    """What a code shows: each value blank, at an end of its limits, or any; and the digit of loss of lock."""
+    """The columns of a code: each value blank, at an end of its limits, or any; and the digit of loss of lock."""
     values = [random.choice((None, -999_999_999_999, 9_999_999_999_999, 1, -1, random.randint(10**10, 10**11))) for _ in "CL"]
-    return *values, random.choice((None, 250, 5_750, 6_000, 63_750, 250 * random.randint(1, 255))), random.randrange(4)
+    strength = random.choice((None, 250, 5_750, 6_000, 63_750, 250 * random.randint(1, 255)))
+    return model.columns_of(*values, strength, " 123"[random.randrange(4)])
+
+
+def record_body(random):
+    """The lines of 32 satellites; each has a value of its first code."""
+    first = model.columns_of(1, 1, 250, " ")
+    lines = (first + "".join(shown(random) for _ in CODES[1:]) for _ in range(32))
+    return "".join(f"G{number:02}{line}".rstrip() + "\n" for number, line in enumerate(lines, 1))
 
 
 def long_file():
     """450 records of 32 satellites and 16 codes; and the same with a zero in the last line."""
     random = Random(305)
-    codes = "1C,1P,1W,1S,1L,1X,2C,2D,2P,2W,2S,2L,2X,5I,5Q,5X".split(",")
-    bodies = [body({it: [(1, 1, 250, 0), *(shown(random) for _ in codes[1:])] for it in range(1, 33)}, 16)[0] for _ in range(15)]
-    text = header("BASE", codes, MADE, (0, 0, 0, 0), NEAR)
-    text += "".join(epoch_line(NEAR + 1000 * it, 32) + bodies[it % 15] for it in range(450))
+    bodies = [record_body(random) for _ in range(15)]
+    text = "".join(f"{it}\n" for it in model.header(Setup(2003, NEAR, MADE, "BASE", tuple(CODES), 64), {}, NEAR))
+    text += "".join(f"{model.epoch_line(NEAR + 1000 * it, 32)}\n{bodies[it % 15]}" for it in range(450))
     assert len(text) > 10_000_000
     save("long.rnx", text)
     last = text.rindex("\nG32") + 4
