@@ -26,6 +26,7 @@ mod input;
 pub mod laws;
 mod moment_text;
 mod payload_line;
+mod resuming;
 mod running;
 mod showing;
 mod words;
