@@ -25,6 +25,7 @@ mod hex_input;
 mod input;
 pub mod laws;
 mod moment_text;
+mod options;
 mod payload_line;
 mod resuming;
 mod running;
