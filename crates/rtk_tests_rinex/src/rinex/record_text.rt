@@ -3,8 +3,8 @@
 ghost use Rattle.rtk_rinex.specs.Record.{IsStrengthOrNone, HasWidth};
 
 use super::{CODES, part};
-use rtk_rinex::{EpochTable, Head, Observed, record};
-use rtk_test_support::{MADE, NOON, consists_of, holds, moment, same, same_of};
+use rtk_rinex::{EpochTable, Head, Observed, check, record};
+use rtk_test_support::{HEADER, MADE, NOON, consists_of, holds, moment, same, same_of};
 use std::alloc::Global;
 use std::test::Fail;
 
@@ -235,28 +235,42 @@ fn a_table_begins_again(rt: HostRuntime) -> Result<(), Fail> {
     same(&text.as_slice(), &want.as_bytes())
 }
 
-// The record of ten satellites.
-const TEN: &str = concat!(
-    "> 2024 12 31 23 59 59.9990000  0 10\n",
-    "G01         1.000\n",
-    "G02         1.000\n",
-    "G03         1.000\n",
-    "G04         1.000\n",
-    "G05         1.000\n",
-    "G06         1.000\n",
-    "G07         1.000\n",
-    "G08         1.000\n",
-    "G09         1.000\n",
-    "G10         1.000\n",
-);
+// The line of a satellite with a range of a metre.
+fn put_line(lines: &mut Vec<u8>, satellite: u8) -> Result<(), Fail> {
+    lines.extend_from_slice(&[b'G', b'0' + satellite / 10, b'0' + satellite % 10])?;
+    lines.extend_from_slice(b"         1.000\n")?;
+    Ok(())
+}
+
+// The record of these lines at noon.
+fn record_with(alloc: Global, count: u8, lines: &[u8]) -> Result<Vec<u8>, Fail> {
+    let tens = if count < 10 { b' ' } else { b'0' + count / 10 };
+    let mut text = Vec::from_slice(alloc, b"> 2024 05 17 12 00  0.0000000  0 ")?;
+    text.extend_from_slice(&[tens, b'0' + count % 10, b'\n'])?;
+    text.extend_from_slice(lines)?;
+    Ok(text)
+}
+
+// The numbers of records and of satellite lines that are counted in a file of this record.
+fn counts_of(alloc: Global, record: &[u8]) -> Result<(usize, usize), Fail> {
+    let mut file = Vec::from_slice(alloc, HEADER.as_bytes())?;
+    file.extend_from_slice(record)?;
+    let table = check(alloc, file.as_slice())?;
+    Ok((table.epochs(), table.satellites()))
+}
 
 #[test]
-fn ten_satellites_are_counted_in_three_columns(rt: HostRuntime) -> Result<(), Fail> {
-    // 2024-12-31 23:59:59.999
-    let mut table = EpochTable::new(moment(1_419_724_799_999)?);
-    for satellite in 1..11 {
+fn epochs_of_1_to_32_satellites_are_written_and_read(rt: HostRuntime) -> Result<(), Fail> {
+    let mut table = EpochTable::new(moment(NOON)?);
+    let mut lines = Vec::new(rt.alloc());
+    for satellite in 1..33 {
         table.push_row(satellite, &[observed(Some(1_000), None, 0, LOCKED)]);
+        put_line(&mut lines, satellite)?;
+        let want = record_with(rt.alloc(), satellite, lines.as_slice())?;
+        let text = record_of(rt.alloc(), &table)?;
+        same_of(satellite, &text.as_slice(), &want.as_slice())?;
+        let counts = counts_of(rt.alloc(), text.as_slice())?;
+        same_of(satellite, &counts, &(1, usize::from(satellite)))?;
     }
-    let text = record_of(rt.alloc(), &table)?;
-    same(&text.as_slice(), &TEN.as_bytes())
+    Ok(())
 }

@@ -1,5 +1,5 @@
 use Rattle.std.proofs.Common.{◌≡◌, length, All, ◌<◌, ◌+◌}
-use Rattle.rtk_tests_rinex.proofs.rinex.record_text.ten_satellites_are_counted_in_three_columns.Given as goal
+use Rattle.rtk_tests_rinex.proofs.rinex.record_text.epochs_of_1_to_32_satellites_are_written_and_read.Given as goal
 
 abbrev pub invariant-loop-satellite : goal.invariant-loop-satellite
 invariant-loop-satellite l =
