@@ -71,13 +71,14 @@ def forms(text):
 def plain(roff):
     """The text of a page of roff without its signs and its comment."""
     roff = re.sub(r'(?m)^\.\\".*\n', "", roff)
-    for sign, text in ((r"\fB", ""), (r"\fI", ""), (r"\fR", ""), (r"\-", "-"), (r"\ ", " "), (r"\&", ""), (r"\(ha", "^")):
+    for sign, text in ((r"\fB", ""), (r"\fI", ""), (r"\fR", ""), (r"\-", "-"), (r"\~", " "), (r"\&", ""), (r"\(ha", "^")):
         roff = roff.replace(sign, text)
     return roff
 
 
 MANUAL = (ROOT / "docs/MANUAL.md").read_text()
-PAGE = plain((ROOT / "docs/rtcm2rinex.1").read_text())
+ROFF = (ROOT / "docs/rtcm2rinex.1").read_text()
+PAGE = plain(ROFF)
 
 
 def test_manuals():
@@ -93,6 +94,7 @@ def test_manuals():
     statuses = re.findall(r"(?m)^\| (\d+) \|", MANUAL)
     of_page = re.findall(r"(?m)^\.TP\n(\d+)$", PAGE)
     compare("the manual page has the statuses of the manual", of_page, statuses)
+    compare("no line of the manual page is broken", re.findall(r"(?m).*\\$", ROFF), [])
     compare("the statuses are told", statuses[:3], ["0", "1", "2"])
 
 
@@ -170,7 +172,7 @@ def test_made():
 
 
 def names_of_tests():
-    """The functions of the crates of tests, and the names of the tests that run the program."""
+    """The functions of crates of tests, and all words of the folder tests, where the other tests have their names."""
     found = set()
     for path in ROOT.glob("crates/rtk_tests_*/src/**/*.rt"):
         found |= set(re.findall(r"\bfn (\w+)", path.read_text()))
