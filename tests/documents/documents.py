@@ -62,9 +62,8 @@ OPTIONS = {command: options_of_help(command) for command in WORKING}
 def forms(text):
     """The commands that a text shows, each with its options: lines and code that begin with the program's name."""
     found = {}
-    for words in re.findall(r"(?m)(?:^ *|`)rtcm2rinex ([^`\n]*)", text):
-        command = words.split()[0] if words else ""
-        if command in COMMANDS or re.fullmatch(r"[a-z]+", command):
+    for command, words in re.findall(r"(?m)(?:^ *|`)rtcm2rinex ([a-z]+)\b([^`\n]*)", text):
+        if command != "help":
             found.setdefault(command, set()).update(re.findall(r"--?[a-z][\w-]*", words))
     return found
 
@@ -72,22 +71,21 @@ def forms(text):
 def plain(roff):
     """The text of a page of roff without its signs and its comment."""
     roff = re.sub(r'(?m)^\.\\".*\n', "", roff)
-    for sign, text in ((r"\fB", ""), (r"\fI", ""), (r"\fR", ""), (r"\-", "-"), (r"\ ", " "), (r"\&", ""), (r"\(ha", "^")):
+    for sign, text in ((r"\fB", ""), (r"\fI", ""), (r"\fR", ""), (r"\-", "-"), (r"\~", " "), (r"\&", ""), (r"\(ha", "^")):
         roff = roff.replace(sign, text)
     return roff
 
 
 MANUAL = (ROOT / "docs/MANUAL.md").read_text()
-PAGE = plain((ROOT / "docs/rtcm2rinex.1").read_text())
-
-
-def without_help(shown):
-    return {command: options for command, options in shown.items() if command != "help" and not command.startswith("-")}
+ROFF = (ROOT / "docs/rtcm2rinex.1").read_text()
+PAGE = plain(ROFF)
 
 
 def test_manuals():
-    compare("the manual shows the commands and options of the help", without_help(forms(MANUAL)), OPTIONS)
-    compare("the manual page shows the commands and options of the help", without_help(forms(PAGE)), OPTIONS)
+    compare("the manual shows the commands and options of the help", forms(MANUAL), OPTIONS)
+    # A line of text may begin with the program's name too, so only what is a command counts.
+    shown = {command: options for command, options in forms(PAGE).items() if command in WORKING}
+    compare("the manual page shows the commands and options of the help", shown, OPTIONS)
     every = {option for options in OPTIONS.values() for option in options} | {"--help", "--version"}
     told = set(re.findall(r"(?<![\w-])--[a-z][\w-]*", MANUAL))
     compare("the manual names the options of the help and no others", told, every)
@@ -96,6 +94,7 @@ def test_manuals():
     statuses = re.findall(r"(?m)^\| (\d+) \|", MANUAL)
     of_page = re.findall(r"(?m)^\.TP\n(\d+)$", PAGE)
     compare("the manual page has the statuses of the manual", of_page, statuses)
+    compare("no line of the manual page is broken", re.findall(r"(?m).*\\$", ROFF), [])
     compare("the statuses are told", statuses[:3], ["0", "1", "2"])
 
 
@@ -173,7 +172,7 @@ def test_made():
 
 
 def names_of_tests():
-    """The functions of the crates of tests, and the names of the tests that run the program."""
+    """The functions of crates of tests, and all words of the folder tests, where the other tests have their names."""
     found = set()
     for path in ROOT.glob("crates/rtk_tests_*/src/**/*.rt"):
         found |= set(re.findall(r"\bfn (\w+)", path.read_text()))
