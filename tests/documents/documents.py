@@ -172,10 +172,8 @@ def test_made():
 
 
 def names_of_tests():
-    """The functions of crates of tests, and all words of the folder tests, where the other tests have their names."""
+    """All words of the folder tests, where the tests have their names."""
     found = set()
-    for path in ROOT.glob("crates/rtk_tests_*/src/**/*.rt"):
-        found |= set(re.findall(r"\bfn (\w+)", path.read_text()))
     for path in ROOT.glob("tests/*/**/*"):
         if path.is_file():
             found |= set(re.findall(r"[\w-]+", path.read_text(errors="replace")))
