@@ -101,9 +101,12 @@ fn full_1074(satellite_mask: u64) -> Message {
 // A 1004 of satellites 31, 30 and on to 1, with two cells each.
 fn full_1004() -> Message {
     let mut satellites = Satellites::new();
-    for satellite in (1..32).rev() {
+    for before in 0..31 {
         if satellites.len() < 31 {
-            satellites.push(Satellite { satellite, ..Q });
+            satellites.push(Satellite {
+                satellite: 31 - before,
+                ..Q
+            });
         }
     }
     Message::Obs1004(Obs1004 {
