@@ -5,6 +5,7 @@ Each rule is written as it is told and not as a program would do it in one pass.
 
 from __future__ import annotations
 
+from functools import lru_cache
 from typing import NamedTuple
 
 from wire import (
@@ -66,6 +67,7 @@ class Refusal(NamedTuple):
         return f"{self.fault} {'-' if self.number is None else self.number}"
 
 
+@lru_cache(1000)  # links tell the same
 def read_message(payload: bytes) -> Message | Refusal:
     """The message that a payload begins with, or the first cause why there is none."""
     if 8 * len(payload) < 12:
@@ -173,6 +175,7 @@ def msm_lock_time(indicator: int) -> int:
     return 0 if indicator == 0 else 2 ** (indicator + 4)
 
 
+@lru_cache(1000)
 def cells_of(message: Message) -> list[CellOf]:
     """The cells of satellites 1 to 32 and known signals, in the order of the message."""
     if message.header["number"] == 1004:

@@ -226,6 +226,21 @@ def observation(value: int | None, digits: str) -> str:
     return f"{fixed(value, 3):>14}{digits}"
 
 
+def columns_of(value: int | None, phase: int | None, strength: int | None, lli: str) -> str:
+    """C, L and S of a code."""
+    digit = " " if strength is None else str(min(max(strength // 6000, 1), 9))
+    return (
+        observation(value, " " + digit)
+        + observation(phase, lli + digit)
+        + observation(strength, "  ")
+    )
+
+
+def epoch_line(epoch: int, satellites: int) -> str:
+    seconds = fixed(epoch % 60_000, 3) + "0000"
+    return f"> {civil(epoch):%Y %m %d %H %M}{seconds:>11}  0{satellites:3}"
+
+
 class Records:
     """The records of epochs, rising."""
 
@@ -240,29 +255,20 @@ class Records:
             for (satellite, code), cell in cells.items()
         }
         lines = []
-        for satellite in range(1, 33):
+        for satellite in sorted({satellite for satellite, _ in cells}):
             line = "".join(columns.get((satellite, code), " " * 48) for code in self.codes)
             if line.strip():
                 lines.append(f"G{satellite:02}{line}".rstrip())
-        seconds = fixed(epoch % 60_000, 3) + "0000"
-        begin = f"> {civil(epoch):%Y %m %d %H %M}{seconds:>11}  0{len(lines):3}"
-        return [begin, *lines] if lines else []
+        return [epoch_line(epoch, len(lines)), *lines] if lines else []
 
     def _columns(self, epoch: int, key: tuple[int, str], cell: Cell) -> str:
-        """C, L and S of a code."""
-        digit, lli, phase = " ", " ", None
-        if cell.strength is not None:
-            digit = str(min(max(cell.strength // 6000, 1), 9))
+        lli, phase = " ", None
         if cell.phase is not None:
             slip, rolls = step(self.last.get(key), epoch, cell, key[1])
             self.last[key] = Step(epoch, cell, rolls)
             phase = cell.phase + 1_500_000 * rolls
             lli = str(slip + 2 * cell.half) if slip or cell.half else " "
-        return (
-            observation(cell.range, " " + digit)
-            + observation(phase, lli + digit)
-            + observation(cell.strength, "  ")
-        )
+        return columns_of(cell.range, phase, cell.strength, lli)
 
 
 def header(setup: Setup, stations: dict[int, Fields], first: int) -> list[str]:

@@ -134,13 +134,17 @@ def file_is_valid(case: Case) -> Answer:
     return ends_with(case.program.check(case.base.out), 0, line.encode(), b"")
 
 
+def shown_lines(text: bytes) -> bytes:
+    """What `show` is due to print, by the model."""
+    return "".join(f"{show_line(frame.payload)}\n" for frame in frames_of(text)).encode()
+
+
 def shown_as_modelled(case: Case) -> Answer:
     """`show` has a line for each frame, and of one link's frames as many of each kind as the report
     of `convert` counts."""
     text = case.rng.choice(case.links)
-    lines = [show_line(frame.payload) for frame in frames_of(text)]
     shown = case.program.show(text)
-    differs = ends_with(shown, 0, "".join(f"{line}\n" for line in lines).encode(), b"")
+    differs = ends_with(shown, 0, shown_lines(text), b"")
     if differs or len(case.links) > 1:
         return differs
     counts = counts_of(case.base.err)
@@ -156,16 +160,16 @@ def shown_as_modelled(case: Case) -> Answer:
 
 
 def hex_shown_as_bytes(case: Case) -> Answer:
-    """`show --hex` of the digits, of either case and with blanks, is `show` of the bytes."""
+    """`show --hex` of the digits, in parts of either case with blanks after them, is what `show`
+    is due to print of the bytes."""
     text = case.rng.choice(case.links)
-    digits = "".join(case.rng.choice((digit, digit.upper())) for digit in text.hex())
+    digits = text.hex()
     cuts = sorted(case.rng.choices(range(len(digits) + 1), k=case.rng.randrange(20)))
     parts = [digits[at:end] for at, end in zip([0, *cuts], [*cuts, len(digits)], strict=True)]
     blanks = case.rng.choices((" ", "\t", "\n", "\r\n", "  "), k=len(parts))
-    hex_text = "".join(part + blank for part, blank in zip(parts, blanks, strict=True))
-    shown = case.program.show(text)
-    by_hex = case.program.show(hex_text.encode(), "--hex")
-    return ends_with(by_hex, shown.status, shown.out, shown.err)
+    cased = (case.rng.choice((part, part.upper())) for part in parts)
+    hex_text = "".join(part + blank for part, blank in zip(cased, blanks, strict=True))
+    return ends_with(case.program.show(hex_text.encode(), "--hex"), 0, shown_lines(text), b"")
 
 
 def same_on_standard_input(case: Case) -> Answer:
@@ -336,8 +340,9 @@ class Property(NamedTuple):
         return self.holds.__name__
 
 
-# On every capture.
-EVERY = (Property(as_modelled, 100), Property(counts_add_up, 100), Property(file_is_valid, 100))
+# On every capture: what the run that all start from shows, and what one more run does.
+FREE = (Property(as_modelled, 100), Property(counts_add_up, 100))
+VALID = (Property(file_is_valid, 100),)
 
 # Tried first, each in its turn, since few captures meet their premises.
 SELDOM = (
@@ -357,3 +362,5 @@ OFTEN = (
     Property(shown_as_modelled, 20),
     Property(hex_shown_as_bytes, 20),
 )
+
+ALL = FREE + VALID + SELDOM + OFTEN

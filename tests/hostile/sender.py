@@ -32,13 +32,16 @@ HALVES_OF_OFFSETS = (142_720, -142_720, -142_721, 183_158, -183_157, -183_158)
 
 
 def pick_any(rng: Random, entry: Field) -> int:
-    return rng.randint(entry.least, entry.most) if rng.random() < 0.6 else pick_end(rng, entry)
+    if rng.random() < 0.6:
+        return entry.least + rng.getrandbits(entry.width)
+    return pick_end(rng, entry)
 
 
 def pick_end(rng: Random, entry: Field) -> int:
     """Also the marks of no value: the least of a signed field, the most of the rough range, 0."""
-    ends = (entry.least, entry.least + 1, -1 if entry.signed else 1, 0, entry.most - 1, entry.most)
-    return rng.choice(ends)
+    _, _, least, most = entry
+    ends = (least, least + 1, -1 if least < 0 else 1, 0, most - 1, most)
+    return ends[int(rng.random() * len(ends))]
 
 
 def pick_zero(rng: Random, entry: Field) -> int:

@@ -6,6 +6,8 @@ Written from the tables of RTCM 10403.3 alone; nothing here comes from the crate
 from __future__ import annotations
 
 from dataclasses import dataclass, field
+from functools import lru_cache
+from struct import unpack
 from typing import NamedTuple
 
 PREAMBLE = 0xD3
@@ -14,33 +16,30 @@ WEEK_MS = 604_800_000
 
 
 class Field(NamedTuple):
-    """A field of a table: its name, its width in bits, and whether it is two's complement."""
+    """A field of a table: its name, its width in bits, and its least and greatest value; it is
+    two's complement if the least one is negative."""
 
     name: str
     width: int
-    signed: bool
-
-    @property
-    def least(self) -> int:
-        return -(1 << self.width - 1) if self.signed else 0
-
-    @property
-    def most(self) -> int:
-        return (1 << self.width - self.signed) - 1
+    least: int
+    most: int
 
 
 Table = tuple[Field, ...]
 Fields = dict[str, int]
 
 
+def field_of(word: str) -> Field:
+    """The field that is written NAME:uWIDTH, or NAME:iWIDTH if it is signed."""
+    name, kind = word.split(":")
+    width = int(kind[1:])
+    values = 1 << width
+    least = -values // 2 if kind[0] == "i" else 0
+    return Field(name, width, least, least + values - 1)
+
+
 def table(text: str) -> Table:
-    """The table that is written as words NAME:uWIDTH, or NAME:iWIDTH of a signed field."""
-    parts = [word.split(":") for word in text.split()]
-    return tuple(Field(name, int(kind[1:]), kind[0] == "i") for name, kind in parts)
-
-
-def width_of(fields: Table) -> int:
-    return sum(entry.width for entry in fields)
+    return tuple(field_of(word) for word in text.split())
 
 
 _STATION = (
@@ -71,7 +70,7 @@ MSM_SATELLITE = table("rough_ms:u8 rough_fraction:u10")
 MSM_CELL = table("fine_range:i15 fine_phase:i22 lock:u4 half_cycle:u1 cnr:u6")
 
 
-@dataclass
+@dataclass(eq=False)
 class Message:
     """A message field by field: the satellites of a 1004; of a 1074 the satellites of its mask,
     the bits of its cell mask (satellite by satellite, the signals rising), and the set cells."""
@@ -115,21 +114,25 @@ class BitReader:
         self.number = int.from_bytes(content, "big")
         self.left = 8 * len(content)
 
-    def take(self, width: int, signed: bool = False) -> int:
+    def take(self, width: int) -> int:
         if self.left < width:
             raise EOFError
         self.left -= width
-        value = self.number >> self.left & (1 << width) - 1
-        return value - (1 << width) if signed and value >> width - 1 else value
+        return self.number >> self.left & (1 << width) - 1
+
+    def take_field(self, entry: Field) -> int:
+        _, width, _, most = entry
+        value = self.take(width)
+        return value if value <= most else value - (1 << width)
 
     def take_row(self, fields: Table) -> Fields:
-        return {entry.name: self.take(entry.width, entry.signed) for entry in fields}
+        return {entry.name: self.take_field(entry) for entry in fields}
 
     def take_columns(self, fields: Table, count: int) -> list[Fields]:
         rows: list[Fields] = [{} for _ in range(count)]
         for entry in fields:
             for values in rows:
-                values[entry.name] = self.take(entry.width, entry.signed)
+                values[entry.name] = self.take_field(entry)
         return rows
 
 
@@ -150,24 +153,27 @@ def payload_of(message: Message) -> bytes:
 
 
 def _remainders() -> list[int]:
-    """What each first byte of 24 bits leaves, when the generator is taken away bit by bit."""
-    remainders = []
-    for byte in range(256):
-        rest = byte << 16
-        for _ in range(8):
-            rest = rest << 1 ^ (0x1864CFB if rest & 0x800000 else 0)
-        remainders.append(rest)
+    """What each two bytes before 24 bits leave, when the generator is taken away bit by bit."""
+    remainders = [0] * 65536
+    for bit in range(16):
+        rest = 0x864CFB if bit == 0 else remainders[1 << bit - 1] << 1
+        remainders[1 << bit] = rest ^ (0x1864CFB if rest & 0x1000000 else 0)
+    for pair in range(65536):
+        low = pair & -pair
+        remainders[pair] = remainders[low] ^ remainders[pair ^ low]
     return remainders
 
 
 _REMAINDERS = _remainders()
 
 
+@lru_cache(1000)  # the same frames stand in many a text
 def crc24q(content: bytes) -> int:
-    """The checksum CRC-24Q: generator 1864CFB, start 0, no final exclusive-or."""
+    """The checksum CRC-24Q: generator 1864CFB, start 0, no final exclusive-or. Zeros before the
+    first byte change nothing, so the bytes are taken in pairs."""
     rest = 0
-    for byte in content:
-        rest = (rest << 8 & 0xFFFFFF) ^ _REMAINDERS[rest >> 16 ^ byte]
+    for pair in unpack(f">{(len(content) + 1) // 2}H", bytes(len(content) % 2) + content):
+        rest = (rest & 0xFF) << 16 ^ _REMAINDERS[rest >> 8 ^ pair]
     return rest
 
 

@@ -54,7 +54,7 @@ class Scene:
     words: list[str]
     status: int = 0
     given: str = os.devnull
-    # Whether clap looks for a word like one of these. What it can't look at for want of memory it goes on without.
+    # Whether clap looks for a word like one of these. What it can't look at with refused memory it goes on without.
     looks: bool = False
 
     def fault(self, whole: Ran, ran: Ran, with_later: bool) -> str | None:

@@ -1,5 +1,5 @@
 // Preloaded under a program: refuses the growth of memory whose number REFUSED_GROWTH says, counted
-// from 1, and each later one too where a `+` stands behind the number. At each refusal it writes a
+// from 1, and each later one too where a `+` stands after the number. At each refusal it writes a
 // byte to descriptor 9, so that the caller knows that the program met one.
 // It needs no header, so that the toolchain's own compiler builds it.
 

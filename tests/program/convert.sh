@@ -96,8 +96,17 @@ fails a_link_that_may_not_be_read 1 'cannot open closed'
 convert 1C folder </dev/null;                         fails a_directory 1 'read failed'
 convert 1C stdin <folder;                             fails a_directory_as_standard_input 1 'read failed'
 convert 1C "$(printf '\377')" </dev/null;             fails a_link_that_is_no_text 1 'read failed'
-"$program" convert $options --codes 1C stdin <&- >out 2>err; status=$?
-fails closed_standard_input 1 'read failed'
+
+# A closed standard input, in any order of the links. A file that is opened then has its descriptor, and isn't read for it.
+convert 1C stdin <&-;                                 fails closed_standard_input 1 'read failed'
+convert 1C stdin "$base" <&-;                         fails closed_standard_input_before_a_file 1 'read failed'
+convert 1C "$base" stdin <&-;                         fails closed_standard_input_after_a_file 1 'read failed'
+convert 1C stdin "$base" nowhere <&-;                 fails closed_standard_input_and_a_missing_link 1 'cannot open nowhere'
+convert 1C "$base" nowhere stdin <&-;                 fails a_missing_link_and_closed_standard_input 1 'cannot open nowhere'
+convert 1C stdin "$base" <folder;                     fails a_directory_as_standard_input_and_a_file 1 'read failed'
+convert 1C,2W "$base" <&-;                            leaves a_file_and_closed_standard_input 0 "$examples/base.rnx" base.report
+cat "$first" >pipe &
+convert 1C,2W,5X "$second" stdin <pipe;               leaves a_file_and_a_pipe 0 "$session.rnx" "$examples/session_links.report"
 
 # A link that fails after epochs have closed: these and their report are out. Both streams in one place: the file comes first.
 convert 1C,2W --window 2 "$examples/late.rtcm" folder </dev/null
@@ -255,4 +264,4 @@ leaves start_convert_with_a_limit_of_size 1 part part_err
 (ulimit -f 8; exec "$root/bin/rtcm2rinex" convert $options --codes 1C,2W,5X stdin) >out 2>err <"$session.rtcm"; status=$?
 leaves start_convert_followed_with_a_limit_of_size 1 part write_failed
 
-ends 115
+ends 122

@@ -3,10 +3,12 @@
 //   FAULT=E          the errno of what fails (28 if it isn't said); with 0 a write takes nothing
 //   TAKES_1=K        standard output takes K bytes in all and then fails; TAKES_2: standard error
 //   FAILS_READ=N     the read of this number and those after it fail
+//   FAILS_WRITE=N    the write to standard output of this number and those after it fail
 //   FAILS_OPEN=N     the open of this number fails
 //   PIECE=K          a read or a write passes K bytes at most
 //   INTERRUPTS=WORD  every second call is interrupted before it does anything: of the reads, the
-//                    writes or the opens
+//                    writes, the opens, or the writes to standard output (1) or standard error (2)
+//   IN_A_ROW=N       such a call is interrupted so many times in a row before one of them passes
 //   STOPS_READ=N     the program stops itself before the read of this number
 //   ENDLESS=N        each read gives one zero byte; that of number N and each after it also writes
 //                    a byte to descriptor 9
@@ -24,9 +26,9 @@ void *dlsym(void *where, const char *name);
 
 enum { INTERRUPTED = 4, NO_SPACE = 28, STOP = 19 };
 
-static long fault, takes[3], fails_read, fails_open, piece, stops_read, endless;
+static long fault, takes[3], fails_read, fails_write, fails_open, piece, stops_read, endless;
 static int interrupts; // the first letter of the word
-static long reads, opens, taken[3], calls;
+static long in_a_row, reads, writes, opens, taken[3], calls;
 static long (*next_read)(int, void *, size_t);
 static long (*next_write)(int, const void *, size_t);
 static int (*next_open)(const char *, int, unsigned);
@@ -49,11 +51,13 @@ static void prepare(void) {
     takes[1] = number("TAKES_1", -1);
     takes[2] = number("TAKES_2", -1);
     fails_read = number("FAILS_READ", 0);
+    fails_write = number("FAILS_WRITE", 0);
     fails_open = number("FAILS_OPEN", 0);
     piece = number("PIECE", 0);
     stops_read = number("STOPS_READ", 0);
     endless = number("ENDLESS", 0);
     interrupts = getenv("INTERRUPTS") ? getenv("INTERRUPTS")[0] : 0;
+    in_a_row = number("IN_A_ROW", 1);
 }
 
 static long fail(long error) {
@@ -63,7 +67,7 @@ static long fail(long error) {
 }
 
 static int is_interrupted(int kind) {
-    return interrupts == kind && ++calls % 2 == 1;
+    return interrupts == kind && ++calls % (in_a_row + 1) != 0;
 }
 
 long read(int descriptor, void *bytes, size_t count) {
@@ -82,9 +86,10 @@ long read(int descriptor, void *bytes, size_t count) {
 
 long write(int descriptor, const void *bytes, size_t count) {
     prepare();
-    if (is_interrupted('w')) return fail(INTERRUPTED);
+    if (is_interrupted('w') || is_interrupted('0' + descriptor)) return fail(INTERRUPTED);
     if (piece && count > piece) count = piece;
     if (descriptor != 1 && descriptor != 2) return next_write(descriptor, bytes, count);
+    if (descriptor == 1 && ++writes >= fails_write && fails_write) return fail(fault);
     if (takes[descriptor] >= 0) {
         size_t room = takes[descriptor] - taken[descriptor];
         if (room == 0 && count > 0) return fail(fault);

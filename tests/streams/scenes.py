@@ -30,14 +30,14 @@ NOTHING = os.devnull
 SECONDS = 60  # a run that takes longer does not end
 GATHERED = 65_536  # so many bytes of a file are gathered before a write
 READ_AT_ONCE = 32_768  # so many bytes of a link are read at once
+READ_IN_PIECES = 4096  # so many bytes of an input of `show` or `check` are read at once
+
+MOST_INTERRUPTIONS = 1000  # so often in a row an interrupted call is made again
 
 # What the program does not do yet. A scene of this list that fails is told, and isn't counted; one
 # that passes is counted, and then its line here is to go.
 NOT_YET = {
     "a limit of the file's size": "SIGXFSZ ends the program: no fault line, no status of its own",
-    "a closed standard input beside a file": "the file gets descriptor 0, and is read as stdin",
-    "interrupted reads": "an interrupted read is taken for a failed one",
-    "interrupted writes, of what isn't gathered": "an interrupted write is taken for a failed one",
 }
 
 
@@ -556,11 +556,15 @@ def no_read(left, good, of):
     return broken_off(left, good, ["read failed"], None if of.startswith("convert") else 0)
 
 
+def inputs(case):
+    """The files that are read."""
+    files = [word for word in case.words if word.startswith("/")]
+    return files + [case.given] if "stdin" in case.words else files
+
+
 def size_of_inputs(case):
     """The bytes of all inputs; -1 where there is none."""
-    files = [word for word in case.words if word.startswith("/")]
-    if "stdin" in case.words:
-        files.append(case.given)
+    files = inputs(case)
     return sum(map(os.path.getsize, files)) if files else -1
 
 
@@ -581,11 +585,39 @@ def _whole_read_fails():
         size = size_of_inputs(case)
         if size < 0:
             continue
-        reads = size // (READ_AT_ONCE if name.startswith("convert") else 4096) + 2
+        reads = size // (READ_AT_ONCE if name.startswith("convert") else READ_IN_PIECES) + 2
         for k in range(1, reads + 1):
             for fault in faults:
                 yield tried(name, f"read {k}, errno {fault}",
                             Disturbance({"FAILS_READ": k, "FAULT": fault}), no_read, of=name)
+
+
+@scene("a run makes so many reads and writes, and no more")
+def _calls_are_counted():
+    for name, case in CASES.items():
+        for call, count in [("read", reads_of(case)), ("write", writes_of(name))]:
+            if count:
+                fails = f"FAILS_{call.upper()}"
+                yield tried(name, f"{call} {count}", Disturbance({fails: count}), broken_off,
+                            faults=[f"{call} failed"])
+                yield tried(name, f"{call} {count + 1}", Disturbance({fails: count + 1}), same)
+
+
+def reads_of(case):
+    """Each input is read in whole pieces, and once more for its end. As a link, standard input is
+    looked at before."""
+    is_convert = case.words[0] == "convert"
+    piece = READ_AT_ONCE if is_convert else READ_IN_PIECES
+    sizes = [os.path.getsize(file) for file in inputs(case)]
+    return sum(-(-size // piece) + 1 for size in sizes) + (is_convert and "stdin" in case.words)
+
+
+def writes_of(name):
+    """A write when so much is gathered, and one for the rest; none is said where each write of a
+    conversion goes straight on."""
+    if name.startswith("convert") and not is_gathered(CASES[name]):
+        return None
+    return -(-len(GOOD[name].out) // GATHERED)
 
 
 @scene("links that can't be read: a folder, a file of /proc whose read fails")
@@ -661,30 +693,38 @@ def _short():
             yield tried(name, f"{piece} bytes", Disturbance({"PIECE": piece}), same)
 
 
-@scene("interrupted opens, and writes of a gathered file and report")
-def _interrupted_and_retried():
+@scene("every second read, write or open is interrupted")
+def _interrupted():
     for name in CASES:
-        for piece in [0, 1]:
-            yield tried(name, "opens", Disturbance({"INTERRUPTS": "opens", "PIECE": piece}), same)
-            if name.startswith("convert") and is_gathered(CASES[name]):
-                yield tried(name, f"writes of {piece or 'all'} bytes", Disturbance(
-                    {"INTERRUPTS": "writes", "PIECE": piece}), same)
+        for calls in ["reads", "writes", "opens"]:
+            for piece in [0, 1]:
+                yield tried(name, f"{calls}, {piece or 'all'} bytes", Disturbance(
+                    {"INTERRUPTS": calls, "PIECE": piece}), same)
 
 
-@scene("interrupted writes, of what isn't gathered")
-def _interrupted_writes():
+@scene("each read or write is interrupted 1,000 times in a row")
+def _interrupted_often():
     for name in CASES:
-        for piece in [0, 1]:
-            yield tried(name, f"{piece or 'all'} bytes", Disturbance(
-                {"INTERRUPTS": "writes", "PIECE": piece}), same)
+        for calls in ["reads", "writes"]:
+            yield tried(name, calls, interrupted(calls, MOST_INTERRUPTIONS), same)
 
 
-@scene("interrupted reads")
-def _interrupted_reads():
-    for name in CASES:
-        for piece in [0, 1]:
-            yield tried(name, f"{piece or 'all'} bytes", Disturbance(
-                {"INTERRUPTS": "reads", "PIECE": piece}), same)
+def interrupted(calls, count):
+    return Disturbance({"INTERRUPTS": calls, "IN_A_ROW": count})
+
+
+@scene("a read or a write is interrupted 1,001 times in a row")
+def _interrupted_too_often():
+    too_often = MOST_INTERRUPTIONS + 1
+    for name, case in CASES.items():
+        if size_of_inputs(case) >= 0:
+            yield tried(name, "reads", interrupted("reads", too_often), broken_off,
+                        faults=["read failed"], out=0)
+        yield tried(name, "the file", interrupted("1", too_often), broken_off,
+                    faults=["write failed"], out=0)
+        if GOOD[name].err:
+            yield tried(name, "the report", interrupted("2", too_often), told_in_part, status=1,
+                        err=0, out=out_without_report(name))
 
 
 # Without end.
@@ -771,7 +811,7 @@ def changed(words, file, before, change):
     _, answer = os.waitpid(running[0], os.WUNTRACED)
     if not os.WIFSTOPPED(answer):
         return f"status {os.waitstatus_to_exitcode(answer)} before read {before}"
-    seen = (before - 1) * (READ_AT_ONCE if words[0] == "convert" else 4096)
+    seen = (before - 1) * (READ_AT_ONCE if words[0] == "convert" else READ_IN_PIECES)
     due = changed_text(change, text, seen)
     if change == "vanishes":
         os.remove(link)

@@ -1,4 +1,5 @@
 mod CodeListLemmas
 mod LawLemmas
 mod MomentTextLemmas
+mod RefusedLemmas
 mod ShownLemmas

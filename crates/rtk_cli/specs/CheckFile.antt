@@ -23,7 +23,7 @@ SaysYes text line =
     (epochs : ℕ) × (satellites : ℕ) × HoldsTable text epochs satellites × (line ≡ valid_text epochs satellites)
 
 -- a no: the text is the text of no well-formed table, and the line tells its first fault, which is
--- not missing memory
+-- not refused memory
 abbrev pub SaysNo : List ℕ → List ℕ → Type 0
 SaysNo text line =
     (fault : CheckFault) × IsFault text fault × (fault.cause ≢ OutOfMemory) × IsWithoutTable text fault.cause

@@ -4,3 +4,4 @@ pub mod CodeList
 pub mod MomentText
 pub mod ConvertWords
 pub mod ReadLimits
+pub mod Interrupts

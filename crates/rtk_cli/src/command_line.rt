@@ -6,7 +6,8 @@ ghost use Rattle.rtk_cli.specs.Steps.ClapStatus.{IsStatusOf};
 ghost use Rattle.rtk_cli.specs.Words.{HasStatus, IsWithinLimits};
 ghost use Rattle.rtk_cli.specs.declared.words.WordsFault.TheVariants.{Clap};
 
-use crate::convert_words::{Options, conversion};
+use crate::convert_words::conversion;
+use crate::options::Options;
 use crate::words::{Job, WordsFault};
 use clap::error::ErrorKind;
 use clap::{Arg, ArgAction, ArgMatches, Command, Error, value_parser};
@@ -166,15 +167,21 @@ fn missing_word_fault(alloc: Global, program: &mut Command<'_>) -> WordsFault
     }
 }
 
-// The values of the options of `convert`. clap refuses words that lack one, so there is always one.
+// The values of the options of `convert`. clap refuses words that lack one, or whose station or
+// window is out of range, so all of them are always there.
 fn option_values<'a>(matches: &ArgMatches<'a>) -> Option<Options<'a>> {
+    let station = matches.get_one::<u16>("station")?;
+    let window = matches.get_one::<u16>("window")?;
+    if station > 4095 || window < 2 || window > 4096 {
+        return None;
+    }
     Some(Options {
-        station: matches.get_one::<u16>("station")?,
+        station,
         near: matches.get_str("near")?,
         made: matches.get_str("made")?,
         marker: matches.get_str("marker")?,
         codes: matches.get_str("codes")?,
-        window: matches.get_one::<u16>("window")?,
+        window,
     })
 }
 
@@ -195,6 +202,7 @@ fn check_job<'a>(matches: &ArgMatches<'a>) -> Option<Job<'a>>
 
 /// What the words of a command line ask for. They begin after the name of the program.
 pub fn job<'a>(alloc: Global, words: &'a [&'a str]) -> Result<Job<'a>, WordsFault>
+    // That it gives up only without memory show the rows `job ..` of tests/calls.
     ensures limits { IfOk result IsWithinLimits }
     ensures status { IfErr result HasStatus }
 {

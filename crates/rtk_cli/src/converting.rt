@@ -7,14 +7,15 @@ ghost use Rattle.rtk_cli.specs.Converting.{status_of};
 ghost use Rattle.rtk_cli.specs.Steps.ReadLimits.{most_reads, read_at_once};
 
 use crate::exit_status::{DONE, FAILED, REFUSED, fail, fail_to_open, refuse};
-use crate::files::{Capture, Reads, Writes};
+use crate::files::{Capture, Reads, Writes, is_standard_input_readable, open_capture};
+use crate::resuming::Resumed;
 use crate::words::{BadWords, STDIN, ToolFault};
 use rtk_convert::{ConvertFault, Counts, Setup};
 use rtk_frame::{Sink, Source};
 use std::alloc::Global;
 use std::fs::Files;
+use std::io;
 use std::io::{BufReader, BufWriter, Write};
-use std::{fs, io};
 
 /// How many bytes of a capture are read at once. It is a multiple of the 512 that a conversion asks
 /// for, so that a file gives it 512 at a time, up to its end.
@@ -28,13 +29,15 @@ const GATHERED: usize = 65_536;
 const MOST_READS: u64 = 1_000_000_000;
 
 /// A link of the program: a file or standard input, read ahead.
-type Reader<R> = Reads<BufReader<Capture<<R as Files>::File, <R as Input>::Reader>>>;
+type Reader<R> = Reads<BufReader<Resumed<Capture<<R as Files>::File, <R as Input>::Reader>>>>;
 
 // Why the links are not open.
 enum OpenFault<'a> {
     // There is no such file, or it may not be read.
     NotOpened { name: &'a str },
     OutOfMemory,
+    // All files are open, and standard input was closed before.
+    NotReadable,
 }
 
 fn open_link<'a, R: Files + Input + AllocGlobal>(
@@ -43,18 +46,17 @@ fn open_link<'a, R: Files + Input + AllocGlobal>(
 ) -> Result<Reader<R>, OpenFault<'a>>
     ensures { IfOk result (λ link. reader_capacity link.inner ≡ read_at_once) }
 {
-    let link = if name == STDIN {
-        Capture::Stdin(rt.reader())
-    } else {
-        let Ok(file) = fs::open(rt, name) else {
-            return Err(OpenFault::NotOpened { name });
-        };
-        Capture::File(file)
+    let Some(capture) = open_capture(rt, name) else {
+        return Err(OpenFault::NotOpened { name });
     };
-    match BufReader::with_capacity(rt.alloc(), READ_AT_ONCE, link) {
+    match BufReader::with_capacity(rt.alloc(), READ_AT_ONCE, capture) {
         Ok(reader) => Ok(Reads::new(reader)),
         Err(_) => Err(OpenFault::OutOfMemory),
     }
+}
+
+fn has_standard_input(names: &[&str]) -> bool {
+    names.iter().any(|name| *name == STDIN)
 }
 
 // All links, open; none of them is read.
@@ -62,12 +64,16 @@ fn open_links<'a, R: Files + Input + AllocGlobal>(
     rt: &R,
     names: &[&'a str],
 ) -> Result<Vec<Reader<R>>, OpenFault<'a>> {
+    let is_readable = !has_standard_input(names) || is_standard_input_readable(rt);
     let mut links = Vec::new(rt.alloc());
     for name in names {
         let link = open_link(rt, *name)?;
         if links.push(link).is_err() {
             return Err(OpenFault::OutOfMemory);
         }
+    }
+    if !is_readable {
+        return Err(OpenFault::NotReadable);
     }
     Ok(links)
 }
@@ -78,8 +84,8 @@ fn sink<W: Write + Drop>(
     alloc: Global,
     room: usize,
     to: W,
-) -> Result<Writes<BufWriter<W>>, ToolFault> {
-    match BufWriter::with_capacity(alloc, room, to) {
+) -> Result<Writes<BufWriter<Resumed<W>>>, ToolFault> {
+    match BufWriter::with_capacity(alloc, room, Resumed::new(to)) {
         Ok(writer) => Ok(Writes::new(writer)),
         Err(_) => Err(ToolFault::OutOfMemory),
     }
@@ -134,8 +140,9 @@ pub(crate) fn convert_links<R: Files + Input + Print + Eprint + AllocGlobal, W: 
         Ok(links) => links,
         Err(OpenFault::NotOpened { name }) => return fail_to_open(rt, name),
         Err(OpenFault::OutOfMemory) => return fail(rt, ToolFault::OutOfMemory),
+        Err(OpenFault::NotReadable) => return fail(rt, ToolFault::Input),
     };
-    let room = if names.iter().any(|name| *name == STDIN) {
+    let room = if has_standard_input(names) {
         0
     } else {
         GATHERED

@@ -2,7 +2,9 @@
 
 ghost use Rattle.std.specs.Prelude.{◌≡◌, ◌≤◌};
 
+use crate::files::standard_output;
 use crate::words::{BadWords, ToolFault};
+use rtk_frame::write_all;
 
 /// The work is done.
 pub(crate) const DONE: u8 = 0;
@@ -48,7 +50,7 @@ pub(crate) fn print_clap_text<R: Print + Eprint>(rt: &R, text: &str, status: u8)
         let _told = eprint!(rt; "{text}");
         return REFUSED;
     }
-    match print!(rt; "{text}") {
+    match write_all(&mut standard_output(rt), text.as_bytes()) {
         Ok(()) => DONE,
         Err(_) => fail(rt, ToolFault::Output),
     }

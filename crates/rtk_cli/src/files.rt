@@ -3,9 +3,12 @@
 ghost use Rattle.std.specs.Prelude.{◌≡◌, None, true, false, is_err};
 ghost use Rattle.rtk_frame.specs.Stream.{failures_after};
 
+use crate::resuming::Resumed;
+use crate::words::STDIN;
 use rtk_frame::{Sink, Source, StreamFault};
-use std::io;
-use std::io::{Read, Write};
+use std::fs::Files;
+use std::io::{Print, Printer, Read, Write};
+use std::{fs, io};
 
 /// A capture of the program: a file, or standard input.
 #[derive(Drop)]
@@ -21,6 +24,32 @@ impl<F: Read + Drop, I: Read + Drop> Read for Capture<F, I> {
             Capture::Stdin(stdin) => stdin.read(buf),
         }
     }
+}
+
+/// The capture of this name, open; the word `stdin` is standard input. `None` if there is no such
+/// file, or it may not be read.
+pub(crate) fn open_capture<R: Files + Input>(
+    rt: &R,
+    name: &str,
+) -> Option<Resumed<Capture<R::File, R::Reader>>> {
+    if name == STDIN {
+        return Some(Resumed::new(Capture::Stdin(rt.reader())));
+    }
+    match fs::open(rt, name) {
+        Ok(file) => Some(Resumed::new(Capture::File(file))),
+        Err(_) => None,
+    }
+}
+
+/// Can standard input be read? This is asked before a file is opened, which would be given the
+/// descriptor of a closed one. The read has no room, so it takes no byte.
+pub(crate) fn is_standard_input_readable<R: Input>(rt: &R) -> bool {
+    Resumed::new(rt.reader()).read(&mut []).is_ok()
+}
+
+/// Standard output as a sink, which gathers nothing.
+pub(crate) fn standard_output<R: Print>(rt: &R) -> Writes<Resumed<Printer<'_, R>>> {
+    Writes::new(Resumed::new(io::writer(rt)))
 }
 
 /// A reader of std as a source. Nothing is known of its bytes; its calls are counted.

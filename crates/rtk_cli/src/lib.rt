@@ -11,7 +11,7 @@
 //! }
 //! ```
 //!
-//! Its tests: crates/rtk_tests_cli/src/cli.rt and cli/, and tests/program
+//! Its tests: tests/values/src/cli.rt.in and cli/, and tests/program
 #![tactic(auto)]
 
 mod checking;
@@ -25,7 +25,9 @@ mod hex_input;
 mod input;
 pub mod laws;
 mod moment_text;
+mod options;
 mod payload_line;
+mod resuming;
 mod running;
 mod showing;
 mod words;

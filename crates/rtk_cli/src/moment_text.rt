@@ -1,6 +1,6 @@
 //! Moments as the words of a command line write them.
 
-ghost use Rattle.std.specs.Prelude.{◌≡◌, ◌≢◌, ℕ, ◌+◌, ◌/◌, ◌%◌, ◌<◌, ◌≤◌, MatchOption};
+ghost use Rattle.std.specs.Prelude.{◌≡◌, ◌≢◌, ℕ, ◌+◌, ◌/◌, ◌%◌, ◌<◌, ◌≤◌, IfSome, MatchOption};
 ghost use Rattle.rtk_obs.specs.declared.time.Civil.{Civil};
 ghost use Rattle.rtk_obs.specs.declared.time.TheConstants.{LAST_MS};
 ghost use Rattle.rtk_cli.specs.Steps.MomentText.{moment_text, HasDigits, WritesMoment};
@@ -73,7 +73,9 @@ fn reading_in_text(text: &[u8]) -> Option<Civil>
 /// `None` exactly if the text has another form, the day or the time of day doesn't exist, or the
 /// moment lies outside `GpsMs`.
 pub(crate) fn moment_of(text: &[u8]) -> Option<GpsMs>
-    ensures { MatchOption result ((t : ℕ) → t ≤ LAST_MS → ¬ (WritesMoment text.now t)) (λ t. WritesMoment text.now t) }
+    ensures moment { MatchOption result ((t : ℕ) → t ≤ LAST_MS → ¬ (WritesMoment text.now t)) (λ t. WritesMoment text.now t) }
+    ensures bound { IfSome result (λ t. t ≤ LAST_MS) }
+    ensures whole_second { IfSome result (λ t. t % 1000 ≡ 0) }
 {
     let Some(reading) = reading_in_text(text) else {
         return None;

@@ -7,13 +7,12 @@ use crate::checking::check_file;
 use crate::command_line::job;
 use crate::converting::convert_links;
 use crate::exit_status::{DONE, NOT_VALID, REFUSED, fail, fail_to_open, print_clap_text, refuse};
-use crate::files::{Reads, Writes};
+use crate::files::{Reads, open_capture, standard_output};
 use crate::showing::show;
-use crate::words::{Job, STDIN, ToolFault, WordsFault};
+use crate::words::{Job, ToolFault, WordsFault};
 use std::env::Env;
 use std::fs::Files;
 use std::io::{ErrorKind, Write};
-use std::{fs, io};
 
 // The words after the name of the program. A word that is no text (UTF-8) can't be read.
 fn words_of<R: Env + AllocGlobal>(rt: &R) -> Result<Vec<String>, ToolFault> {
@@ -30,37 +29,27 @@ fn words_of<R: Env + AllocGlobal>(rt: &R) -> Result<Vec<String>, ToolFault> {
     Ok(words)
 }
 
-fn show_file<R: Files + Input + Print + Eprint + AllocGlobal>(rt: &R, hex: bool, file: &str) -> u8
+fn show_named<R: Files + Input + Print + Eprint + AllocGlobal>(rt: &R, hex: bool, name: &str) -> u8
     ensures { result ≤ REFUSED }
 {
-    let mut out = Writes::new(io::writer(rt));
-    let shown = if file == STDIN {
-        show(rt.alloc(), &mut Reads::new(rt.reader()), &mut out, hex)
-    } else {
-        let Ok(capture) = fs::open(rt, file) else {
-            return fail_to_open(rt, file);
-        };
-        show(rt.alloc(), &mut Reads::new(capture), &mut out, hex)
+    let Some(capture) = open_capture(rt, name) else {
+        return fail_to_open(rt, name);
     };
-    match shown {
+    let mut reader = Reads::new(capture);
+    match show(rt.alloc(), &mut reader, &mut standard_output(rt), hex) {
         Ok(_) => DONE,
         Err(fault) => fail(rt, fault),
     }
 }
 
-fn check_named<R: Files + Input + Print + Eprint + AllocGlobal>(rt: &R, file: &str) -> u8
+fn check_named<R: Files + Input + Print + Eprint + AllocGlobal>(rt: &R, name: &str) -> u8
     ensures { result ≤ NOT_VALID }
 {
-    let mut out = Writes::new(io::writer(rt));
-    let checked = if file == STDIN {
-        check_file(rt.alloc(), &mut Reads::new(rt.reader()), &mut out)
-    } else {
-        let Ok(text) = fs::open(rt, file) else {
-            return fail_to_open(rt, file);
-        };
-        check_file(rt.alloc(), &mut Reads::new(text), &mut out)
+    let Some(text) = open_capture(rt, name) else {
+        return fail_to_open(rt, name);
     };
-    match checked {
+    let mut reader = Reads::new(text);
+    match check_file(rt.alloc(), &mut reader, &mut standard_output(rt)) {
         Ok(true) => DONE,
         Ok(false) => NOT_VALID,
         Err(fault) => fail(rt, fault),
@@ -76,7 +65,7 @@ fn run_words<R: Files + Input + Print + Eprint + AllocGlobal, W: Write + Drop>(
 {
     match job(rt.alloc(), words) {
         Ok(Job::Convert { setup, links }) => convert_links(rt, report, setup, links.as_slice()),
-        Ok(Job::Show { hex, file }) => show_file(rt, hex, file),
+        Ok(Job::Show { hex, file }) => show_named(rt, hex, file),
         Ok(Job::Check { file }) => check_named(rt, file),
         Err(WordsFault::Clap { text, status }) => print_clap_text(rt, text.as_str(), status),
         Err(WordsFault::Bad { line }) => refuse(rt, line),

@@ -54,12 +54,6 @@ pub enum BadWords {
     /// The links are not 1 to 16, or standard input stands twice.
     #[error("bad links")]
     Links,
-    /// The station is over 4,095; clap has refused it before.
-    #[error("bad --station")]
-    Station,
-    /// The window is not 2 to 4,096; clap has refused it before.
-    #[error("bad --window")]
-    Window,
 }
 
 /// Why the words give no job.

@@ -16,5 +16,6 @@ mod EqualityLemmas
 mod RisingLemmas
 mod MergesLemmas
 mod PreferredLemmas
+mod FirstLemmas
 mod DatedLemmas
 mod PositionLemmas

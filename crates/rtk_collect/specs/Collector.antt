@@ -43,3 +43,9 @@ pub record IsLeftView (r : LeftView) : Type 0 where
   pub falls : EpochsFall r.sets
   pub fits_1005 : ForSome r.arp1005 arp1005_spec.IsValid
   pub fits_1006 : ForSome r.arp1006 arp1006_spec.IsValid
+
+-- what is left of a window keeps the station messages that are kept of these arrivals in a window
+-- of n places
+pub record KeepsStations (r : LeftView) (n : ℕ) (arrivals : List Arrival) : Type 0 where
+  pub arp1005 : option_map Arp1005 r.arp1005 ≡ station n 1005 arrivals
+  pub arp1006 : option_map Arp1006 r.arp1006 ≡ station n 1006 arrivals

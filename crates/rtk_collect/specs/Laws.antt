@@ -1,5 +1,5 @@
 -- Laws of late arrivals, kept cells and closed epochs.
-use Rattle.std.specs.Prelude.{◌≡◌, ◌↔◌, ◌⊎◌, ℕ, ◌-◌, ◌<◌, ◌≤◌, Bool, true, false, not, List, [], ◌∷◌, ◌++◌, length, map, take, drop, All, None, Some, if◌then◌else◌}
+use Rattle.std.specs.Prelude.{◌≡◌, ◌↔◌, ◌⊎◌, ℕ, ◌-◌, ◌<◌, ◌≤◌, Bool, true, false, not, List, [], ◌∷◌, ◌++◌, length, map, take, drop, All, Option, None, Some, option_and_then, ◌&&◌, ◌==◌, if◌then◌else◌}
 use Rattle.std.specs.Bool.{Decides}
 use Rattle.rtk_message.specs.declared.arp1005.Arp1005.{Arp1005 as Message1005}
 use Rattle.rtk_message.specs.declared.arp1006.Arp1006.{Arp1006 as Message1006}
@@ -11,7 +11,7 @@ use Rattle.rtk_obs.specs.declared.code.Code.{Code}
 use Rattle.rtk_collect.specs.declared.conflicts.SatelliteCode.{SatelliteCode}
 use Rattle.rtk_collect.specs.declared.offer.Offer.TheVariants.{Taken}
 use Rattle.rtk_collect.specs.Key.{key, KeysRise}
-use Rattle.rtk_collect.specs.EpochSet.{EpochsFall, EpochSetView, joined, cell_of, first_entry, conflicts}
+use Rattle.rtk_collect.specs.EpochSet.{EpochsFall, EpochSetView, joined, cell_under, cell_of, first_entry, conflicts}
 use Rattle.rtk_collect.specs.Equal.{equal_cells, equal_1005, equal_1006, equal_stations, is_first}
 use Rattle.rtk_collect.specs.Arrival.{Arrival, At, message_of, cells_of}
 use Rattle.rtk_collect.specs.Late.{epochs, is_excused, late}
@@ -176,3 +176,20 @@ FirstIsPreferred = (satellite : ℕ) (code : Code) (cells : List CellEntry) → 
 -- bodies are equal exactly if they are the same
 abbrev pub EqualityDecides : Type 0
 EqualityDecides = ((a b : Cell) → Decides (equal_cells a b) (a ≡ b)) × ((a b : Message1005) → Decides (equal_1005 a b) (a ≡ b)) × ((a b : Message1006) → Decides (equal_1006 a b) (a ≡ b))
+
+-- the earlier cell, if there is one, else the later one
+abbrev pub earlier : Option CellEntry → Option CellEntry → Option CellEntry
+earlier None later = later
+earlier (Some c) later = Some c
+
+-- the cell with this key of the first arrival of this epoch that has one and was not late
+abbrev pub first_taken : ℕ → ℕ → ℕ → List Arrival → Option CellEntry
+first_taken n e k [] = None
+first_taken n e k (At None m ∷ before) = first_taken n e k before
+first_taken n e k (At (Some x) m ∷ before) =
+    earlier (first_taken n e k before) (if (x == e) && not (late n (At (Some x) m) before) then cell_under k (cells_of m) else None)
+
+-- under each key of an epoch the cell of the first arrival with one that was not late is kept, also
+-- if later ones differ from it
+abbrev pub FirstIsKept : Type 0
+FirstIsKept = (n e k : ℕ) (arrivals : List Arrival) → option_and_then (cell_under k) (cells_at e (kept n arrivals)) ≡ first_taken n e k arrivals

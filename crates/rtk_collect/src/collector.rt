@@ -1,11 +1,12 @@
 //! The collector: a window over the epochs of one station's messages.
 
-ghost use Rattle.std.specs.Prelude.{◌≡◌, ◌≤◌, List, [], length, IfOk, OnErr, None};
+ghost use Rattle.std.specs.Prelude.{◌≡◌, ◌≤◌, List, [], length, take, IfOk, OnErr, None};
 ghost use Rattle.rtk_message.specs.Arp1005 as arp1005_spec;
 ghost use Rattle.rtk_message.specs.Arp1006 as arp1006_spec;
 ghost use Rattle.rtk_message.specs.declared.message.Message.TheVariants.{Arp1005 as MessageArp1005, Arp1006 as MessageArp1006};
 ghost use Rattle.rtk_collect.specs.Arrival.{Arrival, At};
-ghost use Rattle.rtk_collect.specs.Collector.{RepresentsArrivals};
+ghost use Rattle.rtk_collect.specs.Accepted.{kept};
+ghost use Rattle.rtk_collect.specs.Collector.{RepresentsArrivals, KeepsStations};
 ghost use Rattle.rtk_collect.specs.StationPosition.{IsPosition, IsPositionOf};
 ghost use Rattle.rtk_collect.specs.Offered.{AnswersArrival, ClosesBelow, ClosesLeast, LeastNeverFalls, WouldBeTaken};
 
@@ -55,7 +56,8 @@ impl Collector {
     pub fn new(alloc: Global, places: usize) -> Collector
         requires low { 2 ≤ places }
         requires high { places ≤ 4096 }
-        ensures { result ≡ record { size = places; sets = []; arp1005 = None; arp1006 = None } }
+        ensures empty { result ≡ record { size = places; sets = []; arp1005 = None; arp1006 = None } }
+        ensures history { RepresentsArrivals result [] }
     {
         Collector {
             alloc,
@@ -76,6 +78,7 @@ impl Collector {
     pub fn offer(&mut self, dated: Dated) -> Result<Offer, AllocError>
         ensures size { self.new.size ≡ self.old.size }
         ensures bound { length self.new.sets ≤ self.new.size }
+        // That it does not give up: rows offer of tests/calls.
         ensures answer { IfOk result (λ offer. AnswersArrival self.old dated offer self.new) }
         ensures closed { IfOk result (λ offer. ClosesBelow offer self.new.sets) }
         ensures least_closes { IfOk result (λ offer. ClosesLeast self.old.size self.old.sets offer) }
@@ -144,6 +147,8 @@ impl Collector {
         ensures sets { result.sets ≡ self.sets }
         ensures arp1005 { result.arp1005 ≡ self.arp1005 }
         ensures arp1006 { result.arp1006 ≡ self.arp1006 }
+        ensures epochs { (before : List Arrival) → RepresentsArrivals self before → result.sets ≡ take self.size (kept self.size before) }
+        ensures stations { (before : List Arrival) → RepresentsArrivals self before → KeepsStations result self.size before }
     {
         Left::new(self.sets, self.stations)
     }

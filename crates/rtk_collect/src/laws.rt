@@ -3,7 +3,7 @@
 //! Each function here does nothing. Its contract is the law, and a caller that calls it may cite
 //! it; proofs of other crates cite the same facts from `proofs/PublicLaws.antt`.
 
-ghost use Rattle.rtk_collect.specs.Laws.{LateArrivalsChangeNothing, ClosedOnlyGrow, ClosedFall, ClosedAfter, ClosedAreRest, ClosedAreCounted, FirstIsPreferred, ExcusedIsKept, StationsAreFinal, KeptAreTaken, SetDecides, LateLeavesKept, InTimeJoinsKept, KeptOpensNone, GreaterOpens, LesserJoinsOthers, SameJoins, KeptFall, KeptRise, OrderedAreSame, KeptAreFew, KeptAreGreatest, OpeningConflictsNot, ClosingConflictsNot, KeysAreDistinct, EqualityDecides};
+ghost use Rattle.rtk_collect.specs.Laws.{LateArrivalsChangeNothing, ClosedOnlyGrow, ClosedFall, ClosedAfter, ClosedAreRest, ClosedAreCounted, FirstIsPreferred, ExcusedIsKept, StationsAreFinal, KeptAreTaken, SetDecides, LateLeavesKept, InTimeJoinsKept, KeptOpensNone, GreaterOpens, LesserJoinsOthers, SameJoins, KeptFall, KeptRise, OrderedAreSame, KeptAreFew, KeptAreGreatest, OpeningConflictsNot, ClosingConflictsNot, KeysAreDistinct, EqualityDecides, FirstIsKept};
 
 /// If all late arrivals are deleted, a further arrival is late exactly if it was late before the
 /// deletion, and what is kept is the same.
@@ -67,6 +67,12 @@ pub fn kept_epochs_are_ordered()
 pub fn epochs_are_bounded()
     ensures greatest { KeptAreGreatest }
     ensures cells { KeptAreFew }
+{}
+
+/// What is kept under a key of an epoch is the cell of the first arrival that has one and was not
+/// late, also if later arrivals have another.
+pub fn first_is_kept()
+    ensures { FirstIsKept }
 {}
 
 /// If a message opens its epoch, none of its cells conflicts; so none conflicts if it closes one.

@@ -1,9 +1,10 @@
 //! What is left of a window at its end.
 
-ghost use Rattle.std.specs.Prelude.{◌≡◌, ◌<◌, [], ◌∷◌, ◌++◌, IfSome, IfNone, All};
-ghost use Rattle.rtk_collect.specs.Collector.{IsLeftView};
+ghost use Rattle.std.specs.Prelude.{◌≡◌, ℕ, ◌<◌, List, [], ◌∷◌, ◌++◌, IfSome, IfNone, All};
+ghost use Rattle.rtk_collect.specs.Arrival.{Arrival};
+ghost use Rattle.rtk_collect.specs.Collector.{IsLeftView, KeepsStations};
 ghost use Rattle.rtk_collect.specs.Offered.{NotBelow};
-ghost use Rattle.rtk_collect.specs.StationPosition.{IsPosition};
+ghost use Rattle.rtk_collect.specs.StationPosition.{IsPosition, IsPositionOf};
 
 use crate::epoch_set::EpochSet;
 use crate::stations::{Stations, position};
@@ -47,6 +48,7 @@ impl Left {
         ensures stays { IfNone result (self.new ≡ self.old) }
         ensures arp1005 { self.new.arp1005 ≡ self.old.arp1005 }
         ensures arp1006 { self.new.arp1006 ≡ self.old.arp1006 }
+        ensures stations { (n : ℕ) (arrivals : List Arrival) → KeepsStations self.old n arrivals → KeepsStations self.new n arrivals }
     {
         self.sets.pop_back()
     }
@@ -54,7 +56,8 @@ impl Left {
     /// The position of the first 1006, else of the first 1005, else zeros, with the height of the
     /// 1006, else zero.
     pub fn station(&self) -> Position
-        ensures { IsPosition self.now.arp1005 self.now.arp1006 result }
+        ensures position { IsPosition self.now.arp1005 self.now.arp1006 result }
+        ensures kept { (n : ℕ) (arrivals : List Arrival) → KeepsStations self.now n arrivals → IsPositionOf n arrivals result }
     {
         position(self.stations)
     }

@@ -16,7 +16,7 @@
 //! }
 //! ```
 //!
-//! Its tests: crates/rtk_tests_input/src/collect.rt and collect/
+//! Its tests: tests/values/src/collect.rt.in and collect/
 #![tactic(auto)]
 
 mod collector;
@@ -36,8 +36,9 @@ pub use dated::Dated;
 pub use epoch_set::EpochSet;
 pub use laws::{
     cells_join_epochs, closed_epochs_are_the_rest, closed_epochs_only_grow, epochs_are_bounded,
-    equality_decides, first_is_preferred, kept_epochs_are_ordered, kept_epochs_of_arrivals,
-    late_arrivals_change_nothing, openings_do_not_conflict, set_decides, stations_are_final,
+    equality_decides, first_is_kept, first_is_preferred, kept_epochs_are_ordered,
+    kept_epochs_of_arrivals, late_arrivals_change_nothing, openings_do_not_conflict, set_decides,
+    stations_are_final,
 };
 pub use left::Left;
 pub use offer::Offer;

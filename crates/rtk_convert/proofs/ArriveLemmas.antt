@@ -1,7 +1,6 @@
 -- One arrival: what the conversion represents after it, and what was written.
 use Rattle.std.proofs.Common.{◌≡◌, ℕ, Bool, List, [], ◌∷◌, ◌++◌, Option, None, Some, refl, ap, sym, subst, ◌∙◌, ℤ, pos, inl}
 use Rattle.std.specs.Prelude.{option_to_list, option_map}
-use Rattle.std.proofs.Math.Seq.{take-nil}
 use Rattle.rtk_message.specs.declared.message.Message.{Message}
 use Rattle.rtk_message.specs.declared.message.Message.TheVariants.{Arp1005, Arp1006}
 use Rattle.rtk_message.specs.declared.arp1005.Arp1005.{Arp1005 as Message1005}
@@ -220,19 +219,6 @@ breaks-refused {s} {w} {c} {k} {b} {link} payload {fault} {o} {report} comes par
     one = inl refl;
   },
 )
-
--- ---- a new conversion
-
-empty_window : ℕ → CollectorView
-empty_window n = record { size = n; sets = []; arp1005 = None; arp1006 = None }
-
-holds-empty : (n : ℕ) → RepresentsArrivals (empty_window n) []
-unfolding empty_window
-holds-empty n = record { sets = sym (take-nil n); arp1005 = refl; arp1006 = refl }
-
-pub holds-new : (w : CollectorView) (n : ℕ) → w ≡ record { size = n; sets = []; arp1005 = None; arp1006 = None } → RepresentsArrivals w []
-unfolding empty_window
-holds-new w n e = subst (λ (x : CollectorView). RepresentsArrivals x []) (sym e) (holds-empty n)
 
 -- whether it has stopped is no part of what it represents
 pub arrives-still : {s s' : SetupView} {w w' : CollectorView} {c c' : RecordsView} {k k' : Counts} {b b' d d' : Bool} {link : ℕ} (payload : List ℕ) {o o' : Written}

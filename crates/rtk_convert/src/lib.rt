@@ -33,7 +33,7 @@
 //! }
 //! ```
 //!
-//! Its tests: crates/rtk_tests_convert/src/convert.rt and convert/
+//! Its tests: tests/values/src/convert.rt.in and convert/
 #![tactic(auto)]
 
 mod conversion;

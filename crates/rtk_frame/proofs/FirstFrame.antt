@@ -5,7 +5,7 @@ use mathlib.Core.List.{map-append}
 use Rattle.rtk_frame.specs.Frame.{payload_length, payload_of, begins_frame, begins_partial}
 use Rattle.rtk_frame.specs.Frames.{Frame, end_of, payloads, frame_at, frames_from, final_from, pending_from, frames, final_frames, pending, shifted, IsFirst}
 use Rattle.rtk_frame.proofs.Fronts.{frame_is_whole}
-use Rattle.rtk_frame.proofs.Pieces.{frames_frame, frames_not, final_frame, final_partial, final_not, pending_frame, pending_not, frames_later, final_later, frames_cut, final_cut, pending_cut}
+use Rattle.rtk_frame.proofs.Pieces.{frames_frame, frames_not, final_frame, final_partial, final_not, pending_frame, pending_not, frames_shifted, final_shifted, frames_cut, final_cut, pending_cut}
 
 -- ---- bytes of the frame before are skipped
 frames_skip : (n p : ℕ) (s : List ℕ) → n ≤ length s → frames_from n p s ≡ frames_from 0 (p + n) (drop n s)
@@ -71,7 +71,7 @@ unfolding FramesAfter
 frames_after b f others e =
     let z : end_of f - 0 ≡ end_of f = omega arith in
     (frames_after_from b 0 f others e).1 ∙ ap (λ n. frames_from 0 (end_of f) (drop n b)) z
-    ∙ ap (λ n. frames_from 0 n (drop (end_of f) b)) (sym (add-zero (end_of f))) ∙ frames_later (drop (end_of f) b) 0 0 (end_of f)
+    ∙ ap (λ n. frames_from 0 n (drop (end_of f) b)) (sym (add-zero (end_of f))) ∙ frames_shifted (drop (end_of f) b) 0 0 (end_of f)
 
 -- ---- the final ones, and the pending bytes
 FinalAfter : List ℕ → ℕ → Type 0
@@ -111,17 +111,17 @@ final_after b f others e =
     let z : end_of f - 0 ≡ end_of f = omega arith in
     let r = final_after_from b 0 f others e in (
       r.1 ∙ ap (λ n. final_from 0 (end_of f) (drop n b)) z
-          ∙ ap (λ n. final_from 0 n (drop (end_of f) b)) (sym (add-zero (end_of f))) ∙ final_later (drop (end_of f) b) 0 0 (end_of f),
+          ∙ ap (λ n. final_from 0 n (drop (end_of f) b)) (sym (add-zero (end_of f))) ∙ final_shifted (drop (end_of f) b) 0 0 (end_of f),
       r.2 ∙ ap (λ n. pending_from 0 (drop n b)) z,
     )
 
 -- ---- over payloads alone
-payloads_later : (n : ℕ) (fs : List Frame) → payloads (map (shifted n) fs) ≡ payloads fs
-payloads_later n [] = refl
-payloads_later n (f ∷ fs) = ap (λ z. f.payload ∷ z) (payloads_later n fs)
+payloads_shifted : (n : ℕ) (fs : List Frame) → payloads (map (shifted n) fs) ≡ payloads fs
+payloads_shifted n [] = refl
+payloads_shifted n (f ∷ fs) = ap (λ z. f.payload ∷ z) (payloads_shifted n fs)
 
 payloads_of_cut : (fs gs hs : List Frame) (n : ℕ) → fs ≡ gs ++ map (shifted n) hs → payloads fs ≡ payloads gs ++ payloads hs
-payloads_of_cut fs gs hs n e = ap payloads e ∙ map-append (λ (f : Frame). f.payload) gs (map (shifted n) hs) ∙ ap (λ z. payloads gs ++ z) (payloads_later n hs)
+payloads_of_cut fs gs hs n e = ap payloads e ∙ map-append (λ (f : Frame). f.payload) gs (map (shifted n) hs) ∙ ap (λ z. payloads gs ++ z) (payloads_shifted n hs)
 
 pub final_payloads_cut : (b c : List ℕ) → payloads (final_frames (b ++ c)) ≡ payloads (final_frames b) ++ payloads (final_frames (pending b ++ c))
 final_payloads_cut b c = payloads_of_cut (final_frames (b ++ c)) (final_frames b) (final_frames (pending b ++ c)) (length b - length (pending b)) (final_cut b c)
@@ -134,13 +134,13 @@ pub first_payloads : (b payload rest : List ℕ) → IsFirst (frames b) b payloa
 first_payloads b payload rest h =
     let others = frames_after b h.0 h.1 h.2 in
     ap payloads h.2 ∙ ap (λ z. z ∷ payloads h.1) h.3 ∙ ap (λ z. payload ∷ payloads z) others
-    ∙ ap (λ z. payload ∷ z) (payloads_later (end_of h.0) (frames (drop (end_of h.0) b)) ∙ ap (λ z. payloads (frames z)) (sym h.4))
+    ∙ ap (λ z. payload ∷ z) (payloads_shifted (end_of h.0) (frames (drop (end_of h.0) b)) ∙ ap (λ z. payloads (frames z)) (sym h.4))
 
 pub first_final_payloads : (b payload rest : List ℕ) → IsFirst (final_frames b) b payload rest → (payloads (final_frames b) ≡ payload ∷ payloads (final_frames rest)) × (pending b ≡ pending rest)
 first_final_payloads b payload rest h =
     let r = final_after b h.0 h.1 h.2 in (
       ap payloads h.2 ∙ ap (λ z. z ∷ payloads h.1) h.3 ∙ ap (λ z. payload ∷ payloads z) r.0
-          ∙ ap (λ z. payload ∷ z) (payloads_later (end_of h.0) (final_frames (drop (end_of h.0) b)) ∙ ap (λ z. payloads (final_frames z)) (sym h.4)),
+          ∙ ap (λ z. payload ∷ z) (payloads_shifted (end_of h.0) (final_frames (drop (end_of h.0) b)) ∙ ap (λ z. payloads (final_frames z)) (sym h.4)),
       r.1 ∙ ap pending (sym h.4),
     )
 

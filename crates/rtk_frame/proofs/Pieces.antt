@@ -138,44 +138,44 @@ pending_short [] k = omega arith
 pending_short (x ∷ xs) (suc k) = omega (arith, pending_short xs k)
 pending_short (x ∷ xs) zero = pending_short_here x xs (begins_frame (x ∷ xs)) (begins_partial (x ∷ xs)) refl refl (pending_short xs)
 
--- the frames of a text that begins some bytes later
-final_later_here : (x : ℕ) (xs : List ℕ) (p n : ℕ) (t o : Bool) → begins_frame (x ∷ xs) ≡ t → begins_partial (x ∷ xs) ≡ o → ((k : ℕ) → final_from k (n + (p + 1)) xs ≡ map (shifted n) (final_from k (p + 1) xs)) → final_from 0 (n + p) (x ∷ xs) ≡ map (shifted n) (final_from 0 p (x ∷ xs))
-final_later_here x xs p n true o f g rest =
+-- the frames of a text, shifted by some bytes
+final_shifted_here : (x : ℕ) (xs : List ℕ) (p n : ℕ) (t o : Bool) → begins_frame (x ∷ xs) ≡ t → begins_partial (x ∷ xs) ≡ o → ((k : ℕ) → final_from k (n + (p + 1)) xs ≡ map (shifted n) (final_from k (p + 1) xs)) → final_from 0 (n + p) (x ∷ xs) ≡ map (shifted n) (final_from 0 p (x ∷ xs))
+final_shifted_here x xs p n true o f g rest =
     final_frame x xs (n + p) f ∙ ap (λ z. frame_at (n + p) (x ∷ xs) ∷ final_from (payload_length (x ∷ xs) + 5) z xs) (add_assoc n p 1)
     ∙ ap (λ z. frame_at (n + p) (x ∷ xs) ∷ z) (rest (payload_length (x ∷ xs) + 5)) ∙ sym (ap (map (shifted n)) (final_frame x xs p f))
-final_later_here x xs p n false true f g rest = final_partial x xs (n + p) f g ∙ sym (ap (map (shifted n)) (final_partial x xs p f g))
-final_later_here x xs p n false false f g rest =
+final_shifted_here x xs p n false true f g rest = final_partial x xs (n + p) f g ∙ sym (ap (map (shifted n)) (final_partial x xs p f g))
+final_shifted_here x xs p n false false f g rest =
     final_not x xs (n + p) f g ∙ ap (λ z. final_from 0 z xs) (add_assoc n p 1) ∙ rest 0 ∙ sym (ap (map (shifted n)) (final_not x xs p f g))
 
-pub final_later : (b : List ℕ) (k p n : ℕ) → final_from k (n + p) b ≡ map (shifted n) (final_from k p b)
+pub final_shifted : (b : List ℕ) (k p n : ℕ) → final_from k (n + p) b ≡ map (shifted n) (final_from k p b)
 unfolding final_from
-final_later [] k p n = refl
-final_later (x ∷ xs) (suc k) p n = ap (λ z. final_from k z xs) (add_assoc n p 1) ∙ final_later xs k (p + 1) n
-final_later (x ∷ xs) zero p n = final_later_here x xs p n (begins_frame (x ∷ xs)) (begins_partial (x ∷ xs)) refl refl (λ k. final_later xs k (p + 1) n)
+final_shifted [] k p n = refl
+final_shifted (x ∷ xs) (suc k) p n = ap (λ z. final_from k z xs) (add_assoc n p 1) ∙ final_shifted xs k (p + 1) n
+final_shifted (x ∷ xs) zero p n = final_shifted_here x xs p n (begins_frame (x ∷ xs)) (begins_partial (x ∷ xs)) refl refl (λ k. final_shifted xs k (p + 1) n)
 
-frames_later_here : (x : ℕ) (xs : List ℕ) (p n : ℕ) (t : Bool) → begins_frame (x ∷ xs) ≡ t → ((k : ℕ) → frames_from k (n + (p + 1)) xs ≡ map (shifted n) (frames_from k (p + 1) xs)) → frames_from 0 (n + p) (x ∷ xs) ≡ map (shifted n) (frames_from 0 p (x ∷ xs))
-frames_later_here x xs p n true f rest =
+frames_shifted_here : (x : ℕ) (xs : List ℕ) (p n : ℕ) (t : Bool) → begins_frame (x ∷ xs) ≡ t → ((k : ℕ) → frames_from k (n + (p + 1)) xs ≡ map (shifted n) (frames_from k (p + 1) xs)) → frames_from 0 (n + p) (x ∷ xs) ≡ map (shifted n) (frames_from 0 p (x ∷ xs))
+frames_shifted_here x xs p n true f rest =
     frames_frame x xs (n + p) f ∙ ap (λ z. frame_at (n + p) (x ∷ xs) ∷ frames_from (payload_length (x ∷ xs) + 5) z xs) (add_assoc n p 1)
     ∙ ap (λ z. frame_at (n + p) (x ∷ xs) ∷ z) (rest (payload_length (x ∷ xs) + 5)) ∙ sym (ap (map (shifted n)) (frames_frame x xs p f))
-frames_later_here x xs p n false f rest =
+frames_shifted_here x xs p n false f rest =
     frames_not x xs (n + p) f ∙ ap (λ z. frames_from 0 z xs) (add_assoc n p 1) ∙ rest 0 ∙ sym (ap (map (shifted n)) (frames_not x xs p f))
 
-pub frames_later : (b : List ℕ) (k p n : ℕ) → frames_from k (n + p) b ≡ map (shifted n) (frames_from k p b)
+pub frames_shifted : (b : List ℕ) (k p n : ℕ) → frames_from k (n + p) b ≡ map (shifted n) (frames_from k p b)
 unfolding frames_from
-frames_later [] k p n = refl
-frames_later (x ∷ xs) (suc k) p n = ap (λ z. frames_from k z xs) (add_assoc n p 1) ∙ frames_later xs k (p + 1) n
-frames_later (x ∷ xs) zero p n = frames_later_here x xs p n (begins_frame (x ∷ xs)) refl (λ k. frames_later xs k (p + 1) n)
+frames_shifted [] k p n = refl
+frames_shifted (x ∷ xs) (suc k) p n = ap (λ z. frames_from k z xs) (add_assoc n p 1) ∙ frames_shifted xs k (p + 1) n
+frames_shifted (x ∷ xs) zero p n = frames_shifted_here x xs p n (begins_frame (x ∷ xs)) refl (λ k. frames_shifted xs k (p + 1) n)
 
 -- the laws at whole texts
 pub final_cut : (b c : List ℕ) → final_frames (b ++ c) ≡ final_frames b ++ map (shifted (length b - length (pending b))) (final_frames (pending b ++ c))
 final_cut b c =
     final_append b c 0 0 (length b - length (pending b)) (omega arith) (omega (arith, pending_short b 0))
-    ∙ ap (λ z. final_frames b ++ z) (ap (λ n. final_from 0 n (pending b ++ c)) (sym (add-zero (length b - length (pending b)))) ∙ final_later (pending b ++ c) 0 0 (length b - length (pending b)))
+    ∙ ap (λ z. final_frames b ++ z) (ap (λ n. final_from 0 n (pending b ++ c)) (sym (add-zero (length b - length (pending b)))) ∙ final_shifted (pending b ++ c) 0 0 (length b - length (pending b)))
 
 pub frames_cut : (b : List ℕ) → frames b ≡ final_frames b ++ map (shifted (length b - length (pending b))) (frames (pending b))
 frames_cut b =
     frames_final b 0 0 (length b - length (pending b)) (omega arith) (omega (arith, pending_short b 0))
-    ∙ ap (λ z. final_frames b ++ z) (ap (λ n. frames_from 0 n (pending b)) (sym (add-zero (length b - length (pending b)))) ∙ frames_later (pending b) 0 0 (length b - length (pending b)))
+    ∙ ap (λ z. final_frames b ++ z) (ap (λ n. frames_from 0 n (pending b)) (sym (add-zero (length b - length (pending b)))) ∙ frames_shifted (pending b) 0 0 (length b - length (pending b)))
 
 pub pending_cut : (b c : List ℕ) → pending (b ++ c) ≡ pending (pending b ++ c)
 pending_cut b c = pending_append b c 0 (omega arith)

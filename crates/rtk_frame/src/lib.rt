@@ -1,6 +1,6 @@
 //! Bytes of a link: sources and sinks, frames of RTCM 3 and their checksum, and a scanner.
 //!
-//! Its tests: crates/rtk_tests_input/src/frame.rt and frame/stream.rt.
+//! Its tests: tests/values/src/frame.rt.in and frame/
 //!
 //! ```rust
 //! use rtk_frame::{Answer, FrameFault, Scanner, encode_frame};

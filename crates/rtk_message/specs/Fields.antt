@@ -1,5 +1,5 @@
 -- Fields, their bits, and what it is to take fields from bits.
-use Rattle.std.specs.Prelude.{◌≡◌, ℕ, ℤ, ◌<◌, ◌^◌, Bool, List, [], ◌∷◌, ◌++◌, take, drop}
+use Rattle.std.specs.Prelude.{◌≡◌, ℕ, ℤ, pos, ◌<◌, ◌^◌, Bool, false, List, [], ◌∷◌, ◌++◌, take, drop}
 use Rattle.std.specs.List.{AllByRecursion}
 use Rattle.rtk_bits.specs.Bits.{bits_of, unsigned, signed_bits_of, FitsSigned}
 
@@ -29,6 +29,16 @@ abbrev pub FieldFits : Field → Type 0
 FieldFits (u w n) = n < 2 ^ w
 FieldFits (i w z) = FitsSigned w z
 FieldFits (flag b) = Unit {0}
+
+-- the value is 0, or the bit is not set
+abbrev pub FieldIsZero : Field → Type 0
+FieldIsZero (u w n) = n ≡ 0
+FieldIsZero (i w z) = z ≡ pos 0
+FieldIsZero (flag b) = b ≡ false
+
+-- each field is 0
+abbrev pub FieldsAreZero : List Field → Type 0
+FieldsAreZero fs = AllByRecursion FieldIsZero fs
 
 -- the concatenated fields
 abbrev pub bits_of_fields : List Field → List Bool

@@ -1,7 +1,7 @@
 //! What each message type promises: it reads and writes the fields of its table, and no other bits.
 
 ghost use Rattle.std.specs.Prelude.{◌≡◌, ℕ, ◌++◌, Bool, List, Option, Some, None, IfErr, OnOk, IsTrue, ◌↔◌};
-ghost use Rattle.rtk_message.specs.Fields.{Field, bits_of_fields, TakesAll};
+ghost use Rattle.rtk_message.specs.Fields.{Field, FieldsAreZero, bits_of_fields, TakesAll};
 ghost use Rattle.rtk_message.specs.declared.fault.DecodeFault.{DecodeFault};
 
 use crate::fault::DecodeFault;
@@ -32,7 +32,8 @@ pub trait Layout: Sized {
 
     /// An empty message, which `read` fills: its fields are 0, it has no satellites and no cells.
     fn empty() -> Self
-        ensures { IsEmpty result };
+        ensures empty { IsEmpty result }
+        ensures zero { FieldsAreZero (table result) };
 
     /// Reads the fields after the number into an empty message.
     ///

@@ -1,7 +1,7 @@
 //! Messages of a base station, by their tables of fields: 1004, 1005, 1006 and 1074 of RTCM
 //! 10403.3.
 //!
-//! Its tests: crates/rtk_tests_input/src/message.rt and the folder message.
+//! Its tests: tests/values/src/message.rt.in and message/
 //!
 //! ```rust
 //! use rtk_message::{Arp1005, Message, decode, encode};

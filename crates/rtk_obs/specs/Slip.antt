@@ -22,8 +22,8 @@ abbrev pub is_same_source : CellSource → CellSource → Bool
 is_same_source Legacy s = is_legacy s
 is_same_source Msm s = not (is_legacy s)
 
--- the lock time is shorter than the time since the last phase, or shorter than the last lock time
--- from the same kind of message
+-- the lock time is shorter than the time since the last phase, or the last phase came in the same
+-- kind of message, with a longer lock time
 abbrev pub has_slipped : Track → EpochCell → Bool
 has_slipped last e =
     nat_lt e.cell.lock_time_ms (e.epoch - last.epoch)

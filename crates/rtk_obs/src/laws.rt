@@ -4,6 +4,7 @@
 //! it; proofs of other crates cite the same facts from `proofs/PublicLaws.antt`.
 
 ghost use Rattle.std.specs.Prelude.{◌≡◌, ◌≢◌, ◌↔◌, ℕ, ℤ, ◌<◌, ◌≤◌, List, Option, Some, MatchOption, IsTrue};
+ghost use Rattle.std.specs.Ordering.{nat_cmp, partial_lt, partial_le};
 ghost use Rattle.std.specs.List.{All};
 ghost use Rattle.rtk_message.specs.declared.obs1004.Satellite.{Satellite};
 ghost use Rattle.rtk_message.specs.declared.obs1004.Obs1004.{Obs1004};
@@ -25,6 +26,16 @@ ghost use Rattle.rtk_obs.specs.Tracks.{place_of_signal};
 ghost use Rattle.rtk_obs.specs.TracksLaws.{LastIsGreatest, LaterThanSteps, LaterAfterStep, AllLaterAfterStep};
 
 use crate::cell::Cell;
+use crate::time::GpsMs;
+
+/// Moments compare as their numbers of milliseconds do.
+pub fn moment_laws()
+    ensures equality { (s t : ℕ) → IsTrue (⟦<GpsMs as PartialEq>⟧.eq s t) ↔ (s ≡ t) }
+    ensures less { (s t : ℕ) → IsTrue (partial_lt ⟦<GpsMs as PartialOrd>⟧.partial_cmp s t) ↔ (s < t) }
+    ensures at_most { (s t : ℕ) → IsTrue (partial_le ⟦<GpsMs as PartialOrd>⟧.partial_cmp s t) ↔ (s ≤ t) }
+    ensures cmp { (s t : ℕ) → ⟦<GpsMs as Ord>⟧.cmp s t ≡ nat_cmp s t }
+    ensures partial_cmp { (s t : ℕ) → ⟦<GpsMs as PartialOrd>⟧.partial_cmp s t ≡ Some (nat_cmp s t) }
+{}
 
 /// A reading belongs to one moment, and `of_civil` answers this moment to it.
 pub fn civil_laws()

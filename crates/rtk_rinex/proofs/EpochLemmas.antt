@@ -1,5 +1,5 @@
 -- What an epoch line shows is its moment and its count.
-use Rattle.std.proofs.Common.{◌≡◌, ℕ, ◌+◌, ◌/◌, ◌^◌, ◌<◌, List, [], ◌∷◌, ◌++◌, length, take, drop, decimal, codes, false, arith, refl, ◌∙◌, append_assoc, length-append}
+use Rattle.std.proofs.Common.{◌≡◌, ℕ, ◌/◌, ◌^◌, ◌<◌, List, [], ◌∷◌, ◌++◌, length, take, drop, decimal, codes, false, arith, refl, ◌∙◌, append_assoc, length-append}
 use Rattle.std.specs.Int.{IsInRange}
 use Rattle.std.proofs.lemmas.Fmt.{length-decimal-le}
 use Rattle.rtk_obs.specs.declared.time.Civil.{Civil}

@@ -25,3 +25,4 @@ mod TextLemmas
 mod OneRecordsLemmas
 mod OneHeaderLemmas
 mod OneFaultLemmas
+mod OneTableLemmas

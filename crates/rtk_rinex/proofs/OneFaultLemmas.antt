@@ -84,10 +84,12 @@ records_or_table bytes f a told u is e =
     let start : StartsAt a.first u.epochs = rw one.first is.starts in
     no_records (length a.head.listed) a.first a.lines a.rest f u.epochs a.heading.1.0.1 told a.records epochs is.rise start one.rest
 
-pub fault-none : FaultMeansNoTable
-fault-none bytes f a h u is e =
-    let told = told_of f.cause h in
+pub told-none : (bytes : List ℕ) (f : CheckFault) → IsFault bytes f → IsTold f.cause → (u : WellFormedTable) → IsWellFormedTable u → bytes ≢ table_text u
+told-none bytes f a told u is e =
     ⊎_elim
     (λ head. no_header head.0 bytes f.cause told (header-fault-of bytes f head told) (table-header bytes u is e))
     (λ records. records_or_table bytes f records told u is e)
     a
+
+pub fault-none : FaultMeansNoTable
+fault-none bytes f a h = told-none bytes f a (told_of f.cause h)

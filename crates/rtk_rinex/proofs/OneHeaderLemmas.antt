@@ -31,7 +31,7 @@ use Rattle.rtk_rinex.proofs.TextLemmas.{line_bytes}
 
 -- ---- one header
 
-first_line : (h : HeadView) (s : PositionView) (t : ℕ) → IsGood h s t
+pub first_line : (h : HeadView) (s : PositionView) (t : ℕ) → IsGood h s t
     → line_at (9 + (lines_of h + 1)) (header_text h s t) ≡ header_line (first_text (reading_of t)) (codes "TIME OF FIRST OBS")
 first_line h s t g =
     line_within h s t (9 + (lines_of h + 1)) g (omega arith) ∙ ap (λ (r : List ℕ). ended r) (in_last h s t 1)

@@ -27,7 +27,7 @@ use Rattle.rtk_rinex.proofs.FormLemmas.{IsTold, no_satellite_fault, no_epoch_fau
 -- ---- missing memory, and faults of the header
 
 pub room-fault : (bytes : List ℕ) (f : CheckFault) → f.line ≡ 1 → f.cause ≡ OutOfMemory → IsFault bytes f
-room-fault bytes f line cause = inl (0, line, rw cause tt)
+room-fault bytes f line cause = inl (0, line, rw cause refl)
 
 header-of : (t : WellFormedTable) (bytes : List ℕ) → IsWellFormedTable t → bytes ≡ table_text t → HasHeader bytes
 header-of t bytes is e =
@@ -62,10 +62,10 @@ few_lines n h s first l = let more = more_bytes (header_text h s first) l.0 (fir
 
 -- ---- the table
 
-abbrev table_with : HeadView → PositionView → ℕ → List EpochTableView → WellFormedTable
+abbrev pub table_with : HeadView → PositionView → ℕ → List EpochTableView → WellFormedTable
 table_with h s first epochs = record { head = h; site = s; first = first; epochs = epochs }
 
-same_table : (h k : HeadView) (s t : PositionView) (f g : ℕ) (a b : List EpochTableView) → h ≡ k → s ≡ t → f ≡ g → a ≡ b → table_with h s f a ≡ table_with k t g b
+pub same_table : (h k : HeadView) (s t : PositionView) (f g : ℕ) (a b : List EpochTableView) → h ≡ k → s ≡ t → f ≡ g → a ≡ b → table_with h s f a ≡ table_with k t g b
 same_table h k s t f g a b e₁ e₂ e₃ e₄ = cc
 
 -- the header of a table's text, and its epochs' text
@@ -85,7 +85,7 @@ pub all_more : (n : ℕ) (xs more : List EpochTableView) → All (IsTableEpoch n
 all_more n [] more h = h
 all_more n (x ∷ xs) more h = all_more n xs more (All-tail (IsTableEpoch n) x (xs ++ more) h)
 
-same_list : (n : ℕ) (epochs others : List EpochTableView) → n ≤ 16 → All (IsTableEpoch n) epochs → All (IsTableEpoch n) others
+pub same_list : (n : ℕ) (epochs others : List EpochTableView) → n ≤ 16 → All (IsTableEpoch n) epochs → All (IsTableEpoch n) others
     → flat_map record_text epochs ≡ flat_map record_text others → others ≡ epochs
 same_list n epochs others le h g e =
     let goes = same_epochs n epochs others [] le h g (append-nil (flat_map record_text epochs) ∙ e) in

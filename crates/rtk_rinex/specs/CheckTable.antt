@@ -1,5 +1,5 @@
 -- The well-formed table whose text a text is, or the fault of the text.
-use Rattle.std.specs.Prelude.{◌≡◌, ◌≢◌, ℕ, List, ◌++◌, length, ◌⊎◌}
+use Rattle.std.specs.Prelude.{◌≡◌, ◌≢◌, ℕ, List, ◌++◌, length, ◌⊎◌, Result, Ok, Err}
 use Rattle.rtk_rinex.specs.Reading.{IsMoment}
 use Rattle.rtk_rinex.specs.Header.{HeadView, PositionView, IsHeadView, IsPositionView, header_text}
 use Rattle.rtk_rinex.specs.Table.{WellFormedTable, IsWellFormedTable, table_text}
@@ -43,7 +43,8 @@ pub record IsFaultAfterHeader (bytes : List ℕ) (fault : CheckFault) : Type 0 w
   pub are_lines : AreLines lines (header_text head site first)
   pub records : IsFaultOfRecords (length head.listed) first lines rest fault
 
--- the first fault of a text; a fault of missing memory says nothing of the text
+-- the first fault of a text; if memory is missing, the lines before this one are good, and none is
+-- before it in the header
 abbrev pub IsFault : List ℕ → CheckFault → Type 0
 IsFault bytes fault = IsFaultOfHeader bytes fault ⊎ IsFaultAfterHeader bytes fault
 
@@ -61,3 +62,26 @@ OneFault =
 abbrev pub FaultMeansNoTable : Type 0
 FaultMeansNoTable =
     (bytes : List ℕ) (f : CheckFault) → IsFault bytes f → f.cause ≢ OutOfMemory → (t : WellFormedTable) → IsWellFormedTable t → bytes ≢ table_text t
+
+-- two well-formed tables of one text are equal
+abbrev pub OneTable : Type 0
+OneTable = (t u : WellFormedTable) → IsWellFormedTable t → IsWellFormedTable u → table_text t ≡ table_text u → t ≡ u
+
+-- what is seen of a well-formed table that is held as its text
+abbrev pub table_view : WellFormedTable → TableView
+table_view t = record { text = table_text t; epochs = length t.epochs; satellites = satellite_lines t.epochs }
+
+-- an answer as clauses of `check` have it: the table of this text, or a fault of the text
+abbrev pub IsAnswerTo : List ℕ → Result TableView CheckFault → Type 0
+IsAnswerTo bytes (Ok t) = (t.text ≡ bytes) × HoldsTable bytes t.epochs t.satellites
+IsAnswerTo bytes (Err fault) = IsFault bytes fault
+
+-- the answer is this table, or memory was refused
+abbrev pub AnswersTable : WellFormedTable → Result TableView CheckFault → Type 0
+AnswersTable t (Ok v) = v ≡ table_view t
+AnswersTable t (Err fault) = fault.cause ≡ OutOfMemory
+
+-- so is each answer to the text of a well-formed table
+abbrev pub TextIsAccepted : Type 0
+TextIsAccepted =
+    (t : WellFormedTable) (answer : Result TableView CheckFault) → IsWellFormedTable t → IsAnswerTo (table_text t) answer → AnswersTable t answer

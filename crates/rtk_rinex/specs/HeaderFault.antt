@@ -36,13 +36,14 @@ IsLineFault front rest HeaderLine =
 IsLineFault front rest OutOfMemory = Unit {0}
 IsLineFault front rest _ = ⊥
 
--- a fault in the line after n lines, which begin a header and are not a whole one
+-- a fault in the line after n lines, which begin a header and are not a whole one; memory for the
+-- header is asked for before its first line is read
 abbrev pub IsFaultAfter : ℕ → List ℕ → Cause → Type 0
-IsFaultAfter n bytes OutOfMemory = Unit {0}
+IsFaultAfter n bytes OutOfMemory = n ≡ 0
 IsFaultAfter n bytes cause =
     (front : List ℕ) × (rest : List ℕ) × AreLines n front × (bytes ≡ front ++ rest) × BeginsHeader front × ¬ (IsHeader front)
     × IsLineFault front rest cause
 
--- the fault is in the header; its line counts from 1; missing memory says nothing of the text
+-- the fault is in the header; its line counts from 1
 abbrev pub IsFaultOfHeader : List ℕ → CheckFault → Type 0
 IsFaultOfHeader bytes f = (n : ℕ) × (f.line ≡ n + 1) × IsFaultAfter n bytes f.cause

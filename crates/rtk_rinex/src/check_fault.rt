@@ -21,7 +21,7 @@ pub enum Cause {
     /// The text ends although a line must follow, or the line has no LF.
     #[error("{}", self.as_str())]
     Truncated,
-    /// Memory was refused.
+    /// Memory was refused: at line 1, or at the line of a record that was being read.
     #[error("{}", self.as_str())]
     OutOfMemory,
 }

@@ -249,6 +249,7 @@ pub fn header(
     position: &Position,
     first: GpsMs,
 ) -> Result<Vec<u8>, AllocError>
+    // It gives up only if memory is refused: rows "header .." of tests/calls/src/rinex.rt.in.
     ensures { IfOk result (λ text. text.items ≡ header_text head.now (position_view position.now) first) }
 {
     let mut out = Vec::with_capacity(alloc, LONGEST_HEADER)?;

@@ -6,9 +6,11 @@
 ghost use Rattle.std.specs.Prelude.{◌≡◌, ℕ};
 ghost use Rattle.rtk_obs.specs.declared.time.Civil.{Civil};
 ghost use Rattle.rtk_obs.specs.Calendar.{ReadsAs};
-ghost use Rattle.rtk_rinex.specs.CheckTable.{OneFault, FaultMeansNoTable};
+ghost use Rattle.rtk_rinex.specs.CheckTable.{OneFault, FaultMeansNoTable, OneTable, TextIsAccepted};
 ghost use Rattle.rtk_rinex.specs.Reading.{IsMoment, reading_of};
 ghost use Rattle.rtk_rinex.specs.Table.{RecordsAreOfTables, FilesAreTables};
+
+use rtk_obs::code_laws;
 
 /// A moment has one reading, which `reading_of` gives.
 pub fn one_reading()
@@ -33,3 +35,12 @@ pub fn one_fault()
     ensures one { OneFault }
     ensures table { FaultMeansNoTable }
 {}
+
+/// What `check` answers to the text of a well-formed table is this table with its numbers, unless
+/// memory is refused; and two well-formed tables of one text are equal.
+pub fn text_of_a_table()
+    ensures accepted { TextIsAccepted }
+    ensures one { OneTable }
+{
+    code_laws();
+}

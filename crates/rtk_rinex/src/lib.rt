@@ -21,7 +21,7 @@
 //! }
 //! ```
 //!
-//! Its tests: crates/rtk_tests_rinex/src/rinex.rt and rinex/
+//! Its tests: tests/values/src/rinex.rt.in and rinex/
 #![tactic(auto)]
 
 mod check_fault;
@@ -42,6 +42,6 @@ pub use check_fault::{Cause, CheckFault};
 pub use epoch_table::{EpochTable, Observed, SatelliteRow};
 pub use head::{Head, HeadFault};
 pub use header_text::header;
-pub use laws::{files_are_tables, one_fault, one_reading, records_are_of_tables};
+pub use laws::{files_are_tables, one_fault, one_reading, records_are_of_tables, text_of_a_table};
 pub use record_text::record;
 pub use table_check::{Table, check, text};

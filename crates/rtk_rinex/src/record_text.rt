@@ -199,6 +199,7 @@ fn put_satellite_lines(out: &mut Vec<u8>, rows: &[SatelliteRow]) -> Result<(), A
 /// Memory is taken at most once. Source: RINEX 3.05, Table A3.
 pub fn record(alloc: Global, head: &Head, table: &EpochTable) -> Result<Vec<u8>, AllocError>
     requires { HasWidth (length head.now.listed) table.now.rows }
+    // It gives up only if memory is refused: rows "record .." of tests/calls/src/rinex.rt.in.
     ensures { IfOk result (λ text. text.items ≡ record_text table.now) }
 {
     let rows = table.rows();

@@ -86,6 +86,8 @@ fn room_for(alloc: Global, bytes: &[u8]) -> Result<Vec<u8>, CheckFault>
 pub fn check(alloc: Global, bytes: &[u8]) -> Result<Table, CheckFault>
     ensures text { IfOk result (λ t. t.text ≡ bytes.now) }
     ensures table { IfOk result (λ t. HoldsTable bytes.now t.epochs t.satellites) }
+    // It names missing memory only if memory is refused: rows "check .." of
+    // tests/calls/src/rinex.rt.in, which also show that memory is asked for once.
     ensures fault { IfErr result (IsFault bytes.now) }
     ensures none { IfErr result (λ f. IsWithoutTable bytes.now f.cause) }
 {
@@ -107,6 +109,7 @@ pub fn check(alloc: Global, bytes: &[u8]) -> Result<Table, CheckFault>
 
 /// The text of a table; memory is taken once.
 pub fn text(alloc: Global, table: &Table) -> Result<Vec<u8>, AllocError>
+    // It gives up only if memory is refused: rows "text .." of tests/calls/src/rinex.rt.in.
     ensures text { IfOk result (λ t. t.items ≡ table.now.text) }
     ensures table { IsTableView table.now }
 {

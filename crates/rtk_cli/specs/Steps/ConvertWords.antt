@@ -1,13 +1,22 @@
--- What the words of `convert` say.
-use Rattle.std.specs.Prelude.{◌≡◌, ℕ, List, map}
+-- What the words of `convert` say, and why they are refused.
+use Rattle.std.specs.Prelude.{◌≡◌, ◌⊎◌, ℕ, ◌≤◌, List, map}
+use Rattle.rtk_obs.specs.Dating.{IsReference}
+use Rattle.rtk_obs.specs.declared.code.Code.{Code}
+use Rattle.rtk_obs.specs.declared.time.TheConstants.{LAST_MS}
+use Rattle.rtk_rinex.specs.Header.{IsMarker, IsCodeList}
 use Rattle.rtk_convert.specs.Setup.{SetupView}
-use Rattle.rtk_cli.specs.declared.convert_words.Options.{Options}
+use Rattle.rtk_cli.specs.declared.options.Options.{Options}
+use Rattle.rtk_cli.specs.declared.words.BadWords.{BadWords}
+use Rattle.rtk_cli.specs.declared.words.BadWords.TheVariants.{Near, Made, Codes, Marker, Links}
 use Rattle.rtk_cli.specs.declared.words.Job.{Job}
 use Rattle.rtk_cli.specs.declared.words.Job.TheVariants.{Convert, Show, Check}
+use Rattle.rtk_cli.specs.declared.words.WordsFault.{WordsFault}
+use Rattle.rtk_cli.specs.declared.words.WordsFault.TheVariants.{Clap, Bad, OutOfMemory}
+use Rattle.rtk_cli.specs.Words.{AreLinkNames}
 use Rattle.rtk_cli.specs.Steps.CodeList.{Lists}
 use Rattle.rtk_cli.specs.Steps.MomentText.{WritesMoment}
 
--- the settings are what the options write
+-- the setup is what the options write
 abbrev pub SaysSetup : Options → SetupView → Type 0
 SaysSetup o s =
     (s.station ≡ o.station) × WritesMoment o.near.now s.near × WritesMoment o.made.now s.head.made
@@ -18,3 +27,43 @@ abbrev pub SaysConversion : Options → List (List ℕ) → Job → Type 0
 SaysConversion o names (Convert setup links) = SaysSetup o setup × (map (λ link. link.now) links.items ≡ names)
 SaysConversion o names (Show hex file) = ⊥
 SaysConversion o names (Check file) = ⊥
+
+-- the text writes a moment up to the last one that is counted
+abbrev pub HasMoment : List ℕ → Type 0
+HasMoment text = (t : ℕ) × (t ≤ LAST_MS) × WritesMoment text t
+
+-- both times are moments
+abbrev pub HasTimes : Options → Type 0
+HasTimes o = HasMoment o.near.now × HasMoment o.made.now
+
+-- and each name of the list is a code's
+abbrev pub HasNames : Options → Type 0
+HasNames o = HasTimes o × ((listed : List Code) × Lists o.codes.now listed)
+
+-- and the marker is good
+abbrev pub HasMarker : Options → Type 0
+HasMarker o = HasNames o × IsMarker o.marker.now
+
+-- and the codes are good together
+abbrev pub HasHead : Options → Type 0
+HasHead o = HasMarker o × ((listed : List Code) × Lists o.codes.now listed × IsCodeList listed)
+
+-- this is the first cause for which the words are refused, in this order: the form of the
+-- reference, the form of the time of making, the names of the codes, the marker, the codes
+-- together, the links, and last a reference near which nothing is dated (this project's rule)
+abbrev pub IsFirstCause : Options → List (List ℕ) → BadWords → Type 0
+IsFirstCause o names Near =
+    ¬ (HasMoment o.near.now)
+    ⊎ (HasHead o × AreLinkNames names × ((t : ℕ) × WritesMoment o.near.now t × ¬ (IsReference t)))
+IsFirstCause o names Made = HasMoment o.near.now × ¬ (HasMoment o.made.now)
+IsFirstCause o names Codes =
+    (HasTimes o × ((listed : List Code) → ¬ (Lists o.codes.now listed)))
+    ⊎ (HasMarker o × ((listed : List Code) × Lists o.codes.now listed × ¬ (IsCodeList listed)))
+IsFirstCause o names Marker = HasNames o × ¬ (IsMarker o.marker.now)
+IsFirstCause o names Links = HasHead o × ¬ (AreLinkNames names)
+
+-- why the words give no conversion: the first cause, or refused memory; no text of clap's
+abbrev pub RefusesConversion : Options → List (List ℕ) → WordsFault → Type 0
+RefusesConversion o names (Clap text status) = ⊥
+RefusesConversion o names (Bad line) = IsFirstCause o names line
+RefusesConversion o names OutOfMemory = Unit {0}

@@ -1,7 +1,6 @@
 use Rattle.std.proofs.Common.{◌≡◌, ◌≤◌, ℕ, [], length, None, refl, ap, sym, subst, ◌∙◌, arith}
 use Rattle.rtk_collect.specs.Collector.{CollectorView}
 use Rattle.rtk_convert.proofs.AheadLemmas.{ahead-none}
-use Rattle.rtk_convert.proofs.ArriveLemmas.{holds-new}
 use Rattle.rtk_convert.proofs.conversion.Conversion.new.Goals as goal
 
 few-new : (w : CollectorView) (size : ℕ) → w ≡ record { size = size; sets = []; arp1005 = None; arp1006 = None } → length w.sets ≤ w.size
@@ -11,21 +10,21 @@ pub invariant_of-result : goal.invariant_of-result
 invariant_of-result c = (
   refl,
   record {
-    places = ap (λ (w : CollectorView). w.size) c.new-collector.ensures ∙ c.window.ensures.value;
-    few = few-new c.new-collector.result c.window.result c.new-collector.ensures;
+    places = ap (λ (w : CollectorView). w.size) c.new-collector.ensures.empty ∙ c.window.ensures.value;
+    few = few-new c.new-collector.result c.window.result c.new-collector.ensures.empty;
     ahead = λ going. ahead-none c.new-collector.result c.in_ok-records.records (c.in_ok-records.ensures.below 0);
   },
 )
 
 pub returns-clause-represents : goal.returns-clause-represents
 returns-clause-represents c = record {
-  window = holds-new c.new-collector.result c.window.result c.new-collector.ensures;
+  window = c.new-collector.ensures.history;
   closed = c.in_ok-records.ensures.follows c.args.setup.head.listed;
   counts = refl;
 }
 
 pub returns-clause-few : goal.returns-clause-few
 returns-clause-few c =
-    let few = few-new c.new-collector.result c.window.result c.new-collector.ensures in
-    let places = ap (λ (w : CollectorView). w.size) c.new-collector.ensures ∙ c.window.ensures.value in
+    let few = few-new c.new-collector.result c.window.result c.new-collector.ensures.empty in
+    let places = ap (λ (w : CollectorView). w.size) c.new-collector.ensures.empty ∙ c.window.ensures.value in
     omega (arith, few, places)

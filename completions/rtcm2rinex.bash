@@ -1,0 +1,63 @@
+# What bash completes after rtcm2rinex. Made by bin/completions from the help of the program.
+
+# The names of files that begin with the word, and these names beside them.
+_rtcm2rinex_files() {
+    mapfile -t COMPREPLY < <(compgen -f -- "$1"; compgen -W "$2" -- "$1")
+    # Outside of a completion, as in a test, the shell has no such option.
+    compopt -o filenames 2>/dev/null
+    return 0
+}
+
+_rtcm2rinex() {
+    local word=${COMP_WORDS[COMP_CWORD]} before=${COMP_WORDS[COMP_CWORD - 1]}
+    local command='' options='' values='' files='' arguments='' left='' i option
+    COMPREPLY=()
+    for ((i = 1; i < COMP_CWORD; i++)); do
+        if [[ ${COMP_WORDS[i]} != -* ]]; then
+            command=${COMP_WORDS[i]}
+            break
+        fi
+    done
+    case $command in
+        '')
+            options='convert show check help -h --help -V --version'
+            ;;
+        convert)
+            options='--station --near --made --marker --codes --window -h --help'
+            values='--station --near --made --marker --codes --window'
+            arguments='files'
+            ;;
+        show)
+            options='--hex -h --help'
+            arguments='files'
+            ;;
+        check)
+            options='-h --help'
+            arguments='files'
+            ;;
+        help)
+            options=''
+            arguments='convert show check'
+            ;;
+        *) return ;;
+    esac
+    # The shell takes `--option=value` for three words.
+    [[ $before != = ]] || before=${COMP_WORDS[COMP_CWORD - 2]}
+    if [[ " ${COMP_WORDS[*]:0:COMP_CWORD} " == *' -- '* || " $files " == *" $before "* ]]; then
+        _rtcm2rinex_files "$word" ''
+    elif [[ $word == = || " $values " == *" $before "* ]]; then
+        return
+    elif [[ $word == -* || -z $command ]]; then
+        for option in $options; do
+            # An option stands once.
+            [[ " ${COMP_WORDS[*]:1:COMP_CWORD-1} " == *" $option "* ]] || left+=" $option"
+        done
+        mapfile -t COMPREPLY < <(compgen -W "$left" -- "$word")
+    elif [[ $arguments == files ]]; then
+        _rtcm2rinex_files "$word" stdin
+    elif [[ -n $arguments ]]; then
+        mapfile -t COMPREPLY < <(compgen -W "$arguments" -- "$word")
+    fi
+}
+
+complete -F _rtcm2rinex rtcm2rinex

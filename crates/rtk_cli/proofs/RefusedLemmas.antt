@@ -1,0 +1,68 @@
+-- Why the words of `convert` are refused.
+use Rattle.std.proofs.Common.{◌≡◌, ◌≢◌, ℕ, ◌≤◌, List, inl, refl, sym, ◌∙◌, subst}
+use Rattle.rtk_obs.specs.declared.code.Code.{Code}
+use Rattle.rtk_obs.specs.declared.time.TheConstants.{LAST_MS}
+use Rattle.rtk_obs.specs.Dating.{IsReference}
+use Rattle.rtk_rinex.specs.Header.{HeadView, IsMarker, IsCodeList, IsHeadView}
+use Rattle.rtk_rinex.specs.HeadFault.{IsHeadFault}
+use Rattle.rtk_rinex.specs.declared.head.HeadFault.{HeadFault}
+use Rattle.rtk_rinex.specs.declared.head.HeadFault.TheVariants.{Marker as BadMarker, Codes as BadCodes}
+use Rattle.rtk_convert.specs.Setup.{SetupView}
+use Rattle.rtk_convert.specs.SetupFault.{IsSetupFault}
+use Rattle.rtk_convert.specs.declared.setup.SetupFault.{SetupFault}
+use Rattle.rtk_convert.specs.declared.setup.SetupFault.TheVariants.{Near as BadNear}
+use Rattle.rtk_cli.specs.declared.options.Options.{Options}
+use Rattle.rtk_cli.specs.declared.words.BadWords.{BadWords}
+use Rattle.rtk_cli.specs.declared.words.BadWords.TheVariants.{Near, Made, Codes, Marker, Links}
+use Rattle.rtk_cli.specs.declared.words.WordsFault.{WordsFault}
+use Rattle.rtk_cli.specs.declared.words.WordsFault.TheVariants.{Clap, Bad, OutOfMemory}
+use Rattle.rtk_cli.specs.Steps.CodeList.{Lists}
+use Rattle.rtk_cli.specs.Steps.MomentText.{WritesMoment}
+use Rattle.rtk_cli.specs.Steps.ConvertWords.{HasMoment, HasTimes, HasNames, HasHead, IsFirstCause, RefusesConversion}
+
+-- a fault with the line of the first cause
+pub refused-by : (o : Options) (names : List (List ℕ)) (line : BadWords) (fault : WordsFault) → fault ≡ Bad line → IsFirstCause o names line → RefusesConversion o names fault
+refused-by o names line fault e cause = subst (RefusesConversion o names) (sym e) cause
+
+pub has-moment : (written text : List ℕ) (t : ℕ) → text ≡ written → t ≤ LAST_MS → WritesMoment text t → HasMoment written
+has-moment written text t same within writes = (t, within, subst (λ (x : List ℕ). WritesMoment x t) same writes)
+
+pub no-moment : (written text : List ℕ) → text ≡ written → ((t : ℕ) → t ≤ LAST_MS → ¬ (WritesMoment text t)) → ¬ (HasMoment written)
+no-moment written text same none (t, within, writes) = none t within (subst (λ (x : List ℕ). WritesMoment x t) (sym same) writes)
+
+pub lists-same : (written text : List ℕ) (listed : List Code) → text ≡ written → Lists text listed → Lists written listed
+lists-same written text listed same lists = subst (λ (x : List ℕ). Lists x listed) same lists
+
+pub has-times : (o : Options) (near made : List ℕ) (t u : ℕ) → near ≡ o.near.now → t ≤ LAST_MS → WritesMoment near t
+    → made ≡ o.made.now → u ≤ LAST_MS → WritesMoment made u → HasTimes o
+has-times o near made t u same within writes same₂ within₂ writes₂ =
+    (has-moment o.near.now near t same within writes, has-moment o.made.now made u same₂ within₂ writes₂)
+
+-- a text of codes that is no list, or refused memory
+pub codes-refused : (o : Options) (names : List (List ℕ)) (text : List ℕ) → text ≡ o.codes.now → HasTimes o → (fault : WordsFault)
+    → (fault ≡ Bad Codes → (listed : List Code) → ¬ (Lists text listed)) → (fault ≢ Bad Codes → fault ≡ OutOfMemory)
+    → RefusesConversion o names fault
+codes-refused o names text same times (Clap t status) none memory = let no : Clap t status ≡ OutOfMemory = memory (λ e. cc) in cc
+codes-refused o names text same times (Bad Near) none memory = let no : Bad Near ≡ OutOfMemory = memory (λ e. cc) in cc
+codes-refused o names text same times (Bad Made) none memory = let no : Bad Made ≡ OutOfMemory = memory (λ e. cc) in cc
+codes-refused o names text same times (Bad Codes) none memory =
+    inl (times, λ listed lists. none refl listed (lists-same text o.codes.now listed (sym same) lists))
+codes-refused o names text same times (Bad Marker) none memory = let no : Bad Marker ≡ OutOfMemory = memory (λ e. cc) in cc
+codes-refused o names text same times (Bad Links) none memory = let no : Bad Links ≡ OutOfMemory = memory (λ e. cc) in cc
+codes-refused o names text same times OutOfMemory none memory = tt
+
+-- the words give a good head
+pub has-head : (o : Options) → HasNames o → (h : HeadView) (listed : List Code) (marker : List ℕ) → Lists o.codes.now listed
+    → h.listed ≡ listed → h.marker ≡ marker → marker ≡ o.marker.now → IsHeadView h → HasHead o
+has-head o names h listed marker lists same-list same-marker is good =
+    ((names, subst IsMarker (same-marker ∙ is) good.0), (listed, lists, subst IsCodeList same-list good.1))
+
+-- what the faults of a head and of a setup say
+pub bad-marker : (h : HeadView) (fault : HeadFault) → fault ≡ BadMarker → IsHeadFault h fault → ¬ (IsMarker h.marker)
+bad-marker h fault e says = subst (IsHeadFault h) e says
+
+pub bad-codes : (h : HeadView) (fault : HeadFault) → fault ≡ BadCodes → IsHeadFault h fault → IsMarker h.marker × ¬ (IsCodeList h.listed)
+bad-codes h fault e says = subst (IsHeadFault h) e says
+
+pub bad-reference : (s : SetupView) (fault : SetupFault) → fault ≡ BadNear → IsSetupFault s fault → ¬ (IsReference s.near)
+bad-reference s fault e says = (subst (IsSetupFault s) e says).1

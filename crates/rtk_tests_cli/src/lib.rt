@@ -1,5 +1,0 @@
-//! The tests of rtk_cli.
-#![tactic(auto)]
-
-#[cfg(test)]
-mod cli;

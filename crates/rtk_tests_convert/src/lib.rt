@@ -1,5 +1,0 @@
-//! The tests of rtk_convert.
-#![tactic(auto)]
-
-#[cfg(test)]
-mod convert;

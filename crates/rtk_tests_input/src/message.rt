@@ -1,7 +1,0 @@
-//! Tests of the messages, by payloads and values from outside.
-
-mod decoding;
-mod encoding;
-mod fields;
-mod headers;
-mod payloads;

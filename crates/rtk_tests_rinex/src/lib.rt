@@ -1,5 +1,0 @@
-//! The tests of rtk_rinex.
-#![tactic(auto)]
-
-#[cfg(test)]
-mod rinex;

@@ -1,0 +1,234 @@
+"""What the documents say, compared with the sources and with the help of the program. Run by `run` beside it.
+
+The commands and options are those that the help prints; none stands here, so a new command needs no change of this file.
+"""
+
+import os
+import re
+import subprocess
+import sys
+from pathlib import Path
+
+ROOT = Path(sys.argv[1]).resolve()
+PROGRAM = ROOT / "crates/rtcm2rinex/out/rtcm2rinex"
+COMPLETE = ROOT / "tests/documents/complete.bash"
+
+passed = failed = 0
+
+
+def compare(name, got, want):
+    """The two must be equal; a failure tells both."""
+    global passed, failed
+    if got == want:
+        passed += 1
+        print(f"ok {name}")
+    else:
+        failed += 1
+        print(f"FAILED {name}: {got}, and not {want}")
+
+
+def output(*words):
+    ran = subprocess.run([str(word) for word in words], stdin=subprocess.DEVNULL, capture_output=True, text=True)
+    return ran.returncode, ran.stdout, ran.stderr
+
+
+# ---------------------------------------------------------------- help
+
+
+def section(text, heading):
+    """The first words of the entries below a heading of the help."""
+    found = re.search(rf"(?ms)^{heading}:\n(.*?)(?=^\S|\Z)", text)
+    return re.findall(r"(?m)^ {2,6}((?:-\w, )?[\w<-][\w.<>-]*)", found.group(1)) if found else []
+
+
+def help_of(*words):
+    return output(PROGRAM, *words, "-h")[1]
+
+
+def options_of_help(*words):
+    """Its options, long and short, but for those of help and version, which all commands have."""
+    typed = [option for entry in section(help_of(*words), "Options") for option in entry.split(", ")]
+    return {option for option in typed if option not in ("-h", "--help", "-V", "--version")}
+
+
+COMMANDS = section(help_of(), "Commands")
+WORKING = [command for command in COMMANDS if command != "help"]
+OPTIONS = {command: options_of_help(command) for command in WORKING}
+
+
+# ---------------------------------------------------------------- manual and manual page
+
+
+def forms(text):
+    """The commands that a text shows, each with its options: lines and code that begin with the program's name."""
+    found = {}
+    for command, words in re.findall(r"(?m)(?:^ *|`)rtcm2rinex ([a-z]+)\b([^`\n]*)", text):
+        if command != "help":
+            found.setdefault(command, set()).update(re.findall(r"--?[a-z][\w-]*", words))
+    return found
+
+
+def plain(roff):
+    """The text of a page of roff without its signs and its comment."""
+    roff = re.sub(r'(?m)^\.\\".*\n', "", roff)
+    for sign, text in ((r"\fB", ""), (r"\fI", ""), (r"\fR", ""), (r"\-", "-"), (r"\~", " "), (r"\&", ""), (r"\(ha", "^")):
+        roff = roff.replace(sign, text)
+    return roff
+
+
+MANUAL = (ROOT / "docs/MANUAL.md").read_text()
+ROFF = (ROOT / "docs/rtcm2rinex.1").read_text()
+PAGE = plain(ROFF)
+
+
+def test_manuals():
+    compare("the manual shows the commands and options of the help", forms(MANUAL), OPTIONS)
+    # A line of text may begin with the program's name too, so only what is a command counts.
+    shown = {command: options for command, options in forms(PAGE).items() if command in WORKING}
+    compare("the manual page shows the commands and options of the help", shown, OPTIONS)
+    every = {option for options in OPTIONS.values() for option in options} | {"--help", "--version"}
+    told = set(re.findall(r"(?<![\w-])--[a-z][\w-]*", MANUAL))
+    compare("the manual names the options of the help and no others", told, every)
+    told = set(re.findall(r"(?<![\w-])--[a-z][\w-]*", PAGE))
+    compare("the manual page names the options of the help and no others", told, every)
+    statuses = re.findall(r"(?m)^\| (\d+) \|", MANUAL)
+    of_page = re.findall(r"(?m)^\.TP\n(\d+)$", PAGE)
+    compare("the manual page has the statuses of the manual", of_page, statuses)
+    compare("no line of the manual page is broken", re.findall(r"(?m).*\\$", ROFF), [])
+    compare("the statuses are told", statuses[:3], ["0", "1", "2"])
+
+
+# ---------------------------------------------------------------- completions
+
+
+def of_bash():
+    text = (ROOT / "completions/rtcm2rinex.bash").read_text()
+    cases = re.findall(r"(?m)^ {8}('{2}|[\w-]+)\)\n {12}options='(.*)'", text)
+    return {command.strip("'"): set(options.split()) for command, options in cases}
+
+
+def of_zsh():
+    text = (ROOT / "completions/_rtcm2rinex").read_text()
+    cases = re.findall(r"(?ms)^ {16}([\w-]+)\)\n(.*?);;", text)
+    found = {command: set(re.findall(r"'(--?[\w-]+)\[", told)) for command, told in cases}
+    return found, re.findall(r"(?m)^ {8}'([\w-]+):", text)
+
+
+def of_fish():
+    text = (ROOT / "completions/rtcm2rinex.fish").read_text()
+    found = {command: set() for command in re.findall(r"__fish_use_subcommand -a ([\w-]+) ", text)}
+    for command, words in re.findall(r"'__fish_seen_subcommand_from ([\w-]+)'(.*)", text):
+        long = re.search(r" -l ([\w-]+)", words)
+        short = re.search(r" -s (\w)", words)
+        if long or short:
+            found[command].add("--" + long.group(1) if long else "-" + short.group(1))
+    return found
+
+
+def test_completions():
+    bash, (zsh, named), fish = of_bash(), of_zsh(), of_fish()
+    common = {"-h", "--help", "-V", "--version"}
+    compare("bash completes the commands", [word for word in COMMANDS if word not in bash[""]], [])
+    compare("bash completes the options", {c: bash[c] - common for c in WORKING}, OPTIONS)
+    compare("zsh completes the commands", named, COMMANDS)
+    compare("zsh completes the options", {c: zsh[c] - common for c in WORKING}, OPTIONS)
+    compare("fish completes the commands", list(fish), COMMANDS)
+    compare("fish completes the options", {c: fish[c] - common for c in WORKING}, OPTIONS)
+
+
+def completed(*words):
+    """What bash completes where the last of these words is typed."""
+    code, out, error = output("bash", COMPLETE, ROOT / "completions/rtcm2rinex.bash", "rtcm2rinex", *words)
+    return sorted(out.split("\n")[:-1]) if code == 0 else error
+
+
+def test_bash():
+    os.chdir(ROOT / "examples")
+    files = sorted(str(path) for path in Path(".").glob("base*"))
+    long = {c: sorted({"--help"} | {o for o in OPTIONS[c] if o.startswith("--")}) for c in WORKING}
+    compare("a run of bash gives the commands", [word for word in COMMANDS if word not in completed("")], [])
+    compare("a run of bash gives the options", {c: completed(c, "--") for c in WORKING}, long)
+    compare("a run of bash gives files", {c: completed(c, "base") for c in WORKING}, {c: files for c in WORKING})
+    compare("a run of bash gives standard input", {c: completed(c, "std") for c in WORKING}, {c: ["stdin"] for c in WORKING})
+    compare("a run of bash gives an option once", {c: completed(c, "--help", "--") for c in WORKING},
+        {c: [option for option in long[c] if option != "--help"] for c in WORKING})
+    compare("a run of bash gives files alone after --", completed(WORKING[0], "--", "-"), [])
+    compare("a run of bash gives commands after help", completed("help", ""), sorted(WORKING))
+    compare("a run of bash gives nothing after a word that is no command", completed("nothing", "--"), [])
+
+
+# ---------------------------------------------------------------- names and links
+
+
+def test_made():
+    for script in ("index", "manpage", "completions"):
+        code, _, error = output(ROOT / "bin" / script, "--check")
+        compare(f"bin/{script} makes what is there", (code, error), (0, ""))
+    calls = (ROOT / "docs/INDEX.md").read_text().count("#### `")
+    compare("the index has public calls", calls > 100, True)
+    edits = len(list(ROOT.glob("crates/*/must-fail/*.edit")))
+    told = len(re.findall(r"(?m)^- refused: ", (ROOT / "docs/INDEX.md").read_text()))
+    compare("the index has each must-fail edit", told, edits)
+
+
+def names_of_tests():
+    """All words of the folder tests, where the tests have their names."""
+    found = set()
+    for path in ROOT.glob("tests/*/**/*"):
+        if path.is_file():
+            found |= set(re.findall(r"[\w-]+", path.read_text(errors="replace")))
+    return found
+
+
+def names_of_definitions():
+    found = set()
+    for path in ROOT.glob("crates/*/specs/**/*.antt"):
+        found |= set(re.findall(r"(?m)^(?:abbrev |unfoldable |pub |record |data )+(\w+)", path.read_text()))
+    for path in ROOT.glob("crates/*/src/**/*.rt"):
+        found |= set(re.findall(r"(?m)^(?:pub(?:\(crate\))? )?const (\w+)", path.read_text()))
+    return found
+
+
+def test_proof():
+    """Each definition and each test that the table of PROOF.md names is there."""
+    proof = (ROOT / "docs/PROOF.md").read_text()
+    rows = [line.split("|") for line in proof[proof.index("| Constant, table or formula |"):].split("\n")[2:]]
+    rows = rows[:next(at for at, cells in enumerate(rows) if len(cells) != 5)]
+    definitions, tests = names_of_definitions(), names_of_tests()
+    named = [name for cells in rows for name in re.findall(r"`(\w+)`", cells[2])]
+    compare("the definitions that PROOF.md pins are there", [name for name in named if name not in definitions], [])
+    named = [name for cells in rows for name in re.findall(r"`([\w-]+)`", cells[3])]
+    compare("the tests that PROOF.md names are there", [name for name in named if name not in tests], [])
+
+
+def anchors_of(text):
+    """The places of a page that a link may name: those that are marked, and the headings as forges name them."""
+    headings = re.findall(r"(?m)^#+ (.*)", text)
+    slugs = {re.sub(r"[^\w -]", "", heading.lower()).replace(" ", "-") for heading in headings}
+    return slugs | set(re.findall(r'<a id="([^"]*)"', text))
+
+
+def broken_links(path):
+    text = re.sub(r"(?ms)^```.*?^```", "", path.read_text())
+    for target in re.findall(r"\]\(([^)\s]+)\)", re.sub(r"`[^`\n]*`", "", text.replace("[`", "[").replace("`]", "]"))):
+        file, _, place = target.partition("#")
+        page = (path.parent / file).resolve() if file else path
+        if re.match(r"[a-z]+:", target):
+            continue
+        if not page.exists():
+            yield f"{path.relative_to(ROOT)}: {target}"
+        elif place and page.suffix == ".md" and place not in anchors_of(page.read_text()):
+            yield f"{path.relative_to(ROOT)}: {target}"
+
+
+def test_links():
+    pages = [path for pattern in ("*.md", "docs/*.md", "bench/*.md", "examples/*.md") for path in sorted(ROOT.glob(pattern))]
+    compare("the links of the documents lead somewhere", [link for page in pages for link in broken_links(page)], [])
+    words = len((ROOT / "README.md").read_text().split())
+    compare("the README has at most 900 words", words <= 900, True)
+
+
+for test in (test_made, test_manuals, test_completions, test_bash, test_proof, test_links):
+    test()
+print(f"{passed} passed, {failed} failed")
+sys.exit(failed > 0)
