@@ -717,7 +717,8 @@ def interrupted(calls, count):
 def _interrupted_too_often():
     for name, case in CASES.items():
         reads = [("reads", "read failed")] if size_of_inputs(case) >= 0 else []
-        report = [("2", "write failed")] if GOOD[name].err else []
+        # a longer report is tried again at the end, and then the fault line is interrupted
+        report = [("2", "write failed")] if 0 < len(GOOD[name].err) <= GATHERED else []
         for calls, fault in [*reads, ("1", "write failed"), *report]:
             yield tried(name, calls, interrupted(calls, MOST_INTERRUPTIONS + 1), broken_off,
                         faults=[fault])

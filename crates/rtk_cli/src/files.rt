@@ -117,8 +117,8 @@ impl<W: Write> Writes<W> {
 }
 
 impl<W: Write + Drop> Writes<BufWriter<W>> {
-    /// Hands on what was gathered, and ends. What a failed write leaves is not tried again, so that
-    /// nothing comes after a fault line. Nothing is known of the bytes.
+    /// Hands on what was gathered, and ends. What can't be written now is let go, so that nothing
+    /// comes after a fault line. Nothing is known of the bytes.
     pub(crate) fn finish(self) -> Result<(), StreamFault> {
         let mut writer = self.inner;
         let flushed = writer.flush();
