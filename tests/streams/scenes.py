@@ -713,18 +713,15 @@ def interrupted(calls, count):
     return Disturbance({"INTERRUPTS": calls, "IN_A_ROW": count})
 
 
-@scene("a read or a write is interrupted 1,001 times in a row")
+@scene("a read or a write is interrupted 1,001 times in a row, and the next call is not")
 def _interrupted_too_often():
-    too_often = MOST_INTERRUPTIONS + 1
     for name, case in CASES.items():
-        if size_of_inputs(case) >= 0:
-            yield tried(name, "reads", interrupted("reads", too_often), broken_off,
-                        faults=["read failed"], out=0)
-        yield tried(name, "the file", interrupted("1", too_often), broken_off,
-                    faults=["write failed"], out=0)
-        if GOOD[name].err:
-            yield tried(name, "the report", interrupted("2", too_often), told_in_part, status=1,
-                        err=0, out=out_without_report(name))
+        reads = [("reads", "read failed")] if size_of_inputs(case) >= 0 else []
+        # a longer report is tried again at the end, and then the fault line is interrupted
+        report = [("2", "write failed")] if 0 < len(GOOD[name].err) <= GATHERED else []
+        for calls, fault in [*reads, ("1", "write failed"), *report]:
+            yield tried(name, calls, interrupted(calls, MOST_INTERRUPTIONS + 1), broken_off,
+                        faults=[fault])
 
 
 # Without end.

@@ -154,7 +154,7 @@ pub(crate) fn convert_links<R: Files + Input + Print + Eprint + AllocGlobal, W: 
         return fail(rt, ToolFault::OutOfMemory);
     };
     let done = convert(rt.alloc(), setup, links.as_mut_slice(), &mut out, &mut log);
-    let is_file_out = out.flush().is_ok();
-    let is_report_out = log.flush().is_ok();
+    let is_file_out = out.finish().is_ok();
+    let is_report_out = log.finish().is_ok();
     conversion_status(rt, done, is_file_out && is_report_out)
 }

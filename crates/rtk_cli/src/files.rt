@@ -1,13 +1,12 @@
 //! Files and standard streams as sources and sinks. Nothing is known of the bytes that pass.
 
-ghost use Rattle.std.specs.Prelude.{◌≡◌, None, true, false, is_err};
-ghost use Rattle.rtk_frame.specs.Stream.{failures_after};
+ghost use Rattle.std.specs.Prelude.{◌≡◌, None, true, false};
 
 use crate::resuming::Resumed;
 use crate::words::STDIN;
 use rtk_frame::{Sink, Source, StreamFault};
 use std::fs::Files;
-use std::io::{Print, Printer, Read, Write};
+use std::io::{BufWriter, Print, Printer, Read, Write};
 use std::{fs, io};
 
 /// A capture of the program: a file, or standard input.
@@ -115,17 +114,18 @@ impl<W: Write> Writes<W> {
     {
         Writes { inner, failed: 0 }
     }
+}
 
-    /// Hands on what the writer has gathered. Nothing is known of its bytes.
-    pub(crate) fn flush(&mut self) -> Result<(), StreamFault>
-        ensures { self.new.failed ≡ failures_after self.old.failed (is_err result) }
-    {
-        match self.inner.flush() {
+impl<W: Write + Drop> Writes<BufWriter<W>> {
+    /// Hands on what was gathered, and ends. What can't be written now is let go, so that nothing
+    /// comes after a fault line. Nothing is known of the bytes.
+    pub(crate) fn finish(self) -> Result<(), StreamFault> {
+        let mut writer = self.inner;
+        let flushed = writer.flush();
+        let (_writer, _unwritten) = writer.into_parts();
+        match flushed {
             Ok(()) => Ok(()),
-            Err(_) => {
-                self.failed = self.failed.saturating_add(1);
-                Err(StreamFault)
-            }
+            Err(_) => Err(StreamFault),
         }
     }
 }
