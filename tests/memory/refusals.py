@@ -36,7 +36,7 @@ class Program:
     def run(self, words: list[str], given: str, refused: str, stack: int = 0) -> Ran:
         """`refused` is the number of the refused growth, with a `+` where all later ones are too;
         `stack` is the limit of the stack in kB, 0 for none of ours."""
-        environment = os.environ | {"LD_PRELOAD": "./refuse.so", "REFUSED_GROWTH": refused}
+        environment = {"LD_PRELOAD": "./refuse.so", "REFUSED_GROWTH": refused}
         new = os.O_WRONLY | os.O_CREAT | os.O_TRUNC
         streams = [(os.POSIX_SPAWN_OPEN, 0, given, os.O_RDONLY, 0)]
         for descriptor, name in ((1, "out"), (2, "err"), (9, "refusals")):
