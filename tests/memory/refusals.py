@@ -14,6 +14,7 @@ sys.path.insert(0, str(Path(__file__).resolve().parent.parent / "held"))
 from streams import single_satellite, split_epochs  # noqa: E402
 
 OUT_OF_MEMORY = b"rtcm2rinex: out of memory\n"
+STACK = 128  # kB, as docs/MANUAL.md says
 
 
 class Ran(NamedTuple):
@@ -32,16 +33,19 @@ class Program:
         self.path = path
         os.chdir(folder)
 
-    def run(self, words: list[str], given: str, refused: str) -> Ran:
-        """`refused` is the number of the refused growth, with a `+` where all later ones are too."""
-        environment = os.environ | {"LD_PRELOAD": "./refuse.so", "REFUSED_GROWTH": refused}
+    def run(self, words: list[str], given: str, refused: str, stack: int = 0) -> Ran:
+        """`refused` is the number of the refused growth, with a `+` where all later ones are too;
+        `stack` is the limit of the stack in kB, 0 for none of ours."""
+        environment = {"LD_PRELOAD": "./refuse.so", "REFUSED_GROWTH": refused}
         new = os.O_WRONLY | os.O_CREAT | os.O_TRUNC
         streams = [(os.POSIX_SPAWN_OPEN, 0, given, os.O_RDONLY, 0)]
         for descriptor, name in ((1, "out"), (2, "err"), (9, "refusals")):
             streams.append((os.POSIX_SPAWN_OPEN, descriptor, name, new, 0o600))
-        child = os.posix_spawn(
-            self.path, ["rtcm2rinex", *words], environment, file_actions=streams
-        )
+        path, command = self.path, ["rtcm2rinex", *words]
+        if stack > 0:
+            limit = f'ulimit -s {stack} && exec "$0" "$@"'
+            path, command = "/bin/sh", ["sh", "-c", limit, self.path, *words]
+        child = os.posix_spawn(path, command, environment, file_actions=streams)
         status = os.waitstatus_to_exitcode(os.waitpid(child, 0)[1])
         out, err = Path("out").read_bytes(), Path("err").read_bytes()
         return Ran(status, out, err, os.stat("refusals").st_size)
@@ -134,6 +138,17 @@ class Sweep:
         return True
 
 
+def fits_stack(program: Program, scene: Scene) -> bool:
+    """Prints whether the run on a small stack is the run without that limit."""
+    whole = program.run(scene.words, scene.given, "0")
+    ran = program.run(scene.words, scene.given, "0", STACK)
+    if ran == whole:
+        print(f"ok on a stack of {STACK} kB: {name_of(scene.words)}")
+    else:
+        print(f"FAILED on a stack of {STACK} kB: {name_of(scene.words)}: status {ran.status}")
+    return ran == whole
+
+
 OPTIONS = {
     "station": "2003",
     "near": "2024-05-17T12:00:00",
@@ -208,6 +223,7 @@ def main() -> None:
     Path("many").write_bytes(single_satellite(4100))
     wanted = [it for it in scenes() if not names or name_of(it.words) in names]
     passed = [Sweep(program, scene).run() for scene in wanted]
+    passed += [fits_stack(program, scene) for scene in wanted]
     print(f"{passed.count(True)} passed, {passed.count(False)} failed")
     sys.exit(not passed or not all(passed))
 
