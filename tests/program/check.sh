@@ -27,6 +27,14 @@ Usage: rtcm2rinex check <FILE>
 
 For more information, try '--help'."
 
+like_help="error: unexpected argument '--hlep' found
+
+  tip: a similar argument exists: '--help'
+
+Usage: rtcm2rinex check --help <FILE>
+
+For more information, try '--help'."
+
 mkdir folder
 ln -s nowhere dangling
 cp "$base" closed && chmod 000 closed
@@ -64,12 +72,25 @@ check dangling </dev/null;       expect a_link_to_nothing 1 '' 'rtcm2rinex: cann
 bound ./program check closed </dev/null >out 2>err; status=$?
 expect a_file_that_may_not_be_read 1 '' 'rtcm2rinex: cannot open closed'
 check '' </dev/null;             expect empty_name 1 '' 'rtcm2rinex: cannot open '
+cp "$base" stdin
+check ./stdin </dev/null;        expect file_of_the_name_stdin 0 "$yes" ''
 "$program" check "$base" >&- 2>err; status=$?; : >out
 expect closed_output 1 '' 'rtcm2rinex: write failed'
 check --help </dev/null;         expect check_help 0 "$help" ''
 "$program" help check >out 2>err </dev/null; status=$?
 expect help_check 0 "$help" ''
 check </dev/null;                expect no_file 2 '' "$no_file"
+check --hlep </dev/null;         expect like_help 2 '' "$like_help"
+
+# 70,000 epochs of a second each, and the same with a value of 0 at the end.
+{
+    sed -n '1,14p' "$base"
+    awk 'BEGIN { for (t = 43200; t < 113200; t++) printf "> 2024 05 %02d %02d %02d%11.7f  0  1\nG05         0.001\n",
+        17 + int(t / 86400), int(t / 3600) % 24, int(t / 60) % 60, t % 60 }'
+} >many
+sed '$s/0.001/0.000/' many >many_and_zero
+check many </dev/null;           expect seventy_thousand_epochs 0 'valid: 70000 epochs, 70000 satellite lines' ''
+check many_and_zero </dev/null;  expect a_fault_beyond_65535_lines 3 'line 140014: C3 Value' ''
 
 # The longest input that is judged, of zeros that take no room on the disk, and one byte more.
 truncate -s 1073741824 zeros
@@ -77,4 +98,4 @@ check zeros </dev/null;          expect longest_input 3 'line 1: C5 Truncated' '
 truncate -s 1073741825 zeros
 check zeros </dev/null;          expect input_too_long 1 '' 'rtcm2rinex: input too long'
 
-ends 26
+ends 30

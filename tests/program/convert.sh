@@ -55,31 +55,41 @@ convert 1C,2W --window 2 "$examples/late.rtcm" </dev/null; leaves late_epoch 0 "
 # A file of the name stdin; an empty capture, whose file is a header with a position of zeros.
 cp "$base" stdin
 convert 1C,2W ./stdin </dev/null;                     leaves file_of_the_name_stdin 0 "$examples/base.rnx" base.report
+convert 1C,2W ./stdin <&-;                            leaves file_of_the_name_stdin_while_it_is_closed 0 "$examples/base.rnx" base.report
+convert 1C,2W "$(printf './%.0s' $(seq 150))stdin" </dev/null
+leaves name_of_300_characters 0 "$examples/base.rnx" base.report
 sed -n '1,14p' "$examples/base.rnx" |
     sed 's/^  1114104.5999 -4850729.7108  3975521.4643/        0.0000        0.0000        0.0000/' >empty.rnx
 report 0 0 0 0 0 0 0 0 0 >empty.report
 convert 1C,2W stdin </dev/null;                       leaves empty_capture 0 empty.rnx empty.report
 
-# The file can be followed: the records of closed epochs are out while standard input is open.
+# The file can be followed, wherever standard input stands: the records of closed epochs are out while it is open.
+# follow NAME REPORT LINK..
+follow() {
+    name=$1 report=$2
+    shift 2
+    "$program" convert $options --codes 1C,2W --window 2 "$@" <capture >out 2>err &
+    running=$!
+    exec 9>capture
+    head -c 184 "$examples/late.rtcm" >&9
+    for _ in $(seq 100); do
+        [ "$(wc -l <out)" -ge 20 ] && break
+        sleep 0.2
+    done
+    same "$name" out followed
+    same "${name}_report" err /dev/null
+    tail -c +185 "$examples/late.rtcm" >&9
+    exec 9>&-
+    wait $running
+    status=$?
+    leaves "${name}_to_its_end" 0 "$examples/late.rnx" "$report"
+}
 mkfifo capture
 : >nothing
-"$program" convert $options --codes 1C,2W --window 2 nothing stdin <capture >out 2>err &
-running=$!
-exec 9>capture
-head -c 184 "$examples/late.rtcm" >&9
-for _ in $(seq 100); do
-    [ "$(wc -l <out)" -ge 20 ] && break
-    sleep 0.2
-done
 sed -n '1,20p' "$examples/late.rnx" >followed
-same followed out followed
-same followed_report err /dev/null
-tail -c +185 "$examples/late.rtcm" >&9
-exec 9>&-
-wait $running
-status=$?
 sed 's/^link 1/link 2/' "$examples/late.report" >late.report
-leaves followed_to_its_end 0 "$examples/late.rnx" late.report
+follow followed late.report nothing stdin
+follow followed_first "$examples/late.report" stdin nothing
 
 # Links that can't be opened, and links that can't be read. If one can't be opened, nothing is read and nothing is out.
 mkdir folder
@@ -129,14 +139,19 @@ words $near $made '' '' stdin stdin;                  fails no_code 2 'bad --cod
 words $near $made ' X' 1C,9Z x;                       fails unknown_code 2 'bad --codes'
 words $near $made ' X' 1C,1C stdin stdin;             fails marker 2 'bad --marker'
 words $near $made '' 1C,1C stdin stdin;               fails empty_marker 2 'bad --marker'
+words $near $made 'X ' 1C x;                          fails marker_with_a_blank_at_its_end 2 'bad --marker'
+words $near $made "$(printf '%061d' 0)" 1C x;         fails marker_of_61_characters 2 'bad --marker'
+words $near $made "$(printf '%060d' 0)" 1C nowhere;   fails marker_of_60_characters 1 'cannot open nowhere'
 words $near $made 'Bäse' 1C x;                        fails marker_beyond_ascii 2 'bad --marker'
 words $near $made X 1C,1C stdin stdin;                fails repeated_code 2 'bad --codes'
 words $near $made X 1C,2W,1C stdin stdin;             fails repeated_first_code 2 'bad --codes'
 words $near $made X $sixteen,1C x;                    fails seventeen_codes 2 'bad --codes'
+words $near $made X $sixteen,$sixteen x;              fails thirty_two_codes 2 'bad --codes'
 words $near $made X $sixteen nowhere;                 fails sixteen_codes 1 'cannot open nowhere'
 words 1980-01-06T00:00:00 $made X 1C stdin stdin;     fails standard_input_twice 2 'bad links'
 words $near $made X 1C stdin a stdin;                 fails standard_input_twice_apart 2 'bad links'
 words $near $made X 1C 1 2 3 4 5 6 7 8 9 10 11 12 13 14 15 16 17; fails seventeen_links 2 'bad links'
+words $near $made X 1C $(seq 40);                     fails forty_links 2 'bad links'
 words $near $made X 1C nowhere 2 3 4 5 6 7 8 9 10 11 12 13 14 15 16; fails sixteen_links 1 'cannot open nowhere'
 words 1980-01-06T00:00:00 $made X 1C nowhere;         fails reference_out_of_range 2 'bad --near'
 words 1980-01-12T23:59:59 $made X 1C nowhere;         fails reference_too_early 2 'bad --near'
@@ -264,4 +279,4 @@ leaves start_convert_with_a_limit_of_size 1 part part_err
 (ulimit -f 8; exec "$root/bin/rtcm2rinex" convert $options --codes 1C,2W,5X stdin) >out 2>err <"$session.rtcm"; status=$?
 leaves start_convert_followed_with_a_limit_of_size 1 part write_failed
 
-ends 122
+ends 132

@@ -64,6 +64,12 @@ no_file="error: the following required arguments were not provided:
 Usage: rtcm2rinex show <FILE>
 $try"
 
+long_word=$(printf '%05000d' 0)
+no_such_long_command="error: unrecognized subcommand '$long_word'
+
+Usage: rtcm2rinex <COMMAND>
+$try"
+
 two_files="error: unexpected argument 'b' found
 
 Usage: rtcm2rinex show [OPTIONS] <FILE>
@@ -125,6 +131,10 @@ expect tabs_line_ends_and_both_cases 0 'refused M1 -' ''
 run show nowhere </dev/null;              expect missing_file 1 '' 'rtcm2rinex: cannot open nowhere'
 run show 'no where' </dev/null;           expect missing_file_with_a_blank 1 '' 'rtcm2rinex: cannot open no where'
 run show '' </dev/null;                   expect empty_name 1 '' 'rtcm2rinex: cannot open '
+run show - </dev/null;                    expect missing_file_of_a_hyphen 1 '' 'rtcm2rinex: cannot open -'
+run show "$(printf 'a\nb')" </dev/null;   expect missing_file_with_a_line_feed 1 '' 'rtcm2rinex: cannot open a
+b'
+run show arp.hex </dev/null;              expect hex_text_as_bytes 0 '' ''
 ln -s nowhere dangling
 run show dangling </dev/null;             expect a_link_to_nothing 1 '' 'rtcm2rinex: cannot open dangling'
 cp arp.rtcm closed && chmod 000 closed
@@ -168,6 +178,7 @@ run --version </dev/null;                 expect version 0 'rtcm2rinex 0.1.0' ''
 run -V </dev/null;                        expect version_in_short 0 'rtcm2rinex 0.1.0' ''
 run </dev/null;                           expect no_command 2 '' "$no_command"
 run shew a </dev/null;                    expect no_such_command 2 '' "$no_such_command"
+run "$long_word" </dev/null;              expect no_such_long_command 2 '' "$no_such_long_command"
 run show </dev/null;                      expect no_file 2 '' "$no_file"
 run show a b </dev/null;                  expect two_files 2 '' "$two_files"
 run show --hex --hex arp.hex </dev/null;  expect hex_twice 2 '' "$hex_twice"
@@ -190,4 +201,4 @@ head -c 8192 frames >some; head -c 512 lines >part; echo 'rtcm2rinex: write fail
 (ulimit -f 1; exec "$root/bin/rtcm2rinex" show some) >out 2>err </dev/null; status=$?
 leaves start_show_with_a_limit_of_size 1 part part_err
 
-ends 56
+ends 60
