@@ -580,7 +580,8 @@ def short_reads(case):
 
 @scene("a read of whole pieces fails, for several reasons")
 def _whole_read_fails():
-    faults = [errno.EIO, errno.EAGAIN, errno.EISDIR, errno.ENOMEM, errno.ETIMEDOUT]
+    faults = [errno.EIO, errno.EAGAIN, errno.EISDIR, errno.ENOMEM, errno.ETIMEDOUT,
+              errno.ECONNRESET]
     for name, case in CASES.items():
         size = size_of_inputs(case)
         if size < 0:
