@@ -270,8 +270,8 @@ def every_cell(cases):
     records = convert([capture], codes=codes)[0].splitlines()[-33:]
     assert records[0] == "> 2024 05 17 12 00  0.0000000  0 32" and {len(it) for it in records[1:]} == {769}
     case(cases, "every_cell", [capture], codes=codes, told=report(taken=16, epochs=1))
-    for conflicts, last in ((63, 40), (64, 41)):
-        case(cases, f"conflicts_{conflicts}", [capture + cells_of(*groups[0], 41, last)], codes=codes, told=report(
+    for name, conflicts, last in (("conflicts_63", 63, 40), ("conflicts_64", 64, 41)):
+        case(cases, name, [capture + cells_of(*groups[0], 41, last)], codes=codes, told=report(
             *lines[:conflicts], taken=16, conflict=1, epochs=1))
 
 
