@@ -10,7 +10,49 @@ use Rattle.std.proofs.lemmas.Int.{ints}
 use Rattle.rtk_rinex.specs.Record.{is_written, observation, observations, lli_digit, strength_digit, strength_value, IsStrengthOrNone}
 use Rattle.rtk_rinex.specs.Table.{IsAbsentOrWritten, IsLock, IsObserved}
 use Rattle.rtk_rinex.proofs.DigitsLemmas.{number_of-fixed_3, length-right, take-exact, drop-exact}
-use Rattle.rtk_rinex.specs.Steps.CheckValues.{value_text, are_blanks, value_in, strength_in, slip_in, half_in, observed_in}
+use Rattle.rtk_rinex.specs.Steps.Digits.{number_in}
+
+-- ---- what the columns of a field show, whatever stands in them
+
+unfoldable pub are_blanks : List ℕ → Bool
+are_blanks = list_all (λ x. x == 32)
+
+-- the value that 14 columns show; no value if they are blank
+abbrev pub value_in : List ℕ → Option ℤ
+value_in field = if are_blanks field then None else Some (number_in field)
+
+-- F14.3 of a value, or 14 blanks without a value
+abbrev pub value_text : Option ℤ → List ℕ
+value_text None = replicate 14 32
+value_text (Some v) = fixed 3 14 v
+
+-- the magnitude of a value as a strength, if it is in the range of a message's strengths
+abbrev pub strength_in : Option ℤ → Option ℕ
+strength_in None = None
+strength_in (Some v) =
+    if nat_le 250 (unsigned_abs v) && nat_le (unsigned_abs v) 63_750 then Some (unsigned_abs v) else None
+
+-- the marks of the loss-of-lock digit that begins a text
+abbrev pub slip_in : List ℕ → Bool
+slip_in [] = false
+slip_in (x ∷ xs) = (x == 49) || (x == 51)
+
+abbrev pub half_in : List ℕ → Bool
+half_in [] = false
+half_in (x ∷ xs) = (x == 50) || (x == 51)
+
+-- what 48 columns show of a code
+abbrev pub observed_in : List ℕ → Observed
+observed_in columns =
+    record {
+      range_mm = value_in (take 14 columns);
+      phase_millicycles = value_in (take 14 (drop 16 columns));
+      strength_millidbhz = strength_in (value_in (take 14 (drop 32 columns)));
+      slip = slip_in (drop 30 columns);
+      half = half_in (drop 30 columns);
+    }
+
+-- ---- and that it is what was written
 
 and-assoc : (a b c : Bool) → ((a && b) && c) ≡ (a && (b && c))
 and-assoc true b c = refl
