@@ -20,7 +20,7 @@ use Rattle.rtk_rinex.proofs.OneLemmas.{one_epoch_line, count-of, epoch_line-of}
 
 -- ---- the form of a row's line
 
-get_front : (xs ys : List ℕ) (k : ℕ) → k < length xs → get_or (xs ++ ys) k 0 ≡ get_or xs k 0
+pub get_front : (xs ys : List ℕ) (k : ℕ) → k < length xs → get_or (xs ++ ys) k 0 ≡ get_or xs k 0
 get_front [] ys k h = absurd (omega arith)
 get_front (x ∷ xs) ys zero h = refl
 get_front (x ∷ xs) ys (suc k) h = get_front xs ys k (omega arith)
@@ -42,7 +42,7 @@ unfolding trim_end
 solid [] k long = absurd (omega (arith, long))
 solid (x ∷ xs) k long = solid_front x (trim_end xs) k (λ j e. solid xs j e) long
 
-long_enough : (kept : List ℕ) (s : ℕ) → take 3 (kept ++ 10 ∷ []) ≡ 71 ∷ last_digits 2 s → 3 ≤ length kept
+pub long_enough : (kept : List ℕ) (s : ℕ) → take 3 (kept ++ 10 ∷ []) ≡ 71 ∷ last_digits 2 s → 3 ≤ length kept
 long_enough [] s e = absurd (let long = ap length e in omega (arith, long))
 long_enough (x ∷ []) s e = absurd (let long = ap length e in omega (arith, long))
 long_enough (x ∷ y ∷ []) s e = absurd (let units : 10 ≡ 48 + s % 10 = ap (λ (xs : List ℕ). get_or xs 2 0) e in omega (arith, units))

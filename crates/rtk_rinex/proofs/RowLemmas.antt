@@ -53,7 +53,7 @@ trimmed (x ∷ xs) = trimmed_front x xs (trim_end xs) (trimmed xs)
 
 -- ---- the columns of a row
 
-length-observations : (o : Observed) → IsObserved o → length (observations o) ≡ 48
+pub length-observations : (o : Observed) → IsObserved o → length (observations o) ≡ 48
 length-observations o h =
     let digit = strength_digit o.strength_millidbhz in
     let a : List ℕ = observation o.range_mm 32 digit in

@@ -84,10 +84,10 @@ same_list n epochs others le h g e =
     let none : goes.more ≡ [] = no_rest n goes.more (all_more n epochs goes.more (rw goes.list at g)) goes.text in
     goes.list ∙ ap (λ (t : List EpochTableView). epochs ++ t) none ∙ append-nil epochs
 
-pub holds : (bytes rest old new : List ℕ) (h : HeadView) (s : PositionView) (first records lines : ℕ) → IsHeadView h → IsPositionView s → IsMoment first
-    → bytes ≡ header_text h s first ++ rest → IsOnlyHeader bytes h s first → ReadsRecords (length h.listed) first records lines rest old new
+pub holds : (bytes rest : List ℕ) (h : HeadView) (s : PositionView) (first records lines : ℕ) → IsHeadView h → IsPositionView s → IsMoment first
+    → bytes ≡ header_text h s first ++ rest → IsOnlyHeader bytes h s first → ReadsRecords (length h.listed) first records lines rest
     → HoldsTable bytes records lines
-holds bytes rest old new h s first records lines heading site moment e only r =
+holds bytes rest h s first records lines heading site moment e only r =
     let n = length h.listed in
     let le : n ≤ 16 = heading.1.0.1 in
     let all = epochs-all n first None r.epochs r.are_epochs in
@@ -110,13 +110,6 @@ holds bytes rest old new h s first records lines heading site moment e only r =
       epochs = r.count;
       satellites = r.satellites;
     }
-
--- what is out is the text
-pub copy : (n : ℕ) (bytes rest start mid new : List ℕ) (h : HeadView) (s : PositionView) (first records lines : ℕ) → start ≡ [] → mid ≡ start ++ header_text h s first
-    → bytes ≡ header_text h s first ++ rest → ReadsRecords n first records lines rest mid new → new ≡ bytes
-copy n bytes rest start mid new h s first records lines none m e r =
-    let begun : mid ≡ header_text h s first = rw none at m in
-    r.out ∙ ap (λ (t : List ℕ). t ++ flat_map record_text r.epochs) begun ∙ ap (λ (t : List ℕ). header_text h s first ++ t) (sym r.text) ∙ sym e
 
 -- ---- a fault in the records
 

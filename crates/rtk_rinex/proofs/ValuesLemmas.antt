@@ -1,5 +1,7 @@
 -- What the text of a value shows is the value.
-use Rattle.std.proofs.Common.{◌≡◌, ℕ, suc, ◌-◌, ◌/◌, ◌^◌, ◌<◌, ◌≤◌, [], ◌∷◌, ◌++◌, List, length, replicate, decimal, take, drop, ap, arith, refl, sym, ◌∙◌, true, false, Bool, ◌==◌, ◌&&◌, length-append, append_assoc, ℤ, pos, negsuc, unsigned_abs, ◌≤ℤ◌, Option, Some, None}
+use Rattle.std.proofs.Common.{◌≡◌, ℕ, suc, ◌-◌, ◌/◌, ◌^◌, ◌<◌, ◌≤◌, [], ◌∷◌, ◌++◌, List, length, replicate, decimal, take, drop, ap, arith, refl, sym, ◌∙◌, true, false, Bool, ◌==◌, ◌&&◌, ◌||◌, if◌then◌else◌, length-append, append_assoc, ℤ, pos, negsuc, unsigned_abs, ◌≤ℤ◌, Option, Some, None}
+use Rattle.std.specs.Prelude.{nat_le}
+use Rattle.std.specs.List.{list_all}
 use Rattle.std.specs.Fmt.{sign_text}
 use Rattle.std.proofs.lemmas.Fmt.{length-decimal-le}
 use Rattle.std.proofs.lemmas.Bool.Decides.{nat_tests}
@@ -59,7 +61,7 @@ and-assoc true b c = refl
 and-assoc false b c = refl
 
 -- no blanks alone
-are_blanks-append : (xs ys : List ℕ) → are_blanks (xs ++ ys) ≡ (are_blanks xs && are_blanks ys)
+pub are_blanks-append : (xs ys : List ℕ) → are_blanks (xs ++ ys) ≡ (are_blanks xs && are_blanks ys)
 unfolding are_blanks
 are_blanks-append [] ys = refl
 are_blanks-append (x ∷ xs) ys = rw (are_blanks-append xs ys) (sym (and-assoc (x == 32) (are_blanks xs) (are_blanks ys)))
@@ -125,7 +127,7 @@ length-observation v first second h =
     let two = length-ends v first second in
     rw (observation-is v first second h) (length-append (value_text v) (ends v first second) ∙ omega arith)
 
-value_of-observation : (v : Option ℤ) (first second : ℕ) (rest : List ℕ) → IsAbsentOrWritten v → value_in (take 14 (observation v first second ++ rest)) ≡ v
+pub value_of-observation : (v : Option ℤ) (first second : ℕ) (rest : List ℕ) → IsAbsentOrWritten v → value_in (take 14 (observation v first second ++ rest)) ≡ v
 value_of-observation v first second rest h =
     let cut : take 14 (observation v first second ++ rest) ≡ value_text v =
     rw (observation-is v first second h, append_assoc) (take-exact 14 (value_text v) (ends v first second ++ rest) (length-value_text v h)) in

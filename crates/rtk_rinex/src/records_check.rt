@@ -26,11 +26,7 @@ fn is_next_time(first: GpsMs, last: Option<GpsMs>, time: GpsMs) -> bool
 
 // The moment and count of an epoch line that follows the epoch `last`, in a file of this first
 // time; else the cause of its fault.
-fn check_epoch_line(
-    line: &[u8],
-    first: GpsMs,
-    last: Option<GpsMs>,
-) -> Result<EpochStamp, Cause>
+fn check_epoch_line(line: &[u8], first: GpsMs, last: Option<GpsMs>) -> Result<EpochStamp, Cause>
     ensures line { IfOk result (λ s. IsEpochLine line.now s.time s.count × IsNextTime first last s.time) }
     ensures fault { IfErr result (IsEpochFault first last line.now) }
 {
@@ -87,11 +83,7 @@ fn is_next_satellite(last: Option<u8>, satellite: u8) -> bool
 
 // The satellite of a satellite line that follows the line of the satellite `last`, in a file of `width`
 // codes; else the cause of its fault.
-fn check_satellite_line(
-    line: &[u8],
-    width: usize,
-    last: Option<u8>,
-) -> Result<u8, Cause>
+fn check_satellite_line(line: &[u8], width: usize, last: Option<u8>) -> Result<u8, Cause>
     requires width { width ≤ 16 }
     requires line { IsLine line.now }
     ensures row { IfOk result (λ s. IsRowLine width line.now s) }
@@ -213,7 +205,10 @@ pub(crate) fn check_records(
         satellites: 0,
     };
     while rest.len() > 0 {
-        let (stamp, after) = check_record(rest, line, width, first, last)?;
+        let (stamp, after) = match check_record(rest, line, width, first, last) {
+            Ok(read) => read,
+            Err(fault) => return Err(fault),
+        };
         line += 1 + stamp.count;
         last = Some(stamp.time);
         counts.epochs += 1;
