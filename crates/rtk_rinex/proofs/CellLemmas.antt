@@ -1,8 +1,9 @@
 -- The columns of what a code can show, one after another in the line of a satellite.
 use Rattle.std.proofs.Common.{◌≡◌, ◌≢◌, ℕ, zero, suc, ◌+◌, ◌-◌, ◌*◌, ◌/◌, ◌%◌, ◌<◌, ◌≤◌, [], ◌∷◌, ◌++◌, List, length, replicate, take, drop, get_or, slice_get, length-drop, ap, arith, refl, sym, ◌∙◌, true, false, Bool, ◌||◌, ◌&&◌, length-append, append_assoc, flat_map, unsigned_abs, ℤ, ◌⊎◌, ⊎_elim, Option, Some, None, inl, inr}
-use Rattle.std.specs.Prelude.{All, IsTrue, is_some}
+use Rattle.std.specs.Prelude.{All, IsTrue, is_some, MatchOption, ◌↔◌, ◌≤ℤ◌, pos, negsuc}
 use Rattle.std.specs.Int.{IsInRange}
 use Rattle.std.specs.List.{list_any}
+use Rattle.std.proofs.lemmas.Int.{ints}
 use Rattle.std.proofs.lemmas.Bool.Decides.{leb_tells}
 use Rattle.std.proofs.lemmas.List.{append-nil, take_all, take-append-le, take-append-drop, length-replicate, length-take, replicate-append-replicate}
 use Rattle.std.proofs.Math.Seq.{drop-nil}
@@ -48,6 +49,15 @@ one_strength None (Some t) e = cc
 one_strength (Some s) None e = cc
 one_strength (Some s) (Some t) e = cc
 
+-- a strength that a value is
+pub strength-is : (s : Option ℕ) (v : ℤ) → IsStrengthOrNone s → Some v ≡ strength_value s → (n : ℕ) × (v ≡ pos n) × IsStrengthOrNone (Some n)
+strength-is None v h e = cc
+strength-is (Some n) v h e = (n, cc, h)
+
+pub not_negative : (v : ℤ) → pos 0 ≤ℤ v → v ≡ pos (unsigned_abs v)
+not_negative (pos n) h = refl
+not_negative (negsuc n) h = grind (arith, ints)
+
 -- a value that is written, and its two digits
 pub record HasValue (columns : List ℕ) (v : ℤ) (first second : ℕ) : Type 0 where
   pub field : take 14 columns ≡ fixed 3 14 v
@@ -66,6 +76,19 @@ two_of [] e = absurd (omega (arith, e))
 two_of (x ∷ []) e = absurd (omega (arith, e))
 two_of (x ∷ y ∷ []) e = refl
 two_of (x ∷ y ∷ z ∷ xs) e = absurd (omega (arith, e))
+
+-- columns that are not blank have a value
+pub some-value : (columns : List ℕ) (v : Option ℤ) (first second : ℕ) → IsAbsentOrWritten v → columns ≢ replicate 16 32 → columns ≡ observation v first second
+    → (w : ℤ) × (is_written w ≡ true) × HasValue columns w first second
+some-value columns None first second h solid e = absurd (solid e)
+some-value columns (Some v) first second h solid e = (v, h, has-value columns v first second h e)
+
+-- the columns of a value and its digits
+pub value-columns : (columns field digits : List ℕ) (v : ℤ) (first second : ℕ) → is_written v ≡ true → columns ≡ field ++ digits → field ≡ fixed 3 14 v
+    → length digits ≡ 2 → get_or digits 0 0 ≡ first → get_or digits 1 0 ≡ second → columns ≡ observation (Some v) first second
+value-columns columns field digits v first second h e f long a b =
+    let two : digits ≡ first ∷ second ∷ [] = two_of digits long ∙ (rw (a, b) refl) in
+    rw h (e ∙ (rw (f, two) refl))
 
 -- the loss-of-lock digit in the columns of a phase
 pub lock-digit : (columns : List ℕ) (v : Option ℤ) (slip half : Bool) (second : ℕ) → IsAbsentOrWritten v → IsLock v slip half
@@ -112,6 +135,19 @@ has-columns columns o h e =
       phase = rw others (take-exact 16 b c b16);
       strength = rw others (drop-exact 16 b c b16);
     }
+
+pub columns-of : (columns range phase strength : List ℕ) (o : Observed) → columns ≡ range ++ (phase ++ strength)
+    → range ≡ observation o.range_mm 32 (strength_digit o.strength_millidbhz)
+    → phase ≡ observation o.phase_millicycles (lli_digit o.slip o.half) (strength_digit o.strength_millidbhz)
+    → strength ≡ observation (strength_value o.strength_millidbhz) 32 32 → columns ≡ observations o
+columns-of columns range phase strength o e a b c = e ∙ sym (append_assoc range phase strength) ∙ (rw (a, b, c) refl)
+
+-- the columns show something, or nothing that a code can show
+pub decides-some : (r : Option Observed) (columns : List ℕ)
+    → MatchOption r ((o : Observed) → IsObserved o → columns ≢ observations o) (λ o. IsObserved o × (columns ≡ observations o))
+    → IsTrue (is_some r) ↔ ((o : Observed) × IsObserved o × (columns ≡ observations o))
+decides-some None columns h = (λ e. cc, λ s. absurd (h s.0 s.1 s.2))
+decides-some (Some o) columns h = (λ e. (o, h.0, h.1), λ s. refl)
 
 -- ---- the columns of codes
 

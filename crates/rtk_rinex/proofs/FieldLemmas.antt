@@ -1,5 +1,5 @@
 -- The columns of a value: blanks, a sign, the digits of a number, a point and three digits.
-use Rattle.std.proofs.Common.{◌≡◌, ◌≢◌, ℕ, zero, suc, ◌+◌, ◌-◌, ◌*◌, ◌/◌, ◌%◌, ◌^◌, ◌<◌, ◌≤◌, [], ◌∷◌, ◌++◌, List, length, replicate, decimal, take, drop, get_or, slice_get, ap, arith, refl, sym, ◌∙◌, true, false, Bool, length-append, append_assoc, ℤ, pos, negsuc, unsigned_abs, Some}
+use Rattle.std.proofs.Common.{◌≡◌, ◌≢◌, ℕ, zero, suc, ◌+◌, ◌-◌, ◌*◌, ◌/◌, ◌%◌, ◌^◌, ◌<◌, ◌≤◌, [], ◌∷◌, ◌++◌, List, length, replicate, decimal, take, drop, get_or, slice_get, ap, arith, refl, sym, ◌∙◌, true, false, Bool, length-append, append_assoc, ℤ, pos, negsuc, unsigned_abs, neg_ℤ, if◌then◌else◌, Some}
 use Rattle.std.specs.Prelude.{All}
 use Rattle.std.specs.Int.{IsInRange}
 use Rattle.std.specs.Fmt.{sign_text}
@@ -9,9 +9,10 @@ use Rattle.std.proofs.lemmas.List.{append-nil}
 use Rattle.std.proofs.lemmas.List.Elements.{All-nil, All-cons, All-head, All-tail, All-append}
 use Rattle.rtk_rinex.specs.Columns.{right, last_digits, decimals, fixed, is_negative}
 use Rattle.rtk_rinex.specs.Record.{is_written}
-use Rattle.rtk_rinex.proofs.DigitsLemmas.{take-exact, drop-exact, length-right}
+use Rattle.rtk_rinex.proofs.DigitsLemmas.{take-exact, drop-exact, length-right, digits_from-thousandths}
+use Rattle.rtk_rinex.specs.Steps.Digits.{digits_from}
 use Rattle.rtk_rinex.proofs.ColumnsLemmas.{right-blanks}
-use Rattle.rtk_rinex.proofs.ValuesLemmas.{written-limits}
+use Rattle.rtk_rinex.proofs.ValuesLemmas.{written-limits, written-magnitude}
 
 -- ---- the digits of a number
 
@@ -25,14 +26,26 @@ all_digits n h =
 pub digit-at : (n : ℕ) (text : List ℕ) (k : ℕ) → n < 2 ^ 64 → text ≡ decimal n → k < length text → IsInRange 48 57 (get_or text k 0)
 digit-at n text k h e lt = let all : All (IsInRange 48 57) text = rw e (all_digits n h) in all k 0 lt
 
+pub not_empty : (n : ℕ) (text : List ℕ) → n < 2 ^ 64 → text ≡ decimal n → 1 ≤ length text
+not_empty n text h e = let some : 0 < length (decimal n) = decimal_nonempty n h in omega (arith, ap length e, some)
+
+pub no_digit : (n : ℕ) (text : List ℕ) (k : ℕ) → n < 2 ^ 64 → text ≡ decimal n → k < length text → ((d : ℕ) → d < 10 → get_or text k 0 ≢ 48 + d) → ⊥
+no_digit n text k h e lt no =
+    let is = digit-at n text k h e lt in
+    no (get_or text k 0 - 48) (omega (arith, is)) (omega (arith, is))
+
 -- a number of more than one digit begins with no 0
-pub no_leading_zero : (n x y : ℕ) (rest : List ℕ) → n < 2 ^ 64 → x ∷ y ∷ rest ≡ decimal n → x ≢ 48
-no_leading_zero n x y rest h e is =
-    let long : 2 ≤ length (decimal n) = rw (← e) (omega arith) in
-    let some : n ≢ 0 = λ z. let one : length (decimal n) ≡ 1 = rw z (ap length (decimal_digit 0 (omega arith))) in omega (arith, long, one) in
+pub no_leading_zero : (n : ℕ) (text : List ℕ) → n < 2 ^ 64 → text ≡ decimal n → 2 ≤ length text → get_or text 0 0 ≢ 48
+no_leading_zero n text h e long is =
+    let some : n ≢ 0 = λ z. let one : length (decimal n) ≡ 1 = rw z (ap length (decimal_digit 0 (omega arith))) in omega (arith, long, one, ap length e) in
     let first : 48 < get_or (decimal n) 0 0 = first_decimal n (omega (arith, some)) h in
-    let head : get_or (decimal n) 0 0 ≡ x = ap (λ (xs : List ℕ). get_or xs 0 0) (sym e) in
+    let head : get_or (decimal n) 0 0 ≡ get_or text 0 0 = ap (λ (xs : List ℕ). get_or xs 0 0) (sym e) in
     omega (arith, first, head, is)
+
+-- a text of one character and others
+pub cons_of : (xs : List ℕ) → 1 ≤ length xs → get_or xs 0 0 ∷ drop 1 xs ≡ xs
+cons_of [] h = absurd (omega arith)
+cons_of (x ∷ xs) h = refl
 
 -- one digit more
 pub decimal-more : (n d : ℕ) (digits : List ℕ) → 1 ≤ n → n * 10 + d < 2 ^ 64 → d < 10 → digits ≡ decimal n → digits ++ (48 + d) ∷ [] ≡ decimal (n * 10 + d)
@@ -62,9 +75,24 @@ solid false n h e =
     let first : IsInRange 48 57 (get_or (decimal n) 0 0) = digit-at n (decimal n) 0 h refl some in
     first_is (decimal n) [] some first (ap (λ (xs : List ℕ). slice_get xs 0) (append-nil (decimal n)) ∙ e)
 
--- a number without a minus sign begins with none
-pub no_sign : (n : ℕ) (text : List ℕ) → n < 2 ^ 64 → 45 ∷ text ≢ decimal n
-no_sign n text h e = let first = digit-at n (45 ∷ text) 0 h e (omega arith) in omega (arith, first.0)
+-- the sign and the number after the blanks
+pub after-blanks : (columns text : List ℕ) (k : ℕ) (negative : Bool) (n : ℕ) → n < 2 ^ 64 → columns ≡ replicate k 32 ++ text → slice_get text 0 ≢ Some 32
+    → columns ≡ right 10 (sign_text negative ++ decimal n) → text ≡ sign_text negative ++ decimal n
+after-blanks columns text k negative n h e g f =
+    one_front k (10 - length (sign_text negative ++ decimal n)) text (sign_text negative ++ decimal n) g (solid negative n h) (sym e ∙ f)
+
+-- of a text that begins with a minus sign, and of one that does not, the number
+pub minus_digits : (text : List ℕ) (negative : Bool) (n : ℕ) → n < 2 ^ 64 → get_or text 0 0 ≡ 45 → text ≡ sign_text negative ++ decimal n → drop 1 text ≡ decimal n
+minus_digits text true n h first e = ap (drop 1) e
+minus_digits text false n h first e = absurd (let is = digit-at n text 0 h e (not_empty n text h e) in omega (arith, is.0, first))
+
+pub plain_digits : (text : List ℕ) (negative : Bool) (n : ℕ) → n < 2 ^ 64 → get_or text 0 0 ≢ 45 → text ≡ sign_text negative ++ decimal n → text ≡ decimal n
+plain_digits text true n h first e = absurd (first (ap (λ (xs : List ℕ). get_or xs 0 0) e))
+plain_digits text false n h first e = e
+
+pub no_first : (text : List ℕ) → length text < 1 → get_or text 0 0 ≢ 45
+no_first [] h e = omega (arith, e)
+no_first (x ∷ text) h e = omega (arith, h)
 
 -- ---- F14.3
 
@@ -116,11 +144,39 @@ last-three q r h =
     let c : (q * 1000 + r) % 10 ≡ r % 10 = omega arith in
     rw (a, b, c) refl
 
--- what has the parts is the value
-pub of_parts : (field whole rest last : List ℕ) (negative : Bool) (q r : ℕ) (v : ℤ) → field ≡ whole ++ rest → rest ≡ 46 ∷ last
-    → whole ≡ right 10 (sign_text negative ++ decimal q) → last ≡ last_digits 3 r → r < 1000 → unsigned_abs v ≡ q * 1000 + r → is_negative v ≡ negative
-    → field ≡ fixed 3 14 v
-of_parts field whole rest last negative q r v e f g h small m n =
-    let front : unsigned_abs v / 1000 ≡ q = omega (arith, m) in
-    let back : last_digits 3 (unsigned_abs v) ≡ last_digits 3 r = rw m (last-three q r small) in
-    e ∙ (rw (f, g, h, fixed-is v, front, back, n) refl)
+no_zero-written : (v : ℤ) → is_written v ≡ true → unsigned_abs v ≡ 0 → ⊥
+no_zero-written v h z = grind (arith, ints)
+
+written-negative : (m : ℕ) → suc m < 10 ^ 12 → is_written (negsuc m) ≡ true
+written-negative m h = grind (arith, ints)
+
+written-positive : (m : ℕ) → m < 10 ^ 13 → m ≢ 0 → is_written (pos m) ≡ true
+written-positive m h some = grind (arith, ints)
+
+-- what has the parts of a number in thousandths is its text
+pub text_of-parts : (field whole rest last : List ℕ) (negative : Bool) (q r : ℕ) → field ≡ whole ++ rest → rest ≡ 46 ∷ last
+    → whole ≡ right 10 (sign_text negative ++ decimal q) → last ≡ last_digits 3 r → r < 1000 → field ≡ right 14 (decimals 3 negative (q * 1000 + r))
+text_of-parts field whole rest last negative q r e f g h small =
+    let front : (q * 1000 + r) / 1000 ≡ q = omega (arith, small) in
+    let back : last_digits 3 (q * 1000 + r) ≡ last_digits 3 r = last-three q r small in
+    let point : right 14 (decimals 3 negative (q * 1000 + r)) ≡ right 10 (sign_text negative ++ decimal q) ++ 46 ∷ last_digits 3 r =
+    ap (λ (t : List ℕ). right 14 t) (ap (λ (n : ℕ). sign_text negative ++ decimal n ++ 46 ∷ last_digits 3 (q * 1000 + r)) front ∙ ap (λ (t : List ℕ). sign_text negative ++ decimal q ++ 46 ∷ t) back)
+    ∙ right-point (sign_text negative ++ decimal q) (last_digits 3 r) refl in
+    e ∙ ap (λ (t : List ℕ). whole ++ t) (f ∙ ap (λ (t : List ℕ). 46 ∷ t) h) ∙ ap (λ (t : List ℕ). t ++ 46 ∷ last_digits 3 r) g ∙ sym point
+
+-- no value is written as 0
+pub no_zero : (field : List ℕ) (negative : Bool) (m : ℕ) (v : ℤ) → m ≡ 0 → field ≡ right 14 (decimals 3 negative m) → is_written v ≡ true → field ≢ fixed 3 14 v
+no_zero field negative m v zero_is e h f =
+    let limit = written-magnitude v h in
+    let one = digits_from-thousandths negative m (omega (arith, zero_is)) in
+    let other = digits_from-thousandths (is_negative v) (unsigned_abs v) (omega (arith, limit)) in
+    let same : unsigned_abs v ≡ 0 = sym other ∙ ap (digits_from 0) (sym f ∙ e) ∙ one ∙ zero_is in
+    no_zero-written v h same
+
+-- the value of a sign and a number in thousandths
+pub value_of : (field : List ℕ) (negative : Bool) (m : ℕ) (v : ℤ) → v ≡ (if negative then neg_ℤ (pos m) else pos m) → m ≢ 0
+    → m < (if negative then 10 ^ 12 else 10 ^ 13) → field ≡ right 14 (decimals 3 negative m) → (is_written v ≡ true) × (field ≡ fixed 3 14 v)
+value_of field true zero v e some low f = absurd (some refl)
+value_of field true (suc m) v e some low f =
+    let is : is_written (negsuc m) ≡ true = written-negative m low in (rw e is, rw e f)
+value_of field false m v e some low f = (rw e (written-positive m low some), rw e f)

@@ -35,10 +35,13 @@ fn is_cell(columns: &[u8]) -> bool
     requires { length columns.now ≤ 48 }
     ensures { IsTrue result ↔ IsCell columns.now }
 {
+    if columns.len() == 0 {
+        return true;
+    }
     if columns.len() == CODE_COLUMNS {
         return shown_observed(columns).is_some();
     }
-    columns.len() == 0 || shown_observed(padded(columns).as_slice()).is_some()
+    shown_observed(padded(columns).as_slice()).is_some()
 }
 
 // Do these columns show `width` codes, one after another? Blanks at the end may be missing.

@@ -1,6 +1,6 @@
 //! The columns of an observation, told by their form.
 
-ghost use Rattle.std.specs.Prelude.{◌≡◌, ◌≢◌, ℕ, ℤ, Bool, ◌+◌, ◌*◌, ◌^◌, ◌<◌, ◌≤◌, ◌++◌, [], ◌∷◌, length, slice_get, Some, replicate, decimal, if◌then◌else◌, IsTrue, IfSome, MatchOption, Option};
+ghost use Rattle.std.specs.Prelude.{◌≡◌, ◌≢◌, ℕ, ℤ, pos, neg_ℤ, Bool, ◌+◌, ◌*◌, ◌^◌, ◌<◌, ◌≤◌, ◌++◌, [], ◌∷◌, length, slice_get, Some, replicate, decimal, if◌then◌else◌, IsTrue, ◌↔◌, IfSome, MatchOption, Option};
 ghost use Rattle.std.specs.Fmt.{sign_text};
 ghost use Rattle.rtk_rinex.specs.Columns.{last_digits, right, fixed};
 ghost use Rattle.rtk_rinex.specs.Record.{is_written, observation, observations, strength_value, lli_digit, IsStrengthOrNone};
@@ -12,10 +12,10 @@ use crate::record_text::digit_of_strength;
 
 // The least signal strength of a message in thousandths of a dB-Hz, which is also the step between
 // two of them.
-const LEAST_STRENGTH: i64 = 250;
+const LEAST_STRENGTH: u64 = 250;
 
 // The greatest signal strength of a message in thousandths of a dB-Hz.
-const GREATEST_STRENGTH: i64 = 63_750;
+const GREATEST_STRENGTH: u64 = 63_750;
 
 // The columns of a value that is not written, and of its digits.
 const BLANKS: [u8; 16] = [b' '; 16];
@@ -53,7 +53,10 @@ fn number_of_decimal(text: &[u8]) -> Option<u64>
         return None;
     };
     let mut number = digit_of(*first)?;
-    if number == 0 && others.len() > 0 {
+    if others.len() == 0 {
+        return Some(number);
+    }
+    if number == 0 {
         return None;
     }
     for byte in others {
@@ -87,6 +90,15 @@ fn number_of_three(text: &[u8]) -> Option<u64>
     Some(digit_of(*hundreds)? * 100 + digit_of(*tens)? * 10 + digit_of(*units)?)
 }
 
+// A number with this sign.
+fn with_sign(negative: bool, magnitude: u64) -> i64
+    requires { magnitude < 10 ^ 13 }
+    ensures { result ≡ (if negative then neg_ℤ (pos magnitude) else pos magnitude) }
+{
+    let number = magnitude as i64;
+    if negative { -number } else { number }
+}
+
 // The value in thousandths that stands in 14 columns as F14.3.
 fn written_value(field: &[u8]) -> Option<i64>
     requires { length field.now ≡ 14 }
@@ -99,14 +111,11 @@ fn written_value(field: &[u8]) -> Option<i64>
         return None;
     };
     let (negative, whole) = signed_number(columns)?;
-    let magnitude = (whole * 1000 + number_of_three(decimals)?) as i64;
+    let magnitude = whole * 1000 + number_of_three(decimals)?;
     if magnitude == 0 {
-        None
-    } else if negative {
-        Some(-magnitude)
-    } else {
-        Some(magnitude)
+        return None;
     }
+    Some(with_sign(negative, magnitude))
 }
 
 // The value that 16 columns show, with these digits after it; or that they show none.
@@ -126,6 +135,13 @@ fn shown_observation(columns: &[u8], first: u8, second: u8) -> Option<Option<i64
     Some(Some(written_value(field)?))
 }
 
+// Is this a signal strength of a message, in thousandths of a dB-Hz?
+fn is_strength(strength: u64) -> bool
+    ensures { IsTrue result ↔ IsStrengthOrNone (Some strength) }
+{
+    strength >= LEAST_STRENGTH && strength <= GREATEST_STRENGTH && strength % LEAST_STRENGTH == 0
+}
+
 // The signal strength in thousandths of a dB-Hz that 16 columns show; or that they show none.
 fn shown_strength(columns: &[u8]) -> Option<Option<u32>>
     requires { length columns.now ≡ 16 }
@@ -133,17 +149,14 @@ fn shown_strength(columns: &[u8]) -> Option<Option<u32>>
         ((s : Option ℕ) → IsStrengthOrNone s → columns.now ≢ observation (strength_value s) 32 32)
         (λ s. IsStrengthOrNone s × (columns.now ≡ observation (strength_value s) 32 32)) }
 {
-    let Some(strength) = shown_observation(columns, b' ', b' ')? else {
+    let Some(value) = shown_observation(columns, b' ', b' ')? else {
         return Some(None);
     };
-    if strength >= LEAST_STRENGTH
-        && strength <= GREATEST_STRENGTH
-        && strength % LEAST_STRENGTH == 0
-    {
-        Some(Some(strength as u32))
-    } else {
-        None
+    let strength = value.unsigned_abs();
+    if value < 0 || !is_strength(strength) {
+        return None;
     }
+    Some(Some(strength as u32))
 }
 
 // The slip and the half-cycle ambiguity that a loss-of-lock digit shows.

@@ -1,9 +1,9 @@
-use Rattle.std.proofs.Common.{◌≡◌, ◌+◌, ◌<◌, ◌≤◌, ◌^◌, ◌∷◌, length, take, decimal}
+use Rattle.std.proofs.Common.{◌≡◌, ◌+◌, ◌<◌, ◌≤◌, ◌^◌, ◌∷◌, length, take, get_or, decimal}
 use Rattle.rtk_rinex.proofs.value_check.number_of_decimal.Given as goal
 
 abbrev pub invariant-loop-byte : goal.invariant-loop-byte
 invariant-loop-byte l = record {
-  digits : l.first ∷ take l.byte-index l.others ≡ decimal l.number;
-  some : 0 < length l.others → 1 ≤ l.number;
+  digits : get_or l.text 0 0 ∷ take l.byte-index l.others ≡ decimal l.number;
+  some : 1 ≤ l.number;
   small : l.number < 10 ^ (l.byte-index + 1);
 }
