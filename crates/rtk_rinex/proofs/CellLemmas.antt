@@ -5,7 +5,7 @@ use Rattle.std.specs.Int.{IsInRange}
 use Rattle.std.specs.List.{list_any}
 use Rattle.std.proofs.lemmas.Int.{ints}
 use Rattle.std.proofs.lemmas.Bool.Decides.{leb_tells}
-use Rattle.std.proofs.lemmas.List.{append-nil, take_all, take-append-le, take-append-drop, length-replicate, length-take, replicate-append-replicate}
+use Rattle.std.proofs.lemmas.List.{append-nil, take_all, drop-take, take-append-le, take-append-drop, length-replicate, length-take, replicate-append-replicate}
 use Rattle.std.proofs.Math.Seq.{drop-nil}
 use Rattle.std.proofs.lemmas.List.Elements.{All-nil, All-cons, All-head, All-tail}
 use Rattle.std.proofs.lemmas.Option.{slice_get-get_or}
@@ -19,11 +19,17 @@ use Rattle.rtk_rinex.specs.Lines.{IsLine}
 use Rattle.rtk_rinex.specs.Steps.CheckValues.{IsCell, AreCells}
 use Rattle.rtk_rinex.proofs.DigitsLemmas.{take-exact, drop-exact, length-left}
 use Rattle.rtk_rinex.proofs.RecordLemmas.{trim_end-blank, trim_end-done}
+use Rattle.rtk_rinex.proofs.FieldLemmas.{none_of}
 use Rattle.rtk_rinex.proofs.FormLemmas.{get_front, long_enough}
 use Rattle.rtk_rinex.proofs.ValuesLemmas.{clash, are_blanks, are_blanks-append, are_blanks-decimals, value_in, value_of-observation, length-fixed, length-observation, IsValue-strength}
 use Rattle.rtk_rinex.proofs.RowLemmas.{IsTrimmed, trimmed, whole, length-whole, length-observations}
 
 -- ---- places of a text
+
+pub drop_more : (a b : ℕ) (xs : List ℕ) → drop (a + b) xs ≡ drop b (drop a xs)
+drop_more zero b xs = let e : 0 + b ≡ b = omega arith in ap (λ (n : ℕ). drop n xs) e
+drop_more (suc a) b [] = drop-nil (suc a + b) ∙ sym (drop-nil b)
+drop_more (suc a) b (x ∷ xs) = let e : suc a + b ≡ suc (a + b) = omega arith in ap (λ (n : ℕ). drop n (x ∷ xs)) e ∙ drop_more a b xs
 
 no_more : (n : ℕ) (xs : List ℕ) → length xs ≤ n → drop n xs ≡ []
 no_more n [] h = drop-nil n
@@ -367,6 +373,20 @@ has-form n line columns s l f e =
           f.3 (rw (place, l.2) (slice_get-get_or (front ++ 10 ∷ []) (length front - 1) 0 inside ∙ ap Some read));
       few = omega (arith, size, ap length rest, length-drop 3 front, f.2);
     }
+
+-- the columns between the satellite and the LF
+pub columns-cut : (line : List ℕ) → take (length line - 1 - 3) (drop 3 line) ≡ drop 3 (take (length line - 1) line)
+columns-cut line =
+    let m : ℕ = length line - 1 - 3 in
+    elim (leb_tells 4 (length line)) [
+      | inl low ↦
+          let whole : 3 + m ≡ length line - 1 = omega (arith, low.1) in
+          sym (drop-take 3 m line) ∙ ap (λ (n : ℕ). drop 3 (take n line)) whole
+      | inr high ↦
+          let none : take m (drop 3 line) ≡ [] = none_of (take m (drop 3 line)) (omega (arith, high.1, length-take m (drop 3 line))) in
+          let other : drop 3 (take (length line - 1) line) ≡ [] = no_more 3 (take (length line - 1) line) (omega (arith, high.1, length-take (length line - 1) line)) in
+          none ∙ sym other
+    ]
 
 -- blanks alone have no columns in a line
 shows-if : (n : ℕ) (front : List ℕ) (cells : List Observed) (s : ℕ) (b : Bool) → All IsObserved cells → trim_end ((71 ∷ last_digits 2 s) ++ flat_map observations cells) ≡ front

@@ -1,11 +1,11 @@
 -- The columns of a value: blanks, a sign, the digits of a number, a point and three digits.
-use Rattle.std.proofs.Common.{◌≡◌, ◌≢◌, ℕ, zero, suc, ◌+◌, ◌-◌, ◌*◌, ◌/◌, ◌%◌, ◌^◌, ◌<◌, ◌≤◌, [], ◌∷◌, ◌++◌, List, length, replicate, decimal, take, drop, get_or, slice_get, ap, arith, refl, sym, ◌∙◌, true, false, Bool, length-append, append_assoc, ℤ, pos, negsuc, unsigned_abs, neg_ℤ, if◌then◌else◌, Some}
+use Rattle.std.proofs.Common.{◌≡◌, ◌≢◌, ℕ, zero, suc, ◌+◌, ◌-◌, ◌*◌, ◌/◌, ◌%◌, ◌^◌, ◌<◌, ◌≤◌, [], ◌∷◌, ◌++◌, List, length, replicate, decimal, take, drop, get_or, slice_get, length-drop, ap, arith, refl, sym, ◌∙◌, true, false, Bool, length-append, append_assoc, ℤ, pos, negsuc, unsigned_abs, neg_ℤ, if◌then◌else◌, Some}
 use Rattle.std.specs.Prelude.{All}
 use Rattle.std.specs.Int.{IsInRange}
 use Rattle.std.specs.Fmt.{sign_text}
 use Rattle.std.proofs.lemmas.Fmt.{decimal_by_steps, decimal_step, decimal_digit, decimal_nonempty, first_decimal, length-decimal-le}
 use Rattle.std.proofs.lemmas.Int.{ints}
-use Rattle.std.proofs.lemmas.List.{append-nil}
+use Rattle.std.proofs.lemmas.List.{append-nil, take_all}
 use Rattle.std.proofs.lemmas.List.Elements.{All-nil, All-cons, All-head, All-tail, All-append}
 use Rattle.rtk_rinex.specs.Columns.{right, last_digits, decimals, fixed, is_negative}
 use Rattle.rtk_rinex.specs.Record.{is_written}
@@ -30,9 +30,9 @@ pub not_empty : (n : ℕ) (text : List ℕ) → n < 2 ^ 64 → text ≡ decimal 
 not_empty n text h e = let some : 0 < length (decimal n) = decimal_nonempty n h in omega (arith, ap length e, some)
 
 pub no_digit : (n : ℕ) (text : List ℕ) (k : ℕ) → n < 2 ^ 64 → text ≡ decimal n → k < length text → ((d : ℕ) → d < 10 → get_or text k 0 ≢ 48 + d) → ⊥
-no_digit n text k h e lt no =
+no_digit n text k h e lt none =
     let is = digit-at n text k h e lt in
-    no (get_or text k 0 - 48) (omega (arith, is)) (omega (arith, is))
+    none (get_or text k 0 - 48) (omega (arith, is)) (omega (arith, is))
 
 -- a number of more than one digit begins with no 0
 pub no_leading_zero : (n : ℕ) (text : List ℕ) → n < 2 ^ 64 → text ≡ decimal n → 2 ≤ length text → get_or text 0 0 ≢ 48
@@ -41,6 +41,14 @@ no_leading_zero n text h e long is =
     let first : 48 < get_or (decimal n) 0 0 = first_decimal n (omega (arith, some)) h in
     let head : get_or (decimal n) 0 0 ≡ get_or text 0 0 = ap (λ (xs : List ℕ). get_or xs 0 0) (sym e) in
     omega (arith, first, head, is)
+
+-- no characters
+pub none_of : (xs : List ℕ) → length xs ≡ 0 → xs ≡ []
+none_of [] h = refl
+none_of (x ∷ xs) h = absurd (omega (arith, h))
+
+pub rest_is : (xs : List ℕ) → take (length xs - 1) (drop 1 xs) ≡ drop 1 xs
+rest_is xs = take_all (length xs - 1) (drop 1 xs) (omega (arith, length-drop 1 xs))
 
 -- a text of one character and others
 pub cons_of : (xs : List ℕ) → 1 ≤ length xs → get_or xs 0 0 ∷ drop 1 xs ≡ xs
@@ -172,6 +180,10 @@ no_zero field negative m v zero_is e h f =
     let other = digits_from-thousandths (is_negative v) (unsigned_abs v) (omega (arith, limit)) in
     let same : unsigned_abs v ≡ 0 = sym other ∙ ap (digits_from 0) (sym f ∙ e) ∙ one ∙ zero_is in
     no_zero-written v h same
+
+pub bound : (negative : Bool) (q r : ℕ) → q < (if negative then 10 ^ 9 else 10 ^ 10) → r < 1000 → q * 1000 + r < (if negative then 10 ^ 12 else 10 ^ 13)
+bound true q r h small = omega arith
+bound false q r h small = omega arith
 
 -- the value of a sign and a number in thousandths
 pub value_of : (field : List ℕ) (negative : Bool) (m : ℕ) (v : ℤ) → v ≡ (if negative then neg_ℤ (pos m) else pos m) → m ≢ 0

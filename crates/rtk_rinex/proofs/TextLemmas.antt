@@ -24,6 +24,10 @@ use Rattle.rtk_rinex.proofs.LineLemmas.{epoch_line-line, same_line}
 use Rattle.rtk_rinex.proofs.OneLemmas.{Below, Earlier, one_epoch_line, count-of, same_rows, epoch-front, epoch_line-of, some_text, same_epochs, row-next, epoch-next, epochs-all, epochs-rise, epochs-start}
 use Rattle.rtk_rinex.proofs.FormLemmas.{no_satellite_fault, no_epoch_fault}
 
+pub on_err : {T E : Type 0} (r : Result T E) {Q : Type 0} → Q → OnErr r Q
+on_err (Ok x) q = tt
+on_err (Err e) q = q
+
 -- ---- faults of the header
 
 header-of : (t : WellFormedTable) (bytes : List ℕ) → IsWellFormedTable t → bytes ≡ table_text t → HasHeader bytes

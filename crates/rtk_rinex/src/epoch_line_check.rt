@@ -6,7 +6,7 @@ ghost use Rattle.rtk_rinex.specs.Reading.{IsMoment, reading_of};
 ghost use Rattle.rtk_rinex.specs.Record.{epoch_columns, epoch_line};
 ghost use Rattle.rtk_rinex.specs.Steps.CheckValues.{seconds_in, civil_in, count_in};
 
-use crate::digits::number_of_digits;
+use crate::digits::{is_same, number_of_digits};
 use crate::record_text::epoch_line;
 use rtk_obs::{Civil, GpsMs, of_civil};
 
@@ -78,7 +78,7 @@ pub(crate) fn read_epoch_line(line: &[u8]) -> Option<EpochStamp>
         return None;
     }
     let stamp = stamp_in(line.split_at(35).0)?;
-    if epoch_line(stamp.reading, stamp.count).as_slice() == line {
+    if is_same(epoch_line(stamp.reading, stamp.count).as_slice(), line) {
         Some(stamp)
     } else {
         None

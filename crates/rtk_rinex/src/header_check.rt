@@ -16,7 +16,7 @@ ghost use Rattle.std.specs.Int.{IsInRange};
 ghost use Rattle.std.specs.Prelude.{◌≡◌, ◌≢◌, ℕ, ◌+◌, ◌*◌, ◌%◌, ◌/◌, ◌<◌, ◌≤◌, List, ◌++◌, length, take, drop, codes, decimal, pos, AllPairs, slice_index_or, MatchOption, ◌^◌, ◌∷◌, Decides, IfOk, IfErr, OnErr};
 
 use crate::check_fault::{Cause, CheckFault};
-use crate::digits::{columns_at, number_at, signed_number_at};
+use crate::digits::{columns_at, is_same, number_at, signed_number_at};
 use crate::head::{Head, is_marker};
 use crate::header_text::header_lines;
 use crate::record_text::trimmed_len;
@@ -301,7 +301,7 @@ fn have_same_line(header: &[u8], text: &[u8], lines: usize) -> bool
     requires { 81 * lines < 2 ^ 64 }
     ensures { Decides result (line_at lines header.now ≡ line_at lines text.now) }
 {
-    text_line(header, lines) == text_line(text, lines)
+    is_same(text_line(header, lines), text_line(text, lines))
 }
 
 // The first line of a header that a text doesn't have, counted from 0.

@@ -7,6 +7,7 @@ ghost use Rattle.rtk_rinex.specs.Record.{is_written, observation, observations, 
 ghost use Rattle.rtk_rinex.specs.Table.{IsAbsentOrWritten, IsLock, IsObserved};
 ghost use Rattle.rtk_rinex.specs.declared.epoch_table.Observed.{Observed};
 
+use crate::digits::is_same;
 use crate::epoch_table::Observed;
 use crate::record_text::digit_of_strength;
 
@@ -74,9 +75,10 @@ fn signed_number(columns: &[u8]) -> Option<(bool, u64)>
     ensures bound { IfSome result (λ s. s.1 < (if s.0 then 10 ^ 9 else 10 ^ 10)) }
 {
     let text = after_blanks(columns);
-    match text {
-        [b'-', digits @ ..] => Some((true, number_of_decimal(digits)?)),
-        _ => Some((false, number_of_decimal(text)?)),
+    if text.len() > 0 && text[0] == b'-' {
+        Some((true, number_of_decimal(&text[1..])?))
+    } else {
+        Some((false, number_of_decimal(text)?))
     }
 }
 
@@ -107,11 +109,11 @@ fn written_value(field: &[u8]) -> Option<i64>
         (λ v. IsTrue (is_written v) × (field.now ≡ fixed 3 14 v)) }
 {
     let (columns, decimals) = field.split_at(10);
-    let [b'.', decimals @ ..] = decimals else {
+    if decimals[0] != b'.' {
         return None;
-    };
+    }
     let (negative, whole) = signed_number(columns)?;
-    let magnitude = whole * 1000 + number_of_three(decimals)?;
+    let magnitude = whole * 1000 + number_of_three(&decimals[1..])?;
     if magnitude == 0 {
         return None;
     }
@@ -125,7 +127,7 @@ fn shown_observation(columns: &[u8], first: u8, second: u8) -> Option<Option<i64
         ((v : Option ℤ) → IsAbsentOrWritten v → columns.now ≢ observation v first second)
         (λ v. IsAbsentOrWritten v × (columns.now ≡ observation v first second)) }
 {
-    if columns == BLANKS.as_slice() {
+    if is_same(columns, &BLANKS) {
         return Some(None);
     }
     let (field, digits) = columns.split_at(14);

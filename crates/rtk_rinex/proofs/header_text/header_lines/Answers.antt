@@ -9,5 +9,5 @@ pub returns : goal.returns
 unfolding header_text
 returns c =
     let head = c.args.head.now in
-    rw (c.put_last_lines.ensures.items, c.put_types_lines.ensures.items, c.put_position_lines.ensures.items, c.put_first_lines.ensures.items, c.marker.ensures.value, reading_is c.made.result c.civil.result c.civil.ensures.reading, c.made.ensures.value, c.codes.ensures.value, reading_is c.args.first c.civil-2.result c.civil-2.ensures.reading)
+    rw (c.put_last_lines.ensures.items, c.put_types_lines.ensures.items, c.put_position_lines.ensures.items, c.put_first_lines.ensures.items, c.new-out.ensures, c.marker.ensures.value, reading_is c.made.result c.civil.result c.civil.ensures.reading, c.made.ensures.value, c.codes.ensures.value, reading_is c.args.first c.civil-2.result c.civil-2.ensures.reading)
     (append-four [] (first_lines head.marker (reading_of head.made)) (position_lines (position_view c.args.position.now)) (types_lines head.listed) (last_lines (reading_of c.args.first)))
