@@ -55,6 +55,11 @@ one_strength None (Some t) e = cc
 one_strength (Some s) None e = cc
 one_strength (Some s) (Some t) e = cc
 
+pub strength-same : (columns : List ℕ) (s t : Option ℕ) → IsStrengthOrNone s → IsStrengthOrNone t → columns ≡ observation (strength_value s) 32 32
+    → columns ≡ observation (strength_value t) 32 32 → s ≡ t
+strength-same columns s t h g e f =
+    one_strength s t (one_value (strength_value s) (strength_value t) 32 32 32 32 (IsValue-strength s h) (IsValue-strength t g) (sym e ∙ f))
+
 -- a strength that a value is
 pub strength-is : (s : Option ℕ) (v : ℤ) → IsStrengthOrNone s → Some v ≡ strength_value s → (n : ℕ) × (v ≡ pos n) × IsStrengthOrNone (Some n)
 strength-is None v h e = cc

@@ -1,6 +1,6 @@
 -- The answers of the check of a whole text.
-use Rattle.std.proofs.Common.{◌≡◌, ◌≢◌, ℕ, ◌<◌, ◌≤◌, Option, None, List, [], ◌∷◌, ◌++◌, length, get_or, refl, sym, ◌∙◌, ap, arith, append_assoc, length-append, flat_map, inl, ⊎_elim}
-use Rattle.std.specs.Prelude.{All, AllPairs}
+use Rattle.std.proofs.Common.{◌≡◌, ◌≢◌, ℕ, ◌<◌, ◌≤◌, Option, None, List, [], ◌∷◌, ◌++◌, length, drop, get_or, refl, sym, ◌∙◌, ap, arith, append_assoc, length-append, flat_map, inl, ⊎_elim}
+use Rattle.std.specs.Prelude.{All, AllPairs, Result, Ok, Err, OnErr}
 use Rattle.std.proofs.lemmas.List.{append-nil, append_cancel_left}
 use Rattle.std.proofs.lemmas.List.Elements.{All-head, All-tail}
 use Rattle.rtk_rinex.specs.declared.check_fault.Cause.{Cause}
@@ -55,6 +55,10 @@ first_blank h s first = refl
 
 pub few_lines : (n : ℕ) (h : HeadView) (s : PositionView) (first : ℕ) → AreLines n (header_text h s first) → n < length (header_text h s first)
 few_lines n h s first l = let more = more_bytes (header_text h s first) l.0 (first_blank h s first) l.3 in omega (arith, more, l.2)
+
+pub after_header : (bytes rest : List ℕ) (used : ℕ) (h : HeadView) (s : PositionView) (first : ℕ) → bytes ≡ header_text h s first ++ drop used bytes → rest ≡ drop used bytes
+    → bytes ≡ header_text h s first ++ rest
+after_header bytes rest used h s first e f = e ∙ ap (λ (t : List ℕ). header_text h s first ++ t) (sym f)
 
 -- ---- the table
 

@@ -67,5 +67,8 @@ pub(crate) fn is_row_line(line: &[u8], width: usize) -> bool
     ensures { IsTrue result ↔ ((r : SatelliteRow) × IsTableRow width r × (line.now ≡ satellite_line r)) }
 {
     // A line without columns after the satellite shows nothing; any other ends in no blank.
-    line.len() > 4 && are_cells(&line[3..line.len() - 1], width)
+    if line.len() <= 4 {
+        return false;
+    }
+    are_cells(&line[3..line.len() - 1], width)
 }

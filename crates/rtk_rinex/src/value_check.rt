@@ -144,6 +144,22 @@ fn is_strength(strength: u64) -> bool
     strength >= LEAST_STRENGTH && strength <= GREATEST_STRENGTH && strength % LEAST_STRENGTH == 0
 }
 
+// The signal strength of a message that a value is.
+fn strength_of(value: i64) -> Option<u32>
+    ensures { MatchOption result
+        ((s : ℕ) → IsStrengthOrNone (Some s) → value ≢ pos s)
+        (λ s. IsStrengthOrNone (Some s) × (value ≡ pos s)) }
+{
+    if value < 0 {
+        return None;
+    }
+    let strength = value.unsigned_abs();
+    if !is_strength(strength) {
+        return None;
+    }
+    Some(strength as u32)
+}
+
 // The signal strength in thousandths of a dB-Hz that 16 columns show; or that they show none.
 fn shown_strength(columns: &[u8]) -> Option<Option<u32>>
     requires { length columns.now ≡ 16 }
@@ -154,11 +170,7 @@ fn shown_strength(columns: &[u8]) -> Option<Option<u32>>
     let Some(value) = shown_observation(columns, b' ', b' ')? else {
         return Some(None);
     };
-    let strength = value.unsigned_abs();
-    if value < 0 || !is_strength(strength) {
-        return None;
-    }
-    Some(Some(strength as u32))
+    Some(Some(strength_of(value)?))
 }
 
 // The slip and the half-cycle ambiguity that a loss-of-lock digit shows.

@@ -1,7 +1,7 @@
 use Rattle.std.proofs.Common.{◌≡◌, ◌∙◌, ◌++◌, List, ℕ, arith, ap, sym}
 use Rattle.rtk_rinex.specs.Header.{header_text, position_view}
 use Rattle.rtk_rinex.specs.CheckTable.{TableView}
-use Rattle.rtk_rinex.proofs.TextLemmas.{on_err, header-none, few_lines, holds, records-none}
+use Rattle.rtk_rinex.proofs.TextLemmas.{on_err, header-none, few_lines, after_header, holds, records-none}
 use Rattle.rtk_rinex.proofs.table_check.check.Goals as goal
 
 pub returns-in_err-header-clause-none : goal.returns-in_err-header-clause-none
@@ -14,34 +14,32 @@ check_records-requires-clause-lines c =
     let few = few_lines header.lines header.head (position_view header.position) header.first size.1 in
     omega (arith, few, size.0, c.split_at.ensures.back_len)
 
-rest_is : (c : goal.After-codes-width) → c.args.bytes.now ≡ header_text c.in_ok-header.header.head (position_view c.in_ok-header.header.position) c.in_ok-header.header.first ++ c.split_at.result.1.now
-rest_is c =
-    let header = c.in_ok-header.header in
-    c.in_ok-header.ensures.text ∙ ap (λ (t : List ℕ). header_text header.head (position_view header.position) header.first ++ t) (sym c.split_at.ensures.back)
-
 pub returns-in_err-counts-clause-none : goal.returns-in_err-counts-clause-none
 returns-in_err-counts-clause-none c =
     let header = c.in_ok-header.header in
     let is = c.in_ok-header.ensures in
+    let rest = after_header c.args.bytes.now c.split_at.result.1.now header.used header.head (position_view header.position) header.first is.text c.split_at.ensures.back in
     on_err c.from_residual-in_err-counts.result
-    (records-none c.args.bytes.now c.split_at.result.1.now header.head (position_view header.position) header.first header.lines c.in_err-counts.field-0.0 is.good.0 (rest_is c) is.only
+    (records-none c.args.bytes.now c.split_at.result.1.now header.head (position_view header.position) header.first header.lines c.in_err-counts.field-0.0 is.good.0 rest is.only
     (rw c.codes-width.ensures.value at c.in_err-counts.ensures.fault))
 
 pub of_text-requires : goal.of_text-requires
 of_text-requires c =
     let header = c.in_ok-header.header in
     let is = c.in_ok-header.ensures in
+    let rest = after_header c.args.bytes.now c.split_at.result.1.now header.used header.head (position_view header.position) header.first is.text c.split_at.ensures.back in
     let read = rw c.codes-width.ensures.value at c.in_ok-counts.ensures.records in
     record {
       table = holds c.args.bytes.now c.split_at.result.1.now header.head (position_view header.position) header.first
-          c.in_ok-counts.counts.epochs c.in_ok-counts.counts.satellites is.good.0 is.good.1 is.good.2 (rest_is c) is.only read;
+          c.in_ok-counts.counts.epochs c.in_ok-counts.counts.satellites is.good.0 is.good.1 is.good.2 rest is.only read;
     }
 
 pub returns-clause-table : goal.returns-clause-table
 returns-clause-table c =
     let header = c.in_ok-header.header in
     let is = c.in_ok-header.ensures in
+    let rest = after_header c.args.bytes.now c.split_at.result.1.now header.used header.head (position_view header.position) header.first is.text c.split_at.ensures.back in
     let read = rw c.codes-width.ensures.value at c.in_ok-counts.ensures.records in
     let table = holds c.args.bytes.now c.split_at.result.1.now header.head (position_view header.position) header.first
-    c.in_ok-counts.counts.epochs c.in_ok-counts.counts.satellites is.good.0 is.good.1 is.good.2 (rest_is c) is.only read in
+    c.in_ok-counts.counts.epochs c.in_ok-counts.counts.satellites is.good.0 is.good.1 is.good.2 rest is.only read in
     rw (ap (λ (t : TableView). t.epochs) c.of_text.ensures, ap (λ (t : TableView). t.satellites) c.of_text.ensures) table

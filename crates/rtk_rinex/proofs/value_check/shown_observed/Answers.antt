@@ -3,7 +3,7 @@ use Rattle.rtk_rinex.specs.declared.epoch_table.Observed.{Observed}
 use Rattle.rtk_rinex.specs.Table.{IsObserved}
 use Rattle.rtk_rinex.specs.Record.{observation, observations, strength_digit, strength_value}
 use Rattle.rtk_rinex.proofs.ValuesLemmas.{IsValue-strength}
-use Rattle.rtk_rinex.proofs.CellLemmas.{has-columns, lock-digit, one_value, one_strength}
+use Rattle.rtk_rinex.proofs.CellLemmas.{has-columns, lock-digit, strength-same}
 use Rattle.rtk_rinex.proofs.value_check.shown_observed.Goals as goal
 
 pub returns-in_err-strength : goal.returns-in_err-strength
@@ -11,14 +11,6 @@ returns-in_err-strength c =
     rw c.from_residual.ensures (λ o h e.
     let p = has-columns c.args.columns.now o h e in
     c.in_err-strength.ensures o.strength_millidbhz h.strength (c.split_at-2.ensures.back ∙ ap (λ (xs : List ℕ). drop 16 xs) c.split_at.ensures.back ∙ p.strength))
-
-strength_is : (c : goal.After-digit_of_strength-digit) (o : Observed) → IsObserved o → c.args.columns.now ≡ observations o → c.in_ok-strength.strength ≡ o.strength_millidbhz
-strength_is c o h e =
-    let p = has-columns c.args.columns.now o h e in
-    let columns = c.split_at-2.ensures.back ∙ ap (λ (xs : List ℕ). drop 16 xs) c.split_at.ensures.back ∙ p.strength in
-    one_strength c.in_ok-strength.strength o.strength_millidbhz
-    (one_value (strength_value c.in_ok-strength.strength) (strength_value o.strength_millidbhz) 32 32 32 32 (IsValue-strength c.in_ok-strength.strength c.in_ok-strength.ensures.0)
-    (IsValue-strength o.strength_millidbhz h.strength) (sym c.in_ok-strength.ensures.1 ∙ columns))
 
 pub returns-in_err-slip : goal.returns-in_err-slip
 returns-in_err-slip c =
@@ -31,14 +23,18 @@ pub returns-in_err-range_mm : goal.returns-in_err-range_mm
 returns-in_err-range_mm c =
     rw c.from_residual-in_err-range_mm.ensures (λ o h e.
     let p = has-columns c.args.columns.now o h e in
-    let digit : c.digit_of_strength-digit.result ≡ strength_digit o.strength_millidbhz = c.digit_of_strength-digit.ensures ∙ ap strength_digit (strength_is c o h e) in
+    let digit : c.digit_of_strength-digit.result ≡ strength_digit o.strength_millidbhz = c.digit_of_strength-digit.ensures
+    ∙ ap strength_digit (strength-same c.split_at-2.result.1.now c.in_ok-strength.strength o.strength_millidbhz c.in_ok-strength.ensures.0 h.strength c.in_ok-strength.ensures.1
+    (c.split_at-2.ensures.back ∙ ap (λ (xs : List ℕ). drop 16 xs) c.split_at.ensures.back ∙ p.strength)) in
     c.in_err-range_mm.ensures o.range_mm h.range (c.split_at.ensures.front ∙ p.range ∙ ap (λ (d : ℕ). observation o.range_mm 32 d) (sym digit)))
 
 pub returns-in_err-phase_millicycles : goal.returns-in_err-phase_millicycles
 returns-in_err-phase_millicycles c =
     rw c.from_residual-in_err-phase_millicycles.ensures (λ o h e.
     let p = has-columns c.args.columns.now o h e in
-    let digit : c.digit_of_strength-digit.result ≡ strength_digit o.strength_millidbhz = c.digit_of_strength-digit.ensures ∙ ap strength_digit (strength_is c o h e) in
+    let digit : c.digit_of_strength-digit.result ≡ strength_digit o.strength_millidbhz = c.digit_of_strength-digit.ensures
+    ∙ ap strength_digit (strength-same c.split_at-2.result.1.now c.in_ok-strength.strength o.strength_millidbhz c.in_ok-strength.ensures.0 h.strength c.in_ok-strength.ensures.1
+    (c.split_at-2.ensures.back ∙ ap (λ (xs : List ℕ). drop 16 xs) c.split_at.ensures.back ∙ p.strength)) in
     let phase = c.split_at-2.ensures.front ∙ ap (λ (xs : List ℕ). take 16 xs) c.split_at.ensures.back ∙ p.phase in
     let lock = lock-digit c.split_at-2.result.0.now o.phase_millicycles o.slip o.half (strength_digit o.strength_millidbhz) h.phase h.lock phase in
     c.in_err-phase_millicycles.ensures o.phase_millicycles h.phase (phase ∙ (rw (lock, digit) refl)))

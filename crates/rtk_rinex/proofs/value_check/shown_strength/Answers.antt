@@ -1,10 +1,14 @@
-use Rattle.std.proofs.Common.{◌≡◌, sym, ◌∙◌, pos, unsigned_abs, ℤ, ap, arith}
-use Rattle.std.proofs.lemmas.Int.{ints}
-use Rattle.rtk_rinex.proofs.ValuesLemmas.{clash, IsValue-strength}
-use Rattle.rtk_rinex.specs.Record.{strength_value}
-use Rattle.rtk_rinex.proofs.CellLemmas.{one_value, strength-is, not_negative}
+use Rattle.std.proofs.Common.{◌≡◌, sym, ◌∙◌, Some, Option, ℤ, ℕ, ap, subst}
+use Rattle.rtk_rinex.specs.Record.{observation, strength_value}
+use Rattle.rtk_rinex.specs.Table.{IsAbsentOrWritten}
+use Rattle.rtk_rinex.proofs.ValuesLemmas.{IsValue-strength}
+use Rattle.rtk_rinex.proofs.CellLemmas.{one_value, strength-is}
 use Rattle.rtk_rinex.proofs.value_check.shown_strength.Goals as goal
-use Rattle.rtk_rinex.proofs.value_check.shown_strength.Goals.{then-value-lt0-via-then-value-lt0, then-value-lt0-via-else-value-lt0+then-not-is_strength}
 
-pub returns-then-value-lt0 : goal.returns-then-value-lt0
-returns-then-value-lt0 c = let k = c.in-Some.is in let l = c.in_ok-value.ensures in let m = c.unsigned_abs-strength.ensures in ?
+pub returns-in_err-strength_of : goal.returns-in_err-strength_of
+returns-in_err-strength_of c =
+    rw c.from_residual-in_err-strength_of.ensures (λ s h e.
+    let value : Some c.in-Some.value ≡ strength_value s =
+    sym c.in-Some.is ∙ one_value c.in_ok-value.field-0 (strength_value s) 32 32 32 32 c.in_ok-value.ensures.0 (IsValue-strength s h) (sym c.in_ok-value.ensures.1 ∙ e) in
+    let is = strength-is s c.in-Some.value h value in
+    c.in_err-strength_of.ensures is.0 is.2 is.1)
