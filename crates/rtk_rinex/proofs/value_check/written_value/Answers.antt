@@ -1,6 +1,8 @@
-use Rattle.std.proofs.Common.{◌≡◌, ◌∙◌, ◌/◌, ◌∷◌, ◌++◌, refl, ℕ, List, drop, get_or, ap, sym, arith, unsigned_abs}
+use Rattle.std.proofs.Common.{◌≡◌, ◌∙◌, ◌/◌, ◌∷◌, ◌++◌, refl, to_z, of_z, w64, ℕ, List, drop, get_or, ap, sym, arith, unsigned_abs}
+use Rattle.std.proofs.lemmas.Int.{ints}
 use Rattle.std.proofs.lemmas.List.{take-append-drop}
 use Rattle.rtk_rinex.specs.Columns.{is_negative}
+use Rattle.rtk_rinex.proofs.ValuesLemmas.{written-limits}
 use Rattle.rtk_rinex.proofs.FieldLemmas.{has-parts, text_of-parts, no_zero, rest_is, bound, value_of, cons_of}
 use Rattle.rtk_rinex.proofs.value_check.written_value.Goals as goal
 
@@ -41,5 +43,9 @@ returns c =
     let last = sym (rest_is back) ∙ c.in_ok-magnitude.ensures.1 in
     let text = text_of-parts c.args.field.now front back (drop 1 back) c.in_ok-negative.negative c.in_ok-negative.whole c.in_ok-magnitude.field-0 whole point
     c.in_ok-negative.ensures.value last c.in_ok-magnitude.ensures.0 in
-    value_of c.args.field.now c.in_ok-negative.negative _ c.with_sign.result c.with_sign.ensures c.if-magnitude-eq0.false
-    (bound c.in_ok-negative.negative c.in_ok-negative.whole c.in_ok-magnitude.field-0 c.in_ok-negative.ensures.bound c.in_ok-magnitude.ensures.0) text
+    let value = c.with_sign.result in
+    let is = value_of c.args.field.now c.in_ok-negative.negative _ value c.with_sign.ensures c.if-magnitude-eq0.false
+    (bound c.in_ok-negative.negative c.in_ok-negative.whole c.in_ok-magnitude.field-0 c.in_ok-negative.ensures.bound c.in_ok-magnitude.ensures.0) text in
+    let limits = written-limits value is.0 in
+    let same : to_z w64 (of_z w64 value) ≡ value = omega (arith, ints, limits) in
+    rw same is
