@@ -76,8 +76,8 @@ fn contains_minus(text: &[u8]) -> bool
     false
 }
 
-/// The number that the digits of a text write, negative if it has a minus sign.
-pub(crate) fn number_in(text: &[u8]) -> i64
+// The number that the digits of a text write, negative if it has a minus sign.
+fn number_in(text: &[u8]) -> i64
     requires { length text.now ≤ 18 }
     ensures { result ≡ number_in text.now }
 {
