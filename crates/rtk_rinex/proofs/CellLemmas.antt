@@ -1,5 +1,5 @@
 -- The columns of what a code can show, one after another in the line of a satellite.
-use Rattle.std.proofs.Common.{◌≡◌, ◌≢◌, ℕ, zero, suc, ◌+◌, ◌-◌, ◌*◌, ◌/◌, ◌%◌, ◌<◌, ◌≤◌, [], ◌∷◌, ◌++◌, List, length, replicate, take, drop, get_or, slice_get, length-drop, ap, arith, refl, sym, ◌∙◌, true, false, Bool, ◌||◌, ◌&&◌, length-append, append_assoc, flat_map, unsigned_abs, ℤ, ◌⊎◌, ⊎_elim, Option, Some, None, inl, inr}
+use Rattle.std.proofs.Common.{◌≡◌, ◌≢◌, ℕ, zero, suc, ◌+◌, ◌-◌, ◌*◌, ◌<◌, ◌≤◌, [], ◌∷◌, ◌++◌, List, length, replicate, take, drop, get_or, length-drop, ap, arith, refl, sym, ◌∙◌, true, false, Bool, ◌||◌, ◌&&◌, length-append, append_assoc, flat_map, unsigned_abs, ℤ, ◌⊎◌, ⊎_elim, Option, Some, None, inl, inr}
 use Rattle.std.specs.Prelude.{All, IsTrue, is_some, MatchOption, ◌↔◌, ◌≤ℤ◌, pos, negsuc}
 use Rattle.std.specs.Int.{IsInRange}
 use Rattle.std.specs.List.{list_any}
@@ -12,7 +12,7 @@ use Rattle.std.proofs.lemmas.Option.{slice_get-get_or}
 use Rattle.rtk_rinex.specs.declared.epoch_table.Observed.{Observed}
 use Rattle.rtk_rinex.specs.declared.epoch_table.SatelliteRow.{SatelliteRow}
 use Rattle.rtk_rinex.specs.Columns.{left, last_digits, fixed, is_negative}
-use Rattle.rtk_rinex.specs.Record.{is_written, is_present, observation, observations, lli_digit, strength_digit, strength_value, has_observation, has_line, trim_end, satellite_line, IsStrengthOrNone}
+use Rattle.rtk_rinex.specs.Record.{is_written, is_present, observation, observations, lli_digit, strength_digit, strength_value, has_observation, trim_end, satellite_line, IsStrengthOrNone}
 use Rattle.rtk_rinex.specs.Table.{IsAbsentOrWritten, IsLock, IsObserved, IsTableRow}
 use Rattle.rtk_rinex.specs.CheckLine.{IsSatelliteForm}
 use Rattle.rtk_rinex.specs.Lines.{IsLine}

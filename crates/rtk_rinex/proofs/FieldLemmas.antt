@@ -6,12 +6,11 @@ use Rattle.std.specs.Fmt.{sign_text}
 use Rattle.std.proofs.lemmas.Fmt.{decimal_by_steps, decimal_step, decimal_digit, decimal_nonempty, first_decimal, length-decimal-le}
 use Rattle.std.proofs.lemmas.Int.{ints}
 use Rattle.std.proofs.lemmas.List.{append-nil, take_all}
-use Rattle.std.proofs.lemmas.List.Elements.{All-nil, All-cons, All-head, All-tail, All-append}
+use Rattle.std.proofs.lemmas.List.Elements.{All-nil, All-cons, All-append}
 use Rattle.rtk_rinex.specs.Columns.{right, last_digits, decimals, fixed, is_negative}
 use Rattle.rtk_rinex.specs.Record.{is_written}
 use Rattle.rtk_rinex.proofs.DigitsLemmas.{take-exact, drop-exact, length-right, digits_from-thousandths}
 use Rattle.rtk_rinex.specs.Steps.Digits.{digits_from}
-use Rattle.rtk_rinex.proofs.ColumnsLemmas.{right-blanks}
 use Rattle.rtk_rinex.proofs.ValuesLemmas.{written-limits, written-magnitude}
 
 -- ---- the digits of a number

@@ -1,10 +1,8 @@
 -- The answers of the check of a whole text.
-use Rattle.std.proofs.Common.{◌≡◌, ◌≢◌, ℕ, ◌<◌, ◌≤◌, Option, None, List, [], ◌∷◌, ◌++◌, length, drop, get_or, refl, sym, ◌∙◌, ap, arith, append_assoc, length-append, flat_map, inl, ⊎_elim}
+use Rattle.std.proofs.Common.{◌≡◌, ℕ, ◌<◌, ◌≤◌, Option, None, List, [], ◌∷◌, ◌++◌, length, drop, get_or, refl, sym, ◌∙◌, ap, arith, append_assoc, length-append, flat_map, ⊎_elim}
 use Rattle.std.specs.Prelude.{All, AllPairs, Result, Ok, Err, OnErr}
 use Rattle.std.proofs.lemmas.List.{append-nil, append_cancel_left}
 use Rattle.std.proofs.lemmas.List.Elements.{All-head, All-tail}
-use Rattle.rtk_rinex.specs.declared.check_fault.Cause.{Cause}
-use Rattle.rtk_rinex.specs.declared.check_fault.Cause.TheVariants.{HeaderLine, Columns, Value, Order, Truncated}
 use Rattle.rtk_rinex.specs.declared.check_fault.CheckFault.{CheckFault}
 use Rattle.rtk_rinex.specs.declared.epoch_table.SatelliteRow.{SatelliteRow}
 use Rattle.rtk_rinex.specs.Columns.{left}
@@ -16,7 +14,7 @@ use Rattle.rtk_rinex.specs.HeaderFault.{AreLines}
 use Rattle.rtk_rinex.specs.Steps.HeaderRead.{HasHeader, IsOnlyHeader}
 use Rattle.rtk_rinex.specs.CheckText.{BeginsWithFault, last_satellite, last_time, IsFaultAfterEpochLine, IsFaultOfRecord, IsFaultOfRecords}
 use Rattle.rtk_rinex.specs.Steps.ReadRecords.{ReadsRecords}
-use Rattle.rtk_rinex.specs.CheckTable.{HoldsTable, IsFault, IsWithoutTable}
+use Rattle.rtk_rinex.specs.CheckTable.{HoldsTable, IsWithoutTable}
 use Rattle.rtk_rinex.specs.CheckLine.{IsNextTime, IsSatelliteFault}
 use Rattle.rtk_rinex.proofs.EpochLemmas.{length-line}
 use Rattle.rtk_rinex.proofs.CheckLemmas.{rows-all}

@@ -1,7 +1,6 @@
-use Rattle.std.proofs.Common.{◌≡◌, ◌∙◌, ◌+◌, ◌*◌, ℕ, List, length, take, drop, arith, ap, sym, refl}
+use Rattle.std.proofs.Common.{◌≡◌, ◌∙◌, ◌+◌, ◌*◌, take, drop, arith, sym, refl}
 use Rattle.std.proofs.lemmas.List.{take-append-drop}
 use Rattle.rtk_rinex.specs.Header.{position_view, header_text}
-use Rattle.rtk_rinex.proofs.DigitsLemmas.{drop-exact}
 use Rattle.rtk_rinex.proofs.HeaderSameLemmas.{IsGood, length-header, lines_of}
 use Rattle.rtk_rinex.proofs.HeaderVerdictLemmas.{PartsAt, are_lines, parts_lines, parts_begin, parts_whole, parts_none, parts_next}
 use Rattle.rtk_rinex.proofs.header_check.check_header.Goals as goal

@@ -1,4 +1,3 @@
-use Rattle.std.proofs.Common.{◌≡◌, ◌∙◌, sym}
 use Rattle.rtk_rinex.proofs.CheckLemmas.{named-row, one_satellite}
 use Rattle.rtk_rinex.proofs.ValuesLemmas.{clash}
 use Rattle.rtk_rinex.proofs.records_check.check_satellite_line.Goals as goal

@@ -1,6 +1,5 @@
-use Rattle.std.proofs.Common.{◌≡◌, ◌∙◌, ◌+◌, ◌-◌, ◌*◌, suc, ℕ, List, length, drop, arith, ap, sym, refl}
+use Rattle.std.proofs.Common.{◌≡◌, ◌∙◌, ◌+◌, ◌-◌, ◌*◌, suc, ℕ, drop, arith, ap}
 use Rattle.rtk_rinex.proofs.ValuesLemmas.{clash}
-use Rattle.rtk_rinex.specs.Steps.CheckValues.{AreCells}
 use Rattle.rtk_rinex.proofs.CellLemmas.{drop_more, cells-front, cells-back}
 use Rattle.rtk_rinex.proofs.satellite_line_check.are_cells.Goals as goal
 

@@ -1,4 +1,4 @@
-use Rattle.std.proofs.Common.{◌≡◌, refl, sym, ◌∙◌, arith, length, []}
+use Rattle.std.proofs.Common.{◌≡◌, refl, []}
 use Rattle.rtk_rinex.proofs.FieldLemmas.{none_of}
 use Rattle.rtk_rinex.proofs.CellLemmas.{decides-some, cell-empty, cell-full}
 use Rattle.rtk_rinex.proofs.satellite_line_check.is_cell.Goals as goal

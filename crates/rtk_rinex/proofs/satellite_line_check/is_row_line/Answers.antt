@@ -1,6 +1,6 @@
-use Rattle.std.proofs.Common.{◌≡◌, ◌-◌, ◌<◌, length-drop, List, ℕ, length, take, drop, refl, sym, arith}
+use Rattle.std.proofs.Common.{◌-◌, ◌<◌, length-drop, List, ℕ, length, take, drop, arith}
 use Rattle.std.proofs.lemmas.List.{length-take}
-use Rattle.rtk_rinex.proofs.CellLemmas.{HasForm, has-form, row-of, cells-of-row, columns-cut}
+use Rattle.rtk_rinex.proofs.CellLemmas.{has-form, row-of, cells-of-row, columns-cut}
 use Rattle.rtk_rinex.proofs.satellite_line_check.is_row_line.Goals as goal
 
 pub are_cells-requires-clause-few : goal.are_cells-requires-clause-few

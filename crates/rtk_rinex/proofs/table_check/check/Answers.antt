@@ -1,5 +1,5 @@
-use Rattle.std.proofs.Common.{◌≡◌, ◌∙◌, ◌++◌, List, ℕ, arith, ap, sym}
-use Rattle.rtk_rinex.specs.Header.{header_text, position_view}
+use Rattle.std.proofs.Common.{arith, ap}
+use Rattle.rtk_rinex.specs.Header.{position_view}
 use Rattle.rtk_rinex.specs.CheckTable.{TableView}
 use Rattle.rtk_rinex.proofs.TextLemmas.{on_err, header-none, few_lines, after_header, holds, records-none}
 use Rattle.rtk_rinex.proofs.table_check.check.Goals as goal

@@ -1,4 +1,4 @@
-use Rattle.std.proofs.Common.{◌≡◌, ◌+◌, ◌<◌, ◌≤◌, ◌^◌, ◌∷◌, length, take, get_or, decimal}
+use Rattle.std.proofs.Common.{◌≡◌, ◌+◌, ◌<◌, ◌≤◌, ◌^◌, ◌∷◌, take, get_or, decimal}
 use Rattle.rtk_rinex.proofs.value_check.number_of_decimal.Given as goal
 
 abbrev pub invariant-loop-byte : goal.invariant-loop-byte

@@ -1,4 +1,4 @@
-use Rattle.std.proofs.Common.{◌≡◌, ◌/◌, ◌%◌, ℕ, List, get_or, ap, arith}
+use Rattle.std.proofs.Common.{◌/◌, ◌%◌, ℕ, List, get_or, ap, arith}
 use Rattle.rtk_rinex.proofs.value_check.number_of_three.Goals as goal
 
 pub returns-in_err-digit_of : goal.returns-in_err-digit_of

@@ -1,6 +1,6 @@
-use Rattle.std.proofs.Common.{◌≡◌, ◌≢◌, ◌∙◌, ℕ, replicate}
+use Rattle.std.proofs.Common.{◌≢◌, ◌∙◌, ℕ, replicate}
 use Rattle.rtk_rinex.proofs.ValuesLemmas.{clash}
-use Rattle.rtk_rinex.proofs.CellLemmas.{some-value, value-columns}
+use Rattle.rtk_rinex.proofs.CellLemmas.{some-value}
 use Rattle.rtk_rinex.proofs.value_check.shown_observation.Goals as goal
 
 pub returns-in_err-written_value : goal.returns-in_err-written_value

@@ -1,8 +1,5 @@
-use Rattle.std.proofs.Common.{◌≡◌, ◌∙◌, refl, sym, ap, ℕ, List, Option, take, drop}
-use Rattle.rtk_rinex.specs.declared.epoch_table.Observed.{Observed}
-use Rattle.rtk_rinex.specs.Table.{IsObserved}
-use Rattle.rtk_rinex.specs.Record.{observation, observations, strength_digit, strength_value}
-use Rattle.rtk_rinex.proofs.ValuesLemmas.{IsValue-strength}
+use Rattle.std.proofs.Common.{◌≡◌, ◌∙◌, refl, sym, ap, ℕ, List, take, drop}
+use Rattle.rtk_rinex.specs.Record.{observation, strength_digit}
 use Rattle.rtk_rinex.proofs.CellLemmas.{has-columns, lock-digit, strength-same}
 use Rattle.rtk_rinex.proofs.value_check.shown_observed.Goals as goal
 

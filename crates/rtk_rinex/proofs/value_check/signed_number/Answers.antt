@@ -1,4 +1,4 @@
-use Rattle.std.proofs.Common.{◌≡◌, ◌≢◌, ◌∙◌, get_or, arith}
+use Rattle.std.proofs.Common.{◌≢◌, ◌∙◌, get_or, arith}
 use Rattle.rtk_rinex.proofs.FieldLemmas.{after-blanks, minus_digits, plain_digits, no_first, rest_is}
 use Rattle.rtk_rinex.proofs.value_check.signed_number.Goals as goal
 use Rattle.rtk_rinex.proofs.value_check.signed_number.Goals.{else-text-gt0-via-then-text-gt0+else-text-eq45, else-text-gt0-via-else-text-gt0}
