@@ -1,25 +1,37 @@
 -- Lists of lines, one for each number.
-use Rattle.std.proofs.Common.{◌≡◌, ◌+◌, ℕ, zero, suc, List, [], ◌∷◌, ◌++◌, refl, ap, sym, subst, ◌∙◌, append_assoc, arith}
+use Rattle.std.proofs.Common.{◌≡◌, ◌<◌, ◌+◌, ℕ, zero, suc, List, [], ◌∷◌, ◌++◌, ap, sym, ◌∙◌, append_assoc, refl, arith}
 use Rattle.std.proofs.lemmas.List.{append-nil}
 use Rattle.std.proofs.lemmas.Grind.{flat_map-append}
 use Rattle.std.specs.Prelude.{flat_map}
 use Rattle.std.specs.List.{range_with_len}
 
 range-suc : (a n : ℕ) → range_with_len a (suc n) ≡ range_with_len a n ++ (a + n) ∷ []
-range-suc a zero = ap (λ k. k ∷ []) (omega arith)
-range-suc a (suc n) = ap (λ t. a ∷ t) (range-suc (a + 1) n ∙ ap (λ k. range_with_len (a + 1) n ++ k ∷ []) (omega arith))
+range-suc a zero =
+    let e : a ≡ a + 0 = omega arith in
+    ap (λ k. k ∷ []) e
+range-suc a (suc n) =
+    let e : (a + 1) + n ≡ a + suc n = omega arith in
+    ap (λ t. a ∷ t) (range-suc (a + 1) n ∙ ap (λ k. range_with_len (a + 1) n ++ k ∷ []) e)
 
 range-more : (a n : ℕ) → range_with_len a (n + 1) ≡ range_with_len a n ++ (a + n) ∷ []
-range-more a n = ap (λ m. range_with_len a m) (omega arith) ∙ range-suc a n
+range-more a n =
+    let e : n + 1 ≡ suc n = omega arith in
+    ap (λ m. range_with_len a m) e ∙ range-suc a n
 
 -- the lines of one number more
-pub lines-more : (f : ℕ → List ℕ) (a n : ℕ) → flat_map f (range_with_len a (n + 1)) ≡ flat_map f (range_with_len a n) ++ f (a + n)
-lines-more f a n =
-    ap (λ t. flat_map f t) (range-more a n) ∙ flat_map-append f (range_with_len a n) ((a + n) ∷ [])
-    ∙ ap (λ t. flat_map f (range_with_len a n) ++ t) (append-nil (f (a + n)))
-
-pub put-more : (f : ℕ → List ℕ) (a n : ℕ) (before mid after : List ℕ) → mid ≡ before ++ flat_map f (range_with_len a n) → after ≡ mid ++ f (a + n)
+pub put-more : (f : ℕ → List ℕ) (a n k : ℕ) (before mid after : List ℕ) → k ≡ a + n → mid ≡ before ++ flat_map f (range_with_len a n) → after ≡ mid ++ f k
     → after ≡ before ++ flat_map f (range_with_len a (n + 1))
-put-more f a n before mid after so_far more =
-    more ∙ ap (λ t. t ++ f (a + n)) so_far ∙ append_assoc before (flat_map f (range_with_len a n)) (f (a + n))
-    ∙ ap (λ t. before ++ t) (sym (lines-more f a n))
+put-more f a n k before mid after at so_far more =
+    let lines = flat_map f (range_with_len a n) in
+    let longer : flat_map f (range_with_len a (n + 1)) ≡ lines ++ f k =
+    ap (λ t. flat_map f t) (range-more a n) ∙ flat_map-append f (range_with_len a n) ((a + n) ∷ [])
+    ∙ ap (λ t. lines ++ t) (append-nil (f (a + n))) ∙ ap (λ t. lines ++ f t) (sym at) in
+    more ∙ ap (λ t. t ++ f k) so_far ∙ append_assoc before lines (f k) ∙ ap (λ t. before ++ t) (sym longer)
+
+-- the same lines of each number
+pub lines-agree : (f g : ℕ → List ℕ) (a n : ℕ) → ((k : ℕ) → k < a + n → f k ≡ g k) → flat_map f (range_with_len a n) ≡ flat_map g (range_with_len a n)
+lines-agree f g a zero agree = refl
+lines-agree f g a (suc n) agree =
+    let here : a < a + suc n = omega arith in
+    ap (λ t. t ++ flat_map f (range_with_len (a + 1) n)) (agree a here)
+    ∙ ap (λ t. g a ++ t) (lines-agree f g (a + 1) n (λ k lt. let further : k < a + suc n = omega arith in agree k further))

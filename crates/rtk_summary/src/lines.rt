@@ -1,12 +1,12 @@
 //! The lines of a summary.
 
-ghost use Rattle.std.specs.Prelude.{◌≡◌, ◌++◌, List, ℕ, false, length, get_or, decimal, IfOk, OnOk};
+ghost use Rattle.std.specs.Prelude.{◌≡◌, ◌<◌, ◌++◌, List, ℕ, false, length, get_or, decimal, IfOk, OnOk};
 ghost use Rattle.rtk_obs.specs.Code.{place_of};
 ghost use Rattle.rtk_message.specs.declared.message.Message.{Message};
 ghost use Rattle.rtk_message.specs.declared.fault.DecodeFault.{DecodeFault};
 ghost use Rattle.rtk_summary.specs.Counting.{shown_count};
 ghost use Rattle.rtk_summary.specs.ReadFrames.{ReadFrame};
-ghost use Rattle.rtk_summary.specs.SummaryText.{number_line, counted_line, numbered_line, list_line, time_line, time_lines, satellites_text, codes_text, second_frequency_line, next_line, signal_lines};
+ghost use Rattle.rtk_summary.specs.SummaryText.{number_line, counted_line, numbered_line, list_line, time_line, time_lines, listed_satellite, satellites_text, codes_text, second_frequency_line, next_line, signal_lines, nothing_line};
 ghost use Rattle.rtk_summary.specs.Summary.{lines_if_any, stations_text, unread_lines, summary_text};
 ghost use Rattle.rtk_summary.specs.Steps.Tables.{counts_text, untaken_text};
 ghost use Rattle.rtk_summary.specs.Steps.Standing.{times_of, StandsForFaults, StandsForEntries, StandsForMessages, StandForStations, StandsForFrames};
@@ -94,6 +94,12 @@ fn put_table(lines: &mut Vec<u8>, words: &[u8], counts: &[u64]) -> Result<(), Al
     Ok(())
 }
 
+fn count_of_number(counts: &[u64], number: u16) -> u64
+    ensures { result ≡ get_or counts.now number 0 }
+{
+    counts.get(usize::from(number)).copied().unwrap_or(0)
+}
+
 fn put_untaken(lines: &mut Vec<u8>, others: &[u64]) -> Result<(), AllocError>
     ensures { OnOk result (lines.new.items ≡ lines.old.items ++ untaken_text others.now) }
 {
@@ -102,7 +108,7 @@ fn put_untaken(lines: &mut Vec<u8>, others: &[u64]) -> Result<(), AllocError>
             lines,
             b"untaken GPS ",
             u64::from(*number),
-            others.get(usize::from(*number)).copied().unwrap_or(0),
+            count_of_number(others, *number),
         )?;
     }
     Ok(())
@@ -144,16 +150,25 @@ fn put_times(lines: &mut Vec<u8>, times: &Times) -> Result<(), AllocError>
     put_line(lines, b" epoch-changes ", times.changes)
 }
 
+// A satellite after a blank, if it has a value.
+fn put_satellite(text: &mut Vec<u8>, marks: &[bool; 33], satellite: u8) -> Result<(), AllocError>
+    requires { satellite < 33 }
+    ensures { OnOk result (text.new.items
+        ≡ text.old.items ++ listed_satellite (λ n. get_or marks.now n false) satellite) }
+{
+    if marks[usize::from(satellite)] {
+        text.extend_from_slice(&[b' ', b'G', b'0' + satellite / 10, b'0' + satellite % 10])?;
+    }
+    Ok(())
+}
+
 // The satellites that have a value.
 fn satellites_text(alloc: Global, marks: &[bool; 33]) -> Result<Vec<u8>, AllocError>
     ensures { IfOk result (λ text. text.items ≡ satellites_text (λ n. get_or marks.now n false)) }
 {
     let mut text = Vec::new(alloc);
-    for place in 0u8..32 {
-        let satellite = place + 1;
-        if marks[usize::from(satellite)] {
-            text.extend_from_slice(&[b' ', b'G', b'0' + satellite / 10, b'0' + satellite % 10])?;
-        }
+    for satellite in 1u8..33 {
+        put_satellite(&mut text, marks, satellite)?;
     }
     Ok(text)
 }
@@ -228,7 +243,8 @@ fn put_signals(
     put_list(lines, b" satellites", satellites.as_slice())?;
     put_list(lines, b" codes", codes.as_slice())?;
     put_second_frequency(lines, &signals.codes)?;
-    put_next(lines, station, codes.as_slice())
+    put_next(lines, station, codes.as_slice())?;
+    Ok(())
 }
 
 fn put_station(
@@ -249,7 +265,8 @@ fn put_station(
     put_counted(lines, b" message 1006 ", station.arp_1006)?;
     put_counted(lines, b" message 1074 ", station.msm_1074)?;
     put_times(lines, &station.times)?;
-    put_signals(alloc, lines, number, &station.signals)
+    put_signals(alloc, lines, number, &station.signals)?;
+    Ok(())
 }
 
 fn put_stations(alloc: Global, lines: &mut Vec<u8>, stations: &[Station]) -> Result<(), AllocError>
@@ -258,6 +275,16 @@ fn put_stations(alloc: Global, lines: &mut Vec<u8>, stations: &[Station]) -> Res
 {
     for number in 0..stations.len() {
         put_station(alloc, lines, number as u64, &stations[number])?;
+    }
+    Ok(())
+}
+
+// No station has a code.
+fn put_nothing(lines: &mut Vec<u8>, codes: &[u8]) -> Result<(), AllocError>
+    ensures { OnOk result (lines.new.items ≡ lines.old.items ++ nothing_line codes.now) }
+{
+    if codes.is_empty() {
+        lines.extend_from_slice(b"nothing taken\n")?;
     }
     Ok(())
 }
@@ -279,8 +306,6 @@ pub(crate) fn summary_lines(
     put_stations(alloc, &mut lines, summary.stations.as_slice())?;
     put_unread(&mut lines, &summary.unread)?;
     let codes = codes_text(alloc, &summary.signals.codes)?;
-    if codes.is_empty() {
-        lines.extend_from_slice(b"nothing taken\n")?;
-    }
+    put_nothing(&mut lines, codes.as_slice())?;
     Ok(lines)
 }

@@ -3,8 +3,8 @@
 ghost use Rattle.std.specs.Prelude.{◌≡◌, List, [], ◌∷◌};
 ghost use Rattle.rtk_message.specs.declared.message.Message.{Message};
 ghost use Rattle.rtk_message.specs.Decoded.{IsValid};
-ghost use Rattle.rtk_summary.specs.Steps.Standing.{StandsForMessages, CountsMessages};
-ghost use Rattle.rtk_summary.specs.Tracing.{entries_of};
+ghost use Rattle.rtk_summary.specs.Steps.Standing.{times_of, StandsForMessages, CountsMessages};
+ghost use Rattle.rtk_summary.specs.Tracing.{times_of_week, entries_of};
 
 use crate::signals::Signals;
 use crate::times::Times;
@@ -33,6 +33,16 @@ pub(crate) fn entries_of(message: &Message) -> ArrayVec<CellEntry, 64>
         Message::Obs1004(message) => cells_1004(message),
         Message::Msm1074(message) => cells_1074(message),
         Message::Arp1005(_) | Message::Arp1006(_) => ArrayVec::new(),
+    }
+}
+
+// The time of week of a message, if it has one.
+fn take_time(times: &mut Times, message: &Message)
+    ensures { (ms : List Message) → times.old ≡ times_of (times_of_week ms)
+        → times.new ≡ times_of (times_of_week (message.now ∷ ms)) }
+{
+    if let Some(time) = message.tow() {
+        times.take(time);
     }
 }
 
@@ -73,9 +83,7 @@ impl Station {
         ensures { (ms : List Message) → StandsForMessages self.old ms → StandsForMessages self.new (message.now ∷ ms) }
     {
         self.count(message);
-        if let Some(time) = message.tow() {
-            self.times.take(time);
-        }
+        take_time(&mut self.times, message);
         self.signals.take(entries);
     }
 }

@@ -1,5 +1,5 @@
 use Rattle.std.proofs.Common.{List, ℕ, sym, subst, ap, ◌∙◌}
-use Rattle.rtk_frame.specs.Frames.{frames, payloads}
+use Rattle.rtk_frame.specs.Frames.{Frame, frames, payloads}
 use Rattle.rtk_summary.specs.Steps.Standing.{TakesFrames}
 use Rattle.rtk_summary.proofs.FrameLemmas.{takes-none, takes-first, finds-left}
 use Rattle.rtk_summary.proofs.reading.close.Goals as goal
@@ -16,5 +16,6 @@ frames-preserved c =
 
 pub returns : goal.returns
 returns c =
-    let holds = rw c.in_default.is at c.rest.follows.holds-at-none.2 in
-    ?
+    let holds = c.rest.follows.holds-at-none in
+    let none = (rw c.in_default.is at holds.2).0 in
+    c.frames.invariant c.frames.summary (subst (λ (fs : List Frame). TakesFrames c.frames.summary (payloads fs) c.frames.summary) (sym none) (takes-none c.frames.summary))

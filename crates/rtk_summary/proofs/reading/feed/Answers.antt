@@ -20,6 +20,3 @@ frames-preserved c =
       taken = λ s rest. i.taken s (subst (λ (ps : List (List ℕ)). TakesFrames c.frames.summary ps s) (sym n.first)
           (takes-first c.frames.summary c.take.new.self s c.in-Found.payload.now _ c.take.ensures rest));
     }
-
-pub returns : goal.returns
-returns c = ?
