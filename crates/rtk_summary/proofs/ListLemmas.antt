@@ -1,6 +1,6 @@
 -- Lists of lines, one for each number.
-use Rattle.std.proofs.Common.{◌≡◌, ◌<◌, ◌+◌, ℕ, zero, suc, List, [], ◌∷◌, ◌++◌, ap, sym, ◌∙◌, append_assoc, refl, arith}
-use Rattle.std.proofs.lemmas.List.{append-nil}
+use Rattle.std.proofs.Common.{◌≡◌, ◌<◌, ◌+◌, ℕ, zero, suc, List, [], ◌∷◌, ◌++◌, length, take, get_or, ap, sym, ◌∙◌, append_assoc, refl, arith}
+use Rattle.std.proofs.lemmas.List.{append-nil, take_more}
 use Rattle.std.proofs.lemmas.Grind.{flat_map-append}
 use Rattle.std.specs.Prelude.{flat_map}
 use Rattle.std.specs.List.{range_with_len}
@@ -35,3 +35,17 @@ lines-agree f g a (suc n) agree =
     let here : a < a + suc n = omega arith in
     ap (λ t. t ++ flat_map f (range_with_len (a + 1) n)) (agree a here)
     ∙ ap (λ t. g a ++ t) (lines-agree f g (a + 1) n (λ k lt. let further : k < a + suc n = omega arith in agree k further))
+
+-- the lines of one number more of a list
+pub put-taken : (f : ℕ → List ℕ) (xs : List ℕ) (i d : ℕ) (before mid after : List ℕ) → i < length xs → mid ≡ before ++ flat_map f (take i xs) → after ≡ mid ++ f (get_or xs i d)
+    → after ≡ before ++ flat_map f (take (i + 1) xs)
+put-taken f xs i d before mid after within so_far more =
+    let lines = flat_map f (take i xs) in
+    let x = get_or xs i d in
+    let longer : flat_map f (take (i + 1) xs) ≡ lines ++ f x =
+    ap (λ t. flat_map f t) (take_more xs i d within) ∙ flat_map-append f (take i xs) (x ∷ []) ∙ ap (λ t. lines ++ t) (append-nil (f x)) in
+    more ∙ ap (λ t. t ++ f x) so_far ∙ append_assoc before lines (f x) ∙ ap (λ t. before ++ t) (sym longer)
+
+-- a text, and then another one
+pub and-then : (l0 l1 l2 a b : List ℕ) → l1 ≡ l0 ++ a → l2 ≡ l1 ++ b → l2 ≡ l0 ++ (a ++ b)
+and-then l0 l1 l2 a b first second = second ∙ ap (λ t. t ++ b) first ∙ append_assoc l0 a b

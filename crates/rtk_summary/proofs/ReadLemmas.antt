@@ -1,6 +1,7 @@
 -- A source that is read piece by piece, and the summary of the frames so far.
-use Rattle.std.proofs.Common.{◌≡◌, ◌+◌, ℕ, List, [], ◌∷◌, ◌++◌, Option, length, refl, sym, ap, subst, ◌∙◌, length-append, arith}
-use Rattle.std.specs.Prelude.{min}
+use Rattle.std.proofs.Common.{◌≡◌, ◌≤◌, ◌+◌, ℕ, List, [], ◌∷◌, ◌++◌, Option, length, take, drop, refl, sym, ap, subst, ◌∙◌, length-append, arith}
+use Rattle.std.proofs.Math.Seq.{take-append_seam}
+use Rattle.std.proofs.lemmas.Grind.{common_steps}
 use Rattle.rtk_frame.specs.Frames.{final_from, frames, final_frames, payloads, pending, pending_from}
 use Rattle.rtk_frame.specs.Stream.{with_more, count_after, greatest_count, CountRises}
 use Rattle.rtk_frame.proofs.PublicLaws.{with_more-nil, with_more-with_more, final_payloads_cut, payloads_cut, pending_cut}
@@ -73,3 +74,11 @@ read-end given_0 given_1 given_2 waiting count s_1 s_2 h gives takes =
 
 pub count-rises : (before now after : ℕ) → now ≡ before → after ≡ count_after now → CountRises before after
 count-rises before now after same more = grind arith
+
+-- a buffer of the same length took the place of all that a vector held
+pub refilled : (buf old : List ℕ) (len : ℕ) → length buf ≡ length old → len ≡ length old → take len (buf ++ drop (length buf) old) ≡ buf
+refilled buf old len as_many known =
+    ap (λ (n : ℕ). take n (buf ++ drop (length buf) old)) (known ∙ sym as_many) ∙ take-append_seam buf (drop (length buf) old)
+
+pub length-first : (n : ℕ) (xs : List ℕ) → n ≤ length xs → length (take n xs) ≡ n
+length-first n xs within = grind (arith, common_steps)
