@@ -9,7 +9,6 @@ use Rattle.rtk_obs.specs.Code.{name_of, place_of}
 use Rattle.rtk_obs.proofs.PublicLaws.{place_bound}
 use Rattle.rtk_message.specs.declared.message.Message.{Message}
 use Rattle.rtk_summary.specs.Counting.{shown_count}
-use Rattle.rtk_summary.specs.ReadFrames.{messages_from}
 use Rattle.rtk_summary.specs.Summary.{all_numbers, station_lines, lines_if_any}
 use Rattle.rtk_summary.specs.SummaryText.{number_line, counted_line, numbered_line, list_line, time_lines, untaken_numbers, listed_satellite, satellites_text, all_codes, joined_names, codes_text, second_frequency_line, next_line, signal_lines}
 use Rattle.rtk_summary.specs.Steps.Standing.{StandsForEntries, StandsForMessages}

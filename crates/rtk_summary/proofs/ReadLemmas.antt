@@ -3,7 +3,7 @@ use Rattle.std.proofs.Common.{◌≡◌, ◌≤◌, ◌+◌, ℕ, List, [], ◌�
 use Rattle.std.proofs.Math.Seq.{take-append_seam}
 use Rattle.std.proofs.lemmas.Grind.{common_steps}
 use Rattle.rtk_frame.specs.Frames.{final_from, frames, final_frames, payloads, pending, pending_from}
-use Rattle.rtk_frame.specs.Stream.{with_more, count_after, greatest_count, CountRises}
+use Rattle.rtk_frame.specs.Stream.{with_more, count_after, CountRises}
 use Rattle.rtk_frame.proofs.PublicLaws.{with_more-nil, with_more-with_more, final_payloads_cut, payloads_cut, pending_cut}
 use Rattle.rtk_summary.specs.Counting.{shown_count}
 use Rattle.rtk_summary.specs.ReadFrames.{ReadFrame, ReadsFrames, read_frame}

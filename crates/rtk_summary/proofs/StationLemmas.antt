@@ -1,8 +1,7 @@
 -- Stations, each with its own messages.
-use Rattle.std.proofs.Common.{◌≡◌, ◌≢◌, ◌<◌, ℕ, Bool, true, false, cond, List, ◌∷◌, length, set, get_or, inl, inr, refl, sym, ap, subst, ◌∙◌, eqb, get_or-set_same, get_or-set_other, arith}
+use Rattle.std.proofs.Common.{◌≡◌, ◌≢◌, ◌<◌, ℕ, Bool, true, false, cond, List, ◌∷◌, length, set, get_or, inl, inr, sym, ap, subst, ◌∙◌, get_or-set_same, get_or-set_other, arith}
 use Rattle.std.proofs.lemmas.Bool.{cases_eq, eq-eqb}
 use Rattle.std.proofs.lemmas.List.{length-set}
-use Rattle.std.specs.Prelude.{filter}
 use Rattle.rtk_message.specs.declared.message.Message.{Message}
 use Rattle.rtk_message.specs.Decoded.{station_of}
 use Rattle.rtk_summary.specs.ReadFrames.{messages_from, is_of_station}
@@ -29,10 +28,10 @@ station-took stations ms m place new is within stand took = λ n none lt.
     let inside : n < length stations = omega (arith, lt, length-set stations place new) in
     elim (cases_eq n place) [
       | inl same ↦
-        subst (λ (s : Station). StandsForMessages s (messages_from n (m ∷ ms))) (sym (ap (λ (k : ℕ). get_or (set stations place new) k none) same ∙ get_or-set_same stations place new none within))
-            (subst (λ (own : List Message). StandsForMessages new own) (sym (own-message n m ms (same ∙ is)))
-            (took (messages_from n ms) (λ other. subst (λ (k : ℕ). StandsForMessages (get_or stations k other) (messages_from n ms)) same (stand n other inside))))
+          subst (λ (s : Station). StandsForMessages s (messages_from n (m ∷ ms))) (sym (ap (λ (k : ℕ). get_or (set stations place new) k none) same ∙ get_or-set_same stations place new none within))
+          (subst (λ (own : List Message). StandsForMessages new own) (sym (own-message n m ms (same ∙ is)))
+          (took (messages_from n ms) (λ other. subst (λ (k : ℕ). StandsForMessages (get_or stations k other) (messages_from n ms)) same (stand n other inside))))
       | inr other ↦
-        subst (λ (s : Station). StandsForMessages s (messages_from n (m ∷ ms))) (sym (get_or-set_other stations place n new none other))
-            (subst (λ (own : List Message). StandsForMessages (get_or stations n none) own) (sym (other-message n m ms (λ q. other (q ∙ sym is)))) (stand n none inside))
+          subst (λ (s : Station). StandsForMessages s (messages_from n (m ∷ ms))) (sym (get_or-set_other stations place n new none other))
+          (subst (λ (own : List Message). StandsForMessages (get_or stations n none) own) (sym (other-message n m ms (λ q. other (q ∙ sym is)))) (stand n none inside))
     ]

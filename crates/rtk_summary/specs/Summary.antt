@@ -1,5 +1,5 @@
 -- The text of a summary, from the bytes of a capture and its frames (this project's rule).
-use Rattle.std.specs.Prelude.{◌≡◌, ℕ, ◌+◌, ◌-◌, ◌≤◌, ◌==◌, List, [], ◌∷◌, ◌++◌, length, flat_map, codes, Option, min, if◌then◌else◌}
+use Rattle.std.specs.Prelude.{◌≡◌, ℕ, ◌+◌, ◌-◌, ◌≤◌, ◌==◌, List, [], ◌++◌, length, flat_map, codes, Option, min, if◌then◌else◌}
 use Rattle.std.specs.List.{range_with_len}
 use Rattle.rtk_frame.specs.Frames.{frames, payloads}
 use Rattle.rtk_frame.specs.Stream.{with_more, TakesPart, greatest_count}

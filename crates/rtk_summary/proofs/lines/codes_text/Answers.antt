@@ -1,4 +1,4 @@
-use Rattle.std.proofs.Common.{◌≡◌, ◌++◌, ◌∷◌, [], Bool, List, ℕ, true, false, get_or, drop, sym, ap, ◌∙◌, arith}
+use Rattle.std.proofs.Common.{◌≡◌, ◌++◌, Bool, List, ℕ, false, get_or, drop, sym, ap, ◌∙◌, arith}
 use Rattle.std.proofs.lemmas.List.{append-nil}
 use Rattle.std.specs.Prelude.{filter}
 use Rattle.rtk_obs.specs.declared.code.Code.{Code}
@@ -15,13 +15,13 @@ loop-code-preserved c =
     let marked : Code → Bool = λ code. get_or marks (place_of code) false in
     elim c.if-marks-place.branch [
       | then-marks-place+in_ok-push+in_ok-extend_from_slice w ↦
-        rw (w.text-is, w.separator-is, w.in_ok-extend_from_slice.ensures.items, w.in_ok-push.ensures.items, w.name.ensures)
-            (code-named marked c.loop-code.text.items c.loop-code.separator c.loop-code.code-index C1C (joined_names 32 (filter marked all_codes)) c.loop-code-test.true
-            (ap (λ (k : ℕ). get_or marks k false) (sym c.place.ensures.value) ∙ w.if-marks-place.true) c.loop-code.invariant)
+          rw (w.text-is, w.separator-is, w.in_ok-extend_from_slice.ensures.items, w.in_ok-push.ensures.items, w.name.ensures)
+          (code-named marked c.loop-code.text.items c.loop-code.separator c.loop-code.code-index C1C (joined_names 32 (filter marked all_codes)) c.loop-code-test.true
+          (ap (λ (k : ℕ). get_or marks k false) (sym c.place.ensures.value) ∙ w.if-marks-place.true) c.loop-code.invariant)
       | else-marks-place w ↦
-        rw (w.text-is, w.separator-is)
-            (code-passed marked c.loop-code.text.items c.loop-code.separator c.loop-code.code-index C1C (joined_names 32 (filter marked all_codes)) c.loop-code-test.true
-            (ap (λ (k : ℕ). get_or marks k false) (sym c.place.ensures.value) ∙ w.if-marks-place.false) c.loop-code.invariant)
+          rw (w.text-is, w.separator-is)
+          (code-passed marked c.loop-code.text.items c.loop-code.separator c.loop-code.code-index C1C (joined_names 32 (filter marked all_codes)) c.loop-code-test.true
+          (ap (λ (k : ℕ). get_or marks k false) (sym c.place.ensures.value) ∙ w.if-marks-place.false) c.loop-code.invariant)
     ]
 
 pub returns : goal.returns

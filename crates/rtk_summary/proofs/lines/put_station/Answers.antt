@@ -1,6 +1,5 @@
-use Rattle.std.proofs.Common.{◌≡◌, ◌++◌, Bool, List, ℕ, false, get_or, sym, ap, ◌∙◌}
+use Rattle.std.proofs.Common.{◌++◌, List, ℕ, false, get_or, sym, ap, ◌∙◌}
 use Rattle.std.specs.Prelude.{codes}
-use Rattle.rtk_obs.specs.declared.code.Code.{Code}
 use Rattle.rtk_obs.specs.Code.{place_of}
 use Rattle.rtk_summary.specs.SummaryText.{number_line, counted_line, time_lines, signal_lines}
 use Rattle.rtk_summary.specs.Tracing.{times_of_week}

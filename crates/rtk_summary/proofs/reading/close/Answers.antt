@@ -1,5 +1,5 @@
-use Rattle.std.proofs.Common.{List, ℕ, sym, subst, ap, ◌∙◌}
-use Rattle.rtk_frame.specs.Frames.{Frame, frames, payloads}
+use Rattle.std.proofs.Common.{List, ℕ, sym, subst}
+use Rattle.rtk_frame.specs.Frames.{Frame, payloads}
 use Rattle.rtk_summary.specs.Steps.Standing.{TakesFrames}
 use Rattle.rtk_summary.proofs.FrameLemmas.{takes-none, takes-first, finds-left}
 use Rattle.rtk_summary.proofs.reading.close.Goals as goal

@@ -1,7 +1,6 @@
-use Rattle.std.proofs.Common.{List, ℕ, refl, sym, subst, ap, ◌∙◌, ◌++◌, drop, arith}
-use Rattle.rtk_frame.specs.Frames.{final_frames, payloads}
+use Rattle.std.proofs.Common.{List, ℕ, refl, sym, subst, ◌∙◌, arith}
 use Rattle.rtk_summary.specs.Steps.Standing.{TakesFrames}
-use Rattle.rtk_summary.proofs.FrameLemmas.{takes-none, takes-first, finds-next, finds-no-more}
+use Rattle.rtk_summary.proofs.FrameLemmas.{takes-first, finds-next}
 use Rattle.rtk_summary.proofs.reading.feed.Goals as goal
 
 pub frames-init : goal.frames-init
