@@ -57,3 +57,6 @@ pub returns-in_default-read-clause-read_failed : goal.returns-in_default-read-cl
 returns-in_default-read-clause-read_failed g c = λ is_read.
     count-rises (g.R.Source.failures c.args.reader.now) (g.R.Source.failures c.reads.reader) (g.R.Source.failures c.read.new.self)
     c.reads.invariant.failures c.in_default-read.ensures.failures
+
+pub returns-clause-endless : goal.returns-clause-endless
+returns-clause-endless g c = λ is_endless. omega (arith, c.reads.invariant.made, c.reads-test.false, c.reads.auto._made-end)
