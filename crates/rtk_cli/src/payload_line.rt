@@ -6,7 +6,8 @@ ghost use Rattle.rtk_message.specs.Msm1074.{HasLengths};
 ghost use Rattle.rtk_cli.specs.Shown.{four_decimals, metres, coordinate, reference_point, text_1004, text_1005, text_1006, text_1074, message_text, refusal_text, unread_text, IsLineOf};
 
 use rtk_message::{
-    Arp1005, Arp1006, DecodeFault, Message, Msm1074, Obs1004, decode, put_fault, put_named, put_number,
+    Arp1005, Arp1006, DecodeFault, Message, Msm1074, Obs1004, decode, put_fault, put_named,
+    put_number,
 };
 use std::alloc::{AllocError, Global};
 

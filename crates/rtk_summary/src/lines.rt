@@ -210,11 +210,7 @@ fn put_next(lines: &mut Vec<u8>, station: u64, codes: &[u8]) -> Result<(), Alloc
     if codes.is_empty() {
         return Ok(());
     }
-    put_named(
-        lines,
-        b" next rtcm2rinex convert --station ",
-        station,
-    )?;
+    put_named(lines, b" next rtcm2rinex convert --station ", station)?;
     lines.extend_from_slice(
         b" --near GPS-TIME-WITHIN-HALF-A-WEEK --made UTC-NOW --marker NAME --codes",
     )?;
