@@ -9,9 +9,9 @@ ghost use Rattle.rtk_cli.specs.CheckFile.{valid_text, check_fault_text, SaysVerd
 ghost use Rattle.rtk_cli.specs.declared.words.ToolFault.TheVariants.{Input, TooLong, NotHex, OutOfMemory, Output};
 
 use crate::input::read_whole;
-use crate::payload_line::put_named;
 use crate::words::ToolFault;
 use rtk_frame::{Sink, Source, write_all};
+use rtk_message::put_named;
 use rtk_rinex::{Cause, CheckFault, Table, check};
 use std::alloc::{AllocError, Global};
 

@@ -1,28 +1,15 @@
 //! The line that is shown of a payload.
 
-ghost use Rattle.std.specs.Prelude.{◌≡◌, ◌++◌, ◌∷◌, [], List, ℕ, decimal, IfOk, OnOk};
+ghost use Rattle.std.specs.Prelude.{◌≡◌, ◌++◌, ◌∷◌, [], List, ℕ, IfOk, OnOk};
 ghost use Rattle.rtk_message.specs.Decoded.{IsValid};
-ghost use Rattle.rtk_message.specs.FaultCode.{fault_text};
 ghost use Rattle.rtk_message.specs.Msm1074.{HasLengths};
 ghost use Rattle.rtk_cli.specs.Shown.{four_decimals, metres, coordinate, reference_point, text_1004, text_1005, text_1006, text_1074, message_text, refusal_text, unread_text, IsLineOf};
 
-use itoa::Buffer;
-use rtk_message::{Arp1005, Arp1006, DecodeFault, Message, Msm1074, Obs1004, decode};
+use rtk_message::{
+    Arp1005, Arp1006, DecodeFault, Message, Msm1074, Obs1004, decode, put_fault, put_named,
+    put_number,
+};
 use std::alloc::{AllocError, Global};
-
-fn put_number(line: &mut Vec<u8>, number: u64) -> Result<(), AllocError>
-    ensures { OnOk result (line.new.items ≡ line.old.items ++ decimal number) }
-{
-    line.extend_from_slice(Buffer::new().format(number).as_bytes())
-}
-
-/// A word and the number that it names.
-pub(crate) fn put_named(line: &mut Vec<u8>, name: &[u8], number: u64) -> Result<(), AllocError>
-    ensures { OnOk result (line.new.items ≡ line.old.items ++ name.now ++ decimal number) }
-{
-    line.extend_from_slice(name)?;
-    put_number(line, number)
-}
 
 fn decimals_of(magnitude: u64) -> [u8; 5]
     ensures { result ≡ four_decimals magnitude }
@@ -118,23 +105,11 @@ fn put_message_text(line: &mut Vec<u8>, message: &Message) -> Result<(), AllocEr
     }
 }
 
-// The code of a fault, and the number of the message or a hyphen.
-fn put_fault_text(line: &mut Vec<u8>, fault: DecodeFault) -> Result<(), AllocError>
-    ensures { OnOk result (line.new.items ≡ line.old.items ++ fault_text fault) }
-{
-    line.extend_from_slice(fault.code().as_bytes())?;
-    match fault.number() {
-        Some(number) => put_named(line, b" ", number as u64)?,
-        None => line.extend_from_slice(b" -")?,
-    }
-    Ok(())
-}
-
 fn put_refusal(line: &mut Vec<u8>, fault: DecodeFault) -> Result<(), AllocError>
     ensures { OnOk result (line.new.items ≡ line.old.items ++ refusal_text fault) }
 {
     line.extend_from_slice(b"refused ")?;
-    put_fault_text(line, fault)
+    put_fault(line, fault)
 }
 
 fn put_unread(line: &mut Vec<u8>, fault: DecodeFault) -> Result<(), AllocError>

@@ -1,34 +1,18 @@
 //! The lines of a report, as text.
 
-ghost use Rattle.std.specs.Prelude.{◌≡◌, ◌<◌, ◌++◌, [], Some, None, Option, ℕ, decimal, flat_map, IfOk, OnOk};
+ghost use Rattle.std.specs.Prelude.{◌≡◌, ◌<◌, ◌++◌, [], Some, None, Option, ℕ, flat_map, IfOk, OnOk};
 ghost use Rattle.rtk_collect.specs.declared.conflicts.SatelliteCode.{SatelliteCode};
 ghost use Rattle.rtk_rinex.specs.Columns.{last_digits};
 ghost use Rattle.rtk_rinex.specs.Reading.{reading_of};
-ghost use Rattle.rtk_message.specs.FaultCode.{fault_text};
 ghost use Rattle.rtk_convert.specs.Report.{refused_line, cell_lines, conflict_lines};
 ghost use Rattle.rtk_convert.specs.Steps.OfferLines.{offer_lines};
 ghost use Rattle.rtk_convert.specs.ReportText.{civil_text, epoch_text, link_text, arrival_text, signal_text, late_line, conflict_line, cell_conflict_line, count_line, count_lines};
 
 use crate::counts::Counts;
-use itoa::Buffer;
 use rtk_collect::{Offer, SatelliteCode};
-use rtk_message::DecodeFault;
+use rtk_message::{DecodeFault, put_fault, put_named};
 use rtk_obs::{Civil, GpsMs, civil};
 use std::alloc::{AllocError, Global};
-
-fn put_number(line: &mut Vec<u8>, number: u64) -> Result<(), AllocError>
-    ensures { OnOk result (line.new.items ≡ line.old.items ++ decimal number) }
-{
-    line.extend_from_slice(Buffer::new().format(number).as_bytes())
-}
-
-// A word and a number.
-fn put_named(line: &mut Vec<u8>, name: &[u8], number: u64) -> Result<(), AllocError>
-    ensures { OnOk result (line.new.items ≡ line.old.items ++ name.now ++ decimal number) }
-{
-    line.extend_from_slice(name)?;
-    put_number(line, number)
-}
 
 // The digits of tens and ones.
 fn two_digits(n: u8) -> [u8; 2]
@@ -195,18 +179,6 @@ pub(crate) fn offer_lines(
         Offer::Repeat => {}
     }
     Ok(lines)
-}
-
-// The code of a fault, and the number of the message; a hyphen if it has none.
-fn put_fault(line: &mut Vec<u8>, fault: DecodeFault) -> Result<(), AllocError>
-    ensures { OnOk result (line.new.items ≡ line.old.items ++ fault_text fault) }
-{
-    line.extend_from_slice(fault.code().as_bytes())?;
-    match fault.number() {
-        Some(number) => put_named(line, b" ", number.into())?,
-        None => line.extend_from_slice(b" -")?,
-    }
-    Ok(())
 }
 
 /// The line of a payload that is refused.

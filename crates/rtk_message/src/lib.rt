@@ -38,6 +38,7 @@ mod layout;
 mod message;
 mod msm1074;
 mod obs1004;
+mod text;
 
 pub use arp1005::Arp1005;
 pub use arp1006::Arp1006;
@@ -51,3 +52,4 @@ pub use layout::Layout;
 pub use message::Message;
 pub use msm1074::{Msm1074, MsmHeader};
 pub use obs1004::{Obs1004, Satellite, Satellites};
+pub use text::{put_fault, put_named, put_number};

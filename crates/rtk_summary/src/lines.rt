@@ -1,6 +1,6 @@
 //! The lines of a summary.
 
-ghost use Rattle.std.specs.Prelude.{◌≡◌, ◌<◌, ◌++◌, List, ℕ, false, length, get_or, decimal, IfOk, OnOk};
+ghost use Rattle.std.specs.Prelude.{◌≡◌, ◌<◌, ◌++◌, List, ℕ, false, length, get_or, IfOk, OnOk};
 ghost use Rattle.rtk_obs.specs.Code.{place_of};
 ghost use Rattle.rtk_message.specs.declared.message.Message.{Message};
 ghost use Rattle.rtk_message.specs.declared.fault.DecodeFault.{DecodeFault};
@@ -16,7 +16,7 @@ use crate::station::Station;
 use crate::summary::Summary;
 use crate::times::Times;
 use crate::unread::Unread;
-use itoa::Buffer;
+use rtk_message::put_named;
 use rtk_obs::Code;
 use std::alloc::{AllocError, Global};
 
@@ -43,17 +43,10 @@ const ALL_CODES: [Code; 16] = [
 /// The messages of GPS observations that are not read.
 const UNTAKEN: [u16; 9] = [1001, 1002, 1003, 1071, 1072, 1073, 1075, 1076, 1077];
 
-fn put_number(lines: &mut Vec<u8>, number: u64) -> Result<(), AllocError>
-    ensures { OnOk result (lines.new.items ≡ lines.old.items ++ decimal number) }
-{
-    lines.extend_from_slice(Buffer::new().format(number).as_bytes())
-}
-
 fn put_line(lines: &mut Vec<u8>, words: &[u8], number: u64) -> Result<(), AllocError>
     ensures { OnOk result (lines.new.items ≡ lines.old.items ++ number_line words.now number) }
 {
-    lines.extend_from_slice(words)?;
-    put_number(lines, number)?;
+    put_named(lines, words, number)?;
     lines.push(b'\n')?;
     Ok(())
 }
@@ -79,8 +72,7 @@ fn put_numbered(
     if count == 0 {
         return Ok(());
     }
-    lines.extend_from_slice(words)?;
-    put_number(lines, number)?;
+    put_named(lines, words, number)?;
     put_line(lines, b" ", count)
 }
 
@@ -137,8 +129,7 @@ fn put_time(lines: &mut Vec<u8>, times: &Times) -> Result<(), AllocError>
     let Some(last) = times.last else {
         return lines.extend_from_slice(b" time-of-week -\n");
     };
-    lines.extend_from_slice(b" time-of-week ")?;
-    put_number(lines, u64::from(first))?;
+    put_named(lines, b" time-of-week ", u64::from(first))?;
     put_line(lines, b" ", u64::from(last))
 }
 
@@ -219,8 +210,7 @@ fn put_next(lines: &mut Vec<u8>, station: u64, codes: &[u8]) -> Result<(), Alloc
     if codes.is_empty() {
         return Ok(());
     }
-    lines.extend_from_slice(b" next rtcm2rinex convert --station ")?;
-    put_number(lines, station)?;
+    put_named(lines, b" next rtcm2rinex convert --station ", station)?;
     lines.extend_from_slice(
         b" --near GPS-TIME-WITHIN-HALF-A-WEEK --made UTC-NOW --marker NAME --codes",
     )?;

@@ -1,0 +1,38 @@
+//! Numbers and faults as text, which the crates above put into their lines.
+//!
+//! If memory is refused, a first part of what is put may stand there.
+
+ghost use Rattle.std.specs.Prelude.{◌≡◌, ◌++◌, decimal, OnOk};
+ghost use Rattle.rtk_message.specs.FaultCode.{fault_text};
+
+use crate::fault::DecodeFault;
+use itoa::Buffer;
+use std::alloc::AllocError;
+
+/// Appends a number in decimal.
+pub fn put_number(line: &mut Vec<u8>, number: u64) -> Result<(), AllocError>
+    // That it gives up only without memory: rows put_number, put_named and put_fault of tests/calls.
+    ensures { OnOk result (line.new.items ≡ line.old.items ++ decimal number) }
+{
+    line.extend_from_slice(Buffer::new().format(number).as_bytes())
+}
+
+/// Appends a word and the number that it names.
+pub fn put_named(line: &mut Vec<u8>, name: &[u8], number: u64) -> Result<(), AllocError>
+    ensures { OnOk result (line.new.items ≡ line.old.items ++ name.now ++ decimal number) }
+{
+    line.extend_from_slice(name)?;
+    put_number(line, number)
+}
+
+/// Appends the code of a fault, and the number of the message; a hyphen if it has none.
+pub fn put_fault(line: &mut Vec<u8>, fault: DecodeFault) -> Result<(), AllocError>
+    ensures { OnOk result (line.new.items ≡ line.old.items ++ fault_text fault) }
+{
+    line.extend_from_slice(fault.code().as_bytes())?;
+    match fault.number() {
+        Some(number) => put_named(line, b" ", u64::from(number))?,
+        None => line.extend_from_slice(b" -")?,
+    }
+    Ok(())
+}
