@@ -20,7 +20,7 @@ _rtcm2rinex() {
     done
     case $command in
         '')
-            options='convert show check help -h --help -V --version'
+            options='convert show check summary help -h --help -V --version'
             ;;
         convert)
             options='--station --near --made --marker --codes --window -h --help'
@@ -35,9 +35,13 @@ _rtcm2rinex() {
             options='-h --help'
             arguments='files'
             ;;
+        summary)
+            options='-h --help'
+            arguments='files'
+            ;;
         help)
             options=''
-            arguments='convert show check'
+            arguments='convert show check summary'
             ;;
         *) return ;;
     esac

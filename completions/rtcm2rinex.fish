@@ -6,6 +6,7 @@ complete -c rtcm2rinex -n '__fish_use_subcommand' -s V -l version -d 'Print vers
 complete -c rtcm2rinex -n __fish_use_subcommand -a convert -d 'Converts captures of one station to a RINEX 3.05 observation file'
 complete -c rtcm2rinex -n __fish_use_subcommand -a show -d 'Shows the messages of a capture, a line for each frame'
 complete -c rtcm2rinex -n __fish_use_subcommand -a check -d 'Checks whether a file is one that convert could have written'
+complete -c rtcm2rinex -n __fish_use_subcommand -a summary -d 'Tells what a capture holds: stations, satellites and codes'
 complete -c rtcm2rinex -n __fish_use_subcommand -a help -d 'Print this message or the help of the given subcommand(s)'
 complete -c rtcm2rinex -n '__fish_seen_subcommand_from convert' -l station -x -d 'The reference station, 0 to 4095'
 complete -c rtcm2rinex -n '__fish_seen_subcommand_from convert' -l near -x -d 'A GPS time within half a week of all messages'
@@ -20,4 +21,6 @@ complete -c rtcm2rinex -n '__fish_seen_subcommand_from show' -s h -l help -d 'Pr
 complete -c rtcm2rinex -n '__fish_seen_subcommand_from show' -F -a stdin
 complete -c rtcm2rinex -n '__fish_seen_subcommand_from check' -s h -l help -d 'Print help'
 complete -c rtcm2rinex -n '__fish_seen_subcommand_from check' -F -a stdin
-complete -c rtcm2rinex -n '__fish_seen_subcommand_from help' -a 'convert show check'
+complete -c rtcm2rinex -n '__fish_seen_subcommand_from summary' -s h -l help -d 'Print help'
+complete -c rtcm2rinex -n '__fish_seen_subcommand_from summary' -F -a stdin
+complete -c rtcm2rinex -n '__fish_seen_subcommand_from help' -a 'convert show check summary'

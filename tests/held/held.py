@@ -1,4 +1,5 @@
-"""Runs `convert` on captures of different lengths and asks how many bytes it held at most."""
+"""Runs `convert` and `summary` on captures of different lengths and asks how many bytes they held
+at most."""
 
 from __future__ import annotations
 
@@ -25,6 +26,8 @@ LINK = 52_000
 GATHERED = 2 * 65_536
 # What a conversion of one link holds besides: the manual says some 125 kB.
 LEAST_BESIDE, MOST_BESIDE = 120_000, 125_000
+# What a summary holds: some 625 kB.
+LEAST_OF_SUMMARY, MOST_OF_SUMMARY = 620_000, 630_000
 
 # The cells of an epoch: a 1004 gives two of a satellite, a 1074 one of each signal.
 CELLS = len(SATELLITES) * (2 + len(SIGNALS))
@@ -81,6 +84,23 @@ class Runs:
 
     def most(self, window: int, links: list[str], want: dict[str, int], stdin: str = "") -> int:
         return self.held(window, links, want, stdin)[0]
+
+    def of_summary(self, name: str) -> int:
+        """How many bytes a summary holds at most."""
+        os.ftruncate(9, 0)
+        ran = subprocess.run(
+            [self.program, "summary", name],
+            cwd=self.folder,
+            env=self.environment,
+            stdin=subprocess.DEVNULL,
+            stdout=subprocess.PIPE,
+            pass_fds=[9],
+        )
+        size = f"bytes {(self.folder / name).stat().st_size}\n"
+        if ran.returncode != 0 or not ran.stdout.decode().startswith(size):
+            told = ran.stdout[:40]
+            raise Failed(f"summary {name}: status {ran.returncode}, {told!r}, and not {size}")
+        return int(os.pread(9, 20, 0))
 
 
 class Tests:
@@ -203,6 +223,13 @@ def grows_with_links(runs: Runs, tests: Tests) -> None:
     tests.within("gathered where no link is standard input", gathered, GATHERED, GATHERED)
 
 
+def summaries_alike(runs: Runs, tests: Tests) -> None:
+    """Of an hour, ten hours and a day: the same, and no more than the manual says."""
+    held = [(runs.of_summary(name),) for name in HOURS]
+    tests.same("a summary of an hour, ten hours and a day", held)
+    tests.within("a summary", held[0][0], LEAST_OF_SUMMARY, MOST_OF_SUMMARY)
+
+
 def main() -> None:
     program, folder = sys.argv[1:]
     tests = Tests()
@@ -211,7 +238,7 @@ def main() -> None:
     tests.within("calls by which the count would miss memory", len(others), 0, 0)
     runs = Runs(program, folder)
     write_captures(runs)
-    for part in (lengths_alike, grows_with_window, grows_with_links):
+    for part in (lengths_alike, grows_with_window, grows_with_links, summaries_alike):
         try:
             part(runs, tests)
         except Failed as failed:

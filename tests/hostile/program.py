@@ -80,6 +80,10 @@ class Program:
         self.write("capture", text)
         return self.run(["show", *options, "capture"])
 
+    def summary(self, text: bytes) -> Ended:
+        self.write("capture", text)
+        return self.run(["summary", "capture"])
+
     def check(self, text: bytes) -> Ended:
         self.write("file", text)
         return self.run(["check", "file"])

@@ -20,6 +20,7 @@ from captures import Capture
 from messages import Placed, frames_of, show_line
 from model import COUNTS, KINDS, Conversion, Judged, convert, report_of
 from program import Ended, Program
+from summaries import summary_of
 from wire import frame_of
 
 MOST_LINKS = 16
@@ -157,6 +158,12 @@ def shown_as_modelled(case: Case) -> Answer:
         "foreign": sum(words[1] == b"station" and words[2] != station for words in starts),
     }
     return HOLDS if told.items() <= counts.items() else f"shown {told}, counted {counts}"
+
+
+def summarized_as_modelled(case: Case) -> Answer:
+    """`summary` tells of the bytes of all links, one after another, what the slow model counts."""
+    text = b"".join(case.links)
+    return ends_with(case.program.summary(text), 0, summary_of(text).encode(), b"")
 
 
 def hex_shown_as_bytes(case: Case) -> Answer:
@@ -361,6 +368,7 @@ OFTEN = (
     Property(same_on_standard_input, 20),
     Property(shown_as_modelled, 20),
     Property(hex_shown_as_bytes, 20),
+    Property(summarized_as_modelled, 20),
 )
 
 ALL = FREE + VALID + SELDOM + OFTEN

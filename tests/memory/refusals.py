@@ -189,6 +189,8 @@ def scenes() -> Iterator[Scene]:
     yield Scene(["check", "examples/base.rnx"])
     yield Scene(["check", base], status=3)
     yield Scene(["check", "wrong"], status=3)
+    yield Scene(["summary", base])
+    yield Scene(["summary", "many"])
     yield Scene(convert(base))
     yield Scene(convert(late, window="2"))
     yield Scene(convert("stdin", second, window="4"), given=first)

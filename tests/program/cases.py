@@ -14,6 +14,7 @@ sys.path[:0] = [str(TESTS / "hostile"), str(TESTS / "held")]
 
 import model  # noqa: E402
 import streams  # noqa: E402
+import summaries  # noqa: E402
 from messages import CODES, SIGNALS  # noqa: E402
 from model import Setup, moment  # noqa: E402
 from wire import HEADERS, LEGACY_SATELLITE, MSM_CELL, Message, frame_of, payload_of  # noqa: E402
@@ -387,6 +388,48 @@ def long_captures(cases):
     case(cases, "long_damaged_links_of_a_wide_window", links, codes=codes)
 
 
+# ---------------------------------------------------------------- captures for `summary`
+
+
+def contents():
+    """Small captures, each with lines of its summary in words."""
+    empty = {**SATELLITE, "l1_offset": -(1 << 19), "l1_cnr": 0, "l2_range": -(1 << 13), "l2_offset": -(1 << 19), "l2_cnr": 0}
+    weak = {**empty, "satellite": 32, "l1_cnr": 1}
+    yield "no_value", frame_of(legacy(NOON, [empty])), (" satellites -\n codes -\nnothing taken\n",)
+    yield "strength_alone", frame_of(legacy(NOON, [empty, weak])), (" satellites G32\n codes 1C\n next ",)
+    # DF016: 1 is 2P, 3 is 2W
+    second = at(0, l2_code=1), at(1, l2_code=1), at(2)
+    yield "second_frequency_2p", b"".join(second[:2]), (" codes 1C,2P\n second-frequency 2P\n next ",)
+    yield "second_frequency_2p_and_2w", b"".join(second), (" codes 1C,2P,2W\n next ",)
+    yield "week_ends", frame_of(legacy(604_799_000, [])) + frame_of(legacy(0, [])) + frame_of(legacy(0, [])), (
+        " time-of-week 604799000 0\n epoch-changes 1\n",)
+    untaken = b"".join(frame_of((number << 4).to_bytes(2, "big")) for number in (1004, 1077, 1001, 1076, 1077, 1084))
+    yield "untaken_observations", untaken, (
+        "frames 6\nother 1001 1\nother 1076 1\nother 1077 2\nother 1084 1\n"
+        "untaken GPS 1001 1\nuntaken GPS 1076 1\nuntaken GPS 1077 2\nrefused M3 1004 1\nnothing taken\n",)
+    # the first frame would reach past the end, and the other one stands in it
+    yield "frame_in_a_candidate", FALSE_PREAMBLE + at(0), ("outside-frames 3\nframes 1\n",)
+    numbers = b"".join(frame_of((number << 4).to_bytes(2, "big")) for number in range(4095, -1, -1))
+    yield "every_message_number", numbers, ("other 0 1\n", "other 4095 1\n", "refused M3 1074 1\n")
+    yield "every_station", b"".join(bare(it % 60, station=it) for it in range(4095, -1, -1)), (
+        "frames 4096\nstation 0\n", "station 4095\n message 1004 1\n time-of-week 475215000 475215000\n")
+
+
+def summary_cases():
+    """The file `summaries` has the name of each capture."""
+    with open("summaries", "w") as names:
+        for name, capture, lines in contents():
+            told = summaries.summary_of(capture)
+            if not all(it in told for it in lines):
+                sys.exit(f"cases: {name}: the model writes\n{told}and not\n{lines}")
+            save(f"{name}.rtcm", capture)
+            save(f"{name}.summary", told)
+            print(name, file=names)
+    for name in ("each_refusal.1", "long_capture.1", "long_damaged_links.1"):
+        with open(name, "rb") as file:
+            save(f"{name}.summary", summaries.summary_of(file.read()))
+
+
 # ---------------------------------------------------------------- a long file for `check`
 
 
@@ -423,6 +466,7 @@ def main():
         for write in (links_of_sixteen, refusals, closes, order_of_reading, windows, ties, every_cell, long_captures):
             write(cases)
     millions()
+    summary_cases()
     long_file()
 
 

@@ -1,5 +1,5 @@
 #!/bin/sh
-# Runs `convert`, `show` and `check` on captures and files that cases.py writes by the slow model of tests/hostile: it
+# Runs `convert`, `show`, `check` and `summary` on captures and files that cases.py writes by the slow model of tests/hostile: it
 # computes what is due from the formats, of all messages at once, and shares nothing with the program. The program is $1.
 . "$(dirname "$(readlink -f "$0")")/common"
 options='--station 2003 --near 2024-05-17T12:00:00 --made 2024-05-17T13:00:00 --marker BASE'
@@ -40,10 +40,22 @@ for name in each_refusal not_refused; do
     leaves "show_$name" 0 "$name.lines" /dev/null
 done
 
+# What captures hold.
+for name in $(cat summaries); do
+    "$program" summary "$name.rtcm" >out 2>err </dev/null; status=$?
+    leaves "summary_$name" 0 "$name.summary" /dev/null
+done
+for name in each_refusal.1 long_capture.1 long_damaged_links.1; do
+    "$program" summary "$name" >out 2>err </dev/null; status=$?
+    leaves "summary_of_$name" 0 "$name.summary" /dev/null
+done
+for piece in piece.*; do cat "$piece"; done | "$program" summary stdin >out 2>err; status=$?
+leaves summary_of_a_long_pipe 0 long_capture.1.summary /dev/null
+
 # A file of 10 MB, and the same with a zero in its last line.
 "$program" check long.rnx >out 2>err </dev/null; status=$?
 expect check_of_10_mb 0 'valid: 450 epochs, 14400 satellite lines' ''
 "$program" check zero.rnx >out 2>err </dev/null; status=$?
 leaves check_of_10_mb_with_a_zero 3 zero.line /dev/null
 
-ends 39
+ends 52

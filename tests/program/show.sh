@@ -25,6 +25,7 @@ Commands:
   convert  Converts captures of one station to a RINEX 3.05 observation file
   show     Shows the messages of a capture, a line for each frame
   check    Checks whether a file is one that convert could have written
+  summary  Tells what a capture holds: stations, satellites and codes
   help     Print this message or the help of the given subcommand(s)
 
 Options:
@@ -46,7 +47,7 @@ try="
 For more information, try '--help'."
 
 no_command="error: 'rtcm2rinex' requires a subcommand but one was not provided
-  [subcommands: convert, show, check, help]
+  [subcommands: convert, show, check, summary, help]
 
 Usage: rtcm2rinex <COMMAND>
 $try"

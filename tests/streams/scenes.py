@@ -29,7 +29,7 @@ NOTHING = os.devnull
 
 SECONDS = 60  # a run that takes longer does not end
 GATHERED = 65_536  # so many bytes of a file are gathered before a write
-READ_AT_ONCE = 32_768  # so many bytes of a link are read at once
+READ_AT_ONCE = 32_768  # so many bytes of a link, or of an input of `summary`, are read at once
 READ_IN_PIECES = 4096  # so many bytes of an input of `show` or `check` are read at once
 
 MOST_INTERRUPTIONS = 1000  # so often in a row an interrupted call is made again
@@ -199,6 +199,9 @@ def cases():
         Case("show of 9,000 frames", ("show", frames)),
         Case("check that says yes", ("check", example("session.rnx"))),
         Case(SAYS_NO, ("check", "stdin"), wrong),
+        Case("summary", ("summary", example("session.rtcm"))),
+        Case("summary of standard input", ("summary", "stdin"), example("late.rtcm")),
+        Case("summary of a long file", ("summary", long)),
         convert("convert", "--window", "2", example("late.rtcm")),
         convert(TWO_LINKS, *session),
         convert("convert of standard input", "--window", "2", "stdin",
@@ -568,6 +571,11 @@ def size_of_inputs(case):
     return sum(map(os.path.getsize, files)) if files else -1
 
 
+def asked_for(words):
+    """How many bytes a read of an input asks for."""
+    return READ_IN_PIECES if words[0] in ("show", "check") else READ_AT_ONCE
+
+
 def short_piece(case):
     return 1 if size_of_inputs(case) < 6000 else 499
 
@@ -586,7 +594,7 @@ def _whole_read_fails():
         size = size_of_inputs(case)
         if size < 0:
             continue
-        reads = size // (READ_AT_ONCE if name.startswith("convert") else READ_IN_PIECES) + 2
+        reads = size // asked_for(case.words) + 2
         for k in range(1, reads + 1):
             for fault in faults:
                 yield tried(name, f"read {k}, errno {fault}",
@@ -631,7 +639,7 @@ def _first_write_of_report_fails():
 def _first_open_fails():
     base = example("base.rtcm")
     for case in [Case("show", ("show", base)), Case("check", ("check", base)),
-                 convert("convert", base), convert("convert of two links", base, base)]:
+                 Case("summary", ("summary", base)), convert("convert", base), convert("convert of two links", base, base)]:
         for fault in ERRORS:
             yield f"{case.name}, errno {fault}", functools.partial(
                 fails, case, f"cannot open {base}", Disturbance({"FAILS_OPEN": 1, "FAULT": fault}))
@@ -652,7 +660,7 @@ def reads_of(case):
     """Each input is read in whole pieces, and once more for its end. As a link, standard input is
     looked at before."""
     is_convert = case.words[0] == "convert"
-    piece = READ_AT_ONCE if is_convert else READ_IN_PIECES
+    piece = asked_for(case.words)
     sizes = [os.path.getsize(file) for file in inputs(case)]
     return sum(-(-size // piece) + 1 for size in sizes) + (is_convert and "stdin" in case.words)
 
@@ -671,7 +679,7 @@ def _unreadable():
     os.makedirs(folder, exist_ok=True)
     base = example("base.rtcm")
     for link in [folder, "/proc/self/mem"]:
-        for words in [("show", link), ("show", "--hex", link), ("check", link)]:
+        for words in [("show", link), ("show", "--hex", link), ("check", link), ("summary", link)]:
             yield " ".join(words), functools.partial(fails, Case("", words), "read failed")
         for place in range(16):
             links = [base] * 16
@@ -710,7 +718,8 @@ def _open_fails():
                 Disturbance(limits={resource.RLIMIT_NOFILE: 3 + place}))
             yield f"link {place + 1} is missing, and the first is standard input", (
                 functools.partial(nothing_read, missing, place))
-    for words in [("show", links[0]), ("show", "--hex", links[0]), ("check", links[0])]:
+    for words in [("show", links[0]), ("show", "--hex", links[0]), ("check", links[0]),
+                  ("summary", links[0])]:
         for fault in faults:
             yield f"{words}, errno {fault}", functools.partial(
                 fails, Case("", words), f"cannot open {links[0]}",
@@ -817,6 +826,7 @@ def convert_to_its_last_read():
 @scene("a link that vanishes, grows, is replaced, cut or overwritten before a read")
 def _link_changes():
     for words, file in [(("show",), "long.rtcm"), (("check",), "long.rnx"),
+                        (("summary",), "long.rtcm"),
                         (("convert", *OPTIONS, "--window", "2"), "long.rtcm")]:
         for before in [1, 2]:
             for change in CHANGES:
@@ -853,7 +863,7 @@ def changed(words, file, before, change):
     _, answer = os.waitpid(running[0], os.WUNTRACED)
     if not os.WIFSTOPPED(answer):
         return f"status {os.waitstatus_to_exitcode(answer)} before read {before}"
-    seen = (before - 1) * (READ_AT_ONCE if words[0] == "convert" else READ_IN_PIECES)
+    seen = (before - 1) * asked_for(words)
     due = changed_text(change, text, seen)
     if change == "vanishes":
         os.remove(link)

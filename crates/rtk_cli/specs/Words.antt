@@ -4,7 +4,7 @@ use Rattle.std.specs.Int.{IsInRange}
 use Rattle.std.specs.Cmp.Lexicographic.{pointwise}
 use Rattle.rtk_convert.specs.Setup.{IsStation, IsWindow}
 use Rattle.rtk_cli.specs.declared.words.Job.{Job}
-use Rattle.rtk_cli.specs.declared.words.Job.TheVariants.{Convert, Show, Check}
+use Rattle.rtk_cli.specs.declared.words.Job.TheVariants.{Convert, Show, Check, Summary}
 use Rattle.rtk_cli.specs.declared.words.WordsFault.{WordsFault}
 use Rattle.rtk_cli.specs.declared.words.WordsFault.TheVariants.{Clap, Bad, OutOfMemory}
 
@@ -22,6 +22,7 @@ IsWithinLimits (Convert setup links) =
     IsStation setup.station × IsWindow setup.window × AreLinkNames (map (λ link. link.now) links.items)
 IsWithinLimits (Show hex file) = Unit {0}
 IsWithinLimits (Check file) = Unit {0}
+IsWithinLimits (Summary file) = Unit {0}
 
 -- after a text of clap's the program ends with status 0 or 2; which of them is not said here
 -- (this project's rule)

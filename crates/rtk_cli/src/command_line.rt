@@ -49,6 +49,12 @@ fn check_command<'a>(alloc: Global) -> Result<Command<'a>, AllocError> {
         .arg(file_arg(alloc, "The file, or stdin for standard input"))
 }
 
+fn summary_command<'a>(alloc: Global) -> Result<Command<'a>, AllocError> {
+    Command::new(alloc, "summary")
+        .about("Tells what a capture holds: stations, satellites and codes")
+        .arg(file_arg(alloc, "The capture, or stdin for standard input"))
+}
+
 // An option of `convert` that has a value. Each has a function of its own, since the check of a
 // function that builds them all takes minutes.
 fn option_arg<'a>(alloc: Global, name: &'a str, value: &'a str, help: &'a str) -> Arg<'a> {
@@ -133,8 +139,12 @@ fn program_with_show<'a>(alloc: Global) -> Result<Command<'a>, AllocError> {
     program_with_convert(alloc)?.subcommand(show_command(alloc)?)
 }
 
-fn program_command<'a>(alloc: Global) -> Result<Command<'a>, AllocError> {
+fn program_with_check<'a>(alloc: Global) -> Result<Command<'a>, AllocError> {
     program_with_show(alloc)?.subcommand(check_command(alloc)?)
+}
+
+fn program_command<'a>(alloc: Global) -> Result<Command<'a>, AllocError> {
+    program_with_check(alloc)?.subcommand(summary_command(alloc)?)
 }
 
 // The text that clap has for an error. What was asked for, as help, goes to standard output.
@@ -200,6 +210,13 @@ fn check_job<'a>(matches: &ArgMatches<'a>) -> Option<Job<'a>>
     Some(Job::Check { file })
 }
 
+fn summary_job<'a>(matches: &ArgMatches<'a>) -> Option<Job<'a>>
+    ensures { IfSome result IsWithinLimits }
+{
+    let file = matches.get_str("FILE")?;
+    Some(Job::Summary { file })
+}
+
 /// What the words of a command line ask for. They begin after the name of the program.
 pub fn job<'a>(alloc: Global, words: &'a [&'a str]) -> Result<Job<'a>, WordsFault>
     // That it gives up only without memory show the rows `job ..` of tests/calls.
@@ -220,6 +237,7 @@ pub fn job<'a>(alloc: Global, words: &'a [&'a str]) -> Result<Job<'a>, WordsFaul
         }
         Some(("show", show)) => show_job(show),
         Some(("check", check)) => check_job(check),
+        Some(("summary", summary)) => summary_job(summary),
         _ => None,
     };
     match job {

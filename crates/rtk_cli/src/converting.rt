@@ -6,7 +6,7 @@ ghost use Rattle.rtk_convert.specs.ReadSteps.{HasCalled};
 ghost use Rattle.rtk_cli.specs.Converting.{status_of};
 ghost use Rattle.rtk_cli.specs.Steps.ReadLimits.{most_reads, read_at_once};
 
-use crate::exit_status::{DONE, FAILED, REFUSED, fail, fail_to_open, refuse};
+use crate::exit_status::{DONE, REFUSED, fail, fail_to_end, fail_to_open, refuse};
 use crate::files::{Capture, Reads, Writes, is_standard_input_readable, open_capture};
 use crate::resuming::Resumed;
 use crate::words::{BadWords, STDIN, ToolFault};
@@ -25,8 +25,8 @@ const READ_AT_ONCE: usize = 32_768;
 /// standard input.
 const GATHERED: usize = 65_536;
 
-/// The most reads of a conversion.
-const MOST_READS: u64 = 1_000_000_000;
+/// The most reads of a conversion, and of a summary.
+pub(crate) const MOST_READS: u64 = 1_000_000_000;
 
 /// A link of the program: a file or standard input, read ahead.
 type Reader<R> = Reads<BufReader<Resumed<Capture<<R as Files>::File, <R as Input>::Reader>>>>;
@@ -115,10 +115,7 @@ pub fn conversion_status<R: Eprint>(rt: &R, done: Result<Counts, ConvertFault>, 
         Ok(_) | Err(ConvertFault::Write { .. }) => fail(rt, ToolFault::Output),
         Err(ConvertFault::OutOfMemory) => fail(rt, ToolFault::OutOfMemory),
         Err(ConvertFault::Read { .. }) => fail(rt, ToolFault::Input),
-        Err(ConvertFault::Endless) => {
-            let _told = eprintln!(rt; "rtcm2rinex: input does not end");
-            FAILED
-        }
+        Err(ConvertFault::Endless) => fail_to_end(rt),
         // The words give 1 to 16 links, and a conversion refuses no call of its own.
         Err(_) => refuse(rt, BadWords::Links),
     }

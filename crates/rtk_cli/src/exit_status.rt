@@ -34,6 +34,14 @@ pub(crate) fn fail_to_open<R: Eprint>(rt: &R, name: &str) -> u8
     FAILED
 }
 
+/// Says that all reads that are made at most were made, and none of them met the end.
+pub(crate) fn fail_to_end<R: Eprint>(rt: &R) -> u8
+    ensures { result ≡ FAILED }
+{
+    let _told = eprintln!(rt; "rtcm2rinex: input does not end");
+    FAILED
+}
+
 /// Says why words that clap takes are refused.
 pub(crate) fn refuse<R: Eprint>(rt: &R, line: BadWords) -> u8
     ensures { result ≡ REFUSED }

@@ -30,6 +30,7 @@ mod payload_line;
 mod resuming;
 mod running;
 mod showing;
+mod summarizing;
 mod words;
 
 pub use checking::{CHECK_LIMIT, check_file};

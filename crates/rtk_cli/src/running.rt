@@ -9,6 +9,7 @@ use crate::converting::convert_links;
 use crate::exit_status::{DONE, NOT_VALID, REFUSED, fail, fail_to_open, print_clap_text, refuse};
 use crate::files::{Reads, open_capture, standard_output};
 use crate::showing::show;
+use crate::summarizing::summarize_named;
 use crate::words::{Job, ToolFault, WordsFault};
 use std::env::Env;
 use std::fs::Files;
@@ -67,6 +68,7 @@ fn run_words<R: Files + Input + Print + Eprint + AllocGlobal, W: Write + Drop>(
         Ok(Job::Convert { setup, links }) => convert_links(rt, report, setup, links.as_slice()),
         Ok(Job::Show { hex, file }) => show_named(rt, hex, file),
         Ok(Job::Check { file }) => check_named(rt, file),
+        Ok(Job::Summary { file }) => summarize_named(rt, file),
         Err(WordsFault::Clap { text, status }) => print_clap_text(rt, text.as_str(), status),
         Err(WordsFault::Bad { line }) => refuse(rt, line),
         Err(WordsFault::OutOfMemory) => fail(rt, ToolFault::OutOfMemory),

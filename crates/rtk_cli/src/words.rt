@@ -30,6 +30,11 @@ pub enum Job<'a> {
         /// The name of the text; `stdin` is standard input.
         file: &'a str,
     },
+    /// `summary FILE`: what a capture holds.
+    Summary {
+        /// The name of the capture; `stdin` is standard input.
+        file: &'a str,
+    },
 }
 
 /// Why words that clap takes give no conversion: the first cause that holds, in this order.

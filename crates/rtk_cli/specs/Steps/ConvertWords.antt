@@ -9,7 +9,7 @@ use Rattle.rtk_cli.specs.declared.options.Options.{Options}
 use Rattle.rtk_cli.specs.declared.words.BadWords.{BadWords}
 use Rattle.rtk_cli.specs.declared.words.BadWords.TheVariants.{Near, Made, Codes, Marker, Links}
 use Rattle.rtk_cli.specs.declared.words.Job.{Job}
-use Rattle.rtk_cli.specs.declared.words.Job.TheVariants.{Convert, Show, Check}
+use Rattle.rtk_cli.specs.declared.words.Job.TheVariants.{Convert, Show, Check, Summary}
 use Rattle.rtk_cli.specs.declared.words.WordsFault.{WordsFault}
 use Rattle.rtk_cli.specs.declared.words.WordsFault.TheVariants.{Clap, Bad, OutOfMemory}
 use Rattle.rtk_cli.specs.Words.{AreLinkNames}
@@ -27,6 +27,7 @@ abbrev pub SaysConversion : Options → List (List ℕ) → Job → Type 0
 SaysConversion o names (Convert setup links) = SaysSetup o setup × (map (λ link. link.now) links.items ≡ names)
 SaysConversion o names (Show hex file) = ⊥
 SaysConversion o names (Check file) = ⊥
+SaysConversion o names (Summary file) = ⊥
 
 -- the text writes a moment up to the last one that is counted
 abbrev pub HasMoment : List ℕ → Type 0

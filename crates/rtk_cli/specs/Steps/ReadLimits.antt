@@ -1,7 +1,8 @@
--- What `convert` takes of its links. The numbers are this project's rule.
+-- What `convert` takes of its links, and `summary` of its capture. The numbers are this project's
+-- rule.
 use Rattle.std.specs.Prelude.{ℕ, ◌*◌}
 
--- the most reads of a conversion: 1,000,000,000
+-- the most reads of a conversion, and of a summary: 1,000,000,000
 abbrev pub most_reads : ℕ
 most_reads = 1000000000
 

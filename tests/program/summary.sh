@@ -1,0 +1,89 @@
+#!/bin/sh
+# Runs `summary` as a user does. The program is $1.
+. "$(dirname "$(readlink -f "$0")")/common"
+base=$root/examples/base.rtcm
+words='--near GPS-TIME-WITHIN-HALF-A-WEEK --made UTC-NOW --marker NAME --codes'
+
+# run WORD..: standard input as it is
+run() {
+    "$program" "$@" >out 2>err
+    status=$?
+}
+
+help='Tells what a capture holds: stations, satellites and codes
+
+Usage: rtcm2rinex summary <FILE>
+
+Arguments:
+  <FILE>  The capture, or stdin for standard input
+
+Options:
+  -h, --help  Print help'
+
+no_file="error: the following required arguments were not provided:
+  <FILE>
+
+Usage: rtcm2rinex summary <FILE>
+
+For more information, try '--help'."
+
+two_files="error: unexpected argument 'b' found
+
+Usage: rtcm2rinex summary <FILE>
+
+For more information, try '--help'."
+
+# gpsdecode shows a 1005 of 19 bytes of payload and a 1004 of 24
+told="bytes 55
+outside-frames 0
+frames 2
+station 2003
+ message 1004 1
+ message 1005 1
+ time-of-week 475200000 475200000
+ epoch-changes 0
+ satellites G05
+ codes 1C,2W
+ next rtcm2rinex convert --station 2003 $words 1C,2W CAPTURE"
+
+nothing='bytes 0
+outside-frames 0
+frames 0
+nothing taken'
+
+run summary "$base" </dev/null;     expect summary_of_a_file 0 "$told" ''
+run summary stdin <"$base";         expect summary_of_standard_input 0 "$told" ''
+cat "$base" | "$program" summary stdin >out 2>err; status=$?
+expect summary_of_a_pipe 0 "$told" ''
+: >empty
+run summary empty </dev/null;       expect summary_of_nothing 0 "$nothing" ''
+
+# The command that it names, with what a capture doesn't tell put in.
+"$program" summary "$base" </dev/null | sed -n 's/^ next rtcm2rinex //p' |
+    sed 's/GPS-TIME-WITHIN-HALF-A-WEEK/2024-05-17T12:00:00/; s/UTC-NOW/2024-05-17T13:00:00/; s/NAME/BASE/; s/CAPTURE$//' >next
+run $(cat next) "$base" </dev/null
+same the_next_command out "$root/examples/base.rnx"
+
+mkdir folder
+run summary nowhere </dev/null;     expect summary_of_no_file 1 '' 'rtcm2rinex: cannot open nowhere'
+run summary folder </dev/null;      expect summary_of_a_directory 1 '' 'rtcm2rinex: read failed'
+"$program" summary stdin <&- >out 2>err; status=$?
+expect summary_of_closed_standard_input 1 '' 'rtcm2rinex: read failed'
+"$program" summary "$base" >/dev/full 2>err; status=$?; : >out
+expect summary_into_full_output 1 '' 'rtcm2rinex: write failed'
+"$program" summary "$base" >&- 2>err; status=$?; : >out
+expect summary_into_closed_output 1 '' 'rtcm2rinex: write failed'
+
+# 100,000,000 bytes take no more memory than none.
+(ulimit -v 60000; head -c 100000000 /dev/zero | "$program" summary stdin) >out 2>err; status=$?
+expect summary_of_a_long_input 0 'bytes 100000000
+outside-frames 100000000
+frames 0
+nothing taken' ''
+
+run summary --help </dev/null;      expect summary_help 0 "$help" ''
+run help summary </dev/null;        expect help_summary 0 "$help" ''
+run summary </dev/null;             expect summary_without_a_file 2 '' "$no_file"
+run summary a b </dev/null;         expect summary_of_two_files 2 '' "$two_files"
+
+ends 15
