@@ -1,4 +1,4 @@
-pub mod CheckFile
+pub mod CheckInput
 pub mod Converting
 pub mod Hex
 pub mod Input

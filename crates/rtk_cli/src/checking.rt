@@ -5,7 +5,7 @@ ghost use Rattle.std.specs.Prelude.{◌≡◌, ◌≢◌, ◌+◌, ◌≤◌, �
 ghost use Rattle.rtk_frame.specs.Stream.{CountRises};
 ghost use Rattle.rtk_cli.specs.Input.{GivesText};
 ghost use Rattle.rtk_rinex.specs.CauseText.{cause_text};
-ghost use Rattle.rtk_cli.specs.CheckFile.{valid_text, check_fault_text, SaysVerdict, Tells, TellsPart};
+ghost use Rattle.rtk_cli.specs.CheckInput.{valid_text, check_fault_text, SaysVerdict, Tells, TellsPart};
 ghost use Rattle.rtk_cli.specs.declared.words.ToolFault.TheVariants.{Input, TooLong, NotHex, OutOfMemory, Output};
 
 use crate::input::read_whole;
@@ -15,7 +15,7 @@ use rtk_frame::{Sink, Source, write_all};
 use rtk_rinex::{Cause, CheckFault, Table, check};
 use std::alloc::{AllocError, Global};
 
-/// The most bytes of an input of `check_file`, which holds it whole.
+/// The most bytes of an input of `check_input`, which holds it whole.
 pub const CHECK_LIMIT: usize = 1_073_741_824;
 
 // Whether a text is valid, and the line that says so or why not.
@@ -25,7 +25,7 @@ struct Verdict {
     line: Vec<u8>,
 }
 
-fn valid_line(alloc: Global, table: &Table) -> Result<Vec<u8>, AllocError>
+fn valid_line(alloc: Global, table: &Table<'_>) -> Result<Vec<u8>, AllocError>
     ensures { IfOk result (λ line. line.items ≡ valid_text table.now.epochs table.now.satellites) }
 {
     let mut line = Vec::new(alloc);
@@ -55,12 +55,11 @@ fn fault_line(alloc: Global, fault: CheckFault) -> Result<Vec<u8>, AllocError>
 // What is said of a text.
 fn verdict_of(alloc: Global, text: &[u8]) -> Result<Verdict, ToolFault>
     ensures says { IfOk result (λ verdict. SaysVerdict text.now verdict.is_valid verdict.line.items) }
-    // That it gives up only without memory show the rows `check_file ..` of tests/calls.
+    // That it gives up only without memory show the rows `check_input ..` of tests/calls.
     ensures memory { IfErr result (λ fault. fault ≡ OutOfMemory) }
 {
-    let (is_valid, line) = match check(alloc, text) {
+    let (is_valid, line) = match check(text) {
         Ok(table) => (true, valid_line(alloc, &table)),
-        Err(fault) if fault.cause == Cause::OutOfMemory => return Err(ToolFault::OutOfMemory),
         Err(fault) => (false, fault_line(alloc, fault)),
     };
     match line {
@@ -75,7 +74,7 @@ fn verdict_of(alloc: Global, text: &[u8]) -> Result<Verdict, ToolFault>
 ///
 /// The line is whole before a byte of it is written, so after each fault but a failed write nothing
 /// is out.
-pub fn check_file<R: Source, W: Sink>(
+pub fn check_input<R: Source, W: Sink>(
     alloc: Global,
     reader: &mut R,
     out: &mut W,
@@ -83,7 +82,7 @@ pub fn check_file<R: Source, W: Sink>(
     ensures told { IfOk result (λ valid. GivesText (R.given reader.old) (R.given reader.new) (λ text.
         (length text ≤ CHECK_LIMIT) × Tells text valid (W.taken out.old) (W.taken out.new))) }
 
-    // That it gives up only without memory show the rows `check_file ..` of tests/calls.
+    // That it gives up only without memory show the rows `check_input ..` of tests/calls.
 
     // What the answer is about was read to its end.
     ensures to_the_end { result ≢ Err Input → result ≢ Err TooLong → result ≢ Err OutOfMemory

@@ -32,7 +32,7 @@ mod running;
 mod showing;
 mod words;
 
-pub use checking::{CHECK_LIMIT, check_file};
+pub use checking::{CHECK_LIMIT, check_input};
 pub use command_line::job;
 pub use converting::conversion_status;
 pub use payload_line::show_line;

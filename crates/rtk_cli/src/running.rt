@@ -3,7 +3,7 @@
 
 ghost use Rattle.std.specs.Prelude.{◌≤◌};
 
-use crate::checking::check_file;
+use crate::checking::check_input;
 use crate::command_line::job;
 use crate::converting::convert_links;
 use crate::exit_status::{DONE, NOT_VALID, REFUSED, fail, fail_to_open, print_clap_text, refuse};
@@ -49,7 +49,7 @@ fn check_named<R: Files + Input + Print + Eprint + AllocGlobal>(rt: &R, name: &s
         return fail_to_open(rt, name);
     };
     let mut reader = Reads::new(text);
-    match check_file(rt.alloc(), &mut reader, &mut standard_output(rt)) {
+    match check_input(rt.alloc(), &mut reader, &mut standard_output(rt)) {
         Ok(true) => DONE,
         Ok(false) => NOT_VALID,
         Err(fault) => fail(rt, fault),

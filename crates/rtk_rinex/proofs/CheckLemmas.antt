@@ -3,7 +3,7 @@ use Rattle.std.proofs.Common.{◌≡◌, ◌≢◌, ℕ, ◌+◌, ◌/◌, ◌%�
 use Rattle.std.specs.Prelude.{All, AllPairs}
 use Rattle.std.specs.Int.{IsInRange}
 use Rattle.std.specs.List.{filter}
-use Rattle.std.proofs.lemmas.List.{flat_map_more, append-nil}
+use Rattle.std.proofs.lemmas.List.{flat_map_more}
 use Rattle.std.proofs.lemmas.List.Elements.{All-nil, All-cons, All-head, All-tail}
 use Rattle.std.proofs.lemmas.List.Kept.{AllPairs-cons}
 use Rattle.std.proofs.lemmas.List.Sums.{sum_by-append}
@@ -16,17 +16,16 @@ use Rattle.rtk_rinex.specs.CheckLine.{IsNextSatellite, IsNextTime, IsEpochFault,
 use Rattle.rtk_rinex.specs.Lines.{IsLine}
 use Rattle.rtk_rinex.specs.CheckText.{BeginsWithFault, last_satellite, AreRows, last_time, AreEpochs, record_lines, satellite_lines}
 use Rattle.rtk_rinex.specs.declared.check_fault.Cause.{Cause}
-use Rattle.rtk_rinex.specs.declared.check_fault.Cause.TheVariants.{HeaderLine, Columns, Value, Order, Truncated, OutOfMemory}
+use Rattle.rtk_rinex.specs.declared.check_fault.Cause.TheVariants.{HeaderLine, Columns, Value, Order, Truncated}
 use Rattle.rtk_rinex.specs.declared.epoch_table.SatelliteRow.{SatelliteRow}
 use Rattle.rtk_rinex.proofs.RecordLemmas.{trim_end-front, lines_of-some}
 use Rattle.rtk_rinex.proofs.RowLemmas.{named}
 
--- good records begin a text, and were appended to what was out
-pub record ReadsFront (n first : ℕ) (bytes rest old new : List ℕ) : Type 0 where
+-- good records begin a text
+pub record ReadsFront (n first : ℕ) (bytes rest : List ℕ) : Type 0 where
   pub epochs : List EpochTableView
   pub are_epochs : AreEpochs n first None epochs
   pub text : bytes ≡ flat_map record_text epochs ++ rest
-  pub out : new ≡ old ++ flat_map record_text epochs
 
 -- ---- rows and epochs, one more
 
@@ -73,14 +72,6 @@ text-more f xs x bytes rest line after e g h =
     e ∙ ap (λ (t : List ℕ). flat_map f xs ++ t) g ∙ sym (append_assoc (flat_map f xs) line after)
     ∙ ap (λ (t : List ℕ). t ++ after) (ap (λ (t : List ℕ). flat_map f xs ++ t) h ∙ flat_map_more f [] xs x)
 
-pub out-more : {X : Type 0} (f : X → List ℕ) (xs : List X) (x : X) (old mid new line : List ℕ)
-    → mid ≡ old ++ flat_map f xs → new ≡ mid ++ line → line ≡ f x → new ≡ old ++ flat_map f (xs ++ x ∷ [])
-out-more f xs x old mid new line e g h =
-    g ∙ ap (λ (t : List ℕ). t ++ line) e ∙ ap (λ (t : List ℕ). (old ++ flat_map f xs) ++ t) h ∙ flat_map_more f old xs x
-
-pub nothing-more : (old : List ℕ) → old ≡ old ++ []
-nothing-more old = sym (append-nil old)
-
 -- ---- a line with a fault
 
 pub satellite-fault : (n : ℕ) (last : Option ℕ) (text line rest : List ℕ) (cause : Cause) → IsLine line → text ≡ line ++ rest
@@ -90,7 +81,6 @@ satellite-fault n last text line rest Columns l e h = (line, rest, l, e, h)
 satellite-fault n last text line rest Value l e h = (line, rest, l, e, h)
 satellite-fault n last text line rest Order l e h = (line, rest, l, e, h)
 satellite-fault n last text line rest Truncated l e h = absurd h
-satellite-fault n last text line rest OutOfMemory l e h = (line, rest, l, e, h)
 
 pub epoch-fault : (first : ℕ) (last : Option ℕ) (text line rest : List ℕ) (cause : Cause) → IsLine line → text ≡ line ++ rest
     → IsEpochFault first last line cause → BeginsWithFault (IsEpochFault first last) text cause
@@ -99,7 +89,6 @@ epoch-fault first last text line rest Columns l e h = (line, rest, l, e, h)
 epoch-fault first last text line rest Value l e h = (line, rest, l, e, h)
 epoch-fault first last text line rest Order l e h = (line, rest, l, e, h)
 epoch-fault first last text line rest Truncated l e h = absurd h
-epoch-fault first last text line rest OutOfMemory l e h = (line, rest, l, e, h)
 
 -- ---- the rows of a record
 
@@ -144,11 +133,3 @@ record-is bytes line after c rows count rest text e f g h t =
     let first : line ≡ epoch_line c (length rows) = f ∙ ap (λ (n : ℕ). epoch_line c n) (sym h) in
     e ∙ ap (λ (xs : List ℕ). line ++ xs) g ∙ ap (λ (xs : List ℕ). xs ++ (flat_map satellite_line rows ++ rest)) first
     ∙ sym (append_assoc (epoch_line c (length rows)) (flat_map satellite_line rows) rest) ∙ ap (λ (xs : List ℕ). xs ++ rest) (sym t)
-
-pub record-out : (old mid new line : List ℕ) (c : Civil) (rows : List SatelliteRow) (count : ℕ) (text : List ℕ)
-    → mid ≡ old ++ line → line ≡ epoch_line c count → new ≡ mid ++ flat_map satellite_line rows → length rows ≡ count
-    → text ≡ epoch_line c (length rows) ++ flat_map satellite_line rows → new ≡ old ++ text
-record-out old mid new line c rows count text e f g h t =
-    let first : line ≡ epoch_line c (length rows) = f ∙ ap (λ (n : ℕ). epoch_line c n) (sym h) in
-    g ∙ ap (λ (xs : List ℕ). xs ++ flat_map satellite_line rows) (e ∙ ap (λ (xs : List ℕ). old ++ xs) first)
-    ∙ append_assoc old (epoch_line c (length rows)) (flat_map satellite_line rows) ∙ ap (λ (xs : List ℕ). old ++ xs) (sym t)

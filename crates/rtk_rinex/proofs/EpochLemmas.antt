@@ -83,7 +83,3 @@ pub line-columns : (line : List ℕ) (t n : ℕ) → IsMoment t → IsInRange 1 
     → take 35 line ≡ epoch_columns (reading_of t) n
 line-columns line t n h k e =
     rw e (take-exact 35 (epoch_columns (reading_of t) n) (10 ∷ []) (length-columns (reading_of t) n (Fits-reading_of t h) (omega arith)))
-
--- what was appended to a text
-pub appended : (old new line : List ℕ) (start : ℕ) → new ≡ old ++ line → length old ≡ start → drop start new ≡ line
-appended old new line start e h = rw e (drop-exact start old line h)

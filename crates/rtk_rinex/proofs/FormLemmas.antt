@@ -5,7 +5,7 @@ use Rattle.std.proofs.lemmas.Bool.Decides.{nat_tests}
 use Rattle.std.proofs.lemmas.List.{length-replicate}
 use Rattle.std.proofs.lemmas.Option.{get_or_from_slice_get}
 use Rattle.rtk_rinex.specs.declared.check_fault.Cause.{Cause}
-use Rattle.rtk_rinex.specs.declared.check_fault.Cause.TheVariants.{HeaderLine, Columns, Value, Order, Truncated, OutOfMemory}
+use Rattle.rtk_rinex.specs.declared.check_fault.Cause.TheVariants.{HeaderLine, Columns, Value, Order, Truncated}
 use Rattle.rtk_rinex.specs.declared.epoch_table.SatelliteRow.{SatelliteRow}
 use Rattle.rtk_rinex.specs.Columns.{last_digits}
 use Rattle.rtk_rinex.specs.Reading.{reading_of}
@@ -20,7 +20,7 @@ use Rattle.rtk_rinex.proofs.OneLemmas.{one_epoch_line, count-of, epoch_line-of}
 
 -- ---- the form of a row's line
 
-get_front : (xs ys : List ℕ) (k : ℕ) → k < length xs → get_or (xs ++ ys) k 0 ≡ get_or xs k 0
+pub get_front : (xs ys : List ℕ) (k : ℕ) → k < length xs → get_or (xs ++ ys) k 0 ≡ get_or xs k 0
 get_front [] ys k h = absurd (omega arith)
 get_front (x ∷ xs) ys zero h = refl
 get_front (x ∷ xs) ys (suc k) h = get_front xs ys k (omega arith)
@@ -42,7 +42,7 @@ unfolding trim_end
 solid [] k long = absurd (omega (arith, long))
 solid (x ∷ xs) k long = solid_front x (trim_end xs) k (λ j e. solid xs j e) long
 
-long_enough : (kept : List ℕ) (s : ℕ) → take 3 (kept ++ 10 ∷ []) ≡ 71 ∷ last_digits 2 s → 3 ≤ length kept
+pub long_enough : (kept : List ℕ) (s : ℕ) → take 3 (kept ++ 10 ∷ []) ≡ 71 ∷ last_digits 2 s → 3 ≤ length kept
 long_enough [] s e = absurd (let long = ap length e in omega (arith, long))
 long_enough (x ∷ []) s e = absurd (let long = ap length e in omega (arith, long))
 long_enough (x ∷ y ∷ []) s e = absurd (let units : 10 ≡ 48 + s % 10 = ap (λ (xs : List ℕ). get_or xs 2 0) e in omega (arith, units))
@@ -70,41 +70,34 @@ row-form n r h =
 
 -- ---- no fault in a line of a table
 
--- a cause that tells something of the text
-abbrev pub IsTold : Cause → Type 0
-IsTold OutOfMemory = ⊥
-IsTold cause = Unit {0}
-
-pub no_satellite_fault : (n : ℕ) (last : Option ℕ) (text : List ℕ) (cause : Cause) (r : SatelliteRow) (y : List ℕ) → IsTold cause
+pub no_satellite_fault : (n : ℕ) (last : Option ℕ) (text : List ℕ) (cause : Cause) (r : SatelliteRow) (y : List ℕ)
     → BeginsWithFault (IsSatelliteFault n last) text cause → IsTableRow n r → IsNextSatellite last r.satellite → text ≡ satellite_line r ++ y → ⊥
-no_satellite_fault n last text HeaderLine r y told b h next e = b.4
-no_satellite_fault n last text Columns r y told b h next e =
+no_satellite_fault n last text HeaderLine r y b h next e = b.4
+no_satellite_fault n last text Columns r y b h next e =
     let same = same_line b.0 (satellite_line r) b.1 y b.2 (satellite_line-line r) (sym b.3 ∙ e) in
     b.4 r.satellite (rw same.0 (row-form n r h))
-no_satellite_fault n last text Value r y told b h next e =
+no_satellite_fault n last text Value r y b h next e =
     let same = same_line b.0 (satellite_line r) b.1 y b.2 (satellite_line-line r) (sym b.3 ∙ e) in
     b.4.3 r h same.0
-no_satellite_fault n last text Order r y told b h next e =
+no_satellite_fault n last text Order r y b h next e =
     let same = same_line b.0 (satellite_line r) b.1 y b.2 (satellite_line-line r) (sym b.3 ∙ e) in
     let form = b.4.1 in
     let satellite : r.satellite ≡ b.4.0 = one_satellite b.0 r.satellite b.4.0 h.satellite form.0 (named-row b.0 r same.0) form.1 in
     b.4.2 (rw satellite at next)
-no_satellite_fault n last text Truncated r y told b h next e = no_line text (satellite_line r) y b (satellite_line-line r) e
-no_satellite_fault n last text OutOfMemory r y told b h next e = told
+no_satellite_fault n last text Truncated r y b h next e = no_line text (satellite_line r) y b (satellite_line-line r) e
 
-pub no_epoch_fault : (n first : ℕ) (last : Option ℕ) (text : List ℕ) (cause : Cause) (a : EpochTableView) (y : List ℕ) → IsTold cause
+pub no_epoch_fault : (n first : ℕ) (last : Option ℕ) (text : List ℕ) (cause : Cause) (a : EpochTableView) (y : List ℕ)
     → BeginsWithFault (IsEpochFault first last) text cause → IsTableEpoch n a → IsNextTime first last a.time
     → text ≡ epoch_line (reading_of a.time) (length a.rows) ++ y → ⊥
-no_epoch_fault n first last text HeaderLine a y told b h next e = b.4
-no_epoch_fault n first last text Columns a y told b h next e =
+no_epoch_fault n first last text HeaderLine a y b h next e = b.4
+no_epoch_fault n first last text Columns a y b h next e =
     let same = same_line b.0 (epoch_line (reading_of a.time) (length a.rows)) b.1 y b.2 (epoch_line-of n a h) (sym b.3 ∙ e) in
     b.4 a.time (length a.rows) (h.time, count-of n a h, same.0)
-no_epoch_fault n first last text Value a y told b h next e = b.4
-no_epoch_fault n first last text Order a y told b h next e =
+no_epoch_fault n first last text Value a y b h next e = b.4
+no_epoch_fault n first last text Order a y b h next e =
     let same = same_line b.0 (epoch_line (reading_of a.time) (length a.rows)) b.1 y b.2 (epoch_line-of n a h) (sym b.3 ∙ e) in
     let t : ℕ = b.4.0 in
     let is = b.4.2 in
     let one = one_epoch_line a.time t (length a.rows) b.4.1 h.time is.0 (count-of n a h) is.1 (sym same.0 ∙ is.2) in
     b.4.3 (rw one.0 at next)
-no_epoch_fault n first last text Truncated a y told b h next e = no_line text (epoch_line (reading_of a.time) (length a.rows)) y b (epoch_line-of n a h) e
-no_epoch_fault n first last text OutOfMemory a y told b h next e = told
+no_epoch_fault n first last text Truncated a y b h next e = no_line text (epoch_line (reading_of a.time) (length a.rows)) y b (epoch_line-of n a h) e

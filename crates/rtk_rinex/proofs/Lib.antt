@@ -15,12 +15,14 @@ mod HeaderOnlyLemmas
 mod RecordLemmas
 mod TableLemmas
 mod ValuesLemmas
+mod FieldLemmas
 mod EpochLemmas
 mod RowLemmas
 mod CheckLemmas
 mod LineLemmas
 mod OneLemmas
 mod FormLemmas
+mod CellLemmas
 mod TextLemmas
 mod OneRecordsLemmas
 mod OneHeaderLemmas

@@ -1,7 +1,12 @@
 -- Each line of a record ends in its only LF.
-use Rattle.std.proofs.Common.{◌≡◌, ◌≢◌, ℕ, zero, suc, ◌+◌, ◌-◌, ◌/◌, ◌%◌, ◌^◌, ◌<◌, Bool, true, false, ◌==◌, if◌then◌else◌, Option, Some, None, ℤ, unsigned_abs, List, [], ◌∷◌, ◌++◌, length, drop, get_or, replicate, decimal, codes, refl, sym, ◌∙◌, ap, arith, append_assoc, flat_map}
+use Rattle.std.proofs.Common.{◌≡◌, ◌≢◌, ℕ, zero, suc, ◌+◌, ◌-◌, ◌/◌, ◌%◌, ◌^◌, ◌<◌, ◌≤◌, Bool, true, false, ◌==◌, if◌then◌else◌, Option, Some, None, ℤ, unsigned_abs, List, [], ◌∷◌, ◌++◌, length, take, drop, get_or, replicate, decimal, codes, refl, sym, ◌∙◌, ap, arith, append_assoc, flat_map}
+use Rattle.std.specs.Prelude.{MatchOption}
 use Rattle.std.specs.Fmt.{sign_text}
+use Rattle.memchr.specs.Find.{IsFirstByte, is_byte}
 use Rattle.std.proofs.lemmas.Fmt.{decimal_by_steps}
+use Rattle.std.proofs.lemmas.Bool.Decides.{nat_tests}
+use Rattle.std.proofs.lemmas.Grind.{take_at_read}
+use Rattle.std.proofs.lemmas.List.{take_all, length-take, get_or-take}
 use Rattle.std.proofs.lemmas.List.Elements.{All-nil, All-cons, All-head, All-tail, All-append, All-replicate}
 use Rattle.rtk_obs.specs.declared.time.Civil.{Civil}
 use Rattle.rtk_rinex.specs.declared.epoch_table.Observed.{Observed}
@@ -158,3 +163,30 @@ same_line l m x y h k e =
     let right : m ++ y ≡ k.0 ++ 10 ∷ y = ap (λ (t : List ℕ). t ++ y) k.2 ∙ append_assoc k.0 (10 ∷ []) y in
     let s = same_front h.0 k.0 x y h.1 k.1 (sym left ∙ e ∙ right) in
     (h.2 ∙ ap (λ (t : List ℕ). t ++ 10 ∷ []) s.0 ∙ sym k.2, s.1)
+
+-- ---- the end of the first line
+
+no_end : (text : List ℕ) → ((k : ℕ) → k < length text → get_or text k 0 ≢ 10) → HasNoEnd text
+no_end [] h = All-nil IsNoEnd
+no_end (x ∷ text) h = All-cons IsNoEnd x text (h 0 (omega arith)) (no_end text (λ k lt. h (suc k) (omega (arith, lt))))
+
+is_end : (text : List ℕ) (k : ℕ) → get_or text k 0 ≡ 10 → is_byte 10 (get_or text k 0) ≡ true
+is_end text k e = rw e refl
+
+before : (text : List ℕ) (n : ℕ) → n ≤ length text → ((k : ℕ) → 0 ≤ k → k < n → ¬ (is_byte 10 (get_or text k 0) ≡ true)) → HasNoEnd (take n text)
+before text n fits h =
+    no_end (take n text) (λ k lt e.
+    let inside : k < n = omega (arith, lt, length-take n text) in
+    h k (omega arith) inside (is_end text k (sym (get_or-take n text k 0 inside) ∙ e)))
+
+end_is : (x : ℕ) → is_byte 10 x ≡ true → x ≡ 10
+end_is x e = grind (arith, nat_tests)
+
+pub ends-line : (text : List ℕ) (r : Option ℕ) → IsFirstByte (is_byte 10) text r → MatchOption r (HasNoEnd text) (λ n. n < length text × IsLine (take (n + 1) text))
+ends-line text None h = let all : take (length text) text ≡ text = take_all (length text) text (omega arith) in rw all at (before text (length text) (omega arith) h)
+ends-line text (Some n) h =
+    let inside = h.0.high in
+    let next = (take_at_read text n 0 inside).1 in (
+      inside,
+      (take n text, before text n (omega (arith, inside)) h.0.before, next ∙ ap (λ (x : ℕ). take n text ++ x ∷ []) (end_is (get_or text n 0) h.1)),
+    )

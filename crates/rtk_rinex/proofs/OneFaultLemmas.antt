@@ -1,9 +1,7 @@
--- A text has one fault at most, and with a fault it is the text of no well-formed table; missing
--- memory says nothing.
+-- A text has one fault at most, and with a fault it is the text of no well-formed table.
 use Rattle.std.proofs.Common.{◌≡◌, ◌≢◌, ℕ, List, length, flat_map, refl, sym, ◌∙◌, arith, ⊎_elim}
 use Rattle.std.specs.Prelude.{All}
 use Rattle.rtk_rinex.specs.declared.check_fault.Cause.{Cause}
-use Rattle.rtk_rinex.specs.declared.check_fault.Cause.TheVariants.{HeaderLine, Columns, Value, Order, Truncated, OutOfMemory}
 use Rattle.rtk_rinex.specs.declared.check_fault.CheckFault.{CheckFault}
 use Rattle.rtk_rinex.specs.Header.{header_text}
 use Rattle.rtk_rinex.specs.Record.{record_text}
@@ -13,48 +11,39 @@ use Rattle.rtk_rinex.specs.Steps.HeaderRead.{HasHeader}
 use Rattle.rtk_rinex.specs.CheckText.{IsFaultOfRecords}
 use Rattle.rtk_rinex.specs.CheckTable.{IsFaultAfterHeader, IsFault, OneFault, FaultMeansNoTable}
 use Rattle.rtk_rinex.proofs.HeaderSameLemmas.{IsGood}
-use Rattle.rtk_rinex.proofs.FormLemmas.{IsTold}
 use Rattle.rtk_rinex.proofs.TextLemmas.{no_records}
 use Rattle.rtk_rinex.proofs.OneRecordsLemmas.{IsSame, one_of_records}
 use Rattle.rtk_rinex.proofs.OneHeaderLemmas.{HasFaultAfter, has-fault-after, one_header, one_number, no_header, one_of_header}
 
-told_of : (c : Cause) → c ≢ OutOfMemory → IsTold c
-told_of HeaderLine h = tt
-told_of Columns h = tt
-told_of Value h = tt
-told_of Order h = tt
-told_of Truncated h = tt
-told_of OutOfMemory h = absurd (h refl)
-
-header-fault-of : (bytes : List ℕ) (f : CheckFault) (a : IsFaultOfHeader bytes f) → IsTold f.cause → HasFaultAfter a.0 bytes f.cause
-header-fault-of bytes f a t = has-fault-after a.0 bytes f.cause t a.2
+header-fault-of : (bytes : List ℕ) (f : CheckFault) (a : IsFaultOfHeader bytes f) → HasFaultAfter a.0 bytes f.cause
+header-fault-of bytes f a = has-fault-after a.0 bytes f.cause a.2
 
 has-header : (bytes : List ℕ) (f : CheckFault) → IsFaultAfterHeader bytes f → HasHeader bytes
 has-header bytes f b = (header_text b.head b.site b.first, b.rest, (b.head, b.site, b.first, b.heading, b.good_site, b.moment, refl), b.text)
 
-of_header : (bytes : List ℕ) (f g : CheckFault) → IsFaultOfHeader bytes f → IsFaultOfHeader bytes g → IsTold f.cause → IsTold g.cause → IsSame f g
-of_header bytes f g a b t u =
-    let one = one_of_header a.0 b.0 bytes f.cause g.cause (header-fault-of bytes f a t) (header-fault-of bytes g b u) t u in
+of_header : (bytes : List ℕ) (f g : CheckFault) → IsFaultOfHeader bytes f → IsFaultOfHeader bytes g → IsSame f g
+of_header bytes f g a b =
+    let one = one_of_header a.0 b.0 bytes f.cause g.cause (header-fault-of bytes f a) (header-fault-of bytes g b) in
     (omega (arith, a.1, b.1, one.0), one.1)
 
-header_or_records : (bytes : List ℕ) (f g : CheckFault) → IsFaultOfHeader bytes f → IsFaultAfterHeader bytes g → IsTold f.cause → ⊥
-header_or_records bytes f g a b t = no_header a.0 bytes f.cause t (header-fault-of bytes f a t) (has-header bytes g b)
+header_or_records : (bytes : List ℕ) (f g : CheckFault) → IsFaultOfHeader bytes f → IsFaultAfterHeader bytes g → ⊥
+header_or_records bytes f g a b = no_header a.0 bytes f.cause (header-fault-of bytes f a) (has-header bytes g b)
 
-of_records : (bytes : List ℕ) (f g : CheckFault) → IsFaultAfterHeader bytes f → IsFaultAfterHeader bytes g → IsTold f.cause → IsTold g.cause → IsSame f g
-of_records bytes f g a b t u =
+of_records : (bytes : List ℕ) (f g : CheckFault) → IsFaultAfterHeader bytes f → IsFaultAfterHeader bytes g → IsSame f g
+of_records bytes f g a b =
     let good : IsGood a.head a.site a.first = record { heading = a.heading; site = a.good_site; first = a.moment } in
     let other : IsGood b.head b.site b.first = record { heading = b.heading; site = b.good_site; first = b.moment } in
     let one = one_header a.head b.head a.site b.site a.first b.first a.rest b.rest good other (sym a.text ∙ b.text) in
     let are : AreLines b.lines (header_text a.head a.site a.first) = rw one.text b.are_lines in
     let lines : b.lines ≡ a.lines = one_number b.lines a.lines (header_text a.head a.site a.first) are a.are_lines in
     let records : IsFaultOfRecords (length a.head.listed) a.first a.lines a.rest g = rw (← one.count, ← one.first, lines, ← one.rest) at b.records in
-    one_of_records (length a.head.listed) a.first a.lines a.rest f g a.heading.1.0.1 a.records records t u
+    one_of_records (length a.head.listed) a.first a.lines a.rest f g a.heading.1.0.1 a.records records
 
-is_same : (bytes : List ℕ) (f g : CheckFault) → IsFault bytes f → IsFault bytes g → IsTold f.cause → IsTold g.cause → IsSame f g
-is_same bytes f g a b t u =
+is_same : (bytes : List ℕ) (f g : CheckFault) → IsFault bytes f → IsFault bytes g → IsSame f g
+is_same bytes f g a b =
     ⊎_elim
-    (λ head. ⊎_elim (λ other. of_header bytes f g head other t u) (λ records. absurd (header_or_records bytes f g head records t)) b)
-    (λ records. ⊎_elim (λ head. absurd (header_or_records bytes g f head records u)) (λ other. of_records bytes f g records other t u) b)
+    (λ head. ⊎_elim (λ other. of_header bytes f g head other) (λ records. absurd (header_or_records bytes f g head records)) b)
+    (λ records. ⊎_elim (λ head. absurd (header_or_records bytes g f head records)) (λ other. of_records bytes f g records other) b)
     a
 
 abbrev fault_with : ℕ → Cause → CheckFault
@@ -67,7 +56,7 @@ same_fault : (f g : CheckFault) → IsSame f g → f ≡ g
 same_fault f g s = same_parts f.line g.line f.cause g.cause s.0 s.1
 
 pub one-fault : OneFault
-one-fault bytes f g a b t u = same_fault f g (is_same bytes f g a b (told_of f.cause t) (told_of g.cause u))
+one-fault bytes f g a b = same_fault f g (is_same bytes f g a b)
 
 -- ---- no table
 
@@ -75,21 +64,18 @@ table-header : (bytes : List ℕ) (u : WellFormedTable) → IsWellFormedTable u 
 table-header bytes u is e =
     (header_text u.head u.site u.first, flat_map record_text u.epochs, (u.head, u.site, u.first, is.head, is.site, is.first, refl), e)
 
-records_or_table : (bytes : List ℕ) (f : CheckFault) → IsFaultAfterHeader bytes f → IsTold f.cause → (u : WellFormedTable) → IsWellFormedTable u → bytes ≢ table_text u
-records_or_table bytes f a told u is e =
+records_or_table : (bytes : List ℕ) (f : CheckFault) → IsFaultAfterHeader bytes f → (u : WellFormedTable) → IsWellFormedTable u → bytes ≢ table_text u
+records_or_table bytes f a u is e =
     let good : IsGood a.head a.site a.first = record { heading = a.heading; site = a.good_site; first = a.moment } in
     let other : IsGood u.head u.site u.first = record { heading = is.head; site = is.site; first = is.first } in
     let one = one_header a.head u.head a.site u.site a.first u.first a.rest (flat_map record_text u.epochs) good other (sym a.text ∙ e) in
     let epochs : All (IsTableEpoch (length a.head.listed)) u.epochs = rw one.count is.epochs in
     let start : StartsAt a.first u.epochs = rw one.first is.starts in
-    no_records (length a.head.listed) a.first a.lines a.rest f u.epochs a.heading.1.0.1 told a.records epochs is.rise start one.rest
-
-pub told-none : (bytes : List ℕ) (f : CheckFault) → IsFault bytes f → IsTold f.cause → (u : WellFormedTable) → IsWellFormedTable u → bytes ≢ table_text u
-told-none bytes f a told u is e =
-    ⊎_elim
-    (λ head. no_header head.0 bytes f.cause told (header-fault-of bytes f head told) (table-header bytes u is e))
-    (λ records. records_or_table bytes f records told u is e)
-    a
+    no_records (length a.head.listed) a.first a.lines a.rest f u.epochs a.heading.1.0.1 a.records epochs is.rise start one.rest
 
 pub fault-none : FaultMeansNoTable
-fault-none bytes f a h = told-none bytes f a (told_of f.cause h)
+fault-none bytes f a u is e =
+    ⊎_elim
+    (λ head. no_header head.0 bytes f.cause (header-fault-of bytes f head) (table-header bytes u is e))
+    (λ records. records_or_table bytes f records u is e)
+    a

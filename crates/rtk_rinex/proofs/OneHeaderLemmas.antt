@@ -9,7 +9,7 @@ use Rattle.std.proofs.lemmas.List.Elements.{All-nil, All-head, All-tail}
 use Rattle.rtk_obs.specs.declared.time.Civil.{Civil}
 use Rattle.rtk_obs.specs.Calendar.{ReadsAs}
 use Rattle.rtk_rinex.specs.declared.check_fault.Cause.{Cause}
-use Rattle.rtk_rinex.specs.declared.check_fault.Cause.TheVariants.{HeaderLine, Columns, Value, Order, Truncated, OutOfMemory}
+use Rattle.rtk_rinex.specs.declared.check_fault.Cause.TheVariants.{HeaderLine, Columns, Value, Order, Truncated}
 use Rattle.rtk_rinex.specs.Reading.{reading_of}
 use Rattle.rtk_rinex.specs.Header.{HeadView, PositionView, header_line, first_text, header_text}
 use Rattle.rtk_rinex.specs.Steps.HeaderShown.{line_at}
@@ -26,7 +26,6 @@ use Rattle.rtk_rinex.proofs.HeaderSameLemmas.{IsGood, lines_of, length-header, l
 use Rattle.rtk_rinex.proofs.HeaderVerdictLemmas.{line_front, count_shown, are_lines}
 use Rattle.rtk_rinex.proofs.LineLemmas.{no_front, same_front}
 use Rattle.rtk_rinex.proofs.OneLemmas.{Goes, same_cons}
-use Rattle.rtk_rinex.proofs.FormLemmas.{IsTold}
 use Rattle.rtk_rinex.proofs.TextLemmas.{line_bytes}
 
 -- ---- one header
@@ -124,13 +123,8 @@ pub record HasFaultAfter (n : ℕ) (bytes : List ℕ) (cause : Cause) : Type 0 w
   pub part : ¬ (IsHeader (text_of lines))
   pub fault : IsLineFault (text_of lines) rest cause
 
-abbrev StandsAfter : ℕ → List ℕ → Cause → Type 0
-StandsAfter n bytes cause =
-    (front : List ℕ) × (rest : List ℕ) × AreLines n front × (bytes ≡ front ++ rest) × BeginsHeader front × ¬ (IsHeader front)
-    × IsLineFault front rest cause
-
-stands : (n : ℕ) (bytes : List ℕ) (cause : Cause) → StandsAfter n bytes cause → HasFaultAfter n bytes cause
-stands n bytes cause b =
+pub has-fault-after : (n : ℕ) (bytes : List ℕ) (cause : Cause) → IsFaultAfter n bytes cause → HasFaultAfter n bytes cause
+has-fault-after n bytes cause b =
     let front : b.0 ≡ text_of b.2.0 = b.2.3 in
     record {
       lines = b.2.0;
@@ -142,14 +136,6 @@ stands n bytes cause b =
       part = rw front at b.5;
       fault = rw front at b.6;
     }
-
-pub has-fault-after : (n : ℕ) (bytes : List ℕ) (cause : Cause) → IsTold cause → IsFaultAfter n bytes cause → HasFaultAfter n bytes cause
-has-fault-after n bytes HeaderLine told b = stands n bytes HeaderLine b
-has-fault-after n bytes Columns told b = stands n bytes Columns b
-has-fault-after n bytes Value told b = stands n bytes Value b
-has-fault-after n bytes Order told b = stands n bytes Order b
-has-fault-after n bytes Truncated told b = stands n bytes Truncated b
-has-fault-after n bytes OutOfMemory told b = absurd told
 
 -- a header is a table without epochs
 table_begins : (text x : List ℕ) → IsHeader (text ++ x) → BeginsTable text
@@ -168,41 +154,40 @@ table_begins text x h = (
 )
 
 -- no header goes on with the line that has the fault
-no_next : (front rest : List ℕ) (cause : Cause) (l y x : List ℕ) → IsTold cause → IsLineFault front rest cause → HasNoEnd l
+no_next : (front rest : List ℕ) (cause : Cause) (l y x : List ℕ) → IsLineFault front rest cause → HasNoEnd l
     → rest ≡ l ++ 10 ∷ y → IsHeader ((front ++ l ++ 10 ∷ []) ++ x) → ⊥
-no_next front rest HeaderLine l y x told f is e h =
+no_next front rest HeaderLine l y x f is e h =
     let same = same_front l f.0 y f.1 is f.2 (sym e ∙ f.3) in
     f.4 (rw same.0 at (table_begins (front ++ l ++ 10 ∷ []) x h))
-no_next front rest Truncated l y x told f is e h = no_front l y (rw e at f)
-no_next front rest Columns l y x told f is e h = f
-no_next front rest Value l y x told f is e h = f
-no_next front rest Order l y x told f is e h = f
-no_next front rest OutOfMemory l y x told f is e h = told
+no_next front rest Truncated l y x f is e h = no_front l y (rw e at f)
+no_next front rest Columns l y x f is e h = f
+no_next front rest Value l y x f is e h = f
+no_next front rest Order l y x f is e h = f
 
 more_lines : (ls ms : List (List ℕ)) → All HasNoEnd (ls ++ ms) → All HasNoEnd ms
 more_lines [] ms h = h
 more_lines (l ∷ ls) ms h = more_lines ls ms (All-tail HasNoEnd l (ls ++ ms) h)
 
 goes_on : (n : ℕ) (bytes : List ℕ) (cause : Cause) (a : HasFaultAfter n bytes cause) (ms : List (List ℕ)) (l : List ℕ) (more : List (List ℕ)) (y z : List ℕ)
-    → IsTold cause → All HasNoEnd ms → ms ≡ a.lines ++ l ∷ more → a.rest ≡ text_of (l ∷ more) ++ y → IsHeader (text_of ms ++ z) → ⊥
-goes_on n bytes cause a ms l more y z told is e text h =
+    → All HasNoEnd ms → ms ≡ a.lines ++ l ∷ more → a.rest ≡ text_of (l ∷ more) ++ y → IsHeader (text_of ms ++ z) → ⊥
+goes_on n bytes cause a ms l more y z is e text h =
     let good : All HasNoEnd (a.lines ++ l ∷ more) = rw e at is in
     let line = All-head HasNoEnd l more (more_lines a.lines (l ∷ more) good) in
     let front : List ℕ = text_of a.lines in
     let all : text_of ms ++ z ≡ (front ++ text_of (l ∷ more)) ++ z = ap (λ (t : List ℕ). t ++ z) (ap text_of e ∙ flat_map-append ended a.lines (l ∷ more)) in
     let split : (front ++ text_of (l ∷ more)) ++ z ≡ (front ++ l ++ 10 ∷ []) ++ (text_of more ++ z) = simp append_assoc in
     let whole : text_of ms ++ z ≡ (front ++ l ++ 10 ∷ []) ++ (text_of more ++ z) = all ∙ split in
-    no_next front a.rest cause l (text_of more ++ y) (text_of more ++ z) told a.fault line (text ∙ lines-front l more y) (rw whole at h)
+    no_next front a.rest cause l (text_of more ++ y) (text_of more ++ z) a.fault line (text ∙ lines-front l more y) (rw whole at h)
 
 -- ---- a text with a fault in the header begins with no header
 
 no_header_more : (n : ℕ) (bytes : List ℕ) (cause : Cause) (a : HasFaultAfter n bytes cause) (ms more : List (List ℕ)) (y : List ℕ)
-    → IsTold cause → All HasNoEnd ms → ms ≡ a.lines ++ more → a.rest ≡ text_of more ++ y → IsHeader (text_of ms) → ⊥
-no_header_more n bytes cause a ms [] y told is e text h =
+    → All HasNoEnd ms → ms ≡ a.lines ++ more → a.rest ≡ text_of more ++ y → IsHeader (text_of ms) → ⊥
+no_header_more n bytes cause a ms [] y is e text h =
     let same : ms ≡ a.lines = e ∙ append-nil a.lines in
     a.part (rw same at h)
-no_header_more n bytes cause a ms (l ∷ more) y told is e text h =
-    goes_on n bytes cause a ms l more y [] told is e text (rw (append-nil (text_of ms)) h)
+no_header_more n bytes cause a ms (l ∷ more) y is e text h =
+    goes_on n bytes cause a ms l more y [] is e text (rw (append-nil (text_of ms)) h)
 
 -- a header that ends before the fault is no part of another one
 no_longer : (n : ℕ) (bytes : List ℕ) (cause : Cause) (a : HasFaultAfter n bytes cause) (h : HeadView) (s : PositionView) (t : ℕ) (ms more : List (List ℕ))
@@ -218,8 +203,8 @@ no_longer n bytes cause a h s t ms more g e list =
     let one = one_header h b.0 s b.1 t b.2 (text_of more ++ x) [] g good whole in
     no_text more x one.rest
 
-pub no_header : (n : ℕ) (bytes : List ℕ) (cause : Cause) → IsTold cause → HasFaultAfter n bytes cause → ¬ (HasHeader bytes)
-no_header n bytes cause told a has =
+pub no_header : (n : ℕ) (bytes : List ℕ) (cause : Cause) → HasFaultAfter n bytes cause → ¬ (HasHeader bytes)
+no_header n bytes cause a has =
     let h = has.2.0 in
     let s = has.2.1 in
     let t = has.2.2 in
@@ -231,7 +216,7 @@ no_header n bytes cause told a has =
     elim (leb_tells (length a.lines) (length ms)) [
       | inl low ↦
           let goes = same_lines a.lines ms a.rest has.1 a.are_lines lines.1 low.1 (sym a.text ∙ text) in
-          no_header_more n bytes cause a ms goes.more has.1 told lines.1 goes.list goes.text (h, s, t, g.heading, g.site, g.first, sym header)
+          no_header_more n bytes cause a ms goes.more has.1 lines.1 goes.list goes.text (h, s, t, g.heading, g.site, g.first, sym header)
       | inr high ↦
           let goes = same_lines ms a.lines has.1 a.rest lines.1 a.are_lines (omega (arith, high.1)) (sym text ∙ a.text) in
           let none = no_longer n bytes cause a h s t ms goes.more g header goes.list in
@@ -241,45 +226,42 @@ no_header n bytes cause told a has =
 
 -- ---- two faults of a header
 
-one_line_cause : (front other rest : List ℕ) (c d : Cause) → IsTold c → IsTold d → IsLineFault front rest c → IsLineFault other rest d → c ≡ d
-one_line_cause front other rest HeaderLine HeaderLine t u a b = refl
-one_line_cause front other rest HeaderLine Truncated t u a b = absurd (no_front a.0 a.1 (rw a.3 at b))
-one_line_cause front other rest HeaderLine OutOfMemory t u a b = absurd u
-one_line_cause front other rest HeaderLine Columns t u a b = absurd b
-one_line_cause front other rest HeaderLine Value t u a b = absurd b
-one_line_cause front other rest HeaderLine Order t u a b = absurd b
-one_line_cause front other rest Truncated HeaderLine t u a b = absurd (no_front b.0 b.1 (rw b.3 at a))
-one_line_cause front other rest Truncated Truncated t u a b = refl
-one_line_cause front other rest Truncated OutOfMemory t u a b = absurd u
-one_line_cause front other rest Truncated Columns t u a b = absurd b
-one_line_cause front other rest Truncated Value t u a b = absurd b
-one_line_cause front other rest Truncated Order t u a b = absurd b
-one_line_cause front other rest Columns d t u a b = absurd a
-one_line_cause front other rest Value d t u a b = absurd a
-one_line_cause front other rest Order d t u a b = absurd a
-one_line_cause front other rest OutOfMemory d t u a b = absurd t
+one_line_cause : (front other rest : List ℕ) (c d : Cause) → IsLineFault front rest c → IsLineFault other rest d → c ≡ d
+one_line_cause front other rest HeaderLine HeaderLine a b = refl
+one_line_cause front other rest HeaderLine Truncated a b = absurd (no_front a.0 a.1 (rw a.3 at b))
+one_line_cause front other rest HeaderLine Columns a b = absurd b
+one_line_cause front other rest HeaderLine Value a b = absurd b
+one_line_cause front other rest HeaderLine Order a b = absurd b
+one_line_cause front other rest Truncated HeaderLine a b = absurd (no_front b.0 b.1 (rw b.3 at a))
+one_line_cause front other rest Truncated Truncated a b = refl
+one_line_cause front other rest Truncated Columns a b = absurd b
+one_line_cause front other rest Truncated Value a b = absurd b
+one_line_cause front other rest Truncated Order a b = absurd b
+one_line_cause front other rest Columns d a b = absurd a
+one_line_cause front other rest Value d a b = absurd a
+one_line_cause front other rest Order d a b = absurd a
 
 lines_with_more : (n m : ℕ) (bytes : List ℕ) (c d : Cause) (a : HasFaultAfter n bytes c) (b : HasFaultAfter m bytes d) (more : List (List ℕ))
-    → IsTold c → IsTold d → b.lines ≡ a.lines ++ more → a.rest ≡ text_of more ++ b.rest → (n ≡ m) × (c ≡ d)
-lines_with_more n m bytes c d a b [] t u e text =
+    → b.lines ≡ a.lines ++ more → a.rest ≡ text_of more ++ b.rest → (n ≡ m) × (c ≡ d)
+lines_with_more n m bytes c d a b [] e text =
     let size = ap length (e ∙ append-nil a.lines) in
     let fault : IsLineFault (text_of b.lines) a.rest d = rw text b.fault in
-    (omega (arith, size, a.size, b.size), one_line_cause (text_of a.lines) (text_of b.lines) a.rest c d t u a.fault fault)
-lines_with_more n m bytes c d a b (l ∷ more) t u e text =
-    absurd (goes_on n bytes c a b.lines l more b.rest b.begins.0 t b.are_lines e text b.begins.1)
+    (omega (arith, size, a.size, b.size), one_line_cause (text_of a.lines) (text_of b.lines) a.rest c d a.fault fault)
+lines_with_more n m bytes c d a b (l ∷ more) e text =
+    absurd (goes_on n bytes c a b.lines l more b.rest b.begins.0 b.are_lines e text b.begins.1)
 
-lines_ordered : (n m : ℕ) (bytes : List ℕ) (c d : Cause) → HasFaultAfter n bytes c → HasFaultAfter m bytes d → IsTold c → IsTold d
+lines_ordered : (n m : ℕ) (bytes : List ℕ) (c d : Cause) → HasFaultAfter n bytes c → HasFaultAfter m bytes d
     → n ≤ m → (n ≡ m) × (c ≡ d)
-lines_ordered n m bytes c d a b t u le =
+lines_ordered n m bytes c d a b le =
     let goes = same_lines a.lines b.lines a.rest b.rest a.are_lines b.are_lines (omega (arith, a.size, b.size, le)) (sym a.text ∙ b.text) in
-    lines_with_more n m bytes c d a b goes.more t u goes.list goes.text
+    lines_with_more n m bytes c d a b goes.more goes.list goes.text
 
-pub one_of_header : (n m : ℕ) (bytes : List ℕ) (c d : Cause) → HasFaultAfter n bytes c → HasFaultAfter m bytes d → IsTold c → IsTold d
+pub one_of_header : (n m : ℕ) (bytes : List ℕ) (c d : Cause) → HasFaultAfter n bytes c → HasFaultAfter m bytes d
     → (n ≡ m) × (c ≡ d)
-one_of_header n m bytes c d a b t u =
+one_of_header n m bytes c d a b =
     elim (leb_tells n m) [
-      | inl low ↦ lines_ordered n m bytes c d a b t u low.1
+      | inl low ↦ lines_ordered n m bytes c d a b low.1
       | inr high ↦
-          let turned = lines_ordered m n bytes d c b a u t (omega (arith, high.1)) in
+          let turned = lines_ordered m n bytes d c b a (omega (arith, high.1)) in
           (sym turned.0, sym turned.1)
     ]

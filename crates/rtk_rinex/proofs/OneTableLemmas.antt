@@ -8,8 +8,6 @@ use Rattle.rtk_obs.specs.declared.time.Civil.{Civil}
 use Rattle.rtk_obs.specs.Calendar.{ReadsAs}
 use Rattle.rtk_obs.specs.Code.{name_of}
 use Rattle.rtk_obs.proofs.PublicLaws.{one_moment}
-use Rattle.rtk_rinex.specs.declared.check_fault.Cause.{Cause}
-use Rattle.rtk_rinex.specs.declared.check_fault.Cause.TheVariants.{HeaderLine, Columns, Value, Order, Truncated, OutOfMemory}
 use Rattle.rtk_rinex.specs.Columns.{fixed}
 use Rattle.rtk_rinex.specs.Reading.{IsMoment, reading_of}
 use Rattle.rtk_rinex.specs.Header.{HeadView, PositionView, header_line, made_text, types, header_text}
@@ -25,9 +23,8 @@ use Rattle.rtk_rinex.proofs.HeaderSameLemmas.{Shows, IsGood, lines_of, line_with
 use Rattle.rtk_rinex.proofs.HeaderOnlyLemmas.{only_shown}
 use Rattle.rtk_rinex.proofs.HeaderVerdictLemmas.{count_shown}
 use Rattle.rtk_rinex.proofs.OneHeaderLemmas.{AreAlike, first_line, one_header}
-use Rattle.rtk_rinex.proofs.FormLemmas.{IsTold}
 use Rattle.rtk_rinex.proofs.TextLemmas.{same_table, same_list}
-use Rattle.rtk_rinex.proofs.OneFaultLemmas.{told-none}
+use Rattle.rtk_rinex.proofs.OneFaultLemmas.{fault-none}
 
 -- ---- one header
 
@@ -107,15 +104,6 @@ view_with text epochs satellites = record { text = text; epochs = epochs; satell
 same_view : (a b : List ℕ) (k l m n : ℕ) → a ≡ b → k ≡ l → m ≡ n → view_with a k m ≡ view_with b l n
 same_view a b k l m n e f g = cc
 
--- a cause that is no fault of the text
-is_memory : (c : Cause) → (IsTold c → ⊥) → c ≡ OutOfMemory
-is_memory HeaderLine h = absurd (h tt)
-is_memory Columns h = absurd (h tt)
-is_memory Value h = absurd (h tt)
-is_memory Order h = absurd (h tt)
-is_memory Truncated h = absurd (h tt)
-is_memory OutOfMemory h = refl
-
 pub text-is_accepted : TextIsAccepted
 text-is_accepted t (Ok v) is answer =
     let held = answer.1 in
@@ -123,4 +111,4 @@ text-is_accepted t (Ok v) is answer =
     same_view v.text (table_text t) v.epochs (length t.epochs) v.satellites (satellite_lines t.epochs) answer.0
     (sym held.epochs ∙ ap (λ (u : WellFormedTable). length u.epochs) (sym same))
     (sym held.satellites ∙ ap (λ (u : WellFormedTable). satellite_lines u.epochs) (sym same))
-text-is_accepted t (Err fault) is answer = is_memory fault.cause (λ told. told-none (table_text t) fault answer told t is refl)
+text-is_accepted t (Err fault) is answer = fault-none (table_text t) fault answer t is refl

@@ -12,10 +12,23 @@ use Rattle.rtk_rinex.specs.declared.epoch_table.SatelliteRow.{SatelliteRow}
 use Rattle.rtk_rinex.specs.Columns.{left, last_digits}
 use Rattle.rtk_rinex.specs.Record.{observation, observations, lli_digit, strength_digit, strength_value, trim_end, before_trimmed, satellite_line}
 use Rattle.rtk_rinex.specs.Table.{IsObserved, IsTableRow}
-use Rattle.rtk_rinex.specs.Steps.CheckValues.{observed_in, observations_in, row_in}
 use Rattle.rtk_rinex.specs.Steps.Digits.{digits_from}
-use Rattle.rtk_rinex.proofs.ValuesLemmas.{length-observation, observed_of-observations, IsValue-strength}
+use Rattle.rtk_rinex.proofs.ValuesLemmas.{observed_in, length-observation, observed_of-observations, IsValue-strength}
 use Rattle.rtk_rinex.proofs.DigitsLemmas.{take-exact, digits_from-last_2}
+
+-- ---- what a line shows
+
+-- what n codes show in the columns after the satellite, 48 for each
+abbrev pub observations_in : ℕ → List ℕ → List Observed
+observations_in zero columns = []
+observations_in (suc n) columns = observations_in n columns ++ observed_in (take 48 (drop (48 * n) columns)) ∷ []
+
+-- the row that a satellite line of n codes shows; blanks fill the line up to the columns of 16
+-- codes
+abbrev pub row_in : ℕ → List ℕ → SatelliteRow
+row_in n line =
+    let columns = left 771 line in
+    record { satellite = digits_from 0 (take 2 (drop 1 columns)); observed = record { items = observations_in n (drop 3 columns) } }
 
 -- ---- blanks at the end
 
@@ -40,7 +53,7 @@ trimmed (x ∷ xs) = trimmed_front x xs (trim_end xs) (trimmed xs)
 
 -- ---- the columns of a row
 
-length-observations : (o : Observed) → IsObserved o → length (observations o) ≡ 48
+pub length-observations : (o : Observed) → IsObserved o → length (observations o) ≡ 48
 length-observations o h =
     let digit = strength_digit o.strength_millidbhz in
     let a : List ℕ = observation o.range_mm 32 digit in

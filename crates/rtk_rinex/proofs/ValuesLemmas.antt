@@ -1,5 +1,7 @@
 -- What the text of a value shows is the value.
-use Rattle.std.proofs.Common.{◌≡◌, ℕ, suc, ◌-◌, ◌/◌, ◌^◌, ◌<◌, ◌≤◌, [], ◌∷◌, ◌++◌, List, length, replicate, decimal, take, drop, ap, arith, refl, sym, ◌∙◌, true, false, Bool, ◌==◌, ◌&&◌, length-append, append_assoc, ℤ, pos, negsuc, unsigned_abs, ◌≤ℤ◌, Option, Some, None}
+use Rattle.std.proofs.Common.{◌≡◌, ℕ, suc, ◌-◌, ◌/◌, ◌^◌, ◌<◌, ◌≤◌, [], ◌∷◌, ◌++◌, List, length, replicate, decimal, take, drop, ap, arith, refl, sym, ◌∙◌, true, false, Bool, ◌==◌, ◌&&◌, ◌||◌, if◌then◌else◌, length-append, append_assoc, ℤ, pos, negsuc, unsigned_abs, ◌≤ℤ◌, Option, Some, None}
+use Rattle.std.specs.Prelude.{nat_le}
+use Rattle.std.specs.List.{list_all}
 use Rattle.std.specs.Fmt.{sign_text}
 use Rattle.std.proofs.lemmas.Fmt.{length-decimal-le}
 use Rattle.std.proofs.lemmas.Bool.Decides.{nat_tests}
@@ -10,14 +12,56 @@ use Rattle.std.proofs.lemmas.Int.{ints}
 use Rattle.rtk_rinex.specs.Record.{is_written, observation, observations, lli_digit, strength_digit, strength_value, IsStrengthOrNone}
 use Rattle.rtk_rinex.specs.Table.{IsAbsentOrWritten, IsLock, IsObserved}
 use Rattle.rtk_rinex.proofs.DigitsLemmas.{number_of-fixed_3, length-right, take-exact, drop-exact}
-use Rattle.rtk_rinex.specs.Steps.CheckValues.{value_text, are_blanks, value_in, strength_in, slip_in, half_in, observed_in}
+use Rattle.rtk_rinex.specs.Steps.Digits.{number_in}
+
+-- ---- what the columns of a field show, whatever stands in them
+
+unfoldable pub are_blanks : List ℕ → Bool
+are_blanks = list_all (λ x. x == 32)
+
+-- the value that 14 columns show; no value if they are blank
+abbrev pub value_in : List ℕ → Option ℤ
+value_in field = if are_blanks field then None else Some (number_in field)
+
+-- F14.3 of a value, or 14 blanks without a value
+abbrev pub value_text : Option ℤ → List ℕ
+value_text None = replicate 14 32
+value_text (Some v) = fixed 3 14 v
+
+-- the magnitude of a value as a strength, if it is in the range of a message's strengths
+abbrev pub strength_in : Option ℤ → Option ℕ
+strength_in None = None
+strength_in (Some v) =
+    if nat_le 250 (unsigned_abs v) && nat_le (unsigned_abs v) 63_750 then Some (unsigned_abs v) else None
+
+-- the marks of the loss-of-lock digit that begins a text
+abbrev pub slip_in : List ℕ → Bool
+slip_in [] = false
+slip_in (x ∷ xs) = (x == 49) || (x == 51)
+
+abbrev pub half_in : List ℕ → Bool
+half_in [] = false
+half_in (x ∷ xs) = (x == 50) || (x == 51)
+
+-- what 48 columns show of a code
+abbrev pub observed_in : List ℕ → Observed
+observed_in columns =
+    record {
+      range_mm = value_in (take 14 columns);
+      phase_millicycles = value_in (take 14 (drop 16 columns));
+      strength_millidbhz = strength_in (value_in (take 14 (drop 32 columns)));
+      slip = slip_in (drop 30 columns);
+      half = half_in (drop 30 columns);
+    }
+
+-- ---- and that it is what was written
 
 and-assoc : (a b c : Bool) → ((a && b) && c) ≡ (a && (b && c))
 and-assoc true b c = refl
 and-assoc false b c = refl
 
 -- no blanks alone
-are_blanks-append : (xs ys : List ℕ) → are_blanks (xs ++ ys) ≡ (are_blanks xs && are_blanks ys)
+pub are_blanks-append : (xs ys : List ℕ) → are_blanks (xs ++ ys) ≡ (are_blanks xs && are_blanks ys)
 unfolding are_blanks
 are_blanks-append [] ys = refl
 are_blanks-append (x ∷ xs) ys = rw (are_blanks-append xs ys) (sym (and-assoc (x == 32) (are_blanks xs) (are_blanks ys)))
@@ -83,7 +127,7 @@ length-observation v first second h =
     let two = length-ends v first second in
     rw (observation-is v first second h) (length-append (value_text v) (ends v first second) ∙ omega arith)
 
-value_of-observation : (v : Option ℤ) (first second : ℕ) (rest : List ℕ) → IsAbsentOrWritten v → value_in (take 14 (observation v first second ++ rest)) ≡ v
+pub value_of-observation : (v : Option ℤ) (first second : ℕ) (rest : List ℕ) → IsAbsentOrWritten v → value_in (take 14 (observation v first second ++ rest)) ≡ v
 value_of-observation v first second rest h =
     let cut : take 14 (observation v first second ++ rest) ≡ value_text v =
     rw (observation-is v first second h, append_assoc) (take-exact 14 (value_text v) (ends v first second ++ rest) (length-value_text v h)) in

@@ -8,7 +8,7 @@ use Rattle.rtk_rinex.specs.Record.{epoch_line, satellite_line}
 use Rattle.rtk_rinex.specs.Table.{IsTableRow}
 use Rattle.rtk_rinex.specs.declared.epoch_table.SatelliteRow.{SatelliteRow}
 use Rattle.rtk_rinex.specs.declared.check_fault.Cause.{Cause}
-use Rattle.rtk_rinex.specs.declared.check_fault.Cause.TheVariants.{Columns, Value, Order, OutOfMemory}
+use Rattle.rtk_rinex.specs.declared.check_fault.Cause.TheVariants.{Columns, Value, Order}
 
 -- it is the epoch line of a moment and a count
 abbrev pub IsEpochLine : List ℕ → ℕ → ℕ → Type 0
@@ -23,7 +23,6 @@ IsNextTime first (Some last) t = last < t
 abbrev pub IsEpochFault : ℕ → Option ℕ → List ℕ → Cause → Type 0
 IsEpochFault first last line Columns = (t n : ℕ) → ¬ (IsEpochLine line t n)
 IsEpochFault first last line Order = (t : ℕ) × (n : ℕ) × IsEpochLine line t n × ¬ (IsNextTime first last t)
-IsEpochFault first last line OutOfMemory = Unit {0}
 IsEpochFault first last line _ = ⊥
 
 -- the form of a satellite line of n codes: G and the satellite in two digits, at most 48 columns
@@ -43,5 +42,4 @@ IsSatelliteFault n last line Columns = (s : ℕ) → ¬ (IsSatelliteForm n line 
 IsSatelliteFault n last line Order = (s : ℕ) × IsSatelliteForm n line s × ¬ (IsNextSatellite last s)
 IsSatelliteFault n last line Value =
     (s : ℕ) × IsSatelliteForm n line s × IsNextSatellite last s × ((r : SatelliteRow) → IsTableRow n r → line ≢ satellite_line r)
-IsSatelliteFault n last line OutOfMemory = Unit {0}
 IsSatelliteFault n last line _ = ⊥

@@ -5,8 +5,6 @@ use Rattle.rtk_rinex.specs.Header.{HeadView, PositionView, IsHeadView, IsPositio
 use Rattle.rtk_rinex.specs.Table.{WellFormedTable, IsWellFormedTable, table_text}
 use Rattle.rtk_rinex.specs.HeaderFault.{AreLines, IsFaultOfHeader}
 use Rattle.rtk_rinex.specs.CheckText.{satellite_lines, IsFaultOfRecords}
-use Rattle.rtk_rinex.specs.declared.check_fault.Cause.{Cause}
-use Rattle.rtk_rinex.specs.declared.check_fault.Cause.TheVariants.{OutOfMemory}
 use Rattle.rtk_rinex.specs.declared.check_fault.CheckFault.{CheckFault}
 
 -- the text is the text of exactly one well-formed table, which has this number of records and of
@@ -43,31 +41,27 @@ pub record IsFaultAfterHeader (bytes : List ℕ) (fault : CheckFault) : Type 0 w
   pub are_lines : AreLines lines (header_text head site first)
   pub records : IsFaultOfRecords (length head.listed) first lines rest fault
 
--- the first fault of a text; if memory is missing, the lines before this one are good, and none is
--- before it in the header
+-- the first fault of a text
 abbrev pub IsFault : List ℕ → CheckFault → Type 0
 IsFault bytes fault = IsFaultOfHeader bytes fault ⊎ IsFaultAfterHeader bytes fault
 
--- the text is the text of no well-formed table; missing memory says nothing of the text
-abbrev pub IsWithoutTable : List ℕ → Cause → Type 0
-IsWithoutTable bytes OutOfMemory = Unit {0}
-IsWithoutTable bytes cause = (t : WellFormedTable) → IsWellFormedTable t → bytes ≢ table_text t
+-- the text is the text of no well-formed table
+abbrev pub IsWithoutTable : List ℕ → Type 0
+IsWithoutTable bytes = (t : WellFormedTable) → IsWellFormedTable t → bytes ≢ table_text t
 
--- two faults of one text are the same line and cause, faults of missing memory apart
+-- two faults of one text are the same line and cause
 abbrev pub OneFault : Type 0
-OneFault =
-    (bytes : List ℕ) (f g : CheckFault) → IsFault bytes f → IsFault bytes g → f.cause ≢ OutOfMemory → g.cause ≢ OutOfMemory → f ≡ g
+OneFault = (bytes : List ℕ) (f g : CheckFault) → IsFault bytes f → IsFault bytes g → f ≡ g
 
 -- a text with a fault is the text of no well-formed table
 abbrev pub FaultMeansNoTable : Type 0
-FaultMeansNoTable =
-    (bytes : List ℕ) (f : CheckFault) → IsFault bytes f → f.cause ≢ OutOfMemory → (t : WellFormedTable) → IsWellFormedTable t → bytes ≢ table_text t
+FaultMeansNoTable = (bytes : List ℕ) (f : CheckFault) → IsFault bytes f → IsWithoutTable bytes
 
 -- two well-formed tables of one text are equal
 abbrev pub OneTable : Type 0
 OneTable = (t u : WellFormedTable) → IsWellFormedTable t → IsWellFormedTable u → table_text t ≡ table_text u → t ≡ u
 
--- what is seen of a well-formed table that is held as its text
+-- what is seen of a well-formed table by its text
 abbrev pub table_view : WellFormedTable → TableView
 table_view t = record { text = table_text t; epochs = length t.epochs; satellites = satellite_lines t.epochs }
 
@@ -76,10 +70,10 @@ abbrev pub IsAnswerTo : List ℕ → Result TableView CheckFault → Type 0
 IsAnswerTo bytes (Ok t) = (t.text ≡ bytes) × HoldsTable bytes t.epochs t.satellites
 IsAnswerTo bytes (Err fault) = IsFault bytes fault
 
--- the answer is this table, or memory was refused
+-- the answer is this table
 abbrev pub AnswersTable : WellFormedTable → Result TableView CheckFault → Type 0
 AnswersTable t (Ok v) = v ≡ table_view t
-AnswersTable t (Err fault) = fault.cause ≡ OutOfMemory
+AnswersTable t (Err fault) = ⊥
 
 -- so is each answer to the text of a well-formed table
 abbrev pub TextIsAccepted : Type 0

@@ -7,7 +7,7 @@ use Rattle.rtk_rinex.specs.Table.{WellFormedTable, IsWellFormedTable, table_text
 use Rattle.rtk_rinex.specs.Lines.{HasNoEnd}
 use Rattle.rtk_rinex.specs.declared.check_fault.CheckFault.{CheckFault}
 use Rattle.rtk_rinex.specs.declared.check_fault.Cause.{Cause}
-use Rattle.rtk_rinex.specs.declared.check_fault.Cause.TheVariants.{HeaderLine, Truncated, OutOfMemory}
+use Rattle.rtk_rinex.specs.declared.check_fault.Cause.TheVariants.{HeaderLine, Truncated}
 
 -- the header of a good head, a good position and a moment
 abbrev pub IsHeader : List ℕ → Type 0
@@ -33,13 +33,10 @@ abbrev pub IsLineFault : List ℕ → List ℕ → Cause → Type 0
 IsLineFault front rest Truncated = HasNoEnd rest
 IsLineFault front rest HeaderLine =
     (line : List ℕ) × (more : List ℕ) × HasNoEnd line × (rest ≡ line ++ 10 ∷ more) × ¬ (BeginsTable (front ++ line ++ 10 ∷ []))
-IsLineFault front rest OutOfMemory = Unit {0}
 IsLineFault front rest _ = ⊥
 
--- a fault in the line after n lines, which begin a header and are not a whole one; memory for the
--- header is asked for before its first line is read
+-- a fault in the line after n lines, which begin a header and are not a whole one
 abbrev pub IsFaultAfter : ℕ → List ℕ → Cause → Type 0
-IsFaultAfter n bytes OutOfMemory = n ≡ 0
 IsFaultAfter n bytes cause =
     (front : List ℕ) × (rest : List ℕ) × AreLines n front × (bytes ≡ front ++ rest) × BeginsHeader front × ¬ (IsHeader front)
     × IsLineFault front rest cause

@@ -21,9 +21,6 @@ pub enum Cause {
     /// The text ends although a line must follow, or the line has no LF.
     #[error("{}", self.as_str())]
     Truncated,
-    /// Memory was refused: at line 1, or at the line of a record that was being read.
-    #[error("{}", self.as_str())]
-    OutOfMemory,
 }
 
 impl Cause {
@@ -40,7 +37,6 @@ impl Cause {
             Cause::Value => "C3 Value",
             Cause::Order => "C4 Order",
             Cause::Truncated => "C5 Truncated",
-            Cause::OutOfMemory => "C6 OutOfMemory",
         }
     }
 }

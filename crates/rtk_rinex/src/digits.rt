@@ -1,6 +1,6 @@
 //! Columns of a text, and the numbers that they show, read without a test of their form.
 
-ghost use Rattle.std.specs.Prelude.{◌≡◌, ℕ, ◌+◌, ◌*◌, ◌^◌, ◌<◌, ◌≤◌, length, take, drop};
+ghost use Rattle.std.specs.Prelude.{◌≡◌, ℕ, ◌+◌, ◌*◌, ◌^◌, ◌<◌, ◌≤◌, length, take, drop, Decides};
 ghost use Rattle.rtk_rinex.specs.Steps.Digits.{digits_from, has_minus, number_in};
 ghost use Rattle.rtk_rinex.specs.Steps.Digits as spec;
 
@@ -28,6 +28,13 @@ pub(crate) fn columns_at(text: &[u8], from: usize, width: usize) -> &[u8]
     ensures len { length result.now ≤ width }
 {
     front(after(text, from), width)
+}
+
+/// Are two texts the same?
+pub(crate) fn is_same(text: &[u8], other: &[u8]) -> bool
+    ensures { Decides result (text.now ≡ other.now) }
+{
+    text == other
 }
 
 // The number after one more character: a digit is added to it, any other is passed over.
@@ -69,8 +76,8 @@ fn contains_minus(text: &[u8]) -> bool
     false
 }
 
-/// The number that the digits of a text write, negative if it has a minus sign.
-pub(crate) fn number_in(text: &[u8]) -> i64
+// The number that the digits of a text write, negative if it has a minus sign.
+fn number_in(text: &[u8]) -> i64
     requires { length text.now ≤ 18 }
     ensures { result ≡ number_in text.now }
 {

@@ -1,15 +1,14 @@
 //! The epoch line of a record, read back.
 
-ghost use Rattle.std.specs.Prelude.{◌≡◌, ◌≢◌, ℕ, ◌<◌, ◌≤◌, ◌++◌, [], ◌∷◌, length, drop, IsTrue, ◌↔◌, IfOk, MatchOption};
+ghost use Rattle.std.specs.Prelude.{◌≡◌, ◌≢◌, ℕ, ◌<◌, ◌≤◌, length, MatchOption};
 ghost use Rattle.std.specs.Int.{IsInRange};
 ghost use Rattle.rtk_rinex.specs.Reading.{IsMoment, reading_of};
 ghost use Rattle.rtk_rinex.specs.Record.{epoch_columns, epoch_line};
 ghost use Rattle.rtk_rinex.specs.Steps.CheckValues.{seconds_in, civil_in, count_in};
 
-use crate::digits::number_of_digits;
-use crate::record_text::put_epoch_line;
+use crate::digits::{is_same, number_of_digits};
+use crate::record_text::epoch_line;
 use rtk_obs::{Civil, GpsMs, of_civil};
-use std::alloc::AllocError;
 
 /// What an epoch line shows.
 #[derive(Clone, Copy)]
@@ -68,35 +67,20 @@ fn stamp_in(columns: &[u8]) -> Option<EpochStamp>
     })
 }
 
-/// Does a text have exactly the bytes `end` from the place `start` on?
-pub(crate) fn is_end_from(text: &[u8], start: usize, end: &[u8]) -> bool
-    requires { start ≤ length text.now }
-    ensures { IsTrue result ↔ (drop start text.now ≡ end.now) }
-{
-    text.split_at(start).1 == end
-}
-
 /// The moment and count of an epoch line, which ends in LF; `None` exactly if the line is no epoch
-/// line. An epoch line is appended to `out`.
-pub(crate) fn read_epoch_line(
-    out: &mut Vec<u8>,
-    line: &[u8],
-) -> Result<Option<EpochStamp>, AllocError>
-    ensures { IfOk result (λ found. MatchOption found
+/// line.
+pub(crate) fn read_epoch_line(line: &[u8]) -> Option<EpochStamp>
+    ensures { MatchOption result
         ((t n : ℕ) → IsMoment t → IsInRange 1 32 n → line.now ≢ epoch_line (reading_of t) n)
-        (λ s. IsMoment s.time × IsInRange 1 32 s.count × (line.now ≡ epoch_line (reading_of s.time) s.count) × (out.new.items ≡ out.old.items ++ line.now))) }
+        (λ s. IsMoment s.time × IsInRange 1 32 s.count × (line.now ≡ epoch_line (reading_of s.time) s.count)) }
 {
     if line.len() != 36 {
-        return Ok(None);
+        return None;
     }
-    let Some(stamp) = stamp_in(line.split_at(35).0) else {
-        return Ok(None);
-    };
-    let start = out.as_slice().len();
-    put_epoch_line(out, stamp.reading, stamp.count)?;
-    if is_end_from(out.as_slice(), start, line) {
-        Ok(Some(stamp))
+    let stamp = stamp_in(line.split_at(35).0)?;
+    if is_same(epoch_line(stamp.reading, stamp.count).as_slice(), line) {
+        Some(stamp)
     } else {
-        Ok(None)
+        None
     }
 }

@@ -8,18 +8,19 @@ ghost use Rattle.rtk_rinex.specs.Columns.{right, fixed};
 ghost use Rattle.rtk_rinex.specs.Header.{header_line, made_text, first_text, IsMarker, PositionView, IsPositionView, HeadView, IsHeadView, position_view, header_text};
 ghost use Rattle.rtk_rinex.specs.Steps.Digits.{number_in};
 ghost use Rattle.rtk_rinex.specs.HeaderFault.{AreLines, IsFaultOfHeader};
-ghost use Rattle.rtk_rinex.specs.Steps.HeaderRead.{IsWithoutHeader, IsOnlyHeader};
+ghost use Rattle.rtk_rinex.specs.Steps.HeaderRead.{HasHeader, IsOnlyHeader};
 ghost use Rattle.rtk_rinex.specs.Steps.HeaderShown.{line_at, name_at, number_at, made_civil, first_civil, AreAllCodes};
 ghost use Rattle.rtk_rinex.specs.Lines.{HasNoEnd, IsLine};
 ghost use Rattle.rtk_rinex.specs.Reading.{IsMoment, reading_of};
 ghost use Rattle.std.specs.Int.{IsInRange};
-ghost use Rattle.std.specs.Prelude.{◌≡◌, ◌≢◌, ℕ, ◌+◌, ◌*◌, ◌%◌, ◌/◌, ◌<◌, ◌≤◌, List, ◌++◌, length, take, drop, codes, decimal, pos, AllPairs, slice_index_or, MatchOption, ◌^◌, ◌∷◌, Decides, IfOk, IfErr};
+ghost use Rattle.std.specs.Prelude.{◌≡◌, ◌≢◌, ℕ, ◌+◌, ◌*◌, ◌%◌, ◌/◌, ◌<◌, ◌≤◌, List, ◌++◌, length, take, drop, codes, decimal, pos, AllPairs, slice_index_or, MatchOption, ◌^◌, ◌∷◌, Decides, IfOk, IfErr, OnErr};
 
 use crate::check_fault::{Cause, CheckFault};
-use crate::digits::{columns_at, number_at, signed_number_at};
+use crate::digits::{columns_at, is_same, number_at, signed_number_at};
 use crate::head::{Head, is_marker};
-use crate::header_text::put_header;
+use crate::header_text::header_lines;
 use crate::record_text::trimmed_len;
+use memchr::memchr;
 use rtk_obs::{Civil, Code, GpsMs, Position, of_civil};
 
 const ALL_CODES: [Code; 16] = [
@@ -300,7 +301,7 @@ fn have_same_line(header: &[u8], text: &[u8], lines: usize) -> bool
     requires { 81 * lines < 2 ^ 64 }
     ensures { Decides result (line_at lines header.now ≡ line_at lines text.now) }
 {
-    text_line(header, lines) == text_line(text, lines)
+    is_same(text_line(header, lines), text_line(text, lines))
 }
 
 // The first line of a header that a text doesn't have, counted from 0.
@@ -323,35 +324,21 @@ pub(crate) fn line_end(text: &[u8]) -> Option<usize>
     ensures parts { MatchOption result (HasNoEnd text.now) (λ n. HasNoEnd (take n text.now) × (text.now ≡ take n text.now ++ 10 ∷ drop (n + 1) text.now)) }
     ensures line { MatchOption result (HasNoEnd text.now) (λ n. (n < length text.now) × IsLine (take (n + 1) text.now)) }
 {
-    for n in 0..text.len() {
-        if text[n] == b'\n' {
-            return Some(n);
-        }
-    }
-    None
+    memchr(b'\n', text)
 }
 
-/// The parts of the header with which a text begins, else its first wrong line. The header is
-/// appended to `out`.
-pub(crate) fn check_header(out: &mut Vec<u8>, text: &[u8]) -> Result<HeaderRead, CheckFault>
+/// The parts of the header with which a text begins, else its first wrong line.
+pub(crate) fn check_header(text: &[u8]) -> Result<HeaderRead, CheckFault>
     ensures good { IfOk result (λ r. IsHeadView r.head × IsPositionView (position_view r.position) × IsMoment r.first) }
     ensures text { IfOk result (λ r. text.now ≡ header_text r.head (position_view r.position) r.first ++ drop r.used text.now) }
     ensures size { IfOk result (λ r. (r.used ≡ length (header_text r.head (position_view r.position) r.first)) × AreLines r.lines (header_text r.head (position_view r.position) r.first)) }
-    ensures out { IfOk result (λ r. out.new.items ≡ out.old.items ++ header_text r.head (position_view r.position) r.first) }
     ensures only { IfOk result (λ r. IsOnlyHeader text.now r.head (position_view r.position) r.first) }
     ensures fault { IfErr result (IsFaultOfHeader text.now) }
-    ensures none { IfErr result (λ f. IsWithoutHeader text.now f.cause) }
+    ensures none { OnErr result (¬ (HasHeader text.now)) }
 {
     let read = read_header(text);
-    let start = out.as_slice().len();
-    let Ok(()) = put_header(out, &read.head, &read.position, read.first) else {
-        return Err(CheckFault {
-            line: 1,
-            cause: Cause::OutOfMemory,
-        });
-    };
-    let header = out.as_slice().split_at(start).1;
-    let Some(k) = unlike_line(header, text) else {
+    let header = header_lines(&read.head, &read.position, read.first);
+    let Some(k) = unlike_line(header.as_slice(), text) else {
         return Ok(read);
     };
     let cause = match line_end(text.split_at(81 * k).1) {

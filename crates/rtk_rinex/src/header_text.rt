@@ -1,6 +1,6 @@
 //! The text of a header, a function for each line that has more than fixed entries.
 
-ghost use Rattle.std.specs.Prelude.{◌≡◌, ℕ, ◌+◌, ◌*◌, ◌≤◌, ◌<◌, [], ◌∷◌, ◌++◌, take, drop, length, OnOk, IfOk, codes, decimal, pos};
+ghost use Rattle.std.specs.Prelude.{◌≡◌, ℕ, ◌+◌, ◌*◌, ◌≤◌, ◌<◌, [], ◌∷◌, ◌++◌, take, drop, length, IfOk, codes, decimal, pos};
 ghost use Rattle.rtk_obs.specs.Coordinates.{IsCoordinate};
 ghost use Rattle.rtk_rinex.specs.Columns.{left, right, fixed};
 ghost use Rattle.rtk_rinex.specs.Header.{header_line, made_text, first_lines, position_view, position_lines, types_of, types, continuation_line, types_lines, first_text, last_lines, header_text};
@@ -17,30 +17,32 @@ use std::alloc::{AllocError, Global};
 const TYPES: &[u8] = b"SYS / # / OBS TYPES";
 
 /// The bytes of the longest header: 17 lines of 81 bytes, four of them with observation types.
-pub(crate) const LONGEST_HEADER: usize = 1377;
+const LONGEST_HEADER: usize = 1377;
 
 // Appends a text and blanks after it, `width` columns in all.
-fn put_left(out: &mut Vec<u8>, text: &[u8], width: usize) -> Result<(), AllocError>
-    requires room { length text.now ≤ width }
+fn put_left(out: &mut ArrayVec<u8, LONGEST_HEADER>, text: &[u8], width: usize)
+    requires fits { length text.now ≤ width }
     requires small { width ≤ 80 }
-    ensures { OnOk result (out.new.items ≡ out.old.items ++ left width text.now) }
+    requires room { length out.old.items + width ≤ 1377 }
+    ensures items { out.new.items ≡ out.old.items ++ left width text.now }
+    ensures len { length out.new.items ≡ length out.old.items + width }
 {
-    out.extend_from_slice(text)?;
     let blanks = [b' '; 80];
-    out.extend_from_slice(&blanks[..width - text.len()])?;
-    Ok(())
+    add(out, text);
+    add(out, &blanks[..width - text.len()]);
 }
 
 // Appends a line: what stands in its first 60 columns, and its label.
-fn put_header_line(out: &mut Vec<u8>, content: &[u8], label: &[u8]) -> Result<(), AllocError>
+fn put_header_line(out: &mut ArrayVec<u8, LONGEST_HEADER>, content: &[u8], label: &[u8])
     requires content { length content.now ≤ 60 }
     requires label { length label.now ≤ 20 }
-    ensures { OnOk result (out.new.items ≡ out.old.items ++ header_line content.now label.now) }
+    requires room { length out.old.items + 81 ≤ 1377 }
+    ensures items { out.new.items ≡ out.old.items ++ header_line content.now label.now }
+    ensures len { length out.new.items ≡ length out.old.items + 81 }
 {
-    put_left(out, content, 60)?;
-    put_left(out, label, 20)?;
-    out.push(b'\n')?;
-    Ok(())
+    put_left(out, content, 60);
+    put_left(out, label, 20);
+    add(out, b"\n");
 }
 
 fn made_field(made: Civil) -> [u8; 20]
@@ -66,22 +68,23 @@ fn made_content(made: Civil) -> ArrayVec<u8, 60>
     content
 }
 
-fn put_first_lines(out: &mut Vec<u8>, marker: &[u8], made: Civil) -> Result<(), AllocError>
-    requires { length marker.now ≤ 60 }
-    ensures { OnOk result (out.new.items ≡ out.old.items ++ first_lines marker.now made) }
+fn put_first_lines(out: &mut ArrayVec<u8, LONGEST_HEADER>, marker: &[u8], made: Civil)
+    requires marker { length marker.now ≤ 60 }
+    requires room { length out.old.items + 567 ≤ 1377 }
+    ensures items { out.new.items ≡ out.old.items ++ first_lines marker.now made }
+    ensures len { length out.new.items ≡ length out.old.items + 567 }
 {
     put_header_line(
         out,
         b"     3.05           OBSERVATION DATA    G",
         b"RINEX VERSION / TYPE",
-    )?;
-    put_header_line(out, made_content(made).as_slice(), b"PGM / RUN BY / DATE")?;
-    put_header_line(out, marker, b"MARKER NAME")?;
-    put_header_line(out, b"GEODETIC", b"MARKER TYPE")?;
-    put_header_line(out, b"", b"OBSERVER / AGENCY")?;
-    put_header_line(out, b"", b"REC # / TYPE / VERS")?;
-    put_header_line(out, b"", b"ANT # / TYPE")?;
-    Ok(())
+    );
+    put_header_line(out, made_content(made).as_slice(), b"PGM / RUN BY / DATE");
+    put_header_line(out, marker, b"MARKER NAME");
+    put_header_line(out, b"GEODETIC", b"MARKER TYPE");
+    put_header_line(out, b"", b"OBSERVER / AGENCY");
+    put_header_line(out, b"", b"REC # / TYPE / VERS");
+    put_header_line(out, b"", b"ANT # / TYPE");
 }
 
 fn position_content(position: &Position) -> ArrayVec<u8, 60>
@@ -105,20 +108,21 @@ fn height_content(height: u16) -> ArrayVec<u8, 60>
     content
 }
 
-fn put_position_lines(out: &mut Vec<u8>, position: &Position) -> Result<(), AllocError>
-    ensures { OnOk result (out.new.items ≡ out.old.items ++ position_lines (position_view position.now)) }
+fn put_position_lines(out: &mut ArrayVec<u8, LONGEST_HEADER>, position: &Position)
+    requires room { length out.old.items + 162 ≤ 1377 }
+    ensures items { out.new.items ≡ out.old.items ++ position_lines (position_view position.now) }
+    ensures len { length out.new.items ≡ length out.old.items + 162 }
 {
     put_header_line(
         out,
         position_content(position).as_slice(),
         b"APPROX POSITION XYZ",
-    )?;
+    );
     put_header_line(
         out,
         height_content(position.height).as_slice(),
         b"ANTENNA: DELTA H/E/N",
-    )?;
-    Ok(())
+    );
 }
 
 fn types_of_code(code: Code) -> [u8; 12]
@@ -167,19 +171,21 @@ fn continuation_content(text: &[u8]) -> ArrayVec<u8, 60>
 }
 
 // A further line of types, if any types are left.
-fn put_continuation_line(out: &mut Vec<u8>, text: &[u8]) -> Result<(), AllocError>
-    ensures { OnOk result (out.new.items ≡ out.old.items ++ continuation_line text.now) }
+fn put_continuation_line(out: &mut ArrayVec<u8, LONGEST_HEADER>, text: &[u8])
+    requires room { length out.old.items + 81 ≤ 1377 }
+    ensures items { out.new.items ≡ out.old.items ++ continuation_line text.now }
+    ensures len { length out.new.items ≤ length out.old.items + 81 }
 {
-    if text.len() == 0 {
-        return Ok(());
+    if text.len() > 0 {
+        put_header_line(out, continuation_content(text).as_slice(), TYPES);
     }
-    put_header_line(out, continuation_content(text).as_slice(), TYPES)?;
-    Ok(())
 }
 
-fn put_types_lines(out: &mut Vec<u8>, listed: &[Code]) -> Result<(), AllocError>
-    requires { length listed.now ≤ 16 }
-    ensures { OnOk result (out.new.items ≡ out.old.items ++ types_lines listed.now) }
+fn put_types_lines(out: &mut ArrayVec<u8, LONGEST_HEADER>, listed: &[Code])
+    requires listed { length listed.now ≤ 16 }
+    requires room { length out.old.items + 324 ≤ 1377 }
+    ensures items { out.new.items ≡ out.old.items ++ types_lines listed.now }
+    ensures len { length out.new.items ≤ length out.old.items + 324 }
 {
     let types = types_of_codes(listed);
     let text = types.as_slice();
@@ -187,11 +193,10 @@ fn put_types_lines(out: &mut Vec<u8>, listed: &[Code]) -> Result<(), AllocError>
         out,
         types_content(3 * listed.len(), front(text, 52)).as_slice(),
         TYPES,
-    )?;
-    put_continuation_line(out, after(text, 52))?;
-    put_continuation_line(out, after(text, 104))?;
-    put_continuation_line(out, after(text, 156))?;
-    Ok(())
+    );
+    put_continuation_line(out, after(text, 52));
+    put_continuation_line(out, after(text, 104));
+    put_continuation_line(out, after(text, 156));
 }
 
 fn first_content(first: Civil) -> ArrayVec<u8, 60>
@@ -211,32 +216,33 @@ fn first_content(first: Civil) -> ArrayVec<u8, 60>
     content
 }
 
-fn put_last_lines(out: &mut Vec<u8>, first: Civil) -> Result<(), AllocError>
+fn put_last_lines(out: &mut ArrayVec<u8, LONGEST_HEADER>, first: Civil)
     requires second { first.second < 60 }
     requires millisecond { first.millisecond < 1000 }
-    ensures { OnOk result (out.new.items ≡ out.old.items ++ last_lines first) }
+    requires room { length out.old.items + 324 ≤ 1377 }
+    ensures items { out.new.items ≡ out.old.items ++ last_lines first }
+    ensures len { length out.new.items ≡ length out.old.items + 324 }
 {
-    put_header_line(out, b"DBHZ", b"SIGNAL STRENGTH UNIT")?;
-    put_header_line(out, first_content(first).as_slice(), b"TIME OF FIRST OBS")?;
-    put_header_line(out, b"G", b"SYS / PHASE SHIFT")?;
-    put_header_line(out, b"", b"END OF HEADER")?;
-    Ok(())
+    put_header_line(out, b"DBHZ", b"SIGNAL STRENGTH UNIT");
+    put_header_line(out, first_content(first).as_slice(), b"TIME OF FIRST OBS");
+    put_header_line(out, b"G", b"SYS / PHASE SHIFT");
+    put_header_line(out, b"", b"END OF HEADER");
 }
 
-/// Appends the header of a file of this head, whose first observation is at `first`.
-pub(crate) fn put_header(
-    out: &mut Vec<u8>,
+/// The header of a file of this head, whose first observation is at `first`.
+pub(crate) fn header_lines(
     head: &Head,
     position: &Position,
     first: GpsMs,
-) -> Result<(), AllocError>
-    ensures { OnOk result (out.new.items ≡ out.old.items ++ header_text head.now (position_view position.now) first) }
+) -> ArrayVec<u8, LONGEST_HEADER>
+    ensures { result.items ≡ header_text head.now (position_view position.now) first }
 {
-    put_first_lines(out, head.marker(), civil(head.made()))?;
-    put_position_lines(out, position)?;
-    put_types_lines(out, head.codes())?;
-    put_last_lines(out, civil(first))?;
-    Ok(())
+    let mut out = ArrayVec::new();
+    put_first_lines(&mut out, head.marker(), civil(head.made()));
+    put_position_lines(&mut out, position);
+    put_types_lines(&mut out, head.codes());
+    put_last_lines(&mut out, civil(first));
+    out
 }
 
 /// The header of a file of this head, whose first observation is at `first`.
@@ -252,7 +258,8 @@ pub fn header(
     // It gives up only if memory is refused: rows "header .." of tests/calls/src/rinex.rt.in.
     ensures { IfOk result (λ text. text.items ≡ header_text head.now (position_view position.now) first) }
 {
+    let lines = header_lines(head, position, first);
     let mut out = Vec::with_capacity(alloc, LONGEST_HEADER)?;
-    put_header(&mut out, head, position, first)?;
+    out.extend_from_slice(lines.as_slice())?;
     Ok(out)
 }

@@ -30,14 +30,14 @@ pub fn files_are_tables()
 {}
 
 /// Two faults of one text are the same line and the same cause, and a text with a fault is the text
-/// of no well-formed table. Faults of missing memory are left out here.
+/// of no well-formed table.
 pub fn one_fault()
     ensures one { OneFault }
     ensures table { FaultMeansNoTable }
 {}
 
-/// What `check` answers to the text of a well-formed table is this table with its numbers, unless
-/// memory is refused; and two well-formed tables of one text are equal.
+/// What `check` answers to the text of a well-formed table is this table with its numbers; and two
+/// well-formed tables of one text are equal.
 pub fn text_of_a_table()
     ensures accepted { TextIsAccepted }
     ensures one { OneTable }

@@ -17,7 +17,7 @@
 //!         return Ok(false);
 //!     };
 //!     let text = header(alloc, &head, &position, noon)?;
-//!     Ok(check(alloc, text.as_slice()).is_ok())
+//!     Ok(check(text.as_slice()).is_ok())
 //! }
 //! ```
 //!
@@ -37,6 +37,7 @@ mod record_text;
 mod records_check;
 mod satellite_line_check;
 mod table_check;
+mod value_check;
 
 pub use check_fault::{Cause, CheckFault};
 pub use epoch_table::{EpochTable, Observed, SatelliteRow};

@@ -4,9 +4,10 @@ ghost use Rattle.std.specs.Prelude.{◌≡◌, ℕ, ◌+◌, ◌*◌, ◌<◌, �
 ghost use Rattle.std.specs.List.{filter, list_any};
 ghost use Rattle.rtk_rinex.specs.Record.{HasWidth, is_written, is_present, observation, observations, strength_digit, strength_value, lli_digit, has_observation, has_line, trim_end, satellite_line, epoch_date_text, epoch_line, record_text};
 
-use crate::columns::{integer_3, put_fixed_14_3, put_last_digits, seconds, unsigned_11_7};
+use crate::columns::{add, integer_3, put_fixed_14_3, put_last_digits, seconds, unsigned_11_7};
 use crate::epoch_table::{EpochTable, Observed, SatelliteRow};
 use crate::head::Head;
+use arrayvec::ArrayVec;
 use rtk_obs::{Civil, civil};
 use std::alloc::{AllocError, Global};
 
@@ -16,8 +17,8 @@ const LEAST_F14_3: i64 = -999_999_999_999;
 // The greatest value that F14.3 has room for, in thousandths.
 const GREATEST_F14_3: i64 = 9_999_999_999_999;
 
-/// Is it a value that F14.3 has room for, in thousandths, and not 0?
-pub(crate) fn is_written_value(value: i64) -> bool
+// Is it a value that F14.3 has room for, in thousandths, and not 0?
+fn is_written_value(value: i64) -> bool
     ensures { result ≡ is_written value }
 {
     value != 0 && value >= LEAST_F14_3 && value <= GREATEST_F14_3
@@ -44,7 +45,8 @@ fn put_observation(
     }
 }
 
-fn digit_of_strength(strength: Option<u32>) -> u8
+/// The signal strength digit of a strength in thousandths of a dB-Hz.
+pub(crate) fn digit_of_strength(strength: Option<u32>) -> u8
     ensures { result ≡ strength_digit strength }
 {
     match strength {
@@ -128,8 +130,8 @@ fn has_observation(observed: &Observed) -> bool
         || observed.strength_millidbhz.is_some()
 }
 
-/// Is an observation of the satellite written, so that it has a line?
-pub(crate) fn has_line(row: &SatelliteRow) -> bool
+// Is an observation of the satellite written, so that it has a line?
+fn has_line(row: &SatelliteRow) -> bool
     ensures { result ≡ has_line row.now }
 {
     for observed in row.observed.as_slice() {
@@ -166,19 +168,20 @@ fn epoch_date(time: Civil) -> [u8; 18]
     field
 }
 
-/// Appends the epoch line of a date and time and a count of satellites.
-pub(crate) fn put_epoch_line(out: &mut Vec<u8>, time: Civil, count: usize) -> Result<(), AllocError>
+/// The epoch line of a date and time and a count of satellites.
+pub(crate) fn epoch_line(time: Civil, count: usize) -> ArrayVec<u8, 36>
     requires second { time.second < 60 }
     requires millisecond { time.millisecond < 1000 }
     requires count { count < 1000 }
-    ensures { OnOk result (out.new.items ≡ out.old.items ++ epoch_line time count) }
+    ensures { result.items ≡ epoch_line time count }
 {
-    out.extend_from_slice(&epoch_date(time))?;
-    out.extend_from_slice(&unsigned_11_7(seconds(time)))?;
-    out.extend_from_slice(b"  0")?;
-    out.extend_from_slice(&integer_3(count as u64))?;
-    out.push(b'\n')?;
-    Ok(())
+    let mut line = ArrayVec::new();
+    add(&mut line, &epoch_date(time));
+    add(&mut line, &unsigned_11_7(seconds(time)));
+    add(&mut line, b"  0");
+    add(&mut line, &integer_3(count as u64));
+    add(&mut line, b"\n");
+    line
 }
 
 // Appends the lines of the satellites that have one.
@@ -208,7 +211,7 @@ pub fn record(alloc: Global, head: &Head, table: &EpochTable) -> Result<Vec<u8>,
         return Ok(Vec::new(alloc));
     }
     let mut out = Vec::with_capacity(alloc, 36 + count * (4 + 48 * head.codes().len()))?;
-    put_epoch_line(&mut out, civil(table.time()), count)?;
+    out.extend_from_slice(epoch_line(civil(table.time()), count).as_slice())?;
     put_satellite_lines(&mut out, rows)?;
     Ok(out)
 }

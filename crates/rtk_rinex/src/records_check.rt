@@ -2,21 +2,17 @@
 
 ghost use Rattle.rtk_rinex.specs.CheckLine.{IsEpochLine, IsNextTime, IsEpochFault, IsSatelliteForm, IsNextSatellite, IsSatelliteFault};
 ghost use Rattle.rtk_rinex.specs.CheckText.{IsFaultOfRows, IsFaultOfRecord, IsFaultOfRecords};
-ghost use Rattle.rtk_rinex.specs.Steps.ReadRecords.{ReadsRows, ReadsRecord, ReadsRecords};
+ghost use Rattle.rtk_rinex.specs.Steps.ReadRecords.{IsRowLine, ReadsRows, ReadsRecord, ReadsRecords};
 ghost use Rattle.rtk_rinex.specs.Columns.{last_digits};
 ghost use Rattle.rtk_rinex.specs.Lines.{HasNoEnd, IsLine};
-ghost use Rattle.rtk_rinex.specs.Record.{satellite_line};
-ghost use Rattle.rtk_rinex.specs.Table.{IsTableRow};
-ghost use Rattle.rtk_rinex.specs.declared.epoch_table.SatelliteRow.{SatelliteRow};
 ghost use Rattle.std.specs.Int.{IsInRange};
 ghost use Rattle.std.specs.Prelude.{◌≡◌, ◌≢◌, ℕ, ◌+◌, ◌-◌, ◌*◌, ◌<◌, ◌≤◌, ◌++◌, [], ◌∷◌, length, take, slice_get, Option, Some, IsTrue, ◌↔◌, IfOk, IfErr, MatchOption, ◌^◌, List, flat_map, None};
 
 use crate::check_fault::{Cause, CheckFault};
 use crate::digits::number_of_digits;
 use crate::epoch_line_check::{EpochStamp, read_epoch_line};
-use crate::epoch_table::SatelliteRow;
 use crate::header_check::line_end;
-use crate::satellite_line_check::read_satellite_line;
+use crate::satellite_line_check::is_row_line;
 use rtk_obs::GpsMs;
 
 fn is_next_time(first: GpsMs, last: Option<GpsMs>, time: GpsMs) -> bool
@@ -29,21 +25,12 @@ fn is_next_time(first: GpsMs, last: Option<GpsMs>, time: GpsMs) -> bool
 }
 
 // The moment and count of an epoch line that follows the epoch `last`, in a file of this first
-// time; else the cause of its fault. The line is appended to `out`.
-fn check_epoch_line(
-    out: &mut Vec<u8>,
-    line: &[u8],
-    first: GpsMs,
-    last: Option<GpsMs>,
-) -> Result<EpochStamp, Cause>
+// time; else the cause of its fault.
+fn check_epoch_line(line: &[u8], first: GpsMs, last: Option<GpsMs>) -> Result<EpochStamp, Cause>
     ensures line { IfOk result (λ s. IsEpochLine line.now s.time s.count × IsNextTime first last s.time) }
-    ensures out { IfOk result (λ s. out.new.items ≡ out.old.items ++ line.now) }
     ensures fault { IfErr result (IsEpochFault first last line.now) }
 {
-    let Ok(found) = read_epoch_line(out, line) else {
-        return Err(Cause::OutOfMemory);
-    };
-    let Some(stamp) = found else {
+    let Some(stamp) = read_epoch_line(line) else {
         return Err(Cause::Columns);
     };
     if !is_next_time(first, last, stamp.time) {
@@ -94,18 +81,13 @@ fn is_next_satellite(last: Option<u8>, satellite: u8) -> bool
     }
 }
 
-// The row of a satellite line that follows the line of the satellite `last`, in a file of `width`
-// codes; else the cause of its fault. The line is appended to `out`.
-fn check_satellite_line(
-    out: &mut Vec<u8>,
-    line: &[u8],
-    width: usize,
-    last: Option<u8>,
-) -> Result<SatelliteRow, Cause>
-    requires { width ≤ 16 }
-    ensures row { IfOk result (λ r. IsTableRow width r × (line.now ≡ satellite_line r)) }
-    ensures next { IfOk result (λ r. IsNextSatellite last r.satellite) }
-    ensures out { IfOk result (λ r. out.new.items ≡ out.old.items ++ line.now) }
+// The satellite of a satellite line that follows the line of the satellite `last`, in a file of `width`
+// codes; else the cause of its fault.
+fn check_satellite_line(line: &[u8], width: usize, last: Option<u8>) -> Result<u8, Cause>
+    requires width { width ≤ 16 }
+    requires line { IsLine line.now }
+    ensures row { IfOk result (λ s. IsRowLine width line.now s) }
+    ensures next { IfOk result (IsNextSatellite last) }
     ensures fault { IfErr result (IsSatelliteFault width last line.now) }
 {
     let Some(satellite) = satellite_of_form(line, width) else {
@@ -114,13 +96,10 @@ fn check_satellite_line(
     if !is_next_satellite(last, satellite) {
         return Err(Cause::Order);
     }
-    let Ok(found) = read_satellite_line(out, line, width) else {
-        return Err(Cause::OutOfMemory);
-    };
-    let Some(row) = found else {
+    if !is_row_line(line, width) {
         return Err(Cause::Value);
-    };
-    Ok(row)
+    }
+    Ok(satellite)
 }
 
 /// How many records a text has, and how many satellite lines.
@@ -143,7 +122,6 @@ fn next_line(text: &[u8]) -> Option<(&[u8], &[u8])>
 // Reads `count` satellite lines after the first `lines` lines of the file, and returns the text
 // after them.
 fn check_satellites<'a>(
-    out: &mut Vec<u8>,
     text: &'a [u8],
     lines: usize,
     width: usize,
@@ -152,7 +130,7 @@ fn check_satellites<'a>(
     requires width { width ≤ 16 }
     requires count { count ≤ 32 }
     requires lines { lines + length text.now + 1 < 2 ^ 64 }
-    ensures rows { IfOk result (λ rest. ReadsRows width count text.now rest.now out.old.items out.new.items) }
+    ensures rows { IfOk result (λ rest. ReadsRows width count text.now rest.now) }
     ensures len { IfOk result (λ rest. length rest.now + count ≤ length text.now) }
     ensures fault { IfErr result (IsFaultOfRows width count lines text.now) }
 {
@@ -166,8 +144,8 @@ fn check_satellites<'a>(
                 cause: Cause::Truncated,
             });
         };
-        match check_satellite_line(out, satellite_line, width, last) {
-            Ok(row) => last = Some(row.satellite),
+        match check_satellite_line(satellite_line, width, last) {
+            Ok(satellite) => last = Some(satellite),
             Err(cause) => return Err(CheckFault { line, cause }),
         }
         rest = after;
@@ -178,7 +156,6 @@ fn check_satellites<'a>(
 // Reads a record after the first `lines` lines of the file and after the epoch `last`, and returns
 // the text after the record.
 fn check_record<'a>(
-    out: &mut Vec<u8>,
     text: &'a [u8],
     lines: usize,
     width: usize,
@@ -188,7 +165,7 @@ fn check_record<'a>(
     requires width { width ≤ 16 }
     requires some { 0 < length text.now }
     requires lines { lines + length text.now + 1 < 2 ^ 64 }
-    ensures record { IfOk result (λ r. ReadsRecord width first last r.0.time r.0.count text.now r.1.now out.old.items out.new.items) }
+    ensures record { IfOk result (λ r. ReadsRecord width first last r.0.time r.0.count text.now r.1.now) }
     ensures count { IfOk result (λ r. r.0.count ≤ 32) }
     ensures len { IfOk result (λ r. length r.1.now + r.0.count < length text.now) }
     ensures fault { IfErr result (IsFaultOfRecord width first last lines text.now) }
@@ -200,18 +177,16 @@ fn check_record<'a>(
             cause: Cause::Truncated,
         });
     };
-    let stamp = match check_epoch_line(out, epoch_line, first, last) {
+    let stamp = match check_epoch_line(epoch_line, first, last) {
         Ok(stamp) => stamp,
         Err(cause) => return Err(CheckFault { line, cause }),
     };
-    let rest = check_satellites(out, after, line, width, stamp.count)?;
+    let rest = check_satellites(after, line, width, stamp.count)?;
     Ok((stamp, rest))
 }
 
 /// Reads the records of a file of `width` codes and this first time, after its first `lines` lines.
-/// They are appended to `out`.
 pub(crate) fn check_records(
-    out: &mut Vec<u8>,
     text: &[u8],
     lines: usize,
     width: usize,
@@ -219,7 +194,7 @@ pub(crate) fn check_records(
 ) -> Result<RecordCounts, CheckFault>
     requires width { width ≤ 16 }
     requires lines { lines + length text.now + 1 < 2 ^ 64 }
-    ensures records { IfOk result (λ c. ReadsRecords width first c.epochs c.satellites text.now out.old.items out.new.items) }
+    ensures records { IfOk result (λ c. ReadsRecords width first c.epochs c.satellites text.now) }
     ensures fault { IfErr result (IsFaultOfRecords width first lines text.now) }
 {
     let mut rest = text;
@@ -230,7 +205,7 @@ pub(crate) fn check_records(
         satellites: 0,
     };
     while rest.len() > 0 {
-        let (stamp, after) = match check_record(out, rest, line, width, first, last) {
+        let (stamp, after) = match check_record(rest, line, width, first, last) {
             Ok(read) => read,
             Err(fault) => return Err(fault),
         };

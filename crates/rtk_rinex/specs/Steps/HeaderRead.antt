@@ -1,19 +1,12 @@
--- The header with which a text begins: one at most, and no header if the text is refused.
+-- The header with which a text begins: one at most.
 use Rattle.std.specs.Prelude.{◌≡◌, ℕ, List, ◌++◌}
 use Rattle.rtk_rinex.specs.Reading.{IsMoment}
 use Rattle.rtk_rinex.specs.Header.{HeadView, PositionView, IsHeadView, IsPositionView, header_text}
 use Rattle.rtk_rinex.specs.HeaderFault.{IsHeader}
-use Rattle.rtk_rinex.specs.declared.check_fault.Cause.{Cause}
-use Rattle.rtk_rinex.specs.declared.check_fault.Cause.TheVariants.{OutOfMemory}
 
 -- the text begins with some header
 abbrev pub HasHeader : List ℕ → Type 0
 HasHeader text = (header : List ℕ) × (rest : List ℕ) × IsHeader header × (text ≡ header ++ rest)
-
--- a text that is refused begins with no header; missing memory says nothing of the text
-abbrev pub IsWithoutHeader : List ℕ → Cause → Type 0
-IsWithoutHeader bytes OutOfMemory = Unit {0}
-IsWithoutHeader bytes cause = ¬ (HasHeader bytes)
 
 -- a text begins with this header, and with no other
 abbrev pub IsOnlyHeader : List ℕ → HeadView → PositionView → ℕ → Type 0

@@ -1,14 +1,13 @@
-use Rattle.std.proofs.Common.{◌≡◌, ◌∙◌, ◌+◌, ◌*◌, ℕ, List, length, take, drop, arith, ap, sym, refl}
+use Rattle.std.proofs.Common.{◌≡◌, ◌∙◌, ◌+◌, ◌*◌, take, drop, arith, sym, refl}
 use Rattle.std.proofs.lemmas.List.{take-append-drop}
 use Rattle.rtk_rinex.specs.Header.{position_view, header_text}
-use Rattle.rtk_rinex.proofs.DigitsLemmas.{drop-exact}
 use Rattle.rtk_rinex.proofs.HeaderSameLemmas.{IsGood, length-header, lines_of}
 use Rattle.rtk_rinex.proofs.HeaderVerdictLemmas.{PartsAt, are_lines, parts_lines, parts_begin, parts_whole, parts_none, parts_next}
 use Rattle.rtk_rinex.proofs.header_check.check_header.Goals as goal
 use Rattle.rtk_rinex.proofs.header_check.check_header.Goals.{in-Some-line_end, in-None}
 
-pub returns-in_default-unlike_line-clause-size : goal.returns-in_default-unlike_line-clause-size
-returns-in_default-unlike_line-clause-size c =
+pub returns-in_default-clause-size : goal.returns-in_default-clause-size
+returns-in_default-clause-size c =
     let r = c.read_header-read.result in
     let g : IsGood r.head (position_view r.position) r.first = record { heading = c.read_header-read.ensures.good.0; site = c.read_header-read.ensures.good.1; first = c.read_header-read.ensures.good.2 } in
     let long = length-header r.head (position_view r.position) r.first g in
@@ -16,13 +15,8 @@ returns-in_default-unlike_line-clause-size c =
     (sym c.read_header-read.ensures.size.0, rw lines at (are_lines r.head (position_view r.position) r.first g))
 
 header_is : (c : goal.Joined-line_end)
-    → c.split_at.result.1.now ≡ header_text c.read_header-read.result.head (position_view c.read_header-read.result.position) c.read_header-read.result.first
-header_is c =
-    let r = c.read_header-read.result in
-    let h = header_text r.head (position_view r.position) r.first in
-    let start = length c.as_slice-start.result.now in
-    c.split_at.ensures.back ∙ ap (λ (xs : List ℕ). drop start xs) (c.as_slice.ensures.value ∙ c.in-Ok.ensures)
-    ∙ drop-exact start c.args.out.now.items h (ap length (sym c.as_slice-start.ensures.value))
+    → c.as_slice.result.now ≡ header_text c.read_header-read.result.head (position_view c.read_header-read.result.position) c.read_header-read.result.first
+header_is c = c.as_slice.ensures.value ∙ c.header_lines-header.ensures
 
 parts : (c : goal.Joined-line_end) → PartsAt c.args.text.now c.read_header-read.result.head (position_view c.read_header-read.result.position) c.read_header-read.result.first c.in-Some.k
 parts c =
@@ -46,7 +40,7 @@ returns-clause-fault c =
       refl,
       elim c.match-line_end.branch [
         | in-Some-line_end w ↦
-            let rest = rw (c.split_at-2.ensures.back) at w.in-Some-line_end.ensures.parts in
+            let rest = rw (c.split_at.ensures.back) at w.in-Some-line_end.ensures.parts in
             rw w.cause-is (
               take (81 * k) text,
               drop (81 * k) text,
@@ -64,7 +58,7 @@ returns-clause-fault c =
               whole,
               parts_begin text r.head (position_view r.position) r.first k p,
               parts_whole text r.head (position_view r.position) r.first k p,
-              (rw (c.split_at-2.ensures.back) at w.in-None.ensures.parts),
+              (rw (c.split_at.ensures.back) at w.in-None.ensures.parts),
             )
       ],
     )
@@ -72,8 +66,4 @@ returns-clause-fault c =
 pub returns-clause-none : goal.returns-clause-none
 returns-clause-none c =
     let r = c.read_header-read.result in
-    let none = parts_none c.args.text.now r.head (position_view r.position) r.first c.in-Some.k (parts c) in
-    elim c.match-line_end.branch [
-      | in-Some-line_end w ↦ rw w.cause-is none
-      | in-None w ↦ rw w.cause-is none
-    ]
+    parts_none c.args.text.now r.head (position_view r.position) r.first c.in-Some.k (parts c)

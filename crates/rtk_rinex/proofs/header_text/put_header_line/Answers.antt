@@ -2,6 +2,6 @@ use Rattle.std.proofs.Common.{append_assoc}
 use Rattle.rtk_rinex.specs.Header.{header_line}
 use Rattle.rtk_rinex.proofs.header_text.put_header_line.Goals as goal
 
-pub returns : goal.returns
+pub returns-clause-items : goal.returns-clause-items
 unfolding header_line
-returns c = rw (c.in_ok-push.ensures.items, c.in_ok-put_left-2.ensures, c.in_ok-put_left.ensures) (simp append_assoc)
+returns-clause-items c = rw (c.add.ensures.items, c.put_left-2.ensures.items, c.put_left.ensures.items) (simp append_assoc)

@@ -16,4 +16,4 @@ pub returns : goal.returns
 unfolding record_text
 returns c =
     let some : length (filter has_line c.args.table.now.rows) ≢ 0 = rw (← c.rows-rows.ensures.value, ← c.line_count-count.ensures.value) c.if-count-eq0.false in
-    rw (c.in_ok-put_satellite_lines.ensures, c.in_ok-put_epoch_line.ensures, c.in_ok-out.ensures.items, reading_is c.time.result c.civil.result c.civil.ensures.reading, c.time.ensures, c.line_count-count.ensures.value, c.rows-rows.ensures.value) (sym (lines_of-some (reading_of c.args.table.now.time) (filter has_line c.args.table.now.rows) some))
+    rw (c.in_ok-put_satellite_lines.ensures, c.in_ok-extend_from_slice.ensures.items, c.as_slice.ensures.value, c.epoch_line.ensures, c.in_ok-out.ensures.items, reading_is c.time.result c.civil.result c.civil.ensures.reading, c.time.ensures, c.line_count-count.ensures.value, c.rows-rows.ensures.value) (sym (lines_of-some (reading_of c.args.table.now.time) (filter has_line c.args.table.now.rows) some))

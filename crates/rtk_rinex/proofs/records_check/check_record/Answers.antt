@@ -1,6 +1,6 @@
 use Rattle.std.proofs.Common.{◌≢◌, length, None, arith, ap}
 use Rattle.rtk_rinex.specs.Reading.{reading_of}
-use Rattle.rtk_rinex.proofs.CheckLemmas.{rows-all, rows-rise, record-lines, record-is, record-out}
+use Rattle.rtk_rinex.proofs.CheckLemmas.{rows-all, rows-rise, record-lines, record-is}
 use Rattle.rtk_rinex.proofs.records_check.check_record.Goals as goal
 
 pub returns-clause-record : goal.returns-clause-record
@@ -22,5 +22,4 @@ returns-clause-record c =
       next = is.1;
       count = r.count;
       text = record-is c.args.text.now c.in-Some.epoch_line.now c.in-Some.after.now (reading_of stamp.time) r.rows stamp.count c.in_ok-rest.rest.now _ line.1 is.0.2 r.text r.count whole;
-      out = record-out c.args.out.now.items c.check_epoch_line.new.out.items c.check_satellites.new.out.items c.in-Some.epoch_line.now (reading_of stamp.time) r.rows stamp.count _ c.in-Ok.ensures.out is.0.2 r.out r.count whole;
     }

@@ -1,11 +1,11 @@
 use Rattle.std.proofs.Common.{◌++◌, [], ◌∷◌, None, arith, refl, sym, length-append}
 use Rattle.rtk_rinex.specs.Record.{EpochTableView, record_text}
-use Rattle.rtk_rinex.proofs.CheckLemmas.{last_time-more, epochs-more, text-more, out-more, nothing-more, record_lines-more, satellite_lines-more}
+use Rattle.rtk_rinex.proofs.CheckLemmas.{last_time-more, epochs-more, text-more, record_lines-more, satellite_lines-more}
 use Rattle.rtk_rinex.proofs.records_check.check_records.Goals as goal
 
 pub loop-rest-init : goal.loop-rest-init
 loop-rest-init c = (
-  record { epochs = []; are_epochs = tt; text = refl; out = nothing-more c.args.out.now.items },
+  record { epochs = []; are_epochs = tt; text = refl },
   refl,
   omega arith,
   refl,
@@ -28,7 +28,6 @@ loop-rest-preserved c =
         epochs = r.epochs ++ e ∷ [];
         are_epochs = epochs-more c.args.width c.args.first None r.epochs e r.are_epochs read.is_epoch next;
         text = text-more record_text r.epochs e c.args.text.now l.rest.now (record_text e) c.in-Ok.read.1.now r.text read.text refl;
-        out = out-more record_text r.epochs e c.args.out.now.items l.out.items c.check_record.new.out.items (record_text e) r.out read.out refl;
       },
       sym (last_time-more None r.epochs e),
       omega (arith, lines, read.count, l.invariant.2),

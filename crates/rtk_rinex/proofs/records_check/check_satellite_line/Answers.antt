@@ -1,15 +1,21 @@
-use Rattle.std.proofs.Common.{◌≡◌, rules}
 use Rattle.rtk_rinex.proofs.CheckLemmas.{named-row, one_satellite}
+use Rattle.rtk_rinex.proofs.ValuesLemmas.{clash}
 use Rattle.rtk_rinex.proofs.records_check.check_satellite_line.Goals as goal
 
-pub returns-clause-next : goal.returns-clause-next
-returns-clause-next c =
-    let line = c.args.line.now in
-    let row = c.in-Some-found.row in
-    let form = c.in-Some.ensures in
-    let is = rw c.in-Some-found.is at c.in-Ok.ensures in
-    let same : c.in-Some.satellite ≡ row.satellite = one_satellite line c.in-Some.satellite row.satellite form.0 is.0.satellite form.1 (named-row line row is.1) in
-    rw same at (c.is_next_satellite.ensures.0 c.if-not-is_next_satellite.false)
+pub is_row_line-requires-clause-form : goal.is_row_line-requires-clause-form
+is_row_line-requires-clause-form c = (c.in-Some.satellite, c.in-Some.ensures)
 
-pub returns-in_default-found-clause-fault : goal.returns-in_default-found-clause-fault
-returns-in_default-found-clause-fault c = search rules depth 5 fits 300
+pub returns-clause-row : goal.returns-clause-row
+returns-clause-row c =
+    let line = c.args.line.now in
+    let row = c.is_row_line.ensures.0 c.if-not-is_row_line.false in
+    let form = c.in-Some.ensures in
+    (row.0, row.1, row.2, one_satellite line row.0.satellite c.in-Some.satellite row.1.satellite form.0 (named-row line row.0 row.2) form.1)
+
+pub returns-then-not-is_row_line-clause-fault : goal.returns-then-not-is_row_line-clause-fault
+returns-then-not-is_row_line-clause-fault c = (
+  c.in-Some.satellite,
+  c.in-Some.ensures,
+  c.is_next_satellite.ensures.0 c.if-not-is_next_satellite.false,
+  λ r is e. clash c.is_row_line.result c.if-not-is_row_line.true (c.is_row_line.ensures.1 (r, is, e)),
+)

@@ -1,12 +1,12 @@
-use Rattle.std.proofs.Common.{[], ◌∷◌, ◌++◌, None, arith, refl, sym, length-append, rules}
+use Rattle.std.proofs.Common.{[], ◌∷◌, ◌++◌, None, Some, ap, ◌∙◌, arith, refl, sym, length-append, rules}
 use Rattle.rtk_rinex.specs.Record.{satellite_line}
 use Rattle.rtk_rinex.specs.CheckText.{last_satellite}
-use Rattle.rtk_rinex.proofs.CheckLemmas.{last_satellite-more, rows-more, text-more, out-more, nothing-more, satellite-fault}
+use Rattle.rtk_rinex.proofs.CheckLemmas.{last_satellite-more, rows-more, text-more, satellite-fault}
 use Rattle.rtk_rinex.proofs.records_check.check_satellites.Goals as goal
 
 pub loop-k-init : goal.loop-k-init
 loop-k-init c = (
-  record { rows = []; are_rows = tt; count = refl; text = refl; out = nothing-more c.args.out.now.items },
+  record { rows = []; are_rows = tt; count = refl; text = refl },
   refl,
   omega arith,
 )
@@ -34,17 +34,16 @@ loop-k-preserved c =
     let l = c.loop-k in
     let r = l.invariant.0 in
     let line = c.in-Some.ensures in
-    let row = c.in-Ok.row in
     let is = c.in-Ok.ensures.row in
-    let next = rw l.invariant.1 at c.in-Ok.ensures.next in (
+    let row = is.0 in
+    let next = rw (l.invariant.1, ← is.3) at c.in-Ok.ensures.next in (
       record {
         rows = r.rows ++ row ∷ [];
-        are_rows = rows-more c.args.width None r.rows row r.are_rows is.0 next;
+        are_rows = rows-more c.args.width None r.rows row r.are_rows is.1 next;
         count = simp length-append (omega (arith, r.count));
-        text = text-more satellite_line r.rows row c.args.text.now l.rest.now c.in-Some.satellite_line.now c.in-Some.after.now r.text line.1 is.1;
-        out = out-more satellite_line r.rows row c.args.out.now.items l.out.items c.check_satellite_line.new.out.items c.in-Some.satellite_line.now r.out c.in-Ok.ensures.out is.1;
+        text = text-more satellite_line r.rows row c.args.text.now l.rest.now c.in-Some.satellite_line.now c.in-Some.after.now r.text line.1 is.2;
       },
-      sym (last_satellite-more None r.rows row),
+      sym (last_satellite-more None r.rows row ∙ ap Some is.3),
       omega (arith, l.invariant.2, line.2),
     )
 

@@ -6,7 +6,7 @@ use Rattle.rtk_rinex.proofs.satellite_line_check.padded.Goals as goal
 pub returns-clause-value : goal.returns-clause-value
 unfolding left
 returns-clause-value c =
-    let line = c.args.line.now in
-    let n = 771 - length line in
-    let cut : take n (replicate {A = ℕ} 771 32) ≡ replicate n 32 = take-replicate {X = ℕ} n 771 32 (omega arith) in
-    rw (c.add-2.ensures.items, c.add.ensures.items, c.new-columns.ensures, cut) refl
+    let columns = c.args.columns.now in
+    let n = 48 - length columns in
+    let cut : take n (replicate {A = ℕ} 48 32) ≡ replicate n 32 = take-replicate {X = ℕ} n 48 32 (omega arith) in
+    rw (c.add-2.ensures.items, c.add.ensures.items, c.new-whole.ensures, cut) refl

@@ -1,10 +1,9 @@
 -- The command `check`: what it says of a text, and the line that says it. The forms of the lines
 -- are this project's rule.
-use Rattle.std.specs.Prelude.{◌≡◌, ◌≢◌, ℕ, Bool, true, false, List, [], ◌∷◌, ◌++◌, codes, decimal, Option}
+use Rattle.std.specs.Prelude.{◌≡◌, ℕ, Bool, true, false, List, [], ◌∷◌, ◌++◌, codes, decimal, Option}
 use Rattle.rtk_frame.specs.Stream.{with_more, TakesPart}
 use Rattle.rtk_rinex.specs.CauseText.{cause_text}
 use Rattle.rtk_rinex.specs.CheckTable.{HoldsTable, IsFault, IsWithoutTable}
-use Rattle.rtk_rinex.specs.declared.check_fault.Cause.TheVariants.{OutOfMemory}
 use Rattle.rtk_rinex.specs.declared.check_fault.CheckFault.{CheckFault}
 
 -- the line of a table with these numbers of records and satellite lines; a line feed ends it
@@ -22,12 +21,10 @@ abbrev pub SaysYes : List ℕ → List ℕ → Type 0
 SaysYes text line =
     (epochs : ℕ) × (satellites : ℕ) × HoldsTable text epochs satellites × (line ≡ valid_text epochs satellites)
 
--- a no: the text is the text of no well-formed table, and the line tells its first fault, which is
--- not refused memory
+-- a no: the text is the text of no well-formed table, and the line tells its first fault
 abbrev pub SaysNo : List ℕ → List ℕ → Type 0
 SaysNo text line =
-    (fault : CheckFault) × IsFault text fault × (fault.cause ≢ OutOfMemory) × IsWithoutTable text fault.cause
-    × (line ≡ check_fault_text fault)
+    (fault : CheckFault) × IsFault text fault × IsWithoutTable text × (line ≡ check_fault_text fault)
 
 -- the answer, and the line that says it of the text
 abbrev pub SaysVerdict : List ℕ → Bool → List ℕ → Type 0
