@@ -23,6 +23,8 @@ EPOCH = 64
 READ_AHEAD, WAITING = 32_768, 1_029
 LINK = 52_000
 GATHERED = 2 * 65_536
+# What a conversion of one link holds besides: the manual says some 125 kB.
+LEAST_BESIDE, MOST_BESIDE = 120_000, 125_000
 
 # The cells of an epoch: a 1004 gives two of a satellite, a 1074 one of each signal.
 CELLS = len(SATELLITES) * (2 + len(SIGNALS))
@@ -163,13 +165,21 @@ def lengths_alike(runs: Runs, tests: Tests) -> None:
 
 
 def grows_with_window(runs: Runs, tests: Tests) -> None:
-    """Each epoch of the window takes so much for each of its cells, and a little more."""
+    """Each epoch of the window takes so much for each of its cells, and a little more; and what is
+    held besides the epochs does not grow with the window, and is no more than the manual says."""
     due = counts_of(10, 1)
     single = {"frames": 5000, "taken": 5000, "epochs": 5000}
     for name, cells, counts in (("10", CELLS, due), ("single", 2, single)):
         held = {size: runs.most(size, [name], counts) for size in (2, *WINDOWS)}
+        room = CELL * max(cells, FEWEST_CELLS)
+        for size in held:
+            tests.within(
+                f"window {size} of epochs of {cells} cells, and what is held besides",
+                held[size] - GATHERED,
+                size * room + LEAST_BESIDE,
+                size * (room + EPOCH) + MOST_BESIDE,
+            )
         for size in WINDOWS:
-            room = CELL * max(cells, FEWEST_CELLS)
             tests.within(
                 f"window {size} over window 2, of epochs of {cells} cells",
                 held[size] - held[2],

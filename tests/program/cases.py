@@ -9,10 +9,12 @@ import sys
 from pathlib import Path
 from random import Random
 
-sys.path.insert(0, str(Path(__file__).resolve().parents[1] / "hostile"))
+TESTS = Path(__file__).resolve().parents[1]
+sys.path[:0] = [str(TESTS / "hostile"), str(TESTS / "held")]
 
 import model  # noqa: E402
-from messages import CODES  # noqa: E402
+import streams  # noqa: E402
+from messages import CODES, SIGNALS  # noqa: E402
 from model import Setup, moment  # noqa: E402
 from wire import HEADERS, LEGACY_SATELLITE, MSM_CELL, Message, frame_of, payload_of  # noqa: E402
 
@@ -241,6 +243,70 @@ def ties(cases):
         line="G05  21060420.175   110673255.000\n")
 
 
+# ---------------------------------------------------------------- the most of an epoch, and of a report
+
+
+def every_cell(cases):
+    """All 672 cells of an epoch: of 32 satellites fifteen codes in 1074, four signals of sixteen satellites in each, and six
+    in 1004. Then a 1074 whose cells are in conflict but for the last one, and one of which all are."""
+    known, halves = sorted(SIGNALS), (range(1, 17), range(17, 33))
+    groups = [(half, known[at : at + 4]) for half in halves for at in range(0, 16, 4)]
+
+    def cells_of(half, signals, strength=40, last=40):
+        cells = {(it, signal): {"cnr": strength} for it in half for signal in signals}
+        cells[max(cells)] = {"cnr": last}
+        return frame_of(msm(NOON, {it: (60 + it, it) for it in half}, cells))
+
+    rows = [[{**SATELLITE, "satellite": it} for it in part] for part in (range(1, 32), [32])]
+    legacies = [
+        frame_of(legacy(NOON, [{**it, "l1_code": l1, "l2_code": l2} for it in part]))
+        for part in rows for l1, l2 in ((0, 0), (1, 1), (0, 2), (1, 3))
+    ]
+    capture = b"".join(legacies + [cells_of(*it) for it in groups])
+    lines = [
+        f"link 1 conflict 1074 {TOLD}00.000 G{it:02} {SIGNALS[signal]}" for it in groups[0][0] for signal in groups[0][1]
+    ]
+    codes = ",".join(CODES)
+    records = convert([capture], codes=codes)[0].splitlines()[-33:]
+    assert records[0] == "> 2024 05 17 12 00  0.0000000  0 32" and {len(it) for it in records[1:]} == {769}
+    case(cases, "every_cell", [capture], codes=codes, told=report(taken=16, epochs=1))
+    for name, conflicts, last in (("conflicts_63", 63, 40), ("conflicts_64", 64, 41)):
+        case(cases, name, [capture + cells_of(*groups[0], 41, last)], codes=codes, told=report(
+            *lines[:conflicts], taken=16, conflict=1, epochs=1))
+
+
+def millions():
+    """Counts of as many digits as a capture of 44 MB can have: 58. The file and the report are those of the rules, in words."""
+    names = "other", "foreign", "repeat", "refused", "taken", "conflict", "late"
+    many = dict(zip(names, (1_000_001, 1_000_002, 1_000_003, 100_004, 100_005, 100_006, 100_007)))
+    last = many["taken"] - 1
+    hour, rest = divmod(last, 3600)
+    day, time = 17 + (12 + hour) // 24, f"{(12 + hour) % 24:02}:{rest // 60:02}:{rest % 60:02}.000"
+    stronger = streams.legacy(NOON + 1000 * last, streams.SATELLITES[:1])
+    stronger.satellites[0]["l1_cnr"] += 1
+    save("millions.1", b"".join((
+        streams.single_satellite(many["taken"]),
+        frame_of(b"\x3f\xb0") * many["other"],
+        bare(last, station=7) * many["foreign"],
+        bare(last) * many["repeat"],
+        NO_NUMBER * many["refused"],
+        streams.capture(stronger) * many["conflict"],
+        bare(0) * many["late"],
+    )))
+    head = model.header(Setup(2003, NEAR, MADE, "BASE", ("1C", "2W"), 64), {}, NEAR)
+    line = convert([streams.single_satellite(1)])[0].splitlines()[-1]
+    epochs = (f"{model.epoch_line(NEAR + 1000 * it, 1)}\n{line}\n" for it in range(many["taken"]))
+    save("millions.rnx", "".join(f"{it}\n" for it in head) + "".join(epochs))
+    lines = [
+        *["link 1 refused M1 -"] * many["refused"],
+        *[f"link 1 conflict 1004 2024-05-{day} {time} G03 1C"] * many["conflict"],
+        *[f"link 1 late 1004 {TOLD}00.000"] * many["late"],
+    ]
+    said = report(*lines, **many, epochs=many["taken"])
+    assert sum(it.isdigit() for it in "".join(said.splitlines()[-9:])) == 58
+    save("millions.report", said)
+
+
 # ---------------------------------------------------------------- a long capture
 
 
@@ -354,8 +420,9 @@ def long_file():
 def main():
     hold_to_examples()
     with open("cases", "w") as cases:
-        for write in (links_of_sixteen, refusals, closes, order_of_reading, windows, ties, long_captures):
+        for write in (links_of_sixteen, refusals, closes, order_of_reading, windows, ties, every_cell, long_captures):
             write(cases)
+    millions()
     long_file()
 
 

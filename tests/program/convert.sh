@@ -152,6 +152,7 @@ words 1980-01-06T00:00:00 $made X 1C stdin stdin;     fails standard_input_twice
 words $near $made X 1C stdin a stdin;                 fails standard_input_twice_apart 2 'bad links'
 words $near $made X 1C 1 2 3 4 5 6 7 8 9 10 11 12 13 14 15 16 17; fails seventeen_links 2 'bad links'
 words $near $made X 1C $(seq 40);                     fails forty_links 2 'bad links'
+words $near $made X 1C $(seq 200);                    fails two_hundred_links 2 'bad links'
 words $near $made X 1C nowhere 2 3 4 5 6 7 8 9 10 11 12 13 14 15 16; fails sixteen_links 1 'cannot open nowhere'
 words 1980-01-06T00:00:00 $made X 1C nowhere;         fails reference_out_of_range 2 'bad --near'
 words 1980-01-12T23:59:59 $made X 1C nowhere;         fails reference_too_early 2 'bad --near'
@@ -247,6 +248,35 @@ $try"
     expect "$1_without_a_value" 2 '' "error: a value is required for '--$1 <$2>' but none was supplied
 $try"
 done
+# A moment with a hyphen at its front or in the place of a digit, or without one where it is due.
+for text in -2024-05-17T13:00:00 -024-05-17T13:00:00 2-24-05-17T13:00:00 2024--5-17T13:00:00 2024-0-517T13:00:00 \
+    202405--17T13:00:00 2024-05-1-T13:00:00 2024-05-17-13:00:00 2024-05-17T-3:00:00 2024-05-17T13:-1:00 2024-05-17T13:00:-1 \
+    2024-05-17T13:00:00- -; do
+    run convert --station 2003 --near=$near "--made=$text" --marker BASE --codes 1C x
+    fails "made=$text" 2 'bad --made'
+    run convert --station 2003 "--near=$text" --made=$made --marker BASE --codes 1C x
+    fails "near=$text" 2 'bad --near'
+done
+# The next option is no value of an option but of --marker.
+for option in 'station N near' 'near T made' 'made T marker' 'codes LIST window' 'window N codes'; do
+    set -- $option
+    run convert "--$1" "--$3" 1 a
+    expect "$1_before_another_option" 2 '' "error: a value is required for '--$1 <$2>' but none was supplied
+$try"
+done
+run convert --station 2003 --near $near --made $made --marker --codes 1C,2W a
+expect codes_as_a_marker 2 '' "error: the following required arguments were not provided:
+  --codes <LIST>
+
+Usage: rtcm2rinex convert --station <N> --near <T> --made <T> --marker <NAME> --codes <LIST> <LINK>...
+$try"
+run convert --station 2003 --near $near --made -2024-05-17T13:00:00 --marker BASE --codes 1C a
+expect made_of_a_word_with_a_hyphen 2 '' "error: unexpected argument '-2' found
+
+  tip: to pass '-2' as a value, use '-- -2'
+
+$usage
+$try"
 bad_value station_of_4096 --station 4096 '4096 is not in 0..=4095'
 bad_value station_of_no_digits --station x 'invalid digit found in string'
 bad_value window_of_1 --window 1 '1 is not in 2..=4096'
@@ -279,4 +309,4 @@ leaves start_convert_with_a_limit_of_size 1 part part_err
 (ulimit -f 8; exec "$root/bin/rtcm2rinex" convert $options --codes 1C,2W,5X stdin) >out 2>err <"$session.rtcm"; status=$?
 leaves start_convert_followed_with_a_limit_of_size 1 part write_failed
 
-ends 132
+ends 166

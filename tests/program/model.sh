@@ -20,6 +20,10 @@ split -b 700 long_capture.1 piece.
 for piece in piece.*; do cat "$piece"; done | "$program" convert $options --codes "$codes" stdin >out 2>err; status=$?
 leaves long_pipe 0 long_capture.rnx long_capture.report
 
+# Counts of many digits.
+"$program" convert $options --codes 1C,2W millions.1 >out 2>err </dev/null; status=$?
+leaves millions 0 millions.rnx millions.report
+
 # Both streams in one place: up to 65,536 bytes of the report are gathered, so the file comes first; of a longer report the
 # lines that fill the room come before it.
 : >err
@@ -42,4 +46,4 @@ expect check_of_10_mb 0 'valid: 450 epochs, 14400 satellite lines' ''
 "$program" check zero.rnx >out 2>err </dev/null; status=$?
 leaves check_of_10_mb_with_a_zero 3 zero.line /dev/null
 
-ends 35
+ends 39

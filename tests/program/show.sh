@@ -75,6 +75,21 @@ two_files="error: unexpected argument 'b' found
 Usage: rtcm2rinex show [OPTIONS] <FILE>
 $try"
 
+two_empty_files="error: unexpected argument '' found
+
+Usage: rtcm2rinex show [OPTIONS] <FILE>
+$try"
+
+a_hundred_files="error: unexpected argument '2' found
+
+Usage: rtcm2rinex show [OPTIONS] <FILE>
+$try"
+
+empty_command="error: unrecognized subcommand ''
+
+Usage: rtcm2rinex <COMMAND>
+$try"
+
 hex_twice="error: the argument '--hex' cannot be used multiple times
 
 Usage: rtcm2rinex show [OPTIONS] <FILE>
@@ -128,6 +143,12 @@ printf 'D3 0' | "$program" show --hex stdin >out 2>err; status=$?
 expect odd_digits 1 '' 'rtcm2rinex: input is not hex'
 printf 'd3\t00\r\n0047eA4b\r\n' | "$program" show --hex stdin >out 2>err; status=$?
 expect tabs_line_ends_and_both_cases 0 'refused M1 -' ''
+printf 'd3\f000047eA4b' | "$program" show --hex stdin >out 2>err; status=$?
+expect form_feed_between_bytes 1 '' 'rtcm2rinex: input is not hex'
+printf 'd3000047eA4\vb' | "$program" show --hex stdin >out 2>err; status=$?
+expect vertical_tab_between_digits 1 '' 'rtcm2rinex: input is not hex'
+printf ' \td\r\n3000047eA4 b\t' | "$program" show --hex stdin >out 2>err; status=$?
+expect white_space_between_digits 0 'refused M1 -' ''
 run show nowhere </dev/null;              expect missing_file 1 '' 'rtcm2rinex: cannot open nowhere'
 run show 'no where' </dev/null;           expect missing_file_with_a_blank 1 '' 'rtcm2rinex: cannot open no where'
 run show '' </dev/null;                   expect empty_name 1 '' 'rtcm2rinex: cannot open '
@@ -181,6 +202,10 @@ run shew a </dev/null;                    expect no_such_command 2 '' "$no_such_
 run "$long_word" </dev/null;              expect no_such_long_command 2 '' "$no_such_long_command"
 run show </dev/null;                      expect no_file 2 '' "$no_file"
 run show a b </dev/null;                  expect two_files 2 '' "$two_files"
+run show '' '' </dev/null;                expect two_empty_files 2 '' "$two_empty_files"
+run show $(seq 100) </dev/null;           expect a_hundred_files 2 '' "$a_hundred_files"
+run '' </dev/null;                        expect empty_command 2 '' "$empty_command"
+run '' show a </dev/null;                 expect empty_word_before_a_command 2 '' "$empty_command"
 run show --hex --hex arp.hex </dev/null;  expect hex_twice 2 '' "$hex_twice"
 run show --hax a </dev/null;              expect like_hex 2 '' "$like_hex"
 run --frob </dev/null;                    expect unknown_option 2 '' "$unknown_option"
@@ -201,4 +226,4 @@ head -c 8192 frames >some; head -c 512 lines >part; echo 'rtcm2rinex: write fail
 (ulimit -f 1; exec "$root/bin/rtcm2rinex" show some) >out 2>err </dev/null; status=$?
 leaves start_show_with_a_limit_of_size 1 part part_err
 
-ends 60
+ends 67

@@ -5,6 +5,8 @@
 //   FAILS_READ=N     the read of this number and those after it fail
 //   FAILS_WRITE=N    the write to standard output of this number and those after it fail
 //   FAILS_OPEN=N     the open of this number fails
+//   ONCE=1           the read or the write of the number fails, and those after it don't
+//   OF_REPORT=1      FAILS_WRITE counts the writes to standard error instead
 //   PIECE=K          a read or a write passes K bytes at most
 //   INTERRUPTS=WORD  every second call is interrupted before it does anything: of the reads, the
 //                    writes, the opens, or the writes to standard output (1) or standard error (2)
@@ -26,7 +28,8 @@ void *dlsym(void *where, const char *name);
 
 enum { INTERRUPTED = 4, NO_SPACE = 28, STOP = 19 };
 
-static long fault, takes[3], fails_read, fails_write, fails_open, piece, stops_read, endless;
+static long fault, takes[3], fails_read, fails_write, fails_open, piece, stops_read, endless, once;
+static long failing; // the descriptor of the writes that fail
 static int interrupts; // the first letter of the word
 static long in_a_row, reads, writes, opens, taken[3], calls;
 static long (*next_read)(int, void *, size_t);
@@ -53,6 +56,8 @@ static void prepare(void) {
     fails_read = number("FAILS_READ", 0);
     fails_write = number("FAILS_WRITE", 0);
     fails_open = number("FAILS_OPEN", 0);
+    once = number("ONCE", 0);
+    failing = 1 + number("OF_REPORT", 0);
     piece = number("PIECE", 0);
     stops_read = number("STOPS_READ", 0);
     endless = number("ENDLESS", 0);
@@ -64,6 +69,11 @@ static long fail(long error) {
     if (error == 0) return 0;
     *__errno_location() = error;
     return -1;
+}
+
+// Whether the call of this number fails, where this one fails, and those after it or not.
+static int is_failing(long call, long fails) {
+    return fails && (once ? call == fails : call >= fails);
 }
 
 static int is_interrupted(int kind) {
@@ -80,7 +90,7 @@ long read(int descriptor, void *bytes, size_t count) {
         return 1;
     }
     if (reads == stops_read) raise(STOP);
-    if (fails_read && reads >= fails_read) return fail(fault);
+    if (is_failing(reads, fails_read)) return fail(fault);
     return next_read(descriptor, bytes, piece && count > piece ? piece : count);
 }
 
@@ -89,7 +99,7 @@ long write(int descriptor, const void *bytes, size_t count) {
     if (is_interrupted('w') || is_interrupted('0' + descriptor)) return fail(INTERRUPTED);
     if (piece && count > piece) count = piece;
     if (descriptor != 1 && descriptor != 2) return next_write(descriptor, bytes, count);
-    if (descriptor == 1 && ++writes >= fails_write && fails_write) return fail(fault);
+    if (descriptor == failing && is_failing(++writes, fails_write)) return fail(fault);
     if (takes[descriptor] >= 0) {
         size_t room = takes[descriptor] - taken[descriptor];
         if (room == 0 && count > 0) return fail(fault);

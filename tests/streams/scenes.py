@@ -593,6 +593,50 @@ def _whole_read_fails():
                             Disturbance({"FAILS_READ": k, "FAULT": fault}), no_read, of=name)
 
 
+# Each error that a call can have but an interruption, which is made again.
+ERRORS = sorted(set(errno.errorcode) - {errno.EINTR})
+
+
+def once(**shim):
+    """One call fails. If it is made again it goes well, and that is seen."""
+    return Disturbance({"ONCE": 1, **shim})
+
+
+@scene("the first read fails with each error but an interruption; the next would go well")
+def _first_read_fails():
+    for name, case in CASES.items():
+        for fault in ERRORS if size_of_inputs(case) >= 0 else []:
+            yield tried(name, f"errno {fault}", once(FAILS_READ=1, FAULT=fault), no_read, of=name)
+
+
+@scene("the first write fails with each error but an interruption; the next would go well")
+def _first_write_fails():
+    for name in CASES:
+        # what is gathered of a longer file is tried again at the end, and nothing after it
+        out = 0 if len(GOOD[name].out) <= GATHERED else None
+        for fault in ERRORS:
+            yield tried(name, f"errno {fault}", once(FAILS_WRITE=1, FAULT=fault), broken_off,
+                        faults=["write failed"], out=out)
+
+
+@scene("the first write of the report fails so")
+def _first_write_of_report_fails():
+    for name in CASES:
+        for fault in ERRORS if GOOD[name].err else []:
+            yield tried(name, f"errno {fault}", once(FAILS_WRITE=1, OF_REPORT=1, FAULT=fault),
+                        broken_off, faults=["write failed"], out=out_without_report(name))
+
+
+@scene("the first open fails with each error but an interruption; the next would go well")
+def _first_open_fails():
+    base = example("base.rtcm")
+    for case in [Case("show", ("show", base)), Case("check", ("check", base)),
+                 convert("convert", base), convert("convert of two links", base, base)]:
+        for fault in ERRORS:
+            yield f"{case.name}, errno {fault}", functools.partial(
+                fails, case, f"cannot open {base}", Disturbance({"FAILS_OPEN": 1, "FAULT": fault}))
+
+
 @scene("a run makes so many reads and writes, and no more")
 def _calls_are_counted():
     for name, case in CASES.items():

@@ -16,6 +16,9 @@ use Rattle.rtk_obs.specs.declared.code.Code.TheVariants.{C1C, C1P, C1W, C1S, C1L
 use Rattle.rtk_obs.specs.declared.cell.CellSource.{CellSource}
 use Rattle.rtk_obs.specs.declared.cell.CellSource.TheVariants.{Legacy, Msm}
 use Rattle.rtk_obs.specs.declared.cell.Cell.{Cell}
+use Rattle.rtk_obs.proofs.PublicLaws.{code_same}
+use Rattle.rtk_collect.specs.declared.conflicts.SatelliteCode.{SatelliteCode}
+use Rattle.rtk_collect.specs.contracts.conflicts.SatelliteCodePartialEq.TheImpl as satellite_code_eq
 use Rattle.rtk_collect.specs.Key.{key, key_at, rank_of}
 use Rattle.rtk_obs.specs.Slip.{is_same_source}
 use Rattle.rtk_collect.specs.Equal.{equal_cells, equal_1005, equal_1006}
@@ -194,3 +197,10 @@ sources-same Legacy Legacy = refl
 sources-same Legacy Msm = refl
 sources-same Msm Legacy = refl
 sources-same Msm Msm = refl
+
+-- the derived test of two satellites with their codes
+pub satellite_code-same : (a b : SatelliteCode) → Decides ((satellite_code_eq.ghosts).eq a b) (a ≡ b)
+satellite_code-same a b = Decides-like ((satellite_code_eq.ghosts).eq a b)
+    (λ h i. record { satellite = h.0 i; code = h.1 i })
+    (λ e. (ap (λ (x : SatelliteCode). x.satellite) e, ap (λ (x : SatelliteCode). x.code) e))
+    (Decides-and _ _ (Decides-eqb a.satellite b.satellite) (code_same a.code b.code))

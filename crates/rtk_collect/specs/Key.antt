@@ -12,7 +12,8 @@ rank_of Msm = 0
 rank_of Legacy = 1
 
 -- the key of a satellite, code and kind of message in an epoch, in this order of weight (this
--- project's rule)
+-- project's rule). It is one number, so that the order of cells is the order of numbers, and a test
+-- of two keys is one comparison; the law `equality_decides` says that equal keys have equal parts.
 unfoldable pub key_at : ℕ → Code → CellSource → ℕ
 key_at satellite code source = (satellite * 16 + place_of code) * 2 + rank_of source
 

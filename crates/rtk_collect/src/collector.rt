@@ -40,15 +40,18 @@ pub struct Collector {
 }
 
 // Clauses see the window: its places, its epochs from the greatest to the least, the 1005 and the
-// 1006.
+// 1006. The first part of the invariant names every field, so that no field can be added in which
+// messages are kept unseen.
 impl Model for Collector {
+    ghost use Rattle.std.specs.Prelude.{◌≡◌};
     ghost use Rattle.rtk_collect.specs.Collector.{CollectorView, IsCollectorView};
 
     ghost Value = { CollectorView };
 
     ghost view = { λ c. record { size = c.places; sets = c.sets.items; arp1005 = c.stations.arp1005; arp1006 = c.stations.arp1006 } };
 
-    ghost invariant = { λ c. IsCollectorView (record { size = c.places; sets = c.sets.items; arp1005 = c.stations.arp1005; arp1006 = c.stations.arp1006 }) };
+    ghost invariant = { λ c. (c ≡ record { alloc = c.alloc; places = c.places; sets = c.sets; stations = c.stations; room = c.room })
+        × IsCollectorView (record { size = c.places; sets = c.sets.items; arp1005 = c.stations.arp1005; arp1006 = c.stations.arp1006 }) };
 }
 
 impl Collector {

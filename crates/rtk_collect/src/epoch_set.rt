@@ -21,9 +21,10 @@ pub struct EpochSet {
     cells: Vec<CellEntry>,
 }
 
-// Clauses see the epoch in ms and the list of cells.
+// Clauses see the epoch in ms and the list of cells. The first part of the invariant names every
+// field, as that of a collector does.
 impl Model for EpochSet {
-    ghost use Rattle.std.specs.Prelude.{List, All};
+    ghost use Rattle.std.specs.Prelude.{◌≡◌, List, All};
     ghost use Rattle.rtk_collect.specs.EpochSet.{EpochSetView};
     ghost use Rattle.rtk_collect.specs.Key.{KeysRise};
     ghost use Rattle.rtk_obs.specs.Cell.{IsInRange};
@@ -32,7 +33,8 @@ impl Model for EpochSet {
 
     ghost view = { λ s. record { epoch = s.epoch; cells = s.cells.items } };
 
-    ghost invariant = { λ s. KeysRise s.cells.items × All IsInRange s.cells.items };
+    ghost invariant = { λ s. (s ≡ record { epoch = s.epoch; cells = s.cells })
+        × KeysRise s.cells.items × All IsInRange s.cells.items };
 }
 
 impl EpochSet {

@@ -1,9 +1,14 @@
-//! Laws over the definitions: what late arrivals, repeats and the order of arrivals change.
+//! Laws over the definitions: what late arrivals, repeats and the order of arrivals change; and a law
+//! of `==`.
 //!
 //! Each function here does nothing. Its contract is the law, and a caller that calls it may cite
 //! it; proofs of other crates cite the same facts from `proofs/PublicLaws.antt`.
 
+ghost use Rattle.std.specs.Prelude.{◌≡◌, ◌↔◌, IsTrue};
+ghost use Rattle.rtk_collect.specs.declared.conflicts.SatelliteCode.{SatelliteCode};
 ghost use Rattle.rtk_collect.specs.Laws.{LateArrivalsChangeNothing, ClosedOnlyGrow, ClosedFall, ClosedAfter, ClosedAreRest, ClosedAreCounted, FirstIsPreferred, ExcusedIsKept, StationsAreFinal, KeptAreTaken, SetDecides, LateLeavesKept, InTimeJoinsKept, KeptOpensNone, GreaterOpens, LesserJoinsOthers, SameJoins, KeptFall, KeptRise, OrderedAreSame, KeptAreFew, KeptAreGreatest, OpeningConflictsNot, ClosingConflictsNot, KeysAreDistinct, EqualityDecides, FirstIsKept};
+
+use crate::conflicts::SatelliteCode;
 
 /// If all late arrivals are deleted, a further arrival is late exactly if it was late before the
 /// deletion, and what is kept is the same.
@@ -92,4 +97,9 @@ pub fn first_is_preferred()
 pub fn equality_decides()
     ensures keys { KeysAreDistinct }
     ensures bodies { EqualityDecides }
+{}
+
+/// `==` on satellites with codes is equality of both.
+pub fn satellite_code_laws()
+    ensures { (a b : SatelliteCode) → IsTrue (⟦<SatelliteCode as PartialEq>⟧.eq a b) ↔ (a ≡ b) }
 {}

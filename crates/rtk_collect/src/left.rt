@@ -1,6 +1,6 @@
 //! What is left of a window at its end.
 
-ghost use Rattle.std.specs.Prelude.{◌≡◌, ℕ, ◌<◌, List, [], ◌∷◌, ◌++◌, IfSome, IfNone, All};
+ghost use Rattle.std.specs.Prelude.{◌≡◌, ℕ, ◌<◌, List, [], ◌∷◌, ◌++◌, IfSome, IfNone, All, option_to_list};
 ghost use Rattle.rtk_collect.specs.Arrival.{Arrival};
 ghost use Rattle.rtk_collect.specs.Collector.{IsLeftView, KeepsStations};
 ghost use Rattle.rtk_collect.specs.Offered.{NotBelow};
@@ -19,15 +19,26 @@ pub struct Left {
     stations: Stations,
 }
 
-// Clauses see the epochs that are left, from the greatest to the least, the 1005 and the 1006.
+// Clauses see the epochs that are left, from the greatest to the least, the 1005 and the 1006. The
+// first part of the invariant names every field, as that of a collector does.
 impl Model for Left {
+    ghost use Rattle.std.specs.Prelude.{◌≡◌};
     ghost use Rattle.rtk_collect.specs.Collector.{LeftView, IsLeftView};
 
     ghost Value = { LeftView };
 
     ghost view = { λ l. record { sets = l.sets.items; arp1005 = l.stations.arp1005; arp1006 = l.stations.arp1006 } };
 
-    ghost invariant = { λ l. IsLeftView (record { sets = l.sets.items; arp1005 = l.stations.arp1005; arp1006 = l.stations.arp1006 }) };
+    ghost invariant = { λ l. (l ≡ record { sets = l.sets; stations = l.stations })
+        × IsLeftView (record { sets = l.sets.items; arp1005 = l.stations.arp1005; arp1006 = l.stations.arp1006 }) };
+}
+
+// Takes out the epoch that stands last: the least one, since a window's epochs fall.
+fn take_last(sets: &mut VecDeque<EpochSet>) -> Option<EpochSet>
+    ensures order { sets.old.items ≡ sets.new.items ++ option_to_list result }
+    ensures none { IfNone result (sets.old.items ≡ []) }
+{
+    sets.pop_back()
 }
 
 impl Left {
@@ -50,7 +61,7 @@ impl Left {
         ensures arp1006 { self.new.arp1006 ≡ self.old.arp1006 }
         ensures stations { (n : ℕ) (arrivals : List Arrival) → KeepsStations self.old n arrivals → KeepsStations self.new n arrivals }
     {
-        self.sets.pop_back()
+        take_last(&mut self.sets)
     }
 
     /// The position of the first 1006, else of the first 1005, else zeros, with the height of the

@@ -37,8 +37,8 @@ pub use epoch_set::EpochSet;
 pub use laws::{
     cells_join_epochs, closed_epochs_are_the_rest, closed_epochs_only_grow, epochs_are_bounded,
     equality_decides, first_is_kept, first_is_preferred, kept_epochs_are_ordered,
-    kept_epochs_of_arrivals, late_arrivals_change_nothing, openings_do_not_conflict, set_decides,
-    stations_are_final,
+    kept_epochs_of_arrivals, late_arrivals_change_nothing, openings_do_not_conflict,
+    satellite_code_laws, set_decides, stations_are_final,
 };
 pub use left::Left;
 pub use offer::Offer;

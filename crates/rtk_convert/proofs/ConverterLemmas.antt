@@ -133,6 +133,17 @@ within-list [] link e = absurd cc
 within-list (l ∷ ls) zero e = omega arith
 within-list (l ∷ ls) (suc link) e = let rest = within-list ls link e in omega arith
 
+not-ended-unrefused : (ended : Bool) → Decides (not ended) ((if ended then Some LinkClosed else None) ≡ None)
+not-ended-unrefused true = (λ b. absurd cc, λ e. absurd cc)
+not-ended-unrefused false = (λ b. refl, λ e. refl)
+
+-- a link is open exactly if no call is refused for it
+pub unrefused-some : (ls : List Link) (i : ℕ) (l : Link) → slice_get ls i ≡ Some l → Decides (not l.scanner.ended) (link_refusal (slice_get ls i) ≡ None)
+unrefused-some ls i l there = subst (λ (o : Option Link). Decides (not l.scanner.ended) (link_refusal o ≡ None)) (sym there) (not-ended-unrefused l.scanner.ended)
+
+pub unrefused-none : (ls : List Link) (i : ℕ) → length ls ≤ i → Decides false (link_refusal (slice_get ls i) ≡ None)
+unrefused-none ls i le = (λ b. absurd cc, λ e. let within : i < length ls = within-list ls i e in absurd (omega arith))
+
 pub accepted-within : (c : ConverterView) (link : ℕ) → refusal c link ≡ None → link < length c.links
 accepted-within c link e = within-list c.links link (none-refused c.conversion.stopped (link_refusal (slice_get c.links link)) e).1
 

@@ -65,6 +65,9 @@ fn new_links(alloc: Global, count: usize) -> Result<Vec<Link>, ConvertFault>
 }
 
 impl Converter {
+    ghost use Rattle.std.specs.Prelude.{slice_get};
+    ghost use Rattle.rtk_convert.specs.Converter.{link_refusal};
+
     /// A converter whose links are open and empty. Links are counted from 0.
     pub fn new(alloc: Global, setup: Setup, links: usize) -> Result<Converter, ConvertFault>
         ensures ok { IfOk result (λ c. RepresentsHistory c (new_history links)) }
@@ -95,7 +98,9 @@ impl Converter {
 
     /// Whether the link exists and is open.
     pub fn is_open(&self, link: usize) -> bool
-        ensures { (h : History) → RepresentsHistory self.now h → Decides result (IsOpen h link) }
+        ensures of_history { (h : History) → RepresentsHistory self.now h → Decides result (IsOpen h link) }
+        // Whatever came before, also after a call that broke off: no call is refused for its link.
+        ensures unrefused { Decides result (link_refusal (slice_get self.now.links link) ≡ None) }
     {
         match self.links.get(link) {
             Some(open) => !open.scanner.ended(),

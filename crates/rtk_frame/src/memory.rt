@@ -1,6 +1,6 @@
 //! A source and a sink over memory. Their contracts say in full what they answer.
 
-ghost use Rattle.std.specs.Prelude.{◌≡◌, ◌+◌, ◌-◌, ◌^◌, ◌≤◌, ◌<◌, ◌++◌, ◌↔◌, Some, Ok, length, min, take, drop, replicate, is_err, IfOk, IsErr};
+ghost use Rattle.std.specs.Prelude.{◌≡◌, ◌≤◌, ◌<◌, ◌++◌, Some, length, min, take, IfOk, IsErr};
 ghost use Rattle.rtk_frame.specs.Stream.{moved_count, count_after, failures_after, is_failed_write};
 
 use crate::{Sink, Source, StreamFault};
@@ -77,6 +77,7 @@ impl MemSource {
 }
 
 impl Source for MemSource {
+    ghost use Rattle.std.specs.Prelude.{◌+◌, ◌^◌, Ok, replicate, is_err};
     ghost use Rattle.rtk_frame.specs.declared.memory.After.TheVariants.{End, Failure, Zeros};
     ghost use Rattle.rtk_frame.specs.Memory.{room_of, IsSpent, IsReadOn};
 
@@ -184,6 +185,8 @@ impl MemSink {
 }
 
 impl Sink for MemSink {
+    ghost use Rattle.std.specs.Prelude.{◌-◌, ◌↔◌};
+
     ghost taken = { λ s. Some s.taken };
 
     ghost failures = { λ s. s.failures };

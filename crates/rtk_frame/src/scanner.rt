@@ -23,7 +23,8 @@ pub struct Scanner {
     ended: bool,
 }
 
-// Clauses see the bytes that wait for more, and whether the stream has ended.
+// Clauses see the bytes that wait for more, and whether the stream has ended. The first part of the
+// invariant names every field, so that no field can be added in which bytes are kept unseen.
 impl Model for Scanner {
     ghost use Rattle.std.specs.Prelude.{◌≡◌, ◌≤◌, length, drop};
     ghost use Rattle.rtk_frame.specs.ScannerView.{ScannerView, scanner_view, scanner_view_code};
@@ -35,7 +36,8 @@ impl Model for Scanner {
 
     ghost view = { λ s. scanner_view (drop s.given s.ring.items) s.ended };
 
-    ghost invariant = { λ s. (s.ring.capacity ≡ LONGEST_FRAME) × (length s.ring.items ≤ LONGEST_FRAME)
+    ghost invariant = { λ s. (s ≡ record { ring = s.ring; given = s.given; ended = s.ended })
+        × (s.ring.capacity ≡ LONGEST_FRAME) × (length s.ring.items ≤ LONGEST_FRAME)
         × (s.given ≤ length s.ring.items) };
 }
 

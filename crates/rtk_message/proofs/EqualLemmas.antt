@@ -1,4 +1,4 @@
--- Messages that `==` calls equal are the same in all fields, and no others.
+-- Messages that `==` calls equal are the same in all fields, and no others; so it is with faults.
 use Rattle.std.proofs.Common.{◌≡◌, Bool, true, false, List, refl, sym, ap, ◌∙◌}
 use Rattle.std.proofs.Math.Bool.{beq}
 use Rattle.std.specs.Bool.{Decides}
@@ -6,6 +6,8 @@ use Rattle.std.specs.Cmp.{unsigned_Decides, signed_Decides}
 use Rattle.std.specs.Cmp.Lexicographic.{pointwise}
 use Rattle.std.proofs.lemmas.Bool.Decides.{Decides-and, Decides-like}
 use Rattle.std.proofs.lemmas.Slice.Eq.{slice_eq-Decides}
+use Rattle.rtk_message.specs.declared.fault.DecodeFault.{DecodeFault}
+use Rattle.rtk_message.specs.declared.fault.DecodeFault.TheVariants.{NoNumber, Other, Short, EpochRange, TooManyCells}
 use Rattle.rtk_message.specs.declared.obs1004.Satellite.{Satellite}
 use Rattle.rtk_message.specs.declared.obs1004.Obs1004 as declared_obs1004
 use Rattle.rtk_message.specs.declared.arp1005.Arp1005 as declared_arp1005
@@ -14,6 +16,7 @@ use Rattle.rtk_message.specs.declared.msm1074.MsmHeader.{MsmHeader}
 use Rattle.rtk_message.specs.declared.msm1074.Msm1074 as declared_msm1074
 use Rattle.rtk_message.specs.declared.message.Message.{Message}
 use Rattle.rtk_message.specs.declared.message.Message.TheVariants.{Obs1004, Arp1005, Arp1006, Msm1074}
+use Rattle.rtk_message.specs.contracts.fault.DecodeFaultPartialEq.TheImpl as fault_eq
 use Rattle.rtk_message.specs.contracts.obs1004.SatellitePartialEq.TheImpl as satellite_eq
 use Rattle.rtk_message.specs.contracts.arp1005.Arp1005PartialEq.TheImpl as arp1005_eq
 use Rattle.rtk_message.specs.contracts.arp1006.Arp1006PartialEq.TheImpl as arp1006_eq
@@ -158,3 +161,30 @@ message_same (Msm1074 m) (Obs1004 n) = (λ e. absurd cc, λ e. absurd cc)
 message_same (Msm1074 m) (Arp1005 n) = (λ e. absurd cc, λ e. absurd cc)
 message_same (Msm1074 m) (Arp1006 n) = (λ e. absurd cc, λ e. absurd cc)
 message_same (Msm1074 m) (Msm1074 n) = (λ e. ap Msm1074 ((msm1074_same m n).0 e), λ e. (msm1074_same m n).1 cc)
+
+pub fault_same : (a b : DecodeFault) → Decides ((fault_eq.ghosts).eq a b) (a ≡ b)
+fault_same NoNumber NoNumber = (λ e. refl, λ e. refl)
+fault_same NoNumber (Other n) = (λ e. absurd cc, λ e. absurd cc)
+fault_same NoNumber (Short n) = (λ e. absurd cc, λ e. absurd cc)
+fault_same NoNumber (EpochRange n) = (λ e. absurd cc, λ e. absurd cc)
+fault_same NoNumber TooManyCells = (λ e. absurd cc, λ e. absurd cc)
+fault_same (Other m) NoNumber = (λ e. absurd cc, λ e. absurd cc)
+fault_same (Other m) (Other n) = (λ e. ap Other ((unsigned_Decides m n).0 e), λ e. (unsigned_Decides m n).1 cc)
+fault_same (Other m) (Short n) = (λ e. absurd cc, λ e. absurd cc)
+fault_same (Other m) (EpochRange n) = (λ e. absurd cc, λ e. absurd cc)
+fault_same (Other m) TooManyCells = (λ e. absurd cc, λ e. absurd cc)
+fault_same (Short m) NoNumber = (λ e. absurd cc, λ e. absurd cc)
+fault_same (Short m) (Other n) = (λ e. absurd cc, λ e. absurd cc)
+fault_same (Short m) (Short n) = (λ e. ap Short ((unsigned_Decides m n).0 e), λ e. (unsigned_Decides m n).1 cc)
+fault_same (Short m) (EpochRange n) = (λ e. absurd cc, λ e. absurd cc)
+fault_same (Short m) TooManyCells = (λ e. absurd cc, λ e. absurd cc)
+fault_same (EpochRange m) NoNumber = (λ e. absurd cc, λ e. absurd cc)
+fault_same (EpochRange m) (Other n) = (λ e. absurd cc, λ e. absurd cc)
+fault_same (EpochRange m) (Short n) = (λ e. absurd cc, λ e. absurd cc)
+fault_same (EpochRange m) (EpochRange n) = (λ e. ap EpochRange ((unsigned_Decides m n).0 e), λ e. (unsigned_Decides m n).1 cc)
+fault_same (EpochRange m) TooManyCells = (λ e. absurd cc, λ e. absurd cc)
+fault_same TooManyCells NoNumber = (λ e. absurd cc, λ e. absurd cc)
+fault_same TooManyCells (Other n) = (λ e. absurd cc, λ e. absurd cc)
+fault_same TooManyCells (Short n) = (λ e. absurd cc, λ e. absurd cc)
+fault_same TooManyCells (EpochRange n) = (λ e. absurd cc, λ e. absurd cc)
+fault_same TooManyCells TooManyCells = (λ e. refl, λ e. refl)

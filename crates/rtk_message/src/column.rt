@@ -3,7 +3,7 @@
 ghost use Rattle.rtk_message.specs.FieldColumns.{numbers};
 ghost use Rattle.rtk_message.specs.Fields.{TakesAll, FieldsFit};
 ghost use Rattle.rtk_message.specs.Steps.FieldSteps.{PutsAll};
-ghost use Rattle.std.specs.Prelude.{◌≡◌, ◌≤◌, ◌*◌, ◌+◌, [], length, OnOk, sum_by, count_ones, ◌<◌, ◌∷◌, ◌++◌, map, List, Bool, IsTrue, ◌↔◌};
+ghost use Rattle.std.specs.Prelude.{◌≡◌, ◌≤◌, ◌*◌, ◌+◌, [], length, OnOk, sum_by, count_ones, ◌++◌, map, List, Bool, IsTrue, ◌↔◌};
 
 use crate::field::{FieldValue, Word, next_word};
 use arrayvec::ArrayVec;
@@ -82,6 +82,8 @@ impl<T> Model for Column<T> {
 }
 
 impl<T: Copy + Default> Column<T> {
+    ghost use Rattle.std.specs.Prelude.{◌<◌, ◌∷◌};
+
     /// No values.
     pub fn new() -> Column<T>
         ensures { result ≡ [] }

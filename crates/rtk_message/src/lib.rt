@@ -46,7 +46,7 @@ pub use decoding::decode;
 pub use encoding::{decode_of_encode, encode};
 pub use fault::DecodeFault;
 pub use field::WEEK_MS;
-pub use laws::{equal_1004, equal_1074, equal_messages, parts_of_fields_fit};
+pub use laws::{equal_1004, equal_1074, equal_faults, equal_messages, parts_of_fields_fit};
 pub use layout::Layout;
 pub use message::Message;
 pub use msm1074::{Msm1074, MsmHeader};

@@ -3,7 +3,7 @@ pub mod PublicLaws
 -- Laws on the definitions, and what this crate's functions compute
 mod YearLemmas
 mod CodeLemmas
-mod CellLemmas
+mod EqualityLemmas
 mod RoundingLemmas
 mod RolloverLemmas
 mod TracksLemmas

@@ -3,6 +3,8 @@
 
 -- the clause `one_moment` of `civil_laws`
 pub use Rattle.rtk_obs.proofs.YearLemmas.{one_moment}
+-- the clause `equality` of `code_laws`
+pub use Rattle.rtk_obs.proofs.EqualityLemmas.{code_same}
 -- the clauses of `cells_are_distinct`: legacy, msm
 pub use Rattle.rtk_obs.proofs.DistinctLemmas.{cells_of_1004-distinct, cells_of_1074-distinct}
 -- the clause `legacy` of `cells_are_in_range`, in two steps: first the widths of the fields

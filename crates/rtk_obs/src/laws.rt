@@ -1,4 +1,5 @@
-//! Laws over the definitions: times, codes, rounding, cells, places, last phases.
+//! Laws over the definitions: times, codes, rounding, cells, places, last phases; and laws of `==`,
+//! which says whether all fields of two values, or their variants, are the same.
 //!
 //! Each function here does nothing. Its contract is the law, and a caller that calls it may cite
 //! it; proofs of other crates cite the same facts from `proofs/PublicLaws.antt`.
@@ -13,20 +14,30 @@ ghost use Rattle.rtk_message.specs.Obs1004.{IsValid as IsValid1004};
 ghost use Rattle.rtk_message.specs.Msm1074.{IsValid as IsValid1074};
 ghost use Rattle.rtk_obs.specs.declared.time.TheConstants.{LAST_MS};
 ghost use Rattle.rtk_obs.specs.declared.time.Civil.{Civil};
+ghost use Rattle.rtk_obs.specs.declared.code.Band.{Band};
 ghost use Rattle.rtk_obs.specs.declared.code.Code.{Code};
 ghost use Rattle.rtk_obs.specs.declared.cell.Cell.{Cell};
+ghost use Rattle.rtk_obs.specs.declared.cell.CellEntry.{CellEntry};
+ghost use Rattle.rtk_obs.specs.declared.cell.CellSource.{CellSource};
+ghost use Rattle.rtk_obs.specs.declared.position.Position.{Position};
+ghost use Rattle.rtk_obs.specs.declared.track.Track.{Track};
+ghost use Rattle.rtk_obs.specs.declared.track.Digits.{Digits};
 ghost use Rattle.rtk_obs.specs.Calendar.{ReadsAs};
 ghost use Rattle.rtk_obs.specs.Dating.{IsDated};
 ghost use Rattle.rtk_obs.specs.Rounding.{IsRounded, rounded};
 ghost use Rattle.rtk_obs.specs.Code.{name_of, place_of};
+ghost use Rattle.rtk_obs.specs.PositionFields.{HasFields};
 ghost use Rattle.rtk_obs.specs.Cell.{IsSatellite, IsInRange, AreDistinct};
 ghost use Rattle.rtk_obs.specs.LegacyCells.{cells_of_1004};
 ghost use Rattle.rtk_obs.specs.MsmCells.{cells_of_1074};
 ghost use Rattle.rtk_obs.specs.Tracks.{place_of_signal};
 ghost use Rattle.rtk_obs.specs.TracksLaws.{LastIsGreatest, LaterThanSteps, LaterAfterStep, AllLaterAfterStep};
 
-use crate::cell::Cell;
-use crate::time::GpsMs;
+use crate::cell::{Cell, CellEntry, CellSource};
+use crate::code::{Band, Code};
+use crate::position::Position;
+use crate::time::{Civil, GpsMs};
+use crate::track::{Digits, Track};
 
 /// Moments compare as their numbers of milliseconds do.
 pub fn moment_laws()
@@ -37,11 +48,13 @@ pub fn moment_laws()
     ensures partial_cmp { (s t : ℕ) → ⟦<GpsMs as PartialOrd>⟧.partial_cmp s t ≡ Some (nat_cmp s t) }
 {}
 
-/// A reading belongs to one moment, and `of_civil` answers this moment to it.
+/// A reading belongs to one moment, and `of_civil` answers this moment to it. `==` on readings is
+/// equality of all their fields.
 pub fn civil_laws()
     ensures one_moment { (s t : ℕ) (c : Civil) → ReadsAs s c → ReadsAs t c → s ≡ t }
     ensures all_moments { (t : ℕ) (c : Civil) → ReadsAs t c → c.year ≤ 2100 → t ≤ LAST_MS }
     ensures reads_back { (t : ℕ) (c : Civil) (answer : Option ℕ) → t ≤ LAST_MS → ReadsAs t c → MatchOption answer ((s : ℕ) → s ≤ LAST_MS → ¬ (ReadsAs s c)) (λ s. ReadsAs s c) → answer ≡ Some t }
+    ensures equality { (a b : Civil) → IsTrue (⟦<Civil as PartialEq>⟧.eq a b) ↔ (a ≡ b) }
 {}
 
 /// A time of week has one date near a reference.
@@ -55,14 +68,31 @@ pub fn rounded_is_unique()
 {}
 
 /// No two codes have one name, and what `Code::from_name` answers to a code's `name` is the code.
+/// `==` says whether two codes are the same, and whether two bands are.
 pub fn code_laws()
     ensures names { (c d : Code) → name_of c ≡ name_of d → c ≡ d }
     ensures reads_back { (c : Code) (answer : Option Code) → MatchOption answer ((d : Code) → name_of c ≢ name_of d) (λ d. name_of c ≡ name_of d) → answer ≡ Some c }
+    ensures equality { (c d : Code) → IsTrue (⟦<Code as PartialEq>⟧.eq c d) ↔ (c ≡ d) }
+    ensures bands { (a b : Band) → IsTrue (⟦<Band as PartialEq>⟧.eq a b) ↔ (a ≡ b) }
 {}
 
-/// `==` on cells is equality of all their fields.
+/// `==` on cells is equality of all their fields, also with their satellites and codes; and `==`
+/// says whether two cells came in the same kind of message.
 pub fn cell_laws()
     ensures equality { (a b : Cell) → IsTrue (⟦<Cell as PartialEq>⟧.eq a b) ↔ (a ≡ b) }
+    ensures entries { (a b : CellEntry) → IsTrue (⟦<CellEntry as PartialEq>⟧.eq a b) ↔ (a ≡ b) }
+    ensures sources { (a b : CellSource) → IsTrue (⟦<CellSource as PartialEq>⟧.eq a b) ↔ (a ≡ b) }
+{}
+
+/// `==` on positions is equality of the three coordinates and of the height.
+pub fn position_laws()
+    ensures { (p q : Position) → IsTrue (⟦<Position as PartialEq>⟧.eq p q) ↔ HasFields q.x q.y q.z q.height p }
+{}
+
+/// `==` on last phases, and on the digits of cells, is equality of all their fields.
+pub fn track_laws()
+    ensures equality { (a b : Track) → IsTrue (⟦<Track as PartialEq>⟧.eq a b) ↔ (a ≡ b) }
+    ensures digits { (a b : Digits) → IsTrue (⟦<Digits as PartialEq>⟧.eq a b) ↔ (a ≡ b) }
 {}
 
 /// No two cells of a message are of one satellite and code: of any 1004, and of a valid 1074.

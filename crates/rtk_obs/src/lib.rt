@@ -41,7 +41,7 @@ pub use code::{Band, Code};
 pub use dating::{HALF_WEEK_MS, WEEK_MS, date};
 pub use laws::{
     cell_laws, cells_are_distinct, cells_are_in_range, civil_laws, code_laws, date_is_unique,
-    moment_laws, places_are_distinct, rounded_is_unique, tracks_laws,
+    moment_laws, places_are_distinct, position_laws, rounded_is_unique, track_laws, tracks_laws,
 };
 pub use legacy_cells::{cells_1004, put_cells_1004};
 pub use lock_time::{least_lock_legacy, least_lock_msm};

@@ -4,13 +4,13 @@ use Rattle.rtk_convert.proofs.runs.next_link.Goals as goal
 
 pub loop-link-preserved-then-not-is_open : goal.loop-link-preserved-then-not-is_open
 loop-link-preserved-then-not-is_open c = record {
-  next = λ h r. next-closed h c.loop-link.link c.loop-link.next (c.loop-link.invariant.next h r) (λ o. let yes = (c.is_open.ensures h r).1 o in let no = c.if-not-is_open.true in cc);
+  next = λ h r. next-closed h c.loop-link.link c.loop-link.next (c.loop-link.invariant.next h r) (λ o. let yes = (c.is_open.ensures.of_history h r).1 o in let no = c.if-not-is_open.true in cc);
   within = c.loop-link.invariant.within;
 }
 
 pub loop-link-preserved-in_default : goal.loop-link-preserved-in_default
 loop-link-preserved-in_default c = record {
-  next = λ h r. next-first h c.loop-link.link (subst (λ (o : Option ℕ). NextBelow h c.loop-link.link o) c.in_default.is (c.loop-link.invariant.next h r)) (let yes = (c.is_open.ensures h r).0 in yes c.if-not-is_open.false);
+  next = λ h r. next-first h c.loop-link.link (subst (λ (o : Option ℕ). NextBelow h c.loop-link.link o) c.in_default.is (c.loop-link.invariant.next h r)) (let yes = (c.is_open.ensures.of_history h r).0 in yes c.if-not-is_open.false);
   within = let lt = c.loop-link-test.true in omega (arith, lt, c.links-link-end.ensures);
 }
 

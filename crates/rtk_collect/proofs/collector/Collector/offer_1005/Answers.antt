@@ -9,14 +9,17 @@ use Rattle.rtk_collect.proofs.StationLemmas.{full-is, slot-parts, slot-fits, oth
 use Rattle.rtk_collect.proofs.collector.Collector.offer_1005.Goals as goal
 
 pub invariant_of-self : goal.invariant_of-self
-invariant_of-self c = record {
-  low = c.self.invariant.low;
-  high = c.self.invariant.high;
-  few = c.self.invariant.few;
-  falls = c.self.invariant.falls;
-  fits_1005 = slot-fits equal_1005 fields.IsValid c.self.inside.stations.arp1005 c.offer_station.new.slot c.args.message _ c.offer_station.result c.offer_station.ensures c.self.invariant.fits_1005 c.requires;
-  fits_1006 = c.self.invariant.fits_1006;
-}
+invariant_of-self c = (
+  refl,
+  record {
+    low = c.self.invariant.1.low;
+    high = c.self.invariant.1.high;
+    few = c.self.invariant.1.few;
+    falls = c.self.invariant.1.falls;
+    fits_1005 = slot-fits equal_1005 fields.IsValid c.self.inside.stations.arp1005 c.offer_station.new.slot c.args.message _ c.offer_station.result c.offer_station.ensures c.self.invariant.1.fits_1005 c.requires;
+    fits_1006 = c.self.invariant.1.fits_1006;
+  },
+)
 
 pub returns-clause-answer : goal.returns-clause-answer
 returns-clause-answer c =

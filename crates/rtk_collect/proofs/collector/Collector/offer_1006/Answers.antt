@@ -9,14 +9,17 @@ use Rattle.rtk_collect.proofs.StationLemmas.{full-is, slot-parts, slot-fits, oth
 use Rattle.rtk_collect.proofs.collector.Collector.offer_1006.Goals as goal
 
 pub invariant_of-self : goal.invariant_of-self
-invariant_of-self c = record {
-  low = c.self.invariant.low;
-  high = c.self.invariant.high;
-  few = c.self.invariant.few;
-  falls = c.self.invariant.falls;
-  fits_1005 = c.self.invariant.fits_1005;
-  fits_1006 = slot-fits equal_1006 fields.IsValid c.self.inside.stations.arp1006 c.offer_station.new.slot c.args.message _ c.offer_station.result c.offer_station.ensures c.self.invariant.fits_1006 c.requires;
-}
+invariant_of-self c = (
+  refl,
+  record {
+    low = c.self.invariant.1.low;
+    high = c.self.invariant.1.high;
+    few = c.self.invariant.1.few;
+    falls = c.self.invariant.1.falls;
+    fits_1005 = c.self.invariant.1.fits_1005;
+    fits_1006 = slot-fits equal_1006 fields.IsValid c.self.inside.stations.arp1006 c.offer_station.new.slot c.args.message _ c.offer_station.result c.offer_station.ensures c.self.invariant.1.fits_1006 c.requires;
+  },
+)
 
 pub returns-clause-answer : goal.returns-clause-answer
 returns-clause-answer c =

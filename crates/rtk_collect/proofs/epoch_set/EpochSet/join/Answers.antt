@@ -7,9 +7,10 @@ use Rattle.rtk_collect.proofs.CellsLemmas.{with_cells-rises, with_cells-all, wit
 use Rattle.rtk_collect.proofs.epoch_set.EpochSet.join.Goals as goal
 
 pub invariant_of-self-2 : goal.invariant_of-self-2
-invariant_of-self-2 c = rw (c.merge-conflicts.ensures.items, c.reserve.ensures.items) (
-  with_cells-rises c.args.cells.now c.self.inside.cells.items c.self.invariant.0,
-  with_cells-all IsInRange c.args.cells.now c.self.inside.cells.items c.requires.range c.self.invariant.1,
+invariant_of-self-2 c = (
+  refl,
+  rw (c.merge-conflicts.ensures.items, c.reserve.ensures.items) (with_cells-rises c.args.cells.now c.self.inside.cells.items c.self.invariant.1),
+  rw (c.merge-conflicts.ensures.items, c.reserve.ensures.items) (with_cells-all IsInRange c.args.cells.now c.self.inside.cells.items c.requires.range c.self.invariant.2),
 )
 
 -- cells that rise, if the epoch has no cell yet
@@ -42,7 +43,7 @@ returns-then-fresh-eq0-clause-set c =
     let f = rw c.deref.ensures.value at c.compare-found.ensures.fresh in
     let none : fresh c.args.cells.now c.self.inside.cells.items ≡ 0 = omega (arith, f, c.if-fresh-eq0.true) in
     subst (λ (s : EpochSetView). s ≡ joined c.args.cells.now s) c.self.view_is
-    (ap (λ (t : List CellEntry). record { epoch = c.self.inside.epoch; cells = t }) (sym (with_cells-none c.args.cells.now c.self.inside.cells.items c.self.invariant.0 none)))
+    (ap (λ (t : List CellEntry). record { epoch = c.self.inside.epoch; cells = t }) (sym (with_cells-none c.args.cells.now c.self.inside.cells.items c.self.invariant.1 none)))
 
 pub merge-conflicts-requires-clause-room : goal.merge-conflicts-requires-clause-room
 merge-conflicts-requires-clause-room c = search rules depth 5 fits 300

@@ -48,4 +48,4 @@ invariant_of-self-in-Some c =
     let same = c.all_bytes-bytes.follows.holds-at-none in
     let room = c.advance-used.ensures.capacity in
     let long : length c.all_bytes-bytes.follows.lender-at-none.items ≡ length c.advance-used.new.ring.items = ap (λ b. length b.items) same in
-    (ap (λ b. b.capacity) same ∙ room.0, omega (arith, room.1), omega (arith, found.1, frame_is_whole c.advance-used.new.ring.items found.0))
+    (refl, ap (λ b. b.capacity) same ∙ room.0, omega (arith, room.1), omega (arith, found.1, frame_is_whole c.advance-used.new.ring.items found.0))

@@ -42,4 +42,4 @@ invariant_of-self-in-Some c =
     let same = c.all_bytes-bytes.follows.holds-at-none in
     let room = c.advance_ended.ensures.capacity in
     let long : length c.all_bytes-bytes.follows.lender-at-none.items ≡ length c.advance_ended.new.ring.items = ap (λ b. length b.items) same in
-    (ap (λ b. b.capacity) same ∙ room.0, omega (arith, room.1), omega (arith, found.1, frame_is_whole c.advance_ended.new.ring.items found.0))
+    (refl, ap (λ b. b.capacity) same ∙ room.0, omega (arith, room.1), omega (arith, found.1, frame_is_whole c.advance_ended.new.ring.items found.0))
