@@ -1,0 +1,6 @@
+pub mod Counting
+pub mod ReadFrames
+pub mod Steps
+pub mod Summary
+pub mod SummaryText
+pub mod Tracing

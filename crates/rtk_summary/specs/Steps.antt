@@ -1,0 +1,3 @@
+-- Definitions that only private clauses use.
+pub mod Standing
+pub mod Tables

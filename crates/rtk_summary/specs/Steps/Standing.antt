@@ -1,0 +1,84 @@
+-- What the parts of a summary hold, tied to the messages and faults that came so far.
+use Rattle.std.specs.Prelude.{◌≡◌, ℕ, ◌<◌, Bool, false, cond, List, Option, length, get_or}
+use Rattle.std.specs.List.{list_any}
+use Rattle.rtk_message.specs.declared.message.Message.{Message}
+use Rattle.rtk_message.specs.declared.fault.DecodeFault.{DecodeFault}
+use Rattle.rtk_obs.specs.declared.cell.CellEntry.{CellEntry}
+use Rattle.rtk_frame.specs.Stream.{with_more}
+use Rattle.rtk_summary.specs.Counting.{shown_count, count_of}
+use Rattle.rtk_summary.specs.ReadFrames.{ReadFrame, ReadsFrames, bytes_in, messages_in, faults_in, messages_from}
+use Rattle.rtk_summary.specs.Summary.{AreFramesOf}
+use Rattle.rtk_summary.specs.Tracing.{is_numbered, is_other, is_short, is_outside_week, is_no_number, is_too_many_cells, times_of_week, newest_time, oldest_time, changes_in, entries_in, gives_satellite, gives_place}
+use Rattle.rtk_summary.specs.declared.signals.Signals.{Signals}
+use Rattle.rtk_summary.specs.declared.station.Station.{Station}
+use Rattle.rtk_summary.specs.declared.times.Times.{Times}
+use Rattle.rtk_summary.specs.declared.unread.Unread.{Unread}
+use Rattle.rtk_summary.specs.declared.summary.Summary.{Summary}
+
+-- 1 for a test that holds
+abbrev pub one_if : Bool → ℕ
+one_if b = cond b 1 0
+
+-- the counts by number of those that pass a test of that number
+abbrev pub Tallies : (ℕ → DecodeFault → Bool) → List ℕ → List DecodeFault → Type 0
+Tallies test counts fs = (n : ℕ) → n < length counts → get_or counts n 0 ≡ count_of (test n) fs
+
+pub record StandsForFaults (u : Unread) (fs : List DecodeFault) : Type 0 where
+  pub no_number : u.no_number ≡ count_of is_no_number fs
+  pub others_size : length u.others.items ≡ 4096
+  pub others : Tallies is_other u.others.items fs
+  pub short_size : length u.short.items ≡ 4096
+  pub short : Tallies is_short u.short.items fs
+  pub outside_week_size : length u.outside_week.items ≡ 4096
+  pub outside_week : Tallies is_outside_week u.outside_week.items fs
+  pub too_many_cells : u.too_many_cells ≡ count_of is_too_many_cells fs
+
+-- a mark stands at each place for which an entry passes a test
+abbrev pub Marks : (ℕ → CellEntry → Bool) → List Bool → List CellEntry → Type 0
+Marks test marks es = (n : ℕ) → n < length marks → get_or marks n false ≡ list_any (test n) es
+
+pub record StandsForEntries (s : Signals) (es : List CellEntry) : Type 0 where
+  pub satellites_size : length s.satellites ≡ 33
+  pub codes_size : length s.codes ≡ 16
+  pub satellites : Marks gives_satellite s.satellites es
+  pub codes : Marks gives_place s.codes es
+
+-- the first time, the last one, and how many differ from the one before
+abbrev pub times_of : List ℕ → Times
+times_of ts = record { first = oldest_time ts; last = newest_time ts; changes = shown_count (changes_in ts) }
+
+pub record CountsMessages (s : Station) (ms : List Message) : Type 0 where
+  pub messages : s.messages ≡ shown_count (length ms)
+  pub obs_1004 : s.obs_1004 ≡ count_of (is_numbered 1004) ms
+  pub arp_1005 : s.arp_1005 ≡ count_of (is_numbered 1005) ms
+  pub arp_1006 : s.arp_1006 ≡ count_of (is_numbered 1006) ms
+  pub msm_1074 : s.msm_1074 ≡ count_of (is_numbered 1074) ms
+
+pub record StandsForMessages (s : Station) (ms : List Message) : Type 0 where
+  pub counts : CountsMessages s ms
+  pub times : s.times ≡ times_of (times_of_week ms)
+  pub signals : StandsForEntries s.signals (entries_in ms)
+
+-- each station stands for its own messages
+abbrev pub StandForStations : List Station → List Message → Type 0
+StandForStations stations ms = (n : ℕ) (none : Station) → n < length stations → StandsForMessages (get_or stations n none) (messages_from n ms)
+
+pub record StandsForFrames (s : Summary) (fs : List ReadFrame) : Type 0 where
+  pub frames : s.frames ≡ shown_count (length fs)
+  pub framed : s.framed ≡ shown_count (bytes_in fs)
+  pub stations_size : length s.stations.items ≡ 4096
+  pub stations : StandForStations s.stations.items (messages_in fs)
+  pub signals : StandsForEntries s.signals (entries_in (messages_in fs))
+  pub unread : StandsForFaults s.unread (faults_in fs)
+
+-- a source was read to its end: it gave a text of this size, as far as a count shows it, and the
+-- summary stands for the frames of the text
+abbrev pub ReadsAll : Option (List ℕ) → Option (List ℕ) → ℕ → Summary → Type 0
+ReadsAll given_old given_new size summary =
+    (bytes : List ℕ) × (fs : List ReadFrame) × (given_new ≡ with_more given_old bytes) × AreFramesOf bytes fs × (size ≡ shown_count (length bytes)) × StandsForFrames summary fs
+
+-- frames with these payloads come, in this order: whatever came before, the summary then stands for
+-- them too
+abbrev pub TakesFrames : Summary → List (List ℕ) → Summary → Type 0
+TakesFrames old payloads new = (before : List ReadFrame) → StandsForFrames old before
+    → (after : List ReadFrame) × ReadsFrames payloads before after × StandsForFrames new after

@@ -1,0 +1,72 @@
+-- The text of a summary, from the bytes of a capture and its frames (this project's rule).
+use Rattle.std.specs.Prelude.{◌≡◌, ℕ, ◌+◌, ◌-◌, ◌≤◌, ◌==◌, List, [], ◌++◌, length, flat_map, codes, Option, min, if◌then◌else◌}
+use Rattle.std.specs.List.{range_with_len}
+use Rattle.rtk_frame.specs.Frames.{frames, payloads}
+use Rattle.rtk_frame.specs.Stream.{with_more, TakesPart, greatest_count}
+use Rattle.rtk_message.specs.declared.message.Message.{Message}
+use Rattle.rtk_message.specs.declared.fault.DecodeFault.{DecodeFault}
+use Rattle.rtk_summary.specs.Counting.{shown_count, count_of}
+use Rattle.rtk_summary.specs.ReadFrames.{ReadFrame, ReadsFrames, bytes_in, messages_in, faults_in, messages_from}
+use Rattle.rtk_summary.specs.Tracing.{is_numbered, is_other, is_short, is_outside_week, is_no_number, is_too_many_cells, times_of_week, entries_in, has_satellite, has_code}
+use Rattle.rtk_summary.specs.SummaryText.{number_line, counted_line, numbered_line, time_lines, signal_lines, codes_text, nothing_line, untaken_numbers}
+
+-- the numbers of stations and of messages: DF003 and DF002 have 12 bits
+unfoldable pub all_numbers : List ℕ
+all_numbers = range_with_len 0 4096
+
+-- the lines of a station, of which these messages came
+unfoldable pub station_lines : ℕ → List Message → List ℕ
+station_lines station ms =
+    number_line (codes "station ") station
+    ++ counted_line (codes " message 1004 ") (count_of (is_numbered 1004) ms)
+    ++ counted_line (codes " message 1005 ") (count_of (is_numbered 1005) ms)
+    ++ counted_line (codes " message 1006 ") (count_of (is_numbered 1006) ms)
+    ++ counted_line (codes " message 1074 ") (count_of (is_numbered 1074) ms)
+    ++ time_lines (times_of_week ms)
+    ++ signal_lines station (has_satellite (entries_in ms)) (has_code (entries_in ms))
+
+-- a station of which nothing came has no lines
+abbrev pub lines_if_any : ℕ → List Message → List ℕ
+lines_if_any station ms = if length ms == 0 then [] else station_lines station ms
+
+-- the lines of all stations, their numbers rising
+unfoldable pub stations_text : List Message → List ℕ
+stations_text ms = flat_map (λ s. lines_if_any s (messages_from s ms)) all_numbers
+
+-- the payloads that are not read: other messages, those with GPS observations named once more, and
+-- for each fault the numbers of the messages that are refused
+unfoldable pub unread_lines : List DecodeFault → List ℕ
+unread_lines fs =
+    flat_map (λ n. numbered_line (codes "other ") n (count_of (is_other n) fs)) all_numbers
+    ++ flat_map (λ n. numbered_line (codes "untaken GPS ") n (count_of (is_other n) fs)) untaken_numbers
+    ++ counted_line (codes "refused M1 - ") (count_of is_no_number fs)
+    ++ flat_map (λ n. numbered_line (codes "refused M3 ") n (count_of (is_short n) fs)) all_numbers
+    ++ flat_map (λ n. numbered_line (codes "refused M4 ") n (count_of (is_outside_week n) fs)) all_numbers
+    ++ counted_line (codes "refused M5 1074 ") (count_of is_too_many_cells fs)
+
+-- the summary of a capture of so many bytes with these frames, newest first
+unfoldable pub summary_text : ℕ → List ReadFrame → List ℕ
+summary_text size fs =
+    number_line (codes "bytes ") (shown_count size)
+    ++ number_line (codes "outside-frames ") (shown_count size - shown_count (bytes_in fs))
+    ++ number_line (codes "frames ") (shown_count (length fs))
+    ++ stations_text (messages_in fs) ++ unread_lines (faults_in fs)
+    ++ nothing_line (codes_text (has_code (entries_in (messages_in fs))))
+
+-- these are all the frames of a capture, newest first
+abbrev pub AreFramesOf : List ℕ → List ReadFrame → Type 0
+AreFramesOf bytes fs = ReadsFrames (payloads (frames bytes)) [] fs
+
+-- the summary of what was read was written: before, after of the source and of the sink
+abbrev pub Summarizes : Option (List ℕ) → Option (List ℕ) → Option (List ℕ) → Option (List ℕ) → Type 0
+Summarizes given_old given_new taken_old taken_new =
+    (bytes : List ℕ) × (fs : List ReadFrame) × (given_new ≡ with_more given_old bytes) × AreFramesOf bytes fs × (taken_new ≡ with_more taken_old (summary_text (length bytes) fs))
+
+-- the same, and of the summary a first part was written, perhaps none or all of it
+abbrev pub SummarizesInPart : Option (List ℕ) → Option (List ℕ) → Option (List ℕ) → Option (List ℕ) → Type 0
+SummarizesInPart given_old given_new taken_old taken_new =
+    (bytes : List ℕ) × (fs : List ReadFrame) × (given_new ≡ with_more given_old bytes) × AreFramesOf bytes fs × TakesPart taken_old taken_new (summary_text (length bytes) fs)
+
+-- a count of calls has risen by so many, or is at its greatest value
+abbrev pub HasRisenBy : ℕ → ℕ → ℕ → Type 0
+HasRisenBy before after n = min (before + n) greatest_count ≤ after

@@ -1,0 +1,99 @@
+-- What the messages of a station tell of it: their numbers, their times, and the satellites and
+-- codes with a value. Lists of messages and times are newest first.
+use Rattle.std.specs.Prelude.{ℕ, ◌+◌, ◌==◌, Bool, true, false, ◌&&◌, ◌||◌, List, [], ◌∷◌, flat_map, Option, None, Some, unwrap_or, is_some, if◌then◌else◌}
+use Rattle.std.specs.List.{list_any, filter_map}
+use Rattle.rtk_message.specs.declared.message.Message.{Message}
+use Rattle.rtk_message.specs.declared.message.Message.TheVariants.{Obs1004, Arp1005, Arp1006, Msm1074}
+use Rattle.rtk_message.specs.declared.fault.DecodeFault.{DecodeFault}
+use Rattle.rtk_message.specs.declared.fault.DecodeFault.TheVariants.{NoNumber, Other, Short, EpochRange, TooManyCells}
+use Rattle.rtk_message.specs.Decoded.{number_of, tow_of}
+use Rattle.rtk_obs.specs.declared.cell.Cell.{Cell}
+use Rattle.rtk_obs.specs.declared.cell.CellEntry.{CellEntry}
+use Rattle.rtk_obs.specs.declared.code.Code.{Code}
+use Rattle.rtk_obs.specs.Code.{place_of}
+use Rattle.rtk_obs.specs.LegacyCells.{cells_of_1004}
+use Rattle.rtk_obs.specs.MsmCells.{cells_of_1074}
+
+-- the message has this number (DF002)
+abbrev pub is_numbered : ℕ → Message → Bool
+is_numbered n m = number_of m == n
+
+-- ---- payloads that are no message
+
+-- another message than the four that are read, of this number
+abbrev pub is_other : ℕ → DecodeFault → Bool
+is_other n (Other number) = number == n
+is_other n _ = false
+
+-- a message of this number that is cut short
+abbrev pub is_short : ℕ → DecodeFault → Bool
+is_short n (Short number) = number == n
+is_short n _ = false
+
+-- a message of this number whose time is outside the week
+abbrev pub is_outside_week : ℕ → DecodeFault → Bool
+is_outside_week n (EpochRange number) = number == n
+is_outside_week n _ = false
+
+abbrev pub is_no_number : DecodeFault → Bool
+is_no_number NoNumber = true
+is_no_number _ = false
+
+abbrev pub is_too_many_cells : DecodeFault → Bool
+is_too_many_cells TooManyCells = true
+is_too_many_cells _ = false
+
+-- ---- times
+
+-- the times of week of the observation messages (DF004)
+abbrev pub times_of_week : List Message → List ℕ
+times_of_week ms = filter_map tow_of ms
+
+abbrev pub newest_time : List ℕ → Option ℕ
+newest_time [] = None
+newest_time (t ∷ before) = Some t
+
+abbrev pub oldest_time : List ℕ → Option ℕ
+oldest_time [] = None
+oldest_time (t ∷ before) = Some (unwrap_or (oldest_time before) t)
+
+-- 1 if the time differs from the one before it; the first differs from none
+abbrev pub change_from : Option ℕ → ℕ → ℕ
+change_from None t = 0
+change_from (Some before) t = if before == t then 0 else 1
+
+-- how many of the times differ from the one before
+abbrev pub changes_in : List ℕ → ℕ
+changes_in [] = 0
+changes_in (t ∷ before) = changes_in before + change_from (newest_time before) t
+
+-- ---- satellites and codes
+
+-- the cells of a message; a station message has none
+abbrev pub entries_of : Message → List CellEntry
+entries_of (Obs1004 m) = cells_of_1004 m.satellites
+entries_of (Arp1005 m) = []
+entries_of (Arp1006 m) = []
+entries_of (Msm1074 m) = cells_of_1074 m
+
+-- the cells of messages
+abbrev pub entries_in : List Message → List CellEntry
+entries_in ms = flat_map entries_of ms
+
+-- the cell has a range, a phase or a strength
+abbrev pub has_value : Cell → Bool
+has_value c = is_some c.range_mm || (is_some c.phase_millicycles || is_some c.strength_millidbhz)
+
+abbrev pub gives_satellite : ℕ → CellEntry → Bool
+gives_satellite n e = has_value e.cell && (e.satellite == n)
+
+abbrev pub gives_place : ℕ → CellEntry → Bool
+gives_place place e = has_value e.cell && (place_of e.code == place)
+
+-- a cell of this satellite has a value
+abbrev pub has_satellite : List CellEntry → ℕ → Bool
+has_satellite es n = list_any (gives_satellite n) es
+
+-- a cell of this code has a value
+abbrev pub has_code : List CellEntry → Code → Bool
+has_code es c = list_any (gives_place (place_of c)) es

@@ -1,0 +1,34 @@
+//! What a capture holds: its frames, its stations with their times, satellites and codes, and what
+//! is not read.
+//!
+//! Its tests: tests/values/src/summary.rt.in and summary/.
+//!
+//! ```rust
+//! use rtk_frame::{After, MemSink, MemSource};
+//! use rtk_summary::summarize;
+//! use std::alloc::{AllocError, Global};
+//!
+//! // A capture of eight bytes without a frame.
+//! fn example(alloc: Global) -> Result<bool, AllocError> {
+//!     let mut capture = MemSource::new(alloc, b"no frame", 512, After::End)?;
+//!     let mut out = MemSink::new(alloc, 65_536, 4_096)?;
+//!     match summarize(alloc, &mut capture, &mut out, 100) {
+//!         Ok(()) => Ok(out.bytes().starts_with(b"bytes 8\noutside-frames 8\n")),
+//!         Err(_) => Ok(false),
+//!     }
+//! }
+//! ```
+
+#![tactic(auto)]
+
+mod fault;
+mod lines;
+mod reading;
+mod signals;
+mod station;
+mod summary;
+mod times;
+mod unread;
+
+pub use fault::SummaryFault;
+pub use reading::summarize;

@@ -1,0 +1,311 @@
+//! The lines of a summary.
+
+ghost use Rattle.std.specs.Prelude.{◌≡◌, ◌<◌, ◌++◌, List, ℕ, false, length, get_or, decimal, IfOk, OnOk};
+ghost use Rattle.rtk_obs.specs.Code.{place_of};
+ghost use Rattle.rtk_message.specs.declared.message.Message.{Message};
+ghost use Rattle.rtk_message.specs.declared.fault.DecodeFault.{DecodeFault};
+ghost use Rattle.rtk_summary.specs.Counting.{shown_count};
+ghost use Rattle.rtk_summary.specs.ReadFrames.{ReadFrame};
+ghost use Rattle.rtk_summary.specs.SummaryText.{number_line, counted_line, numbered_line, list_line, time_line, time_lines, listed_satellite, satellites_text, codes_text, second_frequency_line, next_line, signal_lines, nothing_line};
+ghost use Rattle.rtk_summary.specs.Summary.{lines_if_any, stations_text, unread_lines, summary_text};
+ghost use Rattle.rtk_summary.specs.Steps.Tables.{counts_text, untaken_text};
+ghost use Rattle.rtk_summary.specs.Steps.Standing.{times_of, StandsForFaults, StandsForEntries, StandsForMessages, StandForStations, StandsForFrames};
+
+use crate::signals::Signals;
+use crate::station::Station;
+use crate::summary::Summary;
+use crate::times::Times;
+use crate::unread::Unread;
+use itoa::Buffer;
+use rtk_obs::Code;
+use std::alloc::{AllocError, Global};
+
+/// The codes in the order of their places.
+const ALL_CODES: [Code; 16] = [
+    Code::C1C,
+    Code::C1P,
+    Code::C1W,
+    Code::C1S,
+    Code::C1L,
+    Code::C1X,
+    Code::C2C,
+    Code::C2D,
+    Code::C2P,
+    Code::C2W,
+    Code::C2S,
+    Code::C2L,
+    Code::C2X,
+    Code::C5I,
+    Code::C5Q,
+    Code::C5X,
+];
+
+/// The messages of GPS observations that are not read.
+const UNTAKEN: [u16; 9] = [1001, 1002, 1003, 1071, 1072, 1073, 1075, 1076, 1077];
+
+fn put_number(lines: &mut Vec<u8>, number: u64) -> Result<(), AllocError>
+    ensures { OnOk result (lines.new.items ≡ lines.old.items ++ decimal number) }
+{
+    lines.extend_from_slice(Buffer::new().format(number).as_bytes())
+}
+
+fn put_line(lines: &mut Vec<u8>, words: &[u8], number: u64) -> Result<(), AllocError>
+    ensures { OnOk result (lines.new.items ≡ lines.old.items ++ number_line words.now number) }
+{
+    lines.extend_from_slice(words)?;
+    put_number(lines, number)?;
+    lines.push(b'\n')?;
+    Ok(())
+}
+
+// A count of 0 has no line.
+fn put_counted(lines: &mut Vec<u8>, words: &[u8], count: u64) -> Result<(), AllocError>
+    ensures { OnOk result (lines.new.items ≡ lines.old.items ++ counted_line words.now count) }
+{
+    if count == 0 {
+        return Ok(());
+    }
+    put_line(lines, words, count)
+}
+
+fn put_numbered(
+    lines: &mut Vec<u8>,
+    words: &[u8],
+    number: u64,
+    count: u64,
+) -> Result<(), AllocError>
+    ensures { OnOk result (lines.new.items ≡ lines.old.items ++ numbered_line words.now number count) }
+{
+    if count == 0 {
+        return Ok(());
+    }
+    lines.extend_from_slice(words)?;
+    put_number(lines, number)?;
+    put_line(lines, b" ", count)
+}
+
+// A line for each number that has a count.
+fn put_table(lines: &mut Vec<u8>, words: &[u8], counts: &[u64]) -> Result<(), AllocError>
+    ensures { OnOk result (lines.new.items ≡ lines.old.items ++ counts_text words.now counts.now) }
+{
+    for number in 0..counts.len() {
+        put_numbered(lines, words, number as u64, counts[number])?;
+    }
+    Ok(())
+}
+
+fn count_of_number(counts: &[u64], number: u16) -> u64
+    ensures { result ≡ get_or counts.now number 0 }
+{
+    counts.get(usize::from(number)).copied().unwrap_or(0)
+}
+
+fn put_untaken(lines: &mut Vec<u8>, others: &[u64]) -> Result<(), AllocError>
+    ensures { OnOk result (lines.new.items ≡ lines.old.items ++ untaken_text others.now) }
+{
+    for number in &UNTAKEN {
+        put_numbered(
+            lines,
+            b"untaken GPS ",
+            u64::from(*number),
+            count_of_number(others, *number),
+        )?;
+    }
+    Ok(())
+}
+
+fn put_unread(lines: &mut Vec<u8>, unread: &Unread) -> Result<(), AllocError>
+    ensures { (fs : List DecodeFault) → StandsForFaults unread.now fs
+        → OnOk result (lines.new.items ≡ lines.old.items ++ unread_lines fs) }
+{
+    put_table(lines, b"other ", unread.others.as_slice())?;
+    put_untaken(lines, unread.others.as_slice())?;
+    put_counted(lines, b"refused M1 - ", unread.no_number)?;
+    put_table(lines, b"refused M3 ", unread.short.as_slice())?;
+    put_table(lines, b"refused M4 ", unread.outside_week.as_slice())?;
+    put_counted(lines, b"refused M5 1074 ", unread.too_many_cells)?;
+    Ok(())
+}
+
+// The first and the last time of week, if there is one.
+fn put_time(lines: &mut Vec<u8>, times: &Times) -> Result<(), AllocError>
+    ensures { OnOk result (lines.new.items ≡ lines.old.items ++ time_line times.now.first times.now.last) }
+{
+    let Some(first) = times.first else {
+        return lines.extend_from_slice(b" time-of-week -\n");
+    };
+    let Some(last) = times.last else {
+        return lines.extend_from_slice(b" time-of-week -\n");
+    };
+    lines.extend_from_slice(b" time-of-week ")?;
+    put_number(lines, u64::from(first))?;
+    put_line(lines, b" ", u64::from(last))
+}
+
+fn put_times(lines: &mut Vec<u8>, times: &Times) -> Result<(), AllocError>
+    ensures { (ts : List ℕ) → times.now ≡ times_of ts
+        → OnOk result (lines.new.items ≡ lines.old.items ++ time_lines ts) }
+{
+    put_time(lines, times)?;
+    put_line(lines, b" epoch-changes ", times.changes)
+}
+
+// A satellite after a blank, if it has a value.
+fn put_satellite(text: &mut Vec<u8>, marks: &[bool; 33], satellite: u8) -> Result<(), AllocError>
+    requires { satellite < 33 }
+    ensures { OnOk result (text.new.items
+        ≡ text.old.items ++ listed_satellite (λ n. get_or marks.now n false) satellite) }
+{
+    if marks[usize::from(satellite)] {
+        text.extend_from_slice(&[b' ', b'G', b'0' + satellite / 10, b'0' + satellite % 10])?;
+    }
+    Ok(())
+}
+
+// The satellites that have a value.
+fn satellites_text(alloc: Global, marks: &[bool; 33]) -> Result<Vec<u8>, AllocError>
+    ensures { IfOk result (λ text. text.items ≡ satellites_text (λ n. get_or marks.now n false)) }
+{
+    let mut text = Vec::new(alloc);
+    for satellite in 1u8..33 {
+        put_satellite(&mut text, marks, satellite)?;
+    }
+    Ok(text)
+}
+
+// The codes that have a value, as an option lists them.
+fn codes_text(alloc: Global, marks: &[bool; 16]) -> Result<Vec<u8>, AllocError>
+    ensures { IfOk result (λ text. text.items ≡ codes_text (λ c. get_or marks.now (place_of c) false)) }
+{
+    let mut text = Vec::new(alloc);
+    let mut separator = b' ';
+    for code in &ALL_CODES {
+        if marks[code.place()] {
+            text.push(separator)?;
+            text.extend_from_slice(&code.name())?;
+            separator = b',';
+        }
+    }
+    Ok(text)
+}
+
+// A list, or a hyphen if it is empty.
+fn put_list(lines: &mut Vec<u8>, words: &[u8], list: &[u8]) -> Result<(), AllocError>
+    ensures { OnOk result (lines.new.items ≡ lines.old.items ++ list_line words.now list.now) }
+{
+    lines.extend_from_slice(words)?;
+    if list.is_empty() {
+        lines.extend_from_slice(b" -")?;
+    } else {
+        lines.extend_from_slice(list)?;
+    }
+    lines.push(b'\n')?;
+    Ok(())
+}
+
+fn put_second_frequency(lines: &mut Vec<u8>, marks: &[bool; 16]) -> Result<(), AllocError>
+    ensures { OnOk result (lines.new.items
+        ≡ lines.old.items ++ second_frequency_line (λ c. get_or marks.now (place_of c) false)) }
+{
+    if marks[Code::C2P.place()] && !marks[Code::C2W.place()] {
+        lines.extend_from_slice(b" second-frequency 2P\n")?;
+    }
+    Ok(())
+}
+
+fn put_next(lines: &mut Vec<u8>, station: u64, codes: &[u8]) -> Result<(), AllocError>
+    ensures { OnOk result (lines.new.items ≡ lines.old.items ++ next_line station codes.now) }
+{
+    if codes.is_empty() {
+        return Ok(());
+    }
+    lines.extend_from_slice(b" next rtcm2rinex convert --station ")?;
+    put_number(lines, station)?;
+    lines.extend_from_slice(
+        b" --near GPS-TIME-WITHIN-HALF-A-WEEK --made UTC-NOW --marker NAME --codes",
+    )?;
+    lines.extend_from_slice(codes)?;
+    lines.extend_from_slice(b" CAPTURE\n")?;
+    Ok(())
+}
+
+fn put_signals(
+    alloc: Global,
+    lines: &mut Vec<u8>,
+    station: u64,
+    signals: &Signals,
+) -> Result<(), AllocError>
+    ensures { OnOk result (lines.new.items ≡ lines.old.items ++ signal_lines station
+        (λ n. get_or signals.now.satellites n false) (λ c. get_or signals.now.codes (place_of c) false)) }
+{
+    let satellites = satellites_text(alloc, &signals.satellites)?;
+    let codes = codes_text(alloc, &signals.codes)?;
+    put_list(lines, b" satellites", satellites.as_slice())?;
+    put_list(lines, b" codes", codes.as_slice())?;
+    put_second_frequency(lines, &signals.codes)?;
+    put_next(lines, station, codes.as_slice())?;
+    Ok(())
+}
+
+fn put_station(
+    alloc: Global,
+    lines: &mut Vec<u8>,
+    number: u64,
+    station: &Station,
+) -> Result<(), AllocError>
+    ensures { (ms : List Message) → StandsForMessages station.now ms
+        → OnOk result (lines.new.items ≡ lines.old.items ++ lines_if_any number ms) }
+{
+    if station.messages == 0 {
+        return Ok(());
+    }
+    put_line(lines, b"station ", number)?;
+    put_counted(lines, b" message 1004 ", station.obs_1004)?;
+    put_counted(lines, b" message 1005 ", station.arp_1005)?;
+    put_counted(lines, b" message 1006 ", station.arp_1006)?;
+    put_counted(lines, b" message 1074 ", station.msm_1074)?;
+    put_times(lines, &station.times)?;
+    put_signals(alloc, lines, number, &station.signals)?;
+    Ok(())
+}
+
+fn put_stations(alloc: Global, lines: &mut Vec<u8>, stations: &[Station]) -> Result<(), AllocError>
+    ensures { (ms : List Message) → length stations.now ≡ 4096 → StandForStations stations.now ms
+        → OnOk result (lines.new.items ≡ lines.old.items ++ stations_text ms) }
+{
+    for number in 0..stations.len() {
+        put_station(alloc, lines, number as u64, &stations[number])?;
+    }
+    Ok(())
+}
+
+// No station has a code.
+fn put_nothing(lines: &mut Vec<u8>, codes: &[u8]) -> Result<(), AllocError>
+    ensures { OnOk result (lines.new.items ≡ lines.old.items ++ nothing_line codes.now) }
+{
+    if codes.is_empty() {
+        lines.extend_from_slice(b"nothing taken\n")?;
+    }
+    Ok(())
+}
+
+/// The summary of a capture of so many bytes.
+pub(crate) fn summary_lines(
+    alloc: Global,
+    bytes: u64,
+    summary: &Summary,
+) -> Result<Vec<u8>, AllocError>
+    ensures { (size : ℕ) (fs : List ReadFrame) → bytes ≡ shown_count size → StandsForFrames summary.now fs
+        → IfOk result (λ lines. lines.items ≡ summary_text size fs) }
+{
+    let mut lines = Vec::new(alloc);
+    put_line(&mut lines, b"bytes ", bytes)?;
+    let outside = bytes.saturating_sub(summary.framed);
+    put_line(&mut lines, b"outside-frames ", outside)?;
+    put_line(&mut lines, b"frames ", summary.frames)?;
+    put_stations(alloc, &mut lines, summary.stations.as_slice())?;
+    put_unread(&mut lines, &summary.unread)?;
+    let codes = codes_text(alloc, &summary.signals.codes)?;
+    put_nothing(&mut lines, codes.as_slice())?;
+    Ok(lines)
+}

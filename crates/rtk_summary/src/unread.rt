@@ -1,0 +1,64 @@
+//! The payloads that are not read, by fault and message number.
+
+ghost use Rattle.std.specs.Prelude.{◌≡◌, ◌<◌, ◌+◌, ◌==◌, ℕ, List, [], ◌∷◌, length, get_or, IfOk};
+ghost use Rattle.rtk_message.specs.declared.fault.DecodeFault.{DecodeFault};
+ghost use Rattle.rtk_summary.specs.Counting.{shown_count};
+ghost use Rattle.rtk_summary.specs.Steps.Standing.{StandsForFaults, one_if};
+
+use rtk_message::DecodeFault;
+use std::alloc::{AllocError, Global};
+
+/// How many numbers there are of messages and of stations: DF002 and DF003 have 12 bits.
+pub(crate) const NUMBERS: usize = 4096;
+
+/// How many payloads there are of each fault; the lists are by message number.
+#[derive(Drop)]
+pub(crate) struct Unread {
+    pub(crate) no_number: u64,
+    pub(crate) others: Vec<u64>,
+    pub(crate) short: Vec<u64>,
+    pub(crate) outside_week: Vec<u64>,
+    pub(crate) too_many_cells: u64,
+}
+
+// Counts one more of this number.
+fn count_at(counts: &mut Vec<u64>, number: u16)
+    ensures size { length counts.new.items ≡ length counts.old.items }
+    ensures counted { (n : ℕ) → n < length counts.old.items
+        → get_or counts.new.items n 0 ≡ shown_count (get_or counts.old.items n 0 + one_if (number == n)) }
+{
+    let place = usize::from(number);
+    if place < counts.len() {
+        counts[place] = counts[place].saturating_add(1);
+    }
+}
+
+impl Unread {
+    /// Nothing came.
+    pub(crate) fn new(alloc: Global) -> Result<Unread, AllocError>
+        ensures { IfOk result (λ unread. StandsForFaults unread []) }
+    {
+        Ok(Unread {
+            no_number: 0,
+            others: vec![in alloc; 0; NUMBERS]?,
+            short: vec![in alloc; 0; NUMBERS]?,
+            outside_week: vec![in alloc; 0; NUMBERS]?,
+            too_many_cells: 0,
+        })
+    }
+
+    /// A fault more.
+    pub(crate) fn take(&mut self, fault: DecodeFault)
+        ensures { (fs : List DecodeFault) → StandsForFaults self.old fs → StandsForFaults self.new (fault ∷ fs) }
+    {
+        match fault {
+            DecodeFault::NoNumber => self.no_number = self.no_number.saturating_add(1),
+            DecodeFault::Other { number } => count_at(&mut self.others, number),
+            DecodeFault::Short { number } => count_at(&mut self.short, number),
+            DecodeFault::EpochRange { number } => count_at(&mut self.outside_week, number),
+            DecodeFault::TooManyCells => {
+                self.too_many_cells = self.too_many_cells.saturating_add(1);
+            }
+        }
+    }
+}
