@@ -1,5 +1,5 @@
 -- Checksums of prefixes, and what a scanner holds.
-use Rattle.std.proofs.Common.{◌≡◌, ◌≢◌, ℕ, zero, suc, ◌+◌, ◌-◌, ◌<◌, ◌≤◌, Bool, true, false, List, [], ◌∷◌, ◌++◌, length, get_or, take, drop, refl, sym, ◌∙◌, ap, subst, ◌==◌, arith, length-append, length-drop, get_or-drop, nat_lt, drop-cons}
+use Rattle.std.proofs.Common.{◌≡◌, ◌≢◌, ℕ, zero, suc, ◌+◌, ◌-◌, ◌<◌, ◌≤◌, Bool, true, false, List, [], ◌∷◌, ◌++◌, length, get_or, take, drop, refl, sym, ◌∙◌, ap, subst, ◌==◌, arith, length-append, length-take, length-drop, get_or-drop, nat_lt, drop-cons}
 use Rattle.std.proofs.Math.ListN.{get_or-append}
 use Rattle.std.proofs.Math.Seq.{take-add}
 use Rattle.std.proofs.lemmas.List.{take-append-le, drop-append-le, take_all, drop-drop}
@@ -100,3 +100,9 @@ take_next bs k h = take-add k 1 bs ∙ ap (λ z. take k bs ++ take 1 z) (drop_ce
 -- the checksum of a part
 pub part_sum : (b : List ℕ) (n k : ℕ) → crc (take (n + k) b) ≡ crc (take n b ++ take k (drop n b))
 part_sum b n k = ap crc (take-add n k b)
+
+-- what was read into a room stands at its front
+pub front_of_room : (all rest room : List ℕ) (count : ℕ) → count ≡ length all → room ≡ take count all ++ rest → take count room ≡ all
+front_of_room all rest room count n e =
+    let l : length (take count all) ≡ count = omega (arith, length-take count all) in
+    ap (take count) e ∙ take-append-le count (take count all) rest (omega arith) ∙ take_all count (take count all) (omega arith) ∙ take_all count all (omega arith)

@@ -1,6 +1,6 @@
 //! A scanner gives the frames of a stream of bytes that comes in pieces.
 
-ghost use Rattle.std.specs.Prelude.{◌≡◌, ◌≢◌, ◌⊎◌, ℕ, ◌<◌, ◌≤◌, List, [], ◌++◌, length, drop, take, slice_index, true, IfOk, MatchOption};
+ghost use Rattle.std.specs.Prelude.{◌≡◌, ◌≢◌, ◌⊎◌, ℕ, ◌+◌, ◌*◌, ◌<◌, ◌≤◌, List, [], ◌++◌, length, drop, take, slice_index, true, IfOk, MatchOption};
 ghost use Rattle.circular_buffer.specs.Buffer.{buffer};
 ghost use Rattle.rtk_frame.specs.Frame.{begins_frame, begins_partial, payload_length};
 ghost use Rattle.rtk_frame.specs.Held.{AreHeld};
@@ -133,7 +133,8 @@ impl Scanner {
             None => None,
             Some(payload) => {
                 let start = self.passed + 3;
-                self.passed += payload + 6;
+                let size = payload + 6;
+                self.passed += size;
                 let bytes = all_bytes(&mut self.ring);
                 Some(&bytes[start..start + payload])
             }
@@ -210,8 +211,8 @@ fn advance_ended(
     None
 }
 
-// Takes the passed bytes out of the ring, if no checksum of a prefix is known or if they are more
-// than the longest frame. Checksums of the prefixes that are left are not known.
+// Takes the passed bytes out of the ring if they are all its bytes, or more than the longest frame.
+// Then the checksums of prefixes are forgotten.
 fn drop_passed(
     ring: &mut HeapCircularBuffer<u8>,
     passed: &mut usize,
@@ -222,7 +223,7 @@ fn drop_passed(
     ensures few { passed.new ≤ LONGEST_FRAME }
     ensures same { drop passed.new ring.new.items ≡ drop passed.old ring.old.items }
 {
-    if prefixes.is_empty() || *passed > LONGEST_FRAME {
+    if *passed == ring.len() || *passed > LONGEST_FRAME {
         remove_front(ring, *passed);
         *passed = 0;
         prefixes.clear();
@@ -254,18 +255,33 @@ fn bytes_to_pass(ring: &HeapCircularBuffer<u8>, passed: usize, piece: &[u8]) -> 
     }
 }
 
-// Takes the first bytes out of the ring.
+// Takes the first bytes out of the ring. The others stand at its start then, so that with bytes that
+// come they lie in one piece.
 fn remove_front(ring: &mut HeapCircularBuffer<u8>, count: usize)
-    requires { count ≤ length ring.old.items }
+    requires { (ring.old.capacity ≡ 2 * LONGEST_FRAME) × (count ≤ length ring.old.items)
+        × (length ring.old.items ≤ count + LONGEST_FRAME) }
     ensures { ring.new ≡ buffer (drop count ring.old.items) ring.old.capacity }
 {
     let rest = ring.len() - count;
-    // An empty ring begins at its start again, so that the next frame lies in one piece.
-    if rest == 0 {
-        ring.clear();
+    ring.truncate_front(rest);
+    if rest > 0 {
+        move_to_start(ring);
     } else {
-        ring.truncate_front(rest);
+        ring.clear();
     }
+}
+
+// Moves the bytes to the start of the ring's room. It is not inlined, so that its room is blanked
+// only if there are bytes to move.
+#[inline(never)]
+fn move_to_start(ring: &mut HeapCircularBuffer<u8>)
+    requires { (ring.old.capacity ≡ 2 * LONGEST_FRAME) × (length ring.old.items ≤ LONGEST_FRAME) }
+    ensures { ring.new ≡ ring.old }
+{
+    let mut bytes = [0u8; LONGEST_FRAME];
+    let count = ring.read_into(&mut bytes);
+    ring.clear();
+    ring.fill_from_slice(&bytes[..count]);
 }
 
 // Room for checksums of prefixes. It is not inlined, so that only its own frame on the stack has the
