@@ -21,13 +21,14 @@ COUNTS = "frames other refused foreign taken repeat conflict late epochs".split(
 CELL = 64
 FEWEST_CELLS = 4
 EPOCH = 64
-READ_AHEAD, WAITING = 32_768, 1_029
-LINK = 52_000
+# A scanner has room for two of the longest frames, and for the checksums of their prefixes.
+READ_AHEAD, SCANNED = 32_768, 2 * 1_029 + 4 * (2 * 1_029 + 1)
+LINK = 62_000
 GATHERED = 2 * 65_536
-# What a conversion of one link holds besides: the manual says some 125 kB.
-LEAST_BESIDE, MOST_BESIDE = 120_000, 125_000
-# What a summary holds: some 625 kB.
-LEAST_OF_SUMMARY, MOST_OF_SUMMARY = 620_000, 630_000
+# What a conversion of one link holds besides: the manual says some 135 kB.
+LEAST_BESIDE, MOST_BESIDE = 130_000, 135_000
+# What a summary holds: some 635 kB.
+LEAST_OF_SUMMARY, MOST_OF_SUMMARY = 630_000, 640_000
 
 # The cells of an epoch: a 1004 gives two of a satellite, a 1074 one of each signal.
 CELLS = len(SATELLITES) * (2 + len(SIGNALS))
@@ -215,7 +216,7 @@ def grows_with_links(runs: Runs, tests: Tests) -> None:
         tests.within(
             f"{links} links over one",
             held[links] - held[1],
-            (links - 1) * (READ_AHEAD + WAITING),
+            (links - 1) * (READ_AHEAD + SCANNED),
             (links - 1) * LINK,
         )
     followed = runs.most(64, ["stdin"], counts_of(1, 1), stdin="01")

@@ -13,7 +13,7 @@ use crate::input::read_whole;
 use crate::payload_line::put_payload_line;
 use crate::words::ToolFault;
 use rtk_frame::laws::frames_of_a_text;
-use rtk_frame::{Sink, Source, next_frame, write_all};
+use rtk_frame::{Frames, Sink, Source, write_all};
 use std::alloc::Global;
 
 /// The most bytes of an input of `show`, which holds it whole.
@@ -64,13 +64,12 @@ fn show_capture<W: Sink>(alloc: Global, capture: &[u8], out: &mut W) -> Result<u
 {
     frames_of_a_text();
     let mut lines = Vec::new(alloc);
-    let mut from = 0;
+    let mut rest = Frames::new(capture);
     let mut count = 0u64;
-    while let Some(found) = next_frame(capture, from) {
+    while let Some(found) = rest.next_frame() {
         let Ok(()) = put_payload_line(&mut lines, found.payload) else {
             return Err(ToolFault::OutOfMemory);
         };
-        from = found.place + found.payload.len() + 6;
         count += 1;
         if lines.len() >= FULL {
             flush(out, &mut lines)?;

@@ -30,15 +30,15 @@ twice_bit true true = refl
 twice_bit true false = refl
 twice_bit false z = refl
 
-flip_twice : (a c : List Bool) → flip a (flip a c) ≡ c
+pub flip_twice : (a c : List Bool) → flip a (flip a c) ≡ c
 flip_twice [] c = refl
 flip_twice (x ∷ a) [] = refl
 flip_twice (x ∷ a) (z ∷ c) = rw (twice_bit x z, flip_twice a c) refl
 
-generator_length : (n : ℕ) (a : List Bool) → suc n + 24 ≤ suc (length a) → length generator ≤ length a
+pub generator_length : (n : ℕ) (a : List Bool) → suc n + 24 ≤ suc (length a) → length generator ≤ length a
 generator_length n a h = omega (arith, length-bits_of 24 0x864CFB)
 
-divide_sum : (n : ℕ) (a b : List Bool) → length a ≡ length b → n + 24 ≤ length a → divide n (flip a b) ≡ flip (divide n a) (divide n b)
+pub divide_sum : (n : ℕ) (a b : List Bool) → length a ≡ length b → n + 24 ≤ length a → divide n (flip a b) ≡ flip (divide n a) (divide n b)
 unfolding divide
 divide_sum zero a b h l = refl
 divide_sum (suc n) [] b h l = absurd (omega arith)
@@ -52,7 +52,7 @@ divide_sum (suc n) (false ∷ a) (true ∷ b) h l =
     ap (divide n) (flip_swap generator a b) ∙ divide_sum n a (flip generator b) (omega (arith, length_flip generator b)) (omega arith)
 divide_sum (suc n) (false ∷ a) (false ∷ b) h l = divide_sum n a b (omega arith) (omega arith)
 
-length_divide : (n : ℕ) (a : List Bool) → length (divide n a) ≡ length a - n
+pub length_divide : (n : ℕ) (a : List Bool) → length (divide n a) ≡ length a - n
 unfolding divide
 length_divide zero a = omega arith
 length_divide (suc n) [] = omega arith
@@ -60,7 +60,7 @@ length_divide (suc n) (true ∷ a) = omega (arith, length_divide n (flip generat
 length_divide (suc n) (false ∷ a) = omega (arith, length_divide n a)
 
 -- flips past the end are lost
-flip_nothing : (a : List Bool) → flip a [] ≡ []
+pub flip_nothing : (a : List Bool) → flip a [] ≡ []
 flip_nothing [] = refl
 flip_nothing (x ∷ a) = refl
 
@@ -77,7 +77,7 @@ flip_cut (false ∷ a) (suc n) (y ∷ b) h = ap (λ z. y ∷ z) (flip_cut a n b 
 abbrev pub IsColumn : ℕ → ℕ → ℕ → Type 0
 IsColumn m z t = (xs : List Bool) → divide (8 + m) (bits_of 8 z ++ (zeros m ++ xs)) ≡ flip (bits_of 32 t) xs
 
-zeros_add : (m n : ℕ) → zeros (m + n) ≡ zeros m ++ zeros n
+pub zeros_add : (m n : ℕ) → zeros (m + n) ≡ zeros m ++ zeros n
 zeros_add zero n = let e : 0 + n ≡ n = omega arith in ap zeros e
 zeros_add (suc m) n = let e : suc m + n ≡ suc (m + n) = omega arith in ap zeros e ∙ ap (λ z. false ∷ z) (zeros_add m n)
 
@@ -86,7 +86,7 @@ unfolding divide
 divide_zeros rest = refl
 
 -- a byte, and what follows it
-peel : (m z t : ℕ) (rest : List Bool) → IsColumn m z t → m + 24 ≤ length rest → divide (8 + m) (bits_of 8 z ++ rest) ≡ flip (bits_of 32 t) (divide m rest)
+pub peel : (m z t : ℕ) (rest : List Bool) → IsColumn m z t → m + 24 ≤ length rest → divide (8 + m) (bits_of 8 z ++ rest) ≡ flip (bits_of 32 t) (divide m rest)
 peel m z t rest col l =
     let k : ℕ = length rest - m in
     let n : length rest ≡ m + k = omega arith in
@@ -102,7 +102,7 @@ state_zero : bits_of 32 0 ≡ zeros 32
 unfolding bits_of
 state_zero = refl
 
-column_first : (z : ℕ) → z < 256 → IsColumn 0 z (get_or TABLE0 z 0)
+pub column_first : (z : ℕ) → z < 256 → IsColumn 0 z (get_or TABLE0 z 0)
 column_first z h xs =
     ap (divide 8) (sym (flip_none 32 (bits_of 8 z ++ xs)) ∙ ap (λ w. flip w (bits_of 8 z ++ xs)) (sym state_zero))
     ∙ byte_step 0 z (get_or TABLE0 z 0) xs (lit< tt) (table_entry z h)
@@ -126,7 +126,7 @@ chained [] us = true
 chained (t ∷ ts) [] = false
 chained (t ∷ ts) (u ∷ us) = nat_lt t (2 ^ 32) && ((u == next t 0) && chained ts us)
 
-three : (a b c : Bool) → (a && (b && c)) ≡ true → (a ≡ true) × (b ≡ true) × (c ≡ true)
+pub three : (a b c : Bool) → (a && (b && c)) ≡ true → (a ≡ true) × (b ≡ true) × (c ≡ true)
 three true true c h = (refl, refl, h)
 three true false c h = absurd (cc)
 three false b c h = absurd (cc)
@@ -142,24 +142,34 @@ test1 : chained TABLE0 TABLE1 ≡ true
 unfolding chained
 test1 = refl
 
+-- a word of a table is a number of 32 bits
+pub table_lt : (z : ℕ) → z < 256 → get_or TABLE0 z 0 < 2 ^ 32
+table_lt z h = (chained_at TABLE0 TABLE1 z test1 h).0
+
 column_more : (m : ℕ) (ts us : List ℕ) (z : ℕ) → chained ts us ≡ true → z < length ts → IsColumn m z (get_or ts z 0) → IsColumn (m + 8) z (get_or us z 0)
 column_more m ts us z h l col =
     let p = chained_at ts us z h l in
     let P : ℕ → Type 0 = λ u. IsColumn (m + 8) z u in subst P (sym p.1) (column_next m z (get_or ts z 0) p.0 col)
 
-column1 : (z : ℕ) → z < 256 → IsColumn 8 z (get_or TABLE1 z 0)
+pub column1 : (z : ℕ) → z < 256 → IsColumn 8 z (get_or TABLE1 z 0)
 column1 z h = column_more 0 TABLE0 TABLE1 z test1 h (column_first z h)
 
 test2 : chained TABLE1 TABLE2 ≡ true
 unfolding chained
 test2 = refl
 
-column2 : (z : ℕ) → z < 256 → IsColumn 16 z (get_or TABLE2 z 0)
+pub column2 : (z : ℕ) → z < 256 → IsColumn 16 z (get_or TABLE2 z 0)
 column2 z h = column_more 8 TABLE1 TABLE2 z test2 h (column1 z h)
 
 test3 : chained TABLE2 TABLE3 ≡ true
 unfolding chained
 test3 = refl
+
+pub table1_lt : (z : ℕ) → z < 256 → get_or TABLE1 z 0 < 2 ^ 32
+table1_lt z h = (chained_at TABLE1 TABLE2 z test2 h).0
+
+pub table2_lt : (z : ℕ) → z < 256 → get_or TABLE2 z 0 < 2 ^ 32
+table2_lt z h = (chained_at TABLE2 TABLE3 z test3 h).0
 
 column3 : (z : ℕ) → z < 256 → IsColumn 24 z (get_or TABLE3 z 0)
 column3 z h = column_more 16 TABLE2 TABLE3 z test3 h (column2 z h)
@@ -196,7 +206,7 @@ column7 z h = column_more 48 TABLE6 TABLE7 z test7 h (column6 z h)
 merge : (a b : ℕ) (xs : List Bool) → flip (bits_of 32 a) (flip (bits_of 32 b) xs) ≡ flip (bits_of 32 (bit_xor a b)) xs
 merge a b xs = sym (flip_flip (bits_of 32 a) (bits_of 32 b) xs (omega (arith, length-bits_of 32 a, length-bits_of 32 b))) ∙ ap (λ w. flip w xs) (flip_bits 32 a b)
 
-peel_more : (u m z t : ℕ) (rest : List Bool) → IsColumn m z t → m + 24 ≤ length rest → flip (bits_of 32 u) (divide (8 + m) (bits_of 8 z ++ rest)) ≡ flip (bits_of 32 (bit_xor u t)) (divide m rest)
+pub peel_more : (u m z t : ℕ) (rest : List Bool) → IsColumn m z t → m + 24 ≤ length rest → flip (bits_of 32 u) (divide (8 + m) (bits_of 8 z ++ rest)) ≡ flip (bits_of 32 (bit_xor u t)) (divide m rest)
 peel_more u m z t rest col l = ap (flip (bits_of 32 u)) (peel m z t rest col l) ∙ merge u t (divide m rest)
 
 byte_longer : (n z : ℕ) (xs : List Bool) → n ≤ length xs → 8 + n ≤ length (bits_of 8 z ++ xs)

@@ -9,7 +9,9 @@ mod FramesLaw
 mod Framed
 mod Fronts
 mod NextFrame
+mod Parts
 mod Passing
 mod Pieces
+mod PrefixLemmas
 mod Remainder
 mod StreamLemmas

@@ -24,7 +24,7 @@ remainder_next s y ys h b =
     ∙ ap (divide (8 * length ys)) (byte_step s y (get_or TABLE (bit_xor (s / 2 ^ 24) y) 0) (bits ys ++ zeros 24) h (table_entry (bit_xor (s / 2 ^ 24) y) (xor_of_8 (s / 2 ^ 24) y (omega arith) b)))
 
 -- at the end
-flip_end : (a b : List Bool) (n : ℕ) → length a ≡ n → flip (a ++ b) (zeros n) ≡ a
+pub flip_end : (a b : List Bool) (n : ℕ) → length a ≡ n → flip (a ++ b) (zeros n) ≡ a
 flip_end [] [] zero h = refl
 flip_end [] (y ∷ b) zero h = refl
 flip_end [] b (suc n) h = absurd (omega arith)

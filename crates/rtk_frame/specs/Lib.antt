@@ -1,8 +1,12 @@
 pub mod Checksum
 pub mod Frame
 pub mod Frames
+pub mod FramesView
+pub mod Held
 pub mod Memory
+pub mod Prefixes
 pub mod Scanner
 pub mod ScannerView
+pub mod Search
 pub mod Steps
 pub mod Stream

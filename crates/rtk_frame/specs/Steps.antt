@@ -1,4 +1,5 @@
 -- Definitions that only private clauses use.
+pub mod Product
 pub mod Remainder
 pub mod Ring
 pub mod Scanning

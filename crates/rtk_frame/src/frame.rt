@@ -3,7 +3,7 @@
 ghost use Rattle.std.specs.Prelude.{◌≡◌, ◌≢◌, ◌↔◌, ℕ, ◌+◌, ◌<◌, ◌≤◌, length, drop, take, slice_index, IfOk, IsErrOf, ◌==◌};
 ghost use Rattle.rtk_frame.specs.Checksum.{crc};
 ghost use Rattle.rtk_frame.specs.Frame.{three_bytes, framed};
-ghost use Rattle.rtk_frame.specs.Steps.Scanning.{IsFront};
+ghost use Rattle.rtk_frame.specs.Steps.Scanning.{IsStart, IsFront};
 ghost use Rattle.rtk_frame.specs.declared.frame.FrameFault.TheVariants.{TooLong};
 
 use crate::checksum::crc24q;
@@ -75,38 +75,69 @@ pub(crate) enum Front {
     Other,
 }
 
+/// What the bytes begin with, as far as their first three bytes and their number tell.
+pub(crate) enum Start {
+    /// A candidate: all bytes of a frame with this number of bytes of payload, whose checksum is
+    /// still to be tested.
+    Candidate(usize),
+    /// The start of a frame, or no byte at all: at least this number of bytes is missing.
+    Partial(usize),
+    /// Neither of them.
+    Other,
+}
+
+/// What the bytes begin with, but for the checksum.
+pub(crate) fn start_of(bytes: &[u8]) -> Start
+    ensures { IsStart bytes.now result }
+{
+    let [first, ..] = bytes else {
+        return Start::Partial(3);
+    };
+    if *first != PREAMBLE {
+        return Start::Other;
+    }
+    if bytes.len() < 3 {
+        return Start::Partial(3 - bytes.len());
+    }
+    let payload = bytes[1] as usize % 4 * 256 + bytes[2] as usize;
+    if bytes.len() < payload + 6 {
+        Start::Partial(payload + 6 - bytes.len())
+    } else {
+        Start::Candidate(payload)
+    }
+}
+
 /// What is at the front of the bytes.
 pub(crate) fn front_of(bytes: &[u8]) -> Front
     ensures { IsFront bytes.now result }
 {
-    let [first, ..] = bytes else {
-        return Front::Partial(3);
-    };
-    if *first != PREAMBLE {
-        return Front::Other;
-    }
-    if bytes.len() < 3 {
-        return Front::Partial(3 - bytes.len());
-    }
-    let payload = bytes[1] as usize % 4 * 256 + bytes[2] as usize;
-    if bytes.len() < payload + 6 {
-        Front::Partial(payload + 6 - bytes.len())
-    } else if has_checksum(bytes, payload + 3) {
-        Front::Whole(payload)
-    } else {
-        Front::Other
+    match start_of(bytes) {
+        Start::Candidate(payload) => {
+            if has_checksum(bytes, payload + 3) {
+                Front::Whole(payload)
+            } else {
+                Front::Other
+            }
+        }
+        Start::Partial(wanted) => Front::Partial(wanted),
+        Start::Other => Front::Other,
     }
 }
 
-// Whether the three bytes after the first `covered` bytes are their checksum.
-fn has_checksum(bytes: &[u8], covered: usize) -> bool
+/// Whether the three bytes after the first `covered` bytes are their checksum.
+pub(crate) fn has_checksum(bytes: &[u8], covered: usize) -> bool
     requires { covered + 3 ≤ length bytes.now }
     ensures { result ≡ (crc (take covered bytes.now) == three_bytes (drop covered bytes.now)) }
 {
-    let stored = bytes[covered] as u32 * 0x10000
-        + bytes[covered + 1] as u32 * 0x100
-        + bytes[covered + 2] as u32;
-    crc24q(&bytes[..covered]) == stored
+    crc24q(&bytes[..covered]) == stored_checksum(&bytes[covered..])
+}
+
+/// The number of the first three bytes, the most significant first.
+pub(crate) fn stored_checksum(bytes: &[u8]) -> u32
+    requires { 3 ≤ length bytes.now }
+    ensures { result ≡ three_bytes bytes.now }
+{
+    bytes[0] as u32 * 0x10000 + bytes[1] as u32 * 0x100 + bytes[2] as u32
 }
 
 /// How many bytes stand before the first preamble: all of them if there is no preamble.
@@ -119,4 +150,13 @@ pub(crate) fn before_preamble(bytes: &[u8]) -> usize
         Some(place) => place,
         None => bytes.len(),
     }
+}
+
+/// The place of the first preamble from a place on: the end if there is no preamble.
+pub(crate) fn next_preamble(bytes: &[u8], from: usize) -> usize
+    requires { from ≤ length bytes.now }
+    ensures within { (from ≤ result) × (result ≤ length bytes.now) }
+    ensures none { (i : ℕ) → from ≤ i → i < result → slice_index bytes.now i ≢ 0xD3 }
+{
+    from + before_preamble(&bytes[from..])
 }

@@ -22,11 +22,13 @@
 #![tactic(auto)]
 
 mod checksum;
+mod checksum_powers;
 mod checksum_tables;
 mod frame;
 pub mod laws;
 mod lending;
 mod memory;
+mod prefixes;
 mod scanner;
 mod search;
 mod stream;
@@ -35,5 +37,5 @@ pub use checksum::crc24q;
 pub use frame::{FrameFault, LONGEST_FRAME, encode_frame};
 pub use memory::{After, MemSink, MemSource};
 pub use scanner::{Answer, Fed, Scanner};
-pub use search::{Placed, next_frame};
+pub use search::{Frames, Placed, next_frame};
 pub use stream::{Sink, Source, StreamFault, read_one, write_all};

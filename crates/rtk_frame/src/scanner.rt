@@ -1,44 +1,51 @@
 //! A scanner gives the frames of a stream of bytes that comes in pieces.
 
-ghost use Rattle.std.specs.Prelude.{◌≡◌, ◌⊎◌, ℕ, ◌+◌, ◌≤◌, List, [], ◌++◌, length, drop, take, true, MatchOption};
+ghost use Rattle.std.specs.Prelude.{◌≡◌, ◌≢◌, ◌⊎◌, ℕ, ◌+◌, ◌*◌, ◌<◌, ◌≤◌, List, [], ◌++◌, length, drop, take, slice_index, true, IfOk, MatchOption};
 ghost use Rattle.circular_buffer.specs.Buffer.{buffer};
 ghost use Rattle.rtk_frame.specs.Frame.{begins_frame, begins_partial, payload_length};
+ghost use Rattle.rtk_frame.specs.Held.{AreHeld};
 ghost use Rattle.rtk_frame.specs.Steps.Scanning.{Scanned, Searched};
 ghost use Rattle.rtk_frame.specs.declared.frame.TheConstants.{LONGEST_FRAME};
 
-use crate::frame::{FrameFault, Front, LONGEST_FRAME, before_preamble, front_of};
+use crate::frame::{FrameFault, Front, LONGEST_FRAME, before_preamble, next_preamble};
 use crate::lending::all_bytes;
+use crate::prefixes::{MOST_PREFIXES, front_at};
+use arrayvec::ArrayVec;
 use circular_buffer::HeapCircularBuffer;
-use std::alloc::Global;
+use std::alloc::{AllocError, Global};
 use std::marker::Model;
 
 /// The frames of a stream, however its bytes are cut into pieces.
 ///
-/// It keeps at most 1,029 bytes: the last frame that it gave, and the bytes that wait for more.
+/// It keeps at most 2,058 bytes: those that wait for more, at most 1,029, and before them bytes that
+/// it gave or passed; and of these bytes the checksums of prefixes.
 #[derive(Drop)]
 pub struct Scanner {
     ring: HeapCircularBuffer<u8>,
-    // How many bytes at the ring's front were given. The next call takes them out.
-    given: usize,
+    // How many bytes at the ring's front were given, or are in no frame.
+    passed: usize,
+    // The checksums of the ring's first 0, 1, 2, .. bytes, as many as were needed: none as long as
+    // each candidate is a frame.
+    prefixes: Box<ArrayVec<u32, MOST_PREFIXES>>,
     ended: bool,
 }
 
 // Clauses see the bytes that wait for more, and whether the stream has ended. The first part of the
 // invariant names every field, so that no field can be added in which bytes are kept unseen.
 impl Model for Scanner {
-    ghost use Rattle.std.specs.Prelude.{◌≡◌, ◌≤◌, length, drop};
+    ghost use Rattle.std.specs.Prelude.{◌≡◌, drop};
     ghost use Rattle.rtk_frame.specs.ScannerView.{ScannerView, scanner_view, scanner_view_code};
-    ghost use Rattle.rtk_frame.specs.declared.frame.TheConstants.{LONGEST_FRAME};
+    ghost use Rattle.rtk_frame.specs.Held.{AreHeld};
 
     ghost Value = { ScannerView };
 
     ghost coded = { scanner_view_code };
 
-    ghost view = { λ s. scanner_view (drop s.given s.ring.items) s.ended };
+    ghost view = { λ s. scanner_view (drop s.passed s.ring.items) s.ended };
 
-    ghost invariant = { λ s. (s ≡ record { ring = s.ring; given = s.given; ended = s.ended })
-        × (s.ring.capacity ≡ LONGEST_FRAME) × (length s.ring.items ≤ LONGEST_FRAME)
-        × (s.given ≤ length s.ring.items) };
+    ghost invariant = { λ s.
+        (s ≡ record { ring = s.ring; passed = s.passed; prefixes = s.prefixes; ended = s.ended })
+        × AreHeld s.ring s.passed s.prefixes.value.items };
 }
 
 /// What `feed` took of the piece, and what it found there.
@@ -73,10 +80,12 @@ impl Scanner {
         ensures start { IfOk result (λ scanner. scanner ≡ scanner_view [] false) }
         ensures fault { IfErr result (λ fault. fault ≡ OutOfMemory) }
     {
-        let ring = HeapCircularBuffer::with_capacity(alloc, LONGEST_FRAME)?;
+        let ring = HeapCircularBuffer::with_capacity(alloc, 2 * LONGEST_FRAME)?;
+        let prefixes = new_prefixes(alloc)?;
         Ok(Scanner {
             ring,
-            given: 0,
+            passed: 0,
+            prefixes,
             ended: false,
         })
     }
@@ -92,20 +101,19 @@ impl Scanner {
             (now.ended ≡ false) × (length now.pending ≤ LONGEST_FRAME)
             × FedAnswer self.old.pending piece.now result.used result.answer now)) }
     {
-        remove_front(&mut self.ring, self.given);
-        self.given = 0;
-        let (used, found) = advance(&mut self.ring, piece);
+        let (used, found) = advance(&mut self.ring, &mut self.passed, &mut self.prefixes, piece);
         match found {
             None => Fed {
                 used,
                 answer: Answer::Hungry,
             },
             Some(payload) => {
-                self.given = payload + 6;
+                let start = self.passed + 3;
+                self.passed += payload + 6;
                 let bytes = all_bytes(&mut self.ring);
                 Fed {
                     used,
-                    answer: Answer::Found(&bytes[3..payload + 3]),
+                    answer: Answer::Found(&bytes[start..start + payload]),
                 }
             }
         }
@@ -120,16 +128,15 @@ impl Scanner {
             (now.ended ≡ true) × (length now.pending ≤ LONGEST_FRAME)
             × RestAnswer self.old.pending result now)) }
     {
-        remove_front(&mut self.ring, self.given);
-        self.given = 0;
         self.ended = true;
-        match advance_ended(&mut self.ring) {
+        match advance_ended(&mut self.ring, &mut self.passed, &mut self.prefixes) {
             None => None,
             Some(payload) => {
+                let start = self.passed + 3;
                 let size = payload + 6;
-                self.given = size;
+                self.passed += size;
                 let bytes = all_bytes(&mut self.ring);
-                Some(&bytes[3..payload + 3])
+                Some(&bytes[start..start + payload])
             }
         }
     }
@@ -142,29 +149,33 @@ impl Scanner {
     }
 }
 
-// Scans the ring, and as many bytes of the piece as it needs, up to the next frame or to the end.
-// Gives how many bytes were used, and the length of the payload if a frame is at the ring's front.
-fn advance(ring: &mut HeapCircularBuffer<u8>, piece: &[u8]) -> (usize, Option<usize>)
-    requires { (ring.old.capacity ≡ LONGEST_FRAME) × (length ring.old.items ≤ LONGEST_FRAME) }
-    ensures capacity { (ring.new.capacity ≡ LONGEST_FRAME) × (length ring.new.items ≤ LONGEST_FRAME) }
+// Scans the ring from its passed bytes on, and as many bytes of the piece as it needs, up to the next
+// frame or to the end. Gives how many bytes were used, and the length of the payload if a frame is
+// behind the passed bytes.
+fn advance(
+    ring: &mut HeapCircularBuffer<u8>,
+    passed: &mut usize,
+    prefixes: &mut ArrayVec<u32, MOST_PREFIXES>,
+    piece: &[u8],
+) -> (usize, Option<usize>)
+    requires { AreHeld ring.old passed.old prefixes.old.items }
+    ensures held { AreHeld ring.new passed.new prefixes.new.items }
     ensures used { result.0 ≤ length piece.now }
-    ensures scanned { Scanned (ring.old.items ++ take result.0 piece.now) ring.new.items }
+    ensures scanned { Scanned (drop passed.old ring.old.items ++ take result.0 piece.now) (drop passed.new ring.new.items) }
     ensures found { MatchOption result.1
         ((result.0 ≡ length piece.now)
-        × ((begins_partial ring.new.items ≡ true) ⊎ (ring.new.items ≡ [])))
-        (λ n. (begins_frame ring.new.items ≡ true)
-        × (n ≡ payload_length ring.new.items) × (n ≤ 1023)) }
+        × ((begins_partial (drop passed.new ring.new.items) ≡ true) ⊎ (drop passed.new ring.new.items ≡ [])))
+        (λ n. (begins_frame (drop passed.new ring.new.items) ≡ true)
+        × (n ≡ payload_length (drop passed.new ring.new.items)) × (n ≤ 1023)) }
 {
     let mut used = 0;
     'scan: loop {
-        match front_of(ring.make_contiguous()) {
+        drop_passed(ring, passed, prefixes);
+        match front_at(ring.make_contiguous(), *passed, prefixes) {
             Front::Whole(payload) => return (used, Some(payload)),
-            Front::Other => {
-                ring.pop_front();
-                pass_to_preamble(ring);
-            }
+            Front::Other => pass_to_preamble(ring, passed),
             Front::Partial(wanted) => {
-                used += bytes_to_pass(ring, &piece[used..]);
+                used += bytes_to_pass(ring, *passed, &piece[used..]);
                 if used == piece.len() {
                     return (used, None);
                 }
@@ -176,61 +187,108 @@ fn advance(ring: &mut HeapCircularBuffer<u8>, piece: &[u8]) -> (usize, Option<us
     }
 }
 
-// Searches the ring for the next frame, as if no byte followed.
-fn advance_ended(ring: &mut HeapCircularBuffer<u8>) -> Option<usize>
-    requires { (ring.old.capacity ≡ LONGEST_FRAME) × (length ring.old.items ≤ LONGEST_FRAME) }
-    ensures capacity { (ring.new.capacity ≡ LONGEST_FRAME) × (length ring.new.items ≤ LONGEST_FRAME) }
-    ensures searched { Searched ring.old.items ring.new.items }
+// Searches the ring from its passed bytes on for the next frame, as if no byte followed.
+fn advance_ended(
+    ring: &mut HeapCircularBuffer<u8>,
+    passed: &mut usize,
+    prefixes: &mut ArrayVec<u32, MOST_PREFIXES>,
+) -> Option<usize>
+    requires { AreHeld ring.old passed.old prefixes.old.items }
+    ensures held { AreHeld ring.new passed.new prefixes.new.items }
+    ensures searched { Searched (drop passed.old ring.old.items) (drop passed.new ring.new.items) }
     ensures found { MatchOption result
-        (ring.new.items ≡ [])
-        (λ n. (begins_frame ring.new.items ≡ true)
-        × (n ≡ payload_length ring.new.items) × (n ≤ 1023)) }
+        (drop passed.new ring.new.items ≡ [])
+        (λ n. (begins_frame (drop passed.new ring.new.items) ≡ true)
+        × (n ≡ payload_length (drop passed.new ring.new.items)) × (n ≤ 1023)) }
 {
-    while !ring.is_empty() {
-        if let Front::Whole(payload) = front_of(ring.make_contiguous()) {
+    while *passed < ring.len() {
+        drop_passed(ring, passed, prefixes);
+        if let Front::Whole(payload) = front_at(ring.make_contiguous(), *passed, prefixes) {
             return Some(payload);
         }
-        ring.pop_front();
+        pass_to_preamble(ring, passed);
     }
     None
 }
 
-// Drops the bytes that stand in the ring before its first preamble.
-fn pass_to_preamble(ring: &mut HeapCircularBuffer<u8>)
-    requires { (ring.old.capacity ≡ LONGEST_FRAME) × (length ring.old.items ≤ LONGEST_FRAME) }
-    ensures capacity { ring.new.capacity ≡ LONGEST_FRAME }
-    ensures shorter { length ring.new.items ≤ length ring.old.items }
-    ensures scanned { (text : List ℕ) → Scanned text ring.old.items → Scanned text ring.new.items }
+// Takes the passed bytes out of the ring if they are all its bytes, or more than the longest frame.
+// Then the checksums of prefixes are forgotten.
+fn drop_passed(
+    ring: &mut HeapCircularBuffer<u8>,
+    passed: &mut usize,
+    prefixes: &mut ArrayVec<u32, MOST_PREFIXES>,
+)
+    requires { AreHeld ring.old passed.old prefixes.old.items }
+    ensures held { AreHeld ring.new passed.new prefixes.new.items }
+    ensures few { passed.new ≤ LONGEST_FRAME }
+    ensures same { drop passed.new ring.new.items ≡ drop passed.old ring.old.items }
 {
-    let passed = before_preamble(ring.make_contiguous());
-    let rest = ring.len() - passed;
-    ring.truncate_front(rest);
+    if *passed == ring.len() || *passed > LONGEST_FRAME {
+        remove_front(ring, *passed);
+        *passed = 0;
+        prefixes.clear();
+    }
 }
 
-// How many bytes of the piece need not enter the ring: if it is empty, the bytes before the piece's
-// first preamble.
-fn bytes_to_pass(ring: &HeapCircularBuffer<u8>, piece: &[u8]) -> usize
-    ensures within { result ≤ length piece.now }
-    ensures scanned { (text : List ℕ) → Scanned text ring.now.items
-        → Scanned (text ++ take result piece.now) ring.now.items }
+// Passes the byte behind the passed ones, and the bytes before the next preamble.
+fn pass_to_preamble(ring: &mut HeapCircularBuffer<u8>, passed: &mut usize)
+    requires { passed.old < length ring.old.items }
+    ensures ring { ring.new ≡ ring.old }
+    ensures further { (passed.old < passed.new) × (passed.new ≤ length ring.old.items) }
+    ensures others { (i : ℕ) → passed.old < i → i < passed.new → slice_index ring.old.items i ≢ 0xD3 }
 {
-    if ring.is_empty() {
+    *passed = next_preamble(ring.make_contiguous(), *passed + 1);
+}
+
+// How many bytes of the piece need not enter the ring: if it has no bytes but passed ones, the bytes
+// before the piece's first preamble.
+fn bytes_to_pass(ring: &HeapCircularBuffer<u8>, passed: usize, piece: &[u8]) -> usize
+    requires { passed ≤ length ring.now.items }
+    ensures within { result ≤ length piece.now }
+    ensures scanned { (text : List ℕ) → Scanned text (drop passed ring.now.items)
+        → Scanned (text ++ take result piece.now) (drop passed ring.now.items) }
+{
+    if ring.len() == passed {
         before_preamble(piece)
     } else {
         0
     }
 }
 
-// Takes the first bytes out of the ring.
+// Takes the first bytes out of the ring. The others stand at its start then, so that with bytes that
+// come they lie in one piece.
 fn remove_front(ring: &mut HeapCircularBuffer<u8>, count: usize)
-    requires { count ≤ length ring.old.items }
+    requires { (ring.old.capacity ≡ 2 * LONGEST_FRAME) × (count ≤ length ring.old.items)
+        × (length ring.old.items ≤ count + LONGEST_FRAME) }
     ensures { ring.new ≡ buffer (drop count ring.old.items) ring.old.capacity }
 {
     let rest = ring.len() - count;
-    // An empty ring begins at its start again, so that the next frame lies in one piece.
-    if rest == 0 {
-        ring.clear();
+    ring.truncate_front(rest);
+    if rest > 0 {
+        move_to_start(ring);
     } else {
-        ring.truncate_front(rest);
+        ring.clear();
     }
+}
+
+// Moves the bytes to the start of the ring's room. It is not inlined, so that its room is blanked
+// only if there are bytes to move.
+#[inline(never)]
+fn move_to_start(ring: &mut HeapCircularBuffer<u8>)
+    requires { (ring.old.capacity ≡ 2 * LONGEST_FRAME) × (length ring.old.items ≤ LONGEST_FRAME) }
+    ensures { ring.new ≡ ring.old }
+{
+    let mut bytes = [0u8; LONGEST_FRAME];
+    let count = ring.read_into(&mut bytes);
+    ring.clear();
+    ring.fill_from_slice(&bytes[..count]);
+}
+
+// Room for checksums of prefixes. It is not inlined, so that only its own frame on the stack has the
+// room that becomes a box.
+#[inline(never)]
+fn new_prefixes(alloc: Global) -> Result<Box<ArrayVec<u32, MOST_PREFIXES>>, AllocError>
+    ensures { IfOk result (λ prefixes. prefixes.value.items ≡ []) }
+{
+    Ok(Box::new(alloc, ArrayVec::new())?)
 }

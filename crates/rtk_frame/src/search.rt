@@ -1,9 +1,15 @@
 //! The next frame of a whole text.
 
-ghost use Rattle.std.specs.Prelude.{◌≡◌, ℕ, ◌<◌, ◌≤◌, length, drop, MatchOption, IfSome, ◌+◌};
+ghost use Rattle.std.specs.Prelude.{◌≡◌, ℕ, List, ◌<◌, ◌≤◌, length, take, drop, MatchOption, IfSome, ◌+◌};
 ghost use Rattle.rtk_frame.specs.Frame.{IsFrameAt, payload_of};
+ghost use Rattle.rtk_frame.specs.Prefixes.{ArePrefixChecksums};
+ghost use Rattle.rtk_frame.specs.Search.{IsNextFrame};
+ghost use Rattle.rtk_frame.specs.declared.frame.TheConstants.{LONGEST_FRAME};
 
-use crate::frame::{Front, before_preamble, front_of};
+use crate::frame::{Front, LONGEST_FRAME, front_of, next_preamble};
+use crate::prefixes::{MOST_PREFIXES, front_at};
+use arrayvec::ArrayVec;
+use std::marker::Model;
 
 /// A frame at a place of a text: where it begins, and its payload.
 #[derive(Clone, Copy, Debug)]
@@ -28,13 +34,142 @@ pub fn next_frame(bytes: &[u8], from: usize) -> Option<Placed<'_>>
     ensures within { IfSome result (λ found.
         found.place + (length found.payload.now + 6) ≤ length bytes.now) }
 {
-    let mut place = from + before_preamble(&bytes[from..]);
+    let place = next_preamble(bytes, from);
+    if place == bytes.len() {
+        return None;
+    }
+    match front_of(&bytes[place..]) {
+        Front::Whole(payload) => Some(found_at(bytes, place, payload)),
+        // A text whose first candidate fails may have many that overlap.
+        Front::Partial(_) | Front::Other => next_frame_of_many(bytes, from),
+    }
+}
+
+// The same by the checksums of prefixes. It is not inlined, so that their room is blanked only if
+// there is a candidate that fails.
+#[inline(never)]
+fn next_frame_of_many(bytes: &[u8], from: usize) -> Option<Placed<'_>>
+    requires { from ≤ length bytes.now }
+    ensures least { IsNextFrame bytes.now from result }
+    ensures within { IfSome result (λ found.
+        found.place + (length found.payload.now + 6) ≤ length bytes.now) }
+{
+    let mut start = from;
+    let mut prefixes = ArrayVec::new();
+    search(bytes, from, &mut start, &mut prefixes)
+}
+
+// The same, with checksums of prefixes of the bytes from the place `start` on.
+fn search<'a>(
+    bytes: &'a [u8],
+    from: usize,
+    start: &mut usize,
+    prefixes: &mut ArrayVec<u32, MOST_PREFIXES>,
+) -> Option<Placed<'a>>
+    requires places { (start.old ≤ from) × (from ≤ length bytes.now) }
+    requires prefixes { ArePrefixChecksums prefixes.old.items (drop start.old bytes.now) }
+    ensures least { IsNextFrame bytes.now from result }
+    ensures within { IfSome result (λ found.
+        found.place + (length found.payload.now + 6) ≤ length bytes.now) }
+    ensures start { MatchOption result (start.new ≤ length bytes.now) (λ found. start.new ≤ found.place) }
+    ensures prefixes { ArePrefixChecksums prefixes.new.items (drop start.new bytes.now) }
+{
+    let mut place = next_preamble(bytes, from);
     while place < bytes.len() {
-        if let Front::Whole(payload) = front_of(&bytes[place..]) {
-            let payload = &bytes[place + 3..place + 3 + payload];
-            return Some(Placed { place, payload });
+        restart_if_far(place, start, prefixes);
+        if let Front::Whole(payload) = front_at(&bytes[*start..], place - *start, prefixes) {
+            return Some(found_at(bytes, place, payload));
         }
-        place += 1 + before_preamble(&bytes[place + 1..]);
+        place = next_preamble(bytes, place + 1);
     }
     None
+}
+
+// If the place is further from the start than the longest frame, it is the new start.
+fn restart_if_far(place: usize, start: &mut usize, prefixes: &mut ArrayVec<u32, MOST_PREFIXES>)
+    requires { start.old ≤ place }
+    ensures near { (start.new ≤ place) × (place ≤ start.new + LONGEST_FRAME) }
+    ensures prefixes { (text : List ℕ) → ArePrefixChecksums prefixes.old.items (drop start.old text)
+        → ArePrefixChecksums prefixes.new.items (drop start.new text) }
+{
+    if place - *start > LONGEST_FRAME {
+        *start = place;
+        prefixes.clear();
+    }
+}
+
+// The frame at the place.
+fn found_at(bytes: &[u8], place: usize, payload: usize) -> Placed<'_>
+    requires { place + payload + 6 ≤ length bytes.now }
+    ensures { (result.place ≡ place) × (result.payload.now ≡ take payload (drop 3 (drop place bytes.now))) }
+{
+    Placed {
+        place,
+        payload: &bytes[place + 3..place + 3 + payload],
+    }
+}
+
+/// The frames of a whole text, one after another.
+///
+/// It keeps checksums from one frame to the next, at most 2,059 of them, so that candidates that
+/// overlap cost no more than two looks at each byte.
+#[derive(Drop)]
+pub struct Frames<'a> {
+    bytes: &'a [u8],
+    // From where on the next frame is looked for.
+    from: usize,
+    // The checksums are those of prefixes of the bytes from this place on.
+    start: usize,
+    prefixes: ArrayVec<u32, MOST_PREFIXES>,
+}
+
+// Clauses see the text, and from where on the next frame is looked for.
+impl<'a> Model for Frames<'a> {
+    ghost use Rattle.std.specs.Prelude.{◌≡◌, ◌≤◌, length, drop};
+    ghost use Rattle.rtk_frame.specs.FramesView.{FramesView, frames_view, frames_view_code};
+    ghost use Rattle.rtk_frame.specs.Prefixes.{ArePrefixChecksums};
+
+    ghost Value = { FramesView };
+
+    ghost coded = { frames_view_code };
+
+    ghost view = { λ s. frames_view s.bytes.now s.from };
+
+    ghost invariant = { λ s.
+        (s ≡ record { bytes = s.bytes; from = s.from; start = s.start; prefixes = s.prefixes })
+        × (s.start ≤ s.from) × (s.from ≤ length s.bytes.now)
+        × ArePrefixChecksums s.prefixes.items (drop s.start s.bytes.now) };
+}
+
+impl<'a> Frames<'a> {
+    ghost use Rattle.rtk_frame.specs.FramesView.{frames_view};
+
+    /// The frames of the text, none of which was given.
+    pub fn new(bytes: &'a [u8]) -> Frames<'a>
+        ensures { result ≡ frames_view bytes.now 0 }
+    {
+        Frames {
+            bytes,
+            from: 0,
+            start: 0,
+            prefixes: ArrayVec::new(),
+        }
+    }
+
+    /// The next frame, or `None` if there is no further one.
+    pub fn next_frame(&mut self) -> Option<Placed<'a>>
+        ensures text { self.new.text ≡ self.old.text }
+        ensures least { IsNextFrame self.old.text self.old.from result }
+        ensures within { IfSome result (λ found.
+            found.place + (length found.payload.now + 6) ≤ length self.old.text) }
+        ensures from { IfSome result (λ found.
+            self.new.from ≡ found.place + (length found.payload.now + 6)) }
+    {
+        let found = search(self.bytes, self.from, &mut self.start, &mut self.prefixes);
+        self.from = match &found {
+            Some(found) => found.place + found.payload.len() + 6,
+            None => self.bytes.len(),
+        };
+        found
+    }
 }

@@ -1,9 +1,19 @@
 -- What is at the front of a text, and up to which place it was scanned.
-use Rattle.std.specs.Prelude.{◌≡◌, ◌⊎◌, ℕ, ◌+◌, ◌<◌, ◌≤◌, true, false, List, [], ◌∷◌, ◌++◌, length}
-use Rattle.rtk_frame.specs.Frame.{payload_length, begins_frame, begins_partial}
+use Rattle.std.specs.Prelude.{◌≡◌, ◌⊎◌, ℕ, ◌+◌, ◌<◌, ◌≤◌, ◌==◌, true, false, List, [], ◌∷◌, ◌++◌, length, take, drop}
+use Rattle.rtk_frame.specs.Checksum.{crc}
+use Rattle.rtk_frame.specs.Frame.{three_bytes, payload_length, begins_frame, begins_partial}
 use Rattle.rtk_frame.specs.declared.frame.TheConstants.{LONGEST_FRAME}
 use Rattle.rtk_frame.specs.declared.frame.Front.{Front}
 use Rattle.rtk_frame.specs.declared.frame.Front.TheVariants.{Whole, Partial, Other}
+use Rattle.rtk_frame.specs.declared.frame.Start.{Start}
+use Rattle.rtk_frame.specs.declared.frame.Start.TheVariants.{Candidate, Partial as PartialStart, Other as NoStart}
+
+-- what a text begins with, but for the checksum: a candidate with a payload of n bytes, a partial
+-- frame that lacks at least n bytes, or neither
+abbrev pub IsStart : List ℕ → Start → Type 0
+IsStart text (Candidate n) = (n ≡ payload_length text) × (n ≤ 1023) × (n + 6 ≤ length text) × (begins_frame text ≡ (crc (take (n + 3) text) == three_bytes (drop (n + 3) text))) × (begins_partial text ≡ false)
+IsStart text (PartialStart n) = (0 < n) × (length text + n ≤ LONGEST_FRAME) × ((begins_partial text ≡ true) ⊎ (text ≡ []))
+IsStart text NoStart = (0 < length text) × (begins_frame text ≡ false) × (begins_partial text ≡ false)
 
 -- what is at the front of a text: a frame with a payload of n bytes, a partial frame that lacks at
 -- least n bytes, or neither; an empty text counts as partial

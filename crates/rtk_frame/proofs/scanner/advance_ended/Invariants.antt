@@ -1,13 +1,13 @@
-use Rattle.std.proofs.Common.{◌≡◌, ◌≤◌, length}
+use Rattle.std.proofs.Common.{◌≡◌, ◌≤◌, ◌-◌, length, drop}
+use Rattle.rtk_frame.specs.Held.{AreHeld}
 use Rattle.rtk_frame.specs.Steps.Scanning.{Searched}
 use Rattle.rtk_frame.proofs.scanner.advance_ended.Given as goal
 
-abbrev pub invariant-loop-ring : goal.invariant-loop-ring
-invariant-loop-ring l = record {
-  capacity : l.ring.capacity ≡ 1029;
-  within : length l.ring.items ≤ 1029;
-  searched : Searched l.fn.ring.items l.ring.items;
+abbrev pub invariant-loop-passed : goal.invariant-loop-passed
+invariant-loop-passed l = record {
+  held : AreHeld l.ring l.passed l.prefixes.items;
+  searched : Searched (drop l.fn.passed l.fn.ring.items) (drop l.passed l.ring.items);
 }
 
-abbrev pub decreases-loop-ring : goal.decreases-loop-ring
-decreases-loop-ring l = length l.ring.items
+abbrev pub decreases-loop-passed : goal.decreases-loop-passed
+decreases-loop-passed l = length l.ring.items - l.passed

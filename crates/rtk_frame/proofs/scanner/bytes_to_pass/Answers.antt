@@ -1,13 +1,13 @@
-use Rattle.std.proofs.Common.{◌≡◌, length, ◌∙◌, sym, arith, true, ◌==◌}
+use Rattle.std.proofs.Common.{◌≡◌, ◌-◌, ℕ, List, length, drop, ◌∙◌, sym, arith, true, ◌==◌, length-drop}
 use Rattle.std.proofs.lemmas.Bool.Decides.{nat_tests}
 use Rattle.rtk_frame.proofs.Passing.{scanned_skip, scanned_none}
 use Rattle.rtk_frame.proofs.scanner.bytes_to_pass.Goals as goal
 
-pub returns-then-is_empty-clause-scanned : goal.returns-then-is_empty-clause-scanned
-returns-then-is_empty-clause-scanned c = λ text h.
-    let none : (length c.args.ring.now.items == 0) ≡ true = sym c.is_empty.ensures ∙ c.if-is_empty.true in
-    let zero : length c.args.ring.now.items ≡ 0 = grind (arith, nat_tests) in
-    scanned_skip text c.args.ring.now.items c.args.piece.now c.before_preamble.result zero c.before_preamble.ensures.within c.before_preamble.ensures.none h
+pub returns-then-len-passed-clause-scanned : goal.returns-then-len-passed-clause-scanned
+returns-then-len-passed-clause-scanned c = λ text h.
+    let s : List ℕ = drop c.args.passed c.args.ring.now.items in
+    let zero : length s ≡ 0 = omega (arith, length-drop c.args.passed c.args.ring.now.items, c.len.ensures.len) in
+    scanned_skip text s c.args.piece.now c.before_preamble.result zero c.before_preamble.ensures.within c.before_preamble.ensures.none h
 
-pub returns-else-is_empty-clause-scanned : goal.returns-else-is_empty-clause-scanned
-returns-else-is_empty-clause-scanned c = λ text h. scanned_none text c.args.ring.now.items h
+pub returns-else-len-passed-clause-scanned : goal.returns-else-len-passed-clause-scanned
+returns-else-len-passed-clause-scanned c = λ text h. scanned_none text (drop c.args.passed c.args.ring.now.items) h
