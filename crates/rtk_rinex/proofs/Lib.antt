@@ -28,3 +28,4 @@ mod OneRecordsLemmas
 mod OneHeaderLemmas
 mod OneFaultLemmas
 mod OneTableLemmas
+mod EqualityLemmas

@@ -1,15 +1,20 @@
-//! Laws over the definitions of readings, tables and faults.
+//! Laws over the definitions of readings, tables and faults; and the law of `==` on faults.
 //!
 //! Each function here does nothing. Its contract is the law, and a caller that calls it may cite
 //! it; proofs of other crates cite the same facts from `proofs/PublicLaws.antt`.
 
-ghost use Rattle.std.specs.Prelude.{◌≡◌, ℕ};
+ghost use Rattle.std.specs.Prelude.{◌≡◌, ◌↔◌, ℕ, IsTrue};
 ghost use Rattle.rtk_obs.specs.declared.time.Civil.{Civil};
 ghost use Rattle.rtk_obs.specs.Calendar.{ReadsAs};
 ghost use Rattle.rtk_rinex.specs.CheckTable.{OneFault, FaultMeansNoTable, OneTable, TextIsAccepted};
 ghost use Rattle.rtk_rinex.specs.Reading.{IsMoment, reading_of};
 ghost use Rattle.rtk_rinex.specs.Table.{RecordsAreOfTables, FilesAreTables};
+ghost use Rattle.rtk_rinex.specs.declared.check_fault.Cause.{Cause};
+ghost use Rattle.rtk_rinex.specs.declared.check_fault.CheckFault.{CheckFault};
+ghost use Rattle.rtk_rinex.specs.declared.head.HeadFault.{HeadFault};
 
+use crate::check_fault::{Cause, CheckFault};
+use crate::head::HeadFault;
 use rtk_obs::code_laws;
 
 /// A moment has one reading, which `reading_of` gives.
@@ -44,3 +49,11 @@ pub fn text_of_a_table()
 {
     code_laws();
 }
+
+/// `==` says whether two causes are the same, whether two faults of a text are the same in line and
+/// cause, and whether two faults of a head are the same.
+pub fn fault_laws()
+    ensures causes { (a b : Cause) → IsTrue (⟦<Cause as PartialEq>⟧.eq a b) ↔ (a ≡ b) }
+    ensures faults { (a b : CheckFault) → IsTrue (⟦<CheckFault as PartialEq>⟧.eq a b) ↔ (a ≡ b) }
+    ensures heads { (a b : HeadFault) → IsTrue (⟦<HeadFault as PartialEq>⟧.eq a b) ↔ (a ≡ b) }
+{}

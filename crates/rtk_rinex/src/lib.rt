@@ -43,6 +43,8 @@ pub use check_fault::{Cause, CheckFault};
 pub use epoch_table::{EpochTable, Observed, SatelliteRow};
 pub use head::{Head, HeadFault};
 pub use header_text::header;
-pub use laws::{files_are_tables, one_fault, one_reading, records_are_of_tables, text_of_a_table};
+pub use laws::{
+    fault_laws, files_are_tables, one_fault, one_reading, records_are_of_tables, text_of_a_table,
+};
 pub use record_text::record;
 pub use table_check::{Table, check, text};
