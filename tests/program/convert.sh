@@ -277,6 +277,13 @@ expect made_of_a_word_with_a_hyphen 2 '' "error: unexpected argument '-2' found
 
 $usage
 $try"
+run convert --stat 2003 --near $near --made $made --marker BASE --codes 1C a
+expect start_of_an_option 2 '' "error: unexpected argument '--stat' found
+
+  tip: a similar argument exists: '--station'
+
+Usage: rtcm2rinex convert --station <N> --near <T> --made <T> --marker <NAME> --codes <LIST> <LINK>...
+$try"
 bad_value station_of_4096 --station 4096 '4096 is not in 0..=4095'
 bad_value station_of_no_digits --station x 'invalid digit found in string'
 bad_value window_of_1 --window 1 '1 is not in 2..=4096'
@@ -309,4 +316,4 @@ leaves start_convert_with_a_limit_of_size 1 part part_err
 (ulimit -f 8; exec "$root/bin/rtcm2rinex" convert $options --codes 1C,2W,5X stdin) >out 2>err <"$session.rtcm"; status=$?
 leaves start_convert_followed_with_a_limit_of_size 1 part write_failed
 
-ends 166
+ends 167

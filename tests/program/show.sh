@@ -58,6 +58,18 @@ no_such_command="error: unrecognized subcommand 'shew'
 Usage: rtcm2rinex <COMMAND>
 $try"
 
+start_of_a_command="error: unrecognized subcommand 'sho'
+
+  tip: a similar subcommand exists: 'show'
+
+Usage: rtcm2rinex <COMMAND>
+$try"
+
+command_in_capitals="error: unrecognized subcommand 'SHOW'
+
+Usage: rtcm2rinex <COMMAND>
+$try"
+
 no_file="error: the following required arguments were not provided:
   <FILE>
 
@@ -96,6 +108,13 @@ Usage: rtcm2rinex show [OPTIONS] <FILE>
 $try"
 
 like_hex="error: unexpected argument '--hax' found
+
+  tip: a similar argument exists: '--hex'
+
+Usage: rtcm2rinex show --hex <FILE>
+$try"
+
+start_of_hex="error: unexpected argument '--he' found
 
   tip: a similar argument exists: '--hex'
 
@@ -153,6 +172,7 @@ run show nowhere </dev/null;              expect missing_file 1 '' 'rtcm2rinex: 
 run show 'no where' </dev/null;           expect missing_file_with_a_blank 1 '' 'rtcm2rinex: cannot open no where'
 run show '' </dev/null;                   expect empty_name 1 '' 'rtcm2rinex: cannot open '
 run show - </dev/null;                    expect missing_file_of_a_hyphen 1 '' 'rtcm2rinex: cannot open -'
+run show STDIN <arp.rtcm;                 expect missing_file_of_the_name_stdin_in_capitals 1 '' 'rtcm2rinex: cannot open STDIN'
 run show "$(printf 'a\nb')" </dev/null;   expect missing_file_with_a_line_feed 1 '' 'rtcm2rinex: cannot open a
 b'
 run show arp.hex </dev/null;              expect hex_text_as_bytes 0 '' ''
@@ -199,6 +219,8 @@ run --version </dev/null;                 expect version 0 'rtcm2rinex 0.1.0' ''
 run -V </dev/null;                        expect version_in_short 0 'rtcm2rinex 0.1.0' ''
 run </dev/null;                           expect no_command 2 '' "$no_command"
 run shew a </dev/null;                    expect no_such_command 2 '' "$no_such_command"
+run sho arp.rtcm </dev/null;              expect start_of_a_command 2 '' "$start_of_a_command"
+run SHOW arp.rtcm </dev/null;             expect command_in_capitals 2 '' "$command_in_capitals"
 run "$long_word" </dev/null;              expect no_such_long_command 2 '' "$no_such_long_command"
 run show </dev/null;                      expect no_file 2 '' "$no_file"
 run show a b </dev/null;                  expect two_files 2 '' "$two_files"
@@ -208,6 +230,7 @@ run '' </dev/null;                        expect empty_command 2 '' "$empty_comm
 run '' show a </dev/null;                 expect empty_word_before_a_command 2 '' "$empty_command"
 run show --hex --hex arp.hex </dev/null;  expect hex_twice 2 '' "$hex_twice"
 run show --hax a </dev/null;              expect like_hex 2 '' "$like_hex"
+run show --he arp.hex </dev/null;         expect start_of_hex 2 '' "$start_of_hex"
 run --frob </dev/null;                    expect unknown_option 2 '' "$unknown_option"
 
 # The captures of examples/ by the command of the README, which passes words, streams and status on.
@@ -226,4 +249,4 @@ head -c 8192 frames >some; head -c 512 lines >part; echo 'rtcm2rinex: write fail
 (ulimit -f 1; exec "$root/bin/rtcm2rinex" show some) >out 2>err </dev/null; status=$?
 leaves start_show_with_a_limit_of_size 1 part part_err
 
-ends 67
+ends 71
