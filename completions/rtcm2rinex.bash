@@ -20,7 +20,7 @@ _rtcm2rinex() {
     done
     case $command in
         '')
-            options='convert show check summary help -h --help -V --version'
+            options='convert show check summary chart cut help -h --help -V --version'
             ;;
         convert)
             options='--station --near --made --marker --codes --window -h --help'
@@ -39,9 +39,19 @@ _rtcm2rinex() {
             options='-h --help'
             arguments='files'
             ;;
+        chart)
+            options='--text --columns -h --help'
+            values='--columns'
+            arguments='files'
+            ;;
+        cut)
+            options='--from --until --every -h --help'
+            values='--from --until --every'
+            arguments='files'
+            ;;
         help)
             options=''
-            arguments='convert show check summary'
+            arguments='convert show check summary chart cut'
             ;;
         *) return ;;
     esac

@@ -1,26 +1,37 @@
 # What fish completes after rtcm2rinex. Made by bin/completions from the help of the program.
 
 complete -c rtcm2rinex -f
-complete -c rtcm2rinex -n '__fish_use_subcommand' -s h -l help -d 'Print help'
+complete -c rtcm2rinex -n '__fish_use_subcommand' -s h -l help -d 'Print help (see more with \'--help\')'
 complete -c rtcm2rinex -n '__fish_use_subcommand' -s V -l version -d 'Print version'
 complete -c rtcm2rinex -n __fish_use_subcommand -a convert -d 'Converts captures of one station to a RINEX 3.05 observation file'
 complete -c rtcm2rinex -n __fish_use_subcommand -a show -d 'Shows the messages of a capture, a line for each frame'
 complete -c rtcm2rinex -n __fish_use_subcommand -a check -d 'Checks whether a file is one that convert could have written'
 complete -c rtcm2rinex -n __fish_use_subcommand -a summary -d 'Tells what a capture holds: stations, satellites and codes'
+complete -c rtcm2rinex -n __fish_use_subcommand -a chart -d 'Draws a file: its satellites along its time, with slips and gaps'
+complete -c rtcm2rinex -n __fish_use_subcommand -a cut -d 'Writes the file of a part of a file; no slip is lost'
 complete -c rtcm2rinex -n __fish_use_subcommand -a help -d 'Print this message or the help of the given subcommand(s)'
-complete -c rtcm2rinex -n '__fish_seen_subcommand_from convert' -l station -x -d 'The reference station, 0 to 4095'
-complete -c rtcm2rinex -n '__fish_seen_subcommand_from convert' -l near -x -d 'A GPS time within half a week of all messages'
-complete -c rtcm2rinex -n '__fish_seen_subcommand_from convert' -l made -x -d 'The UTC time that the file shows as its making'
-complete -c rtcm2rinex -n '__fish_seen_subcommand_from convert' -l marker -x -d 'The marker\'s name'
+complete -c rtcm2rinex -n '__fish_seen_subcommand_from convert' -l station -x -d 'The reference station, 0 to 4095, as 2003'
+complete -c rtcm2rinex -n '__fish_seen_subcommand_from convert' -l near -x -d 'A GPS time within half a week of all messages, as 2024-05-17T12:00:00'
+complete -c rtcm2rinex -n '__fish_seen_subcommand_from convert' -l made -x -d 'The UTC time of making that the file shows, as 2024-05-17T13:00:00'
+complete -c rtcm2rinex -n '__fish_seen_subcommand_from convert' -l marker -x -d 'The marker\'s name, as BASE'
 complete -c rtcm2rinex -n '__fish_seen_subcommand_from convert' -l codes -x -d 'The observation codes, as 1C,2W'
-complete -c rtcm2rinex -n '__fish_seen_subcommand_from convert' -l window -x -d 'How many epochs are kept open, 2 to 4096 [default: 64]'
-complete -c rtcm2rinex -n '__fish_seen_subcommand_from convert' -s h -l help -d 'Print help'
+complete -c rtcm2rinex -n '__fish_seen_subcommand_from convert' -l window -x -d 'How many epochs are kept open, 2 to 4096, as 600 [default: 64]'
+complete -c rtcm2rinex -n '__fish_seen_subcommand_from convert' -s h -l help -d 'Print help (see more with \'--help\')'
 complete -c rtcm2rinex -n '__fish_seen_subcommand_from convert' -F -a stdin
 complete -c rtcm2rinex -n '__fish_seen_subcommand_from show' -l hex -d 'The capture is hex text'
-complete -c rtcm2rinex -n '__fish_seen_subcommand_from show' -s h -l help -d 'Print help'
+complete -c rtcm2rinex -n '__fish_seen_subcommand_from show' -s h -l help -d 'Print help (see more with \'--help\')'
 complete -c rtcm2rinex -n '__fish_seen_subcommand_from show' -F -a stdin
-complete -c rtcm2rinex -n '__fish_seen_subcommand_from check' -s h -l help -d 'Print help'
+complete -c rtcm2rinex -n '__fish_seen_subcommand_from check' -s h -l help -d 'Print help (see more with \'--help\')'
 complete -c rtcm2rinex -n '__fish_seen_subcommand_from check' -F -a stdin
-complete -c rtcm2rinex -n '__fish_seen_subcommand_from summary' -s h -l help -d 'Print help'
+complete -c rtcm2rinex -n '__fish_seen_subcommand_from summary' -s h -l help -d 'Print help (see more with \'--help\')'
 complete -c rtcm2rinex -n '__fish_seen_subcommand_from summary' -F -a stdin
-complete -c rtcm2rinex -n '__fish_seen_subcommand_from help' -a 'convert show check summary'
+complete -c rtcm2rinex -n '__fish_seen_subcommand_from chart' -l text -d 'A picture in characters'
+complete -c rtcm2rinex -n '__fish_seen_subcommand_from chart' -l columns -x -d 'How many characters wide it is, 40 to 400'
+complete -c rtcm2rinex -n '__fish_seen_subcommand_from chart' -s h -l help -d 'Print help (see more with \'--help\')'
+complete -c rtcm2rinex -n '__fish_seen_subcommand_from chart' -F -a stdin
+complete -c rtcm2rinex -n '__fish_seen_subcommand_from cut' -l from -x -d 'The GPS time of the first records that are kept'
+complete -c rtcm2rinex -n '__fish_seen_subcommand_from cut' -l until -x -d 'The GPS time before which records are kept'
+complete -c rtcm2rinex -n '__fish_seen_subcommand_from cut' -l every -x -d 'Records at whole multiples of this step are kept, 1 to 86400'
+complete -c rtcm2rinex -n '__fish_seen_subcommand_from cut' -s h -l help -d 'Print help (see more with \'--help\')'
+complete -c rtcm2rinex -n '__fish_seen_subcommand_from cut' -F -a stdin
+complete -c rtcm2rinex -n '__fish_seen_subcommand_from help' -a 'convert show check summary chart cut'

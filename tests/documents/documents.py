@@ -45,6 +45,10 @@ def help_of(*words):
     return output(PROGRAM, *words, "-h")[1]
 
 
+def statuses_of_help(*words):
+    return section(output(PROGRAM, *words, "--help")[1], "Exit status")
+
+
 def options_of_help(*words):
     """Its options, long and short, but for those of help and version, which all commands have."""
     typed = [option for entry in section(help_of(*words), "Options") for option in entry.split(", ")]
@@ -96,6 +100,12 @@ def test_manuals():
     compare("the manual page has the statuses of the manual", of_page, statuses)
     compare("no line of the manual page is broken", re.findall(r"(?m).*\\$", ROFF), [])
     compare("the statuses are told", statuses[:3], ["0", "1", "2"])
+    compare("the help has the statuses of the manual", statuses_of_help(), statuses)
+    each = {command: statuses_of_help(command) for command in WORKING}
+    compare("the help of each command has statuses of the manual", [c for c in WORKING if not set("012") <= set(each[c]) <= set(statuses)], [])
+    several = [command for command in WORKING if "3" in each[command]]
+    told = re.search(r"(?m)^\| 3 \|(.*)\|$", MANUAL).group(1)
+    compare("the manual names the commands that have status 3", re.findall(r"`([a-z]+)`", told), several)
 
 
 # ---------------------------------------------------------------- completions

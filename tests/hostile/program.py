@@ -87,3 +87,12 @@ class Program:
     def check(self, text: bytes) -> Ended:
         self.write("file", text)
         return self.run(["check", "file"])
+
+    def chart(self, text: bytes, width: int) -> Ended:
+        """A picture in characters, so many of them wide."""
+        self.write("file", text)
+        return self.run(["chart", "--text", "--columns", str(width), "file"])
+
+    def cut(self, text: bytes, words: list[str]) -> Ended:
+        self.write("file", text)
+        return self.run(["cut", *words, "file"])

@@ -13,12 +13,15 @@ from __future__ import annotations
 import re
 from collections import Counter
 from dataclasses import dataclass
+from datetime import timedelta
 from random import Random
 from typing import Callable, Iterable, NamedTuple
 
 from captures import Capture
 from messages import Placed, frames_of, show_line
 from model import COUNTS, KINDS, Conversion, Judged, convert, report_of
+from parts import Part, part_of, records_of
+from pictures import text_picture
 from program import Ended, Program
 from summaries import summary_of
 from wire import frame_of
@@ -164,6 +167,29 @@ def summarized_as_modelled(case: Case) -> Answer:
     """`summary` tells of the bytes of all links, one after another, what the slow model counts."""
     text = b"".join(case.links)
     return ends_with(case.program.summary(text), 0, summary_of(text).encode(), b"")
+
+
+def charted_as_modelled(case: Case) -> Answer:
+    """`chart --text` of the file, of any width, is the picture that the slow model makes."""
+    width = case.rng.choice((40, 80, 400, case.rng.randint(40, 400)))
+    due = text_picture(case.base.out.decode(), width).encode()
+    return ends_with(case.program.chart(case.base.out, width), 0, due, b"")
+
+
+def cut_as_modelled(case: Case) -> Answer:
+    """`cut` of the file writes the part that the slow model writes; the span begins and ends at
+    records, or a second beside one."""
+    text = case.base.out.decode()
+    times = [it.time.replace(microsecond=0) for it in records_of(text)]
+    if not times:
+        return NOT_MET
+    drawn = sorted(case.rng.choice(times) + timedelta(seconds=case.rng.randint(-1, 1)) for _ in "12")
+    since, until = (case.rng.choice((it, None)) for it in drawn)
+    steps = (1, 1, 2, 3, 5, 7, 30, 60, 86_400)
+    part = Part(since, until, case.rng.choice((None, *steps) if since or until else steps))
+    if any(it and not 1980 <= it.year <= 2100 for it in (since, until)):
+        return NOT_MET
+    return ends_with(case.program.cut(case.base.out, part.words()), 0, part_of(text, part).encode(), b"")
 
 
 def hex_shown_as_bytes(case: Case) -> Answer:
@@ -369,6 +395,8 @@ OFTEN = (
     Property(shown_as_modelled, 20),
     Property(hex_shown_as_bytes, 20),
     Property(summarized_as_modelled, 20),
+    Property(charted_as_modelled, 20),
+    Property(cut_as_modelled, 18),
 )
 
 ALL = FREE + VALID + SELDOM + OFTEN

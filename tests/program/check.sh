@@ -10,7 +10,7 @@ check() {
     status=$?
 }
 
-help='Checks whether a file is one that convert could have written
+short_help="Checks whether a file is one that convert could have written
 
 Usage: rtcm2rinex check <FILE>
 
@@ -18,7 +18,30 @@ Arguments:
   <FILE>  The file, or stdin for standard input
 
 Options:
-  -h, --help  Print help'
+  -h, --help  Print help (see more with '--help')"
+
+help="Checks whether a file is one that convert could have written
+
+Usage: rtcm2rinex check <FILE>
+
+Arguments:
+  <FILE>
+          The file, or stdin for standard input
+
+Options:
+  -h, --help
+          Print help (see a summary with '-h')
+
+Example:
+  rtcm2rinex check base.rnx
+
+Exit status:
+  0  the file is well-formed
+  1  it was not checked; standard error says why
+  2  the words are refused
+  3  the file is not well-formed; standard output has its first wrong line
+
+Manual: man rtcm2rinex, or docs/MANUAL.md"
 
 no_file="error: the following required arguments were not provided:
   <FILE>
@@ -77,6 +100,7 @@ check ./stdin </dev/null;        expect file_of_the_name_stdin 0 "$yes" ''
 "$program" check "$base" >&- 2>err; status=$?; : >out
 expect closed_output 1 '' 'rtcm2rinex: write failed'
 check --help </dev/null;         expect check_help 0 "$help" ''
+check -h </dev/null;             expect check_short_help 0 "$short_help" ''
 "$program" help check >out 2>err </dev/null; status=$?
 expect help_check 0 "$help" ''
 check </dev/null;                expect no_file 2 '' "$no_file"
@@ -98,4 +122,4 @@ check zeros </dev/null;          expect longest_input 3 'line 1: C5 Truncated' '
 truncate -s 1073741825 zeros
 check zeros </dev/null;          expect input_too_long 1 '' 'rtcm2rinex: input too long'
 
-ends 30
+ends 31

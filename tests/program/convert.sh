@@ -58,6 +58,16 @@ convert 1C,2W ./stdin </dev/null;                     leaves file_of_the_name_st
 convert 1C,2W ./stdin <&-;                            leaves file_of_the_name_stdin_while_it_is_closed 0 "$examples/base.rnx" base.report
 convert 1C,2W "$(printf './%.0s' $(seq 150))stdin" </dev/null
 leaves name_of_300_characters 0 "$examples/base.rnx" base.report
+# Names that begin with the word, or have its letters as capitals, are files: standard input is closed, or one link of three.
+cp "$base" STDIN; cp "$base" stdin.rtcm
+report 4 0 0 0 2 2 0 0 1 >two.report
+convert 1C,2W STDIN stdin.rtcm <&-;                   leaves files_of_names_like_stdin 0 "$examples/base.rnx" two.report
+report 6 0 0 0 2 4 0 0 1 >three.report
+convert 1C,2W stdin.rtcm stdin STDIN <"$base";        leaves standard_input_and_names_like_it 0 "$examples/base.rnx" three.report
+# A name is taken as it is, its blanks, commas and signs too.
+odd=' ~a,b=c%20 $HOME#*?[x]'"'\"\\ "
+cp "$base" "$odd"
+convert 1C,2W "$odd" </dev/null;                      leaves file_of_an_odd_name 0 "$examples/base.rnx" base.report
 sed -n '1,14p' "$examples/base.rnx" |
     sed 's/^  1114104.5999 -4850729.7108  3975521.4643/        0.0000        0.0000        0.0000/' >empty.rnx
 report 0 0 0 0 0 0 0 0 0 >empty.report
@@ -154,6 +164,10 @@ words $near $made X 1C 1 2 3 4 5 6 7 8 9 10 11 12 13 14 15 16 17; fails seventee
 words $near $made X 1C $(seq 40);                     fails forty_links 2 'bad links'
 words $near $made X 1C $(seq 200);                    fails two_hundred_links 2 'bad links'
 words $near $made X 1C nowhere 2 3 4 5 6 7 8 9 10 11 12 13 14 15 16; fails sixteen_links 1 'cannot open nowhere'
+words 1980-01-06T00:00:00 '' X 1C nowhere;            fails reference_out_of_range_and_no_making 2 'bad --made'
+words 1980-01-06T00:00:00 $made ' X' 1C,9Z nowhere;   fails reference_out_of_range_and_no_code 2 'bad --codes'
+words 1980-01-06T00:00:00 $made ' X' 1C,1C nowhere;   fails reference_out_of_range_and_a_bad_marker 2 'bad --marker'
+words 1980-01-06T00:00:00 $made X 1C,1C nowhere;      fails reference_out_of_range_and_a_repeated_code 2 'bad --codes'
 words 1980-01-06T00:00:00 $made X 1C nowhere;         fails reference_out_of_range 2 'bad --near'
 words 1980-01-12T23:59:59 $made X 1C nowhere;         fails reference_too_early 2 'bad --near'
 words 1980-01-13T00:00:00 $made X 1C nowhere;         fails earliest_reference 1 'cannot open nowhere'
@@ -197,9 +211,19 @@ leaves zeros_before_the_station 0 hyphens.rnx base.report
 "$program" convert --station 4095 --near $near --made $made --marker --codes --codes 2D nothing >out 2>err </dev/null; status=$?
 header marker_of_an_option '20240517 130000' --codes 'G    3 C2D L2D S2D'
 
+# A marker is taken as it is: 60 printable characters, and the others with a blank between them.
+# marker NAME MARKER
+marker() {
+    words $near $made "$2" 1C,2W nothing
+    { sed -n 1,2p empty.rnx; printf '%-60sMARKER NAME         \n' "$2"; sed 1,3d empty.rnx; } >want_out
+    leaves "$1" 0 want_out empty.report
+}
+marker marker_of_many_characters '!"#$%&'"'"'()*+,-./0123456789:;<=>?@ABCDEFGHIJKLMNOPQRSTUVWXYZ[\'
+marker marker_of_the_others ']^_` abcdefghijklmnopqrstuvwxyz{|}~'
+
 # clap's texts.
 usage='Usage: rtcm2rinex convert [OPTIONS] --station <N> --near <T> --made <T> --marker <NAME> --codes <LIST> <LINK>...'
-help="Converts captures of one station to a RINEX 3.05 observation file
+short_help="Converts captures of one station to a RINEX 3.05 observation file
 
 $usage
 
@@ -207,13 +231,56 @@ Arguments:
   <LINK>...  The captures, 1 to 16; stdin is standard input
 
 Options:
-      --station <N>    The reference station, 0 to 4095
-      --near <T>       A GPS time within half a week of all messages
-      --made <T>       The UTC time that the file shows as its making
-      --marker <NAME>  The marker's name
+      --station <N>    The reference station, 0 to 4095, as 2003
+      --near <T>       A GPS time within half a week of all messages, as 2024-05-17T12:00:00
+      --made <T>       The UTC time of making that the file shows, as 2024-05-17T13:00:00
+      --marker <NAME>  The marker's name, as BASE
       --codes <LIST>   The observation codes, as 1C,2W
-      --window <N>     How many epochs are kept open, 2 to 4096 [default: 64]
-  -h, --help           Print help"
+      --window <N>     How many epochs are kept open, 2 to 4096, as 600 [default: 64]
+  -h, --help           Print help (see more with '--help')"
+help="Converts captures of one station to a RINEX 3.05 observation file
+
+$usage
+
+Arguments:
+  <LINK>...
+          The captures, 1 to 16; stdin is standard input
+
+Options:
+      --station <N>
+          The reference station, 0 to 4095, as 2003
+
+      --near <T>
+          A GPS time within half a week of all messages, as 2024-05-17T12:00:00
+
+      --made <T>
+          The UTC time of making that the file shows, as 2024-05-17T13:00:00
+
+      --marker <NAME>
+          The marker's name, as BASE
+
+      --codes <LIST>
+          The observation codes, as 1C,2W
+
+      --window <N>
+          How many epochs are kept open, 2 to 4096, as 600
+          
+          [default: 64]
+
+  -h, --help
+          Print help (see a summary with '-h')
+
+Example:
+  rtcm2rinex convert --station 2003 --near 2024-05-17T12:00:00 \\
+      --made 2024-05-17T13:00:00 --marker BASE --codes 1C,2W \\
+      link1.rtcm link2.rtcm >base.rnx 2>base.report
+
+Exit status:
+  0  the file and its report are written
+  1  they are not, or in part; the last line on standard error says why
+  2  the words are refused
+
+Manual: man rtcm2rinex, or docs/MANUAL.md"
 try="
 For more information, try '--help'."
 
@@ -231,6 +298,7 @@ $try"
 }
 
 run convert --help;                                   expect convert_help 0 "$help" ''
+run convert -h;                                       expect convert_short_help 0 "$short_help" ''
 run help convert;                                     expect help_convert 0 "$help" ''
 words '' '' '' '';                                    expect no_link 2 '' "error: the following required arguments were not provided:
   <LINK>...
@@ -316,4 +384,4 @@ leaves start_convert_with_a_limit_of_size 1 part part_err
 (ulimit -f 8; exec "$root/bin/rtcm2rinex" convert $options --codes 1C,2W,5X stdin) >out 2>err <"$session.rtcm"; status=$?
 leaves start_convert_followed_with_a_limit_of_size 1 part write_failed
 
-ends 167
+ends 177

@@ -17,7 +17,7 @@ start() {
     status=$?
 }
 
-help='RTCM 3 observation streams to RINEX 3.05
+help="RTCM 3 observation streams to RINEX 3.05
 
 Usage: rtcm2rinex <COMMAND>
 
@@ -26,13 +26,71 @@ Commands:
   show     Shows the messages of a capture, a line for each frame
   check    Checks whether a file is one that convert could have written
   summary  Tells what a capture holds: stations, satellites and codes
+  chart    Draws a file: its satellites along its time, with slips and gaps
+  cut      Writes the file of a part of a file; no slip is lost
   help     Print this message or the help of the given subcommand(s)
 
 Options:
-  -h, --help     Print help
-  -V, --version  Print version'
+  -h, --help
+          Print help (see a summary with '-h')
 
-show_help='Shows the messages of a capture, a line for each frame
+  -V, --version
+          Print version
+
+Begin with:
+  rtcm2rinex summary capture.rtcm
+
+Exit status:
+  0  the work is done
+  1  the work is not done; the last line on standard error says why
+  2  the words are refused
+  3  the file is not well-formed
+
+Manual: man rtcm2rinex, or docs/MANUAL.md"
+
+short_help="RTCM 3 observation streams to RINEX 3.05
+
+Usage: rtcm2rinex <COMMAND>
+
+Commands:
+  convert  Converts captures of one station to a RINEX 3.05 observation file
+  show     Shows the messages of a capture, a line for each frame
+  check    Checks whether a file is one that convert could have written
+  summary  Tells what a capture holds: stations, satellites and codes
+  chart    Draws a file: its satellites along its time, with slips and gaps
+  cut      Writes the file of a part of a file; no slip is lost
+  help     Print this message or the help of the given subcommand(s)
+
+Options:
+  -h, --help     Print help (see more with '--help')
+  -V, --version  Print version"
+
+show_help="Shows the messages of a capture, a line for each frame
+
+Usage: rtcm2rinex show [OPTIONS] <FILE>
+
+Arguments:
+  <FILE>
+          The capture, or stdin for standard input
+
+Options:
+      --hex
+          The capture is hex text
+
+  -h, --help
+          Print help (see a summary with '-h')
+
+Example:
+  rtcm2rinex show capture.rtcm
+
+Exit status:
+  0  the lines are written
+  1  they are not, or in part; standard error says why
+  2  the words are refused
+
+Manual: man rtcm2rinex, or docs/MANUAL.md"
+
+show_short_help="Shows the messages of a capture, a line for each frame
 
 Usage: rtcm2rinex show [OPTIONS] <FILE>
 
@@ -41,13 +99,13 @@ Arguments:
 
 Options:
       --hex   The capture is hex text
-  -h, --help  Print help'
+  -h, --help  Print help (see more with '--help')"
 
 try="
 For more information, try '--help'."
 
 no_command="error: 'rtcm2rinex' requires a subcommand but one was not provided
-  [subcommands: convert, show, check, summary, help]
+  [subcommands: convert, show, check, summary, chart, cut, help]
 
 Usage: rtcm2rinex <COMMAND>
 $try"
@@ -153,6 +211,10 @@ expect bytes_from_pipe 0 "$arp" ''
 run show ./stdin </dev/null;              expect no_file_of_the_name_stdin 1 '' 'rtcm2rinex: cannot open ./stdin'
 cp arp.rtcm stdin
 run show ./stdin </dev/null;              expect file_of_the_name_stdin 0 "$arp" ''
+cp arp.rtcm stdin.rtcm; cp arp.rtcm Stdin; cp arp.rtcm ' a,b=c '
+run show stdin.rtcm </dev/null;           expect file_of_a_name_that_begins_with_stdin 0 "$arp" ''
+run show Stdin </dev/null;                expect file_of_the_name_stdin_with_a_capital 0 "$arp" ''
+run show ' a,b=c ' </dev/null;            expect file_of_an_odd_name 0 "$arp" ''
 run show empty </dev/null;                expect empty_input 0 '' ''
 run show stdin </dev/null;                expect empty_standard_input 0 '' ''
 run show longest </dev/null;              expect longest_input 0 '' ''
@@ -176,6 +238,7 @@ run show - </dev/null;                    expect missing_file_of_a_hyphen 1 '' '
 run show STDIN <arp.rtcm;                 expect missing_file_of_the_name_stdin_in_capitals 1 '' 'rtcm2rinex: cannot open STDIN'
 run show "$(printf 'a\nb')" </dev/null;   expect missing_file_with_a_line_feed 1 '' 'rtcm2rinex: cannot open a
 b'
+run show "$(printf 'a\tb\303\244')" </dev/null; expect missing_file_with_a_tab 1 '' "$(printf 'rtcm2rinex: cannot open a\tb\303\244')"
 run show arp.hex </dev/null;              expect hex_text_as_bytes 0 '' ''
 ln -s nowhere dangling
 run show dangling </dev/null;             expect a_link_to_nothing 1 '' 'rtcm2rinex: cannot open dangling'
@@ -211,10 +274,12 @@ run show --hex frames.hex </dev/null;     leaves longest_hex_of_frames 0 hex_lin
 echo >>frames.hex
 run show --hex frames.hex </dev/null;     expect hex_of_frames_too_long 1 '' 'rtcm2rinex: input too long'
 
-for words in --help -h help; do
+for words in --help help; do
     run $words </dev/null;                expect "$words" 0 "$help" ''
 done
+run -h </dev/null;                        expect -h 0 "$short_help" ''
 run show --help </dev/null;               expect show_help 0 "$show_help" ''
+run show -h </dev/null;                   expect show_short_help 0 "$show_short_help" ''
 run help show </dev/null;                 expect help_show 0 "$show_help" ''
 run --version </dev/null;                 expect version 0 'rtcm2rinex 0.1.0' ''
 run -V </dev/null;                        expect version_in_short 0 'rtcm2rinex 0.1.0' ''
@@ -250,4 +315,4 @@ head -c 8192 frames >some; head -c 512 lines >part; echo 'rtcm2rinex: write fail
 (ulimit -f 1; exec "$root/bin/rtcm2rinex" show some) >out 2>err </dev/null; status=$?
 leaves start_show_with_a_limit_of_size 1 part part_err
 
-ends 71
+ends 76

@@ -10,7 +10,7 @@ run() {
     status=$?
 }
 
-help='Tells what a capture holds: stations, satellites and codes
+short_help="Tells what a capture holds: stations, satellites and codes
 
 Usage: rtcm2rinex summary <FILE>
 
@@ -18,7 +18,29 @@ Arguments:
   <FILE>  The capture, or stdin for standard input
 
 Options:
-  -h, --help  Print help'
+  -h, --help  Print help (see more with '--help')"
+
+help="Tells what a capture holds: stations, satellites and codes
+
+Usage: rtcm2rinex summary <FILE>
+
+Arguments:
+  <FILE>
+          The capture, or stdin for standard input
+
+Options:
+  -h, --help
+          Print help (see a summary with '-h')
+
+Example:
+  rtcm2rinex summary capture.rtcm
+
+Exit status:
+  0  the lines are written
+  1  they are not, or in part; standard error says why
+  2  the words are refused
+
+Manual: man rtcm2rinex, or docs/MANUAL.md"
 
 no_file="error: the following required arguments were not provided:
   <FILE>
@@ -82,8 +104,9 @@ frames 0
 nothing taken' ''
 
 run summary --help </dev/null;      expect summary_help 0 "$help" ''
+run summary -h </dev/null;          expect summary_short_help 0 "$short_help" ''
 run help summary </dev/null;        expect help_summary 0 "$help" ''
 run summary </dev/null;             expect summary_without_a_file 2 '' "$no_file"
 run summary a b </dev/null;         expect summary_of_two_files 2 '' "$two_files"
 
-ends 15
+ends 16

@@ -30,7 +30,7 @@ NOTHING = os.devnull
 SECONDS = 60  # a run that takes longer does not end
 GATHERED = 65_536  # so many bytes of a file are gathered before a write
 READ_AT_ONCE = 32_768  # so many bytes of a link, or of an input of `summary`, are read at once
-READ_IN_PIECES = 4096  # so many bytes of an input of `show` or `check` are read at once
+READ_IN_PIECES = 4096  # so many bytes of an input of `show`, `check` or `cut` are read at once
 
 MOST_INTERRUPTIONS = 1000  # so often in a row an interrupted call is made again
 
@@ -170,6 +170,16 @@ def epochs(seconds):
     return b"".join(frames)
 
 
+def records(count):
+    """A file of so many records, one each second from the noon of the examples on: the record of
+    base.rnx with other times."""
+    header, epoch, line = content(example("base.rnx")).rpartition(b"> 2024 05 17 12 00  0.0000000")
+    text = [header]
+    for second in range(count):
+        text += [f"> 2024 05 17 12 {second // 60:02} {second % 60:2}.0000000".encode(), line]
+    return written("records.rnx", b"".join(text))
+
+
 OPTIONS = ("--station", "2003", "--near", "2024-05-17T12:00:00", "--made", "2024-05-17T13:00:00",
            "--marker", "BASE", "--codes", "1C,2W,5X")
 
@@ -202,6 +212,11 @@ def cases():
         Case("summary", ("summary", example("session.rtcm"))),
         Case("summary of standard input", ("summary", "stdin"), example("late.rtcm")),
         Case("summary of a long file", ("summary", long)),
+        Case("chart", ("chart", example("session.rnx"))),
+        Case("chart of standard input", ("chart", "--text", "stdin"), example("session.rnx")),
+        Case("cut", ("cut", "--every", "30", example("slip.rnx"))),
+        Case("cut of standard input", ("cut", "--every", "1", "stdin"), example("session.rnx")),
+        Case("cut of a long file", ("cut", "--from", "2024-05-17T12:00:07", records(1500))),
         convert("convert", "--window", "2", example("late.rtcm")),
         convert(TWO_LINKS, *session),
         convert("convert of standard input", "--window", "2", "stdin",
@@ -573,7 +588,7 @@ def size_of_inputs(case):
 
 def asked_for(words):
     """How many bytes a read of an input asks for."""
-    return READ_IN_PIECES if words[0] in ("show", "check") else READ_AT_ONCE
+    return READ_IN_PIECES if words[0] in ("show", "check", "chart", "cut") else READ_AT_ONCE
 
 
 def short_piece(case):
@@ -639,7 +654,8 @@ def _first_write_of_report_fails():
 def _first_open_fails():
     base = example("base.rtcm")
     for case in [Case("show", ("show", base)), Case("check", ("check", base)),
-                 Case("summary", ("summary", base)), convert("convert", base), convert("convert of two links", base, base)]:
+                 Case("summary", ("summary", base)), Case("chart", ("chart", base)), Case("cut", ("cut", "--every", "1", base)),
+                 convert("convert", base), convert("convert of two links", base, base)]:
         for fault in ERRORS:
             yield f"{case.name}, errno {fault}", functools.partial(
                 fails, case, f"cannot open {base}", Disturbance({"FAILS_OPEN": 1, "FAULT": fault}))
@@ -679,7 +695,8 @@ def _unreadable():
     os.makedirs(folder, exist_ok=True)
     base = example("base.rtcm")
     for link in [folder, "/proc/self/mem"]:
-        for words in [("show", link), ("show", "--hex", link), ("check", link), ("summary", link)]:
+        for words in [("show", link), ("show", "--hex", link), ("check", link), ("summary", link),
+                      ("chart", link), ("cut", "--every", "1", link)]:
             yield " ".join(words), functools.partial(fails, Case("", words), "read failed")
         for place in range(16):
             links = [base] * 16
@@ -719,7 +736,7 @@ def _open_fails():
             yield f"link {place + 1} is missing, and the first is standard input", (
                 functools.partial(nothing_read, missing, place))
     for words in [("show", links[0]), ("show", "--hex", links[0]), ("check", links[0]),
-                  ("summary", links[0])]:
+                  ("summary", links[0]), ("chart", links[0]), ("cut", "--every", "1", links[0])]:
         for fault in faults:
             yield f"{words}, errno {fault}", functools.partial(
                 fails, Case("", words), f"cannot open {links[0]}",
@@ -826,7 +843,7 @@ def convert_to_its_last_read():
 @scene("a link that vanishes, grows, is replaced, cut or overwritten before a read")
 def _link_changes():
     for words, file in [(("show",), "long.rtcm"), (("check",), "long.rnx"),
-                        (("summary",), "long.rtcm"),
+                        (("summary",), "long.rtcm"), (("cut", "--every", "2"), "long.rnx"),
                         (("convert", *OPTIONS, "--window", "2"), "long.rtcm")]:
         for before in [1, 2]:
             for change in CHANGES:

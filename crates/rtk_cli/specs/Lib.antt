@@ -1,5 +1,7 @@
+pub mod ChartInput
 pub mod CheckInput
 pub mod Converting
+pub mod CutInput
 pub mod Hex
 pub mod Input
 pub mod Show

@@ -3,5 +3,6 @@ pub mod ClapStatus
 pub mod CodeList
 pub mod MomentText
 pub mod ConvertWords
+pub mod CutWords
 pub mod ReadLimits
 pub mod Interrupts

@@ -23,7 +23,7 @@ const READ_AT_ONCE: usize = 32_768;
 
 /// How many bytes of the file and of the report are gathered before they are written, if no link is
 /// standard input.
-const GATHERED: usize = 65_536;
+pub(crate) const GATHERED: usize = 65_536;
 
 /// The most reads of a conversion, and of a summary.
 pub(crate) const MOST_READS: u64 = 1_000_000_000;
@@ -78,9 +78,9 @@ fn open_links<'a, R: Files + Input + AllocGlobal>(
     Ok(links)
 }
 
-// Standard output or standard error as a sink. It gathers what it takes, or, with no room, passes
-// each write on.
-fn sink<W: Write + Drop>(
+/// Standard output or standard error as a sink. It gathers what it takes, or, with no room, passes
+/// each write on.
+pub(crate) fn sink<W: Write + Drop>(
     alloc: Global,
     room: usize,
     to: W,

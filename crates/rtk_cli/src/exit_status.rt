@@ -15,7 +15,8 @@ pub(crate) const FAILED: u8 = 1;
 /// The words are refused.
 pub(crate) const REFUSED: u8 = 2;
 
-/// `check` says no: the text is not one that `convert` could have written.
+/// `check` says no: the text is not one that `convert` could have written; or it would say no of a
+/// text that is to be cut.
 pub(crate) const NOT_VALID: u8 = 3;
 
 /// Says why the work is not done. If standard error is closed nobody reads it.

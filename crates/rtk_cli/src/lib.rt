@@ -14,13 +14,17 @@
 //! Its tests: tests/values/src/cli.rt.in and cli/, and tests/program
 #![tactic(auto)]
 
+mod charting;
 mod checking;
 mod code_list;
 mod command_line;
 mod convert_words;
 mod converting;
+mod cut_words;
+mod cutting;
 mod exit_status;
 mod files;
+mod help_texts;
 mod hex_input;
 mod input;
 pub mod laws;

@@ -1,4 +1,4 @@
-//! The values of the options of `convert`.
+//! The values of the options of `convert` and of `cut`.
 
 ghost use Rattle.rtk_convert.specs.Setup.{IsStation, IsWindow};
 
@@ -21,4 +21,15 @@ pub(crate) struct Options<'a> {
     // Their parsers refuse other numbers.
     ghost station_fits: { IsStation station },
     ghost window_fits: { IsWindow window },
+}
+
+/// The values of the options of `cut`, as clap gives them. Texts are not yet read.
+#[derive(Clone, Copy)]
+pub(crate) struct CutOptions<'a> {
+    /// The text of the moment at which the part begins.
+    pub(crate) from: Option<&'a str>,
+    /// The text of the moment before which it ends.
+    pub(crate) until: Option<&'a str>,
+    /// The step in s.
+    pub(crate) every: Option<u32>,
 }

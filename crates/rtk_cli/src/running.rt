@@ -3,9 +3,11 @@
 
 ghost use Rattle.std.specs.Prelude.{◌≤◌};
 
+use crate::charting::chart_named;
 use crate::checking::check_input;
 use crate::command_line::job;
 use crate::converting::convert_links;
+use crate::cutting::cut_named;
 use crate::exit_status::{DONE, NOT_VALID, REFUSED, fail, fail_to_open, print_clap_text, refuse};
 use crate::files::{Reads, open_capture, standard_output};
 use crate::showing::show;
@@ -69,6 +71,8 @@ fn run_words<R: Files + Input + Print + Eprint + AllocGlobal, W: Write + Drop>(
         Ok(Job::Show { hex, file }) => show_named(rt, hex, file),
         Ok(Job::Check { file }) => check_named(rt, file),
         Ok(Job::Summary { file }) => summarize_named(rt, file),
+        Ok(Job::Chart { width, file }) => chart_named(rt, width, file),
+        Ok(Job::Cut { part, file }) => cut_named(rt, part, file),
         Err(WordsFault::Clap { text, status }) => print_clap_text(rt, text.as_str(), status),
         Err(WordsFault::Bad { line }) => refuse(rt, line),
         Err(WordsFault::OutOfMemory) => fail(rt, ToolFault::OutOfMemory),
@@ -76,7 +80,8 @@ fn run_words<R: Files + Input + Print + Eprint + AllocGlobal, W: Write + Drop>(
 }
 
 /// Runs the program, and answers its exit status: 0 if the work is done, 1 if an input or an output
-/// failed or memory was refused, 2 if the words are refused, and 3 if `check` says no. The report
+/// failed or memory was refused, 2 if the words are refused, and 3 if `check` says no, also of a file
+/// that is to be drawn or cut. The report
 /// of a conversion goes to `report`, which is standard error.
 pub fn run_program<R: Env + Files + Input + Print + Eprint + AllocGlobal, W: Write + Drop>(
     rt: &R,

@@ -2,6 +2,7 @@
 
 use arrayvec::ArrayVec;
 use rtk_convert::Setup;
+use rtk_cut::Part;
 use std::alloc::AllocError;
 use thiserror::Error;
 
@@ -35,10 +36,24 @@ pub enum Job<'a> {
         /// The name of the capture; `stdin` is standard input.
         file: &'a str,
     },
+    /// `chart FILE [--text [--columns N]]`: a picture of a file.
+    Chart {
+        /// How many characters wide the picture is, 40 to 400; `None` is a picture in SVG.
+        width: Option<u16>,
+        /// The name of the file; `stdin` is standard input.
+        file: &'a str,
+    },
+    /// `cut OPTIONS FILE`: a part of a file.
+    Cut {
+        /// The span and the step.
+        part: Part,
+        /// The name of the file; `stdin` is standard input.
+        file: &'a str,
+    },
 }
 
-/// Why words that clap takes give no conversion: the first cause that holds, in this order.
-/// Displayed, it is the fault line of the program.
+/// Why words that clap takes give no conversion, or no part: the first cause that holds, in this
+/// order. Displayed, it is the fault line of the program.
 #[derive(Clone, Copy, Debug, PartialEq, Eq, Error)]
 pub enum BadWords {
     /// The reference is written in another form, or there is no such moment, or times can't be
@@ -59,6 +74,13 @@ pub enum BadWords {
     /// The links are not 1 to 16, or standard input stands twice.
     #[error("bad links")]
     Links,
+    /// The begin of a part is written in another form, or there is no such moment.
+    #[error("bad --from")]
+    From,
+    /// The end of a part is written in another form, or there is no such moment, or it is before the
+    /// begin.
+    #[error("bad --until")]
+    Until,
 }
 
 /// Why the words give no job.
@@ -72,7 +94,7 @@ pub enum WordsFault {
         /// The exit status of the program.
         status: u8,
     },
-    /// Words that clap takes give no conversion (status 2).
+    /// Words that clap takes give no conversion, or no part (status 2).
     Bad {
         /// The fault line.
         line: BadWords,
@@ -92,7 +114,7 @@ impl From<AllocError> for WordsFault {
     }
 }
 
-/// Why `show` or `check` is not done. Displayed, it is the fault line of the program.
+/// Why `show`, `check`, `chart` or `cut` is not done. Displayed, it is the fault line of the program.
 #[derive(Clone, Copy, Debug, PartialEq, Eq, Error)]
 pub enum ToolFault {
     /// P1: a read failed.

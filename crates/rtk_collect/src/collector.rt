@@ -78,19 +78,19 @@ impl Collector {
     ///
     /// Only a message that would be taken takes memory, all of it before anything changes. If
     /// memory is refused, the collector is unchanged.
-    pub fn offer(&mut self, dated: Dated) -> Result<Offer, AllocError>
+    pub fn offer(&mut self, dated: Dated<'_>) -> Result<Offer, AllocError>
         ensures size { self.new.size ≡ self.old.size }
         ensures bound { length self.new.sets ≤ self.new.size }
         // That it does not give up: rows offer of tests/calls.
-        ensures answer { IfOk result (λ offer. AnswersArrival self.old dated offer self.new) }
+        ensures answer { IfOk result (λ offer. AnswersArrival self.old dated.entry offer self.new) }
         ensures closed { IfOk result (λ offer. ClosesBelow offer self.new.sets) }
         ensures least_closes { IfOk result (λ offer. ClosesLeast self.old.size self.old.sets offer) }
         ensures least { LeastNeverFalls self.old self.new }
         ensures err { OnErr result (self.new ≡ self.old) }
-        ensures refused { OnErr result (WouldBeTaken self.old dated) }
+        ensures refused { OnErr result (WouldBeTaken self.old dated.entry) }
     {
         let epoch = dated.epoch;
-        match &dated.message {
+        match dated.message {
             Message::Obs1004(message) => {
                 let Some(epoch) = epoch else { unreachable!() };
                 put_cells_1004(message, &mut self.room);

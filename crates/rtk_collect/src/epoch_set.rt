@@ -6,7 +6,7 @@ ghost use Rattle.rtk_collect.specs.Key.{KeysRise};
 ghost use Rattle.rtk_collect.specs.EpochSet.{joined, fresh, conflicts};
 
 use crate::conflicts::{Conflicts, Joined};
-use crate::merging::{compare, has_rising_keys, interleave, merge};
+use crate::merging::{are_apart, compare, has_rising_keys, interleave, merge};
 use rtk_obs::{CellEntry, GpsMs};
 use std::alloc::{AllocError, Global};
 use std::marker::Model;
@@ -86,6 +86,9 @@ impl EpochSet {
                 fresh: cells.len(),
                 conflicts: Conflicts::new(),
             });
+        }
+        if has_rising_keys(cells) && are_apart(cells, &self.cells) {
+            return self.join_rising(cells, cells.len());
         }
         let found = compare(cells, &self.cells);
         let fresh = found.fresh;

@@ -9,10 +9,9 @@
 //! // The first 1005 is taken, and the same message again is a repeat.
 //! fn example(alloc: Global) -> Result<bool, AllocError> {
 //!     let mut collector = Collector::new(alloc, 64);
-//!     let first = Dated::new(Message::Arp1005(Arp1005::default()), None);
-//!     let second = Dated::new(Message::Arp1005(Arp1005::default()), None);
-//!     let is_new = matches!(collector.offer(first)?, Offer::Taken { .. });
-//!     Ok(is_new && matches!(collector.offer(second)?, Offer::Repeat))
+//!     let message = Message::Arp1005(Arp1005::default());
+//!     let is_new = matches!(collector.offer(Dated::new(&message, None))?, Offer::Taken { .. });
+//!     Ok(is_new && matches!(collector.offer(Dated::new(&message, None))?, Offer::Repeat))
 //! }
 //! ```
 //!

@@ -1,6 +1,6 @@
 //! The cells of a message join the cells of their epoch.
 
-ghost use Rattle.std.specs.Prelude.{◌≡◌, ◌≢◌, ◌≤◌, ◌<◌, ◌+◌, [], ◌∷◌, ◌++◌, not, length, slice_index_or, vec_len, vec_capacity, IsTrue, if◌then◌else◌};
+ghost use Rattle.std.specs.Prelude.{◌≡◌, ◌≢◌, ◌≤◌, ◌<◌, ◌+◌, [], ◌∷◌, ◌++◌, not, length, slice_index_or, vec_len, vec_capacity, IsTrue, All, if◌then◌else◌};
 ghost use Rattle.rtk_collect.specs.Key.{key, KeysRise};
 ghost use Rattle.rtk_collect.specs.EpochSet.{with_cell, with_cells, cell_under, fresh, conflict, conflicts};
 ghost use Rattle.rtk_collect.specs.Steps.OrderedPlaces.{lower};
@@ -31,6 +31,36 @@ pub(crate) fn has_rising_keys(cells: &[CellEntry]) -> bool
         at += 1;
     }
     true
+}
+
+// Whether all cells came in this kind of message.
+fn are_from(source: CellSource, cells: &[CellEntry]) -> bool
+    ensures { IsTrue result → All (λ c. c.cell.source ≡ source) cells.now }
+{
+    for cell in cells {
+        if cell.cell.source != source {
+            return false;
+        }
+    }
+    true
+}
+
+/// Whether there are cells that came in one kind of message, and all kept ones came in the other.
+/// Then each is new, which is told sooner so than by the keys.
+pub(crate) fn are_apart(cells: &[CellEntry], kept: &[CellEntry]) -> bool
+    ensures some { IsTrue result → 0 < length cells.now }
+    ensures fresh { IsTrue result → fresh cells.now kept.now ≡ length cells.now }
+{
+    if cells.is_empty() {
+        return false;
+    }
+    if are_from(CellSource::Msm, cells) {
+        return are_from(CellSource::Legacy, kept);
+    }
+    if are_from(CellSource::Legacy, cells) {
+        return are_from(CellSource::Msm, kept);
+    }
+    false
 }
 
 /// How many of the cells are new: no kept cell has their key. If none is new, also which of them

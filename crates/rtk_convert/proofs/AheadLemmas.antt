@@ -13,7 +13,7 @@ use Rattle.rtk_collect.specs.Offered.{ClosesBelow, ClosesLeast, LeastNeverFalls,
 use Rattle.rtk_convert.specs.Steps.Closing.{AllAbove}
 use Rattle.rtk_convert.specs.Steps.ShownCells.{AllBelow}
 use Rattle.rtk_convert.specs.Steps.AddedMessage.{closed_by}
-use Rattle.rtk_convert.specs.Records.{RecordsView}
+use Rattle.rtk_convert.specs.Records.{ClosedEpochsView}
 use Rattle.rtk_convert.specs.Conversion.{IsUnder, IsAhead}
 
 -- ---- no epoch closes
@@ -28,7 +28,7 @@ under-stays : (o : Option Track) (old new : CollectorView) → LeastNeverFalls o
 under-stays None old new never h = tt
 under-stays (Some t) old new never h = let n = never h.0 in (n.0, under t.epoch new.sets (n.1 (suc t.epoch) (bound t.epoch old.sets h.1)))
 
-pub ahead-stays : (old new : CollectorView) (c : RecordsView) → LeastNeverFalls old new → IsAhead old c → IsAhead new c
+pub ahead-stays : (old new : CollectorView) (c : ClosedEpochsView) → LeastNeverFalls old new → IsAhead old c → IsAhead new c
 ahead-stays old new c never h sat code hs = under-stays (track_at c.tracks sat code) old new never (h sat code hs)
 
 -- ---- an epoch closes
@@ -60,7 +60,7 @@ under-closes None w e least h = tt
 under-closes (Some t) w e least h = let l = least (suc t.epoch) (bound t.epoch w.sets h.1) in omega (arith, l)
 
 -- the epoch that closes is above all last phases
-pub ahead-closes : (old : CollectorView) (c : RecordsView) (offer : Offer) (e : EpochSetView) → closed_by offer ≡ Some e → ClosesLeast old.size old.sets offer → IsAhead old c → AllBelow c.tracks e.epoch
+pub ahead-closes : (old : CollectorView) (c : ClosedEpochsView) (offer : Offer) (e : EpochSetView) → closed_by offer ≡ Some e → ClosesLeast old.size old.sets offer → IsAhead old c → AllBelow c.tracks e.epoch
 ahead-closes old c offer e some least h sat code hs =
     under-closes (track_at c.tracks sat code) old e (closes-least old.size old.sets offer e some least).1 (h sat code hs)
 
@@ -70,7 +70,7 @@ under-after (Some t) e w full below h =
     (full, All-weaker (λ (x : EpochSetView). e.epoch < x.epoch) (λ (x : EpochSetView). t.epoch < x.epoch) (λ x l. omega (arith, l, h)) w.sets below)
 
 -- and the window stays ahead of its phases too
-pub ahead-after : (old new : CollectorView) (c : RecordsView) (offer : Offer) (e : EpochSetView) → closed_by offer ≡ Some e → ClosesLeast old.size old.sets offer → ClosesBelow offer new.sets
+pub ahead-after : (old new : CollectorView) (c : ClosedEpochsView) (offer : Offer) (e : EpochSetView) → closed_by offer ≡ Some e → ClosesLeast old.size old.sets offer → ClosesBelow offer new.sets
     → LeastNeverFalls old new → AllBelow c.tracks (suc e.epoch) → IsAhead new c
 ahead-after old new c offer e some least below never h sat code hs =
     under-after (track_at c.tracks sat code) e new (never (closes-least old.size old.sets offer e some least).0).0 (closes-below new.sets offer e some below) (h sat code hs)
@@ -82,7 +82,7 @@ under-all None w k d l h = tt
 under-all (Some t) w k d l h = h.1 k d l
 
 -- the epochs of the window are above all last phases
-pub ahead-all : (w : CollectorView) (c : RecordsView) → IsAhead w c → AllAbove c w.sets
+pub ahead-all : (w : CollectorView) (c : ClosedEpochsView) → IsAhead w c → AllAbove c w.sets
 ahead-all w c h k d l sat code hs = under-all (track_at c.tracks sat code) w k d l (h sat code hs)
 
 -- without last phases any window is ahead
@@ -90,5 +90,5 @@ under-none : (o : Option Track) (w : CollectorView) → IsLater o 0 → IsUnder 
 under-none None w h = tt
 under-none (Some t) w h = absurd (omega (arith, h))
 
-pub ahead-none : (w : CollectorView) (c : RecordsView) → AllBelow c.tracks 0 → IsAhead w c
+pub ahead-none : (w : CollectorView) (c : ClosedEpochsView) → AllBelow c.tracks 0 → IsAhead w c
 ahead-none w c h sat code hs = under-none (track_at c.tracks sat code) w (h sat code hs)

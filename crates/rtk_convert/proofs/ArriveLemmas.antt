@@ -25,7 +25,7 @@ use Rattle.rtk_convert.specs.Steps.ClosedText.{closing}
 use Rattle.rtk_convert.specs.FileOfArrivals.{site_of_stations, site_of_kept, file_so_far}
 use Rattle.rtk_convert.specs.FrameClass.{IsClassOfPayload, Found, arrivals}
 use Rattle.rtk_convert.specs.Steps.AddedMessage.{closed_by, AddsMessage, AddsMessageInPart}
-use Rattle.rtk_convert.specs.Records.{RecordsView, HasClosed}
+use Rattle.rtk_convert.specs.Records.{ClosedEpochsView, HasClosed}
 use Rattle.rtk_convert.specs.Report.{frame_lines, refused_line, lines, counted_as, one_frame_more, frame_counts}
 use Rattle.rtk_convert.specs.Steps.OfferLines.{offer_lines, class_of_offer}
 use Rattle.rtk_convert.specs.Setup.{SetupView}
@@ -37,7 +37,7 @@ use Rattle.rtk_convert.proofs.OneTextLemmas.{one-arrived}
 use Rattle.rtk_convert.proofs.SoFarLemmas.{so_far-stays, so_far-closes, so_far-grows}
 use Rattle.rtk_convert.proofs.WritingLemmas.{writes-none, writes-text, part-text, part-none, part-all, takes-none}
 
-abbrev pub state : SetupView → CollectorView → RecordsView → Counts → Bool → ConversionView
+abbrev pub state : SetupView → CollectorView → ClosedEpochsView → Counts → Bool → ConversionView
 state s w c k b = record { setup = s; collector = w; records = c; counts = k; stopped = b }
 
 -- ---- the site
@@ -64,7 +64,7 @@ site-kept n w arrivals p size holds is =
 -- ---- an arrival
 
 -- it closes no epoch
-pub takes-none-closed : {s : SetupView} {w w' : CollectorView} {c : RecordsView} {k k' : Counts} {b : Bool} {link : ℕ} {a : Arrival} (offer : Offer) {o : Written} {report : Option (List ℕ)}
+pub takes-none-closed : {s : SetupView} {w w' : CollectorView} {c : ClosedEpochsView} {k k' : Counts} {b : Bool} {link : ℕ} {a : Arrival} (offer : Offer) {o : Written} {report : Option (List ℕ)}
     → w.size ≡ s.window → closed_by offer ≡ None → AnswersArrival w a offer w' → k' ≡ counted_as (class_of_offer offer) k
     → report ≡ with_more o.report (offer_lines link (number_of (message_of a)) (epoch_of a) offer) → AddsMessage (state s w c k b) link a (state s w' c k' b) o (written o.file report)
 takes-none-closed {s} {w} {w'} {c} {k} {k'} {b} {link} {a} offer {o} {report} size none meets counts wrote = λ before after.
@@ -86,7 +86,7 @@ closing-text s w w' a offer e p before size size' some answer holds position =
     ∙ ap (λ (x : PositionView). file_so_far s before ++ closing s x e (closed s.window before)) (sym (site-kept s.window w' (a ∷ before) p size' holds (position (a ∷ before) holds)))
 
 -- it closes an epoch
-pub takes-some-closed : {s : SetupView} {w w' : CollectorView} {c c' : RecordsView} {k k' : Counts} {b : Bool} {link : ℕ} {a : Arrival} (offer : Offer) {e : EpochSetView} {p : Position} {o o' : Written}
+pub takes-some-closed : {s : SetupView} {w w' : CollectorView} {c c' : ClosedEpochsView} {k k' : Counts} {b : Bool} {link : ℕ} {a : Arrival} (offer : Offer) {e : EpochSetView} {p : Position} {o o' : Written}
     → w.size ≡ s.window → w'.size ≡ s.window → closed_by offer ≡ Some e → AnswersArrival w a offer w' → ((before : List Arrival) → RepresentsArrivals w' before → IsPositionOf w'.size before p) → k' ≡ counted_as (class_of_offer offer) k
     → ((below : List EpochSetView) → HasClosed c s.head.listed below → HasClosed c' s.head.listed (e ∷ below))
     → ((below : List EpochSetView) → HasClosed c s.head.listed below → o'.file ≡ with_more o.file (closing s (position_view p) e below))
@@ -106,13 +106,13 @@ takes-some-closed {s} {w} {w'} {c} {c'} {k} {k'} {b} {link} {a} offer {e} {p} {o
 -- ---- it breaks off
 
 -- nothing was written
-pub part-nothing : {s : SetupView} {w : CollectorView} {c : RecordsView} {k : Counts} {b : Bool} {link : ℕ} {a : Arrival} {o : Written} → AddsMessageInPart (state s w c k b) link a o o
+pub part-nothing : {s : SetupView} {w : CollectorView} {c : ClosedEpochsView} {k : Counts} {b : Bool} {link : ℕ} {a : Arrival} {o : Written} → AddsMessageInPart (state s w c k b) link a o o
 part-nothing {s} {w} {c} {k} {b} {link} {a} {o} = λ before after.
     let g = so_far-grows s a before in
     record { out = part-none o.file (file_so_far s before) (file_so_far s (a ∷ before)) g.0 g.1; log = takes-none o.report (frame_lines s.window link (Dated a) before) }
 
 -- in its record
-pub part-record : {s : SetupView} {w w' : CollectorView} {c : RecordsView} {k : Counts} {b : Bool} {link : ℕ} {a : Arrival} (offer : Offer) {e : EpochSetView} {p : Position} {o : Written} {file : Option (List ℕ)}
+pub part-record : {s : SetupView} {w w' : CollectorView} {c : ClosedEpochsView} {k : Counts} {b : Bool} {link : ℕ} {a : Arrival} (offer : Offer) {e : EpochSetView} {p : Position} {o : Written} {file : Option (List ℕ)}
     → w.size ≡ s.window → w'.size ≡ s.window → closed_by offer ≡ Some e → AnswersArrival w a offer w' → ((before : List Arrival) → RepresentsArrivals w' before → IsPositionOf w'.size before p)
     → ((below : List EpochSetView) → HasClosed c s.head.listed below → TakesPart o.file file (closing s (position_view p) e below))
     → AddsMessageInPart (state s w c k b) link a o (written file o.report)
@@ -126,7 +126,7 @@ part-record {s} {w} {w'} {c} {k} {b} {link} {a} offer {e} {p} {o} {file} size si
     }
 
 -- in its lines
-pub part-lines : {s : SetupView} {w w' : CollectorView} {c c' : RecordsView} {k k' : Counts} {b : Bool} {link : ℕ} {a : Arrival} (offer : Offer) {o o' : Written} → w.size ≡ s.window → AnswersArrival w a offer w'
+pub part-lines : {s : SetupView} {w w' : CollectorView} {c c' : ClosedEpochsView} {k k' : Counts} {b : Bool} {link : ℕ} {a : Arrival} (offer : Offer) {o o' : Written} → w.size ≡ s.window → AnswersArrival w a offer w'
     → AddsMessage (state s w c k b) link a (state s w' c' k' b) o (written o'.file (with_more o.report (offer_lines link (number_of (message_of a)) (epoch_of a) offer)))
     → TakesPart o.report o'.report (offer_lines link (number_of (message_of a)) (epoch_of a) offer) → AddsMessageInPart (state s w c k b) link a o o'
 part-lines {s} {w} {w'} {c} {c'} {k} {k'} {b} {link} {a} offer {o} {o'} size meets takes part = λ before after.
@@ -140,7 +140,7 @@ part-lines {s} {w} {w'} {c} {c'} {k} {k'} {b} {link} {a} offer {o} {o'} size mee
 
 -- ---- a frame
 
-pub arrives-arrived : {s : SetupView} {w : CollectorView} {c : RecordsView} {new : ConversionView} {k k₁ : Counts} {b b₁ : Bool} {link : ℕ} (payload : List ℕ) {a : Arrival} {o o' : Written}
+pub arrives-arrived : {s : SetupView} {w : CollectorView} {c : ClosedEpochsView} {new : ConversionView} {k k₁ : Counts} {b b₁ : Bool} {link : ℕ} (payload : List ℕ) {a : Arrival} {o o' : Written}
     → IsClassOfPayload s payload (Dated a) → k₁ ≡ one_frame_more k → new.setup ≡ s → AddsMessage (state s w c k₁ b₁) link a new o o'
     → AcceptsFrame (state s w c k b) link payload new o o'
 arrives-arrived {s} {w} {c} {new} {k} {k₁} {b} {b₁} {link} payload {a} {o} {o'} comes frames same_setup takes = λ before rep.
@@ -159,7 +159,7 @@ arrives-arrived {s} {w} {c} {new} {k} {k₁} {b} {b₁} {link} payload {a} {o} {
       },
     )
 
-pub breaks-arrived : {s : SetupView} {w : CollectorView} {c : RecordsView} {k k₁ : Counts} {b b₁ : Bool} {link : ℕ} (payload : List ℕ) {a : Arrival} {o o' : Written}
+pub breaks-arrived : {s : SetupView} {w : CollectorView} {c : ClosedEpochsView} {k k₁ : Counts} {b b₁ : Bool} {link : ℕ} (payload : List ℕ) {a : Arrival} {o o' : Written}
     → IsClassOfPayload s payload (Dated a) → AddsMessageInPart (state s w c k₁ b₁) link a o o' → BreaksOffAtFrame (state s w c k b) link payload o o'
 breaks-arrived {s} {w} {c} {k} {k₁} {b} {b₁} {link} payload {a} {o} {o'} comes takes = λ before rep.
     let t = takes (arrivals before) (record { window = rep.window; closed = rep.closed }) in (
@@ -172,7 +172,7 @@ breaks-arrived {s} {w} {c} {k} {k₁} {b} {b₁} {link} payload {a} {o} {o'} com
       },
     )
 
-pub arrives-other : {s : SetupView} {w : CollectorView} {c : RecordsView} {k k' : Counts} {b b' : Bool} {link : ℕ} (payload : List ℕ) {o : Written} → IsClassOfPayload s payload OtherMessage
+pub arrives-other : {s : SetupView} {w : CollectorView} {c : ClosedEpochsView} {k k' : Counts} {b b' : Bool} {link : ℕ} (payload : List ℕ) {o : Written} → IsClassOfPayload s payload OtherMessage
     → k' ≡ record (one_frame_more k) { other = count_after k.other } → AcceptsFrame (state s w c k b) link payload (state s w c k' b') o o
 arrives-other {s} {w} {c} {k} {k'} {b} {b'} {link} payload {o} comes counts = λ before rep. (
   OtherMessage,
@@ -184,7 +184,7 @@ arrives-other {s} {w} {c} {k} {k'} {b} {b'} {link} payload {o} comes counts = λ
   },
 )
 
-pub arrives-foreign : {s : SetupView} {w : CollectorView} {c : RecordsView} {k k' : Counts} {b b' : Bool} {link : ℕ} (payload : List ℕ) {o : Written} → IsClassOfPayload s payload Foreign
+pub arrives-foreign : {s : SetupView} {w : CollectorView} {c : ClosedEpochsView} {k k' : Counts} {b b' : Bool} {link : ℕ} (payload : List ℕ) {o : Written} → IsClassOfPayload s payload Foreign
     → k' ≡ record (one_frame_more k) { foreign = count_after k.foreign } → AcceptsFrame (state s w c k b) link payload (state s w c k' b') o o
 arrives-foreign {s} {w} {c} {k} {k'} {b} {b'} {link} payload {o} comes counts = λ before rep. (
   Foreign,
@@ -196,7 +196,7 @@ arrives-foreign {s} {w} {c} {k} {k'} {b} {b'} {link} payload {o} comes counts = 
   },
 )
 
-pub arrives-refused : {s : SetupView} {w : CollectorView} {c : RecordsView} {k k' : Counts} {b b' : Bool} {link : ℕ} (payload : List ℕ) {fault : DecodeFault} {o : Written} {report : Option (List ℕ)} → IsClassOfPayload s payload (Refused fault)
+pub arrives-refused : {s : SetupView} {w : CollectorView} {c : ClosedEpochsView} {k k' : Counts} {b b' : Bool} {link : ℕ} (payload : List ℕ) {fault : DecodeFault} {o : Written} {report : Option (List ℕ)} → IsClassOfPayload s payload (Refused fault)
     → k' ≡ record (one_frame_more k) { refused = count_after k.refused } → report ≡ with_more o.report (refused_line link fault) → AcceptsFrame (state s w c k b) link payload (state s w c k' b') o (written o.file report)
 arrives-refused {s} {w} {c} {k} {k'} {b} {b'} {link} payload {fault} {o} {report} comes counts wrote = λ before rep. (
   Refused fault,
@@ -208,7 +208,7 @@ arrives-refused {s} {w} {c} {k} {k'} {b} {b'} {link} payload {fault} {o} {report
   },
 )
 
-pub breaks-refused : {s : SetupView} {w : CollectorView} {c : RecordsView} {k : Counts} {b : Bool} {link : ℕ} (payload : List ℕ) {fault : DecodeFault} {o : Written} {report : Option (List ℕ)} → IsClassOfPayload s payload (Refused fault)
+pub breaks-refused : {s : SetupView} {w : CollectorView} {c : ClosedEpochsView} {k : Counts} {b : Bool} {link : ℕ} (payload : List ℕ) {fault : DecodeFault} {o : Written} {report : Option (List ℕ)} → IsClassOfPayload s payload (Refused fault)
     → TakesPart o.report report (refused_line link fault) → BreaksOffAtFrame (state s w c k b) link payload o (written o.file report)
 breaks-refused {s} {w} {c} {k} {b} {link} payload {fault} {o} {report} comes part = λ before rep. (
   Refused fault,
@@ -221,7 +221,7 @@ breaks-refused {s} {w} {c} {k} {b} {link} payload {fault} {o} {report} comes par
 )
 
 -- whether it has stopped is no part of what it represents
-pub arrives-still : {s s' : SetupView} {w w' : CollectorView} {c c' : RecordsView} {k k' : Counts} {b b' d d' : Bool} {link : ℕ} (payload : List ℕ) {o o' : Written}
+pub arrives-still : {s s' : SetupView} {w w' : CollectorView} {c c' : ClosedEpochsView} {k k' : Counts} {b b' d d' : Bool} {link : ℕ} (payload : List ℕ) {o o' : Written}
     → AcceptsFrame (state s w c k b) link payload (state s' w' c' k' b') o o' → AcceptsFrame (state s w c k d) link payload (state s' w' c' k' d') o o'
 arrives-still {s} {s'} {w} {w'} {c} {c'} {k} {k'} {b} {b'} {d} {d'} {link} payload {o} {o'} arrives = λ before rep.
     let t = arrives before (record { window = rep.window; closed = rep.closed; counts = rep.counts }) in (
@@ -234,7 +234,7 @@ arrives-still {s} {s'} {w} {w'} {c} {c'} {k} {k'} {b} {b'} {d} {d'} {link} paylo
       },
     )
 
-pub breaks-still : {s : SetupView} {w : CollectorView} {c : RecordsView} {k : Counts} {b d : Bool} {link : ℕ} (payload : List ℕ) {o o' : Written}
+pub breaks-still : {s : SetupView} {w : CollectorView} {c : ClosedEpochsView} {k : Counts} {b d : Bool} {link : ℕ} (payload : List ℕ) {o o' : Written}
     → BreaksOffAtFrame (state s w c k b) link payload o o' → BreaksOffAtFrame (state s w c k d) link payload o o'
 breaks-still {s} {w} {c} {k} {b} {d} {link} payload {o} {o'} breaks = λ before rep.
     let t = breaks before (record { window = rep.window; closed = rep.closed; counts = rep.counts }) in (

@@ -18,7 +18,7 @@ use Rattle.rtk_convert.specs.FileOfArrivals.{kept_file, file_so_far}
 use Rattle.rtk_convert.specs.FrameClass.{Found, arrivals}
 use Rattle.rtk_convert.specs.Finish.{all_counts, report_of}
 use Rattle.rtk_convert.specs.Steps.Closing.{ClosesEpochs, ClosesEpochsInPart, FinishesConversion, FinishesConversionInPart}
-use Rattle.rtk_convert.specs.Records.{RecordsView, HasClosed}
+use Rattle.rtk_convert.specs.Records.{ClosedEpochsView, HasClosed}
 use Rattle.rtk_convert.specs.Report.{lines, frame_counts}
 use Rattle.rtk_convert.specs.ReportText.{count_lines}
 use Rattle.rtk_convert.specs.Setup.{SetupView}
@@ -32,16 +32,16 @@ use Rattle.rtk_convert.proofs.AnswersLemmas.{any_epoch}
 use Rattle.rtk_convert.proofs.WritingLemmas.{writes-none, writes-text, writes-on, part-text, part-none, part-all, part-longer, part-on}
 
 -- some of the epochs that were left have closed
-pub record SomeClosed (s : SetupView) (site : PositionView) (held now : List EpochSetView) (first last : RecordsView) (o o' : Option (List ℕ)) : Type 0 where
+pub record SomeClosed (s : SetupView) (site : PositionView) (held now : List EpochSetView) (first last : ClosedEpochsView) (o o' : Option (List ℕ)) : Type 0 where
   pub gone : List EpochSetView
   pub split : held ≡ now ++ gone
   pub wrote : (below : List EpochSetView) → HasClosed first s.head.listed below
       → HasClosed last s.head.listed (gone ++ below) × WritesRest o o' (closed_text s site below) (closed_text s site (gone ++ below))
 
-pub some-none : (s : SetupView) (site : PositionView) (held : List EpochSetView) (c : RecordsView) (o : Option (List ℕ)) → SomeClosed s site held held c c o o
+pub some-none : (s : SetupView) (site : PositionView) (held : List EpochSetView) (c : ClosedEpochsView) (o : Option (List ℕ)) → SomeClosed s site held held c c o o
 some-none s site held c o = record { gone = []; split = sym (append-nil held); wrote = λ below f. (f, writes-none o _ _ refl) }
 
-pub some-more : {s : SetupView} {site : PositionView} {held now next : List EpochSetView} {e : EpochSetView} {first last last' : RecordsView} {o o' o'' : Option (List ℕ)}
+pub some-more : {s : SetupView} {site : PositionView} {held now next : List EpochSetView} {e : EpochSetView} {first last last' : ClosedEpochsView} {o o' o'' : Option (List ℕ)}
     → SomeClosed s site held now first last o o' → now ≡ next ++ e ∷ []
     → ((below : List EpochSetView) → HasClosed last s.head.listed below → HasClosed last' s.head.listed (e ∷ below))
     → ((below : List EpochSetView) → HasClosed last s.head.listed below → o'' ≡ with_more o' (closing s site e below))
@@ -56,7 +56,7 @@ some-more {s} {site} {held} {now} {next} {e} {first} {last} {last'} {o} {o'} {o'
       );
 }
 
-pub some-all : (s : SetupView) (site : PositionView) (held now : List EpochSetView) (first last : RecordsView) (o o' : Option (List ℕ)) → SomeClosed s site held now first last o o' → now ≡ []
+pub some-all : (s : SetupView) (site : PositionView) (held now : List EpochSetView) (first last : ClosedEpochsView) (o o' : Option (List ℕ)) → SomeClosed s site held now first last o o' → now ≡ []
     → ClosesEpochs s site first held last o o'
 some-all s site held now first last o o' l none = λ below f.
     let w = l.wrote below f in
@@ -66,7 +66,7 @@ some-all s site held now first last o o' l none = λ below f.
       out = subst (λ (t : List EpochSetView). WritesRest o o' (closed_text s site below) (closed_text s site (t ++ below))) (sym all) w.1;
     }
 
-pub some-part : {s : SetupView} {site : PositionView} {held now : List EpochSetView} (next : List EpochSetView) (e : EpochSetView) {first last : RecordsView} {o o' o'' : Option (List ℕ)}
+pub some-part : {s : SetupView} {site : PositionView} {held now : List EpochSetView} (next : List EpochSetView) (e : EpochSetView) {first last : ClosedEpochsView} {o o' o'' : Option (List ℕ)}
     → SomeClosed s site held now first last o o' → now ≡ next ++ e ∷ []
     → ((below : List EpochSetView) → HasClosed last s.head.listed below → TakesPart o' o'' (closing s site e below))
     → ClosesEpochsInPart s site first held o o''
@@ -98,7 +98,7 @@ file-text s w A p size holds is =
     ∙ ap (file_of s (position_view p)) (sym (kept-all s w A size holds))
     ∙ file-closed s (position_view p) (w.sets ++ closed s.window A)
 
-pub finishes : {s : SetupView} {w : CollectorView} {c c' : RecordsView} {k k' : Counts} {b : Bool} {p : Position} {o : Written} {file : Option (List ℕ)} {o' : Written} → w.size ≡ s.window
+pub finishes : {s : SetupView} {w : CollectorView} {c c' : ClosedEpochsView} {k k' : Counts} {b : Bool} {p : Position} {o : Written} {file : Option (List ℕ)} {o' : Written} → w.size ≡ s.window
     → ((before : List Arrival) → RepresentsArrivals w before → IsPositionOf w.size before p) → ClosesEpochs s (position_view p) c w.sets c' o.file file
     → o'.file ≡ with_more file (header_before s (position_view p) s.near c'.header_out) → k' ≡ record k { epochs = c'.count } → o'.report ≡ with_more o.report (count_lines k')
     → FinishesConversion (state s w c k b) k' o o'
@@ -124,7 +124,7 @@ log-none : (s : SetupView) (found : List Found) (l : Option (List ℕ)) → Writ
 log-none s found l = part-none l (lines s.window found) (report_of s found) (count_lines (all_counts s found)) refl
 
 -- in a record
-pub finish-part-records : {s : SetupView} {w : CollectorView} {c : RecordsView} {k : Counts} {b : Bool} {p : Position} {o : Written} {file : Option (List ℕ)} → w.size ≡ s.window
+pub finish-part-records : {s : SetupView} {w : CollectorView} {c : ClosedEpochsView} {k : Counts} {b : Bool} {p : Position} {o : Written} {file : Option (List ℕ)} → w.size ≡ s.window
     → ((before : List Arrival) → RepresentsArrivals w before → IsPositionOf w.size before p) → ClosesEpochsInPart s (position_view p) c w.sets o.file file → FinishesConversionInPart (state s w c k b) o (written file o.report)
 finish-part-records {s} {w} {c} {k} {b} {p} {o} {file} size position closes = λ found rep.
     let A : List Arrival = arrivals found in
@@ -137,7 +137,7 @@ finish-part-records {s} {w} {c} {k} {b} {p} {o} {file} size position closes = λ
     }
 
 -- in the last header
-pub finish-part-header : {s : SetupView} {w : CollectorView} {c c' : RecordsView} {k : Counts} {b : Bool} {p : Position} {o : Written} {mid file : Option (List ℕ)} → w.size ≡ s.window
+pub finish-part-header : {s : SetupView} {w : CollectorView} {c c' : ClosedEpochsView} {k : Counts} {b : Bool} {p : Position} {o : Written} {mid file : Option (List ℕ)} → w.size ≡ s.window
     → ((before : List Arrival) → RepresentsArrivals w before → IsPositionOf w.size before p) → ClosesEpochs s (position_view p) c w.sets c' o.file mid
     → TakesPart mid file (header_before s (position_view p) s.near c'.header_out) → FinishesConversionInPart (state s w c k b) o (written file o.report)
 finish-part-header {s} {w} {c} {c'} {k} {b} {p} {o} {mid} {file} size position closes part = λ found rep.

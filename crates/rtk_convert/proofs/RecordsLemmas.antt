@@ -7,7 +7,7 @@ use Rattle.rtk_frame.specs.Stream.{count_after}
 use Rattle.rtk_convert.specs.File.{record_of, first_or, first_time, one_more_if_any, record_count}
 use Rattle.rtk_convert.specs.Steps.ClosedText.{is_any}
 use Rattle.rtk_convert.specs.LastPhases.{HasLastPhases}
-use Rattle.rtk_convert.specs.Records.{RecordsView, HasClosed}
+use Rattle.rtk_convert.specs.Records.{ClosedEpochsView, HasClosed}
 
 first-no : (o : Option ℕ) (e : ℕ) (text : List ℕ) → is_any text ≡ false → first_or o e text ≡ o
 first-no (Some t) e text h = refl
@@ -28,7 +28,7 @@ count-yes n [] h = cc
 count-yes n (x ∷ text) h = refl
 
 -- an epoch without a record
-pub follows-no : (old new : RecordsView) (listed : List Code) (e : EpochSetView) (below : List EpochSetView) → HasLastPhases new.tracks (e ∷ below) → new.header_out ≡ old.header_out
+pub follows-no : (old new : ClosedEpochsView) (listed : List Code) (e : EpochSetView) (below : List EpochSetView) → HasLastPhases new.tracks (e ∷ below) → new.header_out ≡ old.header_out
     → new.count ≡ old.count → is_any (record_of listed e below) ≡ false → HasClosed old listed below → HasClosed new listed (e ∷ below)
 unfolding first_time record_count
 follows-no old new listed e below phases out count none f = record {
@@ -38,7 +38,7 @@ follows-no old new listed e below phases out count none f = record {
 }
 
 -- one with a record
-pub follows-yes : (old new : RecordsView) (listed : List Code) (e : EpochSetView) (below : List EpochSetView) → HasLastPhases new.tracks (e ∷ below) → new.header_out ≡ true
+pub follows-yes : (old new : ClosedEpochsView) (listed : List Code) (e : EpochSetView) (below : List EpochSetView) → HasLastPhases new.tracks (e ∷ below) → new.header_out ≡ true
     → new.count ≡ count_after old.count → is_any (record_of listed e below) ≡ true → HasClosed old listed below → HasClosed new listed (e ∷ below)
 unfolding first_time record_count
 follows-yes old new listed e below phases out count some f = record {

@@ -11,7 +11,7 @@ use Rattle.rtk_convert.specs.declared.frame_class.FrameClass.{FrameClass}
 use Rattle.rtk_convert.specs.declared.counts.Counts.{Counts}
 use Rattle.rtk_convert.specs.FileOfArrivals.{file_so_far}
 use Rattle.rtk_convert.specs.FrameClass.{Found, arrivals}
-use Rattle.rtk_convert.specs.Records.{RecordsView, HasClosed}
+use Rattle.rtk_convert.specs.Records.{ClosedEpochsView, HasClosed}
 use Rattle.rtk_convert.specs.Report.{lines, frame_counts}
 use Rattle.rtk_convert.specs.Setup.{SetupView}
 
@@ -20,7 +20,7 @@ pub record ConversionView : Type 0 where
   -- the open epochs and the station messages
   pub collector : CollectorView
   -- what is known of the closed epochs
-  pub records : RecordsView
+  pub records : ClosedEpochsView
   -- the counts of frames
   pub counts : Counts
   -- a call broke off
@@ -45,7 +45,7 @@ IsUnder None w = Unit {0}
 IsUnder (Some t) w = (length w.sets ≡ w.size) × All (λ x. t.epoch < x.epoch) w.sets
 
 -- all last phases are of epochs below the window
-abbrev pub IsAhead : CollectorView → RecordsView → Type 0
+abbrev pub IsAhead : CollectorView → ClosedEpochsView → Type 0
 IsAhead w c = (satellite : ℕ) (code : Code) → IsSatellite satellite → IsUnder (track_at c.tracks satellite code) w
 
 -- the window has as many places as the setup says, and no more epochs than places; and unless a

@@ -6,7 +6,7 @@ use Rattle.rtk_collect.specs.EpochSet.{EpochSetView}
 use Rattle.rtk_convert.specs.File.{first_time, record_count}
 use Rattle.rtk_convert.specs.LastPhases.{HasLastPhases}
 
-pub record RecordsView : Type 0 where
+pub record ClosedEpochsView : Type 0 where
   -- the last phase of each satellite and code
   pub tracks : List (Option Track)
   -- the header is out
@@ -16,7 +16,7 @@ pub record RecordsView : Type 0 where
 
 -- these are the closed epochs, falling: each satellite and code has its last phase, the header is
 -- written once one of them has a record, and their records are counted
-pub record HasClosed (c : RecordsView) (listed : List Code) (epochs : List EpochSetView) : Type 0 where
+pub record HasClosed (c : ClosedEpochsView) (listed : List Code) (epochs : List EpochSetView) : Type 0 where
   pub phases : HasLastPhases c.tracks epochs
   pub header_out : c.header_out ≡ is_some (first_time listed epochs)
   pub count : c.count ≡ record_count listed epochs

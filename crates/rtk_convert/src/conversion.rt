@@ -14,11 +14,12 @@ use crate::counts::Counts;
 use crate::fault::{ConvertFault, Stream};
 use crate::frame_class::{FrameClass, classify};
 use crate::output::{put_last_header, put_lines};
-use crate::records::{Records, close_left};
+use crate::records::{ClosedEpochs, close_left};
 use crate::report;
 use crate::setup::Setup;
 use rtk_collect::{Collector, Dated, EpochSet, Offer};
 use rtk_frame::Sink;
+use rtk_message::decode;
 use rtk_obs::GpsMs;
 use std::alloc::{AllocError, Global};
 use std::marker::Model;
@@ -32,7 +33,7 @@ pub(crate) struct Conversion {
     alloc: Global,
     setup: Setup,
     collector: Collector,
-    records: Records,
+    records: ClosedEpochs,
     counts: Counts,
     stopped: bool,
 }
@@ -58,7 +59,7 @@ impl Conversion {
         ensures going { IfOk result (λ c. c.stopped ≡ false) }
         ensures few { IfOk result (λ c. length c.collector.sets ≤ setup.window) }
     {
-        let records = Records::new(alloc, setup.near())?;
+        let records = ClosedEpochs::new(alloc, setup.near())?;
         let collector = Collector::new(alloc, setup.window());
         Ok(Conversion {
             alloc,
@@ -149,7 +150,8 @@ impl Conversion {
         ensures report_failed { NamesFailedWrites Stream.Log result (L.failures log.old) (L.failures log.new) }
     {
         self.counts.frames = self.counts.frames.saturating_add(1);
-        match classify(&self.setup, payload) {
+        let reading = decode(payload);
+        match classify(&self.setup, &reading) {
             FrameClass::OtherMessage => {
                 self.counts.other = self.counts.other.saturating_add(1);
                 Ok(None)
@@ -178,7 +180,7 @@ impl Conversion {
     fn handle_message<O: Sink, L: Sink>(
         &mut self,
         link: u8,
-        dated: Dated,
+        dated: Dated<'_>,
         out: &mut O,
         log: &mut L,
     ) -> Result<(), ConvertFault>
@@ -189,9 +191,9 @@ impl Conversion {
         ensures held { HoldsArrivals self.old.collector → HoldsArrivals self.new.collector }
         ensures stopped { self.new.stopped ≡ true }
         ensures ahead { OnOk result (IsAhead self.new.collector self.new.records) }
-        ensures ok { OnOk result (AddsMessage self.old link dated self.new
+        ensures ok { OnOk result (AddsMessage self.old link dated.entry self.new
             (written (O.taken out.old) (L.taken log.old)) (written (O.taken out.new) (L.taken log.new))) }
-        ensures err { OnErr result (AddsMessageInPart self.old link dated
+        ensures err { OnErr result (AddsMessageInPart self.old link dated.entry
             (written (O.taken out.old) (L.taken log.old)) (written (O.taken out.new) (L.taken log.new))) }
         ensures fault { IfErr result IsFrameFault }
         ensures file_failed { NamesFailedWrites Stream.Out result (O.failures out.old) (O.failures out.new) }

@@ -32,7 +32,7 @@ use std::marker::Model;
 /// large, and a local would be cleared as a whole each time that its function is called. The three
 /// large parts lie on the heap, so that no function on the way to them needs a large stack.
 #[derive(Drop)]
-pub(crate) struct Records {
+pub(crate) struct ClosedEpochs {
     tracks: Box<Tracks>,
     shown: Vec<Option<Observed>>,
     table: Box<EpochTable>,
@@ -42,12 +42,12 @@ pub(crate) struct Records {
 
 // Clauses don't see the table, which is filled anew for each epoch, nor the room, which is empty
 // between epochs. The first part of the invariant names every field, as that of a converter does.
-impl Model for Records {
+impl Model for ClosedEpochs {
     ghost use Rattle.std.specs.Prelude.{◌≡◌, length};
     ghost use Rattle.rtk_convert.specs.Steps.ShownCells.{ShowsNothing};
-    ghost use Rattle.rtk_convert.specs.Records.{RecordsView};
+    ghost use Rattle.rtk_convert.specs.Records.{ClosedEpochsView};
 
-    ghost Value = { RecordsView };
+    ghost Value = { ClosedEpochsView };
 
     ghost view = { λ r. record { tracks = r.tracks.value; header_out = r.header_out; count = r.count } };
 
@@ -81,13 +81,13 @@ fn new_shown(alloc: Global) -> Result<Vec<Option<Observed>>, AllocError>
     Ok(shown)
 }
 
-impl Records {
-    /// Records without a closed epoch. The table has this time until the first epoch is closed.
-    pub(crate) fn new(alloc: Global, start: GpsMs) -> Result<Records, AllocError>
+impl ClosedEpochs {
+    /// Nothing is closed yet. The table has this time until the first epoch is closed.
+    pub(crate) fn new(alloc: Global, start: GpsMs) -> Result<ClosedEpochs, AllocError>
         ensures follows { IfOk result (λ r. (listed : List Code) → HasClosed r listed []) }
         ensures below { IfOk result (λ r. (epoch : ℕ) → AllBelow r.tracks epoch) }
     {
-        Ok(Records {
+        Ok(ClosedEpochs {
             tracks: new_tracks(alloc)?,
             shown: new_shown(alloc)?,
             table: new_table(alloc, start)?,
@@ -162,7 +162,7 @@ pub(crate) fn close_left<O: Sink>(
     alloc: Global,
     setup: &Setup,
     position: &Position,
-    records: &mut Records,
+    records: &mut ClosedEpochs,
     left: &mut Left,
     out: &mut O,
 ) -> Result<(), ConvertFault>

@@ -1,6 +1,6 @@
 //! A scanner gives the frames of a stream of bytes that comes in pieces.
 
-ghost use Rattle.std.specs.Prelude.{◌≡◌, ◌≢◌, ◌⊎◌, ℕ, ◌+◌, ◌*◌, ◌<◌, ◌≤◌, List, [], ◌++◌, length, drop, take, slice_index, true, IfOk, MatchOption};
+ghost use Rattle.std.specs.Prelude.{◌≡◌, ◌≢◌, ◌⊎◌, ℕ, ◌+◌, ◌-◌, ◌*◌, ◌<◌, ◌≤◌, List, [], ◌++◌, length, drop, take, slice_index, true, IfOk, MatchOption};
 ghost use Rattle.circular_buffer.specs.Buffer.{buffer};
 ghost use Rattle.rtk_frame.specs.Frame.{begins_frame, begins_partial, payload_length};
 ghost use Rattle.rtk_frame.specs.Held.{AreHeld};
@@ -255,33 +255,42 @@ fn bytes_to_pass(ring: &HeapCircularBuffer<u8>, passed: usize, piece: &[u8]) -> 
     }
 }
 
-// Takes the first bytes out of the ring. The others stand at its start then, so that with bytes that
-// come they lie in one piece.
+// Takes the first bytes out of the ring. The others stand at the start of its room then, so that they
+// lie in one piece with bytes that come. That holds as long as no byte is taken out in another way:
+// `clear` and `fill_from_slice` leave the place of the first byte.
 fn remove_front(ring: &mut HeapCircularBuffer<u8>, count: usize)
     requires { (ring.old.capacity ≡ 2 * LONGEST_FRAME) × (count ≤ length ring.old.items)
         × (length ring.old.items ≤ count + LONGEST_FRAME) }
     ensures { ring.new ≡ buffer (drop count ring.old.items) ring.old.capacity }
 {
-    let rest = ring.len() - count;
-    ring.truncate_front(rest);
-    if rest > 0 {
-        move_to_start(ring);
-    } else {
+    if count == ring.len() {
         ring.clear();
+    } else {
+        keep_rest(ring, count);
     }
 }
 
-// Moves the bytes to the start of the ring's room. It is not inlined, so that its room is blanked
-// only if there are bytes to move.
+// The same for bytes of which some stay. It is not inlined, so that its room is blanked only then.
 #[inline(never)]
-fn move_to_start(ring: &mut HeapCircularBuffer<u8>)
-    requires { (ring.old.capacity ≡ 2 * LONGEST_FRAME) × (length ring.old.items ≤ LONGEST_FRAME) }
-    ensures { ring.new ≡ ring.old }
+fn keep_rest(ring: &mut HeapCircularBuffer<u8>, count: usize)
+    requires { (ring.old.capacity ≡ 2 * LONGEST_FRAME) × (count ≤ length ring.old.items)
+        × (length ring.old.items ≤ count + LONGEST_FRAME) }
+    ensures { ring.new ≡ buffer (drop count ring.old.items) ring.old.capacity }
 {
-    let mut bytes = [0u8; LONGEST_FRAME];
-    let count = ring.read_into(&mut bytes);
+    let rest = ring.len() - count;
+    let mut room = [0u8; LONGEST_FRAME];
+    copy_rest(ring.make_contiguous(), count, &mut room);
     ring.clear();
-    ring.fill_from_slice(&bytes[..count]);
+    ring.fill_from_slice(&room[..rest]);
+}
+
+// Copies the bytes from the place on into the room.
+fn copy_rest(bytes: &[u8], place: usize, room: &mut [u8])
+    requires { (place ≤ length bytes.now) × (length bytes.now ≤ place + length room.old) }
+    ensures { take (length bytes.now - place) room.new ≡ drop place bytes.now }
+{
+    let rest = &bytes[place..];
+    room[..rest.len()].copy_from_slice(rest);
 }
 
 // Room for checksums of prefixes. It is not inlined, so that only its own frame on the stack has the

@@ -166,9 +166,12 @@ abbrev no_observed : Observed
 no_observed = record { range_mm = None; phase_millicycles = None; strength_millidbhz = None; slip = false; half = false }
 
 -- no columns are those of a code that shows nothing
-pub cell-empty : IsCell []
+pub nothing-empty : IsObserved no_observed × (left 48 [] ≡ observations no_observed)
 unfolding left
-cell-empty = (no_observed, record { range = tt; phase = tt; strength = tt; lock = (refl, refl) }, refl)
+nothing-empty = (record { range = tt; phase = tt; strength = tt; lock = (refl, refl) }, refl)
+
+pub cell-empty : IsCell []
+cell-empty = (no_observed, nothing-empty.0, nothing-empty.1)
 
 pub cell-full : (columns : List ℕ) → length columns ≡ 48 → left 48 columns ≡ columns
 unfolding left
@@ -205,6 +208,13 @@ left-split n xs =
           let long : length (take 48 xs) ≡ 48 = length-take 48 xs ∙ omega (arith, high.1) in
           left-high n xs (omega (arith, high.1)) ∙ ap (λ (t : List ℕ). t ++ left (48 * n) (drop 48 xs)) (sym (cell-full (take 48 xs) long))
     ]
+
+-- no columns are left after those of all codes
+pub no-columns : (n k : ℕ) (columns : List ℕ) → length columns ≤ 48 * n → k ≡ n → left (48 * (n - k)) (drop (48 * k) columns) ≡ []
+unfolding left
+no-columns n k columns few e =
+    let none : n - n ≡ 0 = omega arith in
+    rw (e, none, no_more (48 * n) columns few) refl
 
 -- what n codes show in columns
 pub record ShowsCells (n : ℕ) (columns : List ℕ) : Type 0 where
@@ -415,25 +425,36 @@ some-columns : (columns : List ℕ) (k : ℕ) (text : List ℕ) → length colum
 some-columns [] k text z e h = clash (are_blanks text) h (ap are_blanks (sym e) ∙ are_blanks-replicate k)
 some-columns (x ∷ columns) k text z e h = omega (arith, z)
 
+-- what a line with these columns is
+pub record IsLineOf (n : ℕ) (line : List ℕ) (r : SatelliteRow) : Type 0 where
+  pub row : IsTableRow n r
+  pub text : line ≡ satellite_line r
+
+-- the row of a satellite and of what its columns show
+pub row-shown : (n : ℕ) (line columns : List ℕ) (s : ℕ) (cells : List Observed) → HasForm n line columns s → 0 < length columns → All IsObserved cells → length cells ≡ n
+    → left (48 * n) columns ≡ flat_map observations cells → IsLineOf n line (record { satellite = s; observed = record { items = cells } })
+unfolding left
+row-shown n line columns s cells f some observed count shown =
+    let blanks : ℕ = 48 * n - length columns in
+    let name : List ℕ = 71 ∷ last_digits 2 s in
+    let long : length f.front ≡ 3 + length columns = ap length f.parts ∙ length-append name columns in
+    let kept : trim_end f.front ≡ f.front = trim_end-solid f.front (omega (arith, long)) f.last in
+    let text : name ++ flat_map observations cells ≡ f.front ++ replicate blanks 32 =
+    ap (λ (xs : List ℕ). name ++ xs) (sym shown) ∙ sym (append_assoc name columns (replicate blanks 32)) ∙ ap (λ (xs : List ℕ). xs ++ replicate blanks 32) (sym f.parts) in
+    let trimmed_text : trim_end (name ++ flat_map observations cells) ≡ f.front = ap trim_end text ∙ trim_end-blanks f.front blanks ∙ kept in
+    let shows : (b : Bool) → list_any has_observation cells ≡ b → IsTrue b = λ b. shows-if n f.front cells s b observed trimmed_text (omega (arith, long, some)) in
+    record {
+      row = record { satellite = f.satellite; width = count; observed = observed; line = shows (list_any has_observation cells) refl };
+      text = f.whole_line ∙ ap (λ (xs : List ℕ). xs ++ 10 ∷ []) (sym trimmed_text);
+    }
+
 -- the row whose line a line is
 pub row-of : (n : ℕ) (line columns : List ℕ) (s : ℕ) → HasForm n line columns s → 0 < length columns → AreCells n columns
     → (r : SatelliteRow) × IsTableRow n r × (line ≡ satellite_line r)
-unfolding left
 row-of n line columns s f some cells =
     let c = cells-of n columns cells in
-    let blanks : ℕ = 48 * n - length columns in
-    let name : List ℕ = 71 ∷ last_digits 2 s in
-    let r : SatelliteRow = record { satellite = s; observed = record { items = c.cells } } in
-    let long : length f.front ≡ 3 + length columns = ap length f.parts ∙ length-append name columns in
-    let kept : trim_end f.front ≡ f.front = trim_end-solid f.front (omega (arith, long)) f.last in
-    let text : name ++ flat_map observations c.cells ≡ f.front ++ replicate blanks 32 =
-    ap (λ (xs : List ℕ). name ++ xs) (sym c.text) ∙ sym (append_assoc name columns (replicate blanks 32)) ∙ ap (λ (xs : List ℕ). xs ++ replicate blanks 32) (sym f.parts) in
-    let trimmed_text : trim_end (name ++ flat_map observations c.cells) ≡ f.front = ap trim_end text ∙ trim_end-blanks f.front blanks ∙ kept in
-    let shows : (b : Bool) → list_any has_observation c.cells ≡ b → IsTrue b = λ b. shows-if n f.front c.cells s b c.observed trimmed_text (omega (arith, long, some)) in (
-      r,
-      record { satellite = f.satellite; width = c.count; observed = c.observed; line = shows (list_any has_observation c.cells) refl },
-      f.whole_line ∙ ap (λ (xs : List ℕ). xs ++ 10 ∷ []) (sym trimmed_text),
-    )
+    let is = row-shown n line columns s c.cells f some c.observed c.count c.text in
+    (record { satellite = s; observed = record { items = c.cells } }, is.row, is.text)
 
 -- the columns of a row's line
 pub cells-of-row : (n : ℕ) (line columns : List ℕ) (s : ℕ) → HasForm n line columns s → (r : SatelliteRow) → IsTableRow n r → line ≡ satellite_line r

@@ -28,4 +28,6 @@ mod OneRecordsLemmas
 mod OneHeaderLemmas
 mod OneFaultLemmas
 mod OneTableLemmas
+mod PairsLemmas
 mod EqualityLemmas
+mod RecordsLemmas

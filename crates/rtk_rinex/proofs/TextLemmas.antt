@@ -28,7 +28,7 @@ on_err (Err e) q = q
 
 -- ---- faults of the header
 
-header-of : (t : WellFormedTable) (bytes : List ℕ) → IsWellFormedTable t → bytes ≡ table_text t → HasHeader bytes
+pub header-of : (t : WellFormedTable) (bytes : List ℕ) → IsWellFormedTable t → bytes ≡ table_text t → HasHeader bytes
 header-of t bytes is e =
     (header_text t.head t.site t.first, flat_map record_text t.epochs, (t.head, t.site, t.first, is.head, is.site, is.first, refl), e)
 
@@ -67,7 +67,7 @@ pub same_table : (h k : HeadView) (s t : PositionView) (f g : ℕ) (a b : List E
 same_table h k s t f g a b e₁ e₂ e₃ e₄ = cc
 
 -- the header of a table's text, and its epochs' text
-epochs-after-header : (bytes rest : List ℕ) (h : HeadView) (s : PositionView) (first : ℕ) (u : WellFormedTable) → bytes ≡ header_text h s first ++ rest
+pub epochs-after-header : (bytes rest : List ℕ) (h : HeadView) (s : PositionView) (first : ℕ) (u : WellFormedTable) → bytes ≡ header_text h s first ++ rest
     → bytes ≡ table_text u → u.head ≡ h → u.site ≡ s → u.first ≡ first → rest ≡ flat_map record_text u.epochs
 epochs-after-header bytes rest h s first u e f a b c =
     let same : header_text u.head u.site u.first ≡ header_text h s first = rw (a, b, c) refl in

@@ -1,11 +1,35 @@
 //! Numbers in columns of text, as the formats of RINEX 3.05 name them (F14.3, I6 ..).
 
-ghost use Rattle.std.specs.Prelude.{◌≡◌, ℕ, ◌+◌, ◌*◌, ◌^◌, ◌<◌, ◌≤◌, ◌++◌, length, take, replicate, decimal, if◌then◌else◌, false, pos, negsuc, ◌≤ℤ◌};
+ghost use Rattle.std.specs.Prelude.{◌≡◌, ℕ, ◌+◌, ◌*◌, ◌/◌, ◌%◌, ◌^◌, ◌<◌, ◌≤◌, ◌++◌, length, take, set, replicate, decimal, if◌then◌else◌, false, pos, negsuc, ◌≤ℤ◌};
 ghost use Rattle.rtk_rinex.specs.Columns.{last_digits, right, decimals, fixed};
 ghost use Rattle.rtk_rinex.specs.Reading.{seconds_of};
 
 use arrayvec::ArrayVec;
 use rtk_obs::Civil;
+
+// The two digits of each number below 100, one number after another.
+static PAIRS: [u8; 200] = [
+    48, 48, 48, 49, 48, 50, 48, 51, 48, 52, 48, 53, 48, 54, 48, 55, 48, 56, 48, 57, 49, 48, 49, 49,
+    49, 50, 49, 51, 49, 52, 49, 53, 49, 54, 49, 55, 49, 56, 49, 57, 50, 48, 50, 49, 50, 50, 50, 51,
+    50, 52, 50, 53, 50, 54, 50, 55, 50, 56, 50, 57, 51, 48, 51, 49, 51, 50, 51, 51, 51, 52, 51, 53,
+    51, 54, 51, 55, 51, 56, 51, 57, 52, 48, 52, 49, 52, 50, 52, 51, 52, 52, 52, 53, 52, 54, 52, 55,
+    52, 56, 52, 57, 53, 48, 53, 49, 53, 50, 53, 51, 53, 52, 53, 53, 53, 54, 53, 55, 53, 56, 53, 57,
+    54, 48, 54, 49, 54, 50, 54, 51, 54, 52, 54, 53, 54, 54, 54, 55, 54, 56, 54, 57, 55, 48, 55, 49,
+    55, 50, 55, 51, 55, 52, 55, 53, 55, 54, 55, 55, 55, 56, 55, 57, 56, 48, 56, 49, 56, 50, 56, 51,
+    56, 52, 56, 53, 56, 54, 56, 55, 56, 56, 56, 57, 57, 48, 57, 49, 57, 50, 57, 51, 57, 52, 57, 53,
+    57, 54, 57, 55, 57, 56, 57, 57,
+];
+
+// Writes the two digits of a number below 100 in the columns `at` and `at + 1`.
+fn put_pair(field: &mut [u8], at: usize, two: u64)
+    requires columns { at + 1 < length field.old }
+    requires two { two < 100 }
+    ensures { field.new ≡ set (set field.old (at + 1) (48 + two % 10)) at (48 + two / 10) }
+{
+    let pair = 2 * two as usize;
+    field[at + 1] = PAIRS[pair + 1];
+    field[at] = PAIRS[pair];
+}
 
 /// Writes the last digits of a number over the whole of `field`.
 pub(crate) fn put_last_digits(field: &mut [u8], number: u64)
@@ -13,10 +37,13 @@ pub(crate) fn put_last_digits(field: &mut [u8], number: u64)
 {
     let mut rest = number;
     let mut at = field.len();
-    while at > 0 {
-        at -= 1;
-        field[at] = b'0' + (rest % 10) as u8;
-        rest /= 10;
+    while at >= 2 {
+        at -= 2;
+        put_pair(field, at, rest % 100);
+        rest /= 100;
+    }
+    if at > 0 {
+        field[0] = b'0' + (rest % 10) as u8;
     }
 }
 
@@ -30,19 +57,17 @@ pub(crate) fn put_decimal(field: &mut [u8], number: u64) -> usize
     let mut at = field.len();
     // Each division waits for the one before it, so one by 100 takes the time of one by 10.
     while rest >= 100 {
-        let two = (rest % 100) as u8;
-        rest /= 100;
         at -= 2;
-        field[at + 1] = b'0' + two % 10;
-        field[at] = b'0' + two / 10;
+        put_pair(field, at, rest % 100);
+        rest /= 100;
     }
-    while rest >= 10 {
+    if rest >= 10 {
+        at -= 2;
+        put_pair(field, at, rest);
+    } else {
         at -= 1;
-        field[at] = b'0' + (rest % 10) as u8;
-        rest /= 10;
+        field[at] = b'0' + rest as u8;
     }
-    at -= 1;
-    field[at] = b'0' + rest as u8;
     at
 }
 

@@ -52,14 +52,18 @@ impl Model for EpochTable {
     ghost invariant = { λ t. (t.count ≤ 32) × (length t.rows ≡ 32) × IsEpochTableView (record { time = t.time; rows = take t.count t.rows }) };
 }
 
-// Writes a row over another one.
+// Writes a row over another one. What is shown goes over what was, since to clear a row takes longer
+// than to write it.
 fn put_row(row: &mut SatelliteRow, satellite: u8, observed: &[Observed])
     requires { length observed.now ≤ 16 }
     ensures { row.new ≡ record { satellite = satellite; observed = record { items = observed.now } } }
 {
     row.satellite = satellite;
-    row.observed.clear();
-    for shown in observed {
+    let kept = row.observed.len().min(observed.len());
+    row.observed.truncate(kept);
+    let (first, more) = observed.split_at(kept);
+    row.observed.as_mut_slice().copy_from_slice(first);
+    for shown in more {
         row.observed.push(*shown);
     }
 }

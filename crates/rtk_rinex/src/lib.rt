@@ -1,23 +1,35 @@
-//! RINEX 3.05 observation files of GPS: the header and the records, as text.
+//! RINEX 3.05 observation files of GPS: the header and the records, as text, and read from it.
 //!
 //! ```rust
 //! use rtk_obs::{Code, GpsMs, Position};
-//! use rtk_rinex::{Head, check, header};
+//! use rtk_rinex::{EpochTable, Head, Observed, check, header, record};
 //! use std::alloc::{AllocError, Global};
 //!
-//! // A header is the text of a table without records, which the checker accepts.
+//! // A header and a record are the text of a table, which the checker accepts and whose records are
+//! // read one by one.
 //! fn example(alloc: Global) -> Result<bool, AllocError> {
 //!     let Some(noon) = GpsMs::new(1_399_982_400_000) else {
 //!         return Ok(false);
 //!     };
-//!     let Ok(head) = Head::new(b"BASE", &[Code::C1C, Code::C2W], noon) else {
+//!     let Ok(head) = Head::new(b"BASE", &[Code::C1C], noon) else {
 //!         return Ok(false);
 //!     };
 //!     let Some(position) = Position::new(0, 0, 0, 0) else {
 //!         return Ok(false);
 //!     };
-//!     let text = header(alloc, &head, &position, noon)?;
-//!     Ok(check(text.as_slice()).is_ok())
+//!     let range = Observed {
+//!         range_mm: Some(21_085_472_060),
+//!         ..Observed::default()
+//!     };
+//!     let mut epoch = EpochTable::new(noon);
+//!     epoch.push_row(5, &[range]);
+//!     let mut text = header(alloc, &head, &position, noon)?;
+//!     text.extend_from_slice(record(alloc, &head, &epoch)?.as_slice())?;
+//!     let Ok(table) = check(text.as_slice()) else {
+//!         return Ok(false);
+//!     };
+//!     let mut records = table.records();
+//!     Ok(records.next(&mut epoch).is_some() && records.next(&mut epoch).is_none())
 //! }
 //! ```
 //!
@@ -34,8 +46,10 @@ mod header_check;
 mod header_text;
 mod laws;
 mod record_text;
+mod records;
 mod records_check;
 mod satellite_line_check;
+mod satellite_line_read;
 mod table_check;
 mod value_check;
 
@@ -47,4 +61,5 @@ pub use laws::{
     fault_laws, files_are_tables, one_fault, one_reading, records_are_of_tables, text_of_a_table,
 };
 pub use record_text::record;
-pub use table_check::{Table, check, text};
+pub use records::Records;
+pub use table_check::{Heading, Table, check, text};

@@ -1,6 +1,6 @@
 //! The text of a record: the epoch line, and a line for each satellite that shows something.
 
-ghost use Rattle.std.specs.Prelude.{◌≡◌, ℕ, ◌+◌, ◌*◌, ◌<◌, ◌≤◌, ◌^◌, [], ◌∷◌, ◌++◌, length, take, flat_map, OnOk, IfOk, codes, decimal};
+ghost use Rattle.std.specs.Prelude.{◌≡◌, ℕ, ◌+◌, ◌*◌, ◌<◌, ◌≤◌, ◌^◌, [], ◌∷◌, ◌++◌, length, take, replicate, flat_map, OnOk, IfOk, codes, decimal};
 ghost use Rattle.std.specs.List.{filter, list_any};
 ghost use Rattle.rtk_rinex.specs.Record.{HasWidth, is_written, is_present, observation, observations, strength_digit, strength_value, lli_digit, has_observation, has_line, trim_end, satellite_line, epoch_date_text, epoch_line, record_text};
 
@@ -24,24 +24,19 @@ fn is_written_value(value: i64) -> bool
     value != 0 && value >= LEAST_F14_3 && value <= GREATEST_F14_3
 }
 
-// Appends F14.3 and two digits, or blanks.
-fn put_observation(
-    out: &mut Vec<u8>,
-    value: Option<i64>,
-    first: u8,
-    second: u8,
-) -> Result<(), AllocError>
-    ensures { OnOk result (out.new.items ≡ out.old.items ++ observation value first second) }
+// Writes F14.3 and two digits over 16 blanks, or leaves the blanks.
+fn put_observation(field: &mut [u8], value: Option<i64>, first: u8, second: u8)
+    requires blank { field.old ≡ replicate 16 32 }
+    ensures value { field.new ≡ observation value first second }
+    ensures len { length field.new ≡ 16 }
 {
     match value {
         Some(value) if is_written_value(value) => {
-            let mut field = [b' '; 16];
             put_fixed_14_3(&mut field[..14], value);
             field[14] = first;
             field[15] = second;
-            out.extend_from_slice(&field)
         }
-        _ => out.extend_from_slice(&[b' '; 16]),
+        _ => {}
     }
 }
 
@@ -74,15 +69,30 @@ fn value_of_strength(strength: Option<u32>) -> Option<i64>
     }
 }
 
-fn put_observations(out: &mut Vec<u8>, observed: &Observed) -> Result<(), AllocError>
-    ensures { OnOk result (out.new.items ≡ out.old.items ++ observations observed.now) }
+// Writes the columns of a code over 48 blanks.
+fn put_columns(columns: &mut [u8], observed: &Observed)
+    requires blank { columns.old ≡ replicate 48 32 }
+    ensures { columns.new ≡ observations observed.now }
 {
     let digit = digit_of_strength(observed.strength_millidbhz);
     let lock = digit_of_lock(observed.slip, observed.half);
     let strength = value_of_strength(observed.strength_millidbhz);
-    put_observation(out, observed.range_mm, b' ', digit)?;
-    put_observation(out, observed.phase_millicycles, lock, digit)?;
-    put_observation(out, strength, b' ', b' ')
+    put_observation(&mut columns[..16], observed.range_mm, b' ', digit);
+    put_observation(
+        &mut columns[16..32],
+        observed.phase_millicycles,
+        lock,
+        digit,
+    );
+    put_observation(&mut columns[32..], strength, b' ', b' ');
+}
+
+fn put_observations(out: &mut Vec<u8>, observed: &Observed) -> Result<(), AllocError>
+    ensures { OnOk result (out.new.items ≡ out.old.items ++ observations observed.now) }
+{
+    let mut columns = [b' '; 48];
+    put_columns(&mut columns, observed);
+    out.extend_from_slice(&columns)
 }
 
 /// The number of bytes before the blanks at the end.
@@ -101,9 +111,8 @@ pub(crate) fn trimmed_len(bytes: &[u8]) -> usize
 pub(crate) fn put_satellite_line(out: &mut Vec<u8>, row: &SatelliteRow) -> Result<(), AllocError>
     ensures { OnOk result (out.new.items ≡ out.old.items ++ satellite_line row.now) }
 {
-    out.push(b'G')?;
-    out.push(b'0' + row.satellite / 10 % 10)?;
-    out.push(b'0' + row.satellite % 10)?;
+    let (tens, units) = (row.satellite / 10 % 10, row.satellite % 10);
+    out.extend_from_slice(&[b'G', b'0' + tens, b'0' + units])?;
     for observed in row.observed.as_slice() {
         put_observations(out, observed)?;
     }

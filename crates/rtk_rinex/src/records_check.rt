@@ -58,8 +58,8 @@ fn satellite_named(line: &[u8]) -> Option<u8>
     Some(satellite)
 }
 
-// The satellite of a line that has the form of a satellite line.
-fn satellite_of_form(line: &[u8], width: usize) -> Option<u8>
+/// The satellite of a line that has the form of a satellite line.
+pub(crate) fn satellite_of_form(line: &[u8], width: usize) -> Option<u8>
     requires { width ≤ 16 }
     ensures { MatchOption result
         ((s : ℕ) → ¬ (IsSatelliteForm width line.now s))
@@ -109,8 +109,8 @@ pub(crate) struct RecordCounts {
     pub satellites: usize,
 }
 
-// The first line of a text with its LF, and the text after it; `None` if no LF ends the line.
-fn next_line(text: &[u8]) -> Option<(&[u8], &[u8])>
+/// The first line of a text with its LF, and the text after it; `None` if no LF ends the line.
+pub(crate) fn next_line(text: &[u8]) -> Option<(&[u8], &[u8])>
     ensures { MatchOption result
         (HasNoEnd text.now)
         (λ l. IsLine l.0.now × (text.now ≡ l.0.now ++ l.1.now) × (length l.1.now < length text.now)) }

@@ -1,21 +1,32 @@
 //! The line of a satellite, told by its form.
 
-ghost use Rattle.std.specs.Prelude.{◌≡◌, ℕ, ◌*◌, ◌≤◌, length, IsTrue, ◌↔◌, IsSome};
+ghost use Rattle.std.specs.Prelude.{◌≡◌, ◌≢◌, ℕ, ◌*◌, ◌≤◌, length, IsTrue, ◌↔◌, IsSome, MatchOption};
 ghost use Rattle.rtk_rinex.specs.CheckLine.{IsSatelliteForm};
 ghost use Rattle.rtk_rinex.specs.Columns.{left};
 ghost use Rattle.rtk_rinex.specs.Lines.{IsLine};
-ghost use Rattle.rtk_rinex.specs.Record.{satellite_line};
-ghost use Rattle.rtk_rinex.specs.Table.{IsTableRow};
+ghost use Rattle.rtk_rinex.specs.Record.{observations, satellite_line};
+ghost use Rattle.rtk_rinex.specs.Table.{IsObserved, IsTableRow};
 ghost use Rattle.rtk_rinex.specs.Steps.CheckValues.{IsCell, AreCells};
+ghost use Rattle.rtk_rinex.specs.declared.epoch_table.Observed.{Observed};
 ghost use Rattle.rtk_rinex.specs.declared.epoch_table.SatelliteRow.{SatelliteRow};
 
 use crate::columns::add;
 use crate::digits::columns_at;
+use crate::epoch_table::Observed;
 use crate::value_check::shown_observed;
 use arrayvec::ArrayVec;
 
-// The columns of a code: the pseudorange, the carrier phase and the signal strength, 16 each.
-const CODE_COLUMNS: usize = 48;
+/// The columns of a code: the pseudorange, the carrier phase and the signal strength, 16 each.
+pub(crate) const CODE_COLUMNS: usize = 48;
+
+// What a code shows without columns.
+const NOTHING: Observed = Observed {
+    range_mm: None,
+    phase_millicycles: None,
+    strength_millidbhz: None,
+    slip: false,
+    half: false,
+};
 
 // The columns of a code, of which blanks at the end may be missing.
 fn padded(columns: &[u8]) -> ArrayVec<u8, CODE_COLUMNS>
@@ -30,18 +41,29 @@ fn padded(columns: &[u8]) -> ArrayVec<u8, CODE_COLUMNS>
     whole
 }
 
+/// What the columns of a code show, of which blanks at the end may be missing; `None` exactly if
+/// nothing that a code can show is written so.
+pub(crate) fn shown_cell(columns: &[u8]) -> Option<Observed>
+    requires { length columns.now ≤ 48 }
+    ensures { MatchOption result
+        ((o : Observed) → IsObserved o → left 48 columns.now ≢ observations o)
+        (λ o. IsObserved o × (left 48 columns.now ≡ observations o)) }
+{
+    if columns.len() == 0 {
+        return Some(NOTHING);
+    }
+    if columns.len() == CODE_COLUMNS {
+        return shown_observed(columns);
+    }
+    shown_observed(padded(columns).as_slice())
+}
+
 // Do these columns show what a code can show? Blanks at the end may be missing.
 fn is_cell(columns: &[u8]) -> bool
     requires { length columns.now ≤ 48 }
     ensures { IsTrue result ↔ IsCell columns.now }
 {
-    if columns.len() == 0 {
-        return true;
-    }
-    if columns.len() == CODE_COLUMNS {
-        return shown_observed(columns).is_some();
-    }
-    shown_observed(padded(columns).as_slice()).is_some()
+    shown_cell(columns).is_some()
 }
 
 // Do these columns show `width` codes, one after another? Blanks at the end may be missing.

@@ -1,13 +1,27 @@
 //! The check of a whole text, and the table whose text it is.
 
 ghost use Rattle.rtk_rinex.specs.CheckTable.{IsTableView, HoldsTable, IsFault, IsWithoutTable};
-ghost use Rattle.std.specs.Prelude.{◌≡◌, IfOk, IfErr, OnErr};
+ghost use Rattle.std.specs.Prelude.{◌≡◌, length, IfOk, IfErr, OnErr};
 
 use crate::check_fault::CheckFault;
+use crate::head::Head;
 use crate::header_check::check_header;
+use crate::records::Records;
 use crate::records_check::{RecordCounts, check_records};
+use rtk_obs::{GpsMs, Position};
 use std::alloc::{AllocError, Global};
 use std::marker::Model;
+
+/// The parts of a file's header.
+#[derive(Drop)]
+pub struct Heading {
+    /// The marker's name, the codes and the moment at which the file was made.
+    pub head: Head,
+    /// The antenna reference point and the antenna's height.
+    pub position: Position,
+    /// The moment of the first observation.
+    pub first: GpsMs,
+}
 
 /// A well-formed table of observations: its text, which it borrows, and how much it has.
 #[derive(Drop)]
@@ -29,6 +43,10 @@ impl<'a> Model for Table<'a> {
 
 impl<'a> Table<'a> {
     ghost use Rattle.rtk_rinex.specs.CheckTable.{TableView, HoldsTable};
+    ghost use Rattle.rtk_rinex.specs.Header.{IsHeadView, IsPositionView, position_view};
+    ghost use Rattle.rtk_rinex.specs.Reading.{IsMoment};
+    ghost use Rattle.rtk_rinex.specs.Records.{AreLeft, IsRecordsView};
+    ghost use Rattle.rtk_rinex.specs.Table.{WellFormedTable, IsWellFormedTable, table_text};
 
     /// The table whose text this is.
     pub(crate) fn of_text(text: &'a [u8], counts: RecordCounts) -> Table<'a>
@@ -62,6 +80,35 @@ impl<'a> Table<'a> {
         ensures table { IsTableView self.now }
     {
         self.text
+    }
+
+    /// The parts of its header.
+    pub fn heading(&self) -> Heading
+        ensures parts { (t : WellFormedTable) → IsWellFormedTable t → self.now.text ≡ table_text t
+            → (result.head ≡ t.head) × (position_view result.position ≡ t.site) × (result.first ≡ t.first) }
+        ensures good { IsHeadView result.head × IsPositionView (position_view result.position) × IsMoment result.first }
+    {
+        let Ok(header) = check_header(self.text) else {
+            unreachable!();
+        };
+        Heading {
+            head: header.head,
+            position: header.position,
+            first: header.first,
+        }
+    }
+
+    /// Its records, from the first one.
+    pub fn records(&self) -> Records<'a>
+        ensures records { (t : WellFormedTable) → IsWellFormedTable t → self.now.text ≡ table_text t
+            → (result.width ≡ length t.head.listed) × AreLeft result t.epochs }
+        ensures good { IsRecordsView result }
+    {
+        let Ok(header) = check_header(self.text) else {
+            unreachable!();
+        };
+        let (_, records) = self.text.split_at(header.used);
+        Records::of_text(records, header.head.codes().len())
     }
 }
 

@@ -7,9 +7,9 @@ use Rattle.rtk_rinex.specs.Header.{IsMarker, IsCodeList}
 use Rattle.rtk_convert.specs.Setup.{SetupView}
 use Rattle.rtk_cli.specs.declared.options.Options.{Options}
 use Rattle.rtk_cli.specs.declared.words.BadWords.{BadWords}
-use Rattle.rtk_cli.specs.declared.words.BadWords.TheVariants.{Near, Made, Codes, Marker, Links}
+use Rattle.rtk_cli.specs.declared.words.BadWords.TheVariants.{Near, Made, Codes, Marker, Links, From, Until}
 use Rattle.rtk_cli.specs.declared.words.Job.{Job}
-use Rattle.rtk_cli.specs.declared.words.Job.TheVariants.{Convert, Show, Check, Summary}
+use Rattle.rtk_cli.specs.declared.words.Job.TheVariants.{Convert, Show, Check, Summary, Chart, Cut}
 use Rattle.rtk_cli.specs.declared.words.WordsFault.{WordsFault}
 use Rattle.rtk_cli.specs.declared.words.WordsFault.TheVariants.{Clap, Bad, OutOfMemory}
 use Rattle.rtk_cli.specs.Words.{AreLinkNames}
@@ -28,6 +28,8 @@ SaysConversion o names (Convert setup links) = SaysSetup o setup × (map (λ lin
 SaysConversion o names (Show hex file) = ⊥
 SaysConversion o names (Check file) = ⊥
 SaysConversion o names (Summary file) = ⊥
+SaysConversion o names (Chart width file) = ⊥
+SaysConversion o names (Cut part file) = ⊥
 
 -- the text writes a moment up to the last one that is counted
 abbrev pub HasMoment : List ℕ → Type 0
@@ -62,6 +64,8 @@ IsFirstCause o names Codes =
     ⊎ (HasMarker o × ((listed : List Code) × Lists o.codes.now listed × ¬ (IsCodeList listed)))
 IsFirstCause o names Marker = HasNames o × ¬ (IsMarker o.marker.now)
 IsFirstCause o names Links = HasHead o × ¬ (AreLinkNames names)
+IsFirstCause o names From = ⊥
+IsFirstCause o names Until = ⊥
 
 -- why the words give no conversion: the first cause, or refused memory; no text of clap's
 abbrev pub RefusesConversion : Options → List (List ℕ) → WordsFault → Type 0

@@ -7,7 +7,7 @@ use Rattle.rtk_convert.specs.Steps.ClosedText.{closed_text}
 use Rattle.rtk_convert.specs.FileOfArrivals.{kept_file, file_so_far}
 use Rattle.rtk_convert.specs.FrameClass.{Found, arrivals}
 use Rattle.rtk_convert.specs.Steps.ShownCells.{AllBelow}
-use Rattle.rtk_convert.specs.Records.{RecordsView, HasClosed}
+use Rattle.rtk_convert.specs.Records.{ClosedEpochsView, HasClosed}
 use Rattle.rtk_convert.specs.Report.{lines}
 use Rattle.rtk_convert.specs.Setup.{SetupView}
 use Rattle.rtk_convert.specs.Conversion.{ConversionView, RepresentsFound}
@@ -16,20 +16,20 @@ use Rattle.rtk_convert.specs.Steps.WritingInPart.{WritesPartOfRest}
 use Rattle.rtk_convert.specs.Finish.{all_counts, report_of}
 
 -- all last phases are of epochs below each of these
-abbrev pub AllAbove : RecordsView → List EpochSetView → Type 0
+abbrev pub AllAbove : ClosedEpochsView → List EpochSetView → Type 0
 AllAbove c epochs = All (λ e. AllBelow c.tracks e.epoch) epochs
 
 -- these epochs were closed, after the lower epochs `below`
-pub record ClosesEpochsAs (s : SetupView) (site : PositionView) (old : RecordsView) (epochs below : List EpochSetView) (new : RecordsView) (out_old out_new : Option (List ℕ)) : Type 0 where
+pub record ClosesEpochsAs (s : SetupView) (site : PositionView) (old : ClosedEpochsView) (epochs below : List EpochSetView) (new : ClosedEpochsView) (out_old out_new : Option (List ℕ)) : Type 0 where
   pub follows : HasClosed new s.head.listed (epochs ++ below)
   pub out : WritesRest out_old out_new (closed_text s site below) (closed_text s site (epochs ++ below))
 
 -- the same, whatever epochs were closed before
-abbrev pub ClosesEpochs : SetupView → PositionView → RecordsView → List EpochSetView → RecordsView → Option (List ℕ) → Option (List ℕ) → Type 0
+abbrev pub ClosesEpochs : SetupView → PositionView → ClosedEpochsView → List EpochSetView → ClosedEpochsView → Option (List ℕ) → Option (List ℕ) → Type 0
 ClosesEpochs s site old epochs new out_old out_new =
     (below : List EpochSetView) → HasClosed old s.head.listed below → ClosesEpochsAs s site old epochs below new out_old out_new
 
-abbrev pub ClosesEpochsInPart : SetupView → PositionView → RecordsView → List EpochSetView → Option (List ℕ) → Option (List ℕ) → Type 0
+abbrev pub ClosesEpochsInPart : SetupView → PositionView → ClosedEpochsView → List EpochSetView → Option (List ℕ) → Option (List ℕ) → Type 0
 ClosesEpochsInPart s site old epochs out_old out_new =
     (below : List EpochSetView) → HasClosed old s.head.listed below → WritesPartOfRest out_old out_new (closed_text s site below) (closed_text s site (epochs ++ below))
 

@@ -12,15 +12,3 @@ invariant-loop-rest l = record {
 
 abbrev pub decreases-loop-rest : goal.decreases-loop-rest
 decreases-loop-rest l = l.rest
-
-abbrev pub invariant-loop-rest-2 : goal.invariant-loop-rest-2
-invariant-loop-rest-2 l = record {
-  room : length (decimal l.rest) ≤ l.at;
-  within : l.at ≤ length l.field;
-  before : take l.at l.field ≡ take l.at l.fn.field;
-  start : l.at + length (decimal l.number) ≡ length (decimal l.rest) + length l.field;
-  written : decimal l.rest ++ drop l.at l.field ≡ decimal l.number;
-}
-
-abbrev pub decreases-loop-rest-2 : goal.decreases-loop-rest-2
-decreases-loop-rest-2 l = l.rest

@@ -20,4 +20,4 @@ returns c =
     let cut = rw c.deref.ensures.value at c.trimmed_len-end.ensures.value in
     let kept = c.truncate.ensures.items ∙ cut ∙ ap trim_end text ∙ front in
     let joined : (old ++ 71 ∷ trim_end rest) ++ 10 ∷ [] ≡ old ++ ((71 ∷ trim_end rest) ++ 10 ∷ []) = append_assoc old (71 ∷ trim_end rest) (10 ∷ []) in
-    c.in_ok-push-4.ensures.items ∙ ap (λ (bytes : List ℕ). bytes ++ 10 ∷ []) kept ∙ joined ∙ rw one refl
+    c.in_ok-push.ensures.items ∙ ap (λ (bytes : List ℕ). bytes ++ 10 ∷ []) kept ∙ joined ∙ rw one refl

@@ -40,7 +40,7 @@ returns-then-has_rising_keys-clause-conflicts c =
 
 pub returns-then-fresh-eq0-clause-set : goal.returns-then-fresh-eq0-clause-set
 returns-then-fresh-eq0-clause-set c =
-    let f = rw c.deref.ensures.value at c.compare-found.ensures.fresh in
+    let f = rw c.deref-2.ensures.value at c.compare-found.ensures.fresh in
     let none : fresh c.args.cells.now c.self.inside.cells.items ≡ 0 = omega (arith, f, c.if-fresh-eq0.true) in
     subst (λ (s : EpochSetView). s ≡ joined c.args.cells.now s) c.self.view_is
     (ap (λ (t : List CellEntry). record { epoch = c.self.inside.epoch; cells = t }) (sym (with_cells-none c.args.cells.now c.self.inside.cells.items c.self.invariant.1 none)))

@@ -1,0 +1,118 @@
+-- Columns that are as short as they can be, and missing epochs column by column.
+use Rattle.std.proofs.Common.{◌≡◌, ◌≤◌, ◌<◌, ◌+◌, ◌-◌, ◌*◌, ◌/◌, ℕ, zero, suc, Bool, true, ltb, leb, lit<, lit≤, ◌&&◌, Some, inl, inr, refl, sym, ap, subst, ◌∙◌, arith}
+use Rattle.std.proofs.Math.Nat.{div-mul-le_self, add-div_right, add-mul, mul_left_comm}
+use Rattle.std.proofs.lemmas.Bool.{cases_eq, and_parts, and_from, ltb-true, leb-true, lt-ltb, le-leb}
+use Rattle.std.proofs.lemmas.Nat.{mul-le, le-div}
+use Rattle.rtk_chart.specs.Interval.{missing_before}
+use Rattle.rtk_chart.specs.Scale.{column_at, intervals_of}
+use Rattle.rtk_chart.specs.Grid.{has_missing_before}
+use Rattle.rtk_chart.specs.Laws.{SomeMissingEpoch}
+use Rattle.rtk_chart.specs.declared.scale.Scale.{Scale}
+use Rattle.rtk_chart.proofs.ScaleLemmas.{mul-pos}
+
+pub shorter-too-many : (span unit allowed k : ℕ) → 0 < unit → 0 < k → k < intervals_of span unit allowed → allowed < span / (k * unit) + 1
+shorter-too-many span unit allowed k some any short =
+    let a = allowed * unit in
+    let few : k ≤ span / a = omega (arith, short) in
+    let same : a ≤ a = omega arith in
+    let whole = mul-le k a (span / a) a few same in
+    let most = div-mul-le_self span a in
+    let moved = mul_left_comm allowed k unit in
+    let fits : allowed * (k * unit) ≤ span = omega (arith, whole, most, moved) in
+    let many = le-div allowed span (k * unit) (mul-pos k unit any some) fits in
+    omega (arith, many)
+
+div-mono : (a b l : ℕ) → 0 < l → a ≤ b → a / l ≤ b / l
+div-mono a b l some le =
+    let h = div-mul-le_self a l in
+    let fits : a / l * l ≤ b = omega (arith, h, le) in
+    le-div (a / l) b l some fits
+
+-- an interval more is a column more at most
+one-on : (a u l : ℕ) → 0 < l → u ≤ l → (a + u) / l ≤ a / l + 1
+one-on a u l some few =
+    let next : a + u ≤ a + l = omega (arith, few) in
+    let h = div-mono (a + u) (a + l) l some next in
+    let e = add-div_right a some in
+    omega (arith, h, e)
+
+next-epoch : (b n u : ℕ) → b + (suc n + 1) * u ≡ (b + (n + 1) * u) + u
+next-epoch b n u =
+    let e : suc n + 1 ≡ (n + 1) + 1 = omega arith in
+    let m = add-mul (n + 1) 1 u in
+    let one : 1 * u ≡ u = omega arith in
+    ap (λ k. b + k * u) e ∙ omega (arith, m, one)
+
+-- each column between the first and the last missing epoch has one
+between : (b u l c n : ℕ) → 0 < l → u ≤ l → (b + 1 * u) / l ≤ c → c ≤ (b + (n + 1) * u) / l
+    → (i : ℕ) × (0 < i) × (i ≤ n + 1) × ((b + i * u) / l ≡ c)
+between b u l c zero some few from to = (1, lit< tt, lit≤ tt, omega (arith, from, to))
+between b u l c (suc n) some few from to =
+    elim (cases_eq ((b + (suc n + 1) * u) / l) c) [
+      | inl same ↦ (suc n + 1, omega arith, omega arith, same)
+      | inr other ↦
+          let step = one-on (b + (n + 1) * u) u l some few in
+          let last = ap (λ k. k / l) (next-epoch b n u) in
+          let sooner : c ≤ (b + (n + 1) * u) / l = omega (arith, to, other, step, last) in
+          let rest = between b u l c n some few from sooner in
+          let bound = rest.2 in
+          (rest.0, rest.1, omega (arith, bound), rest.3)
+    ]
+
+-- the column of an epoch, from the begin of the picture on
+column-of-epoch : (s : Scale) (before i : ℕ) → s.first ≤ before → column_at s (before + i * s.unit) ≡ ((before - s.first) + i * s.unit) / s.column_ms
+column-of-epoch s before i after =
+    let e : before + i * s.unit - s.first ≡ (before - s.first) + i * s.unit = omega (arith, after) in
+    ap (λ n. n / s.column_ms) e
+
+column-of-first : (s : Scale) (before : ℕ) → s.first ≤ before → column_at s (before + s.unit) ≡ ((before - s.first) + 1 * s.unit) / s.column_ms
+column-of-first s before after =
+    let e : before + s.unit - s.first ≡ (before - s.first) + 1 * s.unit = omega (arith, after) in
+    ap (λ n. n / s.column_ms) e
+
+pub mark-has-epoch : (s : Scale) (before t c : ℕ) → 0 < s.unit → s.unit ≤ s.column_ms → s.first ≤ before
+    → has_missing_before s (Some before) t c ≡ true → SomeMissingEpoch s before t c
+mark-has-epoch s before t c some few after marked =
+    let n = missing_before s.unit (Some before) t in
+    let first = leb (column_at s (before + s.unit)) c in
+    let last = leb c (column_at s (before + n * s.unit)) in
+    let p = and_parts (ltb 0 n && first) last marked in
+    let q = and_parts (ltb 0 n) first p.0 in
+    let many : 0 < n = ltb-true 0 n q.0 in
+    let from = leb-true (column_at s (before + s.unit)) c q.1 in
+    let to = leb-true c (column_at s (before + n * s.unit)) p.1 in
+    let b = before - s.first in
+    let size : 0 < s.column_ms = omega (arith, some, few) in
+    let whole : n ≡ (n - 1) + 1 = omega (arith, many) in
+    let begin : (b + 1 * s.unit) / s.column_ms ≤ c = subst (λ (k : ℕ). k ≤ c) (column-of-first s before after) from in
+    let end : c ≤ (b + ((n - 1) + 1) * s.unit) / s.column_ms =
+    subst (λ (k : ℕ). c ≤ (b + k * s.unit) / s.column_ms) whole (subst (λ (k : ℕ). c ≤ k) (column-of-epoch s before n after) to) in
+    let found = between b s.unit s.column_ms c (n - 1) size few begin end in
+    let bound = found.2 in
+    (found.0, found.1, omega (arith, bound, whole), column-of-epoch s before found.0 after ∙ found.3)
+
+pub epoch-has-mark : (s : Scale) (before t c : ℕ) → 0 < s.unit → s.unit ≤ s.column_ms → s.first ≤ before
+    → SomeMissingEpoch s before t c → has_missing_before s (Some before) t c ≡ true
+epoch-has-mark s before t c some few after found =
+    let n = missing_before s.unit (Some before) t in
+    let i = found.0 in
+    let any = found.1 in
+    let most = found.2 in
+    let b = before - s.first in
+    let size : 0 < s.column_ms = omega (arith, some, few) in
+    let here : (b + i * s.unit) / s.column_ms ≡ c = sym (column-of-epoch s before i after) ∙ found.3 in
+    let same : s.unit ≤ s.unit = omega arith in
+    let low = mul-le 1 s.unit i s.unit any same in
+    let high = mul-le i s.unit n s.unit most same in
+    let lower : b + 1 * s.unit ≤ b + i * s.unit = omega (arith, low) in
+    let higher : b + i * s.unit ≤ b + n * s.unit = omega (arith, high) in
+    let from = div-mono (b + 1 * s.unit) (b + i * s.unit) s.column_ms size lower in
+    let to = div-mono (b + i * s.unit) (b + n * s.unit) s.column_ms size higher in
+    let first = column-of-first s before after in
+    let last = column-of-epoch s before n after in
+    let many : 0 < n = omega (arith, any, most) in
+    let begins : column_at s (before + s.unit) ≤ c = omega (arith, from, first, here) in
+    let ends : c ≤ column_at s (before + n * s.unit) = omega (arith, to, last, here) in
+    and_from (ltb 0 n && leb (column_at s (before + s.unit)) c) (leb c (column_at s (before + n * s.unit)))
+    (and_from (ltb 0 n) (leb (column_at s (before + s.unit)) c) (lt-ltb 0 n many) (le-leb (column_at s (before + s.unit)) c begins))
+    (le-leb c (column_at s (before + n * s.unit)) ends)

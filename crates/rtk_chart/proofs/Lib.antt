@@ -1,0 +1,9 @@
+pub mod ChartLemmas
+pub mod GridLemmas
+pub mod LawLemmas
+pub mod ListLemmas
+pub mod ObservationLemmas
+pub mod RecordLemmas
+pub mod ScaleLemmas
+pub mod StepLemmas
+pub mod SvgLemmas

@@ -1,0 +1,34 @@
+use Rattle.std.proofs.Common.{◌≡◌, ◌-◌, None, List, sym, ap, ◌∙◌}
+use Rattle.rtk_rinex.specs.Record.{EpochTableView}
+use Rattle.rtk_chart.specs.Epochs.{newest_first, newest_moment}
+use Rattle.rtk_chart.specs.Interval.{steps_in}
+use Rattle.rtk_chart.specs.TextPicture.{text_of_none}
+use Rattle.rtk_chart.proofs.ChartLemmas.{no-steps, none-is, text-is}
+use Rattle.rtk_chart.proofs.chart.chart_text.Goals as goal
+
+pub returns-in_default : goal.returns-in_default
+returns-in_default c = λ t is file.
+    let es : List EpochTableView = newest_first t.epochs in
+    let s = c.in_ok-survey.ensures t is file in
+    let parts = c.heading-heading.ensures.parts t is file in
+    let none : newest_moment es ≡ None = sym s.last ∙ c.in_default.is in (
+      None,
+      no-steps es none,
+      c.in_ok-text.ensures ∙ ap text_of_none (c.marker-marker.ensures.value ∙ ap (λ h. h.marker) parts.0)
+          ∙ none-is t.head.marker t.first (c.args.width - 5) None es none,
+    )
+
+pub returns : goal.returns
+returns c = λ t is file.
+    let es : List EpochTableView = newest_first t.epochs in
+    let parts = c.heading-heading.ensures.parts t is file in
+    let s = c.in_ok-survey.ensures t is file in
+    let g = c.in_ok-grid.ensures.grid t is file in (
+      c.interval-interval.result,
+      c.interval-interval.ensures (steps_in es) s.steps,
+      c.in_ok-text-2.ensures ∙ text-is t.head.marker c.marker-marker.result.now t.first c.heading-heading.result.first c.in-Some.last (c.args.width - 5)
+          c.in_ok-survey.survey.records c.in_ok-survey.survey.slips c.in_ok-grid.grid.missing c.interval-interval.result c.new-scale.result
+          c.in_ok-grid.grid.columns.items c.in_ok-grid.grid.gaps.items es
+          (c.marker-marker.ensures.value ∙ ap (λ h. h.marker) parts.0) parts.2 (sym c.in-Some.is ∙ s.last) c.new-scale.ensures.value
+          s.records s.slips g.missing g.columns g.gaps,
+    )

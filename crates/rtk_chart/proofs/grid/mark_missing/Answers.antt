@@ -1,0 +1,8 @@
+use Rattle.std.proofs.Common.{◌<◌, ℕ, arith}
+use Rattle.rtk_chart.proofs.GridLemmas.{gaps-marked, gaps-same}
+use Rattle.rtk_chart.proofs.grid.mark_missing.Goals as goal
+
+pub returns-then-missing-gt0-clause-marked : goal.returns-then-missing-gt0-clause-marked
+returns-then-missing-gt0-clause-marked c = λ seen are.
+    gaps-marked c.args.scale.now c.args.before c.args.moment c.args.missing c.column_at-from.result c.column_at-to.result seen c.args.gaps.now.items c.mark.new.gaps.items
+    c.requires.missing c.if-missing-gt0.true c.column_at-from.ensures c.column_at-to.ensures are c.mark.ensures.size c.mark.ensures.marked

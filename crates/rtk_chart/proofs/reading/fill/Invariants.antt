@@ -1,0 +1,15 @@
+use Rattle.std.proofs.Common.{◌≡◌, length}
+use Rattle.rtk_rinex.specs.Table.{WellFormedTable, IsWellFormedTable, table_text}
+use Rattle.rtk_chart.specs.Steps.Standing.{StandsForGrid}
+use Rattle.rtk_chart.proofs.RecordLemmas.{HasCome}
+use Rattle.rtk_chart.proofs.reading.fill.Given as goal
+
+abbrev pub invariant-records : goal.invariant-records
+invariant-records l = record {
+  columns : length l.grid.columns.items ≡ l.scale.columns;
+  gaps : length l.grid.gaps.items ≡ l.scale.columns;
+  grid : (t : WellFormedTable) → IsWellFormedTable t → l.table.text ≡ table_text t → HasCome (λ grid es. StandsForGrid grid l.scale es) l.records l.grid t.epochs;
+}
+
+abbrev pub decreases-records : goal.decreases-records
+decreases-records l = length l.records.text

@@ -1,0 +1,17 @@
+use Rattle.std.proofs.Common.{◌≡◌, ◌+◌, ◌*◌, ◌++◌, List, ℕ, [], ◌∷◌, length, ap, sym, ◌∙◌}
+use Rattle.std.specs.Prelude.{codes}
+use Rattle.rtk_chart.specs.SvgPicture.{band_title, number_between, satellite_label}
+use Rattle.rtk_chart.proofs.ListLemmas.{and-then}
+use Rattle.rtk_chart.proofs.svg_bands.put_title.Goals as goal
+
+pub returns : goal.returns
+unfolding band_title
+returns c =
+    let l0 : List ℕ = c.args.text.now.items in
+    let l1 : List ℕ = c.extend_from_slice.new.self.items in
+    let l2 : List ℕ = c.put_label.new.text.items in
+    let l3 : List ℕ = c.put_between.new.text.items in
+    let l4 : List ℕ = c.put_between-2.new.text.items in
+    let l5 : List ℕ = c.put_label-2.new.text.items in
+    let l6 : List ℕ = c.extend_from_slice-2.new.self.items in
+    and-then l0 l5 l6 _ (codes "</text>\n") (and-then l0 l4 l5 _ (satellite_label c.args.satellite) (and-then l0 l3 l4 _ (number_between [] c.args.halves (codes " columns</title>\n<text class='name' x='-28' y='25'>")) (and-then l0 l2 l3 _ (number_between (codes ", slips in ") c.args.slips (codes " columns, half cycles in ")) (and-then l0 l1 l2 (codes "<title>") (satellite_label c.args.satellite) (c.in_ok-extend_from_slice.ensures.items) (c.in_ok-put_label.ensures)) (c.in_ok-put_between.ensures)) (c.in_ok-put_between-2.ensures)) (c.in_ok-put_label-2.ensures)) (c.in_ok-extend_from_slice-2.ensures.items)

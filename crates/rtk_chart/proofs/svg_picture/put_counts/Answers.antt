@@ -1,0 +1,15 @@
+use Rattle.std.proofs.Common.{◌≡◌, ◌+◌, ◌*◌, ◌++◌, List, ℕ, [], ◌∷◌, length, ap, sym, ◌∙◌}
+use Rattle.std.specs.Prelude.{codes}
+use Rattle.rtk_chart.specs.SvgPicture.{svg_numbers, number_between}
+use Rattle.rtk_chart.proofs.ListLemmas.{and-then}
+use Rattle.rtk_chart.proofs.svg_picture.put_counts.Goals as goal
+
+pub returns : goal.returns
+unfolding svg_numbers
+returns c =
+    let l0 : List ℕ = c.args.text.now.items in
+    let l1 : List ℕ = c.put_between.new.text.items in
+    let l2 : List ℕ = c.put_between-2.new.text.items in
+    let l3 : List ℕ = c.put_between-3.new.text.items in
+    let l4 : List ℕ = c.put_between-4.new.text.items in
+    and-then l0 l3 l4 _ (number_between [] c.args.missing (codes "</text>\n")) (and-then l0 l2 l3 _ (number_between [] c.args.slips (codes ", missing epochs ")) (and-then l0 l1 l2 (number_between (codes "<text x='90' y='70'>records ") c.args.records (codes ", satellites ")) (number_between [] c.args.satellites (codes ", slips ")) (c.in_ok-put_between.ensures) (c.in_ok-put_between-2.ensures)) (c.in_ok-put_between-3.ensures)) (c.in_ok-put_between-4.ensures)

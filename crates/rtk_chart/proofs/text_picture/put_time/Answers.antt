@@ -1,0 +1,10 @@
+use Rattle.std.proofs.Common.{◌≡◌, ◌++◌, ℕ, List, take, map, append_assoc, refl, sym, ap, ◌∙◌, arith}
+use Rattle.std.proofs.lemmas.Grind.{common_steps}
+use Rattle.std.specs.Prelude.{flat_map}
+use Rattle.std.specs.List.{range_with_len}
+use Rattle.rtk_chart.specs.TextPicture.{time_rows}
+use Rattle.rtk_chart.proofs.text_picture.put_time.Goals as goal
+
+pub returns : goal.returns
+unfolding time_rows
+returns c = rw (c.in_ok-put_labels.ensures, c.in_ok-put_axis.ensures, c.tick_step-step.ensures.value) (simp append_assoc)

@@ -1,0 +1,20 @@
+use Rattle.std.proofs.Common.{◌≡◌, ◌++◌, ℕ, List, take, map, append_assoc, refl, sym, ap, ◌∙◌, arith}
+use Rattle.std.proofs.lemmas.Grind.{common_steps}
+use Rattle.std.specs.Prelude.{flat_map}
+use Rattle.std.specs.List.{range_with_len}
+use Rattle.rtk_chart.specs.TextPicture.{text_picture}
+use Rattle.rtk_chart.proofs.text_picture.text_picture.Goals as goal
+
+pub returns : goal.returns
+unfolding text_picture
+returns c =
+    rw (
+      c.in_ok-put_time.ensures,
+      c.in_ok-put_gap_row.ensures,
+      c.as_slice-2.ensures.value,
+      c.in_ok-put_rows.ensures,
+      c.as_slice.ensures.value,
+      c.in_ok-put_numbers.ensures,
+      c.in_ok-put_heading.ensures,
+      c.new-text.ensures.items,
+    ) (simp append_assoc)

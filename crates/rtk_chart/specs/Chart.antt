@@ -1,0 +1,55 @@
+-- The pictures of a table.
+use Rattle.std.specs.Prelude.{◌≡◌, ℕ, ◌-◌, List, [], ◌∷◌, length, Option}
+use Rattle.rtk_rinex.specs.Record.{EpochTableView}
+use Rattle.rtk_rinex.specs.Table.{WellFormedTable, IsWellFormedTable, table_text}
+use Rattle.rtk_chart.specs.Epochs.{capped, newest_first, slips_in}
+use Rattle.rtk_chart.specs.Interval.{steps_in, IsInterval, missing_in}
+use Rattle.rtk_chart.specs.Scale.{scale_of}
+use Rattle.rtk_chart.specs.Grid.{columns_of, gaps_of}
+use Rattle.rtk_chart.specs.TextPicture.{text_picture, text_of_none}
+use Rattle.rtk_chart.specs.SvgPicture.{svg_picture, svg_of_none}
+use Rattle.rtk_obs.specs.declared.code.Code.{Code}
+use Rattle.rtk_chart.specs.declared.scale.Scale.{Scale}
+
+-- the picture in characters of these epochs, newest first, at a scale
+abbrev pub text_at : List ℕ → Scale → List EpochTableView → List ℕ
+text_at marker s es =
+    text_picture marker s (capped (length es)) (capped (slips_in es)) (capped (missing_in s.unit es)) (columns_of s es) (gaps_of s es)
+
+-- the picture of a file of this marker and first time, with this interval, in so many columns at most
+abbrev pub text_of_epochs : List ℕ → ℕ → Option ℕ → ℕ → List EpochTableView → List ℕ
+text_of_epochs marker first interval allowed [] = text_of_none marker
+text_of_epochs marker first interval allowed (e ∷ before) = text_at marker (scale_of first e.time interval allowed) (e ∷ before)
+
+-- a text is the picture in characters of a table, so many characters wide: five are the labels and
+-- the frame
+abbrev pub IsTextPicture : WellFormedTable → ℕ → List ℕ → Type 0
+IsTextPicture t width text =
+    (interval : Option ℕ) × IsInterval (steps_in (newest_first t.epochs)) interval
+    × (text ≡ text_of_epochs t.head.marker t.first interval (width - 5) (newest_first t.epochs))
+
+-- a text is the picture of each table whose text the file is; by one_table there is one
+abbrev pub ShowsTable : List ℕ → ℕ → List ℕ → Type 0
+ShowsTable file width text = (t : WellFormedTable) → IsWellFormedTable t → file ≡ table_text t → IsTextPicture t width text
+
+-- ---- in SVG
+
+-- the picture in SVG of these epochs, newest first, at a scale
+abbrev pub svg_at : List ℕ → List Code → Scale → List EpochTableView → List ℕ
+svg_at marker listed s es =
+    svg_picture marker listed s (capped (length es)) (capped (slips_in es)) (capped (missing_in s.unit es)) (columns_of s es) (gaps_of s es)
+
+-- the picture of a file of this marker, these codes and this first time, with this interval
+abbrev pub svg_of_epochs : List ℕ → List Code → ℕ → Option ℕ → List EpochTableView → List ℕ
+svg_of_epochs marker listed first interval [] = svg_of_none marker
+svg_of_epochs marker listed first interval (e ∷ before) = svg_at marker listed (scale_of first e.time interval 1440) (e ∷ before)
+
+-- a text is the picture in SVG of a table
+abbrev pub IsSvgPicture : WellFormedTable → List ℕ → Type 0
+IsSvgPicture t text =
+    (interval : Option ℕ) × IsInterval (steps_in (newest_first t.epochs)) interval
+    × (text ≡ svg_of_epochs t.head.marker t.head.listed t.first interval (newest_first t.epochs))
+
+-- a text is the picture of each table whose text the file is
+abbrev pub ShowsTableInSvg : List ℕ → List ℕ → Type 0
+ShowsTableInSvg file text = (t : WellFormedTable) → IsWellFormedTable t → file ≡ table_text t → IsSvgPicture t text

@@ -1,0 +1,13 @@
+pub mod Chart
+pub mod Epochs
+pub mod Grid
+pub mod Heading
+pub mod Interval
+pub mod Laws
+pub mod Layers
+pub mod Scale
+pub mod Steps
+pub mod SvgPath
+pub mod SvgPicture
+pub mod TextPicture
+pub mod Ticks

@@ -1,0 +1,38 @@
+-- What the parts of a chart hold, tied to the epochs that came so far.
+use Rattle.std.specs.Prelude.{◌≡◌, ℕ, List, [], length, Option, None, Some, unwrap_or}
+use Rattle.std.specs.BTreeMap.{get, BTreeMap}
+use Rattle.std.specs.Ordering.{nat_cmp}
+use Rattle.rtk_rinex.specs.Record.{EpochTableView}
+use Rattle.rtk_chart.specs.Epochs.{capped, newest_moment, slips_in}
+use Rattle.rtk_chart.specs.Interval.{steps_in, times_of_step, IsMostFrequent, missing_in}
+use Rattle.rtk_chart.specs.Grid.{columns_of, gaps_of}
+use Rattle.rtk_chart.specs.declared.steps.Frequent.{Frequent}
+use Rattle.rtk_chart.specs.declared.steps.Steps.{Steps}
+use Rattle.rtk_chart.specs.declared.survey.Survey.{Survey}
+use Rattle.rtk_chart.specs.declared.scale.Scale.{Scale}
+use Rattle.rtk_chart.specs.declared.grid.Grid.{Grid}
+
+-- how often each step came
+abbrev pub CountsSteps : BTreeMap ℕ ℕ → List ℕ → Type 0
+CountsSteps counts steps = (q : ℕ) → unwrap_or (get nat_cmp counts q) 0 ≡ times_of_step q steps
+
+-- the most frequent step so far, and how often it came
+abbrev pub IsFrequent : Option Frequent → List ℕ → Type 0
+IsFrequent None steps = steps ≡ []
+IsFrequent (Some f) steps = IsMostFrequent steps f.step × (f.count ≡ times_of_step f.step steps)
+
+pub record StandsForSteps (s : Steps) (steps : List ℕ) : Type 0 where
+  pub counts : CountsSteps s.counts steps
+  pub frequent : IsFrequent s.frequent steps
+
+pub record StandsForSurvey (s : Survey) (es : List EpochTableView) : Type 0 where
+  pub records : s.records ≡ capped (length es)
+  pub slips : s.slips ≡ capped (slips_in es)
+  pub last : s.last ≡ newest_moment es
+  pub steps : StandsForSteps s.steps (steps_in es)
+
+pub record StandsForGrid (g : Grid) (s : Scale) (es : List EpochTableView) : Type 0 where
+  pub columns : g.columns.items ≡ columns_of s es
+  pub gaps : g.gaps.items ≡ gaps_of s es
+  pub missing : g.missing ≡ capped (missing_in s.unit es)
+  pub last : g.last ≡ newest_moment es

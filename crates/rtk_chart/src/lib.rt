@@ -1,0 +1,55 @@
+//! A picture of an observation file: its satellites in bands along its time, with each slip, half
+//! cycle, missing phase and missing epoch.
+//!
+//! Its tests: tests/values/src/chart.rt.in and chart/.
+//!
+//! ```rust
+//! use rtk_chart::chart_text;
+//! use rtk_obs::{Code, GpsMs, Position};
+//! use rtk_rinex::{Head, check, header};
+//! use std::alloc::{AllocError, Global};
+//!
+//! // The picture of a file without records says so.
+//! fn example(alloc: Global) -> Result<bool, AllocError> {
+//!     let Some(noon) = GpsMs::new(1_399_982_400_000) else {
+//!         return Ok(false);
+//!     };
+//!     let Ok(head) = Head::new(b"BASE", &[Code::C1C], noon) else {
+//!         return Ok(false);
+//!     };
+//!     let Some(position) = Position::new(0, 0, 0, 0) else {
+//!         return Ok(false);
+//!     };
+//!     let file = header(alloc, &head, &position, noon)?;
+//!     let Ok(table) = check(file.as_slice()) else {
+//!         return Ok(false);
+//!     };
+//!     let picture = chart_text(alloc, &table, 80)?;
+//!     Ok(picture.as_slice() == b"marker BASE\nno records\n".as_slice())
+//! }
+//! ```
+
+#![tactic(auto)]
+
+mod cell;
+mod chart;
+mod column;
+mod grid;
+mod laws;
+mod layer;
+mod observations;
+mod reading;
+mod scale;
+mod steps;
+mod survey;
+mod svg_bands;
+mod svg_layers;
+mod svg_path;
+mod svg_picture;
+mod svg_text;
+mod text_picture;
+mod ticks;
+mod times;
+
+pub use chart::{chart_svg, chart_text};
+pub use laws::{columns_are_least, missing_marks_are_epochs};

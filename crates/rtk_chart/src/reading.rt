@@ -1,0 +1,50 @@
+//! The records of a table, gone over from the first to the last.
+
+ghost use Rattle.std.specs.Prelude.{◌≡◌, length, IfOk};
+ghost use Rattle.rtk_rinex.specs.Table.{WellFormedTable, IsWellFormedTable, table_text};
+ghost use Rattle.rtk_chart.specs.Epochs.{newest_first};
+ghost use Rattle.rtk_chart.specs.Scale.{IsScale};
+ghost use Rattle.rtk_chart.specs.Steps.Standing.{StandsForSurvey, StandsForGrid};
+
+use crate::grid::Grid;
+use crate::scale::Scale;
+use crate::survey::Survey;
+use rtk_obs::GpsMs;
+use rtk_rinex::{EpochTable, Table};
+use std::alloc::{AllocError, Global};
+
+/// Looks at all records; the first moment is any that an epoch can have.
+pub(crate) fn look_at(alloc: Global, table: &Table<'_>, first: GpsMs) -> Result<Survey, AllocError>
+    ensures { IfOk result (λ survey. (t : WellFormedTable) → IsWellFormedTable t → table.now.text ≡ table_text t
+        → StandsForSurvey survey (newest_first t.epochs)) }
+{
+    let mut survey = Survey::new(alloc);
+    let mut epoch = EpochTable::new(first);
+    let mut records = table.records();
+    'records: while let Some(_record) = records.next(&mut epoch) {
+        survey.take(&epoch)?;
+    }
+    Ok(survey)
+}
+
+/// The columns of a picture of all records.
+pub(crate) fn fill(
+    alloc: Global,
+    table: &Table<'_>,
+    scale: &Scale,
+    first: GpsMs,
+) -> Result<Grid, AllocError>
+    requires { IsScale scale.now }
+    ensures columns { IfOk result (λ grid. length grid.columns.items ≡ scale.now.columns) }
+    ensures gaps { IfOk result (λ grid. length grid.gaps.items ≡ scale.now.columns) }
+    ensures grid { IfOk result (λ grid. (t : WellFormedTable) → IsWellFormedTable t → table.now.text ≡ table_text t
+        → StandsForGrid grid scale.now (newest_first t.epochs)) }
+{
+    let mut grid = Grid::new(alloc, scale)?;
+    let mut epoch = EpochTable::new(first);
+    let mut records = table.records();
+    'records: while let Some(_record) = records.next(&mut epoch) {
+        grid.take(scale, &epoch);
+    }
+    Ok(grid)
+}

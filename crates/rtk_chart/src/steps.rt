@@ -1,0 +1,89 @@
+//! The steps between epochs, and the most frequent of them.
+
+ghost use Rattle.std.specs.Prelude.{◌≡◌, ◌<◌, ◌≤◌, ◌⊎◌, MatchBool, List, ℕ, [], ◌∷◌, IfOk, OnOk};
+ghost use Rattle.rtk_chart.specs.Interval.{times_of_step, IsInterval};
+ghost use Rattle.rtk_chart.specs.Steps.Standing.{CountsSteps, IsFrequent, StandsForSteps};
+
+use std::alloc::{AllocError, Global};
+use std::collections::BTreeMap;
+
+/// A step in ms, and how often it came.
+#[derive(Clone, Copy)]
+pub(crate) struct Frequent {
+    pub(crate) step: u64,
+    pub(crate) count: u64,
+}
+
+/// How often each step came, and the most frequent one.
+#[derive(Drop)]
+pub(crate) struct Steps {
+    pub(crate) counts: BTreeMap<u64, u64>,
+    pub(crate) frequent: Option<Frequent>,
+}
+
+// Counts a step, and answers how often it came.
+fn count_step(counts: &mut BTreeMap<u64, u64>, step: u64) -> Result<u64, AllocError>
+    ensures { IfOk result (λ count. (steps : List ℕ) → CountsSteps counts.old steps
+        → CountsSteps counts.new (step ∷ steps) × (count ≡ times_of_step step (step ∷ steps))) }
+{
+    let count = counts.get(&step).copied().unwrap_or(0).saturating_add(1);
+    counts.insert(step, count)?;
+    Ok(count)
+}
+
+// A step that came so often is more frequent than the most frequent one so far, or as frequent and
+// less.
+fn overtakes(best: Frequent, step: u64, count: u64) -> bool
+    ensures { MatchBool result ((best.count < count) ⊎ ((count ≡ best.count) × (step < best.step)))
+        ((count ≤ best.count) × (count ≡ best.count → best.step ≤ step)) }
+{
+    if count == best.count {
+        return step < best.step;
+    }
+    count > best.count
+}
+
+// The more frequent of the most frequent step so far and the one that came again.
+fn more_frequent(best: Option<Frequent>, step: u64, count: u64) -> Option<Frequent>
+    ensures { (steps : List ℕ) → IsFrequent best steps → count ≡ times_of_step step (step ∷ steps)
+        → IsFrequent result (step ∷ steps) }
+{
+    let Some(best) = best else {
+        return Some(Frequent { step, count });
+    };
+    if overtakes(best, step, count) {
+        return Some(Frequent { step, count });
+    }
+    Some(best)
+}
+
+impl Steps {
+    /// No step came.
+    pub(crate) fn new(alloc: Global) -> Steps
+        ensures { StandsForSteps result [] }
+    {
+        Steps {
+            counts: BTreeMap::new(alloc),
+            frequent: None,
+        }
+    }
+
+    /// A step more.
+    pub(crate) fn take(&mut self, step: u64) -> Result<(), AllocError>
+        ensures { OnOk result ((steps : List ℕ) → StandsForSteps self.old steps → StandsForSteps self.new (step ∷ steps)) }
+    {
+        let count = count_step(&mut self.counts, step)?;
+        self.frequent = more_frequent(self.frequent, step, count);
+        Ok(())
+    }
+
+    /// The interval.
+    pub(crate) fn interval(&self) -> Option<u64>
+        ensures { (steps : List ℕ) → StandsForSteps self.now steps → IsInterval steps result }
+    {
+        match self.frequent {
+            Some(frequent) => Some(frequent.step),
+            None => None,
+        }
+    }
+}

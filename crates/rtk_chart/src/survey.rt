@@ -1,0 +1,49 @@
+//! A first look at the records of a file: how many, their steps, and their slips.
+
+ghost use Rattle.std.specs.Prelude.{◌≡◌, List, [], ◌∷◌, OnOk};
+ghost use Rattle.rtk_rinex.specs.Record.{EpochTableView};
+ghost use Rattle.rtk_chart.specs.Steps.Standing.{StandsForSurvey};
+
+use crate::observations::with_slips;
+use crate::steps::Steps;
+use rtk_obs::GpsMs;
+use rtk_rinex::EpochTable;
+use std::alloc::{AllocError, Global};
+
+/// What is known of the records that were looked at.
+#[derive(Drop)]
+pub(crate) struct Survey {
+    pub(crate) records: u64,
+    pub(crate) slips: u64,
+    /// The moment of the last one.
+    pub(crate) last: Option<GpsMs>,
+    pub(crate) steps: Steps,
+}
+
+impl Survey {
+    /// No record was looked at.
+    pub(crate) fn new(alloc: Global) -> Survey
+        ensures { StandsForSurvey result [] }
+    {
+        Survey {
+            records: 0,
+            slips: 0,
+            last: None,
+            steps: Steps::new(alloc),
+        }
+    }
+
+    /// A record more.
+    pub(crate) fn take(&mut self, epoch: &EpochTable) -> Result<(), AllocError>
+        ensures { OnOk result ((es : List EpochTableView) → StandsForSurvey self.old es → StandsForSurvey self.new (epoch.now ∷ es)) }
+    {
+        let time = epoch.time();
+        if let Some(last) = self.last {
+            self.steps.take(time.ms().saturating_sub(last.ms()))?;
+        }
+        self.records = self.records.saturating_add(1);
+        self.slips = with_slips(self.slips, epoch.rows());
+        self.last = Some(time);
+        Ok(())
+    }
+}

@@ -1,0 +1,210 @@
+//! The bands of the satellites in an SVG picture, and what stands below them.
+
+ghost use Rattle.std.specs.Prelude.{◌≡◌, ◌≤◌, ◌<◌, ◌+◌, ◌*◌, ◌/◌, ◌^◌, ◌++◌, length, OnOk};
+ghost use Rattle.std.specs.Option.{ForSome};
+ghost use Rattle.rtk_rinex.specs.Reading.{IsMoment};
+ghost use Rattle.rtk_chart.specs.Scale.{IsScale};
+ghost use Rattle.rtk_chart.specs.SvgPicture.{satellite_label, band_title, lock_layers, band_text, column_width, band_if_drawn, bands_text, gaps_band, tick_text, svg_tick_step, ticks_text};
+
+use crate::column::Column;
+use crate::layer::{Layer, flags};
+use crate::scale::Scale;
+use crate::svg_layers::{count_of, put_codes, put_levels, put_strokes_path};
+use crate::svg_text::put_between;
+use crate::text_picture::{drawn_before, is_drawn};
+use crate::ticks::{put_tick_label, tick_at, tick_step};
+use rtk_obs::Code;
+use std::alloc::{AllocError, Global};
+
+fn put_label(text: &mut Vec<u8>, satellite: u8) -> Result<(), AllocError>
+    requires { satellite < 100 }
+    ensures { OnOk result (text.new.items ≡ text.old.items ++ satellite_label satellite) }
+{
+    text.extend_from_slice(&[b'G', b'0' + satellite / 10, b'0' + satellite % 10])
+}
+
+fn put_title(text: &mut Vec<u8>, satellite: u8, slips: u64, halves: u64) -> Result<(), AllocError>
+    requires { satellite < 100 }
+    ensures { OnOk result (text.new.items ≡ text.old.items ++ band_title satellite slips halves) }
+{
+    text.extend_from_slice(b"<title>")?;
+    put_label(text, satellite)?;
+    put_between(text, b", slips in ", slips, b" columns, half cycles in ")?;
+    put_between(
+        text,
+        b"",
+        halves,
+        b" columns</title>\n<text class='name' x='-28' y='25'>",
+    )?;
+    put_label(text, satellite)?;
+    text.extend_from_slice(b"</text>\n")?;
+    Ok(())
+}
+
+// The layers of the loss-of-lock digits, after a title that tells how many columns have them.
+fn put_lock_layers(
+    alloc: Global,
+    text: &mut Vec<u8>,
+    width: u64,
+    columns: &[Column],
+    place: usize,
+) -> Result<(), AllocError>
+    requires place { place < 32 }
+    requires width { length columns.now * width ≤ 1440 }
+    ensures { OnOk result (text.new.items ≡ text.old.items ++ lock_layers width columns.now place) }
+{
+    let slips = flags(alloc, columns, place, Layer::Slip)?;
+    let halves = flags(alloc, columns, place, Layer::Half)?;
+    let slip_count = count_of(slips.as_slice());
+    let half_count = count_of(halves.as_slice());
+    put_title(text, place as u8 + 1, slip_count, half_count)?;
+    put_strokes_path(text, width, slips.as_slice(), b"s", 3)?;
+    put_strokes_path(text, width, halves.as_slice(), b"h", 11)?;
+    Ok(())
+}
+
+fn put_band(
+    alloc: Global,
+    text: &mut Vec<u8>,
+    width: u64,
+    codes: &[Code],
+    columns: &[Column],
+    top: u64,
+    place: usize,
+) -> Result<(), AllocError>
+    requires place { place < 32 }
+    requires width { length columns.now * width ≤ 1440 }
+    requires few { length codes.now ≤ 16 }
+    ensures { OnOk result (text.new.items ≡ text.old.items ++ band_text width codes.now columns.now top place) }
+{
+    put_between(text, b"<g transform='translate(90 ", top, b")'>\n")?;
+    put_lock_layers(alloc, text, width, columns, place)?;
+    put_codes(alloc, text, width, columns, place, codes)?;
+    put_levels(
+        alloc,
+        text,
+        width,
+        columns,
+        place,
+        8 * codes.len() as u64 + 22,
+    )?;
+    text.extend_from_slice(b"</g>\n")?;
+    Ok(())
+}
+
+fn put_band_if_drawn(
+    alloc: Global,
+    text: &mut Vec<u8>,
+    width: u64,
+    codes: &[Code],
+    columns: &[Column],
+    place: usize,
+) -> Result<(), AllocError>
+    requires place { place < 32 }
+    requires width { length columns.now * width ≤ 1440 }
+    requires few { length codes.now ≤ 16 }
+    ensures { OnOk result (text.new.items ≡ text.old.items ++ band_if_drawn width codes.now columns.now place) }
+{
+    if is_drawn(columns, place) {
+        let height = 8 * codes.len() as u64 + 34;
+        let top = 96 + drawn_before(columns, place) * height;
+        put_band(alloc, text, width, codes, columns, top, place)?;
+    }
+    Ok(())
+}
+
+/// Appends the bands of the satellites that have a row in the file.
+pub(crate) fn put_bands(
+    alloc: Global,
+    text: &mut Vec<u8>,
+    width: u64,
+    codes: &[Code],
+    columns: &[Column],
+) -> Result<(), AllocError>
+    requires width { length columns.now * width ≤ 1440 }
+    requires few { length codes.now ≤ 16 }
+    ensures { OnOk result (text.new.items ≡ text.old.items ++ bands_text width codes.now columns.now) }
+{
+    for place in 0..32 {
+        put_band_if_drawn(alloc, text, width, codes, columns, place)?;
+    }
+    Ok(())
+}
+
+/// Appends the row of the columns with missing epochs.
+pub(crate) fn put_gaps(
+    text: &mut Vec<u8>,
+    width: u64,
+    top: u64,
+    gaps: &[bool],
+) -> Result<(), AllocError>
+    requires { length gaps.now * width ≤ 1440 }
+    ensures { OnOk result (text.new.items ≡ text.old.items ++ gaps_band width top gaps.now) }
+{
+    put_between(
+        text,
+        b"<g transform='translate(90 ",
+        top,
+        b")'>\n<title>missing epochs</title>\n<text class='name' x='-4' y='12'>missing</text>\n",
+    )?;
+    put_strokes_path(text, width, gaps, b"g", 5)?;
+    text.extend_from_slice(b"</g>\n")?;
+    Ok(())
+}
+
+fn put_tick(
+    text: &mut Vec<u8>,
+    top: u64,
+    step: u64,
+    x: u64,
+    tick: Option<u64>,
+) -> Result<(), AllocError>
+    requires tick { ForSome tick IsMoment }
+    requires top { top ≤ 100_000 }
+    ensures { OnOk result (text.new.items ≡ text.old.items ++ tick_text top step x tick) }
+{
+    let Some(moment) = tick else {
+        return Ok(());
+    };
+    put_between(text, b"<path class='t' d='M", x, b" 90V")?;
+    put_between(text, b"", top, b"'/>\n")?;
+    put_between(text, b"<text class='tick' x='", x, b"' y='")?;
+    put_between(text, b"", top + 14, b"'>")?;
+    put_tick_label(text, step, moment)?;
+    text.extend_from_slice(b"</text>\n")?;
+    Ok(())
+}
+
+// How long the step between ticks is at least: 100 units.
+fn least_step(width: u64, column_ms: u64) -> u64
+    requires width { 0 < width }
+    requires some { 0 < column_ms }
+    requires bound { column_ms ≤ 7_636_031_999_998 }
+    ensures value { result ≡ (100 / width + 1) * column_ms }
+    ensures positive { 0 < result }
+    ensures few { result < 2 ^ 60 }
+{
+    (100 / width + 1) * column_ms
+}
+
+/// Appends the ticks of the columns, each so wide.
+pub(crate) fn put_ticks(
+    text: &mut Vec<u8>,
+    scale: &Scale,
+    width: u64,
+    top: u64,
+) -> Result<(), AllocError>
+    requires good { IsScale scale.now }
+    requires width { width ≡ column_width scale.now }
+    requires some { 0 < width }
+    requires fits { scale.now.columns * width ≤ 1440 }
+    requires top { top ≤ 100_000 }
+    ensures { OnOk result (text.new.items ≡ text.old.items ++ ticks_text scale.now (svg_tick_step scale.now) top) }
+{
+    let step = tick_step(least_step(width, scale.column_ms));
+    for column in 0..scale.columns {
+        let tick = tick_at(scale, step, column);
+        put_tick(text, top, step, 90 + column * width, tick)?;
+    }
+    Ok(())
+}

@@ -1,0 +1,61 @@
+//! Paths of columns in an SVG picture.
+
+ghost use Rattle.std.specs.Prelude.{◌≡◌, ◌≤◌, ◌+◌, ◌*◌, ◌++◌, length, OnOk};
+ghost use Rattle.rtk_chart.specs.SvgPath.{run_part, runs_text, stroke_part, strokes_text};
+
+use rtk_message::put_named;
+use std::alloc::AllocError;
+
+fn put_run_part(
+    text: &mut Vec<u8>,
+    width: u64,
+    x: u64,
+    was: bool,
+    flag: bool,
+) -> Result<(), AllocError>
+    ensures { OnOk result (text.new.items ≡ text.old.items ++ run_part width x was flag) }
+{
+    if !flag {
+        return Ok(());
+    }
+    if was {
+        return put_named(text, b"h", width);
+    }
+    put_named(text, b"M", x)?;
+    put_named(text, b" 0h", width)
+}
+
+/// Appends lines over the columns that are flagged, each so wide.
+pub(crate) fn put_runs(text: &mut Vec<u8>, width: u64, flags: &[bool]) -> Result<(), AllocError>
+    requires { length flags.now * width ≤ 1440 }
+    ensures { OnOk result (text.new.items ≡ text.old.items ++ runs_text width flags.now) }
+{
+    let mut was = false;
+    for column in 0..flags.len() {
+        put_run_part(text, width, column as u64 * width, was, flags[column])?;
+        was = flags[column];
+    }
+    Ok(())
+}
+
+fn put_stroke_part(text: &mut Vec<u8>, width: u64, x: u64, flag: bool) -> Result<(), AllocError>
+    requires { x + width ≤ 2880 }
+    ensures { OnOk result (text.new.items ≡ text.old.items ++ stroke_part width x flag) }
+{
+    if !flag {
+        return Ok(());
+    }
+    put_named(text, b"M", x + width / 2)?;
+    text.extend_from_slice(b" 0v6")
+}
+
+/// Appends strokes in the columns that are flagged, each so wide.
+pub(crate) fn put_strokes(text: &mut Vec<u8>, width: u64, flags: &[bool]) -> Result<(), AllocError>
+    requires { length flags.now * width ≤ 1440 }
+    ensures { OnOk result (text.new.items ≡ text.old.items ++ strokes_text width flags.now) }
+{
+    for column in 0..flags.len() {
+        put_stroke_part(text, width, column as u64 * width, flags[column])?;
+    }
+    Ok(())
+}

@@ -1,0 +1,87 @@
+//! Ticks along the time of a picture.
+
+ghost use Rattle.std.specs.Prelude.{◌≡◌, ◌≤◌, ◌<◌, ◌^◌, ◌++◌, nat_le, OnOk, IfSome};
+ghost use Rattle.std.specs.List.{find};
+ghost use Rattle.rtk_rinex.specs.Reading.{IsMoment};
+ghost use Rattle.rtk_chart.specs.Scale.{IsScale};
+ghost use Rattle.rtk_chart.specs.Ticks.{tick_steps, tick_step, tick_at, tick_label};
+
+use crate::scale::Scale;
+use crate::times::{put_clock, put_date, reading};
+use rtk_obs::GpsMs;
+use std::alloc::AllocError;
+
+const DAY_MS: u64 = 86_400_000;
+
+/// The steps between ticks, in ms: from 1 s to a week.
+const TICK_STEPS: [u64; 20] = [
+    1000,
+    2000,
+    5000,
+    10_000,
+    15_000,
+    30_000,
+    60_000,
+    120_000,
+    300_000,
+    600_000,
+    900_000,
+    1_800_000,
+    3_600_000,
+    7_200_000,
+    10_800_000,
+    21_600_000,
+    43_200_000,
+    DAY_MS,
+    172_800_000,
+    604_800_000,
+];
+
+// The least of the steps that is so long.
+fn listed_step(least: u64) -> Option<u64>
+    ensures { result ≡ find (λ step. nat_le least step) tick_steps }
+{
+    TICK_STEPS.iter().copied().find(|step| least <= *step)
+}
+
+/// The step between ticks that are so far apart at least.
+pub(crate) fn tick_step(least: u64) -> u64
+    requires some { 0 < least }
+    requires few { least < 2 ^ 60 }
+    ensures value { result ≡ tick_step least }
+    ensures positive { 0 < result }
+{
+    let days = (least + 86_399_999) / DAY_MS * DAY_MS;
+    listed_step(least).unwrap_or(days)
+}
+
+/// The moment of the tick in a column, if one is there.
+pub(crate) fn tick_at(scale: &Scale, step: u64, column: u64) -> Option<u64>
+    requires good { IsScale scale.now }
+    requires step { 0 < step }
+    requires within { column < scale.now.columns }
+    ensures value { result ≡ tick_at scale.now step column }
+    ensures moment { IfSome result IsMoment }
+{
+    let start = scale.column_start(column);
+    let whole = (start + scale.column_ms - 1).min(scale.last) / step * step;
+    if start <= whole { Some(whole) } else { None }
+}
+
+/// Appends what stands at a tick.
+#[tactic(auto, unfolding(crate::specs::Ticks::tick_label))]
+pub(crate) fn put_tick_label(text: &mut Vec<u8>, step: u64, moment: u64) -> Result<(), AllocError>
+    requires { IsMoment moment }
+    ensures { OnOk result (text.new.items ≡ text.old.items ++ tick_label step moment) }
+{
+    let Some(time) = GpsMs::new(moment) else {
+        return Ok(());
+    };
+    if step < DAY_MS {
+        put_clock(text, reading(time))?;
+        text.extend_from_slice(b"  ")?;
+    } else {
+        put_date(text, reading(time))?;
+    }
+    Ok(())
+}

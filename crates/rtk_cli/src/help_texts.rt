@@ -1,0 +1,87 @@
+//! What `--help` says after the options: an example, the exit statuses, and where the manual is.
+
+pub(crate) const PROGRAM: &str = "\
+Begin with:
+  rtcm2rinex summary capture.rtcm
+
+Exit status:
+  0  the work is done
+  1  the work is not done; the last line on standard error says why
+  2  the words are refused
+  3  the file is not well-formed
+
+Manual: man rtcm2rinex, or docs/MANUAL.md";
+
+pub(crate) const CONVERT: &str = "\
+Example:
+  rtcm2rinex convert --station 2003 --near 2024-05-17T12:00:00 \\
+      --made 2024-05-17T13:00:00 --marker BASE --codes 1C,2W \\
+      link1.rtcm link2.rtcm >base.rnx 2>base.report
+
+Exit status:
+  0  the file and its report are written
+  1  they are not, or in part; the last line on standard error says why
+  2  the words are refused
+
+Manual: man rtcm2rinex, or docs/MANUAL.md";
+
+pub(crate) const SHOW: &str = "\
+Example:
+  rtcm2rinex show capture.rtcm
+
+Exit status:
+  0  the lines are written
+  1  they are not, or in part; standard error says why
+  2  the words are refused
+
+Manual: man rtcm2rinex, or docs/MANUAL.md";
+
+pub(crate) const CHECK: &str = "\
+Example:
+  rtcm2rinex check base.rnx
+
+Exit status:
+  0  the file is well-formed
+  1  it was not checked; standard error says why
+  2  the words are refused
+  3  the file is not well-formed; standard output has its first wrong line
+
+Manual: man rtcm2rinex, or docs/MANUAL.md";
+
+pub(crate) const SUMMARY: &str = "\
+Example:
+  rtcm2rinex summary capture.rtcm
+
+Exit status:
+  0  the lines are written
+  1  they are not, or in part; standard error says why
+  2  the words are refused
+
+Manual: man rtcm2rinex, or docs/MANUAL.md";
+
+pub(crate) const CHART: &str = "\
+Example:
+  rtcm2rinex chart base.rnx >base.svg
+  rtcm2rinex chart --text --columns 120 base.rnx
+
+Exit status:
+  0  the picture is written
+  1  it is not, or in part; standard error says why
+  2  the words are refused
+  3  the file is not well-formed; standard error has its first wrong line
+
+Manual: man rtcm2rinex, or docs/MANUAL.md";
+
+pub(crate) const CUT: &str = "\
+Example:
+  rtcm2rinex cut --every 30 base.rnx >base_30s.rnx
+  rtcm2rinex cut --from 2024-05-17T12:00:00 --until 2024-05-17T13:00:00 \\
+      day.rnx >hour.rnx
+
+Exit status:
+  0  the file is written
+  1  it is not, or in part; standard error says why
+  2  the words are refused
+  3  the file is not well-formed; standard error has its first wrong line
+
+Manual: man rtcm2rinex, or docs/MANUAL.md";

@@ -1,0 +1,36 @@
+use Rattle.std.proofs.Common.{true, List, Option, refl, sym, ap, subst, ◌∙◌}
+use Rattle.rtk_obs.specs.declared.code.Code.{Code}
+use Rattle.rtk_obs.specs.declared.track.Track.{Track}
+use Rattle.rtk_collect.specs.EpochSet.{EpochSetView}
+use Rattle.rtk_rinex.specs.Header.{HeadView}
+use Rattle.rtk_rinex.specs.Record.{EpochTableView, record_text}
+use Rattle.rtk_convert.specs.File.{record_of}
+use Rattle.rtk_convert.specs.LastPhases.{HasLastPhases}
+use Rattle.rtk_convert.specs.Steps.ClosedText.{is_any}
+use Rattle.rtk_convert.specs.Records.{ClosedEpochsView, HasClosed}
+use Rattle.rtk_convert.proofs.RecordsLemmas.{follows-no, follows-yes}
+use Rattle.rtk_convert.proofs.records.ClosedEpochs.close.Goals as goal
+
+pub returns-then-not-has_record-clause-follows : goal.returns-then-not-has_record-clause-follows
+returns-then-not-has_record-clause-follows g c = λ below f.
+    let e : EpochSetView = record { epoch = c.args.epoch; cells = c.args.cells.now } in
+    let listed = c.codes-listed.ensures.value ∙ ap (λ (h : HeadView). h.listed) c.head.ensures.value in
+    let old : ClosedEpochsView = record { tracks = c.self.inside.tracks.value; header_out = c.self.inside.header_out; count = c.self.inside.count } in
+    let before = subst (λ (x : ClosedEpochsView). HasClosed x c.args.setup.now.head.listed below) (sym c.self.view_is) f in
+    let inside = subst (λ (l : List Code). HasClosed old l below) (sym listed) before in
+    let phases = subst (λ (t : List (Option Track)). HasLastPhases t below) (sym c.deref_mut.ensures.value) inside.phases in
+    let text = c.in_ok-has_record.ensures.any ∙ ap (λ (t : EpochTableView). is_any (record_text t)) (c.deref.ensures ∙ c.fill_table.ensures.table below phases) ∙ ap (λ (l : List Code). is_any (record_of l e below)) listed in
+    follows-no old (record { tracks = c.fill_table.new.tracks; header_out = c.self.inside.header_out; count = c.self.inside.count }) c.args.setup.now.head.listed e below
+    (c.fill_table.ensures.phases below phases) refl refl (sym text ∙ c.if-not-has_record.true) before
+
+pub returns-clause-follows : goal.returns-clause-follows
+returns-clause-follows g c = λ below f.
+    let e : EpochSetView = record { epoch = c.args.epoch; cells = c.args.cells.now } in
+    let listed = c.codes-listed.ensures.value ∙ ap (λ (h : HeadView). h.listed) c.head.ensures.value in
+    let old : ClosedEpochsView = record { tracks = c.self.inside.tracks.value; header_out = c.self.inside.header_out; count = c.self.inside.count } in
+    let before = subst (λ (x : ClosedEpochsView). HasClosed x c.args.setup.now.head.listed below) (sym c.self.view_is) f in
+    let inside = subst (λ (l : List Code). HasClosed old l below) (sym listed) before in
+    let phases = subst (λ (t : List (Option Track)). HasLastPhases t below) (sym c.deref_mut.ensures.value) inside.phases in
+    let text = c.in_ok-has_record.ensures.any ∙ ap (λ (t : EpochTableView). is_any (record_text t)) (c.deref.ensures ∙ c.fill_table.ensures.table below phases) ∙ ap (λ (l : List Code). is_any (record_of l e below)) listed in
+    follows-yes old (record { tracks = c.fill_table.new.tracks; header_out = true; count = c.saturating_add-self-inside.result }) c.args.setup.now.head.listed e below
+    (c.fill_table.ensures.phases below phases) refl c.saturating_add-self-inside.ensures (sym text ∙ c.if-not-has_record.false) before

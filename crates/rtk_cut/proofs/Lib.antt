@@ -1,0 +1,10 @@
+pub mod TestLemmas
+pub mod CodeLemmas
+pub mod RowLemmas
+pub mod PendingLemmas
+pub mod MarkLemmas
+pub mod SpanLemmas
+pub mod ThinnedLemmas
+pub mod CuttingLemmas
+pub mod WholeLemmas
+pub mod LawLemmas

@@ -1,0 +1,17 @@
+-- What is written of a file's part. A text is the text of one well-formed table at most, so the
+-- table is the one whose text it is.
+use Rattle.std.specs.Prelude.{◌≡◌, ℕ, List, Option}
+use Rattle.rtk_frame.specs.Stream.{with_more, TakesPart}
+use Rattle.rtk_rinex.specs.Table.{WellFormedTable, IsWellFormedTable, table_text}
+use Rattle.rtk_cut.specs.declared.part.Part.{Part}
+use Rattle.rtk_cut.specs.Cut.{cut_of}
+
+-- of the table whose text this is the part was written: before, after
+abbrev pub WritesPart : List ℕ → Part → Option (List ℕ) → Option (List ℕ) → Type 0
+WritesPart text part before after =
+    (t : WellFormedTable) → IsWellFormedTable t → text ≡ table_text t → after ≡ with_more before (table_text (cut_of part t))
+
+-- of its text a first part was written, perhaps none or all of it
+abbrev pub WritesFirstOfPart : List ℕ → Part → Option (List ℕ) → Option (List ℕ) → Type 0
+WritesFirstOfPart text part before after =
+    (t : WellFormedTable) → IsWellFormedTable t → text ≡ table_text t → TakesPart before after (table_text (cut_of part t))

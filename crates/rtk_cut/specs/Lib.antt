@@ -1,0 +1,4 @@
+pub mod Cut
+pub mod CutLaws
+pub mod CutWriting
+pub mod Steps

@@ -1,0 +1,14 @@
+-- What is written at once: the header, unless it is out, and the record of an epoch.
+use Rattle.std.specs.Prelude.{ℕ, Bool, true, false, List, []}
+use Rattle.rtk_rinex.specs.Header.{HeadView, PositionView, header_text}
+use Rattle.rtk_rinex.specs.Record.{EpochTableView, record_text}
+
+-- the header, unless it is out
+abbrev pub header_unless : Bool → HeadView → PositionView → ℕ → List ℕ
+header_unless true head site first = []
+header_unless false head site first = header_text head site first
+
+-- the text of an epoch as it was read, or a new one if it has changed
+abbrev pub text_or_new : Bool → List ℕ → EpochTableView → List ℕ
+text_or_new false text e = text
+text_or_new true text e = record_text e

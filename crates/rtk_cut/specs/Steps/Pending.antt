@@ -1,0 +1,40 @@
+-- Marks of the slips that are still to be shown, and how an epoch changes them.
+use Rattle.std.specs.Prelude.{◌≡◌, ℕ, ◌+◌, ◌*◌, ◌<◌, ◌≤◌, ◌||◌, ◌&&◌, ◌==◌, Bool, false, List, length, map, get_or, is_some}
+use Rattle.std.specs.List.{list_any, range_with_len}
+use Rattle.rtk_rinex.specs.declared.epoch_table.Observed.{Observed}
+use Rattle.rtk_rinex.specs.declared.epoch_table.SatelliteRow.{SatelliteRow}
+use Rattle.rtk_rinex.specs.Record.{EpochTableView}
+use Rattle.rtk_cut.specs.Cut.{code_at, has_slip_of, since_phase, with_slip}
+
+-- the mark of a satellite, 1 to 32, and of the code at this place, 0 to 15
+abbrev pub mark_of : List Bool → ℕ → ℕ → Bool
+mark_of marks s c = get_or marks (16 * s + c) false
+
+-- marks have another value at each satellite and code
+abbrev pub MarksBecome : List Bool → (ℕ → ℕ → Bool) → Type 0
+MarksBecome marks value = (s c : ℕ) → s ≤ 32 → c < 16 → mark_of marks s c ≡ value s c
+
+-- a mark stands where an epoch since the last phase on the step has a slip
+pub record StandsForSlips (marks : List Bool) (step : ℕ) (earlier : List EpochTableView) : Type 0 where
+  pub size : length marks ≡ 528
+  pub marked : MarksBecome marks (λ s c. list_any (has_slip_of s c) (since_phase step s c earlier))
+
+-- the row has a slip of this satellite and code
+abbrev pub row_has_slip : ℕ → ℕ → SatelliteRow → Bool
+row_has_slip s c r = (r.satellite == s) && (code_at c r).slip
+
+-- the row has this phase
+abbrev pub row_has_phase : ℕ → ℕ → SatelliteRow → Bool
+row_has_phase s c r = (r.satellite == s) && is_some (code_at c r).phase_millicycles
+
+-- what n codes of a satellite show with the marked slips
+abbrev pub codes_with_marks : List Bool → ℕ → SatelliteRow → List Observed
+codes_with_marks marks n r = map (λ c. with_slip ((code_at c r).slip || mark_of marks r.satellite c) (code_at c r)) (range_with_len 0 n)
+
+-- a satellite with the marked slips
+abbrev pub row_with_marks : List Bool → ℕ → SatelliteRow → SatelliteRow
+row_with_marks marks n r = record { satellite = r.satellite; observed = record { items = codes_with_marks marks n r } }
+
+-- an epoch with the marked slips
+abbrev pub epoch_with_marks : List Bool → ℕ → EpochTableView → EpochTableView
+epoch_with_marks marks n e = record { time = e.time; rows = map (row_with_marks marks n) e.rows }

@@ -1,0 +1,43 @@
+//! Writing a part of a file.
+
+ghost use Rattle.std.specs.Prelude.{◌≡◌, ◌≢◌, Err, OnOk, OnErr, IsErrOf};
+ghost use Rattle.rtk_frame.specs.Stream.{CountRises};
+ghost use Rattle.rtk_cut.specs.Cut.{IsStepOrNone};
+ghost use Rattle.rtk_cut.specs.CutWriting.{WritesPart, WritesFirstOfPart};
+ghost use Rattle.rtk_cut.specs.declared.fault.CutFault.TheVariants.{Write};
+
+use crate::cutter::{Cutter, new_table};
+use crate::fault::CutFault;
+use crate::part::Part;
+use rtk_frame::Sink;
+use rtk_rinex::Table;
+use std::alloc::Global;
+
+/// Writes a part of a file, a record at a time, and the header with the first one.
+///
+/// Of a record whose slips stay as they are its own text is written. The memory that is held does
+/// not grow with the file.
+pub fn cut<W: Sink>(
+    alloc: Global,
+    table: &Table<'_>,
+    part: Part,
+    out: &mut W,
+) -> Result<(), CutFault>
+    requires step { IsStepOrNone part.every }
+    ensures all { OnOk result (WritesPart table.now.text part (W.taken out.old) (W.taken out.new)) }
+    ensures first { OnErr result (WritesFirstOfPart table.now.text part (W.taken out.old) (W.taken out.new)) }
+
+    // A failed write is told, and nothing else is told as one. That memory is all that it gives up
+    // for besides show the rows `cut ..` of tests/calls.
+    ensures write_failed { IsErrOf result Write → CountRises (W.failures out.old) (W.failures out.new) }
+    ensures no_failed_write { result ≢ Err Write → W.failures out.new ≡ W.failures out.old }
+{
+    let heading = table.heading();
+    let mut epoch = new_table(alloc, heading.first)?;
+    let mut cutter = Cutter::new(alloc, heading, part)?;
+    let mut records = table.records();
+    'epochs: while let Some(text) = records.next(&mut epoch) {
+        cutter.take(alloc, &epoch, text, out)?;
+    }
+    cutter.end(alloc, out)
+}

@@ -1,0 +1,108 @@
+//! The records of a checked text, read one by one.
+
+ghost use Rattle.std.specs.Prelude.{◌≡◌, ℕ, ◌<◌, ◌≤◌, ◌++◌, [], List, length, flat_map, None, IfSome, MatchOption};
+ghost use Rattle.rtk_rinex.specs.Record.{EpochTableView, satellite_line, record_text};
+ghost use Rattle.rtk_rinex.specs.Table.{IsTableEpoch};
+ghost use Rattle.rtk_rinex.specs.CheckText.{AreRows};
+ghost use Rattle.rtk_rinex.specs.Steps.ReadRecords.{ReadsRows, BeginsWithRecord};
+ghost use Rattle.rtk_rinex.specs.Records.{IsRecordsView};
+
+use crate::epoch_line_check::read_epoch_line;
+use crate::epoch_table::{EpochTable, SatelliteRow};
+use crate::records_check::next_line;
+use crate::satellite_line_read::read_row;
+use std::marker::Model;
+
+/// The records of a file that are still to be read, as text. It takes no memory.
+#[derive(Drop)]
+pub struct Records<'a> {
+    rest: &'a [u8],
+    width: usize,
+}
+
+impl<'a> Model for Records<'a> {
+    ghost use Rattle.rtk_rinex.specs.Records.{RecordsView, IsRecordsView};
+
+    ghost Value = { RecordsView };
+
+    ghost view = { λ r. record { width = r.width; text = r.rest.now } };
+
+    ghost invariant = { λ r. IsRecordsView (record { width = r.width; text = r.rest.now }) };
+}
+
+// Reads `count` satellite lines into the rows of an epoch, and returns the text after them.
+fn read_rows<'a>(text: &'a [u8], width: usize, count: usize, epoch: &mut EpochTable) -> &'a [u8]
+    requires width { width ≤ 16 }
+    requires count { count ≤ 32 }
+    requires none { epoch.old.rows ≡ [] }
+    requires lines { ∥ ((rest : List ℕ) × ReadsRows width count text.now rest) ∥₁ }
+    ensures time { epoch.new.time ≡ epoch.old.time }
+    ensures rows { AreRows width None epoch.new.rows }
+    ensures count { length epoch.new.rows ≡ count }
+    ensures text { text.now ≡ flat_map satellite_line epoch.new.rows ++ result.now }
+{
+    let mut rest = text;
+    let mut row = SatelliteRow::default();
+    for _ in 0..count {
+        let Some((line, after)) = next_line(rest) else {
+            unreachable!();
+        };
+        read_row(line, width, &mut row);
+        epoch.push_row(row.satellite, row.observed.as_slice());
+        rest = after;
+    }
+    rest
+}
+
+// Reads the record that begins a text into `epoch`, and returns the text after it.
+fn read_record<'a>(text: &'a [u8], width: usize, epoch: &mut EpochTable) -> &'a [u8]
+    requires width { width ≤ 16 }
+    requires record { ∥ BeginsWithRecord width text.now ∥₁ }
+    ensures epoch { IsTableEpoch width epoch.new }
+    ensures text { text.now ≡ record_text epoch.new ++ result.now }
+{
+    let Some((line, after)) = next_line(text) else {
+        unreachable!();
+    };
+    let Some(stamp) = read_epoch_line(line) else {
+        unreachable!();
+    };
+    epoch.restart(stamp.time);
+    read_rows(after, width, stamp.count, epoch)
+}
+
+impl<'a> Records<'a> {
+    ghost use Rattle.rtk_rinex.specs.Records.{RecordsView, AreLeft, IsRecordsView, IsNextOf};
+
+    /// The records that a text is, in a file of `width` codes.
+    pub(crate) fn of_text(text: &'a [u8], width: usize) -> Records<'a>
+        requires { IsRecordsView (record { width = width; text = text.now }) }
+        ensures { result ≡ record { width = width; text = text.now } }
+    {
+        Records { rest: text, width }
+    }
+
+    /// Reads the next record into `epoch`, and returns its text; after the last one `None`, and
+    /// `epoch` stays as it was.
+    ///
+    /// The rows have an `Observed` for each code of the header, in its order; a value that is blank
+    /// in the file is `None`.
+    pub fn next(&mut self, epoch: &mut EpochTable) -> Option<&'a [u8]>
+        ensures next { (epochs : List EpochTableView) → AreLeft self.old epochs
+            → MatchOption result (epochs ≡ []) (λ text. IsNextOf epochs text.now epoch.new self.new) }
+        ensures end { MatchOption result
+            ((self.old.text ≡ []) × (self.new ≡ self.old) × (epoch.new ≡ epoch.old))
+            (λ text. self.old.text ≡ text.now ++ self.new.text) }
+        ensures record { IfSome result (λ text. IsTableEpoch self.old.width epoch.new × (text.now ≡ record_text epoch.new)) }
+        ensures less { IfSome result (λ text. length self.new.text < length self.old.text) }
+        ensures width { self.new.width ≡ self.old.width }
+    {
+        if self.rest.len() == 0 {
+            return None;
+        }
+        let rest = read_record(self.rest, self.width, epoch);
+        let (text, _) = self.rest.split_at(self.rest.len() - rest.len());
+        self.rest = rest;
+        Some(text)
+    }
+}

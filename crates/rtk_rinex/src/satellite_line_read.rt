@@ -1,0 +1,48 @@
+//! The row that the line of a satellite shows.
+
+ghost use Rattle.std.specs.Prelude.{◌≡◌, ℕ, ◌*◌, ◌≤◌, length, All, flat_map};
+ghost use Rattle.rtk_rinex.specs.Columns.{left};
+ghost use Rattle.rtk_rinex.specs.Lines.{IsLine};
+ghost use Rattle.rtk_rinex.specs.Record.{observations, satellite_line};
+ghost use Rattle.rtk_rinex.specs.Table.{IsObserved, IsTableRow};
+ghost use Rattle.rtk_rinex.specs.Steps.CheckValues.{AreCells};
+ghost use Rattle.rtk_rinex.specs.declared.epoch_table.SatelliteRow.{SatelliteRow};
+
+use crate::digits::columns_at;
+use crate::epoch_table::{Observed, SatelliteRow};
+use crate::records_check::satellite_of_form;
+use crate::satellite_line_check::{CODE_COLUMNS, shown_cell};
+use arrayvec::ArrayVec;
+
+// Reads what `width` codes show in their columns, one after another. Blanks at the end may be missing.
+fn read_cells(columns: &[u8], width: usize, observed: &mut ArrayVec<Observed, 16>)
+    requires width { width ≤ 16 }
+    requires few { length columns.now ≤ 48 * width }
+    requires cells { ∥ AreCells width columns.now ∥₁ }
+    ensures observed { All IsObserved observed.new.items }
+    ensures width { length observed.new.items ≡ width }
+    ensures text { left (48 * width) columns.now ≡ flat_map observations observed.new.items }
+{
+    observed.clear();
+    for k in 0..width {
+        let Some(shown) = shown_cell(columns_at(columns, CODE_COLUMNS * k, CODE_COLUMNS)) else {
+            unreachable!();
+        };
+        observed.push(shown);
+    }
+}
+
+/// Reads the row whose line this is, in a file of `width` codes.
+pub(crate) fn read_row(line: &[u8], width: usize, row: &mut SatelliteRow)
+    requires width { width ≤ 16 }
+    requires line { IsLine line.now }
+    requires some { ∥ ((r : SatelliteRow) × IsTableRow width r × (line.now ≡ satellite_line r)) ∥₁ }
+    ensures row { IsTableRow width row.new }
+    ensures text { line.now ≡ satellite_line row.new }
+{
+    let Some(satellite) = satellite_of_form(line, width) else {
+        unreachable!();
+    };
+    row.satellite = satellite;
+    read_cells(&line[3..line.len() - 1], width, &mut row.observed);
+}

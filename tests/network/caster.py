@@ -1,0 +1,58 @@
+"""A caster on the loopback address, which serves a capture in parts.
+
+    caster.py CAPTURE PORT-FILE PARTS [NAME:PASSWORD]
+
+The port that it got is written to the file. Each connection is given the next part, in pieces of 150 bytes; after an odd part
+(the first, the third) it is cut, after an even one it stays open until the other side ends it. With a name and a password
+it speaks HTTP, as a caster does, and serves who knows them.
+"""
+
+import base64
+import os
+import socket
+import sys
+import time
+
+
+def is_welcome(connection, known):
+    """Reads a request; answers it if it is refused, and gives the head of an answer if it isn't."""
+    request = b""
+    while b"\r\n\r\n" not in request:
+        piece = connection.recv(4096)
+        if not piece:
+            return False
+        request += piece
+    wanted = b"\r\nAuthorization: Basic " + base64.b64encode(known.encode()) + b"\r\n"
+    good = wanted in request
+    head = b"200 OK" if good else b"401 Unauthorized"
+    connection.sendall(b"HTTP/1.1 " + head + b"\r\nContent-Type: gnss/data\r\nConnection: close\r\n\r\n")
+    return good
+
+
+def main():
+    capture, port_file, count, *known = sys.argv[1:]
+    with open(capture, "rb") as file:
+        text = file.read()
+    size = len(text) // int(count) + 1
+    parts = [text[at:at + size] for at in range(0, len(text), size)]
+    server = socket.create_server(("127.0.0.1", 0))
+    with open(port_file + ".new", "w") as file:
+        print(server.getsockname()[1], file=file)
+    os.rename(port_file + ".new", port_file)
+    for number, part in enumerate(parts, 1):
+        connection = server.accept()[0]
+        while known and not is_welcome(connection, known[0]):
+            connection.close()
+            connection = server.accept()[0]
+        for at in range(0, len(part), 150):
+            connection.sendall(part[at:at + 150])
+            time.sleep(0.005)
+        if number % 2 == 0:
+            try:
+                connection.recv(1)
+            except ConnectionError:
+                pass
+        connection.close()
+
+
+main()

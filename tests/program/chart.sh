@@ -1,0 +1,89 @@
+#!/bin/sh
+# Runs `chart` as a user does. The program is $1.
+. "$(dirname "$(readlink -f "$0")")/common"
+marks=$root/examples/marks.rnx
+
+# run WORD..: standard input as it is
+run() {
+    "$program" "$@" >out 2>err
+    status=$?
+}
+
+short_help="Draws a file: its satellites along its time, with slips and gaps
+
+Usage: rtcm2rinex chart [OPTIONS] <FILE>
+
+Arguments:
+  <FILE>  The file, or stdin for standard input
+
+Options:
+      --text         A picture in characters
+      --columns <N>  How many characters wide it is, 40 to 400
+  -h, --help         Print help (see more with '--help')"
+
+help="Draws a file: its satellites along its time, with slips and gaps
+
+Usage: rtcm2rinex chart [OPTIONS] <FILE>
+
+Arguments:
+  <FILE>
+          The file, or stdin for standard input
+
+Options:
+      --text
+          A picture in characters
+
+      --columns <N>
+          How many characters wide it is, 40 to 400
+
+  -h, --help
+          Print help (see a summary with '-h')
+
+Example:
+  rtcm2rinex chart base.rnx >base.svg
+  rtcm2rinex chart --text --columns 120 base.rnx
+
+Exit status:
+  0  the picture is written
+  1  it is not, or in part; standard error says why
+  2  the words are refused
+  3  the file is not well-formed; standard error has its first wrong line
+
+Manual: man rtcm2rinex, or docs/MANUAL.md"
+
+picture=$(cat "$root/examples/marks.txt")
+svg=$(cat "$root/examples/marks.svg")
+
+run chart --text "$marks" </dev/null;              expect chart_of_a_file 0 "$picture" ''
+run chart --text stdin <"$marks";                  expect chart_of_standard_input 0 "$picture" ''
+run chart --text --columns 80 "$marks" </dev/null; expect chart_80_wide 0 "$picture" ''
+run chart "$marks" </dev/null;                     expect chart_in_svg 0 "$svg" ''
+run chart --help </dev/null;                       expect chart_help 0 "$help" ''
+run chart -h </dev/null;                           expect chart_short_help 0 "$short_help" ''
+
+# a file that check refuses
+head -n 20 "$marks" | sed '16s/ 7 / 8 /' >bad
+run check bad </dev/null; line=$(cat out)
+run chart bad </dev/null;                          expect chart_of_a_bad_file 3 '' "$line"
+run chart --text bad </dev/null;                   expect chart_of_a_bad_file_in_characters 3 '' "$line"
+run chart none </dev/null;                         expect chart_of_no_file 1 '' 'rtcm2rinex: cannot open none'
+
+# holds NAME: right if the last command was
+holds() {
+    if [ $? -eq 0 ]; then right "$1"; else wrong "$1" "status $status, $(wc -c <out) bytes on standard output"; fi
+}
+for width in 40 400; do
+    run chart --text --columns $width "$marks" </dev/null
+    [ "$status" -eq 0 ] && [ "$(awk '{ if (length($0) > w) w = length($0) } END { print w }' out)" -le $width ]
+    holds chart_${width}_wide
+done
+for width in 39 401; do
+    run chart --text --columns $width "$marks" </dev/null
+    [ "$status" -eq 2 ] && [ ! -s out ]
+    holds chart_${width}_wide
+done
+run chart --columns 80 "$marks" </dev/null
+[ "$status" -eq 2 ] && [ ! -s out ]
+holds columns_without_text
+
+ends 14

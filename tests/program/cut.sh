@@ -1,0 +1,163 @@
+#!/bin/sh
+# Runs `cut` as a user does. The program is $1.
+. "$(dirname "$(readlink -f "$0")")/common"
+file=$root/examples/slip.rnx
+noon=2024-05-17T12:00:00
+
+# cut WORD..: standard input as it is
+cut() {
+    "$program" cut "$@" >out 2>err
+    status=$?
+}
+
+# records FILE..: what stands after the headers
+records() {
+    for one in "$@"; do sed '1,/END OF HEADER/d' "$one"; done
+}
+
+# bad NAME LINE WORD..: words that are refused
+bad() {
+    name=$1 line=$2
+    shift 2
+    cut "$@" "$file" </dev/null
+    expect "$name" 2 '' "rtcm2rinex: $line"
+}
+
+short_help="Writes the file of a part of a file; no slip is lost
+
+Usage: rtcm2rinex cut <--from <T>|--until <T>|--every <SECONDS>> <FILE>
+
+Arguments:
+  <FILE>  The file, or stdin for standard input
+
+Options:
+      --from <T>         The GPS time of the first records that are kept
+      --until <T>        The GPS time before which records are kept
+      --every <SECONDS>  Records at whole multiples of this step are kept, 1 to 86400
+  -h, --help             Print help (see more with '--help')"
+
+help="Writes the file of a part of a file; no slip is lost
+
+Usage: rtcm2rinex cut <--from <T>|--until <T>|--every <SECONDS>> <FILE>
+
+Arguments:
+  <FILE>
+          The file, or stdin for standard input
+
+Options:
+      --from <T>
+          The GPS time of the first records that are kept
+
+      --until <T>
+          The GPS time before which records are kept
+
+      --every <SECONDS>
+          Records at whole multiples of this step are kept, 1 to 86400
+
+  -h, --help
+          Print help (see a summary with '-h')
+
+Example:
+  rtcm2rinex cut --every 30 base.rnx >base_30s.rnx
+  rtcm2rinex cut --from 2024-05-17T12:00:00 --until 2024-05-17T13:00:00 \\
+      day.rnx >hour.rnx
+
+Exit status:
+  0  the file is written
+  1  it is not, or in part; standard error says why
+  2  the words are refused
+  3  the file is not well-formed; standard error has its first wrong line
+
+Manual: man rtcm2rinex, or docs/MANUAL.md"
+
+no_option="error: the following required arguments were not provided:
+  <--from <T>|--until <T>|--every <SECONDS>>
+
+Usage: rtcm2rinex cut <--from <T>|--until <T>|--every <SECONDS>> <FILE>
+
+For more information, try '--help'."
+
+no_file="error: the following required arguments were not provided:
+  <FILE>
+
+Usage: rtcm2rinex cut <--from <T>|--until <T>|--every <SECONDS>> <FILE>
+
+For more information, try '--help'."
+
+step_of_0="error: invalid value '0' for '--every <SECONDS>': 0 is not in 1..=86400
+
+For more information, try '--help'."
+
+: >nothing
+mkdir folder
+
+# The files of the examples were laid by hand: slips at the seconds 7 and 20 of what is left out, one of them of a
+# satellite that is missing in the next record, and slips and half cycles of what is kept.
+cut --every 30 "$file" </dev/null;                  leaves a_minute_at_30_seconds 0 "$root/examples/slip_30s.rnx" nothing
+cut --every 30 stdin <"$file";                      leaves of_standard_input 0 "$root/examples/slip_30s.rnx" nothing
+cat "$file" | "$program" cut --every 30 stdin >out 2>err; status=$?
+leaves of_a_pipe 0 "$root/examples/slip_30s.rnx" nothing
+cut --every 1 "$file" </dev/null;                   leaves at_its_own_step 0 "$file" nothing
+cut --from "$noon" "$file" </dev/null;              leaves from_its_begin 0 "$file" nothing
+cut --until 2024-05-17T12:01:01 "$file" </dev/null; leaves until_after_its_end 0 "$file" nothing
+
+# Parts that meet are the part of both, also where a slip stands before the second one.
+for step in 1 7 30; do
+    "$program" cut --every $step "$file" >whole
+    "$program" cut --every $step --until 2024-05-17T12:00:21 "$file" >first
+    "$program" cut --every $step --from 2024-05-17T12:00:21 "$file" >second
+    records whole >want
+    records first second >got
+    same "parts_at_$step" got want
+done
+"$program" check second </dev/null >out 2>err; status=$?
+expect a_part_is_checked 0 'valid: 2 epochs, 3 satellite lines' ''
+
+# Nothing is left: the header alone, whose first time is --from, or the file's.
+header() {
+    sed '/END OF HEADER/q' "$file" | sed "s/^  2024     5    17    12     0    0.0000000/$1/"
+}
+header '  2024     5    17    13     0    0.0000000' >want
+cut --from 2024-05-17T13:00:00 "$file" </dev/null;  leaves nothing_after_from 0 want nothing
+header '  2024     5    17    12     0    0.0000000' >want
+cut --until "$noon" "$file" </dev/null;             leaves nothing_before_until 0 want nothing
+header '  2024     5    17    12     0   30.0000000' >want
+cut --from 2024-05-17T12:00:30 --until 2024-05-17T12:00:30 "$file" </dev/null
+leaves nothing_between 0 want nothing
+
+# Times and steps at their limits, and words that are refused.
+cut --from 1980-01-06T00:00:00 --until 2100-12-31T23:59:59 --every 1 "$file" </dev/null
+leaves the_widest_span 0 "$file" nothing
+header '  2024     5    17    12     0    0.0000000' >want
+cut --every 86400 "$file" </dev/null;               leaves a_step_of_a_day 0 want nothing
+bad other_form_of_from 'bad --from' --from 2024-05-17
+bad no_such_day 'bad --until' --until 2024-02-30T00:00:00
+bad both_times 'bad --from' --from noon --until noon
+bad from_after_until 'bad --until' --from 2024-05-17T12:00:01 --until "$noon"
+bad until_in_2101 'bad --until' --until 2101-01-01T00:00:00
+cut "$file" </dev/null;                             expect no_option 2 '' "$no_option"
+cut --every 30 </dev/null;                          expect cut_without_a_file 2 '' "$no_file"
+cut --every 0 "$file" </dev/null;                   expect a_step_of_0 2 '' "$step_of_0"
+
+# A file that `check` refuses.
+sed '16s/45.000/45.100/' "$file" >wrong
+cut --every 30 wrong </dev/null;                    expect a_wrong_value 3 '' 'line 16: C3 Value'
+cut --every 30 stdin </dev/null;                    expect an_empty_file 3 '' 'line 1: C5 Truncated'
+cut --every 30 "$root/examples/base.rtcm" </dev/null
+expect a_capture 3 '' 'line 1: C5 Truncated'
+
+cut --every 30 nowhere </dev/null;                  expect cut_of_no_file 1 '' 'rtcm2rinex: cannot open nowhere'
+cut --every 30 folder </dev/null;                   expect cut_of_a_directory 1 '' 'rtcm2rinex: read failed'
+"$program" cut --every 30 stdin <&- >out 2>err; status=$?
+expect cut_of_closed_standard_input 1 '' 'rtcm2rinex: read failed'
+"$program" cut --every 30 "$file" >/dev/full 2>err; status=$?; : >out
+expect cut_into_full_output 1 '' 'rtcm2rinex: write failed'
+"$program" cut --every 30 "$file" >&- 2>err; status=$?; : >out
+expect cut_into_closed_output 1 '' 'rtcm2rinex: write failed'
+
+cut --help </dev/null;                              expect cut_help 0 "$help" ''
+cut -h </dev/null;                                  expect cut_short_help 0 "$short_help" ''
+"$program" help cut </dev/null >out 2>err; status=$?
+expect help_cut 0 "$help" ''
+
+ends 34
