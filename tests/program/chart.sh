@@ -18,7 +18,7 @@ Arguments:
 
 Options:
       --text         A picture in characters
-      --columns <N>  How many characters wide it is, 40 to 400
+      --columns <N>  How many characters wide it is with --text, 40 to 400; 80 if not given
   -h, --help         Print help (see more with '--help')"
 
 help="Draws a file: its satellites along its time, with slips and gaps
@@ -34,7 +34,7 @@ Options:
           A picture in characters
 
       --columns <N>
-          How many characters wide it is, 40 to 400
+          How many characters wide it is with --text, 40 to 400; 80 if not given
 
   -h, --help
           Print help (see a summary with '-h')
@@ -47,7 +47,7 @@ Exit status:
   0  the picture is written
   1  it is not, or in part; standard error says why
   2  the words are refused
-  3  the file is not well-formed; standard error has its first wrong line
+  3  the file is not as convert writes it; standard error has its first wrong line
 
 Manual: man rtcm2rinex, or docs/MANUAL.md"
 

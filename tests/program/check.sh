@@ -36,10 +36,10 @@ Example:
   rtcm2rinex check base.rnx
 
 Exit status:
-  0  the file is well-formed
+  0  the file is as convert writes it
   1  it was not checked; standard error says why
   2  the words are refused
-  3  the file is not well-formed; standard output has its first wrong line
+  3  it is not as convert writes it; standard output has its first wrong line
 
 Manual: man rtcm2rinex, or docs/MANUAL.md"
 

@@ -66,7 +66,7 @@ Exit status:
   0  the file is written
   1  it is not, or in part; standard error says why
   2  the words are refused
-  3  the file is not well-formed; standard error has its first wrong line
+  3  the file is not as convert writes it; standard error has its first wrong line
 
 Manual: man rtcm2rinex, or docs/MANUAL.md"
 

@@ -44,7 +44,7 @@ Exit status:
   0  the work is done
   1  the work is not done; the last line on standard error says why
   2  the words are refused
-  3  the file is not well-formed
+  3  the file is not as convert writes it
 
 Manual: man rtcm2rinex, or docs/MANUAL.md"
 

@@ -36,11 +36,11 @@ cell_in epochs =
     }
 
 -- the satellites 1 to 32 in the epochs of a column
-unfoldable pub cells_of : List EpochTableView → List Cell
-cells_of es = map (λ place. cell_in (observed_by (place + 1) es)) (range_with_len 0 32)
+unfoldable pub satellite_cells : List EpochTableView → List Cell
+satellite_cells es = map (λ place. cell_in (observed_by (place + 1) es)) (range_with_len 0 32)
 
 abbrev pub column_of : List EpochTableView → Column
-column_of es = record { cells = cells_of es }
+column_of es = record { cells = satellite_cells es }
 
 -- the epochs of a column
 abbrev pub epochs_of_column : Scale → ℕ → List EpochTableView → List EpochTableView

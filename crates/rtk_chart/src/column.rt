@@ -2,7 +2,7 @@
 
 ghost use Rattle.std.specs.Prelude.{◌≡◌, List, [], ◌∷◌};
 ghost use Rattle.rtk_rinex.specs.Record.{EpochTableView};
-ghost use Rattle.rtk_chart.specs.Grid.{cells_of, column_of};
+ghost use Rattle.rtk_chart.specs.Grid.{satellite_cells, column_of};
 
 use crate::cell::Cell;
 use crate::observations::observed_in;
@@ -15,7 +15,7 @@ pub(crate) struct Column {
 }
 
 fn take_cells(cells: &mut [Cell; 32], rows: &[SatelliteRow])
-    ensures { (e : EpochTableView) (es : List EpochTableView) → rows.now ≡ e.rows → cells.old ≡ cells_of es → cells.new ≡ cells_of (e ∷ es) }
+    ensures { (e : EpochTableView) (es : List EpochTableView) → rows.now ≡ e.rows → cells.old ≡ satellite_cells es → cells.new ≡ satellite_cells (e ∷ es) }
 {
     for place in 0u8..32 {
         let mut cell = cells[usize::from(place)];

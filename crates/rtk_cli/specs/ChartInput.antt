@@ -2,9 +2,10 @@
 use Rattle.std.specs.Prelude.{◌≡◌, ℕ, List, Option, None, Some}
 use Rattle.std.specs.Int.{IsInRange}
 use Rattle.rtk_frame.specs.Stream.{with_more, TakesPart}
-use Rattle.rtk_rinex.specs.CheckTable.{HoldsTable, IsFault, IsWithoutTable}
+use Rattle.rtk_rinex.specs.CheckTable.{IsFault, IsWithoutTable}
 use Rattle.rtk_rinex.specs.declared.check_fault.CheckFault.{CheckFault}
 use Rattle.rtk_chart.specs.Chart.{ShowsTable, ShowsTableInSvg}
+use Rattle.rtk_cli.specs.CheckedInput.{IsTextOfSomeTable}
 
 -- the width of a picture in characters (this project's rule)
 abbrev pub IsWidth : ℕ → Type 0
@@ -23,12 +24,8 @@ WritesPicture width file before after = (picture : List ℕ) × IsPicture width 
 abbrev pub WritesPartOfPicture : Option ℕ → List ℕ → Option (List ℕ) → Option (List ℕ) → Type 0
 WritesPartOfPicture width file before after = (picture : List ℕ) × IsPicture width file picture × TakesPart before after picture
 
--- the text is the text of a well-formed table
-abbrev pub HoldsSomeTable : List ℕ → Type 0
-HoldsSomeTable text = (epochs : ℕ) × (satellites : ℕ) × HoldsTable text epochs satellites
-
 -- the text is the text of a well-formed table, and a picture of it was written; or it is the text of
 -- none, this is its first fault, and nothing was written
 abbrev pub ChartsOrRefuses : Option ℕ → List ℕ → Option CheckFault → Option (List ℕ) → Option (List ℕ) → Type 0
-ChartsOrRefuses width text None before after = HoldsSomeTable text × WritesPicture width text before after
+ChartsOrRefuses width text None before after = IsTextOfSomeTable text × WritesPicture width text before after
 ChartsOrRefuses width text (Some fault) before after = IsFault text fault × IsWithoutTable text × (after ≡ before)

@@ -1,13 +1,10 @@
 -- The command `cut`: what it writes of a text.
 use Rattle.std.specs.Prelude.{◌≡◌, ℕ, List, Option, None, Some}
-use Rattle.rtk_rinex.specs.CheckTable.{HoldsTable, IsFault, IsWithoutTable}
+use Rattle.rtk_rinex.specs.CheckTable.{IsFault, IsWithoutTable}
 use Rattle.rtk_rinex.specs.declared.check_fault.CheckFault.{CheckFault}
 use Rattle.rtk_cut.specs.declared.part.Part.{Part}
 use Rattle.rtk_cut.specs.CutWriting.{WritesPart}
-
--- the text is the text of a well-formed table
-abbrev pub IsTextOfSomeTable : List ℕ → Type 0
-IsTextOfSomeTable text = (epochs : ℕ) × (satellites : ℕ) × HoldsTable text epochs satellites
+use Rattle.rtk_cli.specs.CheckedInput.{IsTextOfSomeTable}
 
 -- the text is the text of a well-formed table, and of this the part was written; or it is the text
 -- of none, this is its first fault, and nothing was written

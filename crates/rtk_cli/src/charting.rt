@@ -68,6 +68,10 @@ fn chart_input<R: Source, W: Sink>(
     ensures told { IfOk result (λ refusal. GivesText (R.given reader.old) (R.given reader.new) (λ text.
         (length text ≤ CHECK_LIMIT) × ChartsOrRefuses width text refusal (W.taken out.old) (W.taken out.new))) }
 
+    // What is drawn or refused was read to its end.
+    ensures to_the_end { result ≢ Err Input → result ≢ Err TooLong → result ≢ Err OutOfMemory
+        → R.is_at_end reader.new }
+
     // Each fault comes only if its cause is there, and no call fails without its fault.
     ensures input { IsErrOf result Input → CountRises (R.failures reader.old) (R.failures reader.new) }
     ensures no_failed_read { result ≢ Err Input → R.failures reader.new ≡ R.failures reader.old }

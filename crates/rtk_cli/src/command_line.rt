@@ -71,7 +71,7 @@ fn text_arg<'a>(alloc: Global) -> Arg<'a> {
 }
 
 fn columns_arg<'a>(alloc: Global) -> Result<Arg<'a>, AllocError> {
-    let help = "How many characters wide it is, 40 to 400";
+    let help = "How many characters wide it is with --text, 40 to 400; 80 if not given";
     option_arg(alloc, "columns", "N", help)
         .value_parser(value_parser!(u16).range(40..=400))
         .requires_arg("text")

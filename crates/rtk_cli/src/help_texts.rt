@@ -8,7 +8,7 @@ Exit status:
   0  the work is done
   1  the work is not done; the last line on standard error says why
   2  the words are refused
-  3  the file is not well-formed
+  3  the file is not as convert writes it
 
 Manual: man rtcm2rinex, or docs/MANUAL.md";
 
@@ -41,10 +41,10 @@ Example:
   rtcm2rinex check base.rnx
 
 Exit status:
-  0  the file is well-formed
+  0  the file is as convert writes it
   1  it was not checked; standard error says why
   2  the words are refused
-  3  the file is not well-formed; standard output has its first wrong line
+  3  it is not as convert writes it; standard output has its first wrong line
 
 Manual: man rtcm2rinex, or docs/MANUAL.md";
 
@@ -68,7 +68,7 @@ Exit status:
   0  the picture is written
   1  it is not, or in part; standard error says why
   2  the words are refused
-  3  the file is not well-formed; standard error has its first wrong line
+  3  the file is not as convert writes it; standard error has its first wrong line
 
 Manual: man rtcm2rinex, or docs/MANUAL.md";
 
@@ -82,6 +82,6 @@ Exit status:
   0  the file is written
   1  it is not, or in part; standard error says why
   2  the words are refused
-  3  the file is not well-formed; standard error has its first wrong line
+  3  the file is not as convert writes it; standard error has its first wrong line
 
 Manual: man rtcm2rinex, or docs/MANUAL.md";

@@ -3,7 +3,7 @@ use Rattle.std.specs.List.{range_with_len}
 use Rattle.rtk_rinex.specs.Record.{EpochTableView}
 use Rattle.rtk_rinex.specs.declared.epoch_table.Observed.{Observed}
 use Rattle.rtk_chart.specs.Epochs.{observed_in, observed_by}
-use Rattle.rtk_chart.specs.Grid.{cell_in, cells_of}
+use Rattle.rtk_chart.specs.Grid.{cell_in, satellite_cells}
 use Rattle.rtk_chart.specs.declared.cell.Cell.{Cell}
 use Rattle.rtk_chart.proofs.ListLemmas.{up_to, up_to-none, up_to-here, up_to-more, up_to-all}
 use Rattle.rtk_chart.proofs.GridLemmas.{cell-took}
@@ -13,11 +13,11 @@ abbrev cells_after : List EpochTableView → ℕ → Cell
 cells_after es place = cell_in (observed_by (place + 1) es)
 
 pub loop-place-init : goal.loop-place-init
-unfolding cells_of
+unfolding satellite_cells
 loop-place-init c = λ e es rows are. up_to-none (cells_after (e ∷ es)) (cells_after es) c.args.cells.now 32 (cell_in []) are
 
 pub loop-place-preserved : goal.loop-place-preserved
-unfolding cells_of
+unfolding satellite_cells
 loop-place-preserved c = λ e es rows are.
     let so_far = c.loop-place.invariant e es rows are in
     let new = cells_after (e ∷ es) in
@@ -29,7 +29,7 @@ loop-place-preserved c = λ e es rows are.
     (c.take.ensures (observed_by (i + 1) es) (up_to-here new old c.loop-place.cells 32 i c.from.result _ c.from.ensures within so_far)))
 
 pub returns : goal.returns
-unfolding cells_of
+unfolding satellite_cells
 returns c = λ e es rows are.
     let end : c.loop-place.place ≡ 32 = omega (arith, c.loop-place.auto.place-end, c.loop-place-test.false) in
     up_to-all (cells_after (e ∷ es)) (cells_after es) c.loop-place.cells 32 (cell_in [])
