@@ -89,7 +89,14 @@ mark-has-epoch s before t c some few after marked =
     subst (λ (k : ℕ). c ≤ (b + k * s.unit) / s.column_ms) whole (subst (λ (k : ℕ). c ≤ k) (column-of-epoch s before n after) to) in
     let found = between b s.unit s.column_ms c (n - 1) size few begin end in
     let bound = found.2 in
-    (found.0, found.1, omega (arith, bound, whole), column-of-epoch s before found.0 after ∙ found.3)
+    let i = found.0 in
+    let fits : i ≤ n = omega (arith, bound, whole) in
+    let same : s.unit ≤ s.unit = omega arith in
+    let nearer = mul-le i s.unit n s.unit fits same in
+    let held = div-mul-le_self (t - before - 1) s.unit in
+    let positive = mul-pos n s.unit many some in
+    let sooner : before + i * s.unit < t = omega (arith, nearer, held, positive) in
+    (i, found.1, sooner, column-of-epoch s before i after ∙ found.3)
 
 pub epoch-has-mark : (s : Scale) (before t c : ℕ) → 0 < s.unit → s.unit ≤ s.column_ms → s.first ≤ before
     → SomeMissingEpoch s before t c → has_missing_before s (Some before) t c ≡ true
@@ -97,7 +104,9 @@ epoch-has-mark s before t c some few after found =
     let n = missing_before s.unit (Some before) t in
     let i = found.0 in
     let any = found.1 in
-    let most = found.2 in
+    let sooner = found.2 in
+    let fits : i * s.unit ≤ t - before - 1 = omega (arith, sooner) in
+    let most : i ≤ n = le-div i (t - before - 1) s.unit some fits in
     let b = before - s.first in
     let size : 0 < s.column_ms = omega (arith, some, few) in
     let here : (b + i * s.unit) / s.column_ms ≡ c = sym (column-of-epoch s before i after) ∙ found.3 in

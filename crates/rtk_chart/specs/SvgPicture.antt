@@ -158,7 +158,7 @@ svg_numbers records satellites slips missing =
 -- the beginning of a picture so high
 unfoldable pub svg_start : List ℕ → ℕ → List ℕ
 svg_start marker height =
-    number_between (codes "<svg xmlns='http://www.w3.org/2000/svg' viewBox='0 0 1560 ") height (codes "' role='img'>\n<title>")
+    number_between (codes "<svg xmlns='http://www.w3.org/2000/svg' viewBox='0 0 1560 ") height (codes "'>\n<title>")
     ++ xml_text marker ++ codes "</title>\n" ++ STYLE.now
     ++ number_between (codes "<rect class='page' width='1560' height='") height (codes "'/>\n<text class='marker' x='90' y='30'>")
     ++ xml_text marker ++ codes "</text>\n"

@@ -11,8 +11,8 @@ use crate::text_picture::{text_of_none, text_picture};
 use rtk_rinex::Table;
 use std::alloc::{AllocError, Global};
 
-/// The picture of a table in characters, at most so many of them wide: a row for each satellite, and
-/// in it a character for each column of time.
+/// The picture of a table in characters: a heading, and a row for each satellite, with a character for
+/// each column of time. Rows are at most so many characters wide.
 pub fn chart_text(alloc: Global, table: &Table<'_>, width: usize) -> Result<Vec<u8>, AllocError>
     requires { IsInRange 40 400 width }
     // It gives up only if memory is refused: row chart_text of tests/calls.

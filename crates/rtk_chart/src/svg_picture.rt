@@ -109,7 +109,7 @@ fn put_start(text: &mut Vec<u8>, marker: &[u8], height: u64) -> Result<(), Alloc
         text,
         b"<svg xmlns='http://www.w3.org/2000/svg' viewBox='0 0 1560 ",
         height,
-        b"' role='img'>\n<title>",
+        b"'>\n<title>",
     )?;
     put_xml(text, marker)?;
     text.extend_from_slice(b"</title>\n")?;

@@ -1,5 +1,6 @@
 pub mod ChartInput
 pub mod CheckInput
+pub mod CheckedInput
 pub mod Converting
 pub mod CutInput
 pub mod Hex
