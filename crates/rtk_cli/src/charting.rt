@@ -68,6 +68,10 @@ fn chart_input<R: Source, W: Sink>(
     ensures told { IfOk result (λ refusal. GivesText (R.given reader.old) (R.given reader.new) (λ text.
         (length text ≤ CHECK_LIMIT) × ChartsOrRefuses width text refusal (W.taken out.old) (W.taken out.new))) }
 
+    // What the answer is about was read to its end.
+    ensures to_the_end { result ≢ Err Input → result ≢ Err TooLong → result ≢ Err OutOfMemory
+        → R.is_at_end reader.new }
+
     // Each fault comes only if its cause is there, and no call fails without its fault.
     ensures input { IsErrOf result Input → CountRises (R.failures reader.old) (R.failures reader.new) }
     ensures no_failed_read { result ≢ Err Input → R.failures reader.new ≡ R.failures reader.old }
@@ -76,6 +80,10 @@ fn chart_input<R: Source, W: Sink>(
     ensures not_hex { IsErrOf result NotHex → ⊥ }
     ensures output { IsErrOf result Output → CountRises (W.failures out.old) (W.failures out.new) }
     ensures no_failed_write { result ≢ Err Output → W.failures out.new ≡ W.failures out.old }
+
+    // Whatever the answer: at most this much was read.
+    ensures within { GivesText (R.given reader.old) (R.given reader.new) (λ text.
+        length text ≤ CHECK_LIMIT + 1) }
 
     // Not done: nothing is out, but a first part of the picture after a failed write.
     ensures part { IsErrOf result Output → GivesText (R.given reader.old) (R.given reader.new) (λ text.
