@@ -397,6 +397,9 @@ def contents():
     weak = {**empty, "satellite": 32, "l1_cnr": 1}
     yield "no_value", frame_of(legacy(NOON, [empty])), (" satellites -\n codes -\nnothing taken\n",)
     yield "strength_alone", frame_of(legacy(NOON, [empty, weak])), (" satellites G32\n codes 1C\n next ",)
+    # L1 has neither range nor phase, and L2 a range, or a phase
+    yield "range_alone", frame_of(legacy(NOON, [{**empty, "l2_range": 0}])), (" satellites G05\n codes 2W\n next ",)
+    yield "phase_alone", frame_of(legacy(NOON, [{**empty, "l2_offset": 0}])), (" satellites G05\n codes 2W\n next ",)
     # DF016: 1 is 2P, 3 is 2W
     second = at(0, l2_code=1), at(1, l2_code=1), at(2)
     yield "second_frequency_2p", b"".join(second[:2]), (" codes 1C,2P\n second-frequency 2P\n next ",)

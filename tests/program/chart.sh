@@ -79,11 +79,16 @@ for width in 40 400; do
 done
 for width in 39 401; do
     run chart --text --columns $width "$marks" </dev/null
-    [ "$status" -eq 2 ] && [ ! -s out ]
-    holds chart_${width}_wide
+    expect chart_${width}_wide 2 '' "error: invalid value '$width' for '--columns <N>': $width is not in 40..=400
+
+For more information, try '--help'."
 done
 run chart --columns 80 "$marks" </dev/null
-[ "$status" -eq 2 ] && [ ! -s out ]
-holds columns_without_text
+expect columns_without_text 2 '' "error: the following required arguments were not provided:
+  --text
+
+Usage: rtcm2rinex chart --text --columns <N> <FILE>
+
+For more information, try '--help'."
 
 ends 14

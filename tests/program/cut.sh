@@ -84,9 +84,9 @@ Usage: rtcm2rinex cut <--from <T>|--until <T>|--every <SECONDS>> <FILE>
 
 For more information, try '--help'."
 
-step_of_0="error: invalid value '0' for '--every <SECONDS>': 0 is not in 1..=86400
-
-For more information, try '--help'."
+step_of() {
+    printf "error: invalid value '%s' for '--every <SECONDS>': %s is not in 1..=86400\n\nFor more information, try '--help'." "$1" "$1"
+}
 
 : >nothing
 mkdir folder
@@ -137,7 +137,9 @@ bad from_after_until 'bad --until' --from 2024-05-17T12:00:01 --until "$noon"
 bad until_in_2101 'bad --until' --until 2101-01-01T00:00:00
 cut "$file" </dev/null;                             expect no_option 2 '' "$no_option"
 cut --every 30 </dev/null;                          expect cut_without_a_file 2 '' "$no_file"
-cut --every 0 "$file" </dev/null;                   expect a_step_of_0 2 '' "$step_of_0"
+for step in 0 86401 4294967296; do
+    cut --every $step "$file" </dev/null;           expect a_step_of_$step 2 '' "$(step_of $step)"
+done
 
 # A file that `check` refuses.
 sed '16s/45.000/45.100/' "$file" >wrong
@@ -160,4 +162,4 @@ cut -h </dev/null;                                  expect cut_short_help 0 "$sh
 "$program" help cut </dev/null >out 2>err; status=$?
 expect help_cut 0 "$help" ''
 
-ends 34
+ends 36

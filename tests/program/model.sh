@@ -44,11 +44,18 @@ done
 for name in $(cat summaries); do
     "$program" summary "$name.rtcm" >out 2>err </dev/null; status=$?
     leaves "summary_$name" 0 "$name.summary" /dev/null
+    cat out >>summaries_told
 done
 for name in each_refusal.1 long_capture.1 long_damaged_links.1; do
     "$program" summary "$name" >out 2>err </dev/null; status=$?
     leaves "summary_of_$name" 0 "$name.summary" /dev/null
+    cat out >>summaries_told
 done
+# Each frame is in one line: those of messages, `other` and `refused` add up to `frames`.
+awk '/^bytes / { print sum - frames; sum = frames = 0 } /^frames / { frames = $2 } /^( message|other|refused) / { sum += $NF }
+    END { print sum - frames }' summaries_told | sort | uniq -c | sed 's/^ *//' >sums
+echo "$(($(grep -c '^bytes ' summaries_told) + 1)) 0" >want
+same summaries_add_up_to_their_frames sums want
 for piece in piece.*; do cat "$piece"; done | "$program" summary stdin >out 2>err; status=$?
 leaves summary_of_a_long_pipe 0 long_capture.1.summary /dev/null
 
@@ -57,5 +64,12 @@ leaves summary_of_a_long_pipe 0 long_capture.1.summary /dev/null
 expect check_of_10_mb 0 'valid: 450 epochs, 14400 satellite lines' ''
 "$program" check zero.rnx >out 2>err </dev/null; status=$?
 leaves check_of_10_mb_with_a_zero 3 zero.line /dev/null
+# `cut` and `chart` read them to their ends too.
+"$program" cut --every 1 long.rnx >out 2>err </dev/null; status=$?
+leaves cut_of_10_mb 0 long.rnx /dev/null
+for words in 'cut --every 1' chart 'chart --text'; do
+    "$program" $words zero.rnx >out 2>err </dev/null; status=$?
+    leaves "$(echo "$words" | tr -cs a-z _)of_10_mb_with_a_zero" 3 /dev/null zero.line
+done
 
-ends 52
+ends 59

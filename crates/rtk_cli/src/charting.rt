@@ -81,6 +81,10 @@ fn chart_input<R: Source, W: Sink>(
     ensures output { IsErrOf result Output → CountRises (W.failures out.old) (W.failures out.new) }
     ensures no_failed_write { result ≢ Err Output → W.failures out.new ≡ W.failures out.old }
 
+    // Whatever the answer: at most this much was read.
+    ensures within { GivesText (R.given reader.old) (R.given reader.new) (λ text.
+        length text ≤ CHECK_LIMIT + 1) }
+
     // Not done: nothing is out, but a first part of the picture after a failed write.
     ensures part { IsErrOf result Output → GivesText (R.given reader.old) (R.given reader.new) (λ text.
         (length text ≤ CHECK_LIMIT) × WritesPartOfPicture width text (W.taken out.old) (W.taken out.new)) }

@@ -69,6 +69,10 @@ fn cut_input<R: Source, W: Sink>(
     ensures output { IsErrOf result Output → CountRises (W.failures out.old) (W.failures out.new) }
     ensures no_failed_write { result ≢ Err Output → W.failures out.new ≡ W.failures out.old }
 
+    // Whatever the answer: at most this much was read.
+    ensures within { GivesText (R.given reader.old) (R.given reader.new) (λ text.
+        length text ≤ CHECK_LIMIT + 1) }
+
     // Not done: a first part of the part is out, or nothing.
     ensures first { IsErrOf result Output → GivesText (R.given reader.old) (R.given reader.new) (λ text.
         (length text ≤ CHECK_LIMIT) × WritesFirstOfPart text part (W.taken out.old) (W.taken out.new)) }
