@@ -68,6 +68,13 @@ run chart bad </dev/null;                          expect chart_of_a_bad_file 3 
 run chart --text bad </dev/null;                   expect chart_of_a_bad_file_in_characters 3 '' "$line"
 run chart none </dev/null;                         expect chart_of_no_file 1 '' 'rtcm2rinex: cannot open none'
 
+truncate -s 1073741825 zeros
+run chart zeros </dev/null;                        expect chart_input_too_long 1 '' 'rtcm2rinex: input too long'
+
+sed '/END OF HEADER/q' "$marks" >empty
+run chart --text empty </dev/null
+expect chart_without_records 0 "$(printf 'marker BASE\nno records')" ''
+
 # holds NAME: right if the last command was
 holds() {
     if [ $? -eq 0 ]; then right "$1"; else wrong "$1" "status $status, $(wc -c <out) bytes on standard output"; fi
@@ -91,4 +98,4 @@ Usage: rtcm2rinex chart --text --columns <N> <FILE>
 
 For more information, try '--help'."
 
-ends 14
+ends 16

@@ -130,6 +130,32 @@ cut --from 1980-01-06T00:00:00 --until 2100-12-31T23:59:59 --every 1 "$file" </d
 leaves the_widest_span 0 "$file" nothing
 header '  2024     5    17    12     0    0.0000000' >want
 cut --every 86400 "$file" </dev/null;               leaves a_step_of_a_day 0 want nothing
+# moved DATE MINUTE MINUTE FIRST: the file with its two minutes on another day, and its first time
+moved() {
+    sed "s/^> 2024 05 17 12 00/> $1 $2/; s/^> 2024 05 17 12 01/> $3/; s/^  2024     5    17    12     0 /$4/" "$file"
+}
+
+# Midnight of a leap day: the slips of the minute before show, each once. The record of the day has all of them, and that
+# at 30 seconds the slip of G07, which is missing at 23:59:30, and its own.
+moved '2024 02 28' '23 59' '2024 02 29 00 00' '  2024     2    28    23    59 ' >night
+midnight=2024-02-29T00:00:00
+begin='  2024     2    29     0     0    0.0000000'
+line='> 2024 02 29 00 00  0.0000000  0  2'
+g05='G05  21085502.060 7 110805061.16717        45.000    21085504.060 5  86341606.103'
+g07='G07  22963067.680 6 120671689.95026        41.500    22963071.430 5  94029247.75715        30.250'
+{ header "$begin"; printf '%s\n' "$line" "${g05}15        35.000" "$g07"; } >want
+cut --every 86400 night </dev/null;                 leaves midnight_at_the_step_of_a_day 0 want nothing
+{ header "$begin"; printf '%s\n' "$line" "$g05 5        35.000" "$g07"; } >want
+cut --every 30 --from $midnight night </dev/null;   leaves the_day_after_midnight 0 want nothing
+sed '/^> 2024 02 29/,$d' night >want
+cut --until $midnight night </dev/null;             leaves the_day_before_midnight 0 want nothing
+
+# The last minute that a time can name.
+moved '2100 12 31' '23 58' '2100 12 31 23 59' '  2100    12    31    23    58 ' >century
+{ header '  2100    12    31    23    59    0.0000000'; tail -n 3 century; } >want
+cut --from 2100-12-31T23:59:00 --until 2100-12-31T23:59:59 century </dev/null
+leaves the_end_of_2100 0 want nothing
+
 bad other_form_of_from 'bad --from' --from 2024-05-17
 bad no_such_day 'bad --until' --until 2024-02-30T00:00:00
 bad both_times 'bad --from' --from noon --until noon
@@ -149,6 +175,8 @@ cut --every 30 "$root/examples/base.rtcm" </dev/null
 expect a_capture 3 '' 'line 1: C5 Truncated'
 
 cut --every 30 nowhere </dev/null;                  expect cut_of_no_file 1 '' 'rtcm2rinex: cannot open nowhere'
+truncate -s 1073741825 zeros
+cut --every 30 zeros </dev/null;                    expect cut_input_too_long 1 '' 'rtcm2rinex: input too long'
 cut --every 30 folder </dev/null;                   expect cut_of_a_directory 1 '' 'rtcm2rinex: read failed'
 "$program" cut --every 30 stdin <&- >out 2>err; status=$?
 expect cut_of_closed_standard_input 1 '' 'rtcm2rinex: read failed'
@@ -162,4 +190,4 @@ cut -h </dev/null;                                  expect cut_short_help 0 "$sh
 "$program" help cut </dev/null >out 2>err; status=$?
 expect help_cut 0 "$help" ''
 
-ends 36
+ends 41
