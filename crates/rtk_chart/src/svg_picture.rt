@@ -16,8 +16,12 @@ use crate::times::{put_moment, put_seconds};
 use rtk_obs::{Code, GpsMs};
 use std::alloc::{AllocError, Global};
 
-/// The colours, which the colour-blind tell apart (Okabe and Ito), on white and on black.
+/// The colours, which the colour-blind tell apart (Okabe and Ito), on white and on black. Those on black
+/// come first: LibreOffice takes them on white too, and then the later ones are shown.
 pub(crate) const STYLE: &[u8] = b"<style>\
+@media (prefers-color-scheme:dark){\
+.page{fill:#111!important}text{fill:#ddd!important}.w{stroke:#56b4e9!important}\
+.l1,.l2,.l3,.l4,.l5,.l6,.l7,.l8,.l9{stroke:#ddd!important}}\
 .page{fill:#fff}\
 text{font-family:sans-serif;font-size:12px;fill:#222}\
 .marker{font-size:18px;font-weight:bold}\
@@ -30,9 +34,6 @@ path{fill:none;stroke-width:4}\
 .l4{stroke-opacity:.4}.l5{stroke-opacity:.5}.l6{stroke-opacity:.6}\
 .l7{stroke-opacity:.7}.l8{stroke-opacity:.8}\
 .t{stroke:#888;stroke-width:1;stroke-opacity:.4}\
-@media (prefers-color-scheme:dark){\
-.page{fill:#111}text{fill:#ddd}.w{stroke:#56b4e9}\
-.l1,.l2,.l3,.l4,.l5,.l6,.l7,.l8,.l9{stroke:#ddd}}\
 </style>\n";
 
 /// What the colours mean.
