@@ -1,14 +1,18 @@
 """Runs `convert` and `summary` on captures of different lengths and asks how many bytes they held
-at most."""
+at most; and `chart` on the file of the largest picture, and asks how many it has."""
 
 from __future__ import annotations
 
 import os
+import re
 import subprocess
 import sys
 from collections.abc import Iterable
 from pathlib import Path
 
+from pictures import CODES as CHART_CODES
+from pictures import COLUMNS, largest
+from pictures import SATELLITES as CHART_SATELLITES
 from streams import NOON, SATELLITES, SIGNALS, capture, legacy, minutes, single_satellite
 
 OPTIONS = (
@@ -29,6 +33,9 @@ GATHERED = 2 * 65_536
 LEAST_BESIDE, MOST_BESIDE = 130_000, 135_000
 # What a summary holds: some 635 kB.
 LEAST_OF_SUMMARY, MOST_OF_SUMMARY = 630_000, 640_000
+
+# The bytes that a picture has at most.
+MOST_OF_PICTURE = 7_500_000
 
 # The cells of an epoch: a 1004 gives two of a satellite, a 1074 one of each signal.
 CELLS = len(SATELLITES) * (2 + len(SIGNALS))
@@ -102,6 +109,11 @@ class Runs:
             told = ran.stdout[:40]
             raise Failed(f"summary {name}: status {ran.returncode}, {told!r}, and not {size}")
         return int(os.pread(9, 20, 0))
+
+
+    def picture(self, name: str) -> bytes:
+        words = [self.program, "chart", name]
+        return subprocess.run(words, cwd=self.folder, check=True, stdout=subprocess.PIPE).stdout
 
 
 class Tests:
@@ -231,6 +243,17 @@ def summaries_alike(runs: Runs, tests: Tests) -> None:
     tests.within("a summary", held[0][0], LEAST_OF_SUMMARY, MOST_OF_SUMMARY)
 
 
+def largest_picture(runs: Runs, tests: Tests) -> None:
+    """Each mark is in each column: of each satellite a slip, a half cycle, a strength and of each
+    code a phase in some epochs; and a missing epoch in all columns but the last."""
+    runs.write("largest", largest())
+    picture = runs.picture("largest")
+    marks = len(re.findall(rb"M\d+ 0[vh]", picture))
+    columns = CHART_SATELLITES * (3 + len(CHART_CODES)) * COLUMNS
+    tests.same("marks of the largest picture", [(marks,), (columns + COLUMNS - 1,)])
+    tests.within("bytes of the largest picture", len(picture), 0, MOST_OF_PICTURE)
+
+
 def main() -> None:
     program, folder = sys.argv[1:]
     tests = Tests()
@@ -239,7 +262,8 @@ def main() -> None:
     tests.within("calls by which the count would miss memory", len(others), 0, 0)
     runs = Runs(program, folder)
     write_captures(runs)
-    for part in (lengths_alike, grows_with_window, grows_with_links, summaries_alike):
+    parts = (lengths_alike, grows_with_window, grows_with_links, summaries_alike, largest_picture)
+    for part in parts:
         try:
             part(runs, tests)
         except Failed as failed:
