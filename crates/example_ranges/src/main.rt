@@ -16,11 +16,13 @@ fn print_ranges(rt: &HostRuntime, cells: &[CellEntry]) -> io::Result<()> {
         };
         let name = entry.code.name();
         let code = str::from_utf8(&name).unwrap_or("?");
+        let sign = if range < 0 { "-" } else { "" };
+        let mm = range.unsigned_abs();
         println!(rt;
-            "G{:02} {code} {}.{:03}",
+            "G{:02} {code} {sign}{}.{:03}",
             entry.satellite,
-            range / 1000,
-            range % 1000
+            mm / 1000,
+            mm % 1000
         )?;
     }
     Ok(())

@@ -1,4 +1,4 @@
-use Rattle.std.proofs.Common.{ℕ, ◌-◌, ◌≤◌, length}
+use Rattle.std.proofs.Common.{◌-◌, ◌≤◌, length}
 use Rattle.example_ranges.proofs.main.Given as goal
 
 abbrev pub invariant-loop-frame : goal.invariant-loop-frame
