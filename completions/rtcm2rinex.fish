@@ -26,7 +26,7 @@ complete -c rtcm2rinex -n '__fish_seen_subcommand_from check' -F -a stdin
 complete -c rtcm2rinex -n '__fish_seen_subcommand_from summary' -s h -l help -d 'Print help (see more with \'--help\')'
 complete -c rtcm2rinex -n '__fish_seen_subcommand_from summary' -F -a stdin
 complete -c rtcm2rinex -n '__fish_seen_subcommand_from chart' -l text -d 'A picture in characters'
-complete -c rtcm2rinex -n '__fish_seen_subcommand_from chart' -l columns -x -d 'How many characters wide it is, 40 to 400'
+complete -c rtcm2rinex -n '__fish_seen_subcommand_from chart' -l columns -x -d 'How many characters wide it is with --text, 40 to 400; 80 if not given'
 complete -c rtcm2rinex -n '__fish_seen_subcommand_from chart' -s h -l help -d 'Print help (see more with \'--help\')'
 complete -c rtcm2rinex -n '__fish_seen_subcommand_from chart' -F -a stdin
 complete -c rtcm2rinex -n '__fish_seen_subcommand_from cut' -l from -x -d 'The GPS time of the first records that are kept'
