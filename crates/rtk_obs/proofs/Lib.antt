@@ -5,6 +5,7 @@ mod YearLemmas
 mod CodeLemmas
 mod EqualityLemmas
 mod RoundingLemmas
+mod LockLemmas
 mod RolloverLemmas
 mod TracksLemmas
 mod ScalingLemmas

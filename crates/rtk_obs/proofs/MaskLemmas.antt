@@ -136,6 +136,11 @@ count-set_bits_from place (suc w) mask h =
     (λ ge. ap length (set_bits_from-top place w mask ge)
     ∙ (ap (λ (n : ℕ). suc n) (count-set_bits_from (suc place) w (mask - 2 ^ w) (omega (arith, pow-suc 2 w))) ∙ sym (ones-top w mask ge h)))
 
+pub bit_within : (w rest top : ℕ) → rest < 2 ^ w → 2 ^ top ≤ rest → rest < 2 ^ (top + 1) → (top < w) × (2 ^ top ≤ rest) × (rest < 2 ^ suc top)
+bit_within w rest top fits from below =
+    let e : top + 1 ≡ suc top = omega arith in
+    (by_lt top w (λ lt. lt) (λ ge. absurd (omega (arith, pow_grows w top ge))), from, rw e at below)
+
 -- ---- the loop over the set bits, the top one first
 
 pub next-place : (places new : List ℕ) (w mask rest top left : ℕ) → (top < w) × (2 ^ top ≤ rest) × (rest < 2 ^ suc top)
@@ -172,6 +177,21 @@ module _ {X Y : Type 0} (f : ℕ → X → List Y) where
   join_from-snoc k (y ∷ xs) x =
       let e : suc k + length xs ≡ k + suc (length xs) = omega arith in
       rw (join_from-snoc (suc k) xs x, e) (sym (append_assoc (f k y) (join_from f (suc k) xs) (f (k + suc (length xs)) x)))
+
+  pub join_from-append : (k : ℕ) (xs ys : List X) → join_from f k (xs ++ ys) ≡ join_from f k xs ++ join_from f (k + length xs) ys
+  unfolding join_from
+  join_from-append k [] ys = let e : k + 0 ≡ k = omega arith in rw e refl
+  join_from-append k (x ∷ xs) ys =
+      let e : suc k + length xs ≡ k + suc (length xs) = omega arith in
+      rw (join_from-append (suc k) xs ys, e) (sym (append_assoc (f k x) (join_from f (suc k) xs) (join_from f (k + suc (length xs)) ys)))
+
+  pub join_from-first : (k : ℕ) (x : X) (xs : List X) → join_from f k (x ∷ xs) ≡ f k x ++ join_from f (k + 1) xs
+  unfolding join_from
+  join_from-first k x xs = let e : suc k ≡ k + 1 = omega arith in rw (← e) refl
+
+  pub join_from-empty : (k : ℕ) → join_from f k [] ≡ []
+  unfolding join_from
+  join_from-empty k = refl
 
   -- the first i and the next one have room if all have it
   pub join_from-room : (k : ℕ) (xs : List X) (i : ℕ) (d : X) → i < length xs → length (join_from f k (take i xs)) + length (f (k + i) (get_or xs i d)) ≤ length (join_from f k xs)
@@ -215,7 +235,3 @@ module _ {X Y : Type 0} (f : ℕ → X → List Y) where
       let next = join_from-snoc 0 (take i xs) (get_or xs i d) in
       added ∙ (ap (λ (ys : List Y). ys ++ f i (get_or xs i d)) so_far
       ∙ (sym (next ∙ ap (λ (k : ℕ). join_from f 0 (take i xs) ++ f k (get_or xs i d)) n) ∙ ap (λ (zs : List X). join_from f 0 zs) (sym (take_more xs i d h))))
-
-  pub join_from-none : (xs : List X) (found : List Y) → found ≡ [] → found ≡ join_from f 0 (take 0 xs)
-  unfolding join_from
-  join_from-none xs found e = e

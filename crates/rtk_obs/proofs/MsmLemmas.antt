@@ -1,8 +1,8 @@
 -- The cells of a 1074: their number, the widths of their fields, and the ranges of their values.
-use Rattle.std.proofs.Common.{◌≡◌, ℕ, zero, suc, ◌+◌, ◌*◌, ◌^◌, ◌<◌, ◌≤◌, [], ◌∷◌, ◌++◌, List, length, take, get_or, map, Option, Some, None, refl, sym, ◌∙◌, subst, arith, nat_eq, true, false, Bool, cond, count_ones}
+use Rattle.std.proofs.Common.{◌≡◌, ℕ, zero, suc, ◌+◌, ◌-◌, ◌*◌, ◌^◌, ◌<◌, ◌≤◌, [], ◌∷◌, ◌++◌, List, length, take, get_or, map, Option, Some, None, refl, sym, ◌∙◌, ap, subst, arith, nat_eq, true, false, Bool, cond, count_ones, append_assoc, length-append}
 use Rattle.std.specs.Prelude.{IfSome}
 use Rattle.std.specs.List.{All, AllByRecursion}
-use Rattle.std.proofs.lemmas.List.{length-map}
+use Rattle.std.proofs.lemmas.List.{length-map, append-nil}
 use Rattle.std.proofs.lemmas.List.Elements.{All-from_recursion, All-get_or}
 use Rattle.std.proofs.lemmas.Bool.Decides.{nat_tests}
 use Rattle.rtk_message.specs.Fields.{Field, FieldsFit}
@@ -17,7 +17,7 @@ use Rattle.rtk_obs.specs.Cell.{is_satellite, IsSatellite, IsStrength, IsInRange}
 use Rattle.rtk_obs.specs.Mask.{set_bits, join_from}
 use Rattle.rtk_obs.specs.Scaling.{strength_of}
 use Rattle.rtk_obs.specs.MsmCells.{satellites_of, signals_of, row_slots, slots_of, coded_entry, slot_entry, code_of_signal, cells_of_1074}
-use Rattle.rtk_obs.proofs.MaskLemmas.{set_bits_from-length, count-set_bits_from, length-join_from, join_from-length, join_from-room, all-join_from}
+use Rattle.rtk_obs.proofs.MaskLemmas.{set_bits-none, set_bits-step, set_bits_from-length, count-set_bits_from, length-join_from, join_from-length, join_from-room, join_from-first, join_from-empty, join_from-append, join_from-more, all-join_from}
 
 -- the satellite of a slot is the satellite of its row
 abbrev pub satellite_in : List ℕ → Slot → ℕ
@@ -89,29 +89,126 @@ few_slots m h =
     let all : length (slots_of m) ≤ satellite_count m.header * signal_count m.header = rw rows at (rw signals_are at most) in
     omega (arith, all, h.mask_bits)
 
-pub room_at : (m : Msm1074) → IsValid m → (i d : ℕ) → i < length m.cell_mask
-    → length (join_from (row_slots (signals_of m)) 0 (take i m.cell_mask)) + length (row_slots (signals_of m) i (get_or m.cell_mask i d)) ≤ 64
-room_at m h i d inside =
-    let e : 0 + i ≡ i = omega arith in
-    let r = rw e at (join_from-room (row_slots (signals_of m)) 0 m.cell_mask i d inside) in
-    omega (arith, r, few_slots m h)
-
 pub fits_at : (m : Msm1074) → IsValid m → (i d : ℕ) → i < length m.cell_mask → get_or m.cell_mask i d < 2 ^ length (signals_of m)
 fits_at m h i d inside =
     All-get_or (λ (b : ℕ). b < 2 ^ length (signals_of m)) m.cell_mask i d inside (All-from_recursion (λ (b : ℕ). b < 2 ^ length (signals_of m)) m.cell_mask (rows_fit m h))
 
--- ---- rows
+-- ---- the loop over the set bits of a row, the top one first
 
-of_row : (ss : List ℕ) (row n : ℕ) (f : ℕ → ℕ) (ps : List ℕ) → row < n → AllByRecursion (λ s. s.row < n) (map (λ p. let s : Slot = record { row = row; signal = f p } in s) ps)
-of_row ss row n f [] h = tt
-of_row ss row n f (p ∷ ps) h = (h, of_row ss row n f ps h)
+row_slots-none : (ss : List ℕ) (row : ℕ) → row_slots ss row 0 ≡ []
+row_slots-none ss row = rw (set_bits-none (length ss)) refl
 
-pub slots_below : (m : Msm1074) → IsValid m → All (λ s. s.row < satellite_count m.header) (slots_of m)
-slots_below m h =
-    All-from_recursion (λ (s : Slot). s.row < satellite_count m.header) (slots_of m)
-    (all-join_from (row_slots (signals_of m)) (λ s. s.row < satellite_count m.header) 0 (satellite_count m.header) m.cell_mask
-    (omega (arith, h.lengths.cell_mask))
-    (λ j bits below. of_row (signals_of m) j (satellite_count m.header) _ (set_bits (length (signals_of m)) bits) below))
+abbrev pub slot_of : ℕ → ℕ → Slot
+slot_of row signal = record { row = row; signal = signal }
+
+row_slots-step : (ss : List ℕ) (row rest top : ℕ) → (top < length ss) × (2 ^ top ≤ rest) × (rest < 2 ^ suc top)
+    → row_slots ss row rest ≡ slot_of row (get_or ss (length ss - 1 - top) 0) ∷ row_slots ss row (rest - 2 ^ top)
+row_slots-step ss row rest top bit =
+    let e : length ss - top - 1 ≡ length ss - 1 - top = omega arith in
+    rw (set_bits-step (length ss) top rest bit.0 bit.1 bit.2, e) refl
+
+-- the entries that stand and those of the bits that are left are the same after a bit
+pub next_entries : (m : Msm1074) (ss : List ℕ) (row cell rest top signal : ℕ) (stood stand all : List CellEntry)
+    → (top < length ss) × (2 ^ top ≤ rest) × (rest < 2 ^ suc top) → signal ≡ get_or ss (length ss - 1 - top) 0
+    → stand ≡ stood ++ slot_entry m cell (slot_of row signal)
+    → stood ++ join_from (slot_entry m) cell (row_slots ss row rest) ≡ all
+    → stand ++ join_from (slot_entry m) (cell + 1) (row_slots ss row (rest - 2 ^ top)) ≡ all
+next_entries m ss row cell rest top signal stood stand all bit is added so_far =
+    let s : Slot = slot_of row (get_or ss (length ss - 1 - top) 0) in
+    let left : List Slot = row_slots ss row (rest - 2 ^ top) in
+    let now : stand ≡ stood ++ slot_entry m cell s = added ∙ ap (λ (n : ℕ). stood ++ slot_entry m cell (slot_of row n)) is in
+    let rest_is : join_from (slot_entry m) cell (row_slots ss row rest) ≡ slot_entry m cell s ++ join_from (slot_entry m) (cell + 1) left =
+    ap (λ (xs : List Slot). join_from (slot_entry m) cell xs) (row_slots-step ss row rest top bit) ∙ join_from-first (slot_entry m) cell s left in
+    ap (λ (es : List CellEntry). es ++ join_from (slot_entry m) (cell + 1) left) now
+    ∙ (append_assoc stood (slot_entry m cell s) (join_from (slot_entry m) (cell + 1) left)
+    ∙ (ap (λ (es : List CellEntry). stood ++ es) (sym rest_is) ∙ so_far))
+
+pub next_length : (ss : List ℕ) (row rest top : ℕ) → (top < length ss) × (2 ^ top ≤ rest) × (rest < 2 ^ suc top)
+    → length (row_slots ss row rest) ≡ suc (length (row_slots ss row (rest - 2 ^ top)))
+next_length ss row rest top bit = ap length (row_slots-step ss row rest top bit)
+
+pub all_entries : (m : Msm1074) (ss : List ℕ) (row cell rest : ℕ) (stand all : List CellEntry) → rest ≡ 0
+    → stand ++ join_from (slot_entry m) cell (row_slots ss row rest) ≡ all → stand ≡ all
+all_entries m ss row cell rest stand all none so_far =
+    let nothing : join_from (slot_entry m) cell (row_slots ss row rest) ≡ [] =
+    ap (λ (r : ℕ). join_from (slot_entry m) cell (row_slots ss row r)) none
+    ∙ (ap (λ (xs : List Slot). join_from (slot_entry m) cell xs) (row_slots-none ss row) ∙ join_from-empty (slot_entry m) cell) in
+    sym (append-nil stand) ∙ (ap (λ (es : List CellEntry). stand ++ es) (sym nothing) ∙ so_far)
+
+pub no_slots : (ss : List ℕ) (row rest : ℕ) → rest ≡ 0 → length (row_slots ss row rest) ≡ 0
+no_slots ss row rest none = ap (λ (r : ℕ). length (row_slots ss row r)) none ∙ ap length (row_slots-none ss row)
+
+pub count-row_slots : (ss : List ℕ) (row bits : ℕ) → bits < 2 ^ length ss → length (row_slots ss row bits) ≡ count_ones bits
+count-row_slots ss row bits fits = length-row_slots ss row bits ∙ count-set_bits_from 1 (length ss) bits fits
+
+-- a satellite that RINEX doesn't have has no entries
+without_satellite : (m : Msm1074) (cell row : ℕ) (f : ℕ → ℕ) (ps : List ℕ) → is_satellite (get_or (satellites_of m) row 0) ≡ false
+    → join_from (slot_entry m) cell (map (λ p. slot_of row (f p)) ps) ≡ []
+unfolding join_from
+without_satellite m cell row f [] unknown = refl
+without_satellite m cell row f (p ∷ ps) unknown = rw (unknown, without_satellite m (suc cell) row f ps unknown) refl
+
+pub no_entries : (m : Msm1074) (ss : List ℕ) (cell row bits satellite : ℕ) (stood : List CellEntry) → satellite ≡ get_or (satellites_of m) row 0 → is_satellite satellite ≡ false
+    → stood ≡ stood ++ join_from (slot_entry m) cell (row_slots ss row bits)
+no_entries m ss cell row bits satellite stood is unknown =
+    let gone : is_satellite (get_or (satellites_of m) row 0) ≡ false = sym (ap is_satellite is) ∙ unknown in
+    sym (ap (λ (es : List CellEntry). stood ++ es) (without_satellite m cell row (λ p. get_or ss (p - 1) 0) (set_bits (length ss) bits) gone) ∙ append-nil stood)
+
+pub few_in_message : (m : Msm1074) → IsValid m → cell_count m ≤ 64
+few_in_message m h = omega (arith, count-slots m h, few_slots m h)
+
+-- ---- one row more
+
+next_row : (m : Msm1074) (masks : List ℕ) (place d : ℕ) → place < length masks
+    → join_from (row_slots (signals_of m)) 0 (take (place + 1) masks)
+    ≡ join_from (row_slots (signals_of m)) 0 (take place masks) ++ row_slots (signals_of m) place (get_or masks place d)
+next_row m masks place d inside =
+    sym (join_from-more (row_slots (signals_of m)) masks place d (join_from (row_slots (signals_of m)) 0 (take place masks))
+    (join_from (row_slots (signals_of m)) 0 (take place masks) ++ row_slots (signals_of m) place (get_or masks place d)) inside refl refl)
+
+pub next_row_length : (m : Msm1074) (masks ss : List ℕ) (place d cell next : ℕ) → ss ≡ signals_of m → place < length masks
+    → cell ≡ length (join_from (row_slots (signals_of m)) 0 (take place masks))
+    → next ≡ cell + length (row_slots ss place (get_or masks place d))
+    → next ≡ length (join_from (row_slots (signals_of m)) 0 (take (place + 1) masks))
+next_row_length m masks ss place d cell next is inside so_far more =
+    let here : next ≡ cell + length (row_slots (signals_of m) place (get_or masks place d)) =
+    more ∙ ap (λ (xs : List ℕ). cell + length (row_slots xs place (get_or masks place d))) is in
+    omega (arith, here, so_far, ap length (next_row m masks place d inside), length-append (join_from (row_slots (signals_of m)) 0 (take place masks)) (row_slots (signals_of m) place (get_or masks place d)))
+
+pub next_row_entries : (m : Msm1074) (masks ss : List ℕ) (place d cell : ℕ) (stood stand : List CellEntry) → ss ≡ signals_of m → place < length masks
+    → cell ≡ length (join_from (row_slots (signals_of m)) 0 (take place masks))
+    → stood ≡ join_from (slot_entry m) 0 (join_from (row_slots (signals_of m)) 0 (take place masks))
+    → stand ≡ stood ++ join_from (slot_entry m) cell (row_slots ss place (get_or masks place d))
+    → stand ≡ join_from (slot_entry m) 0 (join_from (row_slots (signals_of m)) 0 (take (place + 1) masks))
+next_row_entries m masks ss place d cell stood stand is inside count so_far more =
+    let before : List Slot = join_from (row_slots (signals_of m)) 0 (take place masks) in
+    let row : List Slot = row_slots (signals_of m) place (get_or masks place d) in
+    let here : stand ≡ stood ++ join_from (slot_entry m) cell row =
+    more ∙ ap (λ (xs : List ℕ). stood ++ join_from (slot_entry m) cell (row_slots xs place (get_or masks place d))) is in
+    let e : 0 + length before ≡ cell = omega (arith, count) in
+    here
+    ∙ (ap (λ (es : List CellEntry). es ++ join_from (slot_entry m) cell row) so_far
+    ∙ sym (ap (λ (xs : List Slot). join_from (slot_entry m) 0 xs) (next_row m masks place d inside)
+    ∙ (join_from-append (slot_entry m) 0 before row ∙ ap (λ (k : ℕ). join_from (slot_entry m) 0 before ++ join_from (slot_entry m) k row) e)))
+
+-- the cells of the rows so far and of this row are cells of the message
+pub cells_at : (m : Msm1074) → IsValid m → (masks ss : List ℕ) (place d cell : ℕ) → masks ≡ m.cell_mask → ss ≡ signals_of m → place < length masks
+    → cell ≡ length (join_from (row_slots (signals_of m)) 0 (take place masks))
+    → cell + length (row_slots ss place (get_or masks place d)) ≤ cell_count m
+cells_at m h masks ss place d cell same is inside so_far =
+    let e : 0 + place ≡ place = omega arith in
+    let room = rw e at (join_from-room (row_slots (signals_of m)) 0 masks place d inside) in
+    let all : length (join_from (row_slots (signals_of m)) 0 masks) ≡ cell_count m =
+    ap (λ (xs : List ℕ). length (join_from (row_slots (signals_of m)) 0 xs)) same ∙ count-slots m h in
+    let here : length (row_slots ss place (get_or masks place d)) ≡ length (row_slots (signals_of m) place (get_or masks place d)) =
+    ap (λ (xs : List ℕ). length (row_slots xs place (get_or masks place d))) is in
+    omega (arith, room, all, here, so_far)
+
+pub no_row_entries : (m : Msm1074) → [] ≡ join_from (slot_entry m) 0 (join_from (row_slots (signals_of m)) 0 [])
+no_row_entries m = sym (ap (λ (xs : List Slot). join_from (slot_entry m) 0 xs) (join_from-empty (row_slots (signals_of m)) 0) ∙ join_from-empty (slot_entry m) 0)
+
+pub no_row_length : (m : Msm1074) → 0 ≡ length (join_from (row_slots (signals_of m)) 0 [])
+no_row_length m = sym (ap length (join_from-empty (row_slots (signals_of m)) 0))
 
 -- ---- ranges
 

@@ -13,7 +13,7 @@ use Rattle.rtk_obs.specs.Rounding.{IsRounded, rounded_magnitude, rounded}
 abbrev pub IsNearest : ℕ → ℕ → ℕ → Type 0
 IsNearest n d v = (2 * (v * d) ≤ 2 * n + d) × (2 * n < 2 * (v * d) + d)
 
-magnitude-unique : (n d v : ℕ) → IsNearest n d v → v ≡ rounded_magnitude n d
+pub magnitude-unique : (n d v : ℕ) → IsNearest n d v → v ≡ rounded_magnitude n d
 magnitude-unique n d v h = sym (div-eq_of_lt-le (2 * d) (omega (arith, h.0)) (omega (arith, h.1)))
 
 magnitude_nearest : (n d : ℕ) → 0 < d → IsNearest n d (rounded_magnitude n d)

@@ -8,10 +8,11 @@ use Rattle.rtk_obs.specs.declared.code.Band.{Band}
 use Rattle.rtk_obs.specs.declared.code.Code.{Code}
 use Rattle.rtk_obs.specs.declared.code.Code.TheVariants.{C1C, C1P, C1W, C1S, C1L, C1X, C2C, C2D, C2P, C2W, C2S, C2L, C2X, C5I, C5Q, C5X}
 use Rattle.rtk_obs.specs.declared.track.Track.{Track}
+use Rattle.rtk_obs.specs.declared.track.Digits.{Digits}
 use Rattle.rtk_obs.specs.Code.{place_of, band_of}
-use Rattle.rtk_obs.specs.Slip.{EpochCell, has_phase}
+use Rattle.rtk_obs.specs.Slip.{EpochCell, has_phase, slip_since}
 use Rattle.rtk_obs.specs.Cell.{IsSatellite}
-use Rattle.rtk_obs.specs.Rollover.{last_after, last_phase, track_of, rolls_since}
+use Rattle.rtk_obs.specs.Rollover.{last_after, last_phase, track_of, rolls_since, digits_since}
 use Rattle.rtk_obs.specs.CellSteps.{Step, epochs_of, IsFalling, PhasesFall}
 use Rattle.rtk_obs.specs.Tracks.{IsLater, track_at, place_of_signal, RepresentsSteps}
 use Rattle.rtk_obs.specs.TracksLaws.{IsGreatest, LastIsGreatest, LaterThanSteps, LaterAfterStep, AllLaterAfterStep}
@@ -244,6 +245,13 @@ pub represents_step : (places now : List (Option Track)) (steps : List Step) (a 
 represents_step places now steps a b e t k ha len same place later is r =
     rw place (represents_set places steps a b e t ha len (rw same later)
     (is ∙ ap (λ (j : ℕ). last_after (band_of b) (get_or places j None) e) place) (rw same r))
+
+-- what is remembered of a phase, by its digits
+pub last_of_digits : (band : Band) (last : Option Track) (e : EpochCell) (digits : Digits) (t : Track) → has_phase e ≡ true
+    → digits ≡ digits_since band last e → (digits.rolls ≡ rolls_since band last e → t ≡ track_of band last e) → Some t ≡ last_after band last e
+last_of_digits band last e digits t some is made =
+    let shown : digits_since band last e ≡ record { slip = slip_since last e; half = e.cell.half; rolls = rolls_since band last e } = rw some refl in
+    rw some (ap (λ (x : Track). Some x) (made (ap (λ (d : Digits). d.rolls) (is ∙ shown))))
 
 -- ---- steps one after another
 

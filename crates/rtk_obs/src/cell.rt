@@ -1,9 +1,10 @@
 //! What a message gives for a satellite and a code at its epoch.
 
-ghost use Rattle.std.specs.Prelude.{◌≡◌};
+ghost use Rattle.std.specs.Prelude.{◌≡◌, ◌+◌, ◌<◌, ◌≤◌, [], ◌∷◌, ◌++◌, length, take};
 ghost use Rattle.rtk_obs.specs.Cell.{is_satellite};
 
 use crate::code::Code;
+use arrayvec::ArrayVec;
 
 /// The kind of message that a cell came in.
 #[derive(Clone, Copy, Debug, Default, PartialEq, Eq, Hash)]
@@ -49,4 +50,29 @@ pub(crate) fn is_gps(satellite: u8) -> bool
     ensures { result ≡ is_satellite satellite }
 {
     1 <= satellite && satellite <= 32
+}
+
+// Makes a place of a list one that can be written.
+fn make_room(list: &mut ArrayVec<CellEntry, 64>, place: usize)
+    requires place { place ≤ length list.old.items }
+    requires room { place < 64 }
+    ensures front { take place list.new.items ≡ take place list.old.items }
+    ensures length { place < length list.new.items }
+{
+    if place < list.len() {
+        return;
+    }
+    list.push(CellEntry::default());
+}
+
+/// Puts an entry at this place of a list, in place of what stands there or after all of it. What
+/// stands behind it is not kept.
+pub(crate) fn put_entry(list: &mut ArrayVec<CellEntry, 64>, place: usize, entry: CellEntry)
+    requires place { place ≤ length list.old.items }
+    requires room { place < 64 }
+    ensures entries { take (place + 1) list.new.items ≡ take place list.old.items ++ entry ∷ [] }
+    ensures length { place + 1 ≤ length list.new.items }
+{
+    make_room(list, place);
+    list.as_mut_slice()[place] = entry;
 }

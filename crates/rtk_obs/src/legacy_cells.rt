@@ -1,14 +1,15 @@
 //! The cells of a 1004.
 
-ghost use Rattle.std.specs.Prelude.{◌≡◌, ◌^◌, ◌≤◌, ◌<◌, not, ◌&&◌, [], length, negsuc, unsigned_abs};
+ghost use Rattle.std.specs.Prelude.{◌≡◌, ◌+◌, ◌^◌, ◌≤◌, ◌<◌, not, ◌&&◌, List, [], ◌∷◌, ◌++◌, length, take, negsuc, unsigned_abs};
 ghost use Rattle.std.specs.List.{All, list_any};
+ghost use Rattle.rtk_message.specs.declared.obs1004.Satellite.{Satellite};
 ghost use Rattle.rtk_message.specs.Obs1004.{IsValid};
 ghost use Rattle.rtk_obs.specs.Cell.{is_satellite, entry_of, IsInRange, AreDistinct};
 ghost use Rattle.rtk_obs.specs.Scaling.{l2_length};
 ghost use Rattle.rtk_obs.specs.LegacyCells.{l1_code_of, l2_code_of, l1_range_of, l2_range_of, legacy_phase_of, length_of, l1_cell_of, l2_cell_of, has_number, cells_of_1004};
-ghost use Rattle.rtk_obs.specs.Steps.LegacyFields.{HasWidths};
+ghost use Rattle.rtk_obs.specs.Steps.LegacyFields.{HasWidths, HasSeen};
 
-use crate::cell::{Cell, CellEntry, CellSource, is_gps};
+use crate::cell::{Cell, CellEntry, CellSource, is_gps, put_entry};
 use crate::code::{Band, Code};
 use crate::lock_time::least_lock_legacy;
 use crate::scaling::{phase_from_length, range_from_length, strength_from_steps, unless_mark};
@@ -89,11 +90,12 @@ fn legacy_phase(band: Band, length: i64, offset: Option<i32>) -> Option<i64>
     }
 }
 
-fn l1_cell(satellite: &Satellite) -> Cell
-    requires { satellite.now.l1_lock_indicator < 128 }
+fn l1_cell(satellite: &Satellite, length: i64) -> Cell
+    requires lock { satellite.now.l1_lock_indicator < 128 }
+    requires length { length ≡ length_of satellite.now }
+    requires bound { unsigned_abs length ≤ 2 ^ 39 }
     ensures { result ≡ l1_cell_of satellite.now }
 {
-    let length = l1_length(satellite);
     let offset = unless_mark(satellite.l1_phase_difference, NO_PHASE);
     Cell {
         range_mm: l1_range(length, offset),
@@ -106,11 +108,12 @@ fn l1_cell(satellite: &Satellite) -> Cell
     }
 }
 
-fn l2_cell(satellite: &Satellite) -> Cell
-    requires { satellite.now.l2_lock_indicator < 128 }
+fn l2_cell(satellite: &Satellite, length: i64) -> Cell
+    requires lock { satellite.now.l2_lock_indicator < 128 }
+    requires length { length ≡ length_of satellite.now }
+    requires bound { unsigned_abs length ≤ 2 ^ 39 }
     ensures { result ≡ l2_cell_of satellite.now }
 {
-    let length = l1_length(satellite);
     let difference = unless_mark(i32::from(satellite.l2_range_difference), NO_RANGE);
     let offset = unless_mark(satellite.l2_phase_difference, NO_PHASE);
     Cell {
@@ -124,56 +127,91 @@ fn l2_cell(satellite: &Satellite) -> Cell
     }
 }
 
-fn l1_entry(satellite: &Satellite) -> CellEntry
-    requires { satellite.now.l1_lock_indicator < 128 }
+fn l1_entry(satellite: &Satellite, length: i64) -> CellEntry
+    requires lock { satellite.now.l1_lock_indicator < 128 }
+    requires length { length ≡ length_of satellite.now }
+    requires bound { unsigned_abs length ≤ 2 ^ 39 }
     ensures { result ≡ entry_of satellite.now.satellite (l1_code_of satellite.now.l1_code) (l1_cell_of satellite.now) }
 {
     CellEntry {
         satellite: satellite.satellite,
         code: l1_code(satellite.l1_code),
-        cell: l1_cell(satellite),
+        cell: l1_cell(satellite, length),
     }
 }
 
-fn l2_entry(satellite: &Satellite) -> CellEntry
-    requires { satellite.now.l2_lock_indicator < 128 }
+fn l2_entry(satellite: &Satellite, length: i64) -> CellEntry
+    requires lock { satellite.now.l2_lock_indicator < 128 }
+    requires length { length ≡ length_of satellite.now }
+    requires bound { unsigned_abs length ≤ 2 ^ 39 }
     ensures { result ≡ entry_of satellite.now.satellite (l2_code_of satellite.now.l2_code) (l2_cell_of satellite.now) }
 {
     CellEntry {
         satellite: satellite.satellite,
         code: l2_code(satellite.l2_code),
-        cell: l2_cell(satellite),
+        cell: l2_cell(satellite, length),
     }
 }
 
-// Is there an entry of this satellite?
-fn has_entry(satellites: &[Satellite], number: u8) -> bool
-    ensures { result ≡ list_any (has_number number) satellites.now }
+// Is this the first entry of a satellite that RINEX has? Such a satellite is marked as seen.
+fn is_first(seen: &mut [bool], number: u8) -> bool
+    requires places { length seen.old ≡ 33 }
+    ensures places { length seen.new ≡ 33 }
+    ensures value { (before : List Satellite) → HasSeen seen.old before → result ≡ (is_satellite number && not (list_any (has_number number) before)) }
+    ensures seen { (before : List Satellite) (s : Satellite) → HasSeen seen.old before → s.satellite ≡ number → HasSeen seen.new (before ++ s ∷ []) }
 {
-    satellites.iter().any(|s| s.satellite == number)
+    if !is_gps(number) {
+        return false;
+    }
+    let place = usize::from(number);
+    if seen[place] {
+        return false;
+    }
+    seen[place] = true;
+    true
 }
 
-// Does an entry of this satellite give cells, if these other entries stand before it?
-fn is_used(others: &[Satellite], number: u8) -> bool
-    ensures { result ≡ (is_satellite number && not (list_any (has_number number) others.now)) }
+// Puts the two cells of a satellite, if this is its first entry and RINEX has it. The result is how
+// many entries stand then.
+fn put_satellite(
+    found: &mut ArrayVec<CellEntry, 64>,
+    count: usize,
+    seen: &mut [bool],
+    satellite: &Satellite,
+) -> usize
+    requires fields { HasWidths satellite.now }
+    requires places { length seen.old ≡ 33 }
+    requires count { count ≤ length found.old.items }
+    requires room { count ≤ 60 }
+    ensures entries { (before : List Satellite) → HasSeen seen.old before → take count found.old.items ≡ cells_of_1004 before
+        → take result found.new.items ≡ cells_of_1004 (before ++ satellite.now ∷ []) }
+    ensures seen { (before : List Satellite) → HasSeen seen.old before → HasSeen seen.new (before ++ satellite.now ∷ []) }
+    ensures places { length seen.new ≡ 33 }
+    ensures count { result ≤ length found.new.items }
+    ensures few { result ≤ count + 2 }
 {
-    is_gps(number) && !has_entry(others, number)
+    if !is_first(seen, satellite.satellite) {
+        return count;
+    }
+    let length = l1_length(satellite);
+    put_entry(found, count, l1_entry(satellite, length));
+    put_entry(found, count + 1, l2_entry(satellite, length));
+    count + 2
 }
 
-// Adds the cells of the satellites of a 1004.
-fn push_satellites(found: &mut ArrayVec<CellEntry, 64>, satellites: &[Satellite])
-    requires empty { found.old.items ≡ [] }
+// Puts the cells of the satellites of a 1004. The result is how many entries stand then.
+fn put_satellites(found: &mut ArrayVec<CellEntry, 64>, satellites: &[Satellite]) -> usize
     requires few { length satellites.now ≤ 31 }
     requires fields { All HasWidths satellites.now }
-    ensures cells { found.new.items ≡ cells_of_1004 satellites.now }
-    ensures few { length found.new.items ≤ 62 }
+    ensures cells { take result found.new.items ≡ cells_of_1004 satellites.now }
+    ensures few { result ≤ 62 }
 {
-    for (i, satellite) in satellites.iter().enumerate() {
-        if is_used(&satellites[..i], satellite.satellite) {
-            found.push(l1_entry(satellite));
-            found.push(l2_entry(satellite));
-        }
+    let mut seen = [false; 33];
+    let mut count = 0;
+    for satellite in satellites {
+        count = put_satellite(found, count, &mut seen, satellite);
     }
+    count
 }
 
 /// Puts the cells of a 1004 into a list, in place of what it has: see `cells_1004`.
@@ -184,8 +222,8 @@ pub fn put_cells_1004(message: &Obs1004, found: &mut ArrayVec<CellEntry, 64>)
     ensures distinct { AreDistinct found.new.items }
     ensures few { length found.new.items ≤ 62 }
 {
-    found.clear();
-    push_satellites(found, message.satellites.as_slice());
+    let count = put_satellites(found, message.satellites.as_slice());
+    found.truncate(count);
 }
 
 /// The cells of a 1004 in the order of the message: one of L1 and one of L2 for each satellite

@@ -1,10 +1,20 @@
 //! The set bits of a mask.
 
-ghost use Rattle.std.specs.Prelude.{◌≡◌, ◌^◌, ◌<◌, ◌≤◌, length};
+ghost use Rattle.std.specs.Prelude.{◌≡◌, ◌≢◌, ◌+◌, ◌^◌, ◌<◌, ◌≤◌, length};
 ghost use Rattle.std.specs.List.{All};
 ghost use Rattle.rtk_obs.specs.Mask.{set_bits};
 
 use arrayvec::ArrayVec;
+
+/// The place of the greatest set bit, from 0 for the least significant one.
+pub(crate) fn top_bit(mask: u64) -> u32
+    requires { mask ≢ 0 }
+    ensures from { 2 ^ result ≤ mask }
+    ensures below { mask < 2 ^ (result + 1) }
+    ensures inside { result < 64 }
+{
+    63 - mask.leading_zeros()
+}
 
 /// The places of the set bits of a mask that is `width` bits wide, rising. The first bit is the
 /// most significant one and has place 1.

@@ -1,17 +1,19 @@
 //! The cells of a 1074.
 
-ghost use Rattle.std.specs.Prelude.{◌≡◌, ◌+◌, ◌^◌, ◌≤◌, ◌<◌, ◌++◌, [], length, slice_index, IfSome, negsuc, unsigned_abs};
+ghost use Rattle.std.specs.Prelude.{◌≡◌, ℕ, ◌+◌, ◌^◌, ◌≤◌, ◌<◌, ◌++◌, length, take, slice_index, true, IfSome, negsuc, unsigned_abs};
 ghost use Rattle.std.specs.List.{All};
 ghost use Rattle.rtk_message.specs.Msm1074.{IsValid, satellite_count, cell_count};
-ghost use Rattle.rtk_obs.specs.Cell.{IsInRange, AreDistinct};
+ghost use Rattle.rtk_obs.specs.Cell.{is_satellite, IsInRange, AreDistinct};
 ghost use Rattle.rtk_obs.specs.LockTime.{least_lock_of_msm};
 ghost use Rattle.rtk_obs.specs.Scaling.{range_time};
-ghost use Rattle.rtk_obs.specs.MsmCells.{code_of_signal, satellites_of, signals_of, row_slots, slots_of, rough_of, fine_range_of, fine_phase_of, msm_range_of, msm_phase_of, msm_cell_of, slot_entry, cells_of_1074};
+ghost use Rattle.rtk_obs.specs.Mask.{join_from};
+ghost use Rattle.rtk_obs.specs.MsmCells.{code_of_signal, satellites_of, signals_of, row_slots, rough_of, rough_at, fine_range_of, fine_phase_of, msm_range_of, msm_phase_of, msm_cell_of, slot_entry, cells_of_1074};
+ghost use Rattle.rtk_obs.specs.Steps.MsmRows.{IsRow};
 
-use crate::cell::{Cell, CellEntry, CellSource, is_gps};
+use crate::cell::{Cell, CellEntry, CellSource, is_gps, put_entry};
 use crate::code::{Band, Code};
 use crate::lock_time::least_lock_msm;
-use crate::mask::places_of_bits;
+use crate::mask::{places_of_bits, top_bit};
 use crate::scaling::{phase_from_time, range_from_time, strength_from_steps, unless_mark};
 use arrayvec::ArrayVec;
 use rtk_message::Msm1074;
@@ -37,6 +39,24 @@ struct Slot {
     signal: u8,
 }
 
+// A satellite of the message.
+#[derive(Clone, Copy)]
+struct Row {
+    // Its number (DF394).
+    satellite: u8,
+    // Its rough range, in 2^-29 ms.
+    rough: Option<i64>,
+}
+
+// How far the cells of a message are put.
+#[derive(Clone, Copy)]
+struct Progress {
+    // How many cells of the message came so far.
+    cell: usize,
+    // How many entries of the list stand.
+    count: usize,
+}
+
 fn signal_code(signal: u8) -> Option<Code>
     ensures { result ≡ code_of_signal signal }
 {
@@ -60,43 +80,11 @@ fn signal_code(signal: u8) -> Option<Code>
     }
 }
 
-// Adds the cells of a row of the cell mask.
-fn push_row(slots: &mut ArrayVec<Slot, 64>, signals: &[u8], row: u8, bits: u32)
-    requires few { length signals.now ≤ 32 }
-    requires fits { bits < 2 ^ length signals.now }
-    requires room { length slots.old.items + length (row_slots signals.now row bits) ≤ 64 }
-    ensures { slots.new.items ≡ slots.old.items ++ row_slots signals.now row bits }
-{
-    let place_list = places_of_bits(u64::from(bits), signals.len() as u32);
-    let places = place_list.as_slice();
-    for place in places {
-        slots.push(Slot {
-            row,
-            signal: signals[usize::from(*place) - 1],
-        });
-    }
-}
-
 // The signal identifiers of the message (DF395), rising.
 fn signal_identifiers(message: &Msm1074) -> ArrayVec<u8, 64>
     ensures { result.items ≡ signals_of message.now }
 {
     places_of_bits(u64::from(message.header.signal_mask), 32)
-}
-
-// The cells of the message, satellite by satellite.
-fn slots(message: &Msm1074) -> ArrayVec<Slot, 64>
-    requires { IsValid message.now }
-    ensures { result.items ≡ slots_of message.now }
-{
-    let signal_list = signal_identifiers(message);
-    let signals = signal_list.as_slice();
-    let rows = message.cell_mask.as_slice();
-    let mut slots = ArrayVec::new();
-    for (row, bits) in rows.iter().enumerate() {
-        push_row(&mut slots, signals, row as u8, *bits);
-    }
-    slots
 }
 
 // The rough range, in 2^-29 ms.
@@ -168,17 +156,13 @@ fn lock_time(message: &Msm1074, cell: usize) -> u32
     least_lock_msm(message.lock_indicator.as_slice()[cell])
 }
 
-// The cell at this place in the message, of the satellite of a row.
-fn msm_cell(message: &Msm1074, cell: usize, row: usize, band: Band) -> Cell
+// The cell at this place in the message, of a satellite with this rough range.
+fn msm_cell(message: &Msm1074, cell: usize, rough: Option<i64>, band: Band) -> Cell
     requires valid { IsValid message.now }
     requires cell { cell < cell_count message.now }
-    requires row { row < satellite_count message.now.header }
-    ensures { result ≡ msm_cell_of message.now cell row band }
+    requires rough { IfSome rough (λ r. unsigned_abs r ≤ 2 ^ 38) }
+    ensures { (row : ℕ) → rough ≡ rough_at message.now row → result ≡ msm_cell_of message.now cell row band }
 {
-    let rough = rough(
-        message.rough_ms.as_slice()[row],
-        message.rough_fraction.as_slice()[row],
-    );
     Cell {
         range_mm: msm_range(rough, message.fine_range.as_slice()[cell]),
         phase_millicycles: msm_phase(band, rough, message.fine_phase.as_slice()[cell]),
@@ -190,48 +174,113 @@ fn msm_cell(message: &Msm1074, cell: usize, row: usize, band: Band) -> Cell
     }
 }
 
-// Adds the cell at this place, if its satellite is 1 to 32 and its signal has a code.
-fn push_cell(
-    found: &mut ArrayVec<CellEntry, 64>,
-    message: &Msm1074,
-    numbers: &[u8],
-    cell: usize,
-    slot: Slot,
-)
+// The satellite of a row.
+fn row_of(message: &Msm1074, numbers: &[u8], row: usize) -> Row
     requires valid { IsValid message.now }
     requires numbers { numbers.now ≡ satellites_of message.now }
-    requires cell { cell < cell_count message.now }
-    requires row { slot.row < satellite_count message.now.header }
-    requires room { length found.old.items < 64 }
-    ensures { found.new.items ≡ found.old.items ++ slot_entry message.now cell slot }
+    requires row { row < satellite_count message.now.header }
+    ensures { IsRow message.now row result }
 {
-    let row = usize::from(slot.row);
-    let satellite = numbers[row];
-    if !is_gps(satellite) {
-        return;
-    }
-    if let Some(code) = signal_code(slot.signal) {
-        found.push(CellEntry {
-            satellite,
-            code,
-            cell: msm_cell(message, cell, row, code.band()),
-        });
+    Row {
+        satellite: numbers[row],
+        rough: rough(
+            message.rough_ms.as_slice()[row],
+            message.rough_fraction.as_slice()[row],
+        ),
     }
 }
 
-// Adds the cells of the message whose satellite and signal RINEX has.
-fn push_cells(found: &mut ArrayVec<CellEntry, 64>, message: &Msm1074)
+// Puts the cell of a slot, if its signal has a code. The result is how many entries stand then.
+fn put_cell(
+    found: &mut ArrayVec<CellEntry, 64>,
+    count: usize,
+    message: &Msm1074,
+    cell: usize,
+    row: Row,
+    slot: Slot,
+) -> usize
     requires valid { IsValid message.now }
-    requires empty { found.old.items ≡ [] }
-    ensures { found.new.items ≡ cells_of_1074 message.now }
+    requires cell { cell < cell_count message.now }
+    requires row { IsRow message.now slot.row row }
+    requires satellite { is_satellite row.satellite ≡ true }
+    requires count { count ≤ length found.old.items }
+    requires room { count < 64 }
+    ensures entries { take result found.new.items ≡ take count found.old.items ++ slot_entry message.now cell slot }
+    ensures count { result ≤ length found.new.items }
+    ensures one { result ≤ count + 1 }
+{
+    let Some(code) = signal_code(slot.signal) else {
+        return count;
+    };
+    let entry = CellEntry {
+        satellite: row.satellite,
+        code,
+        cell: msm_cell(message, cell, row.rough, code.band()),
+    };
+    put_entry(found, count, entry);
+    count + 1
+}
+
+// Puts the cells of a row of the cell mask, if RINEX has its satellite.
+fn put_row(
+    found: &mut ArrayVec<CellEntry, 64>,
+    start: Progress,
+    message: &Msm1074,
+    row: Row,
+    place: u8,
+    signals: &[u8],
+    bits: u32,
+) -> Progress
+    requires valid { IsValid message.now }
+    requires row { IsRow message.now place row }
+    requires signals { signals.now ≡ signals_of message.now }
+    requires fits { bits < 2 ^ length signals.now }
+    requires cells { start.cell + length (row_slots signals.now place bits) ≤ cell_count message.now }
+    requires count { start.count ≤ length found.old.items }
+    requires few { start.count ≤ start.cell }
+    ensures entries { take result.count found.new.items ≡ take start.count found.old.items ++ join_from (slot_entry message.now) start.cell (row_slots signals.now place bits) }
+    ensures cells { result.cell ≡ start.cell + length (row_slots signals.now place bits) }
+    ensures count { result.count ≤ length found.new.items }
+    ensures few { result.count ≤ result.cell }
+{
+    if !is_gps(row.satellite) {
+        return Progress {
+            cell: start.cell + bits.count_ones() as usize,
+            count: start.count,
+        };
+    }
+    let width = signals.len();
+    let mut rest = u64::from(bits);
+    let mut cell = start.cell;
+    let mut count = start.count;
+    while rest != 0 {
+        let top = top_bit(rest);
+        let signal = signals[width - 1 - top as usize];
+        let slot = Slot { row: place, signal };
+        count = put_cell(found, count, message, cell, row, slot);
+        cell += 1;
+        rest -= 1 << top;
+    }
+    Progress { cell, count }
+}
+
+// Puts the cells of the message whose satellite and signal RINEX has. The result is how many
+// entries stand then.
+fn put_cells(found: &mut ArrayVec<CellEntry, 64>, message: &Msm1074) -> usize
+    requires { IsValid message.now }
+    ensures { take result found.new.items ≡ cells_of_1074 message.now }
 {
     let number_list = places_of_bits(message.header.satellite_mask, 64);
     let numbers = number_list.as_slice();
-    let slot_list = slots(message);
-    let slots = slot_list.as_slice();
-    for (cell, slot) in slots.iter().enumerate() {
-        push_cell(found, message, numbers, cell, *slot);
+    let signal_list = signal_identifiers(message);
+    let signals = signal_list.as_slice();
+    let masks = message.cell_mask.as_slice();
+    let mut progress = Progress { cell: 0, count: 0 };
+    for (place, bits) in masks.iter().enumerate() {
+        let row = row_of(message, numbers, place);
+        progress = put_row(found, progress, message, row, place as u8, signals, *bits);
     }
+    progress.count
 }
 
 /// Puts the cells of a 1074 into a list, in place of what it has: see `cells_1074`.
@@ -242,8 +291,8 @@ pub fn put_cells_1074(message: &Msm1074, found: &mut ArrayVec<CellEntry, 64>)
     ensures distinct { AreDistinct found.new.items }
     ensures few { length found.new.items ≤ 64 }
 {
-    found.clear();
-    push_cells(found, message);
+    let count = put_cells(found, message);
+    found.truncate(count);
 }
 
 /// The cells of a 1074 in the order of the message, for the satellites from 1 to 32 and the fifteen

@@ -1,14 +1,13 @@
 //! Rolls of 1500 cycles of the phases of 1004.
 
-ghost use Rattle.std.specs.Prelude.{◌≡◌, ◌&&◌, ◌+◌, ◌≤◌, ◌<◌, pos, negsuc, ◌≤ℤ◌, ◌*ℤ◌, unsigned_abs};
-ghost use Rattle.rtk_obs.specs.Slip.{epoch_cell, is_legacy};
+ghost use Rattle.std.specs.Prelude.{◌≡◌, ℕ, ◌&&◌, ◌+◌, ◌≤◌, ◌<◌, pos, negsuc, ◌≤ℤ◌, ◌*ℤ◌, unsigned_abs};
+ghost use Rattle.rtk_obs.specs.Slip.{epoch_cell, is_legacy, has_slipped};
 ghost use Rattle.rtk_obs.specs.Code.{frequency_of};
 ghost use Rattle.rtk_obs.specs.Rollover.{roll_of, rolls_between, rolls_after, within_limits, rolled_phase};
 ghost use Rattle.rtk_obs.specs.declared.time.TheConstants.{LAST_MS};
 
 use crate::cell::{Cell, CellSource};
 use crate::code::Band;
-use crate::slip::has_slipped;
 use crate::track::Track;
 
 // 750 cycles as an offset, in 0.0005 m, times a frequency, in Hz: 1,500,000 * 299,792,458.
@@ -50,15 +49,13 @@ fn are_legacy(last: CellSource, source: CellSource) -> bool
     matches!((last, source), (CellSource::Legacy, CellSource::Legacy))
 }
 
-/// The roll count of a phase that comes after the last one.
-pub(crate) fn rolls_after(band: Band, last: Track, epoch: u64, cell: &Cell) -> i64
-    requires later { last.epoch < epoch }
-    requires range { epoch ≤ LAST_MS }
-    requires bounded { unsigned_abs last.rolls ≤ last.epoch }
-    ensures value { result ≡ rolls_after band last (epoch_cell epoch cell.now) }
-    ensures bound { unsigned_abs result ≤ epoch }
+/// The roll count of a phase that comes after the last one, with or without a slip between them.
+pub(crate) fn rolls_after(band: Band, last: Track, slip: bool, cell: &Cell) -> i64
+    requires bounded { unsigned_abs last.rolls ≤ LAST_MS }
+    ensures value { (epoch : ℕ) → slip ≡ has_slipped last (epoch_cell epoch cell.now) → result ≡ rolls_after band last (epoch_cell epoch cell.now) }
+    ensures bound { unsigned_abs result ≤ unsigned_abs last.rolls + 1 }
 {
-    if has_slipped(last, epoch, cell) || !are_legacy(last.source, cell.source) {
+    if slip || !are_legacy(last.source, cell.source) {
         return 0;
     }
     rolls_from(band, last.rolls, last.offset, cell.offset)

@@ -35,8 +35,31 @@ fn scaled(value: i64, factor: u32, divisor: u32) -> i64
     requires fits { rounded_magnitude (unsigned_abs value * factor) divisor < 2 ^ 63 }
     ensures { result ≡ rounded (value *ℤ pos factor) divisor }
 {
-    let magnitude = scaled_magnitude(value.unsigned_abs(), factor, divisor) as i64;
-    if value < 0 { -magnitude } else { magnitude }
+    if value < 0 {
+        return -(scaled_magnitude(value.unsigned_abs(), factor, divisor) as i64);
+    }
+    scaled_magnitude(value as u64, factor, divisor) as i64
+}
+
+// The whole number nearest to n * factor / 2^29, a tie going up.
+fn time_magnitude(n: u64, factor: u32) -> u64
+    requires { n ≤ 2 ^ 40 }
+    ensures value { result ≡ rounded_magnitude (n * factor) MS }
+    ensures bound { result < 2 ^ 63 }
+{
+    let product = u128::from(n) * u128::from(factor);
+    ((product + u128::from(MS / 2)) / u128::from(MS)) as u64
+}
+
+// The whole number nearest to time * factor / 2^29, a tie going away from 0.
+fn scaled_time(time: i64, factor: u32) -> i64
+    requires { unsigned_abs time ≤ 2 ^ 40 }
+    ensures { result ≡ rounded (time *ℤ pos factor) MS }
+{
+    if time < 0 {
+        return -(time_magnitude(time.unsigned_abs(), factor) as i64);
+    }
+    time_magnitude(time as u64, factor) as i64
 }
 
 /// A length in 0.0005 m as a range in mm.
@@ -60,7 +83,7 @@ pub(crate) fn range_from_time(time: i64) -> i64
     requires { unsigned_abs time ≤ 2 ^ 40 }
     ensures { result ≡ range_of_time time }
 {
-    scaled(time, LIGHT, MS)
+    scaled_time(time, LIGHT)
 }
 
 /// A travel time of the signal, in 2^-29 ms, as a phase in millicycles.
@@ -68,7 +91,7 @@ pub(crate) fn phase_from_time(band: Band, time: i64) -> i64
     requires { unsigned_abs time ≤ 2 ^ 40 }
     ensures { result ≡ phase_of_time band time }
 {
-    scaled(time, band.frequency(), MS)
+    scaled_time(time, band.frequency())
 }
 
 /// A signal strength in thousandths of a dB-Hz, from its number of steps; 0 steps mean that it is

@@ -1,6 +1,6 @@
 //! The last phase of each satellite and code, and one step over a cell.
 
-ghost use Rattle.std.specs.Prelude.{◌≡◌, ◌≢◌, ℕ, ◌<◌, ◌≤◌, List, [], ◌∷◌, Option, None, unsigned_abs};
+ghost use Rattle.std.specs.Prelude.{◌≡◌, ◌≢◌, ℕ, ◌<◌, ◌≤◌, true, List, [], ◌∷◌, Option, Some, None, unsigned_abs};
 ghost use Rattle.rtk_obs.specs.declared.code.Band.{Band};
 ghost use Rattle.rtk_obs.specs.declared.code.Code.{Code};
 ghost use Rattle.rtk_obs.specs.declared.track.Track.{Track};
@@ -8,8 +8,8 @@ ghost use Rattle.rtk_obs.specs.declared.time.TheConstants.{LAST_MS};
 ghost use Rattle.rtk_obs.specs.declared.tracks.TheConstants.{SIGNALS};
 ghost use Rattle.rtk_obs.specs.Code.{band_of};
 ghost use Rattle.rtk_obs.specs.Cell.{IsSatellite};
-ghost use Rattle.rtk_obs.specs.Slip.{epoch_cell};
-ghost use Rattle.rtk_obs.specs.Rollover.{last_after, last_phase, digits_since};
+ghost use Rattle.rtk_obs.specs.Slip.{has_phase, epoch_cell};
+ghost use Rattle.rtk_obs.specs.Rollover.{last_after, last_phase, digits_since, rolls_since, track_of};
 ghost use Rattle.rtk_obs.specs.CellSteps.{Step, step_of, epochs_of};
 ghost use Rattle.rtk_obs.specs.Tracks.{IsBounded, IsLater, track_at, place_of_signal, RepresentsSteps};
 
@@ -54,27 +54,24 @@ pub fn place_of_signal(satellite: u8, code: Code) -> usize
     usize::from(satellite - 1) * 16 + code.place()
 }
 
-// The digits of a cell, whose phase is compared with the last one.
+// The digits of a cell with a phase, which is compared with the last one.
 fn digits_after(band: Band, last: Option<Track>, epoch: u64, cell: &Cell) -> Digits
+    requires phase { has_phase (epoch_cell epoch cell.now) ≡ true }
     requires later { IsLater last epoch }
     requires range { epoch ≤ LAST_MS }
     requires bounded { IsBounded last }
     ensures value { result ≡ digits_since band last (epoch_cell epoch cell.now) }
     ensures bound { unsigned_abs result.rolls ≤ epoch }
 {
-    if cell.phase_millicycles.is_none() {
-        return Digits {
-            slip: false,
-            half: false,
-            rolls: 0,
-        };
-    }
     match last {
-        Some(last) => Digits {
-            slip: has_slipped(last, epoch, cell),
-            half: cell.half,
-            rolls: rolls_after(band, last, epoch, cell),
-        },
+        Some(last) => {
+            let slip = has_slipped(last, epoch, cell);
+            Digits {
+                slip,
+                half: cell.half,
+                rolls: rolls_after(band, last, slip, cell),
+            }
+        }
         None => Digits {
             slip: false,
             half: cell.half,
@@ -83,20 +80,17 @@ fn digits_after(band: Band, last: Option<Track>, epoch: u64, cell: &Cell) -> Dig
     }
 }
 
-// The last phase after a cell with these digits.
-fn last_after(last: Option<Track>, digits: Digits, epoch: u64, cell: &Cell) -> Option<Track>
-    ensures value { (band : Band) → digits ≡ digits_since band last (epoch_cell epoch cell.now) → result ≡ last_after band last (epoch_cell epoch cell.now) }
-    ensures bound { IsBounded last → unsigned_abs digits.rolls ≤ epoch → IsBounded result }
+// What is remembered of a cell with a phase.
+fn track_of(cell: &Cell, epoch: u64, rolls: i64) -> Track
+    ensures value { (band : Band) (last : Option Track) → rolls ≡ rolls_since band last (epoch_cell epoch cell.now) → result ≡ track_of band last (epoch_cell epoch cell.now) }
+    ensures bound { unsigned_abs rolls ≤ epoch → IsBounded (Some result) }
 {
-    match cell.phase_millicycles {
-        Some(_) => Some(Track {
-            epoch,
-            lock_time_ms: cell.lock_time_ms,
-            source: cell.source,
-            offset: cell.offset,
-            rolls: digits.rolls,
-        }),
-        None => last,
+    Track {
+        epoch,
+        lock_time_ms: cell.lock_time_ms,
+        source: cell.source,
+        offset: cell.offset,
+        rolls,
     }
 }
 
@@ -124,11 +118,17 @@ impl Tracks {
         ensures history { (steps : List Step) → RepresentsSteps self.old steps → result ≡ digits_since (band_of code) (last_phase (band_of code) (epochs_of satellite code steps)) (epoch_cell epoch cell.now) }
         ensures after { (steps : List Step) → RepresentsSteps self.old steps → RepresentsSteps self.new (step_of satellite code epoch cell.now ∷ steps) }
     {
+        if cell.phase_millicycles.is_none() {
+            return Digits {
+                slip: false,
+                half: false,
+                rolls: 0,
+            };
+        }
         let epoch = epoch.ms();
         let place = place_of_signal(satellite, code);
-        let last = self.last[place];
-        let digits = digits_after(code.band(), last, epoch, cell);
-        self.last[place] = last_after(last, digits, epoch, cell);
+        let digits = digits_after(code.band(), self.last[place], epoch, cell);
+        self.last[place] = Some(track_of(cell, epoch, digits.rolls));
         digits
     }
 }

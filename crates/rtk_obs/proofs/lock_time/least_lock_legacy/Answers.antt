@@ -1,5 +1,6 @@
-use Rattle.std.proofs.Common.{rules}
+use Rattle.std.proofs.Common.{arith}
+use Rattle.rtk_obs.proofs.LockLemmas.{least_lock}
 use Rattle.rtk_obs.proofs.lock_time.least_lock_legacy.Goals as goal
 
 pub returns : goal.returns
-returns c = search rules depth 5 fits 300
+returns c = rw c.from.ensures (least_lock c.args.indicator (omega arith))

@@ -3,10 +3,10 @@ use Rattle.rtk_obs.proofs.MsmLemmas.{cells_in_range-1074, few_cells}
 use Rattle.rtk_obs.proofs.msm_cells.put_cells_1074.Goals as goal
 
 pub returns-clause-ranges : goal.returns-clause-ranges
-returns-clause-ranges c = rw c.push_cells.ensures (cells_in_range-1074 c.args.message.now c.requires)
+returns-clause-ranges c = rw (c.truncate.ensures.items, c.put_cells-count.ensures) (cells_in_range-1074 c.args.message.now c.requires)
 
 pub returns-clause-distinct : goal.returns-clause-distinct
-returns-clause-distinct c = rw c.push_cells.ensures (cells_of_1074-distinct c.args.message.now c.requires)
+returns-clause-distinct c = rw (c.truncate.ensures.items, c.put_cells-count.ensures) (cells_of_1074-distinct c.args.message.now c.requires)
 
 pub returns-clause-few : goal.returns-clause-few
-returns-clause-few c = rw c.push_cells.ensures (few_cells c.args.message.now c.requires)
+returns-clause-few c = rw (c.truncate.ensures.items, c.put_cells-count.ensures) (few_cells c.args.message.now c.requires)
