@@ -1,160 +1,309 @@
--- Cells whose keys rise join kept ones: the cells of both, in the order of their keys.
-use Rattle.std.proofs.Common.{◌≡◌, ℕ, zero, suc, ◌+◌, ◌<◌, ◌≤◌, List, [], ◌∷◌, ◌++◌, length, get_or, drop, None, Some, refl, ap, append_assoc, sym, ◌∙◌, arith, subst}
-use Rattle.std.proofs.lemmas.Bool.{ne_eqb, eq-eqb}
-use Rattle.std.proofs.lemmas.List.{append-nil, length-append}
+-- Cells whose keys rise join kept ones: from the greatest key down, each takes its last place.
+use Rattle.std.proofs.Common.{◌≡◌, ◌≢◌, ℕ, zero, suc, ◌+◌, ◌-◌, ◌<◌, ◌≤◌, List, [], ◌∷◌, ◌++◌, length, get_or, take, drop, set, Some, refl, ap, append_assoc, sym, ◌∙◌, arith, inl, inr, subst}
+use Rattle.std.specs.List.{All, AllByRecursion}
+use Rattle.std.proofs.lemmas.Bool.{cases_order, ne_eqb, eq-eqb}
+use Rattle.std.proofs.lemmas.List.{append-nil, length-append, length-set, length-take-le, length-drop, take-append-drop, take-set-le, drop-set, get_or-take, take_at, drop_all}
+use Rattle.std.proofs.lemmas.List.Elements.{recursion_from_All}
+use Rattle.std.proofs.Math.Seq.{take-length, take-suc}
 use Rattle.rtk_obs.specs.declared.cell.CellEntry.{CellEntry}
-use Rattle.rtk_collect.specs.declared.conflicts.SatelliteCode.{SatelliteCode}
 use Rattle.rtk_collect.specs.Key.{key, Above, KeysRise}
-use Rattle.rtk_collect.specs.EpochSet.{with_cell, with_cells, cell_under, one_more, fresh, conflict, conflicts}
-use Rattle.rtk_collect.proofs.CellsLemmas.{with_cell-new, with_cell-past, with_cell-same, above-none, drop-at}
+use Rattle.rtk_collect.specs.EpochSet.{with_cell, with_cells, cell_under, fresh}
+use Rattle.rtk_collect.proofs.CellsLemmas.{with_cell-new, with_cell-past, with_cell-same, with_cell-longer, with_cell-sets, with_cells-each, with_cells-rises, with_cells-keeps, above-all, drop-at, fresh-length}
+use Rattle.rtk_collect.proofs.RisingLemmas.{rises-before, length-with}
 
--- ---- a kept cell with a lesser key than all that join
+-- ---- greater kept cells stay where they are
 
-above-less : (k l : ℕ) (xs : List CellEntry) → k < l → Above l xs → Above k xs
-above-less k l [] h a = tt
-above-less k l (x ∷ xs) h a = omega (arith, h, a)
+abbrev pub IsGreater : ℕ → CellEntry → Type 0
+IsGreater k c = k < key c
 
-past-cells : (x : CellEntry) (cells xs : List CellEntry) → Above (key x) cells → KeysRise cells → with_cells cells (x ∷ xs) ≡ x ∷ with_cells cells xs
-past-cells x [] xs a r = refl
-past-cells x (c ∷ more) xs a r = ap (with_cells more) (with_cell-past c x xs a) ∙ past-cells x more (with_cell c xs) (above-less (key x) (key c) more a r.0) r.1
+abbrev IsLess : ℕ → CellEntry → Type 0
+IsLess k c = key c < k
 
-past-conflicts : (x : CellEntry) (cells xs : List CellEntry) → Above (key x) cells → KeysRise cells → conflicts cells (x ∷ xs) ≡ conflicts cells xs
-past-conflicts x [] xs a r = refl
-past-conflicts x (c ∷ more) xs a r =
-    rw (ne_eqb (key c) (key x) (λ q. omega (arith, a)), with_cell-past c x xs a)
-    (ap (λ t. conflict c (cell_under (key c) xs) ++ t) (past-conflicts x more (with_cell c xs) (above-less (key x) (key c) more a r.0) r.1))
+abbrev IsAtMost : ℕ → CellEntry → Type 0
+IsAtMost k c = key c ≤ k
 
-past-fresh : (x : CellEntry) (cells xs : List CellEntry) → Above (key x) cells → KeysRise cells → fresh cells (x ∷ xs) ≡ fresh cells xs
-past-fresh x [] xs a r = refl
-past-fresh x (c ∷ more) xs a r =
-    rw (ne_eqb (key c) (key x) (λ q. omega (arith, a)))
-    (ap (one_more (cell_under (key c) xs)) (past-fresh x more xs (above-less (key x) (key c) more a r.0) r.1))
+cell-before : (c : CellEntry) (xs ys : List CellEntry) → AllByRecursion (IsGreater (key c)) ys → with_cell c (xs ++ ys) ≡ with_cell c xs ++ ys
+cell-before c [] [] h = refl
+cell-before c [] (y ∷ ys) h = with_cell-new c y ys h.0
+cell-before c (x ∷ xs) ys h = elim (cases_order (key c) (key x)) [
+  | inl same ↦ rw (with_cell-same c x (xs ++ ys) same, with_cell-same c x xs same) refl
+  | inr more ↦ elim more [
+    | inl new ↦ rw (with_cell-new c x (xs ++ ys) new, with_cell-new c x xs new) refl
+    | inr past ↦ rw (with_cell-past c x (xs ++ ys) past, with_cell-past c x xs past) (ap (λ t. x ∷ t) (cell-before c xs ys h))
+  ]
+]
 
--- ---- a cell with a lesser key than all that are kept
+greater-than : (k l : ℕ) (ys : List CellEntry) → k ≤ l → AllByRecursion (IsGreater l) ys → AllByRecursion (IsGreater k) ys
+greater-than k l [] h a = tt
+greater-than k l (y ∷ ys) h a = (omega (arith, h, a.0), greater-than k l ys h a.1)
 
-first-cell : (c : CellEntry) (held : List CellEntry) → Above (key c) held → with_cell c held ≡ c ∷ held
-first-cell c [] a = refl
-first-cell c (x ∷ xs) a = with_cell-new c x xs a
+cells-before : (k : ℕ) (cells xs ys : List CellEntry) → AllByRecursion (IsAtMost k) cells → AllByRecursion (IsGreater k) ys → with_cells cells (xs ++ ys) ≡ with_cells cells xs ++ ys
+cells-before k [] xs ys a h = refl
+cells-before k (c ∷ more) xs ys a h = ap (with_cells more) (cell-before c xs ys (greater-than (key c) k ys a.0 h)) ∙ cells-before k more (with_cell c xs) ys a.1 h
 
-first-none : (c : CellEntry) (held : List CellEntry) → Above (key c) held → KeysRise held → cell_under (key c) held ≡ None
-first-none c [] a r = refl
-first-none c (x ∷ xs) a r = above-none (key c) x xs r a
+-- ---- the last of the cells that join
 
--- ---- places
+cells-last : (cells : List CellEntry) (c : CellEntry) (xs : List CellEntry) → with_cells (cells ++ c ∷ []) xs ≡ with_cell c (with_cells cells xs)
+cells-last [] c xs = refl
+cells-last (x ∷ cells) c xs = cells-last cells c (with_cell x xs)
 
-pub above-at : (k i : ℕ) (d : CellEntry) (xs : List CellEntry) → (i < length xs → k < key (get_or xs i d)) → Above k (drop i xs)
-above-at k zero d [] h = tt
-above-at k (suc i) d [] h = tt
-above-at k zero d (x ∷ xs) h = h (omega arith)
-above-at k (suc i) d (x ∷ xs) h = above-at k i d xs (λ l. h (omega arith))
+last-new : (c : CellEntry) (xs : List CellEntry) → AllByRecursion (IsLess (key c)) xs → with_cell c xs ≡ xs ++ c ∷ []
+last-new c [] a = refl
+last-new c (x ∷ xs) a = with_cell-past c x xs a.0 ∙ ap (λ t. x ∷ t) (last-new c xs a.1)
 
--- ---- what is merged so far, and what is still to be merged
+less-than-last : (xs : List CellEntry) (c : CellEntry) → KeysRise (xs ++ c ∷ []) → AllByRecursion (IsLess (key c)) xs
+less-than-last [] c r = tt
+less-than-last (x ∷ xs) c r = (rises-before x c xs [] r, less-than-last xs c r.1)
 
-pub record Merges (cells kept all rest held : List CellEntry) (found : List SatelliteCode) (cap : ℕ) : Type 0 where
-  pub items : all ++ with_cells rest held ≡ with_cells cells kept
-  pub conflicts : found ++ conflicts rest held ≡ conflicts cells kept
-  pub room : length all + (length held + fresh rest held) ≤ cap
-  pub rising : KeysRise rest
-  pub rises : KeysRise held
+at-most-last : (xs : List CellEntry) (c : CellEntry) → KeysRise (xs ++ c ∷ []) → AllByRecursion (IsAtMost (key c)) (xs ++ c ∷ [])
+at-most-last [] c r = (omega arith, tt)
+at-most-last (x ∷ xs) c r = (let h : key x < key c = rises-before x c xs [] r in omega arith, at-most-last xs c r.1)
 
-pub merges-first : (cells kept all : List CellEntry) (found : List SatelliteCode) (cap : ℕ) → all ≡ [] → found ≡ [] → KeysRise cells → KeysRise kept
-    → length kept + fresh cells kept ≤ cap → Merges cells kept all (drop 0 cells) (drop 0 kept) found cap
-merges-first cells kept all found cap e f rising rises room = record {
-  items = rw e refl;
-  conflicts = rw f refl;
-  room = omega (arith, ap length e, room);
-  rising = rising;
-  rises = rises;
-}
+above-take : (k n : ℕ) (xs : List CellEntry) → Above k xs → Above k (take n xs)
+above-take k zero xs a = tt
+above-take k (suc n) [] a = tt
+above-take k (suc n) (x ∷ xs) a = a
 
--- the kept cell is the next one
-pub merges-kept : (cells kept all : List CellEntry) (c : CellEntry) (more : List CellEntry) (x : CellEntry) (held : List CellEntry) (found : List SatelliteCode) (cap cap' : ℕ)
-    → Merges cells kept all (c ∷ more) (x ∷ held) found cap → key x < key c → cap ≤ cap' → Merges cells kept (all ++ x ∷ []) (c ∷ more) held found cap'
-merges-kept cells kept all c more x held found cap cap' m h l = record {
-  items = append_assoc all (x ∷ []) (with_cells (c ∷ more) held) ∙ (ap (λ t. all ++ t) (sym (past-cells x (c ∷ more) held h m.rising)) ∙ m.items);
-  conflicts = ap (λ t. found ++ t) (sym (past-conflicts x (c ∷ more) held h m.rising)) ∙ m.conflicts;
-  room = omega (arith, m.room, l, length-append all (x ∷ []), past-fresh x (c ∷ more) held h m.rising);
-  rising = m.rising;
-  rises = m.rises.1;
-}
+pub rises-take : (n : ℕ) (xs : List CellEntry) → KeysRise xs → KeysRise (take n xs)
+rises-take zero xs r = tt
+rises-take (suc n) [] r = tt
+rises-take (suc n) (x ∷ xs) r = (above-take (key x) n xs r.0, rises-take n xs r.1)
 
--- the cell that joins is the next one, and its key is new
-pub merges-new : (cells kept all : List CellEntry) (c : CellEntry) (more held : List CellEntry) (found : List SatelliteCode) (cap cap' : ℕ)
-    → Merges cells kept all (c ∷ more) held found cap → Above (key c) held → cap ≤ cap' → Merges cells kept (all ++ c ∷ []) more held found cap'
-merges-new cells kept all c more held found cap cap' m h l =
-    let first = first-cell c held h in
-    let none = first-none c held h m.rises in
-    let next : with_cells (c ∷ more) held ≡ c ∷ with_cells more held = ap (with_cells more) first ∙ past-cells c more held m.rising.0 m.rising.1 in
-    let alike : conflicts (c ∷ more) held ≡ conflicts more held = (let e : conflicts (c ∷ more) held ≡ conflicts more (c ∷ held) = rw (none, first) refl in e ∙ past-conflicts c more held m.rising.0 m.rising.1) in
-    let one : fresh (c ∷ more) held ≡ suc (fresh more held) = rw none refl in
+cells-longer : (cells xs : List CellEntry) → length xs ≤ length (with_cells cells xs)
+cells-longer [] xs = omega arith
+cells-longer (c ∷ more) xs = let a : length xs ≤ length (with_cell c xs) = with_cell-longer c xs in let b : length (with_cell c xs) ≤ length (with_cells more (with_cell c xs)) = cells-longer more (with_cell c xs) in omega arith
+
+under-at : (k i : ℕ) (d : CellEntry) (xs : List CellEntry) → KeysRise xs → i < length xs → key (get_or xs i d) ≡ k → cell_under k xs ≡ Some (get_or xs i d)
+under-at k i d [] r l h = grind arith
+under-at k zero d (x ∷ xs) r l h = rw (eq-eqb k (key x) (sym h)) refl
+under-at k (suc i) d (x ∷ xs) r l h =
+    let a : key x < key (get_or xs i d) = above-all (key x) xs r.0 r.1 i d (omega arith) in
+    rw (ne_eqb k (key x) (λ q. omega arith)) (under-at k i d xs r.1 (omega arith) h)
+
+take-last : (n : ℕ) (d : CellEntry) (xs : List CellEntry) → n < length xs → take (n + 1) xs ≡ take n xs ++ get_or xs n d ∷ []
+take-last n d xs l = let e : n + 1 ≡ suc n = omega arith in ap (λ t. take t xs) e ∙ take-suc xs n d l
+
+-- if the last of rising cells is less, all are
+less-than-all : (k i : ℕ) (d : CellEntry) (xs : List CellEntry) → KeysRise xs → i < length xs → key (get_or xs i d) < k → AllByRecursion (IsLess k) (take (suc i) xs)
+less-than-all k i d [] r l h = absurd (omega arith)
+less-than-all k zero d (x ∷ xs) r l h = (h, tt)
+less-than-all k (suc i) d (x ∷ xs) r l h =
+    let a : key x < key (get_or xs i d) = above-all (key x) xs r.0 r.1 i d (omega arith) in
+    (omega (arith, a, h), less-than-all k i d xs r.1 (omega arith) h)
+
+less-than-at : (k n : ℕ) (d : CellEntry) (xs : List CellEntry) → KeysRise xs → n ≤ length xs → (0 < n → key (get_or xs (n - 1) d) < k) → AllByRecursion (IsLess k) (take n xs)
+less-than-at k zero d xs r l h = tt
+less-than-at k (suc i) d xs r l h =
+    let e : suc i - 1 ≡ i = omega arith in
+    less-than-all k i d xs r (omega arith) (subst (λ (t : ℕ). key (get_or xs t d) < k) e (h (omega arith)))
+
+-- ---- kept cells that move up
+
+pub record Moves (old list : List CellEntry) (left gap wanted stay : ℕ) : Type 0 where
+  pub few : stay ≤ left
+  pub size : length list ≡ length old
+  pub before : take stay list ≡ take stay old
+  pub after : drop (stay + gap) list ≡ drop stay (take left old) ++ drop (left + gap) old
+  pub greater : AllByRecursion (IsGreater wanted) (drop stay (take left old))
+
+pub moves-first : (old : List CellEntry) (left gap wanted : ℕ) → left + gap ≤ length old → Moves old old left gap wanted left
+moves-first old left gap wanted l =
+    let none : drop left (take left old) ≡ [] = drop_all left (take left old) (omega (arith, length-take-le left old (omega arith))) in
     record {
-      items = append_assoc all (c ∷ []) (with_cells more held) ∙ (ap (λ t. all ++ t) (sym next) ∙ m.items);
-      conflicts = ap (λ t. found ++ t) (sym alike) ∙ m.conflicts;
-      room = omega (arith, m.room, l, length-append all (c ∷ []), one);
-      rising = m.rising.1;
-      rises = m.rises;
+      few = omega arith;
+      size = refl;
+      before = refl;
+      after = sym (ap (λ t. t ++ drop (left + gap) old) none);
+      greater = rw none tt;
     }
 
--- a cell is kept under its key
-pub merges-same : (cells kept all : List CellEntry) (c : CellEntry) (more : List CellEntry) (x : CellEntry) (held : List CellEntry) (found now : List SatelliteCode) (cap : ℕ)
-    → Merges cells kept all (c ∷ more) (x ∷ held) found cap → key c ≡ key x → conflict c (Some x) ≡ now → Merges cells kept all more (x ∷ held) (found ++ now) cap
-merges-same cells kept all c more x held found now cap m h n =
-    let stays = with_cell-same c x held h in
-    let under : cell_under (key c) (x ∷ held) ≡ Some x = rw (eq-eqb (key c) (key x) h) refl in
-    let told : conflicts (c ∷ more) (x ∷ held) ≡ now ++ conflicts more (x ∷ held) = rw (under, stays, n) refl in
-    let none : fresh (c ∷ more) (x ∷ held) ≡ fresh more (x ∷ held) = rw under refl in
+pub same-before : (old list : List CellEntry) (n i : ℕ) (d : CellEntry) → take n list ≡ take n old → i < n → get_or list i d ≡ get_or old i d
+same-before old list n i d h l = sym (get_or-take n list i d l) ∙ ap (λ t. get_or t i d) h ∙ get_or-take n old i d l
+
+take-shorter : (s n : ℕ) (xs : List CellEntry) → s ≤ n → take s (take n xs) ≡ take s xs
+take-shorter zero n xs h = refl
+take-shorter (suc s) zero xs h = absurd (omega arith)
+take-shorter (suc s) (suc n) [] h = refl
+take-shorter (suc s) (suc n) (x ∷ xs) h = ap (λ t. x ∷ t) (take-shorter s n xs (omega arith))
+
+pub take-fewer : (s n : ℕ) (xs ys : List CellEntry) → s ≤ n → take n xs ≡ take n ys → take s xs ≡ take s ys
+take-fewer s n xs ys l h = sym (take-shorter s n xs l) ∙ ap (take s) h ∙ take-shorter s n ys l
+
+-- the last of them moves
+pub moves-next : (old list : List CellEntry) (left gap wanted stay : ℕ) (d : CellEntry) → left + gap ≤ length old → Moves old list left gap wanted stay → 0 < stay
+    → wanted < key (get_or list (stay - 1) d) → Moves old (set list (stay - 1 + gap) (get_or list (stay - 1) d)) left gap wanted (stay - 1)
+moves-next old list left gap wanted zero d l m p h = absurd (omega arith)
+moves-next old list left gap wanted (suc s) d l m p h =
+    let e : suc s - 1 ≡ s = omega arith in
+    let x = get_or list s d in
+    let few : suc s ≤ left = m.few in
+    let size : length (take left old) ≡ left = length-take-le left old (omega arith) in
+    let one : s + 1 ≡ suc s = omega arith in
+    let past : s + gap + 1 ≡ suc s + gap = omega arith in
+    let here : drop s (take left old) ≡ x ∷ drop (suc s) (take left old) =
+    drop-at s d (take left old) (omega (arith, size)) ∙ ap (λ t. get_or (take left old) s d ∷ drop t (take left old)) one
+    ∙ ap (λ t. t ∷ drop (suc s) (take left old)) (get_or-take left old s d (omega arith) ∙ sym (same-before old list (suc s) s d m.before (omega arith))) in
+    subst (λ (t : ℕ). Moves old (set list (t + gap) (get_or list t d)) left gap wanted t) (sym e) (record {
+      few = omega arith;
+      size = length-set list (s + gap) x ∙ m.size;
+      before = take-set-le s list (s + gap) x (omega arith) ∙ take-fewer s (suc s) list old (omega arith) m.before;
+      after = drop-set list (s + gap) x (omega (arith, m.size)) ∙ ap (λ t. x ∷ drop t list) past ∙ ap (λ t. x ∷ t) m.after ∙ sym (ap (λ t. t ++ drop (left + gap) old) here);
+      greater = rw here ((subst (λ (t : ℕ). wanted < key (get_or list t d)) e h), m.greater);
+    })
+
+-- ---- what stands in its place, and what is still to be put
+
+pub record Puts (cells kept list : List CellEntry) (n stay gap : ℕ) : Type 0 where
+  pub next : n ≤ length cells
+  pub left : stay ≤ length kept
+  pub size : stay + gap ≤ length list
+  pub items : with_cells (take n cells) (take stay kept) ++ drop (stay + gap) list ≡ with_cells cells kept
+  pub before : take stay list ≡ take stay kept
+  pub count : length (with_cells (take n cells) (take stay kept)) ≡ stay + gap
+
+pub puts-first : (cells list : List CellEntry) (n : ℕ) → n ≤ length list → KeysRise (take n list) → KeysRise cells → length list ≡ n + fresh cells (take n list)
+    → Puts cells (take n list) list (length cells) n (length list - n)
+puts-first cells list n l rises rising room =
+    let kept = take n list in
+    let size : length kept ≡ n = length-take-le n list l in
+    let same : take n kept ≡ kept = ap (λ t. take t kept) (sym size) ∙ take-length kept in
+    let whole : with_cells (take (length cells) cells) (take n kept) ≡ with_cells cells kept = ap (λ t. with_cells t (take n kept)) (take-length cells) ∙ ap (with_cells cells) same in
+    let none : drop (n + (length list - n)) list ≡ [] = drop_all (n + (length list - n)) list (omega arith) in
     record {
-      items = ap (λ t. all ++ with_cells more t) (sym stays) ∙ m.items;
-      conflicts = append_assoc found now (conflicts more (x ∷ held)) ∙ (ap (λ t. found ++ t) (sym told) ∙ m.conflicts);
-      room = omega (arith, m.room, none);
-      rising = m.rising.1;
-      rises = m.rises;
+      next = omega arith;
+      left = omega (arith, size);
+      size = omega arith;
+      items = ap (λ t. with_cells (take (length cells) cells) (take n kept) ++ t) none ∙ append-nil (with_cells (take (length cells) cells) (take n kept)) ∙ whole;
+      before = sym same;
+      count = ap length whole ∙ length-with cells kept rising rises ∙ (omega (arith, size, room, l));
     }
 
--- room for the next one
-pub room-kept : (cells kept all rest : List CellEntry) (x : CellEntry) (held : List CellEntry) (found : List SatelliteCode) (cap : ℕ) → Merges cells kept all rest (x ∷ held) found cap → length all < cap
-room-kept cells kept all rest x held found cap m = omega (arith, m.room)
+pub puts-last : (cells kept list : List CellEntry) (left gap : ℕ) → Puts cells kept list 0 left gap → list ≡ with_cells cells kept
+puts-last cells kept list left gap p =
+    let size : length (take left kept) ≡ left = length-take-le left kept p.left in
+    let none : left + gap ≡ left = sym p.count ∙ size in
+    sym (take-append-drop left list) ∙ ap (λ t. t ++ drop left list) p.before ∙ ap (λ t. take left kept ++ drop t list) (sym none) ∙ p.items
 
-pub room-new : (cells kept all : List CellEntry) (c : CellEntry) (more held : List CellEntry) (found : List SatelliteCode) (cap : ℕ) → Merges cells kept all (c ∷ more) held found cap → Above (key c) held
-    → length all < cap
-room-new cells kept all c more held found cap m h = let one : fresh (c ∷ more) held ≡ suc (fresh more held) = rw (first-none c held h m.rises) refl in omega (arith, m.room, one)
+-- kept cells with greater keys move up
+pub puts-moved : (cells kept list new : List CellEntry) (n left gap stay : ℕ) (d : CellEntry) → KeysRise cells → Puts cells kept list (n + 1) left gap
+    → Moves list new left gap (key (get_or cells n d)) stay → Puts cells kept new (n + 1) stay gap
+puts-moved cells kept list new n left gap stay d r p m =
+    let c = get_or cells n d in
+    let all : take (n + 1) cells ≡ take n cells ++ c ∷ [] = take-last n d cells (omega (arith, p.next)) in
+    let low : AllByRecursion (IsAtMost (key c)) (take (n + 1) cells) = rw all (at-most-last (take n cells) c (subst KeysRise all (rises-take (n + 1) cells r))) in
+    let split : take left kept ≡ take stay kept ++ drop stay (take left list) =
+    sym (take-append-drop stay (take left kept)) ∙ ap (λ t. t ++ drop stay (take left kept)) (take-shorter stay left kept m.few) ∙ ap (λ t. take stay kept ++ drop stay t) (sym p.before) in
+    let joined : with_cells (take (n + 1) cells) (take left kept) ≡ with_cells (take (n + 1) cells) (take stay kept) ++ drop stay (take left list) =
+    ap (with_cells (take (n + 1) cells)) split ∙ cells-before (key c) (take (n + 1) cells) (take stay kept) (drop stay (take left list)) low m.greater in
+    let moved : length (drop stay (take left list)) ≡ left - stay = length-drop stay (take left list) ∙ ap (λ t. t - stay) (length-take-le left list (omega (arith, p.size))) in
+    record {
+      next = p.next;
+      left = omega (arith, m.few, p.left);
+      size = omega (arith, m.few, p.size, m.size);
+      items = ap (λ t. with_cells (take (n + 1) cells) (take stay kept) ++ t) m.after ∙ sym (append_assoc (with_cells (take (n + 1) cells) (take stay kept)) (drop stay (take left list)) (drop (left + gap) list))
+          ∙ ap (λ t. t ++ drop (left + gap) list) (sym joined) ∙ p.items;
+      before = m.before ∙ take-fewer stay left list kept m.few p.before;
+      count = omega (arith, moved, m.few, p.count, ap length joined, length-append (with_cells (take (n + 1) cells) (take stay kept)) (drop stay (take left list)));
+    }
 
--- all that is kept stands after the last cell that joins
-pub merges-all : (cells kept all held : List CellEntry) (found : List SatelliteCode) (cap : ℕ) → Merges cells kept all [] held found cap
-    → (all ++ held ≡ with_cells cells kept) × (found ≡ conflicts cells kept) × (length all + length held ≤ cap)
-merges-all cells kept all held found cap m = (m.items, sym (append-nil found) ∙ m.conflicts, omega (arith, m.room))
+-- as the code does it
+pub puts-turn : (cells kept list new : List CellEntry) (next left gap wanted stay : ℕ) (d : CellEntry) → KeysRise cells → Puts cells kept list next left gap → 0 < next
+    → wanted ≡ key (get_or cells (next - 1) d) → stay ≤ left → length new ≡ length list → take stay new ≡ take stay list
+    → drop (stay + gap) new ≡ drop stay (take left list) ++ drop (left + gap) list → All (IsGreater wanted) (drop stay (take left list)) → Puts cells kept new (next - 1 + 1) stay gap
+puts-turn cells kept list new next left gap wanted stay d r p l w few size before after greater =
+    let e : next ≡ next - 1 + 1 = omega arith in
+    puts-moved cells kept list new (next - 1) left gap stay d r (subst (λ (t : ℕ). Puts cells kept list t left gap) e p) (record {
+      few = few;
+      size = size;
+      before = before;
+      after = after;
+      greater = recursion_from_All (IsGreater (key (get_or cells (next - 1) d))) (drop stay (take left list)) (subst (λ (t : ℕ). All (IsGreater t) (drop stay (take left list))) w greater);
+    })
 
--- ---- the same at the places of a loop
+-- the last one that stays has a lesser key
+pub less-at : (list new : List CellEntry) (stay wanted k : ℕ) (d : CellEntry) → take stay new ≡ take stay list → wanted ≡ k → (0 < stay → key (get_or list (stay - 1) d) ≤ wanted)
+    → (0 < stay → key (get_or new (stay - 1) d) ≢ wanted) → 0 < stay → key (get_or new (stay - 1) d) < k
+less-at list new stay wanted k d before w low other l =
+    let same : key (get_or new (stay - 1) d) ≡ key (get_or list (stay - 1) d) = ap key (same-before list new stay (stay - 1) d before (omega arith)) in
+    let n = other l in
+    omega (arith, same, w, low l, n)
 
-module _ (cells kept : List CellEntry) (next at : ℕ) (d : CellEntry) (all : List CellEntry) (found : List SatelliteCode) (cap : ℕ) where
-  from-next : Merges cells kept all (drop next cells) (drop at kept) found cap → next < length cells → Merges cells kept all (get_or cells next d ∷ drop (next + 1) cells) (drop at kept) found cap
-  from-next m l = subst (λ (t : List CellEntry). Merges cells kept all t (drop at kept) found cap) (drop-at next d cells l) m
+-- a cell is kept under the key
+pub puts-same : (cells kept list : List CellEntry) (n left gap : ℕ) (d : CellEntry) → KeysRise kept → Puts cells kept list (n + 1) left gap → 0 < left
+    → key (get_or list (left - 1) d) ≡ key (get_or cells n d) → Puts cells kept list n left gap
+puts-same cells kept list n left gap d r p l same =
+    let c = get_or cells n d in
+    let held = take left kept in
+    let rises : KeysRise held = rises-take left kept r in
+    let last : key (get_or held (left - 1) d) ≡ key c = ap key (ap (λ t. get_or t (left - 1) d) (sym p.before) ∙ get_or-take left list (left - 1) d (omega arith)) ∙ same in
+    let under = under-at (key c) (left - 1) d held rises (omega (arith, length-take-le left kept p.left)) last in
+    let stays : with_cells (take (n + 1) cells) held ≡ with_cells (take n cells) held =
+    ap (λ t. with_cells t held) (take-last n d cells (omega (arith, p.next))) ∙ cells-last (take n cells) c held
+    ∙ with_cell-sets c _ (with_cells (take n cells) held) (with_cells-rises (take n cells) held rises) (with_cells-keeps (key c) _ (take n cells) held rises under) in
+    record {
+      next = omega (arith, p.next);
+      left = p.left;
+      size = p.size;
+      items = ap (λ t. t ++ drop (left + gap) list) (sym stays) ∙ p.items;
+      before = p.before;
+      count = ap length (sym stays) ∙ p.count;
+    }
 
-  from-both : Merges cells kept all (drop next cells) (drop at kept) found cap → next < length cells → at < length kept
-      → Merges cells kept all (get_or cells next d ∷ drop (next + 1) cells) (get_or kept at d ∷ drop (at + 1) kept) found cap
-  from-both m l k = subst (λ (t : List CellEntry). Merges cells kept all (get_or cells next d ∷ drop (next + 1) cells) t found cap) (drop-at at d kept k) (from-next m l)
+-- the key is new
+module _ (cells kept list : List CellEntry) (n left gap : ℕ) (d : CellEntry) (rising : KeysRise cells) (rises : KeysRise kept) (p : Puts cells kept list (n + 1) left gap)
+    (less : 0 < left → key (get_or list (left - 1) d) < key (get_or cells n d)) where
+  joins-last : with_cells (take (n + 1) cells) (take left kept) ≡ with_cells (take n cells) (take left kept) ++ get_or cells n d ∷ []
+  joins-last =
+      let c = get_or cells n d in
+      let all : take (n + 1) cells ≡ take n cells ++ c ∷ [] = take-last n d cells (omega (arith, p.next)) in
+      let low : AllByRecursion (IsLess (key c)) (take n cells) = less-than-last (take n cells) c (subst KeysRise all (rises-take (n + 1) cells rising)) in
+      let held : AllByRecursion (IsLess (key c)) (take left kept) = less-than-at (key c) left d kept rises p.left
+      (λ z. subst (λ (t : CellEntry). key t < key c) (same-before kept list left (left - 1) d p.before (omega arith)) (less z)) in
+      ap (λ t. with_cells t (take left kept)) all ∙ cells-last (take n cells) c (take left kept)
+      ∙ last-new c (with_cells (take n cells) (take left kept)) (with_cells-each (IsLess (key c)) (take n cells) (take left kept) low held)
 
-  pub room-before : Merges cells kept all (drop next cells) (drop at kept) found cap → next < length cells → at < length kept → length all < cap
-  room-before m l k = room-kept cells kept all _ (get_or kept at d) (drop (at + 1) kept) found cap (from-both m l k)
+  counted : length (with_cells (take n cells) (take left kept)) + 1 ≡ left + gap
+  counted = sym (length-append (with_cells (take n cells) (take left kept)) (get_or cells n d ∷ [])) ∙ ap length (sym joins-last) ∙ p.count
 
-  pub room-here : Merges cells kept all (drop next cells) (drop at kept) found cap → next < length cells → (at < length kept → key (get_or cells next d) < key (get_or kept at d)) → length all < cap
-  room-here m l h = room-new cells kept all (get_or cells next d) (drop (next + 1) cells) (drop at kept) found cap (from-next m l) (above-at (key (get_or cells next d)) at d kept h)
+  pub puts-room : 1 ≤ gap
+  puts-room =
+      let longer : length (take left kept) ≤ length (with_cells (take n cells) (take left kept)) = cells-longer (take n cells) (take left kept) in
+      omega (arith, longer, counted, length-take-le left kept p.left)
 
-  pub put-kept : (new : List CellEntry) (cap' : ℕ) → Merges cells kept all (drop next cells) (drop at kept) found cap → next < length cells → at < length kept
-      → key (get_or kept at d) < key (get_or cells next d) → new ≡ all ++ get_or kept at d ∷ [] → cap ≤ cap' → Merges cells kept new (drop next cells) (drop (at + 1) kept) found cap'
-  put-kept new cap' m l k h e r =
-      subst (λ (t : List CellEntry). Merges cells kept new t (drop (at + 1) kept) found cap') (sym (drop-at next d cells l))
-      (subst (λ (t : List CellEntry). Merges cells kept t (get_or cells next d ∷ drop (next + 1) cells) (drop (at + 1) kept) found cap') (sym e)
-      (merges-kept cells kept all (get_or cells next d) (drop (next + 1) cells) (get_or kept at d) (drop (at + 1) kept) found cap cap' (from-both m l k) h r))
+  pub puts-new : Puts cells kept (set list (left + (gap - 1)) (get_or cells n d)) n left (gap - 1)
+  puts-new =
+      let c = get_or cells n d in
+      let at = left + (gap - 1) in
+      let room : 1 ≤ gap = puts-room in
+      let past : at + 1 ≡ left + gap = omega arith in
+      record {
+        next = omega (arith, p.next);
+        left = p.left;
+        size = omega (arith, p.size, length-set list at c);
+        items = ap (λ t. with_cells (take n cells) (take left kept) ++ t) (drop-set list at c (omega (arith, p.size)))
+            ∙ sym (append_assoc (with_cells (take n cells) (take left kept)) (c ∷ []) (drop (at + 1) list))
+            ∙ ap (λ t. t ++ drop (at + 1) list) (sym joins-last) ∙ ap (λ t. with_cells (take (n + 1) cells) (take left kept) ++ drop t list) past ∙ p.items;
+        before = take-set-le left list at c (omega arith) ∙ p.before;
+        count = omega (arith, counted);
+      }
 
-  pub put-new : (new : List CellEntry) (cap' : ℕ) → Merges cells kept all (drop next cells) (drop at kept) found cap → next < length cells
-      → (at < length kept → key (get_or cells next d) < key (get_or kept at d)) → new ≡ all ++ get_or cells next d ∷ [] → cap ≤ cap' → Merges cells kept new (drop (next + 1) cells) (drop at kept) found cap'
-  put-new new cap' m l h e r =
-      subst (λ (t : List CellEntry). Merges cells kept t (drop (next + 1) cells) (drop at kept) found cap') (sym e)
-      (merges-new cells kept all (get_or cells next d) (drop (next + 1) cells) (drop at kept) found cap cap' (from-next m l) (above-at (key (get_or cells next d)) at d kept h) r)
+-- ---- the list that grows by as many places as cells are new
 
-  pub put-same : (now : List SatelliteCode) → Merges cells kept all (drop next cells) (drop at kept) found cap → next < length cells → at < length kept
-      → key (get_or cells next d) ≡ key (get_or kept at d) → conflict (get_or cells next d) (Some (get_or kept at d)) ≡ now → Merges cells kept all (drop (next + 1) cells) (drop at kept) (found ++ now) cap
-  put-same now m l k h n =
-      subst (λ (t : List CellEntry). Merges cells kept all (drop (next + 1) cells) t (found ++ now) cap) (sym (drop-at at d kept k))
-      (merges-same cells kept all (get_or cells next d) (drop (next + 1) cells) (get_or kept at d) (drop (at + 1) kept) found now cap (from-both m l k) h n)
+module _ (cells kept all : List CellEntry) (n count : ℕ) (size : n ≡ length kept) (new : count ≡ fresh cells kept) (grown : all ≡ kept ++ take count cells) where
+  pub grown-front : take n all ≡ kept
+  grown-front = ap (take n) grown ∙ take_at kept (take count cells) n (sym size)
+
+  pub grown-few : count ≤ length cells
+  grown-few = omega (arith, new, fresh-length cells kept)
+
+  pub grown-room : length all ≡ n + fresh cells (take n all)
+  grown-room =
+      let same : fresh cells (take n all) ≡ fresh cells kept = ap (fresh cells) grown-front in
+      omega (arith, same, size, new, grown-few, ap length grown, length-append kept (take count cells), length-take-le count cells grown-few)
+
+  -- what is written over the list
+  pub grown-whole : (put items : List CellEntry) (len : ℕ) → KeysRise cells → KeysRise kept → put ≡ with_cells cells (take n all) → len ≡ length all → take len (put ++ drop (length put) items) ≡ with_cells cells kept
+  grown-whole put items len rising rises e l =
+      let same : put ≡ with_cells cells kept = e ∙ ap (with_cells cells) grown-front in
+      let size : length put ≡ len = ap length same ∙ length-with cells kept rising rises ∙ (let r = grown-room in let q : fresh cells (take n all) ≡ fresh cells kept = ap (fresh cells) grown-front in omega (arith, size, l, r, q)) in
+      take_at put (drop (length put) items) len size ∙ same

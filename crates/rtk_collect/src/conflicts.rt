@@ -65,12 +65,3 @@ impl Conflicts {
         self.list.push(cell);
     }
 }
-
-/// What came of the cells of a message that joined their epoch.
-#[derive(Drop)]
-pub(crate) struct Joined {
-    /// How many cells were new.
-    pub(crate) fresh: usize,
-    /// The cells that conflict.
-    pub(crate) conflicts: Conflicts,
-}

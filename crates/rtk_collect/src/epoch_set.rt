@@ -5,8 +5,8 @@ ghost use Rattle.rtk_obs.specs.Cell.{IsInRange};
 ghost use Rattle.rtk_collect.specs.Key.{KeysRise};
 ghost use Rattle.rtk_collect.specs.EpochSet.{joined, fresh, conflicts};
 
-use crate::conflicts::{Conflicts, Joined};
-use crate::merging::{are_apart, compare, has_rising_keys, interleave, merge};
+use crate::conflicts::Conflicts;
+use crate::merging::{are_apart, compare, has_rising_keys, merge, merge_rising};
 use rtk_obs::{CellEntry, GpsMs};
 use std::alloc::{AllocError, Global};
 use std::marker::Model;
@@ -65,66 +65,84 @@ impl EpochSet {
         &self.cells
     }
 
-    /// Takes the cells whose keys are new. Memory is taken for these alone, before the first one is
-    /// added.
-    pub(crate) fn join(&mut self, cells: &[CellEntry]) -> Result<Joined, AllocError>
+    /// Takes the cells whose keys are new, and says how many these are; those that conflict are added
+    /// to an empty list. Memory is taken for new cells alone, before the first one is added.
+    pub(crate) fn join(
+        &mut self,
+        cells: &[CellEntry],
+        found: &mut Conflicts,
+    ) -> Result<usize, AllocError>
         requires few { length cells.now ≤ 64 }
         requires range { All IsInRange cells.now }
-        ensures set { IfOk result (λ j. self.new ≡ joined cells.now self.old) }
-        ensures fresh { IfOk result (λ j. j.fresh ≡ fresh cells.now self.old.cells) }
-        ensures conflicts { IfOk result (λ j. j.conflicts ≡ conflicts cells.now self.old.cells) }
+        requires empty { found.old ≡ [] }
+        ensures set { IfOk result (λ n. self.new ≡ joined cells.now self.old) }
+        ensures fresh { IfOk result (λ n. n ≡ fresh cells.now self.old.cells) }
+        ensures conflicts { IfOk result (λ n. found.new ≡ conflicts cells.now self.old.cells) }
         ensures err { OnErr result (self.new ≡ self.old) }
         ensures refused { OnErr result (0 < fresh cells.now self.old.cells) }
     {
-        if self.cells.is_empty() && has_rising_keys(cells) {
+        let rises = has_rising_keys(cells);
+        if rises && self.cells.is_empty() {
             // The common case: the epoch has no cell yet, and the cells are copied as they stand.
             // `?` would do the same, but then the proof of each clause on `Err` is a step longer.
             if let Err(_) = self.cells.extend_from_slice(cells) {
                 return Err(AllocError);
             }
-            return Ok(Joined {
-                fresh: cells.len(),
-                conflicts: Conflicts::new(),
-            });
+            return Ok(cells.len());
         }
-        if has_rising_keys(cells) && are_apart(cells, &self.cells) {
+        if rises && are_apart(cells, &self.cells) {
             return self.join_rising(cells, cells.len());
         }
-        let found = compare(cells, &self.cells);
-        let fresh = found.fresh;
-        if fresh == 0 {
-            return Ok(found);
+        let count = compare(cells, &self.cells, found);
+        if count == 0 {
+            return Ok(0);
         }
-        if has_rising_keys(cells) {
-            return self.join_rising(cells, fresh);
+        if rises {
+            return self.join_rising(cells, count);
         }
-        if let Err(_) = self.cells.reserve(fresh) {
-            return Err(AllocError);
-        }
-        let conflicts = merge(&mut self.cells, cells);
-        Ok(Joined { fresh, conflicts })
+        self.join_other(cells, count, found)
     }
 
     // Takes cells whose keys rise; `count` of them are new.
-    fn join_rising(&mut self, cells: &[CellEntry], count: usize) -> Result<Joined, AllocError>
-        requires few { length cells.now ≤ 64 }
+    fn join_rising(&mut self, cells: &[CellEntry], count: usize) -> Result<usize, AllocError>
         requires range { All IsInRange cells.now }
         requires rising { KeysRise cells.now }
         requires count { count ≡ fresh cells.now self.old.cells }
-        ensures set { IfOk result (λ j. self.new ≡ joined cells.now self.old) }
-        ensures fresh { IfOk result (λ j. j.fresh ≡ count) }
-        ensures conflicts { IfOk result (λ j. j.conflicts ≡ conflicts cells.now self.old.cells) }
+        ensures set { IfOk result (λ n. self.new ≡ joined cells.now self.old) }
+        ensures fresh { IfOk result (λ n. n ≡ count) }
         ensures err { OnErr result (self.new ≡ self.old) }
     {
-        let alloc = *self.cells.allocator();
-        let Ok(mut all) = Vec::with_capacity(alloc, self.cells.len() + count) else {
+        let kept = self.cells.len();
+        if let Err(_) = self.cells.reserve_exact(count) {
             return Err(AllocError);
+        }
+        // What stands in the new places is overwritten.
+        let Ok(()) = self.cells.extend_from_slice(&cells[..count]) else {
+            unreachable!()
         };
-        let conflicts = interleave(&self.cells, cells, &mut all);
-        self.cells = all;
-        Ok(Joined {
-            fresh: count,
-            conflicts,
-        })
+        merge_rising(&mut self.cells, kept, cells);
+        Ok(count)
+    }
+
+    // Takes cells whose keys don't rise; `count` of them are new.
+    fn join_other(
+        &mut self,
+        cells: &[CellEntry],
+        count: usize,
+        found: &mut Conflicts,
+    ) -> Result<usize, AllocError>
+        requires few { length cells.now ≤ 64 }
+        requires range { All IsInRange cells.now }
+        requires count { count ≡ fresh cells.now self.old.cells }
+        ensures set { IfOk result (λ n. self.new ≡ joined cells.now self.old) }
+        ensures fresh { IfOk result (λ n. n ≡ count) }
+        ensures conflicts { IfOk result (λ n. found.new ≡ conflicts cells.now self.old.cells) }
+        ensures err { OnErr result (self.new ≡ self.old) }
+    {
+        if let Err(_) = self.cells.reserve(count) {
+            return Err(AllocError);
+        }
+        merge(&mut self.cells, cells, found);
+        Ok(count)
     }
 }

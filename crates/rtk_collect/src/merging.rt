@@ -1,11 +1,11 @@
 //! The cells of a message join the cells of their epoch.
 
-ghost use Rattle.std.specs.Prelude.{◌≡◌, ◌≢◌, ◌≤◌, ◌<◌, ◌+◌, [], ◌∷◌, ◌++◌, not, length, slice_index_or, vec_len, vec_capacity, IsTrue, All, if◌then◌else◌};
+ghost use Rattle.std.specs.Prelude.{◌≡◌, ◌≢◌, ◌≤◌, ◌<◌, ◌+◌, ◌-◌, [], ◌∷◌, ◌++◌, not, length, take, drop, slice_index_or, vec_len, vec_capacity, IsTrue, All, if◌then◌else◌};
 ghost use Rattle.rtk_collect.specs.Key.{key, KeysRise};
 ghost use Rattle.rtk_collect.specs.EpochSet.{with_cell, with_cells, cell_under, fresh, conflict, conflicts};
 ghost use Rattle.rtk_collect.specs.Steps.OrderedPlaces.{lower};
 
-use crate::conflicts::{Conflicts, Joined, SatelliteCode};
+use crate::conflicts::{Conflicts, SatelliteCode};
 use rtk_obs::{CellEntry, CellSource};
 
 // The key of a cell, by which the cells of an epoch rise: satellite, code and kind of message.
@@ -23,11 +23,17 @@ fn key_of(entry: &CellEntry) -> usize
 pub(crate) fn has_rising_keys(cells: &[CellEntry]) -> bool
     ensures { IsTrue result → KeysRise cells.now }
 {
+    if cells.is_empty() {
+        return true;
+    }
+    let mut last = key_of(&cells[0]);
     let mut at = 1;
     while at < cells.len() {
-        if key_of(&cells[at - 1]) >= key_of(&cells[at]) {
+        let key = key_of(&cells[at]);
+        if last >= key {
             return false;
         }
+        last = key;
         at += 1;
     }
     true
@@ -54,24 +60,23 @@ pub(crate) fn are_apart(cells: &[CellEntry], kept: &[CellEntry]) -> bool
     if cells.is_empty() {
         return false;
     }
-    if are_from(CellSource::Msm, cells) {
-        return are_from(CellSource::Legacy, kept);
+    match cells[0].cell.source {
+        CellSource::Msm => are_from(CellSource::Msm, cells) && are_from(CellSource::Legacy, kept),
+        CellSource::Legacy => are_from(CellSource::Legacy, cells)
+            && are_from(CellSource::Msm, kept),
     }
-    if are_from(CellSource::Legacy, cells) {
-        return are_from(CellSource::Msm, kept);
-    }
-    false
 }
 
-/// How many of the cells are new: no kept cell has their key. If none is new, also which of them
-/// conflict.
-pub(crate) fn compare(cells: &[CellEntry], kept: &[CellEntry]) -> Joined
+/// How many of the cells are new: no kept cell has their key. If none is new or the keys of the cells
+/// rise, those that conflict are added to an empty list.
+pub(crate) fn compare(cells: &[CellEntry], kept: &[CellEntry], found: &mut Conflicts) -> usize
     requires rises { KeysRise kept.now }
     requires few { length cells.now ≤ 64 }
-    ensures fresh { result.fresh ≡ fresh cells.now kept.now }
-    ensures conflicts { result.fresh ≡ 0 → result.conflicts ≡ conflicts cells.now kept.now }
+    requires empty { found.old ≡ [] }
+    ensures fresh { result ≡ fresh cells.now kept.now }
+    ensures conflicts { result ≡ 0 → found.new ≡ conflicts cells.now kept.now }
+    ensures rising { KeysRise cells.now → found.new ≡ conflicts cells.now kept.now }
 {
-    let mut conflicts = Conflicts::new();
     let mut count = 0;
     let mut at = 0;
     for cell in cells {
@@ -81,94 +86,74 @@ pub(crate) fn compare(cells: &[CellEntry], kept: &[CellEntry]) -> Joined
             None => count += 1,
             Some(first) => {
                 if first.cell != cell.cell {
-                    conflicts.push(satellite_code(cell));
+                    found.push(satellite_code(cell));
                 }
             }
         }
     }
-    Joined {
-        fresh: count,
-        conflicts,
-    }
+    count
 }
 
 /// Adds the cells whose keys are new, for which there is room, and says which cells conflict.
-pub(crate) fn merge(kept: &mut Vec<CellEntry>, cells: &[CellEntry]) -> Conflicts
+pub(crate) fn merge(kept: &mut Vec<CellEntry>, cells: &[CellEntry], found: &mut Conflicts)
     requires rises { KeysRise kept.old.items }
     requires few { length cells.now ≤ 64 }
     requires room { vec_len kept.old + fresh cells.now kept.old.items ≤ vec_capacity kept.old }
     ensures items { kept.new.items ≡ with_cells cells.now kept.old.items }
-    ensures conflicts { result ≡ conflicts cells.now kept.old.items }
+    ensures conflicts { found.new ≡ conflicts cells.now kept.old.items }
 {
-    let mut conflicts = Conflicts::new();
+    *found = Conflicts::new();
     let mut at = 0;
     for cell in cells {
         at = place_of_key(kept, at, key_of(cell));
         if add_new(kept, at, *cell) {
-            conflicts.push(satellite_code(cell));
+            found.push(satellite_code(cell));
         }
     }
-    conflicts
 }
 
-/// Puts the cells, whose keys rise, and the kept ones into a list that has room for them, in the
-/// order of their keys, and says which cells conflict.
-pub(crate) fn interleave(
-    kept: &[CellEntry],
-    cells: &[CellEntry],
-    all: &mut Vec<CellEntry>,
-) -> Conflicts
-    requires rises { KeysRise kept.now }
+/// Puts cells whose keys rise among the first `kept` ones of a list, which has a place for each new
+/// cell after them. Of two cells with one key the kept one stays.
+pub(crate) fn merge_rising(list: &mut [CellEntry], kept: usize, cells: &[CellEntry])
+    requires kept { kept ≤ length list.old }
+    requires rises { KeysRise (take kept list.old) }
     requires rising { KeysRise cells.now }
-    requires few { length cells.now ≤ 64 }
-    requires empty { all.old.items ≡ [] }
-    requires room { length kept.now + fresh cells.now kept.now ≤ vec_capacity all.old }
-    ensures items { all.new.items ≡ with_cells cells.now kept.now }
-    ensures conflicts { result ≡ conflicts cells.now kept.now }
+    requires room { length list.old ≡ kept + fresh cells.now (take kept list.old) }
+    ensures { list.new ≡ with_cells cells.now (take kept list.old) }
 {
-    let mut conflicts = Conflicts::new();
-    let mut at = 0;
-    let mut next = 0;
-    while next < cells.len() {
+    // The kept cells and the cells that are still to be put, the greatest first, so that none is
+    // overwritten before it is moved; and how many of these are new.
+    let mut left = kept;
+    let mut next = cells.len();
+    let mut gap = list.len() - kept;
+    while next > 0 {
+        next -= 1;
         let cell = &cells[next];
         let wanted = key_of(cell);
-        if has_lesser(kept, at, wanted) {
-            append(all, &kept[at]);
-            at += 1;
-            continue;
-        }
-        next += 1;
-        if !has_key(kept, at, wanted) {
-            append(all, cell);
-            continue;
-        }
-        if kept[at].cell != cell.cell {
-            conflicts.push(satellite_code(cell));
+        left = move_greater(list, left, gap, wanted);
+        if !ends_with_key(list, left, wanted) {
+            gap -= 1;
+            list[left + gap] = *cell;
         }
     }
-    append_all(all, &kept[at..]);
-    conflicts
 }
 
-// Adds a cell after the others; there is room for it.
-fn append(all: &mut Vec<CellEntry>, cell: &CellEntry)
-    requires { length all.old.items < vec_capacity all.old }
-    ensures items { all.new.items ≡ all.old.items ++ cell.now ∷ [] }
-    ensures capacity { vec_capacity all.old ≤ vec_capacity all.new }
+// Moves the cells before `left` whose keys are greater than the wanted one up by `gap` places, and
+// says how many stay.
+fn move_greater(list: &mut [CellEntry], left: usize, gap: usize, wanted: usize) -> usize
+    requires { left + gap ≤ length list.old }
+    ensures few { result ≤ left }
+    ensures before { take result list.new ≡ take result list.old }
+    ensures after { drop (result + gap) list.new ≡ drop result (take left list.old) ++ drop (left + gap) list.old }
+    ensures greater { All (λ c. wanted < key c) (drop result (take left list.old)) }
+    ensures rest { 0 < result → ((d : CellEntry) → key (slice_index_or list.old (result - 1) d) ≤ wanted) }
 {
-    let Ok(()) = all.push(*cell) else {
-        unreachable!()
-    };
-}
-
-// Adds cells after the others; there is room for them.
-fn append_all(all: &mut Vec<CellEntry>, cells: &[CellEntry])
-    requires { length all.old.items + length cells.now ≤ vec_capacity all.old }
-    ensures { all.new.items ≡ all.old.items ++ cells.now }
-{
-    let Ok(()) = all.extend_from_slice(cells) else {
-        unreachable!()
-    };
+    let mut stay = left;
+    while stay > 0 && key_of(&list[stay - 1]) > wanted {
+        stay -= 1;
+        list[stay + gap] = list[stay];
+    }
+    stay
 }
 
 // The satellite and the code of a cell.
@@ -181,20 +166,13 @@ fn satellite_code(entry: &CellEntry) -> SatelliteCode
     }
 }
 
-// Is there a cell at this place whose key is less than the wanted one?
-fn has_lesser(kept: &[CellEntry], at: usize, wanted: usize) -> bool
-    ensures yes { IsTrue result → (at < length kept.now) × ((d : CellEntry) → key (slice_index_or kept.now at d) < wanted) }
-    ensures no { IsTrue (not result) → at < length kept.now → ((d : CellEntry) → wanted ≤ key (slice_index_or kept.now at d)) }
+// Does the last one of the first `left` cells have the wanted key?
+fn ends_with_key(list: &[CellEntry], left: usize, wanted: usize) -> bool
+    requires { left ≤ length list.now }
+    ensures yes { IsTrue result → (0 < left) × ((d : CellEntry) → key (slice_index_or list.now (left - 1) d) ≡ wanted) }
+    ensures no { IsTrue (not result) → 0 < left → ((d : CellEntry) → key (slice_index_or list.now (left - 1) d) ≢ wanted) }
 {
-    at < kept.len() && key_of(&kept[at]) < wanted
-}
-
-// Is there a cell at this place whose key is the wanted one?
-fn has_key(kept: &[CellEntry], at: usize, wanted: usize) -> bool
-    ensures yes { IsTrue result → (at < length kept.now) × ((d : CellEntry) → key (slice_index_or kept.now at d) ≡ wanted) }
-    ensures no { IsTrue (not result) → at < length kept.now → ((d : CellEntry) → key (slice_index_or kept.now at d) ≢ wanted) }
-{
-    at < kept.len() && key_of(&kept[at]) == wanted
+    left > 0 && key_of(&list[left - 1]) == wanted
 }
 
 // Adds a cell at its place if its key is new, and says whether it conflicts.

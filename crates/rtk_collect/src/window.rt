@@ -8,7 +8,7 @@ ghost use Rattle.rtk_collect.specs.Accepted.{no_cells};
 ghost use Rattle.rtk_collect.specs.Steps.OrderedPlaces.{leading};
 ghost use Rattle.rtk_collect.specs.Steps.Observed.{IsAnswerOf, AddsCells, WouldTakeCells};
 
-use crate::conflicts::{Conflicts, Joined};
+use crate::conflicts::Conflicts;
 use crate::epoch_set::EpochSet;
 use crate::offer::Offer;
 use rtk_obs::{CellEntry, GpsMs};
@@ -20,6 +20,10 @@ pub(crate) fn place_of_epoch(sets: &VecDeque<EpochSet>, epoch: GpsMs) -> usize
     requires { EpochsFall sets.now.items }
     ensures { result ≡ leading epoch sets.now.items }
 {
+    // The common case: a message of the greatest epoch, or of one after it.
+    if sets.len() > 0 && sets[0].epoch() <= epoch {
+        return 0;
+    }
     let mut low = 0;
     let mut high = sets.len();
     while low < high {
@@ -42,49 +46,54 @@ pub(crate) fn has_epoch(sets: &VecDeque<EpochSet>, at: usize, epoch: GpsMs) -> b
     at < sets.len() && sets[at].epoch() == epoch
 }
 
-/// Joins cells to the epoch at a place. If memory is refused, nothing changes.
+/// Joins cells to the epoch at a place, and says how many are new; those that conflict are added to
+/// an empty list. If memory is refused, no epoch changes.
 pub(crate) fn join_at(
     sets: &mut VecDeque<EpochSet>,
     at: usize,
     cells: &[CellEntry],
-) -> Result<Joined, AllocError>
+    found: &mut Conflicts,
+) -> Result<usize, AllocError>
     requires within { at < length sets.old.items }
     requires few { length cells.now ≤ 64 }
     requires range { All IsInRange cells.now }
-    ensures items { (d : EpochSetView) → IfOk result (λ _. sets.new.items ≡ slice_set sets.old.items at (joined cells.now (slice_index_or sets.old.items at d))) }
-    ensures fresh { (d : EpochSetView) → IfOk result (λ j. j.fresh ≡ fresh cells.now (slice_index_or sets.old.items at d).cells) }
-    ensures conflicts { (d : EpochSetView) → IfOk result (λ j. j.conflicts ≡ conflicts cells.now (slice_index_or sets.old.items at d).cells) }
+    requires empty { found.old ≡ [] }
+    ensures items { (d : EpochSetView) → IfOk result (λ n. sets.new.items ≡ slice_set sets.old.items at (joined cells.now (slice_index_or sets.old.items at d))) }
+    ensures fresh { (d : EpochSetView) → IfOk result (λ n. n ≡ fresh cells.now (slice_index_or sets.old.items at d).cells) }
+    ensures conflicts { (d : EpochSetView) → IfOk result (λ n. found.new ≡ conflicts cells.now (slice_index_or sets.old.items at d).cells) }
     ensures err { OnErr result (sets.new.items ≡ sets.old.items) }
     ensures refused { (d : EpochSetView) → OnErr result (0 < fresh cells.now (slice_index_or sets.old.items at d).cells) }
 {
     let set = &mut sets[at];
-    set.join(cells)
+    set.join(cells, found)
 }
 
-/// Opens an epoch with cells at its place, and says which of them conflict with one another. All
-/// memory is taken before anything changes.
+/// Opens an epoch with cells at its place; those that conflict with one another are added to an empty
+/// list. All memory is taken before an epoch changes.
 pub(crate) fn open_at(
     sets: &mut VecDeque<EpochSet>,
     at: usize,
     alloc: Global,
     epoch: GpsMs,
     cells: &[CellEntry],
-) -> Result<Conflicts, AllocError>
+    found: &mut Conflicts,
+) -> Result<(), AllocError>
     requires within { at ≤ length sets.old.items }
     requires few { length cells.now ≤ 64 }
     requires range { All IsInRange cells.now }
+    requires empty { found.old ≡ [] }
     ensures items { OnOk result (sets.new.items ≡ insert sets.old.items at (joined cells.now (no_cells epoch))) }
-    ensures conflicts { IfOk result (λ found. found ≡ conflicts cells.now []) }
+    ensures conflicts { OnOk result (found.new ≡ conflicts cells.now []) }
     ensures err { OnErr result (sets.new.items ≡ sets.old.items) }
 {
     let mut set = EpochSet::new(alloc, epoch);
-    let Ok(joined) = set.join(cells) else {
+    if let Err(_) = set.join(cells, found) {
         return Err(AllocError);
-    };
+    }
     if let Err(_) = sets.insert(at, set) {
         return Err(AllocError);
     }
-    Ok(joined.conflicts)
+    Ok(())
 }
 
 /// Takes out the least epoch, if there are more epochs than places.
@@ -116,29 +125,32 @@ pub(crate) fn offer_cells(
     ensures err { OnErr result (sets.new.items ≡ sets.old.items) }
     ensures refused { OnErr result (WouldTakeCells places epoch cells.now sets.old.items) }
 {
+    let mut found = Conflicts::new();
     let at = place_of_epoch(sets, epoch);
     if has_epoch(sets, at, epoch) {
-        let Ok(joined) = join_at(sets, at, cells) else {
+        let Ok(fresh) = join_at(sets, at, cells, &mut found) else {
             return Err(AllocError);
         };
-        return Ok(answer_of_joined(joined));
+        return Ok(answer_of_joined(fresh, found));
     }
     if at == places {
         return Ok(Offer::Late);
     }
-    let Ok(conflicts) = open_at(sets, at, alloc, epoch, cells) else {
+    if let Err(_) = open_at(sets, at, alloc, epoch, cells, &mut found) {
         return Err(AllocError);
-    };
+    }
     let closed = close_least(sets, places);
-    Ok(Offer::Taken { closed, conflicts })
+    Ok(Offer::Taken {
+        closed,
+        conflicts: found,
+    })
 }
 
-// What became of cells that joined an epoch of the window.
-fn answer_of_joined(joined: Joined) -> Offer
-    ensures { IsAnswerOf joined.fresh joined.conflicts result }
+// What became of cells that joined an epoch of the window: how many are new, and which conflict.
+fn answer_of_joined(fresh: usize, conflicts: Conflicts) -> Offer
+    ensures { IsAnswerOf fresh conflicts result }
 {
-    let conflicts = joined.conflicts;
-    if joined.fresh > 0 {
+    if fresh > 0 {
         return Offer::Taken {
             closed: None,
             conflicts,

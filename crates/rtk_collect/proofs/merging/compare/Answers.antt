@@ -3,6 +3,7 @@ use Rattle.std.proofs.lemmas.List.{append-nil}
 use Rattle.rtk_collect.specs.EpochSet.{one_more, fresh, conflicts}
 use Rattle.rtk_collect.proofs.CellsLemmas.{any_cell, fresh-step, lower-length, push-few, conflict-is, kept-conflicts}
 use Rattle.rtk_collect.proofs.EqualityLemmas.{sources-same}
+use Rattle.rtk_collect.proofs.RisingLemmas.{none-conflicts}
 use Rattle.rtk_collect.proofs.merging.compare.Goals as goal
 use Rattle.rtk_collect.proofs.merging.compare.Goals.{in-None, in-Some+then-ne, in-Some+else-ne}
 
@@ -21,7 +22,14 @@ loop-cell-preserved c =
     elim c.match-kept_cell.branch [
       | in-None w ↦
           let n = ap (λ t. one_more t rest) w.in-None.is in
-          record { at = omega arith; bound = omega (arith, w.count-is, inv.bound); count = omega (arith, w.count-is, inv.count, f, n); few = rw w.conflicts-is (omega (arith, inv.few)); conflicts = λ e. absurd (omega (arith, w.count-is, e)) }
+          record {
+            at = omega arith;
+            bound = omega (arith, w.count-is, inv.bound);
+            count = omega (arith, w.count-is, inv.count, f, n);
+            few = rw w.found-is (omega (arith, inv.few));
+            rising = λ r. rw w.found-is (none-conflicts i any_cell cells kept c.loop-cell.found (conflicts cells kept) l r (sym o ∙ w.in-None.is) (inv.rising r));
+            conflicts = λ e. absurd (omega (arith, w.count-is, e));
+          }
       | in-Some+then-ne w ↦
           let first = w.in-Some.first in
           let n = ap (λ t. one_more t rest) w.in-Some.is in
@@ -30,8 +38,9 @@ loop-cell-preserved c =
             at = omega arith;
             bound = omega (arith, w.count-is, inv.bound);
             count = omega (arith, w.count-is, inv.count, f, n);
-            few = rw (w.conflicts-is, w.push.ensures) (push-few c.loop-cell.conflicts _ i inv.few);
-            conflicts = λ e. rw (w.conflicts-is, w.push.ensures, w.satellite_code.ensures) (kept-conflicts i any_cell first cells kept c.loop-cell.conflicts _ (conflicts cells kept) l c.requires.rises (sym o ∙ w.in-Some.is) told (inv.conflicts (omega (arith, w.count-is, e))));
+            few = rw (w.found-is, w.push.ensures) (push-few c.loop-cell.found _ i inv.few);
+            rising = λ r. rw (w.found-is, w.push.ensures, w.satellite_code.ensures) (kept-conflicts i any_cell first cells kept c.loop-cell.found _ (conflicts cells kept) l c.requires.rises (sym o ∙ w.in-Some.is) told (inv.rising r));
+            conflicts = λ e. rw (w.found-is, w.push.ensures, w.satellite_code.ensures) (kept-conflicts i any_cell first cells kept c.loop-cell.found _ (conflicts cells kept) l c.requires.rises (sym o ∙ w.in-Some.is) told (inv.conflicts (omega (arith, w.count-is, e))));
           }
       | in-Some+else-ne w ↦
           let first = w.in-Some.first in
@@ -41,7 +50,8 @@ loop-cell-preserved c =
             at = omega arith;
             bound = omega (arith, w.count-is, inv.bound);
             count = omega (arith, w.count-is, inv.count, f, n);
-            few = rw w.conflicts-is (omega (arith, inv.few));
-            conflicts = λ e. rw (w.conflicts-is, ← append-nil c.loop-cell.conflicts) (kept-conflicts i any_cell first cells kept c.loop-cell.conflicts _ (conflicts cells kept) l c.requires.rises (sym o ∙ w.in-Some.is) told (inv.conflicts (omega (arith, w.count-is, e))));
+            few = rw w.found-is (omega (arith, inv.few));
+            rising = λ r. rw (w.found-is, ← append-nil c.loop-cell.found) (kept-conflicts i any_cell first cells kept c.loop-cell.found _ (conflicts cells kept) l c.requires.rises (sym o ∙ w.in-Some.is) told (inv.rising r));
+            conflicts = λ e. rw (w.found-is, ← append-nil c.loop-cell.found) (kept-conflicts i any_cell first cells kept c.loop-cell.found _ (conflicts cells kept) l c.requires.rises (sym o ∙ w.in-Some.is) told (inv.conflicts (omega (arith, w.count-is, e))));
           }
     ]

@@ -1,4 +1,5 @@
 use Rattle.std.proofs.Common.{◌≡◌, ◌≤◌, ◌+◌, ◌++◌, length, drop}
+use Rattle.rtk_collect.specs.Key.{KeysRise}
 use Rattle.rtk_collect.specs.EpochSet.{fresh, conflicts}
 use Rattle.rtk_collect.proofs.merging.compare.Given as goal
 
@@ -7,6 +8,7 @@ invariant-loop-cell l = record {
   at : l.at ≤ length l.kept;
   bound : l.count ≤ l.cell-index;
   count : l.count + fresh (drop l.cell-index l.cells) l.kept ≡ fresh l.cells l.kept;
-  few : length l.conflicts ≤ l.cell-index;
-  conflicts : l.count ≡ 0 → l.conflicts ++ conflicts (drop l.cell-index l.cells) l.kept ≡ conflicts l.cells l.kept;
+  few : length l.found ≤ l.cell-index;
+  rising : KeysRise l.cells → l.found ++ conflicts (drop l.cell-index l.cells) l.kept ≡ conflicts l.cells l.kept;
+  conflicts : l.count ≡ 0 → l.found ++ conflicts (drop l.cell-index l.cells) l.kept ≡ conflicts l.cells l.kept;
 }

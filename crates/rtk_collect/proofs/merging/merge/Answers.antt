@@ -28,10 +28,10 @@ loop-cell-preserved c =
     elim c.if-add_new.branch [
       | then-add_new w ↦
           let n = rw w.if-add_new.true at c.add_new.ensures.conflict in
-          let f = merge-conflicts i any_cell cells kept new c.loop-cell.conflicts _ _ l p n c.loop-cell.invariant.conflicts in
-          record { at = omega arith; rises = rises; room = room; few = rw (w.conflicts-is, w.push.ensures) (push-few c.loop-cell.conflicts _ i c.loop-cell.invariant.few); items = items; conflicts = rw (w.conflicts-is, w.push.ensures, w.satellite_code.ensures) f }
+          let f = merge-conflicts i any_cell cells kept new c.loop-cell.found _ _ l p n c.loop-cell.invariant.conflicts in
+          record { at = omega arith; rises = rises; room = room; few = rw (w.found-is, w.push.ensures) (push-few c.loop-cell.found _ i c.loop-cell.invariant.few); items = items; conflicts = rw (w.found-is, w.push.ensures, w.satellite_code.ensures) f }
       | else-add_new w ↦
           let n = rw w.if-add_new.false at c.add_new.ensures.conflict in
-          let f = merge-conflicts i any_cell cells kept new c.loop-cell.conflicts _ _ l p n c.loop-cell.invariant.conflicts in
-          record { at = omega arith; rises = rises; room = room; few = rw w.conflicts-is (omega (arith, c.loop-cell.invariant.few)); items = items; conflicts = rw (w.conflicts-is, ← append-nil c.loop-cell.conflicts) f }
+          let f = merge-conflicts i any_cell cells kept new c.loop-cell.found _ _ l p n c.loop-cell.invariant.conflicts in
+          record { at = omega arith; rises = rises; room = room; few = rw w.found-is (omega (arith, c.loop-cell.invariant.few)); items = items; conflicts = rw (w.found-is, ← append-nil c.loop-cell.found) f }
     ]

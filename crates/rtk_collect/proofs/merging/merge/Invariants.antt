@@ -9,7 +9,7 @@ invariant-loop-cell l = record {
   at : l.at ≤ length l.kept.items;
   rises : KeysRise l.kept.items;
   room : length l.kept.items + fresh (drop l.cell-index l.cells) l.kept.items ≤ vec_capacity l.kept;
-  few : length l.conflicts ≤ l.cell-index;
+  few : length l.found ≤ l.cell-index;
   items : with_cells (drop l.cell-index l.cells) l.kept.items ≡ with_cells l.cells l.fn.kept.items;
-  conflicts : l.conflicts ++ conflicts (drop l.cell-index l.cells) l.kept.items ≡ conflicts l.cells l.fn.kept.items;
+  conflicts : l.found ++ conflicts (drop l.cell-index l.cells) l.kept.items ≡ conflicts l.cells l.fn.kept.items;
 }

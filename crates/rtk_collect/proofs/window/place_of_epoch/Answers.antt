@@ -20,18 +20,18 @@ pub loop-low-preserved-then-gt : goal.loop-low-preserved-then-gt
 loop-low-preserved-then-gt c =
     let i = c.loop-low.invariant in
     let t = c.loop-low-test.true in
-    let here = ap (λ (x : EpochSetView). x.epoch) c.index.ensures in
-    let more = gt-true c.epoch.result c.args.epoch (sym c.gt.ensures ∙ c.if-gt.true) in
-    let e = c.epoch.ensures in
-    let p = leading-past c.args.epoch (c.loop-low.low + (c.loop-low.high - c.loop-low.low) / 2) c.index.result.now c.args.sets.now.items c.requires (omega (arith, i.within, t)) (omega (arith, here, more, e)) in
+    let here = ap (λ (x : EpochSetView). x.epoch) c.index-in-loop-low.ensures in
+    let more = gt-true c.epoch-in-loop-low.result c.args.epoch (sym c.gt.ensures ∙ c.if-gt.true) in
+    let e = c.epoch-in-loop-low.ensures in
+    let p = leading-past c.args.epoch (c.loop-low.low + (c.loop-low.high - c.loop-low.low) / 2) c.index-in-loop-low.result.now c.args.sets.now.items c.requires (omega (arith, i.within, t)) (omega (arith, here, more, e)) in
     record { low = omega (arith, p); high = i.high; within = i.within }
 
 pub loop-low-preserved : goal.loop-low-preserved
 loop-low-preserved c =
     let i = c.loop-low.invariant in
     let t = c.loop-low-test.true in
-    let here = ap (λ (x : EpochSetView). x.epoch) c.index.ensures in
-    let less = gt-false c.epoch.result c.args.epoch (sym c.gt.ensures ∙ c.if-gt.false) in
-    let e = c.epoch.ensures in
-    let p = leading-stop c.args.epoch (c.loop-low.low + (c.loop-low.high - c.loop-low.low) / 2) c.index.result.now c.args.sets.now.items (omega (arith, i.within, t)) (omega (arith, here, less, e)) in
+    let here = ap (λ (x : EpochSetView). x.epoch) c.index-in-loop-low.ensures in
+    let less = gt-false c.epoch-in-loop-low.result c.args.epoch (sym c.gt.ensures ∙ c.if-gt.false) in
+    let e = c.epoch-in-loop-low.ensures in
+    let p = leading-stop c.args.epoch (c.loop-low.low + (c.loop-low.high - c.loop-low.low) / 2) c.index-in-loop-low.result.now c.args.sets.now.items (omega (arith, i.within, t)) (omega (arith, here, less, e)) in
     record { low = i.low; high = p; within = omega (arith, i.within, t) }
