@@ -1,5 +1,3 @@
 mod CodeListLemmas
-mod LawLemmas
 mod MomentTextLemmas
 mod RefusedLemmas
-mod ShownLemmas
