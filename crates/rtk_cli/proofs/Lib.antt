@@ -1,3 +1,4 @@
 mod CodeListLemmas
 mod MomentTextLemmas
 mod RefusedLemmas
+mod StepLemmas

@@ -10,6 +10,7 @@ use rtk_words::{ClapAnswer, CutOptions, Request, read_words};
 use std::alloc::Global;
 
 // The part that the options say, of this file.
+#[tactic(auto, using(crate::proofs::StepLemmas::step_of))]
 fn cut_job<'a>(options: &CutOptions<'a>, file: &'a str) -> Result<Job<'a>, WordsFault>
     ensures limits { IfOk result IsWithinLimits }
     ensures status { IfErr result HasStatus }
