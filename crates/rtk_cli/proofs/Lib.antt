@@ -1,5 +1,4 @@
 mod CodeListLemmas
-mod LawLemmas
 mod MomentTextLemmas
 mod RefusedLemmas
-mod ShownLemmas
+mod StepLemmas

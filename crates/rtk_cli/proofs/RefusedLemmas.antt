@@ -11,7 +11,7 @@ use Rattle.rtk_convert.specs.Setup.{SetupView}
 use Rattle.rtk_convert.specs.SetupFault.{IsSetupFault}
 use Rattle.rtk_convert.specs.declared.setup.SetupFault.{SetupFault}
 use Rattle.rtk_convert.specs.declared.setup.SetupFault.TheVariants.{Near as BadNear}
-use Rattle.rtk_cli.specs.declared.options.Options.{Options}
+use Rattle.rtk_words.specs.declared.options.ConvertOptions.{ConvertOptions}
 use Rattle.rtk_cli.specs.declared.words.BadWords.{BadWords}
 use Rattle.rtk_cli.specs.declared.words.BadWords.TheVariants.{Near, Made, Codes, Marker, Links, From, Until}
 use Rattle.rtk_cli.specs.declared.words.WordsFault.{WordsFault}
@@ -21,7 +21,7 @@ use Rattle.rtk_cli.specs.Steps.MomentText.{WritesMoment}
 use Rattle.rtk_cli.specs.Steps.ConvertWords.{HasMoment, HasTimes, HasNames, HasHead, IsFirstCause, RefusesConversion}
 
 -- a fault with the line of the first cause
-pub refused-by : (o : Options) (names : List (List ℕ)) (line : BadWords) (fault : WordsFault) → fault ≡ Bad line → IsFirstCause o names line → RefusesConversion o names fault
+pub refused-by : (o : ConvertOptions) (names : List (List ℕ)) (line : BadWords) (fault : WordsFault) → fault ≡ Bad line → IsFirstCause o names line → RefusesConversion o names fault
 refused-by o names line fault e cause = subst (RefusesConversion o names) (sym e) cause
 
 pub has-moment : (written text : List ℕ) (t : ℕ) → text ≡ written → t ≤ LAST_MS → WritesMoment text t → HasMoment written
@@ -33,13 +33,13 @@ no-moment written text same none (t, within, writes) = none t within (subst (λ 
 pub lists-same : (written text : List ℕ) (listed : List Code) → text ≡ written → Lists text listed → Lists written listed
 lists-same written text listed same lists = subst (λ (x : List ℕ). Lists x listed) same lists
 
-pub has-times : (o : Options) (near made : List ℕ) (t u : ℕ) → near ≡ o.near.now → t ≤ LAST_MS → WritesMoment near t
+pub has-times : (o : ConvertOptions) (near made : List ℕ) (t u : ℕ) → near ≡ o.near.now → t ≤ LAST_MS → WritesMoment near t
     → made ≡ o.made.now → u ≤ LAST_MS → WritesMoment made u → HasTimes o
 has-times o near made t u same within writes same₂ within₂ writes₂ =
     (has-moment o.near.now near t same within writes, has-moment o.made.now made u same₂ within₂ writes₂)
 
 -- a text of codes that is no list, or refused memory
-pub codes-refused : (o : Options) (names : List (List ℕ)) (text : List ℕ) → text ≡ o.codes.now → HasTimes o → (fault : WordsFault)
+pub codes-refused : (o : ConvertOptions) (names : List (List ℕ)) (text : List ℕ) → text ≡ o.codes.now → HasTimes o → (fault : WordsFault)
     → (fault ≡ Bad Codes → (listed : List Code) → ¬ (Lists text listed)) → (fault ≢ Bad Codes → fault ≡ OutOfMemory)
     → RefusesConversion o names fault
 codes-refused o names text same times (Clap t status) none memory = let no : Clap t status ≡ OutOfMemory = memory (λ e. cc) in cc
@@ -54,7 +54,7 @@ codes-refused o names text same times (Bad Until) none memory = let no : Bad Unt
 codes-refused o names text same times OutOfMemory none memory = tt
 
 -- the words give a good head
-pub has-head : (o : Options) → HasNames o → (h : HeadView) (listed : List Code) (marker : List ℕ) → Lists o.codes.now listed
+pub has-head : (o : ConvertOptions) → HasNames o → (h : HeadView) (listed : List Code) (marker : List ℕ) → Lists o.codes.now listed
     → h.listed ≡ listed → h.marker ≡ marker → marker ≡ o.marker.now → IsHeadView h → HasHead o
 has-head o names h listed marker lists same-list same-marker is good =
     ((names, subst IsMarker (same-marker ∙ is) good.0), (listed, lists, subst IsCodeList same-list good.1))

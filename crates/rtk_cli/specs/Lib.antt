@@ -1,11 +1,3 @@
-pub mod ChartInput
-pub mod CheckInput
-pub mod CheckedInput
 pub mod Converting
-pub mod CutInput
-pub mod Hex
-pub mod Input
-pub mod Show
-pub mod Shown
 pub mod Words
 pub mod Steps

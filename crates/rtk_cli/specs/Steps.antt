@@ -1,8 +1,5 @@
 -- Definitions that only private clauses use.
-pub mod ClapStatus
 pub mod CodeList
 pub mod MomentText
 pub mod ConvertWords
 pub mod CutWords
-pub mod ReadLimits
-pub mod Interrupts

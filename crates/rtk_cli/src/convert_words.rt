@@ -7,18 +7,19 @@ ghost use Rattle.rtk_cli.specs.Words.{AreLinkNames, HasStatus, IsWithinLimits};
 
 use crate::code_list::codes_of;
 use crate::moment_text::moment_of;
-use crate::options::Options;
-use crate::words::{BadWords, Job, STDIN, WordsFault};
+use crate::words::{BadWords, Job, WordsFault};
 use arrayvec::ArrayVec;
 use rtk_convert::{Setup, SetupFault};
 use rtk_rinex::{Head, HeadFault};
+use rtk_tools::STDIN;
+use rtk_words::ConvertOptions;
 use std::alloc::Global;
 
 /// The conversion that the options and the links say. The causes are looked for in the order of
 /// `BadWords`, but for a reference near which nothing is dated, which comes last.
 pub(crate) fn conversion<'a>(
     alloc: Global,
-    options: &Options,
+    options: &ConvertOptions,
     names: &[&'a str],
 ) -> Result<Job<'a>, WordsFault>
     ensures said { IfOk result (SaysConversion options.now (map (λ name. name.now) names.now)) }

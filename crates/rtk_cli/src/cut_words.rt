@@ -4,10 +4,10 @@ ghost use Rattle.std.specs.Prelude.{◌≡◌, ◌↔◌, IfOk, IfErr, IsTrue, M
 ghost use Rattle.rtk_cli.specs.Steps.CutWords.{SaysMomentOrNone, HasNoMoment, IsAfter, SaysPart, RefusesPart};
 
 use crate::moment_text::moment_of;
-use crate::options::CutOptions;
 use crate::words::BadWords;
 use rtk_cut::Part;
 use rtk_obs::GpsMs;
+use rtk_words::CutOptions;
 
 // The moment that an option writes, or none without the option. `None` if its text writes no
 // moment.

@@ -2,17 +2,15 @@
 //! done.
 
 ghost use Rattle.std.specs.Prelude.{◌≤◌};
+ghost use Rattle.rtk_tools.specs.declared.exit_status.TheConstants.{NOT_VALID};
 
-use crate::charting::chart_named;
-use crate::checking::check_input;
-use crate::command_line::job;
 use crate::converting::convert_links;
-use crate::cutting::cut_named;
-use crate::exit_status::{DONE, NOT_VALID, REFUSED, fail, fail_to_open, print_clap_text, refuse};
-use crate::files::{Reads, open_capture, standard_output};
-use crate::showing::show;
-use crate::summarizing::summarize_named;
-use crate::words::{Job, ToolFault, WordsFault};
+use crate::jobs::job;
+use crate::refusing::{print_clap_text, refuse};
+use crate::words::{Job, WordsFault};
+use rtk_tools::{
+    ToolFault, chart_named, check_named, cut_named, fail, show_named, summarize_named,
+};
 use std::env::Env;
 use std::fs::Files;
 use std::io::{ErrorKind, Write};
@@ -30,33 +28,6 @@ fn words_of<R: Env + AllocGlobal>(rt: &R) -> Result<Vec<String>, ToolFault> {
         words.push(word).map_err(|_| ToolFault::OutOfMemory)?;
     }
     Ok(words)
-}
-
-fn show_named<R: Files + Input + Print + Eprint + AllocGlobal>(rt: &R, hex: bool, name: &str) -> u8
-    ensures { result ≤ REFUSED }
-{
-    let Some(capture) = open_capture(rt, name) else {
-        return fail_to_open(rt, name);
-    };
-    let mut reader = Reads::new(capture);
-    match show(rt.alloc(), &mut reader, &mut standard_output(rt), hex) {
-        Ok(_) => DONE,
-        Err(fault) => fail(rt, fault),
-    }
-}
-
-fn check_named<R: Files + Input + Print + Eprint + AllocGlobal>(rt: &R, name: &str) -> u8
-    ensures { result ≤ NOT_VALID }
-{
-    let Some(text) = open_capture(rt, name) else {
-        return fail_to_open(rt, name);
-    };
-    let mut reader = Reads::new(text);
-    match check_input(rt.alloc(), &mut reader, &mut standard_output(rt)) {
-        Ok(true) => DONE,
-        Ok(false) => NOT_VALID,
-        Err(fault) => fail(rt, fault),
-    }
 }
 
 fn run_words<R: Files + Input + Print + Eprint + AllocGlobal, W: Write + Drop>(

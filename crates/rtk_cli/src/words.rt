@@ -3,11 +3,7 @@
 use arrayvec::ArrayVec;
 use rtk_convert::Setup;
 use rtk_cut::Part;
-use std::alloc::AllocError;
 use thiserror::Error;
-
-/// The word that names standard input.
-pub(crate) const STDIN: &str = "stdin";
 
 /// What the words ask for.
 #[derive(Drop)]
@@ -101,35 +97,4 @@ pub enum WordsFault {
     },
     /// No memory for reading the words.
     OutOfMemory,
-}
-
-impl From<AllocError> for WordsFault {
-    ghost use Rattle.std.specs.Prelude.{◌≡◌};
-    ghost use Rattle.rtk_cli.specs.declared.words.WordsFault.TheVariants.{OutOfMemory};
-
-    ghost from_gives = { λ _ fault. fault ≡ OutOfMemory };
-
-    fn from(_error: AllocError) -> WordsFault {
-        WordsFault::OutOfMemory
-    }
-}
-
-/// Why `show`, `check`, `chart` or `cut` is not done. Displayed, it is the fault line of the program.
-#[derive(Clone, Copy, Debug, PartialEq, Eq, Error)]
-pub enum ToolFault {
-    /// P1: a read failed.
-    #[error("read failed")]
-    Input,
-    /// P2: the input has more bytes than the command takes.
-    #[error("input too long")]
-    TooLong,
-    /// P3: the input is not pairs of hex digits with blanks, tabs and line ends between.
-    #[error("input is not hex")]
-    NotHex,
-    /// P4: no memory.
-    #[error("out of memory")]
-    OutOfMemory,
-    /// P5: a write failed.
-    #[error("write failed")]
-    Output,
 }

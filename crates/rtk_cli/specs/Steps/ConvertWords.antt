@@ -5,7 +5,7 @@ use Rattle.rtk_obs.specs.declared.code.Code.{Code}
 use Rattle.rtk_obs.specs.declared.time.TheConstants.{LAST_MS}
 use Rattle.rtk_rinex.specs.Header.{IsMarker, IsCodeList}
 use Rattle.rtk_convert.specs.Setup.{SetupView}
-use Rattle.rtk_cli.specs.declared.options.Options.{Options}
+use Rattle.rtk_words.specs.declared.options.ConvertOptions.{ConvertOptions}
 use Rattle.rtk_cli.specs.declared.words.BadWords.{BadWords}
 use Rattle.rtk_cli.specs.declared.words.BadWords.TheVariants.{Near, Made, Codes, Marker, Links, From, Until}
 use Rattle.rtk_cli.specs.declared.words.Job.{Job}
@@ -17,13 +17,13 @@ use Rattle.rtk_cli.specs.Steps.CodeList.{Lists}
 use Rattle.rtk_cli.specs.Steps.MomentText.{WritesMoment}
 
 -- the setup is what the options write
-abbrev pub SaysSetup : Options → SetupView → Type 0
+abbrev pub SaysSetup : ConvertOptions → SetupView → Type 0
 SaysSetup o s =
     (s.station ≡ o.station) × WritesMoment o.near.now s.near × WritesMoment o.made.now s.head.made
     × (s.head.marker ≡ o.marker.now) × Lists o.codes.now s.head.listed × (s.window ≡ o.window)
 
 -- the job is the conversion that the options and the names of the links say
-abbrev pub SaysConversion : Options → List (List ℕ) → Job → Type 0
+abbrev pub SaysConversion : ConvertOptions → List (List ℕ) → Job → Type 0
 SaysConversion o names (Convert setup links) = SaysSetup o setup × (map (λ link. link.now) links.items ≡ names)
 SaysConversion o names (Show hex file) = ⊥
 SaysConversion o names (Check file) = ⊥
@@ -36,25 +36,25 @@ abbrev pub HasMoment : List ℕ → Type 0
 HasMoment text = (t : ℕ) × (t ≤ LAST_MS) × WritesMoment text t
 
 -- both times are moments
-abbrev pub HasTimes : Options → Type 0
+abbrev pub HasTimes : ConvertOptions → Type 0
 HasTimes o = HasMoment o.near.now × HasMoment o.made.now
 
 -- and each name of the list is a code's
-abbrev pub HasNames : Options → Type 0
+abbrev pub HasNames : ConvertOptions → Type 0
 HasNames o = HasTimes o × ((listed : List Code) × Lists o.codes.now listed)
 
 -- and the marker is good
-abbrev pub HasMarker : Options → Type 0
+abbrev pub HasMarker : ConvertOptions → Type 0
 HasMarker o = HasNames o × IsMarker o.marker.now
 
 -- and the codes are good together
-abbrev pub HasHead : Options → Type 0
+abbrev pub HasHead : ConvertOptions → Type 0
 HasHead o = HasMarker o × ((listed : List Code) × Lists o.codes.now listed × IsCodeList listed)
 
 -- this is the first cause for which the words are refused, in this order: the form of the
 -- reference, the form of the time of making, the names of the codes, the marker, the codes
 -- together, the links, and last a reference near which nothing is dated (this project's rule)
-abbrev pub IsFirstCause : Options → List (List ℕ) → BadWords → Type 0
+abbrev pub IsFirstCause : ConvertOptions → List (List ℕ) → BadWords → Type 0
 IsFirstCause o names Near =
     ¬ (HasMoment o.near.now)
     ⊎ (HasHead o × AreLinkNames names × ((t : ℕ) × WritesMoment o.near.now t × ¬ (IsReference t)))
@@ -68,7 +68,7 @@ IsFirstCause o names From = ⊥
 IsFirstCause o names Until = ⊥
 
 -- why the words give no conversion: the first cause, or refused memory; no text of clap's
-abbrev pub RefusesConversion : Options → List (List ℕ) → WordsFault → Type 0
+abbrev pub RefusesConversion : ConvertOptions → List (List ℕ) → WordsFault → Type 0
 RefusesConversion o names (Clap text status) = ⊥
 RefusesConversion o names (Bad line) = IsFirstCause o names line
 RefusesConversion o names OutOfMemory = Unit {0}

@@ -1,9 +1,0 @@
-use Rattle.std.proofs.Common.{◌-◌, ◌≤◌}
-use Rattle.rtk_cli.specs.Steps.Interrupts.{most_interruptions}
-use Rattle.rtk_cli.proofs.resuming.ResumedWrite.flush.Given as goal
-
-abbrev pub invariant-loop-error : goal.invariant-loop-error
-invariant-loop-error g l = l.interruptions ≤ most_interruptions
-
-abbrev pub decreases-loop-error : goal.decreases-loop-error
-decreases-loop-error g l = most_interruptions - l.interruptions

@@ -1,0 +1,40 @@
+//! The job that the words of a command line ask for.
+
+ghost use Rattle.std.specs.Prelude.{IfOk, IfErr};
+ghost use Rattle.rtk_cli.specs.Words.{HasStatus, IsWithinLimits};
+
+use crate::convert_words::conversion;
+use crate::cut_words::part_of;
+use crate::words::{Job, WordsFault};
+use rtk_words::{ClapAnswer, CutOptions, Request, read_words};
+use std::alloc::Global;
+
+// The part that the options say, of this file.
+#[tactic(auto, using(crate::proofs::StepLemmas::step_of))]
+fn cut_job<'a>(options: &CutOptions<'a>, file: &'a str) -> Result<Job<'a>, WordsFault>
+    ensures limits { IfOk result IsWithinLimits }
+    ensures status { IfErr result HasStatus }
+{
+    match part_of(options) {
+        Ok(part) => Ok(Job::Cut { part, file }),
+        Err(line) => Err(WordsFault::Bad { line }),
+    }
+}
+
+/// What the words of a command line ask for. They begin after the name of the program.
+pub fn job<'a>(alloc: Global, words: &'a [&'a str]) -> Result<Job<'a>, WordsFault>
+    // That it gives up only without memory show the rows `job ..` of tests/calls.
+    ensures limits { IfOk result IsWithinLimits }
+    ensures status { IfErr result HasStatus }
+{
+    match read_words(alloc, words) {
+        Ok(Request::Convert { options, links }) => conversion(alloc, &options, links.as_slice()),
+        Ok(Request::Show { hex, file }) => Ok(Job::Show { hex, file }),
+        Ok(Request::Check { file }) => Ok(Job::Check { file }),
+        Ok(Request::Summary { file }) => Ok(Job::Summary { file }),
+        Ok(Request::Chart { width, file }) => Ok(Job::Chart { width, file }),
+        Ok(Request::Cut { options, file }) => cut_job(&options, file),
+        Err(ClapAnswer::Text { text, status }) => Err(WordsFault::Clap { text, status }),
+        Err(ClapAnswer::OutOfMemory) => Err(WordsFault::OutOfMemory),
+    }
+}

@@ -1,0 +1,30 @@
+//! What the program says if words give no job, and the exit status then.
+
+ghost use Rattle.std.specs.Prelude.{◌≡◌, ◌≤◌};
+ghost use Rattle.rtk_tools.specs.declared.exit_status.TheConstants.{REFUSED};
+
+use crate::words::BadWords;
+use rtk_frame::write_all;
+use rtk_tools::{DONE, REFUSED, ToolFault, fail, standard_output};
+
+/// Says why words that clap takes are refused.
+pub(crate) fn refuse<R: Eprint>(rt: &R, line: BadWords) -> u8
+    ensures { result ≡ REFUSED }
+{
+    let _told = eprintln!(rt; "rtcm2rinex: {line}");
+    REFUSED
+}
+
+/// Shows clap's text: what was asked for on standard output, a refusal on standard error.
+pub(crate) fn print_clap_text<R: Print + Eprint>(rt: &R, text: &str, status: u8) -> u8
+    ensures { result ≤ REFUSED }
+{
+    if status != DONE {
+        let _told = eprint!(rt; "{text}");
+        return REFUSED;
+    }
+    match write_all(&mut standard_output(rt), text.as_bytes()) {
+        Ok(()) => DONE,
+        Err(_) => fail(rt, ToolFault::Output),
+    }
+}

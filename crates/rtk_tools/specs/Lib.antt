@@ -1,0 +1,9 @@
+pub mod ChartInput
+pub mod CheckInput
+pub mod CheckedInput
+pub mod CutInput
+pub mod Hex
+pub mod Input
+pub mod Show
+pub mod Shown
+pub mod Steps

@@ -1,0 +1,43 @@
+//! The commands that work without a conversion: files and standard streams, and the work of `show`,
+//! `check`, `summary`, `chart` and `cut`.
+//!
+//! ```rust
+//! use rtk_tools::show_line;
+//! use std::alloc::{AllocError, Global};
+//!
+//! // A payload of a byte has no message number.
+//! fn example(alloc: Global) -> Result<bool, AllocError> {
+//!     let line = show_line(alloc, &[0x3E])?;
+//!     Ok(line.as_slice() == b"refused M1 -\n".as_slice())
+//! }
+//! ```
+//!
+//! Its tests: tests/values/src/tools.rt.in and tools/, and tests/program
+#![tactic(auto)]
+
+mod charting;
+mod checking;
+mod cutting;
+mod exit_status;
+mod fault;
+mod files;
+mod hex_input;
+mod input;
+pub mod laws;
+mod links;
+mod payload_line;
+mod resuming;
+mod showing;
+mod summarizing;
+
+pub use charting::chart_named;
+pub use checking::{CHECK_LIMIT, check_input, check_named};
+pub use cutting::cut_named;
+pub use exit_status::{DONE, FAILED, NOT_VALID, REFUSED, fail, fail_to_end};
+pub use fault::ToolFault;
+pub use files::{Capture, GATHERED, MOST_READS, Reads, STDIN, Writes, sink, standard_output};
+pub use links::{Link, OpenFault, fail_to_open_links, has_standard_input, open_links};
+pub use payload_line::show_line;
+pub use resuming::Resumed;
+pub use showing::{SHOW_LIMIT, show, show_named};
+pub use summarizing::summarize_named;

@@ -1,0 +1,46 @@
+//! What the words of a command line ask for, as clap gives it.
+
+use crate::options::{ConvertOptions, CutOptions};
+
+/// Which command the words ask for, and the values of its options. What these say is not yet read.
+#[derive(Drop)]
+pub enum Request<'a> {
+    /// `convert OPTIONS LINK..`: captures of one station to a file and a report.
+    Convert {
+        /// The values of its options.
+        options: ConvertOptions<'a>,
+        /// The names of the captures, however many.
+        links: Vec<&'a str>,
+    },
+    /// `show [--hex] FILE`: one line for each frame of a capture.
+    Show {
+        /// The capture is hex text.
+        hex: bool,
+        /// The name of the capture; `stdin` is standard input.
+        file: &'a str,
+    },
+    /// `check FILE`: whether a text is one of this project's files.
+    Check {
+        /// The name of the text; `stdin` is standard input.
+        file: &'a str,
+    },
+    /// `summary FILE`: what a capture holds.
+    Summary {
+        /// The name of the capture; `stdin` is standard input.
+        file: &'a str,
+    },
+    /// `chart FILE [--text [--columns N]]`: a picture of a file.
+    Chart {
+        /// How many characters wide the picture is, 40 to 400; `None` is a picture in SVG.
+        width: Option<u16>,
+        /// The name of the file; `stdin` is standard input.
+        file: &'a str,
+    },
+    /// `cut OPTIONS FILE`: a part of a file.
+    Cut {
+        /// The values of its options.
+        options: CutOptions<'a>,
+        /// The name of the file; `stdin` is standard input.
+        file: &'a str,
+    },
+}
