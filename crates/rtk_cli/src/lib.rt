@@ -28,6 +28,7 @@ mod words;
 
 pub use converting::conversion_status;
 pub use jobs::job;
-pub use rtk_tools::{CHECK_LIMIT, SHOW_LIMIT, ToolFault, check_input, show, show_line};
+pub use rtk_files::{CHECK_LIMIT, check_input};
+pub use rtk_tools::{SHOW_LIMIT, ToolFault, show, show_line};
 pub use running::run_program;
 pub use words::{BadWords, Job, WordsFault};

@@ -8,9 +8,8 @@ use crate::converting::convert_links;
 use crate::jobs::job;
 use crate::refusing::{print_clap_text, refuse};
 use crate::words::{Job, WordsFault};
-use rtk_tools::{
-    ToolFault, chart_named, check_named, cut_named, fail, show_named, summarize_named,
-};
+use rtk_files::{chart_named, check_named, cut_named};
+use rtk_tools::{ToolFault, fail, show_named, summarize_named};
 use std::env::Env;
 use std::fs::Files;
 use std::io::{ErrorKind, Write};

@@ -1,7 +1,3 @@
-pub mod ChartInput
-pub mod CheckInput
-pub mod CheckedInput
-pub mod CutInput
 pub mod Hex
 pub mod Input
 pub mod Show

@@ -26,7 +26,7 @@ pub fn fail<R: Eprint>(rt: &R, fault: ToolFault) -> u8
 }
 
 /// Says which file can't be opened.
-pub(crate) fn fail_to_open<R: Eprint>(rt: &R, name: &str) -> u8
+pub fn fail_to_open<R: Eprint>(rt: &R, name: &str) -> u8
     ensures { result ≡ FAILED }
 {
     let _told = eprintln!(rt; "rtcm2rinex: cannot open {name}");

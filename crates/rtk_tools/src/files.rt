@@ -38,7 +38,7 @@ impl<F: Read + Drop, I: Read + Drop> Read for Capture<F, I> {
 
 /// The capture of this name, open; the word `stdin` is standard input. `None` if there is no such
 /// file, or it may not be read.
-pub(crate) fn open_capture<R: Files + Input>(
+pub fn open_capture<R: Files + Input>(
     rt: &R,
     name: &str,
 ) -> Option<Resumed<Capture<R::File, R::Reader>>> {
@@ -73,7 +73,7 @@ pub struct Reads<R: Read> {
 
 impl<R: Read> Reads<R> {
     /// A source over a reader, before its first call.
-    pub(crate) fn new(inner: R) -> Reads<R>
+    pub fn new(inner: R) -> Reads<R>
         ensures no_call { (result.made ≡ 0) × (result.failed ≡ 0) × (result.ended ≡ false) }
         ensures inner { result.inner ≡ inner }
     {

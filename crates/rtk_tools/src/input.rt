@@ -14,7 +14,7 @@ const PIECE: usize = 4096;
 
 /// All bytes of a source, up to its end. An input longer than `limit` is refused; of it one byte
 /// more than the limit is read.
-pub(crate) fn read_whole<R: Source>(
+pub fn read_whole<R: Source>(
     alloc: Global,
     reader: &mut R,
     limit: usize,

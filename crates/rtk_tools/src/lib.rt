@@ -1,5 +1,5 @@
-//! The commands that work without a conversion: files and standard streams, and the work of `show`,
-//! `check`, `summary`, `chart` and `cut`.
+//! Files and standard streams, and the commands that work on a capture without a conversion: `show`
+//! and `summary`.
 //!
 //! ```rust
 //! use rtk_tools::show_line;
@@ -15,9 +15,6 @@
 //! Its tests: tests/values/src/tools.rt.in and tools/, and tests/program
 #![tactic(auto)]
 
-mod charting;
-mod checking;
-mod cutting;
 mod exit_status;
 mod fault;
 mod files;
@@ -30,12 +27,12 @@ mod resuming;
 mod showing;
 mod summarizing;
 
-pub use charting::chart_named;
-pub use checking::{CHECK_LIMIT, check_input, check_named};
-pub use cutting::cut_named;
-pub use exit_status::{DONE, FAILED, NOT_VALID, REFUSED, fail, fail_to_end};
+pub use exit_status::{DONE, FAILED, NOT_VALID, REFUSED, fail, fail_to_end, fail_to_open};
 pub use fault::ToolFault;
-pub use files::{Capture, GATHERED, MOST_READS, Reads, STDIN, Writes, sink, standard_output};
+pub use files::{
+    Capture, GATHERED, MOST_READS, Reads, STDIN, Writes, open_capture, sink, standard_output,
+};
+pub use input::read_whole;
 pub use links::{Link, OpenFault, fail_to_open_links, has_standard_input, open_links};
 pub use payload_line::show_line;
 pub use resuming::Resumed;

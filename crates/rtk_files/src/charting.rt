@@ -4,17 +4,18 @@ ghost use Rattle.std.specs.Prelude.{◌≡◌, ◌≢◌, ◌+◌, ◌≤◌, �
 ghost use Rattle.std.specs.Option.{ForSome};
 ghost use Rattle.rtk_frame.specs.Stream.{CountRises};
 ghost use Rattle.rtk_tools.specs.Input.{GivesText};
-ghost use Rattle.rtk_tools.specs.ChartInput.{IsWidth, IsPicture, WritesPicture, WritesPartOfPicture, ChartsOrRefuses};
+ghost use Rattle.rtk_files.specs.ChartInput.{IsWidth, IsPicture, WritesPicture, WritesPartOfPicture, ChartsOrRefuses};
+ghost use Rattle.rtk_tools.specs.declared.exit_status.TheConstants.{NOT_VALID};
 ghost use Rattle.rtk_tools.specs.declared.fault.ToolFault.TheVariants.{Input, TooLong, NotHex, OutOfMemory, Output};
 
 use crate::checking::CHECK_LIMIT;
-use crate::exit_status::{DONE, NOT_VALID, fail, fail_to_open};
-use crate::fault::ToolFault;
-use crate::files::{Reads, open_capture, standard_output};
-use crate::input::read_whole;
 use rtk_chart::{chart_svg, chart_text};
 use rtk_frame::{Sink, Source, write_all};
 use rtk_rinex::{CheckFault, Table, check};
+use rtk_tools::{
+    DONE, NOT_VALID, Reads, ToolFault, fail, fail_to_open, open_capture, read_whole,
+    standard_output,
+};
 use std::alloc::{AllocError, Global};
 use std::fs::Files;
 

@@ -5,17 +5,17 @@ ghost use Rattle.rtk_frame.specs.Stream.{CountRises};
 ghost use Rattle.rtk_cut.specs.Cut.{IsStepOrNone};
 ghost use Rattle.rtk_cut.specs.CutWriting.{WritesPart, WritesFirstOfPart};
 ghost use Rattle.rtk_tools.specs.Input.{GivesText};
-ghost use Rattle.rtk_tools.specs.CutInput.{CutsOrRefuses};
+ghost use Rattle.rtk_files.specs.CutInput.{CutsOrRefuses};
+ghost use Rattle.rtk_tools.specs.declared.exit_status.TheConstants.{NOT_VALID};
 ghost use Rattle.rtk_tools.specs.declared.fault.ToolFault.TheVariants.{Input, TooLong, NotHex, OutOfMemory, Output};
 
 use crate::checking::CHECK_LIMIT;
-use crate::exit_status::{DONE, NOT_VALID, fail, fail_to_open};
-use crate::fault::ToolFault;
-use crate::files::{GATHERED, Reads, open_capture, sink};
-use crate::input::read_whole;
 use rtk_cut::{CutFault, Part};
 use rtk_frame::{Sink, Source};
 use rtk_rinex::{CheckFault, Table, check};
+use rtk_tools::{
+    DONE, GATHERED, NOT_VALID, Reads, ToolFault, fail, fail_to_open, open_capture, read_whole, sink,
+};
 use std::alloc::Global;
 use std::fs::Files;
 use std::io;

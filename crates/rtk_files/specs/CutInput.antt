@@ -4,7 +4,7 @@ use Rattle.rtk_rinex.specs.CheckTable.{IsFault, IsWithoutTable}
 use Rattle.rtk_rinex.specs.declared.check_fault.CheckFault.{CheckFault}
 use Rattle.rtk_cut.specs.declared.part.Part.{Part}
 use Rattle.rtk_cut.specs.CutWriting.{WritesPart}
-use Rattle.rtk_tools.specs.CheckedInput.{IsTextOfSomeTable}
+use Rattle.rtk_files.specs.CheckedInput.{IsTextOfSomeTable}
 
 -- the text is the text of a well-formed table, and of this the part was written; or it is the text
 -- of none, this is its first fault, and nothing was written

@@ -5,16 +5,17 @@ ghost use Rattle.std.specs.Prelude.{◌≡◌, ◌≢◌, ◌+◌, ◌≤◌, �
 ghost use Rattle.rtk_frame.specs.Stream.{CountRises};
 ghost use Rattle.rtk_tools.specs.Input.{GivesText};
 ghost use Rattle.rtk_rinex.specs.CauseText.{cause_text};
-ghost use Rattle.rtk_tools.specs.CheckInput.{valid_text, check_fault_text, SaysVerdict, Tells, TellsPart};
+ghost use Rattle.rtk_files.specs.CheckInput.{valid_text, check_fault_text, SaysVerdict, Tells, TellsPart};
+ghost use Rattle.rtk_tools.specs.declared.exit_status.TheConstants.{NOT_VALID};
 ghost use Rattle.rtk_tools.specs.declared.fault.ToolFault.TheVariants.{Input, TooLong, NotHex, OutOfMemory, Output};
 
-use crate::exit_status::{DONE, NOT_VALID, fail, fail_to_open};
-use crate::fault::ToolFault;
-use crate::files::{Reads, open_capture, standard_output};
-use crate::input::read_whole;
 use rtk_frame::{Sink, Source, write_all};
 use rtk_message::put_named;
 use rtk_rinex::{Cause, CheckFault, Table, check};
+use rtk_tools::{
+    DONE, NOT_VALID, Reads, ToolFault, fail, fail_to_open, open_capture, read_whole,
+    standard_output,
+};
 use std::alloc::{AllocError, Global};
 use std::fs::Files;
 

@@ -5,7 +5,7 @@ use Rattle.rtk_frame.specs.Stream.{with_more, TakesPart}
 use Rattle.rtk_rinex.specs.CheckTable.{IsFault, IsWithoutTable}
 use Rattle.rtk_rinex.specs.declared.check_fault.CheckFault.{CheckFault}
 use Rattle.rtk_chart.specs.Chart.{ShowsTable, ShowsTableInSvg}
-use Rattle.rtk_tools.specs.CheckedInput.{IsTextOfSomeTable}
+use Rattle.rtk_files.specs.CheckedInput.{IsTextOfSomeTable}
 
 -- the width of a picture in characters (this project's rule)
 abbrev pub IsWidth : ℕ → Type 0

@@ -1,0 +1,4 @@
+pub mod ChartInput
+pub mod CheckInput
+pub mod CheckedInput
+pub mod CutInput

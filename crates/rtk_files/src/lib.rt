@@ -1,0 +1,26 @@
+//! The commands that work on a file: `check`, `chart` and `cut`.
+//!
+//! ```rust
+//! use rtk_files::check_input;
+//! use rtk_frame::{After, MemSink, MemSource};
+//! use std::alloc::{AllocError, Global};
+//!
+//! // A text that ends before its first line is none of these files.
+//! fn example(alloc: Global) -> Result<bool, AllocError> {
+//!     let mut reader = MemSource::new(alloc, b"", 1, After::End)?;
+//!     let mut out = MemSink::new(alloc, 32, 32)?;
+//!     let verdict = check_input(alloc, &mut reader, &mut out);
+//!     Ok(matches!(verdict, Ok(false)) && out.bytes() == b"line 1: C5 Truncated\n".as_slice())
+//! }
+//! ```
+//!
+//! Its tests: tests/values/src/files.rt.in, and tests/program
+#![tactic(auto)]
+
+mod charting;
+mod checking;
+mod cutting;
+
+pub use charting::chart_named;
+pub use checking::{CHECK_LIMIT, check_input, check_named};
+pub use cutting::cut_named;
