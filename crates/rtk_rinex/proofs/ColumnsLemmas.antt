@@ -1,9 +1,9 @@
 -- Digits, one at a time, and texts after blanks.
-use Rattle.std.proofs.Common.{◌≡◌, ℕ, ◌+◌, ◌-◌, ◌/◌, ◌%◌, ◌^◌, ◌<◌, ◌≤◌, ◌∷◌, [], ◌++◌, List, length, decimal, replicate, take, drop, set, ap, sym, ◌∙◌, arith, refl, length-append, append_assoc}
-use Rattle.std.proofs.lemmas.Fmt.{decimal_step, decimal_digit}
+use Rattle.std.proofs.Common.{◌≡◌, ℕ, ◌+◌, ◌-◌, ◌/◌, ◌%◌, ◌^◌, ◌<◌, ◌≤◌, ◌∷◌, [], ◌++◌, List, length, decimal, replicate, take, drop, set, ap, sym, ◌∙◌, arith, refl, length-append, append_assoc, ℤ, pos, false, ◌≤ℤ◌}
+use Rattle.std.proofs.lemmas.Fmt.{decimal_step, decimal_digit, length-decimal-le}
 use Rattle.std.proofs.lemmas.List.{length-replicate, take-replicate, replicate-append-replicate, take_at, drop_at, append-nil}
 use Rattle.std.proofs.Math.Seq.{set-append_seam}
-use Rattle.rtk_rinex.specs.Columns.{right}
+use Rattle.rtk_rinex.specs.Columns.{right, last_digits, decimals, fixed}
 
 -- from 100 on a number has the digits of its hundredth and two more
 pub decimal-two : (n : ℕ) → 100 ≤ n → n < 2 ^ 64 → decimal n ≡ decimal (n / 100) ++ (48 + (n % 100) / 10) ∷ (48 + (n % 100) % 10) ∷ []
@@ -57,6 +57,63 @@ right-minus a k s ds last e l =
     let rest : List ℕ = ds ++ 46 ∷ last in
     let seam : set (front ++ 32 ∷ rest) (length front) 45 ≡ front ++ 45 ∷ rest = set-append_seam {A = ℕ} front 32 rest 45 in
     rw (take-replicate {X = ℕ} (s + 1) a 32 fits, ← replicate-append-replicate {A = ℕ} s 1 32, right-blanks (a + 1 + k) s _ all, append_assoc, append_assoc) (rw len at seam)
+
+-- a text at the right end of a columns, and k characters after it
+pub right-front : (a k : ℕ) (ds last : List ℕ) → length ds ≤ a → length last ≡ k → right a ds ++ last ≡ right (a + k) (ds ++ last)
+right-front a k ds last e l =
+    let size : a - length ds + length (ds ++ last) ≡ a + k = simp length-append (omega arith) in
+    append_assoc (replicate (a - length ds) 32) ds last ∙ sym (right-blanks (a + k) (a - length ds) (ds ++ last) size)
+
+-- the same after k blanks
+pub right-wide : (k a : ℕ) (ds : List ℕ) → length ds ≤ a → replicate k 32 ++ right a ds ≡ right (k + a) ds
+right-wide k a ds e =
+    let size : k + (a - length ds) + length ds ≡ k + a = omega arith in
+    sym (append_assoc (replicate k 32) (replicate (a - length ds) 32) ds) ∙ rw (replicate-append-replicate {A = ℕ} k (a - length ds) 32) (sym (right-blanks (k + a) (k + (a - length ds)) ds size))
+
+-- the columns of three decimals before others
+thousandths : (n r : ℕ) → n % 1000 ≡ r → last_digits 3 n ≡ last_digits 3 r
+thousandths n r e =
+    let a : n / 10 / 10 % 10 ≡ r / 10 / 10 % 10 = omega arith in
+    let b : n / 10 % 10 ≡ r / 10 % 10 = omega arith in
+    let c : n % 10 ≡ r % 10 = omega arith in
+    rw (a, b, c) refl
+
+-- two digits
+abbrev pub pair : ℕ → List ℕ
+pair two = (48 + two / 10) ∷ (48 + two % 10) ∷ []
+
+-- F14.3 of a value of seven to ten digits before the point: the first of them, and columns that
+-- stand whatever the number is
+pub right-long : (n : ℕ) → 10 ^ 9 ≤ n → n < 10 ^ 13 → right 14 (decimals 3 false n)
+    ≡ right 4 (decimal (n / 1_000_000_000)) ++ (pair (n % 1_000_000_000 / 100_000 / 100) ++ (pair (n % 1_000_000_000 / 100_000 % 100) ++ (pair (n % 1_000_000_000 % 100_000 / 1000) ++ 46 ∷ last_digits 3 (n % 1_000_000_000 % 100_000 % 1000))))
+right-long n low high =
+    let w = n / 1000 in
+    let front : w / 100 / 100 / 100 ≡ n / 1_000_000_000 = omega arith in
+    let one : w / 100 / 100 % 100 ≡ n % 1_000_000_000 / 100_000 / 100 = omega arith in
+    let two : w / 100 % 100 ≡ n % 1_000_000_000 / 100_000 % 100 = omega arith in
+    let three : w % 100 ≡ n % 1_000_000_000 % 100_000 / 1000 = omega arith in
+    let few = length-decimal-le 4 (n / 1_000_000_000) (omega arith) (omega arith) (omega arith) in
+    let first : decimal w ≡ decimal (w / 100) ++ pair (w % 100) = decimal-two w (omega arith) (omega arith) in
+    let second : decimal (w / 100) ≡ decimal (w / 100 / 100) ++ pair (w / 100 % 100) = decimal-two (w / 100) (omega arith) (omega arith) in
+    let third : decimal (w / 100 / 100) ≡ decimal (w / 100 / 100 / 100) ++ pair (w / 100 / 100 % 100) = decimal-two (w / 100 / 100) (omega arith) (omega arith) in
+    let last : last_digits 3 n ≡ last_digits 3 (n % 1_000_000_000 % 100_000 % 1000) = thousandths n (n % 1_000_000_000 % 100_000 % 1000) (omega arith) in
+    let whole : decimal w ≡ ((decimal (n / 1_000_000_000) ++ pair (n % 1_000_000_000 / 100_000 / 100)) ++ pair (n % 1_000_000_000 / 100_000 % 100)) ++ pair (n % 1_000_000_000 % 100_000 / 1000) =
+    first ∙ rw (three, second, two, third, one, front) refl in
+    let text : decimal w ++ 46 ∷ last_digits 3 n ≡ decimal (n / 1_000_000_000) ++ (pair (n % 1_000_000_000 / 100_000 / 100) ++ (pair (n % 1_000_000_000 / 100_000 % 100) ++ (pair (n % 1_000_000_000 % 100_000 / 1000) ++ 46 ∷ last_digits 3 (n % 1_000_000_000 % 100_000 % 1000)))) =
+    rw (whole, last) (simp append_assoc) in
+    rw text (sym (right-front 4 10 (decimal (n / 1_000_000_000)) _ few refl))
+
+-- F14.3 of a value of one or two digits before the point
+pub right-short : (n : ℕ) → n < 100_000 → right 14 (decimals 3 false n) ≡ replicate 8 32 ++ (right 2 (decimal (n / 1000)) ++ 46 ∷ last_digits 3 (n % 1000))
+right-short n high =
+    let few = length-decimal-le 2 (n / 1000) (omega arith) (omega arith) (omega arith) in
+    let last = thousandths n (n % 1000) refl in
+    let ten : length (decimal (n / 1000) ++ 46 ∷ last_digits 3 n) ≤ 6 = simp length-append (omega arith) in
+    rw (right-front 2 4 (decimal (n / 1000)) (46 ∷ last_digits 3 (n % 1000)) few refl, ← last) (sym (right-wide 8 6 (decimal (n / 1000) ++ 46 ∷ last_digits 3 n) ten))
+
+-- F14.3 of a number that is not negative
+pub fixed-long : (v : ℤ) (m : ℕ) → pos 1_000_000_000 ≤ℤ v → v ≡ pos m → right 14 (decimals 3 false m) ≡ fixed 3 14 v
+fixed-long v m h e = rw e refl
 
 -- three texts of 16, one after another over 48 blanks
 

@@ -45,6 +45,12 @@ columns-lengths c n h k =
     lengths (epoch_date_text c) (right 11 (decimals 7 false (seconds_of c))) (codes "  0") (right 3 (decimal n)) refl
     (length-seconds (seconds_of c) (omega (arith, h.second, h.millisecond))) refl (length-count n k)
 
+-- the length of an epoch line, whatever its date
+pub length-written : (c : Civil) (n : ℕ) → c.second < 60 → c.millisecond < 1000 → n < 1000 → length (epoch_line c n) ≡ 36
+length-written c n second millisecond k =
+    let columns = lengths (epoch_date_text c) (right 11 (decimals 7 false (seconds_of c))) (codes "  0") (right 3 (decimal n)) refl (length-seconds (seconds_of c) (omega arith)) refl (length-count n k) in
+    length-append (epoch_columns c n) (10 ∷ []) ∙ omega (arith, columns.1)
+
 pub length-columns : (c : Civil) (n : ℕ) → Fits c → n < 1000 → length (epoch_columns c n) ≡ 35
 length-columns c n h k = (columns-lengths c n h k).1
 

@@ -29,5 +29,6 @@ mod OneHeaderLemmas
 mod OneFaultLemmas
 mod OneTableLemmas
 mod PairsLemmas
+mod WrittenLemmas
 mod EqualityLemmas
 mod RecordsLemmas

@@ -1,6 +1,6 @@
 //! Numbers in columns of text, as the formats of RINEX 3.05 name them (F14.3, I6 ..).
 
-ghost use Rattle.std.specs.Prelude.{◌≡◌, ℕ, ◌+◌, ◌*◌, ◌/◌, ◌%◌, ◌^◌, ◌<◌, ◌≤◌, ◌++◌, length, take, set, replicate, decimal, if◌then◌else◌, false, pos, negsuc, ◌≤ℤ◌};
+ghost use Rattle.std.specs.Prelude.{◌≡◌, ℕ, ◌+◌, ◌*◌, ◌/◌, ◌%◌, ◌^◌, ◌<◌, ◌≤◌, ◌∷◌, ◌++◌, length, take, set, replicate, decimal, if◌then◌else◌, false, pos, negsuc, ◌≤ℤ◌};
 ghost use Rattle.rtk_rinex.specs.Columns.{last_digits, right, decimals, fixed};
 ghost use Rattle.rtk_rinex.specs.Reading.{seconds_of};
 
@@ -20,8 +20,8 @@ static PAIRS: [u8; 200] = [
     57, 54, 57, 55, 57, 56, 57, 57,
 ];
 
-// Writes the two digits of a number below 100 in the columns `at` and `at + 1`.
-fn put_pair(field: &mut [u8], at: usize, two: u64)
+/// Writes the two digits of a number below 100 in the columns `at` and `at + 1`.
+pub(crate) fn put_pair(field: &mut [u8], at: usize, two: u64)
     requires columns { at + 1 < length field.old }
     requires two { two < 100 }
     ensures { field.new ≡ set (set field.old (at + 1) (48 + two % 10)) at (48 + two / 10) }
@@ -71,7 +71,73 @@ pub(crate) fn put_decimal(field: &mut [u8], number: u64) -> usize
     at
 }
 
+// Writes a number below 100 at the right end of two blanks.
+fn put_two(field: &mut [u8], number: u64)
+    requires blank { field.old ≡ replicate 2 32 }
+    requires number { number < 100 }
+    ensures { field.new ≡ right 2 (decimal number) }
+{
+    if number >= 10 {
+        put_pair(field, 0, number);
+    } else {
+        field[1] = b'0' + number as u8;
+    }
+}
+
+// Writes a number below 10,000 at the right end of four blanks.
+fn put_four(field: &mut [u8], number: u64)
+    requires blank { field.old ≡ replicate 4 32 }
+    requires number { number < 10_000 }
+    ensures { field.new ≡ right 4 (decimal number) }
+{
+    if number >= 100 {
+        put_pair(field, 2, number % 100);
+        put_two(&mut field[..2], number / 100);
+    } else {
+        put_two(&mut field[2..], number);
+    }
+}
+
+// Writes a point and three decimals over four blanks.
+fn put_thousandths(field: &mut [u8], thousandths: u64)
+    requires blank { field.old ≡ replicate 4 32 }
+    requires thousandths { thousandths < 1000 }
+    ensures { field.new ≡ 46 ∷ last_digits 3 thousandths }
+{
+    field[0] = b'.';
+    field[1] = b'0' + (thousandths / 100) as u8;
+    put_pair(field, 2, thousandths % 100);
+}
+
+// Writes F14.3 of a value of at least a million, as ranges and phases of satellites are. So its
+// last nine digits have their columns whatever it is, and no loop looks for the first one.
+fn put_long_14_3(field: &mut [u8], magnitude: u64)
+    requires blank { field.old ≡ replicate 14 32 }
+    requires long { 10 ^ 9 ≤ magnitude }
+    requires fits { magnitude < 10 ^ 13 }
+    ensures { field.new ≡ right 14 (decimals 3 false magnitude) }
+{
+    let rest = magnitude % 1_000_000_000;
+    let (four, five) = (rest / 100_000, rest % 100_000);
+    put_thousandths(&mut field[10..], five % 1000);
+    put_pair(field, 8, five / 1000);
+    put_pair(field, 6, four % 100);
+    put_pair(field, 4, four / 100);
+    put_four(&mut field[..4], magnitude / 1_000_000_000);
+}
+
+/// Writes F14.3 of a value below 100, as signal strengths are, over 14 blanks.
+pub(crate) fn put_short_14_3(field: &mut [u8], magnitude: u64)
+    requires blank { field.old ≡ replicate 14 32 }
+    requires short { magnitude < 100_000 }
+    ensures { field.new ≡ right 14 (decimals 3 false magnitude) }
+{
+    put_thousandths(&mut field[10..], magnitude % 1000);
+    put_two(&mut field[8..10], magnitude / 1000);
+}
+
 // Writes F14.3 of a sign and a magnitude in thousandths.
+#[inline(never)]
 fn put_signed_14_3(field: &mut [u8], negative: bool, magnitude: u64)
     requires blank { field.old ≡ replicate 14 32 }
     requires fits { magnitude < (if negative then 10 ^ 12 else 10 ^ 13) }
@@ -92,7 +158,11 @@ pub(crate) fn put_fixed_14_3(field: &mut [u8], value: i64)
     requires high { value ≤ℤ pos 9_999_999_999_999 }
     ensures { field.new ≡ fixed 3 14 value }
 {
-    put_signed_14_3(field, value < 0, value.unsigned_abs());
+    if value >= 1_000_000_000 {
+        put_long_14_3(field, value.unsigned_abs());
+    } else {
+        put_signed_14_3(field, value < 0, value.unsigned_abs());
+    }
 }
 
 // F14.4 of a sign and a magnitude in ten-thousandths.

@@ -1,10 +1,13 @@
 //! The text of a record: the epoch line, and a line for each satellite that shows something.
 
-ghost use Rattle.std.specs.Prelude.{◌≡◌, ℕ, ◌+◌, ◌*◌, ◌<◌, ◌≤◌, ◌^◌, [], ◌∷◌, ◌++◌, length, take, replicate, flat_map, OnOk, IfOk, codes, decimal};
-ghost use Rattle.std.specs.List.{filter, list_any};
+ghost use Rattle.std.specs.Prelude.{◌≡◌, ℕ, ◌+◌, ◌*◌, ◌<◌, ◌≤◌, ◌-◌, ◌^◌, [], ◌∷◌, ◌++◌, length, take, drop, replicate, flat_map, OnOk, IfOk, codes, decimal, not, ◌==◌, if◌then◌else◌};
+ghost use Rattle.std.specs.List.{filter, list_any, sum_by};
 ghost use Rattle.rtk_rinex.specs.Record.{HasWidth, is_written, is_present, observation, observations, strength_digit, strength_value, lli_digit, has_observation, has_line, trim_end, satellite_line, epoch_date_text, epoch_line, record_text};
 
-use crate::columns::{add, integer_3, put_fixed_14_3, put_last_digits, seconds, unsigned_11_7};
+use crate::columns::{
+    add, integer_3, put_fixed_14_3, put_last_digits, put_pair, put_short_14_3, seconds,
+    unsigned_11_7,
+};
 use crate::epoch_table::{EpochTable, Observed, SatelliteRow};
 use crate::head::Head;
 use arrayvec::ArrayVec;
@@ -69,6 +72,20 @@ fn value_of_strength(strength: Option<u32>) -> Option<i64>
     }
 }
 
+// Writes a signal strength over 16 blanks. A message gives one below 100 dB-Hz.
+fn put_strength(field: &mut [u8], strength: Option<u32>)
+    requires blank { field.old ≡ replicate 16 32 }
+    ensures value { field.new ≡ observation (strength_value strength) 32 32 }
+    ensures len { length field.new ≡ 16 }
+{
+    match strength {
+        Some(strength) if strength > 0 && strength < 100_000 => {
+            put_short_14_3(&mut field[..14], u64::from(strength));
+        }
+        _ => put_observation(field, value_of_strength(strength), b' ', b' '),
+    }
+}
+
 // Writes the columns of a code over 48 blanks.
 fn put_columns(columns: &mut [u8], observed: &Observed)
     requires blank { columns.old ≡ replicate 48 32 }
@@ -76,7 +93,6 @@ fn put_columns(columns: &mut [u8], observed: &Observed)
 {
     let digit = digit_of_strength(observed.strength_millidbhz);
     let lock = digit_of_lock(observed.slip, observed.half);
-    let strength = value_of_strength(observed.strength_millidbhz);
     put_observation(&mut columns[..16], observed.range_mm, b' ', digit);
     put_observation(
         &mut columns[16..32],
@@ -84,15 +100,7 @@ fn put_columns(columns: &mut [u8], observed: &Observed)
         lock,
         digit,
     );
-    put_observation(&mut columns[32..], strength, b' ', b' ');
-}
-
-fn put_observations(out: &mut Vec<u8>, observed: &Observed) -> Result<(), AllocError>
-    ensures { OnOk result (out.new.items ≡ out.old.items ++ observations observed.now) }
-{
-    let mut columns = [b' '; 48];
-    put_columns(&mut columns, observed);
-    out.extend_from_slice(&columns)
+    put_strength(&mut columns[32..], observed.strength_millidbhz);
 }
 
 /// The number of bytes before the blanks at the end.
@@ -105,21 +113,6 @@ pub(crate) fn trimmed_len(bytes: &[u8]) -> usize
         end -= 1;
     }
     end
-}
-
-/// Appends the line of a satellite.
-pub(crate) fn put_satellite_line(out: &mut Vec<u8>, row: &SatelliteRow) -> Result<(), AllocError>
-    ensures { OnOk result (out.new.items ≡ out.old.items ++ satellite_line row.now) }
-{
-    let (tens, units) = (row.satellite / 10 % 10, row.satellite % 10);
-    out.extend_from_slice(&[b'G', b'0' + tens, b'0' + units])?;
-    for observed in row.observed.as_slice() {
-        put_observations(out, observed)?;
-    }
-    let end = trimmed_len(out);
-    out.truncate(end);
-    out.push(b'\n')?;
-    Ok(())
 }
 
 fn is_present(value: Option<i64>) -> bool
@@ -151,17 +144,57 @@ fn has_line(row: &SatelliteRow) -> bool
     false
 }
 
-fn line_count(rows: &[SatelliteRow]) -> usize
-    ensures value { result ≡ length (filter has_line rows.now) }
-    ensures bound { result ≤ length rows.now }
+// Writes the columns of the codes over blanks, and returns where the last one that shows something
+// ends, or 0.
+fn put_cells(cells: &mut [u8], shown: &[Observed]) -> usize
+    requires blank { cells.old ≡ replicate (length cells.old) 32 }
+    requires room { 48 * length shown.now ≤ length cells.old }
+    ensures text { cells.new ≡ flat_map observations shown.now ++ replicate (length cells.old - 48 * length shown.now) 32 }
+    ensures blank { drop result cells.new ≡ replicate (length cells.old - result) 32 }
+    ensures within { result ≤ 48 * length shown.now }
+    ensures some { (result == 0) ≡ not (list_any has_observation shown.now) }
 {
-    let mut count = 0;
+    let mut end = 0;
+    let mut at = 0;
+    for observed in shown {
+        if has_observation(observed) {
+            put_columns(&mut cells[at..at + 48], observed);
+            end = at + 48;
+        }
+        at += 48;
+    }
+    end
+}
+
+// Writes the line of a satellite over blanks, if it has one, and returns how long it is.
+fn put_satellite_line(line: &mut [u8], row: &SatelliteRow) -> usize
+    requires blank { line.old ≡ replicate (length line.old) 32 }
+    requires room { 4 + 48 * length row.now.observed.items ≤ length line.old }
+    ensures text { line.new ≡ (if has_line row.now then satellite_line row.now else []) ++ replicate (length line.old - result) 32 }
+    ensures len { result ≡ length (if has_line row.now then satellite_line row.now else []) }
+    ensures within { result ≤ 4 + 48 * length row.now.observed.items }
+{
+    let shown = put_cells(&mut line[3..], row.observed.as_slice());
+    if shown == 0 {
+        return 0;
+    }
+    line[0] = b'G';
+    put_pair(line, 1, u64::from(row.satellite) % 100);
+    let end = trimmed_len(&line[..3 + shown]);
+    line[end] = b'\n';
+    end + 1
+}
+
+// Has a satellite a line?
+fn has_lines(rows: &[SatelliteRow]) -> bool
+    ensures { result ≡ list_any has_line rows.now }
+{
     for row in rows {
         if has_line(row) {
-            count += 1;
+            return true;
         }
     }
-    count
+    false
 }
 
 // The columns of the epoch line up to the minute.
@@ -193,16 +226,41 @@ pub(crate) fn epoch_line(time: Civil, count: usize) -> ArrayVec<u8, 36>
     line
 }
 
-// Appends the lines of the satellites that have one.
-fn put_satellite_lines(out: &mut Vec<u8>, rows: &[SatelliteRow]) -> Result<(), AllocError>
-    ensures { OnOk result (out.new.items ≡ out.old.items ++ flat_map satellite_line (filter has_line rows.now)) }
+// Writes the lines of the satellites that have one over blanks, and returns their number and length.
+fn put_satellite_lines(lines: &mut [u8], rows: &[SatelliteRow]) -> (usize, usize)
+    requires blank { lines.old ≡ replicate (length lines.old) 32 }
+    requires room { sum_by (λ r. 4 + 48 * length r.observed.items) rows.now ≤ length lines.old }
+    ensures text { lines.new ≡ flat_map satellite_line (filter has_line rows.now) ++ replicate (length lines.old - result.1) 32 }
+    ensures len { result.1 ≡ length (flat_map satellite_line (filter has_line rows.now)) }
+    ensures within { result.1 ≤ length lines.old }
+    ensures count { result.0 ≡ length (filter has_line rows.now) }
+    ensures few { result.0 ≤ length rows.now }
 {
+    let mut count = 0;
+    let mut end = 0;
     for row in rows {
-        if has_line(row) {
-            put_satellite_line(out, row)?;
+        let len = put_satellite_line(&mut lines[end..], row);
+        if len > 0 {
+            count += 1;
+            end += len;
         }
     }
-    Ok(())
+    (count, end)
+}
+
+// Writes the lines of a record over blanks, and returns how long it is. The epoch line is written
+// last, since it has the number of the others.
+fn put_record(text: &mut [u8], time: Civil, rows: &[SatelliteRow]) -> usize
+    requires blank { text.old ≡ replicate (length text.old) 32 }
+    requires room { 36 + sum_by (λ r. 4 + 48 * length r.observed.items) rows.now ≤ length text.old }
+    requires few { length rows.now < 1000 }
+    requires second { time.second < 60 }
+    requires millisecond { time.millisecond < 1000 }
+    ensures { take result text.new ≡ epoch_line time (length (filter has_line rows.now)) ++ flat_map satellite_line (filter has_line rows.now) }
+{
+    let (count, end) = put_satellite_lines(&mut text[36..], rows);
+    text[..36].copy_from_slice(epoch_line(time, count).as_slice());
+    36 + end
 }
 
 /// The record of an epoch, in a file of this head; no bytes if no observation is written.
@@ -215,12 +273,13 @@ pub fn record(alloc: Global, head: &Head, table: &EpochTable) -> Result<Vec<u8>,
     ensures { IfOk result (λ text. text.items ≡ record_text table.now) }
 {
     let rows = table.rows();
-    let count = line_count(rows);
-    if count == 0 {
+    if !has_lines(rows) {
         return Ok(Vec::new(alloc));
     }
-    let mut out = Vec::with_capacity(alloc, 36 + count * (4 + 48 * head.codes().len()))?;
-    out.extend_from_slice(epoch_line(civil(table.time()), count).as_slice())?;
-    put_satellite_lines(&mut out, rows)?;
+    let room = 36 + rows.len() * (4 + 48 * head.codes().len());
+    let mut out = Vec::with_capacity(alloc, room)?;
+    out.resize(room, b' ')?;
+    let end = put_record(&mut out, civil(table.time()), rows);
+    out.truncate(end);
     Ok(out)
 }

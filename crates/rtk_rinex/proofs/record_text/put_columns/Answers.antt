@@ -21,8 +21,8 @@ put_observation-requires-2 c =
     let blank : drop 16 c.args.columns.now ≡ replicate 32 32 = ap (drop 16) c.requires.blank in
     record { blank = ap (take 16) (drop_at c.put_observation.new.field (drop 16 c.args.columns.now) 16 c.put_observation.ensures.len ∙ blank) }
 
-pub put_observation-requires-3 : goal.put_observation-requires-3
-put_observation-requires-3 c =
+pub put_strength-requires : goal.put_strength-requires
+put_strength-requires c =
     let f = c.put_observation.new.field in
     let g = c.put_observation-2.new.field in
     let l = c.put_observation.ensures.len in
@@ -34,10 +34,10 @@ pub returns : goal.returns
 returns c =
     let f = c.put_observation.new.field in
     let g = c.put_observation-2.new.field in
-    let h = c.put_observation-3.new.field in
+    let h = c.put_strength.new.field in
     let l = c.put_observation.ensures.len in
     let m = c.put_observation-2.ensures.len in
     let two = after-two c.args.columns.now f g c.requires.blank l in
     let whole = ap (λ (b : List ℕ). take 32 b ++ (h ++ drop (length b - 32) (drop 32 b))) two ∙ over-third f g h (length (f ++ (g ++ replicate 16 32)) - 32) l m (length-two f g l m) in
-    whole ∙ are-columns c.args.observed.now _ _ _ f g h c.digit_of_strength-digit.ensures c.digit_of_lock-lock.ensures c.value_of_strength-strength.ensures
-    c.put_observation.ensures.value c.put_observation-2.ensures.value c.put_observation-3.ensures.value
+    whole ∙ are-columns c.args.observed.now _ _ _ f g h c.digit_of_strength-digit.ensures c.digit_of_lock-lock.ensures refl
+    c.put_observation.ensures.value c.put_observation-2.ensures.value c.put_strength.ensures.value

@@ -1,23 +1,27 @@
-use Rattle.std.proofs.Common.{◌≡◌, ◌≢◌, ℕ, List, [], ◌∷◌, ◌++◌, length, take, ◌∙◌, arith, refl, ap, append_assoc}
-use Rattle.std.proofs.lemmas.List.{take_all}
-use Rattle.std.specs.List.{flat_map}
-use Rattle.rtk_rinex.specs.Columns.{last_digits}
-use Rattle.rtk_rinex.specs.Record.{trim_end, observations}
-use Rattle.rtk_rinex.proofs.RecordLemmas.{trim_end-front, trim_end-one}
+use Rattle.std.proofs.Common.{◌≡◌, ◌-◌, true, length, take, drop, length-append, arith, refl}
+use Rattle.std.proofs.lemmas.List.{length-take, length-drop}
+use Rattle.rtk_rinex.specs.Record.{has_line}
+use Rattle.rtk_rinex.proofs.WrittenLemmas.{line-if, written-line}
 use Rattle.rtk_rinex.proofs.record_text.put_satellite_line.Goals as goal
 
-pub returns : goal.returns
-returns c =
-    let l = c.loop-observed in
-    let items = c.args.row.now.observed.items in
-    let old = c.args.out.now.items in
-    let rest : List ℕ = last_digits 2 c.args.row.now.satellite ++ flat_map observations items in
-    let whole : take l.observed-index items ≡ items = take_all l.observed-index items (omega (arith, ap length c.as_slice-observed-items.ensures.value)) in
-    let text = (rw whole at l.invariant) ∙ append_assoc old (71 ∷ last_digits 2 c.args.row.now.satellite) (flat_map observations items) in
-    let mark : ◌≢◌ {A = ℕ} 71 32 = omega arith in
-    let one : trim_end (71 ∷ rest) ≡ 71 ∷ trim_end rest = trim_end-one 71 rest mark in
-    let front : trim_end (old ++ 71 ∷ rest) ≡ old ++ 71 ∷ trim_end rest = trim_end-front old 71 rest mark in
-    let cut = rw c.deref.ensures.value at c.trimmed_len-end.ensures.value in
-    let kept = c.truncate.ensures.items ∙ cut ∙ ap trim_end text ∙ front in
-    let joined : (old ++ 71 ∷ trim_end rest) ++ 10 ∷ [] ≡ old ++ ((71 ∷ trim_end rest) ++ 10 ∷ []) = append_assoc old (71 ∷ trim_end rest) (10 ∷ []) in
-    c.in_ok-push.ensures.items ∙ ap (λ (bytes : List ℕ). bytes ++ 10 ∷ []) kept ∙ joined ∙ rw one refl
+pub returns-clause-text : goal.returns-clause-text
+returns-clause-text c =
+    let old = c.args.line.now in
+    let p = c.put_cells-shown.ensures in
+    let slice = c.as_slice.ensures.value in
+    let room : length (take (length old - 3) (drop 3 old)) ≡ length old - 3 = omega (arith, length-take (length old - 3) (drop 3 old), length-drop 3 old) in
+    let some : has_line c.args.row.now ≡ true = line-if (has_line c.args.row.now) c.put_cells-shown.result (rw slice at p.some) c.if-shown-eq0.false in
+    let line = written-line old c.put_cells-shown.new.cells c.put_pair.new.field c.args.row.now.observed.items c.args.row.now.satellite (length old - 3) c.put_cells-shown.result c.trimmed_len-end.result _ c.requires.blank c.requires.room refl room
+    (rw slice at p.text) p.blank (rw slice at p.within) (rw c.from.ensures at c.put_pair.ensures) c.trimmed_len-end.ensures.within c.trimmed_len-end.ensures.value in
+    rw some (line.0)
+
+pub returns-clause-len : goal.returns-clause-len
+returns-clause-len c =
+    let old = c.args.line.now in
+    let p = c.put_cells-shown.ensures in
+    let slice = c.as_slice.ensures.value in
+    let room : length (take (length old - 3) (drop 3 old)) ≡ length old - 3 = omega (arith, length-take (length old - 3) (drop 3 old), length-drop 3 old) in
+    let some : has_line c.args.row.now ≡ true = line-if (has_line c.args.row.now) c.put_cells-shown.result (rw slice at p.some) c.if-shown-eq0.false in
+    let line = written-line old c.put_cells-shown.new.cells c.put_pair.new.field c.args.row.now.observed.items c.args.row.now.satellite (length old - 3) c.put_cells-shown.result c.trimmed_len-end.result _ c.requires.blank c.requires.room refl room
+    (rw slice at p.text) p.blank (rw slice at p.within) (rw c.from.ensures at c.put_pair.ensures) c.trimmed_len-end.ensures.within c.trimmed_len-end.ensures.value in
+    rw some (simp length-append (omega (arith, line.1)))
