@@ -140,10 +140,10 @@ pub first-new : (xs : List CellEntry) (at : ℕ) (d : CellEntry) → KeysRise xs
 first-new xs at d r l ne =
     let e : CellEntry = get_or xs at d in
     none-at (take at xs) e.satellite e.code d (λ k m.
-      let n : length (take at xs) ≡ at = length-take-le at xs (omega arith) in
-      let below : k < at = omega arith in
-      ap (λ (x : CellEntry). is_signal e.satellite e.code x) (get_or-take at xs k d below)
-      ∙ other-signal e.satellite e.code (get_or xs k d) (λ q. ne (omega arith) (last-same xs k at d r below l q)))
+    let n : length (take at xs) ≡ at = length-take-le at xs (omega arith) in
+    let below : k < at = omega arith in
+    ap (λ (x : CellEntry). is_signal e.satellite e.code x) (get_or-take at xs k d below)
+    ∙ other-signal e.satellite e.code (get_or xs k d) (λ q. ne (omega arith) (last-same xs k at d r below l q)))
 
 -- a cell, for the default of a look-up
 abbrev pub any_cell : CellEntry

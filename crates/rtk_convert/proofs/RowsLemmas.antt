@@ -180,7 +180,7 @@ rows-skip f listed m (suc n) l h =
       | inl a ↦ let e : suc n ≡ m = omega arith in ap (rows_to f listed) e
       | inr a ↦
           ap (λ (xs : List SatelliteRow). rows_to f listed n ++ xs) (row-no f listed (suc n) (any-none (f (suc n)) listed (λ c. h (suc n) c (omega arith) (omega arith))))
-              ∙ append-nil (rows_to f listed n) ∙ rows-skip f listed m n a (λ s c b d. h s c b (omega arith))
+          ∙ append-nil (rows_to f listed n) ∙ rows-skip f listed m n a (λ s c b d. h s c b (omega arith))
     ]
 
 -- no more rows than satellites

@@ -162,9 +162,9 @@ pub none-before : (xs : List CellEntry) (at s : ℕ) (c : Code) (d : CellEntry) 
 none-before xs at s c d l below =
     let n : length (take at xs) ≡ at = length-take-le at xs l in
     none-at (take at xs) s c d (λ k m. other-satellite s c (get_or (take at xs) k d)
-      (let e : (get_or (take at xs) k d).satellite ≡ (get_or xs k d).satellite = ap (λ (x : CellEntry). x.satellite) (get_or-take at xs k d (omega arith)) in
-      let b : (get_or xs k d).satellite < s = below k (omega arith) in
-      λ q. omega arith))
+    (let e : (get_or (take at xs) k d).satellite ≡ (get_or xs k d).satellite = ap (λ (x : CellEntry). x.satellite) (get_or-take at xs k d (omega arith)) in
+    let b : (get_or xs k d).satellite < s = below k (omega arith) in
+    λ q. omega arith))
 
 -- nor after its last one
 pub first-before : (xs : List CellEntry) (end s : ℕ) (c : Code) (d : CellEntry) → ((k : ℕ) → end ≤ k → k < length xs → s < (get_or xs k d).satellite) → first_cell xs s c ≡ first_cell (take end xs) s c
@@ -267,10 +267,10 @@ pub ends-next : (before : List (Option Track)) (epoch : ℕ) (xs : List CellEntr
 ends-next before epoch xs begin end s listed tracks row any g l at ne rises k d a b =
     let further = ends-further before epoch xs begin end s listed tracks row any g l at ne in
     all-next xs end s d rises (λ m.
-      let up : (get_or xs begin d).satellite ≤ (get_or xs end d).satellite = satellites-at xs begin end d rises further m in
-      let here : (get_or xs begin d).satellite ≡ s = g.same begin d (omega arith) further in
-      let no : (get_or xs end d).satellite ≢ s = ne m d in
-      omega arith) k a b
+    let up : (get_or xs begin d).satellite ≤ (get_or xs end d).satellite = satellites-at xs begin end d rises further m in
+    let here : (get_or xs begin d).satellite ≡ s = g.same begin d (omega arith) further in
+    let no : (get_or xs end d).satellite ≢ s = ne m d in
+    omega arith) k a b
 
 -- the row by all cells, and whether it is one
 pub ends-row : (before : List (Option Track)) (epoch : ℕ) (xs : List CellEntry) (begin end s : ℕ) (listed : List Code) (tracks : List (Option Track)) (row : List Observed) (any : Bool)

@@ -16,9 +16,7 @@ ghost use Rattle.rtk_convert.specs.Rows.{first_cell, rolled_or_none, observed_wi
 ghost use Rattle.rtk_convert.specs.LastPhases.{HasLastPhases};
 ghost use Rattle.rtk_convert.specs.Steps.ShownCells.{AllBelow, AreTaken, MayStep, shown_by, is_code, with_code};
 
-use rtk_obs::{
-    Cell, CellEntry, Code, Digits, GpsMs, Tracks, rolled,
-};
+use rtk_obs::{Cell, CellEntry, Code, Digits, GpsMs, Tracks, rolled};
 use rtk_rinex::{EpochTable, Observed};
 
 // What a code shows if it has no cell.
@@ -157,12 +155,12 @@ fn take_satellite(
     let mut has_listed = false;
     let mut end = begin;
     'cells: while has_satellite(entries, end, satellite) {
-        let at = end;
-        end += 1;
-        if is_repeat(entries, at) {
+        if is_repeat(entries, end) {
+            end += 1;
             continue;
         }
-        has_listed |= take_entry(tracks, epoch, &entries[at], listed, row);
+        has_listed |= take_entry(tracks, epoch, &entries[end], listed, row);
+        end += 1;
     }
     Taken { end, has_listed }
 }

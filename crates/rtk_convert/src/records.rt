@@ -126,13 +126,7 @@ impl ClosedEpochs {
         ensures fault { IfErr result IsOutFault }
     {
         let listed = setup.head().codes();
-        fill_table(
-            &mut self.tracks,
-            epoch,
-            cells,
-            listed,
-            &mut self.table,
-        );
+        fill_table(&mut self.tracks, epoch, cells, listed, &mut self.table);
         let table = &self.table;
         let has_record = put_record(alloc, setup, position, self.header_out, table, out)?;
         if !has_record {

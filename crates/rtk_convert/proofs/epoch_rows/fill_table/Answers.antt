@@ -82,7 +82,7 @@ returns-clause-table c =
     λ below has. table-same c.satellites.table c.args.epoch (shown_by old c.args.epoch cells) (observed_at (record { epoch = c.args.epoch; cells = cells }) below) c.args.listed.now
     c.satellites.invariant.time (fills-rows c.satellites.invariant.fills (omega arith))
     (λ s k hs. ap (observed_after (track_at old s k) k c.args.epoch) (sym (in-turn cells s k c.requires.rises))
-      ∙ ap (λ (last : Option Track). observed_after last k c.args.epoch (cell_at cells s k)) (has s k hs))
+    ∙ ap (λ (last : Option Track). observed_after last k c.args.epoch (cell_at cells s k)) (has s k hs))
 
 pub returns-clause-phases : goal.returns-clause-phases
 returns-clause-phases c =
