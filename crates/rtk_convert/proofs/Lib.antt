@@ -1,6 +1,8 @@
 mod PlacesLemmas
+mod CellOrderLemmas
 mod ThroughLemmas
 mod RowsLemmas
+mod SatelliteLemmas
 mod FileLemmas
 mod TableLemmas
 mod KeptTableLemmas

@@ -1,20 +1,22 @@
 -- The rows of the satellites.
-use Rattle.std.proofs.Common.{◌≡◌, ℕ, zero, suc, ◌+◌, ◌<◌, ◌≤◌, [], ◌∷◌, ◌++◌, List, map, length, refl, sym, ap, ◌∙◌, arith, add-one, Option, true, false, Bool}
-use Rattle.std.specs.Prelude.{is_some, All, AllPairs, if◌then◌else◌, IfSome, None, Some}
-use Rattle.std.proofs.Common.{get_or, subst}
-use Rattle.std.proofs.lemmas.List.{append-nil}
+use Rattle.std.proofs.Common.{◌≡◌, ℕ, zero, suc, ◌+◌, ◌<◌, ◌≤◌, [], ◌∷◌, ◌++◌, List, map, replicate, length, get_or, refl, sym, ap, subst, ◌∙◌, arith, add-one, Option, None, Some, true, false, Bool, cond, inl, inr}
+use Rattle.std.specs.Prelude.{is_some, All, AllPairs, if◌then◌else◌, IfSome, ◌||◌}
+use Rattle.std.proofs.lemmas.Bool.{cases_lt}
+use Rattle.std.proofs.lemmas.List.{append-nil, length-append, length-map}
 use Rattle.std.proofs.lemmas.List.Quantifiers.{all_pairs_push}
-use Rattle.std.proofs.lemmas.List.{length-map}
-use Rattle.std.proofs.lemmas.List.Elements.{All-nil, All-cons, All-append, All-map}
+use Rattle.std.proofs.lemmas.List.Elements.{All-nil, All-cons, All-append, All-map, All-head, All-tail}
 use Rattle.std.specs.List.{list_any}
 use Rattle.rtk_obs.specs.declared.code.Code.{Code}
-use Rattle.rtk_obs.specs.Cell.{IsSatellite}
+use Rattle.rtk_obs.specs.declared.cell.Cell.{Cell}
+use Rattle.rtk_obs.specs.declared.cell.CellEntry.{CellEntry}
+use Rattle.rtk_obs.specs.declared.track.Track.{Track}
+use Rattle.rtk_obs.specs.Cell.{IsSatellite, IsInRange as IsEntry, IsStrength as IsGiven}
 use Rattle.rtk_rinex.specs.declared.epoch_table.Observed.{Observed}
 use Rattle.rtk_rinex.specs.declared.epoch_table.SatelliteRow.{SatelliteRow}
-use Rattle.rtk_obs.specs.Tracks.{place_of_signal}
+use Rattle.rtk_obs.specs.Tracks.{track_at}
 use Rattle.rtk_rinex.specs.Record.{EpochTableView, HasWidth, IsRow, IsStrengthOrNone}
-use Rattle.rtk_convert.specs.Steps.ShownCells.{shown_at, AreStrengths}
-use Rattle.rtk_convert.specs.Rows.{or_nothing, row_with, row_if_any, rows_to}
+use Rattle.rtk_convert.specs.Steps.ShownCells.{shown_by, is_code, with_code}
+use Rattle.rtk_convert.specs.Rows.{is_signal, first_cell, observed_after, or_nothing, row_with, row_if_any, rows_to}
 
 pub rows_to-zero : (f : ℕ → Code → Option Observed) (listed : List Code) → rows_to f listed 0 ≡ []
 unfolding rows_to
@@ -30,11 +32,11 @@ row-yes f listed n h = rw h refl
 pub row-no : (f : ℕ → Code → Option Observed) (listed : List Code) (n : ℕ) → list_any (λ code. is_some (f n code)) listed ≡ false → row_if_any f listed n ≡ []
 row-no f listed n h = rw h refl
 
-observed-same : (f g : Code → Option Observed) (listed : List Code) → ((c : Code) → f c ≡ g c) → map (λ c. or_nothing (f c)) listed ≡ map (λ c. or_nothing (g c)) listed
+pub observed-same : (f g : Code → Option Observed) (listed : List Code) → ((c : Code) → f c ≡ g c) → map (λ c. or_nothing (f c)) listed ≡ map (λ c. or_nothing (g c)) listed
 observed-same f g [] h = refl
 observed-same f g (c ∷ listed) h = rw (h c, observed-same f g listed h) refl
 
-any-same : (f g : Code → Option Observed) (listed : List Code) → ((c : Code) → f c ≡ g c) → list_any (λ c. is_some (f c)) listed ≡ list_any (λ c. is_some (g c)) listed
+pub any-same : (f g : Code → Option Observed) (listed : List Code) → ((c : Code) → f c ≡ g c) → list_any (λ c. is_some (f c)) listed ≡ list_any (λ c. is_some (g c)) listed
 any-same f g [] h = refl
 any-same f g (c ∷ listed) h = rw (h c, any-same f g listed h) refl
 
@@ -80,16 +82,36 @@ all-rows P f listed (suc n) le h =
 pub rows-width : (f : ℕ → Code → Option Observed) (listed : List Code) → HasWidth (length listed) (rows_to f listed 32)
 rows-width f listed = all-rows (λ r. length r.observed.items ≡ length listed) f listed 32 (omega arith) (λ s hs m. length-map listed (λ code. or_nothing (f s code)))
 
-strength-of : (o : Option Observed) → IfSome o (λ x. IsStrengthOrNone x.strength_millidbhz) → IsStrengthOrNone (or_nothing o).strength_millidbhz
-strength-of None h = tt
-strength-of (Some o) h = h
+-- ---- strengths that are shown
+
+entry-strength : (o : Option ℕ) → IfSome o IsGiven → IsStrengthOrNone o
+entry-strength None h = tt
+entry-strength (Some s) h = ((h.least, h.greatest), h.step)
+
+abbrev pub HasStrength : Option Cell → Type 0
+HasStrength o = IfSome o (λ c. IsStrengthOrNone c.strength_millidbhz)
+
+strength-if : (b : Bool) (c : Cell) (o : Option Cell) → IsStrengthOrNone c.strength_millidbhz → HasStrength o → HasStrength (cond b (Some c) o)
+strength-if true c o h k = h
+strength-if false c o h k = k
+
+pub first-strength : (cells : List CellEntry) (s : ℕ) (c : Code) → All IsEntry cells → HasStrength (first_cell cells s c)
+first-strength [] s c h = tt
+first-strength (e ∷ cells) s c h =
+    let head : IsEntry e = All-head IsEntry e cells h in
+    strength-if (is_signal s c e) e.cell (first_cell cells s c) (entry-strength e.cell.strength_millidbhz head.strength)
+    (first-strength cells s c (All-tail IsEntry e cells h))
+
+pub observed-strength : (last : Option Track) (code : Code) (epoch : ℕ) (o : Option Cell) → HasStrength o → IsStrengthOrNone (or_nothing (observed_after last code epoch o)).strength_millidbhz
+observed-strength last code epoch None h = tt
+observed-strength last code epoch (Some c) h = h
 
 -- a row of what is shown is good
-pub row-good : (shown : List (Option Observed)) (listed : List Code) (s : ℕ) → IsSatellite s → AreStrengths shown → IsRow (row_with (shown_at shown) listed s)
-row-good shown listed s hs are = record {
+pub row-good : (old : List (Option Track)) (epoch : ℕ) (cells : List CellEntry) (listed : List Code) (s : ℕ) → IsSatellite s → All IsEntry cells → IsRow (row_with (shown_by old epoch cells) listed s)
+row-good old epoch cells listed s hs h = record {
   satellite = (hs.0, hs.1);
-  strengths = All-map (λ (o : Observed). IsStrengthOrNone o.strength_millidbhz) (λ code. or_nothing (shown_at shown s code)) listed
-      (λ k d h. strength-of (shown_at shown s (get_or listed k d)) (are (place_of_signal s (get_or listed k d))));
+  strengths = All-map (λ (o : Observed). IsStrengthOrNone o.strength_millidbhz) (λ code. or_nothing (shown_by old epoch cells s code)) listed
+      (λ k d l. observed-strength (track_at old s (get_or listed k d)) (get_or listed k d) epoch (first_cell cells s (get_or listed k d)) (first-strength cells s (get_or listed k d) h));
 }
 
 rise-if : (b : Bool) (rows : List SatelliteRow) (r : SatelliteRow) → AllPairs (λ a b. a.satellite < b.satellite) rows → All (λ (x : SatelliteRow). x.satellite < r.satellite) rows
@@ -104,6 +126,75 @@ rows_to-rise f listed zero le = λ i j d h k. absurd (omega arith)
 rows_to-rise f listed (suc n) le =
     rise-if (list_any (λ code. is_some (f (suc n) code)) listed) (rows_to f listed n) (row_with f listed (suc n)) (rows_to-rise f listed n (omega arith))
     (all-rows (λ (x : SatelliteRow). x.satellite < suc n) f listed n (omega arith) (λ s hs m. omega arith))
+
+-- ---- a row, code by code
+
+pub row-blank : (listed : List Code) → map (λ (code : Code). or_nothing None) listed ≡ replicate (length listed) (or_nothing None)
+row-blank [] = refl
+row-blank (c ∷ listed) = ap (λ (xs : List Observed). or_nothing None ∷ xs) (row-blank listed)
+
+shows-if : (b : Bool) (o : Observed) (x : Option Observed) → cond b o (or_nothing x) ≡ or_nothing (cond b (Some o) x)
+shows-if true o x = refl
+shows-if false o x = refl
+
+-- a row after one more code
+pub row-with : (f g : Code → Option Observed) (code : Code) (o : Observed) (listed : List Code) → ((c : Code) → g c ≡ cond (is_code code c) (Some o) (f c))
+    → with_code code o listed (map (λ c. or_nothing (f c)) listed) ≡ map (λ c. or_nothing (g c)) listed
+row-with f g code o [] h = refl
+row-with f g code o (c ∷ listed) h =
+    ap (λ (x : Observed). x ∷ with_code code o listed (map (λ c. or_nothing (f c)) listed)) (shows-if (is_code code c) o (f c) ∙ ap or_nothing (sym (h c)))
+    ∙ ap (λ (xs : List Observed). or_nothing (g c) ∷ xs) (row-with f g code o listed h)
+
+some-or : (b : Bool) (o : Observed) (x : Option Observed) (p q : Bool) → (is_some (cond b (Some o) x) || (p || q)) ≡ ((b || p) || (is_some x || q))
+some-or true o x p q = refl
+some-or false o None p q = refl
+some-or false o (Some x) true q = refl
+some-or false o (Some x) false q = refl
+
+-- is a code shown after one more code?
+pub any-with : (f g : Code → Option Observed) (code : Code) (o : Observed) (listed : List Code) → ((c : Code) → g c ≡ cond (is_code code c) (Some o) (f c))
+    → list_any (λ c. is_some (g c)) listed ≡ (list_any (is_code code) listed || list_any (λ c. is_some (f c)) listed)
+any-with f g code o [] h = refl
+any-with f g code o (c ∷ listed) h =
+    ap (λ (x : Option Observed). is_some x || list_any (λ c. is_some (g c)) listed) (h c)
+    ∙ ap (λ (b : Bool). is_some (cond (is_code code c) (Some o) (f c)) || b) (any-with f g code o listed h)
+    ∙ some-or (is_code code c) o (f c) (list_any (is_code code) listed) (list_any (λ c. is_some (f c)) listed)
+
+any-none : (f : Code → Option Observed) (listed : List Code) → ((c : Code) → f c ≡ None) → list_any (λ c. is_some (f c)) listed ≡ false
+any-none f [] h = refl
+any-none f (c ∷ listed) h = ap (λ (x : Option Observed). is_some x || list_any (λ c. is_some (f c)) listed) (h c) ∙ any-none f listed h
+
+-- nothing is shown before the first cell
+pub row-begins : (f : Code → Option Observed) (listed : List Code) → ((c : Code) → f c ≡ None)
+    → (map (λ (code : Code). or_nothing None) listed ≡ map (λ c. or_nothing (f c)) listed) × (false ≡ list_any (λ c. is_some (f c)) listed)
+row-begins f listed h = (observed-same (λ (c : Code). None) f listed (λ c. sym (h c)), sym (any-none f listed h))
+
+-- ---- the rows so far
+
+-- satellites without a cell have no row
+pub rows-skip : (f : ℕ → Code → Option Observed) (listed : List Code) (m n : ℕ) → m ≤ n → ((s : ℕ) (c : Code) → m < s → s ≤ n → f s c ≡ None) → rows_to f listed n ≡ rows_to f listed m
+unfolding rows_to
+rows-skip f listed m zero l h = let e : 0 ≡ m = omega arith in ap (rows_to f listed) e
+rows-skip f listed m (suc n) l h =
+    elim (cases_lt n m) [
+      | inl a ↦ let e : suc n ≡ m = omega arith in ap (rows_to f listed) e
+      | inr a ↦
+          ap (λ (xs : List SatelliteRow). rows_to f listed n ++ xs) (row-no f listed (suc n) (any-none (f (suc n)) listed (λ c. h (suc n) c (omega arith) (omega arith))))
+          ∙ append-nil (rows_to f listed n) ∙ rows-skip f listed m n a (λ s c b d. h s c b (omega arith))
+    ]
+
+-- no more rows than satellites
+few-if : (b : Bool) (rows : List SatelliteRow) (r : SatelliteRow) (n : ℕ) → length rows ≤ n → length (rows ++ (if b then r ∷ [] else [])) ≤ suc n
+few-if true rows r n h = omega (arith, length-append rows (r ∷ []))
+few-if false rows r n h = omega (arith, ap length (append-nil rows))
+
+pub rows-few : (f : ℕ → Code → Option Observed) (listed : List Code) (n : ℕ) → length (rows_to f listed n) ≤ n
+unfolding rows_to
+rows-few f listed zero = omega arith
+rows-few f listed (suc n) = few-if (list_any (λ code. is_some (f (suc n) code)) listed) (rows_to f listed n) (row_with f listed (suc n)) n (rows-few f listed n)
+
+pub rows-below : (f : ℕ → Code → Option Observed) (listed : List Code) (n : ℕ) → n < 33 → All (λ (r : SatelliteRow). r.satellite < n + 1) (rows_to f listed n)
+rows-below f listed n le = all-rows (λ (x : SatelliteRow). x.satellite < n + 1) f listed n le (λ s hs m. omega arith)
 
 pub rows-step : (f : ℕ → Code → Option Observed) (listed : List Code) (n : ℕ) (rows more : List SatelliteRow) → rows ≡ rows_to f listed n → more ≡ row_if_any f listed (n + 1)
     → rows ++ more ≡ rows_to f listed (n + 1)

@@ -1,28 +1,26 @@
 -- The file of a set is the text of a well-formed table, since it is a header and the records of
 -- rising epochs.
 use Rattle.std.proofs.Common.{◌≡◌, ℕ, suc, ◌<◌, Bool, true, false, cond, List, [], ◌∷◌, ◌++◌, length, get_or, Option, None, Some, refl, ap, sym, ◌∙◌, arith}
-use Rattle.std.specs.Prelude.{filter, flat_map, All, AllPairs, IfSome, unwrap_or, nat_lt}
+use Rattle.std.specs.Prelude.{filter, flat_map, All, AllPairs, unwrap_or, nat_lt}
 use Rattle.std.proofs.lemmas.Bool.Decides.{nat_tests}
 use Rattle.std.proofs.lemmas.List.{append-nil}
 use Rattle.std.proofs.lemmas.List.Elements.{All-nil, All-cons, All-append, All-map, All-head, All-tail, All-weaker, filter-append}
 use Rattle.std.proofs.lemmas.List.Quantifiers.{all_pairs_push}
 use Rattle.std.proofs.lemmas.Grind.{flat_map-append}
 use Rattle.rtk_obs.specs.declared.code.Code.{Code}
-use Rattle.rtk_obs.specs.declared.cell.Cell.{Cell}
 use Rattle.rtk_obs.specs.declared.cell.CellEntry.{CellEntry}
 use Rattle.rtk_obs.specs.declared.cell.CellSource.TheVariants.{Legacy, Msm}
-use Rattle.rtk_obs.specs.declared.track.Track.{Track}
-use Rattle.rtk_obs.specs.Cell.{IsInRange as IsEntry, IsStrength as IsGiven}
+use Rattle.rtk_obs.specs.Cell.{IsInRange as IsEntry}
 use Rattle.rtk_collect.specs.EpochSet.{EpochSetView, FirstIsBelow, EpochsFall}
 use Rattle.rtk_rinex.specs.declared.epoch_table.Observed.{Observed}
 use Rattle.rtk_rinex.specs.Reading.{IsMoment}
 use Rattle.rtk_rinex.specs.Header.{header_text}
 use Rattle.rtk_rinex.specs.Record.{EpochTableView, IsStrengthOrNone, IsRow, IsEpochTableView, HasWidth, record_text}
 use Rattle.rtk_rinex.specs.Table.{StartsAt, with_record, shown_table, FilesAreTables}
-use Rattle.rtk_convert.specs.Rows.{is_signal, last_phase_of, first_cell, cell_at, in_turn, is_from, observed_after, observed_at, or_nothing, table_of}
+use Rattle.rtk_convert.specs.Rows.{last_phase_of, cell_at, in_turn, is_from, observed_at, or_nothing, table_of}
 use Rattle.rtk_convert.specs.File.{record_of, records, first_or, first_time}
 use Rattle.rtk_convert.specs.FileLaws.{IsGoodEpoch, FileIsTable}
-use Rattle.rtk_convert.proofs.RowsLemmas.{all-rows, rows-width, rows_to-rise}
+use Rattle.rtk_convert.proofs.RowsLemmas.{all-rows, rows-width, rows_to-rise, HasStrength, first-strength, observed-strength}
 
 -- the tables of the epochs, rising
 tables : List Code → List EpochSetView → List EpochTableView
@@ -62,24 +60,6 @@ first-same listed (e ∷ below) =
 
 -- ---- the epochs are good
 
-entry-strength : (o : Option ℕ) → IfSome o IsGiven → IsStrengthOrNone o
-entry-strength None h = tt
-entry-strength (Some s) h = ((h.least, h.greatest), h.step)
-
-abbrev HasStrength : Option Cell → Type 0
-HasStrength o = IfSome o (λ c. IsStrengthOrNone c.strength_millidbhz)
-
-strength-if : (b : Bool) (c : Cell) (o : Option Cell) → IsStrengthOrNone c.strength_millidbhz → HasStrength o → HasStrength (cond b (Some c) o)
-strength-if true c o h k = h
-strength-if false c o h k = k
-
-first-strength : (cells : List CellEntry) (s : ℕ) (c : Code) → All IsEntry cells → HasStrength (first_cell cells s c)
-first-strength [] s c h = tt
-first-strength (e ∷ cells) s c h =
-    let head : IsEntry e = All-head IsEntry e cells h in
-    strength-if (is_signal s c e) e.cell (first_cell cells s c) (entry-strength e.cell.strength_millidbhz head.strength)
-    (first-strength cells s c (All-tail IsEntry e cells h))
-
 kept-if : {X : Type 0} (P : X → Type 0) (b : Bool) (x : X) (xs : List X) → P x → All P xs → All P (cond b (x ∷ xs) xs)
 kept-if P true x xs h k = All-cons P x xs h k
 kept-if P false x xs h k = k
@@ -92,10 +72,6 @@ cell-strength : (cells : List CellEntry) (s : ℕ) (c : Code) → All IsEntry ce
 cell-strength cells s c h =
     first-strength (in_turn cells) s c
     (All-append IsEntry (filter (is_from Msm) cells) (filter (is_from Legacy) cells) (all-kept IsEntry (is_from Msm) cells h) (all-kept IsEntry (is_from Legacy) cells h))
-
-observed-strength : (last : Option Track) (code : Code) (epoch : ℕ) (o : Option Cell) → HasStrength o → IsStrengthOrNone (or_nothing (observed_after last code epoch o)).strength_millidbhz
-observed-strength last code epoch None h = tt
-observed-strength last code epoch (Some c) h = h
 
 table-rows : (listed : List Code) (e : EpochSetView) (below : List EpochSetView) → All IsEntry e.cells → All IsRow (table_of listed e below).rows
 table-rows listed e below h = all-rows IsRow (observed_at e below) listed 32 (omega arith)

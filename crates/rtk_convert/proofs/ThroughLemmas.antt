@@ -1,8 +1,8 @@
 -- One more cell of an epoch.
-use Rattle.std.proofs.Common.{◌≡◌, ◌≢◌, ℕ, length, set, ◌<◌, ◌≤◌, [], ◌∷◌, ◌++◌, List, refl, sym, ap, subst, ◌∙◌, arith, get_or, get_or-set_same, get_or-set_other, Some, None, Option, true, false, Bool, cond}
-use Rattle.std.specs.Prelude.{is_some, IfSome}
+use Rattle.std.proofs.Common.{◌≡◌, ◌≢◌, ℕ, ◌<◌, ◌≤◌, [], ◌∷◌, ◌++◌, List, refl, sym, ap, subst, ◌∙◌, arith, Some, None, Option, true, false, Bool, cond, ◌+◌, ◌-◌, ◌*◌}
+use Rattle.std.specs.Prelude.{is_some}
+use Rattle.std.proofs.lemmas.Bool.{eq-eqb, ne_eqb}
 use Rattle.rtk_obs.specs.declared.track.Track.{Track}
-use Rattle.rtk_obs.specs.declared.track.Digits.{Digits}
 use Rattle.rtk_obs.specs.declared.cell.Cell.{Cell}
 use Rattle.rtk_obs.specs.declared.cell.CellEntry.{CellEntry}
 use Rattle.rtk_obs.specs.declared.code.Code.{Code}
@@ -12,10 +12,9 @@ use Rattle.rtk_obs.specs.Rollover.{last_after, digits_since, track_of, last_phas
 use Rattle.rtk_obs.specs.Cell.{IsSatellite}
 use Rattle.rtk_obs.specs.Tracks.{IsLater, track_at, place_of_signal}
 use Rattle.rtk_rinex.specs.declared.epoch_table.Observed.{Observed}
-use Rattle.rtk_rinex.specs.Record.{IsStrengthOrNone}
 use Rattle.rtk_convert.specs.Rows.{is_signal, first_cell, observed_with, observed_after, and_below}
-use Rattle.rtk_convert.specs.Steps.ShownCells.{shown_at, track_after, IsThrough, MayShow, AreStrengths}
-use Rattle.rtk_obs.proofs.PublicLaws.{place_inside, same_signal}
+use Rattle.rtk_convert.specs.Steps.ShownCells.{track_after, AreTaken, MayStep, shown_by, is_code}
+use Rattle.rtk_obs.proofs.PublicLaws.{same_signal}
 use Rattle.rtk_convert.proofs.PlacesLemmas.{by_eq, same_test, other_signal}
 
 -- a cell of another satellite or code changes nothing for them
@@ -41,86 +40,84 @@ cell-new : (xs : List CellEntry) (e : CellEntry) (s : ℕ) (c : Code) → is_sig
 cell-new [] e s c t h = rw t refl
 cell-new (y ∷ xs) e s c t h = cell-none (is_signal s c y) y.cell (first_cell xs s c) (first_cell (xs ++ e ∷ []) s c) e.cell (cell-new xs e s c t) h
 
-some-cell : (last : Option Track) (c : Code) (epoch : ℕ) (o p : Option Cell) (b : Bool) → b ≡ true → is_some (observed_after last c epoch o) ≡ b → ((x : Cell) → o ≡ Some x → p ≡ Some x) → p ≡ o
-some-cell last c epoch None p b t h f = cc
-some-cell last c epoch (Some x) p b t h f = f x refl
+some-kept : (o p : Option Cell) → is_some o ≡ true → ((x : Cell) → o ≡ Some x → p ≡ Some x) → p ≡ o
+some-kept None p h f = cc
+some-kept (Some x) p h f = f x refl
 
-none-cell : (last : Option Track) (c : Code) (epoch : ℕ) (o : Option Cell) → is_some (observed_after last c epoch o) ≡ false → o ≡ None
-none-cell last c epoch None h = refl
-none-cell last c epoch (Some x) h = cc
-
--- a cell whose satellite and code came before it
-pub through-same : (old : List (Option Track)) (epoch : ℕ) (before : List CellEntry) (new : List (Option Track)) (shown : List (Option Observed)) (e : CellEntry) → IsSatellite e.satellite
-    → is_some (shown_at shown e.satellite e.code) ≡ true → IsThrough old epoch before new shown → IsThrough old epoch (before ++ e ∷ []) new shown
-through-same old epoch before new shown e he there g =
-    let cells : (s : ℕ) (c : Code) → IsSatellite s → first_cell (before ++ e ∷ []) s c ≡ first_cell before s c =
-    λ s c hs. by_eq (place_of_signal e.satellite e.code) (place_of_signal s c)
+-- a cell whose satellite and code came before it changes nothing
+pub cells-same : (xs : List CellEntry) (e : CellEntry) → IsSatellite e.satellite → is_some (first_cell xs e.satellite e.code) ≡ true
+    → (s : ℕ) (c : Code) → IsSatellite s → first_cell (xs ++ e ∷ []) s c ≡ first_cell xs s c
+cells-same xs e he there s c hs =
+    by_eq (place_of_signal e.satellite e.code) (place_of_signal s c)
     (λ q. let p = same_signal e.satellite s e.code c he hs q in
-    let here : is_some (shown_at shown s c) ≡ true = subst (λ (x : ℕ). is_some (shown_at shown x c) ≡ true) p.0 (subst (λ (y : Code). is_some (shown_at shown e.satellite y) ≡ true) p.1 there) in
-    some-cell (track_at old s c) c epoch (first_cell before s c) (first_cell (before ++ e ∷ []) s c) true refl (ap is_some (sym (g.observed s c hs)) ∙ here) (cell-kept before e s c))
-    (λ ne. cell-other before e s c (other_signal e.satellite s e.code c ne)) in
-    record {
-      tracks = λ s c hs. g.tracks s c hs ∙ ap (track_after (track_at old s c) c epoch) (sym (cells s c hs));
-      observed = λ s c hs. g.observed s c hs ∙ ap (observed_after (track_at old s c) c epoch) (sym (cells s c hs));
-    }
+    let here : is_some (first_cell xs s c) ≡ true = subst (λ (x : ℕ). is_some (first_cell xs x c) ≡ true) p.0 (subst (λ (y : Code). is_some (first_cell xs e.satellite y) ≡ true) p.1 there) in
+    some-kept (first_cell xs s c) (first_cell (xs ++ e ∷ []) s c) here (cell-kept xs e s c))
+    (λ ne. cell-other xs e s c (other_signal e.satellite s e.code c ne))
+
+pub taken-same : (old : List (Option Track)) (epoch : ℕ) (xs ys : List CellEntry) (new : List (Option Track)) → ((s : ℕ) (c : Code) → IsSatellite s → first_cell ys s c ≡ first_cell xs s c)
+    → AreTaken old epoch xs new → AreTaken old epoch ys new
+taken-same old epoch xs ys new same g s c hs = g s c hs ∙ ap (track_after (track_at old s c) c epoch) (sym (same s c hs))
+
+pub may-same : (new : List (Option Track)) (xs ys : List CellEntry) (epoch : ℕ) → ((s : ℕ) (c : Code) → IsSatellite s → first_cell ys s c ≡ first_cell xs s c)
+    → MayStep new xs epoch → MayStep new ys epoch
+may-same new xs ys epoch same may s c hs none = may s c hs (sym (same s c hs) ∙ none)
 
 -- a cell of a new satellite and code
-pub through-more : (old : List (Option Track)) (epoch : ℕ) (before : List CellEntry) (new after : List (Option Track)) (shown : List (Option Observed)) (e : CellEntry) (d : Digits) (o : Observed) → IsSatellite e.satellite
-    → length shown ≡ 512 → is_some (shown_at shown e.satellite e.code) ≡ false
-    → d ≡ digits_since (band_of e.code) (track_at new e.satellite e.code) (epoch_cell epoch e.cell)
-    → o ≡ observed_with e.cell d
+pub taken-more : (old : List (Option Track)) (epoch : ℕ) (xs : List CellEntry) (new after : List (Option Track)) (e : CellEntry) → IsSatellite e.satellite
+    → first_cell xs e.satellite e.code ≡ None
     → track_at after e.satellite e.code ≡ last_after (band_of e.code) (track_at new e.satellite e.code) (epoch_cell epoch e.cell)
     → ((s : ℕ) (c : Code) → place_of_signal s c ≢ place_of_signal e.satellite e.code → track_at after s c ≡ track_at new s c)
-    → IsThrough old epoch before new shown → IsThrough old epoch (before ++ e ∷ []) after (set shown (place_of_signal e.satellite e.code) (Some o))
-through-more old epoch before new after shown e d o he len free digits obs same others g =
-    let none : first_cell before e.satellite e.code ≡ None = none-cell (track_at old e.satellite e.code) e.code epoch (first_cell before e.satellite e.code) (ap is_some (sym (g.observed e.satellite e.code he)) ∙ free) in
-    let cell : first_cell (before ++ e ∷ []) e.satellite e.code ≡ Some e.cell = cell-new before e e.satellite e.code (same_test e.satellite (place_of e.code) e.satellite (place_of e.code) refl refl) none in
-    let last : track_at new e.satellite e.code ≡ track_at old e.satellite e.code = g.tracks e.satellite e.code he ∙ ap (track_after (track_at old e.satellite e.code) e.code epoch) none in
-    let p = place_inside e.satellite e.code he in
-    let inside : place_of_signal e.satellite e.code < length shown = omega (arith, len, p) in
-    let here-tracks : track_at after e.satellite e.code ≡ track_after (track_at old e.satellite e.code) e.code epoch (first_cell (before ++ e ∷ []) e.satellite e.code) =
+    → AreTaken old epoch xs new → AreTaken old epoch (xs ++ e ∷ []) after
+taken-more old epoch xs new after e he none same others g s c hs =
+    let cell : first_cell (xs ++ e ∷ []) e.satellite e.code ≡ Some e.cell = cell-new xs e e.satellite e.code (same_test e.satellite (place_of e.code) e.satellite (place_of e.code) refl refl) none in
+    let last : track_at new e.satellite e.code ≡ track_at old e.satellite e.code = g e.satellite e.code he ∙ ap (track_after (track_at old e.satellite e.code) e.code epoch) none in
+    let here : track_at after e.satellite e.code ≡ track_after (track_at old e.satellite e.code) e.code epoch (first_cell (xs ++ e ∷ []) e.satellite e.code) =
     same ∙ ap (λ (t : Option Track). track_after t e.code epoch (Some e.cell)) last ∙ ap (track_after (track_at old e.satellite e.code) e.code epoch) (sym cell) in
-    let here-observed : shown_at (set shown (place_of_signal e.satellite e.code) (Some o)) e.satellite e.code ≡ observed_after (track_at old e.satellite e.code) e.code epoch (first_cell (before ++ e ∷ []) e.satellite e.code) =
-    get_or-set_same shown (place_of_signal e.satellite e.code) (Some o) None inside ∙ ap Some (obs ∙ ap (observed_with e.cell) (digits ∙ ap (λ (t : Option Track). digits_since (band_of e.code) t (epoch_cell epoch e.cell)) last)) ∙ ap (observed_after (track_at old e.satellite e.code) e.code epoch) (sym cell) in
-    record {
-      tracks = λ s c hs. by_eq (place_of_signal e.satellite e.code) (place_of_signal s c)
-          (λ q. let p = same_signal e.satellite s e.code c he hs q in
-          subst (λ (x : ℕ). track_at after x c ≡ track_after (track_at old x c) c epoch (first_cell (before ++ e ∷ []) x c)) p.0
-          (subst (λ (y : Code). track_at after e.satellite y ≡ track_after (track_at old e.satellite y) y epoch (first_cell (before ++ e ∷ []) e.satellite y)) p.1 here-tracks))
-          (λ ne. others s c (λ q. ne (sym q)) ∙ g.tracks s c hs ∙ ap (track_after (track_at old s c) c epoch) (sym (cell-other before e s c (other_signal e.satellite s e.code c ne))));
-      observed = λ s c hs. by_eq (place_of_signal e.satellite e.code) (place_of_signal s c)
-          (λ q. let p = same_signal e.satellite s e.code c he hs q in
-          subst (λ (x : ℕ). shown_at (set shown (place_of_signal e.satellite e.code) (Some o)) x c ≡ observed_after (track_at old x c) c epoch (first_cell (before ++ e ∷ []) x c)) p.0
-          (subst (λ (y : Code). shown_at (set shown (place_of_signal e.satellite e.code) (Some o)) e.satellite y ≡ observed_after (track_at old e.satellite y) y epoch (first_cell (before ++ e ∷ []) e.satellite y)) p.1 here-observed))
-          (λ ne. get_or-set_other shown (place_of_signal e.satellite e.code) (place_of_signal s c) (Some o) None (λ q. ne (sym q)) ∙ g.observed s c hs ∙ ap (observed_after (track_at old s c) c epoch) (sym (cell-other before e s c (other_signal e.satellite s e.code c ne))));
-    }
+    by_eq (place_of_signal e.satellite e.code) (place_of_signal s c)
+    (λ q. let p = same_signal e.satellite s e.code c he hs q in
+    subst (λ (x : ℕ). track_at after x c ≡ track_after (track_at old x c) c epoch (first_cell (xs ++ e ∷ []) x c)) p.0
+    (subst (λ (y : Code). track_at after e.satellite y ≡ track_after (track_at old e.satellite y) y epoch (first_cell (xs ++ e ∷ []) e.satellite y)) p.1 here))
+    (λ ne. others s c (λ q. ne (sym q)) ∙ g s c hs ∙ ap (track_after (track_at old s c) c epoch) (sym (cell-other xs e s c (other_signal e.satellite s e.code c ne))))
 
--- what is not shown yet may be shown, also after a cell
-pub may-more : (new after : List (Option Track)) (shown : List (Option Observed)) (epoch : ℕ) (e : CellEntry) (o : Observed) → IsSatellite e.satellite → length shown ≡ 512
+-- what a new cell shows, and what the other codes of its satellite show
+pub shown-more : (old : List (Option Track)) (epoch : ℕ) (xs : List CellEntry) (new : List (Option Track)) (e : CellEntry) → IsSatellite e.satellite
+    → first_cell xs e.satellite e.code ≡ None → AreTaken old epoch xs new → (c : Code)
+    → shown_by old epoch (xs ++ e ∷ []) e.satellite c
+    ≡ cond (is_code e.code c) (Some (observed_with e.cell (digits_since (band_of e.code) (track_at new e.satellite e.code) (epoch_cell epoch e.cell)))) (shown_by old epoch xs e.satellite c)
+shown-more old epoch xs new e he none g c =
+    let s : ℕ = e.satellite in
+    let o : Option Track → Observed = λ (t : Option Track). observed_with e.cell (digits_since (band_of e.code) t (epoch_cell epoch e.cell)) in
+    let cell : first_cell (xs ++ e ∷ []) s e.code ≡ Some e.cell = cell-new xs e s e.code (same_test s (place_of e.code) s (place_of e.code) refl refl) none in
+    let last : track_at new s e.code ≡ track_at old s e.code = g s e.code he ∙ ap (track_after (track_at old s e.code) e.code epoch) none in
+    let here : shown_by old epoch (xs ++ e ∷ []) s e.code ≡ cond (is_code e.code e.code) (Some (o (track_at new s e.code))) (shown_by old epoch xs s e.code) =
+    ap (observed_after (track_at old s e.code) e.code epoch) cell ∙ ap (λ (t : Option Track). Some (o t)) (sym last)
+    ∙ ap (λ (b : Bool). cond b (Some (o (track_at new s e.code))) (shown_by old epoch xs s e.code)) (sym (eq-eqb (place_of e.code) (place_of e.code) refl)) in
+    by_eq (place_of_signal s e.code) (place_of_signal s c)
+    (λ q. let p = same_signal s s e.code c he he q in
+    subst (λ (y : Code). shown_by old epoch (xs ++ e ∷ []) s y ≡ cond (is_code e.code y) (Some (o (track_at new s e.code))) (shown_by old epoch xs s y)) p.1 here)
+    (λ ne. ap (observed_after (track_at old s c) c epoch) (cell-other xs e s c (other_signal s s e.code c ne))
+    ∙ ap (λ (b : Bool). cond b (Some (o (track_at new s e.code))) (shown_by old epoch xs s c)) (sym (ne_eqb (place_of c) (place_of e.code) (λ q. ne (ap (λ (k : ℕ). (s - 1) * 16 + k) (sym q))))))
+
+none-rest : (b : Bool) (x : Cell) (o : Option Cell) → o ≢ None → cond b (Some x) o ≢ None
+none-rest true x o f h = cc
+none-rest false x o f h = f h
+
+not-none : (xs : List CellEntry) (e : CellEntry) (s : ℕ) (c : Code) → is_signal s c e ≡ true → first_cell (xs ++ e ∷ []) s c ≢ None
+not-none [] e s c t h = let some : first_cell (e ∷ []) s c ≡ Some e.cell = rw t refl in cc
+not-none (y ∷ xs) e s c t h = none-rest (is_signal s c y) y.cell (first_cell (xs ++ e ∷ []) s c) (not-none xs e s c t) h
+
+-- what has no cell yet may have one, also after a cell
+pub may-more : (new after : List (Option Track)) (xs : List CellEntry) (epoch : ℕ) (e : CellEntry)
     → ((s : ℕ) (c : Code) → place_of_signal s c ≢ place_of_signal e.satellite e.code → track_at after s c ≡ track_at new s c)
-    → MayShow new shown epoch → MayShow after (set shown (place_of_signal e.satellite e.code) (Some o)) epoch
-may-more new after shown epoch e o he len others may s c hs free =
-    by_eq (place_of_signal s c) (place_of_signal e.satellite e.code)
-    (λ q. let p = place_inside e.satellite e.code he in
-    let inside : place_of_signal e.satellite e.code < length shown = omega (arith, len, p) in
-    let some : shown_at (set shown (place_of_signal e.satellite e.code) (Some o)) s c ≡ Some o = ap (λ (k : ℕ). get_or (set shown (place_of_signal e.satellite e.code) (Some o)) k None) q ∙ get_or-set_same shown (place_of_signal e.satellite e.code) (Some o) None inside in
-    absurd (let no : None ≡ Some o = sym free ∙ some in cc))
-    (λ ne. subst (λ (t : Option Track). IsLater t epoch) (sym (others s c ne))
-    (may s c hs (sym (get_or-set_other shown (place_of_signal e.satellite e.code) (place_of_signal s c) (Some o) None ne) ∙ free)))
-
-pub strengths-more : (shown : List (Option Observed)) (at : ℕ) (o : Observed) → at < length shown → IsStrengthOrNone o.strength_millidbhz → AreStrengths shown → AreStrengths (set shown at (Some o))
-strengths-more shown at o inside good are k =
-    by_eq k at
-    (λ q. subst (λ (x : Option Observed). IfSome x (λ y. IsStrengthOrNone y.strength_millidbhz)) (sym (ap (λ (i : ℕ). get_or (set shown at (Some o)) i None) q ∙ get_or-set_same shown at (Some o) None inside)) good)
-    (λ ne. subst (λ (x : Option Observed). IfSome x (λ y. IsStrengthOrNone y.strength_millidbhz)) (sym (get_or-set_other shown at k (Some o) None ne)) (are k))
+    → IsSatellite e.satellite → MayStep new xs epoch → MayStep after (xs ++ e ∷ []) epoch
+may-more new after xs epoch e others he may s c hs none =
+    by_eq (place_of_signal e.satellite e.code) (place_of_signal s c)
+    (λ q. let p = same_signal e.satellite s e.code c he hs q in
+    absurd (not-none xs e s c (same_test e.satellite (place_of e.code) s (place_of c) p.0 (ap place_of p.1)) none))
+    (λ ne. subst (λ (t : Option Track). IsLater t epoch) (sym (others s c (λ q. ne (sym q))))
+    (may s c hs (sym (cell-other xs e s c (other_signal e.satellite s e.code c ne)) ∙ none)))
 
 -- ---- a whole epoch
-
-pub through-none : (old : List (Option Track)) (epoch : ℕ) (shown : List (Option Observed)) → ((k : ℕ) → get_or shown k None ≡ None) → IsThrough old epoch [] old shown
-through-none old epoch shown blank = record {
-  tracks = λ s c hs. refl;
-  observed = λ s c hs. blank (place_of_signal s c);
-}
 
 pub track-below : (o : Option Cell) (epoch : ℕ) (code : Code) (below : List EpochCell)
     → track_after (last_phase (band_of code) below) code epoch o ≡ last_phase (band_of code) (and_below epoch o below)

@@ -1,19 +1,22 @@
 //! The table of a closed epoch, made from its cells.
 
-ghost use Rattle.std.specs.Prelude.{◌≡◌, ℕ, ◌+◌, ◌<◌, ◌≤◌, List, [], ◌∷◌, ◌++◌, length, map, filter, false, Option, Some, None, All, IfSome, slice_index_or, is_some};
+ghost use Rattle.std.specs.Prelude.{◌≡◌, ◌≢◌, ℕ, ◌+◌, ◌<◌, ◌≤◌, List, [], ◌∷◌, map, take, length, replicate, Option, Some, All, slice_index_or, is_some, not, IsTrue, None};
 ghost use Rattle.std.specs.List.{list_any};
 ghost use Rattle.rtk_obs.specs.declared.cell.CellEntry.{CellEntry};
 ghost use Rattle.rtk_obs.specs.declared.track.Track.{Track};
-ghost use Rattle.rtk_obs.specs.Cell.{IsInRange, IsSatellite};
+ghost use Rattle.rtk_obs.specs.Cell.{IsInRange};
+ghost use Rattle.rtk_obs.specs.Code.{band_of};
+ghost use Rattle.rtk_obs.specs.Rollover.{last_after, digits_since};
+ghost use Rattle.rtk_obs.specs.Slip.{epoch_cell};
+ghost use Rattle.rtk_obs.specs.Tracks.{IsLater, track_at, place_of_signal};
 ghost use Rattle.rtk_collect.specs.EpochSet.{EpochSetView};
-ghost use Rattle.rtk_rinex.specs.Record.{IsStrengthOrNone, HasWidth};
-ghost use Rattle.rtk_convert.specs.Rows.{is_from, rolled_or_none, observed_with, or_nothing, row_with, rows_to, table_of};
+ghost use Rattle.rtk_collect.specs.Key.{KeysRise};
+ghost use Rattle.rtk_rinex.specs.Record.{HasWidth};
+ghost use Rattle.rtk_convert.specs.Rows.{first_cell, rolled_or_none, observed_with, or_nothing, table_of};
 ghost use Rattle.rtk_convert.specs.LastPhases.{HasLastPhases};
-ghost use Rattle.rtk_convert.specs.Steps.ShownCells.{AllBelow, shown_at, is_at, IsThrough, MayShow, ShowsNothing, AreStrengths};
+ghost use Rattle.rtk_convert.specs.Steps.ShownCells.{AllBelow, AreTaken, MayStep, shown_by, is_code, with_code};
 
-use rtk_obs::{
-    Cell, CellEntry, CellSource, Code, Digits, GpsMs, SIGNALS, Tracks, place_of_signal, rolled,
-};
+use rtk_obs::{Cell, CellEntry, Code, Digits, GpsMs, Tracks, rolled};
 use rtk_rinex::{EpochTable, Observed};
 
 // What a code shows if it has no cell.
@@ -46,157 +49,156 @@ fn observed(cell: &Cell, digits: Digits) -> Observed
     }
 }
 
-// Takes a cell, unless a cell of its satellite and code came before it.
-fn step_entry(tracks: &mut Tracks, shown: &mut [Option<Observed>], epoch: GpsMs, entry: &CellEntry)
-    requires places { length shown.old ≡ SIGNALS }
-    requires range { IsInRange entry.now }
-    requires later { MayShow tracks.old shown.old epoch }
-    requires strengths { AreStrengths shown.old }
-    ensures through { (old : List (Option Track)) (before : List CellEntry) → IsThrough old epoch before tracks.old shown.old
-        → IsThrough old epoch (before ++ entry.now ∷ []) tracks.new shown.new }
-    ensures later { MayShow tracks.new shown.new epoch }
-    ensures strengths { AreStrengths shown.new }
-    ensures others { (k : ℕ) → is_at k entry.now ≡ false → slice_index_or shown.new k None ≡ slice_index_or shown.old k None }
+// Writes what a code shows at its place among the listed codes, and says whether it is listed.
+fn put_listed(listed: &[Code], code: Code, shown: Observed, row: &mut [Observed]) -> bool
+    requires width { length row.old ≡ length listed.now }
+    ensures row { row.new ≡ with_code code shown listed.now row.old }
+    ensures listed { result ≡ list_any (is_code code) listed.now }
 {
-    let place = place_of_signal(entry.satellite, entry.code);
-    if shown[place].is_some() {
-        return;
+    let mut found = false;
+    for k in 0..listed.len() {
+        if listed[k] == code {
+            row[k] = shown;
+            found = true;
+        }
     }
-    let digits = tracks.step(entry.satellite, entry.code, epoch, &entry.cell);
-    shown[place] = Some(observed(&entry.cell, digits));
+    found
 }
 
-// Takes the cells that came in one kind of message, one after another.
-fn step_source(
+// Takes the first cell of a satellite and code, and says whether its code is listed.
+fn take_entry(
     tracks: &mut Tracks,
-    shown: &mut [Option<Observed>],
+    epoch: GpsMs,
+    entry: &CellEntry,
+    listed: &[Code],
+    row: &mut [Observed],
+) -> bool
+    requires range { IsInRange entry.now }
+    requires later { IsLater (track_at tracks.old entry.now.satellite entry.now.code) epoch }
+    requires width { length row.old ≡ length listed.now }
+    ensures track { track_at tracks.new entry.now.satellite entry.now.code
+        ≡ last_after (band_of entry.now.code) (track_at tracks.old entry.now.satellite entry.now.code) (epoch_cell epoch entry.now.cell) }
+    ensures others { (s : ℕ) (c : Code) → place_of_signal s c ≢ place_of_signal entry.now.satellite entry.now.code → track_at tracks.new s c ≡ track_at tracks.old s c }
+    ensures row { row.new ≡ with_code entry.now.code
+        (observed_with entry.now.cell (digits_since (band_of entry.now.code) (track_at tracks.old entry.now.satellite entry.now.code) (epoch_cell epoch entry.now.cell)))
+        listed.now row.old }
+    ensures listed { result ≡ list_any (is_code entry.now.code) listed.now }
+{
+    let digits = tracks.step(entry.satellite, entry.code, epoch, &entry.cell);
+    let shown = observed(&entry.cell, digits);
+    put_listed(listed, entry.code, shown, row)
+}
+
+// Has an earlier cell the same satellite and code? It stands right before this one.
+fn is_repeat(entries: &[CellEntry], at: usize) -> bool
+    requires place { at < length entries.now }
+    requires rises { KeysRise entries.now }
+    ensures { (d : CellEntry) → result ≡ is_some (first_cell (take at entries.now) (slice_index_or entries.now at d).satellite (slice_index_or entries.now at d).code) }
+{
+    if at == 0 {
+        return false;
+    }
+    let (before, entry) = (&entries[at - 1], &entries[at]);
+    before.satellite == entry.satellite && before.code == entry.code
+}
+
+// Is there a cell of this satellite at this place?
+fn has_satellite(entries: &[CellEntry], at: usize, satellite: u8) -> bool
+    ensures yes { IsTrue result → (at < length entries.now) × ((d : CellEntry) → (slice_index_or entries.now at d).satellite ≡ satellite) }
+    ensures no { IsTrue (not result) → at < length entries.now → ((d : CellEntry) → (slice_index_or entries.now at d).satellite ≢ satellite) }
+{
+    at < entries.len() && entries[at].satellite == satellite
+}
+
+// Writes that no code shows anything.
+fn blank(row: &mut [Observed])
+    ensures { (listed : List Code) → length row.old ≡ length listed → row.new ≡ map (λ code. or_nothing None) listed }
+{
+    row.fill(NOTHING);
+}
+
+// How far the cells of a satellite reach, and whether one of them has a listed code.
+#[derive(Clone, Copy)]
+struct Taken {
+    end: usize,
+    has_listed: bool,
+}
+
+// Takes the cells of the satellite whose first cell stands at `begin`, and writes its row.
+fn take_satellite(
+    tracks: &mut Tracks,
     epoch: GpsMs,
     entries: &[CellEntry],
-    source: CellSource,
-)
-    requires places { length shown.old ≡ SIGNALS }
-    requires ranges { All IsInRange entries.now }
-    requires later { MayShow tracks.old shown.old epoch }
-    requires strengths { AreStrengths shown.old }
-    ensures through { (old : List (Option Track)) (before : List CellEntry) → IsThrough old epoch before tracks.old shown.old
-        → IsThrough old epoch (before ++ filter (is_from source) entries.now) tracks.new shown.new }
-    ensures later { MayShow tracks.new shown.new epoch }
-    ensures strengths { AreStrengths shown.new }
-    ensures others { (k : ℕ) → list_any (is_at k) entries.now ≡ false → slice_index_or shown.new k None ≡ slice_index_or shown.old k None }
-    ensures places { length shown.new ≡ SIGNALS }
-{
-    for entry in entries {
-        if entry.cell.source == source {
-            step_entry(tracks, shown, epoch, entry);
-        }
-    }
-}
-
-// What a satellite and code show.
-fn shown_by(shown: &[Option<Observed>], satellite: u8, code: Code) -> Observed
-    requires places { length shown.now ≡ SIGNALS }
-    requires satellite { IsSatellite satellite }
-    ensures { result ≡ or_nothing (shown_at shown.now satellite code) }
-{
-    match shown[place_of_signal(satellite, code)] {
-        Some(observed) => observed,
-        None => NOTHING,
-    }
-}
-
-// Writes what the listed codes of a satellite show.
-fn put_observed(
-    shown: &[Option<Observed>],
-    satellite: u8,
+    begin: usize,
     listed: &[Code],
-    observed: &mut [Observed],
-)
-    requires places { length shown.now ≡ SIGNALS }
-    requires satellite { IsSatellite satellite }
-    requires width { length observed.old ≡ length listed.now }
-    ensures { observed.new ≡ map (λ code. or_nothing (shown_at shown.now satellite code)) listed.now }
-{
-    for k in 0..listed.len() {
-        observed[k] = shown_by(shown, satellite, listed[k]);
-    }
-}
-
-// Does a satellite have a cell of a listed code?
-fn has_listed(shown: &[Option<Observed>], satellite: u8, listed: &[Code]) -> bool
-    requires places { length shown.now ≡ SIGNALS }
-    requires satellite { IsSatellite satellite }
-    ensures { result ≡ list_any (λ code. is_some (shown_at shown.now satellite code)) listed.now }
-{
-    for code in listed {
-        if shown[place_of_signal(satellite, *code)].is_some() {
-            return true;
-        }
-    }
-    false
-}
-
-// Writes the rows of an epoch into the table.
-fn put_rows(shown: &[Option<Observed>], epoch: GpsMs, listed: &[Code], table: &mut EpochTable)
-    requires places { length shown.now ≡ SIGNALS }
-    requires strengths { AreStrengths shown.now }
-    requires few { length listed.now ≤ 16 }
-    ensures time { table.new.time ≡ epoch }
-    ensures rows { table.new.rows ≡ rows_to (shown_at shown.now) listed.now 32 }
-{
-    table.restart(epoch);
-    let mut room = [NOTHING; 16];
-    let observed = &mut room[..listed.len()];
-    for before in 0..32u8 {
-        if has_listed(shown, before + 1, listed) {
-            put_observed(shown, before + 1, listed, observed);
-            table.push_row(before + 1, observed);
-        }
-    }
-}
-
-// Clears the places of these cells. The caller sees to it that all other places are empty.
-fn clear(shown: &mut [Option<Observed>], entries: &[CellEntry])
-    requires places { length shown.old ≡ SIGNALS }
+    row: &mut [Observed],
+) -> Taken
+    requires place { begin < length entries.now }
     requires ranges { All IsInRange entries.now }
-    requires only { (k : ℕ) → list_any (is_at k) entries.now ≡ false → slice_index_or shown.old k None ≡ None }
-    ensures places { length shown.new ≡ SIGNALS }
-    ensures nothing { ShowsNothing shown.new }
+    requires rises { KeysRise entries.now }
+    requires first { (k : ℕ) (d : CellEntry) → k < begin → (slice_index_or entries.now k d).satellite < (slice_index_or entries.now begin d).satellite }
+    requires later { MayStep tracks.old (take begin entries.now) epoch }
+    requires width { length row.old ≡ length listed.now }
+    ensures taken { (old : List (Option Track)) → AreTaken old epoch (take begin entries.now) tracks.old → AreTaken old epoch (take result.end entries.now) tracks.new }
+    ensures later { MayStep tracks.new (take result.end entries.now) epoch }
+    ensures row { (old : List (Option Track)) (d : CellEntry) → AreTaken old epoch (take begin entries.now) tracks.old
+        → row.new ≡ map (λ code. or_nothing (shown_by old epoch entries.now (slice_index_or entries.now begin d).satellite code)) listed.now }
+    ensures listed { (old : List (Option Track)) (d : CellEntry) → AreTaken old epoch (take begin entries.now) tracks.old
+        → result.has_listed ≡ list_any (λ code. is_some (shown_by old epoch entries.now (slice_index_or entries.now begin d).satellite code)) listed.now }
+    ensures further { begin < result.end }
+    ensures within { result.end ≤ length entries.now }
+    ensures same { (k : ℕ) (d : CellEntry) → begin ≤ k → k < result.end → (slice_index_or entries.now k d).satellite ≡ (slice_index_or entries.now begin d).satellite }
+    ensures next { (k : ℕ) (d : CellEntry) → result.end ≤ k → k < length entries.now → (slice_index_or entries.now begin d).satellite < (slice_index_or entries.now k d).satellite }
 {
-    for entry in entries {
-        shown[place_of_signal(entry.satellite, entry.code)] = None;
+    let satellite = entries[begin].satellite;
+    blank(row);
+    let mut has_listed = false;
+    let mut end = begin;
+    'cells: while has_satellite(entries, end, satellite) {
+        if is_repeat(entries, end) {
+            end += 1;
+            continue;
+        }
+        has_listed |= take_entry(tracks, epoch, &entries[end], listed, row);
+        end += 1;
     }
+    Taken { end, has_listed }
 }
 
 /// Makes the table of a closed epoch from its cells, and keeps their phases as the last phases of
 /// their satellites and codes.
 ///
 /// A cell is compared with the last phase of its satellite and code, however old that is, also if
-/// its code is not listed. `shown` is room for what the cells show: it is empty before and after
-/// this call, so only the places that were used are cleared.
+/// its code is not listed. The cells rise, so those of a satellite stand together, and of a
+/// satellite and code the first one stands.
 pub(crate) fn fill_table(
     tracks: &mut Tracks,
-    shown: &mut [Option<Observed>],
     epoch: GpsMs,
     entries: &[CellEntry],
     listed: &[Code],
     table: &mut EpochTable,
 )
     requires ranges { All IsInRange entries.now }
+    requires rises { KeysRise entries.now }
     requires few { length listed.now ≤ 16 }
     requires later { AllBelow tracks.old epoch }
-    requires places { length shown.old ≡ SIGNALS }
-    requires nothing { ShowsNothing shown.old }
     ensures table { (below : List EpochSetView) → HasLastPhases tracks.old below
         → table.new ≡ table_of listed.now (record { epoch = epoch; cells = entries.now }) below }
     ensures phases { (below : List EpochSetView) → HasLastPhases tracks.old below
         → HasLastPhases tracks.new (record { epoch = epoch; cells = entries.now } ∷ below) }
     ensures later { (later : ℕ) → epoch < later → AllBelow tracks.new later }
     ensures width { HasWidth (length listed.now) table.new.rows }
-    ensures places { length shown.new ≡ SIGNALS }
-    ensures nothing { ShowsNothing shown.new }
 {
-    step_source(tracks, shown, epoch, entries, CellSource::Msm);
-    step_source(tracks, shown, epoch, entries, CellSource::Legacy);
-    put_rows(shown, epoch, listed, table);
-    clear(shown, entries);
+    table.restart(epoch);
+    let mut room = [NOTHING; 16];
+    let row = &mut room[..listed.len()];
+    let mut at = 0;
+    'satellites: while at < entries.len() {
+        let satellite = entries[at].satellite;
+        let taken = take_satellite(tracks, epoch, entries, at, listed, row);
+        if taken.has_listed {
+            table.push_row(satellite, row);
+        }
+        at = taken.end;
+    }
 }

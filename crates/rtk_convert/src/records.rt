@@ -1,6 +1,7 @@
 //! Writes the records of epochs as they close, and at the end of the epochs that are still open.
 
 ghost use Rattle.rtk_collect.specs.EpochSet.{EpochSetView};
+ghost use Rattle.rtk_collect.specs.Key.{KeysRise};
 ghost use Rattle.rtk_convert.specs.Failure.{NamesFailedWrites};
 ghost use Rattle.rtk_convert.specs.Steps.Faults.{IsOutFault};
 ghost use Rattle.rtk_convert.specs.Steps.ClosedText.{closing};
@@ -12,7 +13,7 @@ ghost use Rattle.rtk_obs.specs.Cell.{IsInRange};
 ghost use Rattle.rtk_obs.specs.Tracks.{RepresentsSteps};
 ghost use Rattle.rtk_obs.specs.declared.code.Code.{Code};
 ghost use Rattle.rtk_rinex.specs.Header.{position_view};
-ghost use Rattle.std.specs.Prelude.{◌≡◌, ◌≢◌, ℕ, ◌<◌, [], ◌∷◌, List, All, None, false, replicate, OnOk, IfOk, IfErr, IsErrOf, length, OnErr};
+ghost use Rattle.std.specs.Prelude.{◌≡◌, ◌≢◌, ℕ, ◌<◌, [], ◌∷◌, List, All, None, false, OnOk, IfOk, IfErr, IsErrOf, OnErr};
 
 use crate::epoch_rows::fill_table;
 use crate::fault::{ConvertFault, Stream};
@@ -20,39 +21,36 @@ use crate::output::put_record;
 use crate::setup::Setup;
 use rtk_collect::Left;
 use rtk_frame::Sink;
-use rtk_obs::{CellEntry, GpsMs, Position, SIGNALS, Tracks};
-use rtk_rinex::{EpochTable, Observed};
+use rtk_obs::{CellEntry, GpsMs, Position, Tracks};
+use rtk_rinex::EpochTable;
 use std::alloc::{AllocError, Global};
 use std::marker::Model;
 
 /// What is known of the closed epochs: the last phases, whether the header is written, and how many
 /// records are written.
 ///
-/// The table is kept from epoch to epoch, and so is the room for what its cells show: both are
-/// large, and a local would be cleared as a whole each time that its function is called. The three
-/// large parts lie on the heap, so that no function on the way to them needs a large stack.
+/// The table is kept from epoch to epoch: it is large, and a local would be cleared as a whole each
+/// time that its function is called. The two large parts lie on the heap, so that no function on the
+/// way to them needs a large stack.
 #[derive(Drop)]
 pub(crate) struct ClosedEpochs {
     tracks: Box<Tracks>,
-    shown: Vec<Option<Observed>>,
     table: Box<EpochTable>,
     header_out: bool,
     count: u64,
 }
 
-// Clauses don't see the table, which is filled anew for each epoch, nor the room, which is empty
-// between epochs. The first part of the invariant names every field, as that of a converter does.
+// Clauses don't see the table, which is filled anew for each epoch. The invariant names every field,
+// as that of a converter does.
 impl Model for ClosedEpochs {
-    ghost use Rattle.std.specs.Prelude.{◌≡◌, length};
-    ghost use Rattle.rtk_convert.specs.Steps.ShownCells.{ShowsNothing};
+    ghost use Rattle.std.specs.Prelude.{◌≡◌};
     ghost use Rattle.rtk_convert.specs.Records.{ClosedEpochsView};
 
     ghost Value = { ClosedEpochsView };
 
     ghost view = { λ r. record { tracks = r.tracks.value; header_out = r.header_out; count = r.count } };
 
-    ghost invariant = { λ r. (r ≡ record { tracks = r.tracks; shown = r.shown; table = r.table; header_out = r.header_out; count = r.count })
-        × (length r.shown.items ≡ 512) × ShowsNothing r.shown.items };
+    ghost invariant = { λ r. r ≡ record { tracks = r.tracks; table = r.table; header_out = r.header_out; count = r.count } };
 }
 
 // Tracks without a phase. This and the next function are alone in needing the stack for a large
@@ -72,15 +70,6 @@ fn new_table(alloc: Global, start: GpsMs) -> Result<Box<EpochTable>, AllocError>
     Ok(Box::new(alloc, EpochTable::new(start))?)
 }
 
-// Room for what the places of an epoch show, which is nothing yet.
-fn new_shown(alloc: Global) -> Result<Vec<Option<Observed>>, AllocError>
-    ensures { IfOk result (λ shown. shown.items ≡ replicate SIGNALS None) }
-{
-    let mut shown = Vec::new(alloc);
-    shown.resize(SIGNALS, None)?;
-    Ok(shown)
-}
-
 impl ClosedEpochs {
     /// Nothing is closed yet. The table has this time until the first epoch is closed.
     pub(crate) fn new(alloc: Global, start: GpsMs) -> Result<ClosedEpochs, AllocError>
@@ -89,7 +78,6 @@ impl ClosedEpochs {
     {
         Ok(ClosedEpochs {
             tracks: new_tracks(alloc)?,
-            shown: new_shown(alloc)?,
             table: new_table(alloc, start)?,
             header_out: false,
             count: 0,
@@ -123,6 +111,7 @@ impl ClosedEpochs {
         out: &mut O,
     ) -> Result<(), ConvertFault>
         requires ranges { All IsInRange cells.now }
+        requires rises { KeysRise cells.now }
         requires later { AllBelow self.old.tracks epoch }
         ensures follows { OnOk result ((below : List EpochSetView) → HasClosed self.old setup.now.head.listed below
             → HasClosed self.new setup.now.head.listed (record { epoch = epoch; cells = cells.now } ∷ below)) }
@@ -137,14 +126,7 @@ impl ClosedEpochs {
         ensures fault { IfErr result IsOutFault }
     {
         let listed = setup.head().codes();
-        fill_table(
-            &mut self.tracks,
-            &mut self.shown,
-            epoch,
-            cells,
-            listed,
-            &mut self.table,
-        );
+        fill_table(&mut self.tracks, epoch, cells, listed, &mut self.table);
         let table = &self.table;
         let has_record = put_record(alloc, setup, position, self.header_out, table, out)?;
         if !has_record {
