@@ -88,6 +88,23 @@ fn cut_input<R: Source, W: Sink>(
     }
 }
 
+// The same to standard output, all of it out before it is told as done.
+fn cut_to_output<R: Print + AllocGlobal, S: Source>(
+    rt: &R,
+    reader: &mut S,
+    part: Part,
+) -> Result<Option<CheckFault>, ToolFault>
+    requires step { IsStepOrNone part.every }
+{
+    let mut out = sink(rt.alloc(), GATHERED, io::writer(rt))?;
+    let done = cut_input(rt.alloc(), reader, part, &mut out);
+    let is_out = out.finish().is_ok();
+    match done {
+        Ok(None) if !is_out => Err(ToolFault::Output),
+        _ => done,
+    }
+}
+
 /// Writes a part of the file of this name to standard output. What `check` says of a file that it
 /// refuses goes to standard error.
 pub fn cut_named<R: Files + Input + Print + Eprint + AllocGlobal>(
@@ -102,14 +119,8 @@ pub fn cut_named<R: Files + Input + Print + Eprint + AllocGlobal>(
         return fail_to_open(rt, name);
     };
     let mut reader = Reads::new(text);
-    let Ok(mut out) = sink(rt.alloc(), GATHERED, io::writer(rt)) else {
-        return fail(rt, ToolFault::OutOfMemory);
-    };
-    let done = cut_input(rt.alloc(), &mut reader, part, &mut out);
-    let is_out = out.finish().is_ok();
-    match done {
-        Ok(None) if is_out => DONE,
-        Ok(None) => fail(rt, ToolFault::Output),
+    match cut_to_output(rt, &mut reader, part) {
+        Ok(None) => DONE,
         Ok(Some(fault)) => {
             let _told = eprintln!(rt; "{fault}");
             NOT_VALID

@@ -166,6 +166,35 @@ fn request_of<'a>(
     }
 }
 
+fn matches_of<'a>(
+    alloc: Global,
+    program: &mut Command<'a>,
+    words: &'a [&'a str],
+) -> Result<ArgMatches<'a>, ClapAnswer>
+    ensures { IfErr result HasStatus }
+{
+    match program.try_get_matches_from_mut(words) {
+        Ok(matches) => Ok(matches),
+        Err(error) => Err(clap_answer(alloc, &error)),
+    }
+}
+
+// What the words ask this program for.
+fn read_by<'a>(
+    alloc: Global,
+    program: &mut Command<'a>,
+    words: &'a [&'a str],
+) -> Result<Request<'a>, ClapAnswer>
+    ensures limits { IfOk result IsWithinLimits }
+    ensures status { IfErr result HasStatus }
+{
+    let matches = matches_of(alloc, program, words)?;
+    match request_of(alloc, &matches)? {
+        Some(request) => Ok(request),
+        None => Err(missing_word_answer(alloc, program)),
+    }
+}
+
 /// What the words of a command line ask for, or what clap answers. They begin after the name of the
 /// program.
 pub fn read_words<'a>(alloc: Global, words: &'a [&'a str]) -> Result<Request<'a>, ClapAnswer>
@@ -174,12 +203,5 @@ pub fn read_words<'a>(alloc: Global, words: &'a [&'a str]) -> Result<Request<'a>
     ensures status { IfErr result HasStatus }
 {
     let mut program = program_command(alloc)?;
-    let matches = match program.try_get_matches_from_mut(words) {
-        Ok(matches) => matches,
-        Err(error) => return Err(clap_answer(alloc, &error)),
-    };
-    match request_of(alloc, &matches)? {
-        Some(request) => Ok(request),
-        None => Err(missing_word_answer(alloc, &mut program)),
-    }
+    read_by(alloc, &mut program, words)
 }
