@@ -1,16 +1,11 @@
 -- The places of satellites and codes in a flat table.
-use Rattle.std.proofs.Common.{◌≡◌, ◌≢◌, ℕ, zero, suc, replicate, ◌+◌, ◌-◌, ◌*◌, ◌<◌, refl, arith, get_or, true, false, nat_eq, ◌&&◌, inl, inr}
+use Rattle.std.proofs.Common.{◌≡◌, ◌≢◌, ℕ, ◌+◌, ◌-◌, ◌*◌, ◌<◌, arith, true, false, nat_eq, ◌&&◌, inl, inr}
 use Rattle.std.proofs.lemmas.Bool.Decides.{nat_tests}
 use Rattle.std.proofs.lemmas.Bool.{cases_order}
 use Rattle.rtk_obs.specs.declared.code.Code.{Code}
 use Rattle.rtk_obs.specs.Code.{place_of}
 use Rattle.rtk_obs.specs.Tracks.{place_of_signal}
 use Rattle.rtk_obs.proofs.PublicLaws.{place_bound}
-
-pub get_or-replicate : {X : Type 0} (n i : ℕ) (y : X) → get_or (replicate n y) i y ≡ y
-get_or-replicate zero i y = refl
-get_or-replicate (suc n) zero y = refl
-get_or-replicate (suc n) (suc i) y = get_or-replicate n i y
 
 pub by_eq : {P : Type 0} (m n : ℕ) → (m ≡ n → P) → (m ≢ n → P) → P
 by_eq m n same other =
