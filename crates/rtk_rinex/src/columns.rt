@@ -109,9 +109,9 @@ fn put_thousandths(field: &mut [u8], thousandths: u64)
     put_pair(field, 2, thousandths % 100);
 }
 
-// Writes F14.3 of a value of at least a million, as ranges and phases of satellites are. So its
-// last nine digits have their columns whatever it is, and no loop looks for the first one.
-fn put_long_14_3(field: &mut [u8], magnitude: u64)
+// Writes F14.3 of a magnitude of at least a million. Its last nine digits have their columns
+// whatever it is, so that no loop looks for the first one.
+fn put_magnitude_14_3(field: &mut [u8], magnitude: u64)
     requires blank { field.old ≡ replicate 14 32 }
     requires long { 10 ^ 9 ≤ magnitude }
     requires fits { magnitude < 10 ^ 13 }
@@ -137,7 +137,6 @@ pub(crate) fn put_short_14_3(field: &mut [u8], magnitude: u64)
 }
 
 // Writes F14.3 of a sign and a magnitude in thousandths.
-#[inline(never)]
 fn put_signed_14_3(field: &mut [u8], negative: bool, magnitude: u64)
     requires blank { field.old ≡ replicate 14 32 }
     requires fits { magnitude < (if negative then 10 ^ 12 else 10 ^ 13) }
@@ -158,11 +157,18 @@ pub(crate) fn put_fixed_14_3(field: &mut [u8], value: i64)
     requires high { value ≤ℤ pos 9_999_999_999_999 }
     ensures { field.new ≡ fixed 3 14 value }
 {
-    if value >= 1_000_000_000 {
-        put_long_14_3(field, value.unsigned_abs());
-    } else {
-        put_signed_14_3(field, value < 0, value.unsigned_abs());
-    }
+    put_signed_14_3(field, value < 0, value.unsigned_abs());
+}
+
+/// Writes F14.3 of a value of at least a million, as ranges and phases of satellites are, over 14
+/// blanks.
+pub(crate) fn put_long_14_3(field: &mut [u8], value: i64)
+    requires blank { field.old ≡ replicate 14 32 }
+    requires low { pos 1_000_000_000 ≤ℤ value }
+    requires high { value ≤ℤ pos 9_999_999_999_999 }
+    ensures { field.new ≡ fixed 3 14 value }
+{
+    put_magnitude_14_3(field, value.unsigned_abs());
 }
 
 // F14.4 of a sign and a magnitude in ten-thousandths.
