@@ -98,7 +98,7 @@ fn put_strength(field: &mut [u8], strength: Option<u32>)
 {
     match strength {
         Some(strength) if strength > 0 && strength < 100_000 => {
-            put_short_14_3(&mut field[..14], u64::from(strength));
+            put_short_14_3(&mut field[..14], strength);
         }
         _ => put_any_observation(field, value_of_strength(strength), b' ', b' '),
     }
