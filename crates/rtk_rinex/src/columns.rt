@@ -72,26 +72,26 @@ pub(crate) fn put_decimal(field: &mut [u8], number: u64) -> usize
 }
 
 // Writes a number below 100 at the right end of two blanks.
-fn put_two(field: &mut [u8], number: u64)
+fn put_two(field: &mut [u8], number: u32)
     requires blank { field.old ≡ replicate 2 32 }
     requires number { number < 100 }
     ensures { field.new ≡ right 2 (decimal number) }
 {
     if number >= 10 {
-        put_pair(field, 0, number);
+        put_pair(field, 0, u64::from(number));
     } else {
         field[1] = b'0' + number as u8;
     }
 }
 
 // Writes a number below 10,000 at the right end of four blanks.
-fn put_four(field: &mut [u8], number: u64)
+fn put_four(field: &mut [u8], number: u32)
     requires blank { field.old ≡ replicate 4 32 }
     requires number { number < 10_000 }
     ensures { field.new ≡ right 4 (decimal number) }
 {
     if number >= 100 {
-        put_pair(field, 2, number % 100);
+        put_pair(field, 2, u64::from(number % 100));
         put_two(&mut field[..2], number / 100);
     } else {
         put_two(&mut field[2..], number);
@@ -99,35 +99,35 @@ fn put_four(field: &mut [u8], number: u64)
 }
 
 // Writes a point and three decimals over four blanks.
-fn put_thousandths(field: &mut [u8], thousandths: u64)
+fn put_thousandths(field: &mut [u8], thousandths: u32)
     requires blank { field.old ≡ replicate 4 32 }
     requires thousandths { thousandths < 1000 }
     ensures { field.new ≡ 46 ∷ last_digits 3 thousandths }
 {
     field[0] = b'.';
     field[1] = b'0' + (thousandths / 100) as u8;
-    put_pair(field, 2, thousandths % 100);
+    put_pair(field, 2, u64::from(thousandths % 100));
 }
 
-// Writes F14.3 of a value of at least a million, as ranges and phases of satellites are. So its
-// last nine digits have their columns whatever it is, and no loop looks for the first one.
-fn put_long_14_3(field: &mut [u8], magnitude: u64)
+// Writes F14.3 of a magnitude of at least a million. Its last nine digits have their columns
+// whatever it is, so that no loop looks for the first one.
+fn put_magnitude_14_3(field: &mut [u8], magnitude: u64)
     requires blank { field.old ≡ replicate 14 32 }
     requires long { 10 ^ 9 ≤ magnitude }
     requires fits { magnitude < 10 ^ 13 }
     ensures { field.new ≡ right 14 (decimals 3 false magnitude) }
 {
-    let rest = magnitude % 1_000_000_000;
+    let rest = (magnitude % 1_000_000_000) as u32;
     let (four, five) = (rest / 100_000, rest % 100_000);
     put_thousandths(&mut field[10..], five % 1000);
-    put_pair(field, 8, five / 1000);
-    put_pair(field, 6, four % 100);
-    put_pair(field, 4, four / 100);
-    put_four(&mut field[..4], magnitude / 1_000_000_000);
+    put_pair(field, 8, u64::from(five / 1000));
+    put_pair(field, 6, u64::from(four % 100));
+    put_pair(field, 4, u64::from(four / 100));
+    put_four(&mut field[..4], (magnitude / 1_000_000_000) as u32);
 }
 
 /// Writes F14.3 of a value below 100, as signal strengths are, over 14 blanks.
-pub(crate) fn put_short_14_3(field: &mut [u8], magnitude: u64)
+pub(crate) fn put_short_14_3(field: &mut [u8], magnitude: u32)
     requires blank { field.old ≡ replicate 14 32 }
     requires short { magnitude < 100_000 }
     ensures { field.new ≡ right 14 (decimals 3 false magnitude) }
@@ -137,7 +137,6 @@ pub(crate) fn put_short_14_3(field: &mut [u8], magnitude: u64)
 }
 
 // Writes F14.3 of a sign and a magnitude in thousandths.
-#[inline(never)]
 fn put_signed_14_3(field: &mut [u8], negative: bool, magnitude: u64)
     requires blank { field.old ≡ replicate 14 32 }
     requires fits { magnitude < (if negative then 10 ^ 12 else 10 ^ 13) }
@@ -158,11 +157,18 @@ pub(crate) fn put_fixed_14_3(field: &mut [u8], value: i64)
     requires high { value ≤ℤ pos 9_999_999_999_999 }
     ensures { field.new ≡ fixed 3 14 value }
 {
-    if value >= 1_000_000_000 {
-        put_long_14_3(field, value.unsigned_abs());
-    } else {
-        put_signed_14_3(field, value < 0, value.unsigned_abs());
-    }
+    put_signed_14_3(field, value < 0, value.unsigned_abs());
+}
+
+/// Writes F14.3 of a value of at least a million, as ranges and phases of satellites are, over 14
+/// blanks.
+pub(crate) fn put_long_14_3(field: &mut [u8], value: i64)
+    requires blank { field.old ≡ replicate 14 32 }
+    requires low { pos 1_000_000_000 ≤ℤ value }
+    requires high { value ≤ℤ pos 9_999_999_999_999 }
+    ensures { field.new ≡ fixed 3 14 value }
+{
+    put_magnitude_14_3(field, value.unsigned_abs());
 }
 
 // F14.4 of a sign and a magnitude in ten-thousandths.

@@ -5,8 +5,8 @@ ghost use Rattle.std.specs.List.{filter, list_any, sum_by};
 ghost use Rattle.rtk_rinex.specs.Record.{HasWidth, is_written, is_present, observation, observations, strength_digit, strength_value, lli_digit, has_observation, has_line, trim_end, satellite_line, epoch_date_text, epoch_line, record_text};
 
 use crate::columns::{
-    add, integer_3, put_fixed_14_3, put_last_digits, put_pair, put_short_14_3, seconds,
-    unsigned_11_7,
+    add, integer_3, put_fixed_14_3, put_last_digits, put_long_14_3, put_pair, put_short_14_3,
+    seconds, unsigned_11_7,
 };
 use crate::epoch_table::{EpochTable, Observed, SatelliteRow};
 use crate::head::Head;
@@ -27,8 +27,9 @@ fn is_written_value(value: i64) -> bool
     value != 0 && value >= LEAST_F14_3 && value <= GREATEST_F14_3
 }
 
-// Writes F14.3 and two digits over 16 blanks, or leaves the blanks.
-fn put_observation(field: &mut [u8], value: Option<i64>, first: u8, second: u8)
+// Writes F14.3 and two digits over 16 blanks, or leaves the blanks, whatever the value is.
+#[inline(never)]
+fn put_any_observation(field: &mut [u8], value: Option<i64>, first: u8, second: u8)
     requires blank { field.old ≡ replicate 16 32 }
     ensures value { field.new ≡ observation value first second }
     ensures len { length field.new ≡ 16 }
@@ -40,6 +41,23 @@ fn put_observation(field: &mut [u8], value: Option<i64>, first: u8, second: u8)
             field[15] = second;
         }
         _ => {}
+    }
+}
+
+// The same, in fewer steps for a value of the size of a range or phase of a satellite.
+#[inline(always)]
+fn put_observation(field: &mut [u8], value: Option<i64>, first: u8, second: u8)
+    requires blank { field.old ≡ replicate 16 32 }
+    ensures value { field.new ≡ observation value first second }
+    ensures len { length field.new ≡ 16 }
+{
+    match value {
+        Some(value) if value >= 1_000_000_000 && value <= GREATEST_F14_3 => {
+            put_long_14_3(&mut field[..14], value);
+            field[14] = first;
+            field[15] = second;
+        }
+        _ => put_any_observation(field, value, first, second),
     }
 }
 
@@ -80,9 +98,9 @@ fn put_strength(field: &mut [u8], strength: Option<u32>)
 {
     match strength {
         Some(strength) if strength > 0 && strength < 100_000 => {
-            put_short_14_3(&mut field[..14], u64::from(strength));
+            put_short_14_3(&mut field[..14], strength);
         }
-        _ => put_observation(field, value_of_strength(strength), b' ', b' '),
+        _ => put_any_observation(field, value_of_strength(strength), b' ', b' '),
     }
 }
 
@@ -127,9 +145,9 @@ fn is_present(value: Option<i64>) -> bool
 fn has_observation(observed: &Observed) -> bool
     ensures { result ≡ has_observation observed.now }
 {
-    is_present(observed.range_mm)
+    observed.strength_millidbhz.is_some()
+        || is_present(observed.range_mm)
         || is_present(observed.phase_millicycles)
-        || observed.strength_millidbhz.is_some()
 }
 
 // Is an observation of the satellite written, so that it has a line?
