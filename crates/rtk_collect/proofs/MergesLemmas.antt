@@ -1,15 +1,14 @@
 -- Cells whose keys rise join kept ones: from the greatest key down, each takes its last place.
-use Rattle.std.proofs.Common.{◌≡◌, ◌≢◌, ℕ, zero, suc, ◌+◌, ◌-◌, ◌<◌, ◌≤◌, List, [], ◌∷◌, ◌++◌, length, get_or, take, drop, set, Some, refl, ap, append_assoc, sym, ◌∙◌, arith, inl, inr, subst}
-use Rattle.std.specs.List.{All, AllByRecursion}
+use Rattle.std.proofs.Common.{◌≡◌, ℕ, zero, suc, ◌+◌, ◌-◌, ◌<◌, ◌≤◌, List, [], ◌∷◌, ◌++◌, length, get_or, take, drop, set, Some, refl, ap, append_assoc, sym, ◌∙◌, arith, inl, inr, subst}
+use Rattle.std.specs.List.{AllByRecursion}
 use Rattle.std.proofs.lemmas.Bool.{cases_order, ne_eqb, eq-eqb}
-use Rattle.std.proofs.lemmas.List.{append-nil, length-append, length-set, length-take-le, length-drop, take-append-drop, take-set-le, drop-set, get_or-take, take_at, drop_all}
-use Rattle.std.proofs.lemmas.List.Elements.{recursion_from_All}
-use Rattle.std.proofs.Math.Seq.{take-length, take-suc}
+use Rattle.std.proofs.lemmas.List.{append-nil, length-append, length-set, length-take-le, take-append-drop, take-set-le, drop-set, get_or-take, take_at, drop_all}
+use Rattle.std.proofs.Math.Seq.{take-length, take-suc, set-append_seam}
 use Rattle.rtk_obs.specs.declared.cell.CellEntry.{CellEntry}
 use Rattle.rtk_collect.specs.Key.{key, Above, KeysRise}
 use Rattle.rtk_collect.specs.EpochSet.{with_cell, with_cells, cell_under, fresh}
 use Rattle.rtk_collect.proofs.CellsLemmas.{with_cell-new, with_cell-past, with_cell-same, with_cell-longer, with_cell-sets, with_cells-each, with_cells-rises, with_cells-keeps, above-all, drop-at, fresh-length}
-use Rattle.rtk_collect.proofs.RisingLemmas.{rises-before, length-with}
+use Rattle.rtk_collect.proofs.RisingLemmas.{rises-before, join-after, length-with}
 
 -- ---- greater kept cells stay where they are
 
@@ -97,25 +96,7 @@ less-than-at k (suc i) d xs r l h =
     let e : suc i - 1 ≡ i = omega arith in
     less-than-all k i d xs r (omega arith) (subst (λ (t : ℕ). key (get_or xs t d) < k) e (h (omega arith)))
 
--- ---- kept cells that move up
-
-pub record Moves (old list : List CellEntry) (left gap wanted stay : ℕ) : Type 0 where
-  pub few : stay ≤ left
-  pub size : length list ≡ length old
-  pub before : take stay list ≡ take stay old
-  pub after : drop (stay + gap) list ≡ drop stay (take left old) ++ drop (left + gap) old
-  pub greater : AllByRecursion (IsGreater wanted) (drop stay (take left old))
-
-pub moves-first : (old : List CellEntry) (left gap wanted : ℕ) → left + gap ≤ length old → Moves old old left gap wanted left
-moves-first old left gap wanted l =
-    let none : drop left (take left old) ≡ [] = drop_all left (take left old) (omega (arith, length-take-le left old (omega arith))) in
-    record {
-      few = omega arith;
-      size = refl;
-      before = refl;
-      after = sym (ap (λ t. t ++ drop (left + gap) old) none);
-      greater = rw none tt;
-    }
+-- ---- lists with the same first cells
 
 pub same-before : (old list : List CellEntry) (n i : ℕ) (d : CellEntry) → take n list ≡ take n old → i < n → get_or list i d ≡ get_or old i d
 same-before old list n i d h l = sym (get_or-take n list i d l) ∙ ap (λ t. get_or t i d) h ∙ get_or-take n old i d l
@@ -126,30 +107,8 @@ take-shorter (suc s) zero xs h = absurd (omega arith)
 take-shorter (suc s) (suc n) [] h = refl
 take-shorter (suc s) (suc n) (x ∷ xs) h = ap (λ t. x ∷ t) (take-shorter s n xs (omega arith))
 
-pub take-fewer : (s n : ℕ) (xs ys : List CellEntry) → s ≤ n → take n xs ≡ take n ys → take s xs ≡ take s ys
+take-fewer : (s n : ℕ) (xs ys : List CellEntry) → s ≤ n → take n xs ≡ take n ys → take s xs ≡ take s ys
 take-fewer s n xs ys l h = sym (take-shorter s n xs l) ∙ ap (take s) h ∙ take-shorter s n ys l
-
--- the last of them moves
-pub moves-next : (old list : List CellEntry) (left gap wanted stay : ℕ) (d : CellEntry) → left + gap ≤ length old → Moves old list left gap wanted stay → 0 < stay
-    → wanted < key (get_or list (stay - 1) d) → Moves old (set list (stay - 1 + gap) (get_or list (stay - 1) d)) left gap wanted (stay - 1)
-moves-next old list left gap wanted zero d l m p h = absurd (omega arith)
-moves-next old list left gap wanted (suc s) d l m p h =
-    let e : suc s - 1 ≡ s = omega arith in
-    let x = get_or list s d in
-    let few : suc s ≤ left = m.few in
-    let size : length (take left old) ≡ left = length-take-le left old (omega arith) in
-    let one : s + 1 ≡ suc s = omega arith in
-    let past : s + gap + 1 ≡ suc s + gap = omega arith in
-    let here : drop s (take left old) ≡ x ∷ drop (suc s) (take left old) =
-    drop-at s d (take left old) (omega (arith, size)) ∙ ap (λ t. get_or (take left old) s d ∷ drop t (take left old)) one
-    ∙ ap (λ t. t ∷ drop (suc s) (take left old)) (get_or-take left old s d (omega arith) ∙ sym (same-before old list (suc s) s d m.before (omega arith))) in
-    subst (λ (t : ℕ). Moves old (set list (t + gap) (get_or list t d)) left gap wanted t) (sym e) (record {
-      few = omega arith;
-      size = length-set list (s + gap) x ∙ m.size;
-      before = take-set-le s list (s + gap) x (omega arith) ∙ take-fewer s (suc s) list old (omega arith) m.before;
-      after = drop-set list (s + gap) x (omega (arith, m.size)) ∙ ap (λ t. x ∷ drop t list) past ∙ ap (λ t. x ∷ t) m.after ∙ sym (ap (λ t. t ++ drop (left + gap) old) here);
-      greater = rw here ((subst (λ (t : ℕ). wanted < key (get_or list t d)) e h), m.greater);
-    })
 
 -- ---- what stands in its place, and what is still to be put
 
@@ -184,49 +143,32 @@ puts-last cells kept list left gap p =
     let none : left + gap ≡ left = sym p.count ∙ size in
     sym (take-append-drop left list) ∙ ap (λ t. t ++ drop left list) p.before ∙ ap (λ t. take left kept ++ drop t list) (sym none) ∙ p.items
 
--- kept cells with greater keys move up
-pub puts-moved : (cells kept list new : List CellEntry) (n left gap stay : ℕ) (d : CellEntry) → KeysRise cells → Puts cells kept list (n + 1) left gap
-    → Moves list new left gap (key (get_or cells n d)) stay → Puts cells kept new (n + 1) stay gap
-puts-moved cells kept list new n left gap stay d r p m =
-    let c = get_or cells n d in
-    let all : take (n + 1) cells ≡ take n cells ++ c ∷ [] = take-last n d cells (omega (arith, p.next)) in
-    let low : AllByRecursion (IsAtMost (key c)) (take (n + 1) cells) = rw all (at-most-last (take n cells) c (subst KeysRise all (rises-take (n + 1) cells r))) in
-    let split : take left kept ≡ take stay kept ++ drop stay (take left list) =
-    sym (take-append-drop stay (take left kept)) ∙ ap (λ t. t ++ drop stay (take left kept)) (take-shorter stay left kept m.few) ∙ ap (λ t. take stay kept ++ drop stay t) (sym p.before) in
-    let joined : with_cells (take (n + 1) cells) (take left kept) ≡ with_cells (take (n + 1) cells) (take stay kept) ++ drop stay (take left list) =
-    ap (with_cells (take (n + 1) cells)) split ∙ cells-before (key c) (take (n + 1) cells) (take stay kept) (drop stay (take left list)) low m.greater in
-    let moved : length (drop stay (take left list)) ≡ left - stay = length-drop stay (take left list) ∙ ap (λ t. t - stay) (length-take-le left list (omega (arith, p.size))) in
-    record {
-      next = p.next;
-      left = omega (arith, m.few, p.left);
-      size = omega (arith, m.few, p.size, m.size);
-      items = ap (λ t. with_cells (take (n + 1) cells) (take stay kept) ++ t) m.after ∙ sym (append_assoc (with_cells (take (n + 1) cells) (take stay kept)) (drop stay (take left list)) (drop (left + gap) list))
-          ∙ ap (λ t. t ++ drop (left + gap) list) (sym joined) ∙ p.items;
-      before = m.before ∙ take-fewer stay left list kept m.few p.before;
-      count = omega (arith, moved, m.few, p.count, ap length joined, length-append (with_cells (take (n + 1) cells) (take stay kept)) (drop stay (take left list)));
-    }
+-- the greatest kept cell is greater than the cells that are still to be put
+module _ (cells kept list : List CellEntry) (n s gap : ℕ) (d : CellEntry) (rising : KeysRise cells) (p : Puts cells kept list (n + 1) (s + 1) gap)
+    (greater : key (get_or cells n d) < key (get_or list s d)) where
+  kept-last : with_cells (take (n + 1) cells) (take (s + 1) kept) ≡ with_cells (take (n + 1) cells) (take s kept) ++ get_or list s d ∷ []
+  kept-last =
+      let c = get_or cells n d in
+      let x = get_or list s d in
+      let all : take (n + 1) cells ≡ take n cells ++ c ∷ [] = take-last n d cells (omega (arith, p.next)) in
+      let low : AllByRecursion (IsAtMost (key c)) (take (n + 1) cells) = rw all (at-most-last (take n cells) c (subst KeysRise all (rises-take (n + 1) cells rising))) in
+      let held : take (s + 1) kept ≡ take s kept ++ x ∷ [] = take-last s d kept (omega (arith, p.left)) ∙ ap (λ t. take s kept ++ t ∷ []) (sym (same-before kept list (s + 1) s d p.before (omega arith))) in
+      ap (with_cells (take (n + 1) cells)) held ∙ cells-before (key c) (take (n + 1) cells) (take s kept) (x ∷ []) low (greater, tt)
 
--- as the code does it
-pub puts-turn : (cells kept list new : List CellEntry) (next left gap wanted stay : ℕ) (d : CellEntry) → KeysRise cells → Puts cells kept list next left gap → 0 < next
-    → wanted ≡ key (get_or cells (next - 1) d) → stay ≤ left → length new ≡ length list → take stay new ≡ take stay list
-    → drop (stay + gap) new ≡ drop stay (take left list) ++ drop (left + gap) list → All (IsGreater wanted) (drop stay (take left list)) → Puts cells kept new (next - 1 + 1) stay gap
-puts-turn cells kept list new next left gap wanted stay d r p l w few size before after greater =
-    let e : next ≡ next - 1 + 1 = omega arith in
-    puts-moved cells kept list new (next - 1) left gap stay d r (subst (λ (t : ℕ). Puts cells kept list t left gap) e p) (record {
-      few = few;
-      size = size;
-      before = before;
-      after = after;
-      greater = recursion_from_All (IsGreater (key (get_or cells (next - 1) d))) (drop stay (take left list)) (subst (λ (t : ℕ). All (IsGreater t) (drop stay (take left list))) w greater);
-    })
-
--- the last one that stays has a lesser key
-pub less-at : (list new : List CellEntry) (stay wanted k : ℕ) (d : CellEntry) → take stay new ≡ take stay list → wanted ≡ k → (0 < stay → key (get_or list (stay - 1) d) ≤ wanted)
-    → (0 < stay → key (get_or new (stay - 1) d) ≢ wanted) → 0 < stay → key (get_or new (stay - 1) d) < k
-less-at list new stay wanted k d before w low other l =
-    let same : key (get_or new (stay - 1) d) ≡ key (get_or list (stay - 1) d) = ap key (same-before list new stay (stay - 1) d before (omega arith)) in
-    let n = other l in
-    omega (arith, same, w, low l, n)
+  puts-moved : Puts cells kept (set list (s + gap) (get_or list s d)) (n + 1) s gap
+  puts-moved =
+      let x = get_or list s d in
+      let w = with_cells (take (n + 1) cells) (take s kept) in
+      let past : s + gap + 1 ≡ s + 1 + gap = omega arith in
+      record {
+        next = p.next;
+        left = omega (arith, p.left);
+        size = omega (arith, p.size, length-set list (s + gap) x);
+        items = ap (λ t. w ++ t) (drop-set list (s + gap) x (omega (arith, p.size))) ∙ sym (append_assoc w (x ∷ []) (drop (s + gap + 1) list)) ∙ ap (λ t. t ++ drop (s + gap + 1) list) (sym kept-last)
+            ∙ ap (λ t. with_cells (take (n + 1) cells) (take (s + 1) kept) ++ drop t list) past ∙ p.items;
+        before = take-set-le s list (s + gap) x (omega arith) ∙ take-fewer s (s + 1) list kept (omega arith) p.before;
+        count = omega (arith, p.count, ap length kept-last, length-append w (x ∷ []));
+      }
 
 -- a cell is kept under the key
 pub puts-same : (cells kept list : List CellEntry) (n left gap : ℕ) (d : CellEntry) → KeysRise kept → Puts cells kept list (n + 1) left gap → 0 < left
@@ -287,6 +229,46 @@ module _ (cells kept list : List CellEntry) (n left gap : ℕ) (d : CellEntry) (
         count = omega (arith, counted);
       }
 
+-- ---- the same at the places of the loop
+
+module _ (cells kept list : List CellEntry) (next left gap : ℕ) (d : CellEntry) (rising : KeysRise cells) (rises : KeysRise kept) (p : Puts cells kept list next left gap)
+    (more : 0 < next) where
+  from-next : Puts cells kept list (next - 1 + 1) left gap
+  from-next = let e : next ≡ next - 1 + 1 = omega arith in subst (λ (t : ℕ). Puts cells kept list t left gap) e p
+
+  pub put-kept : 0 < left → key (get_or cells (next - 1) d) < key (get_or list (left - 1) d) → Puts cells kept (set list (left - 1 + gap) (get_or list (left - 1) d)) next (left - 1) gap
+  put-kept l h =
+      let e : left ≡ left - 1 + 1 = omega arith in
+      let back : next - 1 + 1 ≡ next = omega arith in
+      subst (λ (t : ℕ). Puts cells kept (set list (left - 1 + gap) (get_or list (left - 1) d)) t (left - 1) gap) back
+      (puts-moved cells kept list (next - 1) (left - 1) gap d rising (subst (λ (t : ℕ). Puts cells kept list (next - 1 + 1) t gap) e from-next) h)
+
+  pub put-same : 0 < left → key (get_or list (left - 1) d) ≡ key (get_or cells (next - 1) d) → Puts cells kept list (next - 1) left gap
+  put-same l h = puts-same cells kept list (next - 1) left gap d rises from-next l h
+
+  pub put-room : 0 < left → key (get_or list (left - 1) d) < key (get_or cells (next - 1) d) → 1 ≤ gap
+  put-room l h = puts-room cells kept list (next - 1) left gap d rising rises from-next (λ z. h)
+
+  pub put-new : 0 < left → key (get_or list (left - 1) d) < key (get_or cells (next - 1) d) → Puts cells kept (set list (left + (gap - 1)) (get_or cells (next - 1) d)) (next - 1) left (gap - 1)
+  put-new l h = puts-new cells kept list (next - 1) left gap d rising rises from-next (λ z. h)
+
+-- no kept cell is left, or no cell that joins
+pub end-room : (cells kept list : List CellEntry) (next left gap : ℕ) → KeysRise cells → Puts cells kept list next left gap → (0 < left → 0 < next → ⊥) → next ≤ length list
+end-room cells kept list zero left gap r p h = omega arith
+end-room cells kept list (suc n) zero gap r p h =
+    let alone : with_cells (take (suc n) cells) [] ≡ take (suc n) cells = (join-after (take (suc n) cells) [] (rises-take (suc n) cells r)).0 in
+    let all : 0 + gap ≡ suc n = sym p.count ∙ ap length alone ∙ length-take-le (suc n) cells p.next in
+    omega (arith, p.size, all)
+end-room cells kept list (suc n) (suc s) gap r p h = absurd (h (omega arith) (omega arith))
+
+pub puts-end : (cells kept list : List CellEntry) (next left gap : ℕ) → KeysRise cells → Puts cells kept list next left gap → (0 < left → 0 < next → ⊥) → take next cells ++ drop next list ≡ with_cells cells kept
+puts-end cells kept list zero left gap r p h = puts-last cells kept list left gap p
+puts-end cells kept list (suc n) zero gap r p h =
+    let alone : with_cells (take (suc n) cells) [] ≡ take (suc n) cells = (join-after (take (suc n) cells) [] (rises-take (suc n) cells r)).0 in
+    let all : 0 + gap ≡ suc n = sym p.count ∙ ap length alone ∙ length-take-le (suc n) cells p.next in
+    ap (λ t. t ++ drop (suc n) list) (sym alone) ∙ ap (λ t. with_cells (take (suc n) cells) [] ++ drop t list) (sym all) ∙ p.items
+puts-end cells kept list (suc n) (suc s) gap r p h = absurd (h (omega arith) (omega arith))
+
 -- ---- the list that grows by as many places as cells are new
 
 module _ (cells kept all : List CellEntry) (n count : ℕ) (size : n ≡ length kept) (new : count ≡ fresh cells kept) (grown : all ≡ kept ++ take count cells) where
@@ -307,3 +289,15 @@ module _ (cells kept all : List CellEntry) (n count : ℕ) (size : n ≡ length 
       let same : put ≡ with_cells cells kept = e ∙ ap (with_cells cells) grown-front in
       let size : length put ≡ len = ap length same ∙ length-with cells kept rising rises ∙ (let r = grown-room in let q : fresh cells (take n all) ≡ fresh cells kept = ap (fresh cells) grown-front in omega (arith, size, l, r, q)) in
       take_at put (drop (length put) items) len size ∙ same
+
+-- ---- cells at the first places of a list
+pub first-next : (cells old : List CellEntry) (at : ℕ) (d : CellEntry) → at < length cells → at < length old
+    → set (take at cells ++ drop at old) at (get_or cells at d) ≡ take (at + 1) cells ++ drop (at + 1) old
+first-next cells old at d l k =
+    let c = get_or cells at d in
+    let size : length (take at cells) ≡ at = length-take-le at cells (omega arith) in
+    ap (λ t. set (take at cells ++ t) at c) (drop-at at d old k)
+    ∙ ap (λ n. set (take at cells ++ get_or old at d ∷ drop (at + 1) old) n c) (sym size)
+    ∙ set-append_seam (take at cells) (get_or old at d) (drop (at + 1) old) c
+    ∙ sym (append_assoc (take at cells) (c ∷ []) (drop (at + 1) old))
+    ∙ ap (λ t. t ++ drop (at + 1) old) (sym (take-last at d cells l))

@@ -1,15 +1,16 @@
 -- Cells that rise join an epoch without cells as they are.
-use Rattle.std.proofs.Common.{◌≡◌, ℕ, zero, suc, ◌+◌, ◌-◌, ◌<◌, ◌≤◌, List, [], ◌∷◌, ◌++◌, length, get_or, take, drop, true, Option, None, Some, refl, ap, append_assoc, sym, ◌∙◌, arith, inl, inr, subst}
+use Rattle.std.proofs.Common.{◌≡◌, ℕ, zero, suc, ◌+◌, ◌-◌, ◌*◌, ◌<◌, ◌≤◌, List, [], ◌∷◌, ◌++◌, length, get_or, take, drop, true, Option, None, Some, refl, ap, append_assoc, sym, ◌∙◌, arith, inl, inr, subst}
 use Rattle.std.specs.Prelude.{◌==◌, if◌then◌else◌}
 use Rattle.std.specs.List.{AllByRecursion}
 use Rattle.std.proofs.lemmas.Bool.{cases_order, ne_eqb, both_ways}
 use Rattle.std.proofs.lemmas.List.{append-nil}
 use Rattle.rtk_obs.specs.declared.cell.CellEntry.{CellEntry}
 use Rattle.rtk_collect.specs.declared.conflicts.SatelliteCode.{SatelliteCode}
-use Rattle.rtk_collect.specs.Key.{key, Above, KeysRise}
+use Rattle.rtk_collect.specs.Key.{key, rank_of, Above, KeysRise}
 use Rattle.rtk_collect.specs.EpochSet.{with_cell, with_cells, cell_under, one_more, fresh, conflict, conflicts}
 use Rattle.rtk_collect.specs.Steps.OrderedPlaces.{lower}
 use Rattle.rtk_collect.proofs.CellsLemmas.{with_cell-new, with_cell-past, with_cell-same, with_cell-rises, with_cell-sets, with_cell-absent, lower-length, length-insert, fresh-length, drop-at}
+use Rattle.rtk_collect.proofs.EqualityLemmas.{rank-less}
 use Rattle.rtk_collect.proofs.JoinsLemmas.{whole}
 
 -- the search for two neighbours that do not rise
@@ -31,6 +32,10 @@ rises-more (suc i) d xs p r l h =
     let more : suc (suc i) ≡ suc i + 1 = omega arith in
     subst (λ (t : ℕ). KeysRise (take t xs)) more (rises-next i d xs r l (subst (λ (t : ℕ). key (get_or xs t d) < key (get_or xs (suc i) d)) e h))
 
+-- a greater place makes a greater key
+pub place-rises : (c d : CellEntry) (p q : ℕ) → p * 2 + rank_of c.cell.source ≡ key c → q * 2 + rank_of d.cell.source ≡ key d → p < q → key c < key d
+place-rises c d p q a b h = omega (arith, a, b, h, rank-less c.cell.source, rank-less d.cell.source)
+
 pub rises-whole : (i : ℕ) (xs : List CellEntry) → KeysRise (take i xs) → length xs ≤ i → KeysRise xs
 rises-whole i xs r l = subst KeysRise (whole i xs l).0 r
 
@@ -48,7 +53,7 @@ under-none : (c : CellEntry) (kept more : List CellEntry) → KeysRise (kept ++ 
 under-none c [] more r = refl
 under-none c (x ∷ xs) more r = let h : key x < key c = rises-before x c xs more r in rw (ne_eqb (key c) (key x) (λ q. omega arith)) (under-none c xs more r.1)
 
-join-after : (cells kept : List CellEntry) → KeysRise (kept ++ cells) → (with_cells cells kept ≡ kept ++ cells) × (conflicts cells kept ≡ [])
+pub join-after : (cells kept : List CellEntry) → KeysRise (kept ++ cells) → (with_cells cells kept ≡ kept ++ cells) × (conflicts cells kept ≡ [])
 join-after [] kept r = (sym (append-nil kept), refl)
 join-after (c ∷ more) kept r =
     let s : with_cell c kept ≡ kept ++ c ∷ [] = last-cell c kept more r in

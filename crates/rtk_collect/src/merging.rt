@@ -1,12 +1,20 @@
 //! The cells of a message join the cells of their epoch.
 
-ghost use Rattle.std.specs.Prelude.{◌≡◌, ◌≢◌, ◌≤◌, ◌<◌, ◌+◌, ◌-◌, [], ◌∷◌, ◌++◌, not, length, take, drop, slice_index_or, vec_len, vec_capacity, IsTrue, All, if◌then◌else◌};
-ghost use Rattle.rtk_collect.specs.Key.{key, KeysRise};
+ghost use Rattle.std.specs.Prelude.{◌≡◌, ◌≢◌, ◌≤◌, ◌<◌, ◌+◌, ◌-◌, ◌*◌, [], ◌∷◌, ◌++◌, not, length, take, drop, slice_index_or, vec_len, vec_capacity, IsTrue, All, if◌then◌else◌};
+ghost use Rattle.rtk_collect.specs.Key.{key, rank_of, KeysRise};
 ghost use Rattle.rtk_collect.specs.EpochSet.{with_cell, with_cells, cell_under, fresh, conflict, conflicts};
 ghost use Rattle.rtk_collect.specs.Steps.OrderedPlaces.{lower};
 
 use crate::conflicts::{Conflicts, SatelliteCode};
 use rtk_obs::{CellEntry, CellSource};
+
+// The place of the satellite and code of a cell among all, by which keys rise first.
+fn place_of_code(entry: &CellEntry) -> usize
+    ensures value { result * 2 + rank_of entry.now.cell.source ≡ key entry.now }
+    ensures bound { result < 65536 }
+{
+    usize::from(entry.satellite) * 16 + entry.code.place()
+}
 
 // The key of a cell, by which the cells of an epoch rise: satellite, code and kind of message.
 fn key_of(entry: &CellEntry) -> usize
@@ -16,24 +24,24 @@ fn key_of(entry: &CellEntry) -> usize
         CellSource::Msm => 0,
         CellSource::Legacy => 1,
     };
-    (usize::from(entry.satellite) * 16 + entry.code.place()) * 2 + rank
+    place_of_code(entry) * 2 + rank
 }
 
-/// Whether the keys of the cells rise.
+/// Whether the keys of the cells rise, each with a greater satellite or code than the one before it.
 pub(crate) fn has_rising_keys(cells: &[CellEntry]) -> bool
     ensures { IsTrue result → KeysRise cells.now }
 {
     if cells.is_empty() {
         return true;
     }
-    let mut last = key_of(&cells[0]);
+    let mut last = place_of_code(&cells[0]);
     let mut at = 1;
     while at < cells.len() {
-        let key = key_of(&cells[at]);
-        if last >= key {
+        let place = place_of_code(&cells[at]);
+        if last >= place {
             return false;
         }
-        last = key;
+        last = place;
         at += 1;
     }
     true
@@ -126,34 +134,46 @@ pub(crate) fn merge_rising(list: &mut [CellEntry], kept: usize, cells: &[CellEnt
     let mut left = kept;
     let mut next = cells.len();
     let mut gap = list.len() - kept;
-    while next > 0 {
-        next -= 1;
-        let cell = &cells[next];
-        let wanted = key_of(cell);
-        left = move_greater(list, left, gap, wanted);
-        if !ends_with_key(list, left, wanted) {
-            gap -= 1;
-            list[left + gap] = *cell;
+    let mut last = key_before(list, left);
+    let mut wanted = key_before(cells, next);
+    while left > 0 && next > 0 {
+        if last > wanted {
+            left -= 1;
+            list[left + gap] = list[left];
+            last = key_before(list, left);
+            continue;
         }
+        next -= 1;
+        if last < wanted {
+            gap -= 1;
+            list[left + gap] = cells[next];
+        }
+        wanted = key_before(cells, next);
     }
+    put_first(list, &cells[..next]);
 }
 
-// Moves the cells before `left` whose keys are greater than the wanted one up by `gap` places, and
-// says how many stay.
-fn move_greater(list: &mut [CellEntry], left: usize, gap: usize, wanted: usize) -> usize
-    requires { left + gap ≤ length list.old }
-    ensures few { result ≤ left }
-    ensures before { take result list.new ≡ take result list.old }
-    ensures after { drop (result + gap) list.new ≡ drop result (take left list.old) ++ drop (left + gap) list.old }
-    ensures greater { All (λ c. wanted < key c) (drop result (take left list.old)) }
-    ensures rest { 0 < result → ((d : CellEntry) → key (slice_index_or list.old (result - 1) d) ≤ wanted) }
+// The key of the cell before a place. At the first place it is asked for and not looked at.
+fn key_before(cells: &[CellEntry], at: usize) -> usize
+    requires { at ≤ length cells.now }
+    ensures { 0 < at → ((d : CellEntry) → result ≡ key (slice_index_or cells.now (at - 1) d)) }
 {
-    let mut stay = left;
-    while stay > 0 && key_of(&list[stay - 1]) > wanted {
-        stay -= 1;
-        list[stay + gap] = list[stay];
+    if at == 0 {
+        return 0;
     }
-    stay
+    key_of(&cells[at - 1])
+}
+
+// Puts cells at the first places of a list.
+fn put_first(list: &mut [CellEntry], cells: &[CellEntry])
+    requires { length cells.now ≤ length list.old }
+    ensures { list.new ≡ cells.now ++ drop (length cells.now) list.old }
+{
+    let mut at = 0;
+    while at < cells.len() {
+        list[at] = cells[at];
+        at += 1;
+    }
 }
 
 // The satellite and the code of a cell.
@@ -164,15 +184,6 @@ fn satellite_code(entry: &CellEntry) -> SatelliteCode
         satellite: entry.satellite,
         code: entry.code,
     }
-}
-
-// Does the last one of the first `left` cells have the wanted key?
-fn ends_with_key(list: &[CellEntry], left: usize, wanted: usize) -> bool
-    requires { left ≤ length list.now }
-    ensures yes { IsTrue result → (0 < left) × ((d : CellEntry) → key (slice_index_or list.now (left - 1) d) ≡ wanted) }
-    ensures no { IsTrue (not result) → 0 < left → ((d : CellEntry) → key (slice_index_or list.now (left - 1) d) ≢ wanted) }
-{
-    left > 0 && key_of(&list[left - 1]) == wanted
 }
 
 // Adds a cell at its place if its key is new, and says whether it conflicts.
