@@ -82,6 +82,7 @@ fields_by_recursion : (ss : List Satellite) → FieldsFit (flat_map satellite_ta
 fields_by_recursion [] h = tt
 fields_by_recursion (s ∷ ss) h = (
   record {
+    l1_range = h.1.1.0;
     l1_lock_indicator = h.1.1.1.1.0;
     l2_lock_indicator = h.1.1.1.1.1.1.1.1.1.1.0;
     l1_cnr = h.1.1.1.1.1.1.0;

@@ -65,8 +65,7 @@ fn make_room(list: &mut ArrayVec<CellEntry, 64>, place: usize)
     list.push(CellEntry::default());
 }
 
-/// Puts an entry at this place of a list, in place of what stands there or after all of it. What
-/// stands behind it is not kept.
+/// Puts an entry at this place of a list: over what stands there, or after all of it.
 pub(crate) fn put_entry(list: &mut ArrayVec<CellEntry, 64>, place: usize, entry: CellEntry)
     requires place { place ≤ length list.old.items }
     requires room { place < 64 }

@@ -44,15 +44,16 @@ fn l2_code(indicator: u8) -> Code
 
 // The pseudorange of L1, in 0.0005 m.
 fn l1_length(satellite: &Satellite) -> i64
+    requires { satellite.now.l1_range < 2 ^ 24 }
     ensures value { result ≡ length_of satellite.now }
-    ensures bound { unsigned_abs result ≤ 2 ^ 39 }
+    ensures bound { unsigned_abs result ≤ 155_000_000_000 }
 {
     40 * i64::from(satellite.l1_range) + 599_584_916 * i64::from(satellite.modulus_ambiguity)
 }
 
 // The range of L1; an invalid mark of its phase (DF012) leaves out the range too.
 fn l1_range(length: i64, offset: Option<i32>) -> Option<i64>
-    requires { unsigned_abs length ≤ 2 ^ 39 }
+    requires { unsigned_abs length ≤ 155_000_000_000 }
     ensures { result ≡ l1_range_of length offset }
 {
     match offset {
@@ -63,7 +64,7 @@ fn l1_range(length: i64, offset: Option<i32>) -> Option<i64>
 
 // The pseudorange of L2, in 0.0005 m.
 fn l2_length(length: i64, difference: i32) -> i64
-    requires { unsigned_abs length ≤ 2 ^ 39 }
+    requires { unsigned_abs length ≤ 155_000_000_000 }
     ensures value { result ≡ l2_length length difference }
     ensures bound { unsigned_abs result ≤ 2 ^ 40 }
 {
@@ -71,7 +72,7 @@ fn l2_length(length: i64, difference: i32) -> i64
 }
 
 fn l2_range(length: i64, difference: Option<i32>) -> Option<i64>
-    requires { unsigned_abs length ≤ 2 ^ 39 }
+    requires { unsigned_abs length ≤ 155_000_000_000 }
     ensures { result ≡ l2_range_of length difference }
 {
     match difference {
@@ -81,7 +82,7 @@ fn l2_range(length: i64, difference: Option<i32>) -> Option<i64>
 }
 
 fn legacy_phase(band: Band, length: i64, offset: Option<i32>) -> Option<i64>
-    requires { unsigned_abs length ≤ 2 ^ 39 }
+    requires { unsigned_abs length ≤ 155_000_000_000 }
     ensures { result ≡ legacy_phase_of band length offset }
 {
     match offset {
@@ -93,7 +94,7 @@ fn legacy_phase(band: Band, length: i64, offset: Option<i32>) -> Option<i64>
 fn l1_cell(satellite: &Satellite, length: i64) -> Cell
     requires lock { satellite.now.l1_lock_indicator < 128 }
     requires length { length ≡ length_of satellite.now }
-    requires bound { unsigned_abs length ≤ 2 ^ 39 }
+    requires bound { unsigned_abs length ≤ 155_000_000_000 }
     ensures { result ≡ l1_cell_of satellite.now }
 {
     let offset = unless_mark(satellite.l1_phase_difference, NO_PHASE);
@@ -111,7 +112,7 @@ fn l1_cell(satellite: &Satellite, length: i64) -> Cell
 fn l2_cell(satellite: &Satellite, length: i64) -> Cell
     requires lock { satellite.now.l2_lock_indicator < 128 }
     requires length { length ≡ length_of satellite.now }
-    requires bound { unsigned_abs length ≤ 2 ^ 39 }
+    requires bound { unsigned_abs length ≤ 155_000_000_000 }
     ensures { result ≡ l2_cell_of satellite.now }
 {
     let difference = unless_mark(i32::from(satellite.l2_range_difference), NO_RANGE);
@@ -130,7 +131,7 @@ fn l2_cell(satellite: &Satellite, length: i64) -> Cell
 fn l1_entry(satellite: &Satellite, length: i64) -> CellEntry
     requires lock { satellite.now.l1_lock_indicator < 128 }
     requires length { length ≡ length_of satellite.now }
-    requires bound { unsigned_abs length ≤ 2 ^ 39 }
+    requires bound { unsigned_abs length ≤ 155_000_000_000 }
     ensures { result ≡ entry_of satellite.now.satellite (l1_code_of satellite.now.l1_code) (l1_cell_of satellite.now) }
 {
     CellEntry {
@@ -143,7 +144,7 @@ fn l1_entry(satellite: &Satellite, length: i64) -> CellEntry
 fn l2_entry(satellite: &Satellite, length: i64) -> CellEntry
     requires lock { satellite.now.l2_lock_indicator < 128 }
     requires length { length ≡ length_of satellite.now }
-    requires bound { unsigned_abs length ≤ 2 ^ 39 }
+    requires bound { unsigned_abs length ≤ 155_000_000_000 }
     ensures { result ≡ entry_of satellite.now.satellite (l2_code_of satellite.now.l2_code) (l2_cell_of satellite.now) }
 {
     CellEntry {

@@ -74,10 +74,20 @@ fn within_limits(value: i128) -> Option<i64>
     Some(value as i64)
 }
 
+// The phase with 1500 cycles added for each roll, if that is within the limits.
+fn with_rolls(phase: i64, rolls: i64) -> Option<i64>
+    ensures { result ≡ rolled_phase phase rolls }
+{
+    within_limits(i128::from(phase) + 1_500_000 * i128::from(rolls))
+}
+
 /// A phase in millicycles with 1500 cycles added for each roll; `None` exactly if that is
 /// outside the limits of an observation, -999,999,999,999 to 9,999,999,999,999.
 pub fn rolled(phase: i64, rolls: i64) -> Option<i64>
     ensures { result ≡ rolled_phase phase rolls }
 {
-    within_limits(i128::from(phase) + 1_500_000 * i128::from(rolls))
+    if rolls == 0 {
+        return within_limits(i128::from(phase));
+    }
+    with_rolls(phase, rolls)
 }

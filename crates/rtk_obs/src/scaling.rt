@@ -1,6 +1,7 @@
 //! Values of fields from exact fractions, each rounded once.
 
 ghost use Rattle.std.specs.Prelude.{◌≡◌, ◌+◌, ◌*◌, ◌^◌, ◌<◌, ◌≤◌, pos, ◌*ℤ◌, ◌≤ℤ◌, negsuc, unsigned_abs};
+ghost use Rattle.rtk_obs.specs.Code.{frequency_of};
 ghost use Rattle.rtk_obs.specs.Rounding.{rounded, rounded_magnitude};
 ghost use Rattle.rtk_obs.specs.Scaling.{range_of_length, phase_of_length, range_of_time, phase_of_time, strength_of, unless_invalid};
 
@@ -11,6 +12,12 @@ const LIGHT: u32 = 299_792_458;
 
 // Twice the speed of light, c: a length in 0.0005 m times f / (2 * c) is a phase in millicycles.
 const TWICE_LIGHT: u32 = 599_584_916;
+
+// Half of the speed of light.
+const HALF_LIGHT: u64 = 149_896_229;
+
+// More than a length in 0.0005 m that a 1004 gives.
+const LONGEST: u64 = 160_000_000_000;
 
 // 2^29: so many units of the times of a 1074 are a ms.
 const MS: u32 = 536_870_912;
@@ -70,12 +77,30 @@ pub(crate) fn range_from_length(length: i64) -> i64
     scaled(length, 1, 2)
 }
 
+// The whole number nearest to n * f / (2 * c), where f is the frequency of the band. For the bands
+// of a 1004 both are halved twice, and the whole times that c / 2 goes into f / 4 are taken out: so
+// one division by a constant is left, whose dividend fits 64 bits.
+fn length_magnitude(band: Band, n: u64) -> u64
+    requires { n ≤ LONGEST }
+    ensures value { result ≡ rounded_magnitude (n * frequency_of band) TWICE_LIGHT }
+    ensures bound { result < 2 ^ 63 }
+{
+    match band {
+        Band::L1 => 2 * n + (94_062_542 * n + HALF_LIGHT / 2) / HALF_LIGHT,
+        Band::L2 => 2 * n + (7_107_542 * n + HALF_LIGHT / 2) / HALF_LIGHT,
+        Band::L5 => scaled_magnitude(n, 1_176_450_000, TWICE_LIGHT),
+    }
+}
+
 /// A length in 0.0005 m as a phase in millicycles.
 pub(crate) fn phase_from_length(band: Band, length: i64) -> i64
-    requires { unsigned_abs length ≤ 2 ^ 40 }
+    requires { unsigned_abs length ≤ LONGEST }
     ensures { result ≡ phase_of_length band length }
 {
-    scaled(length, band.frequency(), TWICE_LIGHT)
+    if length < 0 {
+        return -(length_magnitude(band, length.unsigned_abs()) as i64);
+    }
+    length_magnitude(band, length as u64) as i64
 }
 
 /// A travel time of the signal, in 2^-29 ms, as a range in mm.
