@@ -3,7 +3,7 @@
 ghost use Rattle.std.specs.Prelude.{◌≡◌, ◌≤◌};
 ghost use Rattle.rtk_tools.specs.declared.exit_status.TheConstants.{REFUSED};
 
-use crate::words::BadWords;
+use crate::words::{BadWords, WordsFault};
 use rtk_frame::write_all;
 use rtk_tools::{DONE, REFUSED, ToolFault, fail, standard_output};
 
@@ -15,8 +15,8 @@ pub(crate) fn refuse<R: Eprint>(rt: &R, line: BadWords) -> u8
     REFUSED
 }
 
-/// Shows clap's text: what was asked for on standard output, a refusal on standard error.
-pub(crate) fn print_clap_text<R: Print + Eprint>(rt: &R, text: &str, status: u8) -> u8
+// Shows clap's text: what was asked for on standard output, a refusal on standard error.
+fn print_clap_text<R: Print + Eprint>(rt: &R, text: &str, status: u8) -> u8
     ensures { result ≤ REFUSED }
 {
     if status != DONE {
@@ -26,5 +26,16 @@ pub(crate) fn print_clap_text<R: Print + Eprint>(rt: &R, text: &str, status: u8)
     match write_all(&mut standard_output(rt), text.as_bytes()) {
         Ok(()) => DONE,
         Err(_) => fail(rt, ToolFault::Output),
+    }
+}
+
+/// Says why words give no job.
+pub(crate) fn refuse_words<R: Print + Eprint>(rt: &R, fault: WordsFault) -> u8
+    ensures { result ≤ REFUSED }
+{
+    match fault {
+        WordsFault::Clap { text, status } => print_clap_text(rt, text.as_str(), status),
+        WordsFault::Bad { line } => refuse(rt, line),
+        WordsFault::OutOfMemory => fail(rt, ToolFault::OutOfMemory),
     }
 }

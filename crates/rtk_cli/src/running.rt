@@ -3,11 +3,12 @@
 
 ghost use Rattle.std.specs.Prelude.{◌≤◌};
 ghost use Rattle.rtk_tools.specs.declared.exit_status.TheConstants.{NOT_VALID};
+ghost use Rattle.rtk_cli.specs.Words.{IsWithinLimits};
 
 use crate::converting::convert_links;
 use crate::jobs::job;
-use crate::refusing::{print_clap_text, refuse};
-use crate::words::{Job, WordsFault};
+use crate::refusing::refuse_words;
+use crate::words::Job;
 use rtk_files::{chart_named, check_named, cut_named};
 use rtk_tools::{ToolFault, fail, show_named, summarize_named};
 use std::env::Env;
@@ -29,6 +30,25 @@ fn words_of<R: Env + AllocGlobal>(rt: &R) -> Result<Vec<String>, ToolFault> {
     Ok(words)
 }
 
+// Each command by a call of its own: the check of a function that also reads the words takes minutes.
+fn run_job<R: Files + Input + Print + Eprint + AllocGlobal, W: Write + Drop>(
+    rt: &R,
+    report: W,
+    job: Job<'_>,
+) -> u8
+    requires { IsWithinLimits job }
+    ensures { result ≤ NOT_VALID }
+{
+    match job {
+        Job::Convert { setup, links } => convert_links(rt, report, setup, links.as_slice()),
+        Job::Show { hex, file } => show_named(rt, hex, file),
+        Job::Check { file } => check_named(rt, file),
+        Job::Summary { file } => summarize_named(rt, file),
+        Job::Chart { width, file } => chart_named(rt, width, file),
+        Job::Cut { part, file } => cut_named(rt, part, file),
+    }
+}
+
 fn run_words<R: Files + Input + Print + Eprint + AllocGlobal, W: Write + Drop>(
     rt: &R,
     report: W,
@@ -37,15 +57,8 @@ fn run_words<R: Files + Input + Print + Eprint + AllocGlobal, W: Write + Drop>(
     ensures { result ≤ NOT_VALID }
 {
     match job(rt.alloc(), words) {
-        Ok(Job::Convert { setup, links }) => convert_links(rt, report, setup, links.as_slice()),
-        Ok(Job::Show { hex, file }) => show_named(rt, hex, file),
-        Ok(Job::Check { file }) => check_named(rt, file),
-        Ok(Job::Summary { file }) => summarize_named(rt, file),
-        Ok(Job::Chart { width, file }) => chart_named(rt, width, file),
-        Ok(Job::Cut { part, file }) => cut_named(rt, part, file),
-        Err(WordsFault::Clap { text, status }) => print_clap_text(rt, text.as_str(), status),
-        Err(WordsFault::Bad { line }) => refuse(rt, line),
-        Err(WordsFault::OutOfMemory) => fail(rt, ToolFault::OutOfMemory),
+        Ok(job) => run_job(rt, report, job),
+        Err(fault) => refuse_words(rt, fault),
     }
 }
 
