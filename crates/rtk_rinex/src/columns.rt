@@ -72,26 +72,26 @@ pub(crate) fn put_decimal(field: &mut [u8], number: u64) -> usize
 }
 
 // Writes a number below 100 at the right end of two blanks.
-fn put_two(field: &mut [u8], number: u32)
+fn put_two(field: &mut [u8], number: u64)
     requires blank { field.old ≡ replicate 2 32 }
     requires number { number < 100 }
     ensures { field.new ≡ right 2 (decimal number) }
 {
     if number >= 10 {
-        put_pair(field, 0, u64::from(number));
+        put_pair(field, 0, number);
     } else {
         field[1] = b'0' + number as u8;
     }
 }
 
 // Writes a number below 10,000 at the right end of four blanks.
-fn put_four(field: &mut [u8], number: u32)
+fn put_four(field: &mut [u8], number: u64)
     requires blank { field.old ≡ replicate 4 32 }
     requires number { number < 10_000 }
     ensures { field.new ≡ right 4 (decimal number) }
 {
     if number >= 100 {
-        put_pair(field, 2, u64::from(number % 100));
+        put_pair(field, 2, number % 100);
         put_two(&mut field[..2], number / 100);
     } else {
         put_two(&mut field[2..], number);
@@ -99,14 +99,14 @@ fn put_four(field: &mut [u8], number: u32)
 }
 
 // Writes a point and three decimals over four blanks.
-fn put_thousandths(field: &mut [u8], thousandths: u32)
+fn put_thousandths(field: &mut [u8], thousandths: u64)
     requires blank { field.old ≡ replicate 4 32 }
     requires thousandths { thousandths < 1000 }
     ensures { field.new ≡ 46 ∷ last_digits 3 thousandths }
 {
     field[0] = b'.';
     field[1] = b'0' + (thousandths / 100) as u8;
-    put_pair(field, 2, u64::from(thousandths % 100));
+    put_pair(field, 2, thousandths % 100);
 }
 
 // Writes F14.3 of a magnitude of at least a million. Its last nine digits have their columns
@@ -117,17 +117,17 @@ fn put_magnitude_14_3(field: &mut [u8], magnitude: u64)
     requires fits { magnitude < 10 ^ 13 }
     ensures { field.new ≡ right 14 (decimals 3 false magnitude) }
 {
-    let rest = (magnitude % 1_000_000_000) as u32;
+    let rest = magnitude % 1_000_000_000;
     let (four, five) = (rest / 100_000, rest % 100_000);
     put_thousandths(&mut field[10..], five % 1000);
-    put_pair(field, 8, u64::from(five / 1000));
-    put_pair(field, 6, u64::from(four % 100));
-    put_pair(field, 4, u64::from(four / 100));
-    put_four(&mut field[..4], (magnitude / 1_000_000_000) as u32);
+    put_pair(field, 8, five / 1000);
+    put_pair(field, 6, four % 100);
+    put_pair(field, 4, four / 100);
+    put_four(&mut field[..4], magnitude / 1_000_000_000);
 }
 
 /// Writes F14.3 of a value below 100, as signal strengths are, over 14 blanks.
-pub(crate) fn put_short_14_3(field: &mut [u8], magnitude: u32)
+pub(crate) fn put_short_14_3(field: &mut [u8], magnitude: u64)
     requires blank { field.old ≡ replicate 14 32 }
     requires short { magnitude < 100_000 }
     ensures { field.new ≡ right 14 (decimals 3 false magnitude) }

@@ -1,6 +1,6 @@
 //! The text of a record: the epoch line, and a line for each satellite that shows something.
 
-ghost use Rattle.std.specs.Prelude.{◌≡◌, ℕ, ◌+◌, ◌*◌, ◌<◌, ◌≤◌, ◌-◌, ◌^◌, [], ◌∷◌, ◌++◌, length, take, drop, replicate, flat_map, OnOk, IfOk, codes, decimal, not, ◌==◌, if◌then◌else◌};
+ghost use Rattle.std.specs.Prelude.{◌≡◌, ℕ, ◌+◌, ◌*◌, ◌<◌, ◌≤◌, ◌-◌, ◌^◌, [], ◌∷◌, ◌++◌, length, take, drop, replicate, flat_map, IfOk, codes, decimal, not, ◌==◌, if◌then◌else◌};
 ghost use Rattle.std.specs.List.{filter, list_any, sum_by};
 ghost use Rattle.rtk_rinex.specs.Record.{HasWidth, is_written, is_present, observation, observations, strength_digit, strength_value, lli_digit, has_observation, has_line, trim_end, satellite_line, epoch_date_text, epoch_line, record_text};
 
@@ -98,7 +98,7 @@ fn put_strength(field: &mut [u8], strength: Option<u32>)
 {
     match strength {
         Some(strength) if strength > 0 && strength < 100_000 => {
-            put_short_14_3(&mut field[..14], strength);
+            put_short_14_3(&mut field[..14], u64::from(strength));
         }
         _ => put_any_observation(field, value_of_strength(strength), b' ', b' '),
     }

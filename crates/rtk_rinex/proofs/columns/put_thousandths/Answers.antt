@@ -7,4 +7,4 @@ returns c =
     let hundreds : n / 10 / 10 % 10 ≡ n / 100 = omega arith in
     let tens : n / 10 % 10 ≡ n % 100 / 10 = omega arith in
     let units : n % 10 ≡ n % 100 % 10 = omega arith in
-    rw (c.put_pair.ensures, c.from.ensures, c.requires.blank, hundreds, tens, units) refl
+    rw (c.put_pair.ensures, c.requires.blank, hundreds, tens, units) refl
