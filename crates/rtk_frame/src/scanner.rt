@@ -174,7 +174,7 @@ fn advance(
         match front_at(ring.make_contiguous(), *passed, prefixes) {
             Front::Whole(payload) => return (used, Some(payload)),
             Front::Other => pass_to_preamble(ring, passed),
-            Front::Partial(_) => {
+            Front::Partial => {
                 used += bytes_to_pass(ring, *passed, &piece[used..]);
                 if used == piece.len() {
                     return (used, None);
