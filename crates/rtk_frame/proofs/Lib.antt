@@ -1,8 +1,8 @@
 -- The facts of the public laws, which proofs of other crates cite
 pub mod PublicLaws
+mod Blocks
 mod ByteTable
 mod Division
-mod EightBytes
 mod FinalLaw
 mod FirstFrame
 mod FramesLaw

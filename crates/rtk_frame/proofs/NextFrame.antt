@@ -36,7 +36,7 @@ none_next b from n none here p l m = next_by b from n none here p (nat_lt p n) r
 
 pub front_by : (s : List ℕ) (f : Front) → 0 < length s → IsFront s f → ((n : ℕ) → f ≡ Whole n → ⊥) → begins_frame s ≡ false
 front_by s (Whole n) l h other = absurd (other n refl)
-front_by s (Partial n) l h other = partial_or_empty s l h.2
+front_by s Partial l h other = partial_or_empty s l h.1
 front_by s Other l h other = h.1
 
 -- what is at a place, seen from a start before it

@@ -10,23 +10,12 @@ use Rattle.rtk_bits.proofs.PublicLaws.{length-bits_of, unsigned_lt, unsigned-bit
 use Rattle.rtk_frame.specs.Checksum.{zeros, flip, generator, divide, crc}
 use Rattle.rtk_frame.specs.Steps.Product.{after_zeros, rest_of, IsPower}
 use Rattle.rtk_frame.specs.Steps.Remainder.{remainder}
-use Rattle.rtk_frame.specs.declared.checksum_tables.TheConstants.{TABLE0, TABLE1, TABLE2}
+use Rattle.rtk_frame.specs.Steps.Tables.{word_of}
 use Rattle.rtk_frame.specs.declared.checksum_powers.TheConstants.{POWERS}
 use Rattle.rtk_frame.proofs.Division.{length_zeros, length_flip, flip_none, flip_pad, flip_onto, flip_halves, flip_bits, divide_flip, divide_add, bits_cat, byte_step}
 use Rattle.rtk_frame.proofs.ByteTable.{table_entry}
-use Rattle.rtk_frame.proofs.Remainder.{next, remainder_next, crc_remainder, crc_end, flip_end}
-use Rattle.rtk_frame.proofs.EightBytes.{flip_nothing, flip_twice, divide_sum, length_divide, zeros_add, generator_length, three, table_lt, table1_lt, table2_lt, peel, peel_more, column_first, column1, column2}
-
--- ---- bits and their number
-length_bits : (bytes : List ℕ) → length (bits bytes) ≡ 8 * length bytes
-unfolding bits
-length_bits [] = refl
-length_bits (y ∷ ys) = omega (arith, length-append (bits_of 8 y) (bits ys), length-bits_of 8 y, length_bits ys)
-
-bits_append : (a b : List ℕ) → bits (a ++ b) ≡ bits a ++ bits b
-unfolding bits
-bits_append [] b = refl
-bits_append (y ∷ a) b = ap (λ z. bits_of 8 y ++ z) (bits_append a b) ∙ sym (append_assoc (bits_of 8 y) (bits a) (bits b))
+use Rattle.rtk_frame.proofs.Remainder.{next, crc_remainder, crc_end, flip_end}
+use Rattle.rtk_frame.proofs.Blocks.{length_bits, bits_append, flip_nothing, flip_twice, divide_sum, length_divide, zeros_add, generator_length, three, word_lt, peel, peel_more, column}
 
 one_bit : (x : Bool) (n : ℕ) (v : ℕ) → v < 2 ^ n → bits_of (suc n) (cond x 1 0 * 2 ^ n + v) ≡ x ∷ bits_of n v
 unfolding bits_of
@@ -91,13 +80,10 @@ remainder_append a b =
 
 -- one byte more
 next_lt : (s y : ℕ) → s < 2 ^ 32 → y < 256 → next s y < 2 ^ 32
-next_lt s y h b = xor_of_32 (s * 2 ^ 8 % 2 ^ 32) (get_or TABLE0 (bit_xor (s / 2 ^ 24) y) 0) (omega arith) (table_lt (bit_xor (s / 2 ^ 24) y) (xor_of_8 (s / 2 ^ 24) y (omega arith) b))
+next_lt s y h b = xor_of_32 (s * 2 ^ 8 % 2 ^ 32) (word_of 0 (bit_xor (s / 2 ^ 24) y)) (omega arith) (word_lt 0 (bit_xor (s / 2 ^ 24) y) (lit< tt) (xor_of_8 (s / 2 ^ 24) y (omega arith) b))
 
-pub crc_with : (text : List ℕ) (c y : ℕ) → c ≡ crc text → y < 256 → next (c * 2 ^ 8) y / 2 ^ 8 ≡ crc (text ++ y ∷ [])
-crc_with text c y e h =
-    let small : c * 2 ^ 8 < 2 ^ 32 = omega (arith, e, crc_lt text) in
-    crc_end (next (c * 2 ^ 8) y) (text ++ y ∷ []) (next_lt (c * 2 ^ 8) y small h)
-    (sym (remainder_append text (y ∷ []) ∙ ap (λ z. remainder (z * 2 ^ 8) (y ∷ [])) (sym e) ∙ remainder_next (c * 2 ^ 8) y [] small h))
+pub crc_with : (text : List ℕ) (c y r : ℕ) → c ≡ crc text → r < 2 ^ 32 → remainder r [] ≡ remainder (c * 2 ^ 8) (y ∷ []) → r / 2 ^ 8 ≡ crc (text ++ y ∷ [])
+crc_with text c y r e h next = crc_end r (text ++ y ∷ []) h (next ∙ sym (remainder_append text (y ∷ []) ∙ ap (λ z. remainder (z * 2 ^ 8) (y ∷ [])) (sym e)))
 
 -- ---- zero bytes after a checksum
 
@@ -295,7 +281,7 @@ zero_byte_more n c p h e =
     ∙ ap (λ z. flip z (zeros 32)) (sym (append-nil (bits_of 32 (p * 2 ^ 8)))) ∙ flip_end (bits_of 32 (p * 2 ^ 8)) [] 32 (length-bits_of 32 (p * 2 ^ 8)) ∙ state_bits p in
     let here : divide 8 (bits_of 24 p ++ zeros 8) ≡ bits_of 24 (t / 2 ^ 8) =
     ap (divide 8) (sym whole)
-    ∙ byte_step (p * 2 ^ 8) 0 (get_or TABLE0 (bit_xor (p * 2 ^ 8 / 2 ^ 24) 0) 0) (zeros 24) small (table_entry (bit_xor (p * 2 ^ 8 / 2 ^ 24) 0) (xor_of_8 (p * 2 ^ 8 / 2 ^ 24) 0 (omega arith) (omega arith)))
+    ∙ byte_step (p * 2 ^ 8) 0 (word_of 0 (bit_xor (p * 2 ^ 8 / 2 ^ 24) 0)) (zeros 24) small (table_entry (bit_xor (p * 2 ^ 8 / 2 ^ 24) 0) (xor_of_8 (p * 2 ^ 8 / 2 ^ 24) 0 (omega arith) (omega arith)))
     ∙ ap (λ z. flip z (zeros 24)) parts ∙ flip_end (bits_of 24 (t / 2 ^ 8)) (bits_of 8 (t % 2 ^ 8)) 24 (length-bits_of 24 (t / 2 ^ 8)) in
     sym (ap (λ k. divide k (bits_of 24 c ++ zeros k)) s
     ∙ ap (λ z. divide (m + 8) (bits_of 24 c ++ z)) (zeros_add m 8)
@@ -323,7 +309,7 @@ chained_at (p ∷ ps) (q ∷ qs) (suc i) h l =
     let t = three (nat_lt q (2 ^ 24)) (q == next (p * 2 ^ 8) 0 / 2 ^ 8) (chained ps qs) h in chained_at ps qs i t.2 (omega arith)
 
 powers_test : chained POWERS (drop 1 POWERS) ≡ true
-unfolding chained
+unfolding chained word_of
 powers_test = refl
 
 first_power : after_zeros 0 1 ≡ bits_of 24 1
@@ -362,13 +348,13 @@ four_parts q h =
 
 -- the entries of three bytes, each with the bytes after it zero
 abbrev pub entries_of : ℕ → ℕ
-entries_of q = bit_xor (bit_xor (get_or TABLE2 (q / 2 ^ 40) 0) (get_or TABLE1 (q / 2 ^ 32 % 256) 0)) (get_or TABLE0 (q / 2 ^ 24 % 256) 0)
+entries_of q = bit_xor (bit_xor (word_of 2 (q / 2 ^ 40)) (word_of 1 (q / 2 ^ 32 % 256))) (word_of 0 (q / 2 ^ 24 % 256))
 
 entries_lt : (q : ℕ) → q < 2 ^ 48 → entries_of q < 2 ^ 32
 entries_lt q h =
-    let t2 : ℕ = get_or TABLE2 (q / 2 ^ 40) 0 in
-    let t1 : ℕ = get_or TABLE1 (q / 2 ^ 32 % 256) 0 in
-    xor_of_32 (bit_xor t2 t1) (get_or TABLE0 (q / 2 ^ 24 % 256) 0) (xor_of_32 t2 t1 (table2_lt (q / 2 ^ 40) (omega arith)) (table1_lt (q / 2 ^ 32 % 256) (omega arith))) (table_lt (q / 2 ^ 24 % 256) (omega arith))
+    let t2 : ℕ = word_of 2 (q / 2 ^ 40) in
+    let t1 : ℕ = word_of 1 (q / 2 ^ 32 % 256) in
+    xor_of_32 (bit_xor t2 t1) (word_of 0 (q / 2 ^ 24 % 256)) (xor_of_32 t2 t1 (word_lt 2 (q / 2 ^ 40) (lit< tt) (omega arith)) (word_lt 1 (q / 2 ^ 32 % 256) (lit< tt) (omega arith))) (word_lt 0 (q / 2 ^ 24 % 256) (lit< tt) (omega arith))
 
 pub reduced_lt : (q : ℕ) → q < 2 ^ 48 → bit_xor (entries_of q / 2 ^ 8) (q % 2 ^ 24) < 2 ^ 24
 reduced_lt q h = let l = entries_lt q h in xor_lt 24 (entries_of q / 2 ^ 8) (q % 2 ^ 24) (omega arith) (omega arith)
@@ -379,9 +365,9 @@ rest_reduced q h =
     let z2 : ℕ = q / 2 ^ 40 in
     let z1 : ℕ = q / 2 ^ 32 % 256 in
     let z0 : ℕ = q / 2 ^ 24 % 256 in
-    let t2 : ℕ = get_or TABLE2 z2 0 in
-    let t1 : ℕ = get_or TABLE1 z1 0 in
-    let t0 : ℕ = get_or TABLE0 z0 0 in
+    let t2 : ℕ = word_of 2 z2 in
+    let t1 : ℕ = word_of 1 z1 in
+    let t0 : ℕ = word_of 0 z0 in
     let low : List Bool = bits_of 24 (q % 2 ^ 24) in
     let r1 : List Bool = bits_of 8 z0 ++ low in
     let r2 : List Bool = bits_of 8 z1 ++ r1 in
@@ -395,9 +381,9 @@ rest_reduced q h =
     ∙ sym (cut_end (bits_of 24 (t / 2 ^ 8)) (bits_of 8 (t % 2 ^ 8)) low (omega (arith, l0, length-bits_of 24 (t / 2 ^ 8))))
     ∙ ap (λ z. flip z low) (sym parts)
     ∙ sym (ap (divide 24) (four_parts q h)
-    ∙ peel 16 z2 t2 r2 (column2 z2 (omega arith)) (omega (arith, l2))
-    ∙ peel_more t2 8 z1 t1 r1 (column1 z1 (omega arith)) (omega (arith, l1))
-    ∙ peel_more (bit_xor t2 t1) 0 z0 t0 low (column_first z0 (omega arith)) (omega (arith, l0)))
+    ∙ peel 16 z2 t2 r2 (column 2 z2 (lit< tt) (omega arith)) (omega (arith, l2))
+    ∙ peel_more t2 8 z1 t1 r1 (column 1 z1 (lit< tt) (omega arith)) (omega (arith, l1))
+    ∙ peel_more (bit_xor t2 t1) 0 z0 t0 low (column 0 z0 (lit< tt) (omega arith)) (omega (arith, l0)))
 
 -- ---- the product, bit by bit
 

@@ -6,13 +6,13 @@ use Rattle.rtk_bits.specs.Bits.{bits_of, bits, unsigned}
 use Rattle.rtk_bits.proofs.PublicLaws.{length-bits_of, unsigned-bits_of}
 use Rattle.rtk_frame.specs.Checksum.{zeros, flip, divide, crc}
 use Rattle.rtk_frame.specs.Steps.Remainder.{remainder}
-use Rattle.rtk_frame.specs.declared.checksum_tables.TheConstants.{TABLE0 as TABLE}
+use Rattle.rtk_frame.specs.Steps.Tables.{word_of}
 use Rattle.rtk_frame.proofs.Division.{flip_none, bits_cat, divide_add, byte_step, flip_zero}
 use Rattle.rtk_frame.proofs.ByteTable.{table_entry}
 
 -- the state after a byte
 abbrev pub next : ℕ → ℕ → ℕ
-next s y = bit_xor (s * 2 ^ 8 % 2 ^ 32) (get_or TABLE (bit_xor (s / 2 ^ 24) y) 0)
+next s y = bit_xor (s * 2 ^ 8 % 2 ^ 32) (word_of 0 (bit_xor (s / 2 ^ 24) y))
 
 pub remainder_next : (s y : ℕ) (ys : List ℕ) → s < 2 ^ 32 → y < 256 → remainder s (y ∷ ys) ≡ remainder (next s y) ys
 unfolding remainder bits
@@ -21,7 +21,7 @@ remainder_next s y ys h b =
     ap (λ k. divide k (flip (bits_of 32 s) ((bits_of 8 y ++ bits ys) ++ zeros 24))) n
     ∙ divide_add 8 (8 * length ys) (flip (bits_of 32 s) ((bits_of 8 y ++ bits ys) ++ zeros 24))
     ∙ ap (λ z. divide (8 * length ys) (divide 8 (flip (bits_of 32 s) z))) (append_assoc (bits_of 8 y) (bits ys) (zeros 24))
-    ∙ ap (divide (8 * length ys)) (byte_step s y (get_or TABLE (bit_xor (s / 2 ^ 24) y) 0) (bits ys ++ zeros 24) h (table_entry (bit_xor (s / 2 ^ 24) y) (xor_of_8 (s / 2 ^ 24) y (omega arith) b)))
+    ∙ ap (divide (8 * length ys)) (byte_step s y (word_of 0 (bit_xor (s / 2 ^ 24) y)) (bits ys ++ zeros 24) h (table_entry (bit_xor (s / 2 ^ 24) y) (xor_of_8 (s / 2 ^ 24) y (omega arith) b)))
 
 -- at the end
 pub flip_end : (a b : List Bool) (n : ℕ) → length a ≡ n → flip (a ++ b) (zeros n) ≡ a

@@ -3,3 +3,4 @@ pub mod Product
 pub mod Remainder
 pub mod Ring
 pub mod Scanning
+pub mod Tables

@@ -1,13 +1,15 @@
-//! The checksum CRC-24Q: of bytes, eight a step; of one byte more; of a part, from those of the whole.
+//! The checksum CRC-24Q: of bytes, sixteen a step; of one byte more; of a part, from those of the whole.
 
-ghost use Rattle.std.specs.Prelude.{◌≡◌, ◌<◌, ◌≤◌, ◌^◌, ℕ, List, [], ◌∷◌, ◌++◌, length, slice_index};
+ghost use Rattle.std.specs.Prelude.{◌≡◌, ◌<◌, ◌≤◌, ◌^◌, ℕ, List, [], ◌∷◌, ◌++◌, length};
 ghost use Rattle.rtk_frame.specs.Checksum.{crc};
 ghost use Rattle.rtk_bits.specs.Bits.{bits_of};
 ghost use Rattle.rtk_frame.specs.Steps.Product.{IsPower, after_zeros, rest_of};
 ghost use Rattle.rtk_frame.specs.Steps.Remainder.{remainder};
+ghost use Rattle.rtk_frame.specs.Steps.Tables.{word_of};
 
+use crate::checksum_far_tables::FAR_TABLES;
 use crate::checksum_powers::POWERS;
-use crate::checksum_tables::{TABLE0, TABLE1, TABLE2, TABLE3, TABLE4, TABLE5, TABLE6, TABLE7};
+use crate::checksum_tables::TABLES;
 
 /// The checksum CRC-24Q of the bytes: 24 bits, with the generator 1864CFB, from the state 0, the
 /// most significant bit first.
@@ -19,32 +21,77 @@ pub fn crc24q(bytes: &[u8]) -> u32
 {
     let mut state = 0u32;
     let mut rest = bytes;
-    while let [a, b, c, d, e, f, g, h, tail @ ..] = rest {
-        state = after_eight(state, [*a, *b, *c, *d, *e, *f, *g, *h]);
+    while let Some((block, tail)) = rest.split_first_chunk::<16>() {
+        state = after_sixteen(state, block);
+        rest = tail;
+    }
+    if let Some((block, tail)) = rest.split_first_chunk::<8>() {
+        state = after_eight(state, block);
         rest = tail;
     }
     for byte in rest {
-        state = state << 8 ^ TABLE0[(state >> 24 ^ *byte as u32) as usize];
+        state = after_byte(state, *byte);
     }
     state >> 8
 }
 
-// The state after eight bytes more. Its upper 24 bits are the remainder so far, its lower 8 bits
+// The state after sixteen bytes more. Its upper 24 bits are the remainder so far, its lower 8 bits
 // are zero.
-fn after_eight(state: u32, bytes: [u8; 8]) -> u32
-    ensures { (rest : List ℕ) → remainder result rest ≡ remainder state
-        (slice_index bytes 0 ∷ slice_index bytes 1 ∷ slice_index bytes 2 ∷ slice_index bytes 3
-        ∷ slice_index bytes 4 ∷ slice_index bytes 5 ∷ slice_index bytes 6 ∷ slice_index bytes 7 ∷ rest) }
+fn after_sixteen(state: u32, bytes: &[u8; 16]) -> u32
+    ensures { (rest : List ℕ) → remainder result rest ≡ remainder state (bytes.now ++ rest) }
 {
-    let [a, b, c, d, e, f, g, h] = bytes;
-    TABLE7[(state >> 24 ^ a as u32) as usize]
-        ^ TABLE6[((state >> 16) % 256 ^ b as u32) as usize]
-        ^ TABLE5[((state >> 8) % 256 ^ c as u32) as usize]
-        ^ TABLE4[(state % 256 ^ d as u32) as usize]
-        ^ TABLE3[e as usize]
-        ^ TABLE2[f as usize]
-        ^ TABLE1[g as usize]
-        ^ TABLE0[h as usize]
+    let front = state ^ u32::from_be_bytes([bytes[0], bytes[1], bytes[2], bytes[3]]);
+    entry(15, (front >> 24) as u8)
+        ^ entry(14, ((front >> 16) % 256) as u8)
+        ^ entry(13, ((front >> 8) % 256) as u8)
+        ^ entry(12, (front % 256) as u8)
+        ^ entry(11, bytes[4])
+        ^ entry(10, bytes[5])
+        ^ entry(9, bytes[6])
+        ^ entry(8, bytes[7])
+        ^ entry(7, bytes[8])
+        ^ entry(6, bytes[9])
+        ^ entry(5, bytes[10])
+        ^ entry(4, bytes[11])
+        ^ entry(3, bytes[12])
+        ^ entry(2, bytes[13])
+        ^ entry(1, bytes[14])
+        ^ entry(0, bytes[15])
+}
+
+// The same for eight bytes more.
+fn after_eight(state: u32, bytes: &[u8; 8]) -> u32
+    ensures { (rest : List ℕ) → remainder result rest ≡ remainder state (bytes.now ++ rest) }
+{
+    let front = state ^ u32::from_be_bytes([bytes[0], bytes[1], bytes[2], bytes[3]]);
+    entry(7, (front >> 24) as u8)
+        ^ entry(6, ((front >> 16) % 256) as u8)
+        ^ entry(5, ((front >> 8) % 256) as u8)
+        ^ entry(4, (front % 256) as u8)
+        ^ entry(3, bytes[4])
+        ^ entry(2, bytes[5])
+        ^ entry(1, bytes[6])
+        ^ entry(0, bytes[7])
+}
+
+// The same for one byte more.
+fn after_byte(state: u32, byte: u8) -> u32
+    ensures { (rest : List ℕ) → remainder result rest ≡ remainder state (byte ∷ rest) }
+{
+    state << 8 ^ entry(0, (state >> 24) as u8 ^ byte)
+}
+
+// What the tables have for a byte and so many zero bytes after it.
+fn entry(zeros: usize, byte: u8) -> u32
+    requires { zeros < 16 }
+    ensures { result ≡ word_of zeros byte }
+{
+    let place = 256 * zeros + byte as usize;
+    if place < 2048 {
+        TABLES[place]
+    } else {
+        FAR_TABLES[place - 2048]
+    }
 }
 
 /// The checksum of a text with one byte more, from the checksum of the text.
@@ -53,8 +100,7 @@ pub(crate) fn checksum_with(checksum: u32, byte: u8) -> u32
     ensures value { (text : List ℕ) → checksum ≡ crc text → result ≡ crc (text ++ byte ∷ []) }
     ensures within { result < 2 ^ 24 }
 {
-    let state = checksum << 8;
-    (state << 8 ^ TABLE0[(state >> 24 ^ byte as u32) as usize]) >> 8
+    after_byte(checksum << 8, byte) >> 8
 }
 
 /// The checksum of the last `count` bytes of a text, from the checksum of the whole text and that
@@ -93,8 +139,8 @@ fn reduced(polynomial: u64) -> u32
 {
     let high = (polynomial >> 24) as u32;
     let low = (polynomial % 0x100_0000) as u32;
-    let sum = TABLE2[(high >> 16) as usize]
-        ^ TABLE1[((high >> 8) % 256) as usize]
-        ^ TABLE0[(high % 256) as usize];
+    let sum = entry(2, (high >> 16) as u8)
+        ^ entry(1, ((high >> 8) % 256) as u8)
+        ^ entry(0, (high % 256) as u8);
     sum >> 8 ^ low
 }

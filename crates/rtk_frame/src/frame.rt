@@ -69,8 +69,8 @@ pub fn encode_frame(alloc: Global, payload: &[u8]) -> Result<Vec<u8>, FrameFault
 pub(crate) enum Front {
     /// A frame, with this number of bytes of payload.
     Whole(usize),
-    /// The start of a frame, or no byte at all: at least this number of bytes is missing.
-    Partial(usize),
+    /// The start of a frame, or no byte at all: bytes are missing.
+    Partial,
     /// Neither of them.
     Other,
 }
@@ -80,8 +80,8 @@ pub(crate) enum Start {
     /// A candidate: all bytes of a frame with this number of bytes of payload, whose checksum is
     /// still to be tested.
     Candidate(usize),
-    /// The start of a frame, or no byte at all: at least this number of bytes is missing.
-    Partial(usize),
+    /// The start of a frame, or no byte at all: bytes are missing.
+    Partial,
     /// Neither of them.
     Other,
 }
@@ -91,17 +91,17 @@ pub(crate) fn start_of(bytes: &[u8]) -> Start
     ensures { IsStart bytes.now result }
 {
     let [first, ..] = bytes else {
-        return Start::Partial(3);
+        return Start::Partial;
     };
     if *first != PREAMBLE {
         return Start::Other;
     }
     if bytes.len() < 3 {
-        return Start::Partial(3 - bytes.len());
+        return Start::Partial;
     }
     let payload = bytes[1] as usize % 4 * 256 + bytes[2] as usize;
     if bytes.len() < payload + 6 {
-        Start::Partial(payload + 6 - bytes.len())
+        Start::Partial
     } else {
         Start::Candidate(payload)
     }
@@ -119,7 +119,7 @@ pub(crate) fn front_of(bytes: &[u8]) -> Front
                 Front::Other
             }
         }
-        Start::Partial(wanted) => Front::Partial(wanted),
+        Start::Partial => Front::Partial,
         Start::Other => Front::Other,
     }
 }

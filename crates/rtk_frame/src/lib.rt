@@ -22,6 +22,7 @@
 #![tactic(auto)]
 
 mod checksum;
+mod checksum_far_tables;
 mod checksum_powers;
 mod checksum_tables;
 mod frame;

@@ -37,7 +37,7 @@ pub(crate) fn front_at(
                 Front::Other
             }
         }
-        Start::Partial(wanted) => Front::Partial(wanted),
+        Start::Partial => Front::Partial,
         Start::Other => Front::Other,
     }
 }

@@ -174,12 +174,13 @@ fn advance(
         match front_at(ring.make_contiguous(), *passed, prefixes) {
             Front::Whole(payload) => return (used, Some(payload)),
             Front::Other => pass_to_preamble(ring, passed),
-            Front::Partial(wanted) => {
+            Front::Partial => {
                 used += bytes_to_pass(ring, *passed, &piece[used..]);
                 if used == piece.len() {
                     return (used, None);
                 }
-                let more = wanted.min(piece.len() - used);
+                let room = LONGEST_FRAME - (ring.len() - *passed);
+                let more = room.min(piece.len() - used);
                 ring.fill_from_slice(&piece[used..used + more]);
                 used += more;
             }

@@ -41,7 +41,7 @@ pub fn next_frame(bytes: &[u8], from: usize) -> Option<Placed<'_>>
     match front_of(&bytes[place..]) {
         Front::Whole(payload) => Some(found_at(bytes, place, payload)),
         // A text whose first candidate fails may have many that overlap.
-        Front::Partial(_) | Front::Other => next_frame_of_many(bytes, from),
+        Front::Partial | Front::Other => next_frame_of_many(bytes, from),
     }
 }
 

@@ -9,17 +9,17 @@ use Rattle.rtk_frame.specs.declared.frame.Start.{Start}
 use Rattle.rtk_frame.specs.declared.frame.Start.TheVariants.{Candidate, Partial as PartialStart, Other as NoStart}
 
 -- what a text begins with, but for the checksum: a candidate with a payload of n bytes, a partial
--- frame that lacks at least n bytes, or neither
+-- frame, which is shorter than the longest frame, or neither
 abbrev pub IsStart : List ℕ → Start → Type 0
 IsStart text (Candidate n) = (n ≡ payload_length text) × (n ≤ 1023) × (n + 6 ≤ length text) × (begins_frame text ≡ (crc (take (n + 3) text) == three_bytes (drop (n + 3) text))) × (begins_partial text ≡ false)
-IsStart text (PartialStart n) = (0 < n) × (length text + n ≤ LONGEST_FRAME) × ((begins_partial text ≡ true) ⊎ (text ≡ []))
+IsStart text PartialStart = (length text < LONGEST_FRAME) × ((begins_partial text ≡ true) ⊎ (text ≡ []))
 IsStart text NoStart = (0 < length text) × (begins_frame text ≡ false) × (begins_partial text ≡ false)
 
--- what is at the front of a text: a frame with a payload of n bytes, a partial frame that lacks at
--- least n bytes, or neither; an empty text counts as partial
+-- what is at the front of a text: a frame with a payload of n bytes, a partial frame, which is
+-- shorter than the longest frame, or neither; an empty text counts as partial
 abbrev pub IsFront : List ℕ → Front → Type 0
 IsFront text (Whole n) = (begins_frame text ≡ true) × (n ≡ payload_length text) × (n ≤ 1023)
-IsFront text (Partial n) = (0 < n) × (length text + n ≤ LONGEST_FRAME) × ((begins_partial text ≡ true) ⊎ (text ≡ []))
+IsFront text Partial = (length text < LONGEST_FRAME) × ((begins_partial text ≡ true) ⊎ (text ≡ []))
 IsFront text Other = (0 < length text) × (begins_frame text ≡ false) × (begins_partial text ≡ false)
 
 -- no frame and no partial frame begins in the front, which stands before the text

@@ -58,7 +58,8 @@ scan-preserved c =
     let passed : Scanned (all ++ take (c.scan.used + c.bytes_to_pass-used.result) piece) (drop p items) = scanned_front all piece (drop p items) c.scan.used c.bytes_to_pass-used.result j before in
     let v : ℕ = c.scan.used + c.bytes_to_pass-used.result in
     let more : ℕ = c.min-more.result in
-    let wanted = rw same at c.in-Partial.ensures.front in
+    let partial = rw same at c.in-Partial.ensures.front in
+    let held_now = rw back at c.len.ensures.len in
     let least = c.min-more.ensures in
     let m : v + more - v ≡ more = omega arith in
     let part : List ℕ = take more (drop v piece) in
@@ -68,12 +69,12 @@ scan-preserved c =
     let few = c.drop_passed.ensures.few in
     let waiting = length-drop p items in
     let short : length part ≤ more = omega (arith, length-take more (drop v piece)) in
-    let room : length part ≤ c.fill_from_slice.result = omega (arith, count, short, held.0, held.1, held.2, waiting, wanted.1) in
+    let room : length part ≤ c.fill_from_slice.result = omega (arith, count, short, held.0, held.1, held.2, waiting, partial.0, held_now, least) in
     let now : c.fill_from_slice.new.self ≡ buffer (items ++ part) ring.capacity = filled ∙ ap (λ z. buffer (items ++ z) ring.capacity) (take_all c.fill_from_slice.result part room) in
     let still : AreHeld ring p c.front_at.new.prefixes.items = (held.0, held.1, held.2, held.3, prefixes) in
     let left : drop p c.fill_from_slice.new.self.items ≡ drop p items ++ part = ap (λ (b : Buffer ℕ). drop p b.items) now ∙ drop_more items part p held.2 in
     record {
-      held = held_more ring c.fill_from_slice.new.self p c.front_at.new.prefixes.items part now few (omega (arith, short, waiting, wanted.1)) still;
+      held = held_more ring c.fill_from_slice.new.self p c.front_at.new.prefixes.items part now few (omega (arith, short, waiting, partial.0, held_now, least)) still;
       used = omega arith;
       scanned = rw left (scanned_fill all piece (drop p items) v more passed);
     }

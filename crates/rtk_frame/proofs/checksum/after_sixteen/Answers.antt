@@ -1,0 +1,17 @@
+use Rattle.std.proofs.Common.{◌≡◌, ◌++◌, ◌∷◌, ◌<◌, [], ℕ, List, get_or, drop, sym, ◌∙◌, ap, arith}
+use Rattle.std.specs.Prelude.{bit_xor}
+use Rattle.rtk_frame.specs.Steps.Remainder.{remainder}
+use Rattle.rtk_frame.proofs.Blocks.{block, four_bytes, items, items_small, spelled}
+use Rattle.rtk_frame.proofs.checksum.after_sixteen.Goals as goal
+
+pub returns : goal.returns
+returns c = λ rest.
+    let b : List ℕ = c.args.bytes.now in
+    let s : ℕ = c.args.state in
+    let w : ℕ = bit_xor s c.from_be_bytes.result in
+    let front : w ≡ bit_xor s (four_bytes (get_or b 0 0) (get_or b 1 0) (get_or b 2 0) (get_or b 3 0)) = ap (bit_xor s) (omega (arith, c.from_be_bytes.ensures)) in
+    let tail : List ℕ = items 12 4 b in
+    let small : (i : ℕ) → get_or b i 0 < 256 = c.fits-bytes in
+    rw (c.entry.ensures, c.entry-2.ensures, c.entry-3.ensures, c.entry-4.ensures, c.entry-5.ensures, c.entry-6.ensures, c.entry-7.ensures, c.entry-8.ensures, c.entry-9.ensures, c.entry-10.ensures, c.entry-11.ensures, c.entry-12.ensures, c.entry-13.ensures, c.entry-14.ensures, c.entry-15.ensures, c.entry-16.ensures)
+    (sym (ap (λ z. remainder s (z ++ rest)) (spelled 16 b c.told-bytes)
+    ∙ block s (get_or b 0 0) (get_or b 1 0) (get_or b 2 0) (get_or b 3 0) tail rest (omega arith) (omega arith) (small 0) (small 1) (small 2) (small 3) (items_small 12 4 b small) w front))
