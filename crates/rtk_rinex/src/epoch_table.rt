@@ -59,6 +59,10 @@ fn put_row(row: &mut SatelliteRow, satellite: u8, observed: &[Observed])
     ensures { row.new ≡ record { satellite = satellite; observed = record { items = observed.now } } }
 {
     row.satellite = satellite;
+    if row.observed.len() == observed.len() {
+        row.observed.as_mut_slice().copy_from_slice(observed);
+        return;
+    }
     let kept = row.observed.len().min(observed.len());
     row.observed.truncate(kept);
     let (first, more) = observed.split_at(kept);
