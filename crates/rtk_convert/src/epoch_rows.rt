@@ -49,20 +49,23 @@ fn observed(cell: &Cell, digits: Digits) -> Observed
     }
 }
 
-// Writes what a code shows at its place among the listed codes, and says whether it is listed.
-fn put_listed(listed: &[Code], code: Code, shown: Observed, row: &mut [Observed]) -> bool
-    requires width { length row.old ≡ length listed.now }
-    ensures row { row.new ≡ with_code code shown listed.now row.old }
-    ensures listed { result ≡ list_any (is_code code) listed.now }
-{
-    let mut found = false;
+fn places_of(listed: &[Code]) -> [u8; 16] {
+    let mut places = [16; 16];
     for k in 0..listed.len() {
-        if listed[k] == code {
-            row[k] = shown;
-            found = true;
-        }
+        places[listed[k].place()] = k as u8;
     }
-    found
+    places
+}
+
+// Writes what a code shows at its place among the listed codes, and says whether it is listed.
+fn put_listed(places: &[u8; 16], code: Code, shown: Observed, row: &mut [Observed]) -> bool
+{
+    let place = usize::from(places[code.place()]);
+    if place == 16 {
+        return false;
+    }
+    row[place] = shown;
+    true
 }
 
 // Takes the first cell of a satellite and code, and says whether its code is listed.
@@ -70,7 +73,7 @@ fn take_entry(
     tracks: &mut Tracks,
     epoch: GpsMs,
     entry: &CellEntry,
-    listed: &[Code],
+    listed: &[u8; 16],
     row: &mut [Observed],
 ) -> bool
     requires range { IsInRange entry.now }
@@ -130,7 +133,7 @@ fn take_satellite(
     epoch: GpsMs,
     entries: &[CellEntry],
     begin: usize,
-    listed: &[Code],
+    listed: &[u8; 16],
     row: &mut [Observed],
 ) -> Taken
     requires place { begin < length entries.now }
@@ -190,12 +193,13 @@ pub(crate) fn fill_table(
     ensures width { HasWidth (length listed.now) table.new.rows }
 {
     table.restart(epoch);
+    let places = places_of(listed);
     let mut room = [NOTHING; 16];
     let row = &mut room[..listed.len()];
     let mut at = 0;
     'satellites: while at < entries.len() {
         let satellite = entries[at].satellite;
-        let taken = take_satellite(tracks, epoch, entries, at, listed, row);
+        let taken = take_satellite(tracks, epoch, entries, at, &places, row);
         if taken.has_listed {
             table.push_row(satellite, row);
         }

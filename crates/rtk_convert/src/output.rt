@@ -12,7 +12,7 @@ use crate::fault::{ConvertFault, Stream};
 use crate::setup::Setup;
 use rtk_frame::{Sink, write_all};
 use rtk_obs::{GpsMs, Position};
-use rtk_rinex::{EpochTable, header, record};
+use rtk_rinex::{EpochTable, header, write_record};
 use std::alloc::{AllocError, Global};
 
 // Writes a text to the file.
@@ -55,6 +55,7 @@ pub(crate) fn put_record<O: Sink>(
     position: &Position,
     header_out: bool,
     table: &EpochTable,
+    text: &mut Vec<u8>,
     out: &mut O,
 ) -> Result<bool, ConvertFault>
     requires width { HasWidth (length setup.now.head.listed) table.now.rows }
@@ -66,17 +67,17 @@ pub(crate) fn put_record<O: Sink>(
     ensures file_failed { NamesFailedWrites Stream.Out result (O.failures out.old) (O.failures out.new) }
     ensures fault { IfErr result IsOutFault }
 {
-    let Ok(text) = record(alloc, setup.head(), table) else {
+    if write_record(text, setup.head(), table).is_err() {
         return Err(ConvertFault::OutOfMemory);
-    };
+    }
     if text.is_empty() {
         return Ok(false);
     }
     if header_out {
-        put_text(out, &text)?;
+        put_text(out, text)?;
         return Ok(true);
     }
-    let Ok(whole) = with_header(alloc, setup, position, table.time(), &text) else {
+    let Ok(whole) = with_header(alloc, setup, position, table.time(), text) else {
         return Err(ConvertFault::OutOfMemory);
     };
     put_text(out, &whole)?;

@@ -36,6 +36,7 @@ use std::marker::Model;
 pub(crate) struct ClosedEpochs {
     tracks: Box<Tracks>,
     table: Box<EpochTable>,
+    text: Vec<u8>,
     header_out: bool,
     count: u64,
 }
@@ -50,7 +51,7 @@ impl Model for ClosedEpochs {
 
     ghost view = { λ r. record { tracks = r.tracks.value; header_out = r.header_out; count = r.count } };
 
-    ghost invariant = { λ r. r ≡ record { tracks = r.tracks; table = r.table; header_out = r.header_out; count = r.count } };
+    ghost invariant = { λ r. r ≡ record { tracks = r.tracks; table = r.table; text = r.text; header_out = r.header_out; count = r.count } };
 }
 
 // Tracks without a phase. This and the next function are alone in needing the stack for a large
@@ -79,6 +80,7 @@ impl ClosedEpochs {
         Ok(ClosedEpochs {
             tracks: new_tracks(alloc)?,
             table: new_table(alloc, start)?,
+            text: Vec::new(alloc),
             header_out: false,
             count: 0,
         })
@@ -127,8 +129,8 @@ impl ClosedEpochs {
     {
         let listed = setup.head().codes();
         fill_table(&mut self.tracks, epoch, cells, listed, &mut self.table);
-        let table = &self.table;
-        let has_record = put_record(alloc, setup, position, self.header_out, table, out)?;
+        let (table, text) = (&self.table, &mut self.text);
+        let has_record = put_record(alloc, setup, position, self.header_out, table, text, out)?;
         if !has_record {
             return Ok(());
         }

@@ -2,12 +2,12 @@
 
 ghost use Rattle.std.specs.Prelude.{◌≡◌, ℕ, ◌&&◌, ◌+◌, ◌≤◌, ◌<◌, pos, negsuc, ◌≤ℤ◌, ◌*ℤ◌, unsigned_abs};
 ghost use Rattle.rtk_obs.specs.Slip.{epoch_cell, is_legacy, has_slipped};
-ghost use Rattle.rtk_obs.specs.Code.{frequency_of};
+ghost use Rattle.rtk_obs.specs.Code.{band_of, frequency_of};
 ghost use Rattle.rtk_obs.specs.Rollover.{roll_of, rolls_between, rolls_after, within_limits, rolled_phase};
 ghost use Rattle.rtk_obs.specs.declared.time.TheConstants.{LAST_MS};
 
 use crate::cell::{Cell, CellSource};
-use crate::code::Band;
+use crate::code::{Band, Code};
 use crate::track::Track;
 
 // 750 cycles as an offset, in 0.0005 m, times a frequency, in Hz: 1,500,000 * 299,792,458.
@@ -50,15 +50,15 @@ fn are_legacy(last: CellSource, source: CellSource) -> bool
 }
 
 /// The roll count of a phase that comes after the last one, with or without a slip between them.
-pub(crate) fn rolls_after(band: Band, last: Track, slip: bool, cell: &Cell) -> i64
-    requires bounded { unsigned_abs last.rolls ≤ LAST_MS }
-    ensures value { (epoch : ℕ) → slip ≡ has_slipped last (epoch_cell epoch cell.now) → result ≡ rolls_after band last (epoch_cell epoch cell.now) }
-    ensures bound { unsigned_abs result ≤ unsigned_abs last.rolls + 1 }
+pub(crate) fn rolls_after(code: Code, last: &Track, slip: bool, cell: &Cell) -> i64
+    requires bounded { unsigned_abs last.now.rolls ≤ LAST_MS }
+    ensures value { (epoch : ℕ) → slip ≡ has_slipped last.now (epoch_cell epoch cell.now) → result ≡ rolls_after (band_of code) last.now (epoch_cell epoch cell.now) }
+    ensures bound { unsigned_abs result ≤ unsigned_abs last.now.rolls + 1 }
 {
     if slip || !are_legacy(last.source, cell.source) {
         return 0;
     }
-    rolls_from(band, last.rolls, last.offset, cell.offset)
+    rolls_from(code.band(), last.rolls, last.offset, cell.offset)
 }
 
 // The value, if it is within the limits of an observation.
@@ -81,13 +81,23 @@ fn with_rolls(phase: i64, rolls: i64) -> Option<i64>
     within_limits(i128::from(phase) + 1_500_000 * i128::from(rolls))
 }
 
+// The phase without rolls, if that is within the limits.
+fn without_rolls(phase: i64) -> Option<i64>
+    ensures { result ≡ within_limits phase }
+{
+    if phase < -999_999_999_999 || phase > 9_999_999_999_999 {
+        return None;
+    }
+    Some(phase)
+}
+
 /// A phase in millicycles with 1500 cycles added for each roll; `None` exactly if that is
 /// outside the limits of an observation, -999,999,999,999 to 9,999,999,999,999.
 pub fn rolled(phase: i64, rolls: i64) -> Option<i64>
     ensures { result ≡ rolled_phase phase rolls }
 {
     if rolls == 0 {
-        return within_limits(i128::from(phase));
+        return without_rolls(phase);
     }
     with_rolls(phase, rolls)
 }

@@ -8,9 +8,9 @@ use crate::track::Track;
 
 /// Is the lock time shorter than the time since the last phase? Or did the last phase come in the
 /// same kind of message, with a longer lock time?
-pub(crate) fn has_slipped(last: Track, epoch: u64, cell: &Cell) -> bool
-    requires { last.epoch ≤ epoch }
-    ensures { result ≡ has_slipped last (epoch_cell epoch cell.now) }
+pub(crate) fn has_slipped(last: &Track, epoch: u64, cell: &Cell) -> bool
+    requires { last.now.epoch ≤ epoch }
+    ensures { result ≡ has_slipped last.now (epoch_cell epoch cell.now) }
 {
     u64::from(cell.lock_time_ms) < epoch - last.epoch
         || (cell.source == last.source && cell.lock_time_ms < last.lock_time_ms)

@@ -14,7 +14,7 @@ ghost use Rattle.rtk_obs.specs.CellSteps.{Step, step_of, epochs_of};
 ghost use Rattle.rtk_obs.specs.Tracks.{IsBounded, IsLater, track_at, place_of_signal, RepresentsSteps};
 
 use crate::cell::Cell;
-use crate::code::{Band, Code};
+use crate::code::Code;
 use crate::rollover::rolls_after;
 use crate::slip::has_slipped;
 use crate::time::GpsMs;
@@ -55,12 +55,12 @@ pub fn place_of_signal(satellite: u8, code: Code) -> usize
 }
 
 // The digits of a cell with a phase, which is compared with the last one.
-fn digits_after(band: Band, last: Option<Track>, epoch: u64, cell: &Cell) -> Digits
+fn digits_after(code: Code, last: &Option<Track>, epoch: u64, cell: &Cell) -> Digits
     requires phase { has_phase (epoch_cell epoch cell.now) ≡ true }
-    requires later { IsLater last epoch }
+    requires later { IsLater last.now epoch }
     requires range { epoch ≤ LAST_MS }
-    requires bounded { IsBounded last }
-    ensures value { result ≡ digits_since band last (epoch_cell epoch cell.now) }
+    requires bounded { IsBounded last.now }
+    ensures value { result ≡ digits_since (band_of code) last.now (epoch_cell epoch cell.now) }
     ensures bound { unsigned_abs result.rolls ≤ epoch }
 {
     match last {
@@ -69,7 +69,7 @@ fn digits_after(band: Band, last: Option<Track>, epoch: u64, cell: &Cell) -> Dig
             Digits {
                 slip,
                 half: cell.half,
-                rolls: rolls_after(band, last, slip, cell),
+                rolls: rolls_after(code, last, slip, cell),
             }
         }
         None => Digits {
@@ -127,7 +127,7 @@ impl Tracks {
         }
         let epoch = epoch.ms();
         let place = place_of_signal(satellite, code);
-        let digits = digits_after(code.band(), self.last[place], epoch, cell);
+        let digits = digits_after(code, &self.last[place], epoch, cell);
         self.last[place] = Some(track_of(cell, epoch, digits.rolls));
         digits
     }

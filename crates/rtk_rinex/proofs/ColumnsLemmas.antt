@@ -78,38 +78,38 @@ thousandths n r e =
     let c : n % 10 ≡ r % 10 = omega arith in
     rw (a, b, c) refl
 
--- two digits
-abbrev pub pair : ℕ → List ℕ
-pair two = (48 + two / 10) ∷ (48 + two % 10) ∷ []
+-- from 1000 on a number has the digits of its thousandth and three more
+pub decimal-three : (n : ℕ) → 1000 ≤ n → n < 2 ^ 64 → decimal n ≡ decimal (n / 1000) ++ last_digits 3 (n % 1000)
+decimal-three n h fits =
+    let rest : n / 10 / 100 ≡ n / 1000 = omega arith in
+    let hundreds : n / 10 % 100 / 10 ≡ n % 1000 / 10 / 10 % 10 = omega arith in
+    let tens : n / 10 % 100 % 10 ≡ n % 1000 / 10 % 10 = omega arith in
+    let units : n % 10 ≡ n % 1000 % 10 = omega arith in
+    let front : decimal (n / 10) ≡ decimal (n / 1000) ++ (48 + n % 1000 / 10 / 10 % 10) ∷ (48 + n % 1000 / 10 % 10) ∷ [] =
+    rw (rest, hundreds, tens) at (decimal-two (n / 10) (omega arith) (omega arith)) in
+    decimal_step n (omega arith) fits ∙ ap (λ (d : ℕ). decimal (n / 10) ++ (48 + d) ∷ []) units
+    ∙ ap (λ (ds : List ℕ). ds ++ (48 + n % 1000 % 10) ∷ []) front ∙ append_assoc (decimal (n / 1000)) _ _
 
--- F14.3 of a value of seven to ten digits before the point: the first of them, and columns that
+-- F14.3 of a value of seven to nine digits before the point: the first of them, and columns that
 -- stand whatever the number is
-pub right-long : (n : ℕ) → 10 ^ 9 ≤ n → n < 10 ^ 13 → right 14 (decimals 3 false n)
-    ≡ right 4 (decimal (n / 1_000_000_000)) ++ (pair (n % 1_000_000_000 / 100_000 / 100) ++ (pair (n % 1_000_000_000 / 100_000 % 100) ++ (pair (n % 1_000_000_000 % 100_000 / 1000) ++ 46 ∷ last_digits 3 (n % 1_000_000_000 % 100_000 % 1000))))
-right-long n low high =
-    let w = n / 1000 in
-    let front : w / 100 / 100 / 100 ≡ n / 1_000_000_000 = omega arith in
-    let one : w / 100 / 100 % 100 ≡ n % 1_000_000_000 / 100_000 / 100 = omega arith in
-    let two : w / 100 % 100 ≡ n % 1_000_000_000 / 100_000 % 100 = omega arith in
-    let three : w % 100 ≡ n % 1_000_000_000 % 100_000 / 1000 = omega arith in
-    let few = length-decimal-le 4 (n / 1_000_000_000) (omega arith) (omega arith) (omega arith) in
-    let first : decimal w ≡ decimal (w / 100) ++ pair (w % 100) = decimal-two w (omega arith) (omega arith) in
-    let second : decimal (w / 100) ≡ decimal (w / 100 / 100) ++ pair (w / 100 % 100) = decimal-two (w / 100) (omega arith) (omega arith) in
-    let third : decimal (w / 100 / 100) ≡ decimal (w / 100 / 100 / 100) ++ pair (w / 100 / 100 % 100) = decimal-two (w / 100 / 100) (omega arith) (omega arith) in
-    let last : last_digits 3 n ≡ last_digits 3 (n % 1_000_000_000 % 100_000 % 1000) = thousandths n (n % 1_000_000_000 % 100_000 % 1000) (omega arith) in
-    let whole : decimal w ≡ ((decimal (n / 1_000_000_000) ++ pair (n % 1_000_000_000 / 100_000 / 100)) ++ pair (n % 1_000_000_000 / 100_000 % 100)) ++ pair (n % 1_000_000_000 % 100_000 / 1000) =
-    first ∙ rw (three, second, two, third, one, front) refl in
-    let text : decimal w ++ 46 ∷ last_digits 3 n ≡ decimal (n / 1_000_000_000) ++ (pair (n % 1_000_000_000 / 100_000 / 100) ++ (pair (n % 1_000_000_000 / 100_000 % 100) ++ (pair (n % 1_000_000_000 % 100_000 / 1000) ++ 46 ∷ last_digits 3 (n % 1_000_000_000 % 100_000 % 1000)))) =
-    rw (whole, last) (simp append_assoc) in
-    rw text (sym (right-front 4 10 (decimal (n / 1_000_000_000)) _ few refl))
+pub right-long : (n u t : ℕ) → u ≡ n / 1000 → t ≡ u / 1000 → 10 ^ 9 ≤ n → n < 10 ^ 12 → right 14 (decimals 3 false n)
+    ≡ right 4 (decimal (t / 1000)) ++ (last_digits 3 (t % 1000) ++ (last_digits 3 (u % 1000) ++ 46 ∷ last_digits 3 (n % 1000)))
+right-long n u t eu et low high =
+    let few = length-decimal-le 4 (t / 1000) (omega arith) (omega arith) (omega arith) in
+    let first : decimal u ≡ decimal t ++ last_digits 3 (u % 1000) = rw (← et) at (decimal-three u (omega arith) (omega arith)) in
+    let second : decimal t ≡ decimal (t / 1000) ++ last_digits 3 (t % 1000) = decimal-three t (omega arith) (omega arith) in
+    let last : last_digits 3 n ≡ last_digits 3 (n % 1000) = thousandths n (n % 1000) refl in
+    let text : decimal u ++ 46 ∷ last_digits 3 n ≡ decimal (t / 1000) ++ (last_digits 3 (t % 1000) ++ (last_digits 3 (u % 1000) ++ 46 ∷ last_digits 3 (n % 1000))) =
+    rw (first, second, last) (simp append_assoc) in
+    rw (← eu, text) (sym (right-front 4 10 (decimal (t / 1000)) _ few refl))
 
--- F14.3 of a value of one or two digits before the point
-pub right-short : (n : ℕ) → n < 100_000 → right 14 (decimals 3 false n) ≡ replicate 8 32 ++ (right 2 (decimal (n / 1000)) ++ 46 ∷ last_digits 3 (n % 1000))
+-- F14.3 of a value of at most three digits before the point
+pub right-short : (n : ℕ) → n < 1_000_000 → right 14 (decimals 3 false n) ≡ replicate 6 32 ++ (right 4 (decimal (n / 1000)) ++ 46 ∷ last_digits 3 (n % 1000))
 right-short n high =
-    let few = length-decimal-le 2 (n / 1000) (omega arith) (omega arith) (omega arith) in
+    let few = length-decimal-le 4 (n / 1000) (omega arith) (omega arith) (omega arith) in
     let last = thousandths n (n % 1000) refl in
-    let ten : length (decimal (n / 1000) ++ 46 ∷ last_digits 3 n) ≤ 6 = simp length-append (omega arith) in
-    rw (right-front 2 4 (decimal (n / 1000)) (46 ∷ last_digits 3 (n % 1000)) few refl, ← last) (sym (right-wide 8 6 (decimal (n / 1000) ++ 46 ∷ last_digits 3 n) ten))
+    let ten : length (decimal (n / 1000) ++ 46 ∷ last_digits 3 n) ≤ 8 = simp length-append (omega arith) in
+    rw (right-front 4 4 (decimal (n / 1000)) (46 ∷ last_digits 3 (n % 1000)) few refl, ← last) (sym (right-wide 6 8 (decimal (n / 1000) ++ 46 ∷ last_digits 3 n) ten))
 
 -- F14.3 of a number that is not negative
 pub fixed-long : (v : ℤ) (m : ℕ) → pos 1_000_000_000 ≤ℤ v → v ≡ pos m → right 14 (decimals 3 false m) ≡ fixed 3 14 v

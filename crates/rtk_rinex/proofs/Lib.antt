@@ -29,6 +29,7 @@ mod OneHeaderLemmas
 mod OneFaultLemmas
 mod OneTableLemmas
 mod PairsLemmas
+mod ThreesLemmas
 mod WrittenLemmas
 mod EqualityLemmas
 mod RecordsLemmas

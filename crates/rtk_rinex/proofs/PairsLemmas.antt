@@ -10,7 +10,7 @@ entries n [] = true
 entries n (t ∷ []) = false
 entries n (t ∷ u ∷ more) = (t == 48 + n / 10) && ((u == 48 + n % 10) && entries (n + 1) more)
 
-both : (a b : Bool) → (a && b) ≡ true → (a ≡ true) × (b ≡ true)
+pub both : (a b : Bool) → (a && b) ≡ true → (a ≡ true) × (b ≡ true)
 both true b h = (refl, h)
 both false b h = absurd (cc)
 

@@ -52,19 +52,27 @@ impl Model for EpochTable {
     ghost invariant = { λ t. (t.count ≤ 32) × (length t.rows ≡ 32) × IsEpochTableView (record { time = t.time; rows = take t.count t.rows }) };
 }
 
-// Writes a row over another one. What is shown goes over what was, since to clear a row takes longer
-// than to write it.
-fn put_row(row: &mut SatelliteRow, satellite: u8, observed: &[Observed])
+// Writes observations over more or fewer ones.
+#[inline(never)]
+fn put_anew(kept: &mut ArrayVec<Observed, 16>, observed: &[Observed])
     requires { length observed.now ≤ 16 }
-    ensures { row.new ≡ record { satellite = satellite; observed = record { items = observed.now } } }
+    ensures { kept.new ≡ record { items = observed.now } }
 {
-    row.satellite = satellite;
-    let kept = row.observed.len().min(observed.len());
-    row.observed.truncate(kept);
-    let (first, more) = observed.split_at(kept);
-    row.observed.as_mut_slice().copy_from_slice(first);
-    for shown in more {
-        row.observed.push(*shown);
+    kept.clear();
+    if kept.try_extend_from_slice(observed).is_err() {
+        unreachable!();
+    }
+}
+
+// Writes observations over others, of which there are mostly as many.
+fn put_observed(kept: &mut ArrayVec<Observed, 16>, observed: &[Observed])
+    requires { length observed.now ≤ 16 }
+    ensures { kept.new ≡ record { items = observed.now } }
+{
+    if kept.len() == observed.len() {
+        kept.as_mut_slice().copy_from_slice(observed);
+    } else {
+        put_anew(kept, observed);
     }
 }
 
@@ -98,7 +106,9 @@ impl EpochTable {
         requires room { length self.old.rows < 32 }
         ensures { self.new ≡ record { time = self.old.time; rows = self.old.rows ++ record { satellite = satellite; observed = record { items = observed.now } } ∷ [] } }
     {
-        put_row(&mut self.rows[self.count], satellite, observed);
+        let row = &mut self.rows[self.count];
+        row.satellite = satellite;
+        put_observed(&mut row.observed, observed);
         self.count += 1;
     }
 

@@ -1,6 +1,6 @@
 //! The text of a record: the epoch line, and a line for each satellite that shows something.
 
-ghost use Rattle.std.specs.Prelude.{◌≡◌, ℕ, ◌+◌, ◌*◌, ◌<◌, ◌≤◌, ◌-◌, ◌^◌, [], ◌∷◌, ◌++◌, length, take, drop, replicate, flat_map, IfOk, codes, decimal, not, ◌==◌, if◌then◌else◌};
+ghost use Rattle.std.specs.Prelude.{◌≡◌, ℕ, ◌+◌, ◌*◌, ◌<◌, ◌≤◌, ◌-◌, ◌^◌, [], ◌∷◌, ◌++◌, length, take, drop, replicate, flat_map, IfOk, OnOk, codes, decimal, not, ◌==◌, if◌then◌else◌};
 ghost use Rattle.std.specs.List.{filter, list_any, sum_by};
 ghost use Rattle.rtk_rinex.specs.Record.{HasWidth, is_written, is_present, observation, observations, strength_digit, strength_value, lli_digit, has_observation, has_line, trim_end, satellite_line, epoch_date_text, epoch_line, record_text};
 
@@ -52,7 +52,7 @@ fn put_observation(field: &mut [u8], value: Option<i64>, first: u8, second: u8)
     ensures len { length field.new ≡ 16 }
 {
     match value {
-        Some(value) if value >= 1_000_000_000 && value <= GREATEST_F14_3 => {
+        Some(value) if value >= 1_000_000_000 && value <= 999_999_999_999 => {
             put_long_14_3(&mut field[..14], value);
             field[14] = first;
             field[15] = second;
@@ -97,8 +97,8 @@ fn put_strength(field: &mut [u8], strength: Option<u32>)
     ensures len { length field.new ≡ 16 }
 {
     match strength {
-        Some(strength) if strength > 0 && strength < 100_000 => {
-            put_short_14_3(&mut field[..14], u64::from(strength));
+        Some(strength) if strength > 0 && strength < 1_000_000 => {
+            put_short_14_3(&mut field[..14], strength);
         }
         _ => put_any_observation(field, value_of_strength(strength), b' ', b' '),
     }
@@ -268,7 +268,7 @@ fn put_satellite_lines(lines: &mut [u8], rows: &[SatelliteRow]) -> (usize, usize
 
 // Writes the lines of a record over blanks, and returns how long it is. The epoch line is written
 // last, since it has the number of the others.
-fn put_record(text: &mut [u8], time: Civil, rows: &[SatelliteRow]) -> usize
+fn put_lines(text: &mut [u8], time: Civil, rows: &[SatelliteRow]) -> usize
     requires blank { text.old ≡ replicate (length text.old) 32 }
     requires room { 36 + sum_by (λ r. 4 + 48 * length r.observed.items) rows.now ≤ length text.old }
     requires few { length rows.now < 1000 }
@@ -281,23 +281,38 @@ fn put_record(text: &mut [u8], time: Civil, rows: &[SatelliteRow]) -> usize
     36 + end
 }
 
+/// Makes a text the record of an epoch, in a file of this head; no bytes if no observation is
+/// written.
+///
+/// Satellites without a written observation are left out, and not counted on the epoch line. A text
+/// that is kept from record to record has the room of the longest one, and memory is taken only for
+/// a longer one. Source: RINEX 3.05, Table A3.
+pub fn write_record(text: &mut Vec<u8>, head: &Head, table: &EpochTable) -> Result<(), AllocError>
+    requires { HasWidth (length head.now.listed) table.now.rows }
+    ensures { OnOk result (text.new.items ≡ record_text table.now) }
+{
+    text.clear();
+    let rows = table.rows();
+    if !has_lines(rows) {
+        return Ok(());
+    }
+    let room = 36 + rows.len() * (4 + 48 * head.codes().len());
+    text.reserve_exact(room)?;
+    text.resize(room, b' ')?;
+    let end = put_lines(text, civil(table.time()), rows);
+    text.truncate(end);
+    Ok(())
+}
+
 /// The record of an epoch, in a file of this head; no bytes if no observation is written.
 ///
-/// Satellites without a written observation are left out, and not counted on the epoch line.
-/// Memory is taken at most once. Source: RINEX 3.05, Table A3.
+/// Memory is taken at most once.
 pub fn record(alloc: Global, head: &Head, table: &EpochTable) -> Result<Vec<u8>, AllocError>
     requires { HasWidth (length head.now.listed) table.now.rows }
     // It gives up only if memory is refused: rows "record .." of tests/calls/src/rinex.rt.in.
     ensures { IfOk result (λ text. text.items ≡ record_text table.now) }
 {
-    let rows = table.rows();
-    if !has_lines(rows) {
-        return Ok(Vec::new(alloc));
-    }
-    let room = 36 + rows.len() * (4 + 48 * head.codes().len());
-    let mut out = Vec::with_capacity(alloc, room)?;
-    out.resize(room, b' ')?;
-    let end = put_record(&mut out, civil(table.time()), rows);
-    out.truncate(end);
-    Ok(out)
+    let mut text = Vec::new(alloc);
+    write_record(&mut text, head, table)?;
+    Ok(text)
 }

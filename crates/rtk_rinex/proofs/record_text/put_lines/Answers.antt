@@ -3,7 +3,7 @@ use Rattle.std.proofs.lemmas.List.{length-take}
 use Rattle.rtk_rinex.specs.Record.{epoch_line}
 use Rattle.rtk_rinex.proofs.EpochLemmas.{length-written}
 use Rattle.rtk_rinex.proofs.WrittenLemmas.{blanks-after, both-written}
-use Rattle.rtk_rinex.proofs.record_text.put_record.Goals as goal
+use Rattle.rtk_rinex.proofs.record_text.put_lines.Goals as goal
 
 pub put_satellite_lines-count-requires-clause-blank : goal.put_satellite_lines-count-requires-clause-blank
 put_satellite_lines-count-requires-clause-blank c = (blanks-after c.args.text.now 36 (length c.args.text.now - 36) c.requires.blank (omega arith)).0
