@@ -3,6 +3,7 @@ mod CellOrderLemmas
 mod ThroughLemmas
 mod RowsLemmas
 mod SatelliteLemmas
+mod ListedLemmas
 mod FileLemmas
 mod TableLemmas
 mod KeptTableLemmas

@@ -1,6 +1,6 @@
 //! The table of a closed epoch, made from its cells.
 
-ghost use Rattle.std.specs.Prelude.{◌≡◌, ◌≢◌, ℕ, ◌+◌, ◌<◌, ◌≤◌, List, [], ◌∷◌, map, take, length, replicate, Option, Some, All, slice_index_or, is_some, not, IsTrue, None};
+ghost use Rattle.std.specs.Prelude.{◌≡◌, ◌≢◌, ℕ, ◌+◌, ◌<◌, ◌≤◌, List, [], ◌∷◌, map, take, length, replicate, Option, Some, All, AllPairs, slice_index_or, is_some, not, IsTrue, None};
 ghost use Rattle.std.specs.List.{list_any};
 ghost use Rattle.rtk_obs.specs.declared.cell.CellEntry.{CellEntry};
 ghost use Rattle.rtk_obs.specs.declared.track.Track.{Track};
@@ -11,10 +11,11 @@ ghost use Rattle.rtk_obs.specs.Slip.{epoch_cell};
 ghost use Rattle.rtk_obs.specs.Tracks.{IsLater, track_at, place_of_signal};
 ghost use Rattle.rtk_collect.specs.EpochSet.{EpochSetView};
 ghost use Rattle.rtk_collect.specs.Key.{KeysRise};
+ghost use Rattle.rtk_rinex.specs.Header.{IsCodeList};
 ghost use Rattle.rtk_rinex.specs.Record.{HasWidth};
 ghost use Rattle.rtk_convert.specs.Rows.{first_cell, rolled_or_none, observed_with, or_nothing, table_of};
 ghost use Rattle.rtk_convert.specs.LastPhases.{HasLastPhases};
-ghost use Rattle.rtk_convert.specs.Steps.ShownCells.{AllBelow, AreTaken, MayStep, shown_by, is_code, with_code};
+ghost use Rattle.rtk_convert.specs.Steps.ShownCells.{AllBelow, AreTaken, MayStep, ArePlaces, shown_by, is_code, with_code};
 
 use rtk_obs::{Cell, CellEntry, Code, Digits, GpsMs, Tracks, rolled};
 use rtk_rinex::{EpochTable, Observed};
@@ -49,7 +50,12 @@ fn observed(cell: &Cell, digits: Digits) -> Observed
     }
 }
 
-fn places_of(listed: &[Code]) -> [u8; 16] {
+// The place of each code among the listed ones, or 16.
+fn places_of(listed: &[Code]) -> [u8; 16]
+    requires few { length listed.now ≤ 16 }
+    requires distinct { AllPairs (λ a b. a ≢ b) listed.now }
+    ensures { ArePlaces listed.now result }
+{
     let mut places = [16; 16];
     for k in 0..listed.len() {
         places[listed[k].place()] = k as u8;
@@ -58,10 +64,20 @@ fn places_of(listed: &[Code]) -> [u8; 16] {
 }
 
 // Writes what a code shows at its place among the listed codes, and says whether it is listed.
-fn put_listed(places: &[u8; 16], code: Code, shown: Observed, row: &mut [Observed]) -> bool
+fn put_listed(
+    listed: &[Code],
+    places: &[u8; 16],
+    code: Code,
+    shown: Observed,
+    row: &mut [Observed],
+) -> bool
+    requires width { length row.old ≡ length listed.now }
+    requires places { ArePlaces listed.now places.now }
+    ensures row { row.new ≡ with_code code shown listed.now row.old }
+    ensures listed { result ≡ list_any (is_code code) listed.now }
 {
     let place = usize::from(places[code.place()]);
-    if place == 16 {
+    if place >= listed.len() {
         return false;
     }
     row[place] = shown;
@@ -73,12 +89,14 @@ fn take_entry(
     tracks: &mut Tracks,
     epoch: GpsMs,
     entry: &CellEntry,
-    listed: &[u8; 16],
+    listed: &[Code],
+    places: &[u8; 16],
     row: &mut [Observed],
 ) -> bool
     requires range { IsInRange entry.now }
     requires later { IsLater (track_at tracks.old entry.now.satellite entry.now.code) epoch }
     requires width { length row.old ≡ length listed.now }
+    requires places { ArePlaces listed.now places.now }
     ensures track { track_at tracks.new entry.now.satellite entry.now.code
         ≡ last_after (band_of entry.now.code) (track_at tracks.old entry.now.satellite entry.now.code) (epoch_cell epoch entry.now.cell) }
     ensures others { (s : ℕ) (c : Code) → place_of_signal s c ≢ place_of_signal entry.now.satellite entry.now.code → track_at tracks.new s c ≡ track_at tracks.old s c }
@@ -89,7 +107,7 @@ fn take_entry(
 {
     let digits = tracks.step(entry.satellite, entry.code, epoch, &entry.cell);
     let shown = observed(&entry.cell, digits);
-    put_listed(listed, entry.code, shown, row)
+    put_listed(listed, places, entry.code, shown, row)
 }
 
 // Has an earlier cell the same satellite and code? It stands right before this one.
@@ -133,7 +151,8 @@ fn take_satellite(
     epoch: GpsMs,
     entries: &[CellEntry],
     begin: usize,
-    listed: &[u8; 16],
+    listed: &[Code],
+    places: &[u8; 16],
     row: &mut [Observed],
 ) -> Taken
     requires place { begin < length entries.now }
@@ -142,6 +161,7 @@ fn take_satellite(
     requires first { (k : ℕ) (d : CellEntry) → k < begin → (slice_index_or entries.now k d).satellite < (slice_index_or entries.now begin d).satellite }
     requires later { MayStep tracks.old (take begin entries.now) epoch }
     requires width { length row.old ≡ length listed.now }
+    requires places { ArePlaces listed.now places.now }
     ensures taken { (old : List (Option Track)) → AreTaken old epoch (take begin entries.now) tracks.old → AreTaken old epoch (take result.end entries.now) tracks.new }
     ensures later { MayStep tracks.new (take result.end entries.now) epoch }
     ensures row { (old : List (Option Track)) (d : CellEntry) → AreTaken old epoch (take begin entries.now) tracks.old
@@ -162,7 +182,7 @@ fn take_satellite(
             end += 1;
             continue;
         }
-        has_listed |= take_entry(tracks, epoch, &entries[end], listed, row);
+        has_listed |= take_entry(tracks, epoch, &entries[end], listed, places, row);
         end += 1;
     }
     Taken { end, has_listed }
@@ -183,7 +203,7 @@ pub(crate) fn fill_table(
 )
     requires ranges { All IsInRange entries.now }
     requires rises { KeysRise entries.now }
-    requires few { length listed.now ≤ 16 }
+    requires listed { IsCodeList listed.now }
     requires later { AllBelow tracks.old epoch }
     ensures table { (below : List EpochSetView) → HasLastPhases tracks.old below
         → table.new ≡ table_of listed.now (record { epoch = epoch; cells = entries.now }) below }
@@ -199,7 +219,7 @@ pub(crate) fn fill_table(
     let mut at = 0;
     'satellites: while at < entries.len() {
         let satellite = entries[at].satellite;
-        let taken = take_satellite(tracks, epoch, entries, at, &places, row);
+        let taken = take_satellite(tracks, epoch, entries, at, listed, &places, row);
         if taken.has_listed {
             table.push_row(satellite, row);
         }

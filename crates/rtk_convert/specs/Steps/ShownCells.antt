@@ -1,9 +1,11 @@
 -- The cells of an epoch are taken one after another: what they show, and which phases are the last
 -- ones.
-use Rattle.std.specs.Prelude.{◌≡◌, ◌==◌, ℕ, Bool, List, [], ◌∷◌, Option, Some, None, if◌then◌else◌}
+use Rattle.std.specs.Prelude.{◌≡◌, ◌≢◌, ◌==◌, ◌<◌, ◌≤◌, ℕ, Bool, true, false, List, [], ◌∷◌, length, slice_index, slice_index_or, Option, Some, None, AllPairs, if◌then◌else◌}
+use Rattle.std.specs.List.{list_any}
 use Rattle.rtk_obs.specs.declared.cell.Cell.{Cell}
 use Rattle.rtk_obs.specs.declared.cell.CellEntry.{CellEntry}
 use Rattle.rtk_obs.specs.declared.code.Code.{Code}
+use Rattle.rtk_obs.specs.declared.code.Code.TheVariants.{C1C}
 use Rattle.rtk_obs.specs.declared.track.Track.{Track}
 use Rattle.rtk_obs.specs.Code.{place_of, band_of}
 use Rattle.rtk_obs.specs.Slip.{epoch_cell}
@@ -45,3 +47,13 @@ abbrev pub with_code : Code → Observed → List Code → List Observed → Lis
 with_code code shown [] row = row
 with_code code shown (c ∷ listed) [] = []
 with_code code shown (c ∷ listed) (x ∷ row) = (if is_code code c then shown else x) ∷ with_code code shown listed row
+
+-- the place of a code among the listed ones, or one after them if it is not listed
+pub record IsPlaceAmong (listed : List Code) (code : Code) (place : ℕ) : Type 0 where
+  pub unlisted : length listed ≤ place → list_any (is_code code) listed ≡ false
+  pub found : place < length listed → is_code code (slice_index_or listed place C1C) ≡ true
+
+-- the places of all codes among the listed ones, which differ
+pub record ArePlaces (listed : List Code) (places : List ℕ) : Type 0 where
+  pub distinct : AllPairs (λ a b. a ≢ b) listed
+  pub among : (code : Code) → IsPlaceAmong listed code (slice_index places (place_of code))

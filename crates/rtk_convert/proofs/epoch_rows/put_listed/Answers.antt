@@ -1,23 +1,25 @@
-use Rattle.std.proofs.Common.{◌∙◌, arith}
-use Rattle.rtk_obs.specs.declared.code.Code.TheVariants.{C1C}
-use Rattle.std.proofs.Common.{get_or}
-use Rattle.rtk_convert.proofs.SatelliteLemmas.{code-yes, code-no, put-yes, put-no, found-yes, found-no}
+use Rattle.std.proofs.Common.{◌≡◌, ℕ, get_or, sym, subst}
+use Rattle.rtk_obs.specs.Code.{place_of}
+use Rattle.rtk_convert.specs.Steps.ShownCells.{IsPlaceAmong}
+use Rattle.rtk_convert.proofs.ListedLemmas.{with_code-none, with_code-one, any-at}
 use Rattle.rtk_convert.proofs.epoch_rows.put_listed.Goals as goal
-use Rattle.rtk_convert.proofs.epoch_rows.put_listed.Goals.{then-eq, else-eq}
 
-pub loop-k-preserved : goal.loop-k-preserved
-loop-k-preserved c =
-    let k = c.loop-k.k in
+pub returns-then-place-listed : goal.returns-then-place-listed
+returns-then-place-listed c =
     let listed = c.args.listed.now in
-    elim c.if-eq.branch [
-      | then-eq w ↦
-          let this = code-yes (get_or listed k C1C) c.args.code c.eq.result c.eq.ensures w.if-eq.true in record {
-            row = w.row-is ∙ put-yes c.args.code c.args.shown listed c.args.row.now c.loop-k.row k (omega arith) c.requires.width this c.loop-k.invariant.row;
-            found = w.found-is ∙ found-yes c.args.code listed k (omega arith) this;
-          }
-      | else-eq w ↦
-          let other = code-no (get_or listed k C1C) c.args.code c.eq.result c.eq.ensures w.if-eq.false in record {
-            row = w.row-is ∙ put-no c.args.code c.args.shown listed c.args.row.now c.loop-k.row k (omega arith) c.requires.width other c.loop-k.invariant.row;
-            found = w.found-is ∙ c.loop-k.invariant.found ∙ found-no c.args.code listed k (omega arith) other;
-          }
-    ]
+    let at = subst (λ (i : ℕ). c.from-place.result ≡ get_or c.args.places.now i 0) c.place.ensures.value c.from-place.ensures in
+    let among = subst (λ (p : ℕ). IsPlaceAmong listed c.args.code p) (sym at) (c.requires.places.among c.args.code) in
+    let none = among.unlisted c.if-place-listed.true in
+    record { row = sym (with_code-none c.args.code c.args.shown listed c.args.row.now none c.requires.width); listed = sym none }
+
+pub returns : goal.returns
+returns c =
+    let listed = c.args.listed.now in
+    let at = subst (λ (i : ℕ). c.from-place.result ≡ get_or c.args.places.now i 0) c.place.ensures.value c.from-place.ensures in
+    let among = subst (λ (p : ℕ). IsPlaceAmong listed c.args.code p) (sym at) (c.requires.places.among c.args.code) in
+    let inside = c.if-place-listed.false in
+    let one = among.found inside in
+    record {
+      row = sym (with_code-one c.args.code c.args.shown listed c.args.row.now c.from-place.result c.requires.places.distinct inside c.requires.width one);
+      listed = sym (any-at c.args.code listed c.from-place.result inside one);
+    }
