@@ -1,5 +1,5 @@
 -- What a search for the next frame of a text answers.
-use Rattle.std.specs.Prelude.{◌≡◌, ⊤, ℕ, ◌+◌, ◌<◌, ◌≤◌, List, length, drop, Option, Some, None}
+use Rattle.std.specs.Prelude.{◌≡◌, ℕ, ◌<◌, ◌≤◌, List, drop, Option, Some, None}
 use Rattle.rtk_frame.specs.Frame.{IsFrameAt, payload_of}
 use Rattle.rtk_frame.specs.declared.search.Placed.{Placed}
 

@@ -51,7 +51,8 @@ impl Model for Scanner {
 /// What `feed` took of the piece, and what it found there.
 #[derive(Clone, Copy, Debug)]
 pub struct Fed<'a> {
-    /// How many bytes of the piece were used. After `Found` the next call is fed the others.
+    /// How many bytes of the piece were used. After `Found` the next call is fed the others, even if
+    /// there are none: the pending bytes may have more frames.
     pub used: usize,
     /// What was found.
     pub answer: Answer<'a>,
@@ -149,9 +150,9 @@ impl Scanner {
     }
 }
 
-// Scans the ring from its passed bytes on, and as many bytes of the piece as it needs, up to the next
-// frame or to the end. Gives how many bytes were used, and the length of the payload if a frame is
-// behind the passed bytes.
+// Scans the ring from its passed bytes on, and bytes of the piece, up to the next frame or to the end.
+// If bytes are wanted, as many enter the ring as there is room for. Gives how many bytes were used,
+// and the length of the payload if a frame is behind the passed bytes.
 fn advance(
     ring: &mut HeapCircularBuffer<u8>,
     passed: &mut usize,

@@ -1,6 +1,5 @@
-use Rattle.std.proofs.Common.{◌≡◌, ℕ, ◌∙◌, ap, sym, arith, get_or}
+use Rattle.std.proofs.Common.{ℕ, ◌∙◌, ap, sym, arith}
 use Rattle.rtk_frame.specs.Steps.Product.{after_zeros}
-use Rattle.rtk_frame.specs.declared.checksum_powers.TheConstants.{POWERS}
 use Rattle.rtk_frame.proofs.Parts.{power_at, last_part}
 use Rattle.rtk_frame.proofs.checksum.checksum_of_last.Goals as goal
 

@@ -1,4 +1,4 @@
-use Rattle.std.proofs.Common.{◌≡◌, ℕ, List, ◌∷◌, ◌++◌, [], ◌<◌, ◌+◌, get_or, drop, take, length, refl, sym, ◌∙◌, ap, arith, drop-cons, add-one}
+use Rattle.std.proofs.Common.{◌≡◌, ℕ, List, ◌∷◌, ◌++◌, [], ◌<◌, ◌+◌, get_or, drop, length, refl, sym, ◌∙◌, ap, arith, drop-cons, add-one}
 use Rattle.std.proofs.lemmas.List.{take-append-drop}
 use Rattle.std.proofs.Math.ListN.{drop_of_length-le}
 use Rattle.rtk_frame.specs.Steps.Remainder.{remainder}

@@ -1,4 +1,4 @@
-use Rattle.std.proofs.Common.{◌≡◌, arith}
+use Rattle.std.proofs.Common.{arith}
 use Rattle.rtk_frame.proofs.Blocks.{word_near, word_far}
 use Rattle.rtk_frame.proofs.checksum.entry.Goals as goal
 

@@ -1,5 +1,5 @@
-use Rattle.std.proofs.Common.{◌≡◌, ◌<◌, ◌≤◌, ◌/◌, ◌%◌, ◌*◌, ◌-◌, ◌^◌, ℕ, refl, arith}
-use Rattle.rtk_frame.proofs.Parts.{bit_times, product_step, product_end}
+use Rattle.std.proofs.Common.{refl, arith}
+use Rattle.rtk_frame.proofs.Parts.{product_step, product_end}
 use Rattle.rtk_frame.proofs.checksum.product.Goals as goal
 
 pub loop-place-preserved : goal.loop-place-preserved

@@ -1,4 +1,4 @@
-use Rattle.std.proofs.Common.{◌≡◌, ◌+◌, ◌==◌, ℕ, List, length, get_or, take, drop, arith, sym, ◌∙◌, ap, length-take, length-drop}
+use Rattle.std.proofs.Common.{◌≡◌, ◌+◌, ◌==◌, ℕ, List, get_or, take, drop, arith, sym, ◌∙◌, ap, length-take, length-drop}
 use Rattle.std.proofs.lemmas.List.{drop-drop}
 use Rattle.rtk_frame.specs.Checksum.{crc}
 use Rattle.rtk_frame.specs.Frame.{three_bytes}

@@ -1,6 +1,5 @@
-use Rattle.std.proofs.Common.{◌≡◌, ◌+◌, ℕ, List, length, get_or, take, arith, sym, ◌∙◌, ap, subst, length-append}
+use Rattle.std.proofs.Common.{◌≡◌, ◌+◌, ℕ, List, length, take, arith, sym, ◌∙◌, ap}
 use Rattle.rtk_frame.specs.Checksum.{crc}
-use Rattle.rtk_frame.specs.Prefixes.{ArePrefixChecksums}
 use Rattle.rtk_frame.proofs.Parts.{crc_lt}
 use Rattle.rtk_frame.proofs.PrefixLemmas.{prefixes_more, take_next}
 use Rattle.rtk_frame.proofs.prefixes.know_prefix.Goals as goal

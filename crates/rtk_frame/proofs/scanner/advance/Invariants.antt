@@ -1,4 +1,4 @@
-use Rattle.std.proofs.Common.{◌≡◌, ◌≤◌, ◌+◌, ◌*◌, ◌-◌, ◌++◌, length, take, drop}
+use Rattle.std.proofs.Common.{◌≤◌, ◌+◌, ◌*◌, ◌-◌, ◌++◌, length, take, drop}
 use Rattle.rtk_frame.specs.Held.{AreHeld}
 use Rattle.rtk_frame.specs.Steps.Scanning.{Scanned}
 use Rattle.rtk_frame.proofs.scanner.advance.Given as goal

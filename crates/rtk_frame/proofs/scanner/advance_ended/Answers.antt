@@ -1,4 +1,4 @@
-use Rattle.std.proofs.Common.{◌≡◌, ℕ, ◌<◌, ◌-◌, List, length, drop, arith, sym, ◌∙◌, ap, subst, length-drop}
+use Rattle.std.proofs.Common.{◌≡◌, ℕ, ◌<◌, List, length, drop, arith, sym, ◌∙◌, ap, subst, length-drop}
 use Rattle.std.specs.List.{refill}
 use Rattle.circular_buffer.specs.Buffer.{Buffer, buffer}
 use Rattle.rtk_frame.specs.Steps.Scanning.{Searched}

@@ -1,4 +1,4 @@
-use Rattle.std.proofs.Common.{◌≡◌, ◌≤◌, ◌-◌, length, drop}
+use Rattle.std.proofs.Common.{◌-◌, length, drop}
 use Rattle.rtk_frame.specs.Held.{AreHeld}
 use Rattle.rtk_frame.specs.Steps.Scanning.{Searched}
 use Rattle.rtk_frame.proofs.scanner.advance_ended.Given as goal

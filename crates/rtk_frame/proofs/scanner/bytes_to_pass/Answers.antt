@@ -1,5 +1,4 @@
-use Rattle.std.proofs.Common.{◌≡◌, ◌-◌, ℕ, List, length, drop, ◌∙◌, sym, arith, true, ◌==◌, length-drop}
-use Rattle.std.proofs.lemmas.Bool.Decides.{nat_tests}
+use Rattle.std.proofs.Common.{◌≡◌, ℕ, List, length, drop, arith, length-drop}
 use Rattle.rtk_frame.proofs.Passing.{scanned_skip, scanned_none}
 use Rattle.rtk_frame.proofs.scanner.bytes_to_pass.Goals as goal
 

@@ -1,4 +1,4 @@
-use Rattle.std.proofs.Common.{◌≡◌, ℕ, List, [], length, drop, ap, ◌∙◌, sym, arith}
+use Rattle.std.proofs.Common.{◌≡◌, ℕ, List, [], drop, ap, ◌∙◌, sym, arith}
 use Rattle.std.proofs.Math.ListN.{drop_of_length-le}
 use Rattle.circular_buffer.specs.Buffer.{buffer}
 use Rattle.rtk_frame.proofs.scanner.remove_front.Goals as goal

@@ -1,4 +1,4 @@
-use Rattle.std.proofs.Common.{◌≡◌, ℕ, List, length, arith}
+use Rattle.std.proofs.Common.{ℕ, List, arith}
 use Rattle.rtk_frame.proofs.NextFrame.{rest_of, none_to, frame_within, no_frame, is_next, found_within}
 use Rattle.rtk_frame.proofs.search.next_frame.Goals as goal
 

@@ -1,6 +1,4 @@
-use Rattle.std.proofs.Common.{◌≡◌, ℕ, ◌+◌, ◌-◌, List, length, drop, arith, ap, subst, sym, ◌∙◌}
-use Rattle.std.proofs.lemmas.List.{drop-drop}
-use Rattle.rtk_frame.specs.Prefixes.{ArePrefixChecksums}
+use Rattle.std.proofs.Common.{ℕ, ◌+◌, List, arith}
 use Rattle.rtk_frame.specs.declared.frame.Front.TheVariants.{Whole}
 use Rattle.rtk_frame.proofs.NextFrame.{rest_of, none_to, none_next, none_at_place, place_of, frame_within, no_frame, is_next, found_within}
 use Rattle.rtk_frame.proofs.search.search.Goals as goal
