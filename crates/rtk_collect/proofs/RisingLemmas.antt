@@ -4,9 +4,10 @@ use Rattle.std.specs.Prelude.{◌==◌, if◌then◌else◌}
 use Rattle.std.specs.List.{AllByRecursion}
 use Rattle.std.proofs.lemmas.Bool.{cases_order, ne_eqb, both_ways}
 use Rattle.std.proofs.lemmas.List.{append-nil}
+use Rattle.rtk_obs.specs.Code.{place_of}
 use Rattle.rtk_obs.specs.declared.cell.CellEntry.{CellEntry}
 use Rattle.rtk_collect.specs.declared.conflicts.SatelliteCode.{SatelliteCode}
-use Rattle.rtk_collect.specs.Key.{key, rank_of, Above, KeysRise}
+use Rattle.rtk_collect.specs.Key.{key, key_at, Above, KeysRise}
 use Rattle.rtk_collect.specs.EpochSet.{with_cell, with_cells, cell_under, one_more, fresh, conflict, conflicts}
 use Rattle.rtk_collect.specs.Steps.OrderedPlaces.{lower}
 use Rattle.rtk_collect.proofs.CellsLemmas.{with_cell-new, with_cell-past, with_cell-same, with_cell-rises, with_cell-sets, with_cell-absent, lower-length, length-insert, fresh-length, drop-at}
@@ -32,9 +33,10 @@ rises-more (suc i) d xs p r l h =
     let more : suc (suc i) ≡ suc i + 1 = omega arith in
     subst (λ (t : ℕ). KeysRise (take t xs)) more (rises-next i d xs r l (subst (λ (t : ℕ). key (get_or xs t d) < key (get_or xs (suc i) d)) e h))
 
--- a greater place makes a greater key
-pub place-rises : (c d : CellEntry) (p q : ℕ) → p * 2 + rank_of c.cell.source ≡ key c → q * 2 + rank_of d.cell.source ≡ key d → p < q → key c < key d
-place-rises c d p q a b h = omega (arith, a, b, h, rank-less c.cell.source, rank-less d.cell.source)
+-- a greater satellite or code makes a greater key
+pub order-rises : (c d : CellEntry) (p q : ℕ) → p ≡ c.satellite * 256 + place_of c.code → q ≡ d.satellite * 256 + place_of d.code → place_of c.code < 16 → place_of d.code < 16 → p < q → key c < key d
+unfolding key key_at
+order-rises c d p q a b l m h = omega (arith, a, b, l, m, h, rank-less c.cell.source, rank-less d.cell.source)
 
 pub rises-whole : (i : ℕ) (xs : List CellEntry) → KeysRise (take i xs) → length xs ≤ i → KeysRise xs
 rises-whole i xs r l = subst KeysRise (whole i xs l).0 r

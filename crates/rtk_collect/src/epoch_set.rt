@@ -6,7 +6,7 @@ ghost use Rattle.rtk_collect.specs.Key.{KeysRise};
 ghost use Rattle.rtk_collect.specs.EpochSet.{joined, fresh, conflicts};
 
 use crate::conflicts::Conflicts;
-use crate::merging::{are_apart, compare, has_rising_keys, merge, merge_rising};
+use crate::merging::{are_apart, are_rising_of_one_kind, compare, merge, merge_rising};
 use rtk_obs::{CellEntry, GpsMs};
 use std::alloc::{AllocError, Global};
 use std::marker::Model;
@@ -38,14 +38,19 @@ impl Model for EpochSet {
 }
 
 impl EpochSet {
-    /// An epoch without cells. It takes no memory.
-    pub(crate) fn new(alloc: Global, epoch: GpsMs) -> EpochSet
-        ensures { result ≡ record { epoch = epoch; cells = [] } }
+    /// An epoch without cells, which has room for this many.
+    pub(crate) fn with_room(
+        alloc: Global,
+        epoch: GpsMs,
+        room: usize,
+    ) -> Result<EpochSet, AllocError>
+        ensures { IfOk result (λ set. set ≡ record { epoch = epoch; cells = [] }) }
     {
-        EpochSet {
-            epoch,
-            cells: Vec::new(alloc),
+        let mut cells = Vec::new(alloc);
+        if let Err(_) = cells.reserve(room) {
+            return Err(AllocError);
         }
+        Ok(EpochSet { epoch, cells })
     }
 
     /// The epoch.
@@ -81,7 +86,7 @@ impl EpochSet {
         ensures err { OnErr result (self.new ≡ self.old) }
         ensures refused { OnErr result (0 < fresh cells.now self.old.cells) }
     {
-        let rises = has_rising_keys(cells);
+        let rises = are_rising_of_one_kind(cells);
         if rises && self.cells.is_empty() {
             // The common case: the epoch has no cell yet, and the cells are copied as they stand.
             // `?` would do the same, but then the proof of each clause on `Err` is a step longer.

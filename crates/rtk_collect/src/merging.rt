@@ -1,47 +1,50 @@
 //! The cells of a message join the cells of their epoch.
 
 ghost use Rattle.std.specs.Prelude.{◌≡◌, ◌≢◌, ◌≤◌, ◌<◌, ◌+◌, ◌-◌, ◌*◌, [], ◌∷◌, ◌++◌, not, length, take, drop, slice_index_or, vec_len, vec_capacity, IsTrue, All, if◌then◌else◌};
-ghost use Rattle.rtk_collect.specs.Key.{key, rank_of, KeysRise};
+ghost use Rattle.rtk_obs.specs.Code.{place_of};
+ghost use Rattle.rtk_collect.specs.Key.{key, KeysRise};
 ghost use Rattle.rtk_collect.specs.EpochSet.{with_cell, with_cells, cell_under, fresh, conflict, conflicts};
 ghost use Rattle.rtk_collect.specs.Steps.OrderedPlaces.{lower};
 
 use crate::conflicts::{Conflicts, SatelliteCode};
 use rtk_obs::{CellEntry, CellSource};
 
-// The place of the satellite and code of a cell among all, by which keys rise first.
-fn place_of_code(entry: &CellEntry) -> usize
-    ensures value { result * 2 + rank_of entry.now.cell.source ≡ key entry.now }
-    ensures bound { result < 65536 }
+// A number by which the satellites and codes of cells rise. A satellite counts 256 in it, and not 16
+// as in a key: so it is two bytes that stand side by side, and is read at once.
+fn order_of_code(entry: &CellEntry) -> u16
+    ensures value { result ≡ entry.now.satellite * 256 + place_of entry.now.code }
+    ensures bound { place_of entry.now.code < 16 }
 {
-    usize::from(entry.satellite) * 16 + entry.code.place()
+    u16::from(entry.satellite) * 256 + entry.code.place() as u16
 }
 
 // The key of a cell, by which the cells of an epoch rise: satellite, code and kind of message.
 fn key_of(entry: &CellEntry) -> usize
     ensures { result ≡ key entry.now }
 {
-    let rank = match entry.cell.source {
-        CellSource::Msm => 0,
-        CellSource::Legacy => 1,
-    };
-    place_of_code(entry) * 2 + rank
+    let place = usize::from(entry.satellite) * 16 + entry.code.place();
+    // A 1074 is the kind with the number 1, and stands before a 1004.
+    place * 2 + 1 - entry.cell.source as usize
 }
 
-/// Whether the keys of the cells rise, each with a greater satellite or code than the one before it.
-pub(crate) fn has_rising_keys(cells: &[CellEntry]) -> bool
-    ensures { IsTrue result → KeysRise cells.now }
+/// Whether the cells came in one kind of message, each with a greater satellite or code than the one
+/// before it.
+pub(crate) fn are_rising_of_one_kind(cells: &[CellEntry]) -> bool
+    ensures rises { IsTrue result → KeysRise cells.now }
+    ensures alike { IsTrue result → (d : CellEntry) → All (λ c. c.cell.source ≡ (slice_index_or cells.now 0 d).cell.source) cells.now }
 {
     if cells.is_empty() {
         return true;
     }
-    let mut last = place_of_code(&cells[0]);
+    let source = cells[0].cell.source;
+    let mut last = order_of_code(&cells[0]);
     let mut at = 1;
     while at < cells.len() {
-        let place = place_of_code(&cells[at]);
-        if last >= place {
+        let order = order_of_code(&cells[at]);
+        if last >= order || cells[at].cell.source != source {
             return false;
         }
-        last = place;
+        last = order;
         at += 1;
     }
     true
@@ -59,9 +62,10 @@ fn are_from(source: CellSource, cells: &[CellEntry]) -> bool
     true
 }
 
-/// Whether there are cells that came in one kind of message, and all kept ones came in the other.
+/// Whether there are cells, which came in one kind of message, and all kept ones came in the other.
 /// Then each is new, which is told sooner so than by the keys.
 pub(crate) fn are_apart(cells: &[CellEntry], kept: &[CellEntry]) -> bool
+    requires alike { (d : CellEntry) → All (λ c. c.cell.source ≡ (slice_index_or cells.now 0 d).cell.source) cells.now }
     ensures some { IsTrue result → 0 < length cells.now }
     ensures fresh { IsTrue result → fresh cells.now kept.now ≡ length cells.now }
 {
@@ -69,9 +73,8 @@ pub(crate) fn are_apart(cells: &[CellEntry], kept: &[CellEntry]) -> bool
         return false;
     }
     match cells[0].cell.source {
-        CellSource::Msm => are_from(CellSource::Msm, cells) && are_from(CellSource::Legacy, kept),
-        CellSource::Legacy => are_from(CellSource::Legacy, cells)
-            && are_from(CellSource::Msm, kept),
+        CellSource::Msm => are_from(CellSource::Legacy, kept),
+        CellSource::Legacy => are_from(CellSource::Msm, kept),
     }
 }
 

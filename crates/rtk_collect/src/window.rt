@@ -68,6 +68,18 @@ pub(crate) fn join_at(
     set.join(cells, found)
 }
 
+// For how many cells an epoch that opens at a place has room: for those of its first message, and for
+// as many as the epoch before it has, since messages of each epoch mostly have the same cells.
+fn first_room(sets: &VecDeque<EpochSet>, at: usize, cells: usize) -> usize
+    ensures { cells ≤ result }
+{
+    if at < sets.len() {
+        cells.max(sets[at].cells().len())
+    } else {
+        cells
+    }
+}
+
 /// Opens an epoch with cells at its place; those that conflict with one another are added to an empty
 /// list. All memory is taken before an epoch changes.
 pub(crate) fn open_at(
@@ -86,7 +98,10 @@ pub(crate) fn open_at(
     ensures conflicts { OnOk result (found.new ≡ conflicts cells.now []) }
     ensures err { OnErr result (sets.new.items ≡ sets.old.items) }
 {
-    let mut set = EpochSet::new(alloc, epoch);
+    let room = first_room(sets, at, cells.len());
+    let Ok(mut set) = EpochSet::with_room(alloc, epoch, room) else {
+        return Err(AllocError);
+    };
     if let Err(_) = set.join(cells, found) {
         return Err(AllocError);
     }

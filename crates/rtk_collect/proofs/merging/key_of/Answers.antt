@@ -1,10 +1,19 @@
-use Rattle.std.proofs.Common.{◌+◌, ◌*◌, sym, ap, ◌∙◌}
-use Rattle.rtk_collect.specs.Key.{rank_of}
+use Rattle.std.proofs.Common.{◌≡◌, ℕ, ◌+◌, ◌-◌, ◌*◌, arith, ap, ◌∙◌}
+use Rattle.rtk_obs.specs.declared.cell.CellSource.{CellSource}
+use Rattle.rtk_obs.specs.declared.cell.CellSource.TheVariants.{Legacy, Msm}
+use Rattle.rtk_obs.specs.contracts.cell.CellSource.{the_type}
+use Rattle.rtk_collect.specs.Key.{key, key_at, rank_of}
 use Rattle.rtk_collect.proofs.merging.key_of.Goals as goal
-use Rattle.rtk_collect.proofs.merging.key_of.Goals.{in-Msm, in-Legacy}
+
+-- the number of a kind of message, taken from 1
+by-kind : (s : CellSource) (n : ℕ) → n + 1 - denote.Enum.Declared.tag_of the_type s ≡ n + rank_of s
+by-kind Legacy n = omega arith
+by-kind Msm n = omega arith
 
 pub returns : goal.returns
-returns c = ap (λ t. c.place_of_code.result * 2 + t) (elim c.match-entry.branch [
-  | in-Msm w ↦ w.rank-is ∙ ap rank_of (sym w.in-Msm.is)
-  | in-Legacy w ↦ w.rank-is ∙ ap rank_of (sym w.in-Legacy.is)
-]) ∙ c.place_of_code.ensures.value
+unfolding key key_at
+returns c =
+    let source = c.args.entry.now.cell.source in
+    by-kind source ((c.from.result * 16 + c.place.result) * 2)
+    ∙ ap (λ t. (t * 16 + c.place.result) * 2 + rank_of source) c.from.ensures
+    ∙ ap (λ t. (c.args.entry.now.satellite * 16 + t) * 2 + rank_of source) c.place.ensures.value
