@@ -58,6 +58,8 @@ run chart --text "$marks" </dev/null;              expect chart_of_a_file 0 "$pi
 run chart --text stdin <"$marks";                  expect chart_of_standard_input 0 "$picture" ''
 run chart --text --columns 80 "$marks" </dev/null; expect chart_80_wide 0 "$picture" ''
 run chart "$marks" </dev/null;                     expect chart_in_svg 0 "$svg" ''
+cp "$marks" ' a,b=c '
+run chart --text ' a,b=c ' </dev/null;              expect chart_of_an_odd_name 0 "$picture" ''
 run chart --help </dev/null;                       expect chart_help 0 "$help" ''
 run chart -h </dev/null;                           expect chart_short_help 0 "$short_help" ''
 
@@ -98,4 +100,18 @@ Usage: rtcm2rinex chart --text --columns <N> <FILE>
 
 For more information, try '--help'."
 
-ends 16
+# twice OPTION WORD..: an option that stands twice is refused
+twice() {
+    option=$1
+    shift
+    run chart "$@" "$@" "$marks" </dev/null
+    expect "chart_$1_twice" 2 '' "error: the argument '$option' cannot be used multiple times
+
+Usage: rtcm2rinex chart [OPTIONS] <FILE>
+
+For more information, try '--help'."
+}
+twice --text --text
+twice '--columns <N>' --columns 80
+
+ends 19

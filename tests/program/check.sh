@@ -97,6 +97,8 @@ expect a_file_that_may_not_be_read 1 '' 'rtcm2rinex: cannot open closed'
 check '' </dev/null;             expect empty_name 1 '' 'rtcm2rinex: cannot open '
 cp "$base" stdin
 check ./stdin </dev/null;        expect file_of_the_name_stdin 0 "$yes" ''
+cp "$base" ' a,b=c '
+check ' a,b=c ' </dev/null;      expect file_of_an_odd_name 0 "$yes" ''
 "$program" check "$base" >&- 2>err; status=$?; : >out
 expect closed_output 1 '' 'rtcm2rinex: write failed'
 check --help </dev/null;         expect check_help 0 "$help" ''
@@ -122,4 +124,4 @@ check zeros </dev/null;          expect longest_input 3 'line 1: C5 Truncated' '
 truncate -s 1073741825 zeros
 check zeros </dev/null;          expect input_too_long 1 '' 'rtcm2rinex: input too long'
 
-ends 31
+ends 32

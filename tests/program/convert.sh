@@ -143,6 +143,8 @@ sixteen='1C,1P,1W,1S,1L,1X,2C,2D,2P,2W,2S,2L,2X,5I,5Q,5X'
 words '' '' '' '' stdin stdin;                        fails form_of_near 2 'bad --near'
 words 2024-02-30T00:00:00 $made BASE 1C,2W x;         fails no_such_day 2 'bad --near'
 words 2101-01-01T00:00:00 '' BASE 1C x;               fails year_2101 2 'bad --near'
+words " $near" $made BASE 1C x;                        fails near_after_a_blank 2 'bad --near'
+words "$near " $made BASE 1C x;                        fails near_before_a_blank 2 'bad --near'
 words $near '' '' '' stdin stdin;                     fails form_of_made 2 'bad --made'
 words $near 2024-05-17 BASE 1C,9Z x;                  fails date_alone 2 'bad --made'
 words $near $made '' '' stdin stdin;                  fails no_code 2 'bad --codes'
@@ -179,11 +181,11 @@ for text in 2024-05-17 '2024-05-17 12:00:00' 2024-05-17t12:00:00 2024-05-17T12:0
     2024-5-17T12:00:00 2024-05-17T12-00-00 +024-05-17T12:00:00 2024-05-17T1:200:00 2024-05-17T12:00:0/ \
     2024-05-17T12:00:0: 2024-02-30T00:00:00 2023-02-29T00:00:00 2024-13-01T00:00:00 2024-00-01T00:00:00 \
     2024-05-17T24:00:00 2024-05-17T12:60:00 2024-05-17T13:00:60 2016-12-31T23:59:60 1980-01-05T23:59:59 \
-    2101-01-01T00:00:00 2024-05-17T13:00:00.000; do
+    2101-01-01T00:00:00 2024-05-17T13:00:00.000 ' 2024-05-17T13:00:00' '2024-05-17T13:00:00 '; do
     words $near "$text" BASE 1C x
     fails "made_$text" 2 'bad --made'
 done
-for text in , 1 1C, ,1C 1C,,2W 1c '1C 2W' '1C, 2W' 1C,9Z 1CC 1C,2; do
+for text in , 1 1C, ,1C 1C,,2W 1c '1C 2W' '1C, 2W' ' 1C' '1C ' 1C,9Z 1CC 1C,2; do
     words $near $made BASE "$text" x
     fails "codes_$text" 2 'bad --codes'
 done
@@ -384,4 +386,4 @@ leaves start_convert_with_a_limit_of_size 1 part part_err
 (ulimit -f 8; exec "$root/bin/rtcm2rinex" convert $options --codes 1C,2W,5X stdin) >out 2>err <"$session.rtcm"; status=$?
 leaves start_convert_followed_with_a_limit_of_size 1 part write_failed
 
-ends 177
+ends 183

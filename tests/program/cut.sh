@@ -94,6 +94,8 @@ mkdir folder
 # The files of the examples were laid by hand: slips at the seconds 7 and 20 of what is left out, one of them of a
 # satellite that is missing in the next record, and slips and half cycles of what is kept.
 cut --every 30 "$file" </dev/null;                  leaves a_minute_at_30_seconds 0 "$root/examples/slip_30s.rnx" nothing
+cp "$file" ' a,b=c '
+cut --every 30 ' a,b=c ' </dev/null;                leaves of_an_odd_name 0 "$root/examples/slip_30s.rnx" nothing
 cut --every 30 stdin <"$file";                      leaves of_standard_input 0 "$root/examples/slip_30s.rnx" nothing
 cat "$file" | "$program" cut --every 30 stdin >out 2>err; status=$?
 leaves of_a_pipe 0 "$root/examples/slip_30s.rnx" nothing
@@ -167,6 +169,23 @@ for step in 0 86401 4294967296; do
     cut --every $step "$file" </dev/null;           expect a_step_of_$step 2 '' "$(step_of $step)"
 done
 
+bad a_blank_before_from 'bad --from' --from " $noon"
+bad a_blank_after_until 'bad --until' --until "$noon "
+# An option that stands twice, and one before another option, which is no value of it.
+for option in 'from T until' 'until T every' 'every SECONDS from'; do
+    set -- $option
+    cut "--$1" 1 "--$1" 1 "$file" </dev/null
+    expect "$1_twice" 2 '' "error: the argument '--$1 <$2>' cannot be used multiple times
+
+Usage: rtcm2rinex cut <--from <T>|--until <T>|--every <SECONDS>> <FILE>
+
+For more information, try '--help'."
+    cut "--$1" "--$3" 1 "$file" </dev/null
+    expect "$1_before_another_option" 2 '' "error: a value is required for '--$1 <$2>' but none was supplied
+
+For more information, try '--help'."
+done
+
 # A file that `check` refuses.
 sed '16s/45.000/45.100/' "$file" >wrong
 cut --every 30 wrong </dev/null;                    expect a_wrong_value 3 '' 'line 16: C3 Value'
@@ -190,4 +209,4 @@ cut -h </dev/null;                                  expect cut_short_help 0 "$sh
 "$program" help cut </dev/null >out 2>err; status=$?
 expect help_cut 0 "$help" ''
 
-ends 41
+ends 50

@@ -135,7 +135,7 @@ no_file="error: the following required arguments were not provided:
 Usage: rtcm2rinex show <FILE>
 $try"
 
-long_word=$(printf '%05000d' 0)
+long_word=$(printf '%0100000d' 0)
 no_such_long_command="error: unrecognized subcommand '$long_word'
 
 Usage: rtcm2rinex <COMMAND>
@@ -234,6 +234,7 @@ expect white_space_between_digits 0 'refused M1 -' ''
 run show nowhere </dev/null;              expect missing_file 1 '' 'rtcm2rinex: cannot open nowhere'
 run show 'no where' </dev/null;           expect missing_file_with_a_blank 1 '' 'rtcm2rinex: cannot open no where'
 run show '' </dev/null;                   expect empty_name 1 '' 'rtcm2rinex: cannot open '
+run show "$long_word" </dev/null;         expect missing_file_of_a_long_name 1 '' "rtcm2rinex: cannot open $long_word"
 run show - </dev/null;                    expect missing_file_of_a_hyphen 1 '' 'rtcm2rinex: cannot open -'
 run show STDIN <arp.rtcm;                 expect missing_file_of_the_name_stdin_in_capitals 1 '' 'rtcm2rinex: cannot open STDIN'
 run show "$(printf 'a\nb')" </dev/null;   expect missing_file_with_a_line_feed 1 '' 'rtcm2rinex: cannot open a
@@ -315,4 +316,4 @@ head -c 8192 frames >some; head -c 512 lines >part; echo 'rtcm2rinex: write fail
 (ulimit -f 1; exec "$root/bin/rtcm2rinex" show some) >out 2>err </dev/null; status=$?
 leaves start_show_with_a_limit_of_size 1 part part_err
 
-ends 76
+ends 77

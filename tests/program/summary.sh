@@ -77,6 +77,8 @@ run summary "$base" </dev/null;     expect summary_of_a_file 0 "$told" ''
 run summary stdin <"$base";         expect summary_of_standard_input 0 "$told" ''
 cat "$base" | "$program" summary stdin >out 2>err; status=$?
 expect summary_of_a_pipe 0 "$told" ''
+cp "$base" ' a,b=c '
+run summary ' a,b=c ' </dev/null;   expect summary_of_an_odd_name 0 "$told" ''
 : >empty
 run summary empty </dev/null;       expect summary_of_nothing 0 "$nothing" ''
 
@@ -109,4 +111,4 @@ run help summary </dev/null;        expect help_summary 0 "$help" ''
 run summary </dev/null;             expect summary_without_a_file 2 '' "$no_file"
 run summary a b </dev/null;         expect summary_of_two_files 2 '' "$two_files"
 
-ends 16
+ends 17
