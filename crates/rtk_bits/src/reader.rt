@@ -49,6 +49,7 @@ impl<'a> BitReader<'a> {
     /// `uint` and `bit`).
     ///
     /// If fewer bits are left, it answers `None` and takes nothing.
+    #[inline(always)]
     pub fn take_u(&mut self, width: usize) -> Option<u64>
         requires { (1 ≤ width) × (width ≤ 64) }
         ensures enough { IsSome result ↔ (width ≤ length self.old) }
@@ -58,11 +59,10 @@ impl<'a> BitReader<'a> {
         ensures field { IfSome result (λ n. self.old ≡ bits_of width n ++ self.new) }
         ensures short { IfNone result (self.new ≡ self.old) }
     {
-        let end = self.skip + width;
-        if self.rest.len() < (end + 7) / 8 {
+        let Some(number) = field_at(self.rest, self.skip, width) else {
             return None;
-        }
-        let number = field_at(self.rest, self.skip, width);
+        };
+        let end = self.skip + width;
         self.rest = &self.rest[end / 8..];
         self.skip = end % 8;
         Some(number)
@@ -87,25 +87,42 @@ impl<'a> BitReader<'a> {
     }
 }
 
-// The number of the `width` bits after the first `skip` bits.
+// The number of the `width` bits after the first `skip` bits, if there are so many.
 //
 // It comes from one load of eight bytes. If there are fewer than eight bytes, or if the field ends
 // in the ninth one, it comes from the bytes up to the end of the field.
-fn field_at(bytes: &[u8], skip: usize, width: usize) -> u64
+#[inline(always)]
+fn field_at(bytes: &[u8], skip: usize, width: usize) -> Option<u64>
     requires low { (skip < 8) × (1 ≤ width) × (width ≤ 64) }
-    requires within { skip + width ≤ 8 * length bytes.now }
-    ensures { result ≡ unsigned (take width (drop skip (bits bytes.now))) }
+    ensures enough { IsSome result ↔ (skip + width ≤ 8 * length bytes.now) }
+    ensures number { IfSome result (λ n. n ≡ unsigned (take width (drop skip (bits bytes.now)))) }
 {
     let end = skip + width;
-    let mask = u64::MAX >> (64 - width);
     match bytes.first_chunk::<8>() {
-        Some(chunk) if end <= 64 => (u64::from_be_bytes(*chunk) >> (64 - end)) & mask,
-        _ => {
-            let count = (end + 7) / 8;
-            let word = big_endian(&bytes[..count]);
-            ((word >> (8 * count - end)) & mask as u128) as u64
+        Some(chunk) if end <= 64 => {
+            let word = u64::from_be_bytes(*chunk);
+            Some((word >> (64 - end)) & (u64::MAX >> (64 - width)))
         }
+        _ => field_of_bytes(bytes, skip, width),
     }
+}
+
+// The same, from the bytes up to the end of the field. It is not inlined, since it is seldom called:
+// by the last fields of a payload.
+#[inline(never)]
+fn field_of_bytes(bytes: &[u8], skip: usize, width: usize) -> Option<u64>
+    requires low { (skip < 8) × (1 ≤ width) × (width ≤ 64) }
+    ensures enough { IsSome result ↔ (skip + width ≤ 8 * length bytes.now) }
+    ensures number { IfSome result (λ n. n ≡ unsigned (take width (drop skip (bits bytes.now)))) }
+{
+    let end = skip + width;
+    let count = (end + 7) / 8;
+    if bytes.len() < count {
+        return None;
+    }
+    let mask = u64::MAX >> (64 - width);
+    let word = big_endian(&bytes[..count]);
+    Some(((word >> (8 * count - end)) & mask as u128) as u64)
 }
 
 // The number that the bytes spell, the most significant byte first: at most sixteen of them.

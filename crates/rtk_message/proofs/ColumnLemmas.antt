@@ -1,13 +1,15 @@
 -- Columns taken and put value by value, and how many values are taken at once.
 use Rattle.std.proofs.Common.{◌≡◌, ℕ, zero, suc, ◌+◌, ◌-◌, ◌*◌, ◌/◌, ◌<◌, ◌≤◌, Bool, List, [], ◌∷◌, ◌++◌, length, map, take, get_or, refl, sym, ap, ◌∙◌, arith, append_assoc, sum_by, count_ones}
-use Rattle.std.proofs.lemmas.List.{append-nil, take_more, map_push}
+use Rattle.std.proofs.lemmas.List.{append-nil, take_more, take_more_set, take_all, map_push}
 use Rattle.std.proofs.lemmas.List.Sums.{sum_by-cons}
 use Rattle.std.proofs.lemmas.Nat.{ones-le, le-div}
+use Rattle.std.proofs.Math.ListN.{set}
 use Rattle.std.proofs.Math.Nat.{mul-le-mul_left, mul-le-mul_right, div-mul-le_self, le_trans}
-use Rattle.rtk_bits.specs.Bits.{bits_of}
+use Rattle.rtk_bits.specs.Bits.{bits_of, unsigned}
 use Rattle.rtk_message.specs.Fields.{Field, u, field_bits, bits_of_fields, FieldFits, FieldsFit, TakesAll}
 use Rattle.rtk_message.specs.Steps.FieldSteps.{TakesField, Puts, PutsAll}
 use Rattle.rtk_message.specs.FieldLaws.{fit-append}
+use Rattle.rtk_message.specs.ColumnLaws.{ones-numbers}
 use Rattle.rtk_message.specs.FieldColumns.{numbers, flags}
 use Rattle.rtk_message.proofs.FieldLemmas.{took, took_none, took_both, put, put_none, put_both}
 
@@ -19,6 +21,14 @@ module _ {X : Type 0} (f : X → Field) where
   pub took_next : (xs : List X) (x : X) (from rest : List Bool) {b c : List Bool} → TakesAll (map f xs) from (b ++ rest) → TakesField (f x) b c → TakesAll (map f (xs ++ x ∷ [])) from (c ++ rest)
   took_next xs x from rest {b = b} {c = c} p q =
       took_more xs x from (b ++ rest) (c ++ rest) p (record { fits = q.fits; is = ap (λ (t : List Bool). t ++ rest) q.is ∙ append_assoc (field_bits (f x)) c rest })
+
+  -- the value after the first k ones is set
+  pub took_set : (xs : List X) (k : ℕ) (x : X) (from rest : List Bool) {b c : List Bool} → k < length xs → TakesAll (map f (take k xs)) from (b ++ rest) → TakesField (f x) b c → TakesAll (map f (take (k + 1) (set xs k x))) from (c ++ rest)
+  took_set xs k x from rest h p q = rw (take_more_set xs k x h) (took_next (take k xs) x from rest p q)
+
+  -- all values are read
+  pub took_whole : (xs : List X) (n : ℕ) (a b : List Bool) → length xs ≤ n → TakesAll (map f (take n xs)) a b → TakesAll (map f xs) a b
+  took_whole xs n a b h p = rw (take_all n xs h) at p
 
   pub put_more : (xs : List X) (k : ℕ) (d : X) (a b c : List Bool) → k < length xs → PutsAll (map f (take k xs)) a b → Puts (f (get_or xs k d)) b c → PutsAll (map f (take (k + 1) xs)) a c
   put_more xs k d a b c h p q = rw (take_more xs k d h, map_push f (take k xs) (get_or xs k d)) (put_both p (put q put_none))
@@ -60,6 +70,11 @@ ones-few w (n ∷ ns) fit =
     let head = ones-le w n fit.0 in
     let tail = ones-few w ns fit.1 in
     rw (sum_by-cons count_ones n ns) (omega (arith, head, tail))
+
+-- the bits of the rows have as many set bits as the rows
+pub ones_taken : (w : ℕ) (ns : List ℕ) (word left : List Bool) → TakesAll (numbers w ns) word left → length left ≡ 0 → count_ones (unsigned word) ≡ sum_by count_ones ns
+ones_taken w ns word [] t none = rw (t.is, append-nil (bits_of_fields (numbers w ns))) (ones-numbers w ns t.fit)
+ones_taken w ns word (b ∷ bs) t none = absurd (omega arith)
 
 -- ---- values taken at once
 

@@ -2,7 +2,8 @@
 use Rattle.std.proofs.Common.{◌≡◌, ℕ, Bool, true, false, List, [], ◌∷◌, ◌++◌, length, zero, suc, get_or, take, Some, refl, sym, ◌+◌, ◌*◌, ◌<◌, ◌≤◌, ltb, leb, arith}
 use Rattle.std.specs.List.{flat_map}
 use Rattle.std.proofs.lemmas.Bool.{le-ltb, lt-ltb, le-leb, lt-leb}
-use Rattle.std.proofs.lemmas.List.{flat_map_more, take_more}
+use Rattle.std.proofs.lemmas.List.{flat_map_more, take_more, take_more_set, take_all}
+use Rattle.std.proofs.Math.ListN.{set}
 use Rattle.rtk_message.specs.declared.fault.DecodeFault.TheVariants.{Short, EpochRange}
 use Rattle.rtk_message.specs.declared.obs1004.Satellite.{Satellite}
 use Rattle.rtk_message.specs.Fields.{week_ms, tow_in, FieldsFit, TakesAll}
@@ -35,8 +36,16 @@ fit_at (x ∷ xs) (suc k) d h p = fit_at xs k d (omega arith) (fit-parts (satell
 pub rows_push : (xs : List Satellite) (x : Satellite) → flat_map satellite_table (xs ++ x ∷ []) ≡ flat_map satellite_table xs ++ satellite_table x
 rows_push xs x = sym (flat_map_more satellite_table [] xs x)
 
-pub took_push : (xs : List Satellite) (x : Satellite) (a b c : List Bool) → TakesAll (flat_map satellite_table xs) a b → TakesAll (satellite_table x) b c → TakesAll (flat_map satellite_table (xs ++ x ∷ [])) a c
+took_push : (xs : List Satellite) (x : Satellite) (a b c : List Bool) → TakesAll (flat_map satellite_table xs) a b → TakesAll (satellite_table x) b c → TakesAll (flat_map satellite_table (xs ++ x ∷ [])) a c
 took_push xs x a b c p q = rw (rows_push xs x) (took_both p q)
+
+-- the satellite after the first k ones is set
+pub took_set : (xs : List Satellite) (k : ℕ) (x : Satellite) (a b c : List Bool) → k < length xs → TakesAll (flat_map satellite_table (take k xs)) a b → TakesAll (satellite_table x) b c → TakesAll (flat_map satellite_table (take (k + 1) (set xs k x))) a c
+took_set xs k x a b c h p q = rw (take_more_set xs k x h) (took_push (take k xs) x a b c p q)
+
+-- all satellites are read
+pub took_whole : (xs : List Satellite) (n : ℕ) (a b : List Bool) → length xs ≤ n → TakesAll (flat_map satellite_table (take n xs)) a b → TakesAll (flat_map satellite_table xs) a b
+took_whole xs n a b h p = rw (take_all n xs h) at p
 
 pub put_push : (xs : List Satellite) (k : ℕ) (d : Satellite) (a b c : List Bool) → k < length xs → PutsAll (flat_map satellite_table (take k xs)) a b → PutsAll (satellite_table (get_or xs k d)) b c → PutsAll (flat_map satellite_table (take (k + 1) xs)) a c
 put_push xs k d a b c h p q = rw (take_more xs k d h, rows_push (take k xs) (get_or xs k d)) (put_both p q)

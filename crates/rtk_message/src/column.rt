@@ -3,7 +3,7 @@
 ghost use Rattle.rtk_message.specs.FieldColumns.{numbers};
 ghost use Rattle.rtk_message.specs.Fields.{TakesAll, FieldsFit};
 ghost use Rattle.rtk_message.specs.Steps.FieldSteps.{PutsAll};
-ghost use Rattle.std.specs.Prelude.{◌≡◌, ◌≤◌, ◌*◌, ◌+◌, [], length, OnOk, sum_by, count_ones, ◌++◌, map, List, Bool, IsTrue, ◌↔◌};
+ghost use Rattle.std.specs.Prelude.{◌≡◌, ◌≤◌, ◌<◌, ◌*◌, ◌+◌, length, take, OnOk, sum_by, count_ones, ◌++◌, map, List, Bool, IsTrue, ◌↔◌};
 
 use crate::field::{FieldValue, Word, next_word};
 use arrayvec::ArrayVec;
@@ -11,29 +11,36 @@ use rtk_bits::{BitReader, BitWriter};
 use std::alloc::AllocError;
 use std::marker::Model;
 
-/// Reads a row of `signals` bits for each satellite, satellite by satellite, into an empty mask.
+/// Reads a row of `signals` bits for each satellite, satellite by satellite, as the rows of a mask.
+/// The result is how many of their bits are set.
 ///
 /// If there is no signal, the rows have no bits, and each of them is 0.
+#[inline(always)]
 pub(crate) fn read_mask(
     mask: &mut Column<u32>,
     reader: &mut BitReader<'_>,
     satellites: usize,
     signals: usize,
-)
-    requires empty { mask.old ≡ [] }
+) -> u32
     requires few { (satellites ≤ 64) × (signals ≤ 32) }
+    requires bits { signals * satellites ≤ 64 }
     requires enough { signals * satellites ≤ length reader.old }
     ensures fields { TakesAll (numbers signals mask.new) reader.old reader.new }
     ensures count { length mask.new ≡ satellites }
+    ensures cells { result ≡ sum_by count_ones mask.new }
     ensures left { length reader.old ≡ signals * satellites + length reader.new }
 {
-    if signals > 0 {
-        read_column(mask, reader, satellites, signals);
-        return;
+    mask.resize(satellites);
+    if signals == 0 || satellites == 0 {
+        for place in 0..satellites {
+            mask.set(place, 0);
+        }
+        return 0;
     }
-    for _ in 0..satellites {
-        mask.push(0);
-    }
+    let mut word = next_word(reader, signals * satellites);
+    let cells = word.count_ones();
+    set_fields(mask, 0, &mut word, satellites, signals);
+    cells
 }
 
 /// Puts the rows of a cell mask.
@@ -82,7 +89,7 @@ impl<T> Model for Column<T> {
 }
 
 impl<T: Copy + Default> Column<T> {
-    ghost use Rattle.std.specs.Prelude.{◌<◌, ◌∷◌};
+    ghost use Rattle.std.specs.Prelude.{[], ◌∷◌, slice_set};
 
     /// No values.
     pub fn new() -> Column<T>
@@ -107,6 +114,25 @@ impl<T: Copy + Default> Column<T> {
         ensures few { length result.now ≤ 64 }
     {
         self.list.as_slice()
+    }
+
+    /// Makes the list this long: it leaves out the last values, or adds some that are to be set.
+    pub(crate) fn resize(&mut self, count: usize)
+        requires { count ≤ 64 }
+        ensures { length self.new ≡ count }
+    {
+        self.list.truncate(count);
+        for _ in self.list.len()..count {
+            self.list.push(T::default());
+        }
+    }
+
+    /// Sets the value at this place.
+    pub(crate) fn set(&mut self, place: usize, value: T)
+        requires { place < length self.old }
+        ensures { self.new ≡ slice_set self.old place value }
+    {
+        self.list.as_mut_slice()[place] = value;
     }
 
     /// Adds a value after the others.
@@ -140,7 +166,8 @@ impl<T: Eq> Eq for Column<T> {
 // they lie in eight bytes, which a reader loads in one step.
 const AT_ONCE: usize = 57;
 
-/// Reads `count` fields of one width into an empty column, as many at once as 57 bits hold.
+/// Reads `count` fields of one width as the values of a column, in place of those that it has: as
+/// many at once as 57 bits hold.
 ///
 /// Inlined, so that each column is read by code for its own width.
 #[inline(always)]
@@ -150,7 +177,6 @@ pub(crate) fn read_column<T: FieldValue>(
     count: usize,
     width: usize,
 )
-    requires empty { column.old ≡ [] }
     requires few { count ≤ 64 }
     requires width { T.IsWidth width }
     requires some { (1 ≤ width) × (width ≤ 57) }
@@ -159,52 +185,62 @@ pub(crate) fn read_column<T: FieldValue>(
     ensures count { length column.new ≡ count }
     ensures left { length reader.old ≡ width * count + length reader.new }
 {
+    column.resize(count);
     let most = AT_ONCE / width;
-    while count - column.len() >= most {
-        read_fields(column, reader, most, width);
+    let mut at = 0;
+    while count - at >= most {
+        read_fields(column, at, reader, most, width);
+        at += most;
     }
-    let rest = count - column.len();
+    let rest = count - at;
     if rest > 0 {
-        read_fields(column, reader, rest, width);
+        read_fields(column, at, reader, rest, width);
     }
 }
 
-// Reads some fields at once, and adds their values to the column. The clause `fields` says: if the
-// bits `from` were the fields of the column and then the bits of the reader, they still are.
+// Reads some fields at once as the values of a column from this place on. The clause `fields` says:
+// if the bits `from` were the fields of the values before this place and then the bits of the
+// reader, they are those of the values read too and then the bits that are left.
 #[inline(always)]
 fn read_fields<T: FieldValue>(
     column: &mut Column<T>,
+    at: usize,
     reader: &mut BitReader<'_>,
     fields: usize,
     width: usize,
 )
-    requires room { length column.old + fields ≤ 64 }
+    requires room { (at + fields ≤ 64) × (at + fields ≤ length column.old) }
     requires width { T.IsWidth width }
     requires some { (1 ≤ width) × (1 ≤ fields) × (width * fields ≤ 64) }
     requires enough { width * fields ≤ length reader.old }
-    ensures fields { (from : List Bool) → TakesAll (map (T.field width) column.old) from reader.old → TakesAll (map (T.field width) column.new) from reader.new }
-    ensures count { length column.new ≡ length column.old + fields }
+    ensures fields { (from : List Bool) → TakesAll (map (T.field width) (take at column.old)) from reader.old → TakesAll (map (T.field width) (take (at + fields) column.new)) from reader.new }
+    ensures count { length column.new ≡ length column.old }
     ensures left { length reader.old ≡ width * fields + length reader.new }
 {
     let mut word = next_word(reader, width * fields);
-    push_fields(column, &mut word, fields, width);
+    set_fields(column, at, &mut word, fields, width);
 }
 
-// Takes some fields from a word, and adds their values to the column. The clause `fields` says: if
-// the bits `from` were the fields of the column, then the bits of the word, and then the bits
-// `rest`, they still are.
+// Takes some fields from a word as the values of a column from this place on. The clause `fields`
+// says the same as above of the bits of the word and of the bits `rest` after it.
 #[inline(always)]
-fn push_fields<T: FieldValue>(column: &mut Column<T>, word: &mut Word, fields: usize, width: usize)
-    requires room { length column.old + fields ≤ 64 }
+fn set_fields<T: FieldValue>(
+    column: &mut Column<T>,
+    at: usize,
+    word: &mut Word,
+    fields: usize,
+    width: usize,
+)
+    requires room { (at + fields ≤ 64) × (at + fields ≤ length column.old) }
     requires width { T.IsWidth width }
     requires some { 1 ≤ width }
     requires enough { width * fields ≤ length word.old }
-    ensures fields { (from rest : List Bool) → TakesAll (map (T.field width) column.old) from (word.old ++ rest) → TakesAll (map (T.field width) column.new) from (word.new ++ rest) }
-    ensures count { length column.new ≡ length column.old + fields }
+    ensures fields { (from rest : List Bool) → TakesAll (map (T.field width) (take at column.old)) from (word.old ++ rest) → TakesAll (map (T.field width) (take (at + fields) column.new)) from (word.new ++ rest) }
+    ensures count { length column.new ≡ length column.old }
     ensures left { length word.old ≡ width * fields + length word.new }
 {
-    for _ in 0..fields {
-        column.push(T::next(word, width));
+    for place in 0..fields {
+        column.set(at + place, T::next(word, width));
     }
 }
 

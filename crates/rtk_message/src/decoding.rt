@@ -42,7 +42,7 @@ pub fn decode(payload: &[u8]) -> Result<Message, DecodeFault>
 // `decode` it would be that of all four. And a function that is not inlined writes its result where
 // its caller wants it, so a message of a thousand bytes is moved once less.
 #[inline(never)]
-fn read_1004(mut reader: BitReader<'_>) -> Result<Message, DecodeFault>
+pub(crate) fn read_1004(mut reader: BitReader<'_>) -> Result<Message, DecodeFault>
     ensures message { IfOk result (λ m. BeginsAfterNumber 1004 reader.entry m) }
     ensures fault { IfErr result (λ f. fault_after_number 1004 reader.entry ≡ Some f) }
 {
@@ -52,7 +52,7 @@ fn read_1004(mut reader: BitReader<'_>) -> Result<Message, DecodeFault>
 }
 
 #[inline(never)]
-fn read_1005(mut reader: BitReader<'_>) -> Result<Message, DecodeFault>
+pub(crate) fn read_1005(mut reader: BitReader<'_>) -> Result<Message, DecodeFault>
     ensures message { IfOk result (λ m. BeginsAfterNumber 1005 reader.entry m) }
     ensures fault { IfErr result (λ f. fault_after_number 1005 reader.entry ≡ Some f) }
 {
@@ -62,7 +62,7 @@ fn read_1005(mut reader: BitReader<'_>) -> Result<Message, DecodeFault>
 }
 
 #[inline(never)]
-fn read_1006(mut reader: BitReader<'_>) -> Result<Message, DecodeFault>
+pub(crate) fn read_1006(mut reader: BitReader<'_>) -> Result<Message, DecodeFault>
     ensures message { IfOk result (λ m. BeginsAfterNumber 1006 reader.entry m) }
     ensures fault { IfErr result (λ f. fault_after_number 1006 reader.entry ≡ Some f) }
 {
@@ -72,7 +72,7 @@ fn read_1006(mut reader: BitReader<'_>) -> Result<Message, DecodeFault>
 }
 
 #[inline(never)]
-fn read_1074(mut reader: BitReader<'_>) -> Result<Message, DecodeFault>
+pub(crate) fn read_1074(mut reader: BitReader<'_>) -> Result<Message, DecodeFault>
     ensures message { IfOk result (λ m. BeginsAfterNumber 1074 reader.entry m) }
     ensures fault { IfErr result (λ f. fault_after_number 1074 reader.entry ≡ Some f) }
 {

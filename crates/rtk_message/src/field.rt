@@ -1,9 +1,9 @@
 //! Fields of messages: the bits that hold them, their values, and how they are read and written.
 
-ghost use Rattle.rtk_bits.specs.Bits.{bits_of, signed_bits_of, FitsSigned};
+ghost use Rattle.rtk_bits.specs.Bits.{bits_of, unsigned, signed_bits_of, FitsSigned};
 ghost use Rattle.rtk_message.specs.Fields.{u, i, flag, Field, FieldFits};
 ghost use Rattle.rtk_message.specs.Steps.FieldSteps.{TakesField, Puts};
-ghost use Rattle.std.specs.Prelude.{◌≡◌, ◌+◌, ◌-◌, ◌*◌, ◌^◌, ◌<◌, ◌≤◌, ◌++◌, length, OnOk, IsTrue, ◌↔◌, ℕ};
+ghost use Rattle.std.specs.Prelude.{◌≡◌, ◌+◌, ◌-◌, ◌*◌, ◌^◌, ◌<◌, ◌≤◌, ◌++◌, length, count_ones, OnOk, IsTrue, ◌↔◌, ℕ};
 
 use rtk_bits::{BitReader, BitWriter};
 use std::alloc::AllocError;
@@ -32,6 +32,7 @@ impl Model for Word {
 }
 
 /// Takes the next `width` bits.
+#[inline(always)]
 pub(crate) fn next_word(reader: &mut BitReader<'_>, width: usize) -> Word
     requires width { (1 ≤ width) × (width ≤ 64) }
     requires enough { width ≤ length reader.old }
@@ -46,6 +47,14 @@ pub(crate) fn next_word(reader: &mut BitReader<'_>, width: usize) -> Word
 }
 
 impl Word {
+    /// How many of the bits are set.
+    pub(crate) fn count_ones(&self) -> u32
+        requires { 1 ≤ length self.now }
+        ensures { result ≡ count_ones (unsigned self.now) }
+    {
+        (self.bits & (u64::MAX >> (64 - self.left))).count_ones()
+    }
+
     /// The next unsigned field.
     pub(crate) fn next_u64(&mut self, width: usize) -> u64
         requires width { (1 ≤ width) × (width ≤ 64) }
@@ -134,12 +143,8 @@ fn signed_of(bits: u64, width: usize) -> i64
     ensures fits { FitsSigned width result }
     ensures bits { signed_bits_of width result ≡ bits_of width bits }
 {
-    let sign = 1 << (width - 1);
-    if bits < sign {
-        bits as i64
-    } else {
-        -((2 * sign - bits) as i64)
-    }
+    let shift = 64 - width;
+    (bits << shift).cast_signed() >> shift
 }
 
 /// A type whose values are fields of a column.

@@ -29,6 +29,7 @@
 mod arp1005;
 mod arp1006;
 mod column;
+mod decoder;
 mod decoding;
 mod encoding;
 mod fault;
@@ -43,6 +44,7 @@ mod text;
 pub use arp1005::Arp1005;
 pub use arp1006::Arp1006;
 pub use column::Column;
+pub use decoder::Decoder;
 pub use decoding::decode;
 pub use encoding::{decode_of_encode, encode};
 pub use fault::DecodeFault;

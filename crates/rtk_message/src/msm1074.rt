@@ -1,9 +1,9 @@
 //! Message 1074: GPS observations of any signals (MSM4), column by column.
 
-ghost use Rattle.std.specs.Prelude.{◌≡◌, ◌≤◌, ◌<◌, ◌+◌, ◌*◌, length, OnOk, IsTrue, ◌↔◌, count_ones};
+ghost use Rattle.std.specs.Prelude.{◌≡◌, ◌≤◌, ◌<◌, ◌+◌, ◌*◌, length, Some, OnOk, IfErr, IsTrue, ◌↔◌, count_ones};
 ghost use Rattle.rtk_message.specs.Fields.{week_ms, TakesAll, FieldsFit};
 ghost use Rattle.rtk_message.specs.Steps.FieldSteps.{PutsAll};
-ghost use Rattle.rtk_message.specs.Msm1074.{header_table, HasLengths};
+ghost use Rattle.rtk_message.specs.Msm1074.{header_table, table, first_fault, HasLengths, IsValid};
 ghost use Rattle.rtk_message.specs.Steps.EachFits.{EachFits};
 
 use crate::column::{
@@ -123,6 +123,7 @@ impl MsmHeader {
     }
 }
 
+#[inline(always)]
 fn next_header(reader: &mut BitReader<'_>) -> MsmHeader
     requires { 157 ≤ length reader.old }
     ensures fields { TakesAll (header_table result) reader.old reader.new }
@@ -186,35 +187,7 @@ impl Layout for Msm1074 {
     }
 
     fn read(&mut self, reader: &mut BitReader<'_>) -> Result<(), DecodeFault> {
-        if reader.remaining() < 157 {
-            return Err(DecodeFault::Short { number: 1074 });
-        }
-        self.header = next_header(reader);
-        if self.header.tow >= WEEK_MS {
-            return Err(DecodeFault::EpochRange { number: 1074 });
-        }
-        let satellites = self.header.satellite_count();
-        let signals = self.header.signal_count();
-        if has_too_many_cells(satellites, signals) {
-            return Err(DecodeFault::TooManyCells);
-        }
-        if reader.remaining() < (satellites * signals) as u128 {
-            return Err(DecodeFault::Short { number: 1074 });
-        }
-        read_mask(&mut self.cell_mask, reader, satellites, signals);
-        let cells = count_cells(&self.cell_mask) as usize;
-        prove!(cells <= 64);
-        if reader.remaining() < (18 * satellites + 48 * cells) as u128 {
-            return Err(DecodeFault::Short { number: 1074 });
-        }
-        read_column(&mut self.rough_ms, reader, satellites, 8);
-        read_column(&mut self.rough_fraction, reader, satellites, 10);
-        read_column(&mut self.fine_range, reader, cells, 15);
-        read_column(&mut self.fine_phase, reader, cells, 22);
-        read_column(&mut self.lock_indicator, reader, cells, 4);
-        read_column(&mut self.half_cycle, reader, cells, 1);
-        read_column(&mut self.cnr, reader, cells, 6);
-        Ok(())
+        self.read_over(reader)
     }
 
     fn write(&self, writer: &mut BitWriter) -> Result<(), AllocError> {
@@ -246,6 +219,44 @@ impl Layout for Msm1074 {
 }
 
 impl Msm1074 {
+    /// Reads the fields after the number in place of those that the message has.
+    ///
+    /// It is inlined, so that the reader of its caller stays in registers.
+    #[inline(always)]
+    pub(crate) fn read_over(&mut self, reader: &mut BitReader<'_>) -> Result<(), DecodeFault>
+        ensures fields { OnOk result (IsValid self.new × TakesAll (table self.new) reader.old reader.new) }
+        ensures fault { IfErr result (λ f. first_fault reader.old ≡ Some f) }
+    {
+        if reader.remaining() < 157 {
+            return Err(DecodeFault::Short { number: 1074 });
+        }
+        self.header = next_header(reader);
+        if self.header.tow >= WEEK_MS {
+            return Err(DecodeFault::EpochRange { number: 1074 });
+        }
+        let satellites = self.header.satellite_count();
+        let signals = self.header.signal_count();
+        if has_too_many_cells(satellites, signals) {
+            return Err(DecodeFault::TooManyCells);
+        }
+        if reader.remaining() < (satellites * signals) as u128 {
+            return Err(DecodeFault::Short { number: 1074 });
+        }
+        let cells = read_mask(&mut self.cell_mask, reader, satellites, signals) as usize;
+        prove!(cells <= 64);
+        if reader.remaining() < (18 * satellites + 48 * cells) as u128 {
+            return Err(DecodeFault::Short { number: 1074 });
+        }
+        read_column(&mut self.rough_ms, reader, satellites, 8);
+        read_column(&mut self.rough_fraction, reader, satellites, 10);
+        read_column(&mut self.fine_range, reader, cells, 15);
+        read_column(&mut self.fine_phase, reader, cells, 22);
+        read_column(&mut self.lock_indicator, reader, cells, 4);
+        read_column(&mut self.half_cycle, reader, cells, 1);
+        read_column(&mut self.cnr, reader, cells, 6);
+        Ok(())
+    }
+
     // Whether each column has as many entries as the masks have satellites or cells.
     fn has_lengths(&self) -> bool
         ensures { IsTrue result ↔ HasLengths self.now }

@@ -2,9 +2,9 @@
 
 ghost use Rattle.rtk_message.specs.Fields.{TakesAll, FieldsFit};
 ghost use Rattle.rtk_message.specs.Steps.FieldSteps.{PutsAll};
-ghost use Rattle.rtk_message.specs.Obs1004.{satellite_table};
+ghost use Rattle.rtk_message.specs.Obs1004.{satellite_table, table, first_fault, IsValid};
 ghost use Rattle.std.specs.List.{flat_map};
-ghost use Rattle.std.specs.Prelude.{◌≡◌, ◌≤◌, ◌+◌, ◌*◌, [], length, OnOk, IsTrue, ◌↔◌, ◌<◌, ◌∷◌, ◌++◌};
+ghost use Rattle.std.specs.Prelude.{◌≡◌, ◌≤◌, ◌+◌, ◌*◌, [], length, slice_set, Some, OnOk, IfErr, IsTrue, ◌↔◌, ◌<◌, ◌∷◌, ◌++◌};
 
 use crate::fault::DecodeFault;
 use crate::field::{FieldValue, WEEK_MS, next_word, put_flag, put_i16, put_i32, put_u};
@@ -62,24 +62,7 @@ impl Layout for Obs1004 {
     }
 
     fn read(&mut self, reader: &mut BitReader<'_>) -> Result<(), DecodeFault> {
-        if reader.remaining() < 52 {
-            return Err(DecodeFault::Short { number: 1004 });
-        }
-        let mut header = next_word(reader, 52);
-        self.station = header.next_u16(12);
-        self.tow = header.next_u32(30);
-        self.synchronous = header.next_flag();
-        let count = header.next_u8(5);
-        self.smoothing = header.next_flag();
-        self.smoothing_interval = header.next_u8(3);
-        if self.tow >= WEEK_MS {
-            return Err(DecodeFault::EpochRange { number: 1004 });
-        }
-        if reader.remaining() < 125 * count as u128 {
-            return Err(DecodeFault::Short { number: 1004 });
-        }
-        read_satellites(&mut self.satellites, reader, count);
-        Ok(())
+        self.read_over(reader)
     }
 
     fn write(&self, writer: &mut BitWriter) -> Result<(), AllocError> {
@@ -105,18 +88,52 @@ impl Layout for Obs1004 {
     ghost unique = { is_unique };
 }
 
+impl Obs1004 {
+    /// Reads the fields after the number in place of those that the message has.
+    ///
+    /// It is inlined, so that the reader of its caller stays in registers.
+    #[inline(always)]
+    pub(crate) fn read_over(&mut self, reader: &mut BitReader<'_>) -> Result<(), DecodeFault>
+        ensures fields { OnOk result (IsValid self.new × TakesAll (table self.new) reader.old reader.new) }
+        ensures fault { IfErr result (λ f. first_fault reader.old ≡ Some f) }
+    {
+        if reader.remaining() < 52 {
+            return Err(DecodeFault::Short { number: 1004 });
+        }
+        let mut header = next_word(reader, 52);
+        self.station = header.next_u16(12);
+        self.tow = header.next_u32(30);
+        self.synchronous = header.next_flag();
+        let count = header.next_u8(5);
+        self.smoothing = header.next_flag();
+        self.smoothing_interval = header.next_u8(3);
+        if self.tow >= WEEK_MS {
+            return Err(DecodeFault::EpochRange { number: 1004 });
+        }
+        if reader.remaining() < 125 * count as u128 {
+            return Err(DecodeFault::Short { number: 1004 });
+        }
+        read_satellites(&mut self.satellites, reader, count);
+        Ok(())
+    }
+}
+
+// Reads the satellites of a list, in place of those that it has.
+#[inline(always)]
 fn read_satellites(satellites: &mut Satellites, reader: &mut BitReader<'_>, count: u8)
-    requires empty { satellites.old ≡ [] }
     requires few { count ≤ 31 }
     requires enough { 125 * count ≤ length reader.old }
     ensures fields { TakesAll (flat_map satellite_table satellites.new) reader.old reader.new }
     ensures count { length satellites.new ≡ count }
 {
-    for _ in 0..count {
-        satellites.push(next_satellite(reader));
+    let count = count as usize;
+    satellites.resize(count);
+    for place in 0..count {
+        satellites.set(place, next_satellite(reader));
     }
 }
 
+#[inline(always)]
 fn next_satellite(reader: &mut BitReader<'_>) -> Satellite
     requires { 125 ≤ length reader.old }
     ensures fields { TakesAll (satellite_table result) reader.old reader.new }
@@ -275,6 +292,25 @@ impl Satellites {
         ensures few { length result.now ≤ 31 }
     {
         self.list.as_slice()
+    }
+
+    // Makes the list this long: it leaves out the last ones, or adds some that are to be set.
+    fn resize(&mut self, count: usize)
+        requires { count ≤ 31 }
+        ensures { length self.new ≡ count }
+    {
+        self.list.truncate(count);
+        for _ in self.list.len()..count {
+            self.list.push(Satellite::default());
+        }
+    }
+
+    // Sets the satellite at this place.
+    fn set(&mut self, place: usize, satellite: Satellite)
+        requires { place < length self.old }
+        ensures { self.new ≡ slice_set self.old place satellite }
+    {
+        self.list.as_mut_slice()[place] = satellite;
     }
 
     /// Adds a satellite after the others.

@@ -1,32 +1,33 @@
-use Rattle.std.proofs.Common.{arith, ap, drop, length, refl, rules}
+use Rattle.std.proofs.Common.{◌+◌, ◌*◌, ◌≤◌, ap, arith, drop, length, refl}
 use Rattle.std.proofs.lemmas.List.{take_rest}
 use Rattle.rtk_bits.specs.Bits.{bits}
 use Rattle.rtk_bits.proofs.ReaderLemmas.{length-left, left-rest}
 use Rattle.rtk_bits.proofs.Taken.{taken_u}
 use Rattle.rtk_bits.proofs.reader.BitReader.take_u.Goals as goal
 
-pub returns-then-self-end-clause-enough : goal.returns-then-self-end-clause-enough
-returns-then-self-end-clause-enough c =
-    (λ e. absurd (cc), λ h. absurd (omega (arith, h, c.if-self-end.true, ap length c.self.view_is, length-left c.self.inside.rest.now c.self.inside.skip)))
+pub returns-in_default-clause-enough : goal.returns-in_default-clause-enough
+returns-in_default-clause-enough c =
+    (λ e. absurd (cc), λ h. c.in_default.ensures.enough.1 (omega (arith, h, ap length c.self.view_is, length-left c.self.inside.rest.now c.self.inside.skip)))
 
 pub returns-clause-enough : goal.returns-clause-enough
 returns-clause-enough c =
-    (λ _. rw (← c.self.view_is) (omega (arith, length-left c.self.inside.rest.now c.self.inside.skip)), λ _. refl)
+    let long : c.self.inside.skip + c.args.width ≤ 8 * length c.self.inside.rest.now = c.in-Some.ensures.enough.0 refl in
+    (λ _. rw (← c.self.view_is) (omega (arith, long, length-left c.self.inside.rest.now c.self.inside.skip)), λ _. refl)
 
 pub returns-clause-rest : goal.returns-clause-rest
 returns-clause-rest c =
-    rw (← c.self.view_is, take_rest) (left-rest c.self.inside.rest.now c.self.inside.skip c.args.width (omega arith))
+    let long : c.self.inside.skip + c.args.width ≤ 8 * length c.self.inside.rest.now = c.in-Some.ensures.enough.0 refl in
+    rw (← c.self.view_is, take_rest) (left-rest c.self.inside.rest.now c.self.inside.skip c.args.width (omega (arith, long)))
 
 pub returns-clause-bound : goal.returns-clause-bound
 returns-clause-bound c =
-    (taken_u (drop c.self.inside.skip (bits c.self.inside.rest.now)) c.args.width c.field_at-number.result
-    (omega (arith, length-left c.self.inside.rest.now c.self.inside.skip)) c.field_at-number.ensures).0
+    let long : c.self.inside.skip + c.args.width ≤ 8 * length c.self.inside.rest.now = c.in-Some.ensures.enough.0 refl in
+    (taken_u (drop c.self.inside.skip (bits c.self.inside.rest.now)) c.args.width c.in-Some.number
+    (omega (arith, long, length-left c.self.inside.rest.now c.self.inside.skip)) c.in-Some.ensures.number).0
 
 pub returns-clause-field : goal.returns-clause-field
 returns-clause-field c =
-    rw (← c.self.view_is, take_rest, left-rest c.self.inside.rest.now c.self.inside.skip c.args.width (omega arith))
-    ((taken_u (drop c.self.inside.skip (bits c.self.inside.rest.now)) c.args.width c.field_at-number.result
-    (omega (arith, length-left c.self.inside.rest.now c.self.inside.skip)) c.field_at-number.ensures).1)
-
-pub returns-then-self-end-clause-short : goal.returns-then-self-end-clause-short
-returns-then-self-end-clause-short c = search rules depth 5 fits 300
+    let long : c.self.inside.skip + c.args.width ≤ 8 * length c.self.inside.rest.now = c.in-Some.ensures.enough.0 refl in
+    rw (← c.self.view_is, take_rest, left-rest c.self.inside.rest.now c.self.inside.skip c.args.width (omega (arith, long)))
+    ((taken_u (drop c.self.inside.skip (bits c.self.inside.rest.now)) c.args.width c.in-Some.number
+    (omega (arith, long, length-left c.self.inside.rest.now c.self.inside.skip)) c.in-Some.ensures.number).1)
