@@ -1,6 +1,6 @@
 //! The collector: a window over the epochs of one station's messages.
 
-ghost use Rattle.std.specs.Prelude.{◌≡◌, ◌≤◌, List, [], length, take, IfOk, OnErr, None};
+ghost use Rattle.std.specs.Prelude.{◌≡◌, ◌≤◌, List, [], length, take, IsOk, IfOk, OnErr, None};
 ghost use Rattle.rtk_message.specs.Arp1005 as arp1005_spec;
 ghost use Rattle.rtk_message.specs.Arp1006 as arp1006_spec;
 ghost use Rattle.rtk_message.specs.declared.message.Message.TheVariants.{Arp1005 as MessageArp1005, Arp1006 as MessageArp1006};
@@ -97,8 +97,8 @@ impl Collector {
                 let cells = self.room.as_slice();
                 offer_cells(&mut self.sets, self.places, self.alloc, epoch, cells)
             }
-            Message::Arp1005(message) => Ok(self.offer_1005(*message)),
-            Message::Arp1006(message) => Ok(self.offer_1006(*message)),
+            Message::Arp1005(message) => self.offer_1005(*message),
+            Message::Arp1006(message) => self.offer_1006(*message),
             Message::Msm1074(message) => {
                 let Some(epoch) = epoch else { unreachable!() };
                 put_cells_1074(message, &mut self.room);
@@ -108,32 +108,38 @@ impl Collector {
         }
     }
 
-    // Takes a 1005, if it is the first and the window isn't full. It takes no memory.
-    fn offer_1005(&mut self, message: Arp1005) -> Offer
+    // Takes a 1005, if it is the first and the window isn't full. It takes no memory. It stands apart,
+    // since `offer` would clear the room of its answer at each message.
+    #[inline(never)]
+    fn offer_1005(&mut self, message: Arp1005) -> Result<Offer, AllocError>
         requires { arp1005_spec.IsValid message }
         ensures size { self.new.size ≡ self.old.size }
         ensures bound { length self.new.sets ≤ self.new.size }
         ensures sets { self.new.sets ≡ self.old.sets }
-        ensures answer { AnswersArrival self.old (At None (MessageArp1005 message)) result self.new }
-        ensures closed { ClosesBelow result self.new.sets }
-        ensures least_closes { ClosesLeast self.old.size self.old.sets result }
+        ensures ok { IsOk result }
+        ensures answer { IfOk result (λ offer. AnswersArrival self.old (At None (MessageArp1005 message)) offer self.new) }
+        ensures closed { IfOk result (λ offer. ClosesBelow offer self.new.sets) }
+        ensures least_closes { IfOk result (λ offer. ClosesLeast self.old.size self.old.sets offer) }
     {
         let full = self.sets.len() == self.places;
-        offer_station(&mut self.stations.arp1005, message, full)
+        Ok(offer_station(&mut self.stations.arp1005, message, full))
     }
 
-    // Takes a 1006, if it is the first and the window isn't full. It takes no memory.
-    fn offer_1006(&mut self, message: Arp1006) -> Offer
+    // Takes a 1006, if it is the first and the window isn't full. It takes no memory. It stands apart,
+    // since `offer` would clear the room of its answer at each message.
+    #[inline(never)]
+    fn offer_1006(&mut self, message: Arp1006) -> Result<Offer, AllocError>
         requires { arp1006_spec.IsValid message }
         ensures size { self.new.size ≡ self.old.size }
         ensures bound { length self.new.sets ≤ self.new.size }
         ensures sets { self.new.sets ≡ self.old.sets }
-        ensures answer { AnswersArrival self.old (At None (MessageArp1006 message)) result self.new }
-        ensures closed { ClosesBelow result self.new.sets }
-        ensures least_closes { ClosesLeast self.old.size self.old.sets result }
+        ensures ok { IsOk result }
+        ensures answer { IfOk result (λ offer. AnswersArrival self.old (At None (MessageArp1006 message)) offer self.new) }
+        ensures closed { IfOk result (λ offer. ClosesBelow offer self.new.sets) }
+        ensures least_closes { IfOk result (λ offer. ClosesLeast self.old.size self.old.sets offer) }
     {
         let full = self.sets.len() == self.places;
-        offer_station(&mut self.stations.arp1006, message, full)
+        Ok(offer_station(&mut self.stations.arp1006, message, full))
     }
 
     /// The position of the first 1006, else of the first 1005, else zeros, with the height of the

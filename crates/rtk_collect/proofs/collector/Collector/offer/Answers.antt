@@ -1,4 +1,4 @@
-use Rattle.std.proofs.Common.{refl, subst}
+use Rattle.std.proofs.Common.{IfOk, refl, subst}
 use Rattle.rtk_message.specs.declared.message.Message.TheVariants.{Arp1005, Arp1006}
 use Rattle.rtk_collect.specs.Arrival.{Arrival}
 use Rattle.rtk_collect.specs.Offered.{AnswersArrival}
@@ -6,9 +6,9 @@ use Rattle.rtk_collect.proofs.DatedLemmas.{dated-without}
 use Rattle.rtk_collect.proofs.collector.Collector.offer.Goals as goal
 
 pub returns-in-Arp1005-clause-answer : goal.returns-in-Arp1005-clause-answer
-returns-in-Arp1005-clause-answer c = subst (λ (a : Arrival). AnswersArrival c.args.self.now a c.offer_1005.result c.offer_1005.new.self)
+returns-in-Arp1005-clause-answer c = subst (λ (a : Arrival). IfOk c.offer_1005.result (λ offer. AnswersArrival c.args.self.now a offer c.offer_1005.new.self))
     (dated-without c.dated.inside.epoch c.dated.inside.message.now (Arp1005 c.in-Arp1005.message) c.args.dated c.in-Arp1005.is c.dated.invariant.1 refl c.dated.view_is) c.offer_1005.ensures.answer
 
 pub returns-in-Arp1006-clause-answer : goal.returns-in-Arp1006-clause-answer
-returns-in-Arp1006-clause-answer c = subst (λ (a : Arrival). AnswersArrival c.args.self.now a c.offer_1006.result c.offer_1006.new.self)
+returns-in-Arp1006-clause-answer c = subst (λ (a : Arrival). IfOk c.offer_1006.result (λ offer. AnswersArrival c.args.self.now a offer c.offer_1006.new.self))
     (dated-without c.dated.inside.epoch c.dated.inside.message.now (Arp1006 c.in-Arp1006.message) c.args.dated c.in-Arp1006.is c.dated.invariant.1 refl c.dated.view_is) c.offer_1006.ensures.answer
