@@ -1,6 +1,6 @@
 //! The text of a record: the epoch line, and a line for each satellite that shows something.
 
-ghost use Rattle.std.specs.Prelude.{◌≡◌, ℕ, ◌+◌, ◌*◌, ◌<◌, ◌≤◌, ◌-◌, ◌^◌, [], ◌∷◌, ◌++◌, length, take, drop, replicate, flat_map, IfOk, OnOk, codes, decimal, not, ◌==◌, if◌then◌else◌};
+ghost use Rattle.std.specs.Prelude.{◌≡◌, ℕ, ◌+◌, ◌*◌, ◌<◌, ◌≤◌, ◌-◌, ◌^◌, [], ◌∷◌, ◌++◌, length, take, drop, replicate, flat_map, IfOk, OnOk, codes, decimal, not, IsTrue, ◌==◌, if◌then◌else◌};
 ghost use Rattle.std.specs.List.{filter, list_any, sum_by};
 ghost use Rattle.rtk_rinex.specs.Record.{HasWidth, is_written, is_present, observation, observations, strength_digit, strength_value, lli_digit, has_observation, has_line, trim_end, satellite_line, epoch_date_text, epoch_line, record_text};
 
@@ -121,12 +121,26 @@ fn put_columns(columns: &mut [u8], observed: &Observed)
     put_strength(&mut columns[32..], observed.strength_millidbhz);
 }
 
+// Do two blanks stand at the end, and no third one? So the columns of a strength end.
+fn has_two_blanks(bytes: &[u8]) -> bool
+    ensures { IsTrue result → (2 ≤ length bytes.now) × (take (length bytes.now - 2) bytes.now ≡ trim_end bytes.now) }
+{
+    let len = bytes.len();
+    if len < 3 || bytes[len - 3] == b' ' || bytes[len - 2] != b' ' {
+        return false;
+    }
+    bytes[len - 1] == b' '
+}
+
 /// The number of bytes before the blanks at the end.
 pub(crate) fn trimmed_len(bytes: &[u8]) -> usize
     ensures within { result ≤ length bytes.now }
     ensures value { take result bytes.now ≡ trim_end bytes.now }
 {
     let mut end = bytes.len();
+    if has_two_blanks(bytes) {
+        return end - 2;
+    }
     while end > 0 && bytes[end - 1] == b' ' {
         end -= 1;
     }

@@ -1,5 +1,4 @@
 use Rattle.std.proofs.Common.{◌≡◌, ℕ, get_or, sym, subst}
-use Rattle.rtk_obs.specs.Code.{place_of}
 use Rattle.rtk_convert.specs.Steps.ShownCells.{IsPlaceAmong}
 use Rattle.rtk_convert.proofs.ListedLemmas.{with_code-none, with_code-one, any-at}
 use Rattle.rtk_convert.proofs.epoch_rows.put_listed.Goals as goal

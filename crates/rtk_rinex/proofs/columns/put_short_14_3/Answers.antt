@@ -1,4 +1,4 @@
-use Rattle.std.proofs.Common.{sym, refl}
+use Rattle.std.proofs.Common.{sym}
 use Rattle.rtk_rinex.proofs.ColumnsLemmas.{right-short}
 use Rattle.rtk_rinex.proofs.columns.put_short_14_3.Goals as goal
 
