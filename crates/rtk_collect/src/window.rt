@@ -156,31 +156,28 @@ pub(crate) fn offer_cells(
     ensures err { OnErr result (sets.new.items ≡ sets.old.items) }
     ensures refused { OnErr result (WouldTakeCells places epoch cells.now sets.old.items) }
 {
-    let mut found = Conflicts::new();
+    let mut conflicts = Conflicts::new();
     let at = place_of_epoch(sets, epoch);
     if has_epoch(sets, at, epoch) {
-        let Ok(fresh) = join_at(sets, at, cells, &mut found) else {
+        let Ok(fresh) = join_at(sets, at, cells, &mut conflicts) else {
             return Err(AllocError);
         };
         if fresh > 0 {
             return Ok(Offer::Taken {
                 closed: None,
-                conflicts: found,
+                conflicts,
             });
         }
-        return answer_of_known(found);
+        return answer_of_known(conflicts);
     }
     if at == places {
         return Ok(Offer::Late);
     }
-    if let Err(_) = open_at(sets, at, alloc, epoch, cells, &mut found) {
+    if let Err(_) = open_at(sets, at, alloc, epoch, cells, &mut conflicts) {
         return Err(AllocError);
     }
     let closed = close_least(sets, places);
-    Ok(Offer::Taken {
-        closed,
-        conflicts: found,
-    })
+    Ok(Offer::Taken { closed, conflicts })
 }
 
 // What became of cells of an epoch of the window of which none is new, by those that conflict. It
