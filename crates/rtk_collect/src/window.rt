@@ -1,6 +1,6 @@
 //! The epochs of a window, from the greatest to the least.
 
-ghost use Rattle.std.specs.Prelude.{◌≡◌, ◌≢◌, ◌<◌, ◌≤◌, ◌+◌, ◌++◌, [], not, min, IsTrue, length, IfOk, OnErr, OnOk, All, slice_index_or, slice_set, option_to_list};
+ghost use Rattle.std.specs.Prelude.{◌≡◌, ◌≢◌, ◌<◌, ◌≤◌, ◌+◌, ◌++◌, [], not, min, IsTrue, length, IsOk, IfOk, OnErr, OnOk, All, slice_index_or, slice_set, option_to_list};
 ghost use Rattle.std.specs.List.{insert};
 ghost use Rattle.rtk_obs.specs.Cell.{IsInRange};
 ghost use Rattle.rtk_collect.specs.EpochSet.{EpochSetView, joined, fresh, conflicts, EpochsFall};
@@ -105,6 +105,22 @@ pub(crate) fn open_at(
     if let Err(_) = set.join(cells, found) {
         return Err(AllocError);
     }
+    put_at(sets, at, set)
+}
+
+// Puts an epoch at a place.
+fn put_at(sets: &mut VecDeque<EpochSet>, at: usize, set: EpochSet) -> Result<(), AllocError>
+    requires { at ≤ length sets.old.items }
+    ensures items { OnOk result (sets.new.items ≡ insert sets.old.items at set) }
+    ensures err { OnErr result (sets.new.items ≡ sets.old.items) }
+{
+    // The common case: an epoch after all of the window.
+    if at == 0 {
+        if let Err(_) = sets.push_front(set) {
+            return Err(AllocError);
+        }
+        return Ok(());
+    }
     if let Err(_) = sets.insert(at, set) {
         return Err(AllocError);
     }
@@ -140,39 +156,39 @@ pub(crate) fn offer_cells(
     ensures err { OnErr result (sets.new.items ≡ sets.old.items) }
     ensures refused { OnErr result (WouldTakeCells places epoch cells.now sets.old.items) }
 {
-    let mut found = Conflicts::new();
+    let mut conflicts = Conflicts::new();
     let at = place_of_epoch(sets, epoch);
     if has_epoch(sets, at, epoch) {
-        let Ok(fresh) = join_at(sets, at, cells, &mut found) else {
+        let Ok(fresh) = join_at(sets, at, cells, &mut conflicts) else {
             return Err(AllocError);
         };
-        return Ok(answer_of_joined(fresh, found));
+        if fresh > 0 {
+            return Ok(Offer::Taken {
+                closed: None,
+                conflicts,
+            });
+        }
+        return answer_of_known(conflicts);
     }
     if at == places {
         return Ok(Offer::Late);
     }
-    if let Err(_) = open_at(sets, at, alloc, epoch, cells, &mut found) {
+    if let Err(_) = open_at(sets, at, alloc, epoch, cells, &mut conflicts) {
         return Err(AllocError);
     }
     let closed = close_least(sets, places);
-    Ok(Offer::Taken {
-        closed,
-        conflicts: found,
-    })
+    Ok(Offer::Taken { closed, conflicts })
 }
 
-// What became of cells that joined an epoch of the window: how many are new, and which conflict.
-fn answer_of_joined(fresh: usize, conflicts: Conflicts) -> Offer
-    ensures { IsAnswerOf fresh conflicts result }
+// What became of cells of an epoch of the window of which none is new, by those that conflict. It
+// stands apart, since `offer_cells` would clear the room of its answer at each message.
+#[inline(never)]
+fn answer_of_known(conflicts: Conflicts) -> Result<Offer, AllocError>
+    ensures ok { IsOk result }
+    ensures answer { IfOk result (λ offer. IsAnswerOf 0 conflicts offer) }
 {
-    if fresh > 0 {
-        return Offer::Taken {
-            closed: None,
-            conflicts,
-        };
-    }
     if conflicts.is_empty() {
-        return Offer::Repeat;
+        return Ok(Offer::Repeat);
     }
-    Offer::Conflict { conflicts }
+    Ok(Offer::Conflict { conflicts })
 }
