@@ -20,6 +20,12 @@ convert() {
     status=$?
 }
 
+# run WORD..
+run() {
+    "$program" "$@" >out 2>err </dev/null
+    status=$?
+}
+
 # words NEAR MADE MARKER CODES LINK..
 words() {
     near_=$1 made_=$2 marker_=$3 codes_=$4
@@ -64,6 +70,8 @@ report 4 0 0 0 2 2 0 0 1 >two.report
 convert 1C,2W STDIN stdin.rtcm <&-;                   leaves files_of_names_like_stdin 0 "$examples/base.rnx" two.report
 report 6 0 0 0 2 4 0 0 1 >three.report
 convert 1C,2W stdin.rtcm stdin STDIN <"$base";        leaves standard_input_and_names_like_it 0 "$examples/base.rnx" three.report
+# A file that is named twice is read twice.
+convert 1C,2W "$base" "$base" </dev/null;             leaves a_file_twice 0 "$examples/base.rnx" two.report
 # A name is taken as it is, its blanks, commas and signs too.
 odd=' ~a,b=c%20 $HOME#*?[x]'"'\"\\ "
 cp "$base" "$odd"
@@ -165,6 +173,7 @@ words $near $made X 1C stdin a stdin;                 fails standard_input_twice
 words $near $made X 1C 1 2 3 4 5 6 7 8 9 10 11 12 13 14 15 16 17; fails seventeen_links 2 'bad links'
 words $near $made X 1C $(seq 40);                     fails forty_links 2 'bad links'
 words $near $made X 1C $(seq 200);                    fails two_hundred_links 2 'bad links'
+run convert $(seq 200) $options --codes 1C;           fails two_hundred_links_before_the_options 2 'bad links'
 words $near $made X 1C nowhere 2 3 4 5 6 7 8 9 10 11 12 13 14 15 16; fails sixteen_links 1 'cannot open nowhere'
 words 1980-01-06T00:00:00 '' X 1C nowhere;            fails reference_out_of_range_and_no_making 2 'bad --made'
 words 1980-01-06T00:00:00 $made ' X' 1C,9Z nowhere;   fails reference_out_of_range_and_no_code 2 'bad --codes'
@@ -286,12 +295,6 @@ Manual: man rtcm2rinex, or docs/MANUAL.md"
 try="
 For more information, try '--help'."
 
-# run WORD..
-run() {
-    "$program" "$@" >out 2>err </dev/null
-    status=$?
-}
-
 # bad_value NAME OPTION VALUE WHY
 bad_value() {
     run convert "$2" "$3" a
@@ -347,6 +350,13 @@ expect made_of_a_word_with_a_hyphen 2 '' "error: unexpected argument '-2' found
 
 $usage
 $try"
+run convert --station -1 a
+expect station_below_0 2 '' "error: unexpected argument '-1' found
+
+  tip: to pass '-1' as a value, use '-- -1'
+
+$usage
+$try"
 run convert --stat 2003 --near $near --made $made --marker BASE --codes 1C a
 expect start_of_an_option 2 '' "error: unexpected argument '--stat' found
 
@@ -386,4 +396,4 @@ leaves start_convert_with_a_limit_of_size 1 part part_err
 (ulimit -f 8; exec "$root/bin/rtcm2rinex" convert $options --codes 1C,2W,5X stdin) >out 2>err <"$session.rtcm"; status=$?
 leaves start_convert_followed_with_a_limit_of_size 1 part write_failed
 
-ends 183
+ends 186

@@ -366,9 +366,11 @@ def _report_is_full():
 
 @scene("standard error takes k bytes of a line or text of refusal, each k below its length")
 def _refusal_is_cut():
+    wrong = written("refused.rnx", content(example("base.rnx")).replace(b"45.000", b"45.100"))
     for status, words in [(1, ("show", "nowhere")), (1, ("show", "--hex", example("base.rtcm"))),
                           (2, ("shew", "a")), (2, ("show", example("base.rtcm"), "--hax")),
-                          (2, ("convert", *OPTIONS[:-1], "9Z", "a"))]:
+                          (2, ("convert", *OPTIONS[:-1], "9Z", "a")),
+                          (3, ("chart", wrong)), (3, ("cut", "--every", "1", wrong))]:
         case = Case(" ".join(words), words)
         good = run(case)
         for k in range(len(good.err) + 1):

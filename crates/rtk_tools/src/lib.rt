@@ -37,4 +37,4 @@ pub use links::{Link, OpenFault, fail_to_open_links, has_standard_input, open_li
 pub use payload_line::show_line;
 pub use resuming::Resumed;
 pub use showing::{SHOW_LIMIT, show, show_named};
-pub use summarizing::summarize_named;
+pub use summarizing::{summarize_named, summary_status};

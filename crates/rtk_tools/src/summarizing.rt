@@ -1,6 +1,6 @@
 //! The command `summary`: what a capture holds.
 
-ghost use Rattle.std.specs.Prelude.{◌≤◌, ◌+◌, IsErrOf};
+ghost use Rattle.std.specs.Prelude.{◌≡◌, ◌≤◌, ◌+◌, OnOk, OnErr, IsErrOf};
 ghost use Rattle.rtk_summary.specs.Summary.{HasRisenBy};
 ghost use Rattle.rtk_tools.specs.Steps.ReadLimits.{most_reads};
 
@@ -25,6 +25,20 @@ fn summarize<R: Source, W: Sink>(
     rtk_summary::summarize(alloc, capture, out, MOST_READS)
 }
 
+/// The exit status of a summary, by its answer; the fault line goes to standard error.
+pub fn summary_status<R: Eprint>(rt: &R, done: Result<(), SummaryFault>) -> u8
+    ensures done { OnOk done (result ≡ DONE) }
+    ensures failed { OnErr done (result ≡ FAILED) }
+{
+    match done {
+        Ok(()) => DONE,
+        Err(SummaryFault::OutOfMemory) => fail(rt, ToolFault::OutOfMemory),
+        Err(SummaryFault::Read) => fail(rt, ToolFault::Input),
+        Err(SummaryFault::Endless) => fail_to_end(rt),
+        Err(SummaryFault::Write) => fail(rt, ToolFault::Output),
+    }
+}
+
 /// Writes what the capture of this name holds to standard output.
 pub fn summarize_named<R: Files + Input + Print + Eprint + AllocGlobal>(rt: &R, name: &str) -> u8
     ensures { result ≤ FAILED }
@@ -33,11 +47,6 @@ pub fn summarize_named<R: Files + Input + Print + Eprint + AllocGlobal>(rt: &R, 
         return fail_to_open(rt, name);
     };
     let mut reader = Reads::new(capture);
-    match summarize(rt.alloc(), &mut reader, &mut standard_output(rt)) {
-        Ok(()) => DONE,
-        Err(SummaryFault::OutOfMemory) => fail(rt, ToolFault::OutOfMemory),
-        Err(SummaryFault::Read) => fail(rt, ToolFault::Input),
-        Err(SummaryFault::Endless) => fail_to_end(rt),
-        Err(SummaryFault::Write) => fail(rt, ToolFault::Output),
-    }
+    let done = summarize(rt.alloc(), &mut reader, &mut standard_output(rt));
+    summary_status(rt, done)
 }
