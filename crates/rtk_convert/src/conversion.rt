@@ -19,7 +19,7 @@ use crate::report;
 use crate::setup::Setup;
 use rtk_collect::{Collector, Dated, EpochSet, Offer};
 use rtk_frame::Sink;
-use rtk_message::decode;
+use rtk_message::Decoder;
 use rtk_obs::GpsMs;
 use std::alloc::{AllocError, Global};
 use std::marker::Model;
@@ -93,6 +93,7 @@ impl Conversion {
     /// observation of the chosen station, whether it is late or not.
     pub(crate) fn accept_frame<O: Sink, L: Sink>(
         &mut self,
+        decoder: &mut Decoder,
         link: u8,
         payload: &[u8],
         out: &mut O,
@@ -119,7 +120,7 @@ impl Conversion {
             return Err(ConvertFault::Stopped);
         }
         self.stopped = true;
-        let epoch = self.handle_payload(link, payload, out, log)?;
+        let epoch = self.handle_payload(decoder, link, payload, out, log)?;
         self.stopped = false;
         Ok(epoch)
     }
@@ -127,6 +128,7 @@ impl Conversion {
     // Handles the payload of a frame. `stopped` stays as it is.
     fn handle_payload<O: Sink, L: Sink>(
         &mut self,
+        decoder: &mut Decoder,
         link: u8,
         payload: &[u8],
         out: &mut O,
@@ -150,8 +152,7 @@ impl Conversion {
         ensures report_failed { NamesFailedWrites Stream.Log result (L.failures log.old) (L.failures log.new) }
     {
         self.counts.frames = self.counts.frames.saturating_add(1);
-        let reading = decode(payload);
-        match classify(&self.setup, &reading) {
+        match classify(&self.setup, decoder.read(payload)) {
             FrameClass::OtherMessage => {
                 self.counts.other = self.counts.other.saturating_add(1);
                 Ok(None)

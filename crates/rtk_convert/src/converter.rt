@@ -14,6 +14,7 @@ use crate::fault::{ConvertFault, Stream};
 use crate::link::Link;
 use crate::setup::Setup;
 use rtk_frame::{Scanner, Sink};
+use rtk_message::Decoder;
 use rtk_obs::GpsMs;
 use std::alloc::Global;
 use std::marker::Model;
@@ -26,11 +27,12 @@ use std::marker::Model;
 #[derive(Drop)]
 pub struct Converter {
     conversion: Conversion,
+    decoder: Decoder,
     links: Vec<Link>,
 }
 
 // The first part of the invariant names every field: a field that holds more bytes can't be added
-// beside those whose bounds the clauses see.
+// beside those whose bounds the clauses see. The decoder's bytes are its own, and don't grow.
 impl Model for Converter {
     ghost use Rattle.std.specs.Prelude.{◌≡◌};
     ghost use Rattle.rtk_convert.specs.Converter.{ConverterView, IsConverterView};
@@ -39,7 +41,7 @@ impl Model for Converter {
 
     ghost view = { λ c. record { conversion = c.conversion; links = c.links.items } };
 
-    ghost invariant = { λ c. (c ≡ record { conversion = c.conversion; links = c.links })
+    ghost invariant = { λ c. (c ≡ record { conversion = c.conversion; decoder = c.decoder; links = c.links })
         × IsConverterView (record { conversion = c.conversion; links = c.links.items }) };
 }
 
@@ -85,7 +87,11 @@ impl Converter {
             return Err(ConvertFault::OutOfMemory);
         };
         let links = new_links(alloc, links)?;
-        Ok(Converter { conversion, links })
+        Ok(Converter {
+            conversion,
+            decoder: Decoder::new(),
+            links,
+        })
     }
 
     /// How many links there are.
@@ -166,7 +172,14 @@ impl Converter {
         if let Some(fault) = self.refusal(link) {
             return Err(fault);
         }
-        self.links[link].feed(link as u8, &mut self.conversion, piece, out, log)
+        self.links[link].feed(
+            link as u8,
+            &mut self.conversion,
+            &mut self.decoder,
+            piece,
+            out,
+            log,
+        )
     }
 
     /// Closes a link: no more bytes will come, and the frames that are left in it arrive.
@@ -202,7 +215,13 @@ impl Converter {
         if let Some(fault) = self.refusal(link) {
             return Err(fault);
         }
-        self.links[link].close(link as u8, &mut self.conversion, out, log)
+        self.links[link].close(
+            link as u8,
+            &mut self.conversion,
+            &mut self.decoder,
+            out,
+            log,
+        )
     }
 
     // Closes the links that are open, the lower number first.

@@ -11,6 +11,7 @@ ghost use Rattle.rtk_convert.specs.Writing.{written};
 use crate::conversion::Conversion;
 use crate::fault::{ConvertFault, Stream};
 use rtk_frame::{Answer, Scanner, Sink};
+use rtk_message::Decoder;
 use rtk_obs::GpsMs;
 
 /// A link. It is closed exactly if its scanner has ended.
@@ -40,6 +41,7 @@ impl Link {
         &mut self,
         number: u8,
         conversion: &mut Conversion,
+        decoder: &mut Decoder,
         piece: &[u8],
         out: &mut O,
         log: &mut L,
@@ -71,7 +73,7 @@ impl Link {
             let Answer::Found(payload) = fed.answer else {
                 return Ok(());
             };
-            let epoch = conversion.accept_frame(number, payload, out, log)?;
+            let epoch = conversion.accept_frame(decoder, number, payload, out, log)?;
             self.newest = later_of(epoch, self.newest);
         }
     }
@@ -81,6 +83,7 @@ impl Link {
         &mut self,
         number: u8,
         conversion: &mut Conversion,
+        decoder: &mut Decoder,
         out: &mut O,
         log: &mut L,
     ) -> Result<(), ConvertFault>
@@ -103,7 +106,7 @@ impl Link {
         ensures report_failed { NamesFailedWrites Stream.Log result (L.failures log.old) (L.failures log.new) }
     {
         'frames: while let Some(payload) = self.scanner.rest() {
-            let epoch = conversion.accept_frame(number, payload, out, log)?;
+            let epoch = conversion.accept_frame(decoder, number, payload, out, log)?;
             self.newest = later_of(epoch, self.newest);
         }
         Ok(())

@@ -52,8 +52,8 @@ pub(crate) fn is_gps(satellite: u8) -> bool
     1 <= satellite && satellite <= 32
 }
 
-// Makes a place of a list one that can be written.
-fn make_room(list: &mut ArrayVec<CellEntry, 64>, place: usize)
+/// Makes a place of a list one that can be written.
+pub(crate) fn make_room(list: &mut ArrayVec<CellEntry, 64>, place: usize)
     requires place { place ≤ length list.old.items }
     requires room { place < 64 }
     ensures front { take place list.new.items ≡ take place list.old.items }
@@ -63,15 +63,4 @@ fn make_room(list: &mut ArrayVec<CellEntry, 64>, place: usize)
         return;
     }
     list.push(CellEntry::default());
-}
-
-/// Puts an entry at this place of a list: over what stands there, or after all of it.
-pub(crate) fn put_entry(list: &mut ArrayVec<CellEntry, 64>, place: usize, entry: CellEntry)
-    requires place { place ≤ length list.old.items }
-    requires room { place < 64 }
-    ensures entries { take (place + 1) list.new.items ≡ take place list.old.items ++ entry ∷ [] }
-    ensures length { place + 1 ≤ length list.new.items }
-{
-    make_room(list, place);
-    list.as_mut_slice()[place] = entry;
 }

@@ -10,7 +10,7 @@ ghost use Rattle.rtk_obs.specs.Mask.{join_from};
 ghost use Rattle.rtk_obs.specs.MsmCells.{code_of_signal, satellites_of, signals_of, row_slots, rough_of, rough_at, fine_range_of, fine_phase_of, msm_range_of, msm_phase_of, msm_cell_of, slot_entry, cells_of_1074};
 ghost use Rattle.rtk_obs.specs.Steps.MsmRows.{IsRow};
 
-use crate::cell::{Cell, CellEntry, CellSource, is_gps, put_entry};
+use crate::cell::{Cell, CellEntry, CellSource, is_gps, make_room};
 use crate::code::{Band, Code};
 use crate::lock_time::least_lock_msm;
 use crate::mask::{places_of_bits, top_bit};
@@ -156,22 +156,22 @@ fn lock_time(message: &Msm1074, cell: usize) -> u32
     least_lock_msm(message.lock_indicator.as_slice()[cell])
 }
 
-// The cell at this place in the message, of a satellite with this rough range.
-fn msm_cell(message: &Msm1074, cell: usize, rough: Option<i64>, band: Band) -> Cell
+// Sets a cell to the one at this place in the message, of a satellite with this rough range. Each
+// field is written where it stays.
+#[inline(always)]
+fn set_msm_cell(cell: &mut Cell, message: &Msm1074, place: usize, rough: Option<i64>, band: Band)
     requires valid { IsValid message.now }
-    requires cell { cell < cell_count message.now }
+    requires place { place < cell_count message.now }
     requires rough { IfSome rough (λ r. unsigned_abs r ≤ 2 ^ 38) }
-    ensures { (row : ℕ) → rough ≡ rough_at message.now row → result ≡ msm_cell_of message.now cell row band }
+    ensures { (row : ℕ) → rough ≡ rough_at message.now row → cell.new ≡ msm_cell_of message.now place row band }
 {
-    Cell {
-        range_mm: msm_range(rough, message.fine_range.as_slice()[cell]),
-        phase_millicycles: msm_phase(band, rough, message.fine_phase.as_slice()[cell]),
-        strength_millidbhz: strength_from_steps(MSM_STRENGTH_STEP, message.cnr.as_slice()[cell]),
-        lock_time_ms: lock_time(message, cell),
-        half: message.half_cycle.as_slice()[cell],
-        source: CellSource::Msm,
-        offset: None,
-    }
+    cell.range_mm = msm_range(rough, message.fine_range.as_slice()[place]);
+    cell.phase_millicycles = msm_phase(band, rough, message.fine_phase.as_slice()[place]);
+    cell.strength_millidbhz = strength_from_steps(MSM_STRENGTH_STEP, message.cnr.as_slice()[place]);
+    cell.lock_time_ms = lock_time(message, place);
+    cell.half = message.half_cycle.as_slice()[place];
+    cell.source = CellSource::Msm;
+    cell.offset = None;
 }
 
 // The satellite of a row.
@@ -212,12 +212,11 @@ fn put_cell(
     let Some(code) = signal_code(slot.signal) else {
         return count;
     };
-    let entry = CellEntry {
-        satellite: row.satellite,
-        code,
-        cell: msm_cell(message, cell, row.rough, code.band()),
-    };
-    put_entry(found, count, entry);
+    make_room(found, count);
+    let entry = &mut found.as_mut_slice()[count];
+    entry.satellite = row.satellite;
+    entry.code = code;
+    set_msm_cell(&mut entry.cell, message, cell, row.rough, code.band());
     count + 1
 }
 

@@ -16,13 +16,13 @@ use Rattle.rtk_convert.proofs.conversion.Conversion.handle_payload.Goals as goal
 pub returns-in_default-clause-err : goal.returns-in_default-clause-err
 returns-in_default-clause-err g c =
     let before = written (g.O.Sink.taken c.args.out.now) (g.L.Sink.taken c.args.log.now) in
-    let comes = subst (λ (f : FrameClass). IsClassOfPayload c.self.inside.setup c.args.payload.now f) c.in-Refused.is (c.decode-reading.result, c.decode-reading.ensures, c.classify.ensures) in
+    let comes = subst (λ (f : FrameClass). IsClassOfPayload c.self.inside.setup c.args.payload.now f) c.in-Refused.is (c.read.result.now, c.read.ensures, c.classify.ensures) in
     subst (λ (x : ConversionView). BreaksOffAtFrame x c.args.link c.args.payload.now before before) c.self.view_is (breaks-refused c.args.payload.now comes (takes-none (g.L.Sink.taken c.args.log.now) (refused_line c.args.link c.in-Refused.fault)))
 
 pub returns-in-OtherMessage-clause-ok : goal.returns-in-OtherMessage-clause-ok
 returns-in-OtherMessage-clause-ok g c =
     let before = written (g.O.Sink.taken c.args.out.now) (g.L.Sink.taken c.args.log.now) in
-    let comes = subst (λ (f : FrameClass). IsClassOfPayload c.self.inside.setup c.args.payload.now f) c.in-OtherMessage.is (c.decode-reading.result, c.decode-reading.ensures, c.classify.ensures) in
+    let comes = subst (λ (f : FrameClass). IsClassOfPayload c.self.inside.setup c.args.payload.now f) c.in-OtherMessage.is (c.read.result.now, c.read.ensures, c.classify.ensures) in
     let counts = ap (λ (n : ℕ). record (record c.self.inside.counts { frames = n }) { other = c.saturating_add-self-inside-in-OtherMessage.result }) c.saturating_add-self-inside.ensures
     ∙ ap (λ (n : ℕ). record (one_frame_more c.self.inside.counts) { other = n }) c.saturating_add-self-inside-in-OtherMessage.ensures in
     subst (λ (x : ConversionView). AcceptsFrame x c.args.link c.args.payload.now (state c.self.inside.setup c.self.inside.collector c.self.inside.records (record (record c.self.inside.counts { frames = c.saturating_add-self-inside.result }) { other = c.saturating_add-self-inside-in-OtherMessage.result }) c.self.inside.stopped) before before) c.self.view_is (arrives-other c.args.payload.now comes counts)
@@ -33,7 +33,7 @@ returns-in_ok-put_lines-in-Refused-clause-ahead g c = subst (λ (x : ConversionV
 pub returns-in_ok-put_lines-in-Refused-clause-ok : goal.returns-in_ok-put_lines-in-Refused-clause-ok
 returns-in_ok-put_lines-in-Refused-clause-ok g c =
     let before = written (g.O.Sink.taken c.args.out.now) (g.L.Sink.taken c.args.log.now) in
-    let comes = subst (λ (f : FrameClass). IsClassOfPayload c.self.inside.setup c.args.payload.now f) c.in-Refused.is (c.decode-reading.result, c.decode-reading.ensures, c.classify.ensures) in
+    let comes = subst (λ (f : FrameClass). IsClassOfPayload c.self.inside.setup c.args.payload.now f) c.in-Refused.is (c.read.result.now, c.read.ensures, c.classify.ensures) in
     let counts = ap (λ (n : ℕ). record (record c.self.inside.counts { frames = n }) { refused = c.saturating_add-self-inside-in-Refused.result }) c.saturating_add-self-inside.ensures
     ∙ ap (λ (n : ℕ). record (one_frame_more c.self.inside.counts) { refused = n }) c.saturating_add-self-inside-in-Refused.ensures in
     subst (λ (x : ConversionView). AcceptsFrame x c.args.link c.args.payload.now (state c.self.inside.setup c.self.inside.collector c.self.inside.records (record (record c.self.inside.counts { frames = c.saturating_add-self-inside.result }) { refused = c.saturating_add-self-inside-in-Refused.result }) c.self.inside.stopped) before (written (g.O.Sink.taken c.args.out.now) (g.L.Sink.taken c.put_lines.new.log))) c.self.view_is (arrives-refused c.args.payload.now comes counts (c.in_ok-put_lines-in-Refused.ensures.all ∙ ap (with_more (g.L.Sink.taken c.args.log.now)) (c.deref.ensures.value ∙ c.in-Ok.ensures)))
@@ -41,21 +41,21 @@ returns-in_ok-put_lines-in-Refused-clause-ok g c =
 pub returns-in_err-put_lines-in-Refused-clause-err : goal.returns-in_err-put_lines-in-Refused-clause-err
 returns-in_err-put_lines-in-Refused-clause-err g c =
     let before = written (g.O.Sink.taken c.args.out.now) (g.L.Sink.taken c.args.log.now) in
-    let comes = subst (λ (f : FrameClass). IsClassOfPayload c.self.inside.setup c.args.payload.now f) c.in-Refused.is (c.decode-reading.result, c.decode-reading.ensures, c.classify.ensures) in
+    let comes = subst (λ (f : FrameClass). IsClassOfPayload c.self.inside.setup c.args.payload.now f) c.in-Refused.is (c.read.result.now, c.read.ensures, c.classify.ensures) in
     on_err-from c.from_residual.result (subst (λ (x : ConversionView). BreaksOffAtFrame x c.args.link c.args.payload.now before (written (g.O.Sink.taken c.args.out.now) (g.L.Sink.taken c.put_lines.new.log))) c.self.view_is (breaks-refused c.args.payload.now comes (subst (λ (t : List ℕ). TakesPart (g.L.Sink.taken c.args.log.now) (g.L.Sink.taken c.put_lines.new.log) t) (c.deref.ensures.value ∙ c.in-Ok.ensures) c.put_lines.ensures.part)))
 
 pub returns-in_ok-handle_message-in-Dated-clause-ok : goal.returns-in_ok-handle_message-in-Dated-clause-ok
 returns-in_ok-handle_message-in-Dated-clause-ok g c =
     let before = written (g.O.Sink.taken c.args.out.now) (g.L.Sink.taken c.args.log.now) in
     let after = written (g.O.Sink.taken c.handle_message.new.out) (g.L.Sink.taken c.handle_message.new.log) in
-    let comes = subst (λ (f : FrameClass). IsClassOfPayload c.self.inside.setup c.args.payload.now f) c.in-Dated.is (c.decode-reading.result, c.decode-reading.ensures, c.classify.ensures) in
+    let comes = subst (λ (f : FrameClass). IsClassOfPayload c.self.inside.setup c.args.payload.now f) c.in-Dated.is (c.read.result.now, c.read.ensures, c.classify.ensures) in
     subst (λ (x : ConversionView). AcceptsFrame x c.args.link c.args.payload.now c.handle_message.new.self before after) c.self.view_is (arrives-arrived c.args.payload.now comes (ap (λ (n : ℕ). record c.self.inside.counts { frames = n }) c.saturating_add-self-inside.ensures) c.handle_message.ensures.same_setup c.in_ok-handle_message-in-Dated.ensures.ok)
 
 pub returns-in_err-handle_message-in-Dated-clause-err : goal.returns-in_err-handle_message-in-Dated-clause-err
 returns-in_err-handle_message-in-Dated-clause-err g c =
     let before = written (g.O.Sink.taken c.args.out.now) (g.L.Sink.taken c.args.log.now) in
     let after = written (g.O.Sink.taken c.handle_message.new.out) (g.L.Sink.taken c.handle_message.new.log) in
-    let comes = subst (λ (f : FrameClass). IsClassOfPayload c.self.inside.setup c.args.payload.now f) c.in-Dated.is (c.decode-reading.result, c.decode-reading.ensures, c.classify.ensures) in
+    let comes = subst (λ (f : FrameClass). IsClassOfPayload c.self.inside.setup c.args.payload.now f) c.in-Dated.is (c.read.result.now, c.read.ensures, c.classify.ensures) in
     on_err-from c.from_residual-in_err-handle_message-in-Dated.result (subst (λ (x : ConversionView). BreaksOffAtFrame x c.args.link c.args.payload.now before after) c.self.view_is (breaks-arrived c.args.payload.now comes c.in_err-handle_message-in-Dated.ensures.err))
 
 pub returns-in-OtherMessage-clause-ahead : goal.returns-in-OtherMessage-clause-ahead
@@ -114,5 +114,5 @@ returns-in_err-handle_message-in-Dated-clause-held g c = λ h. c.handle_message.
 
 pub returns-in_err-handle_message-in-Dated-clause-cause : goal.returns-in_err-handle_message-in-Dated-clause-cause
 returns-in_err-handle_message-in-Dated-clause-cause g c =
-    let comes = subst (λ (f : FrameClass). IsClassOfPayload c.self.inside.setup c.args.payload.now f) c.in-Dated.is (c.decode-reading.result, c.decode-reading.ensures, c.classify.ensures) in
+    let comes = subst (λ (f : FrameClass). IsClassOfPayload c.self.inside.setup c.args.payload.now f) c.in-Dated.is (c.read.result.now, c.read.ensures, c.classify.ensures) in
     on_err-from c.from_residual-in_err-handle_message-in-Dated.result (subst (λ (x : ConversionView). HasCause x.setup c.args.payload.now) c.self.view_is (Dated c.in-Dated.dated, comes, tt))
