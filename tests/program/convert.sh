@@ -104,7 +104,7 @@ mkfifo capture
 : >nothing
 sed -n '1,20p' "$examples/late.rnx" >followed
 sed 's/^link 1/link 2/' "$examples/late.report" >late.report
-follow followed late.report nothing stdin
+follow followed late.report nothing stdin nothing
 follow followed_first "$examples/late.report" stdin nothing
 
 # Links that can't be opened, and links that can't be read. If one can't be opened, nothing is read and nothing is out.
