@@ -70,8 +70,6 @@ report 4 0 0 0 2 2 0 0 1 >two.report
 convert 1C,2W STDIN stdin.rtcm <&-;                   leaves files_of_names_like_stdin 0 "$examples/base.rnx" two.report
 report 6 0 0 0 2 4 0 0 1 >three.report
 convert 1C,2W stdin.rtcm stdin STDIN <"$base";        leaves standard_input_and_names_like_it 0 "$examples/base.rnx" three.report
-# A file that is named twice is read twice.
-convert 1C,2W "$base" "$base" </dev/null;             leaves a_file_twice 0 "$examples/base.rnx" two.report
 # A name is taken as it is, its blanks, commas and signs too.
 odd=' ~a,b=c%20 $HOME#*?[x]'"'\"\\ "
 cp "$base" "$odd"
@@ -106,7 +104,7 @@ mkfifo capture
 : >nothing
 sed -n '1,20p' "$examples/late.rnx" >followed
 sed 's/^link 1/link 2/' "$examples/late.report" >late.report
-follow followed late.report nothing stdin
+follow followed late.report nothing stdin nothing
 follow followed_first "$examples/late.report" stdin nothing
 
 # Links that can't be opened, and links that can't be read. If one can't be opened, nothing is read and nothing is out.
@@ -396,4 +394,4 @@ leaves start_convert_with_a_limit_of_size 1 part part_err
 (ulimit -f 8; exec "$root/bin/rtcm2rinex" convert $options --codes 1C,2W,5X stdin) >out 2>err <"$session.rtcm"; status=$?
 leaves start_convert_followed_with_a_limit_of_size 1 part write_failed
 
-ends 186
+ends 185
