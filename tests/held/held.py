@@ -13,7 +13,8 @@ from pathlib import Path
 from pictures import CODES as CHART_CODES
 from pictures import COLUMNS, largest
 from pictures import SATELLITES as CHART_SATELLITES
-from streams import NOON, SATELLITES, SIGNALS, capture, legacy, minutes, single_satellite
+from streams import NOON, SATELLITES, SIGNALS, capture, largest_1074, legacy, minutes
+from streams import single_satellite
 
 OPTIONS = (
     "--station 2003 --near 2024-05-17T12:00:00 --made 2024-05-17T13:00:00 --marker BASE"
@@ -40,6 +41,9 @@ MOST_OF_PICTURE = 7_500_000
 # The cells of an epoch: a 1004 gives two of a satellite, a 1074 one of each signal.
 CELLS = len(SATELLITES) * (2 + len(SIGNALS))
 WINDOWS = (64, 1000, 4096)
+# The most cells of a message, and what a record of all satellites and the three codes takes, twice.
+LARGEST = 64
+RECORD = 2 * (36 + 32 * (4 + 48 * 3))
 
 # By which memory can come besides malloc and realloc.
 OTHER_CALLS = (
@@ -153,6 +157,8 @@ def write_captures(runs: Runs) -> None:
     first = capture(legacy(NOON, SATELLITES[:1]))
     foreign = capture(legacy(NOON, SATELLITES, station=7))
     runs.write("single", [single_satellite(5000)])
+    largest = capture(largest_1074(NOON - 1000))
+    runs.write("large", [largest, single_satellite(4999)])
     for name, count in FEW_AND_MANY.items():
         runs.write(f"late_{name}", [single_satellite(3), first * count])
         runs.write(f"foreign_{name}", [foreign] * count)
@@ -221,6 +227,20 @@ def grows_with_window(runs: Runs, tests: Tests) -> None:
             )
 
 
+def large_epoch_before_small_ones(runs: Runs, tests: Tests) -> None:
+    """It has room for its cells, and so has the epoch after it, whose cells are few: the one after
+    that has not, since what counts is how many cells an epoch has, and not its room."""
+    counts = {"frames": 5000, "taken": 5000, "epochs": 5000}
+    held = {name: runs.most(1000, [name], counts) for name in ("large", "single")}
+    more = CELL * (LARGEST - FEWEST_CELLS)
+    tests.within(
+        "window 1000 over a large epoch and then small ones, over small ones",
+        held["large"] - held["single"],
+        2 * more,
+        2 * more + RECORD,
+    )
+
+
 def grows_with_links(runs: Runs, tests: Tests) -> None:
     numbers = (1, 2, 5, 9, 16)
     held = {links: runs.most(64, ["01"] * links, counts_of(1, links)) for links in numbers}
@@ -262,8 +282,14 @@ def main() -> None:
     tests.within("calls by which the count would miss memory", len(others), 0, 0)
     runs = Runs(program, folder)
     write_captures(runs)
-    parts = (lengths_alike, grows_with_window, grows_with_links, summaries_alike, largest_picture)
-    for part in parts:
+    for part in (
+        lengths_alike,
+        grows_with_window,
+        large_epoch_before_small_ones,
+        grows_with_links,
+        summaries_alike,
+        largest_picture,
+    ):
         try:
             part(runs, tests)
         except Failed as failed:

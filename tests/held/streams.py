@@ -111,6 +111,11 @@ def split_epochs() -> bytes:
     return capture(point(), *parts)
 
 
+def largest_1074(tow: int) -> Message:
+    """A 1074 of 64 cells, of all satellites."""
+    return msm(tow, tuple(range(1, 33)))
+
+
 def single_satellite(count: int) -> bytes:
     """So many epochs of a 1004 of one satellite."""
     template = Template(legacy(0, SATELLITES[:1]), [], "")
