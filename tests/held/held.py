@@ -30,8 +30,8 @@ EPOCH = 64
 READ_AHEAD, SCANNED = 32_768, 2 * 1_029 + 4 * (2 * 1_029 + 1)
 LINK = 62_000
 GATHERED = 2 * 65_536
-# What a conversion of one link holds besides: the manual says some 106 kB.
-LEAST_BESIDE, MOST_BESIDE = 101_000, 106_500
+# What a conversion of one link holds besides: the manual says some 85 kB.
+LEAST_BESIDE, MOST_BESIDE = 80_500, 85_500
 # What a summary holds: some 635 kB.
 LEAST_OF_SUMMARY, MOST_OF_SUMMARY = 630_000, 640_000
 

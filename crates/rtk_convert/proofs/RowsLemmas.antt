@@ -1,10 +1,10 @@
 -- The rows of the satellites.
-use Rattle.std.proofs.Common.{◌≡◌, ℕ, zero, suc, ◌+◌, ◌<◌, ◌≤◌, [], ◌∷◌, ◌++◌, List, map, replicate, length, get_or, refl, sym, ap, subst, ◌∙◌, arith, add-one, Option, None, Some, true, false, Bool, cond, inl, inr}
+use Rattle.std.proofs.Common.{◌≡◌, ℕ, zero, suc, ◌+◌, ◌<◌, ◌≤◌, [], ◌∷◌, ◌++◌, List, map, replicate, length, refl, sym, ap, subst, ◌∙◌, arith, add-one, Option, None, Some, true, false, Bool, cond, inl, inr}
 use Rattle.std.specs.Prelude.{is_some, All, AllPairs, if◌then◌else◌, IfSome, ◌||◌}
 use Rattle.std.proofs.lemmas.Bool.{cases_lt}
 use Rattle.std.proofs.lemmas.List.{append-nil, length-append, length-map}
 use Rattle.std.proofs.lemmas.List.Quantifiers.{all_pairs_push}
-use Rattle.std.proofs.lemmas.List.Elements.{All-nil, All-cons, All-append, All-map, All-head, All-tail}
+use Rattle.std.proofs.lemmas.List.Elements.{All-nil, All-cons, All-append, All-head, All-tail}
 use Rattle.std.specs.List.{list_any}
 use Rattle.rtk_obs.specs.declared.code.Code.{Code}
 use Rattle.rtk_obs.specs.declared.cell.Cell.{Cell}
@@ -13,9 +13,8 @@ use Rattle.rtk_obs.specs.declared.track.Track.{Track}
 use Rattle.rtk_obs.specs.Cell.{IsSatellite, IsInRange as IsEntry, IsStrength as IsGiven}
 use Rattle.rtk_rinex.specs.declared.epoch_table.Observed.{Observed}
 use Rattle.rtk_rinex.specs.declared.epoch_table.SatelliteRow.{SatelliteRow}
-use Rattle.rtk_obs.specs.Tracks.{track_at}
-use Rattle.rtk_rinex.specs.Record.{EpochTableView, HasWidth, IsRow, IsStrengthOrNone}
-use Rattle.rtk_convert.specs.Steps.ShownCells.{shown_by, is_code, with_code}
+use Rattle.rtk_rinex.specs.Record.{HasWidth, IsStrengthOrNone}
+use Rattle.rtk_convert.specs.Steps.ShownCells.{is_code, with_code}
 use Rattle.rtk_convert.specs.Rows.{is_signal, first_cell, observed_after, or_nothing, row_with, row_if_any, rows_to}
 
 pub rows_to-zero : (f : ℕ → Code → Option Observed) (listed : List Code) → rows_to f listed 0 ≡ []
@@ -55,15 +54,6 @@ rows_to-same f g listed zero le h = refl
 rows_to-same f g listed (suc n) le h =
     ap (λ (xs : List SatelliteRow). xs ++ row_if_any f listed (suc n)) (rows_to-same f g listed n (omega arith) h)
     ∙ ap (λ (xs : List SatelliteRow). rows_to g listed n ++ xs) (row-same f g listed (suc n) (λ c. h (suc n) c (omega arith, omega arith)))
-
-table_at : ℕ → List SatelliteRow → EpochTableView
-table_at epoch rows = record { time = epoch; rows = rows }
-
-pub table-same : (t : EpochTableView) (epoch : ℕ) (f g : ℕ → Code → Option Observed) (listed : List Code) → t.time ≡ epoch → t.rows ≡ rows_to f listed 32
-    → ((s : ℕ) (c : Code) → IsSatellite s → f s c ≡ g s c) → t ≡ record { time = epoch; rows = rows_to g listed 32 }
-unfolding table_at
-table-same t epoch f g listed time rows h =
-    ap (λ (e : ℕ). table_at e t.rows) time ∙ ap (table_at epoch) (rows ∙ rows_to-same f g listed 32 (omega arith) h)
 
 -- ---- what all rows have
 
@@ -105,14 +95,6 @@ first-strength (e ∷ cells) s c h =
 pub observed-strength : (last : Option Track) (code : Code) (epoch : ℕ) (o : Option Cell) → HasStrength o → IsStrengthOrNone (or_nothing (observed_after last code epoch o)).strength_millidbhz
 observed-strength last code epoch None h = tt
 observed-strength last code epoch (Some c) h = h
-
--- a row of what is shown is good
-pub row-good : (old : List (Option Track)) (epoch : ℕ) (cells : List CellEntry) (listed : List Code) (s : ℕ) → IsSatellite s → All IsEntry cells → IsRow (row_with (shown_by old epoch cells) listed s)
-row-good old epoch cells listed s hs h = record {
-  satellite = (hs.0, hs.1);
-  strengths = All-map (λ (o : Observed). IsStrengthOrNone o.strength_millidbhz) (λ code. or_nothing (shown_by old epoch cells s code)) listed
-      (λ k d l. observed-strength (track_at old s (get_or listed k d)) (get_or listed k d) epoch (first_cell cells s (get_or listed k d)) (first-strength cells s (get_or listed k d) h));
-}
 
 rise-if : (b : Bool) (rows : List SatelliteRow) (r : SatelliteRow) → AllPairs (λ a b. a.satellite < b.satellite) rows → All (λ (x : SatelliteRow). x.satellite < r.satellite) rows
     → AllPairs (λ a b. a.satellite < b.satellite) (rows ++ (if b then r ∷ [] else []))
@@ -192,9 +174,6 @@ pub rows-few : (f : ℕ → Code → Option Observed) (listed : List Code) (n : 
 unfolding rows_to
 rows-few f listed zero = omega arith
 rows-few f listed (suc n) = few-if (list_any (λ code. is_some (f (suc n) code)) listed) (rows_to f listed n) (row_with f listed (suc n)) n (rows-few f listed n)
-
-pub rows-below : (f : ℕ → Code → Option Observed) (listed : List Code) (n : ℕ) → n < 33 → All (λ (r : SatelliteRow). r.satellite < n + 1) (rows_to f listed n)
-rows-below f listed n le = all-rows (λ (x : SatelliteRow). x.satellite < n + 1) f listed n le (λ s hs m. omega arith)
 
 pub rows-step : (f : ℕ → Code → Option Observed) (listed : List Code) (n : ℕ) (rows more : List SatelliteRow) → rows ≡ rows_to f listed n → more ≡ row_if_any f listed (n + 1)
     → rows ++ more ≡ rows_to f listed (n + 1)

@@ -4,7 +4,6 @@ use Rattle.std.specs.Prelude.{is_some, ◌||◌, All}
 use Rattle.std.specs.List.{list_any}
 use Rattle.std.proofs.lemmas.Bool.{cases_order, cases_lt, cond-true, cond-false, or_right, eq-eqb, ne_eqb}
 use Rattle.std.proofs.lemmas.List.{length-take-le, take_more, take_all, drop_more, at_drop_all}
-use Rattle.std.proofs.lemmas.List.Elements.{All-same, All-weaker}
 use Rattle.std.proofs.lemmas.List.Folds.{list_any_more}
 use denote.Enum.Bare.{sameb}
 use Rattle.rtk_obs.specs.contracts.code.Code.{the_type}
@@ -22,12 +21,11 @@ use Rattle.rtk_obs.proofs.PublicLaws.{code_same}
 use Rattle.rtk_collect.specs.Key.{KeysRise}
 use Rattle.rtk_rinex.specs.declared.epoch_table.Observed.{Observed}
 use Rattle.rtk_rinex.specs.declared.epoch_table.SatelliteRow.{SatelliteRow}
-use Rattle.rtk_rinex.specs.Record.{IsRow}
 use Rattle.rtk_convert.specs.Rows.{first_cell, cell_at, observed_with, observed_after, or_nothing, row_if_any, rows_to}
 use Rattle.rtk_convert.specs.Steps.ShownCells.{AllBelow, AreTaken, MayStep, track_after, shown_by, is_code, with_code}
 use Rattle.rtk_convert.proofs.CellOrderLemmas.{any_cell, same-code, satellites-at, other-satellite, none-at, first-take, in-turn}
 use Rattle.rtk_convert.proofs.ThroughLemmas.{cells-same, taken-same, taken-more, may-same, may-more, shown-more}
-use Rattle.rtk_convert.proofs.RowsLemmas.{row_of, observed-same, any-same, row-begins, row-with, any-with, row-good, rows-skip, rows-step, rows-few, rows-below, rows_to-zero}
+use Rattle.rtk_convert.proofs.RowsLemmas.{observed-same, any-same, row-begins, row-with, any-with, rows-skip, rows-step, rows-few, rows_to-zero}
 
 -- ---- the listed codes, one by one
 
@@ -335,6 +333,10 @@ rows-more f listed s rows more l e m =
 
 -- ---- the rows of an epoch, satellite by satellite
 
+-- the rows of the satellites before the one at a place
+abbrev pub rows_before : List (Option Track) → ℕ → List CellEntry → ℕ → List Code → List SatelliteRow
+rows_before before epoch xs at listed = rows_to (shown_by before epoch xs) listed (before_first (drop at xs))
+
 -- the cells before a place are taken, and the rows of their satellites are written
 pub record FillsRows (before : List (Option Track)) (epoch : ℕ) (xs : List CellEntry) (at : ℕ) (listed : List Code) (tracks : List (Option Track)) (written : List SatelliteRow) : Type 0 where
   pub within : at ≤ length xs
@@ -360,25 +362,11 @@ rows-here : (before : List (Option Track)) (epoch : ℕ) (xs : List CellEntry) (
 rows-here before epoch xs at s listed tracks rows g l e =
     g.rows ∙ ap (rows_to (shown_by before epoch xs) listed) (before-at xs at any_cell l ∙ ap (λ (n : ℕ). n - 1) e)
 
-pub fills-below : (before : List (Option Track)) (epoch : ℕ) (xs : List CellEntry) (at s : ℕ) (listed : List Code) (tracks : List (Option Track)) (rows : List SatelliteRow)
-    → FillsRows before epoch xs at listed tracks rows → All IsInRange xs → at < length xs → (get_or xs at any_cell).satellite ≡ s → All (λ r. r.satellite < s) rows
-fills-below before epoch xs at s listed tracks rows g ranges l e =
-    let hs : IsSatellite s = in-range xs at s ranges l e in
-    let most : s - 1 < 33 = omega (arith, hs.1) in
-    All-same (λ (r : SatelliteRow). r.satellite < s) rows (rows_to (shown_by before epoch xs) listed (s - 1)) (rows-here before epoch xs at s listed tracks rows g l e)
-    (All-weaker (λ (r : SatelliteRow). r.satellite < s - 1 + 1) (λ (r : SatelliteRow). r.satellite < s) (λ r h. omega (arith, hs.0)) (rows_to (shown_by before epoch xs) listed (s - 1))
-    (rows-below (shown_by before epoch xs) listed (s - 1) most))
-
 pub fills-few : (before : List (Option Track)) (epoch : ℕ) (xs : List CellEntry) (at s : ℕ) (listed : List Code) (tracks : List (Option Track)) (rows : List SatelliteRow)
     → FillsRows before epoch xs at listed tracks rows → All IsInRange xs → at < length xs → (get_or xs at any_cell).satellite ≡ s → length rows < 32
 fills-few before epoch xs at s listed tracks rows g ranges l e =
     let hs : IsSatellite s = in-range xs at s ranges l e in
     omega (arith, hs.0, hs.1, ap length (rows-here before epoch xs at s listed tracks rows g l e), rows-few (shown_by before epoch xs) listed (s - 1))
-
-pub fills-good : (before : List (Option Track)) (epoch : ℕ) (xs : List CellEntry) (at s : ℕ) (listed : List Code) (row : List Observed) → All IsInRange xs → at < length xs → (get_or xs at any_cell).satellite ≡ s
-    → row ≡ map (λ code. or_nothing (shown_by before epoch xs s code)) listed → IsRow (row_of s row)
-fills-good before epoch xs at s listed row ranges l e h =
-    subst (λ (ys : List Observed). IsRow (row_of s ys)) (sym h) (row-good before epoch xs listed s (in-range xs at s ranges l e) ranges)
 
 pub fills-more : (before : List (Option Track)) (epoch : ℕ) (xs : List CellEntry) (at end s : ℕ) (listed : List Code) (tracks after : List (Option Track)) (rows more : List SatelliteRow)
     → FillsRows before epoch xs at listed tracks rows → All IsInRange xs → KeysRise xs → at < length xs → (get_or xs at any_cell).satellite ≡ s

@@ -59,7 +59,7 @@ impl Conversion {
         ensures going { IfOk result (λ c. c.stopped ≡ false) }
         ensures few { IfOk result (λ c. length c.collector.sets ≤ setup.window) }
     {
-        let records = ClosedEpochs::new(alloc, setup.near())?;
+        let records = ClosedEpochs::new(alloc)?;
         let collector = Collector::new(alloc, setup.window());
         Ok(Conversion {
             alloc,

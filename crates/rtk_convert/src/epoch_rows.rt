@@ -1,6 +1,6 @@
-//! The table of a closed epoch, made from its cells.
+//! The rows of a closed epoch, made from its cells.
 
-ghost use Rattle.std.specs.Prelude.{◌≡◌, ◌≢◌, ℕ, ◌+◌, ◌<◌, ◌≤◌, List, [], ◌∷◌, map, take, length, replicate, Option, Some, All, AllPairs, slice_index_or, is_some, not, IsTrue, None};
+ghost use Rattle.std.specs.Prelude.{◌≡◌, ◌≢◌, ℕ, ◌+◌, ◌<◌, ◌≤◌, List, [], ◌∷◌, map, take, length, replicate, Option, Some, All, AllPairs, slice_index_or, is_some, not, IsTrue, None, OnOk};
 ghost use Rattle.std.specs.List.{list_any};
 ghost use Rattle.rtk_obs.specs.declared.cell.CellEntry.{CellEntry};
 ghost use Rattle.rtk_obs.specs.declared.track.Track.{Track};
@@ -12,13 +12,14 @@ ghost use Rattle.rtk_obs.specs.Tracks.{IsLater, track_at, place_of_signal};
 ghost use Rattle.rtk_collect.specs.EpochSet.{EpochSetView};
 ghost use Rattle.rtk_collect.specs.Key.{KeysRise};
 ghost use Rattle.rtk_rinex.specs.Header.{IsCodeList};
-ghost use Rattle.rtk_rinex.specs.Record.{HasWidth};
+ghost use Rattle.rtk_rinex.specs.RecordLines.{HoldsLines};
 ghost use Rattle.rtk_convert.specs.Rows.{first_cell, rolled_or_none, observed_with, or_nothing, table_of};
 ghost use Rattle.rtk_convert.specs.LastPhases.{HasLastPhases};
 ghost use Rattle.rtk_convert.specs.Steps.ShownCells.{AllBelow, AreTaken, MayStep, ArePlaces, shown_by, is_code, with_code};
 
 use rtk_obs::{Cell, CellEntry, Code, Digits, GpsMs, Tracks, rolled};
-use rtk_rinex::{EpochTable, Observed};
+use rtk_rinex::{Observed, RecordLines};
+use std::alloc::AllocError;
 
 // What a code shows if it has no cell.
 const NOTHING: Observed = Observed {
@@ -188,31 +189,31 @@ fn take_satellite(
     Taken { end, has_listed }
 }
 
-/// Makes the table of a closed epoch from its cells, and keeps their phases as the last phases of
-/// their satellites and codes.
+/// Writes the rows of a closed epoch as lines of its record, and keeps the phases of its cells as the
+/// last phases of their satellites and codes.
 ///
 /// A cell is compared with the last phase of its satellite and code, however old that is, also if
 /// its code is not listed. The cells rise, so those of a satellite stand together, and of a
-/// satellite and code the first one stands.
-pub(crate) fn fill_table(
+/// satellite and code the first one stands. If memory is refused nothing is said of the lines and
+/// the last phases.
+pub(crate) fn push_rows(
     tracks: &mut Tracks,
     epoch: GpsMs,
     entries: &[CellEntry],
     listed: &[Code],
-    table: &mut EpochTable,
-)
+    lines: &mut RecordLines,
+) -> Result<(), AllocError>
     requires ranges { All IsInRange entries.now }
     requires rises { KeysRise entries.now }
     requires listed { IsCodeList listed.now }
     requires later { AllBelow tracks.old epoch }
-    ensures table { (below : List EpochSetView) → HasLastPhases tracks.old below
-        → table.new ≡ table_of listed.now (record { epoch = epoch; cells = entries.now }) below }
-    ensures phases { (below : List EpochSetView) → HasLastPhases tracks.old below
-        → HasLastPhases tracks.new (record { epoch = epoch; cells = entries.now } ∷ below) }
-    ensures later { (later : ℕ) → epoch < later → AllBelow tracks.new later }
-    ensures width { HasWidth (length listed.now) table.new.rows }
+    ensures lines { OnOk result ((below : List EpochSetView) → HasLastPhases tracks.old below
+        → HoldsLines lines.new (table_of listed.now (record { epoch = epoch; cells = entries.now }) below).rows) }
+    ensures phases { OnOk result ((below : List EpochSetView) → HasLastPhases tracks.old below
+        → HasLastPhases tracks.new (record { epoch = epoch; cells = entries.now } ∷ below)) }
+    ensures later { OnOk result ((later : ℕ) → epoch < later → AllBelow tracks.new later) }
 {
-    table.restart(epoch);
+    lines.restart();
     let places = places_of(listed);
     let mut room = [NOTHING; 16];
     let row = &mut room[..listed.len()];
@@ -221,8 +222,11 @@ pub(crate) fn fill_table(
         let satellite = entries[at].satellite;
         let taken = take_satellite(tracks, epoch, entries, at, listed, &places, row);
         if taken.has_listed {
-            table.push_row(satellite, row);
+            if let Err(_) = lines.push_row(satellite, row) {
+                return Err(AllocError);
+            }
         }
         at = taken.end;
     }
+    Ok(())
 }

@@ -1,18 +1,17 @@
 //! Writes to the file and to the report: the header, the record of an epoch, and lines.
 
-ghost use Rattle.std.specs.Prelude.{◌≡◌, ◌≢◌, ◌++◌, length, OnOk, OnErr, IfOk, IfErr, IsErrOf, false};
+ghost use Rattle.std.specs.Prelude.{◌≡◌, ◌≢◌, ◌++◌, OnOk, OnErr, IfOk, IfErr, IsErrOf, false};
 ghost use Rattle.rtk_convert.specs.Failure.{NamesFailedWrites};
 ghost use Rattle.rtk_convert.specs.Steps.Faults.{IsOutFault};
 ghost use Rattle.rtk_frame.specs.Stream.{with_more, TakesPart};
 ghost use Rattle.rtk_rinex.specs.Header.{position_view};
-ghost use Rattle.rtk_rinex.specs.Record.{HasWidth, record_text};
 ghost use Rattle.rtk_convert.specs.Steps.ClosedText.{closing_text, header_before, is_any};
 
 use crate::fault::{ConvertFault, Stream};
 use crate::setup::Setup;
 use rtk_frame::{Sink, write_all};
 use rtk_obs::{GpsMs, Position};
-use rtk_rinex::{EpochTable, header, write_record};
+use rtk_rinex::header;
 use std::alloc::{AllocError, Global};
 
 // Writes a text to the file.
@@ -45,7 +44,7 @@ fn with_header(
     Ok(whole)
 }
 
-/// Writes the record of a closed epoch, if it has one, and answers whether it has one.
+/// Writes the text of the record of a closed epoch, if it has one, and answers whether it has one.
 ///
 /// The header and the first record go out as one text. So a header without a record is only
 /// written when the conversion ends.
@@ -54,22 +53,18 @@ pub(crate) fn put_record<O: Sink>(
     setup: &Setup,
     position: &Position,
     header_out: bool,
-    table: &EpochTable,
-    text: &mut Vec<u8>,
+    epoch: GpsMs,
+    text: &[u8],
     out: &mut O,
 ) -> Result<bool, ConvertFault>
-    requires width { HasWidth (length setup.now.head.listed) table.now.rows }
-    ensures any { IfOk result (λ any. any ≡ is_any (record_text table.now)) }
+    ensures any { IfOk result (λ any. any ≡ is_any text.now) }
     ensures all { OnOk result (O.taken out.new ≡ with_more (O.taken out.old)
-        (closing_text setup.now (position_view position.now) table.now.time header_out (record_text table.now))) }
+        (closing_text setup.now (position_view position.now) epoch header_out text.now)) }
     ensures part { TakesPart (O.taken out.old) (O.taken out.new)
-        (closing_text setup.now (position_view position.now) table.now.time header_out (record_text table.now)) }
+        (closing_text setup.now (position_view position.now) epoch header_out text.now) }
     ensures file_failed { NamesFailedWrites Stream.Out result (O.failures out.old) (O.failures out.new) }
     ensures fault { IfErr result IsOutFault }
 {
-    if write_record(text, setup.head(), table).is_err() {
-        return Err(ConvertFault::OutOfMemory);
-    }
     if text.is_empty() {
         return Ok(false);
     }
@@ -77,7 +72,7 @@ pub(crate) fn put_record<O: Sink>(
         put_text(out, text)?;
         return Ok(true);
     }
-    let Ok(whole) = with_header(alloc, setup, position, table.time(), text) else {
+    let Ok(whole) = with_header(alloc, setup, position, epoch, text) else {
         return Err(ConvertFault::OutOfMemory);
     };
     put_text(out, &whole)?;

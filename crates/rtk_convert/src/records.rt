@@ -15,34 +15,32 @@ ghost use Rattle.rtk_obs.specs.declared.code.Code.{Code};
 ghost use Rattle.rtk_rinex.specs.Header.{position_view};
 ghost use Rattle.std.specs.Prelude.{◌≡◌, ◌≢◌, ℕ, ◌<◌, [], ◌∷◌, List, All, None, false, OnOk, IfOk, IfErr, IsErrOf, OnErr};
 
-use crate::epoch_rows::fill_table;
+use crate::epoch_rows::push_rows;
 use crate::fault::{ConvertFault, Stream};
 use crate::output::put_record;
 use crate::setup::Setup;
 use rtk_collect::Left;
 use rtk_frame::Sink;
 use rtk_obs::{CellEntry, GpsMs, Position, Tracks};
-use rtk_rinex::EpochTable;
+use rtk_rinex::RecordLines;
 use std::alloc::{AllocError, Global};
 use std::marker::Model;
 
 /// What is known of the closed epochs: the last phases, whether the header is written, and how many
 /// records are written.
 ///
-/// The table is kept from epoch to epoch: it is large, and a local would be cleared as a whole each
-/// time that its function is called. The two large parts lie on the heap, so that no function on the
-/// way to them needs a large stack.
+/// The text of a record is kept from epoch to epoch. The tracks are large, and lie on the heap, so
+/// that no function on the way to them needs a large stack.
 #[derive(Drop)]
 pub(crate) struct ClosedEpochs {
     tracks: Box<Tracks>,
-    table: Box<EpochTable>,
-    text: Vec<u8>,
+    lines: RecordLines,
     header_out: bool,
     count: u64,
 }
 
-// Clauses don't see the table, which is filled anew for each epoch. The invariant names every field,
-// as that of a converter does.
+// Clauses don't see the lines, which are written anew for each epoch. The invariant names every
+// field, as that of a converter does.
 impl Model for ClosedEpochs {
     ghost use Rattle.std.specs.Prelude.{◌≡◌};
     ghost use Rattle.rtk_convert.specs.Records.{ClosedEpochsView};
@@ -51,11 +49,11 @@ impl Model for ClosedEpochs {
 
     ghost view = { λ r. record { tracks = r.tracks.value; header_out = r.header_out; count = r.count } };
 
-    ghost invariant = { λ r. r ≡ record { tracks = r.tracks; table = r.table; text = r.text; header_out = r.header_out; count = r.count } };
+    ghost invariant = { λ r. r ≡ record { tracks = r.tracks; lines = r.lines; header_out = r.header_out; count = r.count } };
 }
 
-// Tracks without a phase. This and the next function are alone in needing the stack for a large
-// part, which is gone when they return.
+// Tracks without a phase. This function is alone in needing the stack for them, which is gone when
+// it returns.
 #[inline(never)]
 fn new_tracks(alloc: Global) -> Result<Box<Tracks>, AllocError>
     ensures { IfOk result (λ tracks. RepresentsSteps tracks.value []) }
@@ -63,24 +61,15 @@ fn new_tracks(alloc: Global) -> Result<Box<Tracks>, AllocError>
     Ok(Box::new(alloc, Tracks::new())?)
 }
 
-// A table without a row.
-#[inline(never)]
-fn new_table(alloc: Global, start: GpsMs) -> Result<Box<EpochTable>, AllocError>
-    ensures { IfOk result (λ table. table.value ≡ record { time = start; rows = [] }) }
-{
-    Ok(Box::new(alloc, EpochTable::new(start))?)
-}
-
 impl ClosedEpochs {
-    /// Nothing is closed yet. The table has this time until the first epoch is closed.
-    pub(crate) fn new(alloc: Global, start: GpsMs) -> Result<ClosedEpochs, AllocError>
+    /// Nothing is closed yet.
+    pub(crate) fn new(alloc: Global) -> Result<ClosedEpochs, AllocError>
         ensures follows { IfOk result (λ r. (listed : List Code) → HasClosed r listed []) }
         ensures below { IfOk result (λ r. (epoch : ℕ) → AllBelow r.tracks epoch) }
     {
         Ok(ClosedEpochs {
             tracks: new_tracks(alloc)?,
-            table: new_table(alloc, start)?,
-            text: Vec::new(alloc),
+            lines: RecordLines::new(alloc),
             header_out: false,
             count: 0,
         })
@@ -128,9 +117,12 @@ impl ClosedEpochs {
         ensures fault { IfErr result IsOutFault }
     {
         let listed = setup.head().codes();
-        fill_table(&mut self.tracks, epoch, cells, listed, &mut self.table);
-        let (table, text) = (&self.table, &mut self.text);
-        let has_record = put_record(alloc, setup, position, self.header_out, table, text, out)?;
+        if let Err(_) = push_rows(&mut self.tracks, epoch, cells, listed, &mut self.lines) {
+            return Err(ConvertFault::OutOfMemory);
+        }
+        self.lines.finish(epoch);
+        let text = self.lines.text();
+        let has_record = put_record(alloc, setup, position, self.header_out, epoch, text, out)?;
         if !has_record {
             return Ok(());
         }

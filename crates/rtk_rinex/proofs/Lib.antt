@@ -33,3 +33,4 @@ mod ThreesLemmas
 mod WrittenLemmas
 mod EqualityLemmas
 mod RecordsLemmas
+mod RecordLinesLemmas

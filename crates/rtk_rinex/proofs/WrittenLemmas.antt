@@ -13,6 +13,7 @@ use Rattle.rtk_rinex.specs.declared.epoch_table.Observed.{Observed}
 use Rattle.rtk_rinex.specs.declared.epoch_table.SatelliteRow.{SatelliteRow}
 use Rattle.rtk_rinex.specs.Columns.{last_digits}
 use Rattle.rtk_rinex.specs.Record.{is_written, is_present, observation, observations, lli_digit, strength_digit, strength_value, has_observation, has_line, trim_end, satellite_line, HasWidth}
+use Rattle.rtk_rinex.specs.RecordLines.{line_if_any}
 use Rattle.rtk_rinex.proofs.RecordLemmas.{trim_end-blank}
 use Rattle.rtk_rinex.proofs.RowLemmas.{IsTrimmed, trimmed}
 use Rattle.rtk_rinex.proofs.ValuesLemmas.{length-fixed}
@@ -217,16 +218,13 @@ line-if false n e h = absurd (h (grind (arith, nat_tests)))
 
 -- ---- the lines of the satellites
 
-abbrev pub line_or_none : SatelliteRow → List ℕ
-line_or_none r = if has_line r then satellite_line r else []
-
 abbrev pub row_room : SatelliteRow → ℕ
 row_room r = 4 + 48 * length r.observed.items
 
 abbrev pub lines_of_rows : List SatelliteRow → List ℕ
 lines_of_rows rows = flat_map satellite_line (filter has_line rows)
 
-one-line : (r : SatelliteRow) (b : Bool) → flat_map satellite_line (if b then r ∷ [] else []) ≡ (if b then satellite_line r else [])
+pub one-line : (r : SatelliteRow) (b : Bool) → flat_map satellite_line (if b then r ∷ [] else []) ≡ (if b then satellite_line r else [])
 one-line r true = append-nil (satellite_line r)
 one-line r false = refl
 
@@ -236,7 +234,7 @@ rows-more rows i r d lt e =
     let more : take (i + 1) rows ≡ take i rows ++ get_or rows i d ∷ [] = (take_at_read rows i d lt).1 in
     ap (filter has_line) more ∙ filter-append has_line (take i rows) (get_or rows i d ∷ []) ∙ (rw (← e) refl)
 
-lines-more : (rows : List SatelliteRow) (i : ℕ) (r d : SatelliteRow) → i < length rows → r ≡ get_or rows i d → lines_of_rows (take (i + 1) rows) ≡ lines_of_rows (take i rows) ++ line_or_none r
+lines-more : (rows : List SatelliteRow) (i : ℕ) (r d : SatelliteRow) → i < length rows → r ≡ get_or rows i d → lines_of_rows (take (i + 1) rows) ≡ lines_of_rows (take i rows) ++ line_if_any r
 lines-more rows i r d lt e =
     ap (λ (rs : List SatelliteRow). flat_map satellite_line rs) (rows-more rows i r d lt e)
     ∙ flat_map-append satellite_line (filter has_line (take i rows)) (if has_line r then r ∷ [] else [])
@@ -265,26 +263,26 @@ next-room rows i count end room lines d h lt = omega (arith, h.fits, sum_by-drop
 
 -- the lines with that of the next row
 text-more : (rows : List SatelliteRow) (i count end room k len m : ℕ) (lines line : List ℕ) (r d : SatelliteRow) → HasLines rows i count end room lines → i < length rows
-    → r ≡ get_or rows i d → k ≡ length lines - end → m ≡ room - end → line ≡ line_or_none r ++ replicate (m - len) 32
+    → r ≡ get_or rows i d → k ≡ length lines - end → m ≡ room - end → line ≡ line_if_any r ++ replicate (m - len) 32
     → take end lines ++ (line ++ drop k (drop end lines)) ≡ lines_of_rows (take (i + 1) rows) ++ replicate (room - (end + len)) 32
 text-more rows i count end room k len m lines line r d h lt e f g is =
     let long = length-lines rows i count end room lines h in
     let left : room - end - k ≡ 0 = omega arith in
     let rest : m - len ≡ room - (end + len) = omega arith in
     next-text lines (lines_of_rows (take i rows)) line end (room - end) k h.text h.size
-    ∙ (rw (left, append-nil, is, rest, lines-more rows i r d lt e) (sym (append_assoc (lines_of_rows (take i rows)) (line_or_none r) (replicate (room - (end + len)) 32))))
+    ∙ (rw (left, append-nil, is, rest, lines-more rows i r d lt e) (sym (append_assoc (lines_of_rows (take i rows)) (line_if_any r) (replicate (room - (end + len)) 32))))
 
-solid-length : (b : Bool) (r : SatelliteRow) (len : ℕ) → len ≡ length (if b then satellite_line r else []) → 0 < len → b ≡ true
+pub solid-length : (b : Bool) (r : SatelliteRow) (len : ℕ) → len ≡ length (if b then satellite_line r else []) → 0 < len → b ≡ true
 solid-length true r len e h = refl
 solid-length false r len e h = absurd (omega (arith, e, h))
 
-no-length : (b : Bool) (r : SatelliteRow) (len : ℕ) → len ≡ length (if b then satellite_line r else []) → len ≡ 0 → b ≡ false
+pub no-length : (b : Bool) (r : SatelliteRow) (len : ℕ) → len ≡ length (if b then satellite_line r else []) → len ≡ 0 → b ≡ false
 no-length true r len e h = absurd (omega (arith, e, h, length-append (trim_end (71 ∷ last_digits 2 r.satellite ++ flat_map observations r.observed.items)) (10 ∷ [])))
 no-length false r len e h = refl
 
 -- a row with a line
 pub line-shown : (rows : List SatelliteRow) (i count end room k len m : ℕ) (lines line : List ℕ) (r d : SatelliteRow) → HasLines rows i count end room lines → i < length rows
-    → r ≡ get_or rows i d → k ≡ length lines - end → m ≡ room - end → line ≡ line_or_none r ++ replicate (m - len) 32 → len ≡ length (line_or_none r) → len ≤ row_room r → 0 < len
+    → r ≡ get_or rows i d → k ≡ length lines - end → m ≡ room - end → line ≡ line_if_any r ++ replicate (m - len) 32 → len ≡ length (line_if_any r) → len ≤ row_room r → 0 < len
     → HasLines rows (i + 1) (count + 1) (end + len) room (take end lines ++ (line ++ drop k (drop end lines)))
 line-shown rows i count end room k len m lines line r d h lt e f g is long within some =
     let has : has_line r ≡ true = solid-length (has_line r) r len long some in
@@ -292,14 +290,14 @@ line-shown rows i count end room k len m lines line r d h lt e f g is long withi
     let next = next-room rows i count end room lines d h lt in
     record {
       number = rw (rows-more rows i r d lt e, has) (simp length-append (omega (arith, h.number)));
-      size = ap length (lines-more rows i r d lt e) ∙ length-append (lines_of_rows (take i rows)) (line_or_none r) ∙ omega (arith, h.size, long);
+      size = ap length (lines-more rows i r d lt e) ∙ length-append (lines_of_rows (take i rows)) (line_if_any r) ∙ omega (arith, h.size, long);
       text = text-more rows i count end room k len m lines line r d h lt e f g is;
       fits = omega (arith, next, room_of, within);
     }
 
 -- a row without a line
 pub line-left_out : (rows : List SatelliteRow) (i count end room k len m : ℕ) (lines line : List ℕ) (r d : SatelliteRow) → HasLines rows i count end room lines → i < length rows
-    → r ≡ get_or rows i d → k ≡ length lines - end → m ≡ room - end → line ≡ line_or_none r ++ replicate (m - len) 32 → len ≡ length (line_or_none r) → len ≡ 0
+    → r ≡ get_or rows i d → k ≡ length lines - end → m ≡ room - end → line ≡ line_if_any r ++ replicate (m - len) 32 → len ≡ length (line_if_any r) → len ≡ 0
     → HasLines rows (i + 1) count end room (take end lines ++ (line ++ drop k (drop end lines)))
 line-left_out rows i count end room k len m lines line r d h lt e f g is long none =
     let has : has_line r ≡ false = no-length (has_line r) r len long none in
@@ -307,7 +305,7 @@ line-left_out rows i count end room k len m lines line r d h lt e f g is long no
     let same : end + len ≡ end = omega arith in
     record {
       number = rw (rows-more rows i r d lt e, has) (simp length-append (omega (arith, h.number)));
-      size = ap length (lines-more rows i r d lt e) ∙ length-append (lines_of_rows (take i rows)) (line_or_none r) ∙ omega (arith, h.size, long, none);
+      size = ap length (lines-more rows i r d lt e) ∙ length-append (lines_of_rows (take i rows)) (line_if_any r) ∙ omega (arith, h.size, long, none);
       text = rw same at (text-more rows i count end room k len m lines line r d h lt e f g is);
       fits = omega (arith, next);
     }

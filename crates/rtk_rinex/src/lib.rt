@@ -45,6 +45,7 @@ mod head;
 mod header_check;
 mod header_text;
 mod laws;
+mod record_lines;
 mod record_text;
 mod records;
 mod records_check;
@@ -60,6 +61,7 @@ pub use header_text::header;
 pub use laws::{
     fault_laws, files_are_tables, one_fault, one_reading, records_are_of_tables, text_of_a_table,
 };
+pub use record_lines::RecordLines;
 pub use record_text::{record, write_record};
 pub use records::Records;
 pub use table_check::{Heading, Table, check, text};

@@ -3,6 +3,7 @@
 ghost use Rattle.std.specs.Prelude.{◌≡◌, ℕ, ◌+◌, ◌*◌, ◌<◌, ◌≤◌, ◌-◌, ◌^◌, [], ◌∷◌, ◌++◌, length, take, drop, replicate, flat_map, IfOk, OnOk, codes, decimal, not, IsTrue, ◌==◌, if◌then◌else◌};
 ghost use Rattle.std.specs.List.{filter, list_any, sum_by};
 ghost use Rattle.rtk_rinex.specs.Record.{HasWidth, is_written, is_present, observation, observations, strength_digit, strength_value, lli_digit, has_observation, has_line, trim_end, satellite_line, epoch_date_text, epoch_line, record_text};
+ghost use Rattle.rtk_rinex.specs.RecordLines.{line_if_any};
 
 use crate::columns::{
     add, integer_3, put_fixed_14_3, put_last_digits, put_long_14_3, put_pair, put_short_14_3,
@@ -198,20 +199,20 @@ fn put_cells(cells: &mut [u8], shown: &[Observed]) -> usize
     end
 }
 
-// Writes the line of a satellite over blanks, if it has one, and returns how long it is.
-fn put_satellite_line(line: &mut [u8], row: &SatelliteRow) -> usize
+/// Writes the line of a satellite over blanks, if it has one, and returns how long it is.
+pub(crate) fn put_satellite_line(line: &mut [u8], satellite: u8, observed: &[Observed]) -> usize
     requires blank { line.old ≡ replicate (length line.old) 32 }
-    requires room { 4 + 48 * length row.now.observed.items ≤ length line.old }
-    ensures text { line.new ≡ (if has_line row.now then satellite_line row.now else []) ++ replicate (length line.old - result) 32 }
-    ensures len { result ≡ length (if has_line row.now then satellite_line row.now else []) }
-    ensures within { result ≤ 4 + 48 * length row.now.observed.items }
+    requires room { 4 + 48 * length observed.now ≤ length line.old }
+    ensures text { line.new ≡ line_if_any (record { satellite = satellite; observed = record { items = observed.now } }) ++ replicate (length line.old - result) 32 }
+    ensures len { result ≡ length (line_if_any (record { satellite = satellite; observed = record { items = observed.now } })) }
+    ensures within { result ≤ 4 + 48 * length observed.now }
 {
-    let shown = put_cells(&mut line[3..], row.observed.as_slice());
+    let shown = put_cells(&mut line[3..], observed);
     if shown == 0 {
         return 0;
     }
     line[0] = b'G';
-    put_pair(line, 1, u64::from(row.satellite) % 100);
+    put_pair(line, 1, u64::from(satellite) % 100);
     let end = trimmed_len(&line[..3 + shown]);
     line[end] = b'\n';
     end + 1
@@ -258,6 +259,17 @@ pub(crate) fn epoch_line(time: Civil, count: usize) -> ArrayVec<u8, 36>
     line
 }
 
+/// Writes the epoch line of a date and time and a count of satellites over the first columns.
+pub(crate) fn put_epoch_line(text: &mut [u8], time: Civil, count: usize)
+    requires columns { 36 ≤ length text.old }
+    requires second { time.second < 60 }
+    requires millisecond { time.millisecond < 1000 }
+    requires count { count < 1000 }
+    ensures { text.new ≡ epoch_line time count ++ drop 36 text.old }
+{
+    text[..36].copy_from_slice(epoch_line(time, count).as_slice());
+}
+
 // Writes the lines of the satellites that have one over blanks, and returns their number and length.
 fn put_satellite_lines(lines: &mut [u8], rows: &[SatelliteRow]) -> (usize, usize)
     requires blank { lines.old ≡ replicate (length lines.old) 32 }
@@ -271,7 +283,7 @@ fn put_satellite_lines(lines: &mut [u8], rows: &[SatelliteRow]) -> (usize, usize
     let mut count = 0;
     let mut end = 0;
     for row in rows {
-        let len = put_satellite_line(&mut lines[end..], row);
+        let len = put_satellite_line(&mut lines[end..], row.satellite, row.observed.as_slice());
         if len > 0 {
             count += 1;
             end += len;
@@ -291,7 +303,7 @@ fn put_lines(text: &mut [u8], time: Civil, rows: &[SatelliteRow]) -> usize
     ensures { take result text.new ≡ epoch_line time (length (filter has_line rows.now)) ++ flat_map satellite_line (filter has_line rows.now) }
 {
     let (count, end) = put_satellite_lines(&mut text[36..], rows);
-    text[..36].copy_from_slice(epoch_line(time, count).as_slice());
+    put_epoch_line(text, time, count);
     36 + end
 }
 

@@ -18,7 +18,7 @@ put_satellite_line-len-requires c =
     let size : length (take (length l.lines - l.end) (drop l.end l.lines)) ≡ length l.lines - l.end = omega (arith, length-take (length l.lines - l.end) (drop l.end l.lines), length-drop l.end l.lines) in
     record {
       blank = rw size (next-blanks l.lines _ l.end (room - l.end) (length l.lines - l.end) h.text h.size (omega arith));
-      room = omega (arith, size, next, long, same);
+      room = omega (arith, size, next, long, same, ap length c.as_slice.ensures.value);
     }
 
 pub loop-row-preserved : goal.loop-row-preserved
@@ -31,13 +31,14 @@ loop-row-preserved c =
     let k = length l.lines - l.end in
     let size : length (take k (drop l.end l.lines)) ≡ room - l.end = omega (arith, length-take k (drop l.end l.lines), length-drop l.end l.lines) in
     let call = c.put_satellite_line-len in
+    let shown = c.as_slice.ensures.value in
     elim c.if-len-gt0.branch [
       | goal.then-len-gt0 w ↦ record {
         bound = rw w.count-is (omega arith);
-        written = rw (w.count-is, w.end-is) (line-shown c.args.rows.now l.row-index l.count l.end room k call.result _ l.lines call.new.line c.row-item.result c.row-item.result h lt c.row-item.is refl size call.ensures.text call.ensures.len call.ensures.within (omega arith));
+        written = rw (w.count-is, w.end-is) (line-shown c.args.rows.now l.row-index l.count l.end room k call.result _ l.lines call.new.line c.row-item.result c.row-item.result h lt c.row-item.is refl size (rw shown at call.ensures.text) (rw shown at call.ensures.len) (rw shown at call.ensures.within) (omega arith));
       }
       | goal.else-len-gt0 w ↦ record {
         bound = rw w.count-is (omega arith);
-        written = rw (w.count-is, w.end-is) (line-left_out c.args.rows.now l.row-index l.count l.end room k call.result _ l.lines call.new.line c.row-item.result c.row-item.result h lt c.row-item.is refl size call.ensures.text call.ensures.len (omega arith));
+        written = rw (w.count-is, w.end-is) (line-left_out c.args.rows.now l.row-index l.count l.end room k call.result _ l.lines call.new.line c.row-item.result c.row-item.result h lt c.row-item.is refl size (rw shown at call.ensures.text) (rw shown at call.ensures.len) (omega arith));
       }
     ]

@@ -3,9 +3,9 @@ use Rattle.rtk_obs.specs.declared.code.Code.{Code}
 use Rattle.rtk_obs.specs.declared.track.Track.{Track}
 use Rattle.rtk_collect.specs.EpochSet.{EpochSetView}
 use Rattle.rtk_rinex.specs.Header.{HeadView}
-use Rattle.rtk_rinex.specs.Record.{EpochTableView, record_text}
 use Rattle.rtk_convert.specs.File.{record_of}
 use Rattle.rtk_convert.specs.LastPhases.{HasLastPhases}
+use Rattle.rtk_convert.specs.Rows.{table_of}
 use Rattle.rtk_convert.specs.Steps.ClosedText.{is_any}
 use Rattle.rtk_convert.specs.Records.{ClosedEpochsView, HasClosed}
 use Rattle.rtk_convert.proofs.RecordsLemmas.{follows-no, follows-yes}
@@ -19,9 +19,10 @@ returns-then-not-has_record-clause-follows g c = λ below f.
     let before = subst (λ (x : ClosedEpochsView). HasClosed x c.args.setup.now.head.listed below) (sym c.self.view_is) f in
     let inside = subst (λ (l : List Code). HasClosed old l below) (sym listed) before in
     let phases = subst (λ (t : List (Option Track)). HasLastPhases t below) (sym c.deref_mut.ensures.value) inside.phases in
-    let text = c.in_ok-has_record.ensures.any ∙ ap (λ (t : EpochTableView). is_any (record_text t)) (c.deref.ensures ∙ c.fill_table.ensures.table below phases) ∙ ap (λ (l : List Code). is_any (record_of l e below)) listed in
-    follows-no old (record { tracks = c.fill_table.new.tracks; header_out = c.self.inside.header_out; count = c.self.inside.count }) c.args.setup.now.head.listed e below
-    (c.fill_table.ensures.phases below phases) refl refl (sym text ∙ c.if-not-has_record.true) before
+    let shown = c.text-text.ensures ∙ c.finish.ensures (table_of c.codes-listed.result.now e below).rows (c.in_default.ensures.lines below phases) in
+    let text = c.in_ok-has_record.ensures.any ∙ ap is_any shown ∙ ap (λ (l : List Code). is_any (record_of l e below)) listed in
+    follows-no old (record { tracks = c.push_rows.new.tracks; header_out = c.self.inside.header_out; count = c.self.inside.count }) c.args.setup.now.head.listed e below
+    (c.in_default.ensures.phases below phases) refl refl (sym text ∙ c.if-not-has_record.true) before
 
 pub returns-clause-follows : goal.returns-clause-follows
 returns-clause-follows g c = λ below f.
@@ -31,6 +32,7 @@ returns-clause-follows g c = λ below f.
     let before = subst (λ (x : ClosedEpochsView). HasClosed x c.args.setup.now.head.listed below) (sym c.self.view_is) f in
     let inside = subst (λ (l : List Code). HasClosed old l below) (sym listed) before in
     let phases = subst (λ (t : List (Option Track)). HasLastPhases t below) (sym c.deref_mut.ensures.value) inside.phases in
-    let text = c.in_ok-has_record.ensures.any ∙ ap (λ (t : EpochTableView). is_any (record_text t)) (c.deref.ensures ∙ c.fill_table.ensures.table below phases) ∙ ap (λ (l : List Code). is_any (record_of l e below)) listed in
-    follows-yes old (record { tracks = c.fill_table.new.tracks; header_out = true; count = c.saturating_add-self-inside.result }) c.args.setup.now.head.listed e below
-    (c.fill_table.ensures.phases below phases) refl c.saturating_add-self-inside.ensures (sym text ∙ c.if-not-has_record.false) before
+    let shown = c.text-text.ensures ∙ c.finish.ensures (table_of c.codes-listed.result.now e below).rows (c.in_default.ensures.lines below phases) in
+    let text = c.in_ok-has_record.ensures.any ∙ ap is_any shown ∙ ap (λ (l : List Code). is_any (record_of l e below)) listed in
+    follows-yes old (record { tracks = c.push_rows.new.tracks; header_out = true; count = c.saturating_add-self-inside.result }) c.args.setup.now.head.listed e below
+    (c.in_default.ensures.phases below phases) refl c.saturating_add-self-inside.ensures (sym text ∙ c.if-not-has_record.false) before

@@ -1,0 +1,46 @@
+use Rattle.std.proofs.Common.{◌≡◌, ℕ, ◌+◌, ◌<◌, ◌++◌, [], List, length, take, drop, ap, sym, subst, ◌∙◌, arith}
+use Rattle.std.proofs.lemmas.List.{take_at}
+use Rattle.rtk_rinex.specs.Reading.{reading_of}
+use Rattle.rtk_rinex.specs.Record.{epoch_line, record_text}
+use Rattle.rtk_rinex.specs.RecordLines.{RecordLinesView, HoldsLines}
+use Rattle.rtk_rinex.proofs.EpochLemmas.{length-written}
+use Rattle.rtk_rinex.proofs.ReadingLemmas.{reading_is}
+use Rattle.rtk_rinex.proofs.RecordLinesLemmas.{line-put, record-some, record-none}
+use Rattle.rtk_rinex.proofs.record_lines.RecordLines.finish.Goals as goal
+
+pub returns-then-self-gt0 : goal.returns-then-self-gt0
+unfolding record_text
+returns-then-self-gt0 c = λ rows h.
+    let i = c.self.invariant in
+    let count = c.self.inside.count in
+    let text = c.self.inside.text.items in
+    let now = c.put_epoch_line.new.text in
+    let held : HoldsLines (record { text = take c.self.inside.len text; count = count }) rows = subst (λ (v : RecordLinesView). HoldsLines v rows) (sym c.self.view_is) h in
+    let few : count < 1000 = omega arith in
+    let first = length-written c.civil.result count (omega arith) (omega arith) few in
+    let put = line-put text (epoch_line c.civil.result count) now c.self.inside.len first (i.4 c.if-self-gt0.true) i.1 i.5 (rw c.deref_mut.ensures.value at c.put_epoch_line.ensures) in
+    let whole : take c.self.inside.text.len (now ++ drop (length now) text) ≡ now = take_at now (drop (length now) text) c.self.inside.text.len (omega (arith, put.0)) in
+    rw (← reading_is c.args.time c.civil.result c.civil.ensures.reading, whole)
+    (put.2 ∙ record-some c.civil.result (drop 36 (take c.self.inside.len text)) count rows held.lines held.count c.if-self-gt0.true)
+
+pub returns-else-self-gt0 : goal.returns-else-self-gt0
+unfolding record_text
+returns-else-self-gt0 c = λ rows h.
+    let i = c.self.invariant in
+    let held : HoldsLines (record { text = take c.self.inside.len c.self.inside.text.items; count = c.self.inside.count }) rows = subst (λ (v : RecordLinesView). HoldsLines v rows) (sym c.self.view_is) h in
+    let none : c.self.inside.count ≡ 0 = omega arith in
+    let empty : take c.self.inside.len c.self.inside.text.items ≡ [] = ap (λ (n : ℕ). take n c.self.inside.text.items) (i.3 none) in
+    subst (λ (v : RecordLinesView). v.text ≡ record_text (record { time = c.args.time; rows = rows })) c.self.view_is
+    (record-none (reading_of c.args.time) (take c.self.inside.len c.self.inside.text.items) c.self.inside.count rows empty held.count none)
+
+pub invariant_of-self : goal.invariant_of-self
+invariant_of-self c =
+    let i = c.self.invariant in
+    let count = c.self.inside.count in
+    let text = c.self.inside.text.items in
+    let now = c.put_epoch_line.new.text in
+    let few : count < 1000 = omega arith in
+    let first = length-written c.civil.result count (omega arith) (omega arith) few in
+    let put = line-put text (epoch_line c.civil.result count) now c.self.inside.len first (i.4 c.if-self-gt0.true) i.1 i.5 (rw c.deref_mut.ensures.value at c.put_epoch_line.ensures) in
+    let whole : take c.self.inside.text.len (now ++ drop (length now) text) ≡ now = take_at now (drop (length now) text) c.self.inside.text.len (omega (arith, put.0)) in
+    rw whole (i.0, omega (arith, i.1, put.0), i.2, i.3, i.4, put.1)

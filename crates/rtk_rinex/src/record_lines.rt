@@ -1,0 +1,148 @@
+//! The text of a record that is written satellite by satellite.
+
+ghost use Rattle.std.specs.Prelude.{◌≡◌, ◌+◌, ◌*◌, ◌-◌, ◌<◌, ◌≤◌, List, [], ◌∷◌, ◌++◌, length, take, drop, replicate, OnOk, OnErr};
+ghost use Rattle.rtk_rinex.specs.declared.epoch_table.SatelliteRow.{SatelliteRow};
+ghost use Rattle.rtk_rinex.specs.Record.{record_text};
+ghost use Rattle.rtk_rinex.specs.RecordLines.{HoldsLines, line_if_any};
+
+use crate::epoch_table::Observed;
+use crate::record_text::{put_epoch_line, put_satellite_line};
+use rtk_obs::{GpsMs, civil};
+use std::alloc::{AllocError, Global};
+use std::marker::Model;
+
+// The bytes of an epoch line.
+const EPOCH_LINE: usize = 36;
+
+// The satellites of GPS.
+const MOST_SATELLITES: usize = 32;
+
+/// The text of a record that is written satellite by satellite, and kept from record to record; a
+/// contract sees its `RecordLinesView`.
+///
+/// Blanks follow the text, over which the next line is written. The first line takes the memory for
+/// 32 satellites of its number of codes: 36 bytes, and at most 772 for each.
+#[derive(Drop)]
+pub struct RecordLines {
+    text: Vec<u8>,
+    len: usize,
+    count: usize,
+}
+
+impl Model for RecordLines {
+    ghost use Rattle.std.specs.Prelude.{◌≡◌, ◌+◌, ◌*◌, ◌-◌, ◌<◌, ◌≤◌, length, take, drop, replicate};
+    ghost use Rattle.rtk_rinex.specs.RecordLines.{RecordLinesView};
+
+    ghost Value = { RecordLinesView };
+
+    ghost view = { λ r. record { text = take r.len r.text.items; count = r.count } };
+
+    ghost invariant = { λ r. (r.count ≤ 32) × (r.len ≤ length r.text.items) × (r.len ≤ 36 + 772 * r.count)
+        × (r.count ≡ 0 → r.len ≡ 0) × (0 < r.count → 36 ≤ r.len)
+        × (drop r.len r.text.items ≡ replicate (length r.text.items - r.len) 32) };
+}
+
+// Lengthens a text by blanks.
+#[inline(never)]
+fn lengthen(text: &mut Vec<u8>, len: usize) -> Result<(), AllocError>
+    requires { length text.old.items ≤ len }
+    ensures ok { OnOk result (text.new.items ≡ text.old.items ++ replicate (len - length text.old.items) 32) }
+    ensures err { OnErr result (text.new.items ≡ text.old.items) }
+{
+    text.reserve_exact(len - text.len())?;
+    text.resize(len, b' ')?;
+    Ok(())
+}
+
+// Lengthens a text by blanks if it has no room for a line at this place, and then for all that may
+// follow.
+fn make_room(text: &mut Vec<u8>, at: usize, room: usize) -> Result<(), AllocError>
+    requires place { at ≤ 36 + 772 * 32 }
+    requires short { room ≤ 772 }
+    ensures ok { OnOk result (text.new.items ≡ text.old.items ++ replicate (length text.new.items - length text.old.items) 32) }
+    ensures room { OnOk result (at + room ≤ length text.new.items) }
+    ensures err { OnErr result (text.new.items ≡ text.old.items) }
+{
+    if text.len() >= at + room {
+        return Ok(());
+    }
+    lengthen(text, at + MOST_SATELLITES * room)
+}
+
+// Blanks a text again, up to its end.
+fn blank(text: &mut [u8], len: usize)
+    requires within { len ≤ length text.old }
+    requires after { drop len text.old ≡ replicate (length text.old - len) 32 }
+    ensures { text.new ≡ replicate (length text.old) 32 }
+{
+    text[..len].fill(b' ');
+}
+
+// Writes the line of a satellite at this place, if it has one, and returns how long it is.
+fn put_next_line(text: &mut [u8], at: usize, satellite: u8, observed: &[Observed]) -> usize
+    requires blank { text.old ≡ take at text.old ++ replicate (length text.old - at) 32 }
+    requires room { at + 4 + 48 * length observed.now ≤ length text.old }
+    ensures text { text.new ≡ (take at text.old ++ line_if_any (record { satellite = satellite; observed = record { items = observed.now } })) ++ replicate (length text.old - (at + result)) 32 }
+    ensures len { result ≡ length (line_if_any (record { satellite = satellite; observed = record { items = observed.now } })) }
+    ensures within { result ≤ 4 + 48 * length observed.now }
+{
+    put_satellite_line(&mut text[at..], satellite, observed)
+}
+
+impl RecordLines {
+    /// No satellite yet. It takes no memory.
+    pub fn new(alloc: Global) -> RecordLines
+        ensures { HoldsLines result [] }
+    {
+        RecordLines {
+            text: Vec::new(alloc),
+            len: 0,
+            count: 0,
+        }
+    }
+
+    /// Begins another record, without satellites.
+    pub fn restart(&mut self)
+        ensures { HoldsLines self.new [] }
+    {
+        blank(&mut self.text, self.len);
+        self.len = 0;
+        self.count = 0;
+    }
+
+    /// Adds the line of a satellite, if an observation of it is written.
+    ///
+    /// Memory is taken only if the text has no room for the line.
+    pub fn push_row(&mut self, satellite: u8, observed: &[Observed]) -> Result<(), AllocError>
+        requires few { length observed.now ≤ 16 }
+        requires room { self.old.count < 32 }
+        ensures ok { OnOk result ((rows : List SatelliteRow) → HoldsLines self.old rows
+            → HoldsLines self.new (rows ++ record { satellite = satellite; observed = record { items = observed.now } } ∷ [])) }
+        ensures err { OnErr result (self.new ≡ self.old) }
+    {
+        let at = self.len.max(EPOCH_LINE);
+        make_room(&mut self.text, at, 4 + 48 * observed.len())?;
+        let len = put_next_line(&mut self.text, at, satellite, observed);
+        if len > 0 {
+            self.len = at + len;
+            self.count += 1;
+        }
+        Ok(())
+    }
+
+    /// Writes the epoch line before the lines, if there are any: the text is the record.
+    pub fn finish(&mut self, time: GpsMs)
+        ensures { (rows : List SatelliteRow) → HoldsLines self.old rows → self.new.text ≡ record_text (record { time = time; rows = rows }) }
+    {
+        if self.count > 0 {
+            put_epoch_line(&mut self.text, civil(time), self.count);
+        }
+    }
+
+    /// The text: after `finish` that of the record, or no bytes if no observation is written.
+    pub fn text(&self) -> &[u8]
+        ensures { result.now ≡ self.now.text }
+    {
+        &self.text[..self.len]
+    }
+}
