@@ -48,11 +48,13 @@ def legacy(tow: int, satellites: tuple[int, ...], station: int = STATION) -> Mes
     return Message(row(HEADERS[1004], **head), rows)
 
 
-def msm(tow: int, satellites: tuple[int, ...], cnr: int = 45) -> Message:
+def msm(
+    tow: int, satellites: tuple[int, ...], cnr: int = 45, signals: tuple[int, ...] = SIGNALS
+) -> Message:
     """A 1074 with each signal of each satellite."""
-    masks = {"satellite_mask": mask(satellites, 64), "signal_mask": mask(SIGNALS, 32)}
+    masks = {"satellite_mask": mask(satellites, 64), "signal_mask": mask(signals, 32)}
     head = {"number": 1074, "station": STATION, "tow": tow}
-    count = len(satellites) * len(SIGNALS)
+    count = len(satellites) * len(signals)
     rows = [row(MSM_SATELLITE, rough_ms=70, rough_fraction=12 * it) for it in satellites]
     cells = [row(MSM_CELL, lock=15, cnr=cnr) for _ in range(count)]
     return Message(row(HEADERS[1074], **head, **masks), rows, [1] * count, cells)
@@ -162,6 +164,7 @@ def rare_messages() -> bytes:
         with_offset(legacy(first, falling), 500_000),
         largest_1074(first),
         msm(first, tuple(range(1, 33)), cnr=20),
+        msm(second, (5, 40), signals=tuple(range(1, 33))),
         legacy(first, (5, 40, 5, 3)),
         with_offset(legacy(second, falling), -500_000),
         with_offset(legacy(second, falling), 500_000),
