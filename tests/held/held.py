@@ -13,8 +13,8 @@ from pathlib import Path
 from pictures import CODES as CHART_CODES
 from pictures import COLUMNS, largest
 from pictures import SATELLITES as CHART_SATELLITES
-from streams import NOON, SATELLITES, SIGNALS, capture, largest_1074, legacy, minutes
-from streams import single_satellite
+from streams import NOON, SATELLITES, SIGNALS, capture, falling_epochs, falling_satellites
+from streams import largest_1074, legacy, minutes, single_satellite
 
 OPTIONS = (
     "--station 2003 --near 2024-05-17T12:00:00 --made 2024-05-17T13:00:00 --marker BASE"
@@ -159,6 +159,8 @@ def write_captures(runs: Runs) -> None:
     runs.write("single", [single_satellite(5000)])
     largest = capture(largest_1074(NOON - 1000))
     runs.write("large", [largest, single_satellite(4999)])
+    runs.write("falling_satellites", [falling_satellites(5000)])
+    runs.write("falling_epochs", [falling_epochs(5000)])
     for name, count in FEW_AND_MANY.items():
         runs.write(f"late_{name}", [single_satellite(3), first * count])
         runs.write(f"foreign_{name}", [foreign] * count)
@@ -227,6 +229,25 @@ def grows_with_window(runs: Runs, tests: Tests) -> None:
             )
 
 
+def grows_alike_out_of_order(runs: Runs, tests: Tests) -> None:
+    """Satellites in falling order, and epochs in falling order, of which as many are taken as the
+    window has places, take no more."""
+    whole = {"frames": 10_000, "taken": 10_000, "epochs": 5000}
+    for name, cells in (("falling_satellites", CELLS), ("falling_epochs", 2)):
+        held = {}
+        for size in (2, *WINDOWS):
+            part = {"frames": 5000, "taken": size, "late": 5000 - size, "epochs": size}
+            held[size] = runs.most(size, [name], whole if cells == CELLS else part)
+        room = CELL * max(cells, FEWEST_CELLS)
+        for size in WINDOWS:
+            tests.within(
+                f"window {size} over window 2, of {name.replace('_', ' ')}",
+                held[size] - held[2],
+                (size - 2) * room,
+                (size - 2) * (room + EPOCH),
+            )
+
+
 def large_epoch_before_small_ones(runs: Runs, tests: Tests) -> None:
     """It has room for its cells, and so has the epoch after it, whose cells are few: the one after
     that has not, since what counts is how many cells an epoch has, and not its room."""
@@ -285,6 +306,7 @@ def main() -> None:
     for part in (
         lengths_alike,
         grows_with_window,
+        grows_alike_out_of_order,
         large_epoch_before_small_ones,
         grows_with_links,
         summaries_alike,

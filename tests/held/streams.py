@@ -48,11 +48,13 @@ def legacy(tow: int, satellites: tuple[int, ...], station: int = STATION) -> Mes
     return Message(row(HEADERS[1004], **head), rows)
 
 
-def msm(tow: int, satellites: tuple[int, ...], cnr: int = 45) -> Message:
+def msm(
+    tow: int, satellites: tuple[int, ...], cnr: int = 45, signals: tuple[int, ...] = SIGNALS
+) -> Message:
     """A 1074 with each signal of each satellite."""
-    masks = {"satellite_mask": mask(satellites, 64), "signal_mask": mask(SIGNALS, 32)}
+    masks = {"satellite_mask": mask(satellites, 64), "signal_mask": mask(signals, 32)}
     head = {"number": 1074, "station": STATION, "tow": tow}
-    count = len(satellites) * len(SIGNALS)
+    count = len(satellites) * len(signals)
     rows = [row(MSM_SATELLITE, rough_ms=70, rough_fraction=12 * it) for it in satellites]
     cells = [row(MSM_CELL, lock=15, cnr=cnr) for _ in range(count)]
     return Message(row(HEADERS[1074], **head, **masks), rows, [1] * count, cells)
@@ -118,5 +120,57 @@ def largest_1074(tow: int) -> Message:
 
 def single_satellite(count: int) -> bytes:
     """So many epochs of a 1004 of one satellite."""
-    template = Template(legacy(0, SATELLITES[:1]), [], "")
-    return b"".join(template.frame(NOON + 1000 * second, 0) for second in range(count))
+    return of_template(legacy(0, SATELLITES[:1]), range(count))
+
+
+def of_template(message: Message, seconds: range) -> bytes:
+    """The message at each of these seconds after noon."""
+    template = Template(message, [], "")
+    return b"".join(template.frame(NOON + 1000 * second, 0) for second in seconds)
+
+
+def falling_satellites(count: int) -> bytes:
+    """So many epochs of a 1074 and then of a 1004 whose satellites fall."""
+    templates = [Template(it, [], "") for it in (msm(0, SATELLITES), legacy(0, SATELLITES[::-1]))]
+    times = [NOON + 1000 * second for second in range(count)]
+    return b"".join(it.frame(time, 0) for time in times for it in templates)
+
+
+def falling_epochs(count: int) -> bytes:
+    """So many epochs of a 1004 of one satellite, from the last one to the first."""
+    return of_template(legacy(0, SATELLITES[:1]), range(count)[::-1])
+
+
+def with_offset(message: Message, offset: int) -> Message:
+    for fields in message.satellites:
+        fields["l1_offset"] = fields["l2_offset"] = offset
+    return message
+
+
+def rare_messages() -> bytes:
+    """What few stations send: a 1006 and another one, the longest messages, cells that fall, repeat
+    and conflict, rolls and a slip, what is refused; then epochs in falling order, some too late."""
+    height = [
+        Message(row(HEADERS[1006], number=1006, station=STATION, x=1, y=-2, z=3, height=it))
+        for it in (15_000, 15_001)
+    ]
+    falling = tuple(range(31, 0, -1))
+    first, second, third = (NOON + 10_000_000 + 1000 * it for it in range(3))
+    slip = with_offset(legacy(third, falling), 0)
+    for fields in slip.satellites:
+        fields["l1_lock"] = fields["l2_lock"] = 0
+    messages = [
+        *height,
+        with_offset(legacy(first, falling), 500_000),
+        largest_1074(first),
+        msm(first, tuple(range(1, 33)), cnr=20),
+        msm(second, (5, 40), signals=tuple(range(1, 33))),
+        legacy(first, (5, 40, 5, 3)),
+        with_offset(legacy(second, falling), -500_000),
+        with_offset(legacy(second, falling), 500_000),
+        slip,
+        legacy(604_800_000, SATELLITES),
+        legacy(first, SATELLITES, station=7),
+    ]
+    refused = [frame_of(payload) for payload in (b"", b"\x3E", b"\x3E\xD7\xD3")]
+    return capture(*messages) + b"".join(refused) + falling_epochs(4100)

@@ -11,7 +11,7 @@ from typing import NamedTuple
 
 sys.path.insert(0, str(Path(__file__).resolve().parent.parent / "held"))
 
-from streams import single_satellite, split_epochs  # noqa: E402
+from streams import rare_messages, single_satellite, split_epochs  # noqa: E402
 
 OUT_OF_MEMORY = b"rtcm2rinex: out of memory\n"
 STACK = 128  # kB, as docs/MANUAL.md says
@@ -203,6 +203,7 @@ def scenes() -> Iterator[Scene]:
     yield Scene(convert(*[first, second] * 8))
     yield Scene(convert("split", window="2"))
     yield Scene(convert("many", window="4096"))
+    yield Scene(convert("rare", window="4096"))
     yield Scene(convert(base, "nowhere"), status=1)
 
     # Words that are refused: by clap, and by us.
@@ -231,6 +232,7 @@ def main() -> None:
     Path("wrong").write_bytes(Path("examples/base.rnx").read_bytes().replace(b"45.000", b"45.100"))
     Path("split").write_bytes(split_epochs())
     Path("many").write_bytes(single_satellite(4100))
+    Path("rare").write_bytes(rare_messages())
     wanted = [it for it in scenes() if not names or name_of(it.words) in names]
     passed = [Sweep(program, scene).run() for scene in wanted]
     passed += [fits_stack(program, scene) for scene in wanted]
