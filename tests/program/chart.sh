@@ -109,6 +109,8 @@ missing 99999' ''
 run chart many </dev/null
 grep '>records' out >heading; mv heading out
 expect chart_of_many_records_in_svg 0 "<text x='90' y='70'>records 70001, satellites 1, slips 70001, missing epochs 99999</text>" ''
+sed '$s/110804903.547/        0.000/' many >many_and_zero
+run chart many_and_zero </dev/null;                expect chart_of_a_fault_beyond_65535_lines 3 '' 'line 140016: C3 Value'
 
 # holds NAME: right if the last command was
 holds() {
@@ -161,4 +163,4 @@ For more information, try '--help'."
 twice --text --text
 twice '--columns <N>' --columns 80
 
-ends 25
+ends 26
