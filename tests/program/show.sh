@@ -313,9 +313,9 @@ start show "$root/examples/msm.rtcm" </dev/null;        expect start_msm 0 "$msm
 start show --hex "$root/examples/arp1005.hex" </dev/null; expect start_hex 0 "$arp" ''
 start show nowhere </dev/null;            expect start_failed 1 '' 'rtcm2rinex: cannot open nowhere'
 start show </dev/null;                    expect start_refused 2 '' "$no_file"
-# Under a limit on the size of files, a block of 512 bytes, it ends as on a full disk.
+# Under a limit on the size of files, 512 bytes, it ends as on a full disk.
 head -c 8192 frames >some; head -c 512 lines >part; echo 'rtcm2rinex: write failed' >part_err
-(ulimit -f 1; exec "$root/bin/rtcm2rinex" show some) >out 2>err </dev/null; status=$?
+limited 512 "$root/bin/rtcm2rinex" show some >out 2>err </dev/null; status=$?
 leaves start_show_with_a_limit_of_size 1 part part_err
 
 ends 79
