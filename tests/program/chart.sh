@@ -149,6 +149,9 @@ Usage: rtcm2rinex chart <FILE>
 
 For more information, try '--help'."
 
+run chart --te "$marks" </dev/null; head -n 1 err >line; mv line err
+expect chart_start_of_an_option 2 '' "error: unexpected argument '--te' found"
+
 # twice OPTION WORD..: an option that stands twice is refused
 twice() {
     option=$1
@@ -163,4 +166,4 @@ For more information, try '--help'."
 twice --text --text
 twice '--columns <N>' --columns 80
 
-ends 26
+ends 27

@@ -176,6 +176,9 @@ Usage: rtcm2rinex cut <--from <T>|--until <T>|--every <SECONDS>> <FILE>
 
 For more information, try '--help'."
 
+cut --ev 30 "$file" </dev/null; head -n 1 err >line; mv line err
+expect cut_start_of_an_option 2 '' "error: unexpected argument '--ev' found"
+
 bad a_blank_before_from 'bad --from' --from " $noon"
 bad a_blank_after_until 'bad --until' --until "$noon "
 # An option that stands twice, and one before another option, which is no value of it.
@@ -218,4 +221,4 @@ cut -h </dev/null;                                  expect cut_short_help 0 "$sh
 "$program" help cut </dev/null >out 2>err; status=$?
 expect help_cut 0 "$help" ''
 
-ends 52
+ends 53
