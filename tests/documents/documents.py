@@ -211,6 +211,55 @@ def test_proof():
     compare("the tests that PROOF.md names are there", [name for name in named if name not in tests], [])
 
 
+# ---------------------------------------------------------------- what bin/believe prints
+
+
+def read_specs():
+    """Of each file of specs its definitions as they are written, and where each name that it imports from specs is defined."""
+    texts, imports = {}, {}
+    for path in sorted(ROOT.glob("crates/*/specs/**/*.antt")):
+        file, name = str(path.relative_to(ROOT)), None
+        for line in path.read_text().split("\n"):
+            found = re.match(r"(?:abbrev |unfoldable )?pub (?:record |data )?(\w+)", line)
+            if found and found.group(1) != "mod":
+                name = found.group(1)
+                texts[file, name] = line
+            elif re.match(r"use |--|pub mod |$", line):
+                name = None
+            elif name:
+                texts[file, name] += "\n" + line
+        for crate, module, names in re.findall(r"(?m)^use Rattle\.(rtk_\w+)\.specs\.((?!declared)[\w.]+)\.\{(.*)\}", path.read_text()):
+            for word in names.split(", "):
+                imports[file, word.split(" as ")[-1]] = f"crates/{crate}/specs/{module.replace('.', '/')}.antt", word.split(" as ")[0]
+    return texts, imports
+
+
+def believed(*words):
+    """What bin/believe lists, as files and names; what it says if it refuses."""
+    code, out, error = output(ROOT / "bin/believe", "--list", *words)
+    return {(line.split(":")[0], line.split(" ")[-1]) for line in out.split("\n")[:-2]} if code == 0 else error
+
+
+def test_believe():
+    texts, imports = read_specs()
+    listed = believed("run", "headline")
+    reached = {(file, name) for file, name in listed if (file, name) in texts}
+    missing = set()
+    for file, name in reached:
+        for word in set(re.findall(r"(?<![\w.])[^\W\d]\w*", re.sub(r"--.*", "", texts[file, name]))) - {name}:
+            place = imports.get((file, word)) or (file, word)
+            if place in texts and place not in listed:
+                missing.add((name, word))
+    compare("bin/believe lists what the definitions of the main promise name", sorted(missing), [])
+    proof = (ROOT / "docs/PROOF.md").read_text()
+    rows = proof[proof.index("| Phrase |"):proof.index("`run` is proved for every")]
+    named = {name for row in rows.split("\n") for name in re.findall(r"`(\w+)`", row.split(" | ")[1] if " | " in row else "")}
+    names = {name for _, name in listed}
+    fields = {field for text in texts.values() for field in re.findall(r"(?m)^  pub (\w+) :", text)}
+    compare("bin/believe lists the definitions that PROOF.md names phrase by phrase", sorted(named - names - fields), [])
+    compare("there are such definitions", len(named & names) > 10 and len(reached) > 50, True)
+
+
 def anchors_of(text):
     """The places of a page that a link may name: those that are marked, and the headings as forges name them."""
     headings = re.findall(r"(?m)^#+ (.*)", text)
@@ -238,7 +287,7 @@ def test_links():
     compare("the README has at most 900 words", words <= 900, True)
 
 
-for test in (test_made, test_manuals, test_completions, test_bash, test_proof, test_links):
+for test in (test_made, test_manuals, test_completions, test_bash, test_proof, test_believe, test_links):
     test()
 print(f"{passed} passed, {failed} failed")
 sys.exit(failed > 0)

@@ -306,6 +306,16 @@ def millions():
     said = report(*lines, **many, epochs=many["taken"])
     assert sum(it.isdigit() for it in "".join(said.splitlines()[-9:])) == 58
     save("millions.report", said)
+    # The summary of the same: its satellite and codes are those of two epochs of the same satellite.
+    few = summaries.summary_of(streams.single_satellite(2))
+    size, time = Path("millions.1").stat().st_size, NOON + 1000 * last
+    messages = sum(many[it] for it in ("taken", "repeat", "conflict", "late"))
+    save("millions.summary", (
+        f"bytes {size}\noutside-frames 0\nframes {sum(many.values())}\n"
+        f"station 7\n message 1004 {many['foreign']}\n time-of-week {time} {time}\n epoch-changes 0\n satellites -\n codes -\n"
+        f"station 2003\n message 1004 {messages}\n time-of-week {NOON} {NOON}\n epoch-changes {many['taken']}\n"
+        f"{few[few.index(' satellites'):]}other 1019 {many['other']}\nrefused M1 - {many['refused']}\n"
+    ))
 
 
 # ---------------------------------------------------------------- a long capture

@@ -70,12 +70,47 @@ run chart bad </dev/null;                          expect chart_of_a_bad_file 3 
 run chart --text bad </dev/null;                   expect chart_of_a_bad_file_in_characters 3 '' "$line"
 run chart none </dev/null;                         expect chart_of_no_file 1 '' 'rtcm2rinex: cannot open none'
 
+truncate -s 1073741824 zeros
+run chart zeros </dev/null;                        expect longest_chart_input 3 '' 'line 1: C5 Truncated'
 truncate -s 1073741825 zeros
 run chart zeros </dev/null;                        expect chart_input_too_long 1 '' 'rtcm2rinex: input too long'
 
 sed '/END OF HEADER/q' "$marks" >empty
 run chart --text empty </dev/null
 expect chart_without_records 0 "$(printf 'marker BASE\nno records')" ''
+# In SVG it is 100 units high, with the style of every picture.
+run chart empty </dev/null
+expect chart_without_records_in_svg 0 "<svg xmlns='http://www.w3.org/2000/svg' viewBox='0 0 1560 100'>
+<title>BASE</title>
+$(grep '^<style>' "$root/examples/marks.svg")
+<rect class='page' width='1560' height='100'/>
+<text class='marker' x='90' y='30'>BASE</text>
+<text x='90' y='52'>no records</text>
+</svg>" ''
+
+# 70,000 records of a second each and one 100,000 seconds after them, each with a slip.
+{
+    sed '/END OF HEADER/q' "$marks"
+    awk 'BEGIN { for (n = 0; n <= 70000; n++) { t = 43200 + n + (n == 70000) * 99999
+        printf "> 2024 05 %02d %02d %02d%11.7f  0  1\nG05                 110804903.5471\n",
+            17 + int(t / 86400), int(t / 3600) % 24, int(t / 60) % 60, t % 60 } }'
+} >many
+run chart --text many </dev/null
+head -n 9 out >heading; mv heading out
+expect chart_of_many_records 0 'marker BASE
+from 2024-05-17 12:00:00.000
+until 2024-05-19 11:13:19.000
+interval 1.000
+column 2267.000
+records 70001
+satellites 1
+slips 70001
+missing 99999' ''
+run chart many </dev/null
+grep '>records' out >heading; mv heading out
+expect chart_of_many_records_in_svg 0 "<text x='90' y='70'>records 70001, satellites 1, slips 70001, missing epochs 99999</text>" ''
+sed '$s/110804903.547/        0.000/' many >many_and_zero
+run chart many_and_zero </dev/null;                expect chart_of_a_fault_beyond_65535_lines 3 '' 'line 140016: C3 Value'
 
 # holds NAME: right if the last command was
 holds() {
@@ -100,6 +135,23 @@ Usage: rtcm2rinex chart --text --columns <N> <FILE>
 
 For more information, try '--help'."
 
+run chart "$marks" b </dev/null
+expect chart_of_two_files 2 '' "error: unexpected argument 'b' found
+
+Usage: rtcm2rinex chart [OPTIONS] <FILE>
+
+For more information, try '--help'."
+run chart </dev/null
+expect chart_without_a_file 2 '' "error: the following required arguments were not provided:
+  <FILE>
+
+Usage: rtcm2rinex chart <FILE>
+
+For more information, try '--help'."
+
+run chart --te "$marks" </dev/null; head -n 1 err >line; mv line err
+expect chart_start_of_an_option 2 '' "error: unexpected argument '--te' found"
+
 # twice OPTION WORD..: an option that stands twice is refused
 twice() {
     option=$1
@@ -114,4 +166,4 @@ For more information, try '--help'."
 twice --text --text
 twice '--columns <N>' --columns 80
 
-ends 19
+ends 27

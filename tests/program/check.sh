@@ -50,6 +50,12 @@ Usage: rtcm2rinex check <FILE>
 
 For more information, try '--help'."
 
+two_files="error: unexpected argument 'b' found
+
+Usage: rtcm2rinex check <FILE>
+
+For more information, try '--help'."
+
 like_help="error: unexpected argument '--hlep' found
 
   tip: a similar argument exists: '--help'
@@ -106,6 +112,9 @@ check -h </dev/null;             expect check_short_help 0 "$short_help" ''
 "$program" help check >out 2>err </dev/null; status=$?
 expect help_check 0 "$help" ''
 check </dev/null;                expect no_file 2 '' "$no_file"
+check "$base" b </dev/null;      expect two_files 2 '' "$two_files"
+check --he "$base" </dev/null; head -n 1 err >line; mv line err
+expect start_of_an_option 2 '' "error: unexpected argument '--he' found"
 check --hlep </dev/null;         expect like_help 2 '' "$like_help"
 
 # 70,000 epochs of a second each, and the same with a value of 0 at the end.
@@ -124,4 +133,4 @@ check zeros </dev/null;          expect longest_input 3 'line 1: C5 Truncated' '
 truncate -s 1073741825 zeros
 check zeros </dev/null;          expect input_too_long 1 '' 'rtcm2rinex: input too long'
 
-ends 32
+ends 34

@@ -106,6 +106,7 @@ sed -n '1,20p' "$examples/late.rnx" >followed
 sed 's/^link 1/link 2/' "$examples/late.report" >late.report
 follow followed late.report nothing stdin nothing
 follow followed_first "$examples/late.report" stdin nothing
+follow followed_between late.report nothing stdin nothing
 
 # Links that can't be opened, and links that can't be read. If one can't be opened, nothing is read and nothing is out.
 mkdir folder
@@ -127,6 +128,8 @@ convert 1C "$(printf '\377')" </dev/null;             fails a_link_that_is_no_te
 convert 1C stdin <&-;                                 fails closed_standard_input 1 'read failed'
 convert 1C stdin "$base" <&-;                         fails closed_standard_input_before_a_file 1 'read failed'
 convert 1C "$base" stdin <&-;                         fails closed_standard_input_after_a_file 1 'read failed'
+convert 1C "$base" stdin "$base" <&-;                 fails closed_standard_input_between_files 1 'read failed'
+convert 1C $(yes stdin.rtcm | head -n 15) stdin <&-;  fails closed_standard_input_after_fifteen_files 1 'read failed'
 convert 1C stdin "$base" nowhere <&-;                 fails closed_standard_input_and_a_missing_link 1 'cannot open nowhere'
 convert 1C "$base" nowhere stdin <&-;                 fails a_missing_link_and_closed_standard_input 1 'cannot open nowhere'
 convert 1C stdin "$base" <folder;                     fails a_directory_as_standard_input_and_a_file 1 'read failed'
@@ -161,6 +164,12 @@ words $near $made 'X ' 1C x;                          fails marker_with_a_blank_
 words $near $made "$(printf '%061d' 0)" 1C x;         fails marker_of_61_characters 2 'bad --marker'
 words $near $made "$(printf '%060d' 0)" 1C nowhere;   fails marker_of_60_characters 1 'cannot open nowhere'
 words $near $made 'Bäse' 1C x;                        fails marker_beyond_ascii 2 'bad --marker'
+# Good texts and 256 characters more, which are no good ones.
+more=$(printf '%0256d' 0)
+words $near $made "BASE$more" 1C x;                   fails marker_of_260_characters 2 'bad --marker'
+words "$near$more" $made BASE 1C x;                   fails near_and_256_characters 2 'bad --near'
+words $near "$made$more" BASE 1C x;                   fails made_and_256_characters 2 'bad --made'
+words $near $made BASE "1C$more" x;                   fails codes_and_256_characters 2 'bad --codes'
 words $near $made X 1C,1C stdin stdin;                fails repeated_code 2 'bad --codes'
 words $near $made X 1C,2W,1C stdin stdin;             fails repeated_first_code 2 'bad --codes'
 words $near $made X $sixteen,1C x;                    fails seventeen_codes 2 'bad --codes'
@@ -172,6 +181,9 @@ words $near $made X 1C 1 2 3 4 5 6 7 8 9 10 11 12 13 14 15 16 17; fails seventee
 words $near $made X 1C $(seq 40);                     fails forty_links 2 'bad links'
 words $near $made X 1C $(seq 200);                    fails two_hundred_links 2 'bad links'
 run convert $(seq 200) $options --codes 1C;           fails two_hundred_links_before_the_options 2 'bad links'
+# as many as one and as sixteen links, where only the last byte of the number is looked at
+words $near $made X 1C $(seq 257);                    fails links_257 2 'bad links'
+words $near $made X 1C $(seq 4112);                   fails links_4112 2 'bad links'
 words $near $made X 1C nowhere 2 3 4 5 6 7 8 9 10 11 12 13 14 15 16; fails sixteen_links 1 'cannot open nowhere'
 words 1980-01-06T00:00:00 '' X 1C nowhere;            fails reference_out_of_range_and_no_making 2 'bad --made'
 words 1980-01-06T00:00:00 $made ' X' 1C,9Z nowhere;   fails reference_out_of_range_and_no_code 2 'bad --codes'
@@ -196,6 +208,33 @@ for text in , 1 1C, ,1C 1C,,2W 1c '1C 2W' '1C, 2W' ' 1C' '1C ' 1C,9Z 1CC 1C,2; d
     words $near $made BASE "$text" x
     fails "codes_$text" 2 'bad --codes'
 done
+
+# All are refused with the same line, as many as there are.
+# refused_alike NAME COUNT LINE
+refused_alike() {
+    yes "2 rtcm2rinex: $3" | head -n "$2" >want_told
+    same "$1" told want_told
+}
+# No printable character but a comma stands between two codes.
+for number in $(seq 32 43) $(seq 45 126); do
+    words $near $made BASE "1C$(printf "\\$(printf %03o "$number")")2W" x
+    echo "$status $(cat out err)"
+done >told
+refused_alike no_other_character_between_codes 94 'bad --codes'
+# No character of a moment is another one: none of these in any place, and no digit where none is.
+for place in $(seq 19); do
+    for sign in - : / . ' ' + T t x Z; do
+        text=$(echo $made | sed "s|.|$sign|$place")
+        case $place$sign in 1-) continue ;; esac
+        [ "$text" != $made ] || continue
+        words $near "$text" BASE 1C x
+        echo "$status $(cat out err)"
+    done
+    case $place in 5 | 8 | 11 | 14 | 17) ;; *) continue ;; esac
+    words $near "$(echo $made | sed "s|.|0|$place")" BASE 1C x
+    echo "$status $(cat out err)"
+done >told
+refused_alike no_other_character_of_a_moment 189 'bad --made'
 
 # The same of good texts, of an empty capture: the making and the types stand in the header.
 # header NAME MADE MARKER TYPES: the file is the empty one with these
@@ -383,15 +422,15 @@ leaves closed_output 1 /dev/null told_in_full
 : >err
 leaves closed_standard_error 1 "$examples/base.rnx" /dev/null
 
-# The command of the README. Under a limit on the size of files, 8 blocks of 512 bytes, it ends as on a full disk.
+# The command of the README. Under a limit on the size of files, 4,096 bytes, it ends as on a full disk.
 "$root/bin/rtcm2rinex" convert $options --codes 1C,2W "$base" >out 2>err </dev/null
 status=$?
 leaves start_convert 0 "$examples/base.rnx" base.report
 head -c 4096 "$session.rnx" >part
 cat "$session.report" write_failed >part_err
-(ulimit -f 8; exec "$root/bin/rtcm2rinex" convert $options --codes 1C,2W,5X "$session.rtcm") >out 2>err </dev/null; status=$?
+limited 4096 "$root/bin/rtcm2rinex" convert $options --codes 1C,2W,5X "$session.rtcm" >out 2>err </dev/null; status=$?
 leaves start_convert_with_a_limit_of_size 1 part part_err
-(ulimit -f 8; exec "$root/bin/rtcm2rinex" convert $options --codes 1C,2W,5X stdin) >out 2>err <"$session.rtcm"; status=$?
+limited 4096 "$root/bin/rtcm2rinex" convert $options --codes 1C,2W,5X stdin >out 2>err <"$session.rtcm"; status=$?
 leaves start_convert_followed_with_a_limit_of_size 1 part write_failed
 
-ends 185
+ends 198

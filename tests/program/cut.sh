@@ -169,6 +169,16 @@ for step in 0 86401 4294967296; do
     cut --every $step "$file" </dev/null;           expect a_step_of_$step 2 '' "$(step_of $step)"
 done
 
+cut --every 30 "$file" b </dev/null
+expect cut_of_two_files 2 '' "error: unexpected argument 'b' found
+
+Usage: rtcm2rinex cut <--from <T>|--until <T>|--every <SECONDS>> <FILE>
+
+For more information, try '--help'."
+
+cut --ev 30 "$file" </dev/null; head -n 1 err >line; mv line err
+expect cut_start_of_an_option 2 '' "error: unexpected argument '--ev' found"
+
 bad a_blank_before_from 'bad --from' --from " $noon"
 bad a_blank_after_until 'bad --until' --until "$noon "
 # An option that stands twice, and one before another option, which is no value of it.
@@ -194,6 +204,8 @@ cut --every 30 "$root/examples/base.rtcm" </dev/null
 expect a_capture 3 '' 'line 1: C5 Truncated'
 
 cut --every 30 nowhere </dev/null;                  expect cut_of_no_file 1 '' 'rtcm2rinex: cannot open nowhere'
+truncate -s 1073741824 zeros
+cut --every 30 zeros </dev/null;                    expect longest_cut_input 3 '' 'line 1: C5 Truncated'
 truncate -s 1073741825 zeros
 cut --every 30 zeros </dev/null;                    expect cut_input_too_long 1 '' 'rtcm2rinex: input too long'
 cut --every 30 folder </dev/null;                   expect cut_of_a_directory 1 '' 'rtcm2rinex: read failed'
@@ -209,4 +221,4 @@ cut -h </dev/null;                                  expect cut_short_help 0 "$sh
 "$program" help cut </dev/null >out 2>err; status=$?
 expect help_cut 0 "$help" ''
 
-ends 50
+ends 53

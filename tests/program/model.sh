@@ -23,6 +23,8 @@ leaves long_pipe 0 long_capture.rnx long_capture.report
 # Counts of many digits.
 "$program" convert $options --codes 1C,2W millions.1 >out 2>err </dev/null; status=$?
 leaves millions 0 millions.rnx millions.report
+"$program" summary millions.1 >out 2>err </dev/null; status=$?
+leaves summary_of_millions 0 millions.summary /dev/null
 
 # Both streams in one place: up to 65,536 bytes of the report are gathered, so the file comes first; of a longer report the
 # lines that fill the room come before it.
@@ -72,4 +74,4 @@ for words in 'cut --every 1' chart 'chart --text'; do
     leaves "$(echo "$words" | tr -cs a-z _)of_10_mb_with_a_zero" 3 /dev/null zero.line
 done
 
-ends 59
+ends 60

@@ -236,6 +236,8 @@ run show 'no where' </dev/null;           expect missing_file_with_a_blank 1 '' 
 run show '' </dev/null;                   expect empty_name 1 '' 'rtcm2rinex: cannot open '
 run show "$long_word" </dev/null;         expect missing_file_of_a_long_name 1 '' "rtcm2rinex: cannot open $long_word"
 run show - </dev/null;                    expect missing_file_of_a_hyphen 1 '' 'rtcm2rinex: cannot open -'
+run show 'stdin ' <arp.rtcm;              expect missing_file_of_the_name_stdin_and_a_blank 1 '' 'rtcm2rinex: cannot open stdin '
+run show ' stdin' <arp.rtcm;              expect missing_file_of_a_blank_and_the_name_stdin 1 '' 'rtcm2rinex: cannot open  stdin'
 run show STDIN <arp.rtcm;                 expect missing_file_of_the_name_stdin_in_capitals 1 '' 'rtcm2rinex: cannot open STDIN'
 run show "$(printf 'a\nb')" </dev/null;   expect missing_file_with_a_line_feed 1 '' 'rtcm2rinex: cannot open a
 b'
@@ -311,9 +313,9 @@ start show "$root/examples/msm.rtcm" </dev/null;        expect start_msm 0 "$msm
 start show --hex "$root/examples/arp1005.hex" </dev/null; expect start_hex 0 "$arp" ''
 start show nowhere </dev/null;            expect start_failed 1 '' 'rtcm2rinex: cannot open nowhere'
 start show </dev/null;                    expect start_refused 2 '' "$no_file"
-# Under a limit on the size of files, a block of 512 bytes, it ends as on a full disk.
+# Under a limit on the size of files, 512 bytes, it ends as on a full disk.
 head -c 8192 frames >some; head -c 512 lines >part; echo 'rtcm2rinex: write failed' >part_err
-(ulimit -f 1; exec "$root/bin/rtcm2rinex" show some) >out 2>err </dev/null; status=$?
+limited 512 "$root/bin/rtcm2rinex" show some >out 2>err </dev/null; status=$?
 leaves start_show_with_a_limit_of_size 1 part part_err
 
-ends 77
+ends 79

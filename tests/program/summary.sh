@@ -109,6 +109,8 @@ run summary --help </dev/null;      expect summary_help 0 "$help" ''
 run summary -h </dev/null;          expect summary_short_help 0 "$short_help" ''
 run help summary </dev/null;        expect help_summary 0 "$help" ''
 run summary </dev/null;             expect summary_without_a_file 2 '' "$no_file"
+run summary --he "$base" </dev/null; head -n 1 err >line; mv line err
+expect summary_start_of_an_option 2 '' "error: unexpected argument '--he' found"
 run summary a b </dev/null;         expect summary_of_two_files 2 '' "$two_files"
 
-ends 17
+ends 18
