@@ -2,7 +2,7 @@
 use Rattle.std.specs.Prelude.{ℕ, Bool, List, refl}
 use Rattle.std.specs.Coded.{Coded, code_by, coded×, coded_list, coded_ℕ, coded_bool}
 
--- the bytes that wait for more, and whether the stream has ended
+-- the bytes that wait for more or for the next call, and whether the stream has ended
 pub record ScannerView : Type 0 where
   pub pending : List ℕ
   pub ended : Bool

@@ -81,7 +81,8 @@ fn after_byte(state: u32, byte: u8) -> u32
     state << 8 ^ entry(0, (state >> 24) as u8 ^ byte)
 }
 
-// What the tables have for a byte and so many zero bytes after it.
+// What the tables have for a byte and so many zero bytes after it. They are two arrays, since the
+// prover takes long for one of 4,096 entries.
 fn entry(zeros: usize, byte: u8) -> u32
     requires { zeros < 16 }
     ensures { result ≡ word_of zeros byte }

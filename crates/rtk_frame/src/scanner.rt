@@ -17,8 +17,9 @@ use std::marker::Model;
 
 /// The frames of a stream, however its bytes are cut into pieces.
 ///
-/// It keeps at most 2,058 bytes: those that wait for more, at most 1,029, and before them bytes that
-/// it gave or passed; and of these bytes the checksums of prefixes.
+/// It keeps at most 2,058 bytes: the pending ones, at most 1,029, and before them bytes that it gave
+/// or passed; and of these bytes the checksums of prefixes. Pending bytes wait for more of the stream,
+/// or for the next call: they may have whole frames that were not given yet.
 #[derive(Drop)]
 pub struct Scanner {
     ring: HeapCircularBuffer<u8>,
@@ -30,7 +31,7 @@ pub struct Scanner {
     ended: bool,
 }
 
-// Clauses see the bytes that wait for more, and whether the stream has ended. The first part of the
+// Clauses see the pending bytes, and whether the stream has ended. The first part of the
 // invariant names every field, so that no field can be added in which bytes are kept unseen.
 impl Model for Scanner {
     ghost use Rattle.std.specs.Prelude.{◌≡◌, drop};

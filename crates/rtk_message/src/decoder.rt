@@ -40,7 +40,7 @@ impl Decoder {
     }
 
     /// The message that the payload begins with, or the first fault: the answer of `decode`,
-    /// whatever was read before. No memory is allocated.
+    /// whatever was read before. It is lent until the next call. No memory is allocated.
     #[inline(never)]
     pub fn read(&mut self, payload: &[u8]) -> &Result<Message, DecodeFault>
         ensures { Decodes (bits payload.now) result.now }

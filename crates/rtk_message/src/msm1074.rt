@@ -219,7 +219,8 @@ impl Layout for Msm1074 {
 }
 
 impl Msm1074 {
-    /// Reads the fields after the number in place of those that the message has.
+    /// Reads the fields after the number in place of those that the message has. After a fault the
+    /// message has fields of both, and is to be dropped.
     ///
     /// It is inlined, so that the reader of its caller stays in registers.
     #[inline(always)]
