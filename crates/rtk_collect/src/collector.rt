@@ -37,6 +37,8 @@ pub struct Collector {
     stations: Stations,
     // Room for the cells of the message in hand.
     room: ArrayVec<CellEntry, 64>,
+    // The list of the closed epoch that was handed back last. What it holds is never looked at.
+    spare: Vec<CellEntry>,
 }
 
 // Clauses see the window: its places, its epochs from the greatest to the least, the 1005 and the
@@ -50,7 +52,7 @@ impl Model for Collector {
 
     ghost view = { λ c. record { size = c.places; sets = c.sets.items; arp1005 = c.stations.arp1005; arp1006 = c.stations.arp1006 } };
 
-    ghost invariant = { λ c. (c ≡ record { alloc = c.alloc; places = c.places; sets = c.sets; stations = c.stations; room = c.room })
+    ghost invariant = { λ c. (c ≡ record { alloc = c.alloc; places = c.places; sets = c.sets; stations = c.stations; room = c.room; spare = c.spare })
         × IsCollectorView (record { size = c.places; sets = c.sets.items; arp1005 = c.stations.arp1005; arp1006 = c.stations.arp1006 }) };
 }
 
@@ -71,6 +73,7 @@ impl Collector {
                 arp1006: None,
             },
             room: ArrayVec::new(),
+            spare: Vec::new(alloc),
         }
     }
 
@@ -95,7 +98,8 @@ impl Collector {
                 let Some(epoch) = epoch else { unreachable!() };
                 put_cells_1004(message, &mut self.room);
                 let cells = self.room.as_slice();
-                offer_cells(&mut self.sets, self.places, self.alloc, epoch, cells)
+                let (sets, spare) = (&mut self.sets, &mut self.spare);
+                offer_cells(sets, self.places, self.alloc, epoch, cells, spare)
             }
             Message::Arp1005(message) => self.offer_1005(*message),
             Message::Arp1006(message) => self.offer_1006(*message),
@@ -103,7 +107,8 @@ impl Collector {
                 let Some(epoch) = epoch else { unreachable!() };
                 put_cells_1074(message, &mut self.room);
                 let cells = self.room.as_slice();
-                offer_cells(&mut self.sets, self.places, self.alloc, epoch, cells)
+                let (sets, spare) = (&mut self.sets, &mut self.spare);
+                offer_cells(sets, self.places, self.alloc, epoch, cells, spare)
             }
         }
     }
@@ -140,6 +145,16 @@ impl Collector {
     {
         let full = self.sets.len() == self.places;
         Ok(offer_station(&mut self.stations.arp1006, message, full))
+    }
+
+    /// Takes back a closed epoch whose cells nobody needs any more. The next epoch that opens has its
+    /// list, if it wants just the room that the list has, and then takes no memory.
+    ///
+    /// One list is kept at most, until it is used, given up or replaced.
+    pub fn hand_back(&mut self, set: EpochSet)
+        ensures { self.new ≡ self.old }
+    {
+        self.spare = set.into_list();
     }
 
     /// The position of the first 1006, else of the first 1005, else zeros, with the height of the

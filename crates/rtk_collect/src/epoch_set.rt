@@ -10,6 +10,7 @@ use crate::merging::{are_apart, are_rising_of_one_kind, compare, merge, merge_ri
 use rtk_obs::{CellEntry, GpsMs};
 use std::alloc::{AllocError, Global};
 use std::marker::Model;
+use std::mem::replace;
 
 /// An epoch with its cells: one for each satellite, code and kind of message, at most 1,024.
 ///
@@ -38,19 +39,33 @@ impl Model for EpochSet {
 }
 
 impl EpochSet {
-    /// An epoch without cells, which has room for this many.
+    /// An epoch without cells, which has room for this many. It has the spare list if that has just
+    /// this room; else the spare list is given up before memory is taken.
     pub(crate) fn with_room(
         alloc: Global,
         epoch: GpsMs,
         room: usize,
+        spare: &mut Vec<CellEntry>,
     ) -> Result<EpochSet, AllocError>
         ensures { IfOk result (λ set. set ≡ record { epoch = epoch; cells = [] }) }
     {
-        let mut cells = Vec::new(alloc);
+        let mut cells = replace(spare, Vec::new(alloc));
+        if cells.capacity() == room {
+            cells.clear();
+            return Ok(EpochSet { epoch, cells });
+        }
+        cells = Vec::new(alloc);
         if let Err(_) = cells.reserve(room) {
             return Err(AllocError);
         }
         Ok(EpochSet { epoch, cells })
+    }
+
+    /// The list of the cells, for an epoch that opens later.
+    pub(crate) fn into_list(self) -> Vec<CellEntry>
+        ensures { result.items ≡ self.cells }
+    {
+        self.cells
     }
 
     /// The epoch.

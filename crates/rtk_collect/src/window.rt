@@ -80,14 +80,15 @@ fn first_room(sets: &VecDeque<EpochSet>, at: usize, cells: usize) -> usize
     }
 }
 
-/// Opens an epoch with cells at its place; those that conflict with one another are added to an empty
-/// list. All memory is taken before an epoch changes.
+/// Opens an epoch with cells at its place, if it can in the spare list; those that conflict with one
+/// another are added to an empty list. All memory is taken before an epoch changes.
 pub(crate) fn open_at(
     sets: &mut VecDeque<EpochSet>,
     at: usize,
     alloc: Global,
     epoch: GpsMs,
     cells: &[CellEntry],
+    spare: &mut Vec<CellEntry>,
     found: &mut Conflicts,
 ) -> Result<(), AllocError>
     requires within { at ≤ length sets.old.items }
@@ -99,7 +100,7 @@ pub(crate) fn open_at(
     ensures err { OnErr result (sets.new.items ≡ sets.old.items) }
 {
     let room = first_room(sets, at, cells.len());
-    let Ok(mut set) = EpochSet::with_room(alloc, epoch, room) else {
+    let Ok(mut set) = EpochSet::with_room(alloc, epoch, room, spare) else {
         return Err(AllocError);
     };
     if let Err(_) = set.join(cells, found) {
@@ -140,13 +141,15 @@ pub(crate) fn close_least(sets: &mut VecDeque<EpochSet>, places: usize) -> Optio
     }
 }
 
-/// Takes the new cells of an epoch, or opens it, in a window that has this number of places.
+/// Takes the new cells of an epoch, or opens it, in a window that has this number of places and a
+/// spare list.
 pub(crate) fn offer_cells(
     sets: &mut VecDeque<EpochSet>,
     places: usize,
     alloc: Global,
     epoch: GpsMs,
     cells: &[CellEntry],
+    spare: &mut Vec<CellEntry>,
 ) -> Result<Offer, AllocError>
     requires fits { length sets.old.items ≤ places }
     requires falls { EpochsFall sets.old.items }
@@ -173,7 +176,7 @@ pub(crate) fn offer_cells(
     if at == places {
         return Ok(Offer::Late);
     }
-    if let Err(_) = open_at(sets, at, alloc, epoch, cells, &mut conflicts) {
+    if let Err(_) = open_at(sets, at, alloc, epoch, cells, spare, &mut conflicts) {
         return Err(AllocError);
     }
     let closed = close_least(sets, places);

@@ -216,6 +216,7 @@ impl Conversion {
         let (epoch, cells) = (set.epoch(), set.cells());
         self.records
             .close(self.alloc, &self.setup, &position, epoch, cells, out)?;
+        self.collector.hand_back(set);
         put_lines(log, &lines)
     }
 }

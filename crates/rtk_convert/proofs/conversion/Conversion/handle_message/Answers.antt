@@ -64,7 +64,7 @@ returns-clause-ahead g c =
     let same : c.in-Some.set ≡ e =
     ap (λ (t : ℕ). record c.in-Some.set { epoch = t }) (sym c.epoch-epoch-2.ensures) ∙ ap (λ xs. record { epoch = c.epoch-epoch-2.result; cells = xs }) (sym c.cells-cells.ensures.value) in
     let some : closed_by c.in-Ok.offer ≡ Some e = sym c.closed_by.ensures ∙ c.in-Some.is ∙ ap Some same in
-    on_ok-map c.put_lines-2.result (λ wrote. ahead-after c.self.inside.collector c.offer.new.self c.close.new.self c.in-Ok.offer e some c.in-Ok.ensures.least_closes c.in-Ok.ensures.closed c.offer.ensures.least (c.in_ok-close.ensures.later (suc e.epoch) (omega arith))) c.put_lines-2.ensures.all
+    rw c.hand_back.ensures (on_ok-map c.put_lines-2.result (λ wrote. ahead-after c.self.inside.collector c.offer.new.self c.close.new.self c.in-Ok.offer e some c.in-Ok.ensures.least_closes c.in-Ok.ensures.closed c.offer.ensures.least (c.in_ok-close.ensures.later (suc e.epoch) (omega arith))) c.put_lines-2.ensures.all)
 
 pub returns-clause-ok : goal.returns-clause-ok
 returns-clause-ok g c =
@@ -78,7 +78,7 @@ returns-clause-ok g c =
     ap (λ (t : ℕ). record c.in-Some.set { epoch = t }) (sym c.epoch-epoch-2.ensures) ∙ ap (λ xs. record { epoch = c.epoch-epoch-2.result; cells = xs }) (sym c.cells-cells.ensures.value) in
     let some : closed_by c.in-Ok.offer ≡ Some e = sym c.closed_by.ensures ∙ c.in-Some.is ∙ ap Some same in
     let size = c.in-Ok.ensures.size ∙ c.self.invariant.1.places in
-    on_ok-map c.put_lines-2.result (λ wrote. subst (λ (x : ConversionView). AddsMessage x c.args.link c.args.dated (state c.self.inside.setup c.offer.new.self c.close.new.self c.count_message.new.counts c.self.inside.stopped) before after) c.self.view_is (takes-some-closed c.in-Ok.offer c.self.invariant.1.places size some c.in-Ok.ensures.answer c.station-position.ensures.kept c.count_message.ensures c.in_ok-close.ensures.follows c.in_ok-close.ensures.all (wrote ∙ ap (with_more (g.L.Sink.taken c.args.log.now)) (c.deref-2.ensures.value ∙ text)))) c.put_lines-2.ensures.all
+    rw c.hand_back.ensures (on_ok-map c.put_lines-2.result (λ wrote. subst (λ (x : ConversionView). AddsMessage x c.args.link c.args.dated (state c.self.inside.setup c.offer.new.self c.close.new.self c.count_message.new.counts c.self.inside.stopped) before after) c.self.view_is (takes-some-closed c.in-Ok.offer c.self.invariant.1.places size some c.in-Ok.ensures.answer c.station-position.ensures.kept c.count_message.ensures c.in_ok-close.ensures.follows c.in_ok-close.ensures.all (wrote ∙ ap (with_more (g.L.Sink.taken c.args.log.now)) (c.deref-2.ensures.value ∙ text)))) c.put_lines-2.ensures.all)
 
 pub returns-clause-err : goal.returns-clause-err
 returns-clause-err g c =
@@ -151,4 +151,4 @@ pub returns-in_err-close-clause-held : goal.returns-in_err-close-clause-held
 returns-in_err-close-clause-held g c = λ h. held-offered c.self.inside.collector c.offer.new.self c.args.dated c.in-Ok.offer c.in-Ok.ensures.answer (subst (λ (x : ConversionView). HoldsArrivals x.collector) (sym c.self.view_is) h)
 
 pub returns-clause-held : goal.returns-clause-held
-returns-clause-held g c = λ h. held-offered c.self.inside.collector c.offer.new.self c.args.dated c.in-Ok.offer c.in-Ok.ensures.answer (subst (λ (x : ConversionView). HoldsArrivals x.collector) (sym c.self.view_is) h)
+returns-clause-held g c = rw c.hand_back.ensures (λ h. held-offered c.self.inside.collector c.offer.new.self c.args.dated c.in-Ok.offer c.in-Ok.ensures.answer (subst (λ (x : ConversionView). HoldsArrivals x.collector) (sym c.self.view_is) h))
