@@ -59,13 +59,29 @@ impl<'a> BitReader<'a> {
         ensures field { IfSome result (λ n. self.old ≡ bits_of width n ++ self.new) }
         ensures short { IfNone result (self.new ≡ self.old) }
     {
-        let Some(number) = field_at(self.rest, self.skip, width) else {
+        if self.remaining() < width as u128 {
             return None;
-        };
+        }
+        Some(self.next_u(width))
+    }
+
+    /// Takes the next `width` bits, 1 to 64, as `take_u` does, where it is known that so many are
+    /// left.
+    #[inline(always)]
+    pub fn next_u(&mut self, width: usize) -> u64
+        requires width { (1 ≤ width) × (width ≤ 64) }
+        requires enough { width ≤ length self.old }
+        ensures number { result ≡ unsigned (take width self.old) }
+        ensures bound { result < 2 ^ width }
+        ensures rest { self.new ≡ drop width self.old }
+        ensures field { self.old ≡ bits_of width result ++ self.new }
+    {
         let end = self.skip + width;
+        prove!(end as u128 <= self.rest.len() as u128 * 8);
+        let number = field_at(self.rest, self.skip, width);
         self.rest = &self.rest[end / 8..];
         self.skip = end % 8;
-        Some(number)
+        number
     }
 
     /// Takes the next `width` bits, 1 to 64, as a two's complement number (RTCM 10403.3, data
@@ -87,21 +103,23 @@ impl<'a> BitReader<'a> {
     }
 }
 
-// The number of the `width` bits after the first `skip` bits, if there are so many.
+// The number of the `width` bits after the first `skip` bits.
 //
 // It comes from one load of eight bytes. If there are fewer than eight bytes, or if the field ends
 // in the ninth one, it comes from the bytes up to the end of the field.
 #[inline(always)]
-fn field_at(bytes: &[u8], skip: usize, width: usize) -> Option<u64>
+fn field_at(bytes: &[u8], skip: usize, width: usize) -> u64
     requires low { (skip < 8) × (1 ≤ width) × (width ≤ 64) }
-    ensures enough { IsSome result ↔ (skip + width ≤ 8 * length bytes.now) }
-    ensures number { IfSome result (λ n. n ≡ unsigned (take width (drop skip (bits bytes.now)))) }
+    requires enough { skip + width ≤ 8 * length bytes.now }
+    ensures { result ≡ unsigned (take width (drop skip (bits bytes.now))) }
 {
-    let end = skip + width;
+    // `skip` is less than 8. The compiler is told so, since a field of at most 57 bits then never ends
+    // in a ninth byte.
+    let end = skip % 8 + width;
     match bytes.first_chunk::<8>() {
         Some(chunk) if end <= 64 => {
             let word = u64::from_be_bytes(*chunk);
-            Some((word >> (64 - end)) & (u64::MAX >> (64 - width)))
+            (word >> (64 - end)) & (u64::MAX >> (64 - width))
         }
         _ => field_of_bytes(bytes, skip, width),
     }
@@ -110,19 +128,16 @@ fn field_at(bytes: &[u8], skip: usize, width: usize) -> Option<u64>
 // The same, from the bytes up to the end of the field. It is not inlined, since it is seldom called:
 // by the last fields of a payload.
 #[inline(never)]
-fn field_of_bytes(bytes: &[u8], skip: usize, width: usize) -> Option<u64>
+fn field_of_bytes(bytes: &[u8], skip: usize, width: usize) -> u64
     requires low { (skip < 8) × (1 ≤ width) × (width ≤ 64) }
-    ensures enough { IsSome result ↔ (skip + width ≤ 8 * length bytes.now) }
-    ensures number { IfSome result (λ n. n ≡ unsigned (take width (drop skip (bits bytes.now)))) }
+    requires enough { skip + width ≤ 8 * length bytes.now }
+    ensures { result ≡ unsigned (take width (drop skip (bits bytes.now))) }
 {
     let end = skip + width;
     let count = (end + 7) / 8;
-    if bytes.len() < count {
-        return None;
-    }
     let mask = u64::MAX >> (64 - width);
     let word = big_endian(&bytes[..count]);
-    Some(((word >> (8 * count - end)) & mask as u128) as u64)
+    ((word >> (8 * count - end)) & mask as u128) as u64
 }
 
 // The number that the bytes spell, the most significant byte first: at most sixteen of them.

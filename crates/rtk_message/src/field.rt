@@ -40,9 +40,9 @@ pub(crate) fn next_word(reader: &mut BitReader<'_>, width: usize) -> Word
     ensures width { length result ≡ width }
     ensures left { length reader.old ≡ width + length reader.new }
 {
-    match reader.take_u(width) {
-        Some(bits) => Word { bits, left: width },
-        None => unreachable!(),
+    Word {
+        bits: reader.next_u(width),
+        left: width,
     }
 }
 

@@ -6,6 +6,7 @@ mod CodeLemmas
 mod EqualityLemmas
 mod RoundingLemmas
 mod LockLemmas
+mod SignalLemmas
 mod RolloverLemmas
 mod TracksLemmas
 mod ScalingLemmas

@@ -30,6 +30,43 @@ const NO_FINE_PHASE: i32 = -2_097_152;
 // Thousandths of a dB-Hz in a step of DF403.
 const MSM_STRENGTH_STEP: u32 = 1000;
 
+// The codes of the signal identifiers from 0 on (DF395); `None` for those that give no cell.
+static SIGNAL_CODES: [Option<Code>; 33] = [
+    None,
+    None,
+    Some(Code::C1C),
+    Some(Code::C1P),
+    Some(Code::C1W),
+    None,
+    None,
+    None,
+    Some(Code::C2C),
+    Some(Code::C2P),
+    Some(Code::C2W),
+    None,
+    None,
+    None,
+    None,
+    Some(Code::C2S),
+    Some(Code::C2L),
+    Some(Code::C2X),
+    None,
+    None,
+    None,
+    None,
+    Some(Code::C5I),
+    Some(Code::C5Q),
+    Some(Code::C5X),
+    None,
+    None,
+    None,
+    None,
+    None,
+    Some(Code::C1S),
+    Some(Code::C1L),
+    Some(Code::C1X),
+];
+
 // Which signal of which satellite a cell is.
 #[derive(Clone, Copy, Default)]
 struct Slot {
@@ -57,32 +94,18 @@ struct Progress {
     count: usize,
 }
 
+// The code of a signal identifier.
 fn signal_code(signal: u8) -> Option<Code>
+    requires { signal ≤ 32 }
     ensures { result ≡ code_of_signal signal }
 {
-    match signal {
-        2 => Some(Code::C1C),
-        3 => Some(Code::C1P),
-        4 => Some(Code::C1W),
-        8 => Some(Code::C2C),
-        9 => Some(Code::C2P),
-        10 => Some(Code::C2W),
-        15 => Some(Code::C2S),
-        16 => Some(Code::C2L),
-        17 => Some(Code::C2X),
-        22 => Some(Code::C5I),
-        23 => Some(Code::C5Q),
-        24 => Some(Code::C5X),
-        30 => Some(Code::C1S),
-        31 => Some(Code::C1L),
-        32 => Some(Code::C1X),
-        _ => None,
-    }
+    SIGNAL_CODES[usize::from(signal)]
 }
 
 // The signal identifiers of the message (DF395), rising.
 fn signal_identifiers(message: &Msm1074) -> ArrayVec<u8, 64>
-    ensures { result.items ≡ signals_of message.now }
+    ensures value { result.items ≡ signals_of message.now }
+    ensures bounds { All (λ p. (1 ≤ p) × (p ≤ 32)) result.items }
 {
     places_of_bits(u64::from(message.header.signal_mask), 32)
 }
@@ -203,6 +226,7 @@ fn put_cell(
     requires cell { cell < cell_count message.now }
     requires row { IsRow message.now slot.row row }
     requires satellite { is_satellite row.satellite ≡ true }
+    requires signal { slot.signal ≤ 32 }
     requires count { count ≤ length found.old.items }
     requires room { count < 64 }
     ensures entries { take result found.new.items ≡ take count found.old.items ++ slot_entry message.now cell slot }
@@ -233,6 +257,7 @@ fn put_row(
     requires valid { IsValid message.now }
     requires row { IsRow message.now place row }
     requires signals { signals.now ≡ signals_of message.now }
+    requires bounds { All (λ p. (1 ≤ p) × (p ≤ 32)) signals.now }
     requires fits { bits < 2 ^ length signals.now }
     requires cells { start.cell + length (row_slots signals.now place bits) ≤ cell_count message.now }
     requires count { start.count ≤ length found.old.items }

@@ -1,5 +1,6 @@
-use Rattle.std.proofs.Common.{rules}
+use Rattle.std.proofs.Common.{arith}
+use Rattle.rtk_obs.proofs.SignalLemmas.{signal-code}
 use Rattle.rtk_obs.proofs.msm_cells.signal_code.Goals as goal
 
-pub returns-in-10 : goal.returns-in-10
-returns-in-10 c = search rules depth 5 fits 300
+pub returns : goal.returns
+returns c = rw c.from.ensures (signal-code c.args.signal _ (omega (arith, c.requires)))
