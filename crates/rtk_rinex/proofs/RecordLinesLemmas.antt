@@ -1,5 +1,5 @@
 -- The text of a record that is written satellite by satellite.
-use Rattle.std.proofs.Common.{◌≡◌, ◌≢◌, ℕ, zero, suc, ◌+◌, ◌-◌, ◌<◌, ◌≤◌, [], ◌∷◌, ◌++◌, List, length, replicate, take, drop, ap, subst, arith, refl, sym, ◌∙◌, length-append, append_assoc, true, false, flat_map}
+use Rattle.std.proofs.Common.{◌≡◌, ℕ, zero, suc, ◌+◌, ◌-◌, ◌<◌, ◌≤◌, [], ◌∷◌, ◌++◌, List, length, replicate, take, drop, ap, arith, refl, sym, ◌∙◌, length-append, append_assoc, true, false, flat_map}
 use Rattle.std.specs.Prelude.{max, if◌then◌else◌}
 use Rattle.std.specs.List.{filter}
 use Rattle.std.proofs.lemmas.Grind.{flat_map-append}
@@ -9,7 +9,7 @@ use Rattle.std.proofs.Math.Seq.{take-append-add, drop-append-add}
 use Rattle.rtk_obs.specs.declared.time.Civil.{Civil}
 use Rattle.rtk_rinex.specs.declared.epoch_table.SatelliteRow.{SatelliteRow}
 use Rattle.rtk_rinex.specs.Record.{has_line, satellite_line, epoch_line, lines_of}
-use Rattle.rtk_rinex.specs.RecordLines.{line_if_any, RecordLinesView, HoldsLines}
+use Rattle.rtk_rinex.specs.RecordLines.{line_if_any, HoldsLines}
 use Rattle.rtk_rinex.proofs.RecordLemmas.{lines_of-none, lines_of-some}
 use Rattle.rtk_rinex.proofs.WrittenLemmas.{lines_of_rows, one-line, solid-length, no-length}
 

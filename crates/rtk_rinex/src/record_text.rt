@@ -307,38 +307,24 @@ fn put_lines(text: &mut [u8], time: Civil, rows: &[SatelliteRow]) -> usize
     36 + end
 }
 
-/// Makes a text the record of an epoch, in a file of this head; no bytes if no observation is
-/// written.
-///
-/// Satellites without a written observation are left out, and not counted on the epoch line. A text
-/// that is kept from record to record has the room of the longest one, and memory is taken only for
-/// a longer one. Source: RINEX 3.05, Table A3.
-pub fn write_record(text: &mut Vec<u8>, head: &Head, table: &EpochTable) -> Result<(), AllocError>
-    requires { HasWidth (length head.now.listed) table.now.rows }
-    ensures { OnOk result (text.new.items ≡ record_text table.now) }
-{
-    text.clear();
-    let rows = table.rows();
-    if !has_lines(rows) {
-        return Ok(());
-    }
-    let room = 36 + rows.len() * (4 + 48 * head.codes().len());
-    text.reserve_exact(room)?;
-    text.resize(room, b' ')?;
-    let end = put_lines(text, civil(table.time()), rows);
-    text.truncate(end);
-    Ok(())
-}
-
 /// The record of an epoch, in a file of this head; no bytes if no observation is written.
 ///
-/// Memory is taken at most once.
+/// Satellites without a written observation are left out, and not counted on the epoch line. Memory
+/// is taken at most once. Source: RINEX 3.05, Table A3.
 pub fn record(alloc: Global, head: &Head, table: &EpochTable) -> Result<Vec<u8>, AllocError>
     requires { HasWidth (length head.now.listed) table.now.rows }
     // It gives up only if memory is refused: rows "record .." of tests/calls/src/rinex.rt.in.
     ensures { IfOk result (λ text. text.items ≡ record_text table.now) }
 {
     let mut text = Vec::new(alloc);
-    write_record(&mut text, head, table)?;
+    let rows = table.rows();
+    if !has_lines(rows) {
+        return Ok(text);
+    }
+    let room = 36 + rows.len() * (4 + 48 * head.codes().len());
+    text.reserve_exact(room)?;
+    text.resize(room, b' ')?;
+    let end = put_lines(&mut text, civil(table.time()), rows);
+    text.truncate(end);
     Ok(text)
 }

@@ -1,4 +1,4 @@
-use Rattle.std.proofs.Common.{◌++◌, length, take, drop, ap, arith, ◌∙◌}
+use Rattle.std.proofs.Common.{arith}
 use Rattle.std.proofs.lemmas.List.{length-take}
 use Rattle.rtk_rinex.proofs.EpochLemmas.{length-written}
 use Rattle.rtk_rinex.proofs.record_text.put_epoch_line.Goals as goal

@@ -6,14 +6,14 @@ use Rattle.rtk_rinex.specs.Record.{has_line, record_text, HasWidth}
 use Rattle.rtk_rinex.proofs.ReadingLemmas.{reading_is}
 use Rattle.rtk_rinex.proofs.RecordLemmas.{lines_of-none, lines_of-some}
 use Rattle.rtk_rinex.proofs.WrittenLemmas.{none-filtered, some-filtered, row_room, room-of-rows}
-use Rattle.rtk_rinex.proofs.record_text.write_record.Goals as goal
+use Rattle.rtk_rinex.proofs.record_text.record.Goals as goal
 
 pub returns-then-not-has_lines : goal.returns-then-not-has_lines
 unfolding record_text
 returns-then-not-has_lines c =
     let rows = c.args.table.now.rows in
     let test : list_any has_line rows ≡ false = rw c.rows-rows.ensures.value at (sym c.has_lines.ensures ∙ c.if-not-has_lines.true) in
-    c.clear.ensures.items ∙ sym (lines_of-none (reading_of c.args.table.now.time) (filter has_line rows) (none-filtered rows test))
+    c.new-text.ensures.items ∙ sym (lines_of-none (reading_of c.args.table.now.time) (filter has_line rows) (none-filtered rows test))
 
 pub put_lines-end-requires-clause-room : goal.put_lines-end-requires-clause-room
 put_lines-end-requires-clause-room c =
