@@ -92,9 +92,9 @@ decimal-three n h fits =
 
 -- F14.3 of a value of seven to nine digits before the point: the first of them, and columns that
 -- stand whatever the number is
-pub right-long : (n u t : ℕ) → u ≡ n / 1000 → t ≡ u / 1000 → 10 ^ 9 ≤ n → n < 10 ^ 12 → right 14 (decimals 3 false n)
+right-threes : (n u t : ℕ) → u ≡ n / 1000 → t ≡ u / 1000 → 10 ^ 9 ≤ n → n < 10 ^ 12 → right 14 (decimals 3 false n)
     ≡ right 4 (decimal (t / 1000)) ++ (last_digits 3 (t % 1000) ++ (last_digits 3 (u % 1000) ++ 46 ∷ last_digits 3 (n % 1000)))
-right-long n u t eu et low high =
+right-threes n u t eu et low high =
     let few = length-decimal-le 4 (t / 1000) (omega arith) (omega arith) (omega arith) in
     let first : decimal u ≡ decimal t ++ last_digits 3 (u % 1000) = rw (← et) at (decimal-three u (omega arith) (omega arith)) in
     let second : decimal t ≡ decimal (t / 1000) ++ last_digits 3 (t % 1000) = decimal-three t (omega arith) (omega arith) in
@@ -102,6 +102,15 @@ right-long n u t eu et low high =
     let text : decimal u ++ 46 ∷ last_digits 3 n ≡ decimal (t / 1000) ++ (last_digits 3 (t % 1000) ++ (last_digits 3 (u % 1000) ++ 46 ∷ last_digits 3 (n % 1000))) =
     rw (first, second, last) (simp append_assoc) in
     rw (← eu, text) (sym (right-front 4 10 (decimal (t / 1000)) _ few refl))
+
+-- the same, in two halves
+pub right-long : (n h l : ℕ) → h ≡ n / 1_000_000 → l ≡ n % 1_000_000 → 10 ^ 9 ≤ n → n < 10 ^ 12 → right 14 (decimals 3 false n)
+    ≡ right 4 (decimal (h / 1000)) ++ (last_digits 3 (h % 1000) ++ (last_digits 3 (l / 1000) ++ 46 ∷ last_digits 3 (l % 1000)))
+right-long n h l eh el low high =
+    let millions : h ≡ n / 1000 / 1000 = omega (arith, eh) in
+    let thousands : l / 1000 ≡ n / 1000 % 1000 = omega (arith, el) in
+    let last : l % 1000 ≡ n % 1000 = omega (arith, el) in
+    rw (millions, thousands, last) (right-threes n (n / 1000) (n / 1000 / 1000) refl refl low high)
 
 -- F14.3 of a value of at most three digits before the point
 pub right-short : (n : ℕ) → n < 1_000_000 → right 14 (decimals 3 false n) ≡ replicate 6 32 ++ (right 4 (decimal (n / 1000)) ++ 46 ∷ last_digits 3 (n % 1000))

@@ -211,12 +211,12 @@ fn put_magnitude_14_3(field: &mut [u8], magnitude: u64)
     requires fits { magnitude < 10 ^ 12 }
     ensures { field.new ≡ right 14 (decimals 3 false magnitude) }
 {
-    let units = (magnitude / 1000) as u32;
-    let thousands = units / 1000;
-    put_point_and_three(&mut field[10..], (magnitude % 1000) as usize);
-    put_point_and_three(&mut field[6..10], (units % 1000) as usize);
-    put_point_and_three(&mut field[3..7], (thousands % 1000) as usize);
-    put_three_of_four(&mut field[..4], (thousands / 1000) as usize);
+    let high = (magnitude / 1_000_000) as u32;
+    let low = (magnitude % 1_000_000) as u32;
+    put_point_and_three(&mut field[10..], (low % 1000) as usize);
+    put_point_and_three(&mut field[6..10], (low / 1000) as usize);
+    put_point_and_three(&mut field[3..7], (high % 1000) as usize);
+    put_three_of_four(&mut field[..4], (high / 1000) as usize);
 }
 
 /// Writes F14.3 of a value below 1000, as signal strengths are, over 14 blanks.
