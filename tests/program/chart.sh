@@ -67,6 +67,10 @@ run chart -h </dev/null;                           expect chart_short_help 0 "$s
 head -n 20 "$marks" | sed '16s/ 7 / 8 /' >bad
 run check bad </dev/null; line=$(cat out)
 run chart bad </dev/null;                          expect chart_of_a_bad_file 3 '' "$line"
+"$program" chart bad </dev/null >&- 2>err; status=$?; : >out
+expect chart_of_a_bad_file_and_no_output 3 '' "$line"
+COLUMNS=120 "$program" chart --text "$marks" </dev/null >out 2>err; status=$?
+expect columns_of_the_environment_are_none 0 "$picture" ''
 run chart --text bad </dev/null;                   expect chart_of_a_bad_file_in_characters 3 '' "$line"
 run chart none </dev/null;                         expect chart_of_no_file 1 '' 'rtcm2rinex: cannot open none'
 

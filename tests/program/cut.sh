@@ -199,6 +199,8 @@ done
 # A file that `check` refuses.
 sed '16s/45.000/45.100/' "$file" >wrong
 cut --every 30 wrong </dev/null;                    expect a_wrong_value 3 '' 'line 16: C3 Value'
+"$program" cut --every 30 wrong </dev/null >&- 2>err; status=$?; : >out
+expect a_wrong_value_and_no_output 3 '' 'line 16: C3 Value'
 cut --every 30 stdin </dev/null;                    expect an_empty_file 3 '' 'line 1: C5 Truncated'
 cut --every 30 "$root/examples/base.rtcm" </dev/null
 expect a_capture 3 '' 'line 1: C5 Truncated'

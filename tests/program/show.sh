@@ -287,6 +287,10 @@ run help show </dev/null;                 expect help_show 0 "$show_help" ''
 run --version </dev/null;                 expect version 0 'rtcm2rinex 0.1.0' ''
 run -V </dev/null;                        expect version_in_short 0 'rtcm2rinex 0.1.0' ''
 run </dev/null;                           expect no_command 2 '' "$no_command"
+"$program" </dev/null >&- 2>err; status=$?; : >out
+expect no_command_and_no_output 2 '' "$no_command"
+"$program" show empty >&- 2>err; status=$?; : >out
+expect nothing_to_show_and_no_output 0 '' ''
 run shew a </dev/null;                    expect no_such_command 2 '' "$no_such_command"
 run sho arp.rtcm </dev/null;              expect start_of_a_command 2 '' "$start_of_a_command"
 run SHOW arp.rtcm </dev/null;             expect command_in_capitals 2 '' "$command_in_capitals"

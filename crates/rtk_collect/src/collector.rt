@@ -37,7 +37,7 @@ pub struct Collector {
     stations: Stations,
     // Room for the cells of the message in hand.
     room: ArrayVec<CellEntry, 64>,
-    // The list of the closed epoch that was handed back last. What it holds is never looked at.
+    // The list of the closed epoch that was handed back last, without cells.
     spare: Vec<CellEntry>,
 }
 
@@ -45,7 +45,7 @@ pub struct Collector {
 // 1006. The first part of the invariant names every field, so that no field can be added in which
 // messages are kept unseen.
 impl Model for Collector {
-    ghost use Rattle.std.specs.Prelude.{◌≡◌};
+    ghost use Rattle.std.specs.Prelude.{◌≡◌, []};
     ghost use Rattle.rtk_collect.specs.Collector.{CollectorView, IsCollectorView};
 
     ghost Value = { CollectorView };
@@ -53,7 +53,8 @@ impl Model for Collector {
     ghost view = { λ c. record { size = c.places; sets = c.sets.items; arp1005 = c.stations.arp1005; arp1006 = c.stations.arp1006 } };
 
     ghost invariant = { λ c. (c ≡ record { alloc = c.alloc; places = c.places; sets = c.sets; stations = c.stations; room = c.room; spare = c.spare })
-        × IsCollectorView (record { size = c.places; sets = c.sets.items; arp1005 = c.stations.arp1005; arp1006 = c.stations.arp1006 }) };
+        × IsCollectorView (record { size = c.places; sets = c.sets.items; arp1005 = c.stations.arp1005; arp1006 = c.stations.arp1006 })
+        × (c.spare.items ≡ []) };
 }
 
 impl Collector {
@@ -154,7 +155,9 @@ impl Collector {
     pub fn hand_back(&mut self, set: EpochSet)
         ensures { self.new ≡ self.old }
     {
-        self.spare = set.into_list();
+        let mut list = set.into_list();
+        list.clear();
+        self.spare = list;
     }
 
     /// The position of the first 1006, else of the first 1005, else zeros, with the height of the

@@ -47,11 +47,12 @@ impl EpochSet {
         room: usize,
         spare: &mut Vec<CellEntry>,
     ) -> Result<EpochSet, AllocError>
-        ensures { IfOk result (λ set. set ≡ record { epoch = epoch; cells = [] }) }
+        requires { spare.old.items ≡ [] }
+        ensures set { IfOk result (λ set. set ≡ record { epoch = epoch; cells = [] }) }
+        ensures spare { spare.new.items ≡ [] }
     {
         let mut cells = replace(spare, Vec::new(alloc));
         if cells.capacity() == room {
-            cells.clear();
             return Ok(EpochSet { epoch, cells });
         }
         cells = Vec::new(alloc);

@@ -95,9 +95,11 @@ pub(crate) fn open_at(
     requires few { length cells.now ≤ 64 }
     requires range { All IsInRange cells.now }
     requires empty { found.old ≡ [] }
+    requires spare { spare.old.items ≡ [] }
     ensures items { OnOk result (sets.new.items ≡ insert sets.old.items at (joined cells.now (no_cells epoch))) }
     ensures conflicts { OnOk result (found.new ≡ conflicts cells.now []) }
     ensures err { OnErr result (sets.new.items ≡ sets.old.items) }
+    ensures spare { spare.new.items ≡ [] }
 {
     let room = first_room(sets, at, cells.len());
     let Ok(mut set) = EpochSet::with_room(alloc, epoch, room, spare) else {
@@ -155,9 +157,11 @@ pub(crate) fn offer_cells(
     requires falls { EpochsFall sets.old.items }
     requires few { length cells.now ≤ 64 }
     requires range { All IsInRange cells.now }
+    requires spare { spare.old.items ≡ [] }
     ensures added { IfOk result (λ offer. AddsCells places epoch cells.now sets.old.items sets.new.items offer) }
     ensures err { OnErr result (sets.new.items ≡ sets.old.items) }
     ensures refused { OnErr result (WouldTakeCells places epoch cells.now sets.old.items) }
+    ensures spare { spare.new.items ≡ [] }
 {
     let mut conflicts = Conflicts::new();
     let at = place_of_epoch(sets, epoch);

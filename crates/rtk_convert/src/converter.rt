@@ -21,8 +21,8 @@ use std::marker::Model;
 
 /// Converts what 1 to 16 links carry of one station to a file and a report.
 ///
-/// Its memory is bounded, as the clauses `bounds` say: of each link it holds at most 1,029 bytes,
-/// and in all at most as many open epochs as the setup says. A call that breaks off (V4, V5) stops
+/// Its memory is bounded, as the clauses `bounds` say: of each link at most 1,029 bytes are pending,
+/// and in all it holds at most as many open epochs as the setup says. A call that breaks off (V4, V5) stops
 /// it: each later call answers V8.
 #[derive(Drop)]
 pub struct Converter {

@@ -16,7 +16,7 @@ use rtk_obs::GpsMs;
 
 /// A link. It is closed exactly if its scanner has ended.
 ///
-/// Its memory does not grow: the scanner holds at most 1,029 bytes.
+/// Its memory does not grow: the scanner holds at most 2,058 bytes, of which at most 1,029 are pending.
 #[derive(Drop)]
 pub(crate) struct Link {
     pub(crate) scanner: Scanner,

@@ -29,6 +29,8 @@ pub struct RecordLines {
     count: usize,
 }
 
+// Clauses see the text and the count. The last part of the invariant names every field, so that no
+// field can be added in which records are kept unseen; the part before it bounds what is kept.
 impl Model for RecordLines {
     ghost use Rattle.std.specs.Prelude.{◌≡◌, ◌+◌, ◌*◌, ◌-◌, ◌<◌, ◌≤◌, length, take, drop, replicate};
     ghost use Rattle.rtk_rinex.specs.RecordLines.{RecordLinesView};
@@ -39,7 +41,8 @@ impl Model for RecordLines {
 
     ghost invariant = { λ r. (r.count ≤ 32) × (r.len ≤ length r.text.items) × (r.len ≤ 36 + 772 * r.count)
         × (r.count ≡ 0 → r.len ≡ 0) × (0 < r.count → 36 ≤ r.len)
-        × (drop r.len r.text.items ≡ replicate (length r.text.items - r.len) 32) };
+        × (drop r.len r.text.items ≡ replicate (length r.text.items - r.len) 32)
+        × (length r.text.items ≤ 24_740) × (r ≡ record { text = r.text; len = r.len; count = r.count }) };
 }
 
 // Lengthens a text by blanks.
@@ -54,11 +57,13 @@ fn lengthen(text: &mut Vec<u8>, len: usize) -> Result<(), AllocError>
     Ok(())
 }
 
-// Lengthens a text by blanks if it has no room for a line at this place, and then for all that may
-// follow.
+// Lengthens a text by blanks if it has no room for a line at this place, and then for 32 lines of this
+// length.
 fn make_room(text: &mut Vec<u8>, at: usize, room: usize) -> Result<(), AllocError>
-    requires place { at ≤ 36 + 772 * 32 }
+    requires place { at ≤ 36 + 772 * 31 }
     requires short { room ≤ 772 }
+    requires bound { length text.old.items ≤ 24_740 }
+    ensures bound { length text.new.items ≤ 24_740 }
     ensures ok { OnOk result (text.new.items ≡ text.old.items ++ replicate (length text.new.items - length text.old.items) 32) }
     ensures room { OnOk result (at + room ≤ length text.new.items) }
     ensures err { OnErr result (text.new.items ≡ text.old.items) }
@@ -66,7 +71,8 @@ fn make_room(text: &mut Vec<u8>, at: usize, room: usize) -> Result<(), AllocErro
     if text.len() >= at + room {
         return Ok(());
     }
-    lengthen(text, at + MOST_SATELLITES * room)
+    let all = EPOCH_LINE + MOST_SATELLITES * room;
+    lengthen(text, all.max(at + room))
 }
 
 // Blanks a text again, up to its end.
@@ -110,9 +116,10 @@ impl RecordLines {
         self.count = 0;
     }
 
-    /// Adds the line of a satellite, if an observation of it is written.
+    /// Adds the line of a satellite, if an observation of it is written. In a record of RINEX the
+    /// satellites rise, and each line has the same codes; that is for the caller.
     ///
-    /// Memory is taken only if the text has no room for the line.
+    /// Memory is taken only if the text has no room for a line with each value.
     pub fn push_row(&mut self, satellite: u8, observed: &[Observed]) -> Result<(), AllocError>
         requires few { length observed.now ≤ 16 }
         requires room { self.old.count < 32 }

@@ -1,4 +1,4 @@
-use Rattle.std.proofs.Common.{◌≡◌, ℕ, ◌<◌, ◌++◌, [], length, take, drop, ap, sym, subst, ◌∙◌, arith}
+use Rattle.std.proofs.Common.{◌≡◌, ℕ, ◌<◌, ◌++◌, [], length, take, drop, ap, refl, sym, subst, ◌∙◌, arith}
 use Rattle.std.proofs.lemmas.List.{take_at}
 use Rattle.rtk_rinex.specs.Reading.{reading_of}
 use Rattle.rtk_rinex.specs.Record.{epoch_line, record_text}
@@ -43,4 +43,4 @@ invariant_of-self c =
     let first = length-written c.civil.result count (omega arith) (omega arith) few in
     let put = line-put text (epoch_line c.civil.result count) now c.self.inside.len first (i.4 c.if-self-gt0.true) i.1 i.5 (rw c.deref_mut.ensures.value at c.put_epoch_line.ensures) in
     let whole : take c.self.inside.text.len (now ++ drop (length now) text) ≡ now = take_at now (drop (length now) text) c.self.inside.text.len (omega (arith, put.0)) in
-    rw whole (i.0, omega (arith, i.1, put.0), i.2, i.3, i.4, put.1)
+    (i.0, rw whole (omega (arith, i.1, put.0)), i.2, i.3, i.4, rw whole put.1, rw whole (omega (arith, i.6, put.0)), refl)

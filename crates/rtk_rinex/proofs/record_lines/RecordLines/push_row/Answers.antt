@@ -1,4 +1,4 @@
-use Rattle.std.proofs.Common.{◌≡◌, ℕ, ◌+◌, ◌-◌, ◌≤◌, ◌++◌, List, length, replicate, take, drop, ap, sym, subst, ◌∙◌, arith, length-append}
+use Rattle.std.proofs.Common.{◌≡◌, ℕ, ◌+◌, ◌-◌, ◌≤◌, ◌++◌, List, length, replicate, take, drop, ap, refl, sym, subst, ◌∙◌, arith, length-append}
 use Rattle.std.proofs.lemmas.List.{take_at}
 use Rattle.rtk_rinex.specs.declared.epoch_table.SatelliteRow.{SatelliteRow}
 use Rattle.rtk_rinex.specs.RecordLines.{RecordLinesView, HoldsLines}
@@ -41,4 +41,4 @@ invariant_of-self-else-len-gt0 c =
     let long : length now ≡ c.make_room.new.text.len = omega arith in
     let whole : take c.make_room.new.text.len (now ++ drop (length now) more) ≡ more = take_at now (drop (length now) more) c.make_room.new.text.len long ∙ same in
     let inside : c.self.inside.len ≤ length more = omega (arith, ap length longer, length-append text (replicate {A = ℕ} (length more - length text) 32)) in
-    rw whole (i.0, inside, i.2, i.3, i.4, blank-longer text more c.self.inside.len i.5 i.1 longer)
+    (i.0, rw whole inside, i.2, i.3, i.4, rw whole (blank-longer text more c.self.inside.len i.5 i.1 longer), rw whole c.make_room.ensures.bound, refl)
