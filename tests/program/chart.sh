@@ -138,6 +138,10 @@ expect columns_without_text 2 '' "error: the following required arguments were n
 Usage: rtcm2rinex chart --text --columns <N> <FILE>
 
 For more information, try '--help'."
+run chart --text --columns --text "$marks" </dev/null
+expect columns_before_another_option 2 '' "error: a value is required for '--columns <N>' but none was supplied
+
+For more information, try '--help'."
 
 run chart "$marks" b </dev/null
 expect chart_of_two_files 2 '' "error: unexpected argument 'b' found
@@ -170,4 +174,4 @@ For more information, try '--help'."
 twice --text --text
 twice '--columns <N>' --columns 80
 
-ends 27
+ends 30

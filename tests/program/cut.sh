@@ -223,4 +223,4 @@ cut -h </dev/null;                                  expect cut_short_help 0 "$sh
 "$program" help cut </dev/null >out 2>err; status=$?
 expect help_cut 0 "$help" ''
 
-ends 53
+ends 54

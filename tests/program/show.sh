@@ -265,6 +265,23 @@ expect pipe_closed_at_once 1 '' 'rtcm2rinex: write failed'
 "$program" show nowhere >out 2>&-; status=$?; : >err
 expect closed_standard_error 1 '' ''
 
+# No command makes, renames or removes a file beside those that it reads.
+mkdir alone
+cp "$root/examples/base.rtcm" "$root/examples/base.rnx" alone
+listed=$(ls -Al --full-time alone)
+(
+    cd alone || exit
+    for words in 'show base.rtcm' 'summary base.rtcm' 'check base.rnx' 'chart base.rnx' 'cut --every 30 base.rnx' \
+        'convert --station 2003 --near 2024-05-17T12:00:00 --made 2024-05-17T13:00:00 --marker BASE --codes 1C,2W base.rtcm'; do
+        "$program" $words </dev/null || echo "status $?"
+    done
+) >out 2>err
+if ! grep -q '^status' out && [ "$(ls -Al --full-time alone)" = "$listed" ]; then
+    right no_other_file
+else
+    wrong no_other_file "$(ls -A alone)"
+fi
+
 # The longest inputs with frames to their ends, and one byte more; as hex text that byte is a line end.
 for _ in 1 2 3 4 5; do cat frames frames >twice; mv twice frames; done
 yes '1019 other' | head -n 2097152 >lines
@@ -322,4 +339,4 @@ head -c 8192 frames >some; head -c 512 lines >part; echo 'rtcm2rinex: write fail
 limited 512 "$root/bin/rtcm2rinex" show some >out 2>err </dev/null; status=$?
 leaves start_show_with_a_limit_of_size 1 part part_err
 
-ends 79
+ends 82

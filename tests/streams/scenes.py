@@ -199,14 +199,14 @@ def cases():
     late = written("late.rtcm", epochs(range(1600, 0, -1)))
     session = example("session_link1.rtcm"), example("session_link2.rtcm")
     wrong = written("wrong.rnx", content(example("base.rnx")).replace(b"45.000", b"45.100"))
-    frames = written("frames.rtcm", bytes.fromhex("d300023fb0d71d73") * 9000)
+    frames = written("frames.rtcm", bytes.fromhex("d300023fb0d71d73") * 11_917)
     listed = [
         Case("help", ("--help",)),
         Case("version", ("--version",)),
         Case("help of convert", ("help", "convert")),
         Case("show", ("show", example("session.rtcm"))),
         Case("show of hex text", ("show", "--hex", "stdin"), example("arp1005.hex")),
-        Case("show of 9,000 frames", ("show", frames)),
+        Case("show of 11,917 frames", ("show", frames)),
         Case("check that says yes", ("check", example("session.rnx"))),
         Case(SAYS_NO, ("check", "stdin"), wrong),
         Case("summary", ("summary", example("session.rtcm"))),
