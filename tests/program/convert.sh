@@ -54,6 +54,8 @@ cat "$base" >pipe &
 convert 1C,2W stdin <pipe;                            leaves pipe 0 "$examples/base.rnx" base.report
 convert 1C,2W,5X "$session.rtcm" </dev/null;          leaves session 0 "$session.rnx" "$session.report"
 convert 1C,2W,5X "$first" "$second" </dev/null;       leaves two_links 0 "$session.rnx" "$examples/session_links.report"
+run convert "$first" $options --codes 1C,2W,5X "$second" </dev/null
+leaves links_on_both_sides_of_the_options 0 "$session.rnx" "$examples/session_links.report"
 convert 1C,2W,5X "$second" "$first" </dev/null;       leaves two_links_exchanged 0 "$session.rnx" "$examples/session_links.report"
 convert 1C,2W,5X stdin "$second" <"$first";           leaves standard_input_and_a_file 0 "$session.rnx" "$examples/session_links.report"
 convert 1C,2W --window 2 "$examples/late.rtcm" </dev/null; leaves late_epoch 0 "$examples/late.rnx" "$examples/late.report"
@@ -154,6 +156,9 @@ words 2024-02-30T00:00:00 $made BASE 1C,2W x;         fails no_such_day 2 'bad -
 words 2101-01-01T00:00:00 '' BASE 1C x;               fails year_2101 2 'bad --near'
 words " $near" $made BASE 1C x;                        fails near_after_a_blank 2 'bad --near'
 words "$near " $made BASE 1C x;                        fails near_before_a_blank 2 'bad --near'
+words "$near,x" $made BASE 1C x;                      fails near_before_a_comma 2 'bad --near'
+words "${near}Z" $made BASE 1C x;                     fails near_with_a_zone 2 'bad --near'
+words $near "$made,x" BASE 1C x;                      fails made_before_a_comma 2 'bad --made'
 words $near '' '' '' stdin stdin;                     fails form_of_made 2 'bad --made'
 words $near 2024-05-17 BASE 1C,9Z x;                  fails date_alone 2 'bad --made'
 words $near $made '' '' stdin stdin;                  fails no_code 2 'bad --codes'
@@ -435,4 +440,4 @@ leaves start_convert_with_a_limit_of_size 1 part part_err
 limited 4096 "$root/bin/rtcm2rinex" convert $options --codes 1C,2W,5X stdin >out 2>err <"$session.rtcm"; status=$?
 leaves start_convert_followed_with_a_limit_of_size 1 part write_failed
 
-ends 206
+ends 210

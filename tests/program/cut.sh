@@ -181,6 +181,10 @@ expect cut_start_of_an_option 2 '' "error: unexpected argument '--ev' found"
 
 bad a_blank_before_from 'bad --from' --from " $noon"
 bad a_blank_after_until 'bad --until' --until "$noon "
+bad a_blank_after_from 'bad --from' --from "$noon "
+bad a_blank_before_until 'bad --until' --until " $noon"
+bad a_comma_after_from 'bad --from' --from "$noon,x"
+bad a_comma_after_until 'bad --until' --until "$noon,x"
 # An option that stands twice, and one before another option, which is no value of it.
 for option in 'from T until' 'until T every' 'every SECONDS from'; do
     set -- $option
@@ -223,4 +227,4 @@ cut -h </dev/null;                                  expect cut_short_help 0 "$sh
 "$program" help cut </dev/null >out 2>err; status=$?
 expect help_cut 0 "$help" ''
 
-ends 54
+ends 58
