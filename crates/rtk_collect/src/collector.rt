@@ -42,8 +42,8 @@ pub struct Collector {
 }
 
 // Clauses see the window: its places, its epochs from the greatest to the least, the 1005 and the
-// 1006. The first part of the invariant names every field, so that no field can be added in which
-// messages are kept unseen.
+// 1006. The first part of the invariant names every field, and the third those of the station messages,
+// so that no field can be added in which messages are kept unseen.
 impl Model for Collector {
     ghost use Rattle.std.specs.Prelude.{◌≡◌, []};
     ghost use Rattle.rtk_collect.specs.Collector.{CollectorView, IsCollectorView};
@@ -54,6 +54,7 @@ impl Model for Collector {
 
     ghost invariant = { λ c. (c ≡ record { alloc = c.alloc; places = c.places; sets = c.sets; stations = c.stations; room = c.room; spare = c.spare })
         × IsCollectorView (record { size = c.places; sets = c.sets.items; arp1005 = c.stations.arp1005; arp1006 = c.stations.arp1006 })
+        × (c.stations ≡ record { arp1005 = c.stations.arp1005; arp1006 = c.stations.arp1006 })
         × (c.spare.items ≡ []) };
 }
 

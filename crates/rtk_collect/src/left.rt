@@ -20,7 +20,7 @@ pub struct Left {
 }
 
 // Clauses see the epochs that are left, from the greatest to the least, the 1005 and the 1006. The
-// first part of the invariant names every field, as that of a collector does.
+// invariant names every field, as that of a collector does.
 impl Model for Left {
     ghost use Rattle.std.specs.Prelude.{◌≡◌};
     ghost use Rattle.rtk_collect.specs.Collector.{LeftView, IsLeftView};
@@ -30,7 +30,8 @@ impl Model for Left {
     ghost view = { λ l. record { sets = l.sets.items; arp1005 = l.stations.arp1005; arp1006 = l.stations.arp1006 } };
 
     ghost invariant = { λ l. (l ≡ record { sets = l.sets; stations = l.stations })
-        × IsLeftView (record { sets = l.sets.items; arp1005 = l.stations.arp1005; arp1006 = l.stations.arp1006 }) };
+        × IsLeftView (record { sets = l.sets.items; arp1005 = l.stations.arp1005; arp1006 = l.stations.arp1006 })
+        × (l.stations ≡ record { arp1005 = l.stations.arp1005; arp1006 = l.stations.arp1006 }) };
 }
 
 // Takes out the epoch that stands last: the least one, since a window's epochs fall.

@@ -4,15 +4,18 @@
 //! Each function here does nothing. Its contract is the law, and a caller that calls it may cite
 //! it; proofs of other crates cite the same facts from `proofs/PublicLaws.antt`.
 
-ghost use Rattle.std.specs.Prelude.{◌≡◌, ◌+◌, ◌-◌, ◌<◌, ◌≤◌, ◌∷◌, ◌++◌};
-ghost use Rattle.std.specs.Prelude.{ℕ, List, [], map, take, drop, length, Option, Result, slice_index_or, sum_by};
+ghost use Rattle.std.specs.Prelude.{◌≡◌, ◌+◌, ◌-◌, ◌<◌, ◌≤◌, ◌↔◌, ◌∷◌, ◌++◌};
+ghost use Rattle.std.specs.Prelude.{ℕ, List, [], map, take, drop, length, Option, Some, Result, slice_index_or, sum_by};
 ghost use Rattle.rtk_frame.specs.Frame.{IsFrameAt, payload_of, framed};
 ghost use Rattle.rtk_frame.specs.Frames.{Frame, end_of, payloads, IsFramesFrom, AreFinal, IsPending};
 ghost use Rattle.rtk_frame.specs.Frames.{frames, final_frames, pending, shifted, IsFirst};
 ghost use Rattle.rtk_frame.specs.Stream.{greatest_count, with_more, ReadsOne};
+ghost use Rattle.rtk_frame.specs.Memory.{MemSourceView, MemSinkView, IsSpent};
+ghost use Rattle.rtk_frame.specs.declared.memory.After.TheVariants.{End};
 ghost use Rattle.rtk_frame.specs.declared.stream.StreamFault.{StreamFault};
 
-use crate::stream::Source;
+use crate::memory::{MemSink, MemSource};
+use crate::stream::{Sink, Source};
 
 /// The bytes that `encode_frame` writes for a payload are a frame with this payload, so
 /// `next_frame` finds it at its place.
@@ -112,4 +115,14 @@ pub fn calls_of_one_read<R: Source>()
     ensures one { (before after : List R) (link : ℕ) (result : Result ℕ StreamFault) (buf : List ℕ) (none : R)
         → link < length before → ReadsOne R.given R.failures R.calls before after link result buf
         → R.calls (slice_index_or before link none) < greatest_count → sum_by R.calls after ≡ sum_by R.calls before + 1 }
+{}
+
+/// Of a source and a sink over memory all that passed is known, and each call is counted.
+pub fn memory_is_known()
+    ensures given { (s : MemSourceView) → ⟦<MemSource as Source>⟧.given s ≡ Some s.given }
+    ensures failed_reads { (s : MemSourceView) → ⟦<MemSource as Source>⟧.failures s ≡ s.failures }
+    ensures reads { (s : MemSourceView) → ⟦<MemSource as Source>⟧.calls s ≡ s.calls }
+    ensures end { (s : MemSourceView) → ⟦<MemSource as Source>⟧.is_at_end s ↔ IsSpent s End }
+    ensures taken { (s : MemSinkView) → ⟦<MemSink as Sink>⟧.taken s ≡ Some s.taken }
+    ensures failed_writes { (s : MemSinkView) → ⟦<MemSink as Sink>⟧.failures s ≡ s.failures }
 {}

@@ -139,7 +139,8 @@ impl RecordLines {
 
     /// Writes the epoch line before the lines, if there are any: the text is the record.
     pub fn finish(&mut self, time: GpsMs)
-        ensures { (rows : List SatelliteRow) → HoldsLines self.old rows → self.new.text ≡ record_text (record { time = time; rows = rows }) }
+        ensures text { (rows : List SatelliteRow) → HoldsLines self.old rows → self.new.text ≡ record_text (record { time = time; rows = rows }) }
+        ensures lines { (rows : List SatelliteRow) → HoldsLines self.old rows → HoldsLines self.new rows }
     {
         if self.count > 0 {
             put_epoch_line(&mut self.text, civil(time), self.count);

@@ -56,7 +56,7 @@ fn text_arg<'a>(alloc: Global) -> Arg<'a> {
 fn columns_arg<'a>(alloc: Global) -> Result<Arg<'a>, AllocError> {
     let help = "How many characters wide it is with --text, 40 to 400; 80 if not given";
     option_arg(alloc, "columns", "N", help)
-        .value_parser(value_parser!(u16).range(40..=400))
+        .value_parser(value_parser!(u32).range(40..=400))
         .requires_arg("text")
 }
 
@@ -80,7 +80,7 @@ fn required_arg<'a>(alloc: Global, name: &'a str, value: &'a str, help: &'a str)
 
 fn station_arg<'a>(alloc: Global) -> Arg<'a> {
     let help = "The reference station, 0 to 4095, as 2003";
-    required_arg(alloc, "station", "N", help).value_parser(value_parser!(u16).range(0..=4095))
+    required_arg(alloc, "station", "N", help).value_parser(value_parser!(u32).range(0..=4095))
 }
 
 fn marker_arg<'a>(alloc: Global) -> Arg<'a> {
@@ -91,7 +91,7 @@ fn window_arg<'a>(alloc: Global) -> Arg<'a> {
     let help = "How many epochs are kept open, 2 to 4096, as 600";
     option_arg(alloc, "window", "N", help)
         .default_value(WINDOW)
-        .value_parser(value_parser!(u16).range(2..=4096))
+        .value_parser(value_parser!(u32).range(2..=4096))
 }
 
 fn links_arg<'a>(alloc: Global) -> Arg<'a> {

@@ -17,7 +17,7 @@ use clap::{ArgMatches, Command, Error};
 use std::alloc::{AllocError, Global};
 
 /// How many characters wide a picture is if no number is given.
-const COLUMNS: u16 = 80;
+const COLUMNS: u32 = 80;
 
 // The text that clap has for an error. What was asked for, as help, goes to standard output.
 fn clap_answer(alloc: Global, error: &Error) -> ClapAnswer
@@ -50,20 +50,21 @@ fn missing_word_answer(alloc: Global, program: &mut Command<'_>) -> ClapAnswer
 }
 
 // The values of the options of `convert`. clap refuses words that lack one, or whose station or
-// window is out of range, so all of them are always there.
+// window is out of range, so all of them are always there. All numbers of the command line have one
+// type, since each further one is costly to check.
 fn convert_option_values<'a>(matches: &ArgMatches<'a>) -> Option<ConvertOptions<'a>> {
-    let station = matches.get_one::<u16>("station")?;
-    let window = matches.get_one::<u16>("window")?;
+    let station = matches.get_one::<u32>("station")?;
+    let window = matches.get_one::<u32>("window")?;
     if station > 4095 || window < 2 || window > 4096 {
         return None;
     }
     Some(ConvertOptions {
-        station,
+        station: station as u16,
         near: matches.get_str("near")?,
         made: matches.get_str("made")?,
         marker: matches.get_str("marker")?,
         codes: matches.get_str("codes")?,
-        window,
+        window: window as u16,
     })
 }
 
@@ -90,7 +91,7 @@ fn summary_request<'a>(matches: &ArgMatches<'a>) -> Option<Request<'a>>
 }
 
 // The width of a picture in characters, if it is one. clap refuses a width that is out of range.
-fn width_of(text: bool, columns: Option<u16>) -> Option<Option<u16>>
+fn width_of(text: bool, columns: Option<u32>) -> Option<Option<u16>>
     ensures { IfSome result (λ width. ForSome width (IsInRange 40 400)) }
 {
     if !text {
@@ -100,13 +101,13 @@ fn width_of(text: bool, columns: Option<u16>) -> Option<Option<u16>>
     if width < 40 || width > 400 {
         return None;
     }
-    Some(Some(width))
+    Some(Some(width as u16))
 }
 
 fn chart_request<'a>(matches: &ArgMatches<'a>) -> Option<Request<'a>>
     ensures { IfSome result IsWithinLimits }
 {
-    let width = width_of(matches.get_flag("text"), matches.get_one::<u16>("columns"))?;
+    let width = width_of(matches.get_flag("text"), matches.get_one::<u32>("columns"))?;
     let file = matches.get_str("FILE")?;
     Some(Request::Chart { width, file })
 }

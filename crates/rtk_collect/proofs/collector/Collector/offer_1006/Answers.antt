@@ -19,7 +19,8 @@ invariant_of-self c = (
     fits_1005 = c.self.invariant.1.fits_1005;
     fits_1006 = slot-fits equal_1006 fields.IsValid c.self.inside.stations.arp1006 c.offer_station.new.slot c.args.message _ c.offer_station.result c.offer_station.ensures c.self.invariant.1.fits_1006 c.requires;
   },
-  c.self.invariant.2,
+  refl,
+  c.self.invariant.3,
 )
 
 pub returns-clause-answer : goal.returns-clause-answer

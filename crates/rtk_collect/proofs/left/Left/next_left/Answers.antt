@@ -14,6 +14,7 @@ invariant_of-self c = (
     fits_1005 = c.self.invariant.1.fits_1005;
     fits_1006 = c.self.invariant.1.fits_1006;
   },
+  refl,
 )
 
 pub returns-clause-not_below : goal.returns-clause-not_below

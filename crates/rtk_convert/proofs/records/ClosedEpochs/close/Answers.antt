@@ -19,7 +19,7 @@ returns-then-not-has_record-clause-follows g c = λ below f.
     let before = subst (λ (x : ClosedEpochsView). HasClosed x c.args.setup.now.head.listed below) (sym c.self.view_is) f in
     let inside = subst (λ (l : List Code). HasClosed old l below) (sym listed) before in
     let phases = subst (λ (t : List (Option Track)). HasLastPhases t below) (sym c.deref_mut.ensures.value) inside.phases in
-    let shown = c.text-text.ensures ∙ c.finish.ensures (table_of c.codes-listed.result.now e below).rows (c.in_default.ensures.lines below phases) in
+    let shown = c.text-text.ensures ∙ c.finish.ensures.text (table_of c.codes-listed.result.now e below).rows (c.in_default.ensures.lines below phases) in
     let text = c.in_ok-has_record.ensures.any ∙ ap is_any shown ∙ ap (λ (l : List Code). is_any (record_of l e below)) listed in
     follows-no old (record { tracks = c.push_rows.new.tracks; header_out = c.self.inside.header_out; count = c.self.inside.count }) c.args.setup.now.head.listed e below
     (c.in_default.ensures.phases below phases) refl refl (sym text ∙ c.if-not-has_record.true) before
@@ -32,7 +32,7 @@ returns-clause-follows g c = λ below f.
     let before = subst (λ (x : ClosedEpochsView). HasClosed x c.args.setup.now.head.listed below) (sym c.self.view_is) f in
     let inside = subst (λ (l : List Code). HasClosed old l below) (sym listed) before in
     let phases = subst (λ (t : List (Option Track)). HasLastPhases t below) (sym c.deref_mut.ensures.value) inside.phases in
-    let shown = c.text-text.ensures ∙ c.finish.ensures (table_of c.codes-listed.result.now e below).rows (c.in_default.ensures.lines below phases) in
+    let shown = c.text-text.ensures ∙ c.finish.ensures.text (table_of c.codes-listed.result.now e below).rows (c.in_default.ensures.lines below phases) in
     let text = c.in_ok-has_record.ensures.any ∙ ap is_any shown ∙ ap (λ (l : List Code). is_any (record_of l e below)) listed in
     follows-yes old (record { tracks = c.push_rows.new.tracks; header_out = true; count = c.saturating_add-self-inside.result }) c.args.setup.now.head.listed e below
     (c.in_default.ensures.phases below phases) refl c.saturating_add-self-inside.ensures (sym text ∙ c.if-not-has_record.false) before

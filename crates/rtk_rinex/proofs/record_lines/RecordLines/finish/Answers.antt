@@ -1,4 +1,5 @@
-use Rattle.std.proofs.Common.{◌≡◌, ℕ, ◌<◌, ◌++◌, [], length, take, drop, ap, refl, sym, subst, ◌∙◌, arith}
+use Rattle.std.proofs.Common.{◌≡◌, ℕ, ◌<◌, List, ◌++◌, [], length, take, drop, ap, refl, sym, subst, ◌∙◌, arith}
+use Rattle.std.proofs.Math.Seq.{drop-append_seam}
 use Rattle.std.proofs.lemmas.List.{take_at}
 use Rattle.rtk_rinex.specs.Reading.{reading_of}
 use Rattle.rtk_rinex.specs.Record.{epoch_line, record_text}
@@ -8,9 +9,9 @@ use Rattle.rtk_rinex.proofs.ReadingLemmas.{reading_is}
 use Rattle.rtk_rinex.proofs.RecordLinesLemmas.{line-put, record-some, record-none}
 use Rattle.rtk_rinex.proofs.record_lines.RecordLines.finish.Goals as goal
 
-pub returns-then-self-gt0 : goal.returns-then-self-gt0
+pub returns-then-self-gt0-clause-text : goal.returns-then-self-gt0-clause-text
 unfolding record_text
-returns-then-self-gt0 c = λ rows h.
+returns-then-self-gt0-clause-text c = λ rows h.
     let i = c.self.invariant in
     let count = c.self.inside.count in
     let text = c.self.inside.text.items in
@@ -23,9 +24,28 @@ returns-then-self-gt0 c = λ rows h.
     rw (← reading_is c.args.time c.civil.result c.civil.ensures.reading, whole)
     (put.2 ∙ record-some c.civil.result (drop 36 (take c.self.inside.len text)) count rows held.lines held.count c.if-self-gt0.true)
 
-pub returns-else-self-gt0 : goal.returns-else-self-gt0
+pub returns-then-self-gt0-clause-lines : goal.returns-then-self-gt0-clause-lines
+returns-then-self-gt0-clause-lines c = λ rows h.
+    let i = c.self.invariant in
+    let count = c.self.inside.count in
+    let text = c.self.inside.text.items in
+    let now = c.put_epoch_line.new.text in
+    let held : HoldsLines (record { text = take c.self.inside.len text; count = count }) rows = subst (λ (v : RecordLinesView). HoldsLines v rows) (sym c.self.view_is) h in
+    let few : count < 1000 = omega arith in
+    let first = length-written c.civil.result count (omega arith) (omega arith) few in
+    let put = line-put text (epoch_line c.civil.result count) now c.self.inside.len first (i.4 c.if-self-gt0.true) i.1 i.5 (rw c.deref_mut.ensures.value at c.put_epoch_line.ensures) in
+    let whole : take c.self.inside.text.len (now ++ drop (length now) text) ≡ now = take_at now (drop (length now) text) c.self.inside.text.len (omega (arith, put.0)) in
+    let lines : List ℕ = drop 36 (take c.self.inside.len text) in
+    let after : drop 36 (epoch_line c.civil.result count ++ lines) ≡ lines =
+    ap (λ (n : ℕ). drop n (epoch_line c.civil.result count ++ lines)) (sym first) ∙ drop-append_seam (epoch_line c.civil.result count) lines in
+    record { lines = rw whole (ap (drop 36) put.2 ∙ after ∙ held.lines); count = held.count }
+
+pub returns-else-self-gt0-clause-lines : goal.returns-else-self-gt0-clause-lines
+returns-else-self-gt0-clause-lines c = λ rows h. h
+
+pub returns-else-self-gt0-clause-text : goal.returns-else-self-gt0-clause-text
 unfolding record_text
-returns-else-self-gt0 c = λ rows h.
+returns-else-self-gt0-clause-text c = λ rows h.
     let i = c.self.invariant in
     let held : HoldsLines (record { text = take c.self.inside.len c.self.inside.text.items; count = c.self.inside.count }) rows = subst (λ (v : RecordLinesView). HoldsLines v rows) (sym c.self.view_is) h in
     let none : c.self.inside.count ≡ 0 = omega arith in
