@@ -149,7 +149,7 @@ def with_offset(message: Message, offset: int) -> Message:
 
 def rare_messages() -> bytes:
     """What few stations send: a 1006 and another one, the longest messages, cells that fall, repeat
-    and conflict, rolls and a slip, what is refused; then epochs in falling order, some too late."""
+    and conflict, rolls and a slip, each fault; then epochs in falling order, some too late."""
     height = [
         Message(row(HEADERS[1006], number=1006, station=STATION, x=1, y=-2, z=3, height=it))
         for it in (15_000, 15_001)
@@ -172,5 +172,6 @@ def rare_messages() -> bytes:
         legacy(604_800_000, SATELLITES),
         legacy(first, SATELLITES, station=7),
     ]
-    refused = [frame_of(payload) for payload in (b"", b"\x3E", b"\x3E\xD7\xD3")]
-    return capture(*messages) + b"".join(refused) + falling_epochs(4100)
+    too_many = msm(first, tuple(range(1, 34)))  # 66 cells
+    payloads = (b"", b"\x3E", b"\x3F\xB0", b"\x3E\xD7\xD3", payload_of(too_many))
+    return capture(*messages) + b"".join(map(frame_of, payloads)) + falling_epochs(4100)

@@ -1,4 +1,5 @@
-"""Runs the program on command lines, with each growth of memory refused in turn."""
+"""Runs the program on command lines: with each growth of memory refused in turn, on a small stack, and
+in little address space."""
 
 from __future__ import annotations
 
@@ -6,6 +7,7 @@ import os
 import sys
 from collections.abc import Iterator
 from dataclasses import dataclass
+from datetime import datetime, timedelta
 from pathlib import Path
 from typing import NamedTuple
 
@@ -15,6 +17,9 @@ from streams import rare_messages, single_satellite, split_epochs  # noqa: E402
 
 OUT_OF_MEMORY = b"rtcm2rinex: out of memory\n"
 STACK = 128  # kB, as docs/MANUAL.md says
+# kB of address space: from twice what the program and the C library take, some 3,000, to twice what
+# the file `long` of 10 MB needs.
+SPACES = range(6_000, 40_000, 2_000)
 
 
 class Ran(NamedTuple):
@@ -33,18 +38,18 @@ class Program:
         self.path = path
         os.chdir(folder)
 
-    def run(self, words: list[str], given: str, refused: str, stack: int = 0) -> Ran:
+    def run(self, words: list[str], given: str, refused: str, limit: str = "") -> Ran:
         """`refused` is the number of the refused growth, with a `+` where all later ones are too;
-        `stack` is the limit of the stack in kB, 0 for none of ours."""
+        `limit` has the words of `ulimit`, if there is one of ours."""
         environment = {"LD_PRELOAD": "./refuse.so", "REFUSED_GROWTH": refused}
         new = os.O_WRONLY | os.O_CREAT | os.O_TRUNC
         streams = [(os.POSIX_SPAWN_OPEN, 0, given, os.O_RDONLY, 0)]
         for descriptor, name in ((1, "out"), (2, "err"), (9, "refusals")):
             streams.append((os.POSIX_SPAWN_OPEN, descriptor, name, new, 0o600))
         path, command = self.path, ["rtcm2rinex", *words]
-        if stack > 0:
-            limit = f'ulimit -s {stack} && exec "$0" "$@"'
-            path, command = "/bin/sh", ["sh", "-c", limit, self.path, *words]
+        if limit:
+            limited = f'ulimit {limit} && exec "$0" "$@"'
+            path, command = "/bin/sh", ["sh", "-c", limited, self.path, *words]
         child = os.posix_spawn(path, command, environment, file_actions=streams)
         status = os.waitstatus_to_exitcode(os.waitpid(child, 0)[1])
         out, err = Path("out").read_bytes(), Path("err").read_bytes()
@@ -141,12 +146,34 @@ class Sweep:
 def fits_stack(program: Program, scene: Scene) -> bool:
     """Prints whether the run on a small stack is the run without that limit."""
     whole = program.run(scene.words, scene.given, "0")
-    ran = program.run(scene.words, scene.given, "0", STACK)
+    ran = program.run(scene.words, scene.given, "0", f"-s {STACK}")
     if ran == whole:
         print(f"ok on a stack of {STACK} kB: {name_of(scene.words)}")
     else:
         print(f"FAILED on a stack of {STACK} kB: {name_of(scene.words)}: status {ran.status}")
     return ran == whole
+
+
+def fits_space(program: Program, scene: Scene) -> bool:
+    """Prints whether each run in little address space is the run without that limit, or says that
+    memory is refused. There are runs of both kinds."""
+    whole = program.run(scene.words, scene.given, "0")
+    good, faults = 0, []
+    for space in SPACES:
+        ran = program.run(scene.words, scene.given, "0", f"-v {space}")
+        if ran == whole:
+            good += 1
+            continue
+        fault = scene.fault(whole, ran._replace(refusals=1), with_later=True)
+        if fault is not None:
+            faults.append(f"in {space} kB: {fault}")
+    refused = len(SPACES) - good
+    if faults or good == 0 or refused == 0:
+        why = faults[0] if faults else f"{good} good runs, {refused} refused"
+        print(f"FAILED in little address space: {name_of(scene.words)}: {why} ({len(faults)} runs)")
+        return False
+    print(f"ok in little address space: {name_of(scene.words)}")
+    return True
 
 
 OPTIONS = {
@@ -172,6 +199,17 @@ def name_of(words: list[str]) -> str:
     return name[:100] or "no word"
 
 
+def slips(count: int) -> Iterator[str]:
+    """A file with so many records a half minute apart, each before one with a slip."""
+    yield from Path("examples/slip.rnx").read_text().splitlines(keepends=True)[:14]
+    noon = datetime(2024, 5, 17, 12)
+    for number in range(count):
+        for second, digit in ((0, " "), (7, "1")):
+            time = noon + timedelta(seconds=30 * number + second)
+            yield f"> {time:%Y %m %d %H %M} {time.second:2}.0000000  0  1\n"
+            yield f"G05  21085472.060 7 110804903.547{digit}7        45.000\n"
+
+
 def scenes() -> Iterator[Scene]:
     base, late = "examples/base.rtcm", "examples/late.rtcm"
     first, second = "examples/session_link1.rtcm", "examples/session_link2.rtcm"
@@ -194,9 +232,15 @@ def scenes() -> Iterator[Scene]:
     yield Scene(["chart", "--text", "examples/marks.rnx"])
     yield Scene(["chart", "wrong"], status=3)
     yield Scene(["summary", "many"])
+    yield Scene(["show", "rare"])
+    yield Scene(["summary", "rare"])
+    yield Scene(["show", "preambles"])
+    yield Scene(["summary", "preambles"])
     yield Scene(["cut", "--every", "30", "examples/slip.rnx"])
     yield Scene(["cut", "--from", "2024-05-17T12:00:30", "examples/slip.rnx"])
     yield Scene(["cut", "--every", "30", base], status=3)
+    # Of more text than is gathered, each record takes memory.
+    yield Scene(["cut", "--every", "30", "slips"])
     yield Scene(convert(base))
     yield Scene(convert(late, window="2"))
     yield Scene(convert("stdin", second, window="4"), given=first)
@@ -204,6 +248,7 @@ def scenes() -> Iterator[Scene]:
     yield Scene(convert("split", window="2"))
     yield Scene(convert("many", window="4096"))
     yield Scene(convert("rare", window="4096"))
+    yield Scene(convert("preambles"))
     yield Scene(convert(base, "nowhere"), status=1)
 
     # Words that are refused: by clap, and by us.
@@ -225,6 +270,14 @@ def scenes() -> Iterator[Scene]:
     yield Scene(convert("a", near="1980-01-06T00:00:00"), status=2)
 
 
+def scenes_of_space() -> Iterator[Scene]:
+    """What holds a whole file."""
+    yield Scene(["check", "long"])
+    yield Scene(["chart", "long"])
+    yield Scene(["chart", "--text", "long"])
+    yield Scene(["cut", "--every", "30", "long"])
+
+
 def main() -> None:
     path, folder, examples, *names = sys.argv[1:]
     program = Program(path, folder)
@@ -233,9 +286,17 @@ def main() -> None:
     Path("split").write_bytes(split_epochs())
     Path("many").write_bytes(single_satellite(4100))
     Path("rare").write_bytes(rare_messages())
-    wanted = [it for it in scenes() if not names or name_of(it.words) in names]
-    passed = [Sweep(program, scene).run() for scene in wanted]
-    passed += [fits_stack(program, scene) for scene in wanted]
+    # Candidates that fail, one behind another, and then bytes that begin none.
+    Path("preambles").write_bytes(b"\xD3" * 100_000 + bytes(100_000))
+    Path("slips").write_text("".join(slips(2_000)))
+    Path("long").write_text("".join(slips(60_000)))
+
+    def wanted(all_scenes: Iterator[Scene]) -> list[Scene]:
+        return [it for it in all_scenes if not names or name_of(it.words) in names]
+
+    passed = [Sweep(program, scene).run() for scene in wanted(scenes())]
+    passed += [fits_stack(program, scene) for scene in wanted(scenes())]
+    passed += [fits_space(program, scene) for scene in wanted(scenes_of_space())]
     print(f"{passed.count(True)} passed, {passed.count(False)} failed")
     sys.exit(not passed or not all(passed))
 
