@@ -207,8 +207,8 @@ def lengths_alike(runs: Runs, tests: Tests) -> None:
     few_and_many = FEW_AND_MANY.items()
     late = [{"frames": 3 + n, "taken": 3, "epochs": 3, "late": n} for _, n in few_and_many]
     foreign = [{"frames": n, "foreign": n} for _, n in few_and_many]
-    # A 1005 and a 1006 that are late behind 64 epochs; and others than those that were taken, first in
-    # conflict and then late, with repeats of these.
+    # A 1005 and a 1006 that are late after more epochs than the window has places; and others than
+    # those that were taken, first in conflict and then late, with repeats of what was taken.
     epochs = {"taken": 100, "epochs": 100}
     stations = [epochs | {"frames": 100 + 2 * n, "late": 2 * n} for _, n in few_and_many]
     others = [
