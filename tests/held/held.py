@@ -14,7 +14,7 @@ from pictures import CODES as CHART_CODES
 from pictures import COLUMNS, largest
 from pictures import SATELLITES as CHART_SATELLITES
 from streams import NOON, SATELLITES, SIGNALS, capture, falling_epochs, falling_satellites
-from streams import largest_1074, legacy, minutes, single_satellite
+from streams import largest_1074, legacy, minutes, point, single_satellite
 
 OPTIONS = (
     "--station 2003 --near 2024-05-17T12:00:00 --made 2024-05-17T13:00:00 --marker BASE"
@@ -161,7 +161,15 @@ def write_captures(runs: Runs) -> None:
     runs.write("large", [largest, single_satellite(4999)])
     runs.write("falling_satellites", [falling_satellites(5000)])
     runs.write("falling_epochs", [falling_epochs(5000)])
+    stations = capture(point(), point(1006))
+    others = capture(point(year=1), point(1006, year=1))
+    epochs = single_satellite(100)
     for name, count in FEW_AND_MANY.items():
+        runs.write(f"stations_{name}", [epochs, stations * count])
+        runs.write(
+            f"other_stations_{name}",
+            [stations, others * count, epochs, (stations + others) * count],
+        )
         runs.write(f"late_{name}", [single_satellite(3), first * count])
         runs.write(f"foreign_{name}", [foreign] * count)
         runs.write(f"zeros_{name}", [bytes(100)] * count)
@@ -199,10 +207,25 @@ def lengths_alike(runs: Runs, tests: Tests) -> None:
     few_and_many = FEW_AND_MANY.items()
     late = [{"frames": 3 + n, "taken": 3, "epochs": 3, "late": n} for _, n in few_and_many]
     foreign = [{"frames": n, "foreign": n} for _, n in few_and_many]
-    for kind, wants in (("late", late), ("foreign", foreign), ("zeros", [{}, {}])):
+    # A 1005 and a 1006 that are late after more epochs than the window has places; and others than
+    # those that were taken, first in conflict and then late, with repeats of what was taken.
+    epochs = {"taken": 100, "epochs": 100}
+    stations = [epochs | {"frames": 100 + 2 * n, "late": 2 * n} for _, n in few_and_many]
+    others = [
+        {"frames": 102 + 6 * n, "taken": 102, "epochs": 100}
+        | {"conflict": 2 * n, "repeat": 2 * n, "late": 2 * n}
+        for _, n in few_and_many
+    ]
+    for kind, window, wants in (
+        ("late", 2, late),
+        ("foreign", 2, foreign),
+        ("zeros", 2, [{}, {}]),
+        ("stations", 64, stations),
+        ("other_stations", 64, others),
+    ):
         names = [f"{kind}_{name}" for name in FEW_AND_MANY]
-        held = [runs.held(2, [name], want) for name, want in zip(names, wants, strict=True)]
-        tests.same(f"few and many of {kind}", held)
+        held = [runs.held(window, [name], want) for name, want in zip(names, wants, strict=True)]
+        tests.same(f"few and many of {kind.replace('_', ' ')}", held)
 
 
 def grows_with_window(runs: Runs, tests: Tests) -> None:

@@ -27,10 +27,11 @@ def mask(identifiers: tuple[int, ...], width: int) -> int:
     return sum(1 << width - identifier for identifier in identifiers)
 
 
-def point() -> Message:
-    """A 1005."""
+def point(number: int = 1005, year: int = 0) -> Message:
+    """A 1005, or a 1006, of a realization year."""
     place = {"x": 11_141_045_999, "y": -48_507_297_108, "z": 39_755_214_643}
-    return Message(row(HEADERS[1005], number=1005, station=STATION, gps=1, **place))
+    head = {"number": number, "station": STATION, "itrf_year": year, "gps": 1}
+    return Message(row(HEADERS[number], **head, **place))
 
 
 def legacy(tow: int, satellites: tuple[int, ...], station: int = STATION) -> Message:

@@ -81,7 +81,8 @@ sed -n '1,14p' "$examples/base.rnx" |
 report 0 0 0 0 0 0 0 0 0 >empty.report
 convert 1C,2W stdin </dev/null;                       leaves empty_capture 0 empty.rnx empty.report
 
-# The file can be followed, wherever standard input stands: the records of closed epochs are out while it is open.
+# The file can be followed, wherever standard input stands: the records of closed epochs are out while it is open, and
+# so is the line of a late message.
 # follow NAME REPORT LINK..
 follow() {
     name=$1 report=$2
@@ -96,7 +97,14 @@ follow() {
     done
     same "$name" out followed
     same "${name}_report" err /dev/null
-    tail -c +185 "$examples/late.rtcm" >&9
+    tail -c +185 "$examples/late.rtcm" | head -c 46 >&9
+    for _ in $(seq 100); do
+        [ -s err ] && break
+        sleep 0.2
+    done
+    head -n 1 "$report" >first_line
+    same "${name}_late" err first_line
+    tail -c +231 "$examples/late.rtcm" >&9
     exec 9>&-
     wait $running
     status=$?
@@ -144,6 +152,9 @@ convert 1C,2W --window 2 "$examples/late.rtcm" folder </dev/null
 sed -n '1,23p' "$examples/late.rnx" >part
 { head -n 1 "$examples/late.report"; echo 'rtcm2rinex: read failed'; } >part_err
 leaves a_link_that_fails_later 1 part part_err
+"$program" convert $options --codes 1C,2W --window 2 "$examples/late.rtcm" folder >out 2>&1 </dev/null; status=$?
+cat part part_err >both; : >err
+leaves part_of_a_file_before_its_report 1 both /dev/null
 "$program" convert $options --codes 1C,2W "$base" >out 2>&1 </dev/null; status=$?
 cat "$examples/base.rnx" base.report >both; : >err
 leaves file_before_report 0 both /dev/null
@@ -440,4 +451,4 @@ leaves start_convert_with_a_limit_of_size 1 part part_err
 limited 4096 "$root/bin/rtcm2rinex" convert $options --codes 1C,2W,5X stdin >out 2>err <"$session.rtcm"; status=$?
 leaves start_convert_followed_with_a_limit_of_size 1 part write_failed
 
-ends 210
+ends 214

@@ -105,6 +105,13 @@ outside-frames 100000000
 frames 0
 nothing taken' ''
 
+# More bytes than 32 bits count, in a file without blocks.
+truncate -s 4294967297 zeros
+run summary zeros </dev/null;       expect summary_of_a_longer_input 0 'bytes 4294967297
+outside-frames 4294967297
+frames 0
+nothing taken' ''
+
 run summary --help </dev/null;      expect summary_help 0 "$help" ''
 run summary -h </dev/null;          expect summary_short_help 0 "$short_help" ''
 run help summary </dev/null;        expect help_summary 0 "$help" ''
@@ -113,4 +120,4 @@ run summary --he "$base" </dev/null; head -n 1 err >line; mv line err
 expect summary_start_of_an_option 2 '' "error: unexpected argument '--he' found"
 run summary a b </dev/null;         expect summary_of_two_files 2 '' "$two_files"
 
-ends 18
+ends 19

@@ -766,6 +766,16 @@ def _short():
             yield tried(name, f"{piece} bytes", Disturbance({"PIECE": piece}), same)
 
 
+@scene("a summary of 1,000,001 reads of one byte")
+def _many_reads():
+    yield "zeros", functools.partial(many_reads, written("zeros", bytes(1_000_001)))
+
+
+def many_reads(zeros):
+    due = b"bytes 1000001\noutside-frames 1000001\nframes 0\nnothing taken\n"
+    return same(run(Case("", ("summary", zeros)), Disturbance({"PIECE": 1})), Left(0, due, b""))
+
+
 @scene("every second read, write or open is interrupted")
 def _interrupted():
     for name in CASES:
