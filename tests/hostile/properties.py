@@ -185,7 +185,7 @@ def cut_as_modelled(case: Case) -> Answer:
         return NOT_MET
     drawn = sorted(case.rng.choice(times) + timedelta(seconds=case.rng.randint(-1, 1)) for _ in "12")
     since, until = (case.rng.choice((it, None)) for it in drawn)
-    steps = (1, 1, 2, 3, 5, 7, 30, 60, 86_400)
+    steps = (1, 1, 2, 3, 5, 7, 11, 30, 60, 86_400)
     part = Part(since, until, case.rng.choice((None, *steps) if since or until else steps))
     if any(it and not 1980 <= it.year <= 2100 for it in (since, until)):
         return NOT_MET
