@@ -1,5 +1,6 @@
-"""Runs `convert` and `summary` on captures of different lengths and asks how many bytes they held
-at most; and `chart` on the file of the largest picture, and asks how many it has."""
+"""Runs `convert` and `summary` on captures of different lengths, and the other commands on inputs of
+two sizes, and asks how many bytes they held at most; and `chart` on the file of the largest picture,
+and asks how many it has."""
 
 from __future__ import annotations
 
@@ -11,10 +12,10 @@ from collections.abc import Iterable
 from pathlib import Path
 
 from pictures import CODES as CHART_CODES
-from pictures import COLUMNS, largest
+from pictures import COLUMNS, filled, largest
 from pictures import SATELLITES as CHART_SATELLITES
 from streams import NOON, SATELLITES, SIGNALS, capture, falling_epochs, falling_satellites
-from streams import largest_1074, legacy, minutes, point, single_satellite
+from streams import largest_1074, legacy, minutes, point, single_satellite, unread
 
 OPTIONS = (
     "--station 2003 --near 2024-05-17T12:00:00 --made 2024-05-17T13:00:00 --marker BASE"
@@ -34,6 +35,11 @@ GATHERED = 2 * 65_536
 LEAST_BESIDE, MOST_BESIDE = 80_500, 85_500
 # What a summary holds: some 635 kB.
 LEAST_OF_SUMMARY, MOST_OF_SUMMARY = 630_000, 640_000
+
+# The sizes of an input: a vector that doubles has just the room that it needs. A file of as many
+# records has a picture of 1,440 columns, of 11 seconds or of 22.
+MIB = 1 << 20
+INPUTS = {1: 11 * COLUMNS, 2: 22 * COLUMNS}
 
 # The bytes that a picture has at most.
 MOST_OF_PICTURE = 7_500_000
@@ -115,6 +121,21 @@ class Runs:
         return int(os.pread(9, 20, 0))
 
 
+    def of_command(self, words: list[str]) -> int:
+        """How many bytes a command holds at most, which ends well."""
+        os.ftruncate(9, 0)
+        ran = subprocess.run(
+            [self.program, *words],
+            cwd=self.folder,
+            env=self.environment,
+            stdin=subprocess.DEVNULL,
+            stdout=subprocess.DEVNULL,
+            pass_fds=[9],
+        )
+        if ran.returncode != 0:
+            raise Failed(f"{' '.join(words)}: status {ran.returncode}")
+        return int(os.pread(9, 20, 0))
+
     def picture(self, name: str) -> bytes:
         words = [self.program, "chart", name]
         return subprocess.run(words, cwd=self.folder, check=True, stdout=subprocess.PIPE).stdout
@@ -173,6 +194,17 @@ def write_captures(runs: Runs) -> None:
         runs.write(f"late_{name}", [single_satellite(3), first * count])
         runs.write(f"foreign_{name}", [foreign] * count)
         runs.write(f"zeros_{name}", [bytes(100)] * count)
+        runs.write(f"refused_and_other_frames_{name}", [unread()] * count)
+
+
+def write_inputs(runs: Runs) -> None:
+    """Of each size a file, a capture and hex text."""
+    frames = single_satellite(5000)
+    for size, records in INPUTS.items():
+        content = (frames * (1 + size * MIB // len(frames)))[: size * MIB]
+        runs.write(f"file_{size}", filled(size * MIB, records))
+        runs.write(f"capture_{size}", [content])
+        runs.write(f"hex_{size}", [content[: size * MIB // 2].hex().encode()])
 
 
 def counts_of(hours: int, links: int) -> dict[str, int]:
@@ -207,6 +239,7 @@ def lengths_alike(runs: Runs, tests: Tests) -> None:
     few_and_many = FEW_AND_MANY.items()
     late = [{"frames": 3 + n, "taken": 3, "epochs": 3, "late": n} for _, n in few_and_many]
     foreign = [{"frames": n, "foreign": n} for _, n in few_and_many]
+    refused = [{"frames": 5 * n, "refused": 4 * n, "other": n} for _, n in few_and_many]
     # A 1005 and a 1006 that are late after more epochs than the window has places; and others than
     # those that were taken, first in conflict and then late, with repeats of what was taken.
     epochs = {"taken": 100, "epochs": 100}
@@ -220,6 +253,7 @@ def lengths_alike(runs: Runs, tests: Tests) -> None:
         ("late", 2, late),
         ("foreign", 2, foreign),
         ("zeros", 2, [{}, {}]),
+        ("refused_and_other_frames", 2, refused),
         ("stations", 64, stations),
         ("other_stations", 64, others),
     ):
@@ -307,6 +341,21 @@ def summaries_alike(runs: Runs, tests: Tests) -> None:
     tests.within("a summary", held[0][0], LEAST_OF_SUMMARY, MOST_OF_SUMMARY)
 
 
+def inputs_held_once(runs: Runs, tests: Tests) -> None:
+    """Of an input that is longer each command holds as many bytes more, to the byte; and of hex text
+    as many digits more, and half as many bytes that they are."""
+    for words, kind, more in (
+        ("check", "file", MIB),
+        ("cut --every 1", "file", MIB),
+        ("chart", "file", MIB),
+        ("chart --text", "file", MIB),
+        ("show", "capture", MIB),
+        ("show --hex", "hex", 2 * MIB + MIB // 2),
+    ):
+        held = [runs.of_command([*words.split(), f"{kind}_{size}"]) for size in INPUTS]
+        tests.within(f"{words} of 2 MiB over 1 MiB", held[1] - held[0], more, more)
+
+
 def largest_picture(runs: Runs, tests: Tests) -> None:
     """Each mark is in each column: of each satellite a slip, a half cycle, a strength and of each
     code a phase in some epochs; and a missing epoch in all columns but the last."""
@@ -326,6 +375,7 @@ def main() -> None:
     tests.within("calls by which the count would miss memory", len(others), 0, 0)
     runs = Runs(program, folder)
     write_captures(runs)
+    write_inputs(runs)
     for part in (
         lengths_alike,
         grows_with_window,
@@ -333,6 +383,7 @@ def main() -> None:
         large_epoch_before_small_ones,
         grows_with_links,
         summaries_alike,
+        inputs_held_once,
         largest_picture,
     ):
         try:

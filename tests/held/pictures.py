@@ -1,4 +1,5 @@
-"""The file whose picture is the largest: 32 satellites and 16 codes, with each mark in each column."""
+"""The file whose picture is the largest: 32 satellites and 16 codes, with each mark in each column. And files of a given
+size."""
 
 from __future__ import annotations
 
@@ -35,12 +36,23 @@ LAST_LINES = [
 ]
 
 
-def types() -> Iterator[tuple[str, str]]:
+def types(codes: list[str]) -> Iterator[tuple[str, str]]:
     """The lines of the observation types, thirteen a line."""
-    names = [kind + code for code in CODES for kind in "CLS"]
+    names = [kind + code for code in codes for kind in "CLS"]
     for at in range(0, len(names), 13):
         begin = f"G  {len(names):3}" if at == 0 else " " * 6
         yield begin + "".join(f" {name}" for name in names[at : at + 13]), "SYS / # / OBS TYPES"
+
+
+def header(codes: list[str]) -> bytes:
+    lines = (*LINES, *types(codes), *LAST_LINES)
+    return "".join(f"{text:60}{label:20}\n" for text, label in lines).encode()
+
+
+def epoch_line(second: int, satellites: int) -> str:
+    """That of so many seconds after noon."""
+    time = NOON + timedelta(seconds=second)
+    return f"> {time:%Y %m %d %H %M} {time.second:2}.0000000  0{satellites:3}\n"
 
 
 def rows(cells: str) -> str:
@@ -50,11 +62,27 @@ def rows(cells: str) -> str:
 def largest() -> Iterator[bytes]:
     """Its text: of three seconds of a column the first has each phase, the second a strength alone, and the last is
     missing."""
-    for text, label in (*LINES, *types(), *LAST_LINES):
-        yield f"{text:60}{label:20}\n".encode()
+    yield header(CODES)
     phases = rows((PHASE * len(CODES)).rstrip())
     strengths = [rows(" " * 32 + strength) for strength in STRENGTHS]
     for column in range(COLUMNS):
         for second, lines in enumerate((phases, strengths[column % 2])):
-            time = NOON + timedelta(seconds=3 * column + second)
-            yield f"> {time:%Y %m %d %H %M} {time.second:2}.0000000  0{SATELLITES:3}\n{lines}".encode()
+            yield f"{epoch_line(3 * column + second, SATELLITES)}{lines}".encode()
+
+
+# What a satellite shows: a range, which may have a phase after it.
+RANGE = "  20000000.000"
+WITH_PHASE = RANGE + "   100000000.000"
+
+
+def filled(size: int, records: int) -> Iterator[bytes]:
+    """A file of just so many bytes, and of so many records a second apart: each has a range of satellite 5, and the first ones
+    a phase, as many as fill it up; the first record has a range of satellite 6 too."""
+    first, last = (f"G05{shown}\n" for shown in (WITH_PHASE, RANGE))
+    least = len(header(CODES[:1])) + records * len(epoch_line(0, 1) + last) + len(last)
+    phases, rest = divmod(size - least, len(first) - len(last))
+    assert rest == 0 and 0 < phases <= records
+    yield header(CODES[:1])
+    yield f"{epoch_line(0, 2)}{first}G06{RANGE}\n".encode()
+    for second in range(1, records):
+        yield f"{epoch_line(second, 1)}{first if second < phases else last}".encode()

@@ -142,6 +142,13 @@ def falling_epochs(count: int) -> bytes:
     return of_template(legacy(0, SATELLITES[:1]), range(count)[::-1])
 
 
+def unread() -> bytes:
+    """A frame of each of the faults M1, M3, M4 and M5, and one of another message."""
+    late_1004 = payload_of(legacy(604_800_000, ()))
+    cells_66 = payload_of(msm(NOON, tuple(range(1, 34))))[:22]
+    return b"".join(map(frame_of, (b"\x3E", b"\x3E\xD7\xD3", late_1004, cells_66, b"\x3F\xB0")))
+
+
 def with_offset(message: Message, offset: int) -> Message:
     for fields in message.satellites:
         fields["l1_offset"] = fields["l2_offset"] = offset

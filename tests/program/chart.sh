@@ -131,6 +131,10 @@ for width in 39 401; do
 
 For more information, try '--help'."
 done
+run chart --text --columns 80x "$marks" </dev/null
+expect columns_with_a_tail 2 '' "error: invalid value '80x' for '--columns <N>': invalid digit found in string
+
+For more information, try '--help'."
 run chart --columns 80 "$marks" </dev/null
 expect columns_without_text 2 '' "error: the following required arguments were not provided:
   --text
@@ -174,4 +178,4 @@ For more information, try '--help'."
 twice --text --text
 twice '--columns <N>' --columns 80
 
-ends 30
+ends 31

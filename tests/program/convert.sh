@@ -421,8 +421,10 @@ Usage: rtcm2rinex convert --station <N> --near <T> --made <T> --marker <NAME> --
 $try"
 bad_value station_of_4096 --station 4096 '4096 is not in 0..=4095'
 bad_value station_of_no_digits --station x 'invalid digit found in string'
+bad_value station_with_a_tail --station 2003x 'invalid digit found in string'
 bad_value window_of_1 --window 1 '1 is not in 2..=4096'
 bad_value window_of_4097 --window 4097 '4097 is not in 2..=4096'
+bad_value window_of_two_numbers --window 64,2 'invalid digit found in string'
 
 # Outputs that fail: the fault line stands after the part of the report that is out.
 printf 'rtcm2rinex: write failed\n' >write_failed
@@ -451,4 +453,4 @@ leaves start_convert_with_a_limit_of_size 1 part part_err
 limited 4096 "$root/bin/rtcm2rinex" convert $options --codes 1C,2W,5X stdin >out 2>err <"$session.rtcm"; status=$?
 leaves start_convert_followed_with_a_limit_of_size 1 part write_failed
 
-ends 214
+ends 216

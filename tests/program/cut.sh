@@ -84,8 +84,12 @@ Usage: rtcm2rinex cut <--from <T>|--until <T>|--every <SECONDS>> <FILE>
 
 For more information, try '--help'."
 
-step_of() {
-    printf "error: invalid value '%s' for '--every <SECONDS>': %s is not in 1..=86400\n\nFor more information, try '--help'." "$1" "$1"
+# bad_step NAME STEP WHY
+bad_step() {
+    cut --every "$2" "$file" </dev/null
+    expect "$1" 2 '' "error: invalid value '$2' for '--every <SECONDS>': $3
+
+For more information, try '--help'."
 }
 
 : >nothing
@@ -165,9 +169,10 @@ bad from_after_until 'bad --until' --from 2024-05-17T12:00:01 --until "$noon"
 bad until_in_2101 'bad --until' --until 2101-01-01T00:00:00
 cut "$file" </dev/null;                             expect no_option 2 '' "$no_option"
 cut --every 30 </dev/null;                          expect cut_without_a_file 2 '' "$no_file"
-for step in 0 86401 4294967296; do
-    cut --every $step "$file" </dev/null;           expect a_step_of_$step 2 '' "$(step_of $step)"
-done
+for step in 0 86401 4294967296; do bad_step a_step_of_$step $step "$step is not in 1..=86400"; done
+bad_step a_step_with_a_tail 30s 'invalid digit found in string'
+bad_step a_step_with_a_fraction 30.5 'invalid digit found in string'
+bad_step a_step_after_a_blank ' 30' 'invalid digit found in string'
 
 cut --every 30 "$file" b </dev/null
 expect cut_of_two_files 2 '' "error: unexpected argument 'b' found
@@ -227,4 +232,4 @@ cut -h </dev/null;                                  expect cut_short_help 0 "$sh
 "$program" help cut </dev/null >out 2>err; status=$?
 expect help_cut 0 "$help" ''
 
-ends 58
+ends 61
