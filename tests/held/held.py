@@ -335,10 +335,14 @@ def grows_with_links(runs: Runs, tests: Tests) -> None:
 
 
 def summaries_alike(runs: Runs, tests: Tests) -> None:
-    """Of an hour, ten hours and a day: the same, and no more than the manual says."""
+    """Of an hour, ten hours and a day: the same, and no more than the manual says; and the same of
+    few and of many frames that are not read, of stations, and of bytes outside of frames."""
     held = [(runs.of_summary(name),) for name in HOURS]
     tests.same("a summary of an hour, ten hours and a day", held)
     tests.within("a summary", held[0][0], LEAST_OF_SUMMARY, MOST_OF_SUMMARY)
+    for kind in ("refused_and_other_frames", "foreign", "stations", "zeros"):
+        held = [(runs.of_summary(f"{kind}_{name}"),) for name in FEW_AND_MANY]
+        tests.same(f"a summary of few and many of {kind.replace('_', ' ')}", held)
 
 
 def inputs_held_once(runs: Runs, tests: Tests) -> None:
@@ -347,6 +351,8 @@ def inputs_held_once(runs: Runs, tests: Tests) -> None:
     for words, kind, more in (
         ("check", "file", MIB),
         ("cut --every 1", "file", MIB),
+        ("cut --every 30", "file", MIB),
+        ("cut --from 2024-06-17T00:00:00", "file", MIB),
         ("chart", "file", MIB),
         ("chart --text", "file", MIB),
         ("show", "capture", MIB),

@@ -274,6 +274,11 @@ def every_cell(cases):
     for name, conflicts, last in (("conflicts_63", 63, 40), ("conflicts_64", 64, 41)):
         case(cases, name, [capture + cells_of(*groups[0], 41, last)], codes=codes, told=report(
             *lines[:conflicts], taken=16, conflict=1, epochs=1))
+    # the longest lines, with a link of two digits
+    case(cases, "conflicts_64_of_link_16", [b""] * 15 + [capture + cells_of(*groups[0], 41, 41)], codes=codes, told=report(
+        *(it.replace("link 1 ", "link 16 ", 1) for it in lines), taken=16, conflict=1, epochs=1))
+    # the same epoch, which greater ones close before the end
+    case(cases, "every_cell_closed", [capture + bare(1) + bare(2)], window=2, codes=codes, told=report(taken=18, epochs=1))
 
 
 def millions():

@@ -200,6 +200,10 @@ def cases():
     session = example("session_link1.rtcm"), example("session_link2.rtcm")
     wrong = written("wrong.rnx", content(example("base.rnx")).replace(b"45.000", b"45.100"))
     frames = written("frames.rtcm", bytes.fromhex("d300023fb0d71d73") * 11_917)
+    # The line of this 1005 has 64 bytes, of which 1,024 are gathered.
+    station = content(example("base.rtcm"))[:25]
+    three_times = written("three_times.rtcm", station * 3_072)
+    line_more = written("line_more.rtcm", station * 3_073)
     listed = [
         Case("help", ("--help",)),
         Case("version", ("--version",)),
@@ -207,6 +211,8 @@ def cases():
         Case("show", ("show", example("session.rtcm"))),
         Case("show of hex text", ("show", "--hex", "stdin"), example("arp1005.hex")),
         Case("show of 11,917 frames", ("show", frames)),
+        Case("show of three times what is gathered", ("show", three_times)),
+        Case("show of a line more", ("show", line_more)),
         Case("check that says yes", ("check", example("session.rnx"))),
         Case(SAYS_NO, ("check", "stdin"), wrong),
         Case("summary", ("summary", example("session.rtcm"))),
