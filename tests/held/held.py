@@ -26,7 +26,7 @@ COUNTS = "frames other refused foreign taken repeat conflict late epochs".split(
 # What docs/MANUAL.md says that each open epoch, each link and what is gathered takes.
 CELL = 64
 FEWEST_CELLS = 4
-EPOCH = 64
+EPOCH = 112
 # A scanner has room for two of the longest frames, and for the checksums of their prefixes.
 READ_AHEAD, SCANNED = 32_768, 2 * 1_029 + 4 * (2 * 1_029 + 1)
 LINK = 62_000

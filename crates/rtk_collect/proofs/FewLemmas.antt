@@ -47,17 +47,17 @@ slot-if : (b : Bool) (satellite : ℕ) (es : List CellEntry) → is_satellite sa
 slot-if true satellite es e a = a (satellite-is satellite e)
 slot-if false satellite es e a = tt
 
-all-append : (P : CellEntry → Type 0) (xs ys : List CellEntry) → AllByRecursion P xs → AllByRecursion P ys → AllByRecursion P (xs ++ ys)
+pub all-append : (P : CellEntry → Type 0) (xs ys : List CellEntry) → AllByRecursion P xs → AllByRecursion P ys → AllByRecursion P (xs ++ ys)
 all-append P [] ys a b = b
 all-append P (x ∷ xs) ys a b = (a.0, all-append P xs ys a.1 b)
 
-all-join : {X : Type 0} (f : ℕ → X → List CellEntry) → ((k : ℕ) (x : X) → AllByRecursion HasSatellite (f k x)) → (k : ℕ) (xs : List X) → AllByRecursion HasSatellite (join_from f k xs)
+pub all-join : {X : Type 0} (P : CellEntry → Type 0) (f : ℕ → X → List CellEntry) → ((k : ℕ) (x : X) → AllByRecursion P (f k x)) → (k : ℕ) (xs : List X) → AllByRecursion P (join_from f k xs)
 unfolding join_from
-all-join f each k [] = tt
-all-join f each k (x ∷ xs) = all-append HasSatellite (f k x) (join_from f (suc k) xs) (each k x) (all-join f each (suc k) xs)
+all-join P f each k [] = tt
+all-join P f each k (x ∷ xs) = all-append P (f k x) (join_from f (suc k) xs) (each k x) (all-join P f each (suc k) xs)
 
 of-msm : (m : Msm1074) → AllByRecursion HasSatellite (cells_of_1074 m)
-of-msm m = all-join (slot_entry m) (λ k s.
+of-msm m = all-join HasSatellite (slot_entry m) (λ k s.
     slot-if (is_satellite (slice_index (satellites_of m) s.row)) (slice_index (satellites_of m) s.row) (coded_entry m k s.row (slice_index (satellites_of m) s.row) (code_of_signal s.signal)) refl
     (λ is. of-coded m k s.row (slice_index (satellites_of m) s.row) (code_of_signal s.signal) is)) 0 (slots_of m)
 

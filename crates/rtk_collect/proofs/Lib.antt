@@ -2,7 +2,7 @@
 pub mod PublicLaws
 -- Laws on the definitions, and what this crate's functions compute
 mod CellsLemmas
-mod ApartLemmas
+mod KindLemmas
 mod FewLemmas
 mod ArrivalsLemmas
 mod JoinsLemmas
@@ -17,6 +17,7 @@ mod EqualityLemmas
 mod RisingLemmas
 mod MergesLemmas
 mod PreferredLemmas
+mod UnderLemmas
 mod FirstLemmas
 mod DatedLemmas
 mod PositionLemmas

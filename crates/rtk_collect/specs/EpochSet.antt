@@ -1,17 +1,33 @@
 -- The cells of an epoch: one for each satellite, code and kind of message, the first that came.
-use Rattle.std.specs.Prelude.{ℕ, suc, ◌<◌, List, [], ◌∷◌, ◌++◌, ◌==◌, ◌&&◌, nat_lt, Option, None, Some, if◌then◌else◌}
+use Rattle.std.specs.Prelude.{◌≡◌, ℕ, suc, ◌<◌, Bool, List, [], ◌∷◌, ◌++◌, ◌==◌, ◌&&◌, nat_lt, Option, None, Some, All, if◌then◌else◌}
+use Rattle.rtk_obs.specs.Cell.{IsInRange}
 use Rattle.rtk_obs.specs.Code.{place_of}
+use Rattle.rtk_obs.specs.Slip.{is_same_source}
 use Rattle.rtk_obs.specs.declared.code.Code.{Code}
+use Rattle.rtk_obs.specs.declared.cell.CellSource.{CellSource}
 use Rattle.rtk_obs.specs.declared.cell.CellSource.TheVariants.{Legacy, Msm}
 use Rattle.rtk_obs.specs.declared.cell.CellEntry.{CellEntry}
 use Rattle.rtk_collect.specs.declared.conflicts.SatelliteCode.{SatelliteCode}
-use Rattle.rtk_collect.specs.Key.{key, key_at}
+use Rattle.rtk_collect.specs.Key.{key, key_at, KeysRise}
 use Rattle.rtk_collect.specs.Equal.{equal_cells}
 
 -- an epoch in ms of GPS time with its cells, which rise by key
 pub record EpochSetView : Type 0 where
   pub epoch : ℕ
   pub cells : List CellEntry
+
+abbrev pub is_from : CellSource → CellEntry → Bool
+is_from source e = is_same_source e.cell.source source
+
+-- all cells came in one kind of message
+abbrev pub AreOfOneKind : List CellEntry → Type 0
+AreOfOneKind cells = (source : CellSource) × All (λ c. c.cell.source ≡ source) cells
+
+-- cells of an epoch that all came in this kind of message: they rise, and each is in range
+pub record AreKeptOf (source : CellSource) (cells : List CellEntry) : Type 0 where
+  pub rises : KeysRise cells
+  pub range : All IsInRange cells
+  pub kind : All (λ c. c.cell.source ≡ source) cells
 
 -- the first of the epochs, if there is one, is less
 abbrev pub FirstIsBelow : ℕ → List EpochSetView → Type 0

@@ -2,3 +2,4 @@
 pub mod OrderedPlaces
 pub mod Slot
 pub mod Observed
+pub mod Room

@@ -11,7 +11,7 @@ ghost use Rattle.rtk_collect.specs.StationPosition.{IsPosition, IsPositionOf};
 ghost use Rattle.rtk_collect.specs.Offered.{AnswersArrival, ClosesBelow, ClosesLeast, LeastNeverFalls, WouldBeTaken};
 
 use crate::dated::Dated;
-use crate::epoch_set::EpochSet;
+use crate::epoch_set::{EpochSet, Spare};
 use crate::left::Left;
 use crate::offer::Offer;
 use crate::stations::{Stations, offer_station, position};
@@ -37,16 +37,17 @@ pub struct Collector {
     stations: Stations,
     // Room for the cells of the message in hand.
     room: ArrayVec<CellEntry, 64>,
-    // The list of the closed epoch that was handed back last, without cells.
-    spare: Vec<CellEntry>,
+    // The lists of the closed epoch that was handed back last, without cells.
+    spare: Spare,
 }
 
 // Clauses see the window: its places, its epochs from the greatest to the least, the 1005 and the
-// 1006. The first part of the invariant names every field, and the third those of the station messages,
-// so that no field can be added in which messages are kept unseen.
+// 1006. The first part of the invariant names every field, the third those of the station messages and
+// the fourth those of the spare lists, so that no field can be added in which messages are kept unseen.
 impl Model for Collector {
-    ghost use Rattle.std.specs.Prelude.{◌≡◌, []};
+    ghost use Rattle.std.specs.Prelude.{◌≡◌};
     ghost use Rattle.rtk_collect.specs.Collector.{CollectorView, IsCollectorView};
+    ghost use Rattle.rtk_collect.specs.Steps.Room.{AreSpare};
 
     ghost Value = { CollectorView };
 
@@ -55,7 +56,8 @@ impl Model for Collector {
     ghost invariant = { λ c. (c ≡ record { alloc = c.alloc; places = c.places; sets = c.sets; stations = c.stations; room = c.room; spare = c.spare })
         × IsCollectorView (record { size = c.places; sets = c.sets.items; arp1005 = c.stations.arp1005; arp1006 = c.stations.arp1006 })
         × (c.stations ≡ record { arp1005 = c.stations.arp1005; arp1006 = c.stations.arp1006 })
-        × (c.spare.items ≡ []) };
+        × (c.spare ≡ record { msm = c.spare.msm; legacy = c.spare.legacy })
+        × AreSpare c.spare };
 }
 
 impl Collector {
@@ -75,7 +77,10 @@ impl Collector {
                 arp1006: None,
             },
             room: ArrayVec::new(),
-            spare: Vec::new(alloc),
+            spare: Spare {
+                msm: Vec::new(alloc),
+                legacy: Vec::new(alloc),
+            },
         }
     }
 
@@ -149,16 +154,15 @@ impl Collector {
         Ok(offer_station(&mut self.stations.arp1006, message, full))
     }
 
-    /// Takes back a closed epoch whose cells nobody needs any more. The next epoch that opens has its
-    /// list, if it wants just the room that the list has, and then takes no memory.
+    /// Takes back a closed epoch whose cells nobody needs any more. The next epoch that opens has each
+    /// of its lists, for the cells of a kind of message, that has just the room that is wanted: if both
+    /// have, it takes no memory for them.
     ///
-    /// One list is kept at most, until it is used, given up or replaced.
+    /// The lists of one epoch are kept at most, until they are used, given up or replaced.
     pub fn hand_back(&mut self, set: EpochSet)
         ensures { self.new ≡ self.old }
     {
-        let mut list = set.into_list();
-        list.clear();
-        self.spare = list;
+        self.spare = set.into_spare();
     }
 
     /// The position of the first 1006, else of the first 1005, else zeros, with the height of the

@@ -1,72 +1,106 @@
 //! An epoch with its cells.
 
-ghost use Rattle.std.specs.Prelude.{◌≡◌, ◌<◌, ◌≤◌, [], length, IfOk, OnErr, All};
+ghost use Rattle.std.specs.Prelude.{◌≡◌, ◌<◌, ◌≤◌, [], length, filter, IfOk, OnErr, All};
 ghost use Rattle.rtk_obs.specs.Cell.{IsInRange};
+ghost use Rattle.rtk_obs.specs.declared.cell.CellSource.TheVariants.{Legacy, Msm};
 ghost use Rattle.rtk_collect.specs.Key.{KeysRise};
-ghost use Rattle.rtk_collect.specs.EpochSet.{joined, fresh, conflicts};
+ghost use Rattle.rtk_collect.specs.EpochSet.{joined, fresh, conflicts, is_from, AreOfOneKind};
+ghost use Rattle.rtk_collect.specs.Steps.Room.{AreSpare};
 
 use crate::conflicts::Conflicts;
-use crate::merging::{are_apart, are_rising_of_one_kind, compare, merge, merge_rising};
-use rtk_obs::{CellEntry, GpsMs};
+use crate::merging::{join_list, kind_of};
+use rtk_obs::{CellEntry, CellSource, GpsMs};
 use std::alloc::{AllocError, Global};
 use std::marker::Model;
 use std::mem::replace;
 
 /// An epoch with its cells: one for each satellite, code and kind of message, at most 1,024.
 ///
-/// They rise by satellite and code, a cell of a 1074 before one of a 1004. The satellites are 1 to
-/// 32; a strength is absent, or 250 to 63,750 thousandths of a dB-Hz in steps of 250.
+/// Those that came in a 1074 stand in one list, those that came in a 1004 in another; each rises by
+/// satellite and code. The satellites are 1 to 32; a strength is absent, or 250 to 63,750 thousandths
+/// of a dB-Hz in steps of 250.
 #[derive(Drop)]
 pub struct EpochSet {
     epoch: GpsMs,
-    cells: Vec<CellEntry>,
+    msm: Vec<CellEntry>,
+    legacy: Vec<CellEntry>,
 }
 
-// Clauses see the epoch in ms and the list of cells. The first part of the invariant names every
-// field, as that of a collector does.
+/// For how many cells of each kind of message there is room.
+#[derive(Clone, Copy)]
+pub(crate) struct Room {
+    pub(crate) msm: usize,
+    pub(crate) legacy: usize,
+}
+
+/// Lists without cells, for an epoch that opens later.
+#[derive(Drop)]
+pub(crate) struct Spare {
+    pub(crate) msm: Vec<CellEntry>,
+    pub(crate) legacy: Vec<CellEntry>,
+}
+
+// Clauses see the epoch in ms and one list of cells, in which each stands at its key. The first part
+// of the invariant names every field, as that of a collector does.
 impl Model for EpochSet {
-    ghost use Rattle.std.specs.Prelude.{◌≡◌, List, All};
-    ghost use Rattle.rtk_collect.specs.EpochSet.{EpochSetView};
-    ghost use Rattle.rtk_collect.specs.Key.{KeysRise};
-    ghost use Rattle.rtk_obs.specs.Cell.{IsInRange};
+    ghost use Rattle.std.specs.Prelude.{◌≡◌};
+    ghost use Rattle.rtk_obs.specs.declared.cell.CellSource.TheVariants.{Legacy, Msm};
+    ghost use Rattle.rtk_collect.specs.EpochSet.{EpochSetView, AreKeptOf, with_cells};
 
     ghost Value = { EpochSetView };
 
-    ghost view = { λ s. record { epoch = s.epoch; cells = s.cells.items } };
+    ghost view = { λ s. record { epoch = s.epoch; cells = with_cells s.legacy.items s.msm.items } };
 
-    ghost invariant = { λ s. (s ≡ record { epoch = s.epoch; cells = s.cells })
-        × KeysRise s.cells.items × All IsInRange s.cells.items };
+    ghost invariant = { λ s. (s ≡ record { epoch = s.epoch; msm = s.msm; legacy = s.legacy })
+        × AreKeptOf Msm s.msm.items × AreKeptOf Legacy s.legacy.items };
+}
+
+// The list, if it has just this room; else one that has taken no memory.
+fn if_of_room(alloc: Global, list: Vec<CellEntry>, room: usize) -> Vec<CellEntry>
+    requires { list.items ≡ [] }
+    ensures { result.items ≡ [] }
+{
+    if list.capacity() == room {
+        return list;
+    }
+    Vec::new(alloc)
 }
 
 impl EpochSet {
-    /// An epoch without cells, which has room for this many. It has the spare list if that has just
-    /// this room; else the spare list is given up before memory is taken.
+    /// An epoch without cells, which has room for so many of each kind. It has each spare list that has
+    /// just the room that is wanted; any other is given up before memory is taken.
     pub(crate) fn with_room(
         alloc: Global,
         epoch: GpsMs,
-        room: usize,
-        spare: &mut Vec<CellEntry>,
+        room: Room,
+        spare: &mut Spare,
     ) -> Result<EpochSet, AllocError>
-        requires { spare.old.items ≡ [] }
+        requires { AreSpare spare.old }
         ensures set { IfOk result (λ set. set ≡ record { epoch = epoch; cells = [] }) }
-        ensures spare { spare.new.items ≡ [] }
+        ensures spare { AreSpare spare.new }
     {
-        let mut cells = replace(spare, Vec::new(alloc));
-        if cells.capacity() == room {
-            return Ok(EpochSet { epoch, cells });
-        }
-        cells = Vec::new(alloc);
-        if let Err(_) = cells.reserve(room) {
+        let mut msm = replace(&mut spare.msm, Vec::new(alloc));
+        let mut legacy = replace(&mut spare.legacy, Vec::new(alloc));
+        msm = if_of_room(alloc, msm, room.msm);
+        legacy = if_of_room(alloc, legacy, room.legacy);
+        if let Err(_) = msm.reserve(room.msm) {
             return Err(AllocError);
         }
-        Ok(EpochSet { epoch, cells })
+        if let Err(_) = legacy.reserve(room.legacy) {
+            return Err(AllocError);
+        }
+        Ok(EpochSet { epoch, msm, legacy })
     }
 
-    /// The list of the cells, for an epoch that opens later.
-    pub(crate) fn into_list(self) -> Vec<CellEntry>
-        ensures { result.items ≡ self.cells }
+    /// The lists of the cells without a cell, for an epoch that opens later.
+    pub(crate) fn into_spare(self) -> Spare
+        ensures { AreSpare result }
     {
-        self.cells
+        let mut msm = self.msm;
+        let mut legacy = self.legacy;
+        msm.clear();
+        legacy.clear();
+        Spare { msm, legacy }
     }
 
     /// The epoch.
@@ -76,18 +110,35 @@ impl EpochSet {
         self.epoch
     }
 
-    /// The cells.
-    pub fn cells(&self) -> &[CellEntry]
-        ensures value { result.now ≡ self.now.cells }
+    /// The cells that came in a 1074.
+    pub fn msm_cells(&self) -> &[CellEntry]
+        ensures value { result.now ≡ filter (is_from Msm) self.now.cells }
         ensures rises { KeysRise result.now }
         ensures range { All IsInRange result.now }
-        ensures few { length result.now ≤ 1024 }
+        ensures kind { AreOfOneKind result.now }
+        ensures all_rise { KeysRise self.now.cells }
+        ensures all_in_range { All IsInRange self.now.cells }
+        ensures few { length self.now.cells ≤ 1024 }
     {
-        &self.cells
+        &self.msm
     }
 
-    /// Takes the cells whose keys are new, and says how many these are; those that conflict are added
-    /// to an empty list. Memory is taken for new cells alone, before the first one is added.
+    /// The cells that came in a 1004.
+    pub fn legacy_cells(&self) -> &[CellEntry]
+        ensures value { result.now ≡ filter (is_from Legacy) self.now.cells }
+        ensures rises { KeysRise result.now }
+        ensures range { All IsInRange result.now }
+        ensures kind { AreOfOneKind result.now }
+        ensures all_rise { KeysRise self.now.cells }
+        ensures all_in_range { All IsInRange self.now.cells }
+        ensures few { length self.now.cells ≤ 1024 }
+    {
+        &self.legacy
+    }
+
+    /// Takes the cells of a message whose keys are new, and says how many these are; those that
+    /// conflict are added to an empty list. Memory is taken for new cells alone, before the first one
+    /// is added.
     pub(crate) fn join(
         &mut self,
         cells: &[CellEntry],
@@ -95,6 +146,7 @@ impl EpochSet {
     ) -> Result<usize, AllocError>
         requires few { length cells.now ≤ 64 }
         requires range { All IsInRange cells.now }
+        requires kind { AreOfOneKind cells.now }
         requires empty { found.old ≡ [] }
         ensures set { IfOk result (λ n. self.new ≡ joined cells.now self.old) }
         ensures fresh { IfOk result (λ n. n ≡ fresh cells.now self.old.cells) }
@@ -102,68 +154,9 @@ impl EpochSet {
         ensures err { OnErr result (self.new ≡ self.old) }
         ensures refused { OnErr result (0 < fresh cells.now self.old.cells) }
     {
-        let rises = are_rising_of_one_kind(cells);
-        if rises && self.cells.is_empty() {
-            // The common case: the epoch has no cell yet, and the cells are copied as they stand.
-            // `?` would do the same, but then the proof of each clause on `Err` is a step longer.
-            if let Err(_) = self.cells.extend_from_slice(cells) {
-                return Err(AllocError);
-            }
-            return Ok(cells.len());
+        match kind_of(cells) {
+            CellSource::Msm => join_list(&mut self.msm, cells, found),
+            CellSource::Legacy => join_list(&mut self.legacy, cells, found),
         }
-        if rises && are_apart(cells, &self.cells) {
-            return self.join_rising(cells, cells.len());
-        }
-        let count = compare(cells, &self.cells, found);
-        if count == 0 {
-            return Ok(0);
-        }
-        if rises {
-            return self.join_rising(cells, count);
-        }
-        self.join_other(cells, count, found)
-    }
-
-    // Takes cells whose keys rise; `count` of them are new.
-    fn join_rising(&mut self, cells: &[CellEntry], count: usize) -> Result<usize, AllocError>
-        requires range { All IsInRange cells.now }
-        requires rising { KeysRise cells.now }
-        requires count { count ≡ fresh cells.now self.old.cells }
-        ensures set { IfOk result (λ n. self.new ≡ joined cells.now self.old) }
-        ensures fresh { IfOk result (λ n. n ≡ count) }
-        ensures err { OnErr result (self.new ≡ self.old) }
-    {
-        let kept = self.cells.len();
-        if let Err(_) = self.cells.reserve_exact(count) {
-            return Err(AllocError);
-        }
-        // What stands in the new places is overwritten.
-        let Ok(()) = self.cells.extend_from_slice(&cells[..count]) else {
-            unreachable!()
-        };
-        merge_rising(&mut self.cells, kept, cells);
-        Ok(count)
-    }
-
-    // Takes cells whose keys don't rise; `count` of them are new.
-    fn join_other(
-        &mut self,
-        cells: &[CellEntry],
-        count: usize,
-        found: &mut Conflicts,
-    ) -> Result<usize, AllocError>
-        requires few { length cells.now ≤ 64 }
-        requires range { All IsInRange cells.now }
-        requires count { count ≡ fresh cells.now self.old.cells }
-        ensures set { IfOk result (λ n. self.new ≡ joined cells.now self.old) }
-        ensures fresh { IfOk result (λ n. n ≡ count) }
-        ensures conflicts { IfOk result (λ n. found.new ≡ conflicts cells.now self.old.cells) }
-        ensures err { OnErr result (self.new ≡ self.old) }
-    {
-        if let Err(_) = self.cells.reserve(count) {
-            return Err(AllocError);
-        }
-        merge(&mut self.cells, cells, found);
-        Ok(count)
     }
 }

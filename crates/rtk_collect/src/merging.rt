@@ -1,13 +1,14 @@
 //! The cells of a message join the cells of their epoch.
 
-ghost use Rattle.std.specs.Prelude.{◌≡◌, ◌≢◌, ◌≤◌, ◌<◌, ◌+◌, ◌-◌, ◌*◌, [], ◌∷◌, ◌++◌, not, length, take, drop, slice_index_or, vec_len, vec_capacity, IsTrue, All, if◌then◌else◌};
+ghost use Rattle.std.specs.Prelude.{◌≡◌, ◌≢◌, ◌≤◌, ◌<◌, ◌+◌, ◌-◌, ◌*◌, [], ◌∷◌, ◌++◌, not, length, take, drop, slice_index_or, vec_len, vec_capacity, IsTrue, IfOk, OnErr, All, if◌then◌else◌};
 ghost use Rattle.rtk_obs.specs.Code.{place_of};
 ghost use Rattle.rtk_collect.specs.Key.{key, KeysRise};
-ghost use Rattle.rtk_collect.specs.EpochSet.{with_cell, with_cells, cell_under, fresh, conflict, conflicts};
+ghost use Rattle.rtk_collect.specs.EpochSet.{with_cell, with_cells, cell_under, fresh, conflict, conflicts, AreOfOneKind};
 ghost use Rattle.rtk_collect.specs.Steps.OrderedPlaces.{lower};
 
 use crate::conflicts::{Conflicts, SatelliteCode};
 use rtk_obs::{CellEntry, CellSource};
+use std::alloc::AllocError;
 
 // A number by which the satellites and codes of cells rise. A satellite counts 256 in it, and not 16
 // as in a key: so it is two bytes that stand side by side, and is read at once.
@@ -27,21 +28,29 @@ fn key_of(entry: &CellEntry) -> usize
     place * 2 + 1 - entry.cell.source as usize
 }
 
-/// Whether the cells came in one kind of message, each with a greater satellite or code than the one
-/// before it.
-pub(crate) fn are_rising_of_one_kind(cells: &[CellEntry]) -> bool
-    ensures rises { IsTrue result → KeysRise cells.now }
-    ensures alike { IsTrue result → (d : CellEntry) → All (λ c. c.cell.source ≡ (slice_index_or cells.now 0 d).cell.source) cells.now }
+/// The kind of message that cells of one kind came in. Of no cells it is a 1004.
+pub(crate) fn kind_of(cells: &[CellEntry]) -> CellSource
+    requires { AreOfOneKind cells.now }
+    ensures { All (λ c. c.cell.source ≡ result) cells.now }
+{
+    if cells.is_empty() {
+        return CellSource::Legacy;
+    }
+    cells[0].cell.source
+}
+
+// Whether each cell has a greater satellite or code than the one before it.
+fn are_rising(cells: &[CellEntry]) -> bool
+    ensures { IsTrue result → KeysRise cells.now }
 {
     if cells.is_empty() {
         return true;
     }
-    let source = cells[0].cell.source;
     let mut last = order_of_code(&cells[0]);
     let mut at = 1;
     while at < cells.len() {
         let order = order_of_code(&cells[at]);
-        if last >= order || cells[at].cell.source != source {
+        if last >= order {
             return false;
         }
         last = order;
@@ -50,37 +59,91 @@ pub(crate) fn are_rising_of_one_kind(cells: &[CellEntry]) -> bool
     true
 }
 
-// Whether all cells came in this kind of message.
-fn are_from(source: CellSource, cells: &[CellEntry]) -> bool
-    ensures { IsTrue result → All (λ c. c.cell.source ≡ source) cells.now }
+/// Takes the cells whose keys are new into a list, and says how many these are; those that conflict are
+/// added to an empty list. Memory is taken for new cells alone, before the first one is added.
+pub(crate) fn join_list(
+    list: &mut Vec<CellEntry>,
+    cells: &[CellEntry],
+    found: &mut Conflicts,
+) -> Result<usize, AllocError>
+    requires few { length cells.now ≤ 64 }
+    requires rises { KeysRise list.old.items }
+    requires empty { found.old ≡ [] }
+    ensures items { IfOk result (λ n. list.new.items ≡ with_cells cells.now list.old.items) }
+    ensures fresh { IfOk result (λ n. n ≡ fresh cells.now list.old.items) }
+    ensures conflicts { IfOk result (λ n. found.new ≡ conflicts cells.now list.old.items) }
+    ensures err { OnErr result (list.new.items ≡ list.old.items) }
+    ensures refused { OnErr result (0 < fresh cells.now list.old.items) }
 {
-    for cell in cells {
-        if cell.cell.source != source {
-            return false;
+    let rises = are_rising(cells);
+    if rises && list.is_empty() {
+        // The common case: the first message of its kind, whose cells are copied as they stand.
+        // `?` would do the same, but then the proof of each clause on `Err` is a step longer.
+        if let Err(_) = list.extend_from_slice(cells) {
+            return Err(AllocError);
         }
+        return Ok(cells.len());
     }
-    true
+    let count = compare(cells, list, found);
+    if count == 0 {
+        return Ok(0);
+    }
+    if rises {
+        return join_rising(list, cells, count);
+    }
+    join_other(list, cells, count, found)
 }
 
-/// Whether there are cells, which came in one kind of message, and all kept ones came in the other.
-/// Then each is new, which is told sooner so than by the keys.
-pub(crate) fn are_apart(cells: &[CellEntry], kept: &[CellEntry]) -> bool
-    requires alike { (d : CellEntry) → All (λ c. c.cell.source ≡ (slice_index_or cells.now 0 d).cell.source) cells.now }
-    ensures some { IsTrue result → 0 < length cells.now }
-    ensures fresh { IsTrue result → fresh cells.now kept.now ≡ length cells.now }
+// Takes cells whose keys rise; `count` of them are new.
+fn join_rising(
+    list: &mut Vec<CellEntry>,
+    cells: &[CellEntry],
+    count: usize,
+) -> Result<usize, AllocError>
+    requires rises { KeysRise list.old.items }
+    requires rising { KeysRise cells.now }
+    requires count { count ≡ fresh cells.now list.old.items }
+    ensures items { IfOk result (λ n. list.new.items ≡ with_cells cells.now list.old.items) }
+    ensures fresh { IfOk result (λ n. n ≡ count) }
+    ensures err { OnErr result (list.new.items ≡ list.old.items) }
 {
-    if cells.is_empty() {
-        return false;
+    let kept = list.len();
+    if let Err(_) = list.reserve_exact(count) {
+        return Err(AllocError);
     }
-    match cells[0].cell.source {
-        CellSource::Msm => are_from(CellSource::Legacy, kept),
-        CellSource::Legacy => are_from(CellSource::Msm, kept),
-    }
+    // What stands in the new places is overwritten.
+    let Ok(()) = list.extend_from_slice(&cells[..count]) else {
+        unreachable!()
+    };
+    merge_rising(list, kept, cells);
+    Ok(count)
 }
 
-/// How many of the cells are new: no kept cell has their key. If none is new or the keys of the cells
-/// rise, those that conflict are added to an empty list.
-pub(crate) fn compare(cells: &[CellEntry], kept: &[CellEntry], found: &mut Conflicts) -> usize
+// Takes cells whose keys don't rise; `count` of them are new.
+fn join_other(
+    list: &mut Vec<CellEntry>,
+    cells: &[CellEntry],
+    count: usize,
+    found: &mut Conflicts,
+) -> Result<usize, AllocError>
+    requires few { length cells.now ≤ 64 }
+    requires rises { KeysRise list.old.items }
+    requires count { count ≡ fresh cells.now list.old.items }
+    ensures items { IfOk result (λ n. list.new.items ≡ with_cells cells.now list.old.items) }
+    ensures fresh { IfOk result (λ n. n ≡ count) }
+    ensures conflicts { IfOk result (λ n. found.new ≡ conflicts cells.now list.old.items) }
+    ensures err { OnErr result (list.new.items ≡ list.old.items) }
+{
+    if let Err(_) = list.reserve(count) {
+        return Err(AllocError);
+    }
+    merge(list, cells, found);
+    Ok(count)
+}
+
+// How many of the cells are new: no kept cell has their key. If none is new or the keys of the cells
+// rise, those that conflict are added to an empty list.
+fn compare(cells: &[CellEntry], kept: &[CellEntry], found: &mut Conflicts) -> usize
     requires rises { KeysRise kept.now }
     requires few { length cells.now ≤ 64 }
     requires empty { found.old ≡ [] }
@@ -105,8 +168,8 @@ pub(crate) fn compare(cells: &[CellEntry], kept: &[CellEntry], found: &mut Confl
     count
 }
 
-/// Adds the cells whose keys are new, for which there is room, and says which cells conflict.
-pub(crate) fn merge(kept: &mut Vec<CellEntry>, cells: &[CellEntry], found: &mut Conflicts)
+// Adds the cells whose keys are new, for which there is room, and says which cells conflict.
+fn merge(kept: &mut Vec<CellEntry>, cells: &[CellEntry], found: &mut Conflicts)
     requires rises { KeysRise kept.old.items }
     requires few { length cells.now ≤ 64 }
     requires room { vec_len kept.old + fresh cells.now kept.old.items ≤ vec_capacity kept.old }
@@ -123,9 +186,9 @@ pub(crate) fn merge(kept: &mut Vec<CellEntry>, cells: &[CellEntry], found: &mut 
     }
 }
 
-/// Puts cells whose keys rise among the first `kept` ones of a list, which has a place for each new
-/// cell after them. Of two cells with one key the kept one stays.
-pub(crate) fn merge_rising(list: &mut [CellEntry], kept: usize, cells: &[CellEntry])
+// Puts cells whose keys rise among the first `kept` ones of a list, which has a place for each new
+// cell after them. Of two cells with one key the kept one stays.
+fn merge_rising(list: &mut [CellEntry], kept: usize, cells: &[CellEntry])
     requires kept { kept ≤ length list.old }
     requires rises { KeysRise (take kept list.old) }
     requires rising { KeysRise cells.now }

@@ -3,15 +3,17 @@
 ghost use Rattle.std.specs.Prelude.{◌≡◌, ◌≢◌, ◌<◌, ◌≤◌, ◌+◌, ◌++◌, [], not, min, IsTrue, length, IsOk, IfOk, OnErr, OnOk, All, slice_index_or, slice_set, option_to_list};
 ghost use Rattle.std.specs.List.{insert};
 ghost use Rattle.rtk_obs.specs.Cell.{IsInRange};
-ghost use Rattle.rtk_collect.specs.EpochSet.{EpochSetView, joined, fresh, conflicts, EpochsFall};
+ghost use Rattle.rtk_collect.specs.EpochSet.{EpochSetView, joined, fresh, conflicts, AreOfOneKind, EpochsFall};
 ghost use Rattle.rtk_collect.specs.Accepted.{no_cells};
 ghost use Rattle.rtk_collect.specs.Steps.OrderedPlaces.{leading};
+ghost use Rattle.rtk_collect.specs.Steps.Room.{room_for, AreSpare};
 ghost use Rattle.rtk_collect.specs.Steps.Observed.{IsAnswerOf, AddsCells, WouldTakeCells};
 
 use crate::conflicts::Conflicts;
-use crate::epoch_set::EpochSet;
+use crate::epoch_set::{EpochSet, Room, Spare};
+use crate::merging::kind_of;
 use crate::offer::Offer;
-use rtk_obs::{CellEntry, GpsMs};
+use rtk_obs::{CellEntry, CellSource, GpsMs};
 use std::alloc::{AllocError, Global};
 use std::collections::VecDeque;
 
@@ -57,6 +59,7 @@ pub(crate) fn join_at(
     requires within { at < length sets.old.items }
     requires few { length cells.now ≤ 64 }
     requires range { All IsInRange cells.now }
+    requires kind { AreOfOneKind cells.now }
     requires empty { found.old ≡ [] }
     ensures items { (d : EpochSetView) → IfOk result (λ n. sets.new.items ≡ slice_set sets.old.items at (joined cells.now (slice_index_or sets.old.items at d))) }
     ensures fresh { (d : EpochSetView) → IfOk result (λ n. n ≡ fresh cells.now (slice_index_or sets.old.items at d).cells) }
@@ -68,19 +71,31 @@ pub(crate) fn join_at(
     set.join(cells, found)
 }
 
-// For how many cells an epoch that opens at a place has room: for those of its first message, and for
-// as many as the epoch before it has, since messages of each epoch mostly have the same cells.
-fn first_room(sets: &VecDeque<EpochSet>, at: usize, cells: usize) -> usize
-    ensures { cells ≤ result }
+// For how many cells of each kind an epoch that opens at a place has room: for those of its first
+// message, and for as many as the epoch before it has, since messages of each epoch mostly have the
+// same cells.
+fn first_room(sets: &VecDeque<EpochSet>, at: usize, source: CellSource, cells: usize) -> Room
+    ensures { cells ≤ room_for source result }
 {
+    let mut room = Room { msm: 0, legacy: 0 };
     if at < sets.len() {
-        cells.max(sets[at].cells().len())
-    } else {
-        cells
+        let before = &sets[at];
+        room.msm = before.msm_cells().len();
+        room.legacy = before.legacy_cells().len();
+    }
+    match source {
+        CellSource::Msm => Room {
+            msm: room.msm.max(cells),
+            legacy: room.legacy,
+        },
+        CellSource::Legacy => Room {
+            msm: room.msm,
+            legacy: room.legacy.max(cells),
+        },
     }
 }
 
-/// Opens an epoch with cells at its place, if it can in the spare list; those that conflict with one
+/// Opens an epoch with cells at its place, if it can in the spare lists; those that conflict with one
 /// another are added to an empty list. All memory is taken before an epoch changes.
 pub(crate) fn open_at(
     sets: &mut VecDeque<EpochSet>,
@@ -88,20 +103,21 @@ pub(crate) fn open_at(
     alloc: Global,
     epoch: GpsMs,
     cells: &[CellEntry],
-    spare: &mut Vec<CellEntry>,
+    spare: &mut Spare,
     found: &mut Conflicts,
 ) -> Result<(), AllocError>
     requires within { at ≤ length sets.old.items }
     requires few { length cells.now ≤ 64 }
     requires range { All IsInRange cells.now }
+    requires kind { AreOfOneKind cells.now }
     requires empty { found.old ≡ [] }
-    requires spare { spare.old.items ≡ [] }
+    requires spare { AreSpare spare.old }
     ensures items { OnOk result (sets.new.items ≡ insert sets.old.items at (joined cells.now (no_cells epoch))) }
     ensures conflicts { OnOk result (found.new ≡ conflicts cells.now []) }
     ensures err { OnErr result (sets.new.items ≡ sets.old.items) }
-    ensures spare { spare.new.items ≡ [] }
+    ensures spare { AreSpare spare.new }
 {
-    let room = first_room(sets, at, cells.len());
+    let room = first_room(sets, at, kind_of(cells), cells.len());
     let Ok(mut set) = EpochSet::with_room(alloc, epoch, room, spare) else {
         return Err(AllocError);
     };
@@ -143,25 +159,26 @@ pub(crate) fn close_least(sets: &mut VecDeque<EpochSet>, places: usize) -> Optio
     }
 }
 
-/// Takes the new cells of an epoch, or opens it, in a window that has this number of places and a
-/// spare list.
+/// Takes the new cells of an epoch, or opens it, in a window that has this number of places and
+/// spare lists.
 pub(crate) fn offer_cells(
     sets: &mut VecDeque<EpochSet>,
     places: usize,
     alloc: Global,
     epoch: GpsMs,
     cells: &[CellEntry],
-    spare: &mut Vec<CellEntry>,
+    spare: &mut Spare,
 ) -> Result<Offer, AllocError>
     requires fits { length sets.old.items ≤ places }
     requires falls { EpochsFall sets.old.items }
     requires few { length cells.now ≤ 64 }
     requires range { All IsInRange cells.now }
-    requires spare { spare.old.items ≡ [] }
+    requires kind { AreOfOneKind cells.now }
+    requires spare { AreSpare spare.old }
     ensures added { IfOk result (λ offer. AddsCells places epoch cells.now sets.old.items sets.new.items offer) }
     ensures err { OnErr result (sets.new.items ≡ sets.old.items) }
     ensures refused { OnErr result (WouldTakeCells places epoch cells.now sets.old.items) }
-    ensures spare { spare.new.items ≡ [] }
+    ensures spare { AreSpare spare.new }
 {
     let mut conflicts = Conflicts::new();
     let at = place_of_epoch(sets, epoch);

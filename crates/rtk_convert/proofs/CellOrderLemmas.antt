@@ -1,10 +1,10 @@
--- What the order of the cells of an epoch gives: the cells of a satellite stand together, and the
--- cell of a 1074 stands before that of a 1004.
-use Rattle.std.proofs.Common.{◌≡◌, ◌≢◌, ℕ, zero, suc, ◌+◌, ◌-◌, ◌*◌, ◌<◌, ◌≤◌, [], ◌∷◌, ◌++◌, List, length, take, get_or, get_or-take, refl, sym, ap, subst, ◌∙◌, arith, true, false, Bool, nat_eq, cond, Option, Some, None, inl, inr}
-use Rattle.std.specs.Prelude.{is_some, filter, not}
-use Rattle.std.proofs.lemmas.Bool.{cases_order, and_parts, and_from, eqb-true, eq-eqb, false_from_ne_true}
-use Rattle.std.proofs.lemmas.List.{length-take-le, get_or_default}
-use Rattle.std.specs.Bool.{Decides}
+-- What the order of cells gives: those of a satellite stand together, and of one kind of message no
+-- two have one satellite and code.
+use Rattle.std.proofs.Common.{◌≡◌, ◌≢◌, ℕ, zero, suc, ◌+◌, ◌-◌, ◌*◌, ◌<◌, ◌≤◌, [], ◌∷◌, ◌++◌, List, length, take, drop, get_or, get_or-take, get_or-drop, length-drop, take-append-drop, slice_range, refl, sym, ap, subst, ◌∙◌, arith, true, false, Bool, nat_eq, cond, Option, Some, None, All, inl, inr}
+use Rattle.std.specs.Prelude.{is_some}
+use Rattle.std.proofs.lemmas.Bool.{cases_order, cases_lt, and_parts, and_from, eqb-true, eq-eqb, false_from_ne_true}
+use Rattle.std.proofs.lemmas.List.{length-take-le, take_more}
+use Rattle.std.proofs.lemmas.List.Folds.{drop_split}
 use Rattle.std.proofs.lemmas.Bool.Decides.{nat_tests}
 use Rattle.rtk_obs.specs.declared.cell.Cell.{Cell}
 use Rattle.rtk_obs.specs.declared.cell.CellEntry.{CellEntry}
@@ -12,11 +12,21 @@ use Rattle.rtk_obs.specs.declared.cell.CellSource.{CellSource}
 use Rattle.rtk_obs.specs.declared.cell.CellSource.TheVariants.{Legacy, Msm}
 use Rattle.rtk_obs.specs.declared.code.Code.{Code}
 use Rattle.rtk_obs.specs.declared.code.Code.TheVariants.{C1C}
+use Rattle.rtk_obs.specs.Cell.{IsInRange}
 use Rattle.rtk_obs.specs.Code.{place_of}
-use Rattle.rtk_obs.specs.Slip.{is_same_source}
 use Rattle.rtk_obs.proofs.PublicLaws.{place_bound, same_signal}
+use Rattle.rtk_collect.specs.EpochSet.{AreOfOneKind}
 use Rattle.rtk_collect.specs.Key.{key, key_at, rank_of, Above, KeysRise}
-use Rattle.rtk_convert.specs.Rows.{is_from, is_signal, first_cell, cell_at}
+use Rattle.rtk_convert.specs.Rows.{is_signal, first_cell}
+use Rattle.rtk_convert.specs.Steps.ShownCells.{IsPlaceOf}
+
+-- a cell, for the default of a look-up
+abbrev pub any_cell : CellEntry
+any_cell = record {
+  satellite = 0;
+  code = C1C;
+  cell = record { range_mm = None; phase_millicycles = None; strength_millidbhz = None; lock_time_ms = 0; half = false; source = Legacy; offset = None };
+}
 
 -- the number of a satellite and code, by which cells rise
 abbrev pub signal : CellEntry → ℕ
@@ -53,6 +63,16 @@ keys-at (x ∷ xs) (suc i) (suc j) d r l m = keys-at xs i j d r.1 (omega arith) 
 signals-at : (xs : List CellEntry) (i j : ℕ) (d : CellEntry) → KeysRise xs → i < j → j < length xs → signal (get_or xs i d) ≤ signal (get_or xs j d)
 signals-at xs i j d r l m = key-signal (get_or xs i d) (get_or xs j d) (keys-at xs i j d r l m)
 
+key-strict : (a b : CellEntry) → a.cell.source ≡ b.cell.source → key a < key b → signal a < signal b
+unfolding key key_at
+key-strict a b same h =
+    let p : rank_of a.cell.source ≡ rank_of b.cell.source = ap rank_of same in
+    omega arith
+
+-- of one kind of message, satellites and codes rise
+signals-rise : (xs : List CellEntry) (i j : ℕ) (d : CellEntry) → KeysRise xs → AreOfOneKind xs → i < j → j < length xs → signal (get_or xs i d) < signal (get_or xs j d)
+signals-rise xs i j d r one l m = key-strict (get_or xs i d) (get_or xs j d) (one.1 i d (omega arith) ∙ sym (one.1 j d m)) (keys-at xs i j d r l m)
+
 -- the satellites rise
 pub satellites-at : (xs : List CellEntry) (i j : ℕ) (d : CellEntry) → KeysRise xs → i < j → j < length xs → (get_or xs i d).satellite ≤ (get_or xs j d).satellite
 satellites-at xs i j d r l m = signal-satellite (get_or xs i d) (get_or xs j d) (signals-at xs i j d r l m)
@@ -83,15 +103,10 @@ some-at [] k s c d l h = absurd (omega arith)
 some-at (x ∷ xs) zero s c d l h = some-here (is_signal s c x) x.cell (first_cell xs s c) h
 some-at (x ∷ xs) (suc k) s c d l h = some-if (is_signal s c x) x.cell (first_cell xs s c) (some-at xs k s c d (omega arith) h)
 
--- cells of other satellites and codes after a place don't count
-pub first-take : (n : ℕ) (xs : List CellEntry) (s : ℕ) (c : Code) (d : CellEntry) → ((k : ℕ) → n ≤ k → k < length xs → is_signal s c (get_or xs k d) ≡ false)
-    → first_cell (take n xs) s c ≡ first_cell xs s c
-first-take zero xs s c d h = sym (none-at xs s c d (λ k l. h k (omega arith) l))
-first-take (suc n) [] s c d h = refl
-first-take (suc n) (x ∷ xs) s c d h =
-    ap (λ (o : Option Cell). cond (is_signal s c x) (Some x.cell) o) (first-take n xs s c d (λ k m l. h (suc k) (omega arith) (omega arith)))
-
--- ---- is a cell the first of its satellite and code?
+pub some-signal : (xs : List CellEntry) (k s : ℕ) (c : Code) (d : CellEntry) → k < length xs → (get_or xs k d).satellite ≡ s → (get_or xs k d).code ≡ c → is_some (first_cell xs s c) ≡ true
+some-signal xs k s c d l h e =
+    let place : place_of (get_or xs k d).code ≡ place_of c = ap place_of e in
+    some-at xs k s c d l (and_from (nat_eq (get_or xs k d).satellite s) (nat_eq (place_of (get_or xs k d).code) (place_of c)) (eq-eqb (get_or xs k d).satellite s h) (eq-eqb (place_of (get_or xs k d).code) (place_of c) place))
 
 signal-of : (s : ℕ) (c : Code) (e : CellEntry) → is_signal s c e ≡ true → signal e ≡ s * 16 + place_of c
 signal-of s c e h =
@@ -103,145 +118,143 @@ signal-of s c e h =
 other-signal : (s : ℕ) (c : Code) (e : CellEntry) → signal e ≢ s * 16 + place_of c → is_signal s c e ≡ false
 other-signal s c e h = false_from_ne_true (is_signal s c e) (λ t. h (signal-of s c e t))
 
-this-signal : (a b : CellEntry) → a.satellite ≡ b.satellite → a.code ≡ b.code → is_signal b.satellite b.code a ≡ true
-this-signal a b h k =
-    let place : place_of a.code ≡ place_of b.code = ap place_of k in
-    and_from (nat_eq a.satellite b.satellite) (nat_eq (place_of a.code) (place_of b.code)) (eq-eqb a.satellite b.satellite h) (eq-eqb (place_of a.code) (place_of b.code) place)
-
--- of one satellite and code: the satellite and the code
-signal-parts : (a b : CellEntry) → signal a ≡ signal b → (a.satellite ≡ b.satellite) × (place_of a.code ≡ place_of b.code)
-signal-parts a b h =
-    let p = place_bound a.code in
-    let q = place_bound b.code in
-    (omega arith, omega arith)
-
-pub first-repeat : (xs : List CellEntry) (at : ℕ) (d : CellEntry) → 0 < at → at < length xs
-    → (get_or xs (at - 1) d).satellite ≡ (get_or xs at d).satellite → (get_or xs (at - 1) d).code ≡ (get_or xs at d).code
-    → is_some (first_cell (take at xs) (get_or xs at d).satellite (get_or xs at d).code) ≡ true
-first-repeat xs at d m l h k =
-    let e : CellEntry = get_or xs at d in
-    let same : get_or (take at xs) (at - 1) d ≡ get_or xs (at - 1) d = get_or-take at xs (at - 1) d (omega arith) in
-    some-at (take at xs) (at - 1) e.satellite e.code d (omega (arith, length-take-le at xs (omega arith)))
-    (ap (λ (x : CellEntry). is_signal e.satellite e.code x) same ∙ this-signal (get_or xs (at - 1) d) e h k)
-
-last-same : (xs : List CellEntry) (k at : ℕ) (d : CellEntry) → KeysRise xs → k < at → at < length xs → signal (get_or xs k d) ≡ signal (get_or xs at d)
-    → signal (get_or xs (at - 1) d) ≡ signal (get_or xs at d)
-last-same xs k at d r l m q =
-    let up : signal (get_or xs (at - 1) d) ≤ signal (get_or xs at d) = signals-at xs (at - 1) at d r (omega arith) m in
-    elim (cases_order k (at - 1)) [
-      | inl e ↦ subst (λ (i : ℕ). signal (get_or xs i d) ≡ signal (get_or xs at d)) e q
-      | inr (inl lt) ↦ let low : signal (get_or xs k d) ≤ signal (get_or xs (at - 1) d) = signals-at xs k (at - 1) d r lt (omega arith) in omega arith
-      | inr (inr gt) ↦ absurd (omega arith)
-    ]
-
-pub first-new : (xs : List CellEntry) (at : ℕ) (d : CellEntry) → KeysRise xs → at < length xs
-    → (0 < at → signal (get_or xs (at - 1) d) ≢ signal (get_or xs at d))
-    → first_cell (take at xs) (get_or xs at d).satellite (get_or xs at d).code ≡ None
-first-new xs at d r l ne =
-    let e : CellEntry = get_or xs at d in
-    none-at (take at xs) e.satellite e.code d (λ k m.
-    let n : length (take at xs) ≡ at = length-take-le at xs (omega arith) in
-    let below : k < at = omega arith in
-    ap (λ (x : CellEntry). is_signal e.satellite e.code x) (get_or-take at xs k d below)
-    ∙ other-signal e.satellite e.code (get_or xs k d) (λ q. ne (omega arith) (last-same xs k at d r below l q)))
-
--- a cell, for the default of a look-up
-abbrev pub any_cell : CellEntry
-any_cell = record {
-  satellite = 0;
-  code = C1C;
-  cell = record { range_mm = None; phase_millicycles = None; strength_millidbhz = None; lock_time_ms = 0; half = false; source = Legacy; offset = None };
-}
-
 pub same-code : (a b : Code) → place_of a ≡ place_of b → a ≡ b
 same-code a b h = (same_signal 1 1 a b (omega arith, omega arith) (omega arith, omega arith) (ap (λ (k : ℕ). (1 - 1) * 16 + k) h)).1
 
-repeat-by : (xs : List CellEntry) (at : ℕ) (d : CellEntry) (b : Bool) → KeysRise xs → 0 < at → at < length xs
-    → (get_or xs (at - 1) d).satellite ≡ (get_or xs at d).satellite → Decides b ((get_or xs (at - 1) d).code ≡ (get_or xs at d).code)
-    → b ≡ is_some (first_cell (take at xs) (get_or xs at d).satellite (get_or xs at d).code)
-repeat-by xs at d true r m l h k = sym (first-repeat xs at d m l h (k.0 refl))
-repeat-by xs at d false r m l h k =
-    sym (ap is_some (first-new xs at d r l (λ n q. let e : false ≡ true = k.1 (same-code (get_or xs (at - 1) d).code (get_or xs at d).code (signal-parts (get_or xs (at - 1) d) (get_or xs at d) q).1) in cc)))
+pub other-code : (s : ℕ) (c : Code) (e : CellEntry) → e.code ≢ c → is_signal s c e ≡ false
+other-code s c e h = false_from_ne_true (is_signal s c e) (λ t. h (same-code e.code c (eqb-true (place_of e.code) (place_of c) (and_parts (nat_eq e.satellite s) (nat_eq (place_of e.code) (place_of c)) t).1)))
 
--- does a cell repeat the satellite and code of the one before it, which has the same satellite?
-pub repeat-is : (xs : List CellEntry) (at : ℕ) (b : Bool) → KeysRise xs → 0 < at → at < length xs
-    → (get_or xs (at - 1) any_cell).satellite ≡ (get_or xs at any_cell).satellite → Decides b ((get_or xs (at - 1) any_cell).code ≡ (get_or xs at any_cell).code)
-    → (d : CellEntry) → b ≡ is_some (first_cell (take at xs) (get_or xs at d).satellite (get_or xs at d).code)
-repeat-is xs at b r m l h k d =
-    subst (λ (e : CellEntry). b ≡ is_some (first_cell (take at xs) e.satellite e.code)) (get_or_default xs at any_cell d l) (repeat-by xs at any_cell b r m l h k)
+-- ---- the first cell of two lists
 
--- the first cell of a satellite repeats nothing
-pub repeat-no : (xs : List CellEntry) (at : ℕ) → KeysRise xs → at < length xs → ((get_or xs (at - 1) any_cell).satellite ≢ (get_or xs at any_cell).satellite)
-    → (d : CellEntry) → false ≡ is_some (first_cell (take at xs) (get_or xs at d).satellite (get_or xs at d).code)
-repeat-no xs at r l h d =
-    subst (λ (e : CellEntry). false ≡ is_some (first_cell (take at xs) e.satellite e.code)) (get_or_default xs at any_cell d l)
-    (sym (ap is_some (first-new xs at any_cell r l (λ n q. h (signal-parts (get_or xs (at - 1) any_cell) (get_or xs at any_cell) q).0))))
+abbrev pub or_later : Option Cell → Option Cell → Option Cell
+or_later None later = later
+or_later (Some c) later = Some c
 
--- ---- the cells of a 1074 and then the cells of a 1004, or all cells as they stand
+or-cond : (b : Bool) (x : Cell) (o p : Option Cell) → cond b (Some x) (or_later o p) ≡ or_later (cond b (Some x) o) p
+or-cond true x o p = refl
+or-cond false x o p = refl
 
-from-msm : (k : CellSource) → is_same_source k Msm ≡ true → rank_of k ≡ 0
-from-msm Legacy h = cc
-from-msm Msm h = refl
+or-none : (o : Option Cell) → or_later o None ≡ o
+or-none None = refl
+or-none (Some c) = refl
 
-key-apart : (x y : CellEntry) → x.cell.source ≡ Legacy → is_from Msm y ≡ true → key x < key y → signal x ≢ signal y
-unfolding key key_at
-key-apart x y h k l q =
-    let p : rank_of x.cell.source ≡ 1 = ap rank_of h in
-    let r : rank_of y.cell.source ≡ 0 = from-msm y.cell.source k in
-    omega arith
+some-or : (o p : Option Cell) → is_some o ≡ true → is_some (or_later o p) ≡ true
+some-or None p h = cc
+some-or (Some c) p h = refl
 
-msm-apart : (s : ℕ) (c : Code) (x y : CellEntry) → x.cell.source ≡ Legacy → is_signal s c x ≡ true → key x < key y → is_from Msm y ≡ true → is_signal s c y ≡ false
-msm-apart s c x y h here l from = other-signal s c y (λ q. key-apart x y h from l (signal-of s c x here ∙ sym q))
+pub first-append : (xs ys : List CellEntry) (s : ℕ) (c : Code) → first_cell (xs ++ ys) s c ≡ or_later (first_cell xs s c) (first_cell ys s c)
+first-append [] ys s c = refl
+first-append (x ∷ xs) ys s c =
+    ap (λ (o : Option Cell). cond (is_signal s c x) (Some x.cell) o) (first-append xs ys s c) ∙ or-cond (is_signal s c x) x.cell (first_cell xs s c) (first_cell ys s c)
 
-above-more : (j k : ℕ) (xs : List CellEntry) → j ≤ k → Above k xs → Above j xs
-above-more j k [] l a = tt
-above-more j k (x ∷ xs) l a = omega arith
+pub some-before : (xs ys : List CellEntry) (s : ℕ) (c : Code) → is_some (first_cell xs s c) ≡ true → is_some (first_cell (xs ++ ys) s c) ≡ true
+some-before xs ys s c h = ap is_some (first-append xs ys s c) ∙ some-or (first_cell xs s c) (first_cell ys s c) h
 
-kept-none : (b : Bool) (y : CellEntry) (f : List CellEntry) (s : ℕ) (c : Code) → (b ≡ true → is_signal s c y ≡ false) → first_cell f s c ≡ None → first_cell (cond b (y ∷ f) f) s c ≡ None
-kept-none true y f s c h k = none-if (is_signal s c y) y.cell (first_cell f s c) (h refl) k
-kept-none false y f s c h k = k
+pub none-both : (xs ys : List CellEntry) (s : ℕ) (c : Code) → first_cell xs s c ≡ None → first_cell ys s c ≡ None → first_cell (xs ++ ys) s c ≡ None
+none-both xs ys s c h k = first-append xs ys s c ∙ ap (λ (o : Option Cell). or_later o (first_cell ys s c)) h ∙ k
 
--- after a cell of a 1004 stands no cell of a 1074 with the same satellite and code
-msm-none : (x : CellEntry) (xs : List CellEntry) (s : ℕ) (c : Code) → x.cell.source ≡ Legacy → is_signal s c x ≡ true → Above (key x) xs → KeysRise xs
-    → first_cell (filter (is_from Msm) xs) s c ≡ None
-msm-none x [] s c h here a r = refl
-msm-none x (y ∷ ys) s c h here a r =
-    kept-none (is_from Msm y) y (filter (is_from Msm) ys) s c (msm-apart s c x y h here a)
-    (msm-none x ys s c h here (above-more (key x) (key y) ys (omega arith) r.0) r.1)
+-- ---- the cells between two places
 
-middle-by : (a b : Bool) (y x : Cell) (o p q : Option Cell) → (b ≡ true → cond a (Some y) p ≡ None) → ((b ≡ true → p ≡ None) → o ≡ cond b (Some x) q)
-    → cond a (Some y) o ≡ cond b (Some x) (cond a (Some y) q)
-middle-by true true y x o p q h f = absurd (let e : Some y ≡ None = h refl in cc)
-middle-by true false y x o p q h f = refl
-middle-by false true y x o p q h f = f h
-middle-by false false y x o p q h f = f h
+pub range-empty : (xs : List CellEntry) (i : ℕ) → slice_range xs i i ≡ []
+range-empty xs i = let e : i - i ≡ 0 = omega arith in ap (λ (n : ℕ). take n (drop i xs)) e
 
--- a cell in the middle counts first if those before it are of other satellites and codes
-middle : (m l : List CellEntry) (x : CellEntry) (s : ℕ) (c : Code) → (is_signal s c x ≡ true → first_cell m s c ≡ None)
-    → first_cell (m ++ x ∷ l) s c ≡ cond (is_signal s c x) (Some x.cell) (first_cell (m ++ l) s c)
-middle [] l x s c h = refl
-middle (y ∷ m) l x s c h =
-    middle-by (is_signal s c y) (is_signal s c x) y.cell x.cell (first_cell (m ++ x ∷ l) s c) (first_cell m s c) (first_cell (m ++ l) s c) h (middle m l x s c)
+pub range-more : (xs : List CellEntry) (i j : ℕ) (d : CellEntry) → i ≤ j → j < length xs → slice_range xs i (j + 1) ≡ slice_range xs i j ++ get_or xs j d ∷ []
+range-more xs i j d l m =
+    let next : j + 1 - i ≡ j - i + 1 = omega arith in
+    let back : i + (j - i) ≡ j = omega arith in
+    ap (λ (n : ℕ). take n (drop i xs)) next
+    ∙ take_more (drop i xs) (j - i) d (omega (arith, length-drop i xs))
+    ∙ ap (λ (x : CellEntry). take (j - i) (drop i xs) ++ x ∷ []) (get_or-drop i xs (j - i) d ∙ ap (λ (n : ℕ). get_or xs n d) back)
 
-turn-by : (a b : Bool) (x : CellEntry) (m l : List CellEntry) (s : ℕ) (c : Code) → b ≡ not a → (a ≡ false → is_signal s c x ≡ true → first_cell m s c ≡ None)
-    → first_cell (cond a (x ∷ m) m ++ cond b (x ∷ l) l) s c ≡ cond (is_signal s c x) (Some x.cell) (first_cell (m ++ l) s c)
-turn-by true true x m l s c h f = cc
-turn-by true false x m l s c h f = refl
-turn-by false true x m l s c h f = middle m l x s c (f refl)
-turn-by false false x m l s c h f = cc
+pub range-length : (xs : List CellEntry) (i j : ℕ) → j ≤ length xs → length (slice_range xs i j) ≡ j - i
+range-length xs i j l = length-take-le (j - i) (drop i xs) (omega (arith, length-drop i xs))
 
-other-source : (k : CellSource) → is_same_source k Legacy ≡ not (is_same_source k Msm)
-other-source Legacy = refl
-other-source Msm = refl
+pub range-at : (xs : List CellEntry) (i j k : ℕ) (d : CellEntry) → k < j - i → get_or (slice_range xs i j) k d ≡ get_or xs (i + k) d
+range-at xs i j k d l = get_or-take (j - i) (drop i xs) k d l ∙ get_or-drop i xs k d
 
-legacy-of : (k : CellSource) → is_same_source k Msm ≡ false → k ≡ Legacy
-legacy-of Legacy h = refl
-legacy-of Msm h = cc
+-- of one kind of message, no cell before another one has its satellite and code
+pub range-new : (xs : List CellEntry) (i j : ℕ) (d : CellEntry) → KeysRise xs → AreOfOneKind xs → j < length xs
+    → first_cell (slice_range xs i j) (get_or xs j d).satellite (get_or xs j d).code ≡ None
+range-new xs i j d r one l =
+    let e : CellEntry = get_or xs j d in
+    none-at (slice_range xs i j) e.satellite e.code d (λ k m.
+    let n : length (slice_range xs i j) ≡ j - i = range-length xs i j (omega arith) in
+    let less : signal (get_or xs (i + k) d) < signal e = signals-rise xs (i + k) j d r one (omega arith) l in
+    ap (λ (x : CellEntry). is_signal e.satellite e.code x) (range-at xs i j k d (omega arith)) ∙ other-signal e.satellite e.code (get_or xs (i + k) d) (λ q. omega arith))
 
--- the cell that stands for a satellite and code is the first one
-pub in-turn : (xs : List CellEntry) (s : ℕ) (c : Code) → KeysRise xs → cell_at xs s c ≡ first_cell xs s c
-in-turn [] s c r = refl
-in-turn (x ∷ xs) s c r =
-    turn-by (is_from Msm x) (is_from Legacy x) x (filter (is_from Msm) xs) (filter (is_from Legacy) xs) s c (other-source x.cell.source)
-    (λ from here. msm-none x xs s c (legacy-of x.cell.source from) here r.0 r.1)
-    ∙ ap (λ (o : Option Cell). cond (is_signal s c x) (Some x.cell) o) (in-turn xs s c r.1)
+-- the cells of a satellite
+pub range-satellite : (xs : List CellEntry) (i j s : ℕ) → IsPlaceOf s xs i → IsPlaceOf (s + 1) xs j → All (λ (e : CellEntry). e.satellite ≡ s) (slice_range xs i j)
+range-satellite xs i j s p q k d m =
+    let n : length (slice_range xs i j) ≡ j - i = range-length xs i j q.within in
+    let low : s ≤ (get_or xs (i + k) d).satellite = p.others (i + k) d (omega arith) (omega (arith, q.within)) in
+    let high : (get_or xs (i + k) d).satellite < s + 1 = q.lesser (i + k) d (omega arith) in
+    let is : (get_or xs (i + k) d).satellite ≡ s = omega arith in
+    ap (λ (e : CellEntry). e.satellite) (range-at xs i j k d (omega arith)) ∙ is
+
+pub range-other : (xs : List CellEntry) (s t : ℕ) (c : Code) → All (λ (e : CellEntry). e.satellite ≡ s) xs → t ≢ s → first_cell xs t c ≡ None
+range-other xs s t c all ne = none-at xs t c any_cell (λ k m. other-satellite t c (get_or xs k any_cell) (λ q. ne (sym q ∙ all k any_cell m)))
+
+none-take : (xs : List CellEntry) (i s : ℕ) (c : Code) → IsPlaceOf s xs i → first_cell (take i xs) s c ≡ None
+none-take xs i s c p =
+    none-at (take i xs) s c any_cell (λ k m.
+    let n : length (take i xs) ≡ i = length-take-le i xs p.within in
+    let less : (get_or xs k any_cell).satellite < s = p.lesser k any_cell (omega arith) in
+    ap (λ (x : CellEntry). is_signal s c x) (get_or-take i xs k any_cell (omega arith)) ∙ other-satellite s c (get_or xs k any_cell) (λ q. omega arith))
+
+none-drop : (xs : List CellEntry) (j s : ℕ) (c : Code) → IsPlaceOf (s + 1) xs j → first_cell (drop j xs) s c ≡ None
+none-drop xs j s c p =
+    none-at (drop j xs) s c any_cell (λ k m.
+    let n : length (drop j xs) ≡ length xs - j = length-drop j xs in
+    let more : s + 1 ≤ (get_or xs (j + k) any_cell).satellite = p.others (j + k) any_cell (omega arith) (omega arith) in
+    ap (λ (x : CellEntry). is_signal s c x) (get_or-drop j xs k any_cell) ∙ other-satellite s c (get_or xs (j + k) any_cell) (λ q. omega arith))
+
+-- the first cell of a satellite and code is the first between the places of its satellite and the next one
+pub first-range : (xs : List CellEntry) (i j s : ℕ) (c : Code) → IsPlaceOf s xs i → IsPlaceOf (s + 1) xs j → i ≤ j → first_cell (slice_range xs i j) s c ≡ first_cell xs s c
+first-range xs i j s c p q l =
+    let r = slice_range xs i j in
+    let after : first_cell (r ++ drop j xs) s c ≡ first_cell r s c =
+    first-append r (drop j xs) s c ∙ ap (or_later (first_cell r s c)) (none-drop xs j s c q) ∙ or-none (first_cell r s c) in
+    let whole : take i xs ++ (r ++ drop j xs) ≡ xs = ap (λ (ys : List CellEntry). take i xs ++ ys) (sym (drop_split xs i j l)) ∙ take-append-drop i xs in
+    sym (ap (λ (ys : List CellEntry). first_cell ys s c) (sym whole) ∙ first-append (take i xs) (r ++ drop j xs) s c
+    ∙ ap (λ (o : Option Cell). or_later o (first_cell (r ++ drop j xs) s c)) (none-take xs i s c p) ∙ after)
+
+-- a satellite whose place is that of the next one has no cell
+pub first-absent : (xs : List CellEntry) (i s : ℕ) (c : Code) → IsPlaceOf s xs i → IsPlaceOf (s + 1) xs i → first_cell xs s c ≡ None
+first-absent xs i s c p q = sym (first-range xs i i s c p q (omega arith)) ∙ ap (λ (ys : List CellEntry). first_cell ys s c) (range-empty xs i)
+
+-- ---- the place of the next satellite
+
+pub place-first : (xs : List CellEntry) → All IsInRange xs → IsPlaceOf 1 xs 0
+place-first xs ranges = record {
+  within = omega arith;
+  lesser = λ k d l. absurd (omega arith);
+  others = λ k d a l. let r : IsInRange (get_or xs k d) = ranges k d l in let p = r.satellite in p.0;
+}
+
+-- cells from a place on are of greater satellites if the first of them is
+all-next : (xs : List CellEntry) (end s : ℕ) (d : CellEntry) → KeysRise xs → (end < length xs → s < (get_or xs end d).satellite) → (k : ℕ) → end ≤ k → k < length xs → s < (get_or xs k d).satellite
+all-next xs end s d r next k m l =
+    elim (cases_order end k) [
+      | inl e ↦ subst (λ (i : ℕ). s < (get_or xs i d).satellite) e (next (omega arith))
+      | inr (inl lt) ↦ let up : (get_or xs end d).satellite ≤ (get_or xs k d).satellite = satellites-at xs end k d r lt l in let n = next (omega arith) in omega arith
+      | inr (inr gt) ↦ absurd (omega arith)
+    ]
+
+pub place-after : (xs : List CellEntry) (begin end s : ℕ) → KeysRise xs → IsPlaceOf s xs begin → begin ≤ end → end ≤ length xs
+    → ((k : ℕ) (d : CellEntry) → begin ≤ k → k < end → (get_or xs k d).satellite ≡ s) → (end < length xs → (d : CellEntry) → (get_or xs end d).satellite ≢ s) → IsPlaceOf (s + 1) xs end
+place-after xs begin end s r p from within same ne = record {
+  within = within;
+  lesser = λ k d l. elim (cases_lt k begin) [
+    | inl a ↦ let h = p.lesser k d a in omega arith
+    | inr a ↦ let h = same k d a l in omega arith
+  ];
+  others = λ k d a l.
+      let next : s < (get_or xs k d).satellite = all-next xs end s d r (λ m.
+      let low : s ≤ (get_or xs end d).satellite = p.others end d from m in
+      let no = ne m d in
+      omega arith) k a l in
+      omega arith;
+}
+
+pub place-absent : (xs : List CellEntry) (at s : ℕ) → KeysRise xs → IsPlaceOf s xs at → (at < length xs → (d : CellEntry) → (get_or xs at d).satellite ≢ s) → IsPlaceOf (s + 1) xs at
+place-absent xs at s r p ne = place-after xs at at s r p (omega arith) p.within (λ k d a b. absurd (omega arith)) ne

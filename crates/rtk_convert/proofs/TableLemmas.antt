@@ -11,13 +11,13 @@ use Rattle.rtk_obs.specs.declared.code.Code.{Code}
 use Rattle.rtk_obs.specs.declared.cell.CellEntry.{CellEntry}
 use Rattle.rtk_obs.specs.declared.cell.CellSource.TheVariants.{Legacy, Msm}
 use Rattle.rtk_obs.specs.Cell.{IsInRange as IsEntry}
-use Rattle.rtk_collect.specs.EpochSet.{EpochSetView, FirstIsBelow, EpochsFall}
+use Rattle.rtk_collect.specs.EpochSet.{EpochSetView, is_from, FirstIsBelow, EpochsFall}
 use Rattle.rtk_rinex.specs.declared.epoch_table.Observed.{Observed}
 use Rattle.rtk_rinex.specs.Reading.{IsMoment}
 use Rattle.rtk_rinex.specs.Header.{header_text}
 use Rattle.rtk_rinex.specs.Record.{EpochTableView, IsStrengthOrNone, IsRow, IsEpochTableView, HasWidth, record_text}
 use Rattle.rtk_rinex.specs.Table.{StartsAt, with_record, shown_table, FilesAreTables}
-use Rattle.rtk_convert.specs.Rows.{last_phase_of, cell_at, in_turn, is_from, observed_at, or_nothing, table_of}
+use Rattle.rtk_convert.specs.Rows.{last_phase_of, cell_at, in_turn, observed_at, or_nothing, table_of}
 use Rattle.rtk_convert.specs.File.{record_of, records, first_or, first_time}
 use Rattle.rtk_convert.specs.FileLaws.{IsGoodEpoch, FileIsTable}
 use Rattle.rtk_convert.proofs.RowsLemmas.{all-rows, rows-width, rows_to-rise, HasStrength, first-strength, observed-strength}

@@ -58,9 +58,9 @@ pub taken-same : (old : List (Option Track)) (epoch : ℕ) (xs ys : List CellEnt
     → AreTaken old epoch xs new → AreTaken old epoch ys new
 taken-same old epoch xs ys new same g s c hs = g s c hs ∙ ap (track_after (track_at old s c) c epoch) (sym (same s c hs))
 
-pub may-same : (new : List (Option Track)) (xs ys : List CellEntry) (epoch : ℕ) → ((s : ℕ) (c : Code) → IsSatellite s → first_cell ys s c ≡ first_cell xs s c)
-    → MayStep new xs epoch → MayStep new ys epoch
-may-same new xs ys epoch same may s c hs none = may s c hs (sym (same s c hs) ∙ none)
+pub may-same : (new : List (Option Track)) (xs ys : List CellEntry) (s epoch : ℕ) → ((c : Code) → first_cell ys s c ≡ first_cell xs s c)
+    → MayStep new xs s epoch → MayStep new ys s epoch
+may-same new xs ys s epoch same may c none = may c (sym (same c) ∙ none)
 
 -- a cell of a new satellite and code
 pub taken-more : (old : List (Option Track)) (epoch : ℕ) (xs : List CellEntry) (new after : List (Option Track)) (e : CellEntry) → IsSatellite e.satellite
@@ -106,16 +106,16 @@ not-none : (xs : List CellEntry) (e : CellEntry) (s : ℕ) (c : Code) → is_sig
 not-none [] e s c t h = let some : first_cell (e ∷ []) s c ≡ Some e.cell = rw t refl in cc
 not-none (y ∷ xs) e s c t h = none-rest (is_signal s c y) y.cell (first_cell (xs ++ e ∷ []) s c) (not-none xs e s c t) h
 
--- what has no cell yet may have one, also after a cell
-pub may-more : (new after : List (Option Track)) (xs : List CellEntry) (epoch : ℕ) (e : CellEntry)
+-- a code without a cell may have one, also after a cell
+pub may-more : (new after : List (Option Track)) (xs : List CellEntry) (s epoch : ℕ) (e : CellEntry)
     → ((s : ℕ) (c : Code) → place_of_signal s c ≢ place_of_signal e.satellite e.code → track_at after s c ≡ track_at new s c)
-    → IsSatellite e.satellite → MayStep new xs epoch → MayStep after (xs ++ e ∷ []) epoch
-may-more new after xs epoch e others he may s c hs none =
+    → IsSatellite e.satellite → IsSatellite s → MayStep new xs s epoch → MayStep after (xs ++ e ∷ []) s epoch
+may-more new after xs s epoch e others he hs may c none =
     by_eq (place_of_signal e.satellite e.code) (place_of_signal s c)
     (λ q. let p = same_signal e.satellite s e.code c he hs q in
     absurd (not-none xs e s c (same_test e.satellite (place_of e.code) s (place_of c) p.0 (ap place_of p.1)) none))
     (λ ne. subst (λ (t : Option Track). IsLater t epoch) (sym (others s c (λ q. ne (sym q))))
-    (may s c hs (sym (cell-other xs e s c (other_signal e.satellite s e.code c ne)) ∙ none)))
+    (may c (sym (cell-other xs e s c (other_signal e.satellite s e.code c ne)) ∙ none)))
 
 -- ---- a whole epoch
 

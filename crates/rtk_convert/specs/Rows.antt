@@ -4,23 +4,19 @@ use Rattle.std.specs.Prelude.{ℕ, zero, suc, Bool, false, ◌&&◌, ◌==◌, L
 use Rattle.std.specs.List.{list_any}
 use Rattle.rtk_obs.specs.declared.cell.Cell.{Cell}
 use Rattle.rtk_obs.specs.declared.cell.CellEntry.{CellEntry}
-use Rattle.rtk_obs.specs.declared.cell.CellSource.{CellSource}
 use Rattle.rtk_obs.specs.declared.cell.CellSource.TheVariants.{Legacy, Msm}
 use Rattle.rtk_obs.specs.declared.code.Code.{Code}
 use Rattle.rtk_obs.specs.declared.track.Track.{Track}
 use Rattle.rtk_obs.specs.declared.track.Digits.{Digits}
 use Rattle.rtk_obs.specs.Code.{place_of, band_of}
-use Rattle.rtk_obs.specs.Slip.{EpochCell, epoch_cell, is_same_source}
+use Rattle.rtk_obs.specs.Slip.{EpochCell, epoch_cell}
 use Rattle.rtk_obs.specs.Rollover.{last_phase, digits_since, rolled_phase}
-use Rattle.rtk_collect.specs.EpochSet.{EpochSetView}
+use Rattle.rtk_collect.specs.EpochSet.{EpochSetView, is_from}
 use Rattle.rtk_rinex.specs.declared.epoch_table.Observed.{Observed}
 use Rattle.rtk_rinex.specs.declared.epoch_table.SatelliteRow.{SatelliteRow}
 use Rattle.rtk_rinex.specs.Record.{EpochTableView}
 
 -- ---- the cell of a satellite and code (this project's rule)
-
-abbrev pub is_from : CellSource → CellEntry → Bool
-is_from source e = is_same_source e.cell.source source
 
 -- the cells of an epoch: first the cells of a 1074, then the cells of a 1004
 abbrev pub in_turn : List CellEntry → List CellEntry

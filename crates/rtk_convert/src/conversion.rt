@@ -213,9 +213,8 @@ impl Conversion {
             return put_lines(log, &lines);
         };
         let position = self.collector.station();
-        let (epoch, cells) = (set.epoch(), set.cells());
         self.records
-            .close(self.alloc, &self.setup, &position, epoch, cells, out)?;
+            .close(self.alloc, &self.setup, &position, &set, out)?;
         self.collector.hand_back(set);
         put_lines(log, &lines)
     }

@@ -1,22 +1,23 @@
 //! The rows of a closed epoch, made from its cells.
 
-ghost use Rattle.std.specs.Prelude.{◌≡◌, ◌≢◌, ℕ, ◌+◌, ◌<◌, ◌≤◌, List, [], ◌∷◌, map, take, length, replicate, Option, Some, All, AllPairs, slice_index_or, is_some, not, IsTrue, None, OnOk};
+ghost use Rattle.std.specs.Prelude.{◌≡◌, ◌≢◌, ℕ, Bool, ◌+◌, ◌<◌, ◌≤◌, List, [], ◌∷◌, ◌++◌, ◌||◌, map, length, replicate, Option, Some, All, AllPairs, slice_index_or, slice_range, is_some, not, IsTrue, None, OnOk};
 ghost use Rattle.std.specs.List.{list_any};
 ghost use Rattle.rtk_obs.specs.declared.cell.CellEntry.{CellEntry};
 ghost use Rattle.rtk_obs.specs.declared.track.Track.{Track};
-ghost use Rattle.rtk_obs.specs.Cell.{IsInRange};
+ghost use Rattle.rtk_obs.specs.Cell.{IsInRange, IsSatellite};
 ghost use Rattle.rtk_obs.specs.Code.{band_of};
 ghost use Rattle.rtk_obs.specs.Rollover.{last_after, digits_since};
 ghost use Rattle.rtk_obs.specs.Slip.{epoch_cell};
 ghost use Rattle.rtk_obs.specs.Tracks.{IsLater, track_at, place_of_signal};
-ghost use Rattle.rtk_collect.specs.EpochSet.{EpochSetView};
+ghost use Rattle.rtk_collect.specs.EpochSet.{EpochSetView, AreOfOneKind};
 ghost use Rattle.rtk_collect.specs.Key.{KeysRise};
 ghost use Rattle.rtk_rinex.specs.Header.{IsCodeList};
 ghost use Rattle.rtk_rinex.specs.RecordLines.{HoldsLines};
 ghost use Rattle.rtk_convert.specs.Rows.{first_cell, rolled_or_none, observed_with, or_nothing, table_of};
 ghost use Rattle.rtk_convert.specs.LastPhases.{HasLastPhases};
-ghost use Rattle.rtk_convert.specs.Steps.ShownCells.{AllBelow, AreTaken, MayStep, ArePlaces, shown_by, is_code, with_code};
+ghost use Rattle.rtk_convert.specs.Steps.ShownCells.{AllBelow, MayStep, IsPlaceOf, Shows, ArePlaces, is_code, with_code};
 
+use rtk_collect::EpochSet;
 use rtk_obs::{Cell, CellEntry, Code, Digits, GpsMs, Tracks, rolled};
 use rtk_rinex::{Observed, RecordLines};
 use std::alloc::AllocError;
@@ -111,17 +112,16 @@ fn take_entry(
     put_listed(listed, places, entry.code, shown, row)
 }
 
-// Has an earlier cell the same satellite and code? It stands right before this one.
-fn is_repeat(entries: &[CellEntry], at: usize) -> bool
-    requires place { at < length entries.now }
-    requires rises { KeysRise entries.now }
-    ensures { (d : CellEntry) → result ≡ is_some (first_cell (take at entries.now) (slice_index_or entries.now at d).satellite (slice_index_or entries.now at d).code) }
+// Has one of these cells, all of one satellite, this code?
+fn has_code(entries: &[CellEntry], code: Code) -> bool
+    ensures { (satellite : ℕ) → All (λ e. e.satellite ≡ satellite) entries.now → result ≡ is_some (first_cell entries.now satellite code) }
 {
-    if at == 0 {
-        return false;
+    for entry in entries {
+        if entry.code == code {
+            return true;
+        }
     }
-    let (before, entry) = (&entries[at - 1], &entries[at]);
-    before.satellite == entry.satellite && before.code == entry.code
+    false
 }
 
 // Is there a cell of this satellite at this place?
@@ -132,54 +132,92 @@ fn has_satellite(entries: &[CellEntry], at: usize, satellite: u8) -> bool
     at < entries.len() && entries[at].satellite == satellite
 }
 
-// Writes that no code shows anything.
+// Has a satellite, which has its place in two lists of cells, no cell in them?
+fn is_absent(
+    satellite: u8,
+    msm: &[CellEntry],
+    msm_at: usize,
+    legacy: &[CellEntry],
+    legacy_at: usize,
+) -> bool
+    requires msm_rises { KeysRise msm.now }
+    requires msm_place { IsPlaceOf satellite msm.now msm_at }
+    requires legacy_rises { KeysRise legacy.now }
+    requires legacy_place { IsPlaceOf satellite legacy.now legacy_at }
+    ensures msm { IsTrue result → IsPlaceOf (satellite + 1) msm.now msm_at }
+    ensures legacy { IsTrue result → IsPlaceOf (satellite + 1) legacy.now legacy_at }
+{
+    if has_satellite(msm, msm_at, satellite) {
+        return false;
+    }
+    if has_satellite(legacy, legacy_at, satellite) {
+        return false;
+    }
+    true
+}
+
+// Writes that a code shows nothing.
+fn clear(shown: &mut Observed)
+    ensures { shown.new ≡ or_nothing None }
+{
+    shown.range_mm = None;
+    shown.phase_millicycles = None;
+    shown.strength_millidbhz = None;
+    shown.slip = false;
+    shown.half = false;
+}
+
+// Writes that no code shows anything, field by field: a file lists few codes, and to fill their bytes
+// would take a call.
 fn blank(row: &mut [Observed])
     ensures { (listed : List Code) → length row.old ≡ length listed → row.new ≡ map (λ code. or_nothing None) listed }
 {
-    row.fill(NOTHING);
+    for shown in row.iter_mut() {
+        clear(shown);
+    }
 }
 
-// How far the cells of a satellite reach, and whether one of them has a listed code.
+// How far the cells of a satellite reach in a list, and whether one that was taken has a listed code.
 #[derive(Clone, Copy)]
 struct Taken {
     end: usize,
     has_listed: bool,
 }
 
-// Takes the cells of the satellite whose first cell stands at `begin`, and writes its row.
-fn take_satellite(
+// Takes the cells of a satellite from its place on, but for those whose code an earlier one of its
+// cells has; and writes what they show into its row. It stands where it is called: for the first list,
+// to which no cell is earlier, much of it falls away.
+#[inline(always)]
+fn take_cells(
     tracks: &mut Tracks,
     epoch: GpsMs,
+    satellite: u8,
+    earlier: &[CellEntry],
     entries: &[CellEntry],
     begin: usize,
     listed: &[Code],
     places: &[u8; 16],
     row: &mut [Observed],
 ) -> Taken
-    requires place { begin < length entries.now }
+    requires satellite { IsSatellite satellite }
+    requires earlier { All (λ e. e.satellite ≡ satellite) earlier.now }
     requires ranges { All IsInRange entries.now }
     requires rises { KeysRise entries.now }
-    requires first { (k : ℕ) (d : CellEntry) → k < begin → (slice_index_or entries.now k d).satellite < (slice_index_or entries.now begin d).satellite }
-    requires later { MayStep tracks.old (take begin entries.now) epoch }
+    requires kind { AreOfOneKind entries.now }
+    requires place { IsPlaceOf satellite entries.now begin }
+    requires later { MayStep tracks.old earlier.now satellite epoch }
     requires width { length row.old ≡ length listed.now }
     requires places { ArePlaces listed.now places.now }
-    ensures taken { (old : List (Option Track)) → AreTaken old epoch (take begin entries.now) tracks.old → AreTaken old epoch (take result.end entries.now) tracks.new }
-    ensures later { MayStep tracks.new (take result.end entries.now) epoch }
-    ensures row { (old : List (Option Track)) (d : CellEntry) → AreTaken old epoch (take begin entries.now) tracks.old
-        → row.new ≡ map (λ code. or_nothing (shown_by old epoch entries.now (slice_index_or entries.now begin d).satellite code)) listed.now }
-    ensures listed { (old : List (Option Track)) (d : CellEntry) → AreTaken old epoch (take begin entries.now) tracks.old
-        → result.has_listed ≡ list_any (λ code. is_some (shown_by old epoch entries.now (slice_index_or entries.now begin d).satellite code)) listed.now }
-    ensures further { begin < result.end }
-    ensures within { result.end ≤ length entries.now }
-    ensures same { (k : ℕ) (d : CellEntry) → begin ≤ k → k < result.end → (slice_index_or entries.now k d).satellite ≡ (slice_index_or entries.now begin d).satellite }
-    ensures next { (k : ℕ) (d : CellEntry) → result.end ≤ k → k < length entries.now → (slice_index_or entries.now begin d).satellite < (slice_index_or entries.now k d).satellite }
+    ensures shows { (old : List (Option Track)) (found : Bool) → Shows old epoch earlier.now satellite listed.now tracks.old row.old found
+        → Shows old epoch (earlier.now ++ slice_range entries.now begin result.end) satellite listed.now tracks.new row.new (result.has_listed || found) }
+    ensures later { MayStep tracks.new (earlier.now ++ slice_range entries.now begin result.end) satellite epoch }
+    ensures from { begin ≤ result.end }
+    ensures next { IsPlaceOf (satellite + 1) entries.now result.end }
 {
-    let satellite = entries[begin].satellite;
-    blank(row);
     let mut has_listed = false;
     let mut end = begin;
     'cells: while has_satellite(entries, end, satellite) {
-        if is_repeat(entries, end) {
+        if has_code(earlier, entries[end].code) {
             end += 1;
             continue;
         }
@@ -189,44 +227,113 @@ fn take_satellite(
     Taken { end, has_listed }
 }
 
+// How far the cells of a satellite reach in two lists, and whether one that was taken has a listed code.
+#[derive(Clone, Copy)]
+struct TakenSatellite {
+    msm_end: usize,
+    legacy_end: usize,
+    has_listed: bool,
+}
+
+// Takes the cells of a satellite, which has its place in two lists of cells: first those of a 1074,
+// then those of a 1004 whose code none of a 1074 has. Writes its row.
+fn take_satellite(
+    tracks: &mut Tracks,
+    epoch: GpsMs,
+    satellite: u8,
+    msm: &[CellEntry],
+    msm_at: usize,
+    legacy: &[CellEntry],
+    legacy_at: usize,
+    listed: &[Code],
+    places: &[u8; 16],
+    row: &mut [Observed],
+) -> TakenSatellite
+    requires satellite { IsSatellite satellite }
+    requires msm_ranges { All IsInRange msm.now }
+    requires msm_rises { KeysRise msm.now }
+    requires msm_kind { AreOfOneKind msm.now }
+    requires msm_place { IsPlaceOf satellite msm.now msm_at }
+    requires legacy_ranges { All IsInRange legacy.now }
+    requires legacy_rises { KeysRise legacy.now }
+    requires legacy_kind { AreOfOneKind legacy.now }
+    requires legacy_place { IsPlaceOf satellite legacy.now legacy_at }
+    requires later { MayStep tracks.old [] satellite epoch }
+    requires width { length row.old ≡ length listed.now }
+    requires places { ArePlaces listed.now places.now }
+    ensures shows { Shows tracks.old epoch (slice_range msm.now msm_at result.msm_end ++ slice_range legacy.now legacy_at result.legacy_end)
+        satellite listed.now tracks.new row.new result.has_listed }
+    ensures msm_from { msm_at ≤ result.msm_end }
+    ensures msm_next { IsPlaceOf (satellite + 1) msm.now result.msm_end }
+    ensures legacy_from { legacy_at ≤ result.legacy_end }
+    ensures legacy_next { IsPlaceOf (satellite + 1) legacy.now result.legacy_end }
+{
+    blank(row);
+    let first = take_cells(
+        tracks,
+        epoch,
+        satellite,
+        &msm[..0],
+        msm,
+        msm_at,
+        listed,
+        places,
+        row,
+    );
+    let own = &msm[msm_at..first.end];
+    let second = take_cells(
+        tracks, epoch, satellite, own, legacy, legacy_at, listed, places, row,
+    );
+    TakenSatellite {
+        msm_end: first.end,
+        legacy_end: second.end,
+        has_listed: first.has_listed | second.has_listed,
+    }
+}
+
 /// Writes the rows of a closed epoch as lines of its record, and keeps the phases of its cells as the
 /// last phases of their satellites and codes.
 ///
 /// A cell is compared with the last phase of its satellite and code, however old that is, also if
-/// its code is not listed. The cells rise, so those of a satellite stand together, and of a
-/// satellite and code the first one stands. If memory is refused nothing is said of the lines and
-/// the last phases.
+/// its code is not listed. Of a satellite and code the cell of a 1074 stands, else that of a 1004. If
+/// memory is refused nothing is said of the lines and the last phases.
 pub(crate) fn push_rows(
     tracks: &mut Tracks,
-    epoch: GpsMs,
-    entries: &[CellEntry],
+    set: &EpochSet,
     listed: &[Code],
     lines: &mut RecordLines,
 ) -> Result<(), AllocError>
-    requires ranges { All IsInRange entries.now }
-    requires rises { KeysRise entries.now }
     requires listed { IsCodeList listed.now }
-    requires later { AllBelow tracks.old epoch }
+    requires later { AllBelow tracks.old set.now.epoch }
     ensures lines { OnOk result ((below : List EpochSetView) → HasLastPhases tracks.old below
-        → HoldsLines lines.new (table_of listed.now (record { epoch = epoch; cells = entries.now }) below).rows) }
+        → HoldsLines lines.new (table_of listed.now set.now below).rows) }
     ensures phases { OnOk result ((below : List EpochSetView) → HasLastPhases tracks.old below
-        → HasLastPhases tracks.new (record { epoch = epoch; cells = entries.now } ∷ below)) }
-    ensures later { OnOk result ((later : ℕ) → epoch < later → AllBelow tracks.new later) }
+        → HasLastPhases tracks.new (set.now ∷ below)) }
+    ensures later { OnOk result ((later : ℕ) → set.now.epoch < later → AllBelow tracks.new later) }
 {
     lines.restart();
+    let epoch = set.epoch();
+    let msm = set.msm_cells();
+    let legacy = set.legacy_cells();
     let places = places_of(listed);
     let mut room = [NOTHING; 16];
     let row = &mut room[..listed.len()];
-    let mut at = 0;
-    'satellites: while at < entries.len() {
-        let satellite = entries[at].satellite;
-        let taken = take_satellite(tracks, epoch, entries, at, listed, &places, row);
+    let mut msm_at = 0;
+    let mut legacy_at = 0;
+    'satellites: for satellite in 1..33 {
+        if is_absent(satellite, msm, msm_at, legacy, legacy_at) {
+            continue;
+        }
+        let taken = take_satellite(
+            tracks, epoch, satellite, msm, msm_at, legacy, legacy_at, listed, &places, row,
+        );
         if taken.has_listed {
             if let Err(_) = lines.push_row(satellite, row) {
                 return Err(AllocError);
             }
         }
-        at = taken.end;
+        msm_at = taken.msm_end;
+        legacy_at = taken.legacy_end;
     }
     Ok(())
 }

@@ -1,7 +1,6 @@
 //! Writes the records of epochs as they close, and at the end of the epochs that are still open.
 
 ghost use Rattle.rtk_collect.specs.EpochSet.{EpochSetView};
-ghost use Rattle.rtk_collect.specs.Key.{KeysRise};
 ghost use Rattle.rtk_convert.specs.Failure.{NamesFailedWrites};
 ghost use Rattle.rtk_convert.specs.Steps.Faults.{IsOutFault};
 ghost use Rattle.rtk_convert.specs.Steps.ClosedText.{closing};
@@ -9,19 +8,18 @@ ghost use Rattle.rtk_convert.specs.Steps.Closing.{AllAbove, ClosesEpochs, Closes
 ghost use Rattle.rtk_convert.specs.Steps.ShownCells.{AllBelow};
 ghost use Rattle.rtk_convert.specs.Records.{HasClosed};
 ghost use Rattle.rtk_frame.specs.Stream.{with_more, TakesPart};
-ghost use Rattle.rtk_obs.specs.Cell.{IsInRange};
 ghost use Rattle.rtk_obs.specs.Tracks.{RepresentsSteps};
 ghost use Rattle.rtk_obs.specs.declared.code.Code.{Code};
 ghost use Rattle.rtk_rinex.specs.Header.{position_view};
-ghost use Rattle.std.specs.Prelude.{◌≡◌, ◌≢◌, ℕ, ◌<◌, [], ◌∷◌, List, All, None, false, OnOk, IfOk, IfErr, IsErrOf, OnErr};
+ghost use Rattle.std.specs.Prelude.{◌≡◌, ◌≢◌, ℕ, ◌<◌, [], ◌∷◌, List, None, false, OnOk, IfOk, IfErr, IsErrOf, OnErr};
 
 use crate::epoch_rows::push_rows;
 use crate::fault::{ConvertFault, Stream};
 use crate::output::put_record;
 use crate::setup::Setup;
-use rtk_collect::Left;
+use rtk_collect::{EpochSet, Left};
 use rtk_frame::Sink;
-use rtk_obs::{CellEntry, GpsMs, Position, Tracks};
+use rtk_obs::{Position, Tracks};
 use rtk_rinex::RecordLines;
 use std::alloc::{AllocError, Global};
 use std::marker::Model;
@@ -97,29 +95,27 @@ impl ClosedEpochs {
         alloc: Global,
         setup: &Setup,
         position: &Position,
-        epoch: GpsMs,
-        cells: &[CellEntry],
+        set: &EpochSet,
         out: &mut O,
     ) -> Result<(), ConvertFault>
-        requires ranges { All IsInRange cells.now }
-        requires rises { KeysRise cells.now }
-        requires later { AllBelow self.old.tracks epoch }
+        requires { AllBelow self.old.tracks set.now.epoch }
         ensures follows { OnOk result ((below : List EpochSetView) → HasClosed self.old setup.now.head.listed below
-            → HasClosed self.new setup.now.head.listed (record { epoch = epoch; cells = cells.now } ∷ below)) }
+            → HasClosed self.new setup.now.head.listed (set.now ∷ below)) }
         ensures all { OnOk result ((below : List EpochSetView) → HasClosed self.old setup.now.head.listed below
             → O.taken out.new ≡ with_more (O.taken out.old)
-            (closing setup.now (position_view position.now) (record { epoch = epoch; cells = cells.now }) below)) }
+            (closing setup.now (position_view position.now) set.now below)) }
         ensures part { (below : List EpochSetView) → HasClosed self.old setup.now.head.listed below
             → TakesPart (O.taken out.old) (O.taken out.new)
-            (closing setup.now (position_view position.now) (record { epoch = epoch; cells = cells.now }) below) }
-        ensures later { OnOk result ((later : ℕ) → epoch < later → AllBelow self.new.tracks later) }
+            (closing setup.now (position_view position.now) set.now below) }
+        ensures later { OnOk result ((later : ℕ) → set.now.epoch < later → AllBelow self.new.tracks later) }
         ensures file_failed { NamesFailedWrites Stream.Out result (O.failures out.old) (O.failures out.new) }
         ensures fault { IfErr result IsOutFault }
     {
         let listed = setup.head().codes();
-        if let Err(_) = push_rows(&mut self.tracks, epoch, cells, listed, &mut self.lines) {
+        if let Err(_) = push_rows(&mut self.tracks, set, listed, &mut self.lines) {
             return Err(ConvertFault::OutOfMemory);
         }
+        let epoch = set.epoch();
         self.lines.finish(epoch);
         let text = self.lines.text();
         let has_record = put_record(alloc, setup, position, self.header_out, epoch, text, out)?;
@@ -151,8 +147,7 @@ pub(crate) fn close_left<O: Sink>(
     ensures fault { IfErr result IsOutFault }
 {
     'left: while let Some(set) = left.next_left() {
-        let (epoch, cells) = (set.epoch(), set.cells());
-        records.close(alloc, setup, position, epoch, cells, out)?;
+        records.close(alloc, setup, position, &set, out)?;
     }
     Ok(())
 }

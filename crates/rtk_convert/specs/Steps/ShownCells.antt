@@ -1,6 +1,6 @@
 -- The cells of an epoch are taken one after another: what they show, and which phases are the last
 -- ones.
-use Rattle.std.specs.Prelude.{◌≡◌, ◌≢◌, ◌==◌, ◌<◌, ◌≤◌, ℕ, Bool, true, false, List, [], ◌∷◌, length, slice_index, slice_index_or, Option, Some, None, AllPairs, if◌then◌else◌}
+use Rattle.std.specs.Prelude.{◌≡◌, ◌≢◌, ◌==◌, ◌<◌, ◌≤◌, ℕ, Bool, true, false, List, [], ◌∷◌, map, length, slice_index, slice_index_or, Option, Some, None, is_some, AllPairs, if◌then◌else◌}
 use Rattle.std.specs.List.{list_any}
 use Rattle.rtk_obs.specs.declared.cell.Cell.{Cell}
 use Rattle.rtk_obs.specs.declared.cell.CellEntry.{CellEntry}
@@ -13,7 +13,7 @@ use Rattle.rtk_obs.specs.Rollover.{last_after}
 use Rattle.rtk_obs.specs.Cell.{IsSatellite}
 use Rattle.rtk_obs.specs.Tracks.{IsLater, track_at}
 use Rattle.rtk_rinex.specs.declared.epoch_table.Observed.{Observed}
-use Rattle.rtk_convert.specs.Rows.{first_cell, observed_after}
+use Rattle.rtk_convert.specs.Rows.{first_cell, observed_after, or_nothing}
 
 -- all last phases are of epochs below this one
 abbrev pub AllBelow : List (Option Track) → ℕ → Type 0
@@ -30,14 +30,25 @@ AreTaken old epoch cells new =
     (satellite : ℕ) (code : Code) → IsSatellite satellite
     → track_at new satellite code ≡ track_after (track_at old satellite code) code epoch (first_cell cells satellite code)
 
--- if a satellite and code have none of these cells, their last phase is of an epoch before this one
-abbrev pub MayStep : List (Option Track) → List CellEntry → ℕ → Type 0
-MayStep tracks cells epoch =
-    (satellite : ℕ) (code : Code) → IsSatellite satellite → first_cell cells satellite code ≡ None → IsLater (track_at tracks satellite code) epoch
+-- if a code of a satellite has none of these cells, its last phase is of an epoch before this one
+abbrev pub MayStep : List (Option Track) → List CellEntry → ℕ → ℕ → Type 0
+MayStep tracks cells satellite epoch = (code : Code) → first_cell cells satellite code ≡ None → IsLater (track_at tracks satellite code) epoch
+
+-- the cells before a place are of lesser satellites than this one, the others are not
+pub record IsPlaceOf (satellite : ℕ) (cells : List CellEntry) (place : ℕ) : Type 0 where
+  pub within : place ≤ length cells
+  pub lesser : (k : ℕ) (d : CellEntry) → k < place → (slice_index_or cells k d).satellite < satellite
+  pub others : (k : ℕ) (d : CellEntry) → place ≤ k → k < length cells → satellite ≤ (slice_index_or cells k d).satellite
 
 -- what a satellite and code show at an epoch by the first of their cells
 abbrev pub shown_by : List (Option Track) → ℕ → List CellEntry → ℕ → Code → Option Observed
 shown_by old epoch cells satellite code = observed_after (track_at old satellite code) code epoch (first_cell cells satellite code)
+
+-- these cells of an epoch were taken, and this is the row of a satellite by them
+pub record Shows (old : List (Option Track)) (epoch : ℕ) (cells : List CellEntry) (satellite : ℕ) (listed : List Code) (tracks : List (Option Track)) (shown : List Observed) (found : Bool) : Type 0 where
+  pub taken : AreTaken old epoch cells tracks
+  pub row : shown ≡ map (λ code. or_nothing (shown_by old epoch cells satellite code)) listed
+  pub any : found ≡ list_any (λ code. is_some (shown_by old epoch cells satellite code)) listed
 
 abbrev pub is_code : Code → Code → Bool
 is_code code c = place_of c == place_of code

@@ -1,95 +1,128 @@
-use Rattle.std.proofs.Common.{rules, List, Option, [], ◌∷◌, get_or, refl, sym, ap, subst, ◌∙◌, arith}
+use Rattle.std.proofs.Common.{◌≡◌, ◌-◌, ℕ, rules, List, Option, [], ◌∷◌, ◌++◌, filter, refl, sym, ap, subst, ◌∙◌, arith}
 use Rattle.std.proofs.lemmas.List.{append-nil}
 use Rattle.std.proofs.lemmas.List.Sums.{length-filter, count_by-le-length}
+use Rattle.rtk_obs.specs.Cell.{IsSatellite}
+use Rattle.rtk_obs.specs.declared.cell.CellEntry.{CellEntry}
+use Rattle.rtk_obs.specs.declared.cell.CellSource.TheVariants.{Msm}
 use Rattle.rtk_obs.specs.declared.track.Track.{Track}
 use Rattle.rtk_obs.specs.Tracks.{IsLater, track_at}
+use Rattle.rtk_collect.specs.EpochSet.{is_from}
 use Rattle.rtk_rinex.specs.declared.epoch_table.Observed.{Observed}
 use Rattle.rtk_rinex.specs.declared.epoch_table.SatelliteRow.{SatelliteRow}
 use Rattle.rtk_rinex.specs.Record.{has_line}
 use Rattle.rtk_rinex.specs.RecordLines.{HoldsLines}
-use Rattle.rtk_collect.specs.EpochSet.{EpochSetView}
-use Rattle.rtk_convert.specs.Rows.{cell_at, cells_at_epochs, observed_at, observed_after}
+use Rattle.rtk_convert.specs.Rows.{first_cell, cell_at, cells_at_epochs, observed_at, observed_after, rows_to}
 use Rattle.rtk_convert.specs.Steps.ShownCells.{shown_by, track_after}
-use Rattle.rtk_convert.proofs.CellOrderLemmas.{any_cell, in-turn}
 use Rattle.rtk_convert.proofs.ThroughLemmas.{track-below, later-after}
-use Rattle.rtk_convert.proofs.RowsLemmas.{row_of, row-yes, row-no, rows_to-same}
-use Rattle.rtk_convert.proofs.SatelliteLemmas.{FillsRows, rows_before, fills-begin, fills-few, fills-more, fills-taken, fills-rows}
+use Rattle.rtk_convert.proofs.RowsLemmas.{row_of, row-yes, row-no, rows-few, rows_to-zero, rows_to-same}
+use Rattle.rtk_convert.proofs.SatelliteLemmas.{fills-begin, fills-skip, skip-rows, may-begin, fills-more, fills-row, fills-any, rows-next}
 use Rattle.rtk_convert.proofs.epoch_rows.push_rows.Goals as goal
+use Rattle.rtk_convert.proofs.epoch_rows.push_rows.Goals.{then-taken+in_default, else-taken}
 
 pub satellites-init : goal.satellites-init
-satellites-init c =
-    let fills = fills-begin c.args.tracks.now c.args.epoch c.args.entries.now c.args.listed.now [] c.requires.later c.requires.ranges c.requires.rises refl in
+satellites-init c = record {
+  width = search rules;
+  fills = fills-begin c.args.tracks.now c.epoch-epoch.result c.msm_cells-msm.result.now c.legacy_cells-legacy.result.now c.msm_cells-msm.ensures.range c.legacy_cells-legacy.ensures.range;
+  holds = subst (λ (rows : List SatelliteRow). HoldsLines c.restart.new.self rows)
+      (sym (rows_to-zero (shown_by c.args.tracks.now c.epoch-epoch.result (c.msm_cells-msm.result.now ++ c.legacy_cells-legacy.result.now)) c.args.listed.now)) c.restart.ensures;
+}
+
+pub take_satellite-taken-requires-clause-satellite : goal.take_satellite-taken-requires-clause-satellite
+take_satellite-taken-requires-clause-satellite c = (c.satellites.auto.satellite, omega (arith, c.satellites-test.true))
+
+pub take_satellite-taken-requires-clause-later : goal.take_satellite-taken-requires-clause-later
+take_satellite-taken-requires-clause-later c =
+    let n = c.satellites.satellite in
+    let hn : IsSatellite n = (c.satellites.auto.satellite, omega (arith, c.satellites-test.true)) in
+    may-begin c.args.tracks.now c.epoch-epoch.result c.msm_cells-msm.result.now c.satellites.msm_at c.legacy_cells-legacy.result.now c.satellites.legacy_at n c.satellites.tracks c.satellites.invariant.fills hn
+    (λ k. subst (λ (e : ℕ). IsLater (track_at c.args.tracks.now n k) e) (sym c.epoch-epoch.ensures) (c.requires.later n k hn))
+
+pub satellites-preserved-then-is_absent : goal.satellites-preserved-then-is_absent
+satellites-preserved-then-is_absent c =
+    let n = c.satellites.satellite in
+    let hn : IsSatellite n = (c.satellites.auto.satellite, omega (arith, c.satellites-test.true)) in
+    let p = c.if-is_absent.ensures.msm refl in
+    let q = c.if-is_absent.ensures.legacy refl in
     record {
-      width = search rules;
-      fills = subst (λ (rows : List SatelliteRow). FillsRows c.args.tracks.now c.args.epoch c.args.entries.now 0 c.args.listed.now c.args.tracks.now rows) fills.rows fills;
-      holds = subst (λ (rows : List SatelliteRow). HoldsLines c.restart.new.self rows) fills.rows c.restart.ensures;
+      width = c.satellites.invariant.width;
+      fills = fills-skip c.args.tracks.now c.epoch-epoch.result c.msm_cells-msm.result.now c.satellites.msm_at c.legacy_cells-legacy.result.now c.satellites.legacy_at n c.satellites.tracks c.satellites.invariant.fills hn p q;
+      holds = subst (λ (rows : List SatelliteRow). HoldsLines c.satellites.lines rows)
+          (skip-rows c.args.tracks.now c.epoch-epoch.result c.msm_cells-msm.result.now c.satellites.msm_at c.legacy_cells-legacy.result.now c.satellites.legacy_at n c.satellites.tracks c.satellites.invariant.fills hn c.args.listed.now p q)
+          c.satellites.invariant.holds;
     }
 
 pub push_row-requires-clause-room : goal.push_row-requires-clause-room
 push_row-requires-clause-room c =
-    let s = (get_or c.args.entries.now c.satellites.at any_cell).satellite in
-    let rows = rows_before c.args.tracks.now c.args.epoch c.args.entries.now c.satellites.at c.args.listed.now in
-    let few = fills-few c.args.tracks.now c.args.epoch c.args.entries.now c.satellites.at s c.args.listed.now c.satellites.tracks rows
-    c.satellites.invariant.fills c.requires.ranges c.satellites-test.true refl in
-    omega (arith, few, c.satellites.invariant.holds.count, length-filter has_line rows, count_by-le-length has_line rows)
-
-pub satellites-preserved-in_default : goal.satellites-preserved-in_default
-satellites-preserved-in_default c =
-    let g = c.satellites.invariant.fills in
-    let taken = c.take_satellite-taken in
-    let s = (get_or c.args.entries.now c.satellites.at any_cell).satellite in
-    let f = shown_by c.args.tracks.now c.args.epoch c.args.entries.now in
-    let row : SatelliteRow = row_of s taken.new.row in
-    let rows = rows_before c.args.tracks.now c.args.epoch c.args.entries.now c.satellites.at c.args.listed.now in
-    let more = fills-more c.args.tracks.now c.args.epoch c.args.entries.now c.satellites.at taken.result.end s c.args.listed.now c.satellites.tracks taken.new.tracks
-    rows (row ∷ []) g c.requires.ranges c.requires.rises c.satellites-test.true refl taken.ensures.further taken.ensures.within taken.ensures.same taken.ensures.next
-    taken.ensures.later (taken.ensures.taken c.args.tracks.now g.taken)
-    (ap (λ (xs : List Observed). row_of s xs ∷ []) (taken.ensures.row c.args.tracks.now any_cell g.taken)
-    ∙ sym (row-yes f c.args.listed.now s (sym (taken.ensures.listed c.args.tracks.now any_cell g.taken) ∙ c.if-taken.true))) in
-    record {
-      width = omega arith;
-      fills = subst (λ (rows : List SatelliteRow). FillsRows c.args.tracks.now c.args.epoch c.args.entries.now taken.result.end c.args.listed.now taken.new.tracks rows) more.rows more;
-      holds = subst (λ (rows : List SatelliteRow). HoldsLines c.push_row.new.self rows) more.rows (c.in_default.ensures.ok rows c.satellites.invariant.holds);
-    }
+    let f = shown_by c.args.tracks.now c.epoch-epoch.result (c.msm_cells-msm.result.now ++ c.legacy_cells-legacy.result.now) in
+    let rows = rows_to f c.args.listed.now (c.satellites.satellite - 1) in
+    omega (arith, c.satellites-test.true, rows-few f c.args.listed.now (c.satellites.satellite - 1), c.satellites.invariant.holds.count, length-filter has_line rows, count_by-le-length has_line rows)
 
 pub satellites-preserved : goal.satellites-preserved
 satellites-preserved c =
-    let g = c.satellites.invariant.fills in
+    let n = c.satellites.satellite in
+    let hn : IsSatellite n = (c.satellites.auto.satellite, omega (arith, c.satellites-test.true)) in
     let taken = c.take_satellite-taken in
-    let s = (get_or c.args.entries.now c.satellites.at any_cell).satellite in
-    let f = shown_by c.args.tracks.now c.args.epoch c.args.entries.now in
-    let rows = rows_before c.args.tracks.now c.args.epoch c.args.entries.now c.satellites.at c.args.listed.now in
-    let more = fills-more c.args.tracks.now c.args.epoch c.args.entries.now c.satellites.at taken.result.end s c.args.listed.now c.satellites.tracks taken.new.tracks
-    rows [] g c.requires.ranges c.requires.rises c.satellites-test.true refl taken.ensures.further taken.ensures.within taken.ensures.same taken.ensures.next
-    taken.ensures.later (taken.ensures.taken c.args.tracks.now g.taken)
-    (sym (row-no f c.args.listed.now s (sym (taken.ensures.listed c.args.tracks.now any_cell g.taken) ∙ c.if-taken.false))) in
+    let old = c.args.tracks.now in
+    let epoch = c.epoch-epoch.result in
+    let ms = c.msm_cells-msm.result.now in
+    let ls = c.legacy_cells-legacy.result.now in
+    let f = shown_by old epoch (ms ++ ls) in
+    let g = c.satellites.invariant.fills in
+    let rows = rows_to f c.args.listed.now (n - 1) in
+    let row : SatelliteRow = row_of n taken.new.row in
+    let any = fills-any old epoch ms c.satellites.msm_at ls c.satellites.legacy_at n c.satellites.tracks g hn taken.result.msm_end taken.result.legacy_end c.args.listed.now taken.new.tracks taken.new.row taken.result.has_listed
+    taken.ensures.msm_from taken.ensures.msm_next taken.ensures.legacy_from taken.ensures.legacy_next taken.ensures.shows in
+    let shown = fills-row old epoch ms c.satellites.msm_at ls c.satellites.legacy_at n c.satellites.tracks g hn taken.result.msm_end taken.result.legacy_end c.args.listed.now taken.new.tracks taken.new.row taken.result.has_listed
+    taken.ensures.msm_from taken.ensures.msm_next taken.ensures.legacy_from taken.ensures.legacy_next taken.ensures.shows in
     record {
       width = omega arith;
-      fills = subst (λ (rows : List SatelliteRow). FillsRows c.args.tracks.now c.args.epoch c.args.entries.now taken.result.end c.args.listed.now taken.new.tracks rows) more.rows more;
-      holds = subst (λ (rows : List SatelliteRow). HoldsLines c.satellites.lines rows) (sym (append-nil rows) ∙ more.rows) c.satellites.invariant.holds;
+      fills = fills-more old epoch ms c.satellites.msm_at ls c.satellites.legacy_at n c.satellites.tracks g hn taken.result.msm_end taken.result.legacy_end c.args.listed.now taken.new.tracks taken.new.row taken.result.has_listed
+          taken.ensures.msm_from taken.ensures.msm_next taken.ensures.legacy_from taken.ensures.legacy_next taken.ensures.shows;
+      holds = elim c.if-taken.branch [
+        | then-taken+in_default w ↦ rw w.lines-is (subst (λ (all : List SatelliteRow). HoldsLines w.push_row.new.self all)
+            (rows-next f c.args.listed.now n rows (row ∷ []) hn.0 refl
+            (ap (λ (xs : List Observed). row_of n xs ∷ []) shown ∙ sym (row-yes f c.args.listed.now n (sym any ∙ w.if-taken.true))))
+            (w.in_default.ensures.ok rows c.satellites.invariant.holds))
+        | else-taken w ↦ rw w.lines-is (subst (λ (all : List SatelliteRow). HoldsLines c.satellites.lines all)
+            (sym (append-nil rows) ∙ rows-next f c.args.listed.now n rows [] hn.0 refl (sym (row-no f c.args.listed.now n (sym any ∙ w.if-taken.false))))
+            c.satellites.invariant.holds)
+      ];
     }
 
 pub returns-clause-lines : goal.returns-clause-lines
 returns-clause-lines c =
-    let cells = c.args.entries.now in
     let old = c.args.tracks.now in
-    let e : EpochSetView = record { epoch = c.args.epoch; cells = cells } in
+    let set = c.args.set.now in
+    let ms = c.msm_cells-msm.result.now in
+    let ls = c.legacy_cells-legacy.result.now in
+    let turn = ap (λ (xs : List CellEntry). xs ++ ls) c.msm_cells-msm.ensures.value ∙ ap (λ (xs : List CellEntry). filter (is_from Msm) set.cells ++ xs) c.legacy_cells-legacy.ensures.value in
+    let last : c.satellites.satellite - 1 ≡ 32 = omega (arith, c.satellites-test.false, c.satellites.auto.satellite-end (omega arith)) in
     λ below has. subst (λ (rows : List SatelliteRow). HoldsLines c.satellites.lines rows)
-    (fills-rows c.satellites.invariant.fills (omega arith)
-    ∙ rows_to-same (shown_by old c.args.epoch cells) (observed_at e below) c.args.listed.now 32 (omega arith)
-    (λ s k hs. ap (observed_after (track_at old s k) k c.args.epoch) (sym (in-turn cells s k c.requires.rises))
-    ∙ ap (λ (last : Option Track). observed_after last k c.args.epoch (cell_at cells s k)) (has s k hs)))
+    (ap (rows_to (shown_by old c.epoch-epoch.result (ms ++ ls)) c.args.listed.now) last
+    ∙ rows_to-same (shown_by old c.epoch-epoch.result (ms ++ ls)) (observed_at set below) c.args.listed.now 32 (omega arith)
+    (λ s k hs. ap (λ (xs : List CellEntry). observed_after (track_at old s k) k c.epoch-epoch.result (first_cell xs s k)) turn
+    ∙ ap (λ (e : ℕ). observed_after (track_at old s k) k e (cell_at set.cells s k)) c.epoch-epoch.ensures
+    ∙ ap (λ (o : Option Track). observed_after o k set.epoch (cell_at set.cells s k)) (has s k hs)))
     c.satellites.invariant.holds
 
 pub returns-clause-phases : goal.returns-clause-phases
 returns-clause-phases c =
-    let cells = c.args.entries.now in
-    λ below has s k hs. fills-taken c.satellites.invariant.fills (omega arith) c.requires.rises s k hs
-    ∙ ap (λ (last : Option Track). track_after last k c.args.epoch (cell_at cells s k)) (has s k hs)
-    ∙ track-below (cell_at cells s k) c.args.epoch k (cells_at_epochs below s k)
+    let old = c.args.tracks.now in
+    let set = c.args.set.now in
+    let ms = c.msm_cells-msm.result.now in
+    let ls = c.legacy_cells-legacy.result.now in
+    let turn = ap (λ (xs : List CellEntry). xs ++ ls) c.msm_cells-msm.ensures.value ∙ ap (λ (xs : List CellEntry). filter (is_from Msm) set.cells ++ xs) c.legacy_cells-legacy.ensures.value in
+    λ below has s k hs. c.satellites.invariant.fills.done s k hs (omega (arith, hs.1, c.satellites-test.false))
+    ∙ ap (λ (xs : List CellEntry). track_after (track_at old s k) k c.epoch-epoch.result (first_cell xs s k)) turn
+    ∙ ap (λ (e : ℕ). track_after (track_at old s k) k e (cell_at set.cells s k)) c.epoch-epoch.ensures
+    ∙ ap (λ (o : Option Track). track_after o k set.epoch (cell_at set.cells s k)) (has s k hs)
+    ∙ track-below (cell_at set.cells s k) set.epoch k (cells_at_epochs below s k)
 
 pub returns-clause-later : goal.returns-clause-later
 returns-clause-later c =
-    let cells = c.args.entries.now in
-    λ later h s k hs. subst (λ (o : Option Track). IsLater o later) (sym (fills-taken c.satellites.invariant.fills (omega arith) c.requires.rises s k hs))
-    (later-after (track_at c.args.tracks.now s k) k c.args.epoch later (cell_at cells s k) h (c.requires.later s k hs))
+    let old = c.args.tracks.now in
+    let ms = c.msm_cells-msm.result.now in
+    let ls = c.legacy_cells-legacy.result.now in
+    λ later h s k hs. subst (λ (o : Option Track). IsLater o later) (sym (c.satellites.invariant.fills.done s k hs (omega (arith, hs.1, c.satellites-test.false))))
+    (later-after (track_at old s k) k c.epoch-epoch.result later (first_cell (ms ++ ls) s k) (omega (arith, h, c.epoch-epoch.ensures))
+    (subst (λ (e : ℕ). IsLater (track_at old s k) e) (sym c.epoch-epoch.ensures) (c.requires.later s k hs)))

@@ -1,14 +1,13 @@
-use Rattle.std.proofs.Common.{◌≡◌, ◌-◌, length}
+use Rattle.std.proofs.Common.{◌≡◌, ◌-◌, ◌++◌, length}
 use Rattle.rtk_rinex.specs.RecordLines.{HoldsLines}
-use Rattle.rtk_convert.proofs.SatelliteLemmas.{FillsRows, rows_before}
+use Rattle.rtk_convert.specs.Rows.{rows_to}
+use Rattle.rtk_convert.specs.Steps.ShownCells.{shown_by}
+use Rattle.rtk_convert.proofs.SatelliteLemmas.{FillsRows}
 use Rattle.rtk_convert.proofs.epoch_rows.push_rows.Given as goal
 
 abbrev pub invariant-satellites : goal.invariant-satellites
 invariant-satellites l = record {
   width : length l.row ≡ length l.listed;
-  fills : FillsRows l.fn.tracks l.epoch l.entries l.at l.listed l.tracks (rows_before l.fn.tracks l.epoch l.entries l.at l.listed);
-  holds : HoldsLines l.lines (rows_before l.fn.tracks l.epoch l.entries l.at l.listed);
+  fills : FillsRows l.fn.tracks l.epoch l.msm l.msm_at l.legacy l.legacy_at l.satellite l.tracks;
+  holds : HoldsLines l.lines (rows_to (shown_by l.fn.tracks l.epoch (l.msm ++ l.legacy)) l.listed (l.satellite - 1));
 }
-
-abbrev pub decreases-satellites : goal.decreases-satellites
-decreases-satellites l = length l.entries - l.at

@@ -1,8 +1,10 @@
-use Rattle.std.proofs.Common.{IfOk, refl, subst}
+use Rattle.std.proofs.Common.{IfOk, refl, sym, subst, ◌∙◌}
 use Rattle.rtk_message.specs.declared.message.Message.TheVariants.{Arp1005, Arp1006}
 use Rattle.rtk_collect.specs.Arrival.{Arrival}
+use Rattle.rtk_collect.specs.EpochSet.{AreOfOneKind}
 use Rattle.rtk_collect.specs.Offered.{AnswersArrival}
 use Rattle.rtk_collect.proofs.DatedLemmas.{dated-without}
+use Rattle.rtk_collect.proofs.KindLemmas.{of-1004, of-1074}
 use Rattle.rtk_collect.proofs.collector.Collector.offer.Goals as goal
 
 pub returns-in-Arp1005-clause-answer : goal.returns-in-Arp1005-clause-answer
@@ -12,3 +14,9 @@ returns-in-Arp1005-clause-answer c = subst (λ (a : Arrival). IfOk c.offer_1005.
 pub returns-in-Arp1006-clause-answer : goal.returns-in-Arp1006-clause-answer
 returns-in-Arp1006-clause-answer c = subst (λ (a : Arrival). IfOk c.offer_1006.result (λ offer. AnswersArrival c.args.self.now a offer c.offer_1006.new.self))
     (dated-without c.dated.inside.epoch c.dated.inside.message.now (Arp1006 c.in-Arp1006.message) c.args.dated c.in-Arp1006.is c.dated.invariant.1 refl c.dated.view_is) c.offer_1006.ensures.answer
+
+pub offer_cells-requires-clause-kind : goal.offer_cells-requires-clause-kind
+offer_cells-requires-clause-kind c = subst AreOfOneKind (sym (c.as_slice-cells.ensures.value ∙ c.put_cells_1004.ensures.cells)) (of-1004 _)
+
+pub offer_cells-requires-in-Msm1074-clause-kind : goal.offer_cells-requires-in-Msm1074-clause-kind
+offer_cells-requires-in-Msm1074-clause-kind c = subst AreOfOneKind (sym (c.as_slice-cells-in-Msm1074.ensures.value ∙ c.put_cells_1074.ensures.cells)) (of-1074 c.in-Msm1074.message)

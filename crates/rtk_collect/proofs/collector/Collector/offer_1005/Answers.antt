@@ -21,6 +21,7 @@ invariant_of-self c = (
   },
   refl,
   c.self.invariant.3,
+  c.self.invariant.4,
 )
 
 pub returns-clause-answer : goal.returns-clause-answer

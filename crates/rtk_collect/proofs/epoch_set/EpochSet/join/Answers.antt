@@ -1,48 +1,133 @@
-use Rattle.std.proofs.Common.{◌≡◌, ◌<◌, List, arith, refl, sym, ap, ◌∙◌, subst, length}
-use Rattle.std.proofs.lemmas.Result.{IfOk-weaker}
+use Rattle.std.proofs.Common.{◌≡◌, ℕ, ◌<◌, List, refl, ap, ◌∙◌, subst}
+use Rattle.std.proofs.lemmas.Result.{IfOk-weaker, on_err_weaker}
 use Rattle.rtk_obs.specs.declared.cell.CellEntry.{CellEntry}
-use Rattle.rtk_collect.specs.EpochSet.{EpochSetView, joined, fresh, conflicts}
-use Rattle.rtk_collect.proofs.RisingLemmas.{no-cells, no-conflicts, alone}
-use Rattle.rtk_collect.proofs.CellsLemmas.{with_cells-none}
+use Rattle.rtk_obs.specs.declared.cell.CellSource.TheVariants.{Legacy, Msm}
+use Rattle.rtk_collect.specs.EpochSet.{EpochSetView, AreKeptOf, with_cells, joined, fresh, conflicts}
+use Rattle.rtk_collect.proofs.KindLemmas.{either-list, kept-with, msm-joins, msm-fresh, msm-conflicts, legacy-joins, legacy-fresh, legacy-conflicts}
 use Rattle.rtk_collect.proofs.epoch_set.EpochSet.join.Goals as goal
 
--- cells that rise, if the epoch has no cell yet
+-- the list of the cells of a 1074
 
-pub returns-in-Err-clause-refused : goal.returns-in-Err-clause-refused
-returns-in-Err-clause-refused c =
-    let a = alone c.args.cells.now c.self.inside.cells.items (no-cells c.self.inside.cells.items _ c.self.inside.cells.ok.0 (sym c.is_empty.ensures ∙ c.if-is_empty.true)) (c.if-rises.ensures.rises refl) in
-    subst (λ (s : EpochSetView). 0 < fresh c.args.cells.now s.cells) c.self.view_is (omega (arith, c.in-Err.ensures.full, c.self.inside.cells.ok.1, a.fresh))
+pub returns-in-Msm-clause-set : goal.returns-in-Msm-clause-set
+returns-in-Msm-clause-set c =
+    let cells = c.args.cells.now in
+    let msm = c.self.inside.msm.items in
+    let legacy = c.self.inside.legacy.items in
+    let m = c.self.invariant.1 in
+    let l = c.self.invariant.2 in
+    let k = c.in-Msm.ensures in
+    IfOk-weaker c.join_list.result (λ n. c.join_list.new.list.items ≡ with_cells cells msm) (λ n. record { epoch = c.self.inside.epoch; cells = with_cells legacy c.join_list.new.list.items } ≡ joined cells c.args.self.now)
+    (λ n h. subst (λ (s : EpochSetView). record { epoch = c.self.inside.epoch; cells = with_cells legacy c.join_list.new.list.items } ≡ joined cells s) c.self.view_is
+    (ap (λ (t : List CellEntry). record { epoch = c.self.inside.epoch; cells = t }) (ap (with_cells legacy) h ∙ msm-joins msm legacy m l cells k))) c.join_list.ensures.items
 
-pub returns-then-is_empty-clause-set : goal.returns-then-is_empty-clause-set
-returns-then-is_empty-clause-set c =
-    let a = alone c.args.cells.now c.self.inside.cells.items (no-cells c.self.inside.cells.items _ c.self.inside.cells.ok.0 (sym c.is_empty.ensures ∙ c.if-is_empty.true)) (c.if-rises.ensures.rises refl) in
-    subst (λ (s : EpochSetView). record { epoch = c.self.inside.epoch; cells = c.extend_from_slice.new.self.items } ≡ joined c.args.cells.now s) c.self.view_is
-    (ap (λ (t : List CellEntry). record { epoch = c.self.inside.epoch; cells = t }) (c.in_default.ensures.items ∙ a.items))
+pub returns-in-Msm-clause-fresh : goal.returns-in-Msm-clause-fresh
+returns-in-Msm-clause-fresh c =
+    let cells = c.args.cells.now in
+    let msm = c.self.inside.msm.items in
+    let legacy = c.self.inside.legacy.items in
+    let m = c.self.invariant.1 in
+    let l = c.self.invariant.2 in
+    let k = c.in-Msm.ensures in
+    IfOk-weaker c.join_list.result (λ n. n ≡ fresh cells msm) (λ n. n ≡ fresh cells c.args.self.now.cells)
+    (λ n h. h ∙ msm-fresh msm legacy m l cells k ∙ ap (λ (s : EpochSetView). fresh cells s.cells) c.self.view_is) c.join_list.ensures.fresh
 
-pub returns-then-is_empty-clause-fresh : goal.returns-then-is_empty-clause-fresh
-returns-then-is_empty-clause-fresh c =
-    let a = alone c.args.cells.now c.self.inside.cells.items (no-cells c.self.inside.cells.items _ c.self.inside.cells.ok.0 (sym c.is_empty.ensures ∙ c.if-is_empty.true)) (c.if-rises.ensures.rises refl) in
-    subst (λ (s : EpochSetView). length c.args.cells.now ≡ fresh c.args.cells.now s.cells) c.self.view_is a.fresh
+pub returns-in-Msm-clause-conflicts : goal.returns-in-Msm-clause-conflicts
+returns-in-Msm-clause-conflicts c =
+    let cells = c.args.cells.now in
+    let msm = c.self.inside.msm.items in
+    let legacy = c.self.inside.legacy.items in
+    let m = c.self.invariant.1 in
+    let l = c.self.invariant.2 in
+    let k = c.in-Msm.ensures in
+    IfOk-weaker c.join_list.result (λ n. c.join_list.new.found ≡ conflicts cells msm) (λ n. c.join_list.new.found ≡ conflicts cells c.args.self.now.cells)
+    (λ n h. h ∙ msm-conflicts msm legacy m l cells k ∙ ap (λ (s : EpochSetView). conflicts cells s.cells) c.self.view_is) c.join_list.ensures.conflicts
 
-pub returns-then-is_empty-clause-conflicts : goal.returns-then-is_empty-clause-conflicts
-returns-then-is_empty-clause-conflicts c =
-    let a = alone c.args.cells.now c.self.inside.cells.items (no-cells c.self.inside.cells.items _ c.self.inside.cells.ok.0 (sym c.is_empty.ensures ∙ c.if-is_empty.true)) (c.if-rises.ensures.rises refl) in
-    subst (λ (s : EpochSetView). c.args.found.now ≡ conflicts c.args.cells.now s.cells) c.self.view_is (c.requires.empty ∙ a.conflicts)
+pub returns-in-Msm-clause-err : goal.returns-in-Msm-clause-err
+returns-in-Msm-clause-err c =
+    let cells = c.args.cells.now in
+    let msm = c.self.inside.msm.items in
+    let legacy = c.self.inside.legacy.items in
+    let m = c.self.invariant.1 in
+    let l = c.self.invariant.2 in
+    let k = c.in-Msm.ensures in
+    on_err_weaker c.join_list.result (λ (e : c.join_list.new.list.items ≡ msm). ap (λ (t : List CellEntry). record { epoch = c.self.inside.epoch; cells = with_cells legacy t }) e ∙ c.self.view_is) c.join_list.ensures.err
 
--- cells that rise, of the other kind of message than all that are kept
+pub returns-in-Msm-clause-refused : goal.returns-in-Msm-clause-refused
+returns-in-Msm-clause-refused c =
+    let cells = c.args.cells.now in
+    let msm = c.self.inside.msm.items in
+    let legacy = c.self.inside.legacy.items in
+    let m = c.self.invariant.1 in
+    let l = c.self.invariant.2 in
+    let k = c.in-Msm.ensures in
+    on_err_weaker c.join_list.result (λ (e : 0 < fresh cells msm). subst (λ (s : EpochSetView). 0 < fresh cells s.cells) c.self.view_is (subst (λ (t : ℕ). 0 < t) (msm-fresh msm legacy m l cells k) e)) c.join_list.ensures.refused
 
-pub returns-then-are_apart-clause-conflicts : goal.returns-then-are_apart-clause-conflicts
-returns-then-are_apart-clause-conflicts c =
-    let new = rw c.deref.ensures.value at (c.if-are_apart.ensures.fresh refl) in
-    let none = no-conflicts c.args.cells.now c.self.inside.cells.items (c.if-rises-2.ensures.rises refl) new in
-    IfOk-weaker c.join_rising.result (λ n. n ≡ length c.args.cells.now) (λ n. c.args.found.now ≡ conflicts c.args.cells.now c.args.self.now.cells)
-    (λ n h. subst (λ (s : EpochSetView). c.args.found.now ≡ conflicts c.args.cells.now s.cells) c.self.view_is (c.requires.empty ∙ sym none)) c.join_rising.ensures.fresh
+pub invariant_of-self : goal.invariant_of-self
+invariant_of-self c = (
+  refl,
+  either-list c.join_list.result (AreKeptOf Msm) c.join_list.new.list.items (with_cells c.args.cells.now c.self.inside.msm.items) c.self.inside.msm.items c.join_list.ensures.items c.join_list.ensures.err (kept-with Msm c.args.cells.now c.self.inside.msm.items c.self.invariant.1 c.requires.range c.in-Msm.ensures) c.self.invariant.1,
+  c.self.invariant.2,
+)
 
--- no key is new
+-- the list of the cells of a 1004
 
-pub returns-then-count-eq0-clause-set : goal.returns-then-count-eq0-clause-set
-returns-then-count-eq0-clause-set c =
-    let f = rw c.deref-2.ensures.value at c.compare-count.ensures.fresh in
-    let none : fresh c.args.cells.now c.self.inside.cells.items ≡ 0 = omega (arith, f, c.if-count-eq0.true) in
-    subst (λ (s : EpochSetView). s ≡ joined c.args.cells.now s) c.self.view_is
-    (ap (λ (t : List CellEntry). record { epoch = c.self.inside.epoch; cells = t }) (sym (with_cells-none c.args.cells.now c.self.inside.cells.items c.self.invariant.1 none)))
+pub returns-in-Legacy-clause-set : goal.returns-in-Legacy-clause-set
+returns-in-Legacy-clause-set c =
+    let cells = c.args.cells.now in
+    let msm = c.self.inside.msm.items in
+    let legacy = c.self.inside.legacy.items in
+    let m = c.self.invariant.1 in
+    let l = c.self.invariant.2 in
+    let k = c.in-Legacy.ensures in
+    IfOk-weaker c.join_list-in-Legacy.result (λ n. c.join_list-in-Legacy.new.list.items ≡ with_cells cells legacy) (λ n. record { epoch = c.self.inside.epoch; cells = with_cells c.join_list-in-Legacy.new.list.items msm } ≡ joined cells c.args.self.now)
+    (λ n h. subst (λ (s : EpochSetView). record { epoch = c.self.inside.epoch; cells = with_cells c.join_list-in-Legacy.new.list.items msm } ≡ joined cells s) c.self.view_is
+    (ap (λ (t : List CellEntry). record { epoch = c.self.inside.epoch; cells = t }) (ap (λ (t : List CellEntry). with_cells t msm) h ∙ legacy-joins msm legacy m l cells))) c.join_list-in-Legacy.ensures.items
+
+pub returns-in-Legacy-clause-fresh : goal.returns-in-Legacy-clause-fresh
+returns-in-Legacy-clause-fresh c =
+    let cells = c.args.cells.now in
+    let msm = c.self.inside.msm.items in
+    let legacy = c.self.inside.legacy.items in
+    let m = c.self.invariant.1 in
+    let l = c.self.invariant.2 in
+    let k = c.in-Legacy.ensures in
+    IfOk-weaker c.join_list-in-Legacy.result (λ n. n ≡ fresh cells legacy) (λ n. n ≡ fresh cells c.args.self.now.cells)
+    (λ n h. h ∙ legacy-fresh msm legacy m l cells k ∙ ap (λ (s : EpochSetView). fresh cells s.cells) c.self.view_is) c.join_list-in-Legacy.ensures.fresh
+
+pub returns-in-Legacy-clause-conflicts : goal.returns-in-Legacy-clause-conflicts
+returns-in-Legacy-clause-conflicts c =
+    let cells = c.args.cells.now in
+    let msm = c.self.inside.msm.items in
+    let legacy = c.self.inside.legacy.items in
+    let m = c.self.invariant.1 in
+    let l = c.self.invariant.2 in
+    let k = c.in-Legacy.ensures in
+    IfOk-weaker c.join_list-in-Legacy.result (λ n. c.join_list-in-Legacy.new.found ≡ conflicts cells legacy) (λ n. c.join_list-in-Legacy.new.found ≡ conflicts cells c.args.self.now.cells)
+    (λ n h. h ∙ legacy-conflicts msm legacy m l cells k ∙ ap (λ (s : EpochSetView). conflicts cells s.cells) c.self.view_is) c.join_list-in-Legacy.ensures.conflicts
+
+pub returns-in-Legacy-clause-err : goal.returns-in-Legacy-clause-err
+returns-in-Legacy-clause-err c =
+    let cells = c.args.cells.now in
+    let msm = c.self.inside.msm.items in
+    let legacy = c.self.inside.legacy.items in
+    let m = c.self.invariant.1 in
+    let l = c.self.invariant.2 in
+    let k = c.in-Legacy.ensures in
+    on_err_weaker c.join_list-in-Legacy.result (λ (e : c.join_list-in-Legacy.new.list.items ≡ legacy). ap (λ (t : List CellEntry). record { epoch = c.self.inside.epoch; cells = with_cells t msm }) e ∙ c.self.view_is) c.join_list-in-Legacy.ensures.err
+
+pub returns-in-Legacy-clause-refused : goal.returns-in-Legacy-clause-refused
+returns-in-Legacy-clause-refused c =
+    let cells = c.args.cells.now in
+    let msm = c.self.inside.msm.items in
+    let legacy = c.self.inside.legacy.items in
+    let m = c.self.invariant.1 in
+    let l = c.self.invariant.2 in
+    let k = c.in-Legacy.ensures in
+    on_err_weaker c.join_list-in-Legacy.result (λ (e : 0 < fresh cells legacy). subst (λ (s : EpochSetView). 0 < fresh cells s.cells) c.self.view_is (subst (λ (t : ℕ). 0 < t) (legacy-fresh msm legacy m l cells k) e)) c.join_list-in-Legacy.ensures.refused
+
+pub invariant_of-self-in-Legacy : goal.invariant_of-self-in-Legacy
+invariant_of-self-in-Legacy c = (
+  refl,
+  c.self.invariant.1,
+  either-list c.join_list-in-Legacy.result (AreKeptOf Legacy) c.join_list-in-Legacy.new.list.items (with_cells c.args.cells.now c.self.inside.legacy.items) c.self.inside.legacy.items c.join_list-in-Legacy.ensures.items c.join_list-in-Legacy.ensures.err (kept-with Legacy c.args.cells.now c.self.inside.legacy.items c.self.invariant.2 c.requires.range c.in-Legacy.ensures) c.self.invariant.2,
+)

@@ -50,20 +50,16 @@ returns-in_default-closed_by-clause-err g c =
     on_err-from c.put_lines.result (subst (λ (x : ConversionView). AddsMessageInPart x c.args.link c.args.dated before after) c.self.view_is (part-lines c.in-Ok.offer c.self.invariant.1.places c.in-Ok.ensures.answer (takes-none-closed c.in-Ok.offer c.self.invariant.1.places none c.in-Ok.ensures.answer c.count_message.ensures refl)
     (subst (λ (t : List ℕ). TakesPart (g.L.Sink.taken c.args.log.now) (g.L.Sink.taken c.put_lines.new.log) t) (c.deref.ensures.value ∙ text) c.put_lines.ensures.part)))
 
-pub close-requires-clause-later : goal.close-requires-clause-later
-close-requires-clause-later g c =
-    let e : EpochSetView = record { epoch = c.epoch-epoch-2.result; cells = c.cells-cells.result.now } in
-    let same : c.in-Some.set ≡ e =
-    ap (λ (t : ℕ). record c.in-Some.set { epoch = t }) (sym c.epoch-epoch-2.ensures) ∙ ap (λ xs. record { epoch = c.epoch-epoch-2.result; cells = xs }) (sym c.cells-cells.ensures.value) in
-    let some : closed_by c.in-Ok.offer ≡ Some e = sym c.closed_by.ensures ∙ c.in-Some.is ∙ ap Some same in
+pub close-requires : goal.close-requires
+close-requires g c =
+    let e : EpochSetView = c.in-Some.set in
+    let some : closed_by c.in-Ok.offer ≡ Some e = sym c.closed_by.ensures ∙ c.in-Some.is in
     ahead-closes c.self.inside.collector c.self.inside.records c.in-Ok.offer e some c.in-Ok.ensures.least_closes (subst (λ (x : ConversionView). IsAhead x.collector x.records) (sym c.self.view_is) c.requires.ahead)
 
 pub returns-clause-ahead : goal.returns-clause-ahead
 returns-clause-ahead g c =
-    let e : EpochSetView = record { epoch = c.epoch-epoch-2.result; cells = c.cells-cells.result.now } in
-    let same : c.in-Some.set ≡ e =
-    ap (λ (t : ℕ). record c.in-Some.set { epoch = t }) (sym c.epoch-epoch-2.ensures) ∙ ap (λ xs. record { epoch = c.epoch-epoch-2.result; cells = xs }) (sym c.cells-cells.ensures.value) in
-    let some : closed_by c.in-Ok.offer ≡ Some e = sym c.closed_by.ensures ∙ c.in-Some.is ∙ ap Some same in
+    let e : EpochSetView = c.in-Some.set in
+    let some : closed_by c.in-Ok.offer ≡ Some e = sym c.closed_by.ensures ∙ c.in-Some.is in
     rw c.hand_back.ensures (on_ok-map c.put_lines-2.result (λ wrote. ahead-after c.self.inside.collector c.offer.new.self c.close.new.self c.in-Ok.offer e some c.in-Ok.ensures.least_closes c.in-Ok.ensures.closed c.offer.ensures.least (c.in_ok-close.ensures.later (suc e.epoch) (omega arith))) c.put_lines-2.ensures.all)
 
 pub returns-clause-ok : goal.returns-clause-ok
@@ -73,10 +69,8 @@ returns-clause-ok g c =
     let text : c.in-Ok-offer_lines.lines.items ≡ offer_lines c.args.link (number_of (message_of c.args.dated)) (epoch_of c.args.dated) c.in-Ok.offer =
     c.in-Ok-offer_lines.ensures ∙ ap (λ (n : ℕ). offer_lines c.args.link n c.epoch-epoch.result c.in-Ok.offer) (c.number-number.ensures ∙ ap number_of c.message.ensures.value)
     ∙ ap (λ (e : Option ℕ). offer_lines c.args.link (number_of (message_of c.args.dated)) e c.in-Ok.offer) c.epoch-epoch.ensures.value in
-    let e : EpochSetView = record { epoch = c.epoch-epoch-2.result; cells = c.cells-cells.result.now } in
-    let same : c.in-Some.set ≡ e =
-    ap (λ (t : ℕ). record c.in-Some.set { epoch = t }) (sym c.epoch-epoch-2.ensures) ∙ ap (λ xs. record { epoch = c.epoch-epoch-2.result; cells = xs }) (sym c.cells-cells.ensures.value) in
-    let some : closed_by c.in-Ok.offer ≡ Some e = sym c.closed_by.ensures ∙ c.in-Some.is ∙ ap Some same in
+    let e : EpochSetView = c.in-Some.set in
+    let some : closed_by c.in-Ok.offer ≡ Some e = sym c.closed_by.ensures ∙ c.in-Some.is in
     let size = c.in-Ok.ensures.size ∙ c.self.invariant.1.places in
     rw c.hand_back.ensures (on_ok-map c.put_lines-2.result (λ wrote. subst (λ (x : ConversionView). AddsMessage x c.args.link c.args.dated (state c.self.inside.setup c.offer.new.self c.close.new.self c.count_message.new.counts c.self.inside.stopped) before after) c.self.view_is (takes-some-closed c.in-Ok.offer c.self.invariant.1.places size some c.in-Ok.ensures.answer c.station-position.ensures.kept c.count_message.ensures c.in_ok-close.ensures.follows c.in_ok-close.ensures.all (wrote ∙ ap (with_more (g.L.Sink.taken c.args.log.now)) (c.deref-2.ensures.value ∙ text)))) c.put_lines-2.ensures.all)
 
@@ -87,10 +81,8 @@ returns-clause-err g c =
     let text : c.in-Ok-offer_lines.lines.items ≡ offer_lines c.args.link (number_of (message_of c.args.dated)) (epoch_of c.args.dated) c.in-Ok.offer =
     c.in-Ok-offer_lines.ensures ∙ ap (λ (n : ℕ). offer_lines c.args.link n c.epoch-epoch.result c.in-Ok.offer) (c.number-number.ensures ∙ ap number_of c.message.ensures.value)
     ∙ ap (λ (e : Option ℕ). offer_lines c.args.link (number_of (message_of c.args.dated)) e c.in-Ok.offer) c.epoch-epoch.ensures.value in
-    let e : EpochSetView = record { epoch = c.epoch-epoch-2.result; cells = c.cells-cells.result.now } in
-    let same : c.in-Some.set ≡ e =
-    ap (λ (t : ℕ). record c.in-Some.set { epoch = t }) (sym c.epoch-epoch-2.ensures) ∙ ap (λ xs. record { epoch = c.epoch-epoch-2.result; cells = xs }) (sym c.cells-cells.ensures.value) in
-    let some : closed_by c.in-Ok.offer ≡ Some e = sym c.closed_by.ensures ∙ c.in-Some.is ∙ ap Some same in
+    let e : EpochSetView = c.in-Some.set in
+    let some : closed_by c.in-Ok.offer ≡ Some e = sym c.closed_by.ensures ∙ c.in-Some.is in
     let size = c.in-Ok.ensures.size ∙ c.self.invariant.1.places in
     on_err-from c.put_lines-2.result (subst (λ (x : ConversionView). AddsMessageInPart x c.args.link c.args.dated before after) c.self.view_is (part-lines c.in-Ok.offer c.self.invariant.1.places c.in-Ok.ensures.answer (takes-some-closed c.in-Ok.offer c.self.invariant.1.places size some c.in-Ok.ensures.answer c.station-position.ensures.kept c.count_message.ensures c.in_ok-close.ensures.follows c.in_ok-close.ensures.all refl)
     (subst (λ (t : List ℕ). TakesPart (g.L.Sink.taken c.args.log.now) (g.L.Sink.taken c.put_lines-2.new.log) t) (c.deref-2.ensures.value ∙ text) c.put_lines-2.ensures.part)))
@@ -98,10 +90,8 @@ returns-clause-err g c =
 pub returns-in_err-close-clause-err : goal.returns-in_err-close-clause-err
 returns-in_err-close-clause-err g c =
     let before = written (g.O.Sink.taken c.args.out.now) (g.L.Sink.taken c.args.log.now) in
-    let e : EpochSetView = record { epoch = c.epoch-epoch-2.result; cells = c.cells-cells.result.now } in
-    let same : c.in-Some.set ≡ e =
-    ap (λ (t : ℕ). record c.in-Some.set { epoch = t }) (sym c.epoch-epoch-2.ensures) ∙ ap (λ xs. record { epoch = c.epoch-epoch-2.result; cells = xs }) (sym c.cells-cells.ensures.value) in
-    let some : closed_by c.in-Ok.offer ≡ Some e = sym c.closed_by.ensures ∙ c.in-Some.is ∙ ap Some same in
+    let e : EpochSetView = c.in-Some.set in
+    let some : closed_by c.in-Ok.offer ≡ Some e = sym c.closed_by.ensures ∙ c.in-Some.is in
     let size = c.in-Ok.ensures.size ∙ c.self.invariant.1.places in
     on_err-from c.from_residual.result (subst (λ (x : ConversionView). AddsMessageInPart x c.args.link c.args.dated before (written (g.O.Sink.taken c.close.new.out) (g.L.Sink.taken c.args.log.now))) c.self.view_is (part-record c.in-Ok.offer c.self.invariant.1.places size some c.in-Ok.ensures.answer c.station-position.ensures.kept c.close.ensures.part))
 

@@ -1,9 +1,8 @@
 use Rattle.std.proofs.Common.{◌≡◌, ◌+◌, ◌-◌, ◌*◌, ◌<◌, ℕ, arith, get_or, subst}
-use Rattle.std.proofs.lemmas.Grind.{common_steps}
 use Rattle.rtk_obs.specs.Code.{place_of}
 use Rattle.rtk_collect.proofs.CellsLemmas.{any_cell}
 use Rattle.rtk_collect.proofs.RisingLemmas.{rises-one, rises-more, order-rises}
-use Rattle.rtk_collect.proofs.merging.are_rising_of_one_kind.Goals as goal
+use Rattle.rtk_collect.proofs.merging.are_rising.Goals as goal
 
 pub loop-at-init : goal.loop-at-init
 loop-at-init c = record {
@@ -11,7 +10,6 @@ loop-at-init c = record {
   rises = rises-one c.args.cells.now;
   last = c.order_of_code-last.ensures.value;
   place = c.order_of_code-last.ensures.bound;
-  kind = grind (arith, common_steps);
 }
 
 pub loop-at-preserved : goal.loop-at-preserved
@@ -27,5 +25,4 @@ loop-at-preserved c =
       rises = rises-more c.loop-at.at any_cell cells i.first i.rises c.loop-at-test.true less;
       last = subst (λ (t : ℕ). c.order_of_code-order.result ≡ (get_or cells t any_cell).satellite * 256 + place_of (get_or cells t any_cell).code) e h.value;
       place = subst (λ (t : ℕ). place_of (get_or cells t any_cell).code < 16) e h.bound;
-      kind = grind (arith, common_steps, i.kind);
     }

@@ -1,0 +1,15 @@
+-- The room of epochs: how much is wanted, and what is spared.
+use Rattle.std.specs.Prelude.{◌≡◌, ℕ, []}
+use Rattle.rtk_obs.specs.declared.cell.CellSource.{CellSource}
+use Rattle.rtk_obs.specs.declared.cell.CellSource.TheVariants.{Legacy, Msm}
+use Rattle.rtk_collect.specs.declared.epoch_set.Room.{Room}
+use Rattle.rtk_collect.specs.declared.epoch_set.Spare.{Spare}
+
+-- the room for cells of a kind of message
+abbrev pub room_for : CellSource → Room → ℕ
+room_for Legacy room = room.legacy
+room_for Msm room = room.msm
+
+-- lists without cells
+abbrev pub AreSpare : Spare → Type 0
+AreSpare spare = (spare.msm.items ≡ []) × (spare.legacy.items ≡ [])
