@@ -186,10 +186,12 @@ class Sender:
         self.told_stations[number] = header | {"number": number, "station": self.setup.station}
         return payload_of(Message(self.told_stations[number]))
 
-    def of_other_station(self, tow: int) -> bytes:
+    def other_station(self) -> int:
         station = self.rng.choice((0, 1, 4095, self.setup.station ^ 1, self.setup.station ^ 2048))
-        if station == self.setup.station:
-            station ^= 4
+        return station ^ 4 if station == self.setup.station else station
+
+    def of_other_station(self, tow: int) -> bytes:
+        station = self.other_station()
         if self.rng.random() < 0.5:
             number = self.rng.choice((1005, 1006))
             return payload_of(Message(self.header(number, station=station)))
@@ -201,8 +203,15 @@ class Sender:
         return begin + self.rng.randbytes(self.rng.choice((0, 1, 20, 60)))
 
     def refused(self, tow: int) -> bytes:
-        """A payload that can't be read: no number, cut, at no time of the week, or with a cell mask
-        that is too wide."""
+        """A payload that can't be read, of the station or of another one."""
+        payload = self.unread(tow)
+        if len(payload) < 3 or self.rng.random() < 0.7:
+            return payload
+        number = int.from_bytes(payload[:3], "big") >> 12
+        return (number << 12 | self.other_station()).to_bytes(3, "big") + payload[3:]
+
+    def unread(self, tow: int) -> bytes:
+        """No number, cut, at no time of the week, or with a cell mask that is too wide."""
         match self.rng.randrange(5):
             case 0:
                 return self.rng.randbytes(self.rng.randrange(2))
