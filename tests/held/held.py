@@ -12,7 +12,7 @@ from collections.abc import Iterable
 from pathlib import Path
 
 from pictures import CODES as CHART_CODES
-from pictures import COLUMNS, filled, largest
+from pictures import CHARACTERS, COLUMNS, filled, largest, largest_in_characters
 from pictures import SATELLITES as CHART_SATELLITES
 from streams import NOON, SATELLITES, SIGNALS, capture, falling_epochs, falling_satellites
 from streams import largest_1074, legacy, minutes, point, single_satellite, unread
@@ -136,8 +136,8 @@ class Runs:
             raise Failed(f"{' '.join(words)}: status {ran.returncode}")
         return int(os.pread(9, 20, 0))
 
-    def picture(self, name: str) -> bytes:
-        words = [self.program, "chart", name]
+    def picture(self, name: str, *options: str) -> bytes:
+        words = [self.program, "chart", *options, name]
         return subprocess.run(words, cwd=self.folder, check=True, stdout=subprocess.PIPE).stdout
 
 
@@ -364,13 +364,17 @@ def inputs_held_once(runs: Runs, tests: Tests) -> None:
 
 def largest_picture(runs: Runs, tests: Tests) -> None:
     """Each mark is in each column: of each satellite a slip, a half cycle, a strength and of each
-    code a phase in some epochs; and a missing epoch in all columns but the last."""
+    code a phase in some epochs; and a missing epoch in all columns but the last. In characters the
+    picture is compared whole."""
     runs.write("largest", largest())
     picture = runs.picture("largest")
     marks = len(re.findall(rb"M\d+ 0[vh]", picture))
     columns = CHART_SATELLITES * (3 + len(CHART_CODES)) * COLUMNS
     tests.same("marks of the largest picture", [(marks,), (columns + COLUMNS - 1,)])
     tests.within("bytes of the largest picture", len(picture), 0, MOST_OF_PICTURE)
+    runs.write("largest_in_characters", largest(CHARACTERS))
+    picture = runs.picture("largest_in_characters", "--text", "--columns", "400")
+    tests.passes("the largest picture in characters", picture == largest_in_characters())
 
 
 def main() -> None:

@@ -59,15 +59,35 @@ def rows(cells: str) -> str:
     return "".join(f"G{number:02}{cells}\n" for number in range(1, SATELLITES + 1))
 
 
-def largest() -> Iterator[bytes]:
+def largest(columns: int = COLUMNS) -> Iterator[bytes]:
     """Its text: of three seconds of a column the first has each phase, the second a strength alone, and the last is
     missing."""
     yield header(CODES)
     phases = rows((PHASE * len(CODES)).rstrip())
     strengths = [rows(" " * 32 + strength) for strength in STRENGTHS]
-    for column in range(COLUMNS):
+    for column in range(columns):
         for second, lines in enumerate((phases, strengths[column % 2])):
             yield f"{epoch_line(3 * column + second, SATELLITES)}{lines}".encode()
+
+
+# The same in characters: with so many of these columns the file has 395 seconds, so each second has a column of its own.
+CHARACTERS = 132
+
+
+def largest_in_characters() -> bytes:
+    """The picture, 400 characters wide: a satellite has a slip and a half cycle, a digit of its strength and nothing, again and
+    again; and each third epoch is missing. Ticks are 15 columns apart, the last one without room for its label."""
+    row = "".join(f"B{1 + column % 2} " for column in range(CHARACTERS))[:-1]
+    ticks = range(0, len(row), 15)
+    labels = "".join(f"{NOON + timedelta(seconds=it):%H:%M:%S}".ljust(15) for it in ticks[:-1])
+    lines = [f"marker {MARKER}", "from 2024-05-17 12:00:00.000", "until 2024-05-17 12:06:34.000", "interval 1.000", "column 1.000"]
+    lines += [f"records {2 * CHARACTERS}", f"satellites {SATELLITES}", f"slips {CHARACTERS * SATELLITES * len(CODES)}"]
+    lines.append(f"missing {CHARACTERS - 1}")
+    lines += [f"G{number:02}|{row}|" for number in range(1, SATELLITES + 1)]
+    lines.append(f"gap|{('  x' * CHARACTERS)[:-1]}|")
+    lines.append("    " + "".join("+" if it in ticks else "-" for it in range(len(row))))
+    lines.append("    " + labels.ljust(len(row)))
+    return "".join(f"{line}\n" for line in lines).encode()
 
 
 # What a satellite shows: a range, which may have a phase after it.

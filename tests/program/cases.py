@@ -13,6 +13,7 @@ TESTS = Path(__file__).resolve().parents[1]
 sys.path[:0] = [str(TESTS / "hostile"), str(TESTS / "held")]
 
 import model  # noqa: E402
+import parts  # noqa: E402
 import streams  # noqa: E402
 import summaries  # noqa: E402
 from messages import CODES, SIGNALS  # noqa: E402
@@ -433,6 +434,72 @@ def contents():
         "frames 4096\nstation 0\n", "station 4095\n message 1004 1\n time-of-week 475215000 475215000\n")
 
 
+def many_of_each():
+    """More than 16 bits count of each message and each fault of a message, and of another message. The summary is that of the
+    rules, in words."""
+    too_late, one = 604_800_000, ({5: (70, 0)}, {(5, 2): {}})
+    five_by_thirteen = {(satellite, signal): {} for satellite in range(1, 14) for signal in range(1, 6)}
+    rows = (
+        (" message 1005", payload_in(ARP)),
+        (" message 1006", payload_in(place(1006))),
+        (" message 1074", msm(NOON, *one)),
+        ("other 1077", (1077 << 4).to_bytes(2, "big")),
+        ("refused M3 1004", legacy(NOON, [])[:-1]),
+        ("refused M3 1005", payload_in(ARP)[:-1]),
+        ("refused M3 1006", payload_in(place(1006))[:-1]),
+        ("refused M3 1074", msm(NOON, *one)[:-1]),
+        ("refused M4 1004", legacy(too_late, [])),
+        ("refused M4 1074", msm(too_late, *one)),
+        ("refused M5 1074", msm(NOON, dict.fromkeys(range(1, 14), (70, 0)), five_by_thirteen)[:22]),
+    )
+    counts = {line: 100_001 + at for at, (line, _) in enumerate(rows)}
+    save("many_of_each", b"".join(frame_of(payload) * counts[line] for line, payload in rows))
+    size, lines = Path("many_of_each").stat().st_size, [f"{line} {n}\n" for line, n in counts.items()]
+    save("many_of_each.summary", "".join((
+        f"bytes {size}\noutside-frames 0\nframes {sum(counts.values())}\nstation 2003\n", *lines[:3],
+        f" time-of-week {NOON} {NOON}\n epoch-changes 0\n satellites G05\n codes 1C\n",
+        f" next rtcm2rinex convert --station 2003 {summaries.NEXT} 1C CAPTURE\n",
+        lines[3], f"untaken GPS 1077 {counts['other 1077']}\n", *lines[4:],
+    )))
+
+
+def sent_by(station, payload):
+    """The frame of the payload with this station, whose number stands in bits 12 to 23."""
+    return frame_of((payload[0] << 16 | payload[1] >> 4 << 12 | station).to_bytes(3, "big") + payload[3:])
+
+
+def greatest_summary():
+    """Each line that a summary can have: some 2 MB. All 4,096 stations send each message, and of these all satellites and each
+    code but 2W; the last one sends 2W too. Then come all other numbers, and each fault."""
+    last, halves = 604_799_999, (range(1, 17), range(17, 33))
+    payloads = [
+        *(payload_in(place(number)) for number in (1005, 1006)),
+        legacy(last, [{**SATELLITE, "l2_code": 2}]),
+        *(msm(last, {it: (70, it) for it in half}, {(it, 2): {"cnr": 40} for it in half}) for half in halves),
+        msm(last, {32: (70, 0)}, {(32, signal): {"cnr": 40} for signal, code in SIGNALS.items() if code != "2W"}),
+    ]
+    stations, told = [], []
+    for station in range(4096):
+        more = [legacy(last, [SATELLITE])] if station == 4095 else []
+        stations.append([sent_by(station, it) for it in payloads + more])
+        if station in (0, 4095):
+            lines = summaries.summary_of(b"".join(stations[-1]))
+            block_of = lines[lines.index("station"):]
+        told.append(block_of.replace("station 0", f"station {station}"))
+    all_codes = ",".join(CODES)
+    assert f" codes {all_codes}\n" in told[-1] and f" codes {all_codes.replace(',2W', '')}\n second-frequency 2P\n" in told[0]
+    assert " satellites " + " ".join(f"G{it:02}" for it in range(1, 33)) + "\n" in told[0]
+    rest = [(number << 4).to_bytes(2, "big") for number in range(4096)]
+    rest += [b"", legacy(last + 1, []), msm(last + 1, {}, {})]
+    rest.append(msm(last, dict.fromkeys(range(1, 64), (70, 0)), {(1, 2): {}, (1, 3): {}})[:22])  # 126 cells
+    unread = summaries.summary_of(b"".join(map(frame_of, rest)))
+    unread = unread[unread.index("other 0 1\n"):].removesuffix("nothing taken\n")
+    frames = [*(frame for frames in stations[::-1] for frame in frames), *map(frame_of, rest)]
+    save("greatest", b"".join(frames))
+    size = sum(map(len, frames))
+    save("greatest.summary", f"bytes {size}\noutside-frames 0\nframes {len(frames)}\n" + "".join(told) + unread)
+
+
 def summary_cases():
     """The file `summaries` has the name of each capture."""
     with open("summaries", "w") as names:
@@ -458,17 +525,23 @@ def shown(random):
     return model.columns_of(*values, strength, " 123"[random.randrange(4)])
 
 
-def record_body(random):
+def all_shown(random):
+    """The same of the greatest values."""
+    return model.columns_of(9_999_999_999_999, -999_999_999_999, 63_750, " 123"[random.randrange(4)])
+
+
+def record_body(random, shown):
     """The lines of 32 satellites; each has a value of its first code."""
-    first = model.columns_of(1, 1, 250, " ")
-    lines = (first + "".join(shown(random) for _ in CODES[1:]) for _ in range(32))
+    first = (model.columns_of(1, 1, 250, " 123"[random.randrange(4)]) for _ in range(32))
+    lines = (it + "".join(shown(random) for _ in CODES[1:]) for it in first)
     return "".join(f"G{number:02}{line}".rstrip() + "\n" for number, line in enumerate(lines, 1))
 
 
 def long_file():
-    """450 records of 32 satellites and 16 codes; and the same with a zero in the last line."""
+    """450 records of 32 satellites and 16 codes, some of them the longest that there are; the same with a zero in the last
+    line; and its part of each second record."""
     random = Random(305)
-    bodies = [record_body(random) for _ in range(15)]
+    bodies = [record_body(random, shown) for _ in range(14)] + [record_body(random, all_shown)]
     text = "".join(f"{it}\n" for it in model.header(Setup(2003, NEAR, MADE, "BASE", tuple(CODES), 64), {}, NEAR))
     text += "".join(f"{model.epoch_line(NEAR + 1000 * it, 32)}\n{bodies[it % 15]}" for it in range(450))
     assert len(text) > 10_000_000
@@ -476,6 +549,10 @@ def long_file():
     last = text.rindex("\nG32") + 4
     save("zero.rnx", text[:last] + f"{'0.000':>14}" + text[last + 14:])
     save("zero.line", f"line {text.count(chr(10))}: C3 Value\n")
+    part = parts.part_of(text, parts.Part(None, None, 2))
+    # so long, and with other slips than in the file
+    assert any(len(it) == 32 * 770 + 34 and it not in text for it in part.split("> ")[1:])
+    save("long_2s.rnx", part)
 
 
 def main():
@@ -484,6 +561,8 @@ def main():
         for write in (links_of_sixteen, refusals, closes, order_of_reading, windows, ties, every_cell, long_captures):
             write(cases)
     millions()
+    many_of_each()
+    greatest_summary()
     summary_cases()
     long_file()
 

@@ -111,8 +111,9 @@ satellites 1
 slips 70001
 missing 99999' ''
 run chart many </dev/null
-grep '>records' out >heading; mv heading out
-expect chart_of_many_records_in_svg 0 "<text x='90' y='70'>records 70001, satellites 1, slips 70001, missing epochs 99999</text>" ''
+grep -e "y='52'" -e '>records' out >heading; mv heading out
+expect chart_of_many_records_in_svg 0 "<text x='90' y='52'>2024-05-17 12:00:00.000 to 2024-05-19 11:13:19.000, interval 1.000 s, column 119.000 s</text>
+<text x='90' y='70'>records 70001, satellites 1, slips 70001, missing epochs 99999</text>" ''
 sed '$s/110804903.547/        0.000/' many >many_and_zero
 run chart many_and_zero </dev/null;                expect chart_of_a_fault_beyond_65535_lines 3 '' 'line 140016: C3 Value'
 

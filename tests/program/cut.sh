@@ -153,8 +153,31 @@ g07='G07  22963067.680 6 120671689.95026        41.500    22963071.430 5  940292
 cut --every 86400 night </dev/null;                 leaves midnight_at_the_step_of_a_day 0 want nothing
 { header "$begin"; printf '%s\n' "$line" "$g05 5        35.000" "$g07"; } >want
 cut --every 30 --from $midnight night </dev/null;   leaves the_day_after_midnight 0 want nothing
+# The same slips, of the minute after noon: no record after them is on the step before midnight is.
+moved '2024 02 28' '12 00' '2024 02 29 00 00' '  2024     2    28    12     0 ' >noon
+{ header "$begin"; printf '%s\n' "$line" "${g05}15        35.000" "$g07"; } >want
+cut --every 86400 noon </dev/null;                  leaves twelve_hours_before_the_step 0 want nothing
 sed '/^> 2024 02 29/,$d' night >want
 cut --until $midnight night </dev/null;             leaves the_day_before_midnight 0 want nothing
+
+# A record each second of a day: a slip of G05 a second after midnight is shown 86,399 seconds later, and of G07, which slips at
+# noon and is missing from then on, once it comes back; after that none is left.
+{
+    header '  2024     5    17     0     0    0.0000000'
+    awk 'BEGIN { for (n = 0; n <= 259200; n += n < 86400 ? 1 : 43200) { t = n % 86400
+        both = n <= 43200 || n > 86400
+        printf "> 2024 05 %02d %02d %02d%11.7f  0%3d\n", 17 + int(n / 86400), int(t / 3600), int(t / 60) % 60, t % 60, 1 + both
+        print "G05                 110804903.547" (n == 1 ? 1 : "")
+        if (both) print "G07                 120671603.523" (n == 43200 ? 1 : "") } }'
+} >days
+{
+    header '  2024     5    17     0     0    0.0000000'
+    printf '%s\n' '> 2024 05 17 00 00  0.0000000  0  2' 'G05                 110804903.547' 'G07                 120671603.523' \
+        '> 2024 05 18 00 00  0.0000000  0  1' 'G05                 110804903.5471' \
+        '> 2024 05 19 00 00  0.0000000  0  2' 'G05                 110804903.547' 'G07                 120671603.5231' \
+        '> 2024 05 20 00 00  0.0000000  0  2' 'G05                 110804903.547' 'G07                 120671603.523'
+} >want
+cut --every 86400 days </dev/null;                  leaves a_slip_a_second_after_midnight 0 want nothing
 
 # The last minute that a time can name.
 moved '2100 12 31' '23 58' '2100 12 31 23 59' '  2100    12    31    23    58 ' >century
@@ -232,4 +255,4 @@ cut -h </dev/null;                                  expect cut_short_help 0 "$sh
 "$program" help cut </dev/null >out 2>err; status=$?
 expect help_cut 0 "$help" ''
 
-ends 61
+ends 63

@@ -48,7 +48,7 @@ for name in $(cat summaries); do
     leaves "summary_$name" 0 "$name.summary" /dev/null
     cat out >>summaries_told
 done
-for name in each_refusal.1 long_capture.1 long_damaged_links.1; do
+for name in each_refusal.1 long_capture.1 long_damaged_links.1 many_of_each greatest; do
     "$program" summary "$name" >out 2>err </dev/null; status=$?
     leaves "summary_of_$name" 0 "$name.summary" /dev/null
     cat out >>summaries_told
@@ -69,9 +69,11 @@ leaves check_of_10_mb_with_a_zero 3 zero.line /dev/null
 # `cut` and `chart` read them to their ends too.
 "$program" cut --every 1 long.rnx >out 2>err </dev/null; status=$?
 leaves cut_of_10_mb 0 long.rnx /dev/null
+"$program" cut --every 2 long.rnx >out 2>err </dev/null; status=$?
+leaves cut_of_10_mb_at_2_seconds 0 long_2s.rnx /dev/null
 for words in 'cut --every 1' chart 'chart --text'; do
     "$program" $words zero.rnx >out 2>err </dev/null; status=$?
     leaves "$(echo "$words" | tr -cs a-z _)of_10_mb_with_a_zero" 3 /dev/null zero.line
 done
 
-ends 62
+ends 65
