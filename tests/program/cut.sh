@@ -153,7 +153,7 @@ g07='G07  22963067.680 6 120671689.95026        41.500    22963071.430 5  940292
 cut --every 86400 night </dev/null;                 leaves midnight_at_the_step_of_a_day 0 want nothing
 { header "$begin"; printf '%s\n' "$line" "$g05 5        35.000" "$g07"; } >want
 cut --every 30 --from $midnight night </dev/null;   leaves the_day_after_midnight 0 want nothing
-# The same slips, of the minute after noon: no record after them is on the step before midnight is.
+# The same slips, in the minute after noon: no record before midnight is on the step.
 moved '2024 02 28' '12 00' '2024 02 29 00 00' '  2024     2    28    12     0 ' >noon
 { header "$begin"; printf '%s\n' "$line" "${g05}15        35.000" "$g07"; } >want
 cut --every 86400 noon </dev/null;                  leaves twelve_hours_before_the_step 0 want nothing
