@@ -18,13 +18,14 @@ import subprocess
 import sys
 import threading
 import time
-from dataclasses import dataclass, field
+from dataclasses import dataclass, field, replace
 
 WORK, PROGRAM, *WORDS = sys.argv[1:]
 ROOT = os.path.realpath(os.path.join(os.path.dirname(__file__), "..", ".."))
 EXAMPLES = os.path.join(ROOT, "examples")
 PROGRAM = os.path.realpath(PROGRAM)
 SHIM = os.path.join(WORK, "cut.so")
+CALLS = os.path.join(WORK, "calls.so")
 NOTHING = os.devnull
 
 SECONDS = 60  # a run that takes longer does not end
@@ -640,6 +641,19 @@ def _first_read_fails():
             yield tried(name, f"errno {fault}", once(FAILS_READ=1, FAULT=fault), no_read, of=name)
 
 
+@scene("a read in the middle, or that of the end, fails with each error but an interruption")
+def _later_read_fails():
+    for name, case in CASES.items():
+        for fault in ERRORS if size_of_inputs(case) >= 0 else []:
+            # the first read gives at most a third; standard input as a link is looked at before it
+            middle = 2 + is_looked_at(case)
+            yield tried(name, f"read {middle} of thirds, errno {fault}", once(
+                PIECE=size_of_inputs(case) // 3 + 1, FAILS_READ=middle, FAULT=fault),
+                no_read, of=name)
+            yield tried(name, f"the last read, errno {fault}",
+                        once(FAILS_READ=reads_of(case), FAULT=fault), no_read, of=name)
+
+
 @scene("the first write fails with each error but an interruption; the next would go well")
 def _first_write_fails():
     for name in CASES:
@@ -683,10 +697,13 @@ def _calls_are_counted():
 def reads_of(case):
     """Each input is read in whole pieces, and once more for its end. As a link, standard input is
     looked at before."""
-    is_convert = case.words[0] == "convert"
     piece = asked_for(case.words)
     sizes = [os.path.getsize(file) for file in inputs(case)]
-    return sum(-(-size // piece) + 1 for size in sizes) + (is_convert and "stdin" in case.words)
+    return sum(-(-size // piece) + 1 for size in sizes) + is_looked_at(case)
+
+
+def is_looked_at(case):
+    return case.words[0] == "convert" and "stdin" in case.words
 
 
 def writes_of(name):
@@ -761,6 +778,47 @@ def nothing_read(links, place):
         return fault or (f"{at} bytes were read" if at else None)
     finally:
         os.close(given)
+
+
+@scene("no file is written, made, changed, renamed or removed, and no variable is asked for")
+def _calls_on_files():
+    base, folder = example("base.rtcm"), os.path.join(WORK, "folder")
+    nowhere = os.path.join(WORK, "nowhere", "base.rtcm")
+    wrong = written("no.rnx", content(example("base.rnx")).replace(b"45.000", b"45.100"))
+    os.makedirs(folder, exist_ok=True)
+    for name, case in CASES.items():
+        files = [word for word in case.words if word.startswith("/")]
+        yield name, functools.partial(opens_alone, case, files, GOOD[name].status)
+        yield f"{name}, into a full disk", functools.partial(
+            opens_alone, case, files, 1, Disturbance(out="/dev/full"))
+    every_command = [("show",), ("show", "--hex"), ("check",), ("summary",), ("chart",),
+                     ("chart", "--text"), ("cut", "--every", "1"), ("convert", *OPTIONS)]
+    for status, opened, words in [
+            *((1, [nowhere], (*words, nowhere)) for words in every_command),
+            *((1, [folder], (*words, folder)) for words in every_command),
+            *((3, [wrong], (*words, wrong)) for words in every_command
+              if words[0] in ("check", "chart", "cut")),
+            (1, [base, nowhere], ("convert", *OPTIONS, base, nowhere)),
+            (1, [base], ("show", "--hex", base)),
+            (1, ["/dev/zero"], ("show", "/dev/zero")),
+            (2, [], ("convert", *OPTIONS[:-1], "9Z", base)),
+            (2, [], ("convert", *OPTIONS, "stdin", "stdin")),
+            (2, [], ("cut", "--from", "noon", base)),
+            (2, [], ("show", base, "--hax")), (2, [], ("shew", base)), (2, [], ())]:
+        yield " ".join(words) or "no words", functools.partial(
+            opens_alone, Case("", words), opened, status)
+
+
+def opens_alone(case, files, status, disturbance=Disturbance()):
+    """These files are opened to be read, in this order, and no other call is told; the run leaves
+    what it leaves without the library."""
+    told = written(f"{os.getpid()}.calls", b"")
+    good = run(case, disturbance)
+    left = run(case, replace(disturbance, shim={"LD_PRELOAD": CALLS, "TELLS": told}))
+    calls = content(told)
+    if calls != "".join(f"reads {file}\n" for file in files).encode():
+        return f"calls '{shown(calls)}'"
+    return same(left, good) or (f"status {status} is due" if left.status != status else None)
 
 
 # Cut short.
