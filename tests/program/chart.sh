@@ -63,6 +63,29 @@ run chart --text ' a,b=c ' </dev/null;              expect chart_of_an_odd_name 
 run chart --help </dev/null;                       expect chart_help 0 "$help" ''
 run chart -h </dev/null;                           expect chart_short_help 0 "$short_help" ''
 
+# Names and files of other kinds, and standard input of which something was read before.
+mkdir folder
+cp "$marks" Zürich.rnx; cp "$marks" marks.rnx; ln -s "$marks" linked; ln -s linked linked_twice
+for name in Zürich.rnx folder/../marks.rnx linked linked_twice; do
+    run chart --text "$name" </dev/null;           expect "chart_of_$name" 0 "$picture" ''
+done
+piped "$marks" run chart --text fifo </dev/null;   expect chart_of_a_pipe_of_a_name 0 "$picture" ''
+bash -c '"$0" chart --text <(cat marks.rnx)' "$program" >out 2>err </dev/null; status=$?
+expect chart_of_a_pipe_of_the_shell 0 "$picture" ''
+run chart nowhere/marks.rnx </dev/null
+expect chart_of_a_missing_folder 1 '' 'rtcm2rinex: cannot open nowhere/marks.rnx'
+{ printf 'not of it'; cat "$marks"; } >behind
+beyond behind 9 run chart --text stdin;            expect chart_after_the_first_bytes 0 "$picture" ''
+
+# Each byte counts.
+count=$(wc -l <"$marks")
+{ printf '\357\273\277'; cat "$marks"; } >marked
+sed 's/$/\r/' "$marks" >crlf
+{ cat "$marks"; head -c 512 /dev/zero; } >nuls
+run chart marked </dev/null;                       expect chart_of_a_byte_order_mark 3 '' 'line 1: C1 HeaderLine'
+run chart crlf </dev/null;                         expect chart_of_line_ends_of_cr_lf 3 '' 'line 1: C1 HeaderLine'
+run chart --text nuls </dev/null;                  expect chart_of_nuls_behind 3 '' "line $((count + 1)): C5 Truncated"
+
 # a file that check refuses
 head -n 20 "$marks" | sed '16s/ 7 / 8 /' >bad
 run check bad </dev/null; line=$(cat out)
@@ -179,4 +202,4 @@ For more information, try '--help'."
 twice --text --text
 twice '--columns <N>' --columns 80
 
-ends 31
+ends 42

@@ -75,6 +75,14 @@ sed '9,$d' "$base" >half_header
 sed '16s/^G05/G33/' "$base" >satellite33
 sed '16s/$/ /' "$base" >blank
 sed '16s/^G05  21085472.060/G05         0.000/' "$base" >zero
+# Each byte counts: a byte order mark, CR before each LF or before one, NULs.
+{ printf '\357\273\277'; cat "$base"; } >marked
+sed 's/$/\r/' "$base" >crlf
+for number in 1 14 15 16; do sed "${number}s/\$/\r/" "$base" >"crlf_$number"; done
+{ cat "$base"; printf '\r\n'; } >crlf_17
+{ cat "$base"; head -c 512 /dev/zero; } >nuls
+{ cat "$base"; printf '\0\n'; } >nul_line
+{ head -c -1 "$base"; printf '\0\n'; } >nul_before
 { cat "$base"; sed '1,14d' "$base"; } >twice
 
 check "$base" </dev/null;        expect yes 0 "$yes" ''
@@ -90,6 +98,19 @@ check half_header </dev/null;    expect half_header 3 'line 9: C5 Truncated' ''
 check satellite33 </dev/null;    expect satellite_33 3 'line 16: C2 Columns' ''
 check blank </dev/null;          expect blank_at_the_end 3 'line 16: C2 Columns' ''
 check zero </dev/null;           expect zero_value 3 'line 16: C3 Value' ''
+check marked </dev/null;         expect byte_order_mark 3 'line 1: C1 HeaderLine' ''
+check stdin <marked;             expect byte_order_mark_on_standard_input 3 'line 1: C1 HeaderLine' ''
+check crlf </dev/null;           expect line_ends_of_cr_lf 3 'line 1: C1 HeaderLine' ''
+check stdin <crlf;               expect line_ends_of_cr_lf_on_standard_input 3 'line 1: C1 HeaderLine' ''
+check crlf_1 </dev/null;         expect cr_in_line_1 3 'line 1: C1 HeaderLine' ''
+check crlf_14 </dev/null;        expect cr_in_the_last_header_line 3 'line 14: C1 HeaderLine' ''
+check crlf_15 </dev/null;        expect cr_in_an_epoch_line 3 'line 15: C2 Columns' ''
+check crlf_16 </dev/null;        expect cr_in_a_satellite_line 3 'line 16: C3 Value' ''
+check crlf_17 </dev/null;        expect cr_as_a_line 3 'line 17: C2 Columns' ''
+check nuls </dev/null;           expect nuls_behind 3 'line 17: C5 Truncated' ''
+check stdin <nuls;               expect nuls_behind_on_standard_input 3 'line 17: C5 Truncated' ''
+check nul_line </dev/null;       expect nul_as_a_line 3 'line 17: C2 Columns' ''
+check nul_before </dev/null;     expect nul_before_the_last_line_feed 3 'line 16: C3 Value' ''
 check twice </dev/null;          expect repeated_epoch 3 'line 17: C4 Order' ''
 check "$root/examples/session.rnx" </dev/null
 expect yes_session 0 'valid: 20 epochs, 72 satellite lines' ''
@@ -105,6 +126,17 @@ cp "$base" stdin
 check ./stdin </dev/null;        expect file_of_the_name_stdin 0 "$yes" ''
 cp "$base" ' a,b=c '
 check ' a,b=c ' </dev/null;      expect file_of_an_odd_name 0 "$yes" ''
+# Names and files of other kinds: beyond ASCII, with `..`, links, pipes, and a name that is there in another folder alone.
+cp "$base" Zürich.rnx; cp "$base" base.rnx; ln -s "$base" linked; ln -s linked linked_twice
+for name in Zürich.rnx folder/../base.rnx linked linked_twice; do
+    check "$name" </dev/null;    expect "file_$name" 0 "$yes" ''
+done
+piped "$base" check fifo </dev/null; expect a_pipe_of_a_name 0 "$yes" ''
+bash -c '"$0" check <(cat base.rnx)' "$program" >out 2>err </dev/null; status=$?
+expect a_pipe_of_the_shell 0 "$yes" ''
+check nowhere/base.rnx </dev/null; expect file_of_a_missing_folder 1 '' 'rtcm2rinex: cannot open nowhere/base.rnx'
+{ printf 'not of it'; cat "$base"; } >behind
+beyond behind 9 check stdin;     expect standard_input_after_its_first_bytes 0 "$yes" ''
 "$program" check "$base" >&- 2>err; status=$?; : >out
 expect closed_output 1 '' 'rtcm2rinex: write failed'
 check --help </dev/null;         expect check_help 0 "$help" ''
@@ -133,4 +165,4 @@ check zeros </dev/null;          expect longest_input 3 'line 1: C5 Truncated' '
 truncate -s 1073741825 zeros
 check zeros </dev/null;          expect input_too_long 1 '' 'rtcm2rinex: input too long'
 
-ends 34
+ends 55

@@ -76,6 +76,23 @@ convert 1C,2W stdin.rtcm stdin STDIN <"$base";        leaves standard_input_and_
 odd=' ~a,b=c%20 $HOME#*?[x]'"'\"\\ "
 cp "$base" "$odd"
 convert 1C,2W "$odd" </dev/null;                      leaves file_of_an_odd_name 0 "$examples/base.rnx" base.report
+# Names beyond ASCII and with `..`, symbolic links, a pipe of a name, and pipes of the shell.
+mkdir folder
+cp "$base" Zürich.rtcm; ln -s "$base" linked; ln -s linked linked_twice
+for name in Zürich.rtcm folder/../stdin.rtcm linked linked_twice; do
+    convert 1C,2W "$name" </dev/null;                 leaves "link_$name" 0 "$examples/base.rnx" base.report
+done
+piped "$base" convert 1C,2W fifo </dev/null;          leaves pipe_of_a_name 0 "$examples/base.rnx" base.report
+bash -c 'program=$0 first=$1 second=$2; shift 2; "$program" convert "$@" <(cat "$first") <(cat "$second")' \
+    "$program" "$first" "$second" $options --codes 1C,2W,5X >out 2>err </dev/null
+status=$?
+leaves two_pipes_of_the_shell 0 "$session.rnx" "$examples/session_links.report"
+# Standard input of which the first frame was read before. Other bytes beside frames change nothing.
+{ head -c 25 "$base"; cat "$base"; } >behind
+beyond behind 25 convert 1C,2W stdin;                 leaves standard_input_after_its_first_bytes 0 "$examples/base.rnx" base.report
+{ printf '\357\273\277'; cat "$base"; printf '\r\n'; head -c 512 /dev/zero; } >more
+convert 1C,2W more </dev/null;                        leaves bytes_beside_frames 0 "$examples/base.rnx" base.report
+convert 1C,2W stdin <more;                            leaves bytes_beside_frames_on_standard_input 0 "$examples/base.rnx" base.report
 sed -n '1,14p' "$examples/base.rnx" |
     sed 's/^  1114104.5999 -4850729.7108  3975521.4643/        0.0000        0.0000        0.0000/' >empty.rnx
 report 0 0 0 0 0 0 0 0 0 >empty.report
@@ -119,8 +136,8 @@ follow followed_first "$examples/late.report" stdin nothing
 follow followed_between late.report nothing stdin nothing
 
 # Links that can't be opened, and links that can't be read. If one can't be opened, nothing is read and nothing is out.
-mkdir folder
 convert 1C nowhere "$base" </dev/null;                fails missing_link 1 'cannot open nowhere'
+convert 1C nowhere/stdin.rtcm </dev/null;             fails link_of_a_missing_folder 1 'cannot open nowhere/stdin.rtcm'
 convert 1C "$base" nowhere </dev/null;                fails missing_link_after_another 1 'cannot open nowhere'
 { convert 1C stdin nowhere; cat >rest; } <"$base";    fails missing_link_after_standard_input 1 'cannot open nowhere'
 same nothing_read_before_all_links_are_open rest "$base"
@@ -453,4 +470,4 @@ leaves start_convert_with_a_limit_of_size 1 part part_err
 limited 4096 "$root/bin/rtcm2rinex" convert $options --codes 1C,2W,5X stdin >out 2>err <"$session.rtcm"; status=$?
 leaves start_convert_followed_with_a_limit_of_size 1 part write_failed
 
-ends 216
+ends 226

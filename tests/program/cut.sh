@@ -103,6 +103,15 @@ cut --every 30 ' a,b=c ' </dev/null;                leaves of_an_odd_name 0 "$ro
 cut --every 30 stdin <"$file";                      leaves of_standard_input 0 "$root/examples/slip_30s.rnx" nothing
 cat "$file" | "$program" cut --every 30 stdin >out 2>err; status=$?
 leaves of_a_pipe 0 "$root/examples/slip_30s.rnx" nothing
+cp "$file" Zürich.rnx; cp "$file" slip.rnx; ln -s "$file" linked; ln -s linked linked_twice
+for name in Zürich.rnx folder/../slip.rnx linked linked_twice; do
+    cut --every 30 "$name" </dev/null;              leaves "of_$name" 0 "$root/examples/slip_30s.rnx" nothing
+done
+piped "$file" cut --every 30 fifo </dev/null;       leaves of_a_pipe_of_a_name 0 "$root/examples/slip_30s.rnx" nothing
+bash -c '"$0" cut --every 30 <(cat slip.rnx)' "$program" >out 2>err </dev/null; status=$?
+leaves of_a_pipe_of_the_shell 0 "$root/examples/slip_30s.rnx" nothing
+{ printf 'not of it'; cat "$file"; } >behind
+beyond behind 9 cut --every 30 stdin;               leaves after_the_first_bytes 0 "$root/examples/slip_30s.rnx" nothing
 cut --every 1 "$file" </dev/null;                   leaves at_its_own_step 0 "$file" nothing
 cut --from "$noon" "$file" </dev/null;              leaves from_its_begin 0 "$file" nothing
 cut --until 2024-05-17T12:01:01 "$file" </dev/null; leaves until_after_its_end 0 "$file" nothing
@@ -234,10 +243,19 @@ cut --every 30 wrong </dev/null;                    expect a_wrong_value 3 '' 'l
 "$program" cut --every 30 wrong </dev/null >&- 2>err; status=$?; : >out
 expect a_wrong_value_and_no_output 3 '' 'line 16: C3 Value'
 cut --every 30 stdin </dev/null;                    expect an_empty_file 3 '' 'line 1: C5 Truncated'
+{ printf '\357\273\277'; cat "$file"; } >marked
+sed 's/$/\r/' "$file" >crlf
+{ cat "$file"; head -c 512 /dev/zero; } >nuls
+cut --every 1 marked </dev/null;                    expect a_byte_order_mark 3 '' 'line 1: C1 HeaderLine'
+cut --every 1 crlf </dev/null;                      expect line_ends_of_cr_lf 3 '' 'line 1: C1 HeaderLine'
+cut --every 1 nuls </dev/null
+expect nuls_behind 3 '' "line $(($(wc -l <"$file") + 1)): C5 Truncated"
 cut --every 30 "$root/examples/base.rtcm" </dev/null
 expect a_capture 3 '' 'line 1: C5 Truncated'
 
 cut --every 30 nowhere </dev/null;                  expect cut_of_no_file 1 '' 'rtcm2rinex: cannot open nowhere'
+cut --every 30 nowhere/slip.rnx </dev/null
+expect cut_of_a_missing_folder 1 '' 'rtcm2rinex: cannot open nowhere/slip.rnx'
 truncate -s 1073741824 zeros
 cut --every 30 zeros </dev/null;                    expect longest_cut_input 3 '' 'line 1: C5 Truncated'
 truncate -s 1073741825 zeros
@@ -255,4 +273,4 @@ cut -h </dev/null;                                  expect cut_short_help 0 "$sh
 "$program" help cut </dev/null >out 2>err; status=$?
 expect help_cut 0 "$help" ''
 
-ends 63
+ends 74

@@ -215,6 +215,30 @@ cp arp.rtcm stdin.rtcm; cp arp.rtcm Stdin; cp arp.rtcm ' a,b=c '
 run show stdin.rtcm </dev/null;           expect file_of_a_name_that_begins_with_stdin 0 "$arp" ''
 run show Stdin </dev/null;                expect file_of_the_name_stdin_with_a_capital 0 "$arp" ''
 run show ' a,b=c ' </dev/null;            expect file_of_an_odd_name 0 "$arp" ''
+cp arp.rtcm Zürich.rtcm; ln -s arp.rtcm linked; ln -s linked linked_twice
+for name in Zürich.rtcm folder/../arp.rtcm linked linked_twice; do
+    run show "$name" </dev/null;          expect "file_$name" 0 "$arp" ''
+done
+# The same letters with the dots as a character of their own are another name, and a word in Latin-1 is no text.
+other=$(printf 'Zu\314\210rich.rtcm')
+run show "$other" </dev/null;             expect missing_file_of_a_name_that_looks_alike 1 '' "rtcm2rinex: cannot open $other"
+latin=$(printf 'Z\374rich.rtcm')
+cp arp.rtcm "$latin"
+run show "$latin" </dev/null;             expect file_of_a_name_that_is_no_text 1 '' 'rtcm2rinex: read failed'
+piped arp.rtcm run show fifo </dev/null;  expect pipe_of_a_name 0 "$arp" ''
+bash -c '"$0" show <(cat arp.rtcm)' "$program" >out 2>err </dev/null; status=$?
+expect pipe_of_the_shell 0 "$arp" ''
+beyond "$root/examples/base.rtcm" 25 run show stdin; expect standard_input_after_its_first_frame 0 "$epoch" ''
+run show nowhere/arp.rtcm </dev/null;     expect file_of_a_missing_folder 1 '' 'rtcm2rinex: cannot open nowhere/arp.rtcm'
+# Bytes beside frames are passed over; as hex text a byte order mark or a NUL is refused.
+{ printf '\357\273\277'; cat arp.rtcm; printf '\r\n'; head -c 512 /dev/zero; } >more
+run show more </dev/null;                 expect bytes_beside_frames 0 "$arp" ''
+{ printf '\357\273\277'; cat arp.hex; } >marked.hex
+run show --hex marked.hex </dev/null;     expect hex_after_a_byte_order_mark 1 '' 'rtcm2rinex: input is not hex'
+{ cat arp.hex; head -c 512 /dev/zero; } >nuls.hex
+run show --hex nuls.hex </dev/null;       expect hex_before_nuls 1 '' 'rtcm2rinex: input is not hex'
+sed 's/$/\r/' arp.hex >crlf.hex
+run show --hex crlf.hex </dev/null;       expect hex_of_line_ends_of_cr_lf 0 "$arp" ''
 run show empty </dev/null;                expect empty_input 0 '' ''
 run show stdin </dev/null;                expect empty_standard_input 0 '' ''
 run show longest </dev/null;              expect longest_input 0 '' ''
@@ -282,6 +306,61 @@ else
     wrong no_other_file "$(ls -A alone)"
 fi
 
+# At a terminal, and with any variable in the environment or none, each command does what it does at a pipe.
+# as_at_a_pipe NAME COMMAND..: the command, with $words
+as_at_a_pipe() {
+    name=$1
+    shift
+    "$@" "$program" $words >got 2>got_err </dev/null; answer=$?
+    if [ $answer -eq $status ] && cmp -s got out && cmp -s got_err err; then
+        right "$name"
+    else
+        wrong "$name" "status $answer, '$(head -c 300 got got_err)'"
+    fi
+}
+# With two epochs open one message of late.rtcm is late, and with more none.
+cp "$root/examples/late.rtcm" "$root/examples/base.rnx" "$root/examples/marks.rnx" "$root/examples/slip.rnx" .
+sed '16s/45.000/45.100/' base.rnx >wrong.rnx
+options='--station 2003 --near 2024-05-17T12:00:00 --made 2024-05-17T13:00:00 --marker BASE'
+while read -r words; do
+    run $words </dev/null
+    cat out err | sed 's/$/\r/' >want
+    python3 "$root/tests/program/terminal.py" "$program" $words >got 2>&1 </dev/null; answer=$?
+    if [ $answer -eq $status ] && cmp -s got want; then
+        right "at_a_terminal $words"
+    else
+        wrong "at_a_terminal $words" "status $answer, '$(head -c 300 got)'"
+    fi
+    as_at_a_pipe "without_an_environment $words" env -i
+    as_at_a_pipe "with_many_variables $words" env RTCM2RINEX='--window 2' RTCM2RINEX_OPTIONS=--window=2 RTCM2RINEX_OPTS=--window=2 \
+        RTCM2RINEX_ARGS=--window=2 RTCM2RINEX_FLAGS=--text RTCM2RINEX_WINDOW=2 RTCM2RINEX_STATION=2003 RTCM2RINEX_CODES=5X \
+        RTCM2RINEX_NEAR=2024-05-17T12:00:00 RTCM2RINEX_MADE=2024-05-17T14:00:00 RTCM2RINEX_MARKER=OTHER RTCM2RINEX_HEX=1 \
+        RTCM2RINEX_TEXT=1 RTCM2RINEX_COLUMNS=40 RTCM2RINEX_EVERY=60 RTCM2RINEX_FROM=2024-05-17T12:00:30 RTCM2RINEX_FILE=empty \
+        RTCM2RINEX_LINK=empty RTCM2RINEX_COMMAND=check RTCM2RINEX_LOG=trace RTCM2RINEX_CONFIG=empty RTCM2RINEX_DEBUG=1 \
+        RTCM2RINEX_QUIET=1 RTCM2RINEX_HOME=/ COLUMNS=40 LINES=2 TERM=xterm-256color NO_COLOR=1 CLICOLOR_FORCE=1 LANG=de_DE.UTF-8 \
+        LC_ALL=tr_TR.UTF-8 TZ=Asia/Tokyo HOME=/nowhere PATH=/nowhere TMPDIR=/nowhere RUST_BACKTRACE=full RUST_LOG=trace POSIXLY_CORRECT=1
+done <<WORDS
+show arp.rtcm
+show --hex arp.rtcm
+show nowhere
+show
+
+--help
+--version
+check base.rnx
+check wrong.rnx
+summary late.rtcm
+chart --text marks.rnx
+chart marks.rnx
+chart wrong.rnx
+cut --every 30 slip.rnx
+cut slip.rnx
+convert $options --codes 1C,2W late.rtcm
+convert $options --codes 1C,2W --window 2 late.rtcm
+convert $options late.rtcm
+convert --codes 1C late.rtcm
+WORDS
+
 # The longest inputs with frames to their ends, and one byte more; as hex text that byte is a line end.
 for _ in 1 2 3 4 5; do cat frames frames >twice; mv twice frames; done
 yes '1019 other' | head -n 2097152 >lines
@@ -339,4 +418,4 @@ head -c 8192 frames >some; head -c 512 lines >part; echo 'rtcm2rinex: write fail
 limited 512 "$root/bin/rtcm2rinex" show some >out 2>err </dev/null; status=$?
 leaves start_show_with_a_limit_of_size 1 part part_err
 
-ends 82
+ends 153

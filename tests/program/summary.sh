@@ -89,6 +89,21 @@ run $(cat next) "$base" </dev/null
 same the_next_command out "$root/examples/base.rnx"
 
 mkdir folder
+cp "$base" Zürich.rtcm; cp "$base" base.rtcm; ln -s "$base" linked; ln -s linked linked_twice
+for name in Zürich.rtcm folder/../base.rtcm linked linked_twice; do
+    run summary "$name" </dev/null; expect "summary_of_$name" 0 "$told" ''
+done
+piped "$base" run summary fifo </dev/null; expect summary_of_a_pipe_of_a_name 0 "$told" ''
+bash -c '"$0" summary <(cat base.rtcm)' "$program" >out 2>err </dev/null; status=$?
+expect summary_of_a_pipe_of_the_shell 0 "$told" ''
+{ printf 'not of it'; cat "$base"; } >behind
+beyond behind 9 run summary stdin;  expect summary_after_the_first_bytes 0 "$told" ''
+# Each byte counts: a byte order mark, CR LF, NULs.
+{ printf '\357\273\277'; cat "$base"; printf '\r\n'; head -c 507 /dev/zero; } >more
+run summary more </dev/null
+expect summary_of_bytes_beside_frames 0 "$(echo "$told" | sed 's/^bytes 55/bytes 567/; s/^outside-frames 0/outside-frames 512/')" ''
+run summary nowhere/base.rtcm </dev/null
+expect summary_of_a_missing_folder 1 '' 'rtcm2rinex: cannot open nowhere/base.rtcm'
 run summary nowhere </dev/null;     expect summary_of_no_file 1 '' 'rtcm2rinex: cannot open nowhere'
 run summary folder </dev/null;      expect summary_of_a_directory 1 '' 'rtcm2rinex: read failed'
 "$program" summary stdin <&- >out 2>err; status=$?
@@ -120,4 +135,4 @@ run summary --he "$base" </dev/null; head -n 1 err >line; mv line err
 expect summary_start_of_an_option 2 '' "error: unexpected argument '--he' found"
 run summary a b </dev/null;         expect summary_of_two_files 2 '' "$two_files"
 
-ends 19
+ends 28
