@@ -58,6 +58,10 @@ def streams():
          [part(1, b"one\n", b"fir"), part(1, b"one\n", b"fir", 4)],
          [part(0, b"one\n", b"fir"), part(1, b"one\n", b"fi"), part(1, b"one\n", b"firs"), part(1, b"one\n", b"Fir"),
           part(1, b"two\n", b"fir"), part(1, b"one\n", b"fir", 3), part(1, b"one\n", b"fir", 5)])
+    due = b"reads /a\nreads /b\n"
+    sees("streams_sees_another_call", lambda calls: scenes.other_calls(calls, ["/a", "/b"]), [(due,)],
+         [(b"",), (b"reads /a\n",), (b"reads /b\nreads /a\n",), (due + b"reads /b\n",), (due + b"writes /b\n",), (due + b"unlink /a\n",),
+          (b"getenv A\n" + due,), (b"reads /a\nwrites /b\n",)])
     count = scenes.Count()
     with redirect_stdout(io.StringIO()) as told:
         count.scene("good", [("run", None)])

@@ -294,6 +294,12 @@ def told_in_part(left, good, status, err, out=None):
     return None
 
 
+def other_calls(calls, files):
+    """These files are opened to be read, once each and in this order, and nothing else is told."""
+    due = "".join(f"reads {file}\n" for file in files).encode()
+    return None if calls == due else f"calls '{shown(calls)}'"
+
+
 def shown(text):
     return text[-60:].decode("ascii", "replace").replace("\n", "|")
 
@@ -810,15 +816,13 @@ def _calls_on_files():
 
 
 def opens_alone(case, files, status, disturbance=Disturbance()):
-    """These files are opened to be read, in this order, and no other call is told; the run leaves
-    what it leaves without the library."""
+    """No other call but the opens of these files; and what the run leaves without the library."""
     told = written(f"{os.getpid()}.calls", b"")
     good = run(case, disturbance)
     left = run(case, replace(disturbance, shim={"LD_PRELOAD": CALLS, "TELLS": told}))
-    calls = content(told)
-    if calls != "".join(f"reads {file}\n" for file in files).encode():
-        return f"calls '{shown(calls)}'"
-    return same(left, good) or (f"status {status} is due" if left.status != status else None)
+    if left.status != status:
+        return f"status {left.status}"
+    return other_calls(content(told), files) or same(left, good)
 
 
 # Cut short.
