@@ -18,6 +18,8 @@ from random import Random
 from typing import Callable, Iterable, NamedTuple
 
 from captures import Capture
+from checker import fault
+from damages import damaged_file
 from messages import Placed, frames_of, show_line
 from model import COUNTS, KINDS, Conversion, Judged, convert, report_of
 from parts import Part, part_of, records_of
@@ -136,6 +138,26 @@ def file_is_valid(case: Case) -> Answer:
     satellites = case.base.out.partition(b"END OF HEADER")[2].count(b"\nG")
     line = f"valid: {epochs} epochs, {satellites} satellite lines\n"
     return ends_with(case.program.check(case.base.out), 0, line.encode(), b"")
+
+
+def faults_are_named(case: Case) -> Answer:
+    """Of the file with some damages, three times, `check` names the first wrong line and the cause
+    that the slow model finds, or says with the right counts that it is a file still. Few of the
+    files without records are taken, of which there are many."""
+    if b"\n>" not in case.base.out and case.rng.random() < 0.8:
+        return NOT_MET
+    texts = [damaged_file(case.rng, case.base.out) for _ in range(3)]
+    return next(filter(None, (_fault_is_named(case, text) for text in texts)), HOLDS)
+
+
+def _fault_is_named(case: Case, text: bytes) -> Answer:
+    due = fault(text)
+    if due is not None:
+        return ends_with(case.program.check(text), 3, f"line {due[0]}: {due[1]}\n".encode(), b"")
+    records = text.partition(b"END OF HEADER")[2]
+    epochs, satellites = (records.count(begin) for begin in (b"\n>", b"\nG"))
+    line = f"valid: {epochs} epochs, {satellites} satellite lines\n"
+    return ends_with(case.program.check(text), 0, line.encode(), b"")
 
 
 def shown_lines(text: bytes) -> bytes:
@@ -397,6 +419,7 @@ OFTEN = (
     Property(summarized_as_modelled, 20),
     Property(charted_as_modelled, 20),
     Property(cut_as_modelled, 18),
+    Property(faults_are_named, 10),
 )
 
 ALL = FREE + VALID + SELDOM + OFTEN
