@@ -418,7 +418,7 @@ OFTEN = (
     Property(hex_shown_as_bytes, 20),
     Property(summarized_as_modelled, 20),
     Property(charted_as_modelled, 20),
-    Property(cut_as_modelled, 18),
+    Property(cut_as_modelled, 16),
     Property(faults_are_named, 10),
 )
 
