@@ -9,13 +9,15 @@ import re
 import subprocess
 import sys
 from collections.abc import Iterable
+from itertools import cycle, islice, pairwise
 from pathlib import Path
 
 from pictures import CODES as CHART_CODES
 from pictures import CHARACTERS, COLUMNS, filled, largest, largest_in_characters
 from pictures import SATELLITES as CHART_SATELLITES
-from streams import NOON, SATELLITES, SIGNALS, capture, falling_epochs, falling_satellites
-from streams import largest_1074, legacy, minutes, point, single_satellite, unread
+from streams import NOON, RISING_AND_FALLING, SATELLITES, SIGNALS, capture, falling_epochs
+from streams import falling_satellites, largest_1074, legacy, minutes, msm, of_templates, point
+from streams import rising_and_falling, single_satellite, unread
 
 OPTIONS = (
     "--station 2003 --near 2024-05-17T12:00:00 --made 2024-05-17T13:00:00 --marker BASE"
@@ -47,9 +49,19 @@ MOST_OF_PICTURE = 7_500_000
 # The cells of an epoch: a 1004 gives two of a satellite, a 1074 one of each signal.
 CELLS = len(SATELLITES) * (2 + len(SIGNALS))
 WINDOWS = (64, 1000, 4096)
-# The most cells of a message, and what a record of all satellites and the three codes takes, twice.
-LARGEST = 64
+# Of each kind the cells of the largest message, and what a record of all satellites and the three
+# codes takes, twice.
+LARGEST = {"1074": 64, "1004": 62}
 RECORD = 2 * (36 + 32 * (4 + 48 * 3))
+
+# Epochs of two messages, of which one has eight cells and the other one four.
+UNLIKE = {
+    "1074_first_with_more_cells": (msm(0, SATELLITES), legacy(0, SATELLITES[:2])),
+    "1074_first_with_fewer_cells": (msm(0, SATELLITES[:2]), legacy(0, SATELLITES)),
+    "1004_first_with_more_cells": (legacy(0, SATELLITES), msm(0, SATELLITES[:2])),
+    "1004_first_with_fewer_cells": (legacy(0, SATELLITES[:2]), msm(0, SATELLITES)),
+}
+UNLIKE_CELLS = 8 + 4
 
 # By which memory can come besides malloc and realloc.
 OTHER_CALLS = (
@@ -178,8 +190,16 @@ def write_captures(runs: Runs) -> None:
     first = capture(legacy(NOON, SATELLITES[:1]))
     foreign = capture(legacy(NOON, SATELLITES, station=7))
     runs.write("single", [single_satellite(5000)])
-    largest = capture(largest_1074(NOON - 1000))
-    runs.write("large", [largest, single_satellite(4999)])
+    runs.write("msm", [of_templates(range(5000), msm(0, SATELLITES))])
+    for name, messages in UNLIKE.items():
+        runs.write(name, [of_templates(range(5000), *messages)])
+    before = NOON - 1000
+    for kind, large in (("1074", largest_1074(before)), ("1004", legacy(before, (*range(1, 32),)))):
+        runs.write(f"large_{kind}", [capture(large), single_satellite(4999)])
+    for kind, message in (("1074", msm), ("1004", legacy)):
+        frames = list(islice(rising_and_falling(message), max(FEW_AND_MANY.values())))
+        for name, count in FEW_AND_MANY.items():
+            runs.write(f"rising_and_falling_{kind}_{name}", frames[:count])
     runs.write("falling_satellites", [falling_satellites(5000)])
     runs.write("falling_epochs", [falling_epochs(5000)])
     stations = capture(point(), point(1006))
@@ -249,6 +269,7 @@ def lengths_alike(runs: Runs, tests: Tests) -> None:
         | {"conflict": 2 * n, "repeat": 2 * n, "late": 2 * n}
         for _, n in few_and_many
     ]
+    changing = [{"frames": n, "taken": n, "epochs": n} for _, n in few_and_many]
     for kind, window, wants in (
         ("late", 2, late),
         ("foreign", 2, foreign),
@@ -256,6 +277,8 @@ def lengths_alike(runs: Runs, tests: Tests) -> None:
         ("refused_and_other_frames", 2, refused),
         ("stations", 64, stations),
         ("other_stations", 64, others),
+        ("rising_and_falling_1074", 64, changing),
+        ("rising_and_falling_1004", 64, changing),
     ):
         names = [f"{kind}_{name}" for name in FEW_AND_MANY]
         held = [runs.held(window, [name], want) for name, want in zip(names, wants, strict=True)]
@@ -267,7 +290,11 @@ def grows_with_window(runs: Runs, tests: Tests) -> None:
     held besides the epochs does not grow with the window, and is no more than the manual says."""
     due = counts_of(10, 1)
     single = {"frames": 5000, "taken": 5000, "epochs": 5000}
-    for name, cells, counts in (("10", CELLS, due), ("single", 2, single)):
+    for name, cells, counts in (
+        ("10", CELLS, due),
+        ("single", 2, single),
+        ("msm", len(SATELLITES) * len(SIGNALS), single),
+    ):
         held = {size: runs.most(size, [name], counts) for size in (2, *WINDOWS)}
         room = CELL * max(cells, FEWEST_CELLS)
         for size in held:
@@ -309,14 +336,51 @@ def large_epoch_before_small_ones(runs: Runs, tests: Tests) -> None:
     """It has room for its cells, and so has the epoch after it, whose cells are few: the one after
     that has not, since what counts is how many cells an epoch has, and not its room."""
     counts = {"frames": 5000, "taken": 5000, "epochs": 5000}
-    held = {name: runs.most(1000, [name], counts) for name in ("large", "single")}
-    more = CELL * (LARGEST - FEWEST_CELLS)
-    tests.within(
-        "window 1000 over a large epoch and then small ones, over small ones",
-        held["large"] - held["single"],
-        2 * more,
-        2 * more + RECORD,
-    )
+    small = runs.most(1000, ["single"], counts)
+    for kind, cells in LARGEST.items():
+        more = CELL * (cells - FEWEST_CELLS)
+        tests.within(
+            f"window 1000 over an epoch of a large {kind} and then small ones, over small ones",
+            runs.most(1000, [f"large_{kind}"], counts) - small,
+            2 * more,
+            2 * more + RECORD,
+        )
+
+
+def kinds_of_unlike_cells(runs: Runs, tests: Tests) -> None:
+    """Of each kind of message an epoch has room for the cells that it has, whatever the other kind
+    has and whichever comes first."""
+    counts = {"frames": 10_000, "taken": 10_000, "epochs": 5000}
+    for name in UNLIKE:
+        held = [runs.most(size, [name], counts) for size in (2, 1000)]
+        tests.within(
+            f"window 1000 over window 2, of a {name.replace('_', ' ')}",
+            held[1] - held[0],
+            998 * CELL * UNLIKE_CELLS,
+            998 * (CELL * UNLIKE_CELLS + EPOCH),
+        )
+
+
+def most_room(size: int) -> int:
+    """For how many cells a window of this size has room at most, while one more epoch opens: each
+    has room for its own, two of a satellite, and for as many as the epoch before it has."""
+    cells = [2 * it for it in islice(cycle(RISING_AND_FALLING), 5000)]
+    rooms = [max(pair) for pair in pairwise([cells[0], *cells])]
+    return max(sum(rooms[at : at + size + 1]) for at in range(len(rooms) - size))
+
+
+def room_rises_and_falls(runs: Runs, tests: Tests) -> None:
+    """What is wanted when an epoch opens is its room, whatever room closed epochs had."""
+    counts = {"frames": 5000, "taken": 5000, "epochs": 5000}
+    room = CELL * (most_room(1000) - most_room(2))
+    for kind in LARGEST:
+        held = [runs.most(size, [f"rising_and_falling_{kind}_a"], counts) for size in (2, 1000)]
+        tests.within(
+            f"window 1000 over window 2, of a {kind} of satellites that rise and fall",
+            held[1] - held[0],
+            room,
+            room + 998 * EPOCH,
+        )
 
 
 def grows_with_links(runs: Runs, tests: Tests) -> None:
@@ -391,6 +455,8 @@ def main() -> None:
         grows_with_window,
         grows_alike_out_of_order,
         large_epoch_before_small_ones,
+        kinds_of_unlike_cells,
+        room_rises_and_falls,
         grows_with_links,
         summaries_alike,
         inputs_held_once,

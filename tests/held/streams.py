@@ -3,7 +3,8 @@
 from __future__ import annotations
 
 import sys
-from collections.abc import Iterator
+from collections.abc import Callable, Iterator
+from itertools import cycle
 from pathlib import Path
 
 sys.path.insert(0, str(Path(__file__).resolve().parent.parent / "hostile"))
@@ -121,25 +122,36 @@ def largest_1074(tow: int) -> Message:
 
 def single_satellite(count: int) -> bytes:
     """So many epochs of a 1004 of one satellite."""
-    return of_template(legacy(0, SATELLITES[:1]), range(count))
+    return of_templates(range(count), legacy(0, SATELLITES[:1]))
 
 
-def of_template(message: Message, seconds: range) -> bytes:
-    """The message at each of these seconds after noon."""
-    template = Template(message, [], "")
-    return b"".join(template.frame(NOON + 1000 * second, 0) for second in seconds)
+def of_templates(seconds: range, *messages: Message) -> bytes:
+    """These messages, one after another, at each of these seconds after noon."""
+    templates = [Template(it, [], "") for it in messages]
+    times = [NOON + 1000 * second for second in seconds]
+    return b"".join(it.frame(time, 0) for time in times for it in templates)
 
 
 def falling_satellites(count: int) -> bytes:
     """So many epochs of a 1074 and then of a 1004 whose satellites fall."""
-    templates = [Template(it, [], "") for it in (msm(0, SATELLITES), legacy(0, SATELLITES[::-1]))]
-    times = [NOON + 1000 * second for second in range(count)]
-    return b"".join(it.frame(time, 0) for time in times for it in templates)
+    return of_templates(range(count), msm(0, SATELLITES), legacy(0, SATELLITES[::-1]))
 
 
 def falling_epochs(count: int) -> bytes:
     """So many epochs of a 1004 of one satellite, from the last one to the first."""
-    return of_template(legacy(0, SATELLITES[:1]), range(count)[::-1])
+    return of_templates(range(count)[::-1], legacy(0, SATELLITES[:1]))
+
+
+# How many satellites the epochs below have, one after another, again and again.
+RISING_AND_FALLING = (*range(2, 12), *range(12, 2, -1))
+
+
+def rising_and_falling(message: Callable[[int, tuple[int, ...]], Message]) -> Iterator[bytes]:
+    """Epochs of a message of one kind whose satellites rise and fall, without end."""
+    numbers = set(RISING_AND_FALLING)
+    templates = {it: Template(message(0, tuple(range(1, it + 1))), [], "") for it in numbers}
+    for second, number in enumerate(cycle(RISING_AND_FALLING)):
+        yield templates[number].frame(NOON + 1000 * second, 0)
 
 
 def unread() -> bytes:
