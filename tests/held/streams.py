@@ -3,7 +3,7 @@
 from __future__ import annotations
 
 import sys
-from collections.abc import Callable, Iterator
+from collections.abc import Callable, Iterable, Iterator
 from itertools import cycle
 from pathlib import Path
 
@@ -125,7 +125,7 @@ def single_satellite(count: int) -> bytes:
     return of_templates(range(count), legacy(0, SATELLITES[:1]))
 
 
-def of_templates(seconds: range, *messages: Message) -> bytes:
+def of_templates(seconds: Iterable[int], *messages: Message) -> bytes:
     """These messages, one after another, at each of these seconds after noon."""
     templates = [Template(it, [], "") for it in messages]
     times = [NOON + 1000 * second for second in seconds]

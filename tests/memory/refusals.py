@@ -13,9 +13,12 @@ from typing import NamedTuple
 
 sys.path.insert(0, str(Path(__file__).resolve().parent.parent / "held"))
 
+from streams import SATELLITES, legacy, of_templates  # noqa: E402
 from streams import rare_messages, single_satellite, split_epochs  # noqa: E402
 
 OUT_OF_MEMORY = b"rtcm2rinex: out of memory\n"
+COUNTS = 9  # the lines at the end of a report
+NEWLINE = b"\n"
 STACK = 128  # kB, as docs/MANUAL.md says
 # kB of address space: from twice what the program and the C library take, some 3,000, to twice what
 # the file `long` of 10 MB needs.
@@ -29,6 +32,26 @@ class Ran(NamedTuple):
     out: bytes
     err: bytes
     refusals: int
+
+
+def all_but_counts(whole: Ran, ran: Ran) -> str | None:
+    """What is wrong with a conversion whose last growth is refused, that for the counts."""
+    lines = whole.err.splitlines(keepends=True)[:-COUNTS]
+    if ran.out != whole.out:
+        return f"{len(ran.out)} bytes are out and not all {len(whole.out)}"
+    if ran.err != b"".join(lines) + OUT_OF_MEMORY:
+        return f"{ran.err.count(NEWLINE)} lines are told and not all but the counts"
+    return None
+
+
+def as_followed(followed: Ran, ran: Ran) -> str | None:
+    """What is wrong with a conversion of a file in which a growth is refused, where `followed` is the
+    same of standard input, of which each write goes straight on."""
+    if ran.out != followed.out:
+        return f"{len(ran.out)} bytes are out and not {len(followed.out)}"
+    if ran.err != followed.err:
+        return f"{ran.err.count(NEWLINE)} lines are told and not {followed.err.count(NEWLINE)}"
+    return None
 
 
 class Program:
@@ -65,6 +88,8 @@ class Scene:
     given: str = os.devnull
     # Whether clap looks for a word like one of these. What it can't look at with refused memory it goes on without.
     looks: bool = False
+    # The link of a conversion of one file, which is tried as standard input too.
+    link: str = ""
 
     def fault(self, whole: Ran, ran: Ran, with_later: bool) -> str | None:
         """What is wrong with a run in which growth is refused."""
@@ -89,7 +114,7 @@ class Sweep:
         self.program = program
         self.scene = scene
         self.whole = program.run(scene.words, scene.given, "0")
-        self.tried: dict[int, bool] = {}
+        self.met: dict[int, Ran] = {}
         self.faults: list[str] = []
 
     def meets(self, number: int, with_later: bool = False) -> bool:
@@ -99,6 +124,8 @@ class Sweep:
         fault = self.scene.fault(self.whole, ran, with_later)
         if fault is not None:
             self.faults.append(f"with growth {refused} refused: {fault}")
+        if ran.refusals > 0 and not with_later:
+            self.met[number] = ran
         return ran.refusals > 0
 
     def numbers(self) -> Iterator[int]:
@@ -124,6 +151,27 @@ class Sweep:
                 self.faults.append(f"growth {number} isn't met, and {low} is")
         return low
 
+    def keeps(self, growths: int) -> None:
+        """What a conversion wrote before is out and told, whether it was gathered or not. Of a file
+        memory is also taken for its name and to gather, all before the first read."""
+        last = all_but_counts(self.whole, self.met[growths])
+        if last is not None:
+            self.faults.append(f"with the last growth refused: {last}")
+        if not self.scene.link:
+            return
+        words = [*self.scene.words[:-1], "stdin"]
+        followed = Sweep(self.program, Scene(words, given=self.scene.link))
+        before = growths - followed.growths()
+        self.faults += followed.faults
+        for number, ran in self.met.items():
+            if number <= before:
+                other = Ran(1, b"", OUT_OF_MEMORY, 1)
+            else:
+                other = self.program.run(words, self.scene.link, f"{number - before}")
+            fault = as_followed(other, ran)
+            if fault is not None:
+                self.faults.append(f"with growth {number} refused, beside standard input: {fault}")
+
     def run(self) -> bool:
         """Prints how it went."""
         name = name_of(self.scene.words)
@@ -131,6 +179,8 @@ class Sweep:
             print(f"FAILED {name}: status {self.whole.status} without refusal")
             return False
         growths = self.growths()
+        if growths > 0 and self.scene.words[:1] == ["convert"] and self.scene.status == 0:
+            self.keeps(growths)
         # With all later growths refused too.
         for number in range(1, growths + 1, max(1, growths // 12)):
             if not self.meets(number, with_later=True):
@@ -191,6 +241,11 @@ def convert(*links: str, **options: str) -> list[str]:
     return ["convert", *(word for name, value in given for word in (f"--{name}", value)), *links]
 
 
+def of_file(link: str, **options: str) -> Scene:
+    """A conversion of one file."""
+    return Scene(convert(link, **options), link=link)
+
+
 def name_of(words: list[str]) -> str:
     """The words without the options that all conversions have."""
     name = " ".join(words)
@@ -241,14 +296,16 @@ def scenes() -> Iterator[Scene]:
     yield Scene(["cut", "--every", "30", base], status=3)
     # Of more text than is gathered, each record takes memory.
     yield Scene(["cut", "--every", "30", "slips"])
-    yield Scene(convert(base))
-    yield Scene(convert(late, window="2"))
+    yield of_file(base)
+    yield of_file(late, window="2")
     yield Scene(convert("stdin", second, window="4"), given=first)
     yield Scene(convert(*[first, second] * 8))
-    yield Scene(convert("split", window="2"))
-    yield Scene(convert("many", window="4096"))
-    yield Scene(convert("rare", window="4096"))
-    yield Scene(convert("preambles"))
+    yield of_file("split", window="2")
+    yield of_file("many", window="4096")
+    yield of_file("rare", window="4096")
+    yield of_file("preambles")
+    # Of a longer file and a longer report than are gathered, each line takes memory.
+    yield of_file("again", window="2")
     yield Scene(convert(base, "nowhere"), status=1)
 
     # Words that are refused: by clap, and by us.
@@ -286,6 +343,9 @@ def main() -> None:
     Path("split").write_bytes(split_epochs())
     Path("many").write_bytes(single_satellite(4100))
     Path("rare").write_bytes(rare_messages())
+    # The message of each epoch, and then once more that of the epoch which it closes.
+    seconds = [it for second in range(1, 2_000) for it in (second, max(0, second - 2))]
+    Path("again").write_bytes(of_templates(seconds, legacy(0, SATELLITES[:1])))
     # Candidates that fail, one behind another, and then bytes that begin none.
     Path("preambles").write_bytes(b"\xD3" * 100_000 + bytes(100_000))
     Path("slips").write_text("".join(slips(2_000)))

@@ -60,8 +60,12 @@ run chart --text --columns 80 "$marks" </dev/null; expect chart_80_wide 0 "$pict
 run chart "$marks" </dev/null;                     expect chart_in_svg 0 "$svg" ''
 cp "$marks" ' a,b=c '
 run chart --text ' a,b=c ' </dev/null;              expect chart_of_an_odd_name 0 "$picture" ''
+cp "$marks" "$tab"; cp "$marks" "$feed"
+run chart --text "$tab" </dev/null;                expect chart_of_a_name_with_a_tab 0 "$picture" ''
+run chart --text "$feed" </dev/null;               expect chart_of_a_name_with_a_line_feed 0 "$picture" ''
 run chart --help </dev/null;                       expect chart_help 0 "$help" ''
 run chart -h </dev/null;                           expect chart_short_help 0 "$short_help" ''
+run help chart </dev/null;                         expect help_chart 0 "$help" ''
 
 # Names and files of other kinds, and standard input of which something was read before.
 mkdir folder
@@ -185,6 +189,16 @@ Usage: rtcm2rinex chart <FILE>
 
 For more information, try '--help'."
 
+cp "$marks" ./-5
+run chart -5 </dev/null
+expect chart_of_a_hyphen_and_a_digit 2 '' "error: unexpected argument '-5' found
+
+  tip: to pass '-5' as a value, use '-- -5'
+
+Usage: rtcm2rinex chart [OPTIONS] <FILE>
+
+For more information, try '--help'."
+
 run chart --te "$marks" </dev/null; head -n 1 err >line; mv line err
 expect chart_start_of_an_option 2 '' "error: unexpected argument '--te' found"
 
@@ -202,4 +216,4 @@ For more information, try '--help'."
 twice --text --text
 twice '--columns <N>' --columns 80
 
-ends 42
+ends 46

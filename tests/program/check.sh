@@ -56,6 +56,14 @@ Usage: rtcm2rinex check <FILE>
 
 For more information, try '--help'."
 
+hyphen="error: unexpected argument '-5' found
+
+  tip: to pass '-5' as a value, use '-- -5'
+
+Usage: rtcm2rinex check <FILE>
+
+For more information, try '--help'."
+
 like_help="error: unexpected argument '--hlep' found
 
   tip: a similar argument exists: '--help'
@@ -126,6 +134,9 @@ cp "$base" stdin
 check ./stdin </dev/null;        expect file_of_the_name_stdin 0 "$yes" ''
 cp "$base" ' a,b=c '
 check ' a,b=c ' </dev/null;      expect file_of_an_odd_name 0 "$yes" ''
+cp "$base" "$tab"; cp "$base" "$feed"
+check "$tab" </dev/null;         expect file_of_a_name_with_a_tab 0 "$yes" ''
+check "$feed" </dev/null;        expect file_of_a_name_with_a_line_feed 0 "$yes" ''
 # Names and files of other kinds: beyond ASCII, with `..`, links, pipes, and a name that is there in another folder alone.
 cp "$base" Zürich.rnx; cp "$base" base.rnx; ln -s "$base" linked; ln -s linked linked_twice
 for name in Zürich.rnx folder/../base.rnx linked linked_twice; do
@@ -148,6 +159,8 @@ check "$base" b </dev/null;      expect two_files 2 '' "$two_files"
 check --he "$base" </dev/null; head -n 1 err >line; mv line err
 expect start_of_an_option 2 '' "error: unexpected argument '--he' found"
 check --hlep </dev/null;         expect like_help 2 '' "$like_help"
+cp "$base" ./-5
+check -5 </dev/null;             expect hyphen_and_a_digit 2 '' "$hyphen"
 
 # 70,000 epochs of a second each, and the same with a value of 0 at the end.
 {
@@ -165,4 +178,4 @@ check zeros </dev/null;          expect longest_input 3 'line 1: C5 Truncated' '
 truncate -s 1073741825 zeros
 check zeros </dev/null;          expect input_too_long 1 '' 'rtcm2rinex: input too long'
 
-ends 55
+ends 58

@@ -76,6 +76,9 @@ convert 1C,2W stdin.rtcm stdin STDIN <"$base";        leaves standard_input_and_
 odd=' ~a,b=c%20 $HOME#*?[x]'"'\"\\ "
 cp "$base" "$odd"
 convert 1C,2W "$odd" </dev/null;                      leaves file_of_an_odd_name 0 "$examples/base.rnx" base.report
+cp "$base" "$tab"; cp "$base" "$feed"
+convert 1C,2W "$tab" </dev/null;                      leaves file_of_a_name_with_a_tab 0 "$examples/base.rnx" base.report
+convert 1C,2W "$feed" </dev/null;                     leaves file_of_a_name_with_a_line_feed 0 "$examples/base.rnx" base.report
 # Names beyond ASCII and with `..`, symbolic links, a pipe of a name, and pipes of the shell.
 mkdir folder
 cp "$base" Zürich.rtcm; ln -s "$base" linked; ln -s linked linked_twice
@@ -377,6 +380,16 @@ $try"
 run convert --help;                                   expect convert_help 0 "$help" ''
 run convert -h;                                       expect convert_short_help 0 "$short_help" ''
 run help convert;                                     expect help_convert 0 "$help" ''
+run convert;                                          expect no_word 2 '' "error: the following required arguments were not provided:
+  --station <N>
+  --near <T>
+  --made <T>
+  --marker <NAME>
+  --codes <LIST>
+  <LINK>...
+
+Usage: rtcm2rinex convert --station <N> --near <T> --made <T> --marker <NAME> --codes <LIST> <LINK>...
+$try"
 words '' '' '' '';                                    expect no_link 2 '' "error: the following required arguments were not provided:
   <LINK>...
 
@@ -419,6 +432,14 @@ run convert --station 2003 --near $near --made -2024-05-17T13:00:00 --marker BAS
 expect made_of_a_word_with_a_hyphen 2 '' "error: unexpected argument '-2' found
 
   tip: to pass '-2' as a value, use '-- -2'
+
+$usage
+$try"
+cp "$base" ./-5
+words $near $made BASE 1C,2W -5
+expect link_of_a_hyphen_and_a_digit 2 '' "error: unexpected argument '-5' found
+
+  tip: to pass '-5' as a value, use '-- -5'
 
 $usage
 $try"
@@ -470,4 +491,4 @@ leaves start_convert_with_a_limit_of_size 1 part part_err
 limited 4096 "$root/bin/rtcm2rinex" convert $options --codes 1C,2W,5X stdin >out 2>err <"$session.rtcm"; status=$?
 leaves start_convert_followed_with_a_limit_of_size 1 part write_failed
 
-ends 226
+ends 230

@@ -84,6 +84,14 @@ Usage: rtcm2rinex cut <--from <T>|--until <T>|--every <SECONDS>> <FILE>
 
 For more information, try '--help'."
 
+no_word="error: the following required arguments were not provided:
+  <--from <T>|--until <T>|--every <SECONDS>>
+  <FILE>
+
+Usage: rtcm2rinex cut <--from <T>|--until <T>|--every <SECONDS>> <FILE>
+
+For more information, try '--help'."
+
 # bad_step NAME STEP WHY
 bad_step() {
     cut --every "$2" "$file" </dev/null
@@ -100,6 +108,9 @@ mkdir folder
 cut --every 30 "$file" </dev/null;                  leaves a_minute_at_30_seconds 0 "$root/examples/slip_30s.rnx" nothing
 cp "$file" ' a,b=c '
 cut --every 30 ' a,b=c ' </dev/null;                leaves of_an_odd_name 0 "$root/examples/slip_30s.rnx" nothing
+cp "$file" "$tab"; cp "$file" "$feed"
+cut --every 30 "$tab" </dev/null;                   leaves of_a_name_with_a_tab 0 "$root/examples/slip_30s.rnx" nothing
+cut --every 30 "$feed" </dev/null;                  leaves of_a_name_with_a_line_feed 0 "$root/examples/slip_30s.rnx" nothing
 cut --every 30 stdin <"$file";                      leaves of_standard_input 0 "$root/examples/slip_30s.rnx" nothing
 cat "$file" | "$program" cut --every 30 stdin >out 2>err; status=$?
 leaves of_a_pipe 0 "$root/examples/slip_30s.rnx" nothing
@@ -201,6 +212,7 @@ bad from_after_until 'bad --until' --from 2024-05-17T12:00:01 --until "$noon"
 bad until_in_2101 'bad --until' --until 2101-01-01T00:00:00
 cut "$file" </dev/null;                             expect no_option 2 '' "$no_option"
 cut --every 30 </dev/null;                          expect cut_without_a_file 2 '' "$no_file"
+cut </dev/null;                                     expect cut_without_a_word 2 '' "$no_word"
 for step in 0 86401 4294967296; do bad_step a_step_of_$step $step "$step is not in 1..=86400"; done
 bad_step a_step_with_a_tail 30s 'invalid digit found in string'
 bad_step a_step_with_a_fraction 30.5 'invalid digit found in string'
@@ -208,6 +220,16 @@ bad_step a_step_after_a_blank ' 30' 'invalid digit found in string'
 
 cut --every 30 "$file" b </dev/null
 expect cut_of_two_files 2 '' "error: unexpected argument 'b' found
+
+Usage: rtcm2rinex cut <--from <T>|--until <T>|--every <SECONDS>> <FILE>
+
+For more information, try '--help'."
+
+cp "$file" ./-5
+cut --every 30 -5 </dev/null
+expect cut_of_a_hyphen_and_a_digit 2 '' "error: unexpected argument '-5' found
+
+  tip: to pass '-5' as a value, use '-- -5'
 
 Usage: rtcm2rinex cut <--from <T>|--until <T>|--every <SECONDS>> <FILE>
 
@@ -273,4 +295,4 @@ cut -h </dev/null;                                  expect cut_short_help 0 "$sh
 "$program" help cut </dev/null >out 2>err; status=$?
 expect help_cut 0 "$help" ''
 
-ends 74
+ends 78

@@ -180,6 +180,16 @@ start_of_hex="error: unexpected argument '--he' found
 Usage: rtcm2rinex show --hex <FILE>
 $try"
 
+# hyphen WORD: a word that begins with a hyphen is no FILE
+hyphen() {
+    echo "error: unexpected argument '$1' found
+
+  tip: to pass '$1' as a value, use '-- $1'
+
+Usage: rtcm2rinex show [OPTIONS] <FILE>
+$try"
+}
+
 unknown_option="error: unexpected argument '--frob' found
 
 Usage: rtcm2rinex <COMMAND>
@@ -215,6 +225,9 @@ cp arp.rtcm stdin.rtcm; cp arp.rtcm Stdin; cp arp.rtcm ' a,b=c '
 run show stdin.rtcm </dev/null;           expect file_of_a_name_that_begins_with_stdin 0 "$arp" ''
 run show Stdin </dev/null;                expect file_of_the_name_stdin_with_a_capital 0 "$arp" ''
 run show ' a,b=c ' </dev/null;            expect file_of_an_odd_name 0 "$arp" ''
+cp arp.rtcm "$tab"; cp arp.rtcm "$feed"
+run show "$tab" </dev/null;               expect file_of_a_name_with_a_tab 0 "$arp" ''
+run show "$feed" </dev/null;              expect file_of_a_name_with_a_line_feed 0 "$arp" ''
 cp arp.rtcm Zürich.rtcm; ln -s arp.rtcm linked; ln -s linked linked_twice
 for name in Zürich.rtcm folder/../arp.rtcm linked linked_twice; do
     run show "$name" </dev/null;          expect "file_$name" 0 "$arp" ''
@@ -306,31 +319,43 @@ else
     wrong no_other_file "$(ls -A alone)"
 fi
 
-# At a terminal, and with any variable in the environment or none, each command does what it does at a pipe.
+# At a terminal, with any variable in the environment or none, and with standard input closed if it isn't read, each command
+# does what it does at a pipe.
 # as_at_a_pipe NAME COMMAND..: the command, with $words
 as_at_a_pipe() {
     name=$1
     shift
-    "$@" "$program" $words >got 2>got_err </dev/null; answer=$?
+    "$@" "$program" $words >got 2>got_err <typed; answer=$?
     if [ $answer -eq $status ] && cmp -s got out && cmp -s got_err err; then
         right "$name"
     else
         wrong "$name" "status $answer, '$(head -c 300 got got_err)'"
     fi
 }
+# at_terminal STREAMS: whether it is the same if these streams are a terminal. Each line ends there with CR LF.
+at_terminal() {
+    : >lines_shown
+    cp out out_due; cp err err_due
+    case $1 in *1*) cat out >>lines_shown; : >out_due ;; esac
+    case $1 in *2*) cat err >>lines_shown; : >err_due ;; esac
+    sed 's/$/\r/' lines_shown >want
+    python3 "$root/tests/program/terminal.py" "$1" typed "$program" $words >got 2>got_err 3>shown <typed; answer=$?
+    [ $answer -eq $status ] && cmp -s got out_due && cmp -s got_err err_due && cmp -s shown want
+}
+closed() { "$@" <&-; }
 # With two epochs open one message of late.rtcm is late, and with more none.
 cp "$root/examples/late.rtcm" "$root/examples/base.rnx" "$root/examples/marks.rnx" "$root/examples/slip.rnx" .
 sed '16s/45.000/45.100/' base.rnx >wrong.rnx
 options='--station 2003 --near 2024-05-17T12:00:00 --made 2024-05-17T13:00:00 --marker BASE'
+cp arp.hex typed
 while read -r words; do
-    run $words </dev/null
-    cat out err | sed 's/$/\r/' >want
-    python3 "$root/tests/program/terminal.py" "$program" $words >got 2>&1 </dev/null; answer=$?
-    if [ $answer -eq $status ] && cmp -s got want; then
-        right "at_a_terminal $words"
-    else
-        wrong "at_a_terminal $words" "status $answer, '$(head -c 300 got)'"
-    fi
+    run $words <typed
+    others=
+    for streams in 012 01 02 12 0 1 2; do
+        at_terminal $streams || others="$others streams $streams: status $answer, '$(head -c 100 shown got got_err)'"
+    done
+    if [ -z "$others" ]; then right "at_a_terminal $words"; else wrong "at_a_terminal $words" "$others"; fi
+    case $words in *stdin) ;; *) as_at_a_pipe "with_standard_input_closed $words" closed ;; esac
     as_at_a_pipe "without_an_environment $words" env -i
     as_at_a_pipe "with_many_variables $words" env RTCM2RINEX='--window 2' RTCM2RINEX_OPTIONS=--window=2 RTCM2RINEX_OPTS=--window=2 \
         RTCM2RINEX_ARGS=--window=2 RTCM2RINEX_FLAGS=--text RTCM2RINEX_WINDOW=2 RTCM2RINEX_STATION=2003 RTCM2RINEX_CODES=5X \
@@ -360,6 +385,13 @@ convert $options --codes 1C,2W late.rtcm
 convert $options --codes 1C,2W --window 2 late.rtcm
 convert $options late.rtcm
 convert --codes 1C late.rtcm
+show --hex stdin
+show stdin
+check stdin
+summary stdin
+chart stdin
+cut --every 30 stdin
+convert $options --codes 1C,2W stdin
 WORDS
 
 # The longest inputs with frames to their ends, and one byte more; as hex text that byte is a line end.
@@ -402,6 +434,11 @@ run show --hex --hex arp.hex </dev/null;  expect hex_twice 2 '' "$hex_twice"
 run show --hax a </dev/null;              expect like_hex 2 '' "$like_hex"
 run show --he arp.hex </dev/null;         expect start_of_hex 2 '' "$start_of_hex"
 run --frob </dev/null;                    expect unknown_option 2 '' "$unknown_option"
+cp arp.rtcm ./-5
+run show -5 </dev/null;                   expect hyphen_and_a_digit 2 '' "$(hyphen -5)"
+run show --hex -5 </dev/null;             expect hyphen_and_a_digit_after_an_option 2 '' "$(hyphen -5)"
+run show -x </dev/null;                   expect hyphen_and_a_letter 2 '' "$(hyphen -x)"
+run show -- -5 </dev/null;                expect file_of_the_name_of_a_hyphen_and_a_digit 0 "$arp" ''
 
 # The captures of examples/ by the command of the README, which passes words, streams and status on.
 start show "$root/examples/base.rtcm" </dev/null
@@ -419,4 +456,4 @@ head -c 8192 frames >some; head -c 512 lines >part; echo 'rtcm2rinex: write fail
 limited 512 "$root/bin/rtcm2rinex" show some >out 2>err </dev/null; status=$?
 leaves start_show_with_a_limit_of_size 1 part part_err
 
-ends 153
+ends 199

@@ -55,6 +55,14 @@ Usage: rtcm2rinex summary <FILE>
 
 For more information, try '--help'."
 
+hyphen="error: unexpected argument '-5' found
+
+  tip: to pass '-5' as a value, use '-- -5'
+
+Usage: rtcm2rinex summary <FILE>
+
+For more information, try '--help'."
+
 # gpsdecode shows a 1005 of 19 bytes of payload and a 1004 of 24
 told="bytes 55
 outside-frames 0
@@ -79,6 +87,9 @@ cat "$base" | "$program" summary stdin >out 2>err; status=$?
 expect summary_of_a_pipe 0 "$told" ''
 cp "$base" ' a,b=c '
 run summary ' a,b=c ' </dev/null;   expect summary_of_an_odd_name 0 "$told" ''
+cp "$base" "$tab"; cp "$base" "$feed"
+run summary "$tab" </dev/null;      expect summary_of_a_name_with_a_tab 0 "$told" ''
+run summary "$feed" </dev/null;     expect summary_of_a_name_with_a_line_feed 0 "$told" ''
 : >empty
 run summary empty </dev/null;       expect summary_of_nothing 0 "$nothing" ''
 
@@ -134,5 +145,7 @@ run summary </dev/null;             expect summary_without_a_file 2 '' "$no_file
 run summary --he "$base" </dev/null; head -n 1 err >line; mv line err
 expect summary_start_of_an_option 2 '' "error: unexpected argument '--he' found"
 run summary a b </dev/null;         expect summary_of_two_files 2 '' "$two_files"
+cp "$base" ./-5
+run summary -5 </dev/null;          expect summary_of_a_hyphen_and_a_digit 2 '' "$hyphen"
 
-ends 28
+ends 31

@@ -51,6 +51,12 @@ def streams():
           broken(1, b"one\n", b"first\n"), broken(1, b"one\n", b"rtcm2rinex: out of memory\n"), broken(1, b"one\n", b"fir" + line),
           broken(1, b"one\n", b"second\n" + line), broken(1, b"one\n", line + line), broken(1, b"one\n", line[:-1])])
 
+    def told(err, count):
+        return scenes.Left(1, b"one\n", err), whole, ["write failed"], 4, count
+
+    sees("streams_sees_a_report_that_is_lost", scenes.broken_off, [told(line, 0), told(b"first\n" + line, 6), told(whole.err + line, 13)],
+         [told(line, 6), told(line, 13), told(b"first\n" + line, 0), told(b"first\n" + line, 13), told(whole.err + line, 6)])
+
     def part(status, out, err, count=None):
         return scenes.Left(status, out, err), whole, 1, 3, count
 
@@ -62,6 +68,8 @@ def streams():
     sees("streams_sees_another_call", lambda calls: scenes.other_calls(calls, ["/a", "/b"]), [(due,)],
          [(b"",), (b"reads /a\n",), (b"reads /b\nreads /a\n",), (due + b"reads /b\n",), (due + b"writes /b\n",), (due + b"unlink /a\n",),
           (b"getenv A\n" + due,), (b"reads /a\nwrites /b\n",)])
+    sees("streams_sees_another_name", scenes.other_names, [(scenes.OF_C,), (scenes.OF_C - {"lseek"},)],
+         [(scenes.OF_C | {name},) for name in ("environ", "isatty", "stat", "ioctl")] + [(set(),), (scenes.OF_C - {"open"},)])
     count = scenes.Count()
     with redirect_stdout(io.StringIO()) as told:
         count.scene("good", [("run", None)])
@@ -86,6 +94,24 @@ def memory():
           ran(-11, b"", b""), ran(1, b"", b""), ran(1, b"", b"rtcm2rinex: write failed\n"), ran(1, b"two\n", line),
           ran(1, b"", b"second\n" + line), ran(1, b"", b"fir" + line), ran(*whole[:3], scene=looks, with_later=True),
           ran(0, b"one\n", whole.err, scene=looks)])
+
+
+    counts = b"".join(b"%d\n" % number for number in range(9))
+    report = refusals.Ran(0, b"one\ntwo\n", b"first\nsecond\n" + counts, 0)
+
+    def last(out, err):
+        return report, refusals.Ran(1, out, err + line, 1)
+
+    sees("memory_sees_a_part_that_is_lost", refusals.all_but_counts, [last(report.out, b"first\nsecond\n")],
+         [last(b"", b""), last(b"", b"first\nsecond\n"), last(b"one\n", b"first\nsecond\n"), last(report.out, b""),
+          last(report.out, b"first\n"), last(report.out, report.err)])
+
+    def beside(out, err):
+        return refusals.Ran(1, b"one\n", b"first\n" + line, 1), refusals.Ran(1, out, err + line, 1)
+
+    sees("memory_sees_less_than_of_standard_input", refusals.as_followed, [beside(b"one\n", b"first\n")],
+         [beside(b"", b""), beside(b"", b"first\n"), beside(b"one\n", b""), beside(b"one\ntwo\n", b"first\n"),
+          beside(b"one\n", b"first\nsecond\n")])
 
 
 def hostiles():

@@ -1,5 +1,6 @@
 // Preloaded under the program: adds a line to the file TELLS for each open of a file, each call that makes, changes, renames
-// or removes one, and each variable that is asked for. An open to read is handed on; what else is told is refused.
+// or removes one, and each variable that is asked for. An open to read is handed on; what else is told is refused. Who looks
+// at the variables without a call is ended by a signal.
 // It needs no header, so that the toolchain's own compiler builds it.
 
 typedef unsigned long size_t;
@@ -14,16 +15,12 @@ enum { WRITES = 3, CREATES = 0100, TRUNCATES = 01000, APPENDS = 02000 };
 static int (*next_open)(const char *, int, unsigned);
 static int (*next_openat)(int, const char *, int, unsigned);
 
-// What TELLS is, which no call of the program asks for.
-static const char *teller(void) {
-    for (char **each = environ; each && *each; each++)
-        if (strncmp(*each, "TELLS=", 6) == 0) return *each + 6;
-    return "/dev/null";
-}
+// What TELLS is.
+static const char *teller = "/dev/null";
 
 static void tell(const char *call, const char *name) {
     static int told = -1;
-    if (told < 0) told = next_open(teller(), 1 | APPENDS, 0);
+    if (told < 0) told = next_open(teller, 1 | APPENDS, 0);
     write(told, call, strlen(call));
     write(told, " ", 1);
     write(told, name, strlen(name));
@@ -33,6 +30,9 @@ static void tell(const char *call, const char *name) {
 __attribute__((constructor)) static void prepare(void) {
     next_open = (int (*)(const char *, int, unsigned))dlsym((void *)-1L, "open");
     next_openat = (int (*)(int, const char *, int, unsigned))dlsym((void *)-1L, "openat");
+    for (char **each = environ; each && *each; each++)
+        if (strncmp(*each, "TELLS=", 6) == 0) teller = *each + 6;
+    environ = (char **)8; // where nothing can be read
 }
 
 static int refuse(const char *call, const char *name) {

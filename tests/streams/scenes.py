@@ -4,6 +4,7 @@ short, or never end.
 Each run is beside a good one, of the same words on the same bytes, that nothing disturbs. In a
 scene that breaks off: status 1; standard output holds a first part of the good file; standard
 error a first part of the good report, in whole lines, and then the one line that names the fault.
+Where it is known how far a conversion came, both are as long as what it wrote before, to the byte.
 In a scene that breaks nothing: the very bytes and the status of the good run.
 """
 
@@ -12,8 +13,10 @@ import fcntl
 import functools
 import multiprocessing
 import os
+import re
 import resource
 import signal
+import struct
 import subprocess
 import sys
 import threading
@@ -32,6 +35,8 @@ SECONDS = 60  # a run that takes longer does not end
 GATHERED = 65_536  # so many bytes of a file are gathered before a write
 READ_AT_ONCE = 32_768  # so many bytes of a link, or of an input of `summary`, are read at once
 READ_IN_PIECES = 4096  # so many bytes of an input of `show`, `check` or `cut` are read at once
+FRAME = 46  # the bytes of a frame of late.rtcm, and of each one that is made of it
+COUNTS = 9  # the lines at the end of a report
 
 MOST_INTERRUPTIONS = 1000  # so often in a row an interrupted call is made again
 
@@ -161,7 +166,7 @@ def example(name):
 def epochs(seconds):
     """Frames of a 1004, one for each of these seconds after the noon of the examples: the first
     frame of late.rtcm with another time of week and checksum."""
-    frame = content(example("late.rtcm"))[:46]
+    frame = content(example("late.rtcm"))[:FRAME]
     frames = []
     for second in seconds:
         bits = int.from_bytes(frame[6:11], "big")
@@ -198,6 +203,9 @@ def cases():
     """Every command, on texts below and above what is gathered, from files and standard input."""
     long = written("long.rtcm", epochs(range(1500)))
     late = written("late.rtcm", epochs(range(1600, 0, -1)))
+    # Epoch 0 has closed when its message comes again; of the others 98 have before those come.
+    late_early = written("late_early.rtcm", epochs([0, 1, 2, 0, *range(3, 1500)]))
+    late_at_last = written("late_at_last.rtcm", epochs([*range(100), *[0] * 1700]))
     session = example("session_link1.rtcm"), example("session_link2.rtcm")
     wrong = written("wrong.rnx", content(example("base.rnx")).replace(b"45.000", b"45.100"))
     frames = written("frames.rtcm", bytes.fromhex("d300023fb0d71d73") * 11_917)
@@ -234,6 +242,12 @@ def cases():
         convert("convert with a long report", "--window", "2", late),
         convert("convert of standard input with a long report", "--window", "2", "stdin",
                 given=late),
+        convert("convert of a long file with an early line", "--window", "2", late_early),
+        convert("convert of a long standard input with an early line", "--window", "2", "stdin",
+                given=late_early),
+        convert("convert of closed records before a long report", "--window", "2", late_at_last),
+        convert("convert of standard input, closed records before a long report", "--window", "2",
+                "stdin", given=late_at_last),
     ]
     return {case.name: case for case in listed}
 
@@ -246,11 +260,110 @@ def is_gathered(case):
     return case.given == NOTHING
 
 
-def out_without_report(name):
-    """How many bytes of the file are out where the report can't be written: of files alone the
-    report is written last, unless it is longer than what is gathered; else it isn't said."""
-    good = GOOD[name]
-    return len(good.out) if is_gathered(CASES[name]) and len(good.err) <= GATHERED else None
+# How much of a conversion is out where it breaks off: all that it wrote before.
+
+ORDER = {}  # of each conversion its writes
+
+
+@dataclass(frozen=True)
+class Write:
+    """So many bytes, to standard output (1) or standard error (2), once so many frames of a capture
+    came; `None` if all came, or if it isn't said."""
+
+    to: int
+    size: int
+    frames: int = None
+
+
+def has_known_frames(case):
+    """Whether it is one link, of frames that `epochs` makes."""
+    return len(inputs(case)) == 1 and "--window" in case.words
+
+
+def times(capture):
+    """The times of week of such frames."""
+    frames = [capture[at:at + FRAME] for at in range(0, len(capture), FRAME)]
+    return [int.from_bytes(frame[6:11], "big") >> 10 for frame in frames]
+
+
+def order_of(case, good):
+    """The writes of a conversion: each record as its epoch closes, the first one with the header,
+    and each line of the report as its message comes; at last the records of the epochs that are
+    open, and the counts. With a window of 2 two epochs are open; what comes before both is late."""
+    header, *records = re.split(rb"(?m)^(?=> )", good.out)
+    records = [len(header + records[0]), *map(len, records[1:])]
+    lines = [len(line) for line in good.err.splitlines(keepends=True)]
+    order, is_open = [], []
+    capture = content(inputs(case)[0]) if has_known_frames(case) else b""
+    for number, time_of_week in enumerate(times(capture), 1):
+        if len(is_open) == 2 and time_of_week < is_open[0]:
+            order.append(Write(2, lines.pop(0), number))
+        elif time_of_week not in is_open:
+            is_open = sorted([*is_open, time_of_week])
+            if len(is_open) > 2:
+                del is_open[0]
+                order.append(Write(1, records.pop(0), number))
+    if len(lines) != COUNTS:
+        raise ValueError(f"{case.name}: {len(lines)} lines after those that are due, not {COUNTS}")
+    return [*order, *(Write(1, record) for record in records), Write(2, sum(lines))]
+
+
+class Stream:
+    """How many bytes of a stream are out. So many are gathered before a write; a text for which
+    there is no room goes after what was gathered. In all so many are taken, and the write of one
+    number takes nothing."""
+
+    def __init__(self, room, takes=None, fails=None):
+        self.room, self.takes, self.fails = room, takes, fails
+        self.out = self.gathered = self.writes = 0
+
+    def write(self, size):
+        """Answers how many bytes are taken."""
+        self.writes += 1
+        taken = size if self.takes is None else min(size, self.takes - self.out)
+        if self.writes == self.fails:
+            taken = 0
+        self.out += taken
+        return taken
+
+    def flush(self):
+        if self.gathered:
+            self.gathered -= self.write(self.gathered)
+        return self.gathered == 0
+
+    def put(self, size):
+        if self.gathered + size > self.room and not self.flush():
+            return False
+        if size >= self.room:
+            return self.write(size) == size
+        self.gathered += size
+        return True
+
+
+@dataclass(frozen=True)
+class SoFar:
+    """What is out, in bytes of the file and of the report, and the fault that is told."""
+
+    out: int
+    told: int
+    fault: str
+
+
+def so_far(name, frames=None, takes=None, fails=None, report_takes=None, report_fails=None):
+    """What is out of a conversion whose streams take so many bytes or fail at the write of this
+    number, and whose read after so many frames fails; at the end each stream is tried again."""
+    room = GATHERED if is_gathered(CASES[name]) else 0
+    streams = {1: Stream(room, takes, fails), 2: Stream(room, report_takes, report_fails)}
+    fault = "write failed"
+    for write in ORDER[name]:
+        if frames is not None and (write.frames is None or write.frames > frames):
+            fault = "read failed"
+            break
+        if not streams[write.to].put(write.size):
+            break
+    for each in streams.values():
+        each.flush()
+    return SoFar(streams[1].out, streams[2].out, fault)
 
 
 # What a run must leave; each answers why it doesn't, or nothing.
@@ -265,9 +378,9 @@ def same(left, good):
     return None
 
 
-def broken_off(left, good, faults, out=None):
-    """Status 1, a first part of the output (so many bytes, where it is said), and a first part of
-    the report in whole lines before one of these fault lines."""
+def broken_off(left, good, faults, out=None, told=None):
+    """Status 1, a first part of the output, and a first part of the report in whole lines before
+    one of these fault lines (of both so many bytes, where it is said)."""
     if left.status != 1:
         return f"status {left.status}, standard error '{shown(left.err)}'"
     if not good.out.startswith(left.out):
@@ -276,9 +389,13 @@ def broken_off(left, good, faults, out=None):
         return f"standard output has {len(left.out)} bytes and not the first {out}"
     for fault in faults:
         line = f"rtcm2rinex: {fault}\n".encode()
-        told = left.err[:-len(line)]
-        if left.err.endswith(line) and (told == b"" or told.endswith(b"\n")):
-            return None if good.err.startswith(told) else "what is told is no first part"
+        part = left.err[:-len(line)]
+        if left.err.endswith(line) and (part == b"" or part.endswith(b"\n")):
+            if not good.err.startswith(part):
+                return "what is told is no first part"
+            if told is not None and len(part) != told:
+                return f"{len(part)} bytes are told and not the first {told}"
+            return None
     return f"standard error ends with '{shown(left.err)}'"
 
 
@@ -342,6 +459,27 @@ def tried(name, what, disturbance, check, **more):
     return f"{name}, {what}", functools.partial(disturbed, name, disturbance, check, **more)
 
 
+def breaks(name, what, disturbance, fault, out=None, **at):
+    """One run of a case that breaks off. Of a conversion it is said `at` what, and so what is out;
+    of other commands how many bytes are."""
+    return f"{name}, {what}", functools.partial(broken, name, disturbance, fault, out, at)
+
+
+def broken(name, disturbance, fault, out, at):
+    return due_where_broken(name, run(CASES[name], disturbance), fault, out, at)
+
+
+def due_where_broken(name, left, fault, out, at):
+    if name not in ORDER:
+        return broken_off(left, GOOD[name], [fault], out, told=0)
+    if at.get("frames") is not None and not has_known_frames(CASES[name]):
+        # a report whose lines are its counts, which come last
+        faults = ["read failed", "write failed"] if len(at) > 1 else ["read failed"]
+        return broken_off(left, GOOD[name], faults, told=0)
+    due = so_far(name, **at)
+    return broken_off(left, GOOD[name], [due.fault], due.out, due.told)
+
+
 @scene("nothing disturbs: the files and reports of the examples")
 def _undisturbed():
     due = Left(0, content(example("session.rnx")), content(example("session_links.report")))
@@ -355,8 +493,8 @@ def _undisturbed():
 def _out_is_full():
     for name in CASES:
         for k in every(len(GOOD[name].out)):
-            yield tried(name, f"{k} bytes", Disturbance({"TAKES_1": k}), broken_off,
-                        faults=["write failed"], out=k)
+            yield breaks(name, f"{k} bytes", Disturbance({"TAKES_1": k}), "write failed", out=k,
+                         takes=k)
 
 
 @scene("standard output takes k bytes, and fails for other reasons, or takes nothing")
@@ -364,9 +502,9 @@ def _out_fails():
     for name in CASES:
         for fault in [errno.EIO, errno.EPIPE, errno.EAGAIN, errno.EDQUOT, 0]:
             for k in every(len(GOOD[name].out), 0)[::10]:
-                yield tried(name, f"{k} bytes, errno {fault}",
-                            Disturbance({"TAKES_1": k, "FAULT": fault}), broken_off,
-                            faults=["write failed"], out=k)
+                yield breaks(name, f"{k} bytes, errno {fault}",
+                             Disturbance({"TAKES_1": k, "FAULT": fault}), "write failed", out=k,
+                             takes=k)
 
 
 @scene("standard error takes k bytes of the report, each k below its length, and is full")
@@ -374,7 +512,7 @@ def _report_is_full():
     for name in CASES:
         for k in every(len(GOOD[name].err)):
             yield tried(name, f"{k} bytes", Disturbance({"TAKES_2": k}), told_in_part,
-                        status=1, err=k, out=out_without_report(name))
+                        status=1, err=k, out=so_far(name, report_takes=k).out)
 
 
 @scene("standard error takes k bytes of a line or text of refusal, each k below its length")
@@ -400,21 +538,18 @@ def _both_are_full():
     for name in CASES:
         for k in every(len(GOOD[name].out), 0)[::10]:
             for j in [0, 1, len(GOOD[name].err) // 2, len(GOOD[name].err) + 5]:
-                yield tried(name, f"{k} and {j} bytes", Disturbance({"TAKES_1": k, "TAKES_2": j}),
-                            both_full, k=k, j=j, is_whole=out_without_report(name) is not None)
+                yield f"{name}, {k} and {j} bytes", functools.partial(both_full, name, k, j)
 
 
-def both_full(left, good, k, j, is_whole):
+def both_full(name, k, j):
     """Standard error has the first j bytes of what a broken run tells."""
-    if left.status != 1:
-        return f"status {left.status}"
-    if len(left.out) > k or not good.out.startswith(left.out) or is_whole and len(left.out) < k:
-        return "standard output is not the first bytes"
-    line = b"rtcm2rinex: write failed\n"
-    ends = [place + 1 for place in range(len(good.err)) if good.err[place] == 10]
-    if any((good.err[:place] + line)[:j] == left.err for place in [0, *ends]):
-        return None
-    return f"standard error ends with '{shown(left.err)}'"
+    good = GOOD[name]
+    due = SoFar(k, 0, "write failed")
+    if name in ORDER:
+        due = so_far(name, takes=k, report_takes=j)
+    told = good.err[:due.told] + f"rtcm2rinex: {due.fault}\n".encode()
+    left = run(CASES[name], Disturbance({"TAKES_1": k, "TAKES_2": j}))
+    return same(left, Left(1, good.out[:due.out], told[:j]))
 
 
 @scene("the device /dev/full, and closed streams")
@@ -422,24 +557,28 @@ def _devices():
     for name, case in CASES.items():
         good = GOOD[name]
         for to, what in [("/dev/full", "full"), (None, "closed")]:
-            yield tried(name, f"standard output {what}", Disturbance(out=to), broken_off,
-                        faults=["write failed"], out=0)
+            yield breaks(name, f"standard output {what}", Disturbance(out=to), "write failed",
+                         out=0, takes=0)
             status = 1 if good.err else good.status
-            whole = out_without_report(name) if good.err else len(good.out)
+            whole = so_far(name, report_takes=0).out if good.err else len(good.out)
             yield tried(name, f"standard error {what}", Disturbance(err=to), told_in_part,
                         status=status, err=0, out=whole)
         yield tried(name, "both closed", Disturbance(out=None, err=None), told_in_part, status=1,
                     err=0, out=0)
-        if "stdin" in case.words and name != BESIDE_A_FILE:
-            yield tried(name, "standard input closed", Disturbance(given=None), broken_off,
-                        faults=["read failed"])
-        yield tried(name, "standard input and output closed", Disturbance(given=None, out=None),
-                    broken_off, faults=["write failed", "read failed"], out=0)
+        if "stdin" not in case.words:
+            yield breaks(name, "standard input and output closed",
+                         Disturbance(given=None, out=None), "write failed", out=0, takes=0)
+        elif name != BESIDE_A_FILE:
+            for out, what in [("", ""), (None, " and output")]:
+                yield f"{name}, standard input{what} closed", functools.partial(
+                    fails, case, "read failed", Disturbance(given=None, out=out))
 
 
 @scene("a closed standard input beside a file")
 def _closed_beside_a_file():
-    yield tried(BESIDE_A_FILE, "", Disturbance(given=None), broken_off, faults=["read failed"])
+    for out, what in [("", "standard input"), (None, "standard output too")]:
+        yield what, functools.partial(fails, CASES[BESIDE_A_FILE], "read failed",
+                                      Disturbance(given=None, out=out))
 
 
 @scene("a limit of the file's size, whose signal the caller ignores")
@@ -460,13 +599,13 @@ def limited(ignored, step):
 
 def limited_run(name, k, ignored):
     """The limit is that of standard output alone: standard error is a pipe."""
-    good = GOOD[name]
     with Pipe() as pipe:
         told = pipe.read_all()
         left = run(CASES[name], Disturbance(limits={resource.RLIMIT_FSIZE: k}, err=pipe.writes,
                                             ignored=ignored))
         pipe.close_writes()
-        return broken_off(Left(left.status, left.out, told()), good, ["write failed"], k)
+        return due_where_broken(name, Left(left.status, left.out, told()), "write failed", k,
+                                {"takes": k})
 
 
 # Pipes.
@@ -541,7 +680,13 @@ def reader_leaves(name, k, ignored):
             head = pipe.read_some(k)
             pipe.close_reads()
         left = end(*running)
-        return broken_off(Left(left.status, head, left.err), GOOD[name], ["write failed"], k)
+        left = Left(left.status, head, left.err)
+        if fault := broken_off(left, GOOD[name], ["write failed"], k):
+            return fault
+        told = len(left.err) - len("rtcm2rinex: write failed\n")
+        taken = [k, k + 4096] if k > 0 else [0, 0]
+        least, most = (so_far(name, takes=it).told for it in taken) if name in ORDER else (0, 0)
+        return None if least <= told <= most else f"{told} bytes are told, not {least} to {most}"
 
 
 @scene("a pipe that is full and doesn't wait")
@@ -560,8 +705,8 @@ def full_pipe(name):
         left = run(CASES[name], Disturbance(out=pipe.writes))
         pipe.close_writes()
         head = pipe.read_some(8192)
-        return broken_off(Left(left.status, head, left.err), GOOD[name], ["write failed"],
-                          max(len(head), 1))
+        return due_where_broken(name, Left(left.status, head, left.err), "write failed",
+                                max(len(head), 1), {"takes": max(len(head), 1)})
 
 
 def empty_pipe(name):
@@ -570,7 +715,7 @@ def empty_pipe(name):
         os.set_blocking(pipe.reads, False)
         os.write(pipe.writes, content(CASES[name].given)[:100])
         left = run(CASES[name], Disturbance(given=pipe.reads))
-        return broken_off(left, GOOD[name], ["read failed"])
+        return due_where_broken(name, left, "read failed", 0, {"frames": 100 // FRAME})
 
 
 # Reads.
@@ -579,14 +724,21 @@ def empty_pipe(name):
 def _read_fails():
     for name, case in CASES.items():
         for k in every(short_reads(case), 3000):
-            yield tried(name, f"read {k + 1}", Disturbance(
+            yield no_read(name, f"read {k + 1}", Disturbance(
                 {"PIECE": short_piece(case), "FAILS_READ": k + 1, "FAULT": errno.EIO}),
-                no_read, of=name)
+                k, short_piece(case))
 
 
-def no_read(left, good, of):
-    """Of `show` and `check` nothing is out then."""
-    return broken_off(left, good, ["read failed"], None if of.startswith("convert") else 0)
+def no_read(name, what, disturbance, good_reads, piece):
+    """So many reads give a piece, and the next one fails. Of `show` and `check` nothing is out
+    then."""
+    frames = frames_of(CASES[name], good_reads, piece)
+    return breaks(name, what, disturbance, "read failed", out=0, frames=frames)
+
+
+def frames_of(case, good_reads, piece):
+    """How many frames came by so many reads; that which only looks at standard input gives none."""
+    return max(0, good_reads - is_looked_at(case)) * piece // FRAME
 
 
 def inputs(case):
@@ -627,8 +779,9 @@ def _whole_read_fails():
         reads = size // asked_for(case.words) + 2
         for k in range(1, reads + 1):
             for fault in faults:
-                yield tried(name, f"read {k}, errno {fault}",
-                            Disturbance({"FAILS_READ": k, "FAULT": fault}), no_read, of=name)
+                yield no_read(name, f"read {k}, errno {fault}",
+                              Disturbance({"FAILS_READ": k, "FAULT": fault}),
+                              k - 1, asked_for(case.words))
 
 
 # Each error that a call can have but an interruption, which is made again.
@@ -644,7 +797,7 @@ def once(**shim):
 def _first_read_fails():
     for name, case in CASES.items():
         for fault in ERRORS if size_of_inputs(case) >= 0 else []:
-            yield tried(name, f"errno {fault}", once(FAILS_READ=1, FAULT=fault), no_read, of=name)
+            yield no_read(name, f"errno {fault}", once(FAILS_READ=1, FAULT=fault), 0, 0)
 
 
 @scene("a read in the middle, or that of the end, fails with each error but an interruption")
@@ -652,12 +805,12 @@ def _later_read_fails():
     for name, case in CASES.items():
         for fault in ERRORS if size_of_inputs(case) >= 0 else []:
             # the first read gives at most a third; standard input as a link is looked at before it
-            middle = 2 + is_looked_at(case)
-            yield tried(name, f"read {middle} of thirds, errno {fault}", once(
-                PIECE=size_of_inputs(case) // 3 + 1, FAILS_READ=middle, FAULT=fault),
-                no_read, of=name)
-            yield tried(name, f"the last read, errno {fault}",
-                        once(FAILS_READ=reads_of(case), FAULT=fault), no_read, of=name)
+            middle, third = 2 + is_looked_at(case), size_of_inputs(case) // 3 + 1
+            yield no_read(name, f"read {middle} of thirds, errno {fault}", once(
+                PIECE=third, FAILS_READ=middle, FAULT=fault), middle - 1, third)
+            last = reads_of(case)
+            yield no_read(name, f"the last read, errno {fault}",
+                          once(FAILS_READ=last, FAULT=fault), last - 1, asked_for(case.words))
 
 
 @scene("the first write fails with each error but an interruption; the next would go well")
@@ -666,16 +819,16 @@ def _first_write_fails():
         # what is gathered of a longer file is tried again at the end, and nothing after it
         out = 0 if len(GOOD[name].out) <= GATHERED else None
         for fault in ERRORS:
-            yield tried(name, f"errno {fault}", once(FAILS_WRITE=1, FAULT=fault), broken_off,
-                        faults=["write failed"], out=out)
+            yield breaks(name, f"errno {fault}", once(FAILS_WRITE=1, FAULT=fault), "write failed",
+                         out=out, fails=1)
 
 
 @scene("the first write of the report fails so")
 def _first_write_of_report_fails():
     for name in CASES:
         for fault in ERRORS if GOOD[name].err else []:
-            yield tried(name, f"errno {fault}", once(FAILS_WRITE=1, OF_REPORT=1, FAULT=fault),
-                        broken_off, faults=["write failed"], out=out_without_report(name))
+            yield breaks(name, f"errno {fault}", once(FAILS_WRITE=1, OF_REPORT=1, FAULT=fault),
+                         "write failed", report_fails=1)
 
 
 @scene("the first open fails with each error but an interruption; the next would go well")
@@ -692,12 +845,15 @@ def _first_open_fails():
 @scene("a run makes so many reads and writes, and no more")
 def _calls_are_counted():
     for name, case in CASES.items():
-        for call, count in [("read", reads_of(case)), ("write", writes_of(name))]:
-            if count:
-                fails = f"FAILS_{call.upper()}"
-                yield tried(name, f"{call} {count}", Disturbance({fails: count}), broken_off,
-                            faults=[f"{call} failed"])
-                yield tried(name, f"{call} {count + 1}", Disturbance({fails: count + 1}), same)
+        reads, writes = reads_of(case), writes_of(name)
+        if reads:
+            yield no_read(name, f"read {reads}", Disturbance({"FAILS_READ": reads}),
+                          reads - 1, asked_for(case.words))
+            yield tried(name, f"read {reads + 1}", Disturbance({"FAILS_READ": reads + 1}), same)
+        if writes:
+            yield breaks(name, f"write {writes}", Disturbance({"FAILS_WRITE": writes}),
+                         "write failed", fails=writes)
+            yield tried(name, f"write {writes + 1}", Disturbance({"FAILS_WRITE": writes + 1}), same)
 
 
 def reads_of(case):
@@ -825,6 +981,46 @@ def opens_alone(case, files, status, disturbance=Disturbance()):
     return other_calls(content(told), files) or same(left, good)
 
 
+# All that the program asks of the C library: to begin and to end, memory, the number of an error,
+# and calls on files. So it asks for no variable, terminal or clock, and of a file for its bytes.
+OF_C = set("""
+__libc_start_main __cxa_finalize __gmon_start__ _ITM_deregisterTMCloneTable
+_ITM_registerTMCloneTable __x86_get_cpuid_feature_leaf __sysv_signal __errno_location
+malloc realloc free memcpy memmove memset open close read write __write lseek
+""".split())
+
+
+@scene("nothing else is asked of the C library")
+def _names_of_c():
+    yield "names", functools.partial(asks_c_alone, PROGRAM)
+
+
+def asks_c_alone(program):
+    return other_names(names_of_c(content(program)))
+
+
+def names_of_c(program):
+    """The dynamic symbols of an ELF file."""
+    if program[:4] != b"\x7fELF":
+        return set()
+    table, = struct.unpack_from("<Q", program, 0x28)
+    size, count = struct.unpack_from("<HH", program, 0x3A)
+    sections = [struct.unpack_from("<IIQQQQII", program, table + size * k) for k in range(count)]
+    names = set()
+    for _, kind, _, _, at, length, strings, _ in sections:
+        for entry in range(at + 24, at + length, 24) if kind == 11 else []:
+            begin = sections[strings][4] + struct.unpack_from("<I", program, entry)[0]
+            names.add(program[begin:program.index(b"\0", begin)].decode())
+    return names
+
+
+def other_names(names):
+    """It opens, reads and writes, and asks for nothing else but the names above."""
+    if not {"open", "read", "write"} <= names:
+        return f"not all names are seen, but {sorted(names)}"
+    return f"{sorted(names - OF_C)}" if names - OF_C else None
+
+
 # Cut short.
 
 @scene("reads and writes of 1, 2, 3, 7 and 511 bytes")
@@ -867,12 +1063,13 @@ def interrupted(calls, count):
 @scene("a read or a write is interrupted 1,001 times in a row, and the next call is not")
 def _interrupted_too_often():
     for name, case in CASES.items():
-        reads = [("reads", "read failed")] if size_of_inputs(case) >= 0 else []
+        if size_of_inputs(case) >= 0:
+            yield no_read(name, "reads", interrupted("reads", MOST_INTERRUPTIONS + 1), 0, 0)
+        yield breaks(name, "1", interrupted("1", MOST_INTERRUPTIONS + 1), "write failed", fails=1)
         # a longer report is tried again at the end, and then the fault line is interrupted
-        report = [("2", "write failed")] if 0 < len(GOOD[name].err) <= GATHERED else []
-        for calls, fault in [*reads, ("1", "write failed"), *report]:
-            yield tried(name, calls, interrupted(calls, MOST_INTERRUPTIONS + 1), broken_off,
-                        faults=[fault])
+        if 0 < len(GOOD[name].err) <= GATHERED:
+            yield breaks(name, "2", interrupted("2", MOST_INTERRUPTIONS + 1), "write failed",
+                         report_fails=1)
 
 
 # Without end.
@@ -992,9 +1189,10 @@ def _two_faults():
     for name, case in CASES.items():
         for k in every(short_reads(case), 0)[::10]:
             for j in every(len(GOOD[name].out), 0)[::10]:
-                shim = {"PIECE": short_piece(case), "FAILS_READ": k + 1, "TAKES_1": j}
-                yield tried(name, f"read {k + 1} and {j} bytes", Disturbance(shim),
-                            broken_off, faults=["read failed", "write failed"])
+                piece = short_piece(case)
+                shim = {"PIECE": piece, "FAILS_READ": k + 1, "TAKES_1": j}
+                yield breaks(name, f"read {k + 1} and {j} bytes", Disturbance(shim), "read failed",
+                             out=0, frames=frames_of(case, k, piece), takes=j)
 
 
 # A real file system.
@@ -1017,8 +1215,10 @@ def on_small_file_system(at, name, k, of_report):
     os.close(there)
     part = content(to)[4096 - k:]
     if of_report:
-        return told_in_part(Left(left.status, left.out, part), good, 1, k, out_without_report(name))
-    return broken_off(Left(left.status, part, left.err), good, ["write failed"], k)
+        return told_in_part(Left(left.status, left.out, part), good, 1, k,
+                            so_far(name, report_takes=k).out)
+    return due_where_broken(name, Left(left.status, part, left.err), "write failed", k,
+                            {"takes": k})
 
 
 def tmpfs_scenes():
@@ -1078,6 +1278,9 @@ def main():
             print(f"FAILED {name}: no good run: status {good.status}, '{shown(good.err)}'")
             print("0 passed, 1 failed")
             return 1
+    for name, case in CASES.items():
+        if case.words[0] == "convert":
+            ORDER[name] = order_of(case, GOOD[name])
     count = Count()
     if "--endless" in WORDS:
         global SECONDS
