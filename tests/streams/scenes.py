@@ -990,7 +990,7 @@ malloc realloc free memcpy memmove memset open close read write __write lseek
 """.split())
 
 
-@scene("nothing else is asked of the C library")
+@scene("all that is asked of the C library")
 def _names_of_c():
     yield "names", functools.partial(asks_c_alone, PROGRAM)
 
