@@ -102,7 +102,7 @@ report 0 0 0 0 0 0 0 0 0 >empty.report
 convert 1C,2W stdin </dev/null;                       leaves empty_capture 0 empty.rnx empty.report
 
 # The file can be followed, wherever standard input stands: the records of closed epochs are out while it is open, and
-# so is the line of a late message.
+# so are the line of a late message and the short one of an empty frame.
 # follow NAME REPORT LINK..
 follow() {
     name=$1 report=$2
@@ -124,11 +124,19 @@ follow() {
     done
     head -n 1 "$report" >first_line
     same "${name}_late" err first_line
+    printf '\xD3\x00\x00\x47\xEA\x4B' >&9
+    for _ in $(seq 100); do
+        [ "$(wc -l <err)" -ge 2 ] && break
+        sleep 0.2
+    done
+    { cat first_line; sed 's/ late .*/ refused M1 -/' first_line; } >two_lines
+    same "${name}_refused" err two_lines
     tail -c +231 "$examples/late.rtcm" >&9
     exec 9>&-
     wait $running
     status=$?
-    leaves "${name}_to_its_end" 0 "$examples/late.rnx" "$report"
+    { cat two_lines; sed '1d; s/^frames 6/frames 7/; s/^refused 0/refused 1/' "$report"; } >whole_report
+    leaves "${name}_to_its_end" 0 "$examples/late.rnx" whole_report
 }
 mkfifo capture
 : >nothing
@@ -491,4 +499,4 @@ leaves start_convert_with_a_limit_of_size 1 part part_err
 limited 4096 "$root/bin/rtcm2rinex" convert $options --codes 1C,2W,5X stdin >out 2>err <"$session.rtcm"; status=$?
 leaves start_convert_followed_with_a_limit_of_size 1 part write_failed
 
-ends 230
+ends 233
