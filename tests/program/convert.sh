@@ -124,7 +124,7 @@ follow() {
     done
     head -n 1 "$report" >first_line
     same "${name}_late" err first_line
-    printf '\xD3\x00\x00\x47\xEA\x4B' >&9
+    printf '\323\000\000\107\352\113' >&9
     for _ in $(seq 100); do
         [ "$(wc -l <err)" -ge 2 ] && break
         sleep 0.2
