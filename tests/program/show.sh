@@ -413,8 +413,8 @@ run -h </dev/null;                        expect -h 0 "$short_help" ''
 run show --help </dev/null;               expect show_help 0 "$show_help" ''
 run show -h </dev/null;                   expect show_short_help 0 "$show_short_help" ''
 run help show </dev/null;                 expect help_show 0 "$show_help" ''
-run --version </dev/null;                 expect version 0 'rtcm2rinex 0.1.0' ''
-run -V </dev/null;                        expect version_in_short 0 'rtcm2rinex 0.1.0' ''
+run --version </dev/null;                 expect version 0 'rtcm2rinex 0.2.0' ''
+run -V </dev/null;                        expect version_in_short 0 'rtcm2rinex 0.2.0' ''
 run </dev/null;                           expect no_command 2 '' "$no_command"
 "$program" </dev/null >&- 2>err; status=$?; : >out
 expect no_command_and_no_output 2 '' "$no_command"
