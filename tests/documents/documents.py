@@ -10,7 +10,7 @@ import sys
 from pathlib import Path
 
 ROOT = Path(sys.argv[1]).resolve()
-PROGRAM = ROOT / "crates/rtcm2rinex/out/rtcm2rinex"
+PROGRAM = Path(sys.argv[2]).resolve()
 COMPLETE = ROOT / "tests/documents/complete.bash"
 
 passed = failed = 0
