@@ -172,7 +172,7 @@ def test_bash():
 
 def test_made():
     for script in ("index", "manpage", "completions"):
-        code, _, error = output(ROOT / "bin" / script, "--check")
+        code, _, error = output(ROOT / "bin" / script, "--check", *([PROGRAM] if script == "completions" else []))
         compare(f"bin/{script} makes what is there", (code, error), (0, ""))
     calls = (ROOT / "docs/INDEX.md").read_text().count("#### `")
     compare("the index has public calls", calls > 100, True)
