@@ -284,6 +284,7 @@ def broken_links(path):
 BUDGETS = {
     "README.md": 800,
     "docs/MANUAL.md": 3000,
+    "docs/TUTORIAL.md": 900,
 }
 
 
