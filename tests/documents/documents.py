@@ -285,6 +285,7 @@ BUDGETS = {
     "README.md": 800,
     "docs/MANUAL.md": 3000,
     "docs/TUTORIAL.md": 900,
+    "docs/LIBRARY.md": 700,
 }
 
 
