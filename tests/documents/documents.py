@@ -286,6 +286,8 @@ BUDGETS = {
     "docs/MANUAL.md": 3000,
     "docs/TUTORIAL.md": 900,
     "docs/LIBRARY.md": 700,
+    "docs/STYLE.md": 870,
+    "CONTRIBUTING.md": 230,
 }
 
 
