@@ -288,6 +288,8 @@ BUDGETS = {
     "docs/LIBRARY.md": 700,
     "docs/STYLE.md": 870,
     "CONTRIBUTING.md": 230,
+    "bench/README.md": 300,
+    "examples/README.md": 500,
 }
 
 
