@@ -54,15 +54,18 @@ Manual: man rtcm2rinex, or docs/MANUAL.md"
 picture=$(cat "$root/examples/marks.txt")
 svg=$(cat "$root/examples/marks.svg")
 
+# pins: text_heading, satellite_rows, axis_row, label_row
 run chart --text "$marks" </dev/null;              expect chart_of_a_file 0 "$picture" ''
 run chart --text stdin <"$marks";                  expect chart_of_standard_input 0 "$picture" ''
 run chart --text --columns 80 "$marks" </dev/null; expect chart_80_wide 0 "$picture" ''
+# pins: STYLE, LEGEND, svg_picture, svg_legend, svg_body
 run chart "$marks" </dev/null;                     expect chart_in_svg 0 "$svg" ''
 cp "$marks" ' a,b=c '
 run chart --text ' a,b=c ' </dev/null;              expect chart_of_an_odd_name 0 "$picture" ''
 cp "$marks" "$tab"; cp "$marks" "$feed"
 run chart --text "$tab" </dev/null;                expect chart_of_a_name_with_a_tab 0 "$picture" ''
 run chart --text "$feed" </dev/null;               expect chart_of_a_name_with_a_line_feed 0 "$picture" ''
+# pins: Requests.HasStatus, Words.HasStatus
 run chart --help </dev/null;                       expect chart_help 0 "$help" ''
 run chart -h </dev/null;                           expect chart_short_help 0 "$short_help" ''
 run help chart </dev/null;                         expect help_chart 0 "$help" ''
@@ -102,6 +105,7 @@ run chart --text bad </dev/null;                   expect chart_of_a_bad_file_in
 run chart none </dev/null;                         expect chart_of_no_file 1 '' 'rtcm2rinex: cannot open none'
 
 truncate -s 1073741824 zeros
+# pins: CHECK_LIMIT
 run chart zeros </dev/null;                        expect longest_chart_input 3 '' 'line 1: C5 Truncated'
 truncate -s 1073741825 zeros
 run chart zeros </dev/null;                        expect chart_input_too_long 1 '' 'rtcm2rinex: input too long'
@@ -111,6 +115,7 @@ run chart --text empty </dev/null
 expect chart_without_records 0 "$(printf 'marker BASE\nno records')" ''
 # In SVG it is 100 units high, with the style of every picture.
 run chart empty </dev/null
+# pins: svg_of_none
 expect chart_without_records_in_svg 0 "<svg xmlns='http://www.w3.org/2000/svg' viewBox='0 0 1560 100'>
 <title>BASE</title>
 $(grep '^<style>' "$root/examples/marks.svg")
@@ -128,6 +133,7 @@ $(grep '^<style>' "$root/examples/marks.svg")
 } >many
 run chart --text many </dev/null
 head -n 9 out >heading; mv heading out
+# pins: number_lines, named_count_line
 expect chart_of_many_records 0 'marker BASE
 from 2024-05-17 12:00:00.000
 until 2024-05-19 11:13:19.000
@@ -139,6 +145,7 @@ slips 70001
 missing 99999' ''
 run chart many </dev/null
 grep -e "y='52'" -e '>records' out >heading; mv heading out
+# pins: moment_shown
 expect chart_of_many_records_in_svg 0 "<text x='90' y='52'>2024-05-17 12:00:00.000 to 2024-05-19 11:13:19.000, interval 1.000 s, column 119.000 s</text>
 <text x='90' y='70'>records 70001, satellites 1, slips 70001, missing epochs 99999</text>" ''
 sed '$s/110804903.547/        0.000/' many >many_and_zero

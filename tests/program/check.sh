@@ -93,18 +93,22 @@ for number in 1 14 15 16; do sed "${number}s/\$/\r/" "$base" >"crlf_$number"; do
 { head -c -1 "$base"; printf '\0\n'; } >nul_before
 { cat "$base"; sed '1,14d' "$base"; } >twice
 
+# pins: valid_text
 check "$base" </dev/null;        expect yes 0 "$yes" ''
 check stdin <"$base";            expect yes_from_stdin 0 "$yes" ''
 cat "$base" | "$program" check stdin >out 2>err; status=$?
 expect yes_from_pipe 0 "$yes" ''
 check stdin </dev/null;          expect empty_text 3 'line 1: C5 Truncated' ''
+# pins: check_fault_text
 check line4 </dev/null;          expect no_header 3 'line 4: C1 HeaderLine' ''
 check line16 </dev/null;         expect no_value 3 'line 16: C3 Value' ''
 check cut </dev/null;            expect no_last_line_feed 3 'line 16: C5 Truncated' ''
 check no_record </dev/null;      expect no_record 0 'valid: 0 epochs, 0 satellite lines' ''
 check half_header </dev/null;    expect half_header 3 'line 9: C5 Truncated' ''
+# pins: check_fault_text
 check satellite33 </dev/null;    expect satellite_33 3 'line 16: C2 Columns' ''
 check blank </dev/null;          expect blank_at_the_end 3 'line 16: C2 Columns' ''
+# pins: check_fault_text
 check zero </dev/null;           expect zero_value 3 'line 16: C3 Value' ''
 check marked </dev/null;         expect byte_order_mark 3 'line 1: C1 HeaderLine' ''
 check stdin <marked;             expect byte_order_mark_on_standard_input 3 'line 1: C1 HeaderLine' ''
@@ -119,6 +123,7 @@ check nuls </dev/null;           expect nuls_behind 3 'line 17: C5 Truncated' ''
 check stdin <nuls;               expect nuls_behind_on_standard_input 3 'line 17: C5 Truncated' ''
 check nul_line </dev/null;       expect nul_as_a_line 3 'line 17: C2 Columns' ''
 check nul_before </dev/null;     expect nul_before_the_last_line_feed 3 'line 16: C3 Value' ''
+# pins: check_fault_text
 check twice </dev/null;          expect repeated_epoch 3 'line 17: C4 Order' ''
 check "$root/examples/session.rnx" </dev/null
 expect yes_session 0 'valid: 20 epochs, 72 satellite lines' ''
@@ -174,8 +179,10 @@ check many_and_zero </dev/null;  expect a_fault_beyond_65535_lines 3 'line 14001
 
 # The longest input that is judged, of zeros that take no room on the disk, and one byte more.
 truncate -s 1073741824 zeros
+# pins: CHECK_LIMIT
 check zeros </dev/null;          expect longest_input 3 'line 1: C5 Truncated' ''
 truncate -s 1073741825 zeros
+# pins: CHECK_LIMIT
 check zeros </dev/null;          expect input_too_long 1 '' 'rtcm2rinex: input too long'
 
 ends 58

@@ -190,6 +190,7 @@ leaves file_before_report 0 both /dev/null
 # Our own refusals. Where more than one word is bad the first cause counts: the forms of the times, the codes' names, the
 # marker, the list of codes, the links, and last a reference near which nothing is dated.
 sixteen='1C,1P,1W,1S,1L,1X,2C,2D,2P,2W,2S,2L,2X,5I,5Q,5X'
+# pins: IsFirstCause
 words '' '' '' '' stdin stdin;                        fails form_of_near 2 'bad --near'
 words 2024-02-30T00:00:00 $made BASE 1C,2W x;         fails no_such_day 2 'bad --near'
 words 2101-01-01T00:00:00 '' BASE 1C x;               fails year_2101 2 'bad --near'
@@ -221,13 +222,17 @@ words $near $made X $sixteen,$sixteen x;              fails thirty_two_codes 2 '
 words $near $made X $sixteen nowhere;                 fails sixteen_codes 1 'cannot open nowhere'
 words 1980-01-06T00:00:00 $made X 1C stdin stdin;     fails standard_input_twice 2 'bad links'
 words $near $made X 1C stdin a stdin;                 fails standard_input_twice_apart 2 'bad links'
+# pins: AreLinkNames
 words $near $made X 1C 1 2 3 4 5 6 7 8 9 10 11 12 13 14 15 16 17; fails seventeen_links 2 'bad links'
 words $near $made X 1C $(seq 40);                     fails forty_links 2 'bad links'
+# pins: AreLinkNames
 words $near $made X 1C $(seq 200);                    fails two_hundred_links 2 'bad links'
 run convert $(seq 200) $options --codes 1C;           fails two_hundred_links_before_the_options 2 'bad links'
 # as many as one and as sixteen links, where only the last byte of the number is looked at
+# pins: AreLinkNames
 words $near $made X 1C $(seq 257);                    fails links_257 2 'bad links'
 words $near $made X 1C $(seq 4112);                   fails links_4112 2 'bad links'
+# pins: AreLinkNames
 words $near $made X 1C nowhere 2 3 4 5 6 7 8 9 10 11 12 13 14 15 16; fails sixteen_links 1 'cannot open nowhere'
 words 1980-01-06T00:00:00 '' X 1C nowhere;            fails reference_out_of_range_and_no_making 2 'bad --made'
 words 1980-01-06T00:00:00 $made ' X' 1C,9Z nowhere;   fails reference_out_of_range_and_no_code 2 'bad --codes'
@@ -237,6 +242,7 @@ words 1980-01-06T00:00:00 $made X 1C nowhere;         fails reference_out_of_ran
 words 1980-01-12T23:59:59 $made X 1C nowhere;         fails reference_too_early 2 'bad --near'
 words 1980-01-13T00:00:00 $made X 1C nowhere;         fails earliest_reference 1 'cannot open nowhere'
 words 2100-01-01T00:00:00 $made X 1C nowhere;         fails reference_too_late 2 'bad --near'
+# pins: IsFirstCause
 words 2099-12-31T23:59:59 $made X 1C nowhere;         fails latest_reference 1 'cannot open nowhere'
 
 # Texts that write no moment, and texts that list no codes.
@@ -266,6 +272,7 @@ for number in $(seq 32 43) $(seq 45 126); do
     words $near $made BASE "1C$(printf "\\$(printf %03o "$number")")2W" x
     echo "$status $(cat out err)"
 done >told
+# pins: Lists
 refused_alike no_other_character_between_codes 94 'bad --codes'
 # No character of a moment is another one: none of these in any place, and no digit where none is.
 for place in $(seq 19); do
@@ -280,6 +287,7 @@ for place in $(seq 19); do
     words $near "$(echo $made | sed "s|.|0|$place")" BASE 1C x
     echo "$status $(cat out err)"
 done >told
+# pins: WritesMoment
 refused_alike no_other_character_of_a_moment 189 'bad --made'
 
 # The same of good texts, of an empty capture: the making and the types stand in the header.
@@ -290,6 +298,7 @@ header() {
     leaves "$1" 0 want_out empty.report
 }
 words $near 1980-01-06T00:00:00 BASE 1C nothing;      header first_making '19800106 000000' BASE 'G    3 C1C L1C S1C'
+# pins: WritesMoment
 words $near 2024-02-29T23:59:59 BASE 5X,2W nothing;   header leap_day '20240229 235959' BASE 'G    6 C5X L5X S5X C2W L2W S2W'
 words $near 2100-12-31T23:59:59 BASE 1C,2D,1P nothing
 header last_making '21001231 235959' BASE 'G    9 C1C L1C S1C C2D L2D S2D C1P L1P S1P'
@@ -465,9 +474,11 @@ expect start_of_an_option 2 '' "error: unexpected argument '--stat' found
 
 Usage: rtcm2rinex convert --station <N> --near <T> --made <T> --marker <NAME> --codes <LIST> <LINK>...
 $try"
+# pins: Requests.IsWithinLimits, Words.IsWithinLimits
 bad_value station_of_4096 --station 4096 '4096 is not in 0..=4095'
 bad_value station_of_no_digits --station x 'invalid digit found in string'
 bad_value station_with_a_tail --station 2003x 'invalid digit found in string'
+# pins: Requests.IsWithinLimits, Words.IsWithinLimits
 bad_value window_of_1 --window 1 '1 is not in 2..=4096'
 bad_value window_of_4097 --window 4097 '4097 is not in 2..=4096'
 bad_value window_of_two_numbers --window 64,2 'invalid digit found in string'

@@ -105,6 +105,7 @@ mkdir folder
 
 # The files of the examples were laid by hand: slips at the seconds 7 and 20 of what is left out, one of them of a
 # satellite that is missing in the next record, and slips and half cycles of what is kept.
+# pins: step_ms, is_on_step
 cut --every 30 "$file" </dev/null;                  leaves a_minute_at_30_seconds 0 "$root/examples/slip_30s.rnx" nothing
 cp "$file" ' a,b=c '
 cut --every 30 ' a,b=c ' </dev/null;                leaves of_an_odd_name 0 "$root/examples/slip_30s.rnx" nothing
@@ -176,6 +177,7 @@ cut --every 30 --from $midnight night </dev/null;   leaves the_day_after_midnigh
 # The same slips, in the minute after noon: no record before midnight is on the step.
 moved '2024 02 28' '12 00' '2024 02 29 00 00' '  2024     2    28    12     0 ' >noon
 { header "$begin"; printf '%s\n' "$line" "${g05}15        35.000" "$g07"; } >want
+# pins: has_slipped_since
 cut --every 86400 noon </dev/null;                  leaves twelve_hours_before_the_step 0 want nothing
 sed '/^> 2024 02 29/,$d' night >want
 cut --until $midnight night </dev/null;             leaves the_day_before_midnight 0 want nothing
@@ -197,6 +199,7 @@ cut --until $midnight night </dev/null;             leaves the_day_before_midnig
         '> 2024 05 19 00 00  0.0000000  0  2' 'G05                 110804903.547' 'G07                 120671603.5231' \
         '> 2024 05 20 00 00  0.0000000  0  2' 'G05                 110804903.547' 'G07                 120671603.523'
 } >want
+# pins: has_slipped_since
 cut --every 86400 days </dev/null;                  leaves a_slip_a_second_after_midnight 0 want nothing
 
 # The last minute that a time can name.
@@ -279,6 +282,7 @@ cut --every 30 nowhere </dev/null;                  expect cut_of_no_file 1 '' '
 cut --every 30 nowhere/slip.rnx </dev/null
 expect cut_of_a_missing_folder 1 '' 'rtcm2rinex: cannot open nowhere/slip.rnx'
 truncate -s 1073741824 zeros
+# pins: CHECK_LIMIT
 cut --every 30 zeros </dev/null;                    expect longest_cut_input 3 '' 'line 1: C5 Truncated'
 truncate -s 1073741825 zeros
 cut --every 30 zeros </dev/null;                    expect cut_input_too_long 1 '' 'rtcm2rinex: input too long'

@@ -254,8 +254,11 @@ sed 's/$/\r/' arp.hex >crlf.hex
 run show --hex crlf.hex </dev/null;       expect hex_of_line_ends_of_cr_lf 0 "$arp" ''
 run show empty </dev/null;                expect empty_input 0 '' ''
 run show stdin </dev/null;                expect empty_standard_input 0 '' ''
+# pins: SHOW_LIMIT
 run show longest </dev/null;              expect longest_input 0 '' ''
+# pins: SHOW_LIMIT
 run show long </dev/null;                 expect input_too_long 1 '' 'rtcm2rinex: input too long'
+# pins: SHOW_LIMIT
 run show --hex long </dev/null;           expect hex_too_long 1 '' 'rtcm2rinex: input too long'
 run show --hex arp.rtcm </dev/null;       expect bytes_as_hex 1 '' 'rtcm2rinex: input is not hex'
 printf 'D3 0' | "$program" show --hex stdin >out 2>err; status=$?
@@ -402,6 +405,7 @@ printf '\0' >>frames
 run show frames </dev/null;               expect frames_too_long 1 '' 'rtcm2rinex: input too long'
 yes D300023FB0D71D73 | head -n 1048576 | tr -d '\n' >frames.hex
 head -n 1048576 lines >hex_lines
+# pins: SHOW_LIMIT
 run show --hex frames.hex </dev/null;     leaves longest_hex_of_frames 0 hex_lines /dev/null
 echo >>frames.hex
 run show --hex frames.hex </dev/null;     expect hex_of_frames_too_long 1 '' 'rtcm2rinex: input too long'
@@ -413,6 +417,7 @@ run -h </dev/null;                        expect -h 0 "$short_help" ''
 run show --help </dev/null;               expect show_help 0 "$show_help" ''
 run show -h </dev/null;                   expect show_short_help 0 "$show_short_help" ''
 run help show </dev/null;                 expect help_show 0 "$show_help" ''
+# pins: Requests.HasStatus, Words.HasStatus
 run --version </dev/null;                 expect version 0 'rtcm2rinex 0.2.0' ''
 run -V </dev/null;                        expect version_in_short 0 'rtcm2rinex 0.2.0' ''
 run </dev/null;                           expect no_command 2 '' "$no_command"
@@ -424,6 +429,7 @@ run shew a </dev/null;                    expect no_such_command 2 '' "$no_such_
 run sho arp.rtcm </dev/null;              expect start_of_a_command 2 '' "$start_of_a_command"
 run SHOW arp.rtcm </dev/null;             expect command_in_capitals 2 '' "$command_in_capitals"
 run "$long_word" </dev/null;              expect no_such_long_command 2 '' "$no_such_long_command"
+# pins: Requests.HasStatus, Words.HasStatus
 run show </dev/null;                      expect no_file 2 '' "$no_file"
 run show a b </dev/null;                  expect two_files 2 '' "$two_files"
 run show '' '' </dev/null;                expect two_empty_files 2 '' "$two_empty_files"

@@ -133,6 +133,7 @@ nothing taken' ''
 
 # More bytes than 32 bits count, in a file without blocks.
 truncate -s 4294967297 zeros
+# pins: number_line
 run summary zeros </dev/null;       expect summary_of_a_longer_input 0 'bytes 4294967297
 outside-frames 4294967297
 frames 0

@@ -1030,6 +1030,7 @@ def _short():
             yield tried(name, f"{piece} bytes", Disturbance({"PIECE": piece}), same)
 
 
+# pins: most_reads
 @scene("a summary of 1,000,001 reads of one byte")
 def _many_reads():
     yield "zeros", functools.partial(many_reads, written("zeros", bytes(1_000_001)))
@@ -1049,6 +1050,7 @@ def _interrupted():
                     {"INTERRUPTS": calls, "PIECE": piece}), same)
 
 
+# pins: most_interruptions
 @scene("each read or write is interrupted 1,000 times in a row")
 def _interrupted_often():
     for name in CASES:
@@ -1060,6 +1062,7 @@ def interrupted(calls, count):
     return Disturbance({"INTERRUPTS": calls, "IN_A_ROW": count})
 
 
+# pins: most_interruptions
 @scene("a read or a write is interrupted 1,001 times in a row, and the next call is not")
 def _interrupted_too_often():
     for name, case in CASES.items():

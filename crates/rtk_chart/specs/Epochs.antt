@@ -49,6 +49,7 @@ has_slip os = list_any (λ o. o.slip) os
 abbrev pub has_half : List Observed → Bool
 has_half os = list_any (λ o. o.half) os
 
+-- formula
 -- the signal strength digit of a strength, 1 to 9 (RINEX 3.05)
 abbrev pub level_of : Option ℕ → Option ℕ
 level_of None = None

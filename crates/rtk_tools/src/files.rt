@@ -13,6 +13,7 @@ use std::{fs, io};
 /// The word that names standard input.
 pub const STDIN: &str = "stdin";
 
+// constant
 /// How many bytes of a file and of a report are gathered before they are written, if no link is
 /// standard input.
 pub const GATHERED: usize = 65_536;
