@@ -283,9 +283,11 @@ def every_cell(cases):
         case(cases, name, [capture + cells_of(*groups[0], 41, last)], codes=codes, told=report(
             *lines[:conflicts], taken=16, conflict=1, epochs=1))
     # the longest lines, with a link of two digits
+    # refuses: a `feed` that gives up at the longest report of a message
     case(cases, "conflicts_64_of_link_16", [b""] * 15 + [capture + cells_of(*groups[0], 41, 41)], codes=codes, told=report(
         *(it.replace("link 1 ", "link 16 ", 1) for it in lines), taken=16, conflict=1, epochs=1))
     # the same epoch, which greater ones close before the end
+    # refuses: a `feed` that gives up where an epoch of many cells closes
     case(cases, "every_cell_closed", [capture + bare(1) + bare(2)], window=2, codes=codes, told=report(taken=18, epochs=1))
 
 
@@ -514,6 +516,7 @@ def greatest_summary():
     unread = unread[unread.index("other 0 1\n"):].removesuffix("nothing taken\n")
     frames = [*(frame for frames in stations[::-1] for frame in frames), *map(frame_of, rest)]
     # pins: summary_text
+    # refuses: a `summarize` that gives up at a long summary
     save("greatest", b"".join(frames))
     size = sum(map(len, frames))
     save("greatest.summary", f"bytes {size}\noutside-frames 0\nframes {len(frames)}\n" + "".join(told) + unread)

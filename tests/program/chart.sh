@@ -61,8 +61,10 @@ run chart --text --columns 80 "$marks" </dev/null; expect chart_80_wide 0 "$pict
 # pins: STYLE, LEGEND, svg_picture, svg_legend, svg_body
 run chart "$marks" </dev/null;                     expect chart_in_svg 0 "$svg" ''
 cp "$marks" ' a,b=c '
+# refuses: a name that is changed before it is opened, or taken for standard input
 run chart --text ' a,b=c ' </dev/null;              expect chart_of_an_odd_name 0 "$picture" ''
 cp "$marks" "$tab"; cp "$marks" "$feed"
+# refuses: a name that is changed before it is opened, or taken for standard input
 run chart --text "$tab" </dev/null;                expect chart_of_a_name_with_a_tab 0 "$picture" ''
 run chart --text "$feed" </dev/null;               expect chart_of_a_name_with_a_line_feed 0 "$picture" ''
 # pins: Requests.HasStatus, Words.HasStatus
@@ -76,10 +78,12 @@ cp "$marks" Zürich.rnx; cp "$marks" marks.rnx; ln -s "$marks" linked; ln -s lin
 for name in Zürich.rnx folder/../marks.rnx linked linked_twice; do
     run chart --text "$name" </dev/null;           expect "chart_of_$name" 0 "$picture" ''
 done
+# refuses: a file that is not opened since it is a symbolic link or a pipe
 piped "$marks" run chart --text fifo </dev/null;   expect chart_of_a_pipe_of_a_name 0 "$picture" ''
 bash -c '"$0" chart --text <(cat marks.rnx)' "$program" >out 2>err </dev/null; status=$?
 expect chart_of_a_pipe_of_the_shell 0 "$picture" ''
 run chart nowhere/marks.rnx </dev/null
+# refuses: a file that is looked for in another folder
 expect chart_of_a_missing_folder 1 '' 'rtcm2rinex: cannot open nowhere/marks.rnx'
 { printf 'not of it'; cat "$marks"; } >behind
 beyond behind 9 run chart --text stdin;            expect chart_after_the_first_bytes 0 "$picture" ''
@@ -89,6 +93,7 @@ count=$(wc -l <"$marks")
 { printf '\357\273\277'; cat "$marks"; } >marked
 sed 's/$/\r/' "$marks" >crlf
 { cat "$marks"; head -c 512 /dev/zero; } >nuls
+# refuses: a byte order mark, a CR or a NUL that is left out on its way
 run chart marked </dev/null;                       expect chart_of_a_byte_order_mark 3 '' 'line 1: C1 HeaderLine'
 run chart crlf </dev/null;                         expect chart_of_line_ends_of_cr_lf 3 '' 'line 1: C1 HeaderLine'
 run chart --text nuls </dev/null;                  expect chart_of_nuls_behind 3 '' "line $((count + 1)): C5 Truncated"
@@ -167,6 +172,7 @@ for width in 39 401; do
 For more information, try '--help'."
 done
 run chart --text --columns 80x "$marks" </dev/null
+# refuses: a first part of a number that is taken for all of it
 expect columns_with_a_tail 2 '' "error: invalid value '80x' for '--columns <N>': invalid digit found in string
 
 For more information, try '--help'."
@@ -183,6 +189,7 @@ expect columns_before_another_option 2 '' "error: a value is required for '--col
 For more information, try '--help'."
 
 run chart "$marks" b </dev/null
+# refuses: a second FILE that is left out in silence
 expect chart_of_two_files 2 '' "error: unexpected argument 'b' found
 
 Usage: rtcm2rinex chart [OPTIONS] <FILE>
@@ -198,6 +205,7 @@ For more information, try '--help'."
 
 cp "$marks" ./-5
 run chart -5 </dev/null
+# refuses: a word that begins with a hyphen and is taken for a FILE
 expect chart_of_a_hyphen_and_a_digit 2 '' "error: unexpected argument '-5' found
 
   tip: to pass '-5' as a value, use '-- -5'

@@ -108,6 +108,7 @@ mkdir folder
 # pins: step_ms, is_on_step
 cut --every 30 "$file" </dev/null;                  leaves a_minute_at_30_seconds 0 "$root/examples/slip_30s.rnx" nothing
 cp "$file" ' a,b=c '
+# refuses: a name that is changed before it is opened, or taken for standard input
 cut --every 30 ' a,b=c ' </dev/null;                leaves of_an_odd_name 0 "$root/examples/slip_30s.rnx" nothing
 cp "$file" "$tab"; cp "$file" "$feed"
 cut --every 30 "$tab" </dev/null;                   leaves of_a_name_with_a_tab 0 "$root/examples/slip_30s.rnx" nothing
@@ -119,6 +120,7 @@ cp "$file" Zürich.rnx; cp "$file" slip.rnx; ln -s "$file" linked; ln -s linked 
 for name in Zürich.rnx folder/../slip.rnx linked linked_twice; do
     cut --every 30 "$name" </dev/null;              leaves "of_$name" 0 "$root/examples/slip_30s.rnx" nothing
 done
+# refuses: a file that is not opened since it is a symbolic link or a pipe
 piped "$file" cut --every 30 fifo </dev/null;       leaves of_a_pipe_of_a_name 0 "$root/examples/slip_30s.rnx" nothing
 bash -c '"$0" cut --every 30 <(cat slip.rnx)' "$program" >out 2>err </dev/null; status=$?
 leaves of_a_pipe_of_the_shell 0 "$root/examples/slip_30s.rnx" nothing
@@ -217,11 +219,15 @@ cut "$file" </dev/null;                             expect no_option 2 '' "$no_o
 cut --every 30 </dev/null;                          expect cut_without_a_file 2 '' "$no_file"
 cut </dev/null;                                     expect cut_without_a_word 2 '' "$no_word"
 for step in 0 86401 4294967296; do bad_step a_step_of_$step $step "$step is not in 1..=86400"; done
+# refuses: a first part of a number that is taken for all of it
 bad_step a_step_with_a_tail 30s 'invalid digit found in string'
+# refuses: a first part of a number that is taken for all of it
 bad_step a_step_with_a_fraction 30.5 'invalid digit found in string'
+# refuses: blanks that are taken away beside a time, a code or a number
 bad_step a_step_after_a_blank ' 30' 'invalid digit found in string'
 
 cut --every 30 "$file" b </dev/null
+# refuses: a second FILE that is left out in silence
 expect cut_of_two_files 2 '' "error: unexpected argument 'b' found
 
 Usage: rtcm2rinex cut <--from <T>|--until <T>|--every <SECONDS>> <FILE>
@@ -230,6 +236,7 @@ For more information, try '--help'."
 
 cp "$file" ./-5
 cut --every 30 -5 </dev/null
+# refuses: a word that begins with a hyphen and is taken for a FILE
 expect cut_of_a_hyphen_and_a_digit 2 '' "error: unexpected argument '-5' found
 
   tip: to pass '-5' as a value, use '-- -5'
@@ -271,6 +278,7 @@ cut --every 30 stdin </dev/null;                    expect an_empty_file 3 '' 'l
 { printf '\357\273\277'; cat "$file"; } >marked
 sed 's/$/\r/' "$file" >crlf
 { cat "$file"; head -c 512 /dev/zero; } >nuls
+# refuses: a byte order mark, a CR or a NUL that is left out on its way
 cut --every 1 marked </dev/null;                    expect a_byte_order_mark 3 '' 'line 1: C1 HeaderLine'
 cut --every 1 crlf </dev/null;                      expect line_ends_of_cr_lf 3 '' 'line 1: C1 HeaderLine'
 cut --every 1 nuls </dev/null
@@ -280,6 +288,7 @@ expect a_capture 3 '' 'line 1: C5 Truncated'
 
 cut --every 30 nowhere </dev/null;                  expect cut_of_no_file 1 '' 'rtcm2rinex: cannot open nowhere'
 cut --every 30 nowhere/slip.rnx </dev/null
+# refuses: a file that is looked for in another folder
 expect cut_of_a_missing_folder 1 '' 'rtcm2rinex: cannot open nowhere/slip.rnx'
 truncate -s 1073741824 zeros
 # pins: CHECK_LIMIT

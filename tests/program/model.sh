@@ -34,10 +34,12 @@ leaves summary_of_millions 0 millions.summary /dev/null
 "$program" convert $options --codes 1C,2W --window 2 gathered_report.1 >out 2>&1 </dev/null; status=$?
 cat gathered_report.rnx gathered_report.report >both
 # pins: GATHERED
+# refuses: a `sink` that gathers more or less
 leaves a_report_that_is_gathered 0 both /dev/null
 "$program" convert $options --codes 1C,2W --window 2 longer_report.1 >out 2>&1 </dev/null; status=$?
 { head -n 1598 longer_report.report; cat longer_report.rnx; tail -n +1599 longer_report.report; } >both
 # pins: GATHERED
+# refuses: a `sink` that gathers more or less
 leaves a_report_beyond_what_is_gathered 0 both /dev/null
 
 # The same refusals as lines of `show`.
@@ -61,6 +63,7 @@ done
 awk '/^bytes / { print sum - frames; sum = frames = 0 } /^frames / { frames = $2 } /^( message|other|refused) / { sum += $NF }
     END { print sum - frames }' summaries_told | sort | uniq -c | sed 's/^ *//' >sums
 echo "$(($(grep -c '^bytes ' summaries_told) + 1)) 0" >want
+# refuses: a summary whose lines do not add up to its frames
 same summaries_add_up_to_their_frames sums want
 for piece in piece.*; do cat "$piece"; done | "$program" summary stdin >out 2>err; status=$?
 leaves summary_of_a_long_pipe 0 long_capture.1.summary /dev/null
@@ -75,6 +78,7 @@ leaves check_of_10_mb_with_a_zero 3 zero.line /dev/null
 leaves cut_of_10_mb 0 long.rnx /dev/null
 "$program" cut --every 2 long.rnx >out 2>err </dev/null; status=$?
 # pins: has_slipped_since
+# refuses: a `cut` that gives up at a long record that shows another slip
 leaves cut_of_10_mb_at_2_seconds 0 long_2s.rnx /dev/null
 for words in 'cut --every 1' chart 'chart --text'; do
     "$program" $words zero.rnx >out 2>err </dev/null; status=$?
