@@ -517,6 +517,7 @@ def greatest_summary():
     frames = [*(frame for frames in stations[::-1] for frame in frames), *map(frame_of, rest)]
     # pins: summary_text
     # refuses: a `summarize` that gives up at a long summary
+    # refuses: a text that gives up at counts of many digits
     save("greatest", b"".join(frames))
     size = sum(map(len, frames))
     save("greatest.summary", f"bytes {size}\noutside-frames 0\nframes {len(frames)}\n" + "".join(told) + unread)

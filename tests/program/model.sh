@@ -23,9 +23,11 @@ leaves long_pipe 0 long_capture.rnx long_capture.report
 # Counts of many digits.
 "$program" convert $options --codes 1C,2W millions.1 >out 2>err </dev/null; status=$?
 # pins: count_line
+# refuses: a text that gives up at counts of many digits
 leaves millions 0 millions.rnx millions.report
 "$program" summary millions.1 >out 2>err </dev/null; status=$?
 # pins: number_line
+# refuses: a text that gives up at counts of many digits
 leaves summary_of_millions 0 millions.summary /dev/null
 
 # Both streams in one place: up to 65,536 bytes of the report are gathered, so the file comes first; of a longer report the

@@ -5,7 +5,7 @@ use Rattle.rtk_rinex.specs.Record.{EpochTableView}
 use Rattle.rtk_rinex.specs.declared.epoch_table.Observed.{Observed}
 use Rattle.rtk_rinex.specs.declared.epoch_table.SatelliteRow.{SatelliteRow}
 
--- a count as it is shown: it stays at the greatest value of a u64
+-- a count as it is shown: it stays at the greatest value of a u64, which no test reaches
 abbrev pub capped : ℕ → ℕ
 capped n = min n 18_446_744_073_709_551_615
 
