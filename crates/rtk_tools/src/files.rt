@@ -1,4 +1,8 @@
 //! Files and standard streams as sources and sinks. Nothing is known of the bytes that pass.
+//!
+//! A link is read through one buffer, whose size is a multiple of the 512 bytes that a conversion
+//! asks for. Failed calls are counted, and a reader has met its end once a read with room gave
+//! nothing.
 
 ghost use Rattle.std.specs.Prelude.{◌≡◌, None, true, false};
 
