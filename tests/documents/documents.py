@@ -336,7 +336,6 @@ NOT_YET = {
     "docs/MANUAL.md": 3966,
     "docs/NETWORKS.md": 2744,
     "docs/LIBRARY.md": 1039,
-    "docs/ARCHITECTURE.md": 7459,
     "docs/STYLE.md": 1018,
     "CONTRIBUTING.md": 235,
     "bench/README.md": 856,
