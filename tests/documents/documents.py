@@ -5,8 +5,10 @@ The commands and options are those that the help prints; none stands here, so a 
 
 import os
 import re
+import shutil
 import subprocess
 import sys
+import tempfile
 from pathlib import Path
 
 ROOT = Path(sys.argv[1]).resolve()
@@ -171,44 +173,77 @@ def test_bash():
 
 
 def test_made():
-    for script in ("index", "manpage", "completions"):
+    for script in ("manpage", "completions"):
         code, _, error = output(ROOT / "bin" / script, "--check", *([PROGRAM] if script == "completions" else []))
         compare(f"bin/{script} makes what is there", (code, error), (0, ""))
-    calls = (ROOT / "docs/INDEX.md").read_text().count("#### `")
-    compare("the index has public calls", calls > 100, True)
+
+
+def copied(folder):
+    """What bin/index and bin/evidence read, in a folder of its own."""
+    for pattern in ("bin/*", "crates.txt", "crates/*/src", "crates/*/specs", "crates/*/must-fail", "tests"):
+        for path in ROOT.glob(pattern):
+            copy = folder / path.relative_to(ROOT)
+            copy.parent.mkdir(parents=True, exist_ok=True)
+            if path.is_dir():
+                shutil.copytree(path, copy, ignore=shutil.ignore_patterns("__pycache__"))
+            elif path.is_file():
+                shutil.copy(path, copy)
+
+
+def test_index(copy):
+    compare("bin/index makes the index", output(copy / "bin/index"), (0, "", ""))
+    index = (copy / "out/INDEX.md").read_text()
+    compare("the index has public calls", index.count("#### `") > 100, True)
     edits = len(list(ROOT.glob("crates/*/must-fail/*.edit")))
-    told = len(re.findall(r"(?m)^- refused: ", (ROOT / "docs/INDEX.md").read_text()))
-    compare("the index has each must-fail edit", told, edits)
+    compare("the index has each must-fail edit", len(re.findall(r"(?m)^- refused: ", index)), edits)
 
 
-def names_of_tests():
-    """All words of the folder tests, where the tests have their names."""
-    found = set()
-    for path in ROOT.glob("tests/*/**/*"):
-        if path.is_file():
-            found |= set(re.findall(r"[\w-]+", path.read_text(errors="replace")))
-    return found
+def with_text(path, change, script):
+    """What a script says if the text of a file is changed so."""
+    text = path.read_text()
+    path.write_text(change(text))
+    code, _, error = output(script)
+    path.write_text(text)
+    return code, error
+
+
+def test_evidence(copy):
+    script, tests = copy / "bin/evidence", next(copy.glob("tests/**/checksums.rt.in"))
+    code, _, error = output(script)
+    compare("each constant, table and formula has a pin", (code, error), (0, ""))
+    marks = sum(len(re.findall(r"(?m)^(?:--|//) (?:constant|table|formula)$", path.read_text()))
+        for pattern in ("crates/*/specs/**/*.antt", "crates/*/src/**/*.rt") for path in copy.glob(pattern))
+    rows = len(re.findall(r"(?m)^\| \[", (copy / "out/PINS.md").read_text()))
+    compare("bin/evidence has a row for each of them", (rows, marks > 300), (marks, True))
+    bodies = (copy / "out/REFUSED.md").read_text().count("\n| ") - 1
+    compare("bin/evidence has the wrong bodies", bodies > 100, True)
+    row = output(script, "generator")
+    compare("bin/evidence prints the pins of a definition", (row[0], row[1].count("\n"), "known_checksums" in row[1]), (0, 1, True))
+    code, error = with_text(tests, lambda text: text.replace(", generator", ""), script)
+    compare("bin/evidence sees a constant without a pin", (code, "constant generator has no pin" in error), (1, True))
+    code, error = with_text(tests, lambda text: text.replace(", generator", ", generator, generators"), script)
+    compare("bin/evidence sees a pin of nothing", (code, "generators is the name of 0 definitions" in error), (1, True))
+    code, error = with_text(tests, lambda text: text.rstrip() + "\n\n// refuses: nothing\n", script)
+    compare("bin/evidence sees a line above no test", (code, "stands above no test" in error), (1, True))
 
 
 def names_of_definitions():
     found = set()
     for path in ROOT.glob("crates/*/specs/**/*.antt"):
         found |= set(re.findall(r"(?m)^(?:abbrev |unfoldable |pub |record |data )+(\w+)", path.read_text()))
-    for path in ROOT.glob("crates/*/src/**/*.rt"):
-        found |= set(re.findall(r"(?m)^(?:pub(?:\(crate\))? )?const (\w+)", path.read_text()))
     return found
 
 
 def test_proof():
-    """Each definition and each test that the table of PROOF.md names is there."""
+    """Each definition and each file that the list "What to read" of PROOF.md names is there."""
     proof = (ROOT / "docs/PROOF.md").read_text()
-    rows = [line.split("|") for line in proof[proof.index("| Constant, table or formula |"):].split("\n")[2:]]
-    rows = rows[:next(at for at, cells in enumerate(rows) if len(cells) != 5)]
-    definitions, tests = names_of_definitions(), names_of_tests()
+    rows = [line.split("|") for line in proof[proof.index("| | Definition |"):].split("\n")[2:]]
+    rows = rows[:next(at for at, cells in enumerate(rows) if len(cells) != 6)]
+    definitions, files = names_of_definitions(), {path.name for path in ROOT.glob("crates/*/specs/**/*.antt")}
     named = [name for cells in rows for name in re.findall(r"`(\w+)`", cells[2])]
-    compare("the definitions that PROOF.md pins are there", [name for name in named if name not in definitions], [])
-    named = [name for cells in rows for name in re.findall(r"`([\w-]+)`", cells[3])]
-    compare("the tests that PROOF.md names are there", [name for name in named if name not in tests], [])
+    compare("the definitions that PROOF.md says to read are there", [name for name in named if name not in definitions], [])
+    named = [name for cells in rows for name in re.findall(r"`(?:[\w/]+/)?(\w+\.antt)`", cells[3])]
+    compare("the files that PROOF.md says to read are there", [name for name in named if name not in files], [])
 
 
 # ---------------------------------------------------------------- what bin/believe prints
@@ -283,14 +318,26 @@ def broken_links(path):
 # The most words of prose that a document may have.
 BUDGETS = {
     "README.md": 800,
-    "docs/MANUAL.md": 3000,
     "docs/TUTORIAL.md": 900,
+    "docs/MANUAL.md": 3000,
+    "docs/NETWORKS.md": 1600,
     "docs/LIBRARY.md": 700,
+    "docs/ARCHITECTURE.md": 2300,
+    "docs/PROOF.md": 2100,
+    "docs/DECISIONS.md": 1400,
     "docs/STYLE.md": 870,
     "CONTRIBUTING.md": 230,
     "bench/README.md": 300,
     "examples/README.md": 500,
+    "tests/README.md": 300,
 }
+# Documents that are still longer, and how long.
+NOT_YET = {"docs/NETWORKS.md": 2744}
+NOT_COUNTED = ["CHANGELOG.md"]
+
+
+def pages():
+    return [path for pattern in ("*.md", "docs/*.md", "bench/*.md", "examples/*.md", "tests/*.md") for path in sorted(ROOT.glob(pattern))]
 
 
 def words_of_prose(path):
@@ -301,13 +348,22 @@ def words_of_prose(path):
 
 
 def test_links():
-    pages = [path for pattern in ("*.md", "docs/*.md", "bench/*.md", "examples/*.md") for path in sorted(ROOT.glob(pattern))]
-    compare("the links of the documents lead somewhere", [link for page in pages for link in broken_links(page)], [])
-    words = {name: words_of_prose(ROOT / name) for name in BUDGETS}
-    compare("no document has more words than it may", {name: n for name, n in words.items() if n > BUDGETS[name]}, {})
+    compare("the links of the documents lead somewhere", [link for page in pages() for link in broken_links(page)], [])
 
 
-for test in (test_made, test_manuals, test_completions, test_bash, test_proof, test_believe, test_links):
+def test_words():
+    counted = {str(page.relative_to(ROOT)): words_of_prose(page) for page in pages()}
+    compare("each document has a budget of words", [name for name in counted if name not in BUDGETS and name not in NOT_COUNTED], [])
+    wordy = {name: counted[name] for name in counted if counted[name] > NOT_YET.get(name, BUDGETS.get(name, 0)) and name not in NOT_COUNTED}
+    compare("no document has more words than it may", wordy, {})
+    compare("the budgets are 15,000 words in all", sum(BUDGETS.values()), 15_000)
+
+
+for test in (test_made, test_manuals, test_completions, test_bash, test_proof, test_believe, test_links, test_words):
     test()
+with tempfile.TemporaryDirectory() as work:
+    copied(Path(work))
+    test_index(Path(work))
+    test_evidence(Path(work))
 print(f"{passed} passed, {failed} failed")
 sys.exit(failed > 0)

@@ -240,6 +240,9 @@ def counts_of(hours: int, links: int) -> dict[str, int]:
     }
 
 
+# refuses: a `with_room` that never gives back a spare list of less room
+# refuses: a frame that is refused or not taken and leaves memory taken
+# refuses: a `Setup` with one more field that grows
 def lengths_alike(runs: Runs, tests: Tests) -> None:
     """An hour, ten hours and a day: the same number of bytes."""
     for window in (2, 64):
@@ -285,6 +288,9 @@ def lengths_alike(runs: Runs, tests: Tests) -> None:
         tests.same(f"few and many of {kind.replace('_', ' ')}", held)
 
 
+# refuses: a `first_room` that asks for more room, of one kind of message or of the other
+# refuses: a `RecordLines` with room for some 5,000 bytes more than 32 lines need
+# refuses: a `close` of an epoch that makes more room in the text that is kept
 def grows_with_window(runs: Runs, tests: Tests) -> None:
     """Each epoch of the window takes so much for each of its cells, and a little more; and what is
     held besides the epochs does not grow with the window, and is no more than the manual says."""
@@ -313,6 +319,7 @@ def grows_with_window(runs: Runs, tests: Tests) -> None:
             )
 
 
+# refuses: a `join_other` or a `put_at` that makes room for more cells or epochs than are new
 def grows_alike_out_of_order(runs: Runs, tests: Tests) -> None:
     """Satellites in falling order, and epochs in falling order, of which as many are taken as the
     window has places, take no more."""
@@ -332,6 +339,7 @@ def grows_alike_out_of_order(runs: Runs, tests: Tests) -> None:
             )
 
 
+# refuses: a `first_room` that counts the room of the epoch before in place of its cells
 def large_epoch_before_small_ones(runs: Runs, tests: Tests) -> None:
     """It has room for its cells, and so has the epoch after it, whose cells are few: the one after
     that has not, since what counts is how many cells an epoch has, and not its room."""
@@ -347,6 +355,7 @@ def large_epoch_before_small_ones(runs: Runs, tests: Tests) -> None:
         )
 
 
+# refuses: a `first_room` that asks for more room, of one kind of message or of the other
 def kinds_of_unlike_cells(runs: Runs, tests: Tests) -> None:
     """Of each kind of message an epoch has room for the cells that it has, whatever the other kind
     has and whichever comes first."""
@@ -369,6 +378,7 @@ def most_room(size: int) -> int:
     return max(sum(rooms[at : at + size + 1]) for at in range(len(rooms) - size))
 
 
+# refuses: a `with_room` that takes a spare list of more room
 def room_rises_and_falls(runs: Runs, tests: Tests) -> None:
     """What is wanted when an epoch opens is its room, whatever room closed epochs had."""
     counts = {"frames": 5000, "taken": 5000, "epochs": 5000}
@@ -383,6 +393,8 @@ def room_rises_and_falls(runs: Runs, tests: Tests) -> None:
         )
 
 
+# refuses: a list of links or a line that has much more room than it needs
+# refuses: a link that is left out since it was named before
 def grows_with_links(runs: Runs, tests: Tests) -> None:
     numbers = (1, 2, 5, 9, 16)
     held = {links: runs.most(64, ["01"] * links, counts_of(1, links)) for links in numbers}
@@ -398,6 +410,7 @@ def grows_with_links(runs: Runs, tests: Tests) -> None:
     tests.within("gathered where no link is standard input", gathered, GATHERED, GATHERED)
 
 
+# refuses: a `summarize` that keeps something of each frame
 def summaries_alike(runs: Runs, tests: Tests) -> None:
     """Of an hour, ten hours and a day: the same, and no more than the manual says; and the same of
     few and of many frames that are not read, of stations, and of bytes outside of frames."""
@@ -409,6 +422,8 @@ def summaries_alike(runs: Runs, tests: Tests) -> None:
         tests.same(f"a summary of few and many of {kind.replace('_', ' ')}", held)
 
 
+# refuses: a `cut` that keeps something of each record
+# refuses: a command that holds its input twice, or in more room than it needs
 def inputs_held_once(runs: Runs, tests: Tests) -> None:
     """Of an input that is longer each command holds as many bytes more, to the byte; and of hex text
     as many digits more, and half as many bytes that they are."""
@@ -426,6 +441,7 @@ def inputs_held_once(runs: Runs, tests: Tests) -> None:
         tests.within(f"{words} of 2 MiB over 1 MiB", held[1] - held[0], more, more)
 
 
+# refuses: a `chart_text` or a `chart_svg` that gives up at a large picture
 def largest_picture(runs: Runs, tests: Tests) -> None:
     """Each mark is in each column: of each satellite a slip, a half cycle, a strength and of each
     code a phase in some epochs; and a missing epoch in all columns but the last. In characters the

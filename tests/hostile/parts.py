@@ -1,4 +1,5 @@
 """The slow model, fourth part: a part of a file. Each digit is looked for backwards, record by record."""
+# pins: step_ms, is_on_step, is_in_span, has_slipped_since, first_of_part
 
 from __future__ import annotations
 

@@ -1,4 +1,5 @@
 """The slow model of a picture in characters: each column is asked for its epochs, one after another."""
+# pins: IsMostFrequent, missing_before, column_length, has_missing, IsScale, unit_of
 
 from __future__ import annotations
 

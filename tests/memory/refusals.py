@@ -44,6 +44,7 @@ def all_but_counts(whole: Ran, ran: Ran) -> str | None:
     return None
 
 
+# refuses: what was gathered and is let go if a conversion breaks off
 def as_followed(followed: Ran, ran: Ran) -> str | None:
     """What is wrong with a conversion of a file in which a growth is refused, where `followed` is the
     same of standard input, of which each write goes straight on."""
@@ -193,6 +194,7 @@ class Sweep:
         return True
 
 
+# refuses: a search for a place that calls itself, or a body that takes much of the stack for what few messages need
 def fits_stack(program: Program, scene: Scene) -> bool:
     """Prints whether the run on a small stack is the run without that limit."""
     whole = program.run(scene.words, scene.given, "0")
@@ -265,6 +267,7 @@ def slips(count: int) -> Iterator[str]:
             yield f"G05  21085472.060 7 110804903.547{digit}7        45.000\n"
 
 
+# refuses: after a failed write, a first part of the file or the report of another length, or the report before the file
 def scenes() -> Iterator[Scene]:
     base, late = "examples/base.rtcm", "examples/late.rtcm"
     first, second = "examples/session_link1.rtcm", "examples/session_link2.rtcm"
@@ -287,14 +290,19 @@ def scenes() -> Iterator[Scene]:
     yield Scene(["chart", "--text", "examples/marks.rnx"])
     yield Scene(["chart", "wrong"], status=3)
     yield Scene(["summary", "many"])
+    # refuses: a search for a place that calls itself, or a body that takes much of the stack for what few messages need
     yield Scene(["show", "rare"])
+    # refuses: a search for a place that calls itself, or a body that takes much of the stack for what few messages need
     yield Scene(["summary", "rare"])
+    # refuses: a search or a `feed` that calls itself for each candidate
     yield Scene(["show", "preambles"])
     yield Scene(["summary", "preambles"])
+    # refuses: a `cut_input` that writes something else if memory is refused
     yield Scene(["cut", "--every", "30", "examples/slip.rnx"])
     yield Scene(["cut", "--from", "2024-05-17T12:00:30", "examples/slip.rnx"])
     yield Scene(["cut", "--every", "30", base], status=3)
     # Of more text than is gathered, each record takes memory.
+    # refuses: a `cut_input` that writes something else if memory is refused
     yield Scene(["cut", "--every", "30", "slips"])
     yield of_file(base)
     yield of_file(late, window="2")
@@ -302,7 +310,9 @@ def scenes() -> Iterator[Scene]:
     yield Scene(convert(*[first, second] * 8))
     yield of_file("split", window="2")
     yield of_file("many", window="4096")
+    # refuses: a search for a place that calls itself, or a body that takes much of the stack for what few messages need
     yield of_file("rare", window="4096")
+    # refuses: a search or a `feed` that calls itself for each candidate
     yield of_file("preambles")
     # Of a longer file and a longer report than are gathered, each line takes memory.
     yield of_file("again", window="2")
@@ -327,6 +337,7 @@ def scenes() -> Iterator[Scene]:
     yield Scene(convert("a", near="1980-01-06T00:00:00"), status=2)
 
 
+# refuses: a command that ends by a signal in little address space
 def scenes_of_space() -> Iterator[Scene]:
     """What holds a whole file."""
     yield Scene(["check", "long"])

@@ -201,6 +201,7 @@ def closes(cases):
     stronger = at(0, l1_cnr=181)
     case(cases, "lower_link_ends_first", [FALSE_PREAMBLE + at(0), FALSE_PREAMBLE + stronger], told=report(
         f"link 2 conflict 1004 {TOLD}00.000 G05 1C", taken=1, conflict=1, epochs=1))
+    # pins: IsNextLink, newest_on
     case(cases, "older_link_ends_first", [at(10) + FALSE_PREAMBLE + at(20), at(5) + FALSE_PREAMBLE + at(20, l1_cnr=181)], told=report(
         f"link 1 conflict 1004 {TOLD}20.000 G05 1C", taken=3, conflict=1, epochs=3))
     # sixteen links hold a frame each, and end in their order
@@ -212,18 +213,23 @@ def order_of_reading(cases):
     """Which of two copies that differ comes first tells which link was read first."""
     one, other = at(30), at(30, l1_cnr=181)
     first, second = (f"link {it} conflict 1004 {TOLD}30.000 G05 1C" for it in (1, 2))
+    # pins: IsClassOfReading, newest_on
     case(cases, "foreign_message_is_no_newest_epoch", [block(bare(99, station=7)) + one, other], told=report(
         second, foreign=1, taken=1, conflict=1, epochs=1))
     # link 2 has come to second 5, though late, so link 3, which has no epoch, is read before the rest of it
+    # pins: IsNextLink, newest_on
     case(cases, "late_message_is_newest_epoch", [at(10) + at(11), block(at(5)) + one, other], window=2, told=report(
         f"link 2 late 1004 {TOLD}05.000", second, taken=3, conflict=1, late=1, epochs=3))
     # the last frame of a block comes with it, and one that ends a byte after it does not
+    # pins: read_at_once, IsNextRead
     case(cases, "a_read_of_512_bytes", [block(at(10)) + one, block(at(15), other)], told=report(
         first, taken=3, conflict=1, epochs=3))
+    # pins: read_at_once, IsNextRead
     case(cases, "no_read_of_513_bytes", [block(at(10), one, 513), block(at(5)) + other], told=report(
         first, taken=3, conflict=1, epochs=3))
     # the same where the program reads ahead again, after 32,768 bytes
     ahead = block(at(15)) + bytes(63 * 512) + block(at(26), other)
+    # pins: read_at_once, IsNextRead
     case(cases, "a_read_after_32768_bytes", [block(at(25)) + one, ahead], told=report(
         first, taken=4, conflict=1, epochs=4))
 
@@ -272,13 +278,16 @@ def every_cell(cases):
     records = convert([capture], codes=codes)[0].splitlines()[-33:]
     assert records[0] == "> 2024 05 17 12 00  0.0000000  0 32" and {len(it) for it in records[1:]} == {769}
     case(cases, "every_cell", [capture], codes=codes, told=report(taken=16, epochs=1))
+    # pins: cell_conflict_line
     for name, conflicts, last in (("conflicts_63", 63, 40), ("conflicts_64", 64, 41)):
         case(cases, name, [capture + cells_of(*groups[0], 41, last)], codes=codes, told=report(
             *lines[:conflicts], taken=16, conflict=1, epochs=1))
     # the longest lines, with a link of two digits
+    # refuses: a `feed` that gives up at the longest report of a message
     case(cases, "conflicts_64_of_link_16", [b""] * 15 + [capture + cells_of(*groups[0], 41, 41)], codes=codes, told=report(
         *(it.replace("link 1 ", "link 16 ", 1) for it in lines), taken=16, conflict=1, epochs=1))
     # the same epoch, which greater ones close before the end
+    # refuses: a `feed` that gives up where an epoch of many cells closes
     case(cases, "every_cell_closed", [capture + bare(1) + bare(2)], window=2, codes=codes, told=report(taken=18, epochs=1))
 
 
@@ -411,25 +420,35 @@ def contents():
     """Small captures, each with lines of its summary in words."""
     empty = {**SATELLITE, "l1_offset": -(1 << 19), "l1_cnr": 0, "l2_range": -(1 << 13), "l2_offset": -(1 << 19), "l2_cnr": 0}
     weak = {**empty, "satellite": 32, "l1_cnr": 1}
+    # pins: has_value
     yield "no_value", frame_of(legacy(NOON, [empty])), (" satellites -\n codes -\nnothing taken\n",)
+    # pins: has_value
     yield "strength_alone", frame_of(legacy(NOON, [empty, weak])), (" satellites G32\n codes 1C\n next ",)
     # L1 has neither range nor phase, and L2 a range, or a phase
+    # pins: has_value
     yield "range_alone", frame_of(legacy(NOON, [{**empty, "l2_range": 0}])), (" satellites G05\n codes 2W\n next ",)
+    # pins: has_value
     yield "phase_alone", frame_of(legacy(NOON, [{**empty, "l2_offset": 0}])), (" satellites G05\n codes 2W\n next ",)
     # DF016: 1 is 2P, 3 is 2W
     second = at(0, l2_code=1), at(1, l2_code=1), at(2)
+    # pins: second_frequency_line
     yield "second_frequency_2p", b"".join(second[:2]), (" codes 1C,2P\n second-frequency 2P\n next ",)
+    # pins: second_frequency_line
     yield "second_frequency_2p_and_2w", b"".join(second), (" codes 1C,2P,2W\n next ",)
+    # pins: changes_in
     yield "week_ends", frame_of(legacy(604_799_000, [])) + frame_of(legacy(0, [])) + frame_of(legacy(0, [])), (
         " time-of-week 604799000 0\n epoch-changes 1\n",)
     untaken = b"".join(frame_of((number << 4).to_bytes(2, "big")) for number in (1004, 1077, 1001, 1076, 1077, 1084))
+    # pins: untaken_numbers
     yield "untaken_observations", untaken, (
         "frames 6\nother 1001 1\nother 1076 1\nother 1077 2\nother 1084 1\n"
         "untaken GPS 1001 1\nuntaken GPS 1076 1\nuntaken GPS 1077 2\nrefused M3 1004 1\nnothing taken\n",)
     # the first frame would reach past the end, and the other one stands in it
     yield "frame_in_a_candidate", FALSE_PREAMBLE + at(0), ("outside-frames 3\nframes 1\n",)
     numbers = b"".join(frame_of((number << 4).to_bytes(2, "big")) for number in range(4095, -1, -1))
+    # pins: all_numbers
     yield "every_message_number", numbers, ("other 0 1\n", "other 4095 1\n", "refused M3 1074 1\n")
+    # pins: station_lines
     yield "every_station", b"".join(bare(it % 60, station=it) for it in range(4095, -1, -1)), (
         "frames 4096\nstation 0\n", "station 4095\n message 1004 1\n time-of-week 475215000 475215000\n")
 
@@ -453,6 +472,7 @@ def many_of_each():
         ("refused M5 1074", msm(NOON, dict.fromkeys(range(1, 14), (70, 0)), five_by_thirteen)[:22]),
     )
     counts = {line: 100_001 + at for at, (line, _) in enumerate(rows)}
+    # pins: number_line
     save("many_of_each", b"".join(frame_of(payload) * counts[line] for line, payload in rows))
     size, lines = Path("many_of_each").stat().st_size, [f"{line} {n}\n" for line, n in counts.items()]
     save("many_of_each.summary", "".join((
@@ -495,6 +515,9 @@ def greatest_summary():
     unread = summaries.summary_of(b"".join(map(frame_of, rest)))
     unread = unread[unread.index("other 0 1\n"):].removesuffix("nothing taken\n")
     frames = [*(frame for frames in stations[::-1] for frame in frames), *map(frame_of, rest)]
+    # pins: summary_text
+    # refuses: a `summarize` that gives up at a long summary
+    # refuses: a text that gives up at counts of many digits
     save("greatest", b"".join(frames))
     size = sum(map(len, frames))
     save("greatest.summary", f"bytes {size}\noutside-frames 0\nframes {len(frames)}\n" + "".join(told) + unread)

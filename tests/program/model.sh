@@ -22,8 +22,12 @@ leaves long_pipe 0 long_capture.rnx long_capture.report
 
 # Counts of many digits.
 "$program" convert $options --codes 1C,2W millions.1 >out 2>err </dev/null; status=$?
+# pins: count_line
+# refuses: a text that gives up at counts of many digits
 leaves millions 0 millions.rnx millions.report
 "$program" summary millions.1 >out 2>err </dev/null; status=$?
+# pins: number_line
+# refuses: a text that gives up at counts of many digits
 leaves summary_of_millions 0 millions.summary /dev/null
 
 # Both streams in one place: up to 65,536 bytes of the report are gathered, so the file comes first; of a longer report the
@@ -31,9 +35,13 @@ leaves summary_of_millions 0 millions.summary /dev/null
 : >err
 "$program" convert $options --codes 1C,2W --window 2 gathered_report.1 >out 2>&1 </dev/null; status=$?
 cat gathered_report.rnx gathered_report.report >both
+# pins: GATHERED
+# refuses: a `sink` that gathers more or less
 leaves a_report_that_is_gathered 0 both /dev/null
 "$program" convert $options --codes 1C,2W --window 2 longer_report.1 >out 2>&1 </dev/null; status=$?
 { head -n 1598 longer_report.report; cat longer_report.rnx; tail -n +1599 longer_report.report; } >both
+# pins: GATHERED
+# refuses: a `sink` that gathers more or less
 leaves a_report_beyond_what_is_gathered 0 both /dev/null
 
 # The same refusals as lines of `show`.
@@ -57,6 +65,7 @@ done
 awk '/^bytes / { print sum - frames; sum = frames = 0 } /^frames / { frames = $2 } /^( message|other|refused) / { sum += $NF }
     END { print sum - frames }' summaries_told | sort | uniq -c | sed 's/^ *//' >sums
 echo "$(($(grep -c '^bytes ' summaries_told) + 1)) 0" >want
+# refuses: a summary whose lines do not add up to its frames
 same summaries_add_up_to_their_frames sums want
 for piece in piece.*; do cat "$piece"; done | "$program" summary stdin >out 2>err; status=$?
 leaves summary_of_a_long_pipe 0 long_capture.1.summary /dev/null
@@ -70,6 +79,8 @@ leaves check_of_10_mb_with_a_zero 3 zero.line /dev/null
 "$program" cut --every 1 long.rnx >out 2>err </dev/null; status=$?
 leaves cut_of_10_mb 0 long.rnx /dev/null
 "$program" cut --every 2 long.rnx >out 2>err </dev/null; status=$?
+# pins: has_slipped_since
+# refuses: a `cut` that gives up at a long record that shows another slip
 leaves cut_of_10_mb_at_2_seconds 0 long_2s.rnx /dev/null
 for words in 'cut --every 1' chart 'chart --text'; do
     "$program" $words zero.rnx >out 2>err </dev/null; status=$?

@@ -489,6 +489,8 @@ def _undisturbed():
         yield tried(name, "the shim alone", Disturbance({"PIECE": 0}), same)
 
 
+# refuses: after a failed write, a first part of the file or the report of another length, or the report before the file
+# refuses: what was gathered and is let go if a conversion breaks off
 @scene("standard output takes k bytes, each k below its length, and is full")
 def _out_is_full():
     for name in CASES:
@@ -507,6 +509,7 @@ def _out_fails():
                              takes=k)
 
 
+# refuses: after a failed write, a first part of the file or the report of another length, or the report before the file
 @scene("standard error takes k bytes of the report, each k below its length, and is full")
 def _report_is_full():
     for name in CASES:
@@ -574,6 +577,7 @@ def _devices():
                     fails, case, "read failed", Disturbance(given=None, out=out))
 
 
+# refuses: a file that is not opened since standard input is closed
 @scene("a closed standard input beside a file")
 def _closed_beside_a_file():
     for out, what in [("", "standard input"), (None, "standard output too")]:
@@ -720,6 +724,7 @@ def empty_pipe(name):
 
 # Reads.
 
+# refuses: what was gathered and is let go if a conversion breaks off
 @scene("each read fails, of reads of one byte, and of 499 where the capture is long")
 def _read_fails():
     for name, case in CASES.items():
@@ -793,6 +798,8 @@ def once(**shim):
     return Disturbance({"ONCE": 1, **shim})
 
 
+# refuses: an error of a read that is taken for the end
+# refuses: a call that is made again after another error than an interruption
 @scene("the first read fails with each error but an interruption; the next would go well")
 def _first_read_fails():
     for name, case in CASES.items():
@@ -800,6 +807,7 @@ def _first_read_fails():
             yield no_read(name, f"errno {fault}", once(FAILS_READ=1, FAULT=fault), 0, 0)
 
 
+# refuses: an error of a read that is taken for the end
 @scene("a read in the middle, or that of the end, fails with each error but an interruption")
 def _later_read_fails():
     for name, case in CASES.items():
@@ -813,6 +821,8 @@ def _later_read_fails():
                           once(FAILS_READ=last, FAULT=fault), last - 1, asked_for(case.words))
 
 
+# refuses: a write after one that failed, beside `write_all`
+# refuses: a call that is made again after another error than an interruption
 @scene("the first write fails with each error but an interruption; the next would go well")
 def _first_write_fails():
     for name in CASES:
@@ -823,6 +833,7 @@ def _first_write_fails():
                          out=out, fails=1)
 
 
+# refuses: a write after one that failed, beside `write_all`
 @scene("the first write of the report fails so")
 def _first_write_of_report_fails():
     for name in CASES:
@@ -831,6 +842,7 @@ def _first_write_of_report_fails():
                          "write failed", report_fails=1)
 
 
+# refuses: a call that is made again after another error than an interruption
 @scene("the first open fails with each error but an interruption; the next would go well")
 def _first_open_fails():
     base = example("base.rtcm")
@@ -842,6 +854,8 @@ def _first_open_fails():
                 fails, case, f"cannot open {base}", Disturbance({"FAILS_OPEN": 1, "FAULT": fault}))
 
 
+# refuses: reads of fewer bytes, or a summary in more than one write
+# refuses: a `Resumed` that uses half of the room of a read or writes byte by byte, or a `show` with other pieces
 @scene("a run makes so many reads and writes, and no more")
 def _calls_are_counted():
     for name, case in CASES.items():
@@ -942,6 +956,7 @@ def nothing_read(links, place):
         os.close(given)
 
 
+# refuses: a file that is written or removed, or a variable of the environment that counts
 @scene("no file is written, made, changed, renamed or removed, and no variable is asked for")
 def _calls_on_files():
     base, folder = example("base.rtcm"), os.path.join(WORK, "folder")
@@ -990,6 +1005,7 @@ malloc realloc free memcpy memmove memset open close read write __write lseek
 """.split())
 
 
+# refuses: an answer that depends on what else the C library can tell, as the time or the kind of a file
 @scene("all that is asked of the C library")
 def _names_of_c():
     yield "names", functools.partial(asks_c_alone, PROGRAM)
@@ -1030,6 +1046,8 @@ def _short():
             yield tried(name, f"{piece} bytes", Disturbance({"PIECE": piece}), same)
 
 
+# pins: most_reads
+# refuses: a `summarize_named` that makes fewer reads than it may
 @scene("a summary of 1,000,001 reads of one byte")
 def _many_reads():
     yield "zeros", functools.partial(many_reads, written("zeros", bytes(1_000_001)))
@@ -1049,6 +1067,7 @@ def _interrupted():
                     {"INTERRUPTS": calls, "PIECE": piece}), same)
 
 
+# pins: most_interruptions
 @scene("each read or write is interrupted 1,000 times in a row")
 def _interrupted_often():
     for name in CASES:
@@ -1060,6 +1079,7 @@ def interrupted(calls, count):
     return Disturbance({"INTERRUPTS": calls, "IN_A_ROW": count})
 
 
+# pins: most_interruptions
 @scene("a read or a write is interrupted 1,001 times in a row, and the next call is not")
 def _interrupted_too_often():
     for name, case in CASES.items():

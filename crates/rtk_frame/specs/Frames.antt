@@ -77,10 +77,12 @@ pending_from zero (x ∷ xs) = cond (begins_frame (x ∷ xs)) (pending_from (pay
 abbrev pub frames : List ℕ → List Frame
 frames text = frames_from 0 0 text
 
+-- formula
 -- the frames before the first waiting place; no later byte changes them
 abbrev pub final_frames : List ℕ → List Frame
 final_frames text = final_from 0 0 text
 
+-- formula
 -- the bytes that wait for more
 abbrev pub pending : List ℕ → List ℕ
 pending text = pending_from 0 text
