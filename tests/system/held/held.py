@@ -12,9 +12,9 @@ from collections.abc import Iterable
 from itertools import cycle, islice, pairwise
 from pathlib import Path
 
-from pictures import CODES as CHART_CODES
-from pictures import CHARACTERS, COLUMNS, filled, largest, largest_in_characters
-from pictures import SATELLITES as CHART_SATELLITES
+from largest import CODES as CHART_CODES
+from largest import CHARACTERS, COLUMNS, filled, largest, largest_in_characters
+from largest import SATELLITES as CHART_SATELLITES
 from streams import NOON, RISING_AND_FALLING, SATELLITES, SIGNALS, capture, falling_epochs
 from streams import falling_satellites, largest_1074, legacy, minutes, msm, of_templates, point
 from streams import rising_and_falling, single_satellite, unread

@@ -2,15 +2,11 @@
 
 from __future__ import annotations
 
-import sys
 from collections.abc import Callable, Iterable, Iterator
 from itertools import cycle
-from pathlib import Path
 
-sys.path.insert(0, str(Path(__file__).resolve().parent.parent / "hostile"))
-
-from wire import HEADERS, LEGACY_SATELLITE, MSM_CELL, MSM_SATELLITE  # noqa: E402
-from wire import Fields, Message, Table, frame_of, payload_of  # noqa: E402
+from wire import HEADERS, LEGACY_SATELLITE, MSM_CELL, MSM_SATELLITE
+from wire import Fields, Message, Table, frame_of, payload_of
 
 STATION = 2003
 MIDNIGHT = 432_000_000  # 2024-05-17 00:00:00 in ms of its week

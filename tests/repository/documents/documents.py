@@ -11,7 +11,7 @@ from pathlib import Path
 
 ROOT = Path(sys.argv[1]).resolve()
 PROGRAM = Path(sys.argv[2]).resolve()
-COMPLETE = ROOT / "tests/documents/complete.bash"
+COMPLETE = ROOT / "tests/repository/documents/complete.bash"
 
 passed = failed = 0
 

@@ -9,16 +9,13 @@ import sys
 from pathlib import Path
 from random import Random
 
-TESTS = Path(__file__).resolve().parents[1]
-sys.path[:0] = [str(TESTS / "hostile"), str(TESTS / "held")]
-
-import model  # noqa: E402
-import parts  # noqa: E402
-import streams  # noqa: E402
-import summaries  # noqa: E402
-from messages import CODES, SIGNALS  # noqa: E402
-from model import Setup, moment  # noqa: E402
-from wire import HEADERS, LEGACY_SATELLITE, MSM_CELL, Message, frame_of, payload_of  # noqa: E402
+import model
+import parts
+import streams
+import summaries
+from messages import CODES, SIGNALS
+from model import Setup, moment
+from wire import HEADERS, LEGACY_SATELLITE, MSM_CELL, Message, frame_of, payload_of
 
 NOON = 475_200_000
 NEAR, MADE = moment("2024-05-17T12:00:00"), moment("2024-05-17T13:00:00")

@@ -1,4 +1,4 @@
-"""The scenes of tests/streams/run: what the program does where its reads and writes fail, are cut
+"""The scenes of tests/system/streams/run: what the program does where its reads and writes fail, are cut
 short, or never end.
 
 Each run is beside a good one, of the same words on the same bytes, that nothing disturbs. In a
@@ -24,7 +24,7 @@ import time
 from dataclasses import dataclass, field, replace
 
 WORK, PROGRAM, *WORDS = sys.argv[1:]
-ROOT = os.path.realpath(os.path.join(os.path.dirname(__file__), "..", ".."))
+ROOT = os.path.realpath(os.path.join(os.path.dirname(__file__), "..", "..", ".."))
 EXAMPLES = os.path.join(ROOT, "examples")
 PROGRAM = os.path.realpath(PROGRAM)
 SHIM = os.path.join(WORK, "cut.so")

@@ -1,9 +1,9 @@
 #!/bin/sh
-# Runs `convert`, `show`, `check` and `summary` on captures and files that cases.py writes by the slow model of tests/hostile: it
+# Runs `convert`, `show`, `check` and `summary` on captures and files that cases.py writes by the slow model beside it: it
 # computes what is due from the formats, of all messages at once, and shares nothing with the program. The program is $1.
-. "$(dirname "$(readlink -f "$0")")/common"
+. "$(dirname "$(readlink -f "$0")")/../program/common"
 options='--station 2003 --near 2024-05-17T12:00:00 --made 2024-05-17T13:00:00 --marker BASE'
-python3 -B "$root/tests/program/cases.py" "$root/examples" || exit 1
+python3 -B "$root/tests/model/cases.py" "$root/examples" || exit 1
 
 # The captures, each with its file and its report.
 while read -r name window codes links; do

@@ -9,20 +9,15 @@ import tempfile
 from contextlib import redirect_stdout
 from pathlib import Path
 
-TESTS = Path(__file__).resolve().parents[1]
-sys.path[:0] = [str(TESTS / name) for name in ("held", "streams", "memory")]
+TESTS = Path(__file__).resolve().parents[2]
+sys.path[:0] = [str(TESTS / name) for name in ("system/held", "system/streams", "system/memory", "model")]
 sys.argv = ["judges", tempfile.gettempdir(), "/bin/true"]
 
 import held  # noqa: E402
-import refusals  # noqa: E402
-import scenes  # noqa: E402
-
-# Two folders have a file of this name.
-del sys.modules["pictures"]
-sys.path.insert(0, str(TESTS / "hostile"))
-
 import hostile  # noqa: E402
 import properties  # noqa: E402
+import refusals  # noqa: E402
+import scenes  # noqa: E402
 from program import Ended  # noqa: E402
 
 

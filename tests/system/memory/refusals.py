@@ -11,10 +11,7 @@ from datetime import datetime, timedelta
 from pathlib import Path
 from typing import NamedTuple
 
-sys.path.insert(0, str(Path(__file__).resolve().parent.parent / "held"))
-
-from streams import SATELLITES, legacy, of_templates  # noqa: E402
-from streams import rare_messages, single_satellite, split_epochs  # noqa: E402
+from streams import SATELLITES, legacy, of_templates, rare_messages, single_satellite, split_epochs
 
 OUT_OF_MEMORY = b"rtcm2rinex: out of memory\n"
 COUNTS = 9  # the lines at the end of a report

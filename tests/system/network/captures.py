@@ -23,8 +23,7 @@ import time
 from collections.abc import Iterator
 from pathlib import Path
 
-sys.path.insert(0, str(Path(__file__).resolve().parent.parent / "held"))
-sys.path.insert(0, str(Path(__file__).resolve().parent.parent / "hostile"))
+sys.path.insert(0, str(Path(__file__).resolve().parents[2] / "model"))
 
 from streams import SATELLITES, STATION, legacy, msm, point  # noqa: E402
 from wire import WEEK_MS, frame_of, payload_of  # noqa: E402
