@@ -41,6 +41,7 @@ fields_after_number (Arp1005 m) = arp1005.table m
 fields_after_number (Arp1006 m) = arp1006.table m
 fields_after_number (Msm1074 m) = msm1074.table m
 
+-- table
 -- all fields of a message, the number first
 abbrev pub table : Message → List Field
 table m = u 12 (number_of m) ∷ fields_after_number m

@@ -68,6 +68,7 @@ pub record HasNoCells (m : Msm1074) : Type 0 where
   pub half_cycle : m.half_cycle ≡ []
   pub cnr : m.cnr ≡ []
 
+-- constant
 -- each field fits, the time lies in a week, the cell mask has at most 64 bits, the columns have
 -- their lengths
 pub record IsValid (m : Msm1074) : Type 0 where

@@ -17,6 +17,7 @@ is_satellite s = nat_le 1 s && nat_le s 32
 abbrev pub IsSatellite : ℕ → Type 0
 IsSatellite s = (1 ≤ s) × (s ≤ 32)
 
+-- constant
 -- 250 to 63,750 thousandths of a dB-Hz, in steps of 250
 pub record IsStrength (s : ℕ) : Type 0 where
   pub least : 250 ≤ s

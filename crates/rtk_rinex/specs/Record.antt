@@ -86,6 +86,7 @@ has_observation o = is_present o.range_mm || is_present o.phase_millicycles || i
 abbrev pub has_line : SatelliteRow → Bool
 has_line r = list_any has_observation r.observed.items
 
+-- formula
 abbrev pub before_trimmed : ℕ → List ℕ → List ℕ
 before_trimmed x [] = if x == 32 then [] else x ∷ []
 before_trimmed x (y ∷ ys) = x ∷ y ∷ ys

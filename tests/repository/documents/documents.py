@@ -218,7 +218,7 @@ def test_evidence(copy):
     bodies = (copy / "out/REFUSED.md").read_text().count("\n| ") - 1
     compare("bin/evidence has the wrong bodies", bodies > 100, True)
     row = output(script, "generator")
-    compare("bin/evidence prints the pins of a definition", (row[0], row[1].count("\n"), "known_checksums" in row[1]), (0, 1, True))
+    compare("bin/evidence prints the pins of a definition", (row[0], row[1].split(",")[0], "known_checksums" in row[1]), (0, "constant generator", True))
     code, error = with_text(tests, lambda text: text.replace(", generator", ""), script)
     compare("bin/evidence sees a constant without a pin", (code, "constant generator has no pin" in error), (1, True))
     code, error = with_text(tests, lambda text: text.replace(", generator", ", generator, generators"), script)
