@@ -521,15 +521,16 @@ leaves closed_output 1 /dev/null told_in_full
 : >err
 leaves closed_standard_error 1 "$examples/base.rnx" /dev/null
 
-# The command of the README. Under a limit on the size of files, 4,096 bytes, it ends as on a full disk.
-"$root/bin/rtcm2rinex" convert $options --codes 1C,2W "$base" >out 2>err </dev/null
+# The command of the README, as it is installed. Under a limit on the size of files, 4,096 bytes, it ends as on a full disk.
+install
+installed/bin/rtcm2rinex convert $options --codes 1C,2W "$base" >out 2>err </dev/null
 status=$?
 leaves start_convert 0 "$examples/base.rnx" base.report
 head -c 4096 "$session.rnx" >part
 cat "$session.report" write_failed >part_err
-limited 4096 "$root/bin/rtcm2rinex" convert $options --codes 1C,2W,5X "$session.rtcm" >out 2>err </dev/null; status=$?
+limited 4096 installed/bin/rtcm2rinex convert $options --codes 1C,2W,5X "$session.rtcm" >out 2>err </dev/null; status=$?
 leaves start_convert_with_a_limit_of_size 1 part part_err
-limited 4096 "$root/bin/rtcm2rinex" convert $options --codes 1C,2W,5X stdin >out 2>err <"$session.rtcm"; status=$?
+limited 4096 installed/bin/rtcm2rinex convert $options --codes 1C,2W,5X stdin >out 2>err <"$session.rtcm"; status=$?
 leaves start_convert_followed_with_a_limit_of_size 1 part write_failed
 
 ends 233

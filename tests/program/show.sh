@@ -11,9 +11,9 @@ run() {
     status=$?
 }
 
-# start WORD..: the same by the command that builds the program if it must
+# start WORD..: the same by the command as it is installed
 start() {
-    "$root/bin/rtcm2rinex" "$@" >out 2>err
+    installed/bin/rtcm2rinex "$@" >out 2>err
     status=$?
 }
 
@@ -458,6 +458,7 @@ run show -x </dev/null;                   expect hyphen_and_a_letter 2 '' "$(hyp
 run show -- -5 </dev/null;                expect file_of_the_name_of_a_hyphen_and_a_digit 0 "$arp" ''
 
 # The captures of examples/ by the command of the README, which passes words, streams and status on.
+install
 start show "$root/examples/base.rtcm" </dev/null
 expect start_base 0 "$arp
 $epoch" ''
@@ -470,7 +471,7 @@ start show nowhere </dev/null;            expect start_failed 1 '' 'rtcm2rinex: 
 start show </dev/null;                    expect start_refused 2 '' "$no_file"
 # Under a limit on the size of files, 512 bytes, it ends as on a full disk.
 head -c 8192 frames >some; head -c 512 lines >part; echo 'rtcm2rinex: write failed' >part_err
-limited 512 "$root/bin/rtcm2rinex" show some >out 2>err </dev/null; status=$?
+limited 512 installed/bin/rtcm2rinex show some >out 2>err </dev/null; status=$?
 leaves start_show_with_a_limit_of_size 1 part part_err
 
 ends 199
