@@ -167,52 +167,28 @@ for width in 40 400; do
 done
 for width in 39 401; do
     run chart --text --columns $width "$marks" </dev/null
-    expect chart_${width}_wide 2 '' "error: invalid value '$width' for '--columns <N>': $width is not in 40..=400
-
-For more information, try '--help'."
+    expect chart_${width}_wide 2 '' "$(error "invalid value '$width' for '--columns <N>': $width is not in 40..=400")"
 done
 run chart --text --columns 80x "$marks" </dev/null
 # refuses: a first part of a number that is taken for all of it
-expect columns_with_a_tail 2 '' "error: invalid value '80x' for '--columns <N>': invalid digit found in string
-
-For more information, try '--help'."
+expect columns_with_a_tail 2 '' "$(error "invalid value '80x' for '--columns <N>': invalid digit found in string")"
 run chart --columns 80 "$marks" </dev/null
-expect columns_without_text 2 '' "error: the following required arguments were not provided:
-  --text
-
-Usage: rtcm2rinex chart --text --columns <N> <FILE>
-
-For more information, try '--help'."
+expect columns_without_text 2 '' "$(error "the following required arguments were not provided:
+  --text" "chart --text --columns <N> <FILE>")"
 run chart --text --columns --text "$marks" </dev/null
-expect columns_before_another_option 2 '' "error: a value is required for '--columns <N>' but none was supplied
-
-For more information, try '--help'."
+expect columns_before_another_option 2 '' "$(error "a value is required for '--columns <N>' but none was supplied")"
 
 run chart "$marks" b </dev/null
 # refuses: a second FILE that is left out in silence
-expect chart_of_two_files 2 '' "error: unexpected argument 'b' found
-
-Usage: rtcm2rinex chart [OPTIONS] <FILE>
-
-For more information, try '--help'."
+expect chart_of_two_files 2 '' "$(error "unexpected argument 'b' found" "chart [OPTIONS] <FILE>")"
 run chart </dev/null
-expect chart_without_a_file 2 '' "error: the following required arguments were not provided:
-  <FILE>
-
-Usage: rtcm2rinex chart <FILE>
-
-For more information, try '--help'."
+expect chart_without_a_file 2 '' "$(error "the following required arguments were not provided:
+  <FILE>" "chart <FILE>")"
 
 cp "$marks" ./-5
 run chart -5 </dev/null
 # refuses: a word that begins with a hyphen and is taken for a FILE
-expect chart_of_a_hyphen_and_a_digit 2 '' "error: unexpected argument '-5' found
-
-  tip: to pass '-5' as a value, use '-- -5'
-
-Usage: rtcm2rinex chart [OPTIONS] <FILE>
-
-For more information, try '--help'."
+expect chart_of_a_hyphen_and_a_digit 2 '' "$(error "unexpected argument '-5' found" "chart [OPTIONS] <FILE>" "to pass '-5' as a value, use '-- -5'")"
 
 run chart --te "$marks" </dev/null; head -n 1 err >line; mv line err
 expect chart_start_of_an_option 2 '' "error: unexpected argument '--te' found"
@@ -222,11 +198,7 @@ twice() {
     option=$1
     shift
     run chart "$@" "$@" "$marks" </dev/null
-    expect "chart_$1_twice" 2 '' "error: the argument '$option' cannot be used multiple times
-
-Usage: rtcm2rinex chart [OPTIONS] <FILE>
-
-For more information, try '--help'."
+    expect "chart_$1_twice" 2 '' "$(error "the argument '$option' cannot be used multiple times" "chart [OPTIONS] <FILE>")"
 }
 twice --text --text
 twice '--columns <N>' --columns 80

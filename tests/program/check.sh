@@ -43,34 +43,11 @@ Exit status:
 
 Manual: man rtcm2rinex, or docs/MANUAL.md"
 
-no_file="error: the following required arguments were not provided:
-  <FILE>
-
-Usage: rtcm2rinex check <FILE>
-
-For more information, try '--help'."
-
-two_files="error: unexpected argument 'b' found
-
-Usage: rtcm2rinex check <FILE>
-
-For more information, try '--help'."
-
-hyphen="error: unexpected argument '-5' found
-
-  tip: to pass '-5' as a value, use '-- -5'
-
-Usage: rtcm2rinex check <FILE>
-
-For more information, try '--help'."
-
-like_help="error: unexpected argument '--hlep' found
-
-  tip: a similar argument exists: '--help'
-
-Usage: rtcm2rinex check --help <FILE>
-
-For more information, try '--help'."
+no_file=$(error "the following required arguments were not provided:
+  <FILE>" "check <FILE>")
+two_files=$(error "unexpected argument 'b' found" "check <FILE>")
+hyphen=$(error "unexpected argument '-5' found" "check <FILE>" "to pass '-5' as a value, use '-- -5'")
+like_help=$(error "unexpected argument '--hlep' found" "check --help <FILE>" "a similar argument exists: '--help'")
 
 mkdir folder
 ln -s nowhere dangling

@@ -344,10 +344,10 @@ marker marker_of_many_characters '!"#$%&'"'"'()*+,-./0123456789:;<=>?@ABCDEFGHIJ
 marker marker_of_the_others ']^_` abcdefghijklmnopqrstuvwxyz{|}~'
 
 # clap's texts.
-usage='Usage: rtcm2rinex convert [OPTIONS] --station <N> --near <T> --made <T> --marker <NAME> --codes <LIST> <LINK>...'
+usage='convert [OPTIONS] --station <N> --near <T> --made <T> --marker <NAME> --codes <LIST> <LINK>...'
 short_help="Converts captures of one station to a RINEX 3.05 observation file
 
-$usage
+Usage: rtcm2rinex $usage
 
 Arguments:
   <LINK>...  The captures, 1 to 16; stdin is standard input
@@ -362,7 +362,7 @@ Options:
   -h, --help           Print help (see more with '--help')"
 help="Converts captures of one station to a RINEX 3.05 observation file
 
-$usage
+Usage: rtcm2rinex $usage
 
 Arguments:
   <LINK>...
@@ -403,44 +403,30 @@ Exit status:
   2  the words are refused
 
 Manual: man rtcm2rinex, or docs/MANUAL.md"
-try="
-For more information, try '--help'."
-
 # bad_value NAME OPTION VALUE WHY
 bad_value() {
     run convert "$2" "$3" a
-    expect "$1" 2 '' "error: invalid value '$3' for '$2 <N>': $4
-$try"
+    expect "$1" 2 '' "$(error "invalid value '$3' for '$2 <N>': $4")"
 }
 
 run convert --help;                                   expect convert_help 0 "$help" ''
 run convert -h;                                       expect convert_short_help 0 "$short_help" ''
 run help convert;                                     expect help_convert 0 "$help" ''
-run convert;                                          expect no_word 2 '' "error: the following required arguments were not provided:
+run convert;                                          expect no_word 2 '' "$(error "the following required arguments were not provided:
   --station <N>
   --near <T>
   --made <T>
   --marker <NAME>
   --codes <LIST>
-  <LINK>...
-
-Usage: rtcm2rinex convert --station <N> --near <T> --made <T> --marker <NAME> --codes <LIST> <LINK>...
-$try"
-words '' '' '' '';                                    expect no_link 2 '' "error: the following required arguments were not provided:
-  <LINK>...
-
-Usage: rtcm2rinex convert --station <N> --near <T> --made <T> --marker <NAME> --codes <LIST> <LINK>...
-$try"
+  <LINK>..." "convert --station <N> --near <T> --made <T> --marker <NAME> --codes <LIST> <LINK>...")"
+words '' '' '' '';                                    expect no_link 2 '' "$(error "the following required arguments were not provided:
+  <LINK>..." "convert --station <N> --near <T> --made <T> --marker <NAME> --codes <LIST> <LINK>...")"
 for option in 'station N 1' 'near T x' 'made T x' 'marker NAME x' 'codes LIST x' 'window N 2'; do
     set -- $option
     run convert "--$1" "$3" "--$1" "$3" a
-    expect "$1_twice" 2 '' "error: the argument '--$1 <$2>' cannot be used multiple times
-
-$usage
-$try"
+    expect "$1_twice" 2 '' "$(error "the argument '--$1 <$2>' cannot be used multiple times" "$usage")"
     run convert a "--$1"
-    expect "$1_without_a_value" 2 '' "error: a value is required for '--$1 <$2>' but none was supplied
-$try"
+    expect "$1_without_a_value" 2 '' "$(error "a value is required for '--$1 <$2>' but none was supplied")"
 done
 # A moment with a hyphen at its front or in the place of a digit, or without one where it is due.
 for text in -2024-05-17T13:00:00 -024-05-17T13:00:00 2-24-05-17T13:00:00 2024--5-17T13:00:00 2024-0-517T13:00:00 \
@@ -455,45 +441,21 @@ done
 for option in 'station N near' 'near T made' 'made T marker' 'codes LIST window' 'window N codes'; do
     set -- $option
     run convert "--$1" "--$3" 1 a
-    expect "$1_before_another_option" 2 '' "error: a value is required for '--$1 <$2>' but none was supplied
-$try"
+    expect "$1_before_another_option" 2 '' "$(error "a value is required for '--$1 <$2>' but none was supplied")"
 done
 run convert --station 2003 --near $near --made $made --marker --codes 1C,2W a
-expect codes_as_a_marker 2 '' "error: the following required arguments were not provided:
-  --codes <LIST>
-
-Usage: rtcm2rinex convert --station <N> --near <T> --made <T> --marker <NAME> --codes <LIST> <LINK>...
-$try"
+expect codes_as_a_marker 2 '' "$(error "the following required arguments were not provided:
+  --codes <LIST>" "convert --station <N> --near <T> --made <T> --marker <NAME> --codes <LIST> <LINK>...")"
 run convert --station 2003 --near $near --made -2024-05-17T13:00:00 --marker BASE --codes 1C a
-expect made_of_a_word_with_a_hyphen 2 '' "error: unexpected argument '-2' found
-
-  tip: to pass '-2' as a value, use '-- -2'
-
-$usage
-$try"
+expect made_of_a_word_with_a_hyphen 2 '' "$(error "unexpected argument '-2' found" "$usage" "to pass '-2' as a value, use '-- -2'")"
 cp "$base" ./-5
 words $near $made BASE 1C,2W -5
 # refuses: a word that begins with a hyphen and is taken for a FILE
-expect link_of_a_hyphen_and_a_digit 2 '' "error: unexpected argument '-5' found
-
-  tip: to pass '-5' as a value, use '-- -5'
-
-$usage
-$try"
+expect link_of_a_hyphen_and_a_digit 2 '' "$(error "unexpected argument '-5' found" "$usage" "to pass '-5' as a value, use '-- -5'")"
 run convert --station -1 a
-expect station_below_0 2 '' "error: unexpected argument '-1' found
-
-  tip: to pass '-1' as a value, use '-- -1'
-
-$usage
-$try"
+expect station_below_0 2 '' "$(error "unexpected argument '-1' found" "$usage" "to pass '-1' as a value, use '-- -1'")"
 run convert --stat 2003 --near $near --made $made --marker BASE --codes 1C a
-expect start_of_an_option 2 '' "error: unexpected argument '--stat' found
-
-  tip: a similar argument exists: '--station'
-
-Usage: rtcm2rinex convert --station <N> --near <T> --made <T> --marker <NAME> --codes <LIST> <LINK>...
-$try"
+expect start_of_an_option 2 '' "$(error "unexpected argument '--stat' found" "convert --station <N> --near <T> --made <T> --marker <NAME> --codes <LIST> <LINK>..." "a similar argument exists: '--station'")"
 # pins: Requests.IsWithinLimits, Words.IsWithinLimits
 bad_value station_of_4096 --station 4096 '4096 is not in 0..=4095'
 bad_value station_of_no_digits --station x 'invalid digit found in string'

@@ -70,34 +70,18 @@ Exit status:
 
 Manual: man rtcm2rinex, or docs/MANUAL.md"
 
-no_option="error: the following required arguments were not provided:
+no_option=$(error "the following required arguments were not provided:
+  <--from <T>|--until <T>|--every <SECONDS>>" "cut <--from <T>|--until <T>|--every <SECONDS>> <FILE>")
+no_file=$(error "the following required arguments were not provided:
+  <FILE>" "cut <--from <T>|--until <T>|--every <SECONDS>> <FILE>")
+no_word=$(error "the following required arguments were not provided:
   <--from <T>|--until <T>|--every <SECONDS>>
-
-Usage: rtcm2rinex cut <--from <T>|--until <T>|--every <SECONDS>> <FILE>
-
-For more information, try '--help'."
-
-no_file="error: the following required arguments were not provided:
-  <FILE>
-
-Usage: rtcm2rinex cut <--from <T>|--until <T>|--every <SECONDS>> <FILE>
-
-For more information, try '--help'."
-
-no_word="error: the following required arguments were not provided:
-  <--from <T>|--until <T>|--every <SECONDS>>
-  <FILE>
-
-Usage: rtcm2rinex cut <--from <T>|--until <T>|--every <SECONDS>> <FILE>
-
-For more information, try '--help'."
+  <FILE>" "cut <--from <T>|--until <T>|--every <SECONDS>> <FILE>")
 
 # bad_step NAME STEP WHY
 bad_step() {
     cut --every "$2" "$file" </dev/null
-    expect "$1" 2 '' "error: invalid value '$2' for '--every <SECONDS>': $3
-
-For more information, try '--help'."
+    expect "$1" 2 '' "$(error "invalid value '$2' for '--every <SECONDS>': $3")"
 }
 
 : >nothing
@@ -228,22 +212,12 @@ bad_step a_step_after_a_blank ' 30' 'invalid digit found in string'
 
 cut --every 30 "$file" b </dev/null
 # refuses: a second FILE that is left out in silence
-expect cut_of_two_files 2 '' "error: unexpected argument 'b' found
-
-Usage: rtcm2rinex cut <--from <T>|--until <T>|--every <SECONDS>> <FILE>
-
-For more information, try '--help'."
+expect cut_of_two_files 2 '' "$(error "unexpected argument 'b' found" "cut <--from <T>|--until <T>|--every <SECONDS>> <FILE>")"
 
 cp "$file" ./-5
 cut --every 30 -5 </dev/null
 # refuses: a word that begins with a hyphen and is taken for a FILE
-expect cut_of_a_hyphen_and_a_digit 2 '' "error: unexpected argument '-5' found
-
-  tip: to pass '-5' as a value, use '-- -5'
-
-Usage: rtcm2rinex cut <--from <T>|--until <T>|--every <SECONDS>> <FILE>
-
-For more information, try '--help'."
+expect cut_of_a_hyphen_and_a_digit 2 '' "$(error "unexpected argument '-5' found" "cut <--from <T>|--until <T>|--every <SECONDS>> <FILE>" "to pass '-5' as a value, use '-- -5'")"
 
 cut --ev 30 "$file" </dev/null; head -n 1 err >line; mv line err
 expect cut_start_of_an_option 2 '' "error: unexpected argument '--ev' found"
@@ -258,15 +232,9 @@ bad a_comma_after_until 'bad --until' --until "$noon,x"
 for option in 'from T until' 'until T every' 'every SECONDS from'; do
     set -- $option
     cut "--$1" 1 "--$1" 1 "$file" </dev/null
-    expect "$1_twice" 2 '' "error: the argument '--$1 <$2>' cannot be used multiple times
-
-Usage: rtcm2rinex cut <--from <T>|--until <T>|--every <SECONDS>> <FILE>
-
-For more information, try '--help'."
+    expect "$1_twice" 2 '' "$(error "the argument '--$1 <$2>' cannot be used multiple times" "cut <--from <T>|--until <T>|--every <SECONDS>> <FILE>")"
     cut "--$1" "--$3" 1 "$file" </dev/null
-    expect "$1_before_another_option" 2 '' "error: a value is required for '--$1 <$2>' but none was supplied
-
-For more information, try '--help'."
+    expect "$1_before_another_option" 2 '' "$(error "a value is required for '--$1 <$2>' but none was supplied")"
 done
 
 # A file that `check` refuses.

@@ -101,99 +101,31 @@ Options:
       --hex   The capture is hex text
   -h, --help  Print help (see more with '--help')"
 
-try="
-For more information, try '--help'."
+no_command=$(error "'rtcm2rinex' requires a subcommand but one was not provided
+  [subcommands: convert, show, check, summary, chart, cut, help]" "<COMMAND>")
 
-no_command="error: 'rtcm2rinex' requires a subcommand but one was not provided
-  [subcommands: convert, show, check, summary, chart, cut, help]
-
-Usage: rtcm2rinex <COMMAND>
-$try"
-
-no_such_command="error: unrecognized subcommand 'shew'
-
-  tip: a similar subcommand exists: 'show'
-
-Usage: rtcm2rinex <COMMAND>
-$try"
-
-start_of_a_command="error: unrecognized subcommand 'sho'
-
-  tip: a similar subcommand exists: 'show'
-
-Usage: rtcm2rinex <COMMAND>
-$try"
-
-command_in_capitals="error: unrecognized subcommand 'SHOW'
-
-Usage: rtcm2rinex <COMMAND>
-$try"
-
-no_file="error: the following required arguments were not provided:
-  <FILE>
-
-Usage: rtcm2rinex show <FILE>
-$try"
+no_such_command=$(error "unrecognized subcommand 'shew'" "<COMMAND>" "a similar subcommand exists: 'show'")
+start_of_a_command=$(error "unrecognized subcommand 'sho'" "<COMMAND>" "a similar subcommand exists: 'show'")
+command_in_capitals=$(error "unrecognized subcommand 'SHOW'" "<COMMAND>")
+no_file=$(error "the following required arguments were not provided:
+  <FILE>" "show <FILE>")
 
 long_word=$(printf '%0100000d' 0)
-no_such_long_command="error: unrecognized subcommand '$long_word'
-
-Usage: rtcm2rinex <COMMAND>
-$try"
-
-two_files="error: unexpected argument 'b' found
-
-Usage: rtcm2rinex show [OPTIONS] <FILE>
-$try"
-
-two_empty_files="error: unexpected argument '' found
-
-Usage: rtcm2rinex show [OPTIONS] <FILE>
-$try"
-
-a_hundred_files="error: unexpected argument '2' found
-
-Usage: rtcm2rinex show [OPTIONS] <FILE>
-$try"
-
-empty_command="error: unrecognized subcommand ''
-
-Usage: rtcm2rinex <COMMAND>
-$try"
-
-hex_twice="error: the argument '--hex' cannot be used multiple times
-
-Usage: rtcm2rinex show [OPTIONS] <FILE>
-$try"
-
-like_hex="error: unexpected argument '--hax' found
-
-  tip: a similar argument exists: '--hex'
-
-Usage: rtcm2rinex show --hex <FILE>
-$try"
-
-start_of_hex="error: unexpected argument '--he' found
-
-  tip: a similar argument exists: '--hex'
-
-Usage: rtcm2rinex show --hex <FILE>
-$try"
+no_such_long_command=$(error "unrecognized subcommand '$long_word'" "<COMMAND>")
+two_files=$(error "unexpected argument 'b' found" "show [OPTIONS] <FILE>")
+two_empty_files=$(error "unexpected argument '' found" "show [OPTIONS] <FILE>")
+a_hundred_files=$(error "unexpected argument '2' found" "show [OPTIONS] <FILE>")
+empty_command=$(error "unrecognized subcommand ''" "<COMMAND>")
+hex_twice=$(error "the argument '--hex' cannot be used multiple times" "show [OPTIONS] <FILE>")
+like_hex=$(error "unexpected argument '--hax' found" "show --hex <FILE>" "a similar argument exists: '--hex'")
+start_of_hex=$(error "unexpected argument '--he' found" "show --hex <FILE>" "a similar argument exists: '--hex'")
 
 # hyphen WORD: a word that begins with a hyphen is no FILE
 hyphen() {
-    echo "error: unexpected argument '$1' found
-
-  tip: to pass '$1' as a value, use '-- $1'
-
-Usage: rtcm2rinex show [OPTIONS] <FILE>
-$try"
+    error "unexpected argument '$1' found" "show [OPTIONS] <FILE>" "to pass '$1' as a value, use '-- $1'"
 }
 
-unknown_option="error: unexpected argument '--frob' found
-
-Usage: rtcm2rinex <COMMAND>
-$try"
+unknown_option=$(error "unexpected argument '--frob' found" "<COMMAND>")
 
 msm='1074 station 2003 tow 475200000 satellites 1 signals 1 cells 1
 1074 station 2003 tow 475201000 satellites 1 signals 1 cells 1

@@ -42,26 +42,10 @@ Exit status:
 
 Manual: man rtcm2rinex, or docs/MANUAL.md"
 
-no_file="error: the following required arguments were not provided:
-  <FILE>
-
-Usage: rtcm2rinex summary <FILE>
-
-For more information, try '--help'."
-
-two_files="error: unexpected argument 'b' found
-
-Usage: rtcm2rinex summary <FILE>
-
-For more information, try '--help'."
-
-hyphen="error: unexpected argument '-5' found
-
-  tip: to pass '-5' as a value, use '-- -5'
-
-Usage: rtcm2rinex summary <FILE>
-
-For more information, try '--help'."
+no_file=$(error "the following required arguments were not provided:
+  <FILE>" "summary <FILE>")
+two_files=$(error "unexpected argument 'b' found" "summary <FILE>")
+hyphen=$(error "unexpected argument '-5' found" "summary <FILE>" "to pass '-5' as a value, use '-- -5'")
 
 # gpsdecode shows a 1005 of 19 bytes of payload and a 1004 of 24
 told="bytes 55

@@ -331,8 +331,6 @@ BUDGETS = {
     "examples/README.md": 500,
     "tests/README.md": 300,
 }
-# Documents that are still longer, and how long.
-NOT_YET = {"docs/NETWORKS.md": 2744}
 NOT_COUNTED = ["CHANGELOG.md"]
 
 
@@ -354,7 +352,7 @@ def test_links():
 def test_words():
     counted = {str(page.relative_to(ROOT)): words_of_prose(page) for page in pages()}
     compare("each document has a budget of words", [name for name in counted if name not in BUDGETS and name not in NOT_COUNTED], [])
-    wordy = {name: counted[name] for name in counted if counted[name] > NOT_YET.get(name, BUDGETS.get(name, 0)) and name not in NOT_COUNTED}
+    wordy = {name: counted[name] for name in counted if counted[name] > BUDGETS.get(name, 0) and name not in NOT_COUNTED}
     compare("no document has more words than it may", wordy, {})
     compare("the budgets are 15,000 words in all", sum(BUDGETS.values()), 15_000)
 
