@@ -45,11 +45,16 @@ def sealed(fields, texts):
     return f"{whole}{END}{sum_of(whole.encode())}\n"
 
 
+def is_there():
+    return BUILDINFO.exists() or COPY.exists()
+
+
 class Buildinfo:
     """What the buildinfo says: `fields` by their word, `texts` by their place."""
 
     def __init__(self):
-        whole, _, told = BUILDINFO.read_text().rpartition(END)
+        found = BUILDINFO.read_text(errors="replace") if BUILDINFO.is_file() else ""
+        whole, _, told = found.rpartition(END)
         self.is_whole = told.strip() == sum_of(whole.encode())
         head, *parts = re.split(r"(?m)^== ", whole)
         self.fields = dict(line.split(" ", 1) for line in head.split("\n") if " " in line)

@@ -1,4 +1,7 @@
 //! A writer of bit fields. Contracts see it as the list of the bits that were put so far.
+//!
+//! It holds the whole bytes and up to 7 bits after them, with room for the byte that these become.
+//! So `finish` takes no memory.
 
 ghost use Rattle.std.specs.Prelude.{◌≡◌, ◌^◌, ◌<◌, ◌≤◌, [], ◌++◌, length, OnOk, OnErr};
 ghost use Rattle.rtk_bits.specs.Bits.{bits, bits_of, signed_bits_of, FitsSigned, padding};

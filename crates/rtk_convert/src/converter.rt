@@ -1,4 +1,6 @@
 //! A converter: it takes pieces of 1 to 16 links, in any order, and writes one file and a report.
+//!
+//! Frames are taken one by one, straight from the bytes of a scanner; no payload is copied.
 
 ghost use Rattle.std.specs.Prelude.{◌≡◌, ◌≢◌, ◌<◌, ◌↔◌, [], true, false, None, length, replicate, OnOk, OnErr, IsErrOf, IfOk, IfErr, IfSome, Decides};
 ghost use Rattle.rtk_frame.specs.ScannerView.{scanner_view};

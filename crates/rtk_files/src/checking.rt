@@ -19,6 +19,7 @@ use rtk_tools::{
 use std::alloc::{AllocError, Global};
 use std::fs::Files;
 
+// constant
 /// The most bytes of an input of `check_input`, which holds it whole.
 pub const CHECK_LIMIT: usize = 1_073_741_824;
 

@@ -1,4 +1,6 @@
 //! A source and a sink over memory. Their contracts say in full what they answer.
+//!
+//! Both take all their memory in `new`.
 
 ghost use Rattle.std.specs.Prelude.{◌≡◌, ◌≤◌, ◌<◌, ◌++◌, Some, length, min, take, IfOk, IsErr};
 ghost use Rattle.rtk_frame.specs.Stream.{moved_count, count_after, failures_after, is_failed_write};

@@ -1,4 +1,9 @@
 //! A scanner gives the frames of a stream of bytes that comes in pieces.
+//!
+//! Its ring begins with bytes that were given or are in no frame; the pending bytes follow. Passed
+//! bytes go once they are all that is held, or more than 1,029. The others then move to the start
+//! of the room, so the bytes of the ring always lie in one piece, and a payload is lent as a slice
+//! of it. If nothing is pending, bytes that are no preamble do not enter the ring.
 
 ghost use Rattle.std.specs.Prelude.{◌≡◌, ◌≢◌, ◌⊎◌, ℕ, ◌+◌, ◌-◌, ◌*◌, ◌<◌, ◌≤◌, List, [], ◌++◌, length, drop, take, slice_index, true, IfOk, MatchOption};
 ghost use Rattle.circular_buffer.specs.Buffer.{buffer};

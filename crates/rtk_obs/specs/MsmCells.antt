@@ -15,6 +15,7 @@ use Rattle.rtk_obs.specs.LockTime.{least_lock_of_msm}
 use Rattle.rtk_obs.specs.Mask.{set_bits, join_from}
 use Rattle.rtk_obs.specs.Scaling.{unless_invalid, strength_of, rough_time, range_time, range_of_time, phase_of_time}
 
+-- table
 -- the code of a signal identifier (DF395); others give no cell
 abbrev pub code_of_signal : ℕ → Option Code
 code_of_signal s =
@@ -27,10 +28,12 @@ code_of_signal s =
 
 -- ---- which cells
 
+-- formula
 -- the satellites of the message, by DF394
 abbrev pub satellites_of : Msm1074 → List ℕ
 satellites_of m = set_bits 64 m.header.satellite_mask
 
+-- formula
 -- the signals of the message, by DF395
 abbrev pub signals_of : Msm1074 → List ℕ
 signals_of m = set_bits 32 m.header.signal_mask
@@ -45,6 +48,7 @@ slots_of m = join_from (row_slots (signals_of m)) 0 m.cell_mask
 
 -- ---- their values
 
+-- formula
 -- the rough range of a satellite, in 2^-29 ms; DF397 255 is invalid
 abbrev pub rough_of : ℕ → ℕ → Option ℤ
 rough_of ms fraction = if ms == 255 then None else Some (rough_time ms fraction)
@@ -54,6 +58,7 @@ abbrev pub fine_range_of : ℤ → Option ℤ → Option ℤ
 fine_range_of rough None = None
 fine_range_of rough (Some fine) = Some (range_of_time (range_time rough fine))
 
+-- formula
 abbrev pub msm_range_of : Option ℤ → ℤ → Option ℤ
 msm_range_of None field = None
 msm_range_of (Some rough) field = fine_range_of rough (unless_invalid (negsuc 16_383) field)
@@ -63,6 +68,7 @@ abbrev pub fine_phase_of : Band → ℤ → Option ℤ → Option ℤ
 fine_phase_of band rough None = None
 fine_phase_of band rough (Some fine) = Some (phase_of_time band (rough +ℤ fine))
 
+-- formula
 abbrev pub msm_phase_of : Band → Option ℤ → ℤ → Option ℤ
 msm_phase_of band None field = None
 msm_phase_of band (Some rough) field = fine_phase_of band rough (unless_invalid (negsuc 2_097_151) field)
@@ -71,6 +77,7 @@ msm_phase_of band (Some rough) field = fine_phase_of band rough (unless_invalid 
 abbrev pub rough_at : Msm1074 → ℕ → Option ℤ
 rough_at m row = rough_of (slice_index m.rough_ms row) (slice_index m.rough_fraction row)
 
+-- formula
 -- the k-th cell, of the satellite of a row: DF397, DF398 and DF400 to DF403, DF420
 abbrev pub msm_cell_of : Msm1074 → ℕ → ℕ → Band → Cell
 msm_cell_of m k row band = record {

@@ -19,6 +19,7 @@ abbrev pub ReadsFrames : List (List ℕ) → List ReadFrame → List ReadFrame �
 ReadsFrames [] before after = after ≡ before
 ReadsFrames (p ∷ ps) before after = (reading : Result Message DecodeFault) × Decodes (bits p) reading × ReadsFrames ps (read_frame p reading ∷ before) after
 
+-- formula
 -- the bytes of frames: each is its payload and six bytes more
 abbrev pub bytes_in : List ReadFrame → ℕ
 bytes_in [] = 0

@@ -62,6 +62,7 @@ abbrev pub change_from : Option ℕ → ℕ → ℕ
 change_from None t = 0
 change_from (Some before) t = if before == t then 0 else 1
 
+-- formula
 -- how many of the times differ from the one before
 abbrev pub changes_in : List ℕ → ℕ
 changes_in [] = 0
@@ -80,6 +81,7 @@ entries_of (Msm1074 m) = cells_of_1074 m
 abbrev pub entries_in : List Message → List CellEntry
 entries_in ms = flat_map entries_of ms
 
+-- formula
 -- the cell has a range, a phase or a strength
 abbrev pub has_value : Cell → Bool
 has_value c = is_some c.range_mm || (is_some c.phase_millicycles || is_some c.strength_millidbhz)

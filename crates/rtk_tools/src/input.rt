@@ -1,4 +1,6 @@
 //! Reading an input whole.
+//!
+//! It is read in pieces of 4,096 bytes.
 
 ghost use Rattle.std.specs.Prelude.{◌≡◌, ◌≢◌, ◌+◌, ◌≤◌, length, Err, IfOk, OnOk, IsErrOf};
 ghost use Rattle.rtk_frame.specs.Stream.{CountRises};

@@ -19,6 +19,7 @@ use rtk_frame::{Frames, Sink, Source, write_all};
 use std::alloc::Global;
 use std::fs::Files;
 
+// constant
 /// The most bytes of an input of `show`, which holds it whole.
 pub const SHOW_LIMIT: usize = 16_777_216;
 
