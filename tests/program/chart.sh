@@ -58,7 +58,7 @@ svg=$(cat "$root/examples/marks.svg")
 run chart --text "$marks" </dev/null;              expect chart_of_a_file 0 "$picture" ''
 run chart --text stdin <"$marks";                  expect chart_of_standard_input 0 "$picture" ''
 run chart --text --columns 80 "$marks" </dev/null; expect chart_80_wide 0 "$picture" ''
-# pins: STYLE, LEGEND, svg_picture, svg_legend, svg_body
+# pins: STYLE, LEGEND, svg_picture, svg_start, svg_legend, svg_body, svg_of_epochs, ticks_text, satellite_label
 run chart "$marks" </dev/null;                     expect chart_in_svg 0 "$svg" ''
 cp "$marks" ' a,b=c '
 # refuses: a name that is changed before it is opened, or taken for standard input
@@ -165,6 +165,7 @@ for width in 40 400; do
     [ "$status" -eq 0 ] && [ "$(awk '{ if (length($0) > w) w = length($0) } END { print w }' out)" -le $width ]
     holds chart_${width}_wide
 done
+# pins: IsWidth
 for width in 39 401; do
     run chart --text --columns $width "$marks" </dev/null
     expect chart_${width}_wide 2 '' "$(error "invalid value '$width' for '--columns <N>': $width is not in 40..=400")"

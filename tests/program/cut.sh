@@ -202,6 +202,7 @@ bad until_in_2101 'bad --until' --until 2101-01-01T00:00:00
 cut "$file" </dev/null;                             expect no_option 2 '' "$no_option"
 cut --every 30 </dev/null;                          expect cut_without_a_file 2 '' "$no_file"
 cut </dev/null;                                     expect cut_without_a_word 2 '' "$no_word"
+# pins: IsStepOrNone
 for step in 0 86401 4294967296; do bad_step a_step_of_$step $step "$step is not in 1..=86400"; done
 # refuses: a first part of a number that is taken for all of it
 bad_step a_step_with_a_tail 30s 'invalid digit found in string'
