@@ -11,13 +11,14 @@ from random import Random
 
 import model
 import parts
+import station
 import streams
 import summaries
 from messages import CODES, SIGNALS
 from model import Setup, moment
-from wire import HEADERS, LEGACY_SATELLITE, MSM_CELL, Message, frame_of, payload_of
+from station import NOON
+from wire import frame_of, payload_of
 
-NOON = 475_200_000
 NEAR, MADE = moment("2024-05-17T12:00:00"), moment("2024-05-17T13:00:00")
 TOLD = "2024-05-17 12:00:"
 EXAMPLES = sys.argv[1]
@@ -30,37 +31,14 @@ NO_NUMBER = bytes.fromhex("D3000047EA4B")
 FALSE_PREAMBLE = bytes.fromhex("D303FF")
 
 
-def row(table, values):
-    """The fields of a table; those that are not named are 0."""
-    return dict.fromkeys((entry.name for entry in table), 0) | values
-
-
-def header(number, station=2003, **fields):
-    return row(HEADERS[number], {"number": number, "station": station, **fields})
-
-
-def legacy(tow, entries, station=2003, **fields):
+def legacy(tow, entries, **fields):
     """The payload of a 1004; the entry of a satellite is a dictionary of its fields."""
-    rows = [row(LEGACY_SATELLITE, it) for it in entries]
-    return payload_of(Message(header(1004, station, **{"tow": tow, "satellites": len(rows), **fields}), rows))
+    return payload_of(station.legacy_of(tow, entries, **fields))
 
 
 def msm(tow, rough, cells):
-    """The payload of a 1074: `rough` has the whole ms and the fraction of each satellite, `cells` the fields of each
-    satellite and signal."""
-    satellites, signals = sorted(rough), sorted({signal for _, signal in cells})
-    masks = {"satellite_mask": sum(1 << 64 - it for it in satellites), "signal_mask": sum(1 << 32 - it for it in signals)}
-    return payload_of(Message(
-        header(1074, tow=tow, **masks),
-        [dict(zip(("rough_ms", "rough_fraction"), rough[it])) for it in satellites],
-        [(satellite, signal) in cells for satellite in satellites for signal in signals],
-        [row(MSM_CELL, cells[it]) for it in sorted(cells)],
-    ))
-
-
-def station_message(number, **fields):
-    """The payload of a 1005 or a 1006."""
-    return payload_of(Message(header(number, **fields)))
+    """The payload of a 1074, as `msm_of` makes it."""
+    return payload_of(station.msm_of(tow, rough, cells))
 
 
 def example(name):
@@ -77,16 +55,14 @@ def at(seconds, **fields):
     return frame_of(legacy(NOON + 1000 * seconds, [{**SATELLITE, **fields}]))
 
 
-def bare(seconds, station=2003):
+def bare(seconds, **fields):
     """The frame of a 1004 without satellites."""
-    return frame_of(legacy(NOON + 1000 * seconds, [], station))
+    return frame_of(legacy(NOON + 1000 * seconds, [], **fields))
 
 
 def place(number, **fields):
-    """The frame of a 1005 or a 1006."""
-    values = {"x": 11_141_045_999, "y": -48_507_297_108, "z": 39_755_214_643, "height": 15_000}
-    names = [entry.name for entry in HEADERS[number]]
-    return frame_of(station_message(number, **{it: n for it, n in (values | fields).items() if it in names}))
+    """The frame of a 1006, or of a 1005, which has no height."""
+    return station.capture(station.point(number, **({"height": 15_000} if number == 1006 else {}) | fields))
 
 
 def payload_in(frame):

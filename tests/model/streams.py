@@ -5,57 +5,34 @@ from __future__ import annotations
 from collections.abc import Callable, Iterable, Iterator
 from itertools import cycle
 
-from wire import HEADERS, LEGACY_SATELLITE, MSM_CELL, MSM_SATELLITE
-from wire import Fields, Message, Table, frame_of, payload_of
+import station
+from station import NOON, STATION, capture, legacy_of, msm_of
+from wire import Fields, Message, frame_of, payload_of
 
-STATION = 2003
 MIDNIGHT = 432_000_000  # 2024-05-17 00:00:00 in ms of its week
-NOON = 475_200_000
 SATELLITES = (3, 8, 17, 29)
 SIGNALS = (2, 24)  # the codes 1C and 5X
 
 
-def row(fields: Table, **values: int) -> Fields:
-    """A row of a table, zero where no value is given."""
-    return {entry.name: 0 for entry in fields} | values
-
-
-def mask(identifiers: tuple[int, ...], width: int) -> int:
-    return sum(1 << width - identifier for identifier in identifiers)
-
-
 def point(number: int = 1005, year: int = 0) -> Message:
     """A 1005, or a 1006, of a realization year."""
-    place = {"x": 11_141_045_999, "y": -48_507_297_108, "z": 39_755_214_643}
-    head = {"number": number, "station": STATION, "itrf_year": year, "gps": 1}
-    return Message(row(HEADERS[number], **head, **place))
+    return station.point(number, gps=1, itrf_year=year)
 
 
-def legacy(tow: int, satellites: tuple[int, ...], station: int = STATION) -> Message:
-    """A 1004 whose phases have held lock for long."""
-    rows = [
-        row(
-            LEGACY_SATELLITE,
-            **{"satellite": satellite, "l1_range": 5_000_000 + 1000 * satellite},
-            **{"modulus_ambiguity": 70, "l1_lock": 127, "l1_cnr": 180},
-            **{"l2_code": 3, "l2_range": 100, "l2_lock": 127, "l2_cnr": 140},
-        )
-        for satellite in satellites
-    ]
-    head = {"number": 1004, "station": station, "tow": tow, "satellites": len(rows)}
-    return Message(row(HEADERS[1004], **head), rows)
+def legacy(tow: int, satellites: tuple[int, ...], number: int = STATION) -> Message:
+    """A 1004, of the station of this number, whose phases have held lock for long."""
+    same = {"modulus_ambiguity": 70, "l1_lock": 127, "l1_cnr": 180}
+    same |= {"l2_code": 3, "l2_range": 100, "l2_lock": 127, "l2_cnr": 140}
+    rows = ({"satellite": it, "l1_range": 5_000_000 + 1000 * it} | same for it in satellites)
+    return legacy_of(tow, rows, station=number)
 
 
 def msm(
     tow: int, satellites: tuple[int, ...], cnr: int = 45, signals: tuple[int, ...] = SIGNALS
 ) -> Message:
     """A 1074 with each signal of each satellite."""
-    masks = {"satellite_mask": mask(satellites, 64), "signal_mask": mask(signals, 32)}
-    head = {"number": 1074, "station": STATION, "tow": tow}
-    count = len(satellites) * len(signals)
-    rows = [row(MSM_SATELLITE, rough_ms=70, rough_fraction=12 * it) for it in satellites]
-    cells = [row(MSM_CELL, lock=15, cnr=cnr) for _ in range(count)]
-    return Message(row(HEADERS[1074], **head, **masks), rows, [1] * count, cells)
+    cells = {(it, signal): {"lock": 15, "cnr": cnr} for it in satellites for signal in signals}
+    return msm_of(tow, {it: (70, 12 * it) for it in satellites}, cells)
 
 
 class Template:
@@ -90,15 +67,11 @@ def minutes(count: int) -> Iterator[bytes]:
         Template(older, older.satellites, "l1_offset"),
         Template(newer, newer.cells, "fine_phase"),
     )
-    station = frame_of(payload_of(point()))
+    station = capture(point())
     for minute in range(count):
         seconds = range(60 * minute, 60 * minute + 60)
         frames = [it.frame(MIDNIGHT + 1000 * at, 7 * at % 1001) for at in seconds for it in templates]
         yield station + b"".join(frames)
-
-
-def capture(*messages: Message) -> bytes:
-    return b"".join(frame_of(payload_of(message)) for message in messages)
 
 
 def split_epochs() -> bytes:
@@ -166,10 +139,7 @@ def with_offset(message: Message, offset: int) -> Message:
 def rare_messages() -> bytes:
     """What few stations send: a 1006 and another one, the longest messages, cells that fall, repeat
     and conflict, rolls and a slip, each fault; then epochs in falling order, some too late."""
-    height = [
-        Message(row(HEADERS[1006], number=1006, station=STATION, x=1, y=-2, z=3, height=it))
-        for it in (15_000, 15_001)
-    ]
+    height = [station.point(1006, x=1, y=-2, z=3, height=it) for it in (15_000, 15_001)]
     falling = tuple(range(31, 0, -1))
     first, second, third = (NOON + 10_000_000 + 1000 * it for it in range(3))
     slip = with_offset(legacy(third, falling), 0)
@@ -186,7 +156,7 @@ def rare_messages() -> bytes:
         with_offset(legacy(second, falling), 500_000),
         slip,
         legacy(604_800_000, SATELLITES),
-        legacy(first, SATELLITES, station=7),
+        legacy(first, SATELLITES, 7),
     ]
     too_many = msm(first, tuple(range(1, 34)))  # 66 cells
     payloads = (b"", b"\x3E", b"\x3F\xB0", b"\x3E\xD7\xD3", payload_of(too_many))

@@ -188,7 +188,7 @@ def write_captures(runs: Runs) -> None:
     for name, hours in HOURS.items():
         runs.write(name, parts[: 60 * hours])
     first = capture(legacy(NOON, SATELLITES[:1]))
-    foreign = capture(legacy(NOON, SATELLITES, station=7))
+    foreign = capture(legacy(NOON, SATELLITES, 7))
     runs.write("single", [single_satellite(5000)])
     runs.write("msm", [of_templates(range(5000), msm(0, SATELLITES))])
     for name, messages in UNLIKE.items():

@@ -23,6 +23,8 @@ import threading
 import time
 from dataclasses import dataclass, field, replace
 
+from wire import crc24q
+
 WORK, PROGRAM, *WORDS = sys.argv[1:]
 ROOT = os.path.realpath(os.path.join(os.path.dirname(__file__), "..", "..", ".."))
 EXAMPLES = os.path.join(ROOT, "examples")
@@ -150,15 +152,6 @@ def written(name, text):
 
 # Captures.
 
-def crc24q(text):
-    remainder = 0
-    for byte in text:
-        remainder ^= byte << 16
-        for _ in range(8):
-            remainder = remainder << 1 ^ (0x1864CFB if remainder & 0x800000 else 0)
-    return remainder.to_bytes(3, "big")
-
-
 def example(name):
     return os.path.join(EXAMPLES, name)
 
@@ -172,7 +165,7 @@ def epochs(seconds):
         bits = int.from_bytes(frame[6:11], "big")
         tow = 475_200_000 + 1000 * second
         head = frame[:6] + (bits & ((1 << 10) - 1) | tow << 10).to_bytes(5, "big") + frame[11:-3]
-        frames.append(head + crc24q(head))
+        frames.append(head + crc24q(head).to_bytes(3, "big"))
     return b"".join(frames)
 
 
