@@ -95,7 +95,7 @@ impl Collector {
     pub fn offer(&mut self, dated: Dated<'_>) -> Result<Offer, AllocError>
         ensures size { self.new.size ≡ self.old.size }
         ensures bound { length self.new.sets ≤ self.new.size }
-        // That it does not give up: rows offer of tests/calls.
+        // That it does not give up: rows offer of tests/system/calls.
         ensures answer { IfOk result (λ offer. AnswersArrival self.old dated.entry offer self.new) }
         ensures closed { IfOk result (λ offer. ClosesBelow offer self.new.sets) }
         ensures least_closes { IfOk result (λ offer. ClosesLeast self.old.size self.old.sets offer) }

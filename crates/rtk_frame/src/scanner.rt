@@ -83,7 +83,7 @@ impl Scanner {
 
     /// A scanner at the start of a stream. All the memory that it ever has is taken here.
     pub fn new(alloc: Global) -> Result<Scanner, FrameFault>
-        // That it does not give up: row Scanner::new of tests/calls.
+        // That it does not give up: row Scanner::new of tests/system/calls.
         ensures start { IfOk result (λ scanner. scanner ≡ scanner_view [] false) }
         ensures fault { IfErr result (λ fault. fault ≡ OutOfMemory) }
     {
