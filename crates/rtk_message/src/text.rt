@@ -3,8 +3,10 @@
 //! If memory is refused, a first part of what is put may stand there.
 
 ghost use Rattle.std.specs.Prelude.{◌≡◌, ◌++◌, decimal, OnOk};
+ghost use Rattle.rtk_message.specs.AnyFaultCode.{any_fault_text};
 ghost use Rattle.rtk_message.specs.FaultCode.{fault_text};
 
+use crate::any_fault::AnyFault;
 use crate::fault::DecodeFault;
 use itoa::Buffer;
 use std::alloc::AllocError;
@@ -28,6 +30,18 @@ pub fn put_named(line: &mut Vec<u8>, name: &[u8], number: u64) -> Result<(), All
 /// Appends the code of a fault, and the number of the message; a hyphen if it has none.
 pub fn put_fault(line: &mut Vec<u8>, fault: DecodeFault) -> Result<(), AllocError>
     ensures { OnOk result (line.new.items ≡ line.old.items ++ fault_text fault) }
+{
+    line.extend_from_slice(fault.code().as_bytes())?;
+    match fault.number() {
+        Some(number) => put_named(line, b" ", u64::from(number))?,
+        None => line.extend_from_slice(b" -")?,
+    }
+    Ok(())
+}
+
+/// The same for a fault of the wider set.
+pub fn put_any_fault(line: &mut Vec<u8>, fault: AnyFault) -> Result<(), AllocError>
+    ensures { OnOk result (line.new.items ≡ line.old.items ++ any_fault_text fault) }
 {
     line.extend_from_slice(fault.code().as_bytes())?;
     match fault.number() {
