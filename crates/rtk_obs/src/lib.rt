@@ -44,7 +44,7 @@ pub use laws::{
     moment_laws, places_are_distinct, position_laws, rounded_is_unique, track_laws, tracks_laws,
 };
 pub use legacy_cells::{cells_1004, put_cells_1004};
-pub use lock_time::{least_lock_legacy, least_lock_msm};
+pub use lock_time::{least_lock_extended, least_lock_legacy, least_lock_msm};
 pub use msm_cells::{cells_1074, put_cells_1074};
 pub use position::Position;
 pub use rollover::rolled;

@@ -3,7 +3,7 @@
 ghost use Rattle.std.specs.Prelude.{◌≡◌, ◌+◌, ◌*◌, ◌^◌, ◌<◌, ◌≤◌, pos, ◌*ℤ◌, ◌≤ℤ◌, negsuc, unsigned_abs};
 ghost use Rattle.rtk_obs.specs.Code.{frequency_of};
 ghost use Rattle.rtk_obs.specs.Rounding.{rounded, rounded_magnitude};
-ghost use Rattle.rtk_obs.specs.Scaling.{range_of_length, phase_of_length, range_of_time, phase_of_time, strength_of, unless_invalid};
+ghost use Rattle.rtk_obs.specs.Scaling.{range_of_length, phase_of_length, range_of_time, phase_of_time, strength_of, strength_of_sixteenths, phase_of_extended_time, unless_invalid};
 
 use crate::code::Band;
 
@@ -119,6 +119,15 @@ pub(crate) fn phase_from_time(band: Band, time: i64) -> i64
     scaled_time(time, band.frequency())
 }
 
+/// A travel time of the signal, in 2^-31 ms, as a phase in millicycles.
+pub(crate) fn phase_from_extended_time(band: Band, time: i64) -> i64
+    requires { unsigned_abs time ≤ 2 ^ 40 }
+    ensures { result ≡ phase_of_extended_time band time }
+{
+    // Each frequency is a whole multiple of 4 Hz, so f / 2^31 is exactly (f / 4) / 2^29.
+    scaled_time(time, band.frequency() / 4)
+}
+
 /// A signal strength in thousandths of a dB-Hz, from its number of steps; 0 steps mean that it is
 /// not given.
 pub(crate) fn strength_from_steps(step: u32, steps: u8) -> Option<u32>
@@ -128,6 +137,17 @@ pub(crate) fn strength_from_steps(step: u32, steps: u8) -> Option<u32>
     match steps {
         0 => None,
         _ => Some(step * u32::from(steps)),
+    }
+}
+
+/// A signal strength in thousandths of a dB-Hz, from sixteenths of a dB-Hz (DF408); 0 means that it
+/// is not given. It is the nearest quarter of a dB-Hz, from 0.25 to 63.75.
+pub(crate) fn strength_from_sixteenths(sixteenths: u16) -> Option<u32>
+    ensures { result ≡ strength_of_sixteenths sixteenths }
+{
+    match sixteenths {
+        0 => None,
+        _ => Some(250 * ((u32::from(sixteenths) + 2) / 4).clamp(1, 255)),
     }
 }
 
