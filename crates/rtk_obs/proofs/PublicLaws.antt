@@ -10,6 +10,6 @@ pub use Rattle.rtk_obs.proofs.DistinctLemmas.{cells_of_1004-distinct, cells_of_1
 -- the clause `legacy` of `cells_are_in_range`, in two steps: first the widths of the fields
 pub use Rattle.rtk_obs.proofs.LegacyLemmas.{fields_of_valid, cells_in_range-1004}
 -- and its clause `msm`
-pub use Rattle.rtk_obs.proofs.MsmLemmas.{cells_in_range-1074}
+pub use Rattle.rtk_obs.proofs.MsmFieldLemmas.{cells_in_range-1074}
 -- the clauses of `places_are_distinct`: code_bound, signal_bound, distinct
 pub use Rattle.rtk_obs.proofs.TracksLemmas.{place_bound, place_inside, same_signal}

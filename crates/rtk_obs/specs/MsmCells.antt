@@ -1,6 +1,7 @@
--- The cells of a 1074 (RTCM 10403.3, MSM4). The RINEX code of each signal of Table 3.5-91 is this
--- project's assignment.
-use Rattle.std.specs.Prelude.{ℕ, ◌-◌, ◌==◌, ℤ, pos, negsuc, ◌+ℤ◌, false, List, [], ◌∷◌, length, map, slice_index, slice_index_or, Option, Some, None, if◌then◌else◌}
+-- The cells of the multiple signal messages of GPS (RTCM 10403.3, MSM4 to MSM7). The RINEX code of
+-- each signal of Table 3.5-91 is this project's assignment.
+use Rattle.std.specs.Prelude.{ℕ, ◌-◌, ◌==◌, ℤ, pos, negsuc, ◌+ℤ◌, Bool, true, false, List, [], ◌∷◌, length, map, slice_index, slice_index_or, Option, Some, None, if◌then◌else◌}
+use Rattle.rtk_message.specs.declared.msm1074.MsmHeader.{MsmHeader}
 use Rattle.rtk_message.specs.declared.msm1074.Msm1074.{Msm1074}
 use Rattle.rtk_obs.specs.declared.code.Band.{Band}
 use Rattle.rtk_obs.specs.declared.code.Code.{Code}
@@ -8,7 +9,7 @@ use Rattle.rtk_obs.specs.declared.code.Code.TheVariants.{C1C, C1P, C1W, C1S, C1L
 use Rattle.rtk_obs.specs.declared.cell.CellSource.TheVariants.{Msm}
 use Rattle.rtk_obs.specs.declared.cell.Cell.{Cell}
 use Rattle.rtk_obs.specs.declared.cell.CellEntry.{CellEntry}
-use Rattle.rtk_obs.specs.declared.msm_cells.Slot.{Slot}
+use Rattle.rtk_obs.specs.declared.msm_rows.Slot.{Slot}
 use Rattle.rtk_obs.specs.Cell.{is_satellite, entry_of}
 use Rattle.rtk_obs.specs.Code.{band_of}
 use Rattle.rtk_obs.specs.LockTime.{least_lock_of_msm}
@@ -25,25 +26,42 @@ code_of_signal s =
     else if s == 30 then Some C1S else if s == 31 then Some C1L else if s == 32 then Some C1X
     else None
 
--- ---- which cells
+-- ---- which cells, by the header and the cell mask
 
 -- the satellites of the message, by DF394
-abbrev pub satellites_of : Msm1074 → List ℕ
-satellites_of m = set_bits 64 m.header.satellite_mask
+abbrev pub satellites_of : MsmHeader → List ℕ
+satellites_of h = set_bits 64 h.satellite_mask
 
 -- the signals of the message, by DF395
-abbrev pub signals_of : Msm1074 → List ℕ
-signals_of m = set_bits 32 m.header.signal_mask
+abbrev pub signals_of : MsmHeader → List ℕ
+signals_of h = set_bits 32 h.signal_mask
 
 -- the cells of a row of the cell mask: its bit of place p is the p-th signal of the message
 abbrev pub row_slots : List ℕ → ℕ → ℕ → List Slot
 row_slots signals row bits = map (λ p. record { row = row; signal = slice_index signals (p - 1) }) (set_bits (length signals) bits)
 
 -- the cells of the message, satellite by satellite (DF396)
-abbrev pub slots_of : Msm1074 → List Slot
-slots_of m = join_from (row_slots (signals_of m)) 0 m.cell_mask
+abbrev pub slots_of : MsmHeader → List ℕ → List Slot
+slots_of h cell_mask = join_from (row_slots (signals_of h)) 0 cell_mask
 
--- ---- their values
+-- ---- their entries, by the cell at a place, of the satellite of a row, on a band
+
+-- the entry of a cell, if its signal has a code
+abbrev pub coded_entry : (Band → Cell) → ℕ → Option Code → List CellEntry
+coded_entry cell_on satellite None = []
+coded_entry cell_on satellite (Some code) = entry_of satellite code (cell_on (band_of code)) ∷ []
+
+-- the entry of a cell, if its satellite is one from 1 to 32 and its signal has a code
+abbrev pub slot_entry : MsmHeader → (ℕ → ℕ → Band → Cell) → ℕ → Slot → List CellEntry
+slot_entry h cell_of k s =
+    if is_satellite (slice_index (satellites_of h) s.row) then coded_entry (cell_of k s.row) (slice_index (satellites_of h) s.row) (code_of_signal s.signal)
+    else []
+
+-- the entries in the order of the message
+abbrev pub entries_of : MsmHeader → List ℕ → (ℕ → ℕ → Band → Cell) → List CellEntry
+entries_of h cell_mask cell_of = join_from (slot_entry h cell_of) 0 (slots_of h cell_mask)
+
+-- ---- the values of a cell
 
 -- the rough range of a satellite, in 2^-29 ms; DF397 255 is invalid
 abbrev pub rough_of : ℕ → ℕ → Option ℤ
@@ -67,15 +85,17 @@ abbrev pub msm_phase_of : Band → Option ℤ → ℤ → Option ℤ
 msm_phase_of band None field = None
 msm_phase_of band (Some rough) field = fine_phase_of band rough (unless_invalid (negsuc 2_097_151) field)
 
--- the rough range of the satellite of a row
-abbrev pub rough_at : Msm1074 → ℕ → Option ℤ
-rough_at m row = rough_of (slice_index m.rough_ms row) (slice_index m.rough_fraction row)
+-- the rough range of the satellite of a row, from the columns of DF397 and DF398
+abbrev pub rough_at : List ℕ → List ℕ → ℕ → Option ℤ
+rough_at ms fraction row = rough_of (slice_index ms row) (slice_index fraction row)
 
--- the k-th cell, of the satellite of a row: DF397, DF398 and DF400 to DF403, DF420
-abbrev pub msm_cell_of : Msm1074 → ℕ → ℕ → Band → Cell
-msm_cell_of m k row band = record {
-  range_mm = msm_range_of (rough_at m row) (slice_index_or m.fine_range k (pos 0));
-  phase_millicycles = msm_phase_of band (rough_at m row) (slice_index_or m.fine_phase k (pos 0));
+-- ---- the cells of a message
+
+-- the k-th cell of a 1074: DF397, DF398 and DF400 to DF403, DF420
+abbrev pub cell_of_1074 : Msm1074 → ℕ → ℕ → Band → Cell
+cell_of_1074 m k row band = record {
+  range_mm = msm_range_of (rough_at m.rough_ms m.rough_fraction row) (slice_index_or m.fine_range k (pos 0));
+  phase_millicycles = msm_phase_of band (rough_at m.rough_ms m.rough_fraction row) (slice_index_or m.fine_phase k (pos 0));
   strength_millidbhz = strength_of 1000 (slice_index m.cnr k);
   lock_time_ms = least_lock_of_msm (slice_index m.lock_indicator k);
   half = slice_index_or m.half_cycle k false;
@@ -83,17 +103,5 @@ msm_cell_of m k row band = record {
   offset = None;
 }
 
--- the entry of a cell, if its signal has a code
-abbrev pub coded_entry : Msm1074 → ℕ → ℕ → ℕ → Option Code → List CellEntry
-coded_entry m k row satellite None = []
-coded_entry m k row satellite (Some code) = entry_of satellite code (msm_cell_of m k row (band_of code)) ∷ []
-
--- the entry of a cell, if its satellite is one from 1 to 32 and its signal has a code
-abbrev pub slot_entry : Msm1074 → ℕ → Slot → List CellEntry
-slot_entry m k s =
-    if is_satellite (slice_index (satellites_of m) s.row) then coded_entry m k s.row (slice_index (satellites_of m) s.row) (code_of_signal s.signal)
-    else []
-
--- the cells in the order of the message
 abbrev pub cells_of_1074 : Msm1074 → List CellEntry
-cells_of_1074 m = join_from (slot_entry m) 0 (slots_of m)
+cells_of_1074 m = entries_of m.header m.cell_mask (cell_of_1074 m)

@@ -26,6 +26,8 @@ mod legacy_cells;
 mod lock_time;
 mod mask;
 mod msm_cells;
+mod msm_rows;
+mod msm_values;
 mod position;
 mod rollover;
 mod rounding;

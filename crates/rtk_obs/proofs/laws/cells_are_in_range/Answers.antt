@@ -1,5 +1,5 @@
 use Rattle.rtk_obs.proofs.LegacyLemmas.{cells_of_valid}
-use Rattle.rtk_obs.proofs.MsmLemmas.{cells_in_range-1074}
+use Rattle.rtk_obs.proofs.MsmFieldLemmas.{cells_in_range-1074}
 use Rattle.rtk_obs.proofs.laws.cells_are_in_range.Goals as goal
 
 pub returns : goal.returns

@@ -1,7 +1,7 @@
 use Rattle.std.proofs.Common.{arith}
 use Rattle.std.proofs.lemmas.Int.{ints}
 use Rattle.rtk_obs.proofs.ScalingLemmas.{fine_phase-some}
-use Rattle.rtk_obs.proofs.msm_cells.fine_phase.Goals as goal
+use Rattle.rtk_obs.proofs.msm_values.fine_phase.Goals as goal
 
 pub returns-in-Some : goal.returns-in-Some
 returns-in-Some c =
