@@ -72,11 +72,7 @@ impl AnyDecoder {
     /// `decode_any`, whatever was read before and by which set. It is lent until the next call. No
     /// memory is allocated.
     #[inline(never)]
-    pub fn read(
-        &mut self,
-        accepted: Accepted,
-        payload: &[u8],
-    ) -> &Result<AnyMessage, AnyFault>
+    pub fn read(&mut self, accepted: Accepted, payload: &[u8]) -> &Result<AnyMessage, AnyFault>
         ensures { DecodesBy accepted (bits payload.now) result.now }
     {
         let mut reader = BitReader::new(payload);

@@ -11,6 +11,7 @@ ghost use Rattle.rtk_message.specs.declared.any_message.AnyMessage.{AnyMessage};
 ghost use Rattle.rtk_message.specs.Accepted.{accepts};
 ghost use Rattle.rtk_message.specs.Decoded.{IsValid, IsPayloadOf, Decodes, table};
 ghost use Rattle.rtk_message.specs.AnyDecoded as any;
+ghost use Rattle.rtk_message.specs.MsmForm as form;
 
 use crate::accepted::Accepted;
 use crate::any_fault::AnyFault;
@@ -18,6 +19,7 @@ use crate::any_message::AnyMessage;
 use crate::fault::DecodeFault;
 use crate::layout::Layout;
 use crate::message::Message;
+use crate::msm::Msm;
 use rtk_bits::BitWriter;
 use std::alloc::{AllocError, Global};
 
@@ -41,10 +43,7 @@ pub fn encode_any(alloc: Global, message: &AnyMessage) -> Result<Vec<u8>, AllocE
     let mut writer = BitWriter::new(alloc);
     match message {
         AnyMessage::Message(message) => write_message(&mut writer, message)?,
-        AnyMessage::Msm(message) => {
-            writer.put_u(12, message.kind.number() as u64)?;
-            message.write(&mut writer)?;
-        }
+        AnyMessage::Msm(message) => write_msm(&mut writer, message)?,
     }
     Ok(writer.finish())
 }
@@ -60,6 +59,16 @@ fn write_message(writer: &mut BitWriter, message: &Message) -> Result<(), AllocE
         Message::Arp1006(message) => write_as(writer, message),
         Message::Msm1074(message) => write_as(writer, message),
     }
+}
+
+// The same for a 1075, 1076 or 1077.
+fn write_msm(writer: &mut BitWriter, message: &Msm) -> Result<(), AllocError>
+    requires { form.IsValid message.now }
+    ensures { OnOk result (writer.new ≡ writer.old ++ bits_of_fields (u 12 (form.number_of_kind message.now.kind) ∷ form.table message.now)) }
+{
+    writer.put_u(12, message.kind.number() as u64)?;
+    message.write(writer)?;
+    Ok(())
 }
 
 // Puts the number and the fields after it. The proof uses only the clauses of `Layout`.

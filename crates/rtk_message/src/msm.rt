@@ -1,7 +1,7 @@
 //! Messages 1075, 1076 and 1077: GPS observations of any signals (MSM5 to MSM7), column by column.
 
-ghost use Rattle.std.specs.Prelude.{◌≡◌, ◌+◌, ◌*◌, ◌≤◌, length, OnOk, IfErr, Some, IsTrue, ◌↔◌};
-ghost use Rattle.rtk_message.specs.Fields.{TakesAll, FieldsAreZero};
+ghost use Rattle.std.specs.Prelude.{◌≡◌, ◌+◌, ◌*◌, ◌≤◌, ◌++◌, length, OnOk, IfErr, Some, IsTrue, ◌↔◌};
+ghost use Rattle.rtk_message.specs.Fields.{TakesAll, FieldsAreZero, bits_of_fields};
 ghost use Rattle.rtk_message.specs.Msm1074.{satellite_count};
 ghost use Rattle.rtk_message.specs.MsmForm.{form_of, satellite_bits, cell_bits, satellite_table, cell_table, table, cell_count, first_fault, HasForm, HasNoCells, IsValid, IsWide};
 ghost use Rattle.rtk_message.specs.Steps.MsmColumns.{HasSatellites, HasCells, ChangesSatellites, ChangesCells, SatellitesFit, CellsFit};
@@ -178,7 +178,7 @@ impl Msm {
     /// may have been put before.
     pub(crate) fn write(&self, writer: &mut BitWriter) -> Result<(), AllocError>
         requires { HasForm self.now }
-        ensures { OnOk result (PutsAll (table self.now) writer.old writer.new) }
+        ensures { OnOk result (writer.new ≡ writer.old ++ bits_of_fields (table self.now)) }
     {
         self.header.put(writer)?;
         put_mask(writer, &self.cell_mask, self.header.signal_count())?;
@@ -186,7 +186,8 @@ impl Msm {
         put_column(writer, &self.extended, 4)?;
         put_column(writer, &self.rough_fraction, 10)?;
         put_column(writer, &self.rough_rate, 14)?;
-        self.write_cells(writer, self.kind.form())
+        self.write_cells(writer, self.kind.form())?;
+        Ok(())
     }
 
     // Puts the columns of the cells.
@@ -216,10 +217,10 @@ impl Msm {
         if has_too_many_cells(self.header.satellite_count(), self.header.signal_count()) {
             return false;
         }
-        self.satellites_have_lengths()
-            && self.cells_have_lengths()
-            && self.satellites_fit()
-            && self.cells_fit(self.kind.form())
+        if !self.satellites_have_lengths() || !self.cells_have_lengths() {
+            return false;
+        }
+        self.satellites_fit() && self.cells_fit(self.kind.form())
     }
 
     // Whether each column of the satellites has its length.
