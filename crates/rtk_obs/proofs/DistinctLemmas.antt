@@ -8,7 +8,9 @@ use Rattle.std.proofs.lemmas.Bool.Decides.{nat_tests}
 use Rattle.rtk_message.specs.declared.obs1004.Satellite.{Satellite}
 use Rattle.rtk_message.specs.declared.msm1074.MsmHeader.{MsmHeader}
 use Rattle.rtk_message.specs.declared.msm1074.Msm1074.{Msm1074}
+use Rattle.rtk_message.specs.declared.msm.Msm.{Msm}
 use Rattle.rtk_message.specs.Msm1074.{IsValid}
+use Rattle.rtk_message.specs.MsmForm.{IsValid as IsValidMsm}
 use Rattle.rtk_obs.specs.declared.code.Band.{Band}
 use Rattle.rtk_obs.specs.declared.code.Code.{Code}
 use Rattle.rtk_obs.specs.declared.code.Code.TheVariants.{C1C, C1P, C1W, C1S, C1L, C1X, C2C, C2D, C2P, C2W, C2S, C2L, C2X, C5I, C5Q, C5X}
@@ -19,11 +21,11 @@ use Rattle.rtk_obs.specs.Code.{place_of}
 use Rattle.rtk_obs.specs.Cell.{is_satellite, entry_of, AreDifferentSignals, AreDistinct}
 use Rattle.rtk_obs.specs.Mask.{set_bits_from, set_bits, join_from}
 use Rattle.rtk_obs.specs.LegacyCells.{first_entries, has_number, satellite_entries, cells_of_1004, l1_code_of, l2_code_of, l1_cell_of, l2_cell_of}
-use Rattle.rtk_obs.specs.MsmCells.{satellites_of, signals_of, row_slots, slots_of, coded_entry, slot_entry, entries_of, code_of_signal, cell_of_1074, cells_of_1074}
+use Rattle.rtk_obs.specs.MsmCells.{satellites_of, signals_of, row_slots, slots_of, coded_entry, slot_entry, entries_of, code_of_signal, cell_of_1074, cells_of_1074, cell_of_msm, cells_of_msm}
 use Rattle.rtk_obs.specs.Steps.MsmRows.{IsCellMask}
 use Rattle.rtk_obs.proofs.MaskLemmas.{set_bits_from-bounds}
 use Rattle.rtk_obs.proofs.MsmLemmas.{satellite_in, count-satellites}
-use Rattle.rtk_obs.proofs.MsmFieldLemmas.{is_cell_mask-1074}
+use Rattle.rtk_obs.proofs.MsmFieldLemmas.{is_cell_mask-1074, is_cell_mask-msm}
 
 -- ---- lists by recursion
 
@@ -307,3 +309,6 @@ module _ (h : MsmHeader) (cell_of : ℕ → ℕ → Band → Cell) where
 
 pub cells_of_1074-distinct : (m : Msm1074) → IsValid m → AreDistinct (cells_of_1074 m)
 cells_of_1074-distinct m valid = entries-distinct m.header (cell_of_1074 m) m.cell_mask (is_cell_mask-1074 m valid)
+
+pub cells_of_msm-distinct : (m : Msm) → IsValidMsm m → AreDistinct (cells_of_msm m)
+cells_of_msm-distinct m valid = entries-distinct m.header (cell_of_msm m) m.cell_mask (is_cell_mask-msm m valid)

@@ -3,6 +3,7 @@ use Rattle.std.proofs.Common.{◌≡◌, ℕ, suc, ◌+◌, ◌-◌, ◌*◌, �
 use Rattle.std.specs.List.{AllByRecursion}
 use Rattle.std.proofs.lemmas.List.{length-map, append-nil}
 use Rattle.std.proofs.lemmas.List.Elements.{All-from_recursion, All-get_or}
+use Rattle.std.proofs.lemmas.Bool.Decides.{nat_tests}
 use Rattle.rtk_message.specs.Msm1074.{satellite_count, signal_count}
 use Rattle.rtk_message.specs.declared.msm1074.MsmHeader.{MsmHeader}
 use Rattle.rtk_obs.specs.declared.code.Band.{Band}
@@ -10,11 +11,12 @@ use Rattle.rtk_obs.specs.declared.code.Code.{Code}
 use Rattle.rtk_obs.specs.declared.cell.Cell.{Cell}
 use Rattle.rtk_obs.specs.declared.cell.CellEntry.{CellEntry}
 use Rattle.rtk_obs.specs.declared.msm_rows.Slot.{Slot}
-use Rattle.rtk_obs.specs.Cell.{is_satellite}
+use Rattle.rtk_obs.specs.Cell.{is_satellite, entry_of, IsSatellite}
+use Rattle.rtk_obs.specs.Code.{band_of}
 use Rattle.rtk_obs.specs.Mask.{set_bits, join_from}
 use Rattle.rtk_obs.specs.MsmCells.{satellites_of, signals_of, row_slots, slots_of, coded_entry, slot_entry, entries_of, code_of_signal}
 use Rattle.rtk_obs.specs.Steps.MsmRows.{IsCellMask, cells_in}
-use Rattle.rtk_obs.proofs.MaskLemmas.{set_bits-none, set_bits-step, set_bits_from-length, count-set_bits_from, length-join_from, join_from-length, join_from-room, join_from-first, join_from-empty, join_from-append, join_from-more}
+use Rattle.rtk_obs.proofs.MaskLemmas.{set_bits-none, set_bits-step, set_bits_from-length, count-set_bits_from, length-join_from, join_from-length, join_from-room, join_from-first, join_from-empty, join_from-append, join_from-more, all-join_from}
 
 -- the satellite of a slot is the satellite of its row
 abbrev pub satellite_in : List ℕ → Slot → ℕ
@@ -173,6 +175,27 @@ module _ (h : MsmHeader) where
 
   pub no_row_entries : (f : ℕ → Slot → List CellEntry) → [] ≡ join_from f 0 (join_from (row_slots (signals_of h)) 0 [])
   no_row_entries f = sym (ap (λ (xs : List Slot). join_from f 0 xs) (join_from-empty (row_slots (signals_of h)) 0) ∙ join_from-empty f 0)
+
+-- ---- each entry is of a satellite from 1 to 32, and has the cell at its place
+
+satellite_in_range : (n : ℕ) → is_satellite n ≡ true → IsSatellite n
+satellite_in_range n h = grind (arith, nat_tests)
+
+if_satellite : (P : CellEntry → Type 0) (b : Bool) (satellite : ℕ) (es : List CellEntry) → is_satellite satellite ≡ b → (IsSatellite satellite → AllByRecursion P es) → AllByRecursion P (cond b es [])
+if_satellite P true satellite es e a = a (satellite_in_range satellite e)
+if_satellite P false satellite es e a = tt
+
+module _ (h : MsmHeader) (cell_of : ℕ → ℕ → Band → Cell) (P : CellEntry → Type 0)
+    (each : (k row satellite : ℕ) (code : Code) → IsSatellite satellite → P (entry_of satellite code (cell_of k row (band_of code)))) where
+  all-coded_entry : (k row satellite : ℕ) (code : Option Code) → IsSatellite satellite → AllByRecursion P (coded_entry (cell_of k row) satellite code)
+  all-coded_entry k row satellite None s = tt
+  all-coded_entry k row satellite (Some code) s = (each k row satellite code s, tt)
+
+  pub all-entries_of : (rows : List ℕ) → AllByRecursion P (entries_of h rows cell_of)
+  all-entries_of rows =
+      all-join_from (slot_entry h cell_of) P 0 (length (slots_of h rows)) (slots_of h rows) (omega arith)
+      (λ k s below. if_satellite P (is_satellite (satellite_in (satellites_of h) s)) (satellite_in (satellites_of h) s) (coded_entry (cell_of k s.row) (satellite_in (satellites_of h) s) (code_of_signal s.signal)) refl
+      (all-coded_entry k s.row (satellite_in (satellites_of h) s) (code_of_signal s.signal)))
 
 -- ---- a slot has one entry at most
 

@@ -25,6 +25,7 @@ mod laws;
 mod legacy_cells;
 mod lock_time;
 mod mask;
+mod msm1074_cells;
 mod msm_cells;
 mod msm_rows;
 mod msm_values;
@@ -47,7 +48,8 @@ pub use laws::{
 };
 pub use legacy_cells::{cells_1004, put_cells_1004};
 pub use lock_time::{least_lock_extended, least_lock_legacy, least_lock_msm};
-pub use msm_cells::{cells_1074, put_cells_1074};
+pub use msm_cells::{cells_msm, put_cells_msm};
+pub use msm1074_cells::{cells_1074, put_cells_1074};
 pub use position::Position;
 pub use rollover::rolled;
 pub use rounding::round_div;

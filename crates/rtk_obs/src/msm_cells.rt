@@ -1,34 +1,33 @@
-//! The cells of a 1074.
+//! The cells of a 1075, a 1076 and a 1077.
 
-ghost use Rattle.std.specs.Prelude.{◌≡◌, ℕ, ◌≤◌, ◌<◌, length, slice_index};
+ghost use Rattle.std.specs.Prelude.{◌≡◌, ◌≤◌, length};
 ghost use Rattle.std.specs.List.{All};
-ghost use Rattle.rtk_message.specs.Msm1074.{IsValid, cell_count};
+ghost use Rattle.rtk_message.specs.MsmForm.{IsValid};
 ghost use Rattle.rtk_obs.specs.Cell.{IsInRange, AreDistinct};
-ghost use Rattle.rtk_obs.specs.LockTime.{least_lock_of_msm};
-ghost use Rattle.rtk_obs.specs.MsmCells.{rough_at, cell_of_1074, cells_of_1074};
+ghost use Rattle.rtk_obs.specs.MsmCells.{rough_at, has_extended_resolution, cell_of_msm, cells_of_msm};
 
 use crate::cell::{Cell, CellEntry, CellSource};
 use crate::code::Band;
-use crate::lock_time::least_lock_msm;
+use crate::lock_time::{least_lock_extended, least_lock_msm};
 use crate::msm_rows::{SetCell, put_cells};
-use crate::msm_values::{msm_phase, msm_range, rough_range};
-use crate::scaling::strength_from_steps;
+use crate::msm_values::{
+    MSM_STRENGTH_STEP, extended_phase, extended_range, msm_phase, msm_range, rough_range,
+};
+use crate::scaling::{strength_from_sixteenths, strength_from_steps};
 use arrayvec::ArrayVec;
-use rtk_message::{Msm1074, MsmHeader};
+use rtk_message::{Msm, MsmHeader, MsmKind};
 
-// Thousandths of a dB-Hz in a step of DF403.
-const MSM_STRENGTH_STEP: u32 = 1000;
-
-// The least lock time of the cell at this place.
-fn lock_time(message: &Msm1074, cell: usize) -> u32
-    requires valid { IsValid message.now }
-    requires cell { cell < cell_count message.now }
-    ensures { result ≡ least_lock_of_msm (slice_index message.now.lock_indicator cell) }
+// Do the fields have extended resolution: DF405 to DF408 in the place of DF400 to DF403?
+fn has_extended_resolution(kind: MsmKind) -> bool
+    ensures { result ≡ has_extended_resolution kind }
 {
-    least_lock_msm(message.lock_indicator.as_slice()[cell])
+    match kind {
+        MsmKind::Msm4 | MsmKind::Msm5 => false,
+        MsmKind::Msm6 | MsmKind::Msm7 => true,
+    }
 }
 
-impl SetCell for Msm1074 {
+impl SetCell for Msm {
     ghost IsValid = { IsValid };
 
     ghost header = { λ m. m.header };
@@ -37,7 +36,7 @@ impl SetCell for Msm1074 {
 
     ghost rough_at = { λ m. rough_at m.rough_ms m.rough_fraction };
 
-    ghost cell_of = { cell_of_1074 };
+    ghost cell_of = { cell_of_msm };
 
     fn header(&self) -> MsmHeader {
         self.header
@@ -54,26 +53,33 @@ impl SetCell for Msm1074 {
         )
     }
 
-    // Each field is written where it stays.
     #[inline(always)]
     fn set_cell(&self, cell: &mut Cell, place: usize, rough: Option<i64>, band: Band) {
-        cell.range_mm = msm_range(rough, i32::from(self.fine_range.as_slice()[place]));
-        cell.phase_millicycles = msm_phase(band, rough, self.fine_phase.as_slice()[place]);
-        cell.strength_millidbhz = strength_from_steps(
-            MSM_STRENGTH_STEP,
-            self.cnr.as_slice()[place],
-        );
-        cell.lock_time_ms = lock_time(self, place);
+        let fine_range = self.fine_range.as_slice()[place];
+        let fine_phase = self.fine_phase.as_slice()[place];
+        let cnr = self.cnr.as_slice()[place];
+        let lock = self.lock_indicator.as_slice()[place];
+        if has_extended_resolution(self.kind) {
+            cell.range_mm = extended_range(rough, fine_range);
+            cell.phase_millicycles = extended_phase(band, rough, fine_phase);
+            cell.strength_millidbhz = strength_from_sixteenths(cnr);
+            cell.lock_time_ms = least_lock_extended(lock);
+        } else {
+            cell.range_mm = msm_range(rough, fine_range);
+            cell.phase_millicycles = msm_phase(band, rough, fine_phase);
+            cell.strength_millidbhz = strength_from_steps(MSM_STRENGTH_STEP, cnr as u8);
+            cell.lock_time_ms = least_lock_msm(lock as u8);
+        }
         cell.half = self.half_cycle.as_slice()[place];
         cell.source = CellSource::Msm;
         cell.offset = None;
     }
 }
 
-/// Puts the cells of a 1074 into a list, in place of what it has: see `cells_1074`.
-pub fn put_cells_1074(message: &Msm1074, found: &mut ArrayVec<CellEntry, 64>)
+/// Puts the cells of a 1075, 1076 or 1077 into a list, in place of what it has: see `cells_msm`.
+pub fn put_cells_msm(message: &Msm, found: &mut ArrayVec<CellEntry, 64>)
     requires { IsValid message.now }
-    ensures cells { found.new.items ≡ cells_of_1074 message.now }
+    ensures cells { found.new.items ≡ cells_of_msm message.now }
     ensures ranges { All IsInRange found.new.items }
     ensures distinct { AreDistinct found.new.items }
     ensures few { length found.new.items ≤ 64 }
@@ -82,16 +88,16 @@ pub fn put_cells_1074(message: &Msm1074, found: &mut ArrayVec<CellEntry, 64>)
     found.truncate(count);
 }
 
-/// The cells of a 1074 in the order of the message, for the satellites from 1 to 32 and the fifteen
-/// signals that have a code.
-pub fn cells_1074(message: &Msm1074) -> ArrayVec<CellEntry, 64>
+/// The cells of a 1075, 1076 or 1077 in the order of the message, for the satellites from 1 to 32
+/// and the fifteen signals that have a code.
+pub fn cells_msm(message: &Msm) -> ArrayVec<CellEntry, 64>
     requires { IsValid message.now }
-    ensures cells { result.items ≡ cells_of_1074 message.now }
+    ensures cells { result.items ≡ cells_of_msm message.now }
     ensures ranges { All IsInRange result.items }
     ensures distinct { AreDistinct result.items }
     ensures few { length result.items ≤ 64 }
 {
     let mut found = ArrayVec::new();
-    put_cells_1074(message, &mut found);
+    put_cells_msm(message, &mut found);
     found
 }

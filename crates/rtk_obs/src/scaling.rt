@@ -19,7 +19,7 @@ const HALF_LIGHT: u64 = 149_896_229;
 // More than a length in 0.0005 m that a 1004 gives.
 const LONGEST: u64 = 160_000_000_000;
 
-// 2^29: so many units of the times of a 1074 are a ms.
+// 2^29: so many units of a travel time are a ms.
 const MS: u32 = 536_870_912;
 
 // The whole number nearest to n * factor / divisor, a tie going up, in 64 bits.
@@ -50,7 +50,7 @@ fn scaled(value: i64, factor: u32, divisor: u32) -> i64
 
 // The whole number nearest to n * factor / 2^29, a tie going up.
 fn time_magnitude(n: u64, factor: u32) -> u64
-    requires { n ≤ 2 ^ 40 }
+    requires { n ≤ 2 ^ 41 }
     ensures value { result ≡ rounded_magnitude (n * factor) MS }
     ensures bound { result < 2 ^ 63 }
 {
@@ -60,7 +60,7 @@ fn time_magnitude(n: u64, factor: u32) -> u64
 
 // The whole number nearest to time * factor / 2^29, a tie going away from 0.
 fn scaled_time(time: i64, factor: u32) -> i64
-    requires { unsigned_abs time ≤ 2 ^ 40 }
+    requires { unsigned_abs time ≤ 2 ^ 41 }
     ensures { result ≡ rounded (time *ℤ pos factor) MS }
 {
     if time < 0 {
@@ -121,7 +121,7 @@ pub(crate) fn phase_from_time(band: Band, time: i64) -> i64
 
 /// A travel time of the signal, in 2^-31 ms, as a phase in millicycles.
 pub(crate) fn phase_from_extended_time(band: Band, time: i64) -> i64
-    requires { unsigned_abs time ≤ 2 ^ 40 }
+    requires { unsigned_abs time ≤ 2 ^ 41 }
     ensures { result ≡ phase_of_extended_time band time }
 {
     // Each frequency is a whole multiple of 4 Hz, so f / 2^31 is exactly (f / 4) / 2^29.

@@ -1,6 +1,6 @@
 use Rattle.std.proofs.Common.{arith}
 use Rattle.rtk_obs.proofs.MsmFieldLemmas.{locks_fit}
-use Rattle.rtk_obs.proofs.msm_cells.lock_time.Goals as goal
+use Rattle.rtk_obs.proofs.msm1074_cells.lock_time.Goals as goal
 
 pub least_lock_msm-requires : goal.least_lock_msm-requires
 least_lock_msm-requires c =

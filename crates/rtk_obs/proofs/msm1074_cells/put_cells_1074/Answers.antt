@@ -2,7 +2,7 @@ use Rattle.rtk_obs.proofs.DistinctLemmas.{cells_of_1074-distinct}
 use Rattle.rtk_obs.specs.MsmCells.{cell_of_1074}
 use Rattle.rtk_obs.proofs.MsmLemmas.{few_entries}
 use Rattle.rtk_obs.proofs.MsmFieldLemmas.{is_cell_mask-1074, cells_in_range-1074}
-use Rattle.rtk_obs.proofs.msm_cells.put_cells_1074.Goals as goal
+use Rattle.rtk_obs.proofs.msm1074_cells.put_cells_1074.Goals as goal
 
 pub put_cells-count-requires-clause-mask : goal.put_cells-count-requires-clause-mask
 put_cells-count-requires-clause-mask c = is_cell_mask-1074 c.args.message.now c.requires
