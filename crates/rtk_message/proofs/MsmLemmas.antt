@@ -21,24 +21,25 @@ use Rattle.rtk_message.specs.Msm1074.{header_table, satellite_count, signal_coun
 use Rattle.rtk_message.specs.Msm1074Laws.{header_says, cells_says, split, same_header}
 use Rattle.rtk_message.specs.MsmForm.{number_of_kind, form_of, if_rates, mask_table, satellite_table, cell_table, column_table, table, cell_count, HasLengths, HasForm, columns_of, satellite_bits, cell_bits, first_fault, IsWide}
 use Rattle.rtk_message.specs.AnyDecoded.{if_any_fault_of}
-use Rattle.rtk_message.specs.Steps.MsmColumns.{HasSatellites, HasCells, ChangesCells, SatellitesFit, CellsFit}
+use Rattle.rtk_message.specs.Steps.MsmColumns.{HasWidths, bits_of_cells, HasSatellites, HasCells, ChangesCells, SatellitesFit, CellsFit}
 use Rattle.rtk_message.proofs.ColumnLemmas.{flags-fit}
 use Rattle.rtk_message.proofs.FieldLemmas.{took_both}
 
 -- ---- the widths of a kind
 
 -- each width is one that a column of its type can have
-pub record HasWidths (f : MsmForm) : Type 0 where
-  pub fine_range : (1 ≤ f.fine_range) × (f.fine_range ≤ 32)
-  pub fine_phase : (1 ≤ f.fine_phase) × (f.fine_phase ≤ 32)
-  pub lock_indicator : (1 ≤ f.lock_indicator) × (f.lock_indicator ≤ 16)
-  pub cnr : (1 ≤ f.cnr) × (f.cnr ≤ 16)
-
 pub widths : (k : MsmKind) → HasWidths (form_of k)
 widths Msm4 = record { fine_range = (omega arith, omega arith); fine_phase = (omega arith, omega arith); lock_indicator = (omega arith, omega arith); cnr = (omega arith, omega arith) }
 widths Msm5 = record { fine_range = (omega arith, omega arith); fine_phase = (omega arith, omega arith); lock_indicator = (omega arith, omega arith); cnr = (omega arith, omega arith) }
 widths Msm6 = record { fine_range = (omega arith, omega arith); fine_phase = (omega arith, omega arith); lock_indicator = (omega arith, omega arith); cnr = (omega arith, omega arith) }
 widths Msm7 = record { fine_range = (omega arith, omega arith); fine_phase = (omega arith, omega arith); lock_indicator = (omega arith, omega arith); cnr = (omega arith, omega arith) }
+
+-- the columns of range rates are no longer than the others
+pub if_rates-le : (k : MsmKind) (n : ℕ) → if_rates k n ≤ n
+if_rates-le Msm4 n = omega arith
+if_rates-le Msm5 n = omega arith
+if_rates-le Msm6 n = omega arith
+if_rates-le Msm7 n = omega arith
 
 -- a kind of another number than 1074 is a wide one
 pub is_wide : (k : MsmKind) → number_of_kind k ≢ 1074 → IsWide k
@@ -55,7 +56,7 @@ satellite_bits-columns Msm6 n = omega arith
 satellite_bits-columns Msm7 n = omega arith
 
 -- the bits of n cells, column by column
-pub cell_bits-columns : (k : MsmKind) (n : ℕ) → cell_bits k * n ≡ (form_of k).fine_range * n + ((form_of k).fine_phase * n + ((form_of k).lock_indicator * n + (1 * n + ((form_of k).cnr * n + 15 * if_rates k n))))
+pub cell_bits-columns : (k : MsmKind) (n : ℕ) → cell_bits k * n ≡ bits_of_cells (form_of k) n (if_rates k n)
 cell_bits-columns Msm4 n = omega arith
 cell_bits-columns Msm5 n = omega arith
 cell_bits-columns Msm6 n = omega arith
@@ -75,7 +76,7 @@ sized_integers w zs n e = total-integers w zs ∙ ap (λ (x : ℕ). w * x) e
 sized_flags : (bs : List Bool) (n : ℕ) → length bs ≡ n → total (flags bs) ≡ 1 * n
 sized_flags bs n e = total-flags bs ∙ (e ∙ omega arith)
 
-length-satellite_table : (k : MsmKind) (n : ℕ) (m : Msm) → HasSatellites k n m → length (bits_of_fields (satellite_table m)) ≡ satellite_bits k * n
+length-satellite_table : (k : MsmKind) (n : ℕ) (m : Msm) → HasSatellites n (if_rates k n) m → length (bits_of_fields (satellite_table m)) ≡ satellite_bits k * n
 length-satellite_table k n m l =
     part (numbers 8 m.rough_ms) _ _ _ (sized_numbers 8 m.rough_ms n l.rough_ms)
     (part (numbers 4 m.extended) _ _ _ (sized_numbers 4 m.extended (if_rates k n) l.extended)
@@ -83,7 +84,7 @@ length-satellite_table k n m l =
     (length-bits_of_fields (integers 14 m.rough_rate) ∙ sized_integers 14 m.rough_rate (if_rates k n) l.rough_rate)))
     ∙ sym (satellite_bits-columns k n)
 
-length-cell_table : (k : MsmKind) (n : ℕ) (m : Msm) → HasCells k n m → length (bits_of_fields (cell_table (form_of k) m)) ≡ cell_bits k * n
+length-cell_table : (k : MsmKind) (n : ℕ) (m : Msm) → HasCells n (if_rates k n) m → length (bits_of_fields (cell_table (form_of k) m)) ≡ cell_bits k * n
 length-cell_table k n m l =
     let f = form_of k in
     part (integers f.fine_range m.fine_range) _ _ _ (sized_integers f.fine_range m.fine_range n l.fine_range)
@@ -95,7 +96,7 @@ length-cell_table k n m l =
     ∙ sym (cell_bits-columns k n)
 
 -- the lengths of the columns, from those of satellites and cells
-pub has_lengths : (m : Msm) → length m.cell_mask ≡ satellite_count m.header → HasSatellites m.kind (satellite_count m.header) m → HasCells m.kind (cell_count m) m → HasLengths m
+pub has_lengths : (m : Msm) → length m.cell_mask ≡ satellite_count m.header → HasSatellites (satellite_count m.header) (if_rates m.kind (satellite_count m.header)) m → HasCells (cell_count m) (if_rates m.kind (cell_count m)) m → HasLengths m
 has_lengths m mask s c = record {
   cell_mask = mask;
   rough_ms = s.rough_ms;
@@ -111,10 +112,10 @@ has_lengths m mask s c = record {
 }
 
 -- and back
-pub has_satellites : (m : Msm) → HasLengths m → HasSatellites m.kind (satellite_count m.header) m
+pub has_satellites : (m : Msm) → HasLengths m → HasSatellites (satellite_count m.header) (if_rates m.kind (satellite_count m.header)) m
 has_satellites m l = record { rough_ms = l.rough_ms; extended = l.extended; rough_fraction = l.rough_fraction; rough_rate = l.rough_rate }
 
-pub has_cells : (m : Msm) → HasLengths m → HasCells m.kind (cell_count m) m
+pub has_cells : (m : Msm) → HasLengths m → HasCells (cell_count m) (if_rates m.kind (cell_count m)) m
 has_cells m l = record { fine_range = l.fine_range; fine_phase = l.fine_phase; lock_indicator = l.lock_indicator; half_cycle = l.half_cycle; cnr = l.cnr; fine_rate = l.fine_rate }
 
 length-column_table : (m : Msm) → HasLengths m → length (bits_of_fields (column_table m)) ≡ satellite_bits m.kind * satellite_count m.header + cell_bits m.kind * cell_count m
@@ -256,7 +257,7 @@ whole h ns satellites cells = header_table h ++ (numbers (signal_count h) ns ++ 
 -- another
 pub all_read : {k : MsmKind} {h : MsmHeader} {ns : List ℕ} {mid new : Msm} {b0 b1 b2 b3 b4 : List Bool} → mid.kind ≡ k → mid.header ≡ h → mid.cell_mask ≡ ns → ChangesCells mid new
     → TakesAll (header_table h) b0 b1 → TakesAll (numbers (signal_count h) ns) b1 b2 → TakesAll (satellite_table mid) b2 b3 → TakesAll (cell_table (form_of k) new) b3 b4
-    → h.tow < week_ms → satellite_count h * signal_count h ≤ 64 → length ns ≡ satellite_count h → HasSatellites k (satellite_count h) mid → HasCells k (sum_by count_ones ns) new
+    → h.tow < week_ms → satellite_count h * signal_count h ≤ 64 → length ns ≡ satellite_count h → HasSatellites (satellite_count h) (if_rates k (satellite_count h)) mid → HasCells (sum_by count_ones ns) (if_rates k (sum_by count_ones ns)) new
     → HasForm new × (new.kind ≡ k) × TakesAll (table new) b0 b4
 all_read {k = k} {h = h} {ns = ns} {mid = mid} {new = new} {b0 = b0} {b4 = b4} is_kind is_header is_mask second head rows satellites cells time few len s c =
     let kind : new.kind ≡ k = ap (λ (x : Msm). x.kind) second ∙ is_kind in

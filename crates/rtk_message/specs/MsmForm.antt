@@ -1,6 +1,6 @@
 -- The multiple signal messages of GPS after their number (RTCM 10403.3, messages 1074 to 1077, MSM4
 -- to MSM7): a header of 157 bits, the cell mask, the columns. One table serves all kinds.
-use Rattle.std.specs.Prelude.{◌≡◌, ℕ, ◌+◌, ◌*◌, ◌≤◌, ◌<◌, Bool, true, false, List, [], ◌++◌, length, sum_by, count_ones, Option, Some, None, nat_lt, nat_le, if◌then◌else◌}
+use Rattle.std.specs.Prelude.{◌≡◌, ℕ, ◌+◌, ◌*◌, ◌≤◌, ◌<◌, Bool, List, [], ◌++◌, length, sum_by, count_ones, Option, Some, None, nat_lt, nat_le, if◌then◌else◌}
 use Rattle.rtk_message.specs.Fields.{week_ms, tow_in, Field, FieldsFit}
 use Rattle.rtk_message.specs.FieldColumns.{numbers, integers, flags}
 use Rattle.rtk_message.specs.Msm1074.{header_table, satellite_count, signal_count, satellite_count_in, mask_bits_in, cell_count_in}
@@ -19,17 +19,19 @@ number_of_kind Msm5 = 1075
 number_of_kind Msm6 = 1076
 number_of_kind Msm7 = 1077
 
--- the widths of DF400 or DF405, DF401 or DF406, DF402 or DF407, and DF403 or DF408, in bits, and
--- whether there are range rates
+-- the widths of DF400 or DF405, DF401 or DF406, DF402 or DF407, and DF403 or DF408, in bits
 abbrev pub form_of : MsmKind → MsmForm
-form_of Msm4 = record { fine_range = 15; fine_phase = 22; lock_indicator = 4; cnr = 6; rates = false }
-form_of Msm5 = record { fine_range = 15; fine_phase = 22; lock_indicator = 4; cnr = 6; rates = true }
-form_of Msm6 = record { fine_range = 20; fine_phase = 24; lock_indicator = 10; cnr = 10; rates = false }
-form_of Msm7 = record { fine_range = 20; fine_phase = 24; lock_indicator = 10; cnr = 10; rates = true }
+form_of Msm4 = record { fine_range = 15; fine_phase = 22; lock_indicator = 4; cnr = 6 }
+form_of Msm5 = record { fine_range = 15; fine_phase = 22; lock_indicator = 4; cnr = 6 }
+form_of Msm6 = record { fine_range = 20; fine_phase = 24; lock_indicator = 10; cnr = 10 }
+form_of Msm7 = record { fine_range = 20; fine_phase = 24; lock_indicator = 10; cnr = 10 }
 
--- this number for a kind with range rates, and 0 for another kind
+-- this number for a kind with range rates (MSM5 and MSM7), and 0 for another kind
 abbrev pub if_rates : MsmKind → ℕ → ℕ
-if_rates k n = if (form_of k).rates then n else 0
+if_rates Msm4 n = 0
+if_rates Msm5 n = n
+if_rates Msm6 n = 0
+if_rates Msm7 n = n
 
 -- the cell mask (DF396): for each satellite a row of one bit for each signal; the satellites rise,
 -- and in each row the signals

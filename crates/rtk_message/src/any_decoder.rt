@@ -1,7 +1,7 @@
 //! From the bytes of a payload to its message, by a set of messages.
 
-ghost use Rattle.std.specs.Prelude.{◌≡◌, Some, Err, IfOk, IfErr};
-ghost use Rattle.rtk_bits.specs.Bits.{bits};
+ghost use Rattle.std.specs.Prelude.{◌≡◌, ◌<◌, ◌++◌, Bool, List, Some, Err, IfOk, IfErr};
+ghost use Rattle.rtk_bits.specs.Bits.{bits, bits_of};
 ghost use Rattle.rtk_message.specs.AnyDecoded.{DecodesBy, any_of, fault_after_number};
 ghost use Rattle.rtk_message.specs.MsmForm.{number_of_kind, IsWide};
 ghost use Rattle.rtk_message.specs.Steps.AfterAnyNumber.{BeginsAfterAnyNumber};
@@ -81,19 +81,34 @@ impl AnyDecoder {
             return &self.other;
         };
         let number = number as u16;
-        if !accepted.accepts(number) {
-            put_fault(&mut self.other, AnyFault::Other { number });
-            return &self.other;
-        }
         match number {
             Obs1004::NUMBER => {
                 put_1004(&mut self.obs1004, reader);
                 &self.obs1004
             }
-            Msm1074::NUMBER => {
+            Msm1074::NUMBER if accepted.msm4 => {
                 put_1074(&mut self.msm1074, reader);
                 &self.msm1074
             }
+            _ => self.read_other(accepted, number, reader),
+        }
+    }
+
+    // Reads a message with another number than 1004, and than 1074 if that is in the set.
+    fn read_other(
+        &mut self,
+        accepted: Accepted,
+        number: u16,
+        reader: BitReader<'_>,
+    ) -> &Result<AnyMessage, AnyFault>
+        requires { number < 4096 }
+        ensures { (bs : List Bool) → bs ≡ bits_of 12 number ++ reader.entry → DecodesBy accepted bs result.now }
+    {
+        if !accepted.accepts(number) {
+            put_fault(&mut self.other, AnyFault::Other { number });
+            return &self.other;
+        }
+        match number {
             1075 => {
                 put_msm(&mut self.msm, MsmKind::Msm5, reader);
                 &self.msm

@@ -3,8 +3,8 @@
 ghost use Rattle.std.specs.Prelude.{◌≡◌, ◌+◌, ◌*◌, ◌≤◌, ◌++◌, length, OnOk, IfErr, Some, IsTrue, ◌↔◌};
 ghost use Rattle.rtk_message.specs.Fields.{TakesAll, FieldsAreZero, bits_of_fields};
 ghost use Rattle.rtk_message.specs.Msm1074.{satellite_count};
-ghost use Rattle.rtk_message.specs.MsmForm.{form_of, satellite_bits, cell_bits, satellite_table, cell_table, table, cell_count, first_fault, HasForm, HasNoCells, IsValid, IsWide};
-ghost use Rattle.rtk_message.specs.Steps.MsmColumns.{HasSatellites, HasCells, ChangesSatellites, ChangesCells, SatellitesFit, CellsFit};
+ghost use Rattle.rtk_message.specs.MsmForm.{form_of, if_rates, satellite_bits, cell_bits, satellite_table, cell_table, table, cell_count, first_fault, HasForm, HasNoCells, IsValid, IsWide};
+ghost use Rattle.rtk_message.specs.Steps.MsmColumns.{HasWidths, bits_of_cells, HasSatellites, HasCells, ChangesSatellites, ChangesCells, SatellitesFit, CellsFit};
 ghost use Rattle.rtk_message.specs.Steps.FieldSteps.{PutsAll};
 
 use crate::any_fault::AnyFault;
@@ -87,6 +87,7 @@ impl Msm {
 
     /// Reads the fields after the number in place of those that the message has. After a fault the
     /// message has fields of both, and is to be dropped.
+    #[inline(always)]
     pub(crate) fn read_over(
         &mut self,
         kind: MsmKind,
@@ -94,21 +95,6 @@ impl Msm {
     ) -> Result<(), AnyFault>
         requires { IsWide kind }
         ensures fields { OnOk result (IsValid self.new × (self.new.kind ≡ kind) × TakesAll (table self.new) reader.old reader.new) }
-        ensures fault { IfErr result (λ f. first_fault kind reader.old ≡ Some f) }
-    {
-        // Each kind is read by code for its own widths.
-        match kind {
-            MsmKind::Msm4 => unreachable!(),
-            MsmKind::Msm5 => self.read_as(MsmKind::Msm5, reader),
-            MsmKind::Msm6 => self.read_as(MsmKind::Msm6, reader),
-            MsmKind::Msm7 => self.read_as(MsmKind::Msm7, reader),
-        }
-    }
-
-    // Reads a message of this kind. It is inlined where the kind is a constant.
-    #[inline(always)]
-    fn read_as(&mut self, kind: MsmKind, reader: &mut BitReader<'_>) -> Result<(), AnyFault>
-        ensures fields { OnOk result (HasForm self.new × (self.new.kind ≡ kind) × TakesAll (table self.new) reader.old reader.new) }
         ensures fault { IfErr result (λ f. first_fault kind reader.old ≡ Some f) }
     {
         let number = kind.number();
@@ -145,33 +131,60 @@ impl Msm {
         requires few { satellites ≤ 64 }
         requires enough { satellite_bits kind * satellites ≤ length reader.old }
         ensures fields { TakesAll (satellite_table self.new) reader.old reader.new }
-        ensures lengths { HasSatellites kind satellites self.new }
+        ensures lengths { HasSatellites satellites (if_rates kind satellites) self.new }
         ensures rest { ChangesSatellites self.old self.new }
         ensures left { length reader.old ≡ satellite_bits kind * satellites + length reader.new }
     {
-        let rated = kind.if_rates(satellites);
+        let rates = kind.if_rates(satellites);
         read_column(&mut self.rough_ms, reader, satellites, 8);
-        read_column(&mut self.extended, reader, rated, 4);
+        read_column(&mut self.extended, reader, rates, 4);
         read_column(&mut self.rough_fraction, reader, satellites, 10);
-        read_column(&mut self.rough_rate, reader, rated, 14);
+        read_column(&mut self.rough_rate, reader, rates, 14);
     }
 
     // Reads the columns of the cells, and no other field.
-    #[inline(always)]
     fn read_cells(&mut self, kind: MsmKind, reader: &mut BitReader<'_>, cells: usize)
         requires few { cells ≤ 64 }
         requires enough { cell_bits kind * cells ≤ length reader.old }
         ensures fields { TakesAll (cell_table (form_of kind) self.new) reader.old reader.new }
-        ensures lengths { HasCells kind cells self.new }
+        ensures lengths { HasCells cells (if_rates kind cells) self.new }
         ensures rest { ChangesCells self.old self.new }
     {
-        let form = kind.form();
+        let rates = kind.if_rates(cells);
+        // Each of the two forms is read by code for its own widths.
+        match kind {
+            MsmKind::Msm4 | MsmKind::Msm5 => {
+                self.read_cells_as(MsmKind::Msm5.form(), reader, cells, rates)
+            }
+            MsmKind::Msm6 | MsmKind::Msm7 => {
+                self.read_cells_as(MsmKind::Msm7.form(), reader, cells, rates)
+            }
+        }
+    }
+
+    // Reads the columns of the cells by a form, with this many range rates. It is inlined where the
+    // form is a constant.
+    #[inline(always)]
+    fn read_cells_as(
+        &mut self,
+        form: MsmForm,
+        reader: &mut BitReader<'_>,
+        cells: usize,
+        rates: usize,
+    )
+        requires few { (cells ≤ 64) × (rates ≤ 64) }
+        requires widths { HasWidths form }
+        requires enough { bits_of_cells form cells rates ≤ length reader.old }
+        ensures fields { TakesAll (cell_table form self.new) reader.old reader.new }
+        ensures lengths { HasCells cells rates self.new }
+        ensures rest { ChangesCells self.old self.new }
+    {
         read_column(&mut self.fine_range, reader, cells, form.fine_range);
         read_column(&mut self.fine_phase, reader, cells, form.fine_phase);
         read_column(&mut self.lock_indicator, reader, cells, form.lock_indicator);
         read_column(&mut self.half_cycle, reader, cells, 1);
         read_column(&mut self.cnr, reader, cells, form.cnr);
-        read_column(&mut self.fine_rate, reader, kind.if_rates(cells), 15);
+        read_column(&mut self.fine_rate, reader, rates, 15);
     }
 
     /// Puts the fields after the number. An `Err` means that memory was refused; some of the fields
@@ -225,20 +238,20 @@ impl Msm {
 
     // Whether each column of the satellites has its length.
     fn satellites_have_lengths(&self) -> bool
-        ensures { IsTrue result ↔ ((length self.now.cell_mask ≡ satellite_count self.now.header) × HasSatellites self.now.kind (satellite_count self.now.header) self.now) }
+        ensures { IsTrue result ↔ ((length self.now.cell_mask ≡ satellite_count self.now.header) × HasSatellites (satellite_count self.now.header) (if_rates self.now.kind (satellite_count self.now.header)) self.now) }
     {
         let satellites = self.header.satellite_count();
-        let rated = self.kind.if_rates(satellites);
+        let rates = self.kind.if_rates(satellites);
         self.cell_mask.len() == satellites
             && self.rough_ms.len() == satellites
-            && self.extended.len() == rated
+            && self.extended.len() == rates
             && self.rough_fraction.len() == satellites
-            && self.rough_rate.len() == rated
+            && self.rough_rate.len() == rates
     }
 
     // Whether each column of the cells has its length.
     fn cells_have_lengths(&self) -> bool
-        ensures { IsTrue result ↔ HasCells self.now.kind (cell_count self.now) self.now }
+        ensures { IsTrue result ↔ HasCells (cell_count self.now) (if_rates self.now.kind (cell_count self.now)) self.now }
     {
         let cells = count_cells(&self.cell_mask) as usize;
         if self.fine_range.len() != cells

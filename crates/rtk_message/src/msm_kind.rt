@@ -17,10 +17,10 @@ pub enum MsmKind {
     Msm7,
 }
 
-/// Which columns a kind has, and how many bits a field of each has.
+/// How many bits a field has, for the columns whose width depends on the kind.
 ///
-/// The columns that all kinds have at one width are left out: DF397 (8 bits), DF398 (10 bits) and
-/// DF420 (1 bit).
+/// All kinds have DF397 (8 bits), DF398 (10 bits) and DF420 (1 bit). The kinds with range rates have
+/// extended satellite information (4 bits), DF399 (14 bits) and DF404 (15 bits).
 #[derive(Clone, Copy, Debug, PartialEq, Eq)]
 pub(crate) struct MsmForm {
     /// Bits of the fine pseudorange (DF400 or DF405).
@@ -31,9 +31,6 @@ pub(crate) struct MsmForm {
     pub lock_indicator: usize,
     /// Bits of the carrier-to-noise ratio (DF403 or DF408).
     pub cnr: usize,
-    /// Whether there are the columns of range rates: the extended satellite information (4 bits),
-    /// DF399 (14 bits) and DF404 (15 bits).
-    pub rates: bool,
 }
 
 impl MsmKind {
@@ -49,23 +46,24 @@ impl MsmKind {
         }
     }
 
-    /// The form of the message.
+    /// The widths of the fields.
     #[inline(always)]
     pub(crate) fn form(self) -> MsmForm
         ensures { result ≡ form_of self }
     {
-        let (fine_range, fine_phase, lock_indicator, cnr, rates) = match self {
-            MsmKind::Msm4 => (15, 22, 4, 6, false),
-            MsmKind::Msm5 => (15, 22, 4, 6, true),
-            MsmKind::Msm6 => (20, 24, 10, 10, false),
-            MsmKind::Msm7 => (20, 24, 10, 10, true),
-        };
-        MsmForm {
-            fine_range,
-            fine_phase,
-            lock_indicator,
-            cnr,
-            rates,
+        match self {
+            MsmKind::Msm4 | MsmKind::Msm5 => MsmForm {
+                fine_range: 15,
+                fine_phase: 22,
+                lock_indicator: 4,
+                cnr: 6,
+            },
+            MsmKind::Msm6 | MsmKind::Msm7 => MsmForm {
+                fine_range: 20,
+                fine_phase: 24,
+                lock_indicator: 10,
+                cnr: 10,
+            },
         }
     }
 
@@ -74,7 +72,10 @@ impl MsmKind {
     pub(crate) fn if_rates(self, count: usize) -> usize
         ensures { result ≡ if_rates self count }
     {
-        if self.form().rates { count } else { 0 }
+        match self {
+            MsmKind::Msm4 | MsmKind::Msm6 => 0,
+            MsmKind::Msm5 | MsmKind::Msm7 => count,
+        }
     }
 
     /// How many bits a satellite has after the cell mask.

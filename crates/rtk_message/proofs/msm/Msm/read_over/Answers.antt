@@ -1,12 +1,13 @@
-use Rattle.std.proofs.Common.{◌≤◌, ◌*◌, ◌<◌, sum_by, count_ones, ◌∙◌, ap, arith, rules}
+use Rattle.std.proofs.Common.{◌≤◌, ◌*◌, ◌<◌, sum_by, count_ones, ◌∙◌, ap, subst, sym, arith, rules}
 use Rattle.rtk_message.specs.Fields.{TakesAll}
 use Rattle.rtk_message.specs.FieldColumns.{numbers}
+use Rattle.rtk_message.specs.MsmForm.{IsWide}
 use Rattle.rtk_message.specs.declared.msm.Msm.{Msm}
 use Rattle.rtk_message.proofs.ColumnLemmas.{ones-few}
 use Rattle.rtk_message.proofs.Msm1074Lemmas.{few_of}
 use Rattle.rtk_message.proofs.MsmLemmas.{is_out_of_week, is_many, is_cut_mask, is_cut_rest, all_read}
 use Rattle.rtk_message.specs.Msm1074.{signal_count}
-use Rattle.rtk_message.proofs.msm.Msm.read_as.Goals as goal
+use Rattle.rtk_message.proofs.msm.Msm.read_over.Goals as goal
 
 pub returns-then-self-ge-WEEK_MS-clause-fault : goal.returns-then-self-ge-WEEK_MS-clause-fault
 returns-then-self-ge-WEEK_MS-clause-fault c = rw c.number-number.ensures (is_out_of_week c.args.kind c.next_header-self.ensures.fields (omega (arith, c.if-self-ge-WEEK_MS.true)))
@@ -52,8 +53,9 @@ returns-clause-fields c =
     let ns = c.read_mask-cells.new.mask in
     let few : c.satellite_count-satellites.result * c.signal_count-signals.result ≤ 64 = few_of c.has_too_many_cells.ensures c.if-has_too_many_cells.false in
     let mask : TakesAll (numbers (signal_count h) ns) c.next_header-self.new.reader c.read_mask-cells.new.reader = rw (← c.signal_count-signals.ensures.value) c.read_mask-cells.ensures.fields in
-    all_read {k = c.args.kind} {h = h} {ns = ns} {mid = c.read_satellites.new.self} {new = c.read_cells.new.self} (ap (λ (m : Msm). m.kind) c.read_satellites.ensures.rest) (ap (λ (m : Msm). m.header) c.read_satellites.ensures.rest) (ap (λ (m : Msm). m.cell_mask) c.read_satellites.ensures.rest) c.read_cells.ensures.rest
+    let read = all_read {k = c.args.kind} {h = h} {ns = ns} {mid = c.read_satellites.new.self} {new = c.read_cells.new.self} (ap (λ (m : Msm). m.kind) c.read_satellites.ensures.rest) (ap (λ (m : Msm). m.header) c.read_satellites.ensures.rest) (ap (λ (m : Msm). m.cell_mask) c.read_satellites.ensures.rest) c.read_cells.ensures.rest
     c.next_header-self.ensures.fields mask c.read_satellites.ensures.fields c.read_cells.ensures.fields (omega (arith, c.if-self-ge-WEEK_MS.false))
     (rw (← c.satellite_count-satellites.ensures.value, ← c.signal_count-signals.ensures.value) few) (c.read_mask-cells.ensures.count ∙ c.satellite_count-satellites.ensures.value)
     (rw (← c.satellite_count-satellites.ensures.value) c.read_satellites.ensures.lengths)
-    (rw (← c.read_mask-cells.ensures.cells) c.read_cells.ensures.lengths)
+    (rw (← c.read_mask-cells.ensures.cells) c.read_cells.ensures.lengths) in
+    (record { wide = subst IsWide (sym read.1) c.requires; form = read.0 }, read.1, read.2)
