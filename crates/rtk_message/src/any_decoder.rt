@@ -9,9 +9,7 @@ ghost use Rattle.rtk_message.specs.Steps.AfterAnyNumber.{BeginsAfterAnyNumber};
 use crate::accepted::Accepted;
 use crate::any_fault::AnyFault;
 use crate::any_message::AnyMessage;
-use crate::arp1005::Arp1005;
-use crate::arp1006::Arp1006;
-use crate::decoding::{read_1004, read_1005, read_1006, read_1074};
+use crate::decoding::read_after;
 use crate::fault::DecodeFault;
 use crate::layout::Layout;
 use crate::message::Message;
@@ -202,14 +200,10 @@ fn read_any(number: u16, reader: BitReader<'_>) -> Result<AnyMessage, AnyFault>
     ensures fault { IfErr result (λ f. fault_after_number number reader.entry ≡ Some f) }
 {
     match number {
-        Obs1004::NUMBER => any(read_1004(reader)),
-        Arp1005::NUMBER => any(read_1005(reader)),
-        Arp1006::NUMBER => any(read_1006(reader)),
-        Msm1074::NUMBER => any(read_1074(reader)),
         1075 => read_msm(MsmKind::Msm5, reader),
         1076 => read_msm(MsmKind::Msm6, reader),
         1077 => read_msm(MsmKind::Msm7, reader),
-        _ => Err(AnyFault::Other { number }),
+        _ => any(read_after(number, reader)),
     }
 }
 
