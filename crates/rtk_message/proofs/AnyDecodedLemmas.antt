@@ -173,8 +173,8 @@ same_fault_of_other n bs p q r =
     let six : (n == 1076) ≡ false = differs n 1076 q in
     let seven : (n == 1077) ≡ false = differs n 1077 r in
     rw (five, six, seven) refl where
-  differs : (n k : ℕ) → n ≢ k → (n == k) ≡ false
-  differs n k other = elim (eqb_tells n k) [ inl e ↦ absurd (other e.1) | inr e ↦ e.0 ]
+      differs : (n k : ℕ) → n ≢ k → (n == k) ≡ false
+      differs n k other = elim (eqb_tells n k) [ inl e ↦ absurd (other e.1) | inr e ↦ e.0 ]
 
 -- the faults of the set of the four are those of `decode`
 same_tests : {X : Type 0} (b c d : Bool) (x y z t : X) → (if (if b then false else if c then false else if d then false else false) then (if b then x else if c then y else if d then z else t) else t) ≡ t
