@@ -106,24 +106,12 @@ impl AnyDecoder {
             put_fault(&mut self.other, AnyFault::Other { number });
             return &self.other;
         }
-        match number {
-            1075 => {
-                put_msm(&mut self.msm, MsmKind::Msm5, reader);
-                &self.msm
-            }
-            1076 => {
-                put_msm(&mut self.msm, MsmKind::Msm6, reader);
-                &self.msm
-            }
-            1077 => {
-                put_msm(&mut self.msm, MsmKind::Msm7, reader);
-                &self.msm
-            }
-            _ => {
-                put_new(&mut self.other, number, reader);
-                &self.other
-            }
-        }
+        let Some(kind) = MsmKind::wide(number) else {
+            put_new(&mut self.other, number, reader);
+            return &self.other;
+        };
+        put_msm(&mut self.msm, kind, reader);
+        &self.msm
     }
 }
 
@@ -199,11 +187,9 @@ fn read_any(number: u16, reader: BitReader<'_>) -> Result<AnyMessage, AnyFault>
     ensures message { IfOk result (λ m. BeginsAfterAnyNumber number reader.entry m) }
     ensures fault { IfErr result (λ f. fault_after_number number reader.entry ≡ Some f) }
 {
-    match number {
-        1075 => read_msm(MsmKind::Msm5, reader),
-        1076 => read_msm(MsmKind::Msm6, reader),
-        1077 => read_msm(MsmKind::Msm7, reader),
-        _ => any(read_after(number, reader)),
+    match MsmKind::wide(number) {
+        Some(kind) => read_msm(kind, reader),
+        None => any(read_after(number, reader)),
     }
 }
 
