@@ -1,6 +1,6 @@
 -- Bits begin with at most one message of the wider set, and have no fault if they begin with one.
 -- What `decode` answers is the case of 1004, 1005, 1006 and 1074.
-use Rattle.std.proofs.Common.{◌≡◌, ℕ, ◌^◌, ◌<◌, ◌≤◌, Bool, true, false, List, ◌++◌, length, take, drop, Option, Some, None, Result, Ok, Err, refl, sym, ap, ◌∙◌, append_assoc, arith, length-append, ltb, inl, inr}
+use Rattle.std.proofs.Common.{◌≡◌, ◌≢◌, ℕ, ◌^◌, ◌<◌, ◌≤◌, Bool, true, false, List, ◌++◌, length, take, drop, Option, Some, None, Result, Ok, Err, refl, sym, ap, ◌∙◌, append_assoc, arith, length-append, ltb, inl, inr}
 use Rattle.std.specs.Prelude.{IfOk, IfErr, IsTrue, ◌==◌, if◌then◌else◌}
 use Rattle.std.proofs.lemmas.Bool.{le-ltb}
 use Rattle.std.proofs.lemmas.Bool.Decides.{eqb_tells}
@@ -166,6 +166,15 @@ after_four k bs (Err e) f = tt
 pub fault_after_four : (k : ℕ) (bs : List Bool) (r : Result declared_message.Message DecodeFault) → fault_after_number k bs ≡ if_any_fault_of (decoded.fault_after_number k bs) → IfErr r (λ f. decoded.fault_after_number k bs ≡ Some f) → IfErr (any_of r) (λ f. fault_after_number k bs ≡ Some f)
 fault_after_four k bs (Ok m) same f = tt
 fault_after_four k bs (Err e) same f = same ∙ ap if_any_fault_of f
+
+pub same_fault_of_other : (n : ℕ) (bs : List Bool) → n ≢ 1075 → n ≢ 1076 → n ≢ 1077 → fault_after_number n bs ≡ if_any_fault_of (decoded.fault_after_number n bs)
+same_fault_of_other n bs p q r =
+    let five : (n == 1075) ≡ false = differs n 1075 p in
+    let six : (n == 1076) ≡ false = differs n 1076 q in
+    let seven : (n == 1077) ≡ false = differs n 1077 r in
+    rw (five, six, seven) refl where
+      differs : (n k : ℕ) → n ≢ k → (n == k) ≡ false
+      differs n k other = elim (eqb_tells n k) [ inl e ↦ absurd (other e.1) | inr e ↦ e.0 ]
 
 -- the faults of the set of the four are those of `decode`
 same_tests : {X : Type 0} (b c d : Bool) (x y z t : X) → (if (if b then false else if c then false else if d then false else false) then (if b then x else if c then y else if d then z else t) else t) ≡ t

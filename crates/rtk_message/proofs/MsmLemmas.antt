@@ -8,7 +8,6 @@ use Rattle.rtk_message.specs.declared.any_fault.AnyFault.TheVariants.{Short, Epo
 use Rattle.rtk_message.specs.declared.fault.DecodeFault.TheVariants as fault
 use Rattle.rtk_message.specs.declared.msm_kind.MsmKind.{MsmKind}
 use Rattle.rtk_message.specs.declared.msm_kind.MsmKind.TheVariants.{Msm4, Msm5, Msm6, Msm7}
-use Rattle.rtk_message.specs.declared.msm_kind.MsmForm.{MsmForm}
 use Rattle.rtk_message.specs.declared.msm1074.MsmHeader.{MsmHeader}
 use Rattle.rtk_message.specs.declared.msm1074.Msm1074.{Msm1074}
 use Rattle.rtk_message.specs.declared.msm.Msm.{Msm}

@@ -8,6 +8,10 @@ use Rattle.rtk_message.specs.declared.msm_kind.MsmKind.TheVariants.{Msm4, Msm5, 
 abbrev pub four : Accepted
 four = record { msm4 = true; msm5 = false; msm6 = false; msm7 = false }
 
+-- all MSM
+abbrev pub all : Accepted
+all = record { msm4 = true; msm5 = true; msm6 = true; msm7 = true }
+
 -- the MSM of this kind and no other
 abbrev pub only : MsmKind → Accepted
 only Msm4 = record { msm4 = true; msm5 = false; msm6 = false; msm7 = false }

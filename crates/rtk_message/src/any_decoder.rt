@@ -9,9 +9,7 @@ ghost use Rattle.rtk_message.specs.Steps.AfterAnyNumber.{BeginsAfterAnyNumber};
 use crate::accepted::Accepted;
 use crate::any_fault::AnyFault;
 use crate::any_message::AnyMessage;
-use crate::arp1005::Arp1005;
-use crate::arp1006::Arp1006;
-use crate::decoding::{read_1004, read_1005, read_1006, read_1074};
+use crate::decoding::read_after;
 use crate::fault::DecodeFault;
 use crate::layout::Layout;
 use crate::message::Message;
@@ -108,24 +106,12 @@ impl AnyDecoder {
             put_fault(&mut self.other, AnyFault::Other { number });
             return &self.other;
         }
-        match number {
-            1075 => {
-                put_msm(&mut self.msm, MsmKind::Msm5, reader);
-                &self.msm
-            }
-            1076 => {
-                put_msm(&mut self.msm, MsmKind::Msm6, reader);
-                &self.msm
-            }
-            1077 => {
-                put_msm(&mut self.msm, MsmKind::Msm7, reader);
-                &self.msm
-            }
-            _ => {
-                put_new(&mut self.other, number, reader);
-                &self.other
-            }
-        }
+        let Some(kind) = MsmKind::wide(number) else {
+            put_new(&mut self.other, number, reader);
+            return &self.other;
+        };
+        put_msm(&mut self.msm, kind, reader);
+        &self.msm
     }
 }
 
@@ -201,15 +187,9 @@ fn read_any(number: u16, reader: BitReader<'_>) -> Result<AnyMessage, AnyFault>
     ensures message { IfOk result (λ m. BeginsAfterAnyNumber number reader.entry m) }
     ensures fault { IfErr result (λ f. fault_after_number number reader.entry ≡ Some f) }
 {
-    match number {
-        Obs1004::NUMBER => any(read_1004(reader)),
-        Arp1005::NUMBER => any(read_1005(reader)),
-        Arp1006::NUMBER => any(read_1006(reader)),
-        Msm1074::NUMBER => any(read_1074(reader)),
-        1075 => read_msm(MsmKind::Msm5, reader),
-        1076 => read_msm(MsmKind::Msm6, reader),
-        1077 => read_msm(MsmKind::Msm7, reader),
-        _ => Err(AnyFault::Other { number }),
+    match MsmKind::wide(number) {
+        Some(kind) => read_msm(kind, reader),
+        None => any(read_after(number, reader)),
     }
 }
 

@@ -2,7 +2,7 @@
 //! law of fields that fit.
 
 ghost use Rattle.std.specs.Prelude.{List, ◌++◌, ◌≡◌, ◌↔◌, Bool, Result};
-ghost use Rattle.rtk_message.specs.Accepted.{four};
+ghost use Rattle.rtk_message.specs.Accepted.{all, four};
 ghost use Rattle.rtk_message.specs.AnyDecoded.{any_of, if_any_fault_of, DecodesBy};
 ghost use Rattle.rtk_message.specs.Decoded.{Decodes};
 ghost use Rattle.rtk_message.specs.declared.any_fault.AnyFault.{AnyFault};
@@ -16,6 +16,7 @@ ghost use Rattle.rtk_message.specs.MsmForm as form;
 ghost use Rattle.rtk_message.specs.Equality.{SaysEqual};
 ghost use Rattle.rtk_message.specs.Fields.{Field, FieldsFit};
 
+use crate::accepted::Accepted;
 use crate::any_fault::AnyFault;
 use crate::any_message::AnyMessage;
 use crate::fault::DecodeFault;
@@ -79,6 +80,12 @@ pub fn form_of_1074()
     ensures table { (m : Msm1074) → msm1074.table m ≡ form.table (form.columns_of m) }
     ensures valid { (m : Msm1074) → msm1074.IsValid m ↔ form.HasForm (form.columns_of m) }
     ensures fault { (bs : List Bool) → if_any_fault_of (msm1074.first_fault bs) ≡ form.first_fault Msm4 bs }
+{}
+
+/// A law: which messages the two named sets have.
+pub fn named_sets()
+    ensures of_four { Accepted.FOUR ≡ four }
+    ensures of_all { Accepted.ALL ≡ all }
 {}
 
 /// A law: `decode` answers what `decode_any` answers by the set of 1004, 1005, 1006 and 1074, and

@@ -62,7 +62,10 @@ pub use decoding::decode;
 pub use encoding::{decode_any_of_encode_any, decode_of_encode, encode, encode_any};
 pub use fault::DecodeFault;
 pub use field::WEEK_MS;
-pub use laws::{equal_1004, equal_1074, equal_faults, equal_messages, parts_of_fields_fit};
+pub use laws::{
+    decodes_by_four, equal_1004, equal_1074, equal_any_faults, equal_any_messages, equal_faults,
+    equal_messages, equal_msm, form_of_1074, named_sets, parts_of_fields_fit,
+};
 pub use layout::Layout;
 pub use message::Message;
 pub use msm::Msm;

@@ -1,7 +1,8 @@
 //! The kinds of multiple signal messages (MSM) of GPS that are read, and the form of each.
 
-ghost use Rattle.std.specs.Prelude.{◌≡◌, ◌≤◌};
-ghost use Rattle.rtk_message.specs.MsmForm.{number_of_kind, form_of, if_rates, satellite_bits, cell_bits};
+ghost use Rattle.std.specs.Prelude.{◌≡◌, ◌≢◌, ◌≤◌, IfSome, IfNone};
+ghost use Rattle.rtk_message.specs.declared.msm_kind.MsmKind.{MsmKind};
+ghost use Rattle.rtk_message.specs.MsmForm.{IsWide, number_of_kind, form_of, if_rates, satellite_bits, cell_bits};
 
 /// A multiple signal message of GPS. Source: RTCM 10403.3, messages 1074 to 1077.
 #[derive(Clone, Copy, Debug, Default, PartialEq, Eq)]
@@ -43,6 +44,19 @@ impl MsmKind {
             MsmKind::Msm5 => 1075,
             MsmKind::Msm6 => 1076,
             MsmKind::Msm7 => 1077,
+        }
+    }
+
+    /// The kind of this message number (DF002), if it is 1075, 1076 or 1077.
+    pub(crate) fn wide(number: u16) -> Option<MsmKind>
+        ensures some { IfSome result (λ k. IsWide k × (number ≡ number_of_kind k)) }
+        ensures none { IfNone result ((k : MsmKind) → IsWide k → number ≢ number_of_kind k) }
+    {
+        match number {
+            1075 => Some(MsmKind::Msm5),
+            1076 => Some(MsmKind::Msm6),
+            1077 => Some(MsmKind::Msm7),
+            _ => None,
         }
     }
 

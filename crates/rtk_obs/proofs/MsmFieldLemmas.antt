@@ -1,5 +1,5 @@
 -- The fields of an MSM: their widths, its cell mask, and the ranges of the values of its cells.
-use Rattle.std.proofs.Common.{◌≡◌, ℕ, zero, suc, ◌*◌, ◌^◌, ◌<◌, [], ◌∷◌, ◌++◌, List, length, get_or, Option, Some, None, refl, arith, nat_eq, true, false, Bool, cond, max, min, subst}
+use Rattle.std.proofs.Common.{◌≡◌, ℕ, zero, suc, ◌*◌, ◌^◌, ◌<◌, [], ◌∷◌, ◌++◌, List, get_or, Some, None, refl, arith, nat_eq, true, false, Bool, cond, max, min, subst}
 use Rattle.std.specs.Prelude.{IfSome}
 use Rattle.std.specs.List.{All, AllByRecursion}
 use Rattle.std.proofs.lemmas.List.Elements.{All-from_recursion}
@@ -21,7 +21,7 @@ use Rattle.rtk_obs.specs.Cell.{IsStrength, IsInRange}
 use Rattle.rtk_obs.specs.Code.{band_of}
 use Rattle.rtk_obs.specs.Rounding.{rounded_magnitude}
 use Rattle.rtk_obs.specs.Scaling.{strength_of, strength_of_sixteenths}
-use Rattle.rtk_obs.specs.MsmCells.{entries_of, cell_of_1074, cells_of_1074, has_extended_resolution, strength_of_kind, cell_of_msm, cells_of_msm}
+use Rattle.rtk_obs.specs.MsmCells.{entries_of, cell_of_1074, cells_of_1074, has_extended_resolution, cell_of_msm, cells_of_msm}
 use Rattle.rtk_obs.specs.Steps.MsmRows.{IsCellMask}
 use Rattle.rtk_obs.proofs.MsmLemmas.{all-entries_of}
 

@@ -14,8 +14,8 @@ abbrev pub strength_of : ℕ → ℕ → Option ℕ
 strength_of step steps = if steps == 0 then None else Some (step * steps)
 
 -- a signal strength in thousandths of a dB-Hz, from sixteenths of a dB-Hz (DF408); 0 is not given.
--- It is rounded to quarters of a dB-Hz, and held to the least and the greatest of a 1004 (this
--- project's rule).
+-- It is rounded to quarters of a dB-Hz, a tie up, and held to 0.25 to 63.75 dB-Hz (this project's
+-- rule; a 1004 can give no others).
 abbrev pub strength_of_sixteenths : ℕ → Option ℕ
 strength_of_sixteenths n = if n == 0 then None else Some (250 * min (max (rounded_magnitude n 4) 1) 255)
 

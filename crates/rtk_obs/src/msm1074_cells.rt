@@ -51,7 +51,6 @@ impl SetCell for Msm1074 {
         )
     }
 
-    // Each field is written where it stays.
     #[inline(always)]
     fn set_cell(&self, cell: &mut Cell, place: usize, rough: Option<i64>, band: Band) {
         cell.range_mm = msm_range(rough, i32::from(self.fine_range.as_slice()[place]));

@@ -17,13 +17,16 @@ use crate::mask::{places_of_bits, top_bit};
 use arrayvec::ArrayVec;
 use rtk_message::MsmHeader;
 
-/// A message whose cells are set one by one.
+/// An MSM whose cells are set one by one.
 pub(crate) trait SetCell {
-    /// Which values are messages.
+    /// Which values can be written as bits: their fields fit, and their columns have the lengths
+    /// that the masks give.
     ghost IsValid: { Self → Type 0 };
 
+    /// The fields before the cell mask.
     ghost header: { Self → MsmHeader };
 
+    /// The rows of the cell mask.
     ghost cell_mask: { Self → List ℕ };
 
     /// The rough range of the satellite of a row, in 2^-29 ms.
@@ -48,6 +51,7 @@ pub(crate) trait SetCell {
         ensures bound { IfSome result (λ r. unsigned_abs r ≤ 2 ^ 38) };
 
     /// Sets a cell to the one at this place in the message, of a satellite with this rough range.
+    /// Each field is written where it stays.
     fn set_cell(&self, cell: &mut Cell, place: usize, rough: Option<i64>, band: Band)
         requires valid { IsValid self.now }
         requires place { place < cells_in (cell_mask self.now) }

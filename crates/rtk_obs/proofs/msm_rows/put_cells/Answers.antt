@@ -1,4 +1,4 @@
-use Rattle.std.proofs.Common.{◌≡◌, ◌∙◌, ap, take, rules, arith}
+use Rattle.std.proofs.Common.{◌≡◌, ◌∙◌, ap, take, arith}
 use Rattle.rtk_obs.specs.MsmCells.{signals_of, slot_entry}
 use Rattle.rtk_obs.proofs.MsmLemmas.{fits_at, cells_at, next_row_entries, next_row_length, no_row_entries, no_row_length}
 use Rattle.rtk_obs.proofs.msm_rows.put_cells.Goals as goal
