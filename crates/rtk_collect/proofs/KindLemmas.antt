@@ -12,7 +12,7 @@ use Rattle.rtk_obs.specs.Slip.{is_same_source}
 use Rattle.rtk_obs.specs.LegacyCells.{first_entries, satellite_entries, cells_of_1004}
 use Rattle.rtk_obs.specs.MsmCells.{cell_of_1074, cells_of_1074, cell_of_msm, cells_of_msm}
 use Rattle.rtk_obs.proofs.PublicLaws.{all-entries_of}
-use Rattle.std.specs.Prelude.{slice_index, ◌==◌}
+use Rattle.std.specs.Prelude.{◌==◌}
 use Rattle.rtk_obs.specs.declared.cell.CellEntry.{CellEntry}
 use Rattle.rtk_obs.specs.declared.cell.CellSource.{CellSource}
 use Rattle.rtk_obs.specs.declared.cell.CellSource.TheVariants.{Legacy, Msm}
