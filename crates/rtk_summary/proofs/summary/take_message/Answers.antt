@@ -2,7 +2,7 @@ use Rattle.std.proofs.Common.{◌++◌, List, subst, ◌∙◌}
 use Rattle.rtk_obs.specs.declared.cell.CellEntry.{CellEntry}
 use Rattle.rtk_summary.specs.Steps.Standing.{StandsForEntries}
 use Rattle.rtk_summary.specs.Tracing.{entries_in}
-use Rattle.rtk_summary.proofs.summary.Summary.take_message.Goals as goal
+use Rattle.rtk_summary.proofs.summary.take_message.Goals as goal
 
 pub returns-clause-signals : goal.returns-clause-signals
 returns-clause-signals c = λ ms stands.
