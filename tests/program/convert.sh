@@ -69,12 +69,15 @@ leaves name_of_300_characters 0 "$examples/base.rnx" base.report
 # Names that begin with the word, or have its letters as capitals, are files: standard input is closed, or one link of three.
 cp "$base" STDIN; cp "$base" stdin.rtcm
 report 4 0 0 0 2 2 0 0 1 >two.report
+# refuses: a name that is changed before it is opened, or taken for standard input
 convert 1C,2W STDIN stdin.rtcm <&-;                   leaves files_of_names_like_stdin 0 "$examples/base.rnx" two.report
 report 6 0 0 0 2 4 0 0 1 >three.report
+# refuses: a name that is changed before it is opened, or taken for standard input
 convert 1C,2W stdin.rtcm stdin STDIN <"$base";        leaves standard_input_and_names_like_it 0 "$examples/base.rnx" three.report
 # A name is taken as it is, its blanks, commas and signs too.
 odd=' ~a,b=c%20 $HOME#*?[x]'"'\"\\ "
 cp "$base" "$odd"
+# refuses: a name that is changed before it is opened, or taken for standard input
 convert 1C,2W "$odd" </dev/null;                      leaves file_of_an_odd_name 0 "$examples/base.rnx" base.report
 cp "$base" "$tab"; cp "$base" "$feed"
 convert 1C,2W "$tab" </dev/null;                      leaves file_of_a_name_with_a_tab 0 "$examples/base.rnx" base.report
@@ -85,6 +88,7 @@ cp "$base" Zürich.rtcm; ln -s "$base" linked; ln -s linked linked_twice
 for name in Zürich.rtcm folder/../stdin.rtcm linked linked_twice; do
     convert 1C,2W "$name" </dev/null;                 leaves "link_$name" 0 "$examples/base.rnx" base.report
 done
+# refuses: a file that is not opened since it is a symbolic link or a pipe
 piped "$base" convert 1C,2W fifo </dev/null;          leaves pipe_of_a_name 0 "$examples/base.rnx" base.report
 bash -c 'program=$0 first=$1 second=$2; shift 2; "$program" convert "$@" <(cat "$first") <(cat "$second")' \
     "$program" "$first" "$second" $options --codes 1C,2W,5X >out 2>err </dev/null
@@ -142,12 +146,15 @@ mkfifo capture
 : >nothing
 sed -n '1,20p' "$examples/late.rnx" >followed
 sed 's/^link 1/link 2/' "$examples/late.report" >late.report
+# refuses: a report that is gathered although standard input is one of several links
 follow followed late.report nothing stdin nothing
 follow followed_first "$examples/late.report" stdin nothing
+# refuses: standard input that is not seen among other links
 follow followed_between late.report nothing stdin nothing
 
 # Links that can't be opened, and links that can't be read. If one can't be opened, nothing is read and nothing is out.
 convert 1C nowhere "$base" </dev/null;                fails missing_link 1 'cannot open nowhere'
+# refuses: a file that is looked for in another folder
 convert 1C nowhere/stdin.rtcm </dev/null;             fails link_of_a_missing_folder 1 'cannot open nowhere/stdin.rtcm'
 convert 1C "$base" nowhere </dev/null;                fails missing_link_after_another 1 'cannot open nowhere'
 { convert 1C stdin nowhere; cat >rest; } <"$base";    fails missing_link_after_standard_input 1 'cannot open nowhere'
@@ -164,9 +171,12 @@ convert 1C "$(printf '\377')" </dev/null;             fails a_link_that_is_no_te
 
 # A closed standard input, in any order of the links. A file that is opened then has its descriptor, and isn't read for it.
 convert 1C stdin <&-;                                 fails closed_standard_input 1 'read failed'
+# refuses: a file that is not opened since standard input is closed
 convert 1C stdin "$base" <&-;                         fails closed_standard_input_before_a_file 1 'read failed'
 convert 1C "$base" stdin <&-;                         fails closed_standard_input_after_a_file 1 'read failed'
+# refuses: standard input that is not seen among other links
 convert 1C "$base" stdin "$base" <&-;                 fails closed_standard_input_between_files 1 'read failed'
+# refuses: standard input that is not seen among other links
 convert 1C $(yes stdin.rtcm | head -n 15) stdin <&-;  fails closed_standard_input_after_fifteen_files 1 'read failed'
 convert 1C stdin "$base" nowhere <&-;                 fails closed_standard_input_and_a_missing_link 1 'cannot open nowhere'
 convert 1C "$base" nowhere stdin <&-;                 fails a_missing_link_and_closed_standard_input 1 'cannot open nowhere'
@@ -182,6 +192,7 @@ sed -n '1,23p' "$examples/late.rnx" >part
 leaves a_link_that_fails_later 1 part part_err
 "$program" convert $options --codes 1C,2W --window 2 "$examples/late.rtcm" folder >out 2>&1 </dev/null; status=$?
 cat part part_err >both; : >err
+# refuses: a report that is written before the rest of the file where a conversion breaks off
 leaves part_of_a_file_before_its_report 1 both /dev/null
 "$program" convert $options --codes 1C,2W "$base" >out 2>&1 </dev/null; status=$?
 cat "$examples/base.rnx" base.report >both; : >err
@@ -190,10 +201,13 @@ leaves file_before_report 0 both /dev/null
 # Our own refusals. Where more than one word is bad the first cause counts: the forms of the times, the codes' names, the
 # marker, the list of codes, the links, and last a reference near which nothing is dated.
 sixteen='1C,1P,1W,1S,1L,1X,2C,2D,2P,2W,2S,2L,2X,5I,5Q,5X'
+# pins: IsFirstCause
 words '' '' '' '' stdin stdin;                        fails form_of_near 2 'bad --near'
 words 2024-02-30T00:00:00 $made BASE 1C,2W x;         fails no_such_day 2 'bad --near'
 words 2101-01-01T00:00:00 '' BASE 1C x;               fails year_2101 2 'bad --near'
+# refuses: blanks that are taken away beside a time, a code or a number
 words " $near" $made BASE 1C x;                        fails near_after_a_blank 2 'bad --near'
+# refuses: blanks that are taken away beside a time, a code or a number
 words "$near " $made BASE 1C x;                        fails near_before_a_blank 2 'bad --near'
 words "$near,x" $made BASE 1C x;                      fails near_before_a_comma 2 'bad --near'
 words "${near}Z" $made BASE 1C x;                     fails near_with_a_zone 2 'bad --near'
@@ -210,7 +224,9 @@ words $near $made "$(printf '%060d' 0)" 1C nowhere;   fails marker_of_60_charact
 words $near $made 'Bäse' 1C x;                        fails marker_beyond_ascii 2 'bad --marker'
 # Good texts and 256 characters more, which are no good ones.
 more=$(printf '%0256d' 0)
+# refuses: a first part of a text or of a list of links that is taken for all of it
 words $near $made "BASE$more" 1C x;                   fails marker_of_260_characters 2 'bad --marker'
+# refuses: a first part of a text or of a list of links that is taken for all of it
 words "$near$more" $made BASE 1C x;                   fails near_and_256_characters 2 'bad --near'
 words $near "$made$more" BASE 1C x;                   fails made_and_256_characters 2 'bad --made'
 words $near $made BASE "1C$more" x;                   fails codes_and_256_characters 2 'bad --codes'
@@ -221,13 +237,19 @@ words $near $made X $sixteen,$sixteen x;              fails thirty_two_codes 2 '
 words $near $made X $sixteen nowhere;                 fails sixteen_codes 1 'cannot open nowhere'
 words 1980-01-06T00:00:00 $made X 1C stdin stdin;     fails standard_input_twice 2 'bad links'
 words $near $made X 1C stdin a stdin;                 fails standard_input_twice_apart 2 'bad links'
+# pins: AreLinkNames
 words $near $made X 1C 1 2 3 4 5 6 7 8 9 10 11 12 13 14 15 16 17; fails seventeen_links 2 'bad links'
 words $near $made X 1C $(seq 40);                     fails forty_links 2 'bad links'
+# pins: AreLinkNames
 words $near $made X 1C $(seq 200);                    fails two_hundred_links 2 'bad links'
 run convert $(seq 200) $options --codes 1C;           fails two_hundred_links_before_the_options 2 'bad links'
 # as many as one and as sixteen links, where only the last byte of the number is looked at
+# pins: AreLinkNames
+# refuses: a first part of a text or of a list of links that is taken for all of it
 words $near $made X 1C $(seq 257);                    fails links_257 2 'bad links'
+# refuses: a first part of a text or of a list of links that is taken for all of it
 words $near $made X 1C $(seq 4112);                   fails links_4112 2 'bad links'
+# pins: AreLinkNames
 words $near $made X 1C nowhere 2 3 4 5 6 7 8 9 10 11 12 13 14 15 16; fails sixteen_links 1 'cannot open nowhere'
 words 1980-01-06T00:00:00 '' X 1C nowhere;            fails reference_out_of_range_and_no_making 2 'bad --made'
 words 1980-01-06T00:00:00 $made ' X' 1C,9Z nowhere;   fails reference_out_of_range_and_no_code 2 'bad --codes'
@@ -237,6 +259,7 @@ words 1980-01-06T00:00:00 $made X 1C nowhere;         fails reference_out_of_ran
 words 1980-01-12T23:59:59 $made X 1C nowhere;         fails reference_too_early 2 'bad --near'
 words 1980-01-13T00:00:00 $made X 1C nowhere;         fails earliest_reference 1 'cannot open nowhere'
 words 2100-01-01T00:00:00 $made X 1C nowhere;         fails reference_too_late 2 'bad --near'
+# pins: IsFirstCause
 words 2099-12-31T23:59:59 $made X 1C nowhere;         fails latest_reference 1 'cannot open nowhere'
 
 # Texts that write no moment, and texts that list no codes.
@@ -266,6 +289,7 @@ for number in $(seq 32 43) $(seq 45 126); do
     words $near $made BASE "1C$(printf "\\$(printf %03o "$number")")2W" x
     echo "$status $(cat out err)"
 done >told
+# pins: Lists
 refused_alike no_other_character_between_codes 94 'bad --codes'
 # No character of a moment is another one: none of these in any place, and no digit where none is.
 for place in $(seq 19); do
@@ -280,6 +304,7 @@ for place in $(seq 19); do
     words $near "$(echo $made | sed "s|.|0|$place")" BASE 1C x
     echo "$status $(cat out err)"
 done >told
+# pins: WritesMoment
 refused_alike no_other_character_of_a_moment 189 'bad --made'
 
 # The same of good texts, of an empty capture: the making and the types stand in the header.
@@ -290,6 +315,7 @@ header() {
     leaves "$1" 0 want_out empty.report
 }
 words $near 1980-01-06T00:00:00 BASE 1C nothing;      header first_making '19800106 000000' BASE 'G    3 C1C L1C S1C'
+# pins: WritesMoment
 words $near 2024-02-29T23:59:59 BASE 5X,2W nothing;   header leap_day '20240229 235959' BASE 'G    6 C5X L5X S5X C2W L2W S2W'
 words $near 2100-12-31T23:59:59 BASE 1C,2D,1P nothing
 header last_making '21001231 235959' BASE 'G    9 C1C L1C S1C C2D L2D S2D C1P L1P S1P'
@@ -312,14 +338,16 @@ marker() {
     { sed -n 1,2p empty.rnx; printf '%-60sMARKER NAME         \n' "$2"; sed 1,3d empty.rnx; } >want_out
     leaves "$1" 0 want_out empty.report
 }
+# refuses: a marker that is cut or changed
 marker marker_of_many_characters '!"#$%&'"'"'()*+,-./0123456789:;<=>?@ABCDEFGHIJKLMNOPQRSTUVWXYZ[\'
+# refuses: a marker that is cut or changed
 marker marker_of_the_others ']^_` abcdefghijklmnopqrstuvwxyz{|}~'
 
 # clap's texts.
-usage='Usage: rtcm2rinex convert [OPTIONS] --station <N> --near <T> --made <T> --marker <NAME> --codes <LIST> <LINK>...'
+usage='convert [OPTIONS] --station <N> --near <T> --made <T> --marker <NAME> --codes <LIST> <LINK>...'
 short_help="Converts captures of one station to a RINEX 3.05 observation file
 
-$usage
+Usage: rtcm2rinex $usage
 
 Arguments:
   <LINK>...  The captures, 1 to 16; stdin is standard input
@@ -334,7 +362,7 @@ Options:
   -h, --help           Print help (see more with '--help')"
 help="Converts captures of one station to a RINEX 3.05 observation file
 
-$usage
+Usage: rtcm2rinex $usage
 
 Arguments:
   <LINK>...
@@ -375,44 +403,30 @@ Exit status:
   2  the words are refused
 
 Manual: man rtcm2rinex, or docs/MANUAL.md"
-try="
-For more information, try '--help'."
-
 # bad_value NAME OPTION VALUE WHY
 bad_value() {
     run convert "$2" "$3" a
-    expect "$1" 2 '' "error: invalid value '$3' for '$2 <N>': $4
-$try"
+    expect "$1" 2 '' "$(error "invalid value '$3' for '$2 <N>': $4")"
 }
 
 run convert --help;                                   expect convert_help 0 "$help" ''
 run convert -h;                                       expect convert_short_help 0 "$short_help" ''
 run help convert;                                     expect help_convert 0 "$help" ''
-run convert;                                          expect no_word 2 '' "error: the following required arguments were not provided:
+run convert;                                          expect no_word 2 '' "$(error "the following required arguments were not provided:
   --station <N>
   --near <T>
   --made <T>
   --marker <NAME>
   --codes <LIST>
-  <LINK>...
-
-Usage: rtcm2rinex convert --station <N> --near <T> --made <T> --marker <NAME> --codes <LIST> <LINK>...
-$try"
-words '' '' '' '';                                    expect no_link 2 '' "error: the following required arguments were not provided:
-  <LINK>...
-
-Usage: rtcm2rinex convert --station <N> --near <T> --made <T> --marker <NAME> --codes <LIST> <LINK>...
-$try"
+  <LINK>..." "convert --station <N> --near <T> --made <T> --marker <NAME> --codes <LIST> <LINK>...")"
+words '' '' '' '';                                    expect no_link 2 '' "$(error "the following required arguments were not provided:
+  <LINK>..." "convert --station <N> --near <T> --made <T> --marker <NAME> --codes <LIST> <LINK>...")"
 for option in 'station N 1' 'near T x' 'made T x' 'marker NAME x' 'codes LIST x' 'window N 2'; do
     set -- $option
     run convert "--$1" "$3" "--$1" "$3" a
-    expect "$1_twice" 2 '' "error: the argument '--$1 <$2>' cannot be used multiple times
-
-$usage
-$try"
+    expect "$1_twice" 2 '' "$(error "the argument '--$1 <$2>' cannot be used multiple times" "$usage")"
     run convert a "--$1"
-    expect "$1_without_a_value" 2 '' "error: a value is required for '--$1 <$2>' but none was supplied
-$try"
+    expect "$1_without_a_value" 2 '' "$(error "a value is required for '--$1 <$2>' but none was supplied")"
 done
 # A moment with a hyphen at its front or in the place of a digit, or without one where it is due.
 for text in -2024-05-17T13:00:00 -024-05-17T13:00:00 2-24-05-17T13:00:00 2024--5-17T13:00:00 2024-0-517T13:00:00 \
@@ -427,49 +441,30 @@ done
 for option in 'station N near' 'near T made' 'made T marker' 'codes LIST window' 'window N codes'; do
     set -- $option
     run convert "--$1" "--$3" 1 a
-    expect "$1_before_another_option" 2 '' "error: a value is required for '--$1 <$2>' but none was supplied
-$try"
+    expect "$1_before_another_option" 2 '' "$(error "a value is required for '--$1 <$2>' but none was supplied")"
 done
 run convert --station 2003 --near $near --made $made --marker --codes 1C,2W a
-expect codes_as_a_marker 2 '' "error: the following required arguments were not provided:
-  --codes <LIST>
-
-Usage: rtcm2rinex convert --station <N> --near <T> --made <T> --marker <NAME> --codes <LIST> <LINK>...
-$try"
+expect codes_as_a_marker 2 '' "$(error "the following required arguments were not provided:
+  --codes <LIST>" "convert --station <N> --near <T> --made <T> --marker <NAME> --codes <LIST> <LINK>...")"
 run convert --station 2003 --near $near --made -2024-05-17T13:00:00 --marker BASE --codes 1C a
-expect made_of_a_word_with_a_hyphen 2 '' "error: unexpected argument '-2' found
-
-  tip: to pass '-2' as a value, use '-- -2'
-
-$usage
-$try"
+expect made_of_a_word_with_a_hyphen 2 '' "$(error "unexpected argument '-2' found" "$usage" "to pass '-2' as a value, use '-- -2'")"
 cp "$base" ./-5
 words $near $made BASE 1C,2W -5
-expect link_of_a_hyphen_and_a_digit 2 '' "error: unexpected argument '-5' found
-
-  tip: to pass '-5' as a value, use '-- -5'
-
-$usage
-$try"
+# refuses: a word that begins with a hyphen and is taken for a FILE
+expect link_of_a_hyphen_and_a_digit 2 '' "$(error "unexpected argument '-5' found" "$usage" "to pass '-5' as a value, use '-- -5'")"
 run convert --station -1 a
-expect station_below_0 2 '' "error: unexpected argument '-1' found
-
-  tip: to pass '-1' as a value, use '-- -1'
-
-$usage
-$try"
+expect station_below_0 2 '' "$(error "unexpected argument '-1' found" "$usage" "to pass '-1' as a value, use '-- -1'")"
 run convert --stat 2003 --near $near --made $made --marker BASE --codes 1C a
-expect start_of_an_option 2 '' "error: unexpected argument '--stat' found
-
-  tip: a similar argument exists: '--station'
-
-Usage: rtcm2rinex convert --station <N> --near <T> --made <T> --marker <NAME> --codes <LIST> <LINK>...
-$try"
+expect start_of_an_option 2 '' "$(error "unexpected argument '--stat' found" "convert --station <N> --near <T> --made <T> --marker <NAME> --codes <LIST> <LINK>..." "a similar argument exists: '--station'")"
+# pins: Requests.IsWithinLimits, Words.IsWithinLimits
 bad_value station_of_4096 --station 4096 '4096 is not in 0..=4095'
 bad_value station_of_no_digits --station x 'invalid digit found in string'
+# refuses: a first part of a number that is taken for all of it
 bad_value station_with_a_tail --station 2003x 'invalid digit found in string'
+# pins: Requests.IsWithinLimits, Words.IsWithinLimits
 bad_value window_of_1 --window 1 '1 is not in 2..=4096'
 bad_value window_of_4097 --window 4097 '4097 is not in 2..=4096'
+# refuses: a first part of a number that is taken for all of it
 bad_value window_of_two_numbers --window 64,2 'invalid digit found in string'
 
 # Outputs that fail: the fault line stands after the part of the report that is out.
@@ -488,15 +483,16 @@ leaves closed_output 1 /dev/null told_in_full
 : >err
 leaves closed_standard_error 1 "$examples/base.rnx" /dev/null
 
-# The command of the README. Under a limit on the size of files, 4,096 bytes, it ends as on a full disk.
-"$root/bin/rtcm2rinex" convert $options --codes 1C,2W "$base" >out 2>err </dev/null
+# The command of the README, as it is installed. Under a limit on the size of files, 4,096 bytes, it ends as on a full disk.
+install
+installed/bin/rtcm2rinex convert $options --codes 1C,2W "$base" >out 2>err </dev/null
 status=$?
 leaves start_convert 0 "$examples/base.rnx" base.report
 head -c 4096 "$session.rnx" >part
 cat "$session.report" write_failed >part_err
-limited 4096 "$root/bin/rtcm2rinex" convert $options --codes 1C,2W,5X "$session.rtcm" >out 2>err </dev/null; status=$?
+limited 4096 installed/bin/rtcm2rinex convert $options --codes 1C,2W,5X "$session.rtcm" >out 2>err </dev/null; status=$?
 leaves start_convert_with_a_limit_of_size 1 part part_err
-limited 4096 "$root/bin/rtcm2rinex" convert $options --codes 1C,2W,5X stdin >out 2>err <"$session.rtcm"; status=$?
+limited 4096 installed/bin/rtcm2rinex convert $options --codes 1C,2W,5X stdin >out 2>err <"$session.rtcm"; status=$?
 leaves start_convert_followed_with_a_limit_of_size 1 part write_failed
 
 ends 233

@@ -70,34 +70,18 @@ Exit status:
 
 Manual: man rtcm2rinex, or docs/MANUAL.md"
 
-no_option="error: the following required arguments were not provided:
+no_option=$(error "the following required arguments were not provided:
+  <--from <T>|--until <T>|--every <SECONDS>>" "cut <--from <T>|--until <T>|--every <SECONDS>> <FILE>")
+no_file=$(error "the following required arguments were not provided:
+  <FILE>" "cut <--from <T>|--until <T>|--every <SECONDS>> <FILE>")
+no_word=$(error "the following required arguments were not provided:
   <--from <T>|--until <T>|--every <SECONDS>>
-
-Usage: rtcm2rinex cut <--from <T>|--until <T>|--every <SECONDS>> <FILE>
-
-For more information, try '--help'."
-
-no_file="error: the following required arguments were not provided:
-  <FILE>
-
-Usage: rtcm2rinex cut <--from <T>|--until <T>|--every <SECONDS>> <FILE>
-
-For more information, try '--help'."
-
-no_word="error: the following required arguments were not provided:
-  <--from <T>|--until <T>|--every <SECONDS>>
-  <FILE>
-
-Usage: rtcm2rinex cut <--from <T>|--until <T>|--every <SECONDS>> <FILE>
-
-For more information, try '--help'."
+  <FILE>" "cut <--from <T>|--until <T>|--every <SECONDS>> <FILE>")
 
 # bad_step NAME STEP WHY
 bad_step() {
     cut --every "$2" "$file" </dev/null
-    expect "$1" 2 '' "error: invalid value '$2' for '--every <SECONDS>': $3
-
-For more information, try '--help'."
+    expect "$1" 2 '' "$(error "invalid value '$2' for '--every <SECONDS>': $3")"
 }
 
 : >nothing
@@ -105,8 +89,10 @@ mkdir folder
 
 # The files of the examples were laid by hand: slips at the seconds 7 and 20 of what is left out, one of them of a
 # satellite that is missing in the next record, and slips and half cycles of what is kept.
+# pins: step_ms, is_on_step
 cut --every 30 "$file" </dev/null;                  leaves a_minute_at_30_seconds 0 "$root/examples/slip_30s.rnx" nothing
 cp "$file" ' a,b=c '
+# refuses: a name that is changed before it is opened, or taken for standard input
 cut --every 30 ' a,b=c ' </dev/null;                leaves of_an_odd_name 0 "$root/examples/slip_30s.rnx" nothing
 cp "$file" "$tab"; cp "$file" "$feed"
 cut --every 30 "$tab" </dev/null;                   leaves of_a_name_with_a_tab 0 "$root/examples/slip_30s.rnx" nothing
@@ -118,6 +104,7 @@ cp "$file" Zürich.rnx; cp "$file" slip.rnx; ln -s "$file" linked; ln -s linked 
 for name in Zürich.rnx folder/../slip.rnx linked linked_twice; do
     cut --every 30 "$name" </dev/null;              leaves "of_$name" 0 "$root/examples/slip_30s.rnx" nothing
 done
+# refuses: a file that is not opened since it is a symbolic link or a pipe
 piped "$file" cut --every 30 fifo </dev/null;       leaves of_a_pipe_of_a_name 0 "$root/examples/slip_30s.rnx" nothing
 bash -c '"$0" cut --every 30 <(cat slip.rnx)' "$program" >out 2>err </dev/null; status=$?
 leaves of_a_pipe_of_the_shell 0 "$root/examples/slip_30s.rnx" nothing
@@ -176,6 +163,7 @@ cut --every 30 --from $midnight night </dev/null;   leaves the_day_after_midnigh
 # The same slips, in the minute after noon: no record before midnight is on the step.
 moved '2024 02 28' '12 00' '2024 02 29 00 00' '  2024     2    28    12     0 ' >noon
 { header "$begin"; printf '%s\n' "$line" "${g05}15        35.000" "$g07"; } >want
+# pins: has_slipped_since
 cut --every 86400 noon </dev/null;                  leaves twelve_hours_before_the_step 0 want nothing
 sed '/^> 2024 02 29/,$d' night >want
 cut --until $midnight night </dev/null;             leaves the_day_before_midnight 0 want nothing
@@ -197,6 +185,7 @@ cut --until $midnight night </dev/null;             leaves the_day_before_midnig
         '> 2024 05 19 00 00  0.0000000  0  2' 'G05                 110804903.547' 'G07                 120671603.5231' \
         '> 2024 05 20 00 00  0.0000000  0  2' 'G05                 110804903.547' 'G07                 120671603.523'
 } >want
+# pins: has_slipped_since
 cut --every 86400 days </dev/null;                  leaves a_slip_a_second_after_midnight 0 want nothing
 
 # The last minute that a time can name.
@@ -213,27 +202,23 @@ bad until_in_2101 'bad --until' --until 2101-01-01T00:00:00
 cut "$file" </dev/null;                             expect no_option 2 '' "$no_option"
 cut --every 30 </dev/null;                          expect cut_without_a_file 2 '' "$no_file"
 cut </dev/null;                                     expect cut_without_a_word 2 '' "$no_word"
+# pins: IsStepOrNone
 for step in 0 86401 4294967296; do bad_step a_step_of_$step $step "$step is not in 1..=86400"; done
+# refuses: a first part of a number that is taken for all of it
 bad_step a_step_with_a_tail 30s 'invalid digit found in string'
+# refuses: a first part of a number that is taken for all of it
 bad_step a_step_with_a_fraction 30.5 'invalid digit found in string'
+# refuses: blanks that are taken away beside a time, a code or a number
 bad_step a_step_after_a_blank ' 30' 'invalid digit found in string'
 
 cut --every 30 "$file" b </dev/null
-expect cut_of_two_files 2 '' "error: unexpected argument 'b' found
-
-Usage: rtcm2rinex cut <--from <T>|--until <T>|--every <SECONDS>> <FILE>
-
-For more information, try '--help'."
+# refuses: a second FILE that is left out in silence
+expect cut_of_two_files 2 '' "$(error "unexpected argument 'b' found" "cut <--from <T>|--until <T>|--every <SECONDS>> <FILE>")"
 
 cp "$file" ./-5
 cut --every 30 -5 </dev/null
-expect cut_of_a_hyphen_and_a_digit 2 '' "error: unexpected argument '-5' found
-
-  tip: to pass '-5' as a value, use '-- -5'
-
-Usage: rtcm2rinex cut <--from <T>|--until <T>|--every <SECONDS>> <FILE>
-
-For more information, try '--help'."
+# refuses: a word that begins with a hyphen and is taken for a FILE
+expect cut_of_a_hyphen_and_a_digit 2 '' "$(error "unexpected argument '-5' found" "cut <--from <T>|--until <T>|--every <SECONDS>> <FILE>" "to pass '-5' as a value, use '-- -5'")"
 
 cut --ev 30 "$file" </dev/null; head -n 1 err >line; mv line err
 expect cut_start_of_an_option 2 '' "error: unexpected argument '--ev' found"
@@ -248,15 +233,9 @@ bad a_comma_after_until 'bad --until' --until "$noon,x"
 for option in 'from T until' 'until T every' 'every SECONDS from'; do
     set -- $option
     cut "--$1" 1 "--$1" 1 "$file" </dev/null
-    expect "$1_twice" 2 '' "error: the argument '--$1 <$2>' cannot be used multiple times
-
-Usage: rtcm2rinex cut <--from <T>|--until <T>|--every <SECONDS>> <FILE>
-
-For more information, try '--help'."
+    expect "$1_twice" 2 '' "$(error "the argument '--$1 <$2>' cannot be used multiple times" "cut <--from <T>|--until <T>|--every <SECONDS>> <FILE>")"
     cut "--$1" "--$3" 1 "$file" </dev/null
-    expect "$1_before_another_option" 2 '' "error: a value is required for '--$1 <$2>' but none was supplied
-
-For more information, try '--help'."
+    expect "$1_before_another_option" 2 '' "$(error "a value is required for '--$1 <$2>' but none was supplied")"
 done
 
 # A file that `check` refuses.
@@ -268,6 +247,7 @@ cut --every 30 stdin </dev/null;                    expect an_empty_file 3 '' 'l
 { printf '\357\273\277'; cat "$file"; } >marked
 sed 's/$/\r/' "$file" >crlf
 { cat "$file"; head -c 512 /dev/zero; } >nuls
+# refuses: a byte order mark, a CR or a NUL that is left out on its way
 cut --every 1 marked </dev/null;                    expect a_byte_order_mark 3 '' 'line 1: C1 HeaderLine'
 cut --every 1 crlf </dev/null;                      expect line_ends_of_cr_lf 3 '' 'line 1: C1 HeaderLine'
 cut --every 1 nuls </dev/null
@@ -277,8 +257,10 @@ expect a_capture 3 '' 'line 1: C5 Truncated'
 
 cut --every 30 nowhere </dev/null;                  expect cut_of_no_file 1 '' 'rtcm2rinex: cannot open nowhere'
 cut --every 30 nowhere/slip.rnx </dev/null
+# refuses: a file that is looked for in another folder
 expect cut_of_a_missing_folder 1 '' 'rtcm2rinex: cannot open nowhere/slip.rnx'
 truncate -s 1073741824 zeros
+# pins: CHECK_LIMIT
 cut --every 30 zeros </dev/null;                    expect longest_cut_input 3 '' 'line 1: C5 Truncated'
 truncate -s 1073741825 zeros
 cut --every 30 zeros </dev/null;                    expect cut_input_too_long 1 '' 'rtcm2rinex: input too long'

@@ -11,9 +11,9 @@ run() {
     status=$?
 }
 
-# start WORD..: the same by the command that builds the program if it must
+# start WORD..: the same by the command as it is installed
 start() {
-    "$root/bin/rtcm2rinex" "$@" >out 2>err
+    installed/bin/rtcm2rinex "$@" >out 2>err
     status=$?
 }
 
@@ -101,99 +101,31 @@ Options:
       --hex   The capture is hex text
   -h, --help  Print help (see more with '--help')"
 
-try="
-For more information, try '--help'."
+no_command=$(error "'rtcm2rinex' requires a subcommand but one was not provided
+  [subcommands: convert, show, check, summary, chart, cut, help]" "<COMMAND>")
 
-no_command="error: 'rtcm2rinex' requires a subcommand but one was not provided
-  [subcommands: convert, show, check, summary, chart, cut, help]
-
-Usage: rtcm2rinex <COMMAND>
-$try"
-
-no_such_command="error: unrecognized subcommand 'shew'
-
-  tip: a similar subcommand exists: 'show'
-
-Usage: rtcm2rinex <COMMAND>
-$try"
-
-start_of_a_command="error: unrecognized subcommand 'sho'
-
-  tip: a similar subcommand exists: 'show'
-
-Usage: rtcm2rinex <COMMAND>
-$try"
-
-command_in_capitals="error: unrecognized subcommand 'SHOW'
-
-Usage: rtcm2rinex <COMMAND>
-$try"
-
-no_file="error: the following required arguments were not provided:
-  <FILE>
-
-Usage: rtcm2rinex show <FILE>
-$try"
+no_such_command=$(error "unrecognized subcommand 'shew'" "<COMMAND>" "a similar subcommand exists: 'show'")
+start_of_a_command=$(error "unrecognized subcommand 'sho'" "<COMMAND>" "a similar subcommand exists: 'show'")
+command_in_capitals=$(error "unrecognized subcommand 'SHOW'" "<COMMAND>")
+no_file=$(error "the following required arguments were not provided:
+  <FILE>" "show <FILE>")
 
 long_word=$(printf '%0100000d' 0)
-no_such_long_command="error: unrecognized subcommand '$long_word'
-
-Usage: rtcm2rinex <COMMAND>
-$try"
-
-two_files="error: unexpected argument 'b' found
-
-Usage: rtcm2rinex show [OPTIONS] <FILE>
-$try"
-
-two_empty_files="error: unexpected argument '' found
-
-Usage: rtcm2rinex show [OPTIONS] <FILE>
-$try"
-
-a_hundred_files="error: unexpected argument '2' found
-
-Usage: rtcm2rinex show [OPTIONS] <FILE>
-$try"
-
-empty_command="error: unrecognized subcommand ''
-
-Usage: rtcm2rinex <COMMAND>
-$try"
-
-hex_twice="error: the argument '--hex' cannot be used multiple times
-
-Usage: rtcm2rinex show [OPTIONS] <FILE>
-$try"
-
-like_hex="error: unexpected argument '--hax' found
-
-  tip: a similar argument exists: '--hex'
-
-Usage: rtcm2rinex show --hex <FILE>
-$try"
-
-start_of_hex="error: unexpected argument '--he' found
-
-  tip: a similar argument exists: '--hex'
-
-Usage: rtcm2rinex show --hex <FILE>
-$try"
+no_such_long_command=$(error "unrecognized subcommand '$long_word'" "<COMMAND>")
+two_files=$(error "unexpected argument 'b' found" "show [OPTIONS] <FILE>")
+two_empty_files=$(error "unexpected argument '' found" "show [OPTIONS] <FILE>")
+a_hundred_files=$(error "unexpected argument '2' found" "show [OPTIONS] <FILE>")
+empty_command=$(error "unrecognized subcommand ''" "<COMMAND>")
+hex_twice=$(error "the argument '--hex' cannot be used multiple times" "show [OPTIONS] <FILE>")
+like_hex=$(error "unexpected argument '--hax' found" "show --hex <FILE>" "a similar argument exists: '--hex'")
+start_of_hex=$(error "unexpected argument '--he' found" "show --hex <FILE>" "a similar argument exists: '--hex'")
 
 # hyphen WORD: a word that begins with a hyphen is no FILE
 hyphen() {
-    echo "error: unexpected argument '$1' found
-
-  tip: to pass '$1' as a value, use '-- $1'
-
-Usage: rtcm2rinex show [OPTIONS] <FILE>
-$try"
+    error "unexpected argument '$1' found" "show [OPTIONS] <FILE>" "to pass '$1' as a value, use '-- $1'"
 }
 
-unknown_option="error: unexpected argument '--frob' found
-
-Usage: rtcm2rinex <COMMAND>
-$try"
+unknown_option=$(error "unexpected argument '--frob' found" "<COMMAND>")
 
 msm='1074 station 2003 tow 475200000 satellites 1 signals 1 cells 1
 1074 station 2003 tow 475201000 satellites 1 signals 1 cells 1
@@ -224,6 +156,7 @@ run show ./stdin </dev/null;              expect file_of_the_name_stdin 0 "$arp"
 cp arp.rtcm stdin.rtcm; cp arp.rtcm Stdin; cp arp.rtcm ' a,b=c '
 run show stdin.rtcm </dev/null;           expect file_of_a_name_that_begins_with_stdin 0 "$arp" ''
 run show Stdin </dev/null;                expect file_of_the_name_stdin_with_a_capital 0 "$arp" ''
+# refuses: a name that is changed before it is opened, or taken for standard input
 run show ' a,b=c ' </dev/null;            expect file_of_an_odd_name 0 "$arp" ''
 cp arp.rtcm "$tab"; cp arp.rtcm "$feed"
 run show "$tab" </dev/null;               expect file_of_a_name_with_a_tab 0 "$arp" ''
@@ -238,15 +171,18 @@ run show "$other" </dev/null;             expect missing_file_of_a_name_that_loo
 latin=$(printf 'Z\374rich.rtcm')
 cp arp.rtcm "$latin"
 run show "$latin" </dev/null;             expect file_of_a_name_that_is_no_text 1 '' 'rtcm2rinex: read failed'
+# refuses: a file that is not opened since it is a symbolic link or a pipe
 piped arp.rtcm run show fifo </dev/null;  expect pipe_of_a_name 0 "$arp" ''
 bash -c '"$0" show <(cat arp.rtcm)' "$program" >out 2>err </dev/null; status=$?
 expect pipe_of_the_shell 0 "$arp" ''
 beyond "$root/examples/base.rtcm" 25 run show stdin; expect standard_input_after_its_first_frame 0 "$epoch" ''
+# refuses: a file that is looked for in another folder
 run show nowhere/arp.rtcm </dev/null;     expect file_of_a_missing_folder 1 '' 'rtcm2rinex: cannot open nowhere/arp.rtcm'
 # Bytes beside frames are passed over; as hex text a byte order mark or a NUL is refused.
 { printf '\357\273\277'; cat arp.rtcm; printf '\r\n'; head -c 512 /dev/zero; } >more
 run show more </dev/null;                 expect bytes_beside_frames 0 "$arp" ''
 { printf '\357\273\277'; cat arp.hex; } >marked.hex
+# refuses: a byte order mark, a CR or a NUL that is left out on its way
 run show --hex marked.hex </dev/null;     expect hex_after_a_byte_order_mark 1 '' 'rtcm2rinex: input is not hex'
 { cat arp.hex; head -c 512 /dev/zero; } >nuls.hex
 run show --hex nuls.hex </dev/null;       expect hex_before_nuls 1 '' 'rtcm2rinex: input is not hex'
@@ -254,8 +190,11 @@ sed 's/$/\r/' arp.hex >crlf.hex
 run show --hex crlf.hex </dev/null;       expect hex_of_line_ends_of_cr_lf 0 "$arp" ''
 run show empty </dev/null;                expect empty_input 0 '' ''
 run show stdin </dev/null;                expect empty_standard_input 0 '' ''
+# pins: SHOW_LIMIT
 run show longest </dev/null;              expect longest_input 0 '' ''
+# pins: SHOW_LIMIT
 run show long </dev/null;                 expect input_too_long 1 '' 'rtcm2rinex: input too long'
+# pins: SHOW_LIMIT
 run show --hex long </dev/null;           expect hex_too_long 1 '' 'rtcm2rinex: input too long'
 run show --hex arp.rtcm </dev/null;       expect bytes_as_hex 1 '' 'rtcm2rinex: input is not hex'
 printf 'D3 0' | "$program" show --hex stdin >out 2>err; status=$?
@@ -273,6 +212,7 @@ run show 'no where' </dev/null;           expect missing_file_with_a_blank 1 '' 
 run show '' </dev/null;                   expect empty_name 1 '' 'rtcm2rinex: cannot open '
 run show "$long_word" </dev/null;         expect missing_file_of_a_long_name 1 '' "rtcm2rinex: cannot open $long_word"
 run show - </dev/null;                    expect missing_file_of_a_hyphen 1 '' 'rtcm2rinex: cannot open -'
+# refuses: a name that is changed before it is opened, or taken for standard input
 run show 'stdin ' <arp.rtcm;              expect missing_file_of_the_name_stdin_and_a_blank 1 '' 'rtcm2rinex: cannot open stdin '
 run show ' stdin' <arp.rtcm;              expect missing_file_of_a_blank_and_the_name_stdin 1 '' 'rtcm2rinex: cannot open  stdin'
 run show STDIN <arp.rtcm;                 expect missing_file_of_the_name_stdin_in_capitals 1 '' 'rtcm2rinex: cannot open STDIN'
@@ -354,9 +294,12 @@ while read -r words; do
     for streams in 012 01 02 12 0 1 2; do
         at_terminal $streams || others="$others streams $streams: status $answer, '$(head -c 100 shown got got_err)'"
     done
+    # refuses: another answer at a terminal, also if something is typed at it
     if [ -z "$others" ]; then right "at_a_terminal $words"; else wrong "at_a_terminal $words" "$others"; fi
+    # refuses: a file that is not opened since standard input is closed
     case $words in *stdin) ;; *) as_at_a_pipe "with_standard_input_closed $words" closed ;; esac
     as_at_a_pipe "without_an_environment $words" env -i
+    # refuses: a variable of the environment that counts
     as_at_a_pipe "with_many_variables $words" env RTCM2RINEX='--window 2' RTCM2RINEX_OPTIONS=--window=2 RTCM2RINEX_OPTS=--window=2 \
         RTCM2RINEX_ARGS=--window=2 RTCM2RINEX_FLAGS=--text RTCM2RINEX_WINDOW=2 RTCM2RINEX_STATION=2003 RTCM2RINEX_CODES=5X \
         RTCM2RINEX_NEAR=2024-05-17T12:00:00 RTCM2RINEX_MADE=2024-05-17T14:00:00 RTCM2RINEX_MARKER=OTHER RTCM2RINEX_HEX=1 \
@@ -402,6 +345,7 @@ printf '\0' >>frames
 run show frames </dev/null;               expect frames_too_long 1 '' 'rtcm2rinex: input too long'
 yes D300023FB0D71D73 | head -n 1048576 | tr -d '\n' >frames.hex
 head -n 1048576 lines >hex_lines
+# pins: SHOW_LIMIT
 run show --hex frames.hex </dev/null;     leaves longest_hex_of_frames 0 hex_lines /dev/null
 echo >>frames.hex
 run show --hex frames.hex </dev/null;     expect hex_of_frames_too_long 1 '' 'rtcm2rinex: input too long'
@@ -413,6 +357,8 @@ run -h </dev/null;                        expect -h 0 "$short_help" ''
 run show --help </dev/null;               expect show_help 0 "$show_help" ''
 run show -h </dev/null;                   expect show_short_help 0 "$show_short_help" ''
 run help show </dev/null;                 expect help_show 0 "$show_help" ''
+# pins: Requests.HasStatus, Words.HasStatus
+# refuses: a `main` that does not answer the status of `run_program`
 run --version </dev/null;                 expect version 0 'rtcm2rinex 0.2.0' ''
 run -V </dev/null;                        expect version_in_short 0 'rtcm2rinex 0.2.0' ''
 run </dev/null;                           expect no_command 2 '' "$no_command"
@@ -424,7 +370,9 @@ run shew a </dev/null;                    expect no_such_command 2 '' "$no_such_
 run sho arp.rtcm </dev/null;              expect start_of_a_command 2 '' "$start_of_a_command"
 run SHOW arp.rtcm </dev/null;             expect command_in_capitals 2 '' "$command_in_capitals"
 run "$long_word" </dev/null;              expect no_such_long_command 2 '' "$no_such_long_command"
+# pins: Requests.HasStatus, Words.HasStatus
 run show </dev/null;                      expect no_file 2 '' "$no_file"
+# refuses: a second FILE that is left out in silence
 run show a b </dev/null;                  expect two_files 2 '' "$two_files"
 run show '' '' </dev/null;                expect two_empty_files 2 '' "$two_empty_files"
 run show $(seq 100) </dev/null;           expect a_hundred_files 2 '' "$a_hundred_files"
@@ -435,12 +383,14 @@ run show --hax a </dev/null;              expect like_hex 2 '' "$like_hex"
 run show --he arp.hex </dev/null;         expect start_of_hex 2 '' "$start_of_hex"
 run --frob </dev/null;                    expect unknown_option 2 '' "$unknown_option"
 cp arp.rtcm ./-5
+# refuses: a word that begins with a hyphen and is taken for a FILE
 run show -5 </dev/null;                   expect hyphen_and_a_digit 2 '' "$(hyphen -5)"
 run show --hex -5 </dev/null;             expect hyphen_and_a_digit_after_an_option 2 '' "$(hyphen -5)"
 run show -x </dev/null;                   expect hyphen_and_a_letter 2 '' "$(hyphen -x)"
 run show -- -5 </dev/null;                expect file_of_the_name_of_a_hyphen_and_a_digit 0 "$arp" ''
 
 # The captures of examples/ by the command of the README, which passes words, streams and status on.
+install
 start show "$root/examples/base.rtcm" </dev/null
 expect start_base 0 "$arp
 $epoch" ''
@@ -453,7 +403,7 @@ start show nowhere </dev/null;            expect start_failed 1 '' 'rtcm2rinex: 
 start show </dev/null;                    expect start_refused 2 '' "$no_file"
 # Under a limit on the size of files, 512 bytes, it ends as on a full disk.
 head -c 8192 frames >some; head -c 512 lines >part; echo 'rtcm2rinex: write failed' >part_err
-limited 512 "$root/bin/rtcm2rinex" show some >out 2>err </dev/null; status=$?
+limited 512 installed/bin/rtcm2rinex show some >out 2>err </dev/null; status=$?
 leaves start_show_with_a_limit_of_size 1 part part_err
 
 ends 199

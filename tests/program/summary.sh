@@ -42,26 +42,10 @@ Exit status:
 
 Manual: man rtcm2rinex, or docs/MANUAL.md"
 
-no_file="error: the following required arguments were not provided:
-  <FILE>
-
-Usage: rtcm2rinex summary <FILE>
-
-For more information, try '--help'."
-
-two_files="error: unexpected argument 'b' found
-
-Usage: rtcm2rinex summary <FILE>
-
-For more information, try '--help'."
-
-hyphen="error: unexpected argument '-5' found
-
-  tip: to pass '-5' as a value, use '-- -5'
-
-Usage: rtcm2rinex summary <FILE>
-
-For more information, try '--help'."
+no_file=$(error "the following required arguments were not provided:
+  <FILE>" "summary <FILE>")
+two_files=$(error "unexpected argument 'b' found" "summary <FILE>")
+hyphen=$(error "unexpected argument '-5' found" "summary <FILE>" "to pass '-5' as a value, use '-- -5'")
 
 # gpsdecode shows a 1005 of 19 bytes of payload and a 1004 of 24
 told="bytes 55
@@ -86,6 +70,7 @@ run summary stdin <"$base";         expect summary_of_standard_input 0 "$told" '
 cat "$base" | "$program" summary stdin >out 2>err; status=$?
 expect summary_of_a_pipe 0 "$told" ''
 cp "$base" ' a,b=c '
+# refuses: a name that is changed before it is opened, or taken for standard input
 run summary ' a,b=c ' </dev/null;   expect summary_of_an_odd_name 0 "$told" ''
 cp "$base" "$tab"; cp "$base" "$feed"
 run summary "$tab" </dev/null;      expect summary_of_a_name_with_a_tab 0 "$told" ''
@@ -104,6 +89,7 @@ cp "$base" Zürich.rtcm; cp "$base" base.rtcm; ln -s "$base" linked; ln -s linke
 for name in Zürich.rtcm folder/../base.rtcm linked linked_twice; do
     run summary "$name" </dev/null; expect "summary_of_$name" 0 "$told" ''
 done
+# refuses: a file that is not opened since it is a symbolic link or a pipe
 piped "$base" run summary fifo </dev/null; expect summary_of_a_pipe_of_a_name 0 "$told" ''
 bash -c '"$0" summary <(cat base.rtcm)' "$program" >out 2>err </dev/null; status=$?
 expect summary_of_a_pipe_of_the_shell 0 "$told" ''
@@ -114,6 +100,7 @@ beyond behind 9 run summary stdin;  expect summary_after_the_first_bytes 0 "$tol
 run summary more </dev/null
 expect summary_of_bytes_beside_frames 0 "$(echo "$told" | sed 's/^bytes 55/bytes 567/; s/^outside-frames 0/outside-frames 512/')" ''
 run summary nowhere/base.rtcm </dev/null
+# refuses: a file that is looked for in another folder
 expect summary_of_a_missing_folder 1 '' 'rtcm2rinex: cannot open nowhere/base.rtcm'
 run summary nowhere </dev/null;     expect summary_of_no_file 1 '' 'rtcm2rinex: cannot open nowhere'
 run summary folder </dev/null;      expect summary_of_a_directory 1 '' 'rtcm2rinex: read failed'
@@ -133,6 +120,8 @@ nothing taken' ''
 
 # More bytes than 32 bits count, in a file without blocks.
 truncate -s 4294967297 zeros
+# pins: number_line
+# refuses: a lesser number at which all counts of a summary stay
 run summary zeros </dev/null;       expect summary_of_a_longer_input 0 'bytes 4294967297
 outside-frames 4294967297
 frames 0
@@ -144,8 +133,10 @@ run help summary </dev/null;        expect help_summary 0 "$help" ''
 run summary </dev/null;             expect summary_without_a_file 2 '' "$no_file"
 run summary --he "$base" </dev/null; head -n 1 err >line; mv line err
 expect summary_start_of_an_option 2 '' "error: unexpected argument '--he' found"
+# refuses: a second FILE that is left out in silence
 run summary a b </dev/null;         expect summary_of_two_files 2 '' "$two_files"
 cp "$base" ./-5
+# refuses: a word that begins with a hyphen and is taken for a FILE
 run summary -5 </dev/null;          expect summary_of_a_hyphen_and_a_digit 2 '' "$hyphen"
 
 ends 31

@@ -1,4 +1,7 @@
 //! A reader of bit fields. Contracts see it as the list of the bits that are left.
+//!
+//! A field is one load of eight bytes, a shift and a mask. Within the last seven bytes, and for a
+//! field that ends in a ninth byte, it is a fold over the bytes that it touches.
 
 ghost use Rattle.std.specs.Prelude.{◌≡◌, ◌+◌, ◌*◌, ◌^◌, ◌<◌, ◌≤◌, ◌↔◌, ◌++◌, length, take, drop, IsSome, IfSome, IfNone, OnSome};
 ghost use Rattle.rtk_bits.specs.Bits.{bits, bits_of, unsigned, signed, signed_bits_of, FitsSigned};

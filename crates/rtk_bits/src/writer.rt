@@ -1,4 +1,7 @@
 //! A writer of bit fields. Contracts see it as the list of the bits that were put so far.
+//!
+//! It holds the whole bytes and up to 7 bits after them, with room for the byte that these become.
+//! So `finish` takes no memory.
 
 ghost use Rattle.std.specs.Prelude.{◌≡◌, ◌^◌, ◌<◌, ◌≤◌, [], ◌++◌, length, OnOk, OnErr};
 ghost use Rattle.rtk_bits.specs.Bits.{bits, bits_of, signed_bits_of, FitsSigned, padding};
@@ -52,7 +55,7 @@ impl BitWriter {
     pub fn put_u(&mut self, width: usize, value: u64) -> Result<(), AllocError>
         requires width { (1 ≤ width) × (width ≤ 64) }
         requires value { value < 2 ^ width }
-        // That it does not give up: rows put_u of tests/calls.
+        // That it does not give up: rows put_u of tests/system/calls.
         ensures put { OnOk result (self.new ≡ self.old ++ bits_of width value) }
         ensures err { OnErr result (self.new ≡ self.old) }
     {
@@ -77,7 +80,7 @@ impl BitWriter {
     pub fn put_i(&mut self, width: usize, value: i64) -> Result<(), AllocError>
         requires width { (1 ≤ width) × (width ≤ 64) }
         requires value { FitsSigned width value }
-        // That it does not give up: rows put_i of tests/calls.
+        // That it does not give up: rows put_i of tests/system/calls.
         ensures put { OnOk result (self.new ≡ self.old ++ signed_bits_of width value) }
         ensures err { OnErr result (self.new ≡ self.old) }
     {

@@ -21,6 +21,7 @@ abbrev pub text_of_epochs : List ℕ → ℕ → Option ℕ → ℕ → List Epo
 text_of_epochs marker first interval allowed [] = text_of_none marker
 text_of_epochs marker first interval allowed (e ∷ before) = text_at marker (scale_of first e.time interval allowed) (e ∷ before)
 
+-- formula
 -- a text is the picture in characters of a table, so many characters wide: five are the labels and
 -- the frame
 abbrev pub IsTextPicture : WellFormedTable → ℕ → List ℕ → Type 0
@@ -39,6 +40,7 @@ abbrev pub svg_at : List ℕ → List Code → Scale → List EpochTableView →
 svg_at marker listed s es =
     svg_picture marker listed s (capped (length es)) (capped (slips_in es)) (capped (missing_in s.unit es)) (columns_of s es) (gaps_of s es)
 
+-- formula
 -- the picture of a file of this marker, these codes and this first time, with this interval
 abbrev pub svg_of_epochs : List ℕ → List Code → ℕ → Option ℕ → List EpochTableView → List ℕ
 svg_of_epochs marker listed first interval [] = svg_of_none marker

@@ -5,7 +5,7 @@ use Rattle.rtk_rinex.specs.Record.{EpochTableView}
 use Rattle.rtk_rinex.specs.declared.epoch_table.Observed.{Observed}
 use Rattle.rtk_rinex.specs.declared.epoch_table.SatelliteRow.{SatelliteRow}
 
--- a count as it is shown: it stays at the greatest value of a u64
+-- a count as it is shown: it stays at the greatest value of a u64, which no test reaches
 abbrev pub capped : ℕ → ℕ
 capped n = min n 18_446_744_073_709_551_615
 
@@ -49,6 +49,7 @@ has_slip os = list_any (λ o. o.slip) os
 abbrev pub has_half : List Observed → Bool
 has_half os = list_any (λ o. o.half) os
 
+-- formula
 -- the signal strength digit of a strength, 1 to 9 (RINEX 3.05)
 abbrev pub level_of : Option ℕ → Option ℕ
 level_of None = None

@@ -20,6 +20,7 @@ lane_of epochs place =
       lacks = list_any (λ os. not (shows_phase place os)) epochs;
     }
 
+-- formula
 -- the codes by their places, 16 at most
 unfoldable pub lanes_of : List (List Observed) → List Lane
 lanes_of epochs = map (lane_of epochs) (range_with_len 0 16)
@@ -35,6 +36,7 @@ cell_in epochs =
       least = least_level_in epochs;
     }
 
+-- formula
 -- the satellites 1 to 32 in the epochs of a column
 unfoldable pub satellite_cells : List EpochTableView → List Cell
 satellite_cells es = map (λ place. cell_in (observed_by (place + 1) es)) (range_with_len 0 32)
@@ -59,6 +61,7 @@ has_missing_before s (Some before) t c =
     && nat_le (column_at s (before + s.unit)) c
     && nat_le c (column_at s (before + missing_before s.unit (Some before) t * s.unit))
 
+-- formula
 -- an epoch that is missing lies in the column
 abbrev pub has_missing : Scale → List EpochTableView → ℕ → Bool
 has_missing s [] c = false

@@ -17,6 +17,7 @@ steps_in (e ∷ before) = step_from (newest_moment before) e.time ++ steps_in be
 abbrev pub times_of_step : ℕ → List ℕ → ℕ
 times_of_step step steps = capped (count_by (λ s. s == step) steps)
 
+-- formula
 -- the most frequent step, the lesser of two alike
 pub record IsMostFrequent (steps : List ℕ) (step : ℕ) : Type 0 where
   pub there : 0 < times_of_step step steps
@@ -28,6 +29,7 @@ abbrev pub IsInterval : List ℕ → Option ℕ → Type 0
 IsInterval steps None = steps ≡ []
 IsInterval steps (Some step) = IsMostFrequent steps step
 
+-- formula
 -- how many epochs are missing before the one at t: as many as lie a whole number of intervals after
 -- the one before and before t
 abbrev pub missing_before : ℕ → Option ℕ → ℕ → ℕ

@@ -12,6 +12,7 @@ abbrev pub is_level : ℕ → Option ℕ → Bool
 is_level level None = false
 is_level level (Some least) = least == level
 
+-- formula
 -- the phase of a code in all epochs of the column, or in some and not in all; a least strength digit;
 -- a slip; a half cycle
 abbrev pub shows : Layer → Cell → Bool

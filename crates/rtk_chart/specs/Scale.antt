@@ -3,6 +3,7 @@ use Rattle.std.specs.Prelude.{◌≡◌, ◌≤◌, ◌<◌, ℕ, ◌+◌, ◌-�
 use Rattle.rtk_rinex.specs.Reading.{IsMoment}
 use Rattle.rtk_chart.specs.declared.scale.Scale.{Scale}
 
+-- formula
 -- the interval by which columns are counted: 1 ms in a file without one; no step between moments is
 -- 0 ms, or longer than to the last moment that there is
 abbrev pub unit_of : Option ℕ → ℕ
@@ -13,6 +14,7 @@ unit_of (Some interval) = min (max interval 1) 3_818_015_999_999
 abbrev pub intervals_of : ℕ → ℕ → ℕ → ℕ
 intervals_of span unit allowed = span / (allowed * unit) + 1
 
+-- formula
 abbrev pub column_length : ℕ → ℕ → ℕ → ℕ
 column_length span unit allowed = intervals_of span unit allowed * unit
 
@@ -24,6 +26,7 @@ scale_of first last interval allowed =
     let column_ms = column_length span unit allowed in
     record { first = first; last = last; interval = interval; unit = unit; column_ms = column_ms; columns = span / column_ms + 1 }
 
+-- formula
 -- what holds of each scale
 pub record IsScale (s : Scale) : Type 0 where
   pub first : IsMoment s.first

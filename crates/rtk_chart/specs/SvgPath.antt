@@ -2,6 +2,7 @@
 -- the next one begins.
 use Rattle.std.specs.Prelude.{ℕ, ◌+◌, ◌/◌, Bool, true, false, List, [], ◌∷◌, ◌++◌, codes, decimal, if◌then◌else◌}
 
+-- formula
 -- a line over a column that has the mark: it goes on if the column before has it too
 abbrev pub run_part : ℕ → ℕ → Bool → Bool → List ℕ
 run_part w x was false = []
@@ -13,9 +14,11 @@ abbrev pub runs_from : ℕ → ℕ → Bool → List Bool → List ℕ
 runs_from w x was [] = []
 runs_from w x was (b ∷ bs) = run_part w x was b ++ runs_from w (x + w) b bs
 
+-- formula
 unfoldable pub runs_text : ℕ → List Bool → List ℕ
 runs_text w bs = runs_from w 0 false bs
 
+-- formula
 -- a stroke of six units in the middle of a column that has the mark
 abbrev pub stroke_part : ℕ → ℕ → Bool → List ℕ
 stroke_part w x false = []
@@ -25,5 +28,6 @@ abbrev pub strokes_from : ℕ → ℕ → List Bool → List ℕ
 strokes_from w x [] = []
 strokes_from w x (b ∷ bs) = stroke_part w x b ++ strokes_from w (x + w) bs
 
+-- formula
 unfoldable pub strokes_text : ℕ → List Bool → List ℕ
 strokes_text w bs = strokes_from w 0 bs

@@ -6,12 +6,14 @@ use Rattle.rtk_chart.specs.Heading.{date_text, clock_text}
 use Rattle.rtk_chart.specs.Scale.{column_start}
 use Rattle.rtk_chart.specs.declared.scale.Scale.{Scale}
 
+-- table
 -- the steps between ticks, in ms: from 1 s to a week
 abbrev pub tick_steps : List ℕ
 tick_steps =
     1000 ∷ 2000 ∷ 5000 ∷ 10_000 ∷ 15_000 ∷ 30_000 ∷ 60_000 ∷ 120_000 ∷ 300_000 ∷ 600_000 ∷ 900_000 ∷ 1_800_000
     ∷ 3_600_000 ∷ 7_200_000 ∷ 10_800_000 ∷ 21_600_000 ∷ 43_200_000 ∷ 86_400_000 ∷ 172_800_000 ∷ 604_800_000 ∷ []
 
+-- formula
 -- the least of them that is so long, or else as many whole days
 abbrev pub tick_step : ℕ → ℕ
 tick_step least = unwrap_or (find (λ step. nat_le least step) tick_steps) ((least + 86_399_999) / 86_400_000 * 86_400_000)
@@ -21,9 +23,11 @@ tick_step least = unwrap_or (find (λ step. nat_le least step) tick_steps) ((lea
 abbrev pub last_whole : Scale → ℕ → ℕ → ℕ
 last_whole s step c = min (column_start s c + s.column_ms - 1) s.last / step * step
 
+-- formula
 abbrev pub tick_at : Scale → ℕ → ℕ → Option ℕ
 tick_at s step c = if nat_le (column_start s c) (last_whole s step c) then Some (last_whole s step c) else None
 
+-- formula
 -- what stands at a tick, in 10 characters: its time of day, or its date if ticks are a day apart or
 -- more
 unfoldable pub tick_label : ℕ → ℕ → List ℕ

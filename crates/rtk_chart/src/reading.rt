@@ -1,4 +1,7 @@
 //! The records of a table, gone over from the first to the last.
+//!
+//! They are gone over twice: first for their number, steps and slips, which give the columns, and
+//! then each record is put into its column.
 
 ghost use Rattle.std.specs.Prelude.{◌≡◌, length, IfOk};
 ghost use Rattle.rtk_rinex.specs.Table.{WellFormedTable, IsWellFormedTable, table_text};

@@ -1,4 +1,7 @@
 //! The steps between epochs, and the most frequent of them.
+//!
+//! The most frequent step is kept beside the counts, since only a step that comes again can
+//! overtake it.
 
 ghost use Rattle.std.specs.Prelude.{◌≡◌, ◌<◌, ◌≤◌, ◌⊎◌, MatchBool, List, ℕ, [], ◌∷◌, IfOk, OnOk};
 ghost use Rattle.rtk_chart.specs.Interval.{times_of_step, IsInterval};

@@ -16,6 +16,7 @@ use crate::times::{put_moment, put_seconds};
 use rtk_obs::{Code, GpsMs};
 use std::alloc::{AllocError, Global};
 
+// constant
 /// The colours, which the colour-blind tell apart (Okabe and Ito), on white and on black. Those on black
 /// come first: LibreOffice takes them on white too, and then the later ones are shown.
 pub(crate) const STYLE: &[u8] = b"<style>\
@@ -36,6 +37,7 @@ path{fill:none;stroke-width:4}\
 .t{stroke:#888;stroke-width:1;stroke-opacity:.4}\
 </style>\n";
 
+// constant
 /// What the colours mean.
 pub(crate) const LEGEND: &[u8] = b"<path class='s' d='M2 8v6'/><text x='10' y='15'>slip</text>\
 <path class='h' d='M52 8v6'/><text x='60' y='15'>half cycle</text>\

@@ -16,6 +16,7 @@ status_of_fault (Read link) = 1
 status_of_fault Endless = 1
 status_of_fault Stopped = 2
 
+-- table
 -- the exit status of a conversion, by its answer and by whether all that it wrote is out: 0 if it
 -- was done and all is out, 1 if it was done and not all is out
 abbrev pub status_of : Result Counts ConvertFault → Bool → ℕ

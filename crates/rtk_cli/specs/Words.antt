@@ -11,14 +11,17 @@ use Rattle.rtk_cli.specs.declared.words.Job.TheVariants.{Convert, Show, Check, S
 use Rattle.rtk_cli.specs.declared.words.WordsFault.{WordsFault}
 use Rattle.rtk_cli.specs.declared.words.WordsFault.TheVariants.{Clap, Bad, OutOfMemory}
 
+-- formula
 -- the word that names standard input
 abbrev pub is_stdin : List ℕ → Bool
 is_stdin word = pointwise nat_eq word (codes "stdin")
 
+-- formula
 -- the links of a conversion: 1 to 16, and standard input at most once (this project's rule)
 abbrev pub AreLinkNames : List (List ℕ) → Type 0
 AreLinkNames links = IsInRange 1 16 (length links) × (count_by is_stdin links ≤ 1)
 
+-- formula
 -- a conversion is of a station, a window and links within their limits; so is the width of a picture
 -- in characters, and the step of a part
 abbrev pub IsWithinLimits : Job → Type 0
@@ -30,6 +33,7 @@ IsWithinLimits (Summary file) = Unit {0}
 IsWithinLimits (Chart width file) = ForSome width IsWidth
 IsWithinLimits (Cut part file) = IsStepOrNone part.every
 
+-- table
 -- after a text of clap's the program ends with status 0 or 2; which of them is not said here
 -- (this project's rule)
 abbrev pub HasStatus : WordsFault → Type 0

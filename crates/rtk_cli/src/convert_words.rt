@@ -24,7 +24,7 @@ pub(crate) fn conversion<'a>(
 ) -> Result<Job<'a>, WordsFault>
     ensures said { IfOk result (SaysConversion options.now (map (λ name. name.now) names.now)) }
     ensures limits { IfOk result IsWithinLimits }
-    // That it gives up only without memory show the rows `job of convert ..` of tests/calls.
+    // That it gives up only without memory show the rows `job of convert ..` of tests/system/calls.
     ensures refused { IfErr result (RefusesConversion options.now (map (λ name. name.now) names.now)) }
     ensures status { IfErr result HasStatus }
 {

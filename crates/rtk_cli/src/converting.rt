@@ -1,4 +1,6 @@
 //! The command `convert`: opens the captures, converts them, and says how it went.
+//!
+//! At the end standard output is flushed, then the report, and the fault line comes last.
 
 ghost use Rattle.std.specs.Prelude.{◌≡◌, ◌≤◌, ◌+◌, sum_by, IsErrOf};
 ghost use Rattle.rtk_convert.specs.ReadSteps.{HasCalled};

@@ -8,6 +8,7 @@ use Rattle.rtk_collect.specs.Key.{key}
 use Rattle.rtk_collect.specs.EpochSet.{EpochSetView, joined}
 use Rattle.rtk_collect.specs.Late.{epochs, greater, late}
 
+-- formula
 -- the first message stays
 abbrev pub first : Option Message → Message → Option Message
 first None m = Some m
@@ -40,6 +41,7 @@ abbrev pub cells_at : ℕ → List EpochSetView → Option (List CellEntry)
 cells_at e [] = None
 cells_at e (x ∷ xs) = if e == x.epoch then Some x.cells else cells_at e xs
 
+-- formula
 -- the kept epochs that are closed: at least n distinct greater ones have come
 abbrev pub closed : ℕ → List Arrival → List EpochSetView
 closed n arrivals = filter (λ x. nat_le n (greater (Some x.epoch) (epochs arrivals))) (kept n arrivals)

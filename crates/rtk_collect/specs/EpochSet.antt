@@ -85,6 +85,7 @@ abbrev pub conflict : CellEntry → Option CellEntry → List SatelliteCode
 conflict c None = []
 conflict c (Some x) = if equal_cells x.cell c.cell then [] else record { satellite = c.satellite; code = c.code } ∷ []
 
+-- formula
 -- satellites and codes of the cells that conflict, in the order of the message
 abbrev pub conflicts : List CellEntry → List CellEntry → List SatelliteCode
 conflicts [] kept = []

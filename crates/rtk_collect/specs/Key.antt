@@ -11,12 +11,14 @@ abbrev pub rank_of : CellSource → ℕ
 rank_of Msm = 0
 rank_of Legacy = 1
 
+-- formula
 -- the key of a satellite, code and kind of message in an epoch, in this order of weight (this
 -- project's rule). It is one number, so that the order of cells is the order of numbers, and a test
 -- of two keys is one comparison; the law `equality_decides` says that equal keys have equal parts.
 unfoldable pub key_at : ℕ → Code → CellSource → ℕ
 key_at satellite code source = (satellite * 16 + place_of code) * 2 + rank_of source
 
+-- formula
 -- the key of a cell in its epoch
 unfoldable pub key : CellEntry → ℕ
 key c = key_at c.satellite c.code c.cell.source

@@ -47,6 +47,7 @@ abbrev pub is_excused : ℕ → Arrival → List Arrival → Bool
 is_excused n (At None m) before = is_repeat_of n m (first_with (number_of m) before)
 is_excused n (At (Some e) m) before = false
 
+-- formula
 -- late: at least n distinct greater observation epochs came before, and it is no repeat of a
 -- station message before which fewer than n epochs had come (this project's rule)
 abbrev pub late : ℕ → Arrival → List Arrival → Bool

@@ -1,4 +1,8 @@
 //! The collector: a window over the epochs of one station's messages.
+//!
+//! A new epoch reserves room for as many cells of each kind as the epoch before it has, or as the
+//! message has if these are more. `hand_back` keeps the lists of one closed epoch, and the next
+//! epoch that wants just their room takes them.
 
 ghost use Rattle.std.specs.Prelude.{◌≡◌, ◌≤◌, List, [], length, take, IsOk, IfOk, OnErr, None};
 ghost use Rattle.rtk_message.specs.Arp1005 as arp1005_spec;
@@ -95,7 +99,7 @@ impl Collector {
     pub fn offer(&mut self, dated: Dated<'_>) -> Result<Offer, AllocError>
         ensures size { self.new.size ≡ self.old.size }
         ensures bound { length self.new.sets ≤ self.new.size }
-        // That it does not give up: rows offer of tests/calls.
+        // That it does not give up: rows offer of tests/system/calls.
         ensures answer { IfOk result (λ offer. AnswersArrival self.old dated.entry offer self.new) }
         ensures closed { IfOk result (λ offer. ClosesBelow offer self.new.sets) }
         ensures least_closes { IfOk result (λ offer. ClosesLeast self.old.size self.old.sets offer) }

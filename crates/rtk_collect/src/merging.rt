@@ -1,4 +1,8 @@
 //! The cells of a message join the cells of their epoch.
+//!
+//! The first message of its kind is copied as it stands. Any other is compared in one pass. If a
+//! cell is new and the cells rise, the list grows once and both are merged in it from the greatest
+//! key down. Cells that do not rise are put in one by one.
 
 ghost use Rattle.std.specs.Prelude.{◌≡◌, ◌≢◌, ◌≤◌, ◌<◌, ◌+◌, ◌-◌, ◌*◌, [], ◌∷◌, ◌++◌, not, length, take, drop, slice_index_or, vec_len, vec_capacity, IsTrue, IfOk, OnErr, All, if◌then◌else◌};
 ghost use Rattle.rtk_obs.specs.Code.{place_of};

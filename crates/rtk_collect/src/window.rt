@@ -1,4 +1,9 @@
 //! The epochs of a window, from the greatest to the least.
+//!
+//! The greatest epoch is looked at first, and the others by halves. A new epoch goes in at or near
+//! the front and the least one goes out at the back, so usually nothing is moved. If no epoch of a
+//! full window is below a bound, then the epoch that closes is not below it; so the epochs that go
+//! out rise, and callers need no history for that.
 
 ghost use Rattle.std.specs.Prelude.{◌≡◌, ◌≢◌, ◌<◌, ◌≤◌, ◌+◌, ◌++◌, [], not, min, IsTrue, length, IsOk, IfOk, OnErr, OnOk, All, slice_index_or, slice_set, option_to_list};
 ghost use Rattle.std.specs.List.{insert};

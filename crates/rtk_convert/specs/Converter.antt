@@ -22,6 +22,7 @@ pub record ConverterView : Type 0 where
   pub conversion : ConversionView
   pub links : List Link
 
+-- constant
 -- 1 to 16 links (this project's rule)
 abbrev pub IsLinkCount : ℕ → Type 0
 IsLinkCount n = IsInRange 1 16 n
@@ -128,6 +129,7 @@ ClosesLinkInPart old link written_old written_new = (h : History) → Represents
 abbrev pub IsAfterClosing : SetupView → History → ℕ → History → Type 0
 IsAfterClosing s h link next = (IsOpen h link × IsAfterClose s h link next) ⊎ ((IsOpen h link → ⊥) × (next ≡ h))
 
+-- formula
 -- the first n links are closed if they are open, the lower number first
 abbrev pub IsAfterClosingAll : SetupView → History → ℕ → History → Type 0
 IsAfterClosingAll s h zero next = next ≡ h

@@ -26,6 +26,7 @@ first_or (Some first) epoch text = Some first
 first_or None epoch [] = None
 first_or None epoch (x ∷ text) = Some epoch
 
+-- formula
 -- the least epoch that has a record
 unfoldable pub first_time : List Code → List EpochSetView → Option ℕ
 first_time listed [] = None
@@ -35,6 +36,7 @@ first_time listed (e ∷ below) = first_or (first_time listed below) e.epoch (re
 abbrev pub header_of : SetupView → PositionView → List EpochSetView → List ℕ
 header_of s site epochs = header_text s.head site (unwrap_or (first_time s.head.listed epochs) s.near)
 
+-- formula
 -- the file: the header, then the records of all epochs, rising
 abbrev pub file_of : SetupView → PositionView → List EpochSetView → List ℕ
 file_of s site epochs = header_of s site epochs ++ records s.head.listed epochs

@@ -39,6 +39,7 @@ site_of_kept n arrivals = site_of_stations (station n 1005 arrivals) (station n 
 abbrev pub kept_file : SetupView → List Arrival → List ℕ
 kept_file s arrivals = file_of s (site_of_kept s.window arrivals) (kept s.window arrivals)
 
+-- formula
 -- the part of it that is written once these arrivals have come: nothing until a closed epoch has a
 -- record; then the header and the records of the closed epochs
 abbrev pub file_so_far : SetupView → List Arrival → List ℕ

@@ -32,6 +32,7 @@ class_of_fault (Short number) = Refused (Short number)
 class_of_fault (EpochRange number) = Refused (EpochRange number)
 class_of_fault (TooManyCells number) = Refused (TooManyCells number)
 
+-- formula
 -- the class of what a payload is read as
 abbrev pub IsClassOfReading : SetupView → Result Message AnyFault → FrameClass → Type 0
 IsClassOfReading s (Err fault) f = f ≡ class_of_fault fault

@@ -89,6 +89,7 @@ later_of None b = b
 later_of (Some a) None = Some a
 later_of (Some a) (Some b) = Some (max a b)
 
+-- formula
 -- the greatest observation epoch that came on a link, whether the message is late or not
 abbrev pub newest_on : ℕ → List Found → Option ℕ
 newest_on link [] = None
@@ -102,6 +103,7 @@ IsUpTo None b = Unit {0}
 IsUpTo (Some a) None = ⊥
 IsUpTo (Some a) (Some b) = a ≤ b
 
+-- formula
 -- the link that is read next: the open link with the least newest epoch; if several have the same
 -- one, the lowest of them
 pub record IsNextLink (h : History) (link : ℕ) : Type 0 where

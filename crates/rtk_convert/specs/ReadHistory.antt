@@ -14,6 +14,7 @@ abbrev pub IsAfterPiece : SetupView → History → ℕ → List ℕ → History
 IsAfterPiece s h link [] next = IsAfterClose s h link next
 IsAfterPiece s h link (x ∷ piece) next = IsAfterFeed s h link (x ∷ piece) next
 
+-- formula
 -- a read of the link that is next, of at most 512 bytes, and the history after it
 pub record IsNextRead (s : SetupView) (h : History) (r : Read) (next : History) : Type 0 where
   pub link : IsNextLink h r.link

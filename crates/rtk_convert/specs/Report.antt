@@ -16,6 +16,7 @@ use Rattle.rtk_convert.specs.declared.counts.Counts.{Counts}
 
 -- ---- lines
 
+-- formula
 -- as in: link 1 refused M3 1005
 abbrev pub refused_line : ℕ → AnyFault → List ℕ
 refused_line link fault = link_text link ++ codes " refused " ++ any_fault_text fault ++ 10 ∷ []
@@ -44,6 +45,7 @@ frame_lines n link (Refused fault) before = refused_line link fault
 frame_lines n link Foreign before = []
 frame_lines n link (Dated a) before = class_lines link (number_of (message_of a)) (epoch_of a) (class_of n a before) (conflicts_of n a before)
 
+-- formula
 -- the lines of all found frames, in order
 abbrev pub lines : ℕ → List Found → List ℕ
 lines n [] = []
@@ -60,6 +62,7 @@ counted_as TakenClass c = record c { taken = count_after c.taken }
 counted_as RepeatClass c = record c { repeat = count_after c.repeat }
 counted_as ConflictClass c = record c { conflict = count_after c.conflict }
 
+-- formula
 -- the counts after one more frame: it is in exactly one of these seven
 abbrev pub counted : ℕ → FrameClass → List Arrival → Counts → Counts
 counted n OtherMessage before c = record c { other = count_after c.other }

@@ -8,45 +8,55 @@ use Rattle.rtk_rinex.specs.Columns.{last_digits}
 use Rattle.rtk_rinex.specs.Reading.{reading_of}
 use Rattle.rtk_convert.specs.declared.counts.Counts.{Counts}
 
+-- formula
 -- a reading, as 2024-05-17 12:00:00.000
 abbrev pub civil_text : Civil → List ℕ
 civil_text c =
     last_digits 4 c.year ++ 45 ∷ last_digits 2 c.month ++ 45 ∷ last_digits 2 c.day
     ++ 32 ∷ last_digits 2 c.hour ++ 58 ∷ last_digits 2 c.minute ++ 58 ∷ last_digits 2 c.second ++ 46 ∷ last_digits 3 c.millisecond
 
+-- formula
 -- the epoch of a message; a hyphen for a station message, which has none
 abbrev pub epoch_text : Option ℕ → List ℕ
 epoch_text None = codes "-"
 epoch_text (Some t) = civil_text (reading_of t)
 
+-- formula
 abbrev pub link_text : ℕ → List ℕ
 link_text link = codes "link " ++ decimal (link + 1)
 
+-- formula
 -- a link, a message number and an epoch, as in: link 2 late 1074 2024-05-17 12:00:00.000
 abbrev pub arrival_text : ℕ → List ℕ → ℕ → Option ℕ → List ℕ
 arrival_text link what number epoch = link_text link ++ what ++ decimal number ++ 32 ∷ epoch_text epoch
 
+-- formula
 -- a message that came too late
 abbrev pub late_line : ℕ → ℕ → Option ℕ → List ℕ
 late_line link number epoch = arrival_text link (codes " late ") number epoch ++ 10 ∷ []
 
+-- formula
 -- a station message that differs from the one before
 abbrev pub conflict_line : ℕ → ℕ → List ℕ
 conflict_line link number = arrival_text link (codes " conflict ") number None ++ 10 ∷ []
 
+-- formula
 -- a satellite and a code, as in: G05 1C
 unfoldable pub signal_text : ℕ → Code → List ℕ
 signal_text satellite code = codes " G" ++ last_digits 2 satellite ++ 32 ∷ name_of code
 
+-- formula
 -- a cell that differs from the one before, as in: link 1 conflict 1074 2024-05-17 12:00:00.000 G05
 -- 1C
 abbrev pub cell_conflict_line : ℕ → ℕ → ℕ → ℕ → Code → List ℕ
 cell_conflict_line link number epoch satellite code =
     arrival_text link (codes " conflict ") number (Some epoch) ++ signal_text satellite code ++ 10 ∷ []
 
+-- formula
 abbrev pub count_line : List ℕ → ℕ → List ℕ
 count_line name count = name ++ decimal count ++ 10 ∷ []
 
+-- formula
 -- the nine counts at the end
 unfoldable pub count_lines : Counts → List ℕ
 count_lines c =

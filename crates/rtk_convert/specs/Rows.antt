@@ -89,6 +89,7 @@ unfoldable pub rows_to : (ℕ → Code → Option Observed) → List Code → �
 rows_to shown listed zero = []
 rows_to shown listed (suc n) = rows_to shown listed n ++ row_if_any shown listed (suc n)
 
+-- formula
 -- the table of an epoch for the listed codes, given the epochs below it
 abbrev pub table_of : List Code → EpochSetView → List EpochSetView → EpochTableView
 table_of listed e below = record { time = e.epoch; rows = rows_to (observed_at e below) listed 32 }

@@ -16,13 +16,16 @@ pub record SetupView : Type 0 where
   -- the MSM that is converted beside 1004
   pub msm : MsmKind
 
+-- constant
 -- a reference station ID has 12 bits (RTCM 10403.3, DF003)
 abbrev pub IsStation : ℕ → Type 0
 IsStation station = station ≤ 4095
 
+-- constant
 -- 2 to 4096 epochs (this project's rule)
 abbrev pub IsWindow : ℕ → Type 0
 IsWindow window = IsInRange 2 4096 window
 
+-- formula
 abbrev pub IsSetupView : SetupView → Type 0
 IsSetupView s = IsStation s.station × IsReference s.near × IsHeadView s.head × IsWindow s.window

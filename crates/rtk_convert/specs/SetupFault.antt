@@ -4,6 +4,7 @@ use Rattle.rtk_convert.specs.Setup.{SetupView, IsStation, IsWindow}
 use Rattle.rtk_convert.specs.declared.setup.SetupFault.{SetupFault}
 use Rattle.rtk_convert.specs.declared.setup.SetupFault.TheVariants.{Station, Near, Window}
 
+-- formula
 -- the station has more than 12 bits, or no time can be dated near the reference, or the window is
 -- not 2 to 4,096 epochs
 abbrev pub IsSetupFault : SetupView → SetupFault → Type 0

@@ -1,4 +1,9 @@
 //! The state of a conversion: it takes the frames of all links, one at a time.
+//!
+//! The record of the epoch that closes is written before the lines of the message that closes it.
+//! Memory for lines is taken only if there are any. That each closed epoch is above all last phases
+//! is an invariant (`IsAhead`): there is a last phase only once the window is full, and its epoch
+//! is below all epochs of the window.
 
 ghost use Rattle.std.specs.Prelude.{◌≡◌, ◌≢◌, ◌≤◌, ◌↔◌, [], length, true, false, List, Err, OnOk, OnErr, IsErrOf, IfOk, IfErr};
 ghost use Rattle.rtk_convert.specs.Failure.{IsFrameFault, NamesFailedWrites};

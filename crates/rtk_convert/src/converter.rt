@@ -1,4 +1,6 @@
 //! A converter: it takes pieces of 1 to 16 links, in any order, and writes one file and a report.
+//!
+//! Frames are taken one by one, straight from the bytes of a scanner; no payload is copied.
 
 ghost use Rattle.std.specs.Prelude.{◌≡◌, ◌≢◌, ◌<◌, ◌↔◌, [], true, false, None, length, replicate, OnOk, OnErr, IsErrOf, IfOk, IfErr, IfSome, Decides};
 ghost use Rattle.rtk_frame.specs.ScannerView.{scanner_view};
@@ -76,7 +78,7 @@ impl Converter {
         ensures same_setup { IfOk result (λ c. c.conversion.setup ≡ setup) }
         ensures as_many { IfOk result (λ c. length c.links ≡ links) }
         ensures link_count { IsErrOf result ConvertFault.Setup ↔ ¬ (IsLinkCount links) }
-        // V4 comes only if memory is refused: tests/calls, rows `Converter::new of ..`.
+        // V4 comes only if memory is refused: tests/system/calls, rows `Converter::new of ..`.
         ensures fault { IfErr result (λ fault. IsLinkCount links → fault ≡ ConvertFault.OutOfMemory) }
         ensures bounds { IfOk result HoldsAtMost }
     {
@@ -159,7 +161,7 @@ impl Converter {
         ensures halts { IfErr result (λ fault. IsFrameFault fault → self.new.conversion.stopped ≡ true) }
 
         // When each fault; a stream that failed is named.
-        // V4 comes only if memory is refused: tests/calls, rows `feed ..`.
+        // V4 comes only if memory is refused: tests/system/calls, rows `feed ..`.
         ensures fault { refusal self.old link ≡ None → IfErr result IsFrameFault }
         ensures file_failed { NamesFailedWrites Stream.Out result (O.failures out.old) (O.failures out.new) }
         ensures report_failed { NamesFailedWrites Stream.Log result (L.failures log.old) (L.failures log.new) }
@@ -202,7 +204,7 @@ impl Converter {
         ensures halts { IfErr result (λ fault. IsFrameFault fault → self.new.conversion.stopped ≡ true) }
 
         // When each fault; a stream that failed is named.
-        // V4 comes only if memory is refused: tests/calls, rows `close of ..`.
+        // V4 comes only if memory is refused: tests/system/calls, rows `close of ..`.
         ensures fault { refusal self.old link ≡ None → IfErr result IsFrameFault }
         ensures file_failed { NamesFailedWrites Stream.Out result (O.failures out.old) (O.failures out.new) }
         ensures report_failed { NamesFailedWrites Stream.Log result (L.failures log.old) (L.failures log.new) }
@@ -259,7 +261,7 @@ impl Converter {
 
         // When each fault; a stream that failed is named.
         ensures stopped { self.conversion.stopped ≡ true → IsErrOf result ConvertFault.Stopped }
-        // V4 comes only if memory is refused: tests/calls, rows `finish ..`.
+        // V4 comes only if memory is refused: tests/system/calls, rows `finish ..`.
         ensures fault { self.conversion.stopped ≡ false → IfErr result IsFrameFault }
         ensures file_failed { NamesFailedWrites Stream.Out result (O.failures out.old) (O.failures out.new) }
         ensures report_failed { NamesFailedWrites Stream.Log result (L.failures log.old) (L.failures log.new) }

@@ -175,7 +175,7 @@ pub fn run<R: Source, O: Sink, L: Sink>(
 
     // When each fault, and how many reads; a stream or a reader that failed is named.
     ensures link_count { IsErrOf result ConvertFault.Setup ↔ ¬ (IsLinkCount (length readers.old)) }
-    // V4 comes only if memory is refused: tests/calls, rows `run of ..`.
+    // V4 comes only if memory is refused: tests/system/calls, rows `run of ..`.
     ensures fault { IfErr result IsRunFault }
     ensures reads { sum_by R.calls readers.new ≤ sum_by R.calls readers.old + max_reads }
     ensures file_failed { NamesFailedWrites Stream.Out result (O.failures out.old) (O.failures out.new) }

@@ -11,16 +11,19 @@ use Rattle.rtk_cut.specs.declared.part.Part.{Part}
 
 -- ---- which records
 
+-- constant
 -- a step in s: 1 to 86,400
 abbrev pub IsStepOrNone : Option ℕ → Type 0
 IsStepOrNone None = Unit {0}
 IsStepOrNone (Some every) = IsInRange 1 86_400 every
 
+-- formula
 -- the step in ms; each moment is a multiple of 1 ms
 abbrev pub step_ms : Option ℕ → ℕ
 step_ms None = 1
 step_ms (Some every) = every * 1000
 
+-- formula
 -- the moment is a whole multiple of the step, counted from 1980-01-06
 abbrev pub is_on_step : ℕ → EpochTableView → Bool
 is_on_step step e = e.time % step == 0
@@ -35,6 +38,7 @@ abbrev pub is_earlier_than : Option ℕ → ℕ → Bool
 is_earlier_than None t = true
 is_earlier_than (Some until) t = nat_lt t until
 
+-- formula
 -- the epoch is in the span
 abbrev pub is_in_span : Option ℕ → Option ℕ → EpochTableView → Bool
 is_in_span from until e = is_at_or_after from e.time && is_earlier_than until e.time
@@ -60,6 +64,7 @@ has_slip_of s c e = list_any (λ r. (r.satellite == s) && (code_at c r).slip) e.
 abbrev pub since_phase : ℕ → ℕ → ℕ → List EpochTableView → List EpochTableView
 since_phase step s c earlier = take_while (λ e. not (is_on_step step e && has_phase_of s c e)) earlier
 
+-- formula
 -- this phase has slipped in the epoch, or in an earlier one since it stood in one on the step
 abbrev pub has_slipped_since : ℕ → ℕ → ℕ → EpochTableView → List EpochTableView → Bool
 has_slipped_since step s c e earlier = list_any (has_slip_of s c) (e ∷ since_phase step s c earlier)
@@ -88,6 +93,7 @@ thinned_after step earlier (e ∷ es) =
 abbrev pub kept_after : Part → List EpochTableView → List EpochTableView → List EpochTableView
 kept_after part earlier es = filter (is_in_span part.from part.until) (thinned_after (step_ms part.every) earlier es)
 
+-- formula
 -- the first time in the header: that of the first record, else the span's, else the file's
 abbrev pub first_of_part : Option ℕ → ℕ → List EpochTableView → ℕ
 first_of_part from first [] = unwrap_or from first

@@ -1,4 +1,6 @@
 //! One epoch of a file after another.
+//!
+//! A record that shows no slip but its own is written as the text that was read, and else anew.
 
 ghost use Rattle.std.specs.Prelude.{◌≡◌, ◌≢◌, ◌≤◌, true, Err, OnOk, IfOk, IsErrOf, length};
 ghost use Rattle.rtk_frame.specs.Stream.{CountRises};

@@ -28,7 +28,7 @@ pub fn cut<W: Sink>(
     ensures first { OnErr result (WritesFirstOfPart table.now.text part (W.taken out.old) (W.taken out.new)) }
 
     // A failed write is told, and nothing else is told as one. That memory is all that it gives up
-    // for besides show the rows `cut ..` of tests/calls.
+    // for besides show the rows `cut ..` of tests/system/calls.
     ensures write_failed { IsErrOf result Write → CountRises (W.failures out.old) (W.failures out.new) }
     ensures no_failed_write { result ≢ Err Write → W.failures out.new ≡ W.failures out.old }
 {

@@ -1,5 +1,8 @@
 //! The slips that are still to be shown: of each satellite and code, whether its phase has slipped
 //! since it stood in a record on the step.
+//!
+//! A record off the step sets marks. A record on the step shows and clears the marks of its phases,
+//! whether it is in the span or not.
 
 ghost use Rattle.std.specs.Prelude.{◌≡◌, ℕ, ◌+◌, ◌*◌, ◌<◌, ◌≤◌, ◌||◌, ◌&&◌, ◌==◌, not, true, false, nat_lt, [], ◌∷◌, List, length, map, get_or, is_some, All, AllPairs};
 ghost use Rattle.std.specs.List.{list_any};

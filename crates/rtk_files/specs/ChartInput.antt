@@ -7,6 +7,7 @@ use Rattle.rtk_rinex.specs.declared.check_fault.CheckFault.{CheckFault}
 use Rattle.rtk_chart.specs.Chart.{ShowsTable, ShowsTableInSvg}
 use Rattle.rtk_files.specs.CheckedInput.{IsTextOfSomeTable}
 
+-- constant
 -- the width of a picture in characters (this project's rule)
 abbrev pub IsWidth : ℕ → Type 0
 IsWidth width = IsInRange 40 400 width

@@ -6,11 +6,13 @@ use Rattle.rtk_rinex.specs.CauseText.{cause_text}
 use Rattle.rtk_rinex.specs.CheckTable.{HoldsTable, IsFault, IsWithoutTable}
 use Rattle.rtk_rinex.specs.declared.check_fault.CheckFault.{CheckFault}
 
+-- formula
 -- the line of a table with these numbers of records and satellite lines; a line feed ends it
 abbrev pub valid_text : ℕ → ℕ → List ℕ
 valid_text epochs satellites =
     codes "valid: " ++ decimal epochs ++ codes " epochs, " ++ decimal satellites ++ codes " satellite lines" ++ 10 ∷ []
 
+-- table
 -- the line of a fault; a line feed ends it
 abbrev pub check_fault_text : CheckFault → List ℕ
 check_fault_text fault = codes "line " ++ decimal fault.line ++ codes ": " ++ cause_text fault.cause ++ 10 ∷ []

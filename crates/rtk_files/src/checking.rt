@@ -19,6 +19,7 @@ use rtk_tools::{
 use std::alloc::{AllocError, Global};
 use std::fs::Files;
 
+// constant
 /// The most bytes of an input of `check_input`, which holds it whole.
 pub const CHECK_LIMIT: usize = 1_073_741_824;
 
@@ -59,7 +60,7 @@ fn fault_line(alloc: Global, fault: CheckFault) -> Result<Vec<u8>, AllocError>
 // What is said of a text.
 fn verdict_of(alloc: Global, text: &[u8]) -> Result<Verdict, ToolFault>
     ensures says { IfOk result (λ verdict. SaysVerdict text.now verdict.is_valid verdict.line.items) }
-    // That it gives up only without memory show the rows `check_input ..` of tests/calls.
+    // That it gives up only without memory show the rows `check_input ..` of tests/system/calls.
     ensures memory { IfErr result (λ fault. fault ≡ OutOfMemory) }
 {
     let (is_valid, line) = match check(text) {
@@ -86,7 +87,7 @@ pub fn check_input<R: Source, W: Sink>(
     ensures told { IfOk result (λ valid. GivesText (R.given reader.old) (R.given reader.new) (λ text.
         (length text ≤ CHECK_LIMIT) × Tells text valid (W.taken out.old) (W.taken out.new))) }
 
-    // That it gives up only without memory show the rows `check_input ..` of tests/calls.
+    // That it gives up only without memory show the rows `check_input ..` of tests/system/calls.
 
     // What the answer is about was read to its end.
     ensures to_the_end { result ≢ Err Input → result ≢ Err TooLong → result ≢ Err OutOfMemory

@@ -13,6 +13,7 @@ flip [] xs = xs
 flip (g ∷ gs) [] = []
 flip (g ∷ gs) (x ∷ xs) = cond g (not x) x ∷ flip gs xs
 
+-- constant
 -- the last 24 bits of the generator 1864CFB
 abbrev pub generator : List Bool
 generator = bits_of 24 0x864CFB
@@ -24,6 +25,7 @@ divide zero xs = xs
 divide (suc n) [] = []
 divide (suc n) (x ∷ xs) = divide n (cond x (flip generator xs) xs)
 
+-- formula
 -- CRC-24Q: what remains of the bits of the bytes with 24 zeros after them, once each bit of the
 -- bytes is dropped
 unfoldable pub crc : List ℕ → ℕ

@@ -8,6 +8,7 @@ pub record Frame : Type 0 where
   pub place : ℕ
   pub payload : List ℕ
 
+-- formula
 -- the place after the last byte of a frame
 abbrev pub end_of : Frame → ℕ
 end_of f = f.place + (length f.payload + 6)
@@ -54,6 +55,7 @@ IsPending text fs suffix = (((p : ℕ) → Waits text fs p → ⊥) × (suffix �
 abbrev pub frame_at : ℕ → List ℕ → Frame
 frame_at place text = record { place = place; payload = payload_of text }
 
+-- formula
 -- the frames of a text that begins at a place and whose first `skip` bytes belong to the frame
 -- before
 unfoldable pub frames_from : ℕ → ℕ → List ℕ → List Frame
@@ -61,12 +63,14 @@ frames_from skip place [] = []
 frames_from (suc skip) place (x ∷ xs) = frames_from skip (place + 1) xs
 frames_from zero place (x ∷ xs) = cond (begins_frame (x ∷ xs)) (frame_at place (x ∷ xs) ∷ frames_from (payload_length (x ∷ xs) + 5) (place + 1) xs) (frames_from zero (place + 1) xs)
 
+-- formula
 -- the same, up to the first waiting place
 unfoldable pub final_from : ℕ → ℕ → List ℕ → List Frame
 final_from skip place [] = []
 final_from (suc skip) place (x ∷ xs) = final_from skip (place + 1) xs
 final_from zero place (x ∷ xs) = cond (begins_frame (x ∷ xs)) (frame_at place (x ∷ xs) ∷ final_from (payload_length (x ∷ xs) + 5) (place + 1) xs) (cond (begins_partial (x ∷ xs)) [] (final_from zero (place + 1) xs))
 
+-- formula
 -- the text from the first waiting place on
 unfoldable pub pending_from : ℕ → List ℕ → List ℕ
 pending_from skip [] = []
@@ -77,10 +81,12 @@ pending_from zero (x ∷ xs) = cond (begins_frame (x ∷ xs)) (pending_from (pay
 abbrev pub frames : List ℕ → List Frame
 frames text = frames_from 0 0 text
 
+-- formula
 -- the frames before the first waiting place; no later byte changes them
 abbrev pub final_frames : List ℕ → List Frame
 final_frames text = final_from 0 0 text
 
+-- formula
 -- the bytes that wait for more
 abbrev pub pending : List ℕ → List ℕ
 pending text = pending_from 0 text

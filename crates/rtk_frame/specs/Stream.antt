@@ -2,7 +2,8 @@
 -- All of it is this project's rule.
 use Rattle.std.specs.Prelude.{◌≡◌, ◌≢◌, ℕ, ◌+◌, ◌-◌, ◌^◌, ◌<◌, ◌≤◌, ◌⊎◌, Bool, true, false, List, ◌++◌, length, take, Option, None, Some, Result, Ok, Err, min, nat_lt, ◌==◌, ◌&&◌, is_err, slice_index_or}
 
--- the greatest value of a count of calls, which is a u64
+-- the greatest value of a count of calls, which is a u64; no test makes so many calls, so this line
+-- alone shows it
 abbrev pub greatest_count : ℕ
 greatest_count = 2 ^ 64 - 1
 

@@ -43,7 +43,7 @@ impl From<AllocError> for FrameFault {
 ///
 /// Source: RTCM 10403.3, transport layer.
 pub fn encode_frame(alloc: Global, payload: &[u8]) -> Result<Vec<u8>, FrameFault>
-    // That it does not give up: rows encode_frame of tests/calls.
+    // That it does not give up: rows encode_frame of tests/system/calls.
     ensures frame { IfOk result (λ frame.
         (length payload.now ≤ 1023) × (frame.items ≡ framed payload.now)) }
     ensures too_long { IsErrOf result TooLong ↔ (1023 < length payload.now) }

@@ -1,5 +1,10 @@
 //! The checksums of the prefixes of a text, from which that of any part follows without a look at
 //! its bytes.
+//!
+//! Candidates that fail may overlap: each byte may be a preamble, and each candidate may have 1,029
+//! bytes. After the first one that fails, the checksum of a candidate follows from two prefixes.
+//! The checksum is linear: that of the last n bytes is that of the whole minus that of the prefix
+//! times x^(8n). This takes some 24 steps, whatever the length.
 
 ghost use Rattle.std.specs.Prelude.{◌≡◌, ◌+◌, ◌<◌, ◌≤◌, ◌==◌, length, drop, take};
 ghost use Rattle.arrayvec.specs.ArrayVec.{array_vec_len};

@@ -1,4 +1,9 @@
 //! A scanner gives the frames of a stream of bytes that comes in pieces.
+//!
+//! Its ring begins with bytes that were given or are in no frame; the pending bytes follow. Passed
+//! bytes go once they are all that is held, or more than 1,029. The others then move to the start
+//! of the room, so the bytes of the ring always lie in one piece, and a payload is lent as a slice
+//! of it. If nothing is pending, bytes that are no preamble do not enter the ring.
 
 ghost use Rattle.std.specs.Prelude.{◌≡◌, ◌≢◌, ◌⊎◌, ℕ, ◌+◌, ◌-◌, ◌*◌, ◌<◌, ◌≤◌, List, [], ◌++◌, length, drop, take, slice_index, true, IfOk, MatchOption};
 ghost use Rattle.circular_buffer.specs.Buffer.{buffer};
@@ -78,7 +83,7 @@ impl Scanner {
 
     /// A scanner at the start of a stream. All the memory that it ever has is taken here.
     pub fn new(alloc: Global) -> Result<Scanner, FrameFault>
-        // That it does not give up: row Scanner::new of tests/calls.
+        // That it does not give up: row Scanner::new of tests/system/calls.
         ensures start { IfOk result (λ scanner. scanner ≡ scanner_view [] false) }
         ensures fault { IfErr result (λ fault. fault ≡ OutOfMemory) }
     {

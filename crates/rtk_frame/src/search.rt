@@ -1,4 +1,7 @@
 //! The next frame of a whole text.
+//!
+//! `next_frame` has no state, so each of its calls may read a candidate anew. Take `Frames` for all
+//! frames of a text.
 
 ghost use Rattle.std.specs.Prelude.{◌≡◌, ℕ, List, ◌<◌, ◌≤◌, length, take, drop, MatchOption, IfSome, ◌+◌};
 ghost use Rattle.rtk_frame.specs.Frame.{IsFrameAt, payload_of};

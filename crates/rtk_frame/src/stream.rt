@@ -1,4 +1,7 @@
 //! Where bytes come from and where they go: the two traits, their fault, and two calls over them.
+//!
+//! A failed call moves no byte and raises the count of failed calls. A count stays at its greatest
+//! value, and there it counts as risen.
 
 ghost use Rattle.std.specs.Prelude.{◌≡◌, ◌≤◌, ◌<◌, List, ℕ, Option, Ok, length, take, slice_index_or, is_err, OnOk, OnErr};
 ghost use Rattle.rtk_frame.specs.Stream.{moved_count, with_more, count_after, failures_after, is_failed_write, CountRises, TakesPart, ReadsOne};

@@ -5,6 +5,7 @@ use Rattle.rtk_message.specs.declared.arp1005.Arp1005.{Arp1005}
 use Rattle.rtk_message.specs.declared.fault.DecodeFault.{DecodeFault}
 use Rattle.rtk_message.specs.declared.fault.DecodeFault.TheVariants.{Short}
 
+-- table
 -- DF003, DF021 to DF024, DF141, DF025, DF142, DF001, DF026, DF364, DF027
 abbrev pub table : Arp1005 → List Field
 table m =
@@ -14,5 +15,6 @@ table m =
 abbrev pub IsValid : Arp1005 → Type 0
 IsValid m = FieldsFit (table m)
 
+-- formula
 abbrev pub first_fault : List Bool → Option DecodeFault
 first_fault bs = if nat_lt (length bs) 140 then Some (Short 1005) else None

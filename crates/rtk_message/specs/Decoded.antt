@@ -11,6 +11,7 @@ use Rattle.rtk_message.specs.Arp1005 as arp1005
 use Rattle.rtk_message.specs.Arp1006 as arp1006
 use Rattle.rtk_message.specs.Msm1074 as msm1074
 
+-- table
 -- the message number (RTCM 10403.3, DF002)
 abbrev pub number_of : Message → ℕ
 number_of (Obs1004 m) = 1004
@@ -18,6 +19,7 @@ number_of (Arp1005 m) = 1005
 number_of (Arp1006 m) = 1006
 number_of (Msm1074 m) = 1074
 
+-- formula
 -- the reference station (DF003)
 abbrev pub station_of : Message → ℕ
 station_of (Obs1004 m) = m.station
@@ -39,6 +41,7 @@ fields_after_number (Arp1005 m) = arp1005.table m
 fields_after_number (Arp1006 m) = arp1006.table m
 fields_after_number (Msm1074 m) = msm1074.table m
 
+-- table
 -- all fields of a message, the number first
 abbrev pub table : Message → List Field
 table m = u 12 (number_of m) ∷ fields_after_number m
@@ -61,6 +64,7 @@ IsPayloadOf m payload = bits payload ≡ bits_of_fields (table m) ++ padding (le
 
 -- ---- the first fault, in the order in which causes are looked for
 
+-- formula
 -- the first fault of the bits after this number
 abbrev pub fault_after_number : ℕ → List Bool → Option DecodeFault
 fault_after_number n bs =
@@ -69,6 +73,7 @@ fault_after_number n bs =
     if n == 1006 then arp1006.first_fault bs else
     if n == 1074 then msm1074.first_fault bs else Some (Other n)
 
+-- formula
 abbrev pub first_fault : List Bool → Option DecodeFault
 first_fault bs = if nat_lt (length bs) 12 then Some NoNumber else fault_after_number (unsigned (take 12 bs)) (drop 12 bs)
 

@@ -15,10 +15,12 @@ field_bits (u w n) = bits_of w n
 field_bits (i w z) = signed_bits_of w z
 field_bits (flag b) = b ∷ []
 
+-- constant
 -- the milliseconds of a week; a time of week (DF004) is less than this number
 abbrev pub week_ms : ℕ
 week_ms = 604_800_000
 
+-- formula
 -- the time of week (DF004) in the bits after the number of a message with observations: the 30 bits
 -- after the station
 abbrev pub tow_in : List Bool → ℕ

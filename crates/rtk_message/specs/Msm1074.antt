@@ -9,6 +9,7 @@ use Rattle.rtk_message.specs.declared.fault.DecodeFault.TheVariants.{Short, Epoc
 use Rattle.rtk_message.specs.declared.msm1074.MsmHeader.{MsmHeader}
 use Rattle.rtk_message.specs.declared.msm1074.Msm1074.{Msm1074}
 
+-- table
 -- the header: DF003, DF004, DF393, DF409, DF001, DF411, DF412, DF417, DF418, DF394, DF395
 abbrev pub header_table : MsmHeader → List Field
 header_table h =
@@ -23,11 +24,13 @@ satellite_count h = count_ones h.satellite_mask
 abbrev pub signal_count : MsmHeader → ℕ
 signal_count h = count_ones h.signal_mask
 
+-- table
 -- the cell mask (DF396): for each satellite a row of one bit for each signal; the satellites rise,
 -- and in each row the signals
 abbrev pub mask_table : Msm1074 → List Field
 mask_table m = numbers (signal_count m.header) m.cell_mask
 
+-- table
 -- each field is given for all satellites or cells before the next field: DF397 and DF398 for the
 -- satellites, DF400, DF401, DF402, DF420 and DF403 for the cells
 abbrev pub column_table : Msm1074 → List Field
@@ -35,6 +38,7 @@ column_table m =
     numbers 8 m.rough_ms ++ (numbers 10 m.rough_fraction ++
     (integers 15 m.fine_range ++ (integers 22 m.fine_phase ++ (numbers 4 m.lock_indicator ++ (flags m.half_cycle ++ numbers 6 m.cnr)))))
 
+-- table
 abbrev pub table : Msm1074 → List Field
 table m = header_table m.header ++ (mask_table m ++ column_table m)
 
@@ -64,6 +68,7 @@ pub record HasNoCells (m : Msm1074) : Type 0 where
   pub half_cycle : m.half_cycle ≡ []
   pub cnr : m.cnr ≡ []
 
+-- constant
 -- each field fits, the time lies in a week, the cell mask has at most 64 bits, the columns have
 -- their lengths
 pub record IsValid (m : Msm1074) : Type 0 where
@@ -74,18 +79,22 @@ pub record IsValid (m : Msm1074) : Type 0 where
 
 -- ---- the first fault of bits after the number
 
+-- formula
 -- how many satellites there are, by DF394
 abbrev pub satellite_count_in : List Bool → ℕ
 satellite_count_in bs = count_ones (unsigned (take 64 (drop 61 bs)))
 
+-- formula
 -- how many bits the cell mask has: satellites times signals, by DF394 and DF395
 abbrev pub mask_bits_in : List Bool → ℕ
 mask_bits_in bs = satellite_count_in bs * count_ones (unsigned (take 32 (drop 125 bs)))
 
+-- formula
 -- how many cells there are, by DF396
 abbrev pub cell_count_in : List Bool → ℕ
 cell_count_in bs = count_ones (unsigned (take (mask_bits_in bs) (drop 157 bs)))
 
+-- formula
 -- a satellite takes 18 bits after the cell mask, a cell 48
 abbrev pub first_fault : List Bool → Option DecodeFault
 first_fault bs =

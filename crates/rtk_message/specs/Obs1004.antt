@@ -8,6 +8,7 @@ use Rattle.rtk_message.specs.declared.fault.DecodeFault.TheVariants.{Short, Epoc
 use Rattle.rtk_message.specs.declared.obs1004.Satellite.{Satellite}
 use Rattle.rtk_message.specs.declared.obs1004.Obs1004.{Obs1004}
 
+-- table
 -- one satellite: DF009 to DF020
 abbrev pub satellite_table : Satellite → List Field
 satellite_table s =
@@ -15,6 +16,7 @@ satellite_table s =
     u 8 s.modulus_ambiguity ∷ u 8 s.l1_cnr ∷
     u 2 s.l2_code ∷ i 14 s.l2_range_difference ∷ i 20 s.l2_phase_difference ∷ u 7 s.l2_lock_indicator ∷ u 8 s.l2_cnr ∷ []
 
+-- table
 -- the header: DF003 to DF008
 abbrev pub header_fields : ℕ → ℕ → Bool → ℕ → Bool → ℕ → List Field
 header_fields station tow synchronous count smoothing smoothing_interval =
@@ -24,6 +26,7 @@ header_fields station tow synchronous count smoothing smoothing_interval =
 abbrev pub header_table : Obs1004 → List Field
 header_table m = header_fields m.station m.tow m.synchronous (length m.satellites) m.smoothing m.smoothing_interval
 
+-- table
 abbrev pub table : Obs1004 → List Field
 table m = header_table m ++ flat_map satellite_table m.satellites
 
@@ -34,10 +37,12 @@ pub record IsValid (m : Obs1004) : Type 0 where
 
 -- ---- the first fault of bits after the number
 
+-- formula
 -- how many bits the satellites take, by their number (DF006)
 abbrev pub satellite_bits : List Bool → ℕ
 satellite_bits bs = 125 * unsigned (take 5 (drop 43 bs))
 
+-- formula
 abbrev pub first_fault : List Bool → Option DecodeFault
 first_fault bs =
     if nat_lt (length bs) 52 then Some (Short 1004) else

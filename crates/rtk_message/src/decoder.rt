@@ -1,4 +1,7 @@
 //! A decoder, which reads messages into memory that it keeps.
+//!
+//! A message is read over the last one of its kind: its lists keep their length as far as they can,
+//! and nothing is cleared or moved.
 
 ghost use Rattle.std.specs.Prelude.{◌≡◌, Some, Err, Result, IfOk, IfErr};
 ghost use Rattle.rtk_bits.specs.Bits.{bits};

@@ -27,7 +27,7 @@ use std::alloc::{AllocError, Global};
 /// `Err` means that memory was refused.
 pub fn encode(alloc: Global, message: &Message) -> Result<Vec<u8>, AllocError>
     requires { IsValid message.now }
-    // That it does not give up: rows encode of tests/calls.
+    // That it does not give up: rows encode of tests/system/calls.
     ensures { IfOk result (λ payload. IsPayloadOf message.now payload.items) }
 {
     let mut writer = BitWriter::new(alloc);

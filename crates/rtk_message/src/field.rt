@@ -1,4 +1,8 @@
 //! Fields of messages: the bits that hold them, their values, and how they are read and written.
+//!
+//! At most 57 bits are read at once (`Word`), so that they lie in eight bytes wherever they begin.
+//! Three reads are longer: the first 60 bits of a 1005 or a 1006, which begin four bits into a
+//! byte; the satellite mask; the cell mask.
 
 ghost use Rattle.rtk_bits.specs.Bits.{bits_of, unsigned, signed_bits_of, FitsSigned};
 ghost use Rattle.rtk_message.specs.Fields.{u, i, flag, Field, FieldFits};

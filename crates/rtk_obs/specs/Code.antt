@@ -5,6 +5,7 @@ use Rattle.rtk_obs.specs.declared.code.Band.TheVariants.{L1, L2, L5}
 use Rattle.rtk_obs.specs.declared.code.Code.{Code}
 use Rattle.rtk_obs.specs.declared.code.Code.TheVariants.{C1C, C1P, C1W, C1S, C1L, C1X, C2C, C2D, C2P, C2W, C2S, C2L, C2X, C5I, C5Q, C5X}
 
+-- table
 -- the two characters of a code (RINEX 3.05, Table 4)
 abbrev pub name_of : Code → List ℕ
 name_of C1C = codes "1C"
@@ -24,6 +25,7 @@ name_of C5I = codes "5I"
 name_of C5Q = codes "5Q"
 name_of C5X = codes "5X"
 
+-- table
 -- the band of a code is the first character of its name
 abbrev pub band_of : Code → Band
 band_of C1C = L1
@@ -43,12 +45,14 @@ band_of C5I = L5
 band_of C5Q = L5
 band_of C5X = L5
 
+-- table
 -- the frequency of a carrier in Hz (RTCM 10403.3; IS-GPS-200, IS-GPS-705)
 abbrev pub frequency_of : Band → ℕ
 frequency_of L1 = 1_575_420_000
 frequency_of L2 = 1_227_600_000
 frequency_of L5 = 1_176_450_000
 
+-- table
 -- the place of a code in the list of all sixteen (this project's rule)
 abbrev pub place_of : Code → ℕ
 place_of C1C = 0

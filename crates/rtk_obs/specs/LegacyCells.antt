@@ -22,10 +22,12 @@ l1_code_of true = C1P
 abbrev pub l2_code_of : ℕ → Code
 l2_code_of n = if n == 0 then C2X else if n == 1 then C2P else if n == 2 then C2D else C2W
 
+-- formula
 -- the invalid mark of DF012 and DF018 is -524288, the one of DF017 is -8192
 abbrev pub phase_difference : ℤ → Option ℤ
 phase_difference field = unless_invalid (negsuc 524_287) field
 
+-- formula
 abbrev pub range_difference : ℤ → Option ℤ
 range_difference field = unless_invalid (negsuc 8191) field
 
@@ -48,6 +50,7 @@ legacy_phase_of band length (Some offset) = Some (phase_of_length band (length +
 abbrev pub length_of : Satellite → ℤ
 length_of s = l1_length s.l1_range s.modulus_ambiguity
 
+-- formula
 -- the cell of L1: DF011 to DF015
 abbrev pub l1_cell_of : Satellite → Cell
 l1_cell_of s = record {
@@ -60,6 +63,7 @@ l1_cell_of s = record {
   offset = phase_difference s.l1_phase_difference;
 }
 
+-- formula
 -- the cell of L2: DF011, DF014 and DF017 to DF020
 abbrev pub l2_cell_of : Satellite → Cell
 l2_cell_of s = record {

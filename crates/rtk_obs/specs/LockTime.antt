@@ -1,6 +1,7 @@
 -- Least lock times in ms.
 use Rattle.std.specs.Prelude.{ℕ, zero, suc, ◌+◌, ◌-◌, ◌*◌, ◌/◌, ◌^◌, nat_le, if◌then◌else◌}
 
+-- table
 -- the least lock time in ms at an indicator of 0 to 127, which stands for whole seconds (RTCM
 -- 10403.3, DF013 and DF019)
 abbrev pub least_lock_of_legacy : ℕ → ℕ
@@ -13,6 +14,7 @@ least_lock_of_legacy i = 1000 * (
     else if nat_le i 126 then 32 * i - 3096
     else 937)
 
+-- table
 -- the least lock time in ms at an indicator of 0 to 15 (RTCM 10403.3, DF402)
 abbrev pub least_lock_of_msm : ℕ → ℕ
 least_lock_of_msm zero = 0

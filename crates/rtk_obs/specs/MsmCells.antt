@@ -19,6 +19,7 @@ use Rattle.rtk_obs.specs.LockTime.{least_lock_of_msm, least_lock_of_extended}
 use Rattle.rtk_obs.specs.Mask.{set_bits, join_from}
 use Rattle.rtk_obs.specs.Scaling.{unless_invalid, strength_of, strength_of_sixteenths, rough_time, range_time, range_of_time, phase_of_time, extended_phase_time, phase_of_extended_time}
 
+-- table
 -- the code of a signal identifier (DF395); others give no cell
 abbrev pub code_of_signal : ℕ → Option Code
 code_of_signal s =
@@ -31,10 +32,12 @@ code_of_signal s =
 
 -- ---- which cells, by the header and the cell mask
 
+-- formula
 -- the satellites of the message, by DF394
 abbrev pub satellites_of : MsmHeader → List ℕ
 satellites_of h = set_bits 64 h.satellite_mask
 
+-- formula
 -- the signals of the message, by DF395
 abbrev pub signals_of : MsmHeader → List ℕ
 signals_of h = set_bits 32 h.signal_mask
@@ -66,6 +69,7 @@ entries_of h cell_mask cell_of = join_from (slot_entry h cell_of) 0 (slots_of h 
 
 -- ---- the values of a cell
 
+-- formula
 -- the rough range of a satellite, in 2^-29 ms; DF397 255 is invalid
 abbrev pub rough_of : ℕ → ℕ → Option ℤ
 rough_of ms fraction = if ms == 255 then None else Some (rough_time ms fraction)
@@ -75,6 +79,7 @@ abbrev pub fine_range_of : ℤ → Option ℤ → Option ℤ
 fine_range_of rough None = None
 fine_range_of rough (Some fine) = Some (range_of_time (range_time rough fine))
 
+-- formula
 abbrev pub msm_range_of : Option ℤ → ℤ → Option ℤ
 msm_range_of None field = None
 msm_range_of (Some rough) field = fine_range_of rough (unless_invalid (negsuc 16_383) field)
@@ -84,6 +89,7 @@ abbrev pub fine_phase_of : Band → ℤ → Option ℤ → Option ℤ
 fine_phase_of band rough None = None
 fine_phase_of band rough (Some fine) = Some (phase_of_time band (rough +ℤ fine))
 
+-- formula
 abbrev pub msm_phase_of : Band → Option ℤ → ℤ → Option ℤ
 msm_phase_of band None field = None
 msm_phase_of band (Some rough) field = fine_phase_of band rough (unless_invalid (negsuc 2_097_151) field)
@@ -134,6 +140,7 @@ least_lock_of_kind kind indicator = if has_extended_resolution kind then least_l
 abbrev pub rough_at : List ℕ → List ℕ → ℕ → Option ℤ
 rough_at ms fraction row = rough_of (slice_index ms row) (slice_index fraction row)
 
+-- formula
 -- the k-th cell of a 1074: DF397, DF398 and DF400 to DF403, DF420
 abbrev pub cell_of_1074 : Msm1074 → ℕ → ℕ → Band → Cell
 cell_of_1074 m k row band = record {

@@ -6,12 +6,14 @@ use Rattle.rtk_obs.specs.declared.track.Digits.{Digits}
 use Rattle.rtk_obs.specs.Code.{frequency_of}
 use Rattle.rtk_obs.specs.Slip.{EpochCell, has_phase, is_legacy, has_slipped, slip_since}
 
+-- constant
 -- An offset d, in 0.0005 m, is d * f / (2 * c) millicycles (c is 299,792,458 m/s). DF012 and DF018
 -- roll over by 1500 cycles to stay in range, so a change of more than 750 cycles is a roll: one
 -- less if the offset rose by more, one more if it fell by more.
 abbrev pub half_roll : ℕ
 half_roll = 1_500_000 * 299_792_458
 
+-- formula
 abbrev pub roll_of : Band → ℤ → ℤ
 roll_of band d =
     if int_lt (pos half_roll) (d *ℤ pos (frequency_of band)) then negsuc 0
@@ -48,6 +50,7 @@ abbrev pub last_phase : Band → List EpochCell → Option Track
 last_phase band [] = None
 last_phase band (e ∷ below) = last_after band (last_phase band below) e
 
+-- formula
 -- The digits of a cell: the slip, the half-cycle mark and the roll count of its phase. A cell
 -- without a phase has none of them.
 abbrev pub digits_since : Band → Option Track → EpochCell → Digits
@@ -55,12 +58,14 @@ digits_since band last e =
     if has_phase e then record { slip = slip_since last e; half = e.cell.half; rolls = rolls_since band last e }
     else record { slip = false; half = false; rolls = pos 0 }
 
+-- constant
 -- a value, in thousandths, within the limits of an observation of RINEX: three decimals in 14
--- columns
+-- columns; the phases of a 1004 leave them after some 667,000 rolls, which no test has
 abbrev pub within_limits : ℤ → Option ℤ
 within_limits v =
     if int_le (negsuc 999_999_999_998) v && int_le v (pos 9_999_999_999_999) then Some v else None
 
+-- formula
 -- the phase with 1500 cycles added for each roll, or none outside the limits
 abbrev pub rolled_phase : ℤ → ℤ → Option ℤ
 rolled_phase phase rolls = within_limits (phase +ℤ pos 1_500_000 *ℤ rolls)

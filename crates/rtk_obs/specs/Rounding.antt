@@ -11,6 +11,7 @@ IsRounded n d v =
 abbrev pub rounded_magnitude : ℕ → ℕ → ℕ
 rounded_magnitude n d = (2 * n + d) / (2 * d)
 
+-- formula
 -- the whole number nearest to n / d, a tie going away from 0
 abbrev pub rounded : ℤ → ℕ → ℤ
 rounded n d =

@@ -21,36 +21,44 @@ strength_of_sixteenths n = if n == 0 then None else Some (250 * min (max (rounde
 
 -- ---- 1004: lengths in 0.0005 m
 
+-- formula
 -- the L1 pseudorange: DF011 in 0.02 m, and DF014 in 299,792.458 m
 abbrev pub l1_length : ℕ → ℕ → ℤ
 l1_length range modulus_ambiguity = pos (40 * range + 599_584_916 * modulus_ambiguity)
 
+-- formula
 -- the pseudorange of L2: DF017, in 0.02 m, added to the pseudorange of L1
 abbrev pub l2_length : ℤ → ℤ → ℤ
 l2_length l1 difference = l1 +ℤ pos 40 *ℤ difference
 
+-- formula
 -- a length as a range in mm
 abbrev pub range_of_length : ℤ → ℤ
 range_of_length length = rounded length 2
 
+-- formula
 -- a length as a phase in millicycles: length * f / (2 * c), where c is 299,792,458 m/s
 abbrev pub phase_of_length : Band → ℤ → ℤ
 phase_of_length band length = rounded (length *ℤ pos (frequency_of band)) 599_584_916
 
 -- ---- MSM: travel times of the signal in 2^-29 ms
 
+-- formula
 -- the rough range: DF397 in ms, and DF398 in 2^-10 ms
 abbrev pub rough_time : ℕ → ℕ → ℤ
 rough_time ms fraction = pos (536_870_912 * ms + 524_288 * fraction)
 
+-- formula
 -- the rough range and a fine one: DF400 in 2^-24 ms
 abbrev pub range_time : ℤ → ℤ → ℤ
 range_time rough fine = rough +ℤ pos 32 *ℤ fine
 
+-- formula
 -- a time as a range in mm: time * c / 2^29
 abbrev pub range_of_time : ℤ → ℤ
 range_of_time time = rounded (time *ℤ pos 299_792_458) 536_870_912
 
+-- formula
 -- a time as a phase in millicycles: time * f / 2^29
 abbrev pub phase_of_time : Band → ℤ → ℤ
 phase_of_time band time = rounded (time *ℤ pos (frequency_of band)) 536_870_912

@@ -29,6 +29,7 @@ has_slipped last e =
     nat_lt e.cell.lock_time_ms (e.epoch - last.epoch)
     || (is_same_source e.cell.source last.source && nat_lt e.cell.lock_time_ms last.lock_time_ms)
 
+-- formula
 -- there is no slip if there is no earlier phase
 abbrev pub slip_since : Option Track → EpochCell → Bool
 slip_since None e = false

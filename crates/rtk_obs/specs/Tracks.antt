@@ -8,6 +8,7 @@ use Rattle.rtk_obs.specs.Cell.{IsSatellite}
 use Rattle.rtk_obs.specs.Rollover.{last_phase}
 use Rattle.rtk_obs.specs.CellSteps.{Step, epochs_of, PhasesFall}
 
+-- formula
 -- the place of a satellite and code among all 512
 abbrev pub place_of_signal : ℕ → Code → ℕ
 place_of_signal satellite code = (satellite - 1) * 16 + place_of code

@@ -1,4 +1,7 @@
 //! What a message gives for a satellite and a code at its epoch.
+//!
+//! The cells of a message are written over the entries of a list. Clearing the list first would
+//! write each entry twice, and moving an entry that was built elsewhere takes a tenth longer.
 
 ghost use Rattle.std.specs.Prelude.{◌≡◌, ◌+◌, ◌<◌, ◌≤◌, [], ◌∷◌, ◌++◌, length, take};
 ghost use Rattle.rtk_obs.specs.Cell.{is_satellite};

@@ -1,4 +1,6 @@
 //! The last phase of each satellite and code, and one step over a cell.
+//!
+//! `Tracks` has some 20 kB. Build it where it stays and pass it by `&mut`.
 
 ghost use Rattle.std.specs.Prelude.{◌≡◌, ◌≢◌, ℕ, ◌<◌, ◌≤◌, true, List, [], ◌∷◌, Option, Some, None, unsigned_abs};
 ghost use Rattle.rtk_obs.specs.declared.code.Band.{Band};

@@ -3,6 +3,7 @@ use Rattle.std.specs.Prelude.{ℕ, List, codes}
 use Rattle.rtk_rinex.specs.declared.check_fault.Cause.{Cause}
 use Rattle.rtk_rinex.specs.declared.check_fault.Cause.TheVariants.{HeaderLine, Columns, Value, Order, Truncated}
 
+-- table
 -- the code and the name of a cause
 abbrev pub cause_text : Cause → List ℕ
 cause_text HeaderLine = codes "C1 HeaderLine"

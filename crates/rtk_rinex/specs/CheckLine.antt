@@ -10,6 +10,7 @@ use Rattle.rtk_rinex.specs.declared.epoch_table.SatelliteRow.{SatelliteRow}
 use Rattle.rtk_rinex.specs.declared.check_fault.Cause.{Cause}
 use Rattle.rtk_rinex.specs.declared.check_fault.Cause.TheVariants.{Columns, Value, Order}
 
+-- formula
 -- it is the epoch line of a moment and a count
 abbrev pub IsEpochLine : List ℕ → ℕ → ℕ → Type 0
 IsEpochLine line t n = IsMoment t × IsInRange 1 32 n × (line ≡ epoch_line (reading_of t) n)
@@ -25,6 +26,7 @@ IsEpochFault first last line Columns = (t n : ℕ) → ¬ (IsEpochLine line t n)
 IsEpochFault first last line Order = (t : ℕ) × (n : ℕ) × IsEpochLine line t n × ¬ (IsNextTime first last t)
 IsEpochFault first last line _ = ⊥
 
+-- formula
 -- the form of a satellite line of n codes: G and the satellite in two digits, at most 48 columns
 -- for each code, and no blank at the end
 abbrev pub IsSatelliteForm : ℕ → List ℕ → ℕ → Type 0

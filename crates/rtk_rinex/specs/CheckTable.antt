@@ -41,6 +41,7 @@ pub record IsFaultAfterHeader (bytes : List ℕ) (fault : CheckFault) : Type 0 w
   pub are_lines : AreLines lines (header_text head site first)
   pub records : IsFaultOfRecords (length head.listed) first lines rest fault
 
+-- formula
 -- the first fault of a text
 abbrev pub IsFault : List ℕ → CheckFault → Type 0
 IsFault bytes fault = IsFaultOfHeader bytes fault ⊎ IsFaultAfterHeader bytes fault

@@ -57,6 +57,7 @@ pub record IsFaultOfRows (n count before : ℕ) (bytes : List ℕ) (fault : Chec
   pub line : fault.line ≡ before + length rows + 1
   pub cause : BeginsWithFault (IsSatelliteFault n (last_satellite None rows)) rest fault.cause
 
+-- formula
 -- the epoch line is good, and the fault is in a line of a satellite
 pub record IsFaultAfterEpochLine (n first : ℕ) (last : Option ℕ) (before : ℕ) (bytes : List ℕ) (fault : CheckFault) : Type 0 where
   pub time : ℕ

@@ -2,15 +2,18 @@
 use Rattle.std.specs.Prelude.{ℕ, zero, suc, ◌+◌, ◌-◌, ◌/◌, ◌%◌, ◌^◌, List, [], ◌∷◌, ◌++◌, length, replicate, ℤ, pos, negsuc, unsigned_abs, Bool, true, false, decimal}
 use Rattle.std.specs.Fmt.{sign_text}
 
+-- formula
 -- the last k decimal digits of n, with zeros in front if it has fewer (Ik.k)
 abbrev pub last_digits : ℕ → ℕ → List ℕ
 last_digits zero n = []
 last_digits (suc k) n = last_digits k (n / 10) ++ (48 + n % 10) ∷ []
 
+-- formula
 -- a text at the right end of w columns, after blanks (Iw of a number's digits)
 abbrev pub right : ℕ → List ℕ → List ℕ
 right w text = replicate (w - length text) 32 ++ text
 
+-- formula
 -- a text at the left end of w columns, before blanks (Aw)
 unfoldable pub left : ℕ → List ℕ → List ℕ
 left w text = text ++ replicate (w - length text) 32
@@ -19,10 +22,12 @@ abbrev pub is_negative : ℤ → Bool
 is_negative (pos n) = false
 is_negative (negsuc n) = true
 
+-- formula
 -- a sign and a number of units of 10^-k: k decimals, and at least one digit before the point
 abbrev pub decimals : ℕ → Bool → ℕ → List ℕ
 decimals k negative n = sign_text negative ++ decimal (n / 10 ^ k) ++ 46 ∷ last_digits k n
 
+-- formula
 -- a number of units of 10^-k with k decimals, at the right end of w columns (Fw.k)
 abbrev pub fixed : ℕ → ℕ → ℤ → List ℕ
 fixed k w v = right w (decimals k (is_negative v) (unsigned_abs v))

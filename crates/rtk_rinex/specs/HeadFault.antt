@@ -4,6 +4,7 @@ use Rattle.rtk_rinex.specs.Header.{HeadView, IsMarker, IsCodeList}
 use Rattle.rtk_rinex.specs.declared.head.HeadFault.{HeadFault}
 use Rattle.rtk_rinex.specs.declared.head.HeadFault.TheVariants.{Marker, Codes, Made}
 
+-- formula
 -- a bad marker; or else bad codes; or else a moment that is no whole second
 abbrev pub IsHeadFault : HeadView → HeadFault → Type 0
 IsHeadFault h Marker = ¬ (IsMarker h.marker)

@@ -17,31 +17,37 @@ pub record HeadView : Type 0 where
   pub listed : List Code
   pub made : ℕ
 
+-- formula
 -- 1 to 60 characters from blank to tilde, the first and the last no blank (this project's rule)
 abbrev pub IsMarker : List ℕ → Type 0
 IsMarker m =
     IsInRange 1 60 (length m) × All (λ x. IsInRange 32 126 x) m
     × (slice_get m 0 ≢ Some 32) × (slice_get m (length m - 1) ≢ Some 32)
 
+-- formula
 -- 1 to 16 codes, no two alike
 abbrev pub IsCodeList : List Code → Type 0
 IsCodeList listed = IsInRange 1 16 (length listed) × AllPairs (λ a b. a ≢ b) listed
 
+-- formula
 -- a good marker, good codes and a whole second
 abbrev pub IsHeadView : HeadView → Type 0
 IsHeadView h =
     IsMarker h.marker × IsCodeList h.listed × IsMoment h.made × (h.made % 1000 ≡ 0)
 
+-- formula
 -- a line: 60 columns, 20 columns of label, and LF
 unfoldable pub header_line : List ℕ → List ℕ → List ℕ
 header_line content label = left 60 content ++ left 20 label ++ 10 ∷ []
 
+-- formula
 -- the day and the time of day at which the file is made, as 20240517 130000 UTC
 abbrev pub made_text : Civil → List ℕ
 made_text c =
     last_digits 4 c.year ++ last_digits 2 c.month ++ last_digits 2 c.day ++ codes " "
     ++ last_digits 2 c.hour ++ last_digits 2 c.minute ++ last_digits 2 c.second ++ codes " UTC "
 
+-- formula
 -- the lines up to the antenna's type, of a marker and the time at which the file is made
 abbrev pub first_lines : List ℕ → Civil → List ℕ
 first_lines marker made =
@@ -63,10 +69,12 @@ pub record PositionView : Type 0 where
 abbrev pub position_view : Position → PositionView
 position_view p = record { x = p.x; y = p.y; z = p.z; height = p.height }
 
+-- formula
 -- coordinates of 38 bits with a sign, and a height of 16 bits
 abbrev pub IsPositionView : PositionView → Type 0
 IsPositionView s = IsCoordinate s.x × IsCoordinate s.y × IsCoordinate s.z × (s.height < 65_536)
 
+-- formula
 -- the lines of the position (3F14.4, in m) and of the antenna's height (F14.4, in m; east and north
 -- are 0)
 abbrev pub position_lines : PositionView → List ℕ
@@ -74,6 +82,7 @@ position_lines s =
     header_line (fixed 4 14 s.x ++ fixed 4 14 s.y ++ fixed 4 14 s.z) (codes "APPROX POSITION XYZ")
     ++ header_line (fixed 4 14 (pos s.height) ++ codes "        0.0000        0.0000") (codes "ANTENNA: DELTA H/E/N")
 
+-- formula
 -- the three observation types of a code, each after a blank: pseudorange, carrier phase and signal
 -- strength
 abbrev pub types_of : Code → List ℕ
@@ -83,12 +92,14 @@ types_of c = codes " C" ++ name_of c ++ codes " L" ++ name_of c ++ codes " S" ++
 abbrev pub types : List Code → List ℕ
 types = flat_map types_of
 
+-- formula
 -- a further line of observation types, if any are left; thirteen fill its 52 columns
 abbrev pub continuation_line : List ℕ → List ℕ
 continuation_line text =
     if length text == 0 then []
     else header_line (codes "      " ++ take 52 text) (codes "SYS / # / OBS TYPES")
 
+-- formula
 -- the lines of the observation types: their number, then thirteen on a line; 16 codes have 48 types
 -- on four lines
 abbrev pub types_lines : List Code → List ℕ
@@ -98,6 +109,7 @@ types_lines listed =
     ++ continuation_line (drop 104 (types listed))
     ++ continuation_line (drop 156 (types listed))
 
+-- formula
 -- the time of the first observation: 5I6, F13.7, 5X, A3
 abbrev pub first_text : Civil → List ℕ
 first_text c =
@@ -105,6 +117,7 @@ first_text c =
     ++ right 6 (decimal c.hour) ++ right 6 (decimal c.minute)
     ++ right 13 (decimals 7 false (seconds_of c)) ++ codes "     GPS"
 
+-- formula
 -- the lines after the observation types, with the time of the first observation
 abbrev pub last_lines : Civil → List ℕ
 last_lines first =
@@ -113,6 +126,7 @@ last_lines first =
     ++ header_line (codes "G") (codes "SYS / PHASE SHIFT")
     ++ header_line [] (codes "END OF HEADER")
 
+-- formula
 -- the header of a head, a position and the moment of the first observation
 unfoldable pub header_text : HeadView → PositionView → ℕ → List ℕ
 header_text h s first =

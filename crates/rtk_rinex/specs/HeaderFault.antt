@@ -22,11 +22,13 @@ BeginsHeader text = (rest : List ℕ) × IsHeader (text ++ rest)
 abbrev pub BeginsTable : List ℕ → Type 0
 BeginsTable text = (t : WellFormedTable) × (rest : List ℕ) × IsWellFormedTable t × (table_text t ≡ text ++ rest)
 
+-- formula
 -- the text has n lines, each ended by LF
 abbrev pub AreLines : ℕ → List ℕ → Type 0
 AreLines n text =
     (lines : List (List ℕ)) × All HasNoEnd lines × (length lines ≡ n) × (text ≡ flat_map (λ line. line ++ 10 ∷ []) lines)
 
+-- formula
 -- what is wrong with the next line, which begins `rest`: no LF ends it; or no table's text begins
 -- with the lines before it and this one
 abbrev pub IsLineFault : List ℕ → List ℕ → Cause → Type 0

@@ -3,6 +3,7 @@ use Rattle.std.specs.Prelude.{◌≤◌, ℕ, zero, suc, ◌+◌, ◌*◌, ◌/�
 use Rattle.jiff_core.specs.Calendar.{days_in_month}
 use Rattle.rtk_obs.specs.declared.time.Civil.{Civil}
 
+-- constant
 -- a moment of GPS time, in ms since 1980-01-06 00:00:00.000: to 2100-12-31 23:59:59.999
 abbrev pub IsMoment : ℕ → Type 0
 IsMoment t = t ≤ 3_818_015_999_999
@@ -13,6 +14,7 @@ pub record CivilDate : Type 0 where
   pub month : ℕ
   pub day : ℕ
 
+-- formula
 -- the date after a date: the next day of the month, else the first of the next month, else of the
 -- next year
 abbrev pub next_date : CivilDate → CivilDate
@@ -21,11 +23,13 @@ next_date d =
     else (if nat_lt d.month 12 then record { year = d.year; month = d.month + 1; day = 1 }
     else record { year = d.year + 1; month = 1; day = 1 })
 
+-- formula
 -- the date that many days after 1980-01-06
 unfoldable pub date_after : ℕ → CivilDate
 date_after zero = record { year = 1980; month = 1; day = 6 }
 date_after (suc k) = next_date (date_after k)
 
+-- formula
 -- the reading of a moment, in days of 86,400 seconds (GPS time has no leap seconds)
 abbrev pub reading_of : ℕ → Civil
 reading_of t =
@@ -40,6 +44,7 @@ reading_of t =
       millisecond = t % 1000;
     }
 
+-- formula
 -- the seconds of a reading in units of 10^-7 s
 abbrev pub seconds_of : Civil → ℕ
 seconds_of c = c.second * 10_000_000 + c.millisecond * 10_000

@@ -14,12 +14,14 @@ pub record EpochTableView : Type 0 where
   pub time : ℕ
   pub rows : List SatelliteRow
 
+-- constant
 -- a strength in thousandths of a dB-Hz: 0.25 to 63.75 dB-Hz in steps of a quarter (RTCM 10403.3,
 -- DF015)
 abbrev pub IsStrengthOrNone : Option ℕ → Type 0
 IsStrengthOrNone None = Unit {0}
 IsStrengthOrNone (Some s) = IsInRange 250 63_750 s × (s % 250 ≡ 0)
 
+-- formula
 -- a satellite of GPS, and the strengths of its codes
 pub record IsRow (r : SatelliteRow) : Type 0 where
   pub satellite : IsInRange 1 32 r.satellite
@@ -35,21 +37,25 @@ pub record IsEpochTableView (e : EpochTableView) : Type 0 where
 abbrev pub HasWidth : ℕ → List SatelliteRow → Type 0
 HasWidth n rows = All (λ r. length r.observed.items ≡ n) rows
 
+-- formula
 -- a value in thousandths that F14.3 has room for, and not 0, which means no value
 abbrev pub is_written : ℤ → Bool
 is_written v = not (int_eq v (pos 0)) && int_le (negsuc 999_999_999_998) v && int_le v (pos 9_999_999_999_999)
 
+-- formula
 -- F14.3 and two digits, or 16 blanks if no value is written
 abbrev pub observation : Option ℤ → ℕ → ℕ → List ℕ
 observation None first second = replicate 16 32
 observation (Some v) first second = if is_written v then fixed 3 14 v ++ first ∷ second ∷ [] else replicate 16 32
 
+-- formula
 -- the signal strength digit: a sixth of the strength in dB-Hz, at least 1 and at most 9 (RINEX
 -- 3.05); a blank without strength
 abbrev pub strength_digit : Option ℕ → ℕ
 strength_digit None = 32
 strength_digit (Some s) = 48 + min (max (s / 6000) 1) 9
 
+-- formula
 -- the loss-of-lock indicator: bit 0 is a cycle slip, bit 1 an open half-cycle ambiguity; a blank
 -- without either
 abbrev pub lli_digit : Bool → Bool → ℕ
@@ -59,6 +65,7 @@ abbrev pub strength_value : Option ℕ → Option ℤ
 strength_value None = None
 strength_value (Some s) = Some (pos s)
 
+-- formula
 -- what a code shows: pseudorange, carrier phase and signal strength; only the phase has a
 -- loss-of-lock indicator, and the strength itself has no digits
 abbrev pub observations : Observed → List ℕ
@@ -79,6 +86,7 @@ has_observation o = is_present o.range_mm || is_present o.phase_millicycles || i
 abbrev pub has_line : SatelliteRow → Bool
 has_line r = list_any has_observation r.observed.items
 
+-- formula
 abbrev pub before_trimmed : ℕ → List ℕ → List ℕ
 before_trimmed x [] = if x == 32 then [] else x ∷ []
 before_trimmed x (y ∷ ys) = x ∷ y ∷ ys
@@ -88,22 +96,26 @@ unfoldable pub trim_end : List ℕ → List ℕ
 trim_end [] = []
 trim_end (x ∷ xs) = before_trimmed x (trim_end xs)
 
+-- formula
 -- the line of a satellite: G and two digits, then its observations; blanks at the end are left out
 abbrev pub satellite_line : SatelliteRow → List ℕ
 satellite_line r = trim_end (71 ∷ last_digits 2 r.satellite ++ flat_map observations r.observed.items) ++ 10 ∷ []
 
+-- formula
 -- the epoch line up to the minute: >, 1X, I4, 4(1X,I2.2)
 abbrev pub epoch_date_text : Civil → List ℕ
 epoch_date_text c =
     62 ∷ 32 ∷ last_digits 4 c.year ++ 32 ∷ last_digits 2 c.month ++ 32 ∷ last_digits 2 c.day
     ++ 32 ∷ last_digits 2 c.hour ++ 32 ∷ last_digits 2 c.minute
 
+-- formula
 -- the columns of the epoch line of a date and time and a count of satellites: after the minute
 -- F11.7, 2X, I1 (0: no event), I3
 abbrev pub epoch_columns : Civil → ℕ → List ℕ
 epoch_columns c count =
     epoch_date_text c ++ right 11 (decimals 7 false (seconds_of c)) ++ codes "  0" ++ right 3 (decimal count)
 
+-- formula
 -- the epoch line
 abbrev pub epoch_line : Civil → ℕ → List ℕ
 epoch_line c count = epoch_columns c count ++ 10 ∷ []
@@ -113,6 +125,7 @@ abbrev pub lines_of : Civil → List SatelliteRow → List ℕ
 lines_of c [] = []
 lines_of c (r ∷ rows) = epoch_line c (length (r ∷ rows)) ++ flat_map satellite_line (r ∷ rows)
 
+-- formula
 -- the record of an epoch: the satellites without a line are left out
 unfoldable pub record_text : EpochTableView → List ℕ
 record_text e = lines_of (reading_of e.time) (filter has_line e.rows)

@@ -8,6 +8,7 @@ pub record RecordsView : Type 0 where
   pub width : ℕ
   pub text : List ℕ
 
+-- formula
 -- these are the epochs whose records are left
 pub record AreLeft (r : RecordsView) (epochs : List EpochTableView) : Type 0 where
   pub are_epochs : All (IsTableEpoch r.width) epochs
@@ -17,6 +18,7 @@ pub record AreLeft (r : RecordsView) (epochs : List EpochTableView) : Type 0 whe
 abbrev pub IsRecordsView : RecordsView → Type 0
 IsRecordsView r = (r.width ≤ 16) × ∥ ((epochs : List EpochTableView) × AreLeft r epochs) ∥₁
 
+-- formula
 -- this text is the record of the first of these epochs, which `epoch` is, and the others are left
 abbrev pub IsNextOf : List EpochTableView → List ℕ → EpochTableView → RecordsView → Type 0
 IsNextOf [] text epoch left = ⊥

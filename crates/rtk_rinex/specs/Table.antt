@@ -25,6 +25,7 @@ abbrev pub IsLock : Option ℤ → Bool → Bool → Type 0
 IsLock None slip half = (slip ≡ false) × (half ≡ false)
 IsLock (Some v) slip half = Unit {0}
 
+-- formula
 -- what a code of a file can show
 pub record IsObserved (o : Observed) : Type 0 where
   pub range : IsAbsentOrWritten o.range_mm
@@ -32,6 +33,7 @@ pub record IsObserved (o : Observed) : Type 0 where
   pub strength : IsStrengthOrNone o.strength_millidbhz
   pub lock : IsLock o.phase_millicycles o.slip o.half
 
+-- formula
 -- a satellite of a file of n codes: it has a line
 pub record IsTableRow (n : ℕ) (r : SatelliteRow) : Type 0 where
   pub satellite : IsInRange 1 32 r.satellite
@@ -39,6 +41,7 @@ pub record IsTableRow (n : ℕ) (r : SatelliteRow) : Type 0 where
   pub observed : All IsObserved r.observed.items
   pub line : IsTrue (has_line r)
 
+-- formula
 -- an epoch of a file of n codes: its satellites rise, so there are 1 to 32
 pub record IsTableEpoch (n : ℕ) (e : EpochTableView) : Type 0 where
   pub time : IsMoment e.time
@@ -51,6 +54,7 @@ abbrev pub StartsAt : ℕ → List EpochTableView → Type 0
 StartsAt first [] = Unit {0}
 StartsAt first (e ∷ epochs) = e.time ≡ first
 
+-- formula
 -- a well-formed table
 pub record IsWellFormedTable (t : WellFormedTable) : Type 0 where
   pub head : IsHeadView t.head

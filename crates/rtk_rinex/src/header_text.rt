@@ -255,7 +255,7 @@ pub fn header(
     position: &Position,
     first: GpsMs,
 ) -> Result<Vec<u8>, AllocError>
-    // It gives up only if memory is refused: rows "header .." of tests/calls/src/rinex.rt.in.
+    // It gives up only if memory is refused: rows "header .." of tests/system/calls/src/rinex.rt.in.
     ensures { IfOk result (λ text. text.items ≡ header_text head.now (position_view position.now) first) }
 {
     let lines = header_lines(head, position, first);

@@ -1,4 +1,8 @@
 //! The text of a record that is written satellite by satellite.
+//!
+//! `push_row` writes the line of a satellite where it stays. `finish` writes the epoch line before
+//! the lines, and `text` gives the record. The text is kept from record to record; memory is taken
+//! at the first line, for 32 satellites.
 
 ghost use Rattle.std.specs.Prelude.{◌≡◌, ◌+◌, ◌*◌, ◌-◌, ◌<◌, ◌≤◌, List, [], ◌∷◌, ◌++◌, length, take, drop, replicate, OnOk, OnErr};
 ghost use Rattle.rtk_rinex.specs.declared.epoch_table.SatelliteRow.{SatelliteRow};

@@ -313,7 +313,7 @@ fn put_lines(text: &mut [u8], time: Civil, rows: &[SatelliteRow]) -> usize
 /// is taken at most once. Source: RINEX 3.05, Table A3.
 pub fn record(alloc: Global, head: &Head, table: &EpochTable) -> Result<Vec<u8>, AllocError>
     requires { HasWidth (length head.now.listed) table.now.rows }
-    // It gives up only if memory is refused: rows "record .." of tests/calls/src/rinex.rt.in.
+    // It gives up only if memory is refused: rows "record .." of tests/system/calls/src/rinex.rt.in.
     ensures { IfOk result (λ text. text.items ≡ record_text table.now) }
 {
     let mut text = Vec::new(alloc);

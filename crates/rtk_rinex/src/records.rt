@@ -1,4 +1,7 @@
 //! The records of a checked text, read one by one.
+//!
+//! The invariant of `Records` says that the rest of the text is a sequence of good records, so
+//! reading cannot fail.
 
 ghost use Rattle.std.specs.Prelude.{◌≡◌, ℕ, ◌<◌, ◌≤◌, ◌++◌, [], List, length, flat_map, None, IfSome, MatchOption};
 ghost use Rattle.rtk_rinex.specs.Record.{EpochTableView, satellite_line, record_text};

@@ -1,4 +1,6 @@
 //! The check of the lines that follow the header, line by line.
+//!
+//! Observations are most of a file, so they are told by their form and not written again.
 
 ghost use Rattle.rtk_rinex.specs.CheckLine.{IsEpochLine, IsNextTime, IsEpochFault, IsSatelliteForm, IsNextSatellite, IsSatelliteFault};
 ghost use Rattle.rtk_rinex.specs.CheckText.{IsFaultOfRows, IsFaultOfRecord, IsFaultOfRecords};

@@ -128,7 +128,7 @@ pub fn check<'a>(bytes: &'a [u8]) -> Result<Table<'a>, CheckFault>
 
 /// The text of a table; memory is taken once.
 pub fn text(alloc: Global, table: &Table<'_>) -> Result<Vec<u8>, AllocError>
-    // It gives up only if memory is refused: rows "text .." of tests/calls/src/rinex.rt.in.
+    // It gives up only if memory is refused: rows "text .." of tests/system/calls/src/rinex.rt.in.
     ensures text { IfOk result (λ t. t.items ≡ table.now.text) }
     ensures table { IsTableView table.now }
 {

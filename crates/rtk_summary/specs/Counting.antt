@@ -2,7 +2,7 @@
 use Rattle.std.specs.Prelude.{ℕ, Bool, List, min, count_by}
 use Rattle.rtk_frame.specs.Stream.{greatest_count}
 
--- a count stays at the greatest value of a u64
+-- a count stays at the greatest value of a u64; a test has counts of ten digits, and none so great
 abbrev pub shown_count : ℕ → ℕ
 shown_count n = min n greatest_count
 

@@ -25,6 +25,7 @@ abbrev pub ReadsFrames : List (List ℕ) → List ReadFrame → List ReadFrame �
 ReadsFrames [] before after = after ≡ before
 ReadsFrames (p ∷ ps) before after = (reading : Result AnyMessage AnyFault) × DecodesBy messages_read (bits p) reading × ReadsFrames ps (read_frame p reading ∷ before) after
 
+-- formula
 -- the bytes of frames: each is its payload and six bytes more
 abbrev pub bytes_in : List ReadFrame → ℕ
 bytes_in [] = 0

@@ -11,10 +11,12 @@ use Rattle.rtk_summary.specs.ReadFrames.{ReadFrame, ReadsFrames, bytes_in, messa
 use Rattle.rtk_summary.specs.Tracing.{is_numbered, is_other, is_short, is_outside_week, is_no_number, is_too_many_cells, times_of_week, entries_in, has_satellite, has_code}
 use Rattle.rtk_summary.specs.SummaryText.{number_line, counted_line, numbered_line, time_lines, signal_lines, proposal_lines, codes_text, nothing_line, untaken_numbers}
 
+-- table
 -- the numbers of stations and of messages: DF003 and DF002 have 12 bits
 unfoldable pub all_numbers : List ℕ
 all_numbers = range_with_len 0 4096
 
+-- formula
 -- the lines of a station, of which these messages came
 unfoldable pub station_lines : ℕ → List AnyMessage → List ℕ
 station_lines station ms =
@@ -38,6 +40,7 @@ lines_if_any station ms = if length ms == 0 then [] else station_lines station m
 unfoldable pub stations_text : List AnyMessage → List ℕ
 stations_text ms = flat_map (λ s. lines_if_any s (messages_from s ms)) all_numbers
 
+-- formula
 -- the payloads that are not read: other messages, those with GPS observations named once more, and
 -- for each fault the numbers of the messages that are refused
 unfoldable pub unread_lines : List AnyFault → List ℕ
@@ -49,6 +52,7 @@ unread_lines fs =
     ++ flat_map (λ n. numbered_line (codes "refused M4 ") n (count_of (is_outside_week n) fs)) all_numbers
     ++ flat_map (λ n. numbered_line (codes "refused M5 ") n (count_of (is_too_many_cells n) fs)) all_numbers
 
+-- formula
 -- the summary of a capture of so many bytes with these frames, newest first
 unfoldable pub summary_text : ℕ → List ReadFrame → List ℕ
 summary_text size fs =

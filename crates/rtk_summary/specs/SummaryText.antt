@@ -12,6 +12,7 @@ use Rattle.rtk_summary.specs.Counting.{shown_count}
 use Rattle.rtk_summary.specs.Proposal.{proposed}
 use Rattle.rtk_summary.specs.Tracing.{newest_time, oldest_time, changes_in}
 
+-- formula
 -- words and a number
 abbrev pub number_line : List ℕ → ℕ → List ℕ
 number_line words n = words ++ decimal n ++ 10 ∷ []
@@ -20,27 +21,32 @@ number_line words n = words ++ decimal n ++ 10 ∷ []
 abbrev pub counted_line : List ℕ → ℕ → List ℕ
 counted_line words n = if n == 0 then [] else number_line words n
 
+-- formula
 -- words, a message number and its count
 abbrev pub numbered_line : List ℕ → ℕ → ℕ → List ℕ
 numbered_line words number n = counted_line (words ++ decimal number ++ codes " ") n
 
+-- formula
 -- a hyphen in the place of an empty list
 abbrev pub or_hyphen : List ℕ → List ℕ
 or_hyphen [] = codes " -"
 or_hyphen (x ∷ xs) = x ∷ xs
 
+-- formula
 -- words and a list
 abbrev pub list_line : List ℕ → List ℕ → List ℕ
 list_line words list = words ++ or_hyphen list ++ 10 ∷ []
 
 -- ---- times
 
+-- formula
 -- the first and the last time of week, in ms, or a hyphen if no time came
 abbrev pub time_line : Option ℕ → Option ℕ → List ℕ
 time_line None last = codes " time-of-week -\n"
 time_line (Some first) None = codes " time-of-week -\n"
 time_line (Some first) (Some last) = codes " time-of-week " ++ decimal first ++ codes " " ++ decimal last ++ 10 ∷ []
 
+-- formula
 -- the lines of the times of a station's observation messages, newest first
 abbrev pub time_lines : List ℕ → List ℕ
 time_lines ts =
@@ -49,13 +55,16 @@ time_lines ts =
 
 -- ---- satellites and codes, by the tests which of them have a value
 
+-- formula
 -- as in: G05
 abbrev pub satellite_name : ℕ → List ℕ
 satellite_name n = 71 ∷ (48 + n / 10) ∷ (48 + n % 10) ∷ []
 
+-- formula
 abbrev pub listed_satellite : (ℕ → Bool) → ℕ → List ℕ
 listed_satellite test n = if test n then 32 ∷ satellite_name n else []
 
+-- formula
 -- the satellites from 1 to 32 that have a value, each after a blank
 unfoldable pub satellites_text : (ℕ → Bool) → List ℕ
 satellites_text test = flat_map (listed_satellite test) (range_with_len 1 32)
@@ -64,15 +73,18 @@ satellites_text test = flat_map (listed_satellite test) (range_with_len 1 32)
 abbrev pub all_codes : List Code
 all_codes = C1C ∷ C1P ∷ C1W ∷ C1S ∷ C1L ∷ C1X ∷ C2C ∷ C2D ∷ C2P ∷ C2W ∷ C2S ∷ C2L ∷ C2X ∷ C5I ∷ C5Q ∷ C5X ∷ []
 
+-- formula
 -- the names of codes, the first after this separator and each other one after a comma
 abbrev pub joined_names : ℕ → List Code → List ℕ
 joined_names separator [] = []
 joined_names separator (c ∷ cs) = separator ∷ name_of c ++ joined_names 44 cs
 
+-- formula
 -- the codes that have a value, as an option lists them, after a blank
 unfoldable pub codes_text : (Code → Bool) → List ℕ
 codes_text test = joined_names 32 (filter test all_codes)
 
+-- formula
 -- the second frequency is 2P, which an option with 2W would leave out
 abbrev pub second_frequency_line : (Code → Bool) → List ℕ
 second_frequency_line test = if test C2P && not (test C2W) then codes " second-frequency 2P\n" else []
@@ -121,11 +133,13 @@ unfoldable pub proposal_lines : ℕ → (MsmKind → ℕ) → (MsmKind → Code 
 proposal_lines station epochs code =
     other_msm_lines epochs (proposed epochs) ++ next_line station (proposed epochs) (codes_text (code (proposed epochs)))
 
+-- formula
 -- no station has a code
 abbrev pub nothing_line : List ℕ → List ℕ
 nothing_line [] = codes "nothing taken\n"
 nothing_line (x ∷ xs) = []
 
+-- formula
 -- the messages of GPS observations that are not read
 abbrev pub untaken_numbers : List ℕ
 untaken_numbers = 1001 ∷ 1002 ∷ 1003 ∷ 1071 ∷ 1072 ∷ 1073 ∷ []

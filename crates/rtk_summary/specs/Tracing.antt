@@ -65,6 +65,7 @@ abbrev pub change_from : Option ℕ → ℕ → ℕ
 change_from None t = 0
 change_from (Some before) t = if before == t then 0 else 1
 
+-- formula
 -- how many of the times differ from the one before
 abbrev pub changes_in : List ℕ → ℕ
 changes_in [] = 0
@@ -88,6 +89,7 @@ entries_of (any.Msm m) = cells_of_msm m
 abbrev pub entries_in : List AnyMessage → List CellEntry
 entries_in ms = flat_map entries_of ms
 
+-- formula
 -- the cell has a range, a phase or a strength
 abbrev pub has_value : Cell → Bool
 has_value c = is_some c.range_mm || (is_some c.phase_millicycles || is_some c.strength_millidbhz)

@@ -1,4 +1,6 @@
 //! Reading a capture to its end, and writing its summary.
+//!
+//! A read asks for 32,768 bytes. The text is made once the capture was read to its end.
 
 ghost use Rattle.std.specs.Prelude.{◌≡◌, ◌≢◌, ◌≤◌, ◌+◌, ◌++◌, [], Err, IfOk, IfErr, IsErrOf, OnOk, false};
 ghost use Rattle.rtk_frame.specs.Frames.{frames, final_frames, payloads, pending};

@@ -1,4 +1,8 @@
 //! The state of a summary: what it holds of the frames that came.
+//!
+//! Each frame is counted where the scanner holds it: a message at the place of its station, a fault
+//! at the place of its number. What is held stands for the frames so far
+//! (specs/Steps/Standing.antt), whatever the pieces were.
 
 ghost use Rattle.std.specs.Prelude.{◌≡◌, List, [], ◌∷◌, length, IfOk};
 ghost use Rattle.rtk_message.specs.declared.any_message.AnyMessage.{AnyMessage};

@@ -3,10 +3,12 @@ use Rattle.std.specs.Prelude.{ℕ, Bool, not, ◌||◌, ◌==◌, List, filter, 
 use Rattle.std.specs.Result.{result_ok}
 use Rattle.hex.specs.Hex.{decode_of}
 
+-- formula
 -- a blank, a tab, a carriage return or a line feed
 abbrev pub is_white_space : ℕ → Bool
 is_white_space byte = (byte == 32) || (byte == 9) || (byte == 13) || (byte == 10)
 
+-- formula
 -- the bytes of a hex text: without blanks, tabs and line ends it is pairs of hex digits, a pair for
 -- each byte; none if it is not
 abbrev pub bytes_of_hex : List ℕ → Option (List ℕ)

@@ -18,10 +18,12 @@ use Rattle.rtk_message.specs.Decoded.{Decodes}
 use Rattle.rtk_message.specs.FaultCode.{fault_text}
 use Rattle.rtk_message.specs.Msm1074.{satellite_count, signal_count, cell_count}
 
+-- formula
 -- a point and four digits: the part of a whole metre, of a number of 0.0001 m
 abbrev pub four_decimals : ℕ → List ℕ
 four_decimals n = 46 ∷ (48 + n / 1000 % 10) ∷ (48 + n / 100 % 10) ∷ (48 + n / 10 % 10) ∷ (48 + n % 10) ∷ []
 
+-- formula
 -- a length in 0.0001 m, written in metres: the whole metres without padding, and four decimals
 unfoldable pub metres : ℕ → List ℕ
 metres n = decimal (n / 10000) ++ four_decimals n
@@ -30,12 +32,14 @@ metres n = decimal (n / 10000) ++ four_decimals n
 unfoldable pub coordinate : ℤ → List ℕ
 coordinate v = sign_text (is_negative v) ++ metres (unsigned_abs v)
 
+-- formula
 -- a station (DF003) and its antenna reference point (DF025, DF026, DF027)
 unfoldable pub reference_point : Arp1005 → List ℕ
 reference_point m =
     codes " station " ++ decimal m.station ++ codes " x " ++ coordinate m.x ++ codes " y " ++ coordinate m.y
     ++ codes " z " ++ coordinate m.z
 
+-- formula
 -- a message: its number, its station (DF003), and then the time of week (DF004) and the numbers of
 -- satellites, signals and cells, or the antenna reference point and its height (DF028)
 abbrev pub text_1004 : Obs1004 → List ℕ
@@ -43,12 +47,15 @@ text_1004 m =
     codes "1004 station " ++ decimal m.station ++ codes " tow " ++ decimal m.tow
     ++ codes " satellites " ++ decimal (length m.satellites)
 
+-- formula
 abbrev pub text_1005 : Arp1005 → List ℕ
 text_1005 m = codes "1005" ++ reference_point m
 
+-- formula
 abbrev pub text_1006 : Arp1006 → List ℕ
 text_1006 m = codes "1006" ++ reference_point m.arp ++ codes " height " ++ metres m.height
 
+-- formula
 abbrev pub text_1074 : Msm1074 → List ℕ
 text_1074 m =
     codes "1074 station " ++ decimal m.header.station ++ codes " tow " ++ decimal m.header.tow
@@ -61,10 +68,12 @@ message_text (Of1005 m) = text_1005 m
 message_text (Of1006 m) = text_1006 m
 message_text (Of1074 m) = text_1074 m
 
+-- formula
 -- as in: refused M3 1005
 abbrev pub refusal_text : DecodeFault → List ℕ
 refusal_text fault = codes "refused " ++ fault_text fault
 
+-- formula
 -- a payload that is no message: the number of another message, or why it is refused
 abbrev pub unread_text : DecodeFault → List ℕ
 unread_text NoNumber = refusal_text NoNumber
@@ -73,6 +82,7 @@ unread_text (Short number) = refusal_text (Short number)
 unread_text (EpochRange number) = refusal_text (EpochRange number)
 unread_text TooManyCells = refusal_text TooManyCells
 
+-- formula
 -- the line of a message or of a payload that is no message: its text, and a line feed
 abbrev pub line_of : Result Message DecodeFault → List ℕ
 line_of (Ok m) = message_text m ++ 10 ∷ []

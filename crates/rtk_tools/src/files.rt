@@ -1,4 +1,8 @@
 //! Files and standard streams as sources and sinks. Nothing is known of the bytes that pass.
+//!
+//! A link is read through one buffer, whose size is a multiple of the 512 bytes that a conversion
+//! asks for. Failed calls are counted, and a reader has met its end once a read with room gave
+//! nothing.
 
 ghost use Rattle.std.specs.Prelude.{◌≡◌, None, true, false};
 
@@ -13,6 +17,7 @@ use std::{fs, io};
 /// The word that names standard input.
 pub const STDIN: &str = "stdin";
 
+// constant
 /// How many bytes of a file and of a report are gathered before they are written, if no link is
 /// standard input.
 pub const GATHERED: usize = 65_536;

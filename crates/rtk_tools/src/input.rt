@@ -1,4 +1,6 @@
 //! Reading an input whole.
+//!
+//! It is read in pieces of 4,096 bytes.
 
 ghost use Rattle.std.specs.Prelude.{◌≡◌, ◌≢◌, ◌+◌, ◌≤◌, length, Err, IfOk, OnOk, IsErrOf};
 ghost use Rattle.rtk_frame.specs.Stream.{CountRises};
@@ -19,7 +21,7 @@ pub fn read_whole<R: Source>(
     reader: &mut R,
     limit: usize,
 ) -> Result<Vec<u8>, ToolFault>
-    // That it gives up only without memory show the rows `show ..` and `check_input ..` of tests/calls.
+    // That it gives up only without memory show the rows `show ..` and `check_input ..` of tests/system/calls.
     ensures whole { IfOk result (λ bytes. GivesText (R.given reader.old) (R.given reader.new) (λ text.
         (text ≡ bytes.items) × (length text ≤ limit))) }
     ensures to_the_end { OnOk result (R.is_at_end reader.new) }

@@ -1,4 +1,7 @@
 //! Readers and writers whose calls are made again if a signal interrupts them.
+//!
+//! They stand below all buffers and hand on no interruption, so that no buffer above makes a call
+//! again without a count.
 
 ghost use Rattle.std.specs.Prelude.{◌≢◌, ◌≤◌, IfErr};
 ghost use Rattle.std.specs.Io.{ReadsAtMost, WritesAtMost};

@@ -19,6 +19,7 @@ use rtk_frame::{Frames, Sink, Source, write_all};
 use std::alloc::Global;
 use std::fs::Files;
 
+// constant
 /// The most bytes of an input of `show`, which holds it whole.
 pub const SHOW_LIMIT: usize = 16_777_216;
 
@@ -29,7 +30,7 @@ const FULL: usize = 65_536;
 fn capture_from(alloc: Global, text: Vec<u8>, hex: bool) -> Result<Vec<u8>, ToolFault>
     ensures bytes { IfOk result (λ bytes. capture_of hex text.items ≡ Some bytes.items) }
     ensures not_hex { IsErrOf result NotHex → IsNone (capture_of hex text.items) }
-    // That it gives up only without memory show the rows `show ..` of tests/calls.
+    // That it gives up only without memory show the rows `show ..` of tests/system/calls.
     ensures else_memory { IfErr result (λ fault. fault ≢ NotHex → fault ≡ OutOfMemory) }
 {
     if hex {
@@ -62,7 +63,7 @@ fn show_capture<W: Sink>(alloc: Global, capture: &[u8], out: &mut W) -> Result<u
     ensures no_fault { result ≢ Err Output → W.failures out.new ≡ W.failures out.old }
     ensures part { ShowsPart capture.now (W.taken out.old) (W.taken out.new) }
     ensures output { IsErrOf result Output → CountRises (W.failures out.old) (W.failures out.new) }
-    // That it gives up only without memory show the rows `show ..` of tests/calls.
+    // That it gives up only without memory show the rows `show ..` of tests/system/calls.
     ensures else_memory { IfErr result (λ fault. fault ≢ Output → fault ≡ OutOfMemory) }
 {
     frames_of_a_text();
@@ -97,7 +98,7 @@ pub fn show<R: Source, W: Sink>(
         (length text ≤ SHOW_LIMIT) × IsSomeAnd (capture_of hex text) (λ capture.
         Shows capture (W.taken out.old) (W.taken out.new) × (count ≡ length (frames capture))))) }
 
-    // That it gives up only without memory show the rows `show ..` of tests/calls.
+    // That it gives up only without memory show the rows `show ..` of tests/system/calls.
 
     // What is shown, or is no hex text, was read to its end.
     ensures to_the_end { result ≢ Err Input → result ≢ Err TooLong → result ≢ Err OutOfMemory

@@ -7,6 +7,7 @@ use Rattle.rtk_words.specs.declared.answer.ClapAnswer.TheVariants.{Text, OutOfMe
 use Rattle.rtk_words.specs.declared.request.Request.{Request}
 use Rattle.rtk_words.specs.declared.request.Request.TheVariants.{Convert, Show, Check, Summary, Chart, Cut}
 
+-- formula
 -- the width of a picture in characters is 40 to 400, if there is one (this project's rule); the
 -- options of `convert` and of `cut` say their limits themselves
 abbrev pub IsWithinLimits : Request → Type 0
@@ -17,6 +18,7 @@ IsWithinLimits (Summary file) = Unit {0}
 IsWithinLimits (Chart width file) = ForSome width (IsInRange 40 400)
 IsWithinLimits (Cut options file) = Unit {0}
 
+-- table
 -- the status that goes with a text of clap's is 0 or 2; which of them is not said here (this
 -- project's rule)
 abbrev pub HasStatus : ClapAnswer → Type 0

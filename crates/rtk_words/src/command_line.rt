@@ -1,4 +1,6 @@
 //! The command line that clap reads: its commands and their arguments.
+//!
+//! clap is the costly part of the proof, so its command is built here alone, in small functions.
 
 use crate::help_texts;
 use clap::{Arg, ArgAction, ArgGroup, Command, value_parser};

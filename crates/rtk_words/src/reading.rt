@@ -204,7 +204,7 @@ fn read_by<'a>(
 /// What the words of a command line ask for, or what clap answers. They begin after the name of the
 /// program.
 pub fn read_words<'a>(alloc: Global, words: &'a [&'a str]) -> Result<Request<'a>, ClapAnswer>
-    // That it gives up only without memory show the rows `job ..` of tests/calls.
+    // That it gives up only without memory show the rows `job ..` of tests/system/calls.
     ensures limits { IfOk result IsWithinLimits }
     ensures status { IfErr result HasStatus }
 {

@@ -8,6 +8,7 @@ use Rattle.rtk_obs.specs.Code.{name_of}
 abbrev pub comma_names : List Code → List ℕ
 comma_names = flat_map (λ c. 44 ∷ name_of c)
 
+-- formula
 -- the text lists these codes, one or more: with a comma before it, it is their names, a comma
 -- before each (this project's rule)
 abbrev pub Lists : List ℕ → List Code → Type 0

@@ -51,6 +51,7 @@ HasMarker o = HasNames o × IsMarker o.marker.now
 abbrev pub HasHead : ConvertOptions → Type 0
 HasHead o = HasMarker o × ((listed : List Code) × Lists o.codes.now listed × IsCodeList listed)
 
+-- formula
 -- this is the first cause for which the words are refused, in this order: the form of the
 -- reference, the form of the time of making, the names of the codes, the marker, the codes
 -- together, the links, and last a reference near which nothing is dated (this project's rule)

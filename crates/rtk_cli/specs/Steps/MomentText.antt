@@ -18,6 +18,7 @@ HasDigits c =
     (c.year < 10_000) × (c.month < 100) × (c.day < 100) × (c.hour < 100) × (c.minute < 100) × (c.second < 100)
     × (c.millisecond ≡ 0)
 
+-- formula
 -- the text writes a moment: it is the text of the moment's date and time, which has a whole second
 abbrev pub WritesMoment : List ℕ → ℕ → Type 0
 WritesMoment text t = (c : Civil) × ReadsAs t c × HasDigits c × (text ≡ moment_text c)

@@ -4,6 +4,7 @@ use Rattle.std.specs.IoError.{error_kind}
 use Rattle.std.specs.declared.io.Error.{Error}
 use Rattle.std.specs.declared.io.ErrorKind.TheVariants.{Interrupted}
 
+-- constant
 -- the most interruptions in a row after each of which a call is made again: 1,000
 abbrev pub most_interruptions : ℕ
 most_interruptions = 1000

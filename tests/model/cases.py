@@ -1,0 +1,566 @@
+"""Writes captures into the folder that it is run in, and beside each the file and the report that its conversion owes.
+
+    python3 cases.py EXAMPLES
+
+The file `cases` has a line for each: its name, window, codes and links. Before anything else the model must write what
+stands in the folder EXAMPLES, which another program made; and where a report stands here in words, it must write that."""
+
+import sys
+from pathlib import Path
+from random import Random
+
+import model
+import parts
+import station
+import streams
+import summaries
+from messages import CODES, SIGNALS
+from model import Setup, moment
+from station import NOON
+from wire import frame_of, payload_of
+
+NEAR, MADE = moment("2024-05-17T12:00:00"), moment("2024-05-17T13:00:00")
+TOLD = "2024-05-17 12:00:"
+EXAMPLES = sys.argv[1]
+SATELLITE = {
+    "satellite": 5, "l1_range": 5_000_000, "l1_lock": 5, "modulus_ambiguity": 70, "l1_cnr": 180, "l2_code": 3, "l2_range": 100,
+    "l2_lock": 5, "l2_cnr": 140,
+}
+NO_NUMBER = bytes.fromhex("D3000047EA4B")
+# A frame of 1,029 bytes seems to begin here.
+FALSE_PREAMBLE = bytes.fromhex("D303FF")
+
+
+def legacy(tow, entries, **fields):
+    """The payload of a 1004; the entry of a satellite is a dictionary of its fields."""
+    return payload_of(station.legacy_of(tow, entries, **fields))
+
+
+def msm(tow, rough, cells):
+    """The payload of a 1074, as `msm_of` makes it."""
+    return payload_of(station.msm_of(tow, rough, cells))
+
+
+def example(name):
+    with open(f"{EXAMPLES}/{name}", "rb") as file:
+        return file.read()
+
+
+BASE, HIDDEN = example("base.rtcm"), example("hidden.rtcm")
+ARP = BASE[:25]
+
+
+def at(seconds, **fields):
+    """The frame of a 1004 of satellite 5, so many seconds after noon."""
+    return frame_of(legacy(NOON + 1000 * seconds, [{**SATELLITE, **fields}]))
+
+
+def bare(seconds, **fields):
+    """The frame of a 1004 without satellites."""
+    return frame_of(legacy(NOON + 1000 * seconds, [], **fields))
+
+
+def place(number, **fields):
+    """The frame of a 1006, or of a 1005, which has no height."""
+    return station.capture(station.point(number, **({"height": 15_000} if number == 1006 else {}) | fields))
+
+
+def payload_in(frame):
+    return frame[3:-3]
+
+
+def block(first=b"", last=b"", size=512):
+    """The bytes of one read: a first frame, zeros, and a last one that ends with them."""
+    return first + bytes(size - len(first) - len(last)) + last
+
+
+def report(*lines, **counts):
+    names = "other", "refused", "foreign", "taken", "repeat", "conflict", "late"
+    counts = {"frames": sum(counts.get(it, 0) for it in names), **{it: counts.get(it, 0) for it in names}, "epochs": counts["epochs"]}
+    return "".join(f"{it}\n" for it in lines) + "".join(f"{it} {n}\n" for it, n in counts.items())
+
+
+def convert(links, window=64, codes="1C,2W"):
+    """The file and the report."""
+    return model.convert(Setup(2003, NEAR, MADE, "BASE", tuple(codes.split(",")), window), links)[:2]
+
+
+def save(name, text):
+    with open(name, "wb") as file:
+        file.write(text if isinstance(text, bytes) else text.encode())
+
+
+def case(cases, name, links, window=64, codes="1C,2W", told=None, line=""):
+    """`told` is the report and `line` a line of the file, if they are known in words."""
+    text, said = convert(links, window, codes)
+    if (told is not None and said != told) or line not in text:
+        sys.exit(f"cases: {name}: the model writes\n{text}{said}and not\n{line}{told}")
+    names = [f"{name}.{number}" for number in range(1, len(links) + 1)]
+    for link, content in zip(names, links):
+        save(link, content)
+    save(f"{name}.rnx", text)
+    save(f"{name}.report", said)
+    print(name, window, codes, *names, file=cases)
+
+
+def hold_to_examples():
+    """What another program wrote of the examples."""
+    first, second = example("session_link1.rtcm"), example("session_link2.rtcm")
+    for links, window, codes, text, said in (
+        ([example("session.rtcm")], 64, "1C,2W,5X", "session.rnx", "session.report"),
+        ([first, second], 64, "1C,2W,5X", "session.rnx", "session_links.report"),
+        ([example("late.rtcm")], 2, "1C,2W", "late.rnx", "late.report"),
+        ([BASE], 64, "1C,2W", "base.rnx", None),
+    ):
+        found = convert(links, window, codes)
+        if found[0].encode() != example(text) or (said and found[1].encode() != example(said)):
+            sys.exit(f"cases: the model does not write {text}")
+
+
+# ---------------------------------------------------------------- small captures, each with its report in words
+
+
+def links_of_sixteen(cases):
+    """Each of the 16 links in the report."""
+    case(cases, "refused_on_each_link", [NO_NUMBER] * 16, told=report(
+        *(f"link {it} refused M1 -" for it in range(1, 17)), refused=16, epochs=0))
+    case(cases, "conflict_on_each_link", [at(0, l1_cnr=180 + it) for it in range(16)], told=report(
+        *(f"link {it} conflict 1004 {TOLD}00.000 G05 1C" for it in range(2, 17)), taken=1, conflict=15, epochs=1))
+    case(cases, "late_on_each_link", [at(10) + at(11), *[at(5)] * 15], window=2, told=report(
+        *(f"link {it} late 1004 {TOLD}05.000" for it in range(2, 17)), taken=2, late=15, epochs=2))
+    case(cases, "late_1006_of_link_16", [b""] * 15 + [at(0) + at(1) + place(1006)], window=2, told=report(
+        "link 16 late 1006 -", taken=2, late=1, epochs=2))
+    case(cases, "conflict_of_1006_on_link_16", [ARP + place(1006)] + [b""] * 14 + [place(1006, single_oscillator=1)], told=report(
+        "link 16 conflict 1006 -", taken=2, conflict=1, epochs=0))
+    # one that equals the kept one is never late, one that differs is late and no more in conflict
+    case(cases, "kept_1006_is_never_late", [place(1006) + at(0) + at(1) + place(1006) + place(1006, z=1) + ARP], window=2, told=report(
+        "link 1 late 1006 -", "link 1 late 1005 -", taken=3, repeat=1, late=2, epochs=2))
+
+
+def refusals(cases):
+    """The faults of each message, the first cause of each."""
+    too_late = 604_800_000
+    five_by_thirteen = {(satellite, signal): {} for satellite in range(1, 14) for signal in range(1, 6)}
+    rough = {satellite: (70, 0) for satellite in range(1, 14)}
+    cell = {(5, 2): {}}
+    rows = (
+        (b"\x3e", "M1 -"),
+        (legacy(NOON, [])[:-1], "M3 1004"),
+        (legacy(NOON, [SATELLITE])[:-1], "M3 1004"),
+        (legacy(NOON, [], satellites=1), "M3 1004"),
+        (legacy(too_late, [], satellites=1), "M4 1004"),
+        (payload_in(ARP)[:-1], "M3 1005"),
+        (payload_in(place(1006))[:-1], "M3 1006"),
+        # a 1005 whose first 12 bits are 1006
+        (b"\x3e\xe7" + payload_in(ARP)[2:], "M3 1006"),
+        (msm(NOON, {5: (70, 0)}, cell)[:21], "M3 1074"),
+        (msm(NOON, {5: (70, 0)}, cell)[:-1], "M3 1074"),
+        (msm(too_late, rough, five_by_thirteen), "M4 1074"),
+        (msm(NOON, rough, five_by_thirteen)[:22], "M5 1074"),
+    )
+    text = b"".join(frame_of(payload) for payload, _ in rows)
+    case(cases, "each_refusal", [text], told=report(*(f"link 1 refused {why}" for _, why in rows), refused=len(rows), epochs=0))
+    save("each_refusal.lines", "".join(f"refused {why}\n" for _, why in rows))
+    # the last good time of week, and 64 cells
+    good = legacy(604_799_999, []), msm(NOON, {it: (70, 0) for it in range(1, 17)}, {(it, signal): {} for it in range(1, 17) for signal in (2, 3, 4, 8)})
+    case(cases, "not_refused", [b"".join(map(frame_of, good))], told=report(taken=2, epochs=1))
+    save("not_refused.lines", "1004 station 2003 tow 604799999 satellites 0\n1074 station 2003 tow 475200000 satellites 16 signals 4 cells 64\n")
+
+
+def closes(cases):
+    """Frames that only the end of a link finds, and which link ends first."""
+    case(cases, "hidden", [HIDDEN], told=report(taken=1, repeat=1, epochs=0))
+    case(cases, "found_at_the_end", [FALSE_PREAMBLE + BASE], told=report(taken=2, epochs=1))
+    stronger = at(0, l1_cnr=181)
+    case(cases, "lower_link_ends_first", [FALSE_PREAMBLE + at(0), FALSE_PREAMBLE + stronger], told=report(
+        f"link 2 conflict 1004 {TOLD}00.000 G05 1C", taken=1, conflict=1, epochs=1))
+    # pins: IsNextLink, newest_on
+    case(cases, "older_link_ends_first", [at(10) + FALSE_PREAMBLE + at(20), at(5) + FALSE_PREAMBLE + at(20, l1_cnr=181)], told=report(
+        f"link 1 conflict 1004 {TOLD}20.000 G05 1C", taken=3, conflict=1, epochs=3))
+    # sixteen links hold a frame each, and end in their order
+    case(cases, "sixteen_links_end_in_order", [FALSE_PREAMBLE + at(0, l1_cnr=it) for it in range(16, 0, -1)], told=report(
+        *(f"link {it} conflict 1004 {TOLD}00.000 G05 1C" for it in range(2, 17)), taken=1, conflict=15, epochs=1))
+
+
+def order_of_reading(cases):
+    """Which of two copies that differ comes first tells which link was read first."""
+    one, other = at(30), at(30, l1_cnr=181)
+    first, second = (f"link {it} conflict 1004 {TOLD}30.000 G05 1C" for it in (1, 2))
+    # pins: IsClassOfReading, newest_on
+    case(cases, "foreign_message_is_no_newest_epoch", [block(bare(99, station=7)) + one, other], told=report(
+        second, foreign=1, taken=1, conflict=1, epochs=1))
+    # link 2 has come to second 5, though late, so link 3, which has no epoch, is read before the rest of it
+    # pins: IsNextLink, newest_on
+    case(cases, "late_message_is_newest_epoch", [at(10) + at(11), block(at(5)) + one, other], window=2, told=report(
+        f"link 2 late 1004 {TOLD}05.000", second, taken=3, conflict=1, late=1, epochs=3))
+    # the last frame of a block comes with it, and one that ends a byte after it does not
+    # pins: read_at_once, IsNextRead
+    case(cases, "a_read_of_512_bytes", [block(at(10)) + one, block(at(15), other)], told=report(
+        first, taken=3, conflict=1, epochs=3))
+    # pins: read_at_once, IsNextRead
+    case(cases, "no_read_of_513_bytes", [block(at(10), one, 513), block(at(5)) + other], told=report(
+        first, taken=3, conflict=1, epochs=3))
+    # the same where the program reads ahead again, after 32,768 bytes
+    ahead = block(at(15)) + bytes(63 * 512) + block(at(26), other)
+    # pins: read_at_once, IsNextRead
+    case(cases, "a_read_after_32768_bytes", [block(at(25)) + one, ahead], told=report(
+        first, taken=4, conflict=1, epochs=4))
+
+
+def windows(cases):
+    """The greatest window: after 4,096 greater epochs an epoch is closed, and not after 4,095."""
+    epochs = [bare(seconds) for seconds in range(4096)]
+    case(cases, "window_of_4096", [b"".join(epochs) + at(0) + bare(4096) + at(0, l1_cnr=181)], window=4096, told=report(
+        f"link 1 late 1004 {TOLD}00.000", taken=4098, late=1, epochs=1))
+    # a report of so many lines is gathered whole, and one of more is not
+    for name, count in (("gathered_report", 1590), ("longer_report", 1700)):
+        case(cases, name, [bare(1) + bare(2) + count * bare(0)], window=2, told=report(
+            *[f"link 1 late 1004 {TOLD}00.000"] * count, taken=2, late=count, epochs=0))
+
+
+def ties(cases):
+    """The exact range is 21060420.1745 m."""
+    case(cases, "tie_away_from_zero", [frame_of(msm(NOON, {5: (70, 256)}, {(5, 2): {}}))], told=report(taken=1, epochs=1),
+        line="G05  21060420.175   110673255.000\n")
+
+
+# ---------------------------------------------------------------- the most of an epoch, and of a report
+
+
+def every_cell(cases):
+    """All 672 cells of an epoch: of 32 satellites fifteen codes in 1074, four signals of sixteen satellites in each, and six
+    in 1004. Then a 1074 whose cells are in conflict but for the last one, and one of which all are."""
+    known, halves = sorted(SIGNALS), (range(1, 17), range(17, 33))
+    groups = [(half, known[at : at + 4]) for half in halves for at in range(0, 16, 4)]
+
+    def cells_of(half, signals, strength=40, last=40):
+        cells = {(it, signal): {"cnr": strength} for it in half for signal in signals}
+        cells[max(cells)] = {"cnr": last}
+        return frame_of(msm(NOON, {it: (60 + it, it) for it in half}, cells))
+
+    rows = [[{**SATELLITE, "satellite": it} for it in part] for part in (range(1, 32), [32])]
+    legacies = [
+        frame_of(legacy(NOON, [{**it, "l1_code": l1, "l2_code": l2} for it in part]))
+        for part in rows for l1, l2 in ((0, 0), (1, 1), (0, 2), (1, 3))
+    ]
+    capture = b"".join(legacies + [cells_of(*it) for it in groups])
+    lines = [
+        f"link 1 conflict 1074 {TOLD}00.000 G{it:02} {SIGNALS[signal]}" for it in groups[0][0] for signal in groups[0][1]
+    ]
+    codes = ",".join(CODES)
+    records = convert([capture], codes=codes)[0].splitlines()[-33:]
+    assert records[0] == "> 2024 05 17 12 00  0.0000000  0 32" and {len(it) for it in records[1:]} == {769}
+    case(cases, "every_cell", [capture], codes=codes, told=report(taken=16, epochs=1))
+    # pins: cell_conflict_line
+    for name, conflicts, last in (("conflicts_63", 63, 40), ("conflicts_64", 64, 41)):
+        case(cases, name, [capture + cells_of(*groups[0], 41, last)], codes=codes, told=report(
+            *lines[:conflicts], taken=16, conflict=1, epochs=1))
+    # the longest lines, with a link of two digits
+    # refuses: a `feed` that gives up at the longest report of a message
+    case(cases, "conflicts_64_of_link_16", [b""] * 15 + [capture + cells_of(*groups[0], 41, 41)], codes=codes, told=report(
+        *(it.replace("link 1 ", "link 16 ", 1) for it in lines), taken=16, conflict=1, epochs=1))
+    # the same epoch, which greater ones close before the end
+    # refuses: a `feed` that gives up where an epoch of many cells closes
+    case(cases, "every_cell_closed", [capture + bare(1) + bare(2)], window=2, codes=codes, told=report(taken=18, epochs=1))
+
+
+def millions():
+    """Counts of as many digits as a capture of 44 MB can have: 58. The file and the report are those of the rules, in words."""
+    names = "other", "foreign", "repeat", "refused", "taken", "conflict", "late"
+    many = dict(zip(names, (1_000_001, 1_000_002, 1_000_003, 100_004, 100_005, 100_006, 100_007)))
+    last = many["taken"] - 1
+    hour, rest = divmod(last, 3600)
+    day, time = 17 + (12 + hour) // 24, f"{(12 + hour) % 24:02}:{rest // 60:02}:{rest % 60:02}.000"
+    stronger = streams.legacy(NOON + 1000 * last, streams.SATELLITES[:1])
+    stronger.satellites[0]["l1_cnr"] += 1
+    save("millions.1", b"".join((
+        streams.single_satellite(many["taken"]),
+        frame_of(b"\x3f\xb0") * many["other"],
+        bare(last, station=7) * many["foreign"],
+        bare(last) * many["repeat"],
+        NO_NUMBER * many["refused"],
+        streams.capture(stronger) * many["conflict"],
+        bare(0) * many["late"],
+    )))
+    head = model.header(Setup(2003, NEAR, MADE, "BASE", ("1C", "2W"), 64), {}, NEAR)
+    line = convert([streams.single_satellite(1)])[0].splitlines()[-1]
+    epochs = (f"{model.epoch_line(NEAR + 1000 * it, 1)}\n{line}\n" for it in range(many["taken"]))
+    save("millions.rnx", "".join(f"{it}\n" for it in head) + "".join(epochs))
+    lines = [
+        *["link 1 refused M1 -"] * many["refused"],
+        *[f"link 1 conflict 1004 2024-05-{day} {time} G03 1C"] * many["conflict"],
+        *[f"link 1 late 1004 {TOLD}00.000"] * many["late"],
+    ]
+    said = report(*lines, **many, epochs=many["taken"])
+    assert sum(it.isdigit() for it in "".join(said.splitlines()[-9:])) == 58
+    save("millions.report", said)
+    # The summary of the same: its satellite and codes are those of two epochs of the same satellite.
+    few = summaries.summary_of(streams.single_satellite(2))
+    size, time = Path("millions.1").stat().st_size, NOON + 1000 * last
+    messages = sum(many[it] for it in ("taken", "repeat", "conflict", "late"))
+    save("millions.summary", (
+        f"bytes {size}\noutside-frames 0\nframes {sum(many.values())}\n"
+        f"station 7\n message 1004 {many['foreign']}\n time-of-week {time} {time}\n epoch-changes 0\n satellites -\n codes -\n"
+        f"station 2003\n message 1004 {messages}\n time-of-week {NOON} {NOON}\n epoch-changes {many['taken']}\n"
+        f"{few[few.index(' satellites'):]}other 1019 {many['other']}\nrefused M1 - {many['refused']}\n"
+    ))
+
+
+# ---------------------------------------------------------------- a long capture
+
+
+def some(random, width):
+    """A field: often at an end of its width, else any value."""
+    low, high = (0, (1 << width) - 1) if width > 0 else (-1 << -width - 1, (1 << -width - 1) - 1)
+    return random.choice((low, high)) if random.random() < 0.03 else random.randint(low, high)
+
+
+def legacy_pair(random, tow, satellites):
+    """A 1004, and one whose first satellite differs."""
+    rows = [{
+        "satellite": it, "l1_code": int(random.random() < 0.1), "l1_range": some(random, 24), "l1_offset": some(random, -20),
+        "l1_lock": some(random, 7), "modulus_ambiguity": random.randint(60, 90), "l1_cnr": some(random, 8), "l2_code": 3,
+        "l2_range": some(random, -14), "l2_offset": some(random, -20), "l2_lock": some(random, 7), "l2_cnr": some(random, 8),
+    } for it in satellites]
+    other = [{**rows[0], "l1_cnr": rows[0]["l1_cnr"] ^ 1}, *rows[1:]]
+    return legacy(tow, rows), legacy(tow, other)
+
+
+def msm_pair(random, tow, satellites):
+    """A 1074, and one whose last cell differs."""
+    rough = {it: (255 if random.random() < 0.03 else random.randint(60, 90), some(random, 10)) for it in satellites}
+    cells = {(it, signal): {
+        "fine_range": some(random, -15), "fine_phase": some(random, -22), "lock": some(random, 4), "half_cycle": some(random, 1),
+        "cnr": some(random, 6),
+    } for it in satellites for signal in (2, 24)}
+    last = max(cells)
+    return msm(tow, rough, cells), msm(tow, rough, {**cells, last: {**cells[last], "cnr": cells[last]["cnr"] ^ 1}})
+
+
+def session(random, epochs):
+    """The frames of so many epochs, each with one that is in conflict with it."""
+    pairs = []
+    for second in range(epochs):
+        tow = NOON + 1000 * second
+        if second % 25 == 0:
+            pairs.append((payload_in(place(1006)), payload_in(place(1006, x=second))))
+        satellites = sorted(random.sample(range(1, 36), 8))
+        pairs.append(legacy_pair(random, tow, satellites))
+        pairs += [msm_pair(random, tow, part) for part in (satellites[:4], satellites[4:])]
+        if second % 10 == 0:
+            pairs += [(it, it) for it in (b"\x3f\xb0", legacy(tow, [], station=second), legacy(tow, [], satellites=1), b"")]
+    # bits after the last field, and the reserved ones of a frame, mean nothing
+    extra = [random.randbytes(random.randrange(3)) if len(good) > 20 else b"" for good, _ in pairs]
+    return [tuple(frame_of(it + more, random.randrange(64)) for it in pair) for pair, more in zip(pairs, extra)]
+
+
+def damaged(random, pairs):
+    """A link of the session: frames are lost, repeated, in conflict, exchanged, turned over, and hidden by what is none."""
+    frames = []
+    for good, other in pairs:
+        chance = random.random()
+        if chance < 0.2:
+            continue
+        flipped = bytearray(good)
+        flipped[random.randrange(len(good))] ^= 1 << random.randrange(8)
+        frames += [other] if chance < 0.25 else [bytes(flipped)] if chance < 0.3 else [good, good] if chance < 0.35 else [good]
+        if random.random() < 0.05:
+            frames.append(FALSE_PREAMBLE + random.randbytes(random.randrange(40)))
+    for k in range(len(frames) - 30):
+        if random.random() < 0.03:
+            other = k + random.randrange(30)
+            frames[k], frames[other] = frames[other], frames[k]
+    return b"".join(frames)
+
+
+def long_captures(cases):
+    random = Random(20240517)
+    pairs, codes = session(random, 250), "1C,2W,5X,1P"
+    whole = b"".join(good for good, _ in pairs)
+    assert len(whole) > 2 * 32_768 and len(convert([whole], 64, codes)[0]) > 2 * 65_536
+    case(cases, "long_capture", [whole], codes=codes)
+    case(cases, "long_capture_on_16_links", [b"".join(good for good, _ in pairs[it::16]) for it in range(16)], codes=codes)
+    links = [damaged(random, pairs) for _ in range(3)]
+    case(cases, "long_damaged_links", links, window=5, codes=codes)
+    case(cases, "long_damaged_links_exchanged", links[::-1], window=5, codes=codes)
+    case(cases, "long_damaged_links_of_a_wide_window", links, codes=codes)
+
+
+# ---------------------------------------------------------------- captures for `summary`
+
+
+def contents():
+    """Small captures, each with lines of its summary in words."""
+    empty = {**SATELLITE, "l1_offset": -(1 << 19), "l1_cnr": 0, "l2_range": -(1 << 13), "l2_offset": -(1 << 19), "l2_cnr": 0}
+    weak = {**empty, "satellite": 32, "l1_cnr": 1}
+    # pins: has_value
+    yield "no_value", frame_of(legacy(NOON, [empty])), (" satellites -\n codes -\nnothing taken\n",)
+    # pins: has_value
+    yield "strength_alone", frame_of(legacy(NOON, [empty, weak])), (" satellites G32\n codes 1C\n next ",)
+    # L1 has neither range nor phase, and L2 a range, or a phase
+    # pins: has_value
+    yield "range_alone", frame_of(legacy(NOON, [{**empty, "l2_range": 0}])), (" satellites G05\n codes 2W\n next ",)
+    # pins: has_value
+    yield "phase_alone", frame_of(legacy(NOON, [{**empty, "l2_offset": 0}])), (" satellites G05\n codes 2W\n next ",)
+    # DF016: 1 is 2P, 3 is 2W
+    second = at(0, l2_code=1), at(1, l2_code=1), at(2)
+    # pins: second_frequency_line
+    yield "second_frequency_2p", b"".join(second[:2]), (" codes 1C,2P\n second-frequency 2P\n next ",)
+    # pins: second_frequency_line
+    yield "second_frequency_2p_and_2w", b"".join(second), (" codes 1C,2P,2W\n next ",)
+    # pins: changes_in
+    yield "week_ends", frame_of(legacy(604_799_000, [])) + frame_of(legacy(0, [])) + frame_of(legacy(0, [])), (
+        " time-of-week 604799000 0\n epoch-changes 1\n",)
+    untaken = b"".join(frame_of((number << 4).to_bytes(2, "big")) for number in (1004, 1077, 1001, 1076, 1077, 1084))
+    # pins: untaken_numbers
+    yield "untaken_observations", untaken, (
+        "frames 6\nother 1001 1\nother 1076 1\nother 1077 2\nother 1084 1\n"
+        "untaken GPS 1001 1\nuntaken GPS 1076 1\nuntaken GPS 1077 2\nrefused M3 1004 1\nnothing taken\n",)
+    # the first frame would reach past the end, and the other one stands in it
+    yield "frame_in_a_candidate", FALSE_PREAMBLE + at(0), ("outside-frames 3\nframes 1\n",)
+    numbers = b"".join(frame_of((number << 4).to_bytes(2, "big")) for number in range(4095, -1, -1))
+    # pins: all_numbers
+    yield "every_message_number", numbers, ("other 0 1\n", "other 4095 1\n", "refused M3 1074 1\n")
+    # pins: station_lines
+    yield "every_station", b"".join(bare(it % 60, station=it) for it in range(4095, -1, -1)), (
+        "frames 4096\nstation 0\n", "station 4095\n message 1004 1\n time-of-week 475215000 475215000\n")
+
+
+def many_of_each():
+    """More than 16 bits count of each message and each fault of a message, and of another message. The summary is that of the
+    rules, in words."""
+    too_late, one = 604_800_000, ({5: (70, 0)}, {(5, 2): {}})
+    five_by_thirteen = {(satellite, signal): {} for satellite in range(1, 14) for signal in range(1, 6)}
+    rows = (
+        (" message 1005", payload_in(ARP)),
+        (" message 1006", payload_in(place(1006))),
+        (" message 1074", msm(NOON, *one)),
+        ("other 1077", (1077 << 4).to_bytes(2, "big")),
+        ("refused M3 1004", legacy(NOON, [])[:-1]),
+        ("refused M3 1005", payload_in(ARP)[:-1]),
+        ("refused M3 1006", payload_in(place(1006))[:-1]),
+        ("refused M3 1074", msm(NOON, *one)[:-1]),
+        ("refused M4 1004", legacy(too_late, [])),
+        ("refused M4 1074", msm(too_late, *one)),
+        ("refused M5 1074", msm(NOON, dict.fromkeys(range(1, 14), (70, 0)), five_by_thirteen)[:22]),
+    )
+    counts = {line: 100_001 + at for at, (line, _) in enumerate(rows)}
+    # pins: number_line
+    save("many_of_each", b"".join(frame_of(payload) * counts[line] for line, payload in rows))
+    size, lines = Path("many_of_each").stat().st_size, [f"{line} {n}\n" for line, n in counts.items()]
+    save("many_of_each.summary", "".join((
+        f"bytes {size}\noutside-frames 0\nframes {sum(counts.values())}\nstation 2003\n", *lines[:3],
+        f" time-of-week {NOON} {NOON}\n epoch-changes 0\n satellites G05\n codes 1C\n",
+        f" next rtcm2rinex convert --station 2003 {summaries.NEXT} 1C CAPTURE\n",
+        lines[3], f"untaken GPS 1077 {counts['other 1077']}\n", *lines[4:],
+    )))
+
+
+def sent_by(station, payload):
+    """The frame of the payload with this station, whose number stands in bits 12 to 23."""
+    return frame_of((payload[0] << 16 | payload[1] >> 4 << 12 | station).to_bytes(3, "big") + payload[3:])
+
+
+def greatest_summary():
+    """Each line that a summary can have: some 2 MB. All 4,096 stations send each message, and of these all satellites and each
+    code but 2W; the last one sends 2W too. Then come all other numbers, and each fault."""
+    last, halves = 604_799_999, (range(1, 17), range(17, 33))
+    payloads = [
+        *(payload_in(place(number)) for number in (1005, 1006)),
+        legacy(last, [{**SATELLITE, "l2_code": 2}]),
+        *(msm(last, {it: (70, it) for it in half}, {(it, 2): {"cnr": 40} for it in half}) for half in halves),
+        msm(last, {32: (70, 0)}, {(32, signal): {"cnr": 40} for signal, code in SIGNALS.items() if code != "2W"}),
+    ]
+    stations, told = [], []
+    for station in range(4096):
+        more = [legacy(last, [SATELLITE])] if station == 4095 else []
+        stations.append([sent_by(station, it) for it in payloads + more])
+        if station in (0, 4095):
+            lines = summaries.summary_of(b"".join(stations[-1]))
+            block_of = lines[lines.index("station"):]
+        told.append(block_of.replace("station 0", f"station {station}"))
+    all_codes = ",".join(CODES)
+    assert f" codes {all_codes}\n" in told[-1] and f" codes {all_codes.replace(',2W', '')}\n second-frequency 2P\n" in told[0]
+    assert " satellites " + " ".join(f"G{it:02}" for it in range(1, 33)) + "\n" in told[0]
+    rest = [(number << 4).to_bytes(2, "big") for number in range(4096)]
+    rest += [b"", legacy(last + 1, []), msm(last + 1, {}, {})]
+    rest.append(msm(last, dict.fromkeys(range(1, 64), (70, 0)), {(1, 2): {}, (1, 3): {}})[:22])  # 126 cells
+    unread = summaries.summary_of(b"".join(map(frame_of, rest)))
+    unread = unread[unread.index("other 0 1\n"):].removesuffix("nothing taken\n")
+    frames = [*(frame for frames in stations[::-1] for frame in frames), *map(frame_of, rest)]
+    # pins: summary_text
+    # refuses: a `summarize` that gives up at a long summary
+    # refuses: a text that gives up at counts of many digits
+    save("greatest", b"".join(frames))
+    size = sum(map(len, frames))
+    save("greatest.summary", f"bytes {size}\noutside-frames 0\nframes {len(frames)}\n" + "".join(told) + unread)
+
+
+def summary_cases():
+    """The file `summaries` has the name of each capture."""
+    with open("summaries", "w") as names:
+        for name, capture, lines in contents():
+            told = summaries.summary_of(capture)
+            if not all(it in told for it in lines):
+                sys.exit(f"cases: {name}: the model writes\n{told}and not\n{lines}")
+            save(f"{name}.rtcm", capture)
+            save(f"{name}.summary", told)
+            print(name, file=names)
+    for name in ("each_refusal.1", "long_capture.1", "long_damaged_links.1"):
+        with open(name, "rb") as file:
+            save(f"{name}.summary", summaries.summary_of(file.read()))
+
+
+# ---------------------------------------------------------------- a long file for `check`
+
+
+def shown(random):
+    """The columns of a code: each value blank, at an end of its limits, or any; and the digit of loss of lock."""
+    values = [random.choice((None, -999_999_999_999, 9_999_999_999_999, 1, -1, random.randint(10**10, 10**11))) for _ in "CL"]
+    strength = random.choice((None, 250, 5_750, 6_000, 63_750, 250 * random.randint(1, 255)))
+    return model.columns_of(*values, strength, " 123"[random.randrange(4)])
+
+
+def all_shown(random):
+    """The same of the greatest values."""
+    return model.columns_of(9_999_999_999_999, -999_999_999_999, 63_750, " 123"[random.randrange(4)])
+
+
+def record_body(random, shown):
+    """The lines of 32 satellites; each has a value of its first code."""
+    first = (model.columns_of(1, 1, 250, " 123"[random.randrange(4)]) for _ in range(32))
+    lines = (it + "".join(shown(random) for _ in CODES[1:]) for it in first)
+    return "".join(f"G{number:02}{line}".rstrip() + "\n" for number, line in enumerate(lines, 1))
+
+
+def long_file():
+    """450 records of 32 satellites and 16 codes, some of them the longest that there are; the same with a zero in the last
+    line; and its part of each second record."""
+    random = Random(305)
+    bodies = [record_body(random, shown) for _ in range(14)] + [record_body(random, all_shown)]
+    text = "".join(f"{it}\n" for it in model.header(Setup(2003, NEAR, MADE, "BASE", tuple(CODES), 64), {}, NEAR))
+    text += "".join(f"{model.epoch_line(NEAR + 1000 * it, 32)}\n{bodies[it % 15]}" for it in range(450))
+    assert len(text) > 10_000_000
+    save("long.rnx", text)
+    last = text.rindex("\nG32") + 4
+    save("zero.rnx", text[:last] + f"{'0.000':>14}" + text[last + 14:])
+    save("zero.line", f"line {text.count(chr(10))}: C3 Value\n")
+    part = parts.part_of(text, parts.Part(None, None, 2))
+    # so long, and with other slips than in the file
+    assert any(len(it) == 32 * 770 + 34 and it not in text for it in part.split("> ")[1:])
+    save("long_2s.rnx", part)
+
+
+def main():
+    hold_to_examples()
+    with open("cases", "w") as cases:
+        for write in (links_of_sixteen, refusals, closes, order_of_reading, windows, ties, every_cell, long_captures):
+            write(cases)
+    millions()
+    many_of_each()
+    greatest_summary()
+    summary_cases()
+    long_file()
+
+
+main()

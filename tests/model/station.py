@@ -1,0 +1,56 @@
+"""Messages of one station, made of the values of their fields: those that are not named are 0.
+All captures but those of chance are made of them."""
+
+from __future__ import annotations
+
+from collections.abc import Iterable
+
+from wire import HEADERS, LEGACY_SATELLITE, MSM_CELL, MSM_SATELLITE, Fields, Message, Table
+from wire import frame_of, payload_of
+
+STATION = 2003
+NOON = 475_200_000  # 2024-05-17 12:00:00 in ms of its week
+PLACE = {"x": 11_141_045_999, "y": -48_507_297_108, "z": 39_755_214_643}
+
+
+def row(fields: Table, values: Fields) -> Fields:
+    return {entry.name: 0 for entry in fields} | values
+
+
+def header(number: int, **values: int) -> Fields:
+    return row(HEADERS[number], {"number": number, "station": STATION} | values)
+
+
+def point(number: int = 1005, **values: int) -> Message:
+    """A 1005 or a 1006."""
+    return Message(header(number, **PLACE | values))
+
+
+def legacy_of(tow: int, entries: Iterable[Fields], **values: int) -> Message:
+    """A 1004 of these satellites."""
+    rows = [row(LEGACY_SATELLITE, it) for it in entries]
+    return Message(header(1004, **{"tow": tow, "satellites": len(rows)} | values), rows)
+
+
+def mask(identifiers: Iterable[int], width: int) -> int:
+    return sum(1 << width - identifier for identifier in identifiers)
+
+
+def msm_of(
+    tow: int, rough: dict[int, tuple[int, int]], cells: dict[tuple[int, int], Fields]
+) -> Message:
+    """A 1074: of each satellite the whole ms and the fraction of its rough range, and the cells by
+    satellite and signal."""
+    signals = sorted({signal for _, signal in cells})
+    masks = {"satellite_mask": mask(rough, 64), "signal_mask": mask(signals, 32)}
+    return Message(
+        header(1074, tow=tow, **masks),
+        [row(MSM_SATELLITE, dict(zip(("rough_ms", "rough_fraction"), rough[it]))) for it in sorted(rough)],
+        [(satellite, signal) in cells for satellite in sorted(rough) for signal in signals],
+        [row(MSM_CELL, cells[it]) for it in sorted(cells)],
+    )
+
+
+def capture(*messages: Message) -> bytes:
+    """Their frames."""
+    return b"".join(frame_of(payload_of(message)) for message in messages)

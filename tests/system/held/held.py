@@ -1,0 +1,489 @@
+"""Runs `convert` and `summary` on captures of different lengths, and the other commands on inputs of
+two sizes, and asks how many bytes they held at most; and `chart` on the file of the largest picture,
+and asks how many it has."""
+
+from __future__ import annotations
+
+import os
+import re
+import subprocess
+import sys
+from collections.abc import Iterable
+from itertools import cycle, islice, pairwise
+from pathlib import Path
+
+from largest import CODES as CHART_CODES
+from largest import CHARACTERS, COLUMNS, filled, largest, largest_in_characters
+from largest import SATELLITES as CHART_SATELLITES
+from streams import NOON, RISING_AND_FALLING, SATELLITES, SIGNALS, capture, falling_epochs
+from streams import falling_satellites, largest_1074, legacy, minutes, msm, of_templates, point
+from streams import rising_and_falling, single_satellite, unread
+
+OPTIONS = (
+    "--station 2003 --near 2024-05-17T12:00:00 --made 2024-05-17T13:00:00 --marker BASE"
+    " --codes 1C,2W,5X --window"
+).split()
+COUNTS = "frames other refused foreign taken repeat conflict late epochs".split()
+
+# What docs/MANUAL.md says that each open epoch, each link and what is gathered takes.
+CELL = 64
+FEWEST_CELLS = 4
+EPOCH = 112
+# A scanner has room for two of the longest frames, and for the checksums of their prefixes.
+READ_AHEAD, SCANNED = 32_768, 2 * 1_029 + 4 * (2 * 1_029 + 1)
+LINK = 62_000
+GATHERED = 2 * 65_536
+# What a conversion of one link holds besides: the manual says some 85 kB.
+LEAST_BESIDE, MOST_BESIDE = 80_500, 85_500
+# What a summary holds: some 635 kB.
+LEAST_OF_SUMMARY, MOST_OF_SUMMARY = 630_000, 640_000
+
+# The sizes of an input: a vector that doubles has just the room that it needs. A file of as many
+# records has a picture of 1,440 columns, of 11 seconds or of 22.
+MIB = 1 << 20
+INPUTS = {1: 11 * COLUMNS, 2: 22 * COLUMNS}
+
+# The bytes that a picture has at most.
+MOST_OF_PICTURE = 7_500_000
+
+# The cells of an epoch: a 1004 gives two of a satellite, a 1074 one of each signal.
+CELLS = len(SATELLITES) * (2 + len(SIGNALS))
+WINDOWS = (64, 1000, 4096)
+# Of each kind the cells of the largest message, and what a record of all satellites and the three
+# codes takes, twice.
+LARGEST = {"1074": 64, "1004": 62}
+RECORD = 2 * (36 + 32 * (4 + 48 * 3))
+
+# Epochs of two messages, of which one has eight cells and the other one four.
+UNLIKE = {
+    "1074_first_with_more_cells": (msm(0, SATELLITES), legacy(0, SATELLITES[:2])),
+    "1074_first_with_fewer_cells": (msm(0, SATELLITES[:2]), legacy(0, SATELLITES)),
+    "1004_first_with_more_cells": (legacy(0, SATELLITES), msm(0, SATELLITES[:2])),
+    "1004_first_with_fewer_cells": (legacy(0, SATELLITES[:2]), msm(0, SATELLITES)),
+}
+UNLIKE_CELLS = 8 + 4
+
+# By which memory can come besides malloc and realloc.
+OTHER_CALLS = (
+    "calloc reallocarray memalign aligned_alloc posix_memalign valloc pvalloc mmap mmap64 mremap"
+    " brk sbrk shmat"
+).split()
+
+
+class Failed(Exception):
+    """A run that did not come to its counts."""
+
+
+class Runs:
+    """The program with the counting library under it, in a folder of its own."""
+
+    def __init__(self, program: str, folder: str) -> None:
+        self.program = program
+        self.folder = Path(folder)
+        self.environment = os.environ | {"LD_PRELOAD": "./held.so"}
+        self.told = os.open(self.folder / "greatest", os.O_RDWR | os.O_CREAT)
+        os.dup2(self.told, 9)
+
+    def write(self, name: str, parts: Iterable[bytes]) -> None:
+        with open(self.folder / name, "wb") as file:
+            file.writelines(parts)
+
+    def held(
+        self, window: int, links: list[str], want: dict[str, int], stdin: str = ""
+    ) -> tuple[int, int]:
+        """How many bytes are held at most, and from the fourth read on, by a run whose counts are
+        these. What comes later may hide below what is held at the beginning."""
+        os.ftruncate(9, 0)
+        with open(self.folder / stdin if stdin else os.devnull, "rb") as given:
+            ran = subprocess.run(
+                [self.program, "convert", *OPTIONS, str(window), *links],
+                cwd=self.folder,
+                env=self.environment,
+                stdin=given,
+                stdout=subprocess.DEVNULL,
+                stderr=subprocess.PIPE,
+                pass_fds=[9],
+            )
+        lines = [line.split() for line in ran.stderr.decode().splitlines()[-len(COUNTS) :]]
+        counts = {words[0]: int(words[1]) for words in lines if words[1:] and words[1].isdigit()}
+        if ran.returncode != 0 or counts != dict.fromkeys(COUNTS, 0) | want:
+            words = " ".join(["convert", *links, f"--window {window}"])
+            raise Failed(f"{words}: status {ran.returncode}, {counts}, and not {want}")
+        told = os.pread(9, 40, 0)
+        return int(told[:20]), int(told[20:])
+
+    def most(self, window: int, links: list[str], want: dict[str, int], stdin: str = "") -> int:
+        return self.held(window, links, want, stdin)[0]
+
+    def of_summary(self, name: str) -> int:
+        """How many bytes a summary holds at most."""
+        os.ftruncate(9, 0)
+        ran = subprocess.run(
+            [self.program, "summary", name],
+            cwd=self.folder,
+            env=self.environment,
+            stdin=subprocess.DEVNULL,
+            stdout=subprocess.PIPE,
+            pass_fds=[9],
+        )
+        size = f"bytes {(self.folder / name).stat().st_size}\n"
+        if ran.returncode != 0 or not ran.stdout.decode().startswith(size):
+            told = ran.stdout[:40]
+            raise Failed(f"summary {name}: status {ran.returncode}, {told!r}, and not {size}")
+        return int(os.pread(9, 20, 0))
+
+
+    def of_command(self, words: list[str]) -> int:
+        """How many bytes a command holds at most, which ends well."""
+        os.ftruncate(9, 0)
+        ran = subprocess.run(
+            [self.program, *words],
+            cwd=self.folder,
+            env=self.environment,
+            stdin=subprocess.DEVNULL,
+            stdout=subprocess.DEVNULL,
+            pass_fds=[9],
+        )
+        if ran.returncode != 0:
+            raise Failed(f"{' '.join(words)}: status {ran.returncode}")
+        return int(os.pread(9, 20, 0))
+
+    def picture(self, name: str, *options: str) -> bytes:
+        words = [self.program, "chart", *options, name]
+        return subprocess.run(words, cwd=self.folder, check=True, stdout=subprocess.PIPE).stdout
+
+
+class Tests:
+    """Each test by its name, and whether it passed."""
+
+    def __init__(self) -> None:
+        self.failed: list[bool] = []
+
+    def passes(self, line: str, is_good: bool) -> None:
+        print(f"{'ok' if is_good else 'FAILED'} {line}")
+        self.failed.append(not is_good)
+
+    def same(self, name: str, numbers: list[tuple[int, ...]]) -> None:
+        """A test that passes where all numbers are the same."""
+        shown = ", ".join(" ".join(map(str, it)) for it in numbers)
+        self.passes(f"{name}: {shown}", len(set(numbers)) == 1)
+
+    def within(self, name: str, number: int, least: int, most: int) -> None:
+        self.passes(f"{name}: {number} ({least} to {most})", least <= number <= most)
+
+    def end(self) -> None:
+        print(f"{self.failed.count(False)} passed, {self.failed.count(True)} failed")
+        sys.exit(any(self.failed))
+
+
+# An hour, ten hours and a day, by the names of their files.
+HOURS = {"01": 1, "10": 10, "24": 24}
+
+# How many messages of one kind a file has, by the end of its name.
+FEW_AND_MANY = {"a": 5_000, "b": 50_000}
+
+
+def write_captures(runs: Runs) -> None:
+    parts = list(minutes(60 * max(HOURS.values())))
+    for name, hours in HOURS.items():
+        runs.write(name, parts[: 60 * hours])
+    first = capture(legacy(NOON, SATELLITES[:1]))
+    foreign = capture(legacy(NOON, SATELLITES, 7))
+    runs.write("single", [single_satellite(5000)])
+    runs.write("msm", [of_templates(range(5000), msm(0, SATELLITES))])
+    for name, messages in UNLIKE.items():
+        runs.write(name, [of_templates(range(5000), *messages)])
+    before = NOON - 1000
+    for kind, large in (("1074", largest_1074(before)), ("1004", legacy(before, (*range(1, 32),)))):
+        runs.write(f"large_{kind}", [capture(large), single_satellite(4999)])
+    for kind, message in (("1074", msm), ("1004", legacy)):
+        frames = list(islice(rising_and_falling(message), max(FEW_AND_MANY.values())))
+        for name, count in FEW_AND_MANY.items():
+            runs.write(f"rising_and_falling_{kind}_{name}", frames[:count])
+    runs.write("falling_satellites", [falling_satellites(5000)])
+    runs.write("falling_epochs", [falling_epochs(5000)])
+    stations = capture(point(), point(1006))
+    others = capture(point(year=1), point(1006, year=1))
+    epochs = single_satellite(100)
+    for name, count in FEW_AND_MANY.items():
+        runs.write(f"stations_{name}", [epochs, stations * count])
+        runs.write(
+            f"other_stations_{name}",
+            [stations, others * count, epochs, (stations + others) * count],
+        )
+        runs.write(f"late_{name}", [single_satellite(3), first * count])
+        runs.write(f"foreign_{name}", [foreign] * count)
+        runs.write(f"zeros_{name}", [bytes(100)] * count)
+        runs.write(f"refused_and_other_frames_{name}", [unread()] * count)
+
+
+def write_inputs(runs: Runs) -> None:
+    """Of each size a file, a capture and hex text."""
+    frames = single_satellite(5000)
+    for size, records in INPUTS.items():
+        content = (frames * (1 + size * MIB // len(frames)))[: size * MIB]
+        runs.write(f"file_{size}", filled(size * MIB, records))
+        runs.write(f"capture_{size}", [content])
+        runs.write(f"hex_{size}", [content[: size * MIB // 2].hex().encode()])
+
+
+def counts_of(hours: int, links: int) -> dict[str, int]:
+    """Of so many hours, the same on each link."""
+    seconds = 3600 * hours
+    frames = 2 * seconds + 60 * hours
+    taken = 2 * seconds + 1
+    return {
+        "frames": links * frames,
+        "taken": taken,
+        "repeat": links * frames - taken,
+        "epochs": seconds,
+    }
+
+
+# refuses: a `with_room` that never gives back a spare list of less room
+# refuses: a frame that is refused or not taken and leaves memory taken
+# refuses: a `Setup` with one more field that grows
+def lengths_alike(runs: Runs, tests: Tests) -> None:
+    """An hour, ten hours and a day: the same number of bytes."""
+    for window in (2, 64):
+        due = {name: counts_of(hours, 1) for name, hours in HOURS.items()}
+        tests.same(
+            f"window {window}, an hour, ten hours and a day of standard input",
+            [runs.held(window, ["stdin"], due[name], stdin=name) for name in HOURS],
+        )
+        tests.same(
+            f"window {window}, an hour, ten hours and a day of a file",
+            [runs.held(window, [name], due[name]) for name in HOURS],
+        )
+    tests.same(
+        "an hour, ten hours and a day on two links",
+        [runs.held(64, [name, name], counts_of(hours, 2)) for name, hours in HOURS.items()],
+    )
+    few_and_many = FEW_AND_MANY.items()
+    late = [{"frames": 3 + n, "taken": 3, "epochs": 3, "late": n} for _, n in few_and_many]
+    foreign = [{"frames": n, "foreign": n} for _, n in few_and_many]
+    refused = [{"frames": 5 * n, "refused": 4 * n, "other": n} for _, n in few_and_many]
+    # A 1005 and a 1006 that are late after more epochs than the window has places; and others than
+    # those that were taken, first in conflict and then late, with repeats of what was taken.
+    epochs = {"taken": 100, "epochs": 100}
+    stations = [epochs | {"frames": 100 + 2 * n, "late": 2 * n} for _, n in few_and_many]
+    others = [
+        {"frames": 102 + 6 * n, "taken": 102, "epochs": 100}
+        | {"conflict": 2 * n, "repeat": 2 * n, "late": 2 * n}
+        for _, n in few_and_many
+    ]
+    changing = [{"frames": n, "taken": n, "epochs": n} for _, n in few_and_many]
+    for kind, window, wants in (
+        ("late", 2, late),
+        ("foreign", 2, foreign),
+        ("zeros", 2, [{}, {}]),
+        ("refused_and_other_frames", 2, refused),
+        ("stations", 64, stations),
+        ("other_stations", 64, others),
+        ("rising_and_falling_1074", 64, changing),
+        ("rising_and_falling_1004", 64, changing),
+    ):
+        names = [f"{kind}_{name}" for name in FEW_AND_MANY]
+        held = [runs.held(window, [name], want) for name, want in zip(names, wants, strict=True)]
+        tests.same(f"few and many of {kind.replace('_', ' ')}", held)
+
+
+# refuses: a `first_room` that asks for more room, of one kind of message or of the other
+# refuses: a `RecordLines` with room for some 5,000 bytes more than 32 lines need
+# refuses: a `close` of an epoch that makes more room in the text that is kept
+def grows_with_window(runs: Runs, tests: Tests) -> None:
+    """Each epoch of the window takes so much for each of its cells, and a little more; and what is
+    held besides the epochs does not grow with the window, and is no more than the manual says."""
+    due = counts_of(10, 1)
+    single = {"frames": 5000, "taken": 5000, "epochs": 5000}
+    for name, cells, counts in (
+        ("10", CELLS, due),
+        ("single", 2, single),
+        ("msm", len(SATELLITES) * len(SIGNALS), single),
+    ):
+        held = {size: runs.most(size, [name], counts) for size in (2, *WINDOWS)}
+        room = CELL * max(cells, FEWEST_CELLS)
+        for size in held:
+            tests.within(
+                f"window {size} of epochs of {cells} cells, and what is held besides",
+                held[size] - GATHERED,
+                size * room + LEAST_BESIDE,
+                size * (room + EPOCH) + MOST_BESIDE,
+            )
+        for size in WINDOWS:
+            tests.within(
+                f"window {size} over window 2, of epochs of {cells} cells",
+                held[size] - held[2],
+                (size - 2) * room,
+                (size - 2) * (room + EPOCH),
+            )
+
+
+# refuses: a `join_other` or a `put_at` that makes room for more cells or epochs than are new
+def grows_alike_out_of_order(runs: Runs, tests: Tests) -> None:
+    """Satellites in falling order, and epochs in falling order, of which as many are taken as the
+    window has places, take no more."""
+    whole = {"frames": 10_000, "taken": 10_000, "epochs": 5000}
+    for name, cells in (("falling_satellites", CELLS), ("falling_epochs", 2)):
+        held = {}
+        for size in (2, *WINDOWS):
+            part = {"frames": 5000, "taken": size, "late": 5000 - size, "epochs": size}
+            held[size] = runs.most(size, [name], whole if cells == CELLS else part)
+        room = CELL * max(cells, FEWEST_CELLS)
+        for size in WINDOWS:
+            tests.within(
+                f"window {size} over window 2, of {name.replace('_', ' ')}",
+                held[size] - held[2],
+                (size - 2) * room,
+                (size - 2) * (room + EPOCH),
+            )
+
+
+# refuses: a `first_room` that counts the room of the epoch before in place of its cells
+def large_epoch_before_small_ones(runs: Runs, tests: Tests) -> None:
+    """It has room for its cells, and so has the epoch after it, whose cells are few: the one after
+    that has not, since what counts is how many cells an epoch has, and not its room."""
+    counts = {"frames": 5000, "taken": 5000, "epochs": 5000}
+    small = runs.most(1000, ["single"], counts)
+    for kind, cells in LARGEST.items():
+        more = CELL * (cells - FEWEST_CELLS)
+        tests.within(
+            f"window 1000 over an epoch of a large {kind} and then small ones, over small ones",
+            runs.most(1000, [f"large_{kind}"], counts) - small,
+            2 * more,
+            2 * more + RECORD,
+        )
+
+
+# refuses: a `first_room` that asks for more room, of one kind of message or of the other
+def kinds_of_unlike_cells(runs: Runs, tests: Tests) -> None:
+    """Of each kind of message an epoch has room for the cells that it has, whatever the other kind
+    has and whichever comes first."""
+    counts = {"frames": 10_000, "taken": 10_000, "epochs": 5000}
+    for name in UNLIKE:
+        held = [runs.most(size, [name], counts) for size in (2, 1000)]
+        tests.within(
+            f"window 1000 over window 2, of a {name.replace('_', ' ')}",
+            held[1] - held[0],
+            998 * CELL * UNLIKE_CELLS,
+            998 * (CELL * UNLIKE_CELLS + EPOCH),
+        )
+
+
+def most_room(size: int) -> int:
+    """For how many cells a window of this size has room at most, while one more epoch opens: each
+    has room for its own, two of a satellite, and for as many as the epoch before it has."""
+    cells = [2 * it for it in islice(cycle(RISING_AND_FALLING), 5000)]
+    rooms = [max(pair) for pair in pairwise([cells[0], *cells])]
+    return max(sum(rooms[at : at + size + 1]) for at in range(len(rooms) - size))
+
+
+# refuses: a `with_room` that takes a spare list of more room
+def room_rises_and_falls(runs: Runs, tests: Tests) -> None:
+    """What is wanted when an epoch opens is its room, whatever room closed epochs had."""
+    counts = {"frames": 5000, "taken": 5000, "epochs": 5000}
+    room = CELL * (most_room(1000) - most_room(2))
+    for kind in LARGEST:
+        held = [runs.most(size, [f"rising_and_falling_{kind}_a"], counts) for size in (2, 1000)]
+        tests.within(
+            f"window 1000 over window 2, of a {kind} of satellites that rise and fall",
+            held[1] - held[0],
+            room,
+            room + 998 * EPOCH,
+        )
+
+
+# refuses: a list of links or a line that has much more room than it needs
+# refuses: a link that is left out since it was named before
+def grows_with_links(runs: Runs, tests: Tests) -> None:
+    numbers = (1, 2, 5, 9, 16)
+    held = {links: runs.most(64, ["01"] * links, counts_of(1, links)) for links in numbers}
+    for links in numbers[1:]:
+        tests.within(
+            f"{links} links over one",
+            held[links] - held[1],
+            (links - 1) * (READ_AHEAD + SCANNED),
+            (links - 1) * LINK,
+        )
+    followed = runs.most(64, ["stdin"], counts_of(1, 1), stdin="01")
+    gathered = held[1] - followed
+    tests.within("gathered where no link is standard input", gathered, GATHERED, GATHERED)
+
+
+# refuses: a `summarize` that keeps something of each frame
+def summaries_alike(runs: Runs, tests: Tests) -> None:
+    """Of an hour, ten hours and a day: the same, and no more than the manual says; and the same of
+    few and of many frames that are not read, of stations, and of bytes outside of frames."""
+    held = [(runs.of_summary(name),) for name in HOURS]
+    tests.same("a summary of an hour, ten hours and a day", held)
+    tests.within("a summary", held[0][0], LEAST_OF_SUMMARY, MOST_OF_SUMMARY)
+    for kind in ("refused_and_other_frames", "foreign", "stations", "zeros"):
+        held = [(runs.of_summary(f"{kind}_{name}"),) for name in FEW_AND_MANY]
+        tests.same(f"a summary of few and many of {kind.replace('_', ' ')}", held)
+
+
+# refuses: a `cut` that keeps something of each record
+# refuses: a command that holds its input twice, or in more room than it needs
+def inputs_held_once(runs: Runs, tests: Tests) -> None:
+    """Of an input that is longer each command holds as many bytes more, to the byte; and of hex text
+    as many digits more, and half as many bytes that they are."""
+    for words, kind, more in (
+        ("check", "file", MIB),
+        ("cut --every 1", "file", MIB),
+        ("cut --every 30", "file", MIB),
+        ("cut --from 2024-06-17T00:00:00", "file", MIB),
+        ("chart", "file", MIB),
+        ("chart --text", "file", MIB),
+        ("show", "capture", MIB),
+        ("show --hex", "hex", 2 * MIB + MIB // 2),
+    ):
+        held = [runs.of_command([*words.split(), f"{kind}_{size}"]) for size in INPUTS]
+        tests.within(f"{words} of 2 MiB over 1 MiB", held[1] - held[0], more, more)
+
+
+# refuses: a `chart_text` or a `chart_svg` that gives up at a large picture
+def largest_picture(runs: Runs, tests: Tests) -> None:
+    """Each mark is in each column: of each satellite a slip, a half cycle, a strength and of each
+    code a phase in some epochs; and a missing epoch in all columns but the last. In characters the
+    picture is compared whole."""
+    runs.write("largest", largest())
+    picture = runs.picture("largest")
+    marks = len(re.findall(rb"M\d+ 0[vh]", picture))
+    columns = CHART_SATELLITES * (3 + len(CHART_CODES)) * COLUMNS
+    tests.same("marks of the largest picture", [(marks,), (columns + COLUMNS - 1,)])
+    tests.within("bytes of the largest picture", len(picture), 0, MOST_OF_PICTURE)
+    runs.write("largest_in_characters", largest(CHARACTERS))
+    picture = runs.picture("largest_in_characters", "--text", "--columns", "400")
+    tests.passes("the largest picture in characters", picture == largest_in_characters())
+
+
+def main() -> None:
+    program, folder = sys.argv[1:]
+    tests = Tests()
+    content = Path(program).read_bytes()
+    others = [name for name in OTHER_CALLS if b"\0%b\0" % name.encode() in content]
+    tests.within("calls by which the count would miss memory", len(others), 0, 0)
+    runs = Runs(program, folder)
+    write_captures(runs)
+    write_inputs(runs)
+    for part in (
+        lengths_alike,
+        grows_with_window,
+        grows_alike_out_of_order,
+        large_epoch_before_small_ones,
+        kinds_of_unlike_cells,
+        room_rises_and_falls,
+        grows_with_links,
+        summaries_alike,
+        inputs_held_once,
+        largest_picture,
+    ):
+        try:
+            part(runs, tests)
+        except Failed as failed:
+            tests.passes(str(failed), False)
+    tests.end()
+
+
+if __name__ == "__main__":
+    main()

@@ -1,0 +1,100 @@
+"""Captures of one station, an hour each, as a network keeps them.
+
+    captures.py FOLDER FROM HOURS INTERVAL KIND..
+
+FROM is a GPS time, as 2024-05-17T11:00:00, INTERVAL in seconds. The captures go to FOLDER/link1 and so on, and are named
+after the UTC hour in which their bytes came, so each begins 18 seconds and a part of a frame after its GPS hour. Its time is
+that of its end. Kinds:
+
+    pair      two links, each of which lacks some frames that the other one has
+    gps       captures that begin a part of a frame after their GPS hour, and not 18 seconds later
+    overlap   captures that begin 1,000 bytes before the end of the one before
+    rolls     legacy phases that run through the roll of 1,500 cycles
+    returns   a satellite that is away for three hours and comes back with a slip
+    foreign   messages of the station 2004; else they are of 2003
+"""
+
+from __future__ import annotations
+
+import calendar
+import os
+import sys
+import time
+from collections.abc import Iterator
+from pathlib import Path
+
+sys.path.insert(0, str(Path(__file__).resolve().parents[2] / "model"))
+
+from streams import SATELLITES, STATION, legacy, msm, point  # noqa: E402
+from wire import WEEK_MS, frame_of, payload_of  # noqa: E402
+
+GPS_BEGIN = calendar.timegm((1980, 1, 6, 0, 0, 0))
+LEAP_SECONDS = 18
+DELAY = 0.4  # seconds from an epoch to its arrival
+ROLL = 732_631  # 1,500 cycles of L2 in units of DF018
+DRIFT = 31_000  # of a phase from epoch to epoch, in the same units
+
+
+def frames(begin: int, count: int, interval: int, kinds: set[str]) -> Iterator[tuple[float, bytes]]:
+    """When each frame came, as GPS time in seconds, and its bytes."""
+    station = STATION + ("foreign" in kinds)
+    reference = point()
+    reference.header["station"] = station
+    for at in range(count):
+        seconds = begin + at * interval
+        tow = (seconds - GPS_BEGIN) * 1000 % WEEK_MS
+        hour = seconds // 3600
+        seen = SATELLITES[1:] if "returns" in kinds and hour % 6 in (2, 3, 4) else SATELLITES
+        older, newer = legacy(tow, seen, station), msm(tow, seen)
+        newer.header["station"] = station
+        for rank, row in enumerate(older.satellites):
+            row["l1_offset"] = 11 * at % 1000
+            drift = DRIFT * at if "rolls" in kinds else 13 * at % 1000
+            row["l2_offset"] = (drift + 7_000 * rank) % ROLL - ROLL // 2
+            # Slips on the first epoch of an hour, within an hour, and on the first epoch of a satellite that comes back.
+            is_first = seconds % 3600 == 0 and hour % len(seen) == rank
+            returns = seen == SATELLITES and rank == 0 and seconds % 3600 == 0 and hour % 6 == 5 and "returns" in kinds
+            if is_first or returns or at % 41 == 3 + rank:
+                row["l1_lock"] = 0
+        for rank, cell in enumerate(newer.cells):
+            cell["fine_phase"] = 17 * at % 4001 + rank
+            if seconds % 3600 == 0 and hour % len(newer.cells) == rank or at % 37 == rank:
+                cell["lock"] = 0
+        messages = ([reference] if at % 20 == 0 else []) + [older, newer]
+        for message in messages:
+            yield seconds + DELAY, frame_of(payload_of(message))
+
+
+def is_lost(place: int, link: int) -> bool:
+    """Each frame is lost on one of the two links at most."""
+    return place % 2 == link and place * 7 % 5 < 2
+
+
+def write_link(folder: Path, stream: list[tuple[float, bytes]], first_hour: int, hours: int, kinds: set[str]) -> None:
+    folder.mkdir(parents=True, exist_ok=True)
+    leap = 0 if "gps" in kinds else LEAP_SECONDS
+    overlap = 1000 if "overlap" in kinds else 0
+    text = b"".join(frame for _, frame in stream)
+    cuts = [0]
+    for hour in range(1, hours):
+        end = first_hour + 3600 * hour + leap
+        cuts.append(sum(len(frame) for came, frame in stream if came < end) + 20)
+    cuts.append(len(text))
+    for hour in range(hours):
+        begin = first_hour + 3600 * hour
+        path = folder / time.strftime("%Y%j%H00.rtcm", time.gmtime(begin))
+        path.write_bytes(text[max(0, cuts[hour] - overlap):cuts[hour + 1]])
+        os.utime(path, (begin + 3600, begin + 3600))
+
+
+def main() -> None:
+    folder, begin, hours, interval, *kinds = sys.argv[1:]
+    first = calendar.timegm(time.strptime(begin, "%Y-%m-%dT%H:%M:%S"))
+    count = int(hours) * 3600 // int(interval)
+    stream = list(frames(first, count, int(interval), set(kinds)))
+    for link in [1, 2] if "pair" in kinds else [1]:
+        left = [it for place, it in enumerate(stream) if "pair" not in kinds or not is_lost(place, link % 2)]
+        write_link(Path(folder) / f"link{link}", left, first, int(hours), set(kinds))
+
+
+main()

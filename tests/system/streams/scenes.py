@@ -1,0 +1,1316 @@
+"""The scenes of tests/system/streams/run: what the program does where its reads and writes fail, are cut
+short, or never end.
+
+Each run is beside a good one, of the same words on the same bytes, that nothing disturbs. In a
+scene that breaks off: status 1; standard output holds a first part of the good file; standard
+error a first part of the good report, in whole lines, and then the one line that names the fault.
+Where it is known how far a conversion came, both are as long as what it wrote before, to the byte.
+In a scene that breaks nothing: the very bytes and the status of the good run.
+"""
+
+import errno
+import fcntl
+import functools
+import multiprocessing
+import os
+import re
+import resource
+import signal
+import struct
+import subprocess
+import sys
+import threading
+import time
+from dataclasses import dataclass, field, replace
+
+from wire import crc24q
+
+WORK, PROGRAM, *WORDS = sys.argv[1:]
+ROOT = os.path.realpath(os.path.join(os.path.dirname(__file__), "..", "..", ".."))
+EXAMPLES = os.path.join(ROOT, "examples")
+PROGRAM = os.path.realpath(PROGRAM)
+SHIM = os.path.join(WORK, "cut.so")
+CALLS = os.path.join(WORK, "calls.so")
+NOTHING = os.devnull
+
+SECONDS = 60  # a run that takes longer does not end
+GATHERED = 65_536  # so many bytes of a file are gathered before a write
+READ_AT_ONCE = 32_768  # so many bytes of a link, or of an input of `summary`, are read at once
+READ_IN_PIECES = 4096  # so many bytes of an input of `show`, `check` or `cut` are read at once
+FRAME = 46  # the bytes of a frame of late.rtcm, and of each one that is made of it
+COUNTS = 9  # the lines at the end of a report
+
+MOST_INTERRUPTIONS = 1000  # so often in a row an interrupted call is made again
+
+# What the program does not do yet. A scene of this list that fails is told, and isn't counted; one
+# that passes is counted, and then its line here is to go.
+NOT_YET = {
+    "a limit of the file's size": "SIGXFSZ ends the program: no fault line, no status of its own",
+}
+
+
+# Runs.
+
+@dataclass(frozen=True)
+class Case:
+    """Words of the program, and the file that is standard input."""
+
+    name: str
+    words: tuple
+    given: str = NOTHING
+
+
+@dataclass(frozen=True)
+class Left:
+    """What a run leaves. A negative status is the signal that ended it."""
+
+    status: int
+    out: bytes
+    err: bytes
+
+
+@dataclass(frozen=True)
+class Disturbance:
+    """What is done to a run: settings of the shim, limits, and standard streams of other kinds: a
+    name to open, a descriptor, or None for a closed one."""
+
+    shim: dict = field(default_factory=dict)
+    limits: dict = field(default_factory=dict)
+    out: object = ""
+    err: object = ""
+    given: object = ""
+    ignored: bool = False  # the caller ignores SIGPIPE and SIGXFSZ
+
+
+def kill(running, _number, _frame):
+    os.kill(running, signal.SIGKILL)
+
+
+def stream(number, to, flags):
+    """What makes a standard stream of a name, a descriptor, or none."""
+    if to is None:
+        return os.POSIX_SPAWN_CLOSE, number
+    if isinstance(to, int):
+        return os.POSIX_SPAWN_DUP2, to, number
+    return os.POSIX_SPAWN_OPEN, number, to, flags, 0o600
+
+
+def start(case, disturbance, at):
+    """Starts a run, and answers its number and the files of its standard output and error. One
+    that takes too long is ended."""
+    out, err = f"{at}.out", f"{at}.err"
+    made = os.O_WRONLY | os.O_CREAT | os.O_TRUNC
+    for name in [out, err]:
+        with open(name, "wb"):
+            pass
+    given, to_out, to_err = disturbance.given, disturbance.out, disturbance.err
+    streams = [stream(0, case.given if given == "" else given, os.O_RDONLY),
+               stream(1, out if to_out == "" else to_out, made),
+               stream(2, err if to_err == "" else to_err, made)]
+    environment = {"PATH": os.environ.get("PATH", ""), "LC_ALL": "C"}
+    if disturbance.shim:
+        environment |= {"LD_PRELOAD": SHIM} | {k: str(v) for k, v in disturbance.shim.items()}
+    before = {kind: resource.getrlimit(kind) for kind in disturbance.limits}
+    for kind, limit in disturbance.limits.items():
+        resource.setrlimit(kind, (limit, before[kind][1]))
+    signals = [] if disturbance.ignored else [signal.SIGPIPE, signal.SIGXFSZ]
+    try:
+        running = os.posix_spawn(PROGRAM, ["rtcm2rinex", *case.words], environment,
+                                 file_actions=streams, setsigdef=signals)
+    finally:
+        for kind, limit in before.items():
+            resource.setrlimit(kind, limit)
+    signal.signal(signal.SIGALRM, functools.partial(kill, running))
+    signal.setitimer(signal.ITIMER_REAL, SECONDS)
+    return running, out, err
+
+
+def end(running, out, err):
+    """Waits for the end of a run."""
+    _, answer = os.waitpid(running, 0)
+    signal.setitimer(signal.ITIMER_REAL, 0)
+    return Left(os.waitstatus_to_exitcode(answer), content(out), content(err))
+
+
+def run(case, disturbance=Disturbance(), at=""):
+    at = at or os.path.join(WORK, str(os.getpid()))
+    return end(*start(case, disturbance, at))
+
+
+def content(name):
+    with open(name, "rb") as file:
+        return file.read()
+
+
+def written(name, text):
+    """A file of the scratch folder with these bytes."""
+    name = os.path.join(WORK, name)
+    with open(name, "wb") as file:
+        file.write(text)
+    return name
+
+
+# Captures.
+
+def example(name):
+    return os.path.join(EXAMPLES, name)
+
+
+def epochs(seconds):
+    """Frames of a 1004, one for each of these seconds after the noon of the examples: the first
+    frame of late.rtcm with another time of week and checksum."""
+    frame = content(example("late.rtcm"))[:FRAME]
+    frames = []
+    for second in seconds:
+        bits = int.from_bytes(frame[6:11], "big")
+        tow = 475_200_000 + 1000 * second
+        head = frame[:6] + (bits & ((1 << 10) - 1) | tow << 10).to_bytes(5, "big") + frame[11:-3]
+        frames.append(head + crc24q(head).to_bytes(3, "big"))
+    return b"".join(frames)
+
+
+def records(count):
+    """A file of so many records, one each second from the noon of the examples on: the record of
+    base.rnx with other times."""
+    header, epoch, line = content(example("base.rnx")).rpartition(b"> 2024 05 17 12 00  0.0000000")
+    text = [header]
+    for second in range(count):
+        text += [f"> 2024 05 17 12 {second // 60:02} {second % 60:2}.0000000".encode(), line]
+    return written("records.rnx", b"".join(text))
+
+
+OPTIONS = ("--station", "2003", "--near", "2024-05-17T12:00:00", "--made", "2024-05-17T13:00:00",
+           "--marker", "BASE", "--codes", "1C,2W,5X")
+
+
+SAYS_NO = "check that says no"
+TWO_LINKS = "convert of two links"
+BESIDE_A_FILE = "convert of standard input and a file"
+
+
+def convert(name, *words, given=NOTHING):
+    return Case(name, ("convert", *OPTIONS, *words), given)
+
+
+def cases():
+    """Every command, on texts below and above what is gathered, from files and standard input."""
+    long = written("long.rtcm", epochs(range(1500)))
+    late = written("late.rtcm", epochs(range(1600, 0, -1)))
+    # Epoch 0 has closed when its message comes again; of the others 98 have before those come.
+    late_early = written("late_early.rtcm", epochs([0, 1, 2, 0, *range(3, 1500)]))
+    late_at_last = written("late_at_last.rtcm", epochs([*range(100), *[0] * 1700]))
+    session = example("session_link1.rtcm"), example("session_link2.rtcm")
+    wrong = written("wrong.rnx", content(example("base.rnx")).replace(b"45.000", b"45.100"))
+    frames = written("frames.rtcm", bytes.fromhex("d300023fb0d71d73") * 11_917)
+    # The line of this 1005 has 64 bytes, of which 1,024 are gathered.
+    station = content(example("base.rtcm"))[:25]
+    three_times = written("three_times.rtcm", station * 3_072)
+    line_more = written("line_more.rtcm", station * 3_073)
+    listed = [
+        Case("help", ("--help",)),
+        Case("version", ("--version",)),
+        Case("help of convert", ("help", "convert")),
+        Case("show", ("show", example("session.rtcm"))),
+        Case("show of hex text", ("show", "--hex", "stdin"), example("arp1005.hex")),
+        Case("show of 11,917 frames", ("show", frames)),
+        Case("show of three times what is gathered", ("show", three_times)),
+        Case("show of a line more", ("show", line_more)),
+        Case("check that says yes", ("check", example("session.rnx"))),
+        Case(SAYS_NO, ("check", "stdin"), wrong),
+        Case("summary", ("summary", example("session.rtcm"))),
+        Case("summary of standard input", ("summary", "stdin"), example("late.rtcm")),
+        Case("summary of a long file", ("summary", long)),
+        Case("chart", ("chart", example("session.rnx"))),
+        Case("chart of standard input", ("chart", "--text", "stdin"), example("session.rnx")),
+        Case("cut", ("cut", "--every", "30", example("slip.rnx"))),
+        Case("cut of standard input", ("cut", "--every", "1", "stdin"), example("session.rnx")),
+        Case("cut of a long file", ("cut", "--from", "2024-05-17T12:00:07", records(1500))),
+        convert("convert", "--window", "2", example("late.rtcm")),
+        convert(TWO_LINKS, *session),
+        convert("convert of standard input", "--window", "2", "stdin",
+                given=example("late.rtcm")),
+        convert(BESIDE_A_FILE, "stdin", session[1], given=session[0]),
+        convert("convert of a long file", "--window", "2", long),
+        convert("convert of a long standard input", "--window", "2", "stdin", given=long),
+        convert("convert with a long report", "--window", "2", late),
+        convert("convert of standard input with a long report", "--window", "2", "stdin",
+                given=late),
+        convert("convert of a long file with an early line", "--window", "2", late_early),
+        convert("convert of a long standard input with an early line", "--window", "2", "stdin",
+                given=late_early),
+        convert("convert of closed records before a long report", "--window", "2", late_at_last),
+        convert("convert of standard input, closed records before a long report", "--window", "2",
+                "stdin", given=late_at_last),
+    ]
+    return {case.name: case for case in listed}
+
+
+CASES = {}
+GOOD = {}
+
+
+def is_gathered(case):
+    return case.given == NOTHING
+
+
+# How much of a conversion is out where it breaks off: all that it wrote before.
+
+ORDER = {}  # of each conversion its writes
+
+
+@dataclass(frozen=True)
+class Write:
+    """So many bytes, to standard output (1) or standard error (2), once so many frames of a capture
+    came; `None` if all came, or if it isn't said."""
+
+    to: int
+    size: int
+    frames: int = None
+
+
+def has_known_frames(case):
+    """Whether it is one link, of frames that `epochs` makes."""
+    return len(inputs(case)) == 1 and "--window" in case.words
+
+
+def times(capture):
+    """The times of week of such frames."""
+    frames = [capture[at:at + FRAME] for at in range(0, len(capture), FRAME)]
+    return [int.from_bytes(frame[6:11], "big") >> 10 for frame in frames]
+
+
+def order_of(case, good):
+    """The writes of a conversion: each record as its epoch closes, the first one with the header,
+    and each line of the report as its message comes; at last the records of the epochs that are
+    open, and the counts. With a window of 2 two epochs are open; what comes before both is late."""
+    header, *records = re.split(rb"(?m)^(?=> )", good.out)
+    records = [len(header + records[0]), *map(len, records[1:])]
+    lines = [len(line) for line in good.err.splitlines(keepends=True)]
+    order, is_open = [], []
+    capture = content(inputs(case)[0]) if has_known_frames(case) else b""
+    for number, time_of_week in enumerate(times(capture), 1):
+        if len(is_open) == 2 and time_of_week < is_open[0]:
+            order.append(Write(2, lines.pop(0), number))
+        elif time_of_week not in is_open:
+            is_open = sorted([*is_open, time_of_week])
+            if len(is_open) > 2:
+                del is_open[0]
+                order.append(Write(1, records.pop(0), number))
+    if len(lines) != COUNTS:
+        raise ValueError(f"{case.name}: {len(lines)} lines after those that are due, not {COUNTS}")
+    return [*order, *(Write(1, record) for record in records), Write(2, sum(lines))]
+
+
+class Stream:
+    """How many bytes of a stream are out. So many are gathered before a write; a text for which
+    there is no room goes after what was gathered. In all so many are taken, and the write of one
+    number takes nothing."""
+
+    def __init__(self, room, takes=None, fails=None):
+        self.room, self.takes, self.fails = room, takes, fails
+        self.out = self.gathered = self.writes = 0
+
+    def write(self, size):
+        """Answers how many bytes are taken."""
+        self.writes += 1
+        taken = size if self.takes is None else min(size, self.takes - self.out)
+        if self.writes == self.fails:
+            taken = 0
+        self.out += taken
+        return taken
+
+    def flush(self):
+        if self.gathered:
+            self.gathered -= self.write(self.gathered)
+        return self.gathered == 0
+
+    def put(self, size):
+        if self.gathered + size > self.room and not self.flush():
+            return False
+        if size >= self.room:
+            return self.write(size) == size
+        self.gathered += size
+        return True
+
+
+@dataclass(frozen=True)
+class SoFar:
+    """What is out, in bytes of the file and of the report, and the fault that is told."""
+
+    out: int
+    told: int
+    fault: str
+
+
+def so_far(name, frames=None, takes=None, fails=None, report_takes=None, report_fails=None):
+    """What is out of a conversion whose streams take so many bytes or fail at the write of this
+    number, and whose read after so many frames fails; at the end each stream is tried again."""
+    room = GATHERED if is_gathered(CASES[name]) else 0
+    streams = {1: Stream(room, takes, fails), 2: Stream(room, report_takes, report_fails)}
+    fault = "write failed"
+    for write in ORDER[name]:
+        if frames is not None and (write.frames is None or write.frames > frames):
+            fault = "read failed"
+            break
+        if not streams[write.to].put(write.size):
+            break
+    for each in streams.values():
+        each.flush()
+    return SoFar(streams[1].out, streams[2].out, fault)
+
+
+# What a run must leave; each answers why it doesn't, or nothing.
+
+def same(left, good):
+    if left.status != good.status:
+        return f"status {left.status}, standard error '{shown(left.err)}'"
+    if left.out != good.out:
+        return f"standard output differs from byte {first_difference(left.out, good.out)} on"
+    if left.err != good.err:
+        return f"standard error differs from byte {first_difference(left.err, good.err)} on"
+    return None
+
+
+def broken_off(left, good, faults, out=None, told=None):
+    """Status 1, a first part of the output, and a first part of the report in whole lines before
+    one of these fault lines (of both so many bytes, where it is said)."""
+    if left.status != 1:
+        return f"status {left.status}, standard error '{shown(left.err)}'"
+    if not good.out.startswith(left.out):
+        return f"standard output is no first part, from byte {first_difference(left.out, good.out)}"
+    if out is not None and len(left.out) != out:
+        return f"standard output has {len(left.out)} bytes and not the first {out}"
+    for fault in faults:
+        line = f"rtcm2rinex: {fault}\n".encode()
+        part = left.err[:-len(line)]
+        if left.err.endswith(line) and (part == b"" or part.endswith(b"\n")):
+            if not good.err.startswith(part):
+                return "what is told is no first part"
+            if told is not None and len(part) != told:
+                return f"{len(part)} bytes are told and not the first {told}"
+            return None
+    return f"standard error ends with '{shown(left.err)}'"
+
+
+def told_in_part(left, good, status, err, out=None):
+    """This status, the first so many bytes of standard error, and a first part of the output (so
+    many bytes, where it is said)."""
+    if left.status != status:
+        return f"status {left.status}"
+    if left.err != good.err[:err]:
+        return f"standard error is not the first {err} bytes: '{shown(left.err)}'"
+    if not good.out.startswith(left.out) or out is not None and len(left.out) != out:
+        return f"standard output is not the first {out} bytes, it has {len(left.out)}"
+    return None
+
+
+def other_calls(calls, files):
+    """These files are opened to be read, once each and in this order, and nothing else is told."""
+    due = "".join(f"reads {file}\n" for file in files).encode()
+    return None if calls == due else f"calls '{shown(calls)}'"
+
+
+def shown(text):
+    return text[-60:].decode("ascii", "replace").replace("\n", "|")
+
+
+def first_difference(one, other):
+    pairs = zip(one, other)
+    return next((place for place, (a, b) in enumerate(pairs) if a != b), min(len(one), len(other)))
+
+
+# Scenes. Each gives (what is tried, a call that answers why it fails or nothing).
+
+SCENES = []
+
+
+def scene(name):
+    """A scene is a function that gives what is tried; its name is what is printed."""
+    def kept(function):
+        SCENES.append((name, function))
+        return function
+    return kept
+
+
+def every(count, most=4000):
+    """Each number below count; where these are too many, those near its ends and near what is
+    gathered, and some between."""
+    if count <= most:
+        return range(count)
+    near = [place + by for place in range(0, count + 2, GATHERED) for by in [-1, 0, 1]]
+    spread = range(0, count, max(1, count // 100))
+    return sorted({k for k in [*near, *spread, 1, 2, count - 2, count - 1] if 0 <= k < count})
+
+
+def disturbed(name, disturbance, check, **more):
+    """One run of a case, and what it must leave."""
+    left = run(CASES[name], disturbance)
+    return check(left, GOOD[name], **more)
+
+
+def tried(name, what, disturbance, check, **more):
+    return f"{name}, {what}", functools.partial(disturbed, name, disturbance, check, **more)
+
+
+def breaks(name, what, disturbance, fault, out=None, **at):
+    """One run of a case that breaks off. Of a conversion it is said `at` what, and so what is out;
+    of other commands how many bytes are."""
+    return f"{name}, {what}", functools.partial(broken, name, disturbance, fault, out, at)
+
+
+def broken(name, disturbance, fault, out, at):
+    return due_where_broken(name, run(CASES[name], disturbance), fault, out, at)
+
+
+def due_where_broken(name, left, fault, out, at):
+    if name not in ORDER:
+        return broken_off(left, GOOD[name], [fault], out, told=0)
+    if at.get("frames") is not None and not has_known_frames(CASES[name]):
+        # a report whose lines are its counts, which come last
+        faults = ["read failed", "write failed"] if len(at) > 1 else ["read failed"]
+        return broken_off(left, GOOD[name], faults, told=0)
+    due = so_far(name, **at)
+    return broken_off(left, GOOD[name], [due.fault], due.out, due.told)
+
+
+@scene("nothing disturbs: the files and reports of the examples")
+def _undisturbed():
+    due = Left(0, content(example("session.rnx")), content(example("session_links.report")))
+    for name in [TWO_LINKS, BESIDE_A_FILE]:
+        yield name, functools.partial(same, GOOD[name], due)
+    for name in CASES:
+        yield tried(name, "the shim alone", Disturbance({"PIECE": 0}), same)
+
+
+# refuses: after a failed write, a first part of the file or the report of another length, or the report before the file
+# refuses: what was gathered and is let go if a conversion breaks off
+@scene("standard output takes k bytes, each k below its length, and is full")
+def _out_is_full():
+    for name in CASES:
+        for k in every(len(GOOD[name].out)):
+            yield breaks(name, f"{k} bytes", Disturbance({"TAKES_1": k}), "write failed", out=k,
+                         takes=k)
+
+
+@scene("standard output takes k bytes, and fails for other reasons, or takes nothing")
+def _out_fails():
+    for name in CASES:
+        for fault in [errno.EIO, errno.EPIPE, errno.EAGAIN, errno.EDQUOT, 0]:
+            for k in every(len(GOOD[name].out), 0)[::10]:
+                yield breaks(name, f"{k} bytes, errno {fault}",
+                             Disturbance({"TAKES_1": k, "FAULT": fault}), "write failed", out=k,
+                             takes=k)
+
+
+# refuses: after a failed write, a first part of the file or the report of another length, or the report before the file
+@scene("standard error takes k bytes of the report, each k below its length, and is full")
+def _report_is_full():
+    for name in CASES:
+        for k in every(len(GOOD[name].err)):
+            yield tried(name, f"{k} bytes", Disturbance({"TAKES_2": k}), told_in_part,
+                        status=1, err=k, out=so_far(name, report_takes=k).out)
+
+
+@scene("standard error takes k bytes of a line or text of refusal, each k below its length")
+def _refusal_is_cut():
+    wrong = written("refused.rnx", content(example("base.rnx")).replace(b"45.000", b"45.100"))
+    for status, words in [(1, ("show", "nowhere")), (1, ("show", "--hex", example("base.rtcm"))),
+                          (2, ("shew", "a")), (2, ("show", example("base.rtcm"), "--hax")),
+                          (2, ("convert", *OPTIONS[:-1], "9Z", "a")),
+                          (3, ("chart", wrong)), (3, ("cut", "--every", "1", wrong))]:
+        case = Case(" ".join(words), words)
+        good = run(case)
+        for k in range(len(good.err) + 1):
+            yield f"{case.name}, {k} bytes", functools.partial(
+                refused_in_part, case, k, good, status)
+
+
+def refused_in_part(case, k, good, status):
+    return told_in_part(run(case, Disturbance({"TAKES_2": k})), good, status, k, 0)
+
+
+@scene("both outputs are full")
+def _both_are_full():
+    for name in CASES:
+        for k in every(len(GOOD[name].out), 0)[::10]:
+            for j in [0, 1, len(GOOD[name].err) // 2, len(GOOD[name].err) + 5]:
+                yield f"{name}, {k} and {j} bytes", functools.partial(both_full, name, k, j)
+
+
+def both_full(name, k, j):
+    """Standard error has the first j bytes of what a broken run tells."""
+    good = GOOD[name]
+    due = SoFar(k, 0, "write failed")
+    if name in ORDER:
+        due = so_far(name, takes=k, report_takes=j)
+    told = good.err[:due.told] + f"rtcm2rinex: {due.fault}\n".encode()
+    left = run(CASES[name], Disturbance({"TAKES_1": k, "TAKES_2": j}))
+    return same(left, Left(1, good.out[:due.out], told[:j]))
+
+
+@scene("the device /dev/full, and closed streams")
+def _devices():
+    for name, case in CASES.items():
+        good = GOOD[name]
+        for to, what in [("/dev/full", "full"), (None, "closed")]:
+            yield breaks(name, f"standard output {what}", Disturbance(out=to), "write failed",
+                         out=0, takes=0)
+            status = 1 if good.err else good.status
+            whole = so_far(name, report_takes=0).out if good.err else len(good.out)
+            yield tried(name, f"standard error {what}", Disturbance(err=to), told_in_part,
+                        status=status, err=0, out=whole)
+        yield tried(name, "both closed", Disturbance(out=None, err=None), told_in_part, status=1,
+                    err=0, out=0)
+        if "stdin" not in case.words:
+            yield breaks(name, "standard input and output closed",
+                         Disturbance(given=None, out=None), "write failed", out=0, takes=0)
+        elif name != BESIDE_A_FILE:
+            for out, what in [("", ""), (None, " and output")]:
+                yield f"{name}, standard input{what} closed", functools.partial(
+                    fails, case, "read failed", Disturbance(given=None, out=out))
+
+
+# refuses: a file that is not opened since standard input is closed
+@scene("a closed standard input beside a file")
+def _closed_beside_a_file():
+    for out, what in [("", "standard input"), (None, "standard output too")]:
+        yield what, functools.partial(fails, CASES[BESIDE_A_FILE], "read failed",
+                                      Disturbance(given=None, out=out))
+
+
+@scene("a limit of the file's size, whose signal the caller ignores")
+def _size_is_limited():
+    return limited(True, 1)
+
+
+@scene("a limit of the file's size")
+def _size_is_limited_by_signal():
+    return limited(False, 20)
+
+
+def limited(ignored, step):
+    for name in CASES:
+        for k in every(len(GOOD[name].out), 0)[::step]:
+            yield f"{name}, {k} bytes", functools.partial(limited_run, name, k, ignored)
+
+
+def limited_run(name, k, ignored):
+    """The limit is that of standard output alone: standard error is a pipe."""
+    with Pipe() as pipe:
+        told = pipe.read_all()
+        left = run(CASES[name], Disturbance(limits={resource.RLIMIT_FSIZE: k}, err=pipe.writes,
+                                            ignored=ignored))
+        pipe.close_writes()
+        return due_where_broken(name, Left(left.status, left.out, told()), "write failed", k,
+                                {"takes": k})
+
+
+# Pipes.
+
+class Pipe:
+    """A pipe, whose ends are closed at last."""
+
+    def __init__(self, size=0):
+        self.reads, self.writes = os.pipe()
+        if size:
+            fcntl.fcntl(self.writes, fcntl.F_SETPIPE_SZ, size)
+
+    def __enter__(self):
+        return self
+
+    def __exit__(self, *_):
+        self.close_reads()
+        self.close_writes()
+
+    def close_reads(self):
+        if self.reads is not None:
+            os.close(self.reads)
+        self.reads = None
+
+    def close_writes(self):
+        if self.writes is not None:
+            os.close(self.writes)
+        self.writes = None
+
+    def read_all(self):
+        """Begins to read to the end; the answer waits for it."""
+        parts = []
+
+        def follow():
+            while part := os.read(self.reads, 65_536):
+                parts.append(part)
+        reader = threading.Thread(target=follow)
+        reader.start()
+
+        def whole():
+            reader.join()
+            return b"".join(parts)
+        return whole
+
+    def read_some(self, count):
+        """So many bytes, or what there is up to the end."""
+        text = b""
+        while len(text) < count and (part := os.read(self.reads, count - len(text))):
+            text += part
+        return text
+
+
+@scene("a pipe whose reader goes away after k bytes")
+def _reader_goes_away():
+    for name in CASES:
+        length = len(GOOD[name].out)
+        # a pipe takes 4,096 bytes more, which the program can't know to be lost
+        for k in [0, *(k for k in every(length - 4096 - 1, 0)[::9] if k > 0)]:
+            for ignored in [False, True]:
+                yield f"{name}, {k} bytes", functools.partial(reader_leaves, name, k, ignored)
+
+
+def reader_leaves(name, k, ignored):
+    with Pipe(4096) as pipe:
+        disturbance = Disturbance(out=pipe.writes, ignored=ignored)
+        if k == 0:
+            pipe.close_reads()
+        running = start(CASES[name], disturbance, os.path.join(WORK, str(os.getpid())))
+        pipe.close_writes()
+        head = b""
+        if k > 0:
+            head = pipe.read_some(k)
+            pipe.close_reads()
+        left = end(*running)
+        left = Left(left.status, head, left.err)
+        if fault := broken_off(left, GOOD[name], ["write failed"], k):
+            return fault
+        told = len(left.err) - len("rtcm2rinex: write failed\n")
+        taken = [k, k + 4096] if k > 0 else [0, 0]
+        least, most = (so_far(name, takes=it).told for it in taken) if name in ORDER else (0, 0)
+        return None if least <= told <= most else f"{told} bytes are told, not {least} to {most}"
+
+
+@scene("a pipe that is full and doesn't wait")
+def _pipe_does_not_wait():
+    for name in CASES:
+        if len(GOOD[name].out) > 4096:
+            yield name, functools.partial(full_pipe, name)
+    for name, case in CASES.items():
+        if not is_gathered(case):
+            yield f"{name}, an empty pipe", functools.partial(empty_pipe, name)
+
+
+def full_pipe(name):
+    with Pipe(4096) as pipe:
+        os.set_blocking(pipe.writes, False)
+        left = run(CASES[name], Disturbance(out=pipe.writes))
+        pipe.close_writes()
+        head = pipe.read_some(8192)
+        return due_where_broken(name, Left(left.status, head, left.err), "write failed",
+                                max(len(head), 1), {"takes": max(len(head), 1)})
+
+
+def empty_pipe(name):
+    """The bytes so far, and then none for the moment."""
+    with Pipe() as pipe:
+        os.set_blocking(pipe.reads, False)
+        os.write(pipe.writes, content(CASES[name].given)[:100])
+        left = run(CASES[name], Disturbance(given=pipe.reads))
+        return due_where_broken(name, left, "read failed", 0, {"frames": 100 // FRAME})
+
+
+# Reads.
+
+# refuses: what was gathered and is let go if a conversion breaks off
+@scene("each read fails, of reads of one byte, and of 499 where the capture is long")
+def _read_fails():
+    for name, case in CASES.items():
+        for k in every(short_reads(case), 3000):
+            yield no_read(name, f"read {k + 1}", Disturbance(
+                {"PIECE": short_piece(case), "FAILS_READ": k + 1, "FAULT": errno.EIO}),
+                k, short_piece(case))
+
+
+def no_read(name, what, disturbance, good_reads, piece):
+    """So many reads give a piece, and the next one fails. Of `show` and `check` nothing is out
+    then."""
+    frames = frames_of(CASES[name], good_reads, piece)
+    return breaks(name, what, disturbance, "read failed", out=0, frames=frames)
+
+
+def frames_of(case, good_reads, piece):
+    """How many frames came by so many reads; that which only looks at standard input gives none."""
+    return max(0, good_reads - is_looked_at(case)) * piece // FRAME
+
+
+def inputs(case):
+    """The files that are read."""
+    files = [word for word in case.words if word.startswith("/")]
+    return files + [case.given] if "stdin" in case.words else files
+
+
+def size_of_inputs(case):
+    """The bytes of all inputs; -1 where there is none."""
+    files = inputs(case)
+    return sum(map(os.path.getsize, files)) if files else -1
+
+
+def asked_for(words):
+    """How many bytes a read of an input asks for."""
+    return READ_IN_PIECES if words[0] in ("show", "check", "chart", "cut") else READ_AT_ONCE
+
+
+def short_piece(case):
+    return 1 if size_of_inputs(case) < 6000 else 499
+
+
+def short_reads(case):
+    """How many reads of such pieces a run makes at least; the last gives the end."""
+    size = size_of_inputs(case)
+    return size // short_piece(case) + 1 if size >= 0 else 0
+
+
+@scene("a read of whole pieces fails, for several reasons")
+def _whole_read_fails():
+    faults = [errno.EIO, errno.EAGAIN, errno.EISDIR, errno.ENOMEM, errno.ETIMEDOUT,
+              errno.ECONNRESET]
+    for name, case in CASES.items():
+        size = size_of_inputs(case)
+        if size < 0:
+            continue
+        reads = size // asked_for(case.words) + 2
+        for k in range(1, reads + 1):
+            for fault in faults:
+                yield no_read(name, f"read {k}, errno {fault}",
+                              Disturbance({"FAILS_READ": k, "FAULT": fault}),
+                              k - 1, asked_for(case.words))
+
+
+# Each error that a call can have but an interruption, which is made again.
+ERRORS = sorted(set(errno.errorcode) - {errno.EINTR})
+
+
+def once(**shim):
+    """One call fails. If it is made again it goes well, and that is seen."""
+    return Disturbance({"ONCE": 1, **shim})
+
+
+# refuses: an error of a read that is taken for the end
+# refuses: a call that is made again after another error than an interruption
+@scene("the first read fails with each error but an interruption; the next would go well")
+def _first_read_fails():
+    for name, case in CASES.items():
+        for fault in ERRORS if size_of_inputs(case) >= 0 else []:
+            yield no_read(name, f"errno {fault}", once(FAILS_READ=1, FAULT=fault), 0, 0)
+
+
+# refuses: an error of a read that is taken for the end
+@scene("a read in the middle, or that of the end, fails with each error but an interruption")
+def _later_read_fails():
+    for name, case in CASES.items():
+        for fault in ERRORS if size_of_inputs(case) >= 0 else []:
+            # the first read gives at most a third; standard input as a link is looked at before it
+            middle, third = 2 + is_looked_at(case), size_of_inputs(case) // 3 + 1
+            yield no_read(name, f"read {middle} of thirds, errno {fault}", once(
+                PIECE=third, FAILS_READ=middle, FAULT=fault), middle - 1, third)
+            last = reads_of(case)
+            yield no_read(name, f"the last read, errno {fault}",
+                          once(FAILS_READ=last, FAULT=fault), last - 1, asked_for(case.words))
+
+
+# refuses: a write after one that failed, beside `write_all`
+# refuses: a call that is made again after another error than an interruption
+@scene("the first write fails with each error but an interruption; the next would go well")
+def _first_write_fails():
+    for name in CASES:
+        # what is gathered of a longer file is tried again at the end, and nothing after it
+        out = 0 if len(GOOD[name].out) <= GATHERED else None
+        for fault in ERRORS:
+            yield breaks(name, f"errno {fault}", once(FAILS_WRITE=1, FAULT=fault), "write failed",
+                         out=out, fails=1)
+
+
+# refuses: a write after one that failed, beside `write_all`
+@scene("the first write of the report fails so")
+def _first_write_of_report_fails():
+    for name in CASES:
+        for fault in ERRORS if GOOD[name].err else []:
+            yield breaks(name, f"errno {fault}", once(FAILS_WRITE=1, OF_REPORT=1, FAULT=fault),
+                         "write failed", report_fails=1)
+
+
+# refuses: a call that is made again after another error than an interruption
+@scene("the first open fails with each error but an interruption; the next would go well")
+def _first_open_fails():
+    base = example("base.rtcm")
+    for case in [Case("show", ("show", base)), Case("check", ("check", base)),
+                 Case("summary", ("summary", base)), Case("chart", ("chart", base)), Case("cut", ("cut", "--every", "1", base)),
+                 convert("convert", base), convert("convert of two links", base, base)]:
+        for fault in ERRORS:
+            yield f"{case.name}, errno {fault}", functools.partial(
+                fails, case, f"cannot open {base}", Disturbance({"FAILS_OPEN": 1, "FAULT": fault}))
+
+
+# refuses: reads of fewer bytes, or a summary in more than one write
+# refuses: a `Resumed` that uses half of the room of a read or writes byte by byte, or a `show` with other pieces
+@scene("a run makes so many reads and writes, and no more")
+def _calls_are_counted():
+    for name, case in CASES.items():
+        reads, writes = reads_of(case), writes_of(name)
+        if reads:
+            yield no_read(name, f"read {reads}", Disturbance({"FAILS_READ": reads}),
+                          reads - 1, asked_for(case.words))
+            yield tried(name, f"read {reads + 1}", Disturbance({"FAILS_READ": reads + 1}), same)
+        if writes:
+            yield breaks(name, f"write {writes}", Disturbance({"FAILS_WRITE": writes}),
+                         "write failed", fails=writes)
+            yield tried(name, f"write {writes + 1}", Disturbance({"FAILS_WRITE": writes + 1}), same)
+
+
+def reads_of(case):
+    """Each input is read in whole pieces, and once more for its end. As a link, standard input is
+    looked at before."""
+    piece = asked_for(case.words)
+    sizes = [os.path.getsize(file) for file in inputs(case)]
+    return sum(-(-size // piece) + 1 for size in sizes) + is_looked_at(case)
+
+
+def is_looked_at(case):
+    return case.words[0] == "convert" and "stdin" in case.words
+
+
+def writes_of(name):
+    """A write when so much is gathered, and one for the rest; none is said where each write of a
+    conversion goes straight on."""
+    if name.startswith("convert") and not is_gathered(CASES[name]):
+        return None
+    return -(-len(GOOD[name].out) // GATHERED)
+
+
+@scene("links that can't be read: a folder, a file of /proc whose read fails")
+def _unreadable():
+    folder = os.path.join(WORK, "folder")
+    os.makedirs(folder, exist_ok=True)
+    base = example("base.rtcm")
+    for link in [folder, "/proc/self/mem"]:
+        for words in [("show", link), ("show", "--hex", link), ("check", link), ("summary", link),
+                      ("chart", link), ("cut", "--every", "1", link)]:
+            yield " ".join(words), functools.partial(fails, Case("", words), "read failed")
+        for place in range(16):
+            links = [base] * 16
+            links[place] = link
+            yield f"link {place + 1}, {link}", functools.partial(
+                fails, convert("", *links), "read failed")
+
+
+def fails(case, fault, disturbance=Disturbance()):
+    """Nothing is out, and standard error has the fault line alone."""
+    return tells_alone(run(case, disturbance), fault)
+
+
+def tells_alone(left, fault):
+    return same(left, Left(1, b"", f"rtcm2rinex: {fault}\n".encode()))
+
+
+# Opens.
+
+@scene("each of 16 opens fails, and then nothing was read")
+def _open_fails():
+    faults = [errno.ENOENT, errno.EACCES, errno.EMFILE, errno.ENFILE, errno.ELOOP, errno.EIO]
+    links = [written(f"link{number}.rtcm", content(example("base.rtcm"))) for number in range(16)]
+    for place in range(16):
+        for fault in faults:
+            yield f"link {place + 1}, errno {fault}", functools.partial(
+                fails, convert("", *links), f"cannot open {links[place]}",
+                Disturbance({"FAILS_OPEN": place + 1, "FAULT": fault}))
+        missing = [*links[:place], os.path.join(WORK, "nowhere"), *links[place + 1:]]
+        yield f"link {place + 1} is missing", functools.partial(
+            fails, convert("", *missing), f"cannot open {missing[place]}")
+        if place > 0:
+            # three standard streams and so many links
+            yield f"descriptors for {place} links", functools.partial(
+                fails, convert("", *links), f"cannot open {links[place]}",
+                Disturbance(limits={resource.RLIMIT_NOFILE: 3 + place}))
+            yield f"link {place + 1} is missing, and the first is standard input", (
+                functools.partial(nothing_read, missing, place))
+    for words in [("show", links[0]), ("show", "--hex", links[0]), ("check", links[0]),
+                  ("summary", links[0]), ("chart", links[0]), ("cut", "--every", "1", links[0])]:
+        for fault in faults:
+            yield f"{words}, errno {fault}", functools.partial(
+                fails, Case("", words), f"cannot open {links[0]}",
+                Disturbance({"FAILS_OPEN": 1, "FAULT": fault}))
+
+
+def nothing_read(links, place):
+    """Standard input is the first link, and stands at its first byte still."""
+    given = os.open(links[0], os.O_RDONLY)
+    try:
+        fault = fails(convert("", "stdin", *links[1:]), f"cannot open {links[place]}",
+                      Disturbance(given=given))
+        at = os.lseek(given, 0, os.SEEK_CUR)
+        return fault or (f"{at} bytes were read" if at else None)
+    finally:
+        os.close(given)
+
+
+# refuses: a file that is written or removed, or a variable of the environment that counts
+@scene("no file is written, made, changed, renamed or removed, and no variable is asked for")
+def _calls_on_files():
+    base, folder = example("base.rtcm"), os.path.join(WORK, "folder")
+    nowhere = os.path.join(WORK, "nowhere", "base.rtcm")
+    wrong = written("no.rnx", content(example("base.rnx")).replace(b"45.000", b"45.100"))
+    os.makedirs(folder, exist_ok=True)
+    for name, case in CASES.items():
+        files = [word for word in case.words if word.startswith("/")]
+        yield name, functools.partial(opens_alone, case, files, GOOD[name].status)
+        yield f"{name}, into a full disk", functools.partial(
+            opens_alone, case, files, 1, Disturbance(out="/dev/full"))
+    every_command = [("show",), ("show", "--hex"), ("check",), ("summary",), ("chart",),
+                     ("chart", "--text"), ("cut", "--every", "1"), ("convert", *OPTIONS)]
+    for status, opened, words in [
+            *((1, [nowhere], (*words, nowhere)) for words in every_command),
+            *((1, [folder], (*words, folder)) for words in every_command),
+            *((3, [wrong], (*words, wrong)) for words in every_command
+              if words[0] in ("check", "chart", "cut")),
+            (1, [base, nowhere], ("convert", *OPTIONS, base, nowhere)),
+            (1, [base], ("show", "--hex", base)),
+            (1, ["/dev/zero"], ("show", "/dev/zero")),
+            (2, [], ("convert", *OPTIONS[:-1], "9Z", base)),
+            (2, [], ("convert", *OPTIONS, "stdin", "stdin")),
+            (2, [], ("cut", "--from", "noon", base)),
+            (2, [], ("show", base, "--hax")), (2, [], ("shew", base)), (2, [], ())]:
+        yield " ".join(words) or "no words", functools.partial(
+            opens_alone, Case("", words), opened, status)
+
+
+def opens_alone(case, files, status, disturbance=Disturbance()):
+    """No other call but the opens of these files; and what the run leaves without the library."""
+    told = written(f"{os.getpid()}.calls", b"")
+    good = run(case, disturbance)
+    left = run(case, replace(disturbance, shim={"LD_PRELOAD": CALLS, "TELLS": told}))
+    if left.status != status:
+        return f"status {left.status}"
+    return other_calls(content(told), files) or same(left, good)
+
+
+# All that the program asks of the C library: to begin and to end, memory, the number of an error,
+# and calls on files. So it asks for no variable, terminal or clock, and of a file for its bytes.
+OF_C = set("""
+__libc_start_main __cxa_finalize __gmon_start__ _ITM_deregisterTMCloneTable
+_ITM_registerTMCloneTable __x86_get_cpuid_feature_leaf __sysv_signal __errno_location
+malloc realloc free memcpy memmove memset open close read write __write lseek
+""".split())
+
+
+# refuses: an answer that depends on what else the C library can tell, as the time or the kind of a file
+@scene("all that is asked of the C library")
+def _names_of_c():
+    yield "names", functools.partial(asks_c_alone, PROGRAM)
+
+
+def asks_c_alone(program):
+    return other_names(names_of_c(content(program)))
+
+
+def names_of_c(program):
+    """The dynamic symbols of an ELF file."""
+    if program[:4] != b"\x7fELF":
+        return set()
+    table, = struct.unpack_from("<Q", program, 0x28)
+    size, count = struct.unpack_from("<HH", program, 0x3A)
+    sections = [struct.unpack_from("<IIQQQQII", program, table + size * k) for k in range(count)]
+    names = set()
+    for _, kind, _, _, at, length, strings, _ in sections:
+        for entry in range(at + 24, at + length, 24) if kind == 11 else []:
+            begin = sections[strings][4] + struct.unpack_from("<I", program, entry)[0]
+            names.add(program[begin:program.index(b"\0", begin)].decode())
+    return names
+
+
+def other_names(names):
+    """It opens, reads and writes, and asks for nothing else but the names above."""
+    if not {"open", "read", "write"} <= names:
+        return f"not all names are seen, but {sorted(names)}"
+    return f"{sorted(names - OF_C)}" if names - OF_C else None
+
+
+# Cut short.
+
+@scene("reads and writes of 1, 2, 3, 7 and 511 bytes")
+def _short():
+    for name in CASES:
+        for piece in [1, 2, 3, 7, 511]:
+            yield tried(name, f"{piece} bytes", Disturbance({"PIECE": piece}), same)
+
+
+# pins: most_reads
+# refuses: a `summarize_named` that makes fewer reads than it may
+@scene("a summary of 1,000,001 reads of one byte")
+def _many_reads():
+    yield "zeros", functools.partial(many_reads, written("zeros", bytes(1_000_001)))
+
+
+def many_reads(zeros):
+    due = b"bytes 1000001\noutside-frames 1000001\nframes 0\nnothing taken\n"
+    return same(run(Case("", ("summary", zeros)), Disturbance({"PIECE": 1})), Left(0, due, b""))
+
+
+@scene("every second read, write or open is interrupted")
+def _interrupted():
+    for name in CASES:
+        for calls in ["reads", "writes", "opens"]:
+            for piece in [0, 1]:
+                yield tried(name, f"{calls}, {piece or 'all'} bytes", Disturbance(
+                    {"INTERRUPTS": calls, "PIECE": piece}), same)
+
+
+# pins: most_interruptions
+@scene("each read or write is interrupted 1,000 times in a row")
+def _interrupted_often():
+    for name in CASES:
+        for calls in ["reads", "writes"]:
+            yield tried(name, calls, interrupted(calls, MOST_INTERRUPTIONS), same)
+
+
+def interrupted(calls, count):
+    return Disturbance({"INTERRUPTS": calls, "IN_A_ROW": count})
+
+
+# pins: most_interruptions
+@scene("a read or a write is interrupted 1,001 times in a row, and the next call is not")
+def _interrupted_too_often():
+    for name, case in CASES.items():
+        if size_of_inputs(case) >= 0:
+            yield no_read(name, "reads", interrupted("reads", MOST_INTERRUPTIONS + 1), 0, 0)
+        yield breaks(name, "1", interrupted("1", MOST_INTERRUPTIONS + 1), "write failed", fails=1)
+        # a longer report is tried again at the end, and then the fault line is interrupted
+        if 0 < len(GOOD[name].err) <= GATHERED:
+            yield breaks(name, "2", interrupted("2", MOST_INTERRUPTIONS + 1), "write failed",
+                         report_fails=1)
+
+
+# Without end.
+
+@scene("a reader without end: show and check")
+def _endless():
+    for words in [("show",), ("show", "--hex"), ("check",)]:
+        yield f"{' '.join(words)} /dev/zero", functools.partial(
+            fails, Case("", (*words, "/dev/zero")), "input too long")
+    for words, text in [(("show",), content(example("session.rtcm"))),
+                        (("show", "--hex"), content(example("arp1005.hex"))),
+                        (("check",), content(example("session.rnx")))]:
+        yield f"{' '.join(words)} of a pipe", functools.partial(endless_pipe, words, text)
+
+
+def endless_pipe(words, text):
+    """A pipe that gives a text again and again."""
+    with Pipe() as pipe:
+        running = start(Case("", (*words, "stdin")), Disturbance(given=pipe.reads),
+                        os.path.join(WORK, str(os.getpid())))
+        pipe.close_reads()
+        many = text * (1_000_000 // len(text))
+        try:
+            while True:
+                os.write(pipe.writes, many)
+        except BrokenPipeError:
+            pass
+        return tells_alone(end(*running), "input too long")
+
+
+def convert_to_its_last_read():
+    """The reads are counted: that of number 1,000,000,000 is made, and none after it."""
+    marks = {}
+    for last in [1_000_000_000, 1_000_000_001]:
+        marked = os.path.join(WORK, "marks")
+        with open(marked, "wb") as file:
+            os.dup2(file.fileno(), 9, inheritable=True)
+        left = run(convert("", "/dev/zero"), Disturbance({"ENDLESS": last}))
+        os.close(9)
+        marks[last] = len(content(marked))
+        if fault := tells_alone(left, "input does not end"):
+            return fault
+    return None if list(marks.values()) == [1, 0] else f"marks {marks}"
+
+
+# Links that change.
+
+@scene("a link that vanishes, grows, is replaced, cut or overwritten before a read")
+def _link_changes():
+    for words, file in [(("show",), "long.rtcm"), (("check",), "long.rnx"),
+                        (("summary",), "long.rtcm"), (("cut", "--every", "2"), "long.rnx"),
+                        (("convert", *OPTIONS, "--window", "2"), "long.rtcm")]:
+        for before in [1, 2]:
+            for change in CHANGES:
+                yield f"{words[0]}, {change} before read {before}", functools.partial(
+                    changed, words, file, before, change)
+
+
+def changed_text(change, text, seen):
+    """What a reader sees of a text of which it has seen so many bytes."""
+    more = epochs(range(1500, 1520))
+    return {
+        "vanishes": text,
+        "is replaced": text,
+        "grows": text + more,
+        "is emptied": text[:seen],
+        "is cut": text[:max(seen, 35_000)],
+        "is overwritten": text[:seen] + OTHER[seen:len(text)],
+    }[change]
+
+
+CHANGES = ["vanishes", "is replaced", "grows", "is emptied", "is cut", "is overwritten"]
+OTHER = content(example("session.rtcm")) * 200
+
+
+def changed(words, file, before, change):
+    """The program stops itself before a read; the file is changed; the program goes on. It is to
+    leave what it leaves of a file with the bytes that it saw."""
+    own = os.path.join(WORK, str(os.getpid()))
+    text = content(os.path.join(WORK, file))
+    link = f"{own}.link"
+    with open(link, "wb") as to:
+        to.write(text)
+    running = start(Case("", (*words, link)), Disturbance({"STOPS_READ": before}), own)
+    _, answer = os.waitpid(running[0], os.WUNTRACED)
+    if not os.WIFSTOPPED(answer):
+        return f"status {os.waitstatus_to_exitcode(answer)} before read {before}"
+    seen = (before - 1) * asked_for(words)
+    due = changed_text(change, text, seen)
+    if change == "vanishes":
+        os.remove(link)
+    elif change == "is replaced":
+        with open(f"{link}.new", "wb") as to:
+            to.write(content(example("base.rtcm")))
+        os.replace(f"{link}.new", link)
+    elif change == "grows":
+        with open(link, "ab") as to:
+            to.write(due[len(text):])
+    elif change == "is emptied":
+        os.truncate(link, 0)
+    elif change == "is cut":
+        os.truncate(link, 35_000)
+    else:
+        with open(link, "r+b") as to:
+            to.write(OTHER[:len(text)])
+    os.kill(running[0], signal.SIGCONT)
+    left = end(*running)
+    with open(f"{own}.seen", "wb") as to:
+        to.write(due)
+    return same(left, run(Case("", (*words, f"{own}.seen"))))
+
+
+# Two faults.
+
+@scene("a read and a write fail: one fault line")
+def _two_faults():
+    for name, case in CASES.items():
+        for k in every(short_reads(case), 0)[::10]:
+            for j in every(len(GOOD[name].out), 0)[::10]:
+                piece = short_piece(case)
+                shim = {"PIECE": piece, "FAILS_READ": k + 1, "TAKES_1": j}
+                yield breaks(name, f"read {k + 1} and {j} bytes", Disturbance(shim), "read failed",
+                             out=0, frames=frames_of(case, k, piece), takes=j)
+
+
+# A real file system.
+
+def small_file_system():
+    """A tmpfs of one page: a file of it has room for k bytes where it has all others already."""
+    at = os.path.join(WORK, "tmpfs")
+    os.makedirs(at)
+    subprocess.run(["mount", "-t", "tmpfs", "-o", "size=4096", "none", at], check=True)
+    return at
+
+
+def on_small_file_system(at, name, k, of_report):
+    good = GOOD[name]
+    to = os.path.join(at, "file")
+    with open(to, "wb") as file:
+        file.write(b"#" * (4096 - k))
+    there = os.open(to, os.O_WRONLY | os.O_APPEND)
+    left = run(CASES[name], Disturbance(err=there) if of_report else Disturbance(out=there))
+    os.close(there)
+    part = content(to)[4096 - k:]
+    if of_report:
+        return told_in_part(Left(left.status, left.out, part), good, 1, k,
+                            so_far(name, report_takes=k).out)
+    return due_where_broken(name, Left(left.status, part, left.err), "write failed", k,
+                            {"takes": k})
+
+
+def tmpfs_scenes():
+    at = small_file_system()
+    for name in CASES:
+        for of_report, text in [(False, GOOD[name].out), (True, GOOD[name].err)]:
+            for k in every(min(len(text), 4097)):
+                yield (f"{name}, {'report' if of_report else 'file'}, {k} bytes",
+                       functools.partial(on_small_file_system, at, name, k, of_report))
+
+
+# All of it.
+
+def attempt(trial):
+    what, call = trial
+    try:
+        return what, call()
+    except OSError as fault:
+        return what, f"the scene itself failed: {fault}"
+
+
+class Count:
+    passed = 0
+    failed = 0
+
+    def scene(self, name, answers):
+        """One test: it holds where each of its runs does."""
+        began = time.monotonic()
+        runs, faults = 0, []
+        for what, fault in answers:
+            runs += 1
+            if fault:
+                faults.append(f"{what}: {fault}")
+        told = f"{runs} runs, {time.monotonic() - began:.1f} s"
+        if runs and not faults:
+            self.passed += 1
+            print(f"ok {name}: {told}" + (" (no longer 'not yet')" if name in NOT_YET else ""))
+        elif runs and name in NOT_YET:
+            print(f"not yet: {name}: {NOT_YET[name]} ({len(faults)} of {told})")
+        else:
+            self.failed += 1
+            print(f"FAILED {name}: {len(faults)} of {told}")
+            for fault in faults[:5]:
+                print(f"    {fault}")
+
+
+def main():
+    for number in map(int, os.listdir("/proc/self/fd")):
+        if number > 2 and os.path.exists(f"/proc/self/fd/{number}"):
+            os.set_inheritable(number, False)  # so that a run has its three streams alone
+    CASES.update(cases())
+    for name, case in CASES.items():
+        GOOD[name] = run(case)
+    written("long.rnx", GOOD["convert of a long file"].out)
+    for name, good in GOOD.items():
+        if good.status != (3 if name == SAYS_NO else 0) or not good.out:
+            print(f"FAILED {name}: no good run: status {good.status}, '{shown(good.err)}'")
+            print("0 passed, 1 failed")
+            return 1
+    for name, case in CASES.items():
+        if case.words[0] == "convert":
+            ORDER[name] = order_of(case, GOOD[name])
+    count = Count()
+    if "--endless" in WORDS:
+        global SECONDS
+        SECONDS = 3600
+        count.scene("convert of a link without end, to its last read",
+                    map(attempt, [("/dev/zero", convert_to_its_last_read)]))
+    elif "--tmpfs" in WORDS:
+        count.scene("a full tmpfs", map(attempt, tmpfs_scenes()))
+    else:
+        chosen = [(name, function) for name, function in SCENES
+                  if not WORDS or any(word in name for word in WORDS)]
+        with multiprocessing.get_context("fork").Pool(os.cpu_count()) as pool:
+            for name, function in chosen:
+                count.scene(name, pool.imap_unordered(attempt, list(function()), 16))
+    print(f"{count.passed} passed, {count.failed} failed")
+    return 1 if count.failed else 0
+
+
+if __name__ == "__main__":
+    sys.exit(main())
