@@ -7,6 +7,7 @@ an edit by hand is seen.
 import hashlib
 import re
 import subprocess
+import sys
 from pathlib import Path
 
 ROOT = Path(__file__).resolve().parent.parent
@@ -14,6 +15,19 @@ NAME = "rtcm2rinex"
 COPY = ROOT / "dist/x86_64-linux-gnu" / NAME
 BUILDINFO = COPY.with_name(NAME + ".buildinfo")
 END = "== end sha256 "
+
+
+def fail(why):
+    sys.exit(f"bin/{Path(sys.argv[0]).name}: {why}")
+
+
+def output(*words):
+    """What a command prints."""
+    command = [str(word) for word in words]
+    ran = subprocess.run(command, cwd=ROOT, stdin=subprocess.DEVNULL, capture_output=True, text=True)
+    if ran.returncode:
+        fail(f"{' '.join(command)}: {ran.stderr.strip()}")
+    return ran.stdout.strip()
 
 
 def sum_of(data):
