@@ -1,20 +1,18 @@
 -- How many cells an epoch has, and which epochs are kept.
-use Rattle.std.proofs.Common.{◌≡◌, ℕ, suc, ◌≤◌, Bool, true, false, cond, List, [], ◌∷◌, ◌++◌, length, Option, None, Some, refl, ap, sym, ◌∙◌, map, take, arith, inl, inr, subst, filter}
-use Rattle.std.specs.Prelude.{slice_index}
+use Rattle.std.proofs.Common.{◌≡◌, ℕ, ◌≤◌, Bool, true, false, cond, List, [], ◌∷◌, length, None, Some, refl, ap, sym, ◌∙◌, map, take, arith, inl, inr, subst, filter}
 use Rattle.std.specs.List.{flat_map, AllByRecursion}
 use Rattle.std.proofs.lemmas.Bool.{cases_order, cases_Bool}
 use Rattle.std.proofs.lemmas.Bool.Decides.{nat_tests}
 use Rattle.std.proofs.lemmas.List.Elements.{All-from_recursion}
 use Rattle.rtk_message.specs.declared.obs1004.Satellite.{Satellite}
-use Rattle.rtk_message.specs.declared.msm1074.Msm1074.{Msm1074}
-use Rattle.rtk_message.specs.declared.message.Message.{Message}
-use Rattle.rtk_message.specs.declared.message.Message.TheVariants.{Obs1004, Arp1005, Arp1006, Msm1074 as Msm}
-use Rattle.rtk_obs.specs.declared.code.Code.{Code}
+use Rattle.rtk_message.specs.declared.any_message.AnyMessage.{AnyMessage as Message}
+use Rattle.rtk_message.specs.declared.any_message.AnyMessage.TheVariants as any
+use Rattle.rtk_message.specs.declared.message.Message.TheVariants.{Obs1004, Arp1005, Arp1006, Msm1074}
 use Rattle.rtk_obs.specs.declared.cell.CellEntry.{CellEntry}
 use Rattle.rtk_obs.specs.Cell.{is_satellite, IsSatellite}
-use Rattle.rtk_obs.specs.Mask.{join_from}
 use Rattle.rtk_obs.specs.LegacyCells.{first_entries, satellite_entries}
-use Rattle.rtk_obs.specs.MsmCells.{satellites_of, slots_of, coded_entry, slot_entry, code_of_signal, cells_of_1074}
+use Rattle.rtk_obs.specs.MsmCells.{cell_of_1074, cell_of_msm}
+use Rattle.rtk_obs.proofs.PublicLaws.{all-entries_of}
 use Rattle.rtk_collect.specs.Key.{KeysRise}
 use Rattle.rtk_collect.specs.EpochSet.{EpochSetView}
 use Rattle.rtk_collect.specs.Arrival.{Arrival, At, cells_of}
@@ -39,33 +37,12 @@ of-legacy : (ss : List Satellite) → AllByRecursion HasSatellite (flat_map sate
 of-legacy [] = tt
 of-legacy (s ∷ ss) = legacy-if (is_satellite s.satellite) s (filter (λ (t : Satellite). is_satellite t.satellite) ss) refl (of-legacy ss)
 
-of-coded : (m : Msm1074) (k row satellite : ℕ) (code : Option Code) → IsSatellite satellite → AllByRecursion HasSatellite (coded_entry m k row satellite code)
-of-coded m k row satellite None s = tt
-of-coded m k row satellite (Some code) s = (s, tt)
-
-slot-if : (b : Bool) (satellite : ℕ) (es : List CellEntry) → is_satellite satellite ≡ b → (IsSatellite satellite → AllByRecursion HasSatellite es) → AllByRecursion HasSatellite (cond b es [])
-slot-if true satellite es e a = a (satellite-is satellite e)
-slot-if false satellite es e a = tt
-
-pub all-append : (P : CellEntry → Type 0) (xs ys : List CellEntry) → AllByRecursion P xs → AllByRecursion P ys → AllByRecursion P (xs ++ ys)
-all-append P [] ys a b = b
-all-append P (x ∷ xs) ys a b = (a.0, all-append P xs ys a.1 b)
-
-pub all-join : {X : Type 0} (P : CellEntry → Type 0) (f : ℕ → X → List CellEntry) → ((k : ℕ) (x : X) → AllByRecursion P (f k x)) → (k : ℕ) (xs : List X) → AllByRecursion P (join_from f k xs)
-unfolding join_from
-all-join P f each k [] = tt
-all-join P f each k (x ∷ xs) = all-append P (f k x) (join_from f (suc k) xs) (each k x) (all-join P f each (suc k) xs)
-
-of-msm : (m : Msm1074) → AllByRecursion HasSatellite (cells_of_1074 m)
-of-msm m = all-join HasSatellite (slot_entry m) (λ k s.
-    slot-if (is_satellite (slice_index (satellites_of m) s.row)) (slice_index (satellites_of m) s.row) (coded_entry m k s.row (slice_index (satellites_of m) s.row) (code_of_signal s.signal)) refl
-    (λ is. of-coded m k s.row (slice_index (satellites_of m) s.row) (code_of_signal s.signal) is)) 0 (slots_of m)
-
 of-message : (m : Message) → AllByRecursion HasSatellite (cells_of m)
-of-message (Obs1004 m) = of-legacy (first_entries m.satellites)
-of-message (Arp1005 m) = tt
-of-message (Arp1006 m) = tt
-of-message (Msm m) = of-msm m
+of-message (any.Message (Obs1004 m)) = of-legacy (first_entries m.satellites)
+of-message (any.Message (Arp1005 m)) = tt
+of-message (any.Message (Arp1006 m)) = tt
+of-message (any.Message (Msm1074 m)) = all-entries_of m.header (cell_of_1074 m) HasSatellite (λ k row satellite code is. is) m.cell_mask
+of-message (any.Msm m) = all-entries_of m.header (cell_of_msm m) HasSatellite (λ k row satellite code is. is) m.cell_mask
 
 -- so are those that are kept, and their keys rise
 

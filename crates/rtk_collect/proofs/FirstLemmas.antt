@@ -2,7 +2,7 @@
 use Rattle.std.proofs.Common.{◌≡◌, ℕ, Bool, true, false, List, [], ◌∷◌, Option, None, Some, refl, ap, sym, ◌∙◌, arith, eqb, inl, inr}
 use Rattle.std.specs.Prelude.{◌&&◌, not, option_and_then, if◌then◌else◌}
 use Rattle.std.proofs.lemmas.Bool.{cases_order, cases_eq, eq-eqb, ne_eqb, cases_Bool}
-use Rattle.rtk_message.specs.declared.message.Message.{Message}
+use Rattle.rtk_message.specs.declared.any_message.AnyMessage.{AnyMessage as Message}
 use Rattle.rtk_obs.specs.declared.cell.CellEntry.{CellEntry}
 use Rattle.rtk_collect.specs.EpochSet.{EpochSetView, EpochsFall, cell_under}
 use Rattle.rtk_collect.specs.Arrival.{Arrival, At, cells_of}

@@ -5,13 +5,14 @@ use Rattle.std.specs.List.{flat_map, AllByRecursion}
 use Rattle.std.proofs.lemmas.Bool.{cases_order, cases_eq, eq-eqb, ne_eqb}
 use Rattle.std.proofs.lemmas.List.Elements.{All-from_recursion, recursion_from_All}
 use Rattle.rtk_message.specs.declared.obs1004.Satellite.{Satellite}
+use Rattle.rtk_message.specs.declared.msm.Msm.{Msm as WideMsm}
 use Rattle.rtk_message.specs.declared.msm1074.Msm1074.{Msm1074}
 use Rattle.rtk_obs.specs.Cell.{IsInRange, is_satellite}
 use Rattle.rtk_obs.specs.Slip.{is_same_source}
 use Rattle.rtk_obs.specs.LegacyCells.{first_entries, satellite_entries, cells_of_1004}
-use Rattle.rtk_obs.specs.MsmCells.{satellites_of, slots_of, coded_entry, slot_entry, code_of_signal, cells_of_1074}
-use Rattle.std.specs.Prelude.{slice_index, ◌==◌}
-use Rattle.rtk_obs.specs.declared.code.Code.{Code}
+use Rattle.rtk_obs.specs.MsmCells.{cell_of_1074, cells_of_1074, cell_of_msm, cells_of_msm}
+use Rattle.rtk_obs.proofs.PublicLaws.{all-entries_of}
+use Rattle.std.specs.Prelude.{◌==◌}
 use Rattle.rtk_obs.specs.declared.cell.CellEntry.{CellEntry}
 use Rattle.rtk_obs.specs.declared.cell.CellSource.{CellSource}
 use Rattle.rtk_obs.specs.declared.cell.CellSource.TheVariants.{Legacy, Msm}
@@ -20,7 +21,6 @@ use Rattle.rtk_collect.specs.EpochSet.{with_cell, with_cells, cell_under, one_mo
 use Rattle.rtk_collect.specs.Laws.{earlier}
 use Rattle.rtk_collect.proofs.CellsLemmas.{above-none, with_cell-new, with_cell-past, with_cell-same, with_cell-rises, with_cells-rises, with_cells-each, with_cells-all}
 use Rattle.rtk_collect.proofs.EqualityLemmas.{keys-are-distinct}
-use Rattle.rtk_collect.proofs.FewLemmas.{all-join}
 use Rattle.rtk_collect.proofs.UnderLemmas.{earlier-assoc, under-with_cells}
 
 abbrev pub IsOf : CellSource → CellEntry → Type 0
@@ -269,18 +269,8 @@ all-legacy (s ∷ ss) = (refl, (refl, all-legacy ss))
 pub of-1004 : (ss : List Satellite) → AreOfOneKind (cells_of_1004 ss)
 of-1004 ss = (Legacy, All-from_recursion (IsOf Legacy) (cells_of_1004 ss) (all-legacy (filter (λ (t : Satellite). is_satellite t.satellite) (first_entries ss))))
 
-all-coded : (m : Msm1074) (k row satellite : ℕ) (code : Option Code) → AllByRecursion (IsOf Msm) (coded_entry m k row satellite code)
-all-coded m k row satellite None = tt
-all-coded m k row satellite (Some code) = (refl, tt)
-
-all-slot : (b : Bool) (es : List CellEntry) → AllByRecursion (IsOf Msm) es → AllByRecursion (IsOf Msm) (cond b es [])
-all-slot true es a = a
-all-slot false es a = tt
-
 pub of-1074 : (m : Msm1074) → AreOfOneKind (cells_of_1074 m)
-of-1074 m = (
-  Msm,
-  All-from_recursion (IsOf Msm) (cells_of_1074 m) (all-join (IsOf Msm) (slot_entry m) (λ k s.
-      all-slot (is_satellite (slice_index (satellites_of m) s.row)) (coded_entry m k s.row (slice_index (satellites_of m) s.row) (code_of_signal s.signal))
-      (all-coded m k s.row (slice_index (satellites_of m) s.row) (code_of_signal s.signal))) 0 (slots_of m)),
-)
+of-1074 m = (Msm, All-from_recursion (IsOf Msm) (cells_of_1074 m) (all-entries_of m.header (cell_of_1074 m) (IsOf Msm) (λ k row satellite code is. refl) m.cell_mask))
+
+pub of-msm : (m : WideMsm) → AreOfOneKind (cells_of_msm m)
+of-msm m = (Msm, All-from_recursion (IsOf Msm) (cells_of_msm m) (all-entries_of m.header (cell_of_msm m) (IsOf Msm) (λ k row satellite code is. refl) m.cell_mask))

@@ -4,8 +4,8 @@ use Rattle.std.specs.Prelude.{nat_le, ◌==◌, ◌&&◌, not, if◌then◌else�
 use Rattle.std.proofs.Common.{append_assoc}
 use Rattle.std.proofs.lemmas.Bool.{le-leb, leb-true, cases_lt, cases_eq, ne_eqb, cases_Bool, both_ways}
 use Rattle.std.proofs.lemmas.List.{length-take}
-use Rattle.rtk_message.specs.declared.message.Message.{Message}
-use Rattle.rtk_message.specs.Decoded.{number_of}
+use Rattle.rtk_message.specs.declared.any_message.AnyMessage.{AnyMessage as Message}
+use Rattle.rtk_message.specs.AnyDecoded.{number_of}
 use Rattle.rtk_collect.specs.Equal.{equal_stations, is_first}
 use Rattle.rtk_collect.specs.EpochSet.{EpochSetView, EpochsFall}
 use Rattle.rtk_collect.specs.Arrival.{Arrival, At, cells_of}

@@ -1,7 +1,7 @@
 -- What is kept of the arrivals, and which epochs are closed.
 use Rattle.std.specs.Prelude.{◌≡◌, ◌⊎◌, ℕ, false, not, ◌&&◌, List, [], ◌∷◌, ◌==◌, nat_lt, nat_le, Option, None, Some, filter, if◌then◌else◌}
-use Rattle.rtk_message.specs.declared.message.Message.{Message}
-use Rattle.rtk_message.specs.Decoded.{number_of}
+use Rattle.rtk_message.specs.declared.any_message.AnyMessage.{AnyMessage as Message}
+use Rattle.rtk_message.specs.AnyDecoded.{number_of}
 use Rattle.rtk_obs.specs.declared.cell.CellEntry.{CellEntry}
 use Rattle.rtk_collect.specs.Arrival.{Arrival, At, cells_of}
 use Rattle.rtk_collect.specs.Key.{key}

@@ -3,11 +3,10 @@ use Rattle.std.specs.Prelude.{◌≡◌, ℕ, ◌≤◌, List, length, take, Opt
 use Rattle.rtk_message.specs.declared.arp1005.Arp1005.{Arp1005 as Message1005}
 use Rattle.rtk_message.specs.declared.arp1006.Arp1006.{Arp1006 as Message1006}
 use Rattle.std.specs.Option.{ForSome}
-use Rattle.rtk_message.specs.declared.message.Message.TheVariants.{Arp1005, Arp1006}
 use Rattle.rtk_message.specs.Arp1005 as arp1005_spec
 use Rattle.rtk_message.specs.Arp1006 as arp1006_spec
 use Rattle.rtk_collect.specs.EpochSet.{EpochsFall, EpochSetView}
-use Rattle.rtk_collect.specs.Arrival.{Arrival}
+use Rattle.rtk_collect.specs.Arrival.{Arrival, message_of_1005, message_of_1006}
 use Rattle.rtk_collect.specs.Accepted.{station, kept}
 
 -- a window: its number of places, the greatest epochs, falling, and the first 1005 and 1006
@@ -29,8 +28,8 @@ pub record IsCollectorView (w : CollectorView) : Type 0 where
 -- a window holds what is kept of these arrivals
 pub record RepresentsArrivals (w : CollectorView) (arrivals : List Arrival) : Type 0 where
   pub sets : w.sets ≡ take w.size (kept w.size arrivals)
-  pub arp1005 : option_map Arp1005 w.arp1005 ≡ station w.size 1005 arrivals
-  pub arp1006 : option_map Arp1006 w.arp1006 ≡ station w.size 1006 arrivals
+  pub arp1005 : option_map message_of_1005 w.arp1005 ≡ station w.size 1005 arrivals
+  pub arp1006 : option_map message_of_1006 w.arp1006 ≡ station w.size 1006 arrivals
 
 -- what is left of a window at its end
 pub record LeftView : Type 0 where
@@ -47,5 +46,5 @@ pub record IsLeftView (r : LeftView) : Type 0 where
 -- what is left of a window keeps the station messages that are kept of these arrivals in a window
 -- of n places
 pub record KeepsStations (r : LeftView) (n : ℕ) (arrivals : List Arrival) : Type 0 where
-  pub arp1005 : option_map Arp1005 r.arp1005 ≡ station n 1005 arrivals
-  pub arp1006 : option_map Arp1006 r.arp1006 ≡ station n 1006 arrivals
+  pub arp1005 : option_map message_of_1005 r.arp1005 ≡ station n 1005 arrivals
+  pub arp1006 : option_map message_of_1006 r.arp1006 ≡ station n 1006 arrivals

@@ -62,7 +62,7 @@ abbrev pub preferred : Option CellEntry → Option CellEntry → Option CellEntr
 preferred None legacy = legacy
 preferred (Some c) legacy = Some c
 
--- the cell of a satellite and code: from a 1074, else from a 1004 (this project's rule)
+-- the cell of a satellite and code: from an MSM, else from a 1004 (this project's rule)
 abbrev pub cell_of : ℕ → Code → List CellEntry → Option CellEntry
 cell_of satellite code cells = preferred (cell_under (key_at satellite code Msm) cells) (cell_under (key_at satellite code Legacy) cells)
 

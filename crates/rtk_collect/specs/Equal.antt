@@ -7,7 +7,8 @@ use Rattle.rtk_obs.specs.declared.cell.Cell.{Cell}
 use Rattle.rtk_obs.specs.Slip.{is_same_source}
 use Rattle.rtk_message.specs.declared.arp1005.Arp1005.{Arp1005 as Message1005}
 use Rattle.rtk_message.specs.declared.arp1006.Arp1006.{Arp1006 as Message1006}
-use Rattle.rtk_message.specs.declared.message.Message.{Message}
+use Rattle.rtk_message.specs.declared.any_message.AnyMessage.{AnyMessage as Message}
+use Rattle.rtk_message.specs.declared.any_message.AnyMessage.TheVariants as any
 use Rattle.rtk_message.specs.declared.message.Message.TheVariants.{Arp1005, Arp1006}
 
 -- the values of a satellite and code
@@ -29,8 +30,8 @@ equal_1006 a b = equal_1005 a.arp b.arp && (a.height == b.height)
 
 -- two station messages of one number
 abbrev pub equal_stations : Message → Message → Bool
-equal_stations (Arp1005 a) (Arp1005 b) = equal_1005 a b
-equal_stations (Arp1006 a) (Arp1006 b) = equal_1006 a b
+equal_stations (any.Message (Arp1005 a)) (any.Message (Arp1005 b)) = equal_1005 a b
+equal_stations (any.Message (Arp1006 a)) (any.Message (Arp1006 b)) = equal_1006 a b
 equal_stations _ _ = false
 
 -- the first one, if there is one, equals this one

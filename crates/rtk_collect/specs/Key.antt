@@ -6,7 +6,7 @@ use Rattle.rtk_obs.specs.declared.cell.CellSource.{CellSource}
 use Rattle.rtk_obs.specs.declared.cell.CellSource.TheVariants.{Legacy, Msm}
 use Rattle.rtk_obs.specs.declared.cell.CellEntry.{CellEntry}
 
--- a cell of a 1074 stands before one of a 1004 (this project's rule)
+-- a cell of an MSM stands before one of a 1004 (this project's rule)
 abbrev pub rank_of : CellSource → ℕ
 rank_of Msm = 0
 rank_of Legacy = 1

@@ -1,7 +1,7 @@
 -- Which arrivals are late. What stands after an arrival in a list came before it.
 use Rattle.std.specs.Prelude.{ℕ, Bool, false, not, ◌&&◌, List, [], ◌∷◌, ◌==◌, nat_lt, nat_le, length, Option, None, Some, count_by, if◌then◌else◌}
-use Rattle.rtk_message.specs.declared.message.Message.{Message}
-use Rattle.rtk_message.specs.Decoded.{number_of}
+use Rattle.rtk_message.specs.declared.any_message.AnyMessage.{AnyMessage as Message}
+use Rattle.rtk_message.specs.AnyDecoded.{number_of}
 use Rattle.rtk_collect.specs.Arrival.{Arrival, At, epoch_of}
 use Rattle.rtk_collect.specs.Equal.{equal_stations}
 

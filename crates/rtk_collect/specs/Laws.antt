@@ -3,8 +3,8 @@ use Rattle.std.specs.Prelude.{◌≡◌, ◌↔◌, ◌⊎◌, ℕ, ◌-◌, ◌
 use Rattle.std.specs.Bool.{Decides}
 use Rattle.rtk_message.specs.declared.arp1005.Arp1005.{Arp1005 as Message1005}
 use Rattle.rtk_message.specs.declared.arp1006.Arp1006.{Arp1006 as Message1006}
-use Rattle.rtk_message.specs.declared.message.Message.{Message}
-use Rattle.rtk_message.specs.Decoded.{number_of, IsValid}
+use Rattle.rtk_message.specs.declared.any_message.AnyMessage.{AnyMessage as Message}
+use Rattle.rtk_message.specs.AnyDecoded.{number_of, IsValid}
 use Rattle.rtk_obs.specs.declared.cell.Cell.{Cell}
 use Rattle.rtk_obs.specs.declared.cell.CellEntry.{CellEntry}
 use Rattle.rtk_obs.specs.declared.code.Code.{Code}
@@ -168,7 +168,7 @@ ClosingConflictsNot = (n : ℕ) (a : Arrival) (before : List Arrival) (set : Epo
 abbrev pub KeysAreDistinct : Type 0
 KeysAreDistinct = (c d : CellEntry) → (key c ≡ key d) ↔ ((c.satellite ≡ d.satellite) × (c.code ≡ d.code) × (c.cell.source ≡ d.cell.source))
 
--- if keys rise, the first cell of a satellite and code came in a 1074, if there is such a cell,
+-- if keys rise, the first cell of a satellite and code came in an MSM, if there is such a cell,
 -- else in a 1004
 abbrev pub FirstIsPreferred : Type 0
 FirstIsPreferred = (satellite : ℕ) (code : Code) (cells : List CellEntry) → KeysRise cells → first_entry satellite code cells ≡ cell_of satellite code cells

@@ -1,4 +1,5 @@
 -- Definitions that only private clauses use.
+pub mod Borrowed
 pub mod OrderedPlaces
 pub mod Slot
 pub mod Observed

@@ -7,14 +7,13 @@
 ghost use Rattle.std.specs.Prelude.{◌≡◌, ◌≤◌, List, [], length, take, IsOk, IfOk, OnErr, None};
 ghost use Rattle.rtk_message.specs.Arp1005 as arp1005_spec;
 ghost use Rattle.rtk_message.specs.Arp1006 as arp1006_spec;
-ghost use Rattle.rtk_message.specs.declared.message.Message.TheVariants.{Arp1005 as MessageArp1005, Arp1006 as MessageArp1006};
-ghost use Rattle.rtk_collect.specs.Arrival.{Arrival, At};
+ghost use Rattle.rtk_collect.specs.Arrival.{Arrival, At, message_of_1005, message_of_1006};
 ghost use Rattle.rtk_collect.specs.Accepted.{kept};
 ghost use Rattle.rtk_collect.specs.Collector.{RepresentsArrivals, KeepsStations};
 ghost use Rattle.rtk_collect.specs.StationPosition.{IsPosition, IsPositionOf};
 ghost use Rattle.rtk_collect.specs.Offered.{AnswersArrival, ClosesBelow, ClosesLeast, LeastNeverFalls, WouldBeTaken};
 
-use crate::dated::Dated;
+use crate::dated::{Borrowed, Dated};
 use crate::epoch_set::{EpochSet, Spare};
 use crate::left::Left;
 use crate::offer::Offer;
@@ -22,7 +21,7 @@ use crate::stations::{Stations, offer_station, position};
 use crate::window::offer_cells;
 use arrayvec::ArrayVec;
 use rtk_message::{Arp1005, Arp1006, Message};
-use rtk_obs::{CellEntry, Position, put_cells_1004, put_cells_1074};
+use rtk_obs::{CellEntry, Position, put_cells_1004, put_cells_1074, put_cells_msm};
 use std::alloc::{AllocError, Global};
 use std::collections::VecDeque;
 use std::marker::Model;
@@ -31,6 +30,11 @@ use std::marker::Model;
 /// first 1005 and 1006.
 ///
 /// It holds at most as many epochs as it has places, each with at most 1,024 cells.
+///
+/// Its caller offers one MSM number alone, of 1074 to 1077, beside 1004, 1005 and 1006. Cells of all
+/// four have the same keys. So if two of these numbers are offered, a cell of the second message
+/// conflicts with the cell that is kept of the first, if their values differ, though both be right;
+/// and the cells of one epoch may be of either number.
 #[derive(Drop)]
 pub struct Collector {
     alloc: Global,
@@ -105,18 +109,25 @@ impl Collector {
     {
         let epoch = dated.epoch;
         match dated.message {
-            Message::Obs1004(message) => {
+            Borrowed::Message(Message::Obs1004(message)) => {
                 let Some(epoch) = epoch else { unreachable!() };
                 put_cells_1004(message, &mut self.room);
                 let cells = self.room.as_slice();
                 let (sets, spare) = (&mut self.sets, &mut self.spare);
                 offer_cells(sets, self.places, self.alloc, epoch, cells, spare)
             }
-            Message::Arp1005(message) => self.offer_1005(*message),
-            Message::Arp1006(message) => self.offer_1006(*message),
-            Message::Msm1074(message) => {
+            Borrowed::Message(Message::Arp1005(message)) => self.offer_1005(*message),
+            Borrowed::Message(Message::Arp1006(message)) => self.offer_1006(*message),
+            Borrowed::Message(Message::Msm1074(message)) => {
                 let Some(epoch) = epoch else { unreachable!() };
                 put_cells_1074(message, &mut self.room);
+                let cells = self.room.as_slice();
+                let (sets, spare) = (&mut self.sets, &mut self.spare);
+                offer_cells(sets, self.places, self.alloc, epoch, cells, spare)
+            }
+            Borrowed::Msm(message) => {
+                let Some(epoch) = epoch else { unreachable!() };
+                put_cells_msm(message, &mut self.room);
                 let cells = self.room.as_slice();
                 let (sets, spare) = (&mut self.sets, &mut self.spare);
                 offer_cells(sets, self.places, self.alloc, epoch, cells, spare)
@@ -133,7 +144,7 @@ impl Collector {
         ensures bound { length self.new.sets ≤ self.new.size }
         ensures sets { self.new.sets ≡ self.old.sets }
         ensures ok { IsOk result }
-        ensures answer { IfOk result (λ offer. AnswersArrival self.old (At None (MessageArp1005 message)) offer self.new) }
+        ensures answer { IfOk result (λ offer. AnswersArrival self.old (At None (message_of_1005 message)) offer self.new) }
         ensures closed { IfOk result (λ offer. ClosesBelow offer self.new.sets) }
         ensures least_closes { IfOk result (λ offer. ClosesLeast self.old.size self.old.sets offer) }
     {
@@ -150,7 +161,7 @@ impl Collector {
         ensures bound { length self.new.sets ≤ self.new.size }
         ensures sets { self.new.sets ≡ self.old.sets }
         ensures ok { IsOk result }
-        ensures answer { IfOk result (λ offer. AnswersArrival self.old (At None (MessageArp1006 message)) offer self.new) }
+        ensures answer { IfOk result (λ offer. AnswersArrival self.old (At None (message_of_1006 message)) offer self.new) }
         ensures closed { IfOk result (λ offer. ClosesBelow offer self.new.sets) }
         ensures least_closes { IfOk result (λ offer. ClosesLeast self.old.size self.old.sets offer) }
     {

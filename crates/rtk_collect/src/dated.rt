@@ -1,11 +1,12 @@
 //! A message with its epoch.
 
-ghost use Rattle.std.specs.Prelude.{◌≡◌};
+ghost use Rattle.std.specs.Prelude.{◌≡◌, IfSome, IfNone};
 ghost use Rattle.std.specs.Option.{is_some};
+ghost use Rattle.rtk_message.specs.AnyDecoded as any;
 ghost use Rattle.rtk_message.specs.Decoded.{IsValid, tow_of};
-ghost use Rattle.rtk_collect.specs.Arrival.{At, epoch_of, message_of};
+ghost use Rattle.rtk_collect.specs.Arrival.{At, epoch_of, message_of, IsWide};
 
-use rtk_message::Message;
+use rtk_message::{AnyMessage, Message, Msm};
 use rtk_obs::GpsMs;
 use std::marker::Model;
 
@@ -15,22 +16,30 @@ use std::marker::Model;
 /// A 1005 or 1006 has no time, and so no epoch.
 #[derive(Drop)]
 pub struct Dated<'a> {
-    pub(crate) message: &'a Message,
+    pub(crate) message: Borrowed<'a>,
     pub(crate) epoch: Option<GpsMs>,
+}
+
+/// A borrowed message: one of the four types, or a 1075, 1076 or 1077.
+#[derive(Clone, Copy, Drop)]
+pub(crate) enum Borrowed<'a> {
+    Message(&'a Message),
+    Msm(&'a Msm),
 }
 
 // Clauses see an arrival: the epoch in ms and the message.
 impl<'a> Model for Dated<'a> {
     ghost use Rattle.std.specs.Prelude.{◌≡◌};
     ghost use Rattle.std.specs.Option.{is_some};
-    ghost use Rattle.rtk_message.specs.Decoded.{IsValid, tow_of};
+    ghost use Rattle.rtk_message.specs.AnyDecoded.{IsValid, tow_of};
     ghost use Rattle.rtk_collect.specs.Arrival.{Arrival, At};
+    ghost use Rattle.rtk_collect.specs.Steps.Borrowed.{borrowed};
 
     ghost Value = { Arrival };
 
-    ghost view = { λ d. At d.epoch d.message.now };
+    ghost view = { λ d. At d.epoch (borrowed d.message) };
 
-    ghost invariant = { λ d. IsValid d.message.now × (is_some d.epoch ≡ is_some (tow_of d.message.now)) };
+    ghost invariant = { λ d. IsValid (borrowed d.message) × (is_some d.epoch ≡ is_some (tow_of (borrowed d.message))) };
 }
 
 impl<'a> Dated<'a> {
@@ -38,23 +47,58 @@ impl<'a> Dated<'a> {
     pub fn new(message: &'a Message, epoch: Option<GpsMs>) -> Dated<'a>
         requires fits { IsValid message.now }
         requires has_epoch { is_some epoch ≡ is_some (tow_of message.now) }
-        ensures { result ≡ At epoch message.now }
+        ensures { result ≡ At epoch (AnyMessage.Message message.now) }
     {
-        Dated { message, epoch }
+        Dated {
+            message: Borrowed::Message(message),
+            epoch,
+        }
     }
 
-    /// The message.
-    pub fn message(&self) -> &'a Message
-        ensures value { result.now ≡ message_of self.now }
-        ensures fits { IsValid result.now }
+    /// A message of a wider set with its epoch, which is `None` exactly for 1005 and 1006.
+    pub fn of_any(message: &'a AnyMessage, epoch: Option<GpsMs>) -> Dated<'a>
+        requires fits { any.IsValid message.now }
+        requires has_epoch { is_some epoch ≡ is_some (any.tow_of message.now) }
+        ensures { result ≡ At epoch message.now }
     {
-        self.message
+        match message {
+            AnyMessage::Message(message) => Dated {
+                message: Borrowed::Message(message),
+                epoch,
+            },
+            AnyMessage::Msm(message) => Dated {
+                message: Borrowed::Msm(message),
+                epoch,
+            },
+        }
+    }
+
+    /// The message; `None` exactly for a 1075, 1076 or 1077.
+    pub fn message(&self) -> Option<&'a Message>
+        ensures value { IfSome result (λ m. AnyMessage.Message m.now ≡ message_of self.now) }
+        ensures fits { IfSome result (λ m. IsValid m.now) }
+        ensures none { IfNone result (IsWide (message_of self.now)) }
+    {
+        match self.message {
+            Borrowed::Message(message) => Some(message),
+            Borrowed::Msm(_) => None,
+        }
+    }
+
+    /// The message number (DF002).
+    pub fn number(&self) -> u16
+        ensures { result ≡ any.number_of (message_of self.now) }
+    {
+        match self.message {
+            Borrowed::Message(message) => message.number(),
+            Borrowed::Msm(message) => message.kind.number(),
+        }
     }
 
     /// The epoch; `None` exactly for 1005 and 1006.
     pub fn epoch(&self) -> Option<GpsMs>
         ensures value { result ≡ epoch_of self.now }
-        ensures has_epoch { is_some result ≡ is_some (tow_of (message_of self.now)) }
+        ensures has_epoch { is_some result ≡ is_some (any.tow_of (message_of self.now)) }
     {
         self.epoch
     }

@@ -16,8 +16,8 @@ use std::mem::replace;
 
 /// An epoch with its cells: one for each satellite, code and kind of message, at most 1,024.
 ///
-/// Those that came in a 1074 stand in one list, those that came in a 1004 in another; each rises by
-/// satellite and code. The satellites are 1 to 32; a strength is absent, or 250 to 63,750 thousandths
+/// Those that came in an MSM (1074 to 1077) stand in one list, those that came in a 1004 in another;
+/// each rises by satellite and code. The satellites are 1 to 32; a strength is absent, or 250 to 63,750 thousandths
 /// of a dB-Hz in steps of 250.
 #[derive(Drop)]
 pub struct EpochSet {
@@ -110,7 +110,7 @@ impl EpochSet {
         self.epoch
     }
 
-    /// The cells that came in a 1074.
+    /// The cells that came in an MSM (1074 to 1077).
     pub fn msm_cells(&self) -> &[CellEntry]
         ensures value { result.now ≡ filter (is_from Msm) self.now.cells }
         ensures rises { KeysRise result.now }

@@ -86,7 +86,7 @@ pub fn openings_do_not_conflict()
     ensures closes { ClosingConflictsNot }
 {}
 
-/// In the order of an epoch's cells the first of a satellite and code came in a 1074, if there is
+/// In the order of an epoch's cells the first of a satellite and code came in an MSM, if there is
 /// such a cell, else in a 1004.
 pub fn first_is_preferred()
     ensures { FirstIsPreferred }

@@ -28,7 +28,7 @@ fn key_of(entry: &CellEntry) -> usize
     ensures { result ≡ key entry.now }
 {
     let place = usize::from(entry.satellite) * 16 + entry.code.place();
-    // A 1074 is the kind with the number 1, and stands before a 1004.
+    // An MSM is the kind with the number 1, and stands before a 1004.
     place * 2 + 1 - entry.cell.source as usize
 }
 

@@ -1,7 +1,7 @@
 -- What the answer of a window says of the lines, the counts and the closed epochs.
 use Rattle.std.proofs.Common.{◌≡◌, ℕ, List, [], ◌∷◌, ◌++◌, Option, refl, ap, sym, ◌∙◌}
 use Rattle.std.specs.Prelude.{option_to_list}
-use Rattle.rtk_message.specs.Decoded.{number_of}
+use Rattle.rtk_message.specs.AnyDecoded.{number_of}
 use Rattle.rtk_collect.specs.declared.offer.Offer.{Offer}
 use Rattle.rtk_collect.specs.declared.offer.Offer.TheVariants.{Taken, Conflict, Repeat, Late}
 use Rattle.rtk_collect.specs.EpochSet.{EpochSetView}

@@ -1,16 +1,15 @@
 -- One arrival: what the conversion represents after it, and what was written.
 use Rattle.std.proofs.Common.{◌≡◌, ℕ, Bool, List, [], ◌∷◌, ◌++◌, Option, None, Some, refl, ap, sym, subst, ◌∙◌, ℤ, pos, inl}
 use Rattle.std.specs.Prelude.{option_to_list, option_map}
-use Rattle.rtk_message.specs.declared.message.Message.{Message}
-use Rattle.rtk_message.specs.declared.message.Message.TheVariants.{Arp1005, Arp1006}
+use Rattle.rtk_message.specs.declared.any_message.AnyMessage.{AnyMessage as Message}
 use Rattle.rtk_message.specs.declared.arp1005.Arp1005.{Arp1005 as Message1005}
 use Rattle.rtk_message.specs.declared.arp1006.Arp1006.{Arp1006 as Message1006}
-use Rattle.rtk_message.specs.declared.fault.DecodeFault.{DecodeFault}
-use Rattle.rtk_message.specs.Decoded.{number_of}
+use Rattle.rtk_message.specs.declared.any_fault.AnyFault.{AnyFault}
+use Rattle.rtk_message.specs.AnyDecoded.{number_of}
 use Rattle.rtk_obs.specs.declared.position.Position.{Position}
 use Rattle.rtk_collect.specs.declared.offer.Offer.{Offer}
 use Rattle.rtk_collect.specs.EpochSet.{EpochSetView}
-use Rattle.rtk_collect.specs.Arrival.{Arrival, epoch_of, message_of}
+use Rattle.rtk_collect.specs.Arrival.{Arrival, epoch_of, message_of, message_of_1005, message_of_1006}
 use Rattle.rtk_collect.specs.Accepted.{station, closed}
 use Rattle.rtk_collect.specs.Answer.{Class, IsRightAnswer, class_of}
 use Rattle.rtk_collect.specs.Collector.{CollectorView, RepresentsArrivals}
@@ -49,7 +48,7 @@ fields-same : (x y z : ℤ) (h : ℕ) (x' y' z' : ℤ) (h' : ℕ) → x ≡ x' �
 fields-same x y z h x' y' z' h' ex ey ez eh = cc
 
 site-same : (short : Option Message1005) (tall : Option Message1006) (p : Position) → IsPosition short tall p
-    → position_view p ≡ site_of_stations (option_map Arp1005 short) (option_map Arp1006 tall)
+    → position_view p ≡ site_of_stations (option_map message_of_1005 short) (option_map message_of_1006 tall)
 site-same short (Some m) p h = fields-same p.x p.y p.z p.height m.arp.x m.arp.y m.arp.z m.height h.0 h.1 h.2 h.3
 site-same (Some m) None p h = fields-same p.x p.y p.z p.height m.x m.y m.z 0 h.0 h.1 h.2 h.3
 site-same None None p h = fields-same p.x p.y p.z p.height (pos 0) (pos 0) (pos 0) 0 h.0 h.1 h.2 h.3
@@ -58,7 +57,7 @@ pub site-kept : (n : ℕ) (w : CollectorView) (arrivals : List Arrival) (p : Pos
     → position_view p ≡ site_of_kept n arrivals
 site-kept n w arrivals p size holds is =
     site-same w.arp1005 w.arp1006 p (is w.arp1005 w.arp1006 holds.arp1005 holds.arp1006)
-    ∙ ap (λ (m : Option Message). site_of_stations m (option_map Arp1006 w.arp1006)) (holds.arp1005 ∙ ap (λ (k : ℕ). station k 1005 arrivals) size)
+    ∙ ap (λ (m : Option Message). site_of_stations m (option_map message_of_1006 w.arp1006)) (holds.arp1005 ∙ ap (λ (k : ℕ). station k 1005 arrivals) size)
     ∙ ap (λ (m : Option Message). site_of_stations (station n 1005 arrivals) m) (holds.arp1006 ∙ ap (λ (k : ℕ). station k 1006 arrivals) size)
 
 -- ---- an arrival
@@ -196,7 +195,7 @@ arrives-foreign {s} {w} {c} {k} {k'} {b} {b'} {link} payload {o} comes counts = 
   },
 )
 
-pub arrives-refused : {s : SetupView} {w : CollectorView} {c : ClosedEpochsView} {k k' : Counts} {b b' : Bool} {link : ℕ} (payload : List ℕ) {fault : DecodeFault} {o : Written} {report : Option (List ℕ)} → IsClassOfPayload s payload (Refused fault)
+pub arrives-refused : {s : SetupView} {w : CollectorView} {c : ClosedEpochsView} {k k' : Counts} {b b' : Bool} {link : ℕ} (payload : List ℕ) {fault : AnyFault} {o : Written} {report : Option (List ℕ)} → IsClassOfPayload s payload (Refused fault)
     → k' ≡ record (one_frame_more k) { refused = count_after k.refused } → report ≡ with_more o.report (refused_line link fault) → AcceptsFrame (state s w c k b) link payload (state s w c k' b') o (written o.file report)
 arrives-refused {s} {w} {c} {k} {k'} {b} {b'} {link} payload {fault} {o} {report} comes counts wrote = λ before rep. (
   Refused fault,
@@ -208,7 +207,7 @@ arrives-refused {s} {w} {c} {k} {k'} {b} {b'} {link} payload {fault} {o} {report
   },
 )
 
-pub breaks-refused : {s : SetupView} {w : CollectorView} {c : ClosedEpochsView} {k : Counts} {b : Bool} {link : ℕ} (payload : List ℕ) {fault : DecodeFault} {o : Written} {report : Option (List ℕ)} → IsClassOfPayload s payload (Refused fault)
+pub breaks-refused : {s : SetupView} {w : CollectorView} {c : ClosedEpochsView} {k : Counts} {b : Bool} {link : ℕ} (payload : List ℕ) {fault : AnyFault} {o : Written} {report : Option (List ℕ)} → IsClassOfPayload s payload (Refused fault)
     → TakesPart o.report report (refused_line link fault) → BreaksOffAtFrame (state s w c k b) link payload o (written o.file report)
 breaks-refused {s} {w} {c} {k} {b} {link} payload {fault} {o} {report} comes part = λ before rep. (
   Refused fault,

@@ -4,10 +4,12 @@ use Rattle.std.proofs.lemmas.Grind.{common_steps}
 use Rattle.std.proofs.lemmas.List.{append-nil}
 use Rattle.std.specs.Borrow.{Bor}
 use Rattle.rtk_bits.specs.Bits.{bits}
-use Rattle.rtk_message.specs.declared.message.Message.{Message}
-use Rattle.rtk_message.specs.declared.fault.DecodeFault.{DecodeFault}
+use Rattle.rtk_message.specs.declared.any_message.AnyMessage.{AnyMessage as Message}
+use Rattle.rtk_message.specs.declared.any_fault.AnyFault.{AnyFault}
 use Rattle.rtk_message.specs.Fields.{week_ms}
-use Rattle.rtk_message.specs.Decoded.{Decodes, tow_of}
+use Rattle.rtk_message.specs.declared.accepted.Accepted.{Accepted}
+use Rattle.rtk_message.specs.Accepted.{only}
+use Rattle.rtk_message.specs.AnyDecoded.{DecodesBy, tow_of}
 use Rattle.rtk_obs.specs.Dating.{IsDated}
 use Rattle.rtk_collect.specs.Arrival.{Arrival, At}
 use Rattle.rtk_frame.specs.Frames.{final_frames, frames, payloads, pending}
@@ -34,10 +36,10 @@ use Rattle.rtk_convert.proofs.WritingLemmas.{writes-none, writes-on}
 -- ---- a payload has one class
 
 -- bits decode to one message or fault
-decodes-once : (bs : List Bool) (r s : Result Message DecodeFault) → Decodes bs r → Decodes bs s → r ≡ s
-decodes-once bs (Ok m) s a b = sym (b.only m a.message)
-decodes-once bs (Err f) (Ok n) a b = a.only n b.message
-decodes-once bs (Err f) (Err g) a b = let e : Some f ≡ Some g = sym a.fault ∙ b.fault in cc
+decodes-once : (k : Accepted) (bs : List Bool) (r s : Result Message AnyFault) → DecodesBy k bs r → DecodesBy k bs s → r ≡ s
+decodes-once k bs (Ok m) s a b = sym (b.only m a.accepted a.message)
+decodes-once k bs (Err f) (Ok n) a b = a.only n b.accepted b.message
+decodes-once k bs (Err f) (Err g) a b = let e : Some f ≡ Some g = sym a.fault ∙ b.fault in cc
 
 dated-once : (near tow t u : ℕ) → IsDated near tow t → IsDated near tow u → t ≡ u
 dated-once near tow t u a b =
@@ -62,7 +64,7 @@ message-once s m (At e x) (At f y) p q =
     let epochs : e ≡ f = epoch-once s.near (tow_of m) e f p.1 q.1 in
     cc
 
-class-once : (s : SetupView) (r : Result Message DecodeFault) (f g : FrameClass) → IsClassOfReading s r f → IsClassOfReading s r g → f ≡ g
+class-once : (s : SetupView) (r : Result Message AnyFault) (f g : FrameClass) → IsClassOfReading s r f → IsClassOfReading s r g → f ≡ g
 class-once s (Err fault) f g p q = p ∙ sym q
 class-once s (Ok m) OtherMessage g p q = absurd p
 class-once s (Ok m) (Refused fault) g p q = absurd p
@@ -77,8 +79,8 @@ class-once s (Ok m) (Dated a) (Dated b) p q = ap Dated (message-once s m a b p.1
 
 pub comes-once : (s : SetupView) (payload : List ℕ) (f g : FrameClass) → IsClassOfPayload s payload f → IsClassOfPayload s payload g → f ≡ g
 comes-once s payload f g (r, decodes, is) (r', decodes', is') =
-    let same : r' ≡ r = decodes-once (bits payload) r' r decodes' decodes in
-    class-once s r f g is (subst (λ (x : Result Message DecodeFault). IsClassOfReading s x g) same is')
+    let same : r' ≡ r = decodes-once (only s.msm) (bits payload) r' r decodes' decodes in
+    class-once s r f g is (subst (λ (x : Result Message AnyFault). IsClassOfReading s x g) same is')
 
 -- ---- what was written
 

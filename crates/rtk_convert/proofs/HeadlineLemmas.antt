@@ -3,8 +3,8 @@ use Rattle.std.proofs.Common.{◌≡◌, ℕ, zero, suc, inl, inr, true, List, [
 use Rattle.std.specs.Prelude.{◌↔◌}
 use Rattle.std.proofs.lemmas.List.{append-nil}
 use Rattle.rtk_frame.specs.Stream.{with_more}
-use Rattle.rtk_message.specs.declared.message.Message.{Message}
-use Rattle.rtk_message.specs.Decoded.{number_of}
+use Rattle.rtk_message.specs.declared.any_message.AnyMessage.{AnyMessage as Message}
+use Rattle.rtk_message.specs.AnyDecoded.{number_of}
 use Rattle.rtk_collect.specs.Arrival.{Arrival, At, epoch_of, message_of}
 use Rattle.rtk_collect.specs.Accepted.{kept, station}
 use Rattle.rtk_collect.specs.Answer.{class_of, conflicts_of, LateClass}

@@ -6,16 +6,18 @@ use Rattle.std.proofs.lemmas.Bool.{cases_Bool, cases_order}
 use Rattle.std.proofs.lemmas.Int.{ints}
 use Rattle.std.proofs.lemmas.List.Elements.{All-nil, All-from_recursion, recursion_from_All}
 use Rattle.rtk_bits.specs.Bits.{bits}
-use Rattle.rtk_message.specs.declared.message.Message.{Message}
+use Rattle.rtk_message.specs.declared.any_message.AnyMessage.{AnyMessage as Message}
+use Rattle.rtk_message.specs.declared.any_message.AnyMessage.TheVariants as any
 use Rattle.rtk_message.specs.declared.message.Message.TheVariants.{Obs1004, Arp1005, Arp1006, Msm1074}
-use Rattle.rtk_message.specs.declared.fault.DecodeFault.{DecodeFault}
-use Rattle.rtk_message.specs.declared.fault.DecodeFault.TheVariants.{NoNumber, Other, Short, EpochRange, TooManyCells}
-use Rattle.rtk_message.specs.Decoded.{Decodes, IsValid, number_of, tow_of}
+use Rattle.rtk_message.specs.declared.any_fault.AnyFault.{AnyFault}
+use Rattle.rtk_message.specs.declared.any_fault.AnyFault.TheVariants.{NoNumber, Other, Short, EpochRange, TooManyCells}
+use Rattle.rtk_message.specs.Accepted.{only}
+use Rattle.rtk_message.specs.AnyDecoded.{DecodesBy, IsValid, number_of, tow_of}
 use Rattle.rtk_obs.specs.declared.cell.CellEntry.{CellEntry}
 use Rattle.rtk_obs.specs.Cell.{IsInRange}
 use Rattle.rtk_obs.specs.Dating.{IsReference}
 use Rattle.rtk_obs.specs.Coordinates.{IsCoordinate}
-use Rattle.rtk_obs.proofs.PublicLaws.{fields_of_valid, cells_in_range-1004, cells_in_range-1074}
+use Rattle.rtk_obs.proofs.PublicLaws.{fields_of_valid, cells_in_range-1004, cells_in_range-1074, cells_in_range-msm}
 use Rattle.rtk_collect.specs.EpochSet.{EpochSetView, joined}
 use Rattle.rtk_collect.specs.Arrival.{Arrival, At, cells_of}
 use Rattle.rtk_collect.specs.Late.{late}
@@ -48,14 +50,14 @@ timed near (Some w) (Some t) r h = let before = h.before in let to = r.to in ome
 timed near None (Some t) r h = absurd h
 timed near (Some w) None r h = absurd h
 
-good-by : (s : SetupView) (payload : List ℕ) (r : Result Message DecodeFault) (e : Option ℕ) (m : Message) → IsReference s.near → Decodes (bits payload) r → IsClassOfReading s r (Dated (At e m))
+good-by : (s : SetupView) (payload : List ℕ) (r : Result Message AnyFault) (e : Option ℕ) (m : Message) → IsReference s.near → DecodesBy (only s.msm) (bits payload) r → IsClassOfReading s r (Dated (At e m))
     → IsGoodArrival (At e m)
 good-by s payload (Ok x) e m near d f = (subst IsValid (sym f.1.0) d.message.valid, timed s.near (tow_of x) e near f.1.1)
 good-by s payload (Err NoNumber) e m near d f = cc
 good-by s payload (Err (Other number)) e m near d f = cc
 good-by s payload (Err (Short number)) e m near d f = cc
 good-by s payload (Err (EpochRange number)) e m near d f = cc
-good-by s payload (Err TooManyCells) e m near d f = cc
+good-by s payload (Err (TooManyCells number)) e m near d f = cc
 
 and-good : (s : SetupView) (f : FrameClass) (before : List Arrival) → IsReference s.near → (payload : List ℕ) → IsClassOfPayload s payload f → AllByRecursion IsGoodArrival before → AllByRecursion IsGoodArrival (and_arrived f before)
 and-good s OtherMessage before near payload c h = h
@@ -70,10 +72,11 @@ arrivals-good s (f ∷ before) near h = and-good s f.class (arrivals before) nea
 -- ---- so are the kept epochs
 
 cells-good : (m : Message) → IsValid m → All IsInRange (cells_of m)
-cells-good (Obs1004 m) v = cells_in_range-1004 m.satellites (fields_of_valid m v)
-cells-good (Arp1005 m) v = All-nil IsInRange
-cells-good (Arp1006 m) v = All-nil IsInRange
-cells-good (Msm1074 m) v = cells_in_range-1074 m v
+cells-good (any.Message (Obs1004 m)) v = cells_in_range-1004 m.satellites (fields_of_valid m v)
+cells-good (any.Message (Arp1005 m)) v = All-nil IsInRange
+cells-good (any.Message (Arp1006 m)) v = All-nil IsInRange
+cells-good (any.Message (Msm1074 m)) v = cells_in_range-1074 m v
+cells-good (any.Msm m) v = cells_in_range-msm m v
 
 joined-good : (cs : List CellEntry) (x : EpochSetView) → All IsInRange cs → IsGoodEpoch x → IsGoodEpoch (joined cs x)
 joined-good cs x h g = record { time = g.time; cells = with_cells-all IsInRange cs x.cells h g.cells }
@@ -127,17 +130,19 @@ zeros-good =
 
 site_of_1005-good : (o : Option Message) → IfValid o → IsPositionView (site_of_1005 o)
 site_of_1005-good None v = zeros-good
-site_of_1005-good (Some (Obs1004 m)) v = zeros-good
-site_of_1005-good (Some (Arp1005 m)) v = (coordinate m.x v.1.1.1.1.1.1.0, coordinate m.y v.1.1.1.1.1.1.1.1.1.0, coordinate m.z v.1.1.1.1.1.1.1.1.1.1.1.0, omega arith)
-site_of_1005-good (Some (Arp1006 m)) v = zeros-good
-site_of_1005-good (Some (Msm1074 m)) v = zeros-good
+site_of_1005-good (Some (any.Message (Obs1004 m))) v = zeros-good
+site_of_1005-good (Some (any.Message (Arp1005 m))) v = (coordinate m.x v.1.1.1.1.1.1.0, coordinate m.y v.1.1.1.1.1.1.1.1.1.0, coordinate m.z v.1.1.1.1.1.1.1.1.1.1.1.0, omega arith)
+site_of_1005-good (Some (any.Message (Arp1006 m))) v = zeros-good
+site_of_1005-good (Some (any.Message (Msm1074 m))) v = zeros-good
+site_of_1005-good (Some (any.Msm m)) v = zeros-good
 
 site-good : (short tall : Option Message) → IfValid short → IfValid tall → IsPositionView (site_of_stations short tall)
 site-good short None s t = site_of_1005-good short s
-site-good short (Some (Obs1004 m)) s t = site_of_1005-good short s
-site-good short (Some (Arp1005 m)) s t = site_of_1005-good short s
-site-good short (Some (Arp1006 m)) s v = (coordinate m.arp.x v.1.1.1.1.1.1.0, coordinate m.arp.y v.1.1.1.1.1.1.1.1.1.0, coordinate m.arp.z v.1.1.1.1.1.1.1.1.1.1.1.0, v.1.1.1.1.1.1.1.1.1.1.1.1.0)
-site-good short (Some (Msm1074 m)) s t = site_of_1005-good short s
+site-good short (Some (any.Message (Obs1004 m))) s t = site_of_1005-good short s
+site-good short (Some (any.Message (Arp1005 m))) s t = site_of_1005-good short s
+site-good short (Some (any.Message (Arp1006 m))) s v = (coordinate m.arp.x v.1.1.1.1.1.1.0, coordinate m.arp.y v.1.1.1.1.1.1.1.1.1.0, coordinate m.arp.z v.1.1.1.1.1.1.1.1.1.1.1.0, v.1.1.1.1.1.1.1.1.1.1.1.1.0)
+site-good short (Some (any.Message (Msm1074 m))) s t = site_of_1005-good short s
+site-good short (Some (any.Msm m)) s t = site_of_1005-good short s
 
 -- ---- so the file is the text of a table
 

@@ -4,10 +4,11 @@ use Rattle.std.specs.Prelude.{if◌then◌else◌}
 use Rattle.std.proofs.lemmas.Bool.{cases_Bool}
 use Rattle.std.proofs.lemmas.List.{append-nil, length-append}
 use Rattle.rtk_bits.specs.Bits.{bits}
-use Rattle.rtk_message.specs.declared.message.Message.{Message}
-use Rattle.rtk_message.specs.declared.fault.DecodeFault.{DecodeFault}
-use Rattle.rtk_message.specs.declared.fault.DecodeFault.TheVariants.{NoNumber, Other, Short, EpochRange, TooManyCells}
-use Rattle.rtk_message.specs.Decoded.{Decodes, IsValid, number_of}
+use Rattle.rtk_message.specs.declared.any_message.AnyMessage.{AnyMessage as Message}
+use Rattle.rtk_message.specs.declared.any_fault.AnyFault.{AnyFault}
+use Rattle.rtk_message.specs.declared.any_fault.AnyFault.TheVariants.{NoNumber, Other, Short, EpochRange, TooManyCells}
+use Rattle.rtk_message.specs.Accepted.{only}
+use Rattle.rtk_message.specs.AnyDecoded.{DecodesBy, IsValid, number_of}
 use Rattle.rtk_obs.specs.declared.cell.CellEntry.{CellEntry}
 use Rattle.rtk_collect.specs.EpochSet.{EpochSetView}
 use Rattle.rtk_collect.specs.Arrival.{Arrival, At, cells_of, message_of}
@@ -26,13 +27,13 @@ use Rattle.rtk_convert.proofs.SoFarLemmas.{so_far-stays}
 
 -- ---- an arrival holds a valid message
 
-valid-by : (s : SetupView) (payload : List ℕ) (r : Result Message DecodeFault) (e : Option ℕ) (m : Message) → Decodes (bits payload) r → IsClassOfReading s r (Dated (At e m)) → IsValid m
+valid-by : (s : SetupView) (payload : List ℕ) (r : Result Message AnyFault) (e : Option ℕ) (m : Message) → DecodesBy (only s.msm) (bits payload) r → IsClassOfReading s r (Dated (At e m)) → IsValid m
 valid-by s payload (Ok x) e m d f = subst IsValid (sym f.1.0) d.message.valid
 valid-by s payload (Err NoNumber) e m d f = cc
 valid-by s payload (Err (Other number)) e m d f = cc
 valid-by s payload (Err (Short number)) e m d f = cc
 valid-by s payload (Err (EpochRange number)) e m d f = cc
-valid-by s payload (Err TooManyCells) e m d f = cc
+valid-by s payload (Err (TooManyCells number)) e m d f = cc
 
 comes-valid : (s : SetupView) (payload : List ℕ) (a : Arrival) → IsClassOfPayload s payload (Dated a) → IsValid (message_of a)
 comes-valid s payload (At e m) c = valid-by s payload c.0 e m c.1 c.2

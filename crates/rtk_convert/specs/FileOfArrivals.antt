@@ -2,7 +2,8 @@
 -- arrivals are newest first.
 use Rattle.std.specs.Prelude.{ℕ, pos, List, Option, Some}
 use Rattle.rtk_message.specs.declared.arp1005.Arp1005.{Arp1005 as Message1005}
-use Rattle.rtk_message.specs.declared.message.Message.{Message}
+use Rattle.rtk_message.specs.declared.any_message.AnyMessage.{AnyMessage as Message}
+use Rattle.rtk_message.specs.declared.any_message.AnyMessage.TheVariants as any
 use Rattle.rtk_message.specs.declared.message.Message.TheVariants.{Arp1005, Arp1006}
 use Rattle.rtk_collect.specs.Arrival.{Arrival}
 use Rattle.rtk_collect.specs.Accepted.{station, kept, closed}
@@ -21,13 +22,13 @@ site_of arp height = record { x = arp.x; y = arp.y; z = arp.z; height = height }
 
 -- the position of a 1005, with no height
 abbrev pub site_of_1005 : Option Message → PositionView
-site_of_1005 (Some (Arp1005 m)) = site_of m 0
+site_of_1005 (Some (any.Message (Arp1005 m))) = site_of m 0
 site_of_1005 _ = no_site
 
 -- the position and height (DF028) of the 1006, else the position of the 1005, else zeros (this
 -- project's rule)
 abbrev pub site_of_stations : Option Message → Option Message → PositionView
-site_of_stations arp1005 (Some (Arp1006 m)) = site_of m.arp m.height
+site_of_stations arp1005 (Some (any.Message (Arp1006 m))) = site_of m.arp m.height
 site_of_stations arp1005 _ = site_of_1005 arp1005
 
 -- the position by the station messages that are kept

@@ -1,10 +1,11 @@
 -- What the payload of a frame means for a conversion.
 use Rattle.std.specs.Prelude.{◌≡◌, ◌≢◌, ℕ, List, [], ◌∷◌, Option, None, Some, Result, Ok, Err}
 use Rattle.rtk_bits.specs.Bits.{bits}
-use Rattle.rtk_message.specs.declared.message.Message.{Message}
-use Rattle.rtk_message.specs.declared.fault.DecodeFault.{DecodeFault}
-use Rattle.rtk_message.specs.declared.fault.DecodeFault.TheVariants.{NoNumber, Other, Short, EpochRange, TooManyCells}
-use Rattle.rtk_message.specs.Decoded.{Decodes, station_of, tow_of}
+use Rattle.rtk_message.specs.declared.any_message.AnyMessage.{AnyMessage as Message}
+use Rattle.rtk_message.specs.declared.any_fault.AnyFault.{AnyFault}
+use Rattle.rtk_message.specs.declared.any_fault.AnyFault.TheVariants.{NoNumber, Other, Short, EpochRange, TooManyCells}
+use Rattle.rtk_message.specs.AnyDecoded.{DecodesBy, station_of, tow_of}
+use Rattle.rtk_message.specs.Accepted.{only}
 use Rattle.rtk_obs.specs.Dating.{IsDated}
 use Rattle.rtk_collect.specs.Arrival.{Arrival, At}
 use Rattle.rtk_convert.specs.Setup.{SetupView}
@@ -24,25 +25,25 @@ abbrev pub IsDatedMessage : SetupView → Message → Arrival → Type 0
 IsDatedMessage s m (At epoch message) = (message ≡ m) × IsEpochOf s.near (tow_of m) epoch
 
 -- the class of a payload that is no message
-abbrev pub class_of_fault : DecodeFault → FrameClass
+abbrev pub class_of_fault : AnyFault → FrameClass
 class_of_fault NoNumber = Refused NoNumber
 class_of_fault (Other number) = OtherMessage
 class_of_fault (Short number) = Refused (Short number)
 class_of_fault (EpochRange number) = Refused (EpochRange number)
-class_of_fault TooManyCells = Refused TooManyCells
+class_of_fault (TooManyCells number) = Refused (TooManyCells number)
 
 -- formula
 -- the class of what a payload is read as
-abbrev pub IsClassOfReading : SetupView → Result Message DecodeFault → FrameClass → Type 0
+abbrev pub IsClassOfReading : SetupView → Result Message AnyFault → FrameClass → Type 0
 IsClassOfReading s (Err fault) f = f ≡ class_of_fault fault
 IsClassOfReading s (Ok m) OtherMessage = ⊥
 IsClassOfReading s (Ok m) (Refused fault) = ⊥
 IsClassOfReading s (Ok m) Foreign = station_of m ≢ s.station
 IsClassOfReading s (Ok m) (Dated a) = (station_of m ≡ s.station) × IsDatedMessage s m a
 
--- the class of a payload
+-- the class of a payload, by the messages that are converted
 abbrev pub IsClassOfPayload : SetupView → List ℕ → FrameClass → Type 0
-IsClassOfPayload s payload f = (reading : Result Message DecodeFault) × Decodes (bits payload) reading × IsClassOfReading s reading f
+IsClassOfPayload s payload f = (reading : Result Message AnyFault) × DecodesBy (only s.msm) (bits payload) reading × IsClassOfReading s reading f
 
 -- a found frame: the link on which it came, counted from 0, and the class of its payload. Lists of
 -- found frames are newest first.

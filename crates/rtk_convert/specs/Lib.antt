@@ -9,6 +9,7 @@ pub mod Failure
 pub mod Records
 pub mod Writing
 pub mod FrameClass
+pub mod SetupLaws
 pub mod FileOfArrivals
 pub mod ReportText
 pub mod Report

@@ -2,9 +2,9 @@
 -- conflict, and the counts.
 use Rattle.std.specs.Prelude.{ℕ, List, [], ◌∷◌, ◌++◌, flat_map, codes, Option, None, Some}
 use Rattle.rtk_frame.specs.Stream.{count_after}
-use Rattle.rtk_message.specs.declared.fault.DecodeFault.{DecodeFault}
-use Rattle.rtk_message.specs.FaultCode.{fault_text}
-use Rattle.rtk_message.specs.Decoded.{number_of}
+use Rattle.rtk_message.specs.declared.any_fault.AnyFault.{AnyFault}
+use Rattle.rtk_message.specs.AnyFaultCode.{any_fault_text}
+use Rattle.rtk_message.specs.AnyDecoded.{number_of}
 use Rattle.rtk_collect.specs.declared.conflicts.SatelliteCode.{SatelliteCode}
 use Rattle.rtk_collect.specs.Arrival.{Arrival, epoch_of, message_of}
 use Rattle.rtk_collect.specs.Answer.{Class, LateClass, TakenClass, RepeatClass, ConflictClass, class_of, conflicts_of}
@@ -18,8 +18,8 @@ use Rattle.rtk_convert.specs.declared.counts.Counts.{Counts}
 
 -- formula
 -- as in: link 1 refused M3 1005
-abbrev pub refused_line : ℕ → DecodeFault → List ℕ
-refused_line link fault = link_text link ++ codes " refused " ++ fault_text fault ++ 10 ∷ []
+abbrev pub refused_line : ℕ → AnyFault → List ℕ
+refused_line link fault = link_text link ++ codes " refused " ++ any_fault_text fault ++ 10 ∷ []
 
 -- a line for each cell that conflicts, in the order of the message
 abbrev pub cell_lines : ℕ → ℕ → Option ℕ → List SatelliteCode → List ℕ

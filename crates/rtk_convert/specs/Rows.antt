@@ -18,7 +18,7 @@ use Rattle.rtk_rinex.specs.Record.{EpochTableView}
 
 -- ---- the cell of a satellite and code (this project's rule)
 
--- the cells of an epoch: first the cells of a 1074, then the cells of a 1004
+-- the cells of an epoch: first the cells of an MSM, then the cells of a 1004
 abbrev pub in_turn : List CellEntry → List CellEntry
 in_turn cells = filter (is_from Msm) cells ++ filter (is_from Legacy) cells
 
@@ -30,7 +30,7 @@ abbrev pub first_cell : List CellEntry → ℕ → Code → Option Cell
 first_cell [] satellite code = None
 first_cell (e ∷ cells) satellite code = if is_signal satellite code e then Some e.cell else first_cell cells satellite code
 
--- the cell of a satellite and code at an epoch: the cell of a 1074, even one without any value,
+-- the cell of a satellite and code at an epoch: the cell of an MSM, even one without any value,
 -- else the cell of a 1004
 abbrev pub cell_at : List CellEntry → ℕ → Code → Option Cell
 cell_at cells satellite code = first_cell (in_turn cells) satellite code

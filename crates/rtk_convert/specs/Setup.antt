@@ -1,6 +1,7 @@
 -- What a conversion is set up with.
 use Rattle.std.specs.Prelude.{ℕ, ◌≤◌}
 use Rattle.std.specs.Int.{IsInRange}
+use Rattle.rtk_message.specs.declared.msm_kind.MsmKind.{MsmKind}
 use Rattle.rtk_obs.specs.Dating.{IsReference}
 use Rattle.rtk_rinex.specs.Header.{HeadView, IsHeadView}
 
@@ -12,6 +13,8 @@ pub record SetupView : Type 0 where
   pub head : HeadView
   -- how many epochs are open at once
   pub window : ℕ
+  -- the MSM that is converted beside 1004
+  pub msm : MsmKind
 
 -- constant
 -- a reference station ID has 12 bits (RTCM 10403.3, DF003)

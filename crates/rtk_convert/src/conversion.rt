@@ -17,14 +17,14 @@ ghost use Rattle.rtk_convert.specs.Writing.{written};
 
 use crate::counts::Counts;
 use crate::fault::{ConvertFault, Stream};
-use crate::frame_class::{FrameClass, classify};
+use crate::frame_class::{FrameClass, classify, read};
 use crate::output::{put_last_header, put_lines};
 use crate::records::{ClosedEpochs, close_left};
 use crate::report;
 use crate::setup::Setup;
 use rtk_collect::{Collector, Dated, EpochSet, Offer};
 use rtk_frame::Sink;
-use rtk_message::Decoder;
+use rtk_message::AnyDecoder;
 use rtk_obs::GpsMs;
 use std::alloc::{AllocError, Global};
 use std::marker::Model;
@@ -98,7 +98,7 @@ impl Conversion {
     /// observation of the chosen station, whether it is late or not.
     pub(crate) fn accept_frame<O: Sink, L: Sink>(
         &mut self,
-        decoder: &mut Decoder,
+        decoder: &mut AnyDecoder,
         link: u8,
         payload: &[u8],
         out: &mut O,
@@ -133,7 +133,7 @@ impl Conversion {
     // Handles the payload of a frame. `stopped` stays as it is.
     fn handle_payload<O: Sink, L: Sink>(
         &mut self,
-        decoder: &mut Decoder,
+        decoder: &mut AnyDecoder,
         link: u8,
         payload: &[u8],
         out: &mut O,
@@ -157,7 +157,7 @@ impl Conversion {
         ensures report_failed { NamesFailedWrites Stream.Log result (L.failures log.old) (L.failures log.new) }
     {
         self.counts.frames = self.counts.frames.saturating_add(1);
-        match classify(&self.setup, decoder.read(payload)) {
+        match classify(&self.setup, read(&self.setup, decoder, payload)) {
             FrameClass::OtherMessage => {
                 self.counts.other = self.counts.other.saturating_add(1);
                 Ok(None)
@@ -205,7 +205,7 @@ impl Conversion {
         ensures file_failed { NamesFailedWrites Stream.Out result (O.failures out.old) (O.failures out.new) }
         ensures report_failed { NamesFailedWrites Stream.Log result (L.failures log.old) (L.failures log.new) }
     {
-        let number = dated.message().number();
+        let number = dated.number();
         let epoch = dated.epoch();
         let Ok(offer) = self.collector.offer(dated) else {
             return Err(ConvertFault::OutOfMemory);

@@ -16,7 +16,7 @@ use crate::fault::{ConvertFault, Stream};
 use crate::link::Link;
 use crate::setup::Setup;
 use rtk_frame::{Scanner, Sink};
-use rtk_message::Decoder;
+use rtk_message::AnyDecoder;
 use rtk_obs::GpsMs;
 use std::alloc::Global;
 use std::marker::Model;
@@ -29,7 +29,7 @@ use std::marker::Model;
 #[derive(Drop)]
 pub struct Converter {
     conversion: Conversion,
-    decoder: Decoder,
+    decoder: AnyDecoder,
     links: Vec<Link>,
 }
 
@@ -91,7 +91,7 @@ impl Converter {
         let links = new_links(alloc, links)?;
         Ok(Converter {
             conversion,
-            decoder: Decoder::new(),
+            decoder: AnyDecoder::new(),
             links,
         })
     }

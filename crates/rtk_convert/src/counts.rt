@@ -7,7 +7,7 @@
 pub struct Counts {
     /// All frames found.
     pub frames: u64,
-    /// Frames with another message than 1004, 1005, 1006 and 1074.
+    /// Frames with another message than 1004, 1005, 1006 and the MSM of the setup.
     pub other: u64,
     /// Frames that are cut short or hold what the standard rules out.
     pub refused: u64,

@@ -240,8 +240,8 @@ struct TakenSatellite {
     has_listed: bool,
 }
 
-// Takes the cells of a satellite, which has its place in two lists of cells: first those of a 1074,
-// then those of a 1004 whose code none of a 1074 has. Writes its row.
+// Takes the cells of a satellite, which has its place in two lists of cells: first those of an MSM,
+// then those of a 1004 whose code none of an MSM has. Writes its row.
 fn take_satellite(
     tracks: &mut Tracks,
     epoch: GpsMs,
@@ -300,7 +300,7 @@ fn take_satellite(
 /// last phases of their satellites and codes.
 ///
 /// A cell is compared with the last phase of its satellite and code, however old that is, also if
-/// its code is not listed. Of a satellite and code the cell of a 1074 stands, else that of a 1004. If
+/// its code is not listed. Of a satellite and code the cell of an MSM stands, else that of a 1004. If
 /// memory is refused nothing is said of the lines and the last phases.
 pub(crate) fn push_rows(
     tracks: &mut Tracks,

@@ -1,43 +1,56 @@
 //! What the payload of a frame means for a conversion: its class, and its epoch if it has one.
 
 ghost use Rattle.std.specs.Prelude.{◌≡◌, ◌<◌, IfSome, IfOk};
-ghost use Rattle.rtk_message.specs.Decoded.{IsValid, station_of, tow_of};
+ghost use Rattle.rtk_bits.specs.Bits.{bits};
+ghost use Rattle.rtk_message.specs.Accepted.{only};
+ghost use Rattle.rtk_message.specs.AnyDecoded.{DecodesBy, IsValid, station_of, tow_of};
 ghost use Rattle.rtk_convert.specs.FrameClass.{IsDatedMessage, IsClassOfReading};
 
 use crate::setup::Setup;
 use rtk_collect::Dated;
-use rtk_message::{DecodeFault, Message};
+use rtk_message::{Accepted, AnyDecoder, AnyFault, AnyMessage};
 use rtk_obs::date;
 
 /// What the payload of a frame means for a conversion.
 #[derive(Drop)]
 pub enum FrameClass<'a> {
-    /// A message with another number than the four that are read.
+    /// A message with another number than those that the setup takes.
     OtherMessage,
     /// A payload that is cut short, or that the standard rules out.
-    Refused(DecodeFault),
+    Refused(AnyFault),
     /// A message of another station.
     Foreign,
     /// A message of the chosen station, with its epoch.
     Dated(Dated<'a>),
 }
 
+/// What a payload is read as, by the messages that the setup takes. It is lent until the next call.
+pub(crate) fn read<'a>(
+    setup: &Setup,
+    decoder: &'a mut AnyDecoder,
+    payload: &[u8],
+) -> &'a Result<AnyMessage, AnyFault>
+    ensures { DecodesBy (only setup.now.msm) (bits payload.now) result.now }
+{
+    decoder.read(Accepted::only(setup.msm()), payload)
+}
+
 // A message with its epoch: the moment of its time of week that is nearest to the reference.
-fn dated_message<'a>(setup: &Setup, message: &'a Message) -> Dated<'a>
+fn dated_message<'a>(setup: &Setup, message: &'a AnyMessage) -> Dated<'a>
     requires { IsValid message.now }
     ensures { IsDatedMessage setup.now message.now result }
 {
     let Some(tow) = message.tow() else {
-        return Dated::new(message, None);
+        return Dated::of_any(message, None);
     };
     let epoch = date(setup.near(), tow);
-    Dated::new(message, Some(epoch))
+    Dated::of_any(message, Some(epoch))
 }
 
 /// The class of a payload that is read so: of a message, which it borrows, or of a fault.
 pub(crate) fn classify<'a>(
     setup: &Setup,
-    reading: &'a Result<Message, DecodeFault>,
+    reading: &'a Result<AnyMessage, AnyFault>,
 ) -> FrameClass<'a>
     requires { IfOk reading.now IsValid }
     ensures { IsClassOfReading setup.now reading.now result }
@@ -49,7 +62,7 @@ pub(crate) fn classify<'a>(
             }
             FrameClass::Dated(dated_message(setup, message))
         }
-        Err(DecodeFault::Other { .. }) => FrameClass::OtherMessage,
+        Err(AnyFault::Other { .. }) => FrameClass::OtherMessage,
         Err(fault) => FrameClass::Refused(*fault),
     }
 }

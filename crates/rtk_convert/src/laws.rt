@@ -6,8 +6,10 @@ ghost use Rattle.rtk_convert.specs.CountLaws.{EachFrameInOneClass};
 ghost use Rattle.rtk_convert.specs.FileLaws.{FileIsTable};
 ghost use Rattle.rtk_convert.specs.Headline.{SetHasOneFile};
 ghost use Rattle.rtk_convert.specs.HistoryLaws.{ComesToOne, FeedsToOne, ClosesToOne, EndsAtOne, CallsFindOne, NextIsOne, ReadsComeToOne};
+ghost use Rattle.rtk_convert.specs.SetupLaws.{DefaultTakesFour};
 
 use rtk_collect::{late_arrivals_change_nothing, set_decides};
+use rtk_message::decodes_by_four;
 use rtk_rinex::files_are_tables;
 
 /// The file of every set of messages is the text of a well-formed table, and so is the file of all
@@ -35,6 +37,14 @@ pub fn file_only_grows()
     ensures begins { SoFarBegins }
     ensures header { HeaderIsFinal }
 {}
+
+/// For a setup whose MSM is 1074 the messages are 1004, 1005, 1006 and 1074: the class of a payload
+/// is that by `decode`.
+pub fn default_takes_four()
+    ensures { DefaultTakesFour }
+{
+    decodes_by_four();
+}
 
 /// A payload has one class. So the same calls always find the same frames, and come to the same
 /// history. At most one link is next. So the history alone decides which link is read next, and the

@@ -11,7 +11,7 @@ ghost use Rattle.rtk_convert.specs.Writing.{written};
 use crate::conversion::Conversion;
 use crate::fault::{ConvertFault, Stream};
 use rtk_frame::{Answer, Scanner, Sink};
-use rtk_message::Decoder;
+use rtk_message::AnyDecoder;
 use rtk_obs::GpsMs;
 
 /// A link. It is closed exactly if its scanner has ended.
@@ -41,7 +41,7 @@ impl Link {
         &mut self,
         number: u8,
         conversion: &mut Conversion,
-        decoder: &mut Decoder,
+        decoder: &mut AnyDecoder,
         piece: &[u8],
         out: &mut O,
         log: &mut L,
@@ -83,7 +83,7 @@ impl Link {
         &mut self,
         number: u8,
         conversion: &mut Conversion,
-        decoder: &mut Decoder,
+        decoder: &mut AnyDecoder,
         out: &mut O,
         log: &mut L,
     ) -> Result<(), ConvertFault>

@@ -10,7 +10,7 @@ ghost use Rattle.rtk_convert.specs.ReportText.{civil_text, epoch_text, link_text
 
 use crate::counts::Counts;
 use rtk_collect::{Offer, SatelliteCode};
-use rtk_message::{DecodeFault, put_fault, put_named};
+use rtk_message::{AnyFault, put_any_fault, put_named};
 use rtk_obs::{Civil, GpsMs, civil};
 use std::alloc::{AllocError, Global};
 
@@ -182,17 +182,13 @@ pub(crate) fn offer_lines(
 }
 
 /// The line of a payload that is refused.
-pub(crate) fn refused_line(
-    alloc: Global,
-    link: u8,
-    fault: DecodeFault,
-) -> Result<Vec<u8>, AllocError>
+pub(crate) fn refused_line(alloc: Global, link: u8, fault: AnyFault) -> Result<Vec<u8>, AllocError>
     ensures { IfOk result (λ line. line.items ≡ refused_line link fault) }
 {
     let mut line = Vec::new(alloc);
     put_named(&mut line, b"link ", u64::from(link) + 1)?;
     line.extend_from_slice(b" refused ")?;
-    put_fault(&mut line, fault)?;
+    put_any_fault(&mut line, fault)?;
     line.push(b'\n')?;
     Ok(line)
 }

@@ -5,6 +5,7 @@ ghost use Rattle.rtk_obs.specs.Dating.{IsReference};
 ghost use Rattle.rtk_rinex.specs.Header.{IsHeadView};
 ghost use Rattle.rtk_convert.specs.Setup.{IsSetupView, IsStation, IsWindow};
 
+use rtk_message::MsmKind;
 use rtk_obs::{GpsMs, WEEK_MS};
 use rtk_rinex::Head;
 use std::marker::Model;
@@ -25,13 +26,18 @@ pub enum SetupFault {
 }
 
 /// The station whose messages are converted, the reference near which their times of week are
-/// dated, what is known of the file before its observations, and how many epochs are kept open.
+/// dated, what is known of the file before its observations, how many epochs are kept open, and
+/// which MSM is converted beside 1004.
+///
+/// The messages that are converted are 1004, 1005, 1006 and the MSM. Every other one is counted as
+/// `other`, the three other MSM too.
 #[derive(Drop)]
 pub struct Setup {
     station: u16,
     near: GpsMs,
     head: Head,
     window: usize,
+    msm: MsmKind,
 }
 
 impl Model for Setup {
@@ -39,19 +45,20 @@ impl Model for Setup {
 
     ghost Value = { SetupView };
 
-    ghost view = { λ s. record { station = s.station; near = s.near; head = s.head; window = s.window } };
+    ghost view = { λ s. record { station = s.station; near = s.near; head = s.head; window = s.window; msm = s.msm } };
 
-    ghost invariant = { λ s. IsSetupView (record { station = s.station; near = s.near; head = s.head; window = s.window }) };
+    ghost invariant = { λ s. IsSetupView (record { station = s.station; near = s.near; head = s.head; window = s.window; msm = s.msm }) };
 }
 
 impl Setup {
     ghost use Rattle.rtk_convert.specs.SetupFault.{IsSetupFault};
 
-    /// The setup of these parts, if they are good; else the first cause why there is none.
+    /// The setup of these parts, if they are good; else the first cause why there is none. Its MSM is
+    /// 1074.
     pub fn new(station: u16, near: GpsMs, head: Head, window: usize) -> Result<Setup, SetupFault>
-        ensures setup { IfOk result (λ s. s ≡ record { station = station; near = near; head = head; window = window }) }
+        ensures setup { IfOk result (λ s. s ≡ record { station = station; near = near; head = head; window = window; msm = MsmKind.Msm4 }) }
         ensures good { IfOk result IsSetupView }
-        ensures fault { IfErr result (IsSetupFault (record { station = station; near = near; head = head; window = window })) }
+        ensures fault { IfErr result (IsSetupFault (record { station = station; near = near; head = head; window = window; msm = MsmKind.Msm4 })) }
     {
         if station > 4095 {
             return Err(SetupFault::Station);
@@ -67,7 +74,15 @@ impl Setup {
             near,
             head,
             window,
+            msm: MsmKind::Msm4,
         })
+    }
+
+    /// The same setup with this MSM.
+    pub fn with_msm(self, msm: MsmKind) -> Setup
+        ensures { result ≡ record self { msm = msm } }
+    {
+        Setup { msm, ..self }
     }
 
     /// The station whose messages are converted (DF003).
@@ -100,6 +115,13 @@ impl Setup {
         ensures good { IsWindow result }
     {
         self.window
+    }
+
+    /// Which MSM is converted beside 1004.
+    pub fn msm(&self) -> MsmKind
+        ensures { result ≡ self.now.msm }
+    {
+        self.msm
     }
 }
 

@@ -18,12 +18,12 @@ use Rattle.rtk_message.specs.Arp1006Laws as arp1006
 use Rattle.rtk_message.specs.Msm1074Laws as msm1074
 
 -- the number in the bits, and what is after it
-record Begins (bs : List Bool) (k : ℕ) (fs : List Field) (rest : List Bool) : Type 0 where
+pub record Begins (bs : List Bool) (k : ℕ) (fs : List Field) (rest : List Bool) : Type 0 where
   pub long : ltb (length bs) 12 ≡ false
   pub number : unsigned (take 12 bs) ≡ k
   pub after : drop 12 bs ≡ bits_of_fields fs ++ rest
 
-begins_with : (bs : List Bool) (k : ℕ) (fs : List Field) (rest : List Bool) → k < 2 ^ 12 → bs ≡ bits_of_fields (u 12 k ∷ fs) ++ rest → Begins bs k fs rest
+pub begins_with : (bs : List Bool) (k : ℕ) (fs : List Field) (rest : List Bool) → k < 2 ^ 12 → bs ≡ bits_of_fields (u 12 k ∷ fs) ++ rest → Begins bs k fs rest
 begins_with bs k fs rest small e =
     let g : bs ≡ bits_of 12 k ++ (bits_of_fields fs ++ rest) = e ∙ append_assoc (bits_of 12 k) (bits_of_fields fs) rest in
     let len = length-bits_of 12 k in
@@ -33,7 +33,7 @@ begins_with bs k fs rest small e =
       after = rw g (drop_at (bits_of 12 k) (bits_of_fields fs ++ rest) 12 len);
     }
 
-number_fits : (m : Message) → number_of m < 2 ^ 12
+pub number_fits : (m : Message) → number_of m < 2 ^ 12
 number_fits (Obs1004 m) = omega arith
 number_fits (Arp1005 m) = omega arith
 number_fits (Arp1006 m) = omega arith
@@ -58,7 +58,7 @@ same_number bs m n s t = sym (starts m s).number ∙ (starts n t).number
 same_bits : (bs : List Bool) (m n : Message) (s : Encodes bs m) (t : Encodes bs n) → bits_of_fields (fields_after_number m) ++ s.begins.0 ≡ bits_of_fields (fields_after_number n) ++ t.begins.0
 same_bits bs m n s t = sym (starts m s).after ∙ (starts n t).after
 
-one : (bs : List Bool) (m n : Message) → Encodes bs m → Encodes bs n → m ≡ n
+pub one : (bs : List Bool) (m n : Message) → Encodes bs m → Encodes bs n → m ≡ n
 one bs (Obs1004 m) (Obs1004 n) s t = ap Obs1004 (obs1004.is_unique m n s.begins.0 t.begins.0 s.valid t.valid (same_bits bs (Obs1004 m) (Obs1004 n) s t))
 one bs (Arp1005 m) (Arp1005 n) s t = ap Arp1005 (arp1005.is_unique m n s.begins.0 t.begins.0 s.valid t.valid (same_bits bs (Arp1005 m) (Arp1005 n) s t))
 one bs (Arp1006 m) (Arp1006 n) s t = ap Arp1006 (arp1006.is_unique m n s.begins.0 t.begins.0 s.valid t.valid (same_bits bs (Arp1006 m) (Arp1006 n) s t))

@@ -14,6 +14,13 @@ use Rattle.rtk_message.specs.declared.arp1005.Arp1005 as declared_arp1005
 use Rattle.rtk_message.specs.declared.arp1006.Arp1006 as declared_arp1006
 use Rattle.rtk_message.specs.declared.msm1074.MsmHeader.{MsmHeader}
 use Rattle.rtk_message.specs.declared.msm1074.Msm1074 as declared_msm1074
+use Rattle.rtk_message.specs.declared.msm_kind.MsmKind.{MsmKind}
+use Rattle.rtk_message.specs.declared.msm_kind.MsmKind.TheVariants.{Msm4, Msm5, Msm6, Msm7}
+use Rattle.rtk_message.specs.declared.msm.Msm as declared_msm
+use Rattle.rtk_message.specs.declared.any_fault.AnyFault.{AnyFault}
+use Rattle.rtk_message.specs.declared.any_fault.AnyFault.TheVariants as any_fault
+use Rattle.rtk_message.specs.declared.any_message.AnyMessage.{AnyMessage}
+use Rattle.rtk_message.specs.declared.any_message.AnyMessage.TheVariants as any_message
 use Rattle.rtk_message.specs.declared.message.Message.{Message}
 use Rattle.rtk_message.specs.declared.message.Message.TheVariants.{Obs1004, Arp1005, Arp1006, Msm1074}
 use Rattle.rtk_message.specs.contracts.fault.DecodeFaultPartialEq.TheImpl as fault_eq
@@ -24,9 +31,14 @@ use Rattle.rtk_message.specs.contracts.msm1074.MsmHeaderPartialEq.TheImpl as hea
 use Rattle.rtk_message.specs.contracts.obs1004.Obs1004PartialEq.TheImpl as obs1004_eq
 use Rattle.rtk_message.specs.contracts.msm1074.Msm1074PartialEq.TheImpl as msm1074_eq
 use Rattle.rtk_message.specs.contracts.message.MessagePartialEq.TheImpl as message_eq
+use Rattle.rtk_message.specs.contracts.msm_kind.MsmKindPartialEq.TheImpl as kind_eq
+use Rattle.rtk_message.specs.contracts.msm.MsmPartialEq.TheImpl as msm_eq
+use Rattle.rtk_message.specs.contracts.any_fault.AnyFaultPartialEq.TheImpl as any_fault_eq
+use Rattle.rtk_message.specs.contracts.any_message.AnyMessagePartialEq.TheImpl as any_message_eq
 use Rattle.rtk_message.specs.Obs1004Laws as obs1004
 use Rattle.rtk_message.specs.Arp1005Laws as arp1005
 use Rattle.rtk_message.specs.Msm1074Laws as msm1074
+use Rattle.rtk_message.proofs.MsmLemmas as msm
 
 bool_same : (a b : Bool) → Decides (beq a b) (a ≡ b)
 bool_same true true = (λ e. refl, λ e. refl)
@@ -188,3 +200,77 @@ fault_same TooManyCells (Other n) = (λ e. absurd cc, λ e. absurd cc)
 fault_same TooManyCells (Short n) = (λ e. absurd cc, λ e. absurd cc)
 fault_same TooManyCells (EpochRange n) = (λ e. absurd cc, λ e. absurd cc)
 fault_same TooManyCells TooManyCells = (λ e. refl, λ e. refl)
+
+kind_same : (a b : MsmKind) → Decides ((kind_eq.ghosts).eq a b) (a ≡ b)
+kind_same Msm4 Msm4 = (λ e. refl, λ e. refl)
+kind_same Msm4 Msm5 = (λ e. absurd cc, λ e. absurd cc)
+kind_same Msm4 Msm6 = (λ e. absurd cc, λ e. absurd cc)
+kind_same Msm4 Msm7 = (λ e. absurd cc, λ e. absurd cc)
+kind_same Msm5 Msm4 = (λ e. absurd cc, λ e. absurd cc)
+kind_same Msm5 Msm5 = (λ e. refl, λ e. refl)
+kind_same Msm5 Msm6 = (λ e. absurd cc, λ e. absurd cc)
+kind_same Msm5 Msm7 = (λ e. absurd cc, λ e. absurd cc)
+kind_same Msm6 Msm4 = (λ e. absurd cc, λ e. absurd cc)
+kind_same Msm6 Msm5 = (λ e. absurd cc, λ e. absurd cc)
+kind_same Msm6 Msm6 = (λ e. refl, λ e. refl)
+kind_same Msm6 Msm7 = (λ e. absurd cc, λ e. absurd cc)
+kind_same Msm7 Msm4 = (λ e. absurd cc, λ e. absurd cc)
+kind_same Msm7 Msm5 = (λ e. absurd cc, λ e. absurd cc)
+kind_same Msm7 Msm6 = (λ e. absurd cc, λ e. absurd cc)
+kind_same Msm7 Msm7 = (λ e. refl, λ e. refl)
+
+pub msm_same : (s t : declared_msm.Msm) → Decides ((msm_eq.ghosts).eq s t) (s ≡ t)
+msm_same s t =
+    let fields = Decides-and _ _ (kind_same s.kind t.kind) (Decides-and _ _ (header_same s.header t.header) (Decides-and _ _ (list_same _ unsigned_Decides s.cell_mask t.cell_mask) (Decides-and _ _ (list_same _ unsigned_Decides s.rough_ms t.rough_ms) (Decides-and _ _ (list_same _ unsigned_Decides s.extended t.extended) (Decides-and _ _ (list_same _ unsigned_Decides s.rough_fraction t.rough_fraction) (Decides-and _ _ (list_same _ signed_Decides s.rough_rate t.rough_rate) (Decides-and _ _ (list_same _ signed_Decides s.fine_range t.fine_range) (Decides-and _ _ (list_same _ signed_Decides s.fine_phase t.fine_phase) (Decides-and _ _ (list_same _ unsigned_Decides s.lock_indicator t.lock_indicator) (Decides-and _ _ (list_same _ bool_same s.half_cycle t.half_cycle) (Decides-and _ _ (list_same _ unsigned_Decides s.cnr t.cnr) (list_same _ signed_Decides s.fine_rate t.fine_rate)))))))))))) in (
+      λ e.
+          let f = fields.0 e in
+          let kind : s.kind ≡ t.kind = f.0 in
+          let header : s.header ≡ t.header = f.1.0 in
+          let cell_mask : s.cell_mask ≡ t.cell_mask = f.1.1.0 in
+          let rough_ms : s.rough_ms ≡ t.rough_ms = f.1.1.1.0 in
+          let extended : s.extended ≡ t.extended = f.1.1.1.1.0 in
+          let rough_fraction : s.rough_fraction ≡ t.rough_fraction = f.1.1.1.1.1.0 in
+          let rough_rate : s.rough_rate ≡ t.rough_rate = f.1.1.1.1.1.1.0 in
+          let fine_range : s.fine_range ≡ t.fine_range = f.1.1.1.1.1.1.1.0 in
+          let fine_phase : s.fine_phase ≡ t.fine_phase = f.1.1.1.1.1.1.1.1.0 in
+          let lock_indicator : s.lock_indicator ≡ t.lock_indicator = f.1.1.1.1.1.1.1.1.1.0 in
+          let half_cycle : s.half_cycle ≡ t.half_cycle = f.1.1.1.1.1.1.1.1.1.1.0 in
+          let cnr : s.cnr ≡ t.cnr = f.1.1.1.1.1.1.1.1.1.1.1.0 in
+          let fine_rate : s.fine_rate ≡ t.fine_rate = f.1.1.1.1.1.1.1.1.1.1.1.1 in
+          let all : msm.make s.kind s.header s.cell_mask s.rough_ms s.extended s.rough_fraction s.rough_rate s.fine_range s.fine_phase s.lock_indicator s.half_cycle s.cnr s.fine_rate ≡ msm.make t.kind t.header t.cell_mask t.rough_ms t.extended t.rough_fraction t.rough_rate t.fine_range t.fine_phase t.lock_indicator t.half_cycle t.cnr t.fine_rate = cc in
+          sym (msm.made s) ∙ all ∙ msm.made t,
+      λ e. fields.1 (ap (λ (x : declared_msm.Msm). x.kind) e, (ap (λ (x : declared_msm.Msm). x.header) e, (ap (λ (x : declared_msm.Msm). x.cell_mask) e, (ap (λ (x : declared_msm.Msm). x.rough_ms) e, (ap (λ (x : declared_msm.Msm). x.extended) e, (ap (λ (x : declared_msm.Msm). x.rough_fraction) e, (ap (λ (x : declared_msm.Msm). x.rough_rate) e, (ap (λ (x : declared_msm.Msm). x.fine_range) e, (ap (λ (x : declared_msm.Msm). x.fine_phase) e, (ap (λ (x : declared_msm.Msm). x.lock_indicator) e, (ap (λ (x : declared_msm.Msm). x.half_cycle) e, (ap (λ (x : declared_msm.Msm). x.cnr) e, ap (λ (x : declared_msm.Msm). x.fine_rate) e)))))))))))),
+    )
+
+pub any_message_same : (a b : AnyMessage) → Decides ((any_message_eq.ghosts).eq a b) (a ≡ b)
+any_message_same (any_message.Message m) (any_message.Message n) = (λ e. ap any_message.Message ((message_same m n).0 e), λ e. (message_same m n).1 cc)
+any_message_same (any_message.Message m) (any_message.Msm n) = (λ e. absurd cc, λ e. absurd cc)
+any_message_same (any_message.Msm m) (any_message.Message n) = (λ e. absurd cc, λ e. absurd cc)
+any_message_same (any_message.Msm m) (any_message.Msm n) = (λ e. ap any_message.Msm ((msm_same m n).0 e), λ e. (msm_same m n).1 cc)
+
+pub any_fault_same : (a b : AnyFault) → Decides ((any_fault_eq.ghosts).eq a b) (a ≡ b)
+any_fault_same any_fault.NoNumber any_fault.NoNumber = (λ e. refl, λ e. refl)
+any_fault_same any_fault.NoNumber (any_fault.Other n) = (λ e. absurd cc, λ e. absurd cc)
+any_fault_same any_fault.NoNumber (any_fault.Short n) = (λ e. absurd cc, λ e. absurd cc)
+any_fault_same any_fault.NoNumber (any_fault.EpochRange n) = (λ e. absurd cc, λ e. absurd cc)
+any_fault_same any_fault.NoNumber (any_fault.TooManyCells n) = (λ e. absurd cc, λ e. absurd cc)
+any_fault_same (any_fault.Other m) any_fault.NoNumber = (λ e. absurd cc, λ e. absurd cc)
+any_fault_same (any_fault.Other m) (any_fault.Other n) = (λ e. ap any_fault.Other ((unsigned_Decides m n).0 e), λ e. (unsigned_Decides m n).1 cc)
+any_fault_same (any_fault.Other m) (any_fault.Short n) = (λ e. absurd cc, λ e. absurd cc)
+any_fault_same (any_fault.Other m) (any_fault.EpochRange n) = (λ e. absurd cc, λ e. absurd cc)
+any_fault_same (any_fault.Other m) (any_fault.TooManyCells n) = (λ e. absurd cc, λ e. absurd cc)
+any_fault_same (any_fault.Short m) any_fault.NoNumber = (λ e. absurd cc, λ e. absurd cc)
+any_fault_same (any_fault.Short m) (any_fault.Other n) = (λ e. absurd cc, λ e. absurd cc)
+any_fault_same (any_fault.Short m) (any_fault.Short n) = (λ e. ap any_fault.Short ((unsigned_Decides m n).0 e), λ e. (unsigned_Decides m n).1 cc)
+any_fault_same (any_fault.Short m) (any_fault.EpochRange n) = (λ e. absurd cc, λ e. absurd cc)
+any_fault_same (any_fault.Short m) (any_fault.TooManyCells n) = (λ e. absurd cc, λ e. absurd cc)
+any_fault_same (any_fault.EpochRange m) any_fault.NoNumber = (λ e. absurd cc, λ e. absurd cc)
+any_fault_same (any_fault.EpochRange m) (any_fault.Other n) = (λ e. absurd cc, λ e. absurd cc)
+any_fault_same (any_fault.EpochRange m) (any_fault.Short n) = (λ e. absurd cc, λ e. absurd cc)
+any_fault_same (any_fault.EpochRange m) (any_fault.EpochRange n) = (λ e. ap any_fault.EpochRange ((unsigned_Decides m n).0 e), λ e. (unsigned_Decides m n).1 cc)
+any_fault_same (any_fault.EpochRange m) (any_fault.TooManyCells n) = (λ e. absurd cc, λ e. absurd cc)
+any_fault_same (any_fault.TooManyCells m) any_fault.NoNumber = (λ e. absurd cc, λ e. absurd cc)
+any_fault_same (any_fault.TooManyCells m) (any_fault.Other n) = (λ e. absurd cc, λ e. absurd cc)
+any_fault_same (any_fault.TooManyCells m) (any_fault.Short n) = (λ e. absurd cc, λ e. absurd cc)
+any_fault_same (any_fault.TooManyCells m) (any_fault.EpochRange n) = (λ e. absurd cc, λ e. absurd cc)
+any_fault_same (any_fault.TooManyCells m) (any_fault.TooManyCells n) = (λ e. ap any_fault.TooManyCells ((unsigned_Decides m n).0 e), λ e. (unsigned_Decides m n).1 cc)

@@ -6,5 +6,7 @@ mod DecodedLemmas
 mod EqualLemmas
 mod FieldLemmas
 mod Msm1074Lemmas
+mod MsmLemmas
+mod AnyDecodedLemmas
 mod Obs1004Lemmas
 mod WordLemmas

@@ -3,3 +3,7 @@
 
 -- the clause of `parts_of_fields_fit`
 pub use Rattle.rtk_message.specs.FieldLaws.{fit-parts}
+-- the clauses of `decodes_by_four`
+pub use Rattle.rtk_message.proofs.AnyDecodedLemmas.{by_four, of_four, each_by_four}
+-- the clauses of `form_of_1074`
+pub use Rattle.rtk_message.proofs.MsmLemmas.{table_of_1074, form_of_valid_1074, valid_1074_of_form, fault_of_1074}

@@ -116,3 +116,6 @@ peel_flags ms ns fs gs a b len p q e =
 
 pub last_numbers : (w : ℕ) (ms ns : List ℕ) (a b : List Bool) → length ms ≡ length ns → FieldsFit (numbers w ms) → FieldsFit (numbers w ns) → bits_of_fields (numbers w ms) ++ a ≡ bits_of_fields (numbers w ns) ++ b → ms ≡ ns
 last_numbers w ms ns a b len p q e = same-numbers w w ms ns (one_list (numbers w ms) (numbers w ns) a b (form-numbers w w ms ns refl len) p q e).0
+
+pub last_integers : (w : ℕ) (ms ns : List ℤ) (a b : List Bool) → 1 ≤ w → length ms ≡ length ns → FieldsFit (integers w ms) → FieldsFit (integers w ns) → bits_of_fields (integers w ms) ++ a ≡ bits_of_fields (integers w ns) ++ b → ms ≡ ns
+last_integers w ms ns a b h len p q e = same-integers w ms ns (one_list (integers w ms) (integers w ns) a b (form-integers w ms ns h len) p q e).0

@@ -10,7 +10,11 @@ pub mod FieldColumns
 pub mod ColumnLaws
 pub mod Msm1074
 pub mod Msm1074Laws
+pub mod MsmForm
 pub mod Decoded
+pub mod Accepted
+pub mod AnyFaultCode
+pub mod AnyDecoded
 pub mod FaultCode
 pub mod Equality
 pub mod Steps

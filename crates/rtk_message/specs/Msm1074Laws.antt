@@ -119,7 +119,7 @@ pub made_header : (h : MsmHeader) → make_header h.station h.tow h.multiple_mes
 unfolding make_header
 made_header h = refl
 
-same_header : (h k : MsmHeader) → header_table h ≡ header_table k → h ≡ k
+pub same_header : (h k : MsmHeader) → header_table h ≡ header_table k → h ≡ k
 same_header h k e =
     let all : make_header h.station h.tow h.multiple_message h.issue_of_data_station h.reserved h.clock_steering h.external_clock h.smoothing h.smoothing_interval h.satellite_mask h.signal_mask ≡ make_header k.station k.tow k.multiple_message k.issue_of_data_station k.reserved k.clock_steering k.external_clock k.smoothing k.smoothing_interval k.satellite_mask k.signal_mask = cc in
     sym (made_header h) ∙ all ∙ made_header k

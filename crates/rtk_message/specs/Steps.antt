@@ -2,3 +2,5 @@
 pub mod AfterNumber
 pub mod FieldSteps
 pub mod EachFits
+pub mod AfterAnyNumber
+pub mod MsmColumns

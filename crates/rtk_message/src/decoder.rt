@@ -8,9 +8,7 @@ ghost use Rattle.rtk_bits.specs.Bits.{bits};
 ghost use Rattle.rtk_message.specs.Decoded.{Decodes, fault_after_number};
 ghost use Rattle.rtk_message.specs.Steps.AfterNumber.{BeginsAfterNumber};
 
-use crate::arp1005::Arp1005;
-use crate::arp1006::Arp1006;
-use crate::decoding::{read_1004, read_1005, read_1006, read_1074};
+use crate::decoding::read_after;
 use crate::fault::DecodeFault;
 use crate::layout::Layout;
 use crate::message::Message;
@@ -63,16 +61,8 @@ impl Decoder {
                 put_1074(&mut self.msm1074, reader);
                 &self.msm1074
             }
-            Arp1005::NUMBER => {
-                put_1005(&mut self.other, reader);
-                &self.other
-            }
-            Arp1006::NUMBER => {
-                put_1006(&mut self.other, reader);
-                &self.other
-            }
             _ => {
-                put_fault(&mut self.other, DecodeFault::Other { number });
+                put_new(&mut self.other, number, reader);
                 &self.other
             }
         }
@@ -92,7 +82,7 @@ fn put_1004(kept: &mut Result<Message, DecodeFault>, mut reader: BitReader<'_>)
         put_fault(kept, fault);
         return;
     }
-    put_new_1004(kept, reader);
+    put_new(kept, Obs1004::NUMBER, reader);
 }
 
 // Reads a 1074, over the one that is kept.
@@ -108,42 +98,18 @@ fn put_1074(kept: &mut Result<Message, DecodeFault>, mut reader: BitReader<'_>)
         put_fault(kept, fault);
         return;
     }
-    put_new_1074(kept, reader);
+    put_new(kept, Msm1074::NUMBER, reader);
 }
 
 // These have a reading among their locals, which a function clears when it is called. They are not
 // inlined, so that this is done only if one of them is called.
 
 #[inline(never)]
-fn put_new_1004(kept: &mut Result<Message, DecodeFault>, reader: BitReader<'_>)
-    ensures message { IfOk kept.new (λ m. BeginsAfterNumber 1004 reader.entry m) }
-    ensures fault { IfErr kept.new (λ f. fault_after_number 1004 reader.entry ≡ Some f) }
+fn put_new(kept: &mut Result<Message, DecodeFault>, number: u16, reader: BitReader<'_>)
+    ensures message { IfOk kept.new (λ m. BeginsAfterNumber number reader.entry m) }
+    ensures fault { IfErr kept.new (λ f. fault_after_number number reader.entry ≡ Some f) }
 {
-    *kept = read_1004(reader);
-}
-
-#[inline(never)]
-fn put_new_1074(kept: &mut Result<Message, DecodeFault>, reader: BitReader<'_>)
-    ensures message { IfOk kept.new (λ m. BeginsAfterNumber 1074 reader.entry m) }
-    ensures fault { IfErr kept.new (λ f. fault_after_number 1074 reader.entry ≡ Some f) }
-{
-    *kept = read_1074(reader);
-}
-
-#[inline(never)]
-fn put_1005(kept: &mut Result<Message, DecodeFault>, reader: BitReader<'_>)
-    ensures message { IfOk kept.new (λ m. BeginsAfterNumber 1005 reader.entry m) }
-    ensures fault { IfErr kept.new (λ f. fault_after_number 1005 reader.entry ≡ Some f) }
-{
-    *kept = read_1005(reader);
-}
-
-#[inline(never)]
-fn put_1006(kept: &mut Result<Message, DecodeFault>, reader: BitReader<'_>)
-    ensures message { IfOk kept.new (λ m. BeginsAfterNumber 1006 reader.entry m) }
-    ensures fault { IfErr kept.new (λ f. fault_after_number 1006 reader.entry ≡ Some f) }
-{
-    *kept = read_1006(reader);
+    *kept = read_after(number, reader);
 }
 
 #[inline(never)]

@@ -27,7 +27,14 @@ pub fn decode(payload: &[u8]) -> Result<Message, DecodeFault>
     let Some(number) = reader.take_u(12) else {
         return Err(DecodeFault::NoNumber);
     };
-    let number = number as u16;
+    read_after(number as u16, reader)
+}
+
+/// The message after this number, which was read already.
+pub(crate) fn read_after(number: u16, reader: BitReader<'_>) -> Result<Message, DecodeFault>
+    ensures message { IfOk result (λ m. BeginsAfterNumber number reader.entry m) }
+    ensures fault { IfErr result (λ f. fault_after_number number reader.entry ≡ Some f) }
+{
     match number {
         Obs1004::NUMBER => read_1004(reader),
         Arp1005::NUMBER => read_1005(reader),
@@ -39,10 +46,10 @@ pub fn decode(payload: &[u8]) -> Result<Message, DecodeFault>
 
 // Each message type has a function of its own that is not inlined, for two reasons. A function
 // clears the memory of its locals when it is called: here this is the memory of one message, and in
-// `decode` it would be that of all four. And a function that is not inlined writes its result where
+// `read_after` it would be that of all four. And a function that is not inlined writes its result where
 // its caller wants it, so a message of a thousand bytes is moved once less.
 #[inline(never)]
-pub(crate) fn read_1004(mut reader: BitReader<'_>) -> Result<Message, DecodeFault>
+fn read_1004(mut reader: BitReader<'_>) -> Result<Message, DecodeFault>
     ensures message { IfOk result (λ m. BeginsAfterNumber 1004 reader.entry m) }
     ensures fault { IfErr result (λ f. fault_after_number 1004 reader.entry ≡ Some f) }
 {
@@ -52,7 +59,7 @@ pub(crate) fn read_1004(mut reader: BitReader<'_>) -> Result<Message, DecodeFaul
 }
 
 #[inline(never)]
-pub(crate) fn read_1005(mut reader: BitReader<'_>) -> Result<Message, DecodeFault>
+fn read_1005(mut reader: BitReader<'_>) -> Result<Message, DecodeFault>
     ensures message { IfOk result (λ m. BeginsAfterNumber 1005 reader.entry m) }
     ensures fault { IfErr result (λ f. fault_after_number 1005 reader.entry ≡ Some f) }
 {
@@ -62,7 +69,7 @@ pub(crate) fn read_1005(mut reader: BitReader<'_>) -> Result<Message, DecodeFaul
 }
 
 #[inline(never)]
-pub(crate) fn read_1006(mut reader: BitReader<'_>) -> Result<Message, DecodeFault>
+fn read_1006(mut reader: BitReader<'_>) -> Result<Message, DecodeFault>
     ensures message { IfOk result (λ m. BeginsAfterNumber 1006 reader.entry m) }
     ensures fault { IfErr result (λ f. fault_after_number 1006 reader.entry ≡ Some f) }
 {
@@ -72,7 +79,7 @@ pub(crate) fn read_1006(mut reader: BitReader<'_>) -> Result<Message, DecodeFaul
 }
 
 #[inline(never)]
-pub(crate) fn read_1074(mut reader: BitReader<'_>) -> Result<Message, DecodeFault>
+fn read_1074(mut reader: BitReader<'_>) -> Result<Message, DecodeFault>
     ensures message { IfOk result (λ m. BeginsAfterNumber 1074 reader.entry m) }
     ensures fault { IfErr result (λ f. fault_after_number 1074 reader.entry ≡ Some f) }
 {

@@ -1,12 +1,27 @@
 //! Laws of `==`, which says whether all fields of two messages, or two faults, are the same, and a
 //! law of fields that fit.
 
-ghost use Rattle.std.specs.Prelude.{List, ◌++◌};
+ghost use Rattle.std.specs.Prelude.{List, ◌++◌, ◌≡◌, ◌↔◌, Bool, Result};
+ghost use Rattle.rtk_message.specs.Accepted.{all, four};
+ghost use Rattle.rtk_message.specs.AnyDecoded.{any_of, if_any_fault_of, DecodesBy};
+ghost use Rattle.rtk_message.specs.Decoded.{Decodes};
+ghost use Rattle.rtk_message.specs.declared.any_fault.AnyFault.{AnyFault};
+ghost use Rattle.rtk_message.specs.declared.any_message.AnyMessage.{AnyMessage};
+ghost use Rattle.rtk_message.specs.declared.fault.DecodeFault.{DecodeFault};
+ghost use Rattle.rtk_message.specs.declared.message.Message.{Message};
+ghost use Rattle.rtk_message.specs.declared.msm1074.Msm1074.{Msm1074};
+ghost use Rattle.rtk_message.specs.declared.msm_kind.MsmKind.TheVariants.{Msm4};
+ghost use Rattle.rtk_message.specs.Msm1074 as msm1074;
+ghost use Rattle.rtk_message.specs.MsmForm as form;
 ghost use Rattle.rtk_message.specs.Equality.{SaysEqual};
 ghost use Rattle.rtk_message.specs.Fields.{Field, FieldsFit};
 
+use crate::accepted::Accepted;
+use crate::any_fault::AnyFault;
+use crate::any_message::AnyMessage;
 use crate::fault::DecodeFault;
 use crate::message::Message;
+use crate::msm::Msm;
 use crate::msm1074::Msm1074;
 use crate::obs1004::Obs1004;
 
@@ -37,6 +52,48 @@ pub fn equal_faults(a: &DecodeFault, b: &DecodeFault) -> bool
 {
     a == b
 }
+
+/// The same law for two messages 1075 to 1077.
+pub fn equal_msm(a: &Msm, b: &Msm) -> bool
+    ensures { SaysEqual result a.now b.now }
+{
+    a == b
+}
+
+/// The same law for two messages of the wider set.
+pub fn equal_any_messages(a: &AnyMessage, b: &AnyMessage) -> bool
+    ensures { SaysEqual result a.now b.now }
+{
+    a == b
+}
+
+/// The same law for two faults of the wider set.
+pub fn equal_any_faults(a: &AnyFault, b: &AnyFault) -> bool
+    ensures { SaysEqual result a.now b.now }
+{
+    a == b
+}
+
+/// A law: a 1074 has the form of the kind MSM4. Its table, its validity and its first fault are
+/// those that the form gives to the same columns.
+pub fn form_of_1074()
+    ensures table { (m : Msm1074) → msm1074.table m ≡ form.table (form.columns_of m) }
+    ensures valid { (m : Msm1074) → msm1074.IsValid m ↔ form.HasForm (form.columns_of m) }
+    ensures fault { (bs : List Bool) → if_any_fault_of (msm1074.first_fault bs) ≡ form.first_fault Msm4 bs }
+{}
+
+/// A law: which messages the two named sets have.
+pub fn named_sets()
+    ensures of_four { Accepted.FOUR ≡ four }
+    ensures of_all { Accepted.ALL ≡ all }
+{}
+
+/// A law: `decode` answers what `decode_any` answers by the set of 1004, 1005, 1006 and 1074, and
+/// `decode_any` answers nothing else by this set.
+pub fn decodes_by_four()
+    ensures same { (bs : List Bool) (r : Result Message DecodeFault) → Decodes bs r ↔ DecodesBy four bs (any_of r) }
+    ensures each { (bs : List Bool) (r : Result AnyMessage AnyFault) → DecodesBy four bs r → (q : Result Message DecodeFault) × (r ≡ any_of q) × Decodes bs q }
+{}
 
 /// A law: if fields and others after them fit their widths, then the fields fit by themselves, and
 /// so do the others. Proofs of other crates cite it from `proofs/PublicLaws.antt`.

@@ -1,5 +1,8 @@
-//! Messages of a base station, by their tables of fields: 1004, 1005, 1006 and 1074 of RTCM
+//! Messages of a base station, by their tables of fields: 1004, 1005, 1006 and 1074 to 1077 of RTCM
 //! 10403.3.
+//!
+//! `Message`, `decode` and `encode` are for 1004, 1005, 1006 and 1074. `AnyMessage`, `decode_any` and
+//! `encode_any` are for these and for 1075, 1076 and 1077: a set, `Accepted`, says which are read.
 //!
 //! Its tests: tests/values/src/message.rt.in and message/
 //!
@@ -26,6 +29,10 @@
 
 #![tactic(auto)]
 
+mod accepted;
+mod any_decoder;
+mod any_fault;
+mod any_message;
 mod arp1005;
 mod arp1006;
 mod column;
@@ -37,21 +44,32 @@ mod field;
 mod laws;
 mod layout;
 mod message;
+mod msm;
 mod msm1074;
+mod msm_kind;
 mod obs1004;
 mod text;
 
+pub use accepted::Accepted;
+pub use any_decoder::{AnyDecoder, decode_any};
+pub use any_fault::AnyFault;
+pub use any_message::AnyMessage;
 pub use arp1005::Arp1005;
 pub use arp1006::Arp1006;
 pub use column::Column;
 pub use decoder::Decoder;
 pub use decoding::decode;
-pub use encoding::{decode_of_encode, encode};
+pub use encoding::{decode_any_of_encode_any, decode_of_encode, encode, encode_any};
 pub use fault::DecodeFault;
 pub use field::WEEK_MS;
-pub use laws::{equal_1004, equal_1074, equal_faults, equal_messages, parts_of_fields_fit};
+pub use laws::{
+    decodes_by_four, equal_1004, equal_1074, equal_any_faults, equal_any_messages, equal_faults,
+    equal_messages, equal_msm, form_of_1074, named_sets, parts_of_fields_fit,
+};
 pub use layout::Layout;
 pub use message::Message;
+pub use msm::Msm;
+pub use msm_kind::MsmKind;
 pub use msm1074::{Msm1074, MsmHeader};
 pub use obs1004::{Obs1004, Satellite, Satellites};
-pub use text::{put_fault, put_named, put_number};
+pub use text::{put_any_fault, put_fault, put_named, put_number};

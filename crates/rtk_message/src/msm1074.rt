@@ -91,7 +91,7 @@ impl MsmHeader {
         self.signal_mask.count_ones() as usize
     }
 
-    fn put(self, writer: &mut BitWriter) -> Result<(), AllocError>
+    pub(crate) fn put(self, writer: &mut BitWriter) -> Result<(), AllocError>
         requires { FieldsFit (header_table self) }
         ensures { OnOk result (PutsAll (header_table self) writer.old writer.new) }
     {
@@ -110,7 +110,7 @@ impl MsmHeader {
     }
 
     // Whether each field fits its width, and the time of week is less than a week.
-    fn fits(self) -> bool
+    pub(crate) fn fits(self) -> bool
         ensures { IsTrue result ↔ (FieldsFit (header_table self) × (self.tow < week_ms)) }
     {
         if self.station >= 1 << 12 || self.tow >= WEEK_MS || self.issue_of_data_station >= 1 << 3 {
@@ -124,7 +124,7 @@ impl MsmHeader {
 }
 
 #[inline(always)]
-fn next_header(reader: &mut BitReader<'_>) -> MsmHeader
+pub(crate) fn next_header(reader: &mut BitReader<'_>) -> MsmHeader
     requires { 157 ≤ length reader.old }
     ensures fields { TakesAll (header_table result) reader.old reader.new }
     ensures left { length reader.old ≡ 157 + length reader.new }
@@ -149,7 +149,7 @@ fn next_header(reader: &mut BitReader<'_>) -> MsmHeader
 }
 
 // Whether the cell mask of these satellites and signals would have more than 64 bits.
-fn has_too_many_cells(satellites: usize, signals: usize) -> bool
+pub(crate) fn has_too_many_cells(satellites: usize, signals: usize) -> bool
     requires few { (satellites ≤ 64) × (signals ≤ 32) }
     ensures { IsTrue result ↔ (64 < satellites * signals) }
 {

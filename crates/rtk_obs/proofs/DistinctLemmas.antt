@@ -6,19 +6,26 @@ use Rattle.std.proofs.lemmas.List.Elements.{All-from_recursion}
 use Rattle.std.proofs.lemmas.List.Kept.{AllPairs-cons}
 use Rattle.std.proofs.lemmas.Bool.Decides.{nat_tests}
 use Rattle.rtk_message.specs.declared.obs1004.Satellite.{Satellite}
+use Rattle.rtk_message.specs.declared.msm1074.MsmHeader.{MsmHeader}
 use Rattle.rtk_message.specs.declared.msm1074.Msm1074.{Msm1074}
+use Rattle.rtk_message.specs.declared.msm.Msm.{Msm}
 use Rattle.rtk_message.specs.Msm1074.{IsValid}
+use Rattle.rtk_message.specs.MsmForm.{IsValid as IsValidMsm}
+use Rattle.rtk_obs.specs.declared.code.Band.{Band}
 use Rattle.rtk_obs.specs.declared.code.Code.{Code}
 use Rattle.rtk_obs.specs.declared.code.Code.TheVariants.{C1C, C1P, C1W, C1S, C1L, C1X, C2C, C2D, C2P, C2W, C2S, C2L, C2X, C5I, C5Q, C5X}
+use Rattle.rtk_obs.specs.declared.cell.Cell.{Cell}
 use Rattle.rtk_obs.specs.declared.cell.CellEntry.{CellEntry}
-use Rattle.rtk_obs.specs.declared.msm_cells.Slot.{Slot}
+use Rattle.rtk_obs.specs.declared.msm_rows.Slot.{Slot}
 use Rattle.rtk_obs.specs.Code.{place_of}
 use Rattle.rtk_obs.specs.Cell.{is_satellite, entry_of, AreDifferentSignals, AreDistinct}
 use Rattle.rtk_obs.specs.Mask.{set_bits_from, set_bits, join_from}
 use Rattle.rtk_obs.specs.LegacyCells.{first_entries, has_number, satellite_entries, cells_of_1004, l1_code_of, l2_code_of, l1_cell_of, l2_cell_of}
-use Rattle.rtk_obs.specs.MsmCells.{satellites_of, signals_of, row_slots, slots_of, coded_entry, slot_entry, code_of_signal, cells_of_1074}
+use Rattle.rtk_obs.specs.MsmCells.{satellites_of, signals_of, row_slots, slots_of, coded_entry, slot_entry, entries_of, code_of_signal, cell_of_1074, cells_of_1074, cell_of_msm, cells_of_msm}
+use Rattle.rtk_obs.specs.Steps.MsmRows.{IsCellMask}
 use Rattle.rtk_obs.proofs.MaskLemmas.{set_bits_from-bounds}
 use Rattle.rtk_obs.proofs.MsmLemmas.{satellite_in, count-satellites}
+use Rattle.rtk_obs.proofs.MsmFieldLemmas.{is_cell_mask-1074, is_cell_mask-msm}
 
 -- ---- lists by recursion
 
@@ -118,7 +125,7 @@ cells_of_1004-distinct ss =
     all_pairs AreDifferentSignals (cells_of_1004 ss)
     (entries_differ (filter (λ (s : Satellite). is_satellite s.satellite) (first_entries ss)) (pairs_filter AreOthers (λ (s : Satellite). is_satellite s.satellite) (first_entries ss) (first_others ss)))
 
--- ---- 1074: the satellites and the signals rise
+-- ---- MSM: the satellites and the signals rise
 
 to_above : (place w : ℕ) (ps : List ℕ) → AllByRecursion (λ p. (suc place ≤ p) × (p < suc place + w)) ps → AllByRecursion (λ p. place < p) ps
 to_above place w [] a = tt
@@ -246,56 +253,62 @@ signal_of_coded s c h =
 
 -- ---- its cells
 
-module _ (m : Msm1074) where
+module _ (h : MsmHeader) (cell_of : ℕ → ℕ → Band → Cell) where
   abbrev pub IsOfSlot : Slot → CellEntry → Type 0
-  IsOfSlot s e = (e.satellite ≡ satellite_in (satellites_of m) s) × (code_of_signal s.signal ≡ Some e.code)
+  IsOfSlot s e = (e.satellite ≡ satellite_in (satellites_of h) s) × (code_of_signal s.signal ≡ Some e.code)
 
-  coded_of : (k : ℕ) (s : Slot) (code : Option Code) → code_of_signal s.signal ≡ code → AllByRecursion (IsOfSlot s) (coded_entry m k s.row (satellite_in (satellites_of m) s) code)
+  coded_of : (k : ℕ) (s : Slot) (code : Option Code) → code_of_signal s.signal ≡ code → AllByRecursion (IsOfSlot s) (coded_entry (cell_of k s.row) (satellite_in (satellites_of h) s) code)
   coded_of k s None e = tt
   coded_of k s (Some code) e = ((refl, e), tt)
 
   of_slot_if : (b : Bool) (k : ℕ) (s : Slot)
-      → AllByRecursion (IsOfSlot s) (cond b (coded_entry m k s.row (satellite_in (satellites_of m) s) (code_of_signal s.signal)) [])
+      → AllByRecursion (IsOfSlot s) (cond b (coded_entry (cell_of k s.row) (satellite_in (satellites_of h) s) (code_of_signal s.signal)) [])
   of_slot_if true k s = coded_of k s (code_of_signal s.signal) refl
   of_slot_if false k s = tt
 
-  coded_one : (k row satellite : ℕ) (code : Option Code) → Pairs AreDifferentSignals (coded_entry m k row satellite code)
+  coded_one : (k row satellite : ℕ) (code : Option Code) → Pairs AreDifferentSignals (coded_entry (cell_of k row) satellite code)
   coded_one k row satellite None = tt
   coded_one k row satellite (Some code) = (tt, tt)
 
-  one_if : (b : Bool) (k row satellite : ℕ) (code : Option Code) → Pairs AreDifferentSignals (cond b (coded_entry m k row satellite code) [])
+  one_if : (b : Bool) (k row satellite : ℕ) (code : Option Code) → Pairs AreDifferentSignals (cond b (coded_entry (cell_of k row) satellite code) [])
   one_if true k row satellite code = coded_one k row satellite code
   one_if false k row satellite code = tt
 
-  differ : (s t : Slot) (a b : CellEntry) → AreOtherSlots (satellites_of m) (signals_of m) s t → IsOfSlot s a → IsOfSlot t b → AreDifferentSignals a b
+  differ : (s t : Slot) (a b : CellEntry) → AreOtherSlots (satellites_of h) (signals_of h) s t → IsOfSlot s a → IsOfSlot t b → AreDifferentSignals a b
   differ s t a b others p q same codes =
       others (sym p.0 ∙ (same ∙ q.0)) (signal_of_coded s.signal a.code p.1 ∙ (ap signal_of codes ∙ sym (signal_of_coded t.signal b.code q.1)))
 
-  slot_entry-of : (k : ℕ) (s : Slot) → AllByRecursion (IsOfSlot s) (slot_entry m k s)
-  slot_entry-of k s = of_slot_if (is_satellite (satellite_in (satellites_of m) s)) k s
+  slot_entry-of : (k : ℕ) (s : Slot) → AllByRecursion (IsOfSlot s) (slot_entry h cell_of k s)
+  slot_entry-of k s = of_slot_if (is_satellite (satellite_in (satellites_of h) s)) k s
 
-  later_differ : (s : Slot) (a : CellEntry) → IsOfSlot s a → (k : ℕ) (ts : List Slot) → AllByRecursion (AreOtherSlots (satellites_of m) (signals_of m) s) ts
-      → AllByRecursion (AreDifferentSignals a) (join_from (slot_entry m) k ts)
+  later_differ : (s : Slot) (a : CellEntry) → IsOfSlot s a → (k : ℕ) (ts : List Slot) → AllByRecursion (AreOtherSlots (satellites_of h) (signals_of h) s) ts
+      → AllByRecursion (AreDifferentSignals a) (join_from (slot_entry h cell_of) k ts)
   unfolding join_from
   later_differ s a is k [] o = tt
   later_differ s a is k (t ∷ ts) o =
-      all_append (AreDifferentSignals a) (slot_entry m k t) (join_from (slot_entry m) (suc k) ts)
-      (all_from (IsOfSlot t) (AreDifferentSignals a) (λ b q. differ s t a b o.0 is q) (slot_entry m k t) (slot_entry-of k t))
+      all_append (AreDifferentSignals a) (slot_entry h cell_of k t) (join_from (slot_entry h cell_of) (suc k) ts)
+      (all_from (IsOfSlot t) (AreDifferentSignals a) (λ b q. differ s t a b o.0 is q) (slot_entry h cell_of k t) (slot_entry-of k t))
       (later_differ s a is (suc k) ts o.1)
 
-  entries_of_slots : (k : ℕ) (ss : List Slot) → Pairs (AreOtherSlots (satellites_of m) (signals_of m)) ss → Pairs AreDifferentSignals (join_from (slot_entry m) k ss)
+  entries_of_slots : (k : ℕ) (ss : List Slot) → Pairs (AreOtherSlots (satellites_of h) (signals_of h)) ss → Pairs AreDifferentSignals (join_from (slot_entry h cell_of) k ss)
   unfolding join_from
   entries_of_slots k [] p = tt
   entries_of_slots k (s ∷ ss) p =
-      pairs-append AreDifferentSignals (slot_entry m k s) (join_from (slot_entry m) (suc k) ss)
-      (one_if (is_satellite (satellite_in (satellites_of m) s)) k s.row (satellite_in (satellites_of m) s) (code_of_signal s.signal))
+      pairs-append AreDifferentSignals (slot_entry h cell_of k s) (join_from (slot_entry h cell_of) (suc k) ss)
+      (one_if (is_satellite (satellite_in (satellites_of h) s)) k s.row (satellite_in (satellites_of h) s) (code_of_signal s.signal))
       (entries_of_slots (suc k) ss p.1)
-      (all_from (IsOfSlot s) (λ (a : CellEntry). AllByRecursion (AreDifferentSignals a) (join_from (slot_entry m) (suc k) ss))
-      (λ a is. later_differ s a is (suc k) ss p.0) (slot_entry m k s) (slot_entry-of k s))
+      (all_from (IsOfSlot s) (λ (a : CellEntry). AllByRecursion (AreDifferentSignals a) (join_from (slot_entry h cell_of) (suc k) ss))
+      (λ a is. later_differ s a is (suc k) ss p.0) (slot_entry h cell_of k s) (slot_entry-of k s))
 
-  pub cells_of_1074-distinct : IsValid m → AreDistinct (cells_of_1074 m)
-  cells_of_1074-distinct h =
-      all_pairs AreDifferentSignals (cells_of_1074 m)
-      (entries_of_slots 0 (slots_of m)
-      (slots_differ (satellites_of m) (signals_of m) (set_bits_from-rise 1 64 m.header.satellite_mask) (set_bits_from-rise 1 32 m.header.signal_mask) 0 m.cell_mask
-      (omega (arith, h.lengths.cell_mask, count-satellites m h))))
+  entries-distinct : (rows : List ℕ) → IsCellMask h rows → AreDistinct (entries_of h rows cell_of)
+  entries-distinct rows is =
+      all_pairs AreDifferentSignals (entries_of h rows cell_of)
+      (entries_of_slots 0 (slots_of h rows)
+      (slots_differ (satellites_of h) (signals_of h) (set_bits_from-rise 1 64 h.satellite_mask) (set_bits_from-rise 1 32 h.signal_mask) 0 rows
+      (omega (arith, is.rows, count-satellites h rows is))))
+
+pub cells_of_1074-distinct : (m : Msm1074) → IsValid m → AreDistinct (cells_of_1074 m)
+cells_of_1074-distinct m valid = entries-distinct m.header (cell_of_1074 m) m.cell_mask (is_cell_mask-1074 m valid)
+
+pub cells_of_msm-distinct : (m : Msm) → IsValidMsm m → AreDistinct (cells_of_msm m)
+cells_of_msm-distinct m valid = entries-distinct m.header (cell_of_msm m) m.cell_mask (is_cell_mask-msm m valid)

@@ -13,4 +13,5 @@ mod ScalingLemmas
 mod MaskLemmas
 mod LegacyLemmas
 mod MsmLemmas
+mod MsmFieldLemmas
 mod DistinctLemmas

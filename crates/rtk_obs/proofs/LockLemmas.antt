@@ -1,7 +1,10 @@
--- The tables of lock times hold what their definitions say, by a test of each entry.
-use Rattle.std.proofs.Common.{◌≡◌, ℕ, zero, suc, ◌+◌, ◌<◌, Bool, true, false, ◌&&◌, List, [], ◌∷◌, length, get_or, nat_eq, refl, arith}
+-- The tables of lock times hold what their definitions say, by a test of each entry; and a shift
+-- keeps all bits of a lock time.
+use Rattle.std.proofs.Common.{◌≡◌, ℕ, zero, suc, ◌+◌, ◌-◌, ◌*◌, ◌/◌, ◌%◌, ◌^◌, ◌<◌, ◌≤◌, Bool, true, false, ◌&&◌, List, [], ◌∷◌, length, get_or, nat_eq, refl, arith}
+use Rattle.std.specs.Prelude.{nat_le}
 use Rattle.std.proofs.lemmas.Bool.Decides.{nat_tests}
-use Rattle.rtk_obs.specs.LockTime.{least_lock_of_legacy, least_lock_of_msm}
+use Rattle.std.proofs.lemmas.Nat.{shl_whole}
+use Rattle.rtk_obs.specs.LockTime.{least_lock_of_legacy, least_lock_of_msm, least_lock_of_extended}
 use Rattle.rtk_obs.specs.declared.lock_time.TheConstants.{LEAST_LOCKS, LEAST_LOCKS_MSM}
 
 holds_from : (ℕ → ℕ) → ℕ → List ℕ → Bool
@@ -44,3 +47,10 @@ pub least_lock-msm : (i : ℕ) → i < 16 → get_or LEAST_LOCKS_MSM i 0 ≡ lea
 least_lock-msm i inside =
     let e : 0 + i ≡ i = omega arith in
     rw e at (entry_at least_lock_of_msm 0 LEAST_LOCKS_MSM i msm_holds inside)
+
+-- a step of the indicator is below 2^7, and it is doubled 21 times at most
+pub least_lock-doubled : (i step : ℕ) → 64 ≤ i → i ≤ 704 → step ≡ i - 32 * (i / 32 - 1) → step * 2 ^ (i / 32 - 1) % 2 ^ 32 ≡ least_lock_of_extended i
+least_lock-doubled i step low high is =
+    let above : nat_le i 63 ≡ false = grind (arith, nat_tests) in
+    let within : nat_le i 704 ≡ true = grind (arith, nat_tests) in
+    rw (above, within, is) (shl_whole (i - 32 * (i / 32 - 1)) 7 (i / 32 - 1) 32 (omega arith) (omega arith))

@@ -1,7 +1,7 @@
 -- The table of codes holds what its definition says.
 use Rattle.std.proofs.Common.{◌≡◌, ℕ, zero, suc, ◌+◌, ◌<◌, List, [], ◌∷◌, Option, get_or, refl, sym, subst, arith}
 use Rattle.rtk_obs.specs.declared.code.Code.{Code}
-use Rattle.rtk_obs.specs.declared.msm_cells.TheConstants.{SIGNAL_CODES}
+use Rattle.rtk_obs.specs.declared.msm_rows.TheConstants.{SIGNAL_CODES}
 use Rattle.rtk_obs.specs.MsmCells.{code_of_signal}
 
 -- the codes of n signals from k on

@@ -1,5 +1,5 @@
 -- Least lock times in ms.
-use Rattle.std.specs.Prelude.{ℕ, zero, suc, ◌+◌, ◌-◌, ◌*◌, ◌^◌, nat_le, if◌then◌else◌}
+use Rattle.std.specs.Prelude.{ℕ, zero, suc, ◌+◌, ◌-◌, ◌*◌, ◌/◌, ◌^◌, nat_le, if◌then◌else◌}
 
 -- table
 -- the least lock time in ms at an indicator of 0 to 127, which stands for whole seconds (RTCM
@@ -19,3 +19,12 @@ least_lock_of_legacy i = 1000 * (
 abbrev pub least_lock_of_msm : ℕ → ℕ
 least_lock_of_msm zero = 0
 least_lock_of_msm (suc i) = 2 ^ (i + 5)
+
+-- the least lock time in ms at an indicator with extended range and resolution, 0 to 704 (RTCM
+-- 10403.3, DF407): up to 63 the indicator itself, then each 32 indicators have twice the step of
+-- those before them. From 705 on it is reserved, and tells of no lock time (this project's rule: 0).
+abbrev pub least_lock_of_extended : ℕ → ℕ
+least_lock_of_extended i =
+    if nat_le i 63 then i
+    else if nat_le i 704 then (i - 32 * (i / 32 - 1)) * 2 ^ (i / 32 - 1)
+    else 0

@@ -1,19 +1,23 @@
--- The cells of a 1074 (RTCM 10403.3, MSM4). The RINEX code of each signal of Table 3.5-91 is this
--- project's assignment.
-use Rattle.std.specs.Prelude.{ℕ, ◌-◌, ◌==◌, ℤ, pos, negsuc, ◌+ℤ◌, false, List, [], ◌∷◌, length, map, slice_index, slice_index_or, Option, Some, None, if◌then◌else◌}
+-- The cells of the multiple signal messages of GPS (RTCM 10403.3, MSM4 to MSM7). The RINEX code of
+-- each signal of Table 3.5-91 is this project's assignment.
+use Rattle.std.specs.Prelude.{ℕ, ◌-◌, ◌==◌, ℤ, pos, negsuc, ◌+ℤ◌, Bool, true, false, List, [], ◌∷◌, length, map, slice_index, slice_index_or, Option, Some, None, if◌then◌else◌}
+use Rattle.rtk_message.specs.declared.msm1074.MsmHeader.{MsmHeader}
 use Rattle.rtk_message.specs.declared.msm1074.Msm1074.{Msm1074}
+use Rattle.rtk_message.specs.declared.msm.Msm.{Msm}
+use Rattle.rtk_message.specs.declared.msm_kind.MsmKind.{MsmKind}
+use Rattle.rtk_message.specs.declared.msm_kind.MsmKind.TheVariants.{Msm4, Msm5, Msm6, Msm7}
 use Rattle.rtk_obs.specs.declared.code.Band.{Band}
 use Rattle.rtk_obs.specs.declared.code.Code.{Code}
 use Rattle.rtk_obs.specs.declared.code.Code.TheVariants.{C1C, C1P, C1W, C1S, C1L, C1X, C2C, C2P, C2W, C2S, C2L, C2X, C5I, C5Q, C5X}
-use Rattle.rtk_obs.specs.declared.cell.CellSource.TheVariants.{Msm}
+use Rattle.rtk_obs.specs.declared.cell.CellSource.TheVariants.{Msm as SourceMsm}
 use Rattle.rtk_obs.specs.declared.cell.Cell.{Cell}
 use Rattle.rtk_obs.specs.declared.cell.CellEntry.{CellEntry}
-use Rattle.rtk_obs.specs.declared.msm_cells.Slot.{Slot}
+use Rattle.rtk_obs.specs.declared.msm_rows.Slot.{Slot}
 use Rattle.rtk_obs.specs.Cell.{is_satellite, entry_of}
 use Rattle.rtk_obs.specs.Code.{band_of}
-use Rattle.rtk_obs.specs.LockTime.{least_lock_of_msm}
+use Rattle.rtk_obs.specs.LockTime.{least_lock_of_msm, least_lock_of_extended}
 use Rattle.rtk_obs.specs.Mask.{set_bits, join_from}
-use Rattle.rtk_obs.specs.Scaling.{unless_invalid, strength_of, rough_time, range_time, range_of_time, phase_of_time}
+use Rattle.rtk_obs.specs.Scaling.{unless_invalid, strength_of, strength_of_sixteenths, rough_time, range_time, range_of_time, phase_of_time, extended_phase_time, phase_of_extended_time}
 
 -- table
 -- the code of a signal identifier (DF395); others give no cell
@@ -26,27 +30,44 @@ code_of_signal s =
     else if s == 30 then Some C1S else if s == 31 then Some C1L else if s == 32 then Some C1X
     else None
 
--- ---- which cells
+-- ---- which cells, by the header and the cell mask
 
 -- formula
 -- the satellites of the message, by DF394
-abbrev pub satellites_of : Msm1074 → List ℕ
-satellites_of m = set_bits 64 m.header.satellite_mask
+abbrev pub satellites_of : MsmHeader → List ℕ
+satellites_of h = set_bits 64 h.satellite_mask
 
 -- formula
 -- the signals of the message, by DF395
-abbrev pub signals_of : Msm1074 → List ℕ
-signals_of m = set_bits 32 m.header.signal_mask
+abbrev pub signals_of : MsmHeader → List ℕ
+signals_of h = set_bits 32 h.signal_mask
 
 -- the cells of a row of the cell mask: its bit of place p is the p-th signal of the message
 abbrev pub row_slots : List ℕ → ℕ → ℕ → List Slot
 row_slots signals row bits = map (λ p. record { row = row; signal = slice_index signals (p - 1) }) (set_bits (length signals) bits)
 
 -- the cells of the message, satellite by satellite (DF396)
-abbrev pub slots_of : Msm1074 → List Slot
-slots_of m = join_from (row_slots (signals_of m)) 0 m.cell_mask
+abbrev pub slots_of : MsmHeader → List ℕ → List Slot
+slots_of h cell_mask = join_from (row_slots (signals_of h)) 0 cell_mask
 
--- ---- their values
+-- ---- their entries, by the cell at a place, of the satellite of a row, on a band
+
+-- the entry of a cell, if its signal has a code
+abbrev pub coded_entry : (Band → Cell) → ℕ → Option Code → List CellEntry
+coded_entry cell_on satellite None = []
+coded_entry cell_on satellite (Some code) = entry_of satellite code (cell_on (band_of code)) ∷ []
+
+-- the entry of a cell, if its satellite is one from 1 to 32 and its signal has a code
+abbrev pub slot_entry : MsmHeader → (ℕ → ℕ → Band → Cell) → ℕ → Slot → List CellEntry
+slot_entry h cell_of k s =
+    if is_satellite (slice_index (satellites_of h) s.row) then coded_entry (cell_of k s.row) (slice_index (satellites_of h) s.row) (code_of_signal s.signal)
+    else []
+
+-- the entries in the order of the message
+abbrev pub entries_of : MsmHeader → List ℕ → (ℕ → ℕ → Band → Cell) → List CellEntry
+entries_of h cell_mask cell_of = join_from (slot_entry h cell_of) 0 (slots_of h cell_mask)
+
+-- ---- the values of a cell
 
 -- formula
 -- the rough range of a satellite, in 2^-29 ms; DF397 255 is invalid
@@ -73,34 +94,80 @@ abbrev pub msm_phase_of : Band → Option ℤ → ℤ → Option ℤ
 msm_phase_of band None field = None
 msm_phase_of band (Some rough) field = fine_phase_of band rough (unless_invalid (negsuc 2_097_151) field)
 
--- the rough range of the satellite of a row
-abbrev pub rough_at : Msm1074 → ℕ → Option ℤ
-rough_at m row = rough_of (slice_index m.rough_ms row) (slice_index m.rough_fraction row)
+-- the same with extended resolution: the pseudorange, if the rough range and DF405 (-524288 is
+-- invalid) are valid
+abbrev pub extended_fine_range_of : ℤ → Option ℤ → Option ℤ
+extended_fine_range_of rough None = None
+extended_fine_range_of rough (Some fine) = Some (range_of_time (rough +ℤ fine))
+
+abbrev pub extended_range_of : Option ℤ → ℤ → Option ℤ
+extended_range_of None field = None
+extended_range_of (Some rough) field = extended_fine_range_of rough (unless_invalid (negsuc 524_287) field)
+
+-- and the phase, if the rough range and DF406 (-8388608 is invalid) are valid
+abbrev pub extended_fine_phase_of : Band → ℤ → Option ℤ → Option ℤ
+extended_fine_phase_of band rough None = None
+extended_fine_phase_of band rough (Some fine) = Some (phase_of_extended_time band (extended_phase_time rough fine))
+
+abbrev pub extended_phase_of : Band → Option ℤ → ℤ → Option ℤ
+extended_phase_of band None field = None
+extended_phase_of band (Some rough) field = extended_fine_phase_of band rough (unless_invalid (negsuc 8_388_607) field)
+
+-- ---- the values by the kind of message
+
+-- MSM6 and MSM7 have extended resolution: DF405 to DF408 in the place of DF400 to DF403
+abbrev pub has_extended_resolution : MsmKind → Bool
+has_extended_resolution Msm4 = false
+has_extended_resolution Msm5 = false
+has_extended_resolution Msm6 = true
+has_extended_resolution Msm7 = true
+
+abbrev pub range_of_kind : MsmKind → Option ℤ → ℤ → Option ℤ
+range_of_kind kind rough field = if has_extended_resolution kind then extended_range_of rough field else msm_range_of rough field
+
+abbrev pub phase_of_kind : MsmKind → Band → Option ℤ → ℤ → Option ℤ
+phase_of_kind kind band rough field = if has_extended_resolution kind then extended_phase_of band rough field else msm_phase_of band rough field
+
+abbrev pub strength_of_kind : MsmKind → ℕ → Option ℕ
+strength_of_kind kind field = if has_extended_resolution kind then strength_of_sixteenths field else strength_of 1000 field
+
+abbrev pub least_lock_of_kind : MsmKind → ℕ → ℕ
+least_lock_of_kind kind indicator = if has_extended_resolution kind then least_lock_of_extended indicator else least_lock_of_msm indicator
+
+-- ---- the cells of a message
+
+-- the rough range of the satellite of a row, from the columns of DF397 and DF398
+abbrev pub rough_at : List ℕ → List ℕ → ℕ → Option ℤ
+rough_at ms fraction row = rough_of (slice_index ms row) (slice_index fraction row)
 
 -- formula
--- the k-th cell, of the satellite of a row: DF397, DF398 and DF400 to DF403, DF420
-abbrev pub msm_cell_of : Msm1074 → ℕ → ℕ → Band → Cell
-msm_cell_of m k row band = record {
-  range_mm = msm_range_of (rough_at m row) (slice_index_or m.fine_range k (pos 0));
-  phase_millicycles = msm_phase_of band (rough_at m row) (slice_index_or m.fine_phase k (pos 0));
+-- the k-th cell of a 1074: DF397, DF398 and DF400 to DF403, DF420
+abbrev pub cell_of_1074 : Msm1074 → ℕ → ℕ → Band → Cell
+cell_of_1074 m k row band = record {
+  range_mm = msm_range_of (rough_at m.rough_ms m.rough_fraction row) (slice_index_or m.fine_range k (pos 0));
+  phase_millicycles = msm_phase_of band (rough_at m.rough_ms m.rough_fraction row) (slice_index_or m.fine_phase k (pos 0));
   strength_millidbhz = strength_of 1000 (slice_index m.cnr k);
   lock_time_ms = least_lock_of_msm (slice_index m.lock_indicator k);
   half = slice_index_or m.half_cycle k false;
-  source = Msm;
+  source = SourceMsm;
   offset = None;
 }
 
--- the entry of a cell, if its signal has a code
-abbrev pub coded_entry : Msm1074 → ℕ → ℕ → ℕ → Option Code → List CellEntry
-coded_entry m k row satellite None = []
-coded_entry m k row satellite (Some code) = entry_of satellite code (msm_cell_of m k row (band_of code)) ∷ []
-
--- the entry of a cell, if its satellite is one from 1 to 32 and its signal has a code
-abbrev pub slot_entry : Msm1074 → ℕ → Slot → List CellEntry
-slot_entry m k s =
-    if is_satellite (slice_index (satellites_of m) s.row) then coded_entry m k s.row (slice_index (satellites_of m) s.row) (code_of_signal s.signal)
-    else []
-
--- the cells in the order of the message
 abbrev pub cells_of_1074 : Msm1074 → List CellEntry
-cells_of_1074 m = join_from (slot_entry m) 0 (slots_of m)
+cells_of_1074 m = entries_of m.header m.cell_mask (cell_of_1074 m)
+
+-- the k-th cell of a 1075, 1076 or 1077: DF397, DF398, DF400 to DF403 or DF405 to DF408, and DF420.
+-- The extended satellite information and the range rates (DF399, DF404) are not used.
+abbrev pub cell_of_msm : Msm → ℕ → ℕ → Band → Cell
+cell_of_msm m k row band = record {
+  range_mm = range_of_kind m.kind (rough_at m.rough_ms m.rough_fraction row) (slice_index_or m.fine_range k (pos 0));
+  phase_millicycles = phase_of_kind m.kind band (rough_at m.rough_ms m.rough_fraction row) (slice_index_or m.fine_phase k (pos 0));
+  strength_millidbhz = strength_of_kind m.kind (slice_index m.cnr k);
+  lock_time_ms = least_lock_of_kind m.kind (slice_index m.lock_indicator k);
+  half = slice_index_or m.half_cycle k false;
+  source = SourceMsm;
+  offset = None;
+}
+
+abbrev pub cells_of_msm : Msm → List CellEntry
+cells_of_msm m = entries_of m.header m.cell_mask (cell_of_msm m)

@@ -1,9 +1,9 @@
--- Exact values of the fields of 1004 and 1074, each rounded once (RTCM 10403.3).
-use Rattle.std.specs.Prelude.{ℕ, ◌+◌, ◌*◌, ◌==◌, ℤ, pos, ◌+ℤ◌, ◌*ℤ◌, Option, Some, None, if◌then◌else◌}
+-- Exact values of the fields of 1004 and of the MSM, each rounded once (RTCM 10403.3).
+use Rattle.std.specs.Prelude.{ℕ, ◌+◌, ◌*◌, ◌==◌, max, min, ℤ, pos, ◌+ℤ◌, ◌*ℤ◌, Option, Some, None, if◌then◌else◌}
 use Rattle.std.specs.Ordering.{int_eq}
 use Rattle.rtk_obs.specs.declared.code.Band.{Band}
 use Rattle.rtk_obs.specs.Code.{frequency_of}
-use Rattle.rtk_obs.specs.Rounding.{rounded}
+use Rattle.rtk_obs.specs.Rounding.{rounded, rounded_magnitude}
 
 -- a field, or none if it has its invalid mark
 abbrev pub unless_invalid : ℤ → ℤ → Option ℤ
@@ -12,6 +12,12 @@ unless_invalid mark field = if int_eq field mark then None else Some field
 -- a signal strength in thousandths of a dB-Hz, from its number of steps; 0 is not given
 abbrev pub strength_of : ℕ → ℕ → Option ℕ
 strength_of step steps = if steps == 0 then None else Some (step * steps)
+
+-- a signal strength in thousandths of a dB-Hz, from sixteenths of a dB-Hz (DF408); 0 is not given.
+-- It is rounded to quarters of a dB-Hz, a tie up, and held to 0.25 to 63.75 dB-Hz (this project's
+-- rule; a 1004 can give no others).
+abbrev pub strength_of_sixteenths : ℕ → Option ℕ
+strength_of_sixteenths n = if n == 0 then None else Some (250 * min (max (rounded_magnitude n 4) 1) 255)
 
 -- ---- 1004: lengths in 0.0005 m
 
@@ -35,7 +41,7 @@ range_of_length length = rounded length 2
 abbrev pub phase_of_length : Band → ℤ → ℤ
 phase_of_length band length = rounded (length *ℤ pos (frequency_of band)) 599_584_916
 
--- ---- 1074: travel times of the signal in 2^-29 ms
+-- ---- MSM: travel times of the signal in 2^-29 ms
 
 -- formula
 -- the rough range: DF397 in ms, and DF398 in 2^-10 ms
@@ -56,3 +62,11 @@ range_of_time time = rounded (time *ℤ pos 299_792_458) 536_870_912
 -- a time as a phase in millicycles: time * f / 2^29
 abbrev pub phase_of_time : Band → ℤ → ℤ
 phase_of_time band time = rounded (time *ℤ pos (frequency_of band)) 536_870_912
+
+-- the rough range and a fine phase of extended resolution, DF406, in 2^-31 ms
+abbrev pub extended_phase_time : ℤ → ℤ → ℤ
+extended_phase_time rough fine = pos 4 *ℤ rough +ℤ fine
+
+-- a time in 2^-31 ms as a phase in millicycles: time * f / 2^31
+abbrev pub phase_of_extended_time : Band → ℤ → ℤ
+phase_of_extended_time band time = rounded (time *ℤ pos (frequency_of band)) 2_147_483_648

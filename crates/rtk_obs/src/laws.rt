@@ -10,8 +10,10 @@ ghost use Rattle.std.specs.List.{All};
 ghost use Rattle.rtk_message.specs.declared.obs1004.Satellite.{Satellite};
 ghost use Rattle.rtk_message.specs.declared.obs1004.Obs1004.{Obs1004};
 ghost use Rattle.rtk_message.specs.declared.msm1074.Msm1074.{Msm1074};
+ghost use Rattle.rtk_message.specs.declared.msm.Msm.{Msm};
 ghost use Rattle.rtk_message.specs.Obs1004.{IsValid as IsValid1004};
 ghost use Rattle.rtk_message.specs.Msm1074.{IsValid as IsValid1074};
+ghost use Rattle.rtk_message.specs.MsmForm.{IsValid as IsValidMsm};
 ghost use Rattle.rtk_obs.specs.declared.time.TheConstants.{LAST_MS};
 ghost use Rattle.rtk_obs.specs.declared.time.Civil.{Civil};
 ghost use Rattle.rtk_obs.specs.declared.code.Band.{Band};
@@ -29,7 +31,7 @@ ghost use Rattle.rtk_obs.specs.Code.{name_of, place_of};
 ghost use Rattle.rtk_obs.specs.PositionFields.{HasFields};
 ghost use Rattle.rtk_obs.specs.Cell.{IsSatellite, IsInRange, AreDistinct};
 ghost use Rattle.rtk_obs.specs.LegacyCells.{cells_of_1004};
-ghost use Rattle.rtk_obs.specs.MsmCells.{cells_of_1074};
+ghost use Rattle.rtk_obs.specs.MsmCells.{cells_of_1074, cells_of_msm};
 ghost use Rattle.rtk_obs.specs.Tracks.{place_of_signal};
 ghost use Rattle.rtk_obs.specs.TracksLaws.{LastIsGreatest, LaterThanSteps, LaterAfterStep, AllLaterAfterStep};
 
@@ -95,10 +97,12 @@ pub fn track_laws()
     ensures digits { (a b : Digits) → IsTrue (⟦<Digits as PartialEq>⟧.eq a b) ↔ (a ≡ b) }
 {}
 
-/// No two cells of a message are of one satellite and code: of any 1004, and of a valid 1074.
+/// No two cells of a message are of one satellite and code: of any 1004, of a valid 1074, and of a
+/// valid 1075, 1076 or 1077.
 pub fn cells_are_distinct()
     ensures legacy { (satellites : List Satellite) → AreDistinct (cells_of_1004 satellites) }
     ensures msm { (m : Msm1074) → IsValid1074 m → AreDistinct (cells_of_1074 m) }
+    ensures wide { (m : Msm) → IsValidMsm m → AreDistinct (cells_of_msm m) }
 {}
 
 /// The cells of a valid message are of satellites from 1 to 32, and a cell with a strength has one
@@ -106,6 +110,7 @@ pub fn cells_are_distinct()
 pub fn cells_are_in_range()
     ensures legacy { (m : Obs1004) → IsValid1004 m → All IsInRange (cells_of_1004 m.satellites) }
     ensures msm { (m : Msm1074) → IsValid1074 m → All IsInRange (cells_of_1074 m) }
+    ensures wide { (m : Msm) → IsValidMsm m → All IsInRange (cells_of_msm m) }
 {}
 
 /// A place among all signals belongs to one satellite and one code. The places of codes are below

@@ -25,7 +25,10 @@ mod laws;
 mod legacy_cells;
 mod lock_time;
 mod mask;
+mod msm1074_cells;
 mod msm_cells;
+mod msm_rows;
+mod msm_values;
 mod position;
 mod rollover;
 mod rounding;
@@ -44,8 +47,9 @@ pub use laws::{
     moment_laws, places_are_distinct, position_laws, rounded_is_unique, track_laws, tracks_laws,
 };
 pub use legacy_cells::{cells_1004, put_cells_1004};
-pub use lock_time::{least_lock_legacy, least_lock_msm};
-pub use msm_cells::{cells_1074, put_cells_1074};
+pub use lock_time::{least_lock_extended, least_lock_legacy, least_lock_msm};
+pub use msm_cells::{cells_msm, put_cells_msm};
+pub use msm1074_cells::{cells_1074, put_cells_1074};
 pub use position::Position;
 pub use rollover::rolled;
 pub use rounding::round_div;

@@ -1,7 +1,7 @@
 //! Least lock times of the lock time indicators.
 
 ghost use Rattle.std.specs.Prelude.{◌≡◌, ◌≤◌};
-ghost use Rattle.rtk_obs.specs.LockTime.{least_lock_of_legacy, least_lock_of_msm};
+ghost use Rattle.rtk_obs.specs.LockTime.{least_lock_of_legacy, least_lock_of_msm, least_lock_of_extended};
 
 // The least times of continuous lock, in ms, at the indicators of a 1004 from 0 on.
 static LEAST_LOCKS: [u32; 128] = [
@@ -19,7 +19,7 @@ static LEAST_LOCKS: [u32; 128] = [
     744_000, 776_000, 808_000, 840_000, 872_000, 904_000, 936_000, 937_000,
 ];
 
-// The least times of continuous lock, in ms, at the indicators of a 1074 from 0 on.
+// The least times of continuous lock, in ms, at the indicators of DF402 from 0 on.
 static LEAST_LOCKS_MSM: [u32; 16] = [
     0, 32, 64, 128, 256, 512, 1_024, 2_048, 4_096, 8_192, 16_384, 32_768, 65_536, 131_072, 262_144,
     524_288,
@@ -33,10 +33,25 @@ pub fn least_lock_legacy(indicator: u8) -> u32
     LEAST_LOCKS[usize::from(indicator)]
 }
 
-/// The least time of continuous lock, in ms, at an indicator of a 1074 (DF402).
+/// The least time of continuous lock, in ms, at an indicator of a 1074 or a 1075 (DF402).
 pub fn least_lock_msm(indicator: u8) -> u32
     requires { indicator ≤ 15 }
     ensures { result ≡ least_lock_of_msm indicator }
 {
     LEAST_LOCKS_MSM[usize::from(indicator)]
+}
+
+/// The least time of continuous lock, in ms, at an indicator with extended range and resolution, as
+/// a 1076 and a 1077 have it (DF407). From 705 on the indicator is reserved, and the answer is 0.
+pub fn least_lock_extended(indicator: u16) -> u32
+    ensures { result ≡ least_lock_of_extended indicator }
+{
+    match indicator {
+        0..=63 => u32::from(indicator),
+        64..=704 => {
+            let doublings = indicator / 32 - 1;
+            u32::from(indicator - 32 * doublings) << doublings
+        }
+        _ => 0,
+    }
 }

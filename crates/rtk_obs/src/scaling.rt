@@ -6,7 +6,7 @@
 ghost use Rattle.std.specs.Prelude.{◌≡◌, ◌+◌, ◌*◌, ◌^◌, ◌<◌, ◌≤◌, pos, ◌*ℤ◌, ◌≤ℤ◌, negsuc, unsigned_abs};
 ghost use Rattle.rtk_obs.specs.Code.{frequency_of};
 ghost use Rattle.rtk_obs.specs.Rounding.{rounded, rounded_magnitude};
-ghost use Rattle.rtk_obs.specs.Scaling.{range_of_length, phase_of_length, range_of_time, phase_of_time, strength_of, unless_invalid};
+ghost use Rattle.rtk_obs.specs.Scaling.{range_of_length, phase_of_length, range_of_time, phase_of_time, strength_of, strength_of_sixteenths, phase_of_extended_time, unless_invalid};
 
 use crate::code::Band;
 
@@ -22,7 +22,7 @@ const HALF_LIGHT: u64 = 149_896_229;
 // More than a length in 0.0005 m that a 1004 gives.
 const LONGEST: u64 = 160_000_000_000;
 
-// 2^29: so many units of the times of a 1074 are a ms.
+// 2^29: so many units of a travel time are a ms.
 const MS: u32 = 536_870_912;
 
 // The whole number nearest to n * factor / divisor, a tie going up, in 64 bits.
@@ -53,7 +53,7 @@ fn scaled(value: i64, factor: u32, divisor: u32) -> i64
 
 // The whole number nearest to n * factor / 2^29, a tie going up.
 fn time_magnitude(n: u64, factor: u32) -> u64
-    requires { n ≤ 2 ^ 40 }
+    requires { n ≤ 2 ^ 41 }
     ensures value { result ≡ rounded_magnitude (n * factor) MS }
     ensures bound { result < 2 ^ 63 }
 {
@@ -63,7 +63,7 @@ fn time_magnitude(n: u64, factor: u32) -> u64
 
 // The whole number nearest to time * factor / 2^29, a tie going away from 0.
 fn scaled_time(time: i64, factor: u32) -> i64
-    requires { unsigned_abs time ≤ 2 ^ 40 }
+    requires { unsigned_abs time ≤ 2 ^ 41 }
     ensures { result ≡ rounded (time *ℤ pos factor) MS }
 {
     if time < 0 {
@@ -122,6 +122,15 @@ pub(crate) fn phase_from_time(band: Band, time: i64) -> i64
     scaled_time(time, band.frequency())
 }
 
+/// A travel time of the signal, in 2^-31 ms, as a phase in millicycles.
+pub(crate) fn phase_from_extended_time(band: Band, time: i64) -> i64
+    requires { unsigned_abs time ≤ 2 ^ 41 }
+    ensures { result ≡ phase_of_extended_time band time }
+{
+    // Each frequency is a whole multiple of 4 Hz, so f / 2^31 is exactly (f / 4) / 2^29.
+    scaled_time(time, band.frequency() / 4)
+}
+
 /// A signal strength in thousandths of a dB-Hz, from its number of steps; 0 steps mean that it is
 /// not given.
 pub(crate) fn strength_from_steps(step: u32, steps: u8) -> Option<u32>
@@ -131,6 +140,17 @@ pub(crate) fn strength_from_steps(step: u32, steps: u8) -> Option<u32>
     match steps {
         0 => None,
         _ => Some(step * u32::from(steps)),
+    }
+}
+
+/// A signal strength in thousandths of a dB-Hz, from sixteenths of a dB-Hz (DF408); 0 means that it
+/// is not given. It is the nearest quarter of a dB-Hz, from 0.25 to 63.75.
+pub(crate) fn strength_from_sixteenths(sixteenths: u16) -> Option<u32>
+    ensures { result ≡ strength_of_sixteenths sixteenths }
+{
+    match sixteenths {
+        0 => None,
+        _ => Some(250 * ((u32::from(sixteenths) + 2) / 4).clamp(1, 255)),
     }
 }
 

@@ -1,7 +1,10 @@
+pub mod FourLemmas
 pub mod FrameLemmas
 pub mod FreshLemmas
 pub mod LineLemmas
 pub mod ListLemmas
+pub mod MsmLemmas
+pub mod NamedLemmas
 pub mod ReadLemmas
 pub mod SignalLemmas
 pub mod StationLemmas

@@ -4,19 +4,21 @@ use Rattle.std.proofs.Math.Dec.{eqb-suc-zero}
 use Rattle.std.specs.Prelude.{flat_map, filter, codes}
 use Rattle.std.specs.List.{range_with_len}
 use Rattle.rtk_obs.specs.declared.code.Code.{Code}
-use Rattle.rtk_obs.specs.declared.code.Code.TheVariants.{C2P, C2W}
 use Rattle.rtk_obs.specs.Code.{name_of, place_of}
-use Rattle.rtk_obs.proofs.PublicLaws.{place_bound}
-use Rattle.rtk_message.specs.declared.message.Message.{Message}
-use Rattle.rtk_summary.specs.Counting.{shown_count}
+use Rattle.rtk_message.specs.declared.msm_kind.MsmKind.{MsmKind}
+use Rattle.rtk_message.specs.declared.any_message.AnyMessage.{AnyMessage}
+use Rattle.rtk_summary.specs.Counting.{shown_count, count_of}
+use Rattle.rtk_summary.specs.Proposal.{epochs_of, entries_with}
 use Rattle.rtk_summary.specs.Summary.{all_numbers, station_lines, lines_if_any}
-use Rattle.rtk_summary.specs.SummaryText.{number_line, counted_line, numbered_line, list_line, time_lines, untaken_numbers, listed_satellite, satellites_text, all_codes, joined_names, codes_text, second_frequency_line, next_line, signal_lines}
-use Rattle.rtk_summary.specs.Steps.Standing.{StandsForEntries, StandsForMessages}
-use Rattle.rtk_summary.specs.Steps.Tables.{counts_text, untaken_text}
-use Rattle.rtk_summary.specs.Tracing.{entries_in, has_satellite, has_code, times_of_week}
+use Rattle.rtk_summary.specs.SummaryText.{number_line, counted_line, numbered_line, list_line, time_lines, untaken_numbers, listed_satellite, satellites_text, all_codes, joined_names, codes_text, second_frequency_line, msm_option, next_line, signal_lines, proposal_lines}
+use Rattle.rtk_summary.specs.Steps.Standing.{StandsForEntries, StandsForMessages, StandForMsm, epochs_held, codes_held}
+use Rattle.rtk_summary.specs.Steps.Tables.{counts_text, untaken_text, counts_held}
+use Rattle.rtk_summary.specs.Tracing.{is_numbered, entries_in, has_satellite, has_code, times_of_week}
+use Rattle.rtk_summary.specs.declared.msm.MsmParts.{MsmParts}
 use Rattle.rtk_summary.specs.declared.signals.Signals.{Signals}
 use Rattle.rtk_summary.specs.declared.station.Station.{Station}
 use Rattle.rtk_summary.proofs.ListLemmas.{lines-agree}
+use Rattle.rtk_summary.proofs.MsmLemmas.{codes-marked, epochs-are, codes-held-are}
 
 -- ---- counts
 
@@ -45,7 +47,7 @@ unfolding untaken_text
 untaken-are counts count size are =
     lists-agree (λ n. numbered_line (codes "untaken GPS ") n (get_or counts n 0)) (λ n. numbered_line (codes "untaken GPS ") n (count n)) untaken_numbers
     (λ k lt. let within : k < length counts = omega (arith, lt, size) in ap (λ c. numbered_line (codes "untaken GPS ") k c) (are k within))
-    (lit< tt, (lit< tt, (lit< tt, (lit< tt, (lit< tt, (lit< tt, (lit< tt, (lit< tt, (lit< tt, tt)))))))))
+    (lit< tt, (lit< tt, (lit< tt, (lit< tt, (lit< tt, (lit< tt, tt))))))
 
 -- ---- satellites and codes
 
@@ -76,52 +78,39 @@ code-passed marked text separator i d whole within marks so_far =
     let first : filter marked (drop i all_codes) ≡ rest = ap (λ cs. filter marked cs) (code-first i d within) ∙ ap (λ b. cond b (c ∷ rest) rest) marks in
     ap (λ cs. text ++ joined_names separator cs) (sym first) ∙ so_far
 
-pub next-line-is : (station : ℕ) (names : List ℕ) → (length names ≡ 0 → ⊥)
-    → next_line station names ≡ codes " next rtcm2rinex convert --station " ++ decimal station ++ codes " --near GPS-TIME-WITHIN-HALF-A-WEEK --made UTC-NOW --marker NAME --codes" ++ names ++ codes " CAPTURE\n"
-next-line-is station [] some = absurd (some refl)
-next-line-is station (x ∷ xs) some = refl
+pub next-line-is : (station : ℕ) (named : MsmKind) (names : List ℕ) → (length names ≡ 0 → ⊥)
+    → next_line station named names ≡ codes " next rtcm2rinex convert --station " ++ decimal station ++ codes " --near GPS-TIME-WITHIN-HALF-A-WEEK --made UTC-NOW --marker NAME --codes" ++ names ++ msm_option named ++ codes " CAPTURE\n"
+next-line-is station named [] some = absurd (some refl)
+next-line-is station named (x ∷ xs) some = refl
 
-filter-agree : (s t : Code → Bool) → ((c : Code) → s c ≡ t c) → (cs : List Code) → filter s cs ≡ filter t cs
-filter-agree s t agree [] = refl
-filter-agree s t agree (c ∷ cs) =
-    ap (λ b. cond b (c ∷ filter s cs) (filter s cs)) (agree c) ∙ ap (λ rest. cond (t c) (c ∷ rest) rest) (filter-agree s t agree cs)
-
-pub codes-agree : (s t : Code → Bool) → ((c : Code) → s c ≡ t c) → codes_text s ≡ codes_text t
-unfolding codes_text
-codes-agree s t agree = ap (λ cs. joined_names 32 cs) (filter-agree s t agree all_codes)
-
-pub codes-are : (s : Signals) (ms : List Message) → StandsForEntries s (entries_in ms) → codes_text (λ c. get_or s.codes (place_of c) false) ≡ codes_text (has_code (entries_in ms))
-codes-are s ms stands =
-    codes-agree (λ c. get_or s.codes (place_of c) false) (has_code (entries_in ms))
-    (λ c. stands.codes (place_of c) (let bound = place_bound c in let size = stands.codes_size in omega (arith, bound, size)))
+pub codes-are : (s : Signals) (ms : List AnyMessage) → StandsForEntries s (entries_in ms) → codes_text (λ c. get_or s.codes.marks (place_of c) false) ≡ codes_text (has_code (entries_in ms))
+codes-are s ms stands = ap (λ (t : Code → Bool). codes_text t) (codes-marked s.codes (entries_in ms) stands.codes)
 
 satellites-agree : (s t : ℕ → Bool) → ((n : ℕ) → n < 33 → s n ≡ t n) → satellites_text s ≡ satellites_text t
 unfolding satellites_text
 satellites-agree s t agree = lines-agree (listed_satellite s) (listed_satellite t) 1 32 (λ k lt. ap (λ b. cond b (32 ∷ 71 ∷ (48 + k / 10) ∷ (48 + k % 10) ∷ []) []) (agree k lt))
 
-second-agrees : (s t : Code → Bool) → ((c : Code) → s c ≡ t c) → second_frequency_line s ≡ second_frequency_line t
-second-agrees s t agree =
-    ap (λ b. cond (b && not (s C2W)) (codes " second-frequency 2P\n") []) (agree C2P)
-    ∙ ap (λ b. cond (t C2P && not b) (codes " second-frequency 2P\n") []) (agree C2W)
-
-pub signals-are : (number : ℕ) (s : Signals) (ms : List Message) → StandsForEntries s (entries_in ms)
-    → signal_lines number (λ n. get_or s.satellites n false) (λ c. get_or s.codes (place_of c) false) ≡ signal_lines number (has_satellite (entries_in ms)) (has_code (entries_in ms))
+pub signals-are : (s : Signals) (ms : List AnyMessage) → StandsForEntries s (entries_in ms)
+    → signal_lines (λ n. get_or s.satellites n false) (λ c. get_or s.codes.marks (place_of c) false) ≡ signal_lines (has_satellite (entries_in ms)) (has_code (entries_in ms))
 unfolding signal_lines
-signals-are number s ms stands =
+signals-are s ms stands =
     let marked : ℕ → Bool = λ n. get_or s.satellites n false in
-    let coded : Code → Bool = λ c. get_or s.codes (place_of c) false in
+    let coded : Code → Bool = λ c. get_or s.codes.marks (place_of c) false in
     let es = entries_in ms in
     let a : satellites_text marked ≡ satellites_text (has_satellite es) = satellites-agree marked (has_satellite es) (λ n lt. stands.satellites n (let size = stands.satellites_size in omega (arith, lt, size))) in
-    let b : codes_text coded ≡ codes_text (has_code es) = codes-are s ms stands in
-    let d : second_frequency_line coded ≡ second_frequency_line (has_code es) = second-agrees coded (has_code es) (λ c. stands.codes (place_of c) (let bound = place_bound c in let size = stands.codes_size in omega (arith, bound, size))) in
-    let lines : List ℕ → List ℕ → List ℕ → List ℕ = λ sats names second. list_line (codes " satellites") sats ++ list_line (codes " codes") names ++ second ++ next_line number names in
-    ap (λ (t : List ℕ). lines t (codes_text coded) (second_frequency_line coded)) a
-    ∙ ap (λ (t : List ℕ). lines (satellites_text (has_satellite es)) t (second_frequency_line coded)) b
-    ∙ ap (λ (t : List ℕ). lines (satellites_text (has_satellite es)) (codes_text (has_code es)) t) d
+    let lines : List ℕ → (Code → Bool) → List ℕ = λ sats code. list_line (codes " satellites") sats ++ list_line (codes " codes") (codes_text code) ++ second_frequency_line code in
+    ap (λ (t : List ℕ). lines t coded) a
+    ∙ ap (λ (t : Code → Bool). lines (satellites_text (has_satellite es)) t) (codes-marked s.codes es stands.codes)
 
 -- ---- a station
 
-any-lines : (number : ℕ) (ms : List Message) → (length ms ≡ 0 → ⊥) → lines_if_any number ms ≡ station_lines number ms
+pub proposal-is : (number : ℕ) (p : MsmParts) (ms : List AnyMessage) → StandForMsm p ms
+    → proposal_lines number (epochs_held p) (codes_held p) ≡ proposal_lines number (λ kind. epochs_of kind ms) (λ kind. has_code (entries_with kind ms))
+proposal-is number p ms stand =
+    ap (λ (e : MsmKind → ℕ). proposal_lines number e (codes_held p)) (epochs-are p ms stand)
+    ∙ ap (λ (t : MsmKind → Code → Bool). proposal_lines number (λ kind. epochs_of kind ms) t) (codes-held-are p ms stand)
+
+any-lines : (number : ℕ) (ms : List AnyMessage) → (length ms ≡ 0 → ⊥) → lines_if_any number ms ≡ station_lines number ms
 any-lines number [] some = absurd (some refl)
 any-lines number (m ∷ ms) some =
     let none : (length (m ∷ ms) == 0) ≡ false = eqb-suc-zero (length ms) in
@@ -131,15 +120,76 @@ any-lines number (m ∷ ms) some =
 abbrev pub lines_held : ℕ → Station → List ℕ → List ℕ
 lines_held number s times =
     number_line (codes "station ") number
-    ++ counted_line (codes " message 1004 ") s.obs_1004 ++ counted_line (codes " message 1005 ") s.arp_1005
-    ++ counted_line (codes " message 1006 ") s.arp_1006 ++ counted_line (codes " message 1074 ") s.msm_1074
+    ++ counts_held s
     ++ time_lines times
-    ++ signal_lines number (λ n. get_or s.signals.satellites n false) (λ c. get_or s.signals.codes (place_of c) false)
+    ++ signal_lines (λ n. get_or s.signals.satellites n false) (λ c. get_or s.signals.codes.marks (place_of c) false)
+    ++ proposal_lines number (epochs_held s.msm) (codes_held s.msm)
 
-pub station-lines-are : (number : ℕ) (s : Station) (ms : List Message) → StandsForMessages s ms → (s.messages ≡ 0 → ⊥)
-    → lines_if_any number ms ≡ lines_held number s (times_of_week ms)
-unfolding station_lines
-station-lines-are number s ms stands some =
+-- the lines of these counts
+counts_of : ℕ → ℕ → ℕ → ℕ → ℕ → ℕ → ℕ → List ℕ
+counts_of a b c d e f g =
+    counted_line (codes " message 1004 ") a
+    ++ counted_line (codes " message 1005 ") b
+    ++ counted_line (codes " message 1006 ") c
+    ++ counted_line (codes " message 1074 ") d
+    ++ counted_line (codes " message 1075 ") e
+    ++ counted_line (codes " message 1076 ") f
+    ++ counted_line (codes " message 1077 ") g
+
+counts-same : (a b c d e f g a' b' c' d' e' f' g' : ℕ) → a ≡ a' → b ≡ b' → c ≡ c' → d ≡ d' → e ≡ e' → f ≡ f' → g ≡ g'
+    → counts_of a b c d e f g ≡ counts_of a' b' c' d' e' f' g'
+counts-same a b c d e f g a' b' c' d' e' f' g' p q r s t u v = cc
+
+counts-agree : (s : Station) (ms : List AnyMessage) → StandsForMessages s ms
+    → counts_of (count_of (is_numbered 1004) ms) (count_of (is_numbered 1005) ms) (count_of (is_numbered 1006) ms) (count_of (is_numbered 1074) ms) (count_of (is_numbered 1075) ms) (count_of (is_numbered 1076) ms) (count_of (is_numbered 1077) ms) ≡ counts_held s
+unfolding counts_of
+counts-agree s ms stands =
     let k = stands.counts in
-    any-lines number ms (λ none. some (k.messages ∙ ap shown_count none))
-    ∙ rw (k.obs_1004, k.arp_1005, k.arp_1006, k.msm_1074, signals-are number s.signals ms stands.signals) refl
+    let m = stands.msm in
+    counts-same
+    (count_of (is_numbered 1004) ms)
+    (count_of (is_numbered 1005) ms)
+    (count_of (is_numbered 1006) ms)
+    (count_of (is_numbered 1074) ms)
+    (count_of (is_numbered 1075) ms)
+    (count_of (is_numbered 1076) ms)
+    (count_of (is_numbered 1077) ms)
+    s.obs_1004 s.arp_1005 s.arp_1006 s.msm.msm4.messages s.msm.msm5.messages s.msm.msm6.messages s.msm.msm7.messages
+    (sym k.obs_1004) (sym k.arp_1005) (sym k.arp_1006) (sym m.msm4.messages) (sym m.msm5.messages) (sym m.msm6.messages) (sym m.msm7.messages)
+
+regroup : (n a b c d e f g t s p : List ℕ) → n ++ a ++ b ++ c ++ d ++ e ++ f ++ g ++ t ++ s ++ p ≡ n ++ (a ++ b ++ c ++ d ++ e ++ f ++ g) ++ t ++ s ++ p
+regroup n a b c d e f g t s p = simp append_assoc
+
+grouped : (number : ℕ) (ms : List AnyMessage) → station_lines number ms
+    ≡ number_line (codes "station ") number
+    ++ counts_of (count_of (is_numbered 1004) ms) (count_of (is_numbered 1005) ms) (count_of (is_numbered 1006) ms) (count_of (is_numbered 1074) ms) (count_of (is_numbered 1075) ms) (count_of (is_numbered 1076) ms) (count_of (is_numbered 1077) ms)
+    ++ time_lines (times_of_week ms)
+    ++ signal_lines (has_satellite (entries_in ms)) (has_code (entries_in ms))
+    ++ proposal_lines number (λ kind. epochs_of kind ms) (λ kind. has_code (entries_with kind ms))
+unfolding station_lines counts_of
+grouped number ms =
+    regroup (number_line (codes "station ") number)
+    (counted_line (codes " message 1004 ") (count_of (is_numbered 1004) ms))
+    (counted_line (codes " message 1005 ") (count_of (is_numbered 1005) ms))
+    (counted_line (codes " message 1006 ") (count_of (is_numbered 1006) ms))
+    (counted_line (codes " message 1074 ") (count_of (is_numbered 1074) ms))
+    (counted_line (codes " message 1075 ") (count_of (is_numbered 1075) ms))
+    (counted_line (codes " message 1076 ") (count_of (is_numbered 1076) ms))
+    (counted_line (codes " message 1077 ") (count_of (is_numbered 1077) ms))
+    (time_lines (times_of_week ms))
+    (signal_lines (has_satellite (entries_in ms)) (has_code (entries_in ms)))
+    (proposal_lines number (λ kind. epochs_of kind ms) (λ kind. has_code (entries_with kind ms)))
+
+pub station-lines-are : (number : ℕ) (s : Station) (ms : List AnyMessage) → StandsForMessages s ms → (s.messages ≡ 0 → ⊥)
+    → lines_if_any number ms ≡ lines_held number s (times_of_week ms)
+station-lines-are number s ms stands some =
+    let head : List ℕ = number_line (codes "station ") number in
+    let times : List ℕ = time_lines (times_of_week ms) in
+    let signals : List ℕ = signal_lines (has_satellite (entries_in ms)) (has_code (entries_in ms)) in
+    let proposal : List ℕ = proposal_lines number (λ kind. epochs_of kind ms) (λ kind. has_code (entries_with kind ms)) in
+    let signals' : List ℕ = signal_lines (λ n. get_or s.signals.satellites n false) (λ c. get_or s.signals.codes.marks (place_of c) false) in
+    any-lines number ms (λ none. some (stands.counts.messages ∙ ap shown_count none))
+    ∙ grouped number ms
+    ∙ ap (λ (t : List ℕ). head ++ t ++ times ++ signals ++ proposal) (counts-agree s ms stands)
+    ∙ ap (λ (t : List ℕ). head ++ counts_held s ++ times ++ t ++ proposal) (sym (signals-are s.signals ms stands.signals))
+    ∙ ap (λ (t : List ℕ). head ++ counts_held s ++ times ++ signals' ++ t) (sym (proposal-is number s.msm ms stands.msm))

@@ -3,8 +3,9 @@ use Rattle.std.proofs.Common.{◌≡◌, ◌<◌, ◌+◌, ℕ, zero, suc, Bool,
 use Rattle.std.specs.List.{list_any}
 use Rattle.std.proofs.lemmas.List.Folds.{list_any-append, list_any_more}
 use Rattle.rtk_obs.specs.declared.cell.CellEntry.{CellEntry}
-use Rattle.rtk_summary.specs.Steps.Standing.{StandsForEntries}
+use Rattle.rtk_summary.specs.Steps.Standing.{StandsForCodes, StandsForEntries}
 use Rattle.rtk_summary.specs.Tracing.{gives_satellite, gives_place}
+use Rattle.rtk_summary.specs.declared.signals.Codes.{Codes}
 use Rattle.rtk_summary.specs.declared.signals.Signals.{Signals}
 
 -- where no mark is set each is false
@@ -29,11 +30,17 @@ any-more test xs es i d within =
     ∙ or-moved (list_any test (take i xs)) (test (get_or xs i d)) (list_any test es)
     ∙ ap (λ b. test (get_or xs i d) || b) (sym (list_any-append test (take i xs) es))
 
+pub codes-more : (c : Codes) (xs es : List CellEntry) (i : ℕ) (d : CellEntry) → i < length xs
+    → StandsForCodes c (get_or xs i d ∷ (take i xs ++ es)) → StandsForCodes c (take (i + 1) xs ++ es)
+codes-more c xs es i d within stands = record {
+  size = stands.size;
+  marks = λ n lt. stands.marks n lt ∙ sym (any-more (gives_place n) xs es i d within);
+}
+
 pub entries-more : (s : Signals) (xs es : List CellEntry) (i : ℕ) (d : CellEntry) → i < length xs
     → StandsForEntries s (get_or xs i d ∷ (take i xs ++ es)) → StandsForEntries s (take (i + 1) xs ++ es)
 entries-more s xs es i d within stands = record {
   satellites_size = stands.satellites_size;
-  codes_size = stands.codes_size;
   satellites = λ n lt. stands.satellites n lt ∙ sym (any-more (gives_satellite n) xs es i d within);
-  codes = λ n lt. stands.codes n lt ∙ sym (any-more (gives_place n) xs es i d within);
+  codes = codes-more s.codes xs es i d within stands.codes;
 }

@@ -1,4 +1,5 @@
 pub mod Counting
+pub mod Proposal
 pub mod ReadFrames
 pub mod Steps
 pub mod Summary

@@ -3,12 +3,13 @@ use Rattle.std.specs.Prelude.{◌≡◌, ℕ, ◌+◌, ◌-◌, ◌≤◌, ◌==
 use Rattle.std.specs.List.{range_with_len}
 use Rattle.rtk_frame.specs.Frames.{frames, payloads}
 use Rattle.rtk_frame.specs.Stream.{with_more, TakesPart, greatest_count}
-use Rattle.rtk_message.specs.declared.message.Message.{Message}
-use Rattle.rtk_message.specs.declared.fault.DecodeFault.{DecodeFault}
+use Rattle.rtk_message.specs.declared.any_message.AnyMessage.{AnyMessage}
+use Rattle.rtk_message.specs.declared.any_fault.AnyFault.{AnyFault}
 use Rattle.rtk_summary.specs.Counting.{shown_count, count_of}
+use Rattle.rtk_summary.specs.Proposal.{epochs_of, entries_with}
 use Rattle.rtk_summary.specs.ReadFrames.{ReadFrame, ReadsFrames, bytes_in, messages_in, faults_in, messages_from}
 use Rattle.rtk_summary.specs.Tracing.{is_numbered, is_other, is_short, is_outside_week, is_no_number, is_too_many_cells, times_of_week, entries_in, has_satellite, has_code}
-use Rattle.rtk_summary.specs.SummaryText.{number_line, counted_line, numbered_line, time_lines, signal_lines, codes_text, nothing_line, untaken_numbers}
+use Rattle.rtk_summary.specs.SummaryText.{number_line, counted_line, numbered_line, time_lines, signal_lines, proposal_lines, codes_text, nothing_line, untaken_numbers}
 
 -- table
 -- the numbers of stations and of messages: DF003 and DF002 have 12 bits
@@ -17,35 +18,39 @@ all_numbers = range_with_len 0 4096
 
 -- formula
 -- the lines of a station, of which these messages came
-unfoldable pub station_lines : ℕ → List Message → List ℕ
+unfoldable pub station_lines : ℕ → List AnyMessage → List ℕ
 station_lines station ms =
     number_line (codes "station ") station
     ++ counted_line (codes " message 1004 ") (count_of (is_numbered 1004) ms)
     ++ counted_line (codes " message 1005 ") (count_of (is_numbered 1005) ms)
     ++ counted_line (codes " message 1006 ") (count_of (is_numbered 1006) ms)
     ++ counted_line (codes " message 1074 ") (count_of (is_numbered 1074) ms)
+    ++ counted_line (codes " message 1075 ") (count_of (is_numbered 1075) ms)
+    ++ counted_line (codes " message 1076 ") (count_of (is_numbered 1076) ms)
+    ++ counted_line (codes " message 1077 ") (count_of (is_numbered 1077) ms)
     ++ time_lines (times_of_week ms)
-    ++ signal_lines station (has_satellite (entries_in ms)) (has_code (entries_in ms))
+    ++ signal_lines (has_satellite (entries_in ms)) (has_code (entries_in ms))
+    ++ proposal_lines station (λ kind. epochs_of kind ms) (λ kind. has_code (entries_with kind ms))
 
 -- a station of which nothing came has no lines
-abbrev pub lines_if_any : ℕ → List Message → List ℕ
+abbrev pub lines_if_any : ℕ → List AnyMessage → List ℕ
 lines_if_any station ms = if length ms == 0 then [] else station_lines station ms
 
 -- the lines of all stations, their numbers rising
-unfoldable pub stations_text : List Message → List ℕ
+unfoldable pub stations_text : List AnyMessage → List ℕ
 stations_text ms = flat_map (λ s. lines_if_any s (messages_from s ms)) all_numbers
 
 -- formula
 -- the payloads that are not read: other messages, those with GPS observations named once more, and
 -- for each fault the numbers of the messages that are refused
-unfoldable pub unread_lines : List DecodeFault → List ℕ
+unfoldable pub unread_lines : List AnyFault → List ℕ
 unread_lines fs =
     flat_map (λ n. numbered_line (codes "other ") n (count_of (is_other n) fs)) all_numbers
     ++ flat_map (λ n. numbered_line (codes "untaken GPS ") n (count_of (is_other n) fs)) untaken_numbers
     ++ counted_line (codes "refused M1 - ") (count_of is_no_number fs)
     ++ flat_map (λ n. numbered_line (codes "refused M3 ") n (count_of (is_short n) fs)) all_numbers
     ++ flat_map (λ n. numbered_line (codes "refused M4 ") n (count_of (is_outside_week n) fs)) all_numbers
-    ++ counted_line (codes "refused M5 1074 ") (count_of is_too_many_cells fs)
+    ++ flat_map (λ n. numbered_line (codes "refused M5 ") n (count_of (is_too_many_cells n) fs)) all_numbers
 
 -- formula
 -- the summary of a capture of so many bytes with these frames, newest first

@@ -2,10 +2,14 @@
 -- after a blank.
 use Rattle.std.specs.Prelude.{ℕ, ◌+◌, ◌/◌, ◌%◌, ◌==◌, Bool, not, ◌&&◌, List, [], ◌∷◌, ◌++◌, filter, flat_map, codes, decimal, Option, None, Some, if◌then◌else◌}
 use Rattle.std.specs.List.{range_with_len}
+use Rattle.rtk_message.specs.declared.msm_kind.MsmKind.{MsmKind}
+use Rattle.rtk_message.specs.declared.msm_kind.MsmKind.TheVariants.{Msm4, Msm5, Msm6, Msm7}
+use Rattle.rtk_message.specs.MsmForm.{number_of_kind}
 use Rattle.rtk_obs.specs.declared.code.Code.{Code}
 use Rattle.rtk_obs.specs.declared.code.Code.TheVariants.{C1C, C1P, C1W, C1S, C1L, C1X, C2C, C2D, C2P, C2W, C2S, C2L, C2X, C5I, C5Q, C5X}
 use Rattle.rtk_obs.specs.Code.{name_of}
 use Rattle.rtk_summary.specs.Counting.{shown_count}
+use Rattle.rtk_summary.specs.Proposal.{proposed}
 use Rattle.rtk_summary.specs.Tracing.{newest_time, oldest_time, changes_in}
 
 -- formula
@@ -86,19 +90,48 @@ abbrev pub second_frequency_line : (Code → Bool) → List ℕ
 second_frequency_line test = if test C2P && not (test C2W) then codes " second-frequency 2P\n" else []
 
 -- formula
--- the command that converts the station, with a word in capitals for what a capture does not tell;
--- without codes there is none
-abbrev pub next_line : ℕ → List ℕ → List ℕ
-next_line station [] = []
-next_line station (x ∷ xs) =
-    codes " next rtcm2rinex convert --station " ++ decimal station
-    ++ codes " --near GPS-TIME-WITHIN-HALF-A-WEEK --made UTC-NOW --marker NAME --codes" ++ (x ∷ xs) ++ codes " CAPTURE\n"
+unfoldable pub signal_lines : (ℕ → Bool) → (Code → Bool) → List ℕ
+signal_lines satellite code =
+    list_line (codes " satellites") (satellites_text satellite) ++ list_line (codes " codes") (codes_text code)
+    ++ second_frequency_line code
+
+-- ---- the command that converts a station, by how many epochs of each MSM have a value, and by the
+-- codes that `convert` takes with each
 
 -- formula
-unfoldable pub signal_lines : ℕ → (ℕ → Bool) → (Code → Bool) → List ℕ
-signal_lines station satellite code =
-    list_line (codes " satellites") (satellites_text satellite) ++ list_line (codes " codes") (codes_text code)
-    ++ second_frequency_line code ++ next_line station (codes_text code)
+-- an MSM with such epochs that the command does not name
+abbrev pub other_msm_line : (MsmKind → ℕ) → MsmKind → MsmKind → List ℕ
+other_msm_line epochs named kind =
+    if number_of_kind kind == number_of_kind named then [] else numbered_line (codes " other-msm ") (number_of_kind kind) (epochs kind)
+
+-- formula
+unfoldable pub other_msm_lines : (MsmKind → ℕ) → MsmKind → List ℕ
+other_msm_lines epochs named =
+    other_msm_line epochs named Msm4 ++ other_msm_line epochs named Msm5
+    ++ other_msm_line epochs named Msm6 ++ other_msm_line epochs named Msm7
+
+-- table
+-- the option that names an MSM; `convert` takes 1074 without one
+abbrev pub msm_option : MsmKind → List ℕ
+msm_option Msm4 = []
+msm_option Msm5 = codes " --msm 5"
+msm_option Msm6 = codes " --msm 6"
+msm_option Msm7 = codes " --msm 7"
+
+-- formula
+-- the command that converts the station with this MSM, with a word in capitals for what a capture
+-- does not tell; without codes there is none
+abbrev pub next_line : ℕ → MsmKind → List ℕ → List ℕ
+next_line station named [] = []
+next_line station named (x ∷ xs) =
+    codes " next rtcm2rinex convert --station " ++ decimal station
+    ++ codes " --near GPS-TIME-WITHIN-HALF-A-WEEK --made UTC-NOW --marker NAME --codes" ++ (x ∷ xs) ++ msm_option named ++ codes " CAPTURE\n"
+
+-- formula
+-- the command, and before it the MSM that it leaves out
+unfoldable pub proposal_lines : ℕ → (MsmKind → ℕ) → (MsmKind → Code → Bool) → List ℕ
+proposal_lines station epochs code =
+    other_msm_lines epochs (proposed epochs) ++ next_line station (proposed epochs) (codes_text (code (proposed epochs)))
 
 -- formula
 -- no station has a code
@@ -109,4 +142,4 @@ nothing_line (x ∷ xs) = []
 -- formula
 -- the messages of GPS observations that are not read
 abbrev pub untaken_numbers : List ℕ
-untaken_numbers = 1001 ∷ 1002 ∷ 1003 ∷ 1071 ∷ 1072 ∷ 1073 ∷ 1075 ∷ 1076 ∷ 1077 ∷ []
+untaken_numbers = 1001 ∷ 1002 ∷ 1003 ∷ 1071 ∷ 1072 ∷ 1073 ∷ []

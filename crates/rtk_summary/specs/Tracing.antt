@@ -2,51 +2,54 @@
 -- codes with a value. Lists of messages and times are newest first.
 use Rattle.std.specs.Prelude.{ℕ, ◌+◌, ◌==◌, Bool, true, false, ◌&&◌, ◌||◌, List, [], ◌∷◌, flat_map, Option, None, Some, unwrap_or, is_some, if◌then◌else◌}
 use Rattle.std.specs.List.{list_any, filter_map}
+use Rattle.rtk_message.specs.declared.any_message.AnyMessage.{AnyMessage}
+use Rattle.rtk_message.specs.declared.any_message.AnyMessage.TheVariants as any
 use Rattle.rtk_message.specs.declared.message.Message.{Message}
 use Rattle.rtk_message.specs.declared.message.Message.TheVariants.{Obs1004, Arp1005, Arp1006, Msm1074}
-use Rattle.rtk_message.specs.declared.fault.DecodeFault.{DecodeFault}
-use Rattle.rtk_message.specs.declared.fault.DecodeFault.TheVariants.{NoNumber, Other, Short, EpochRange, TooManyCells}
-use Rattle.rtk_message.specs.Decoded.{number_of, tow_of}
+use Rattle.rtk_message.specs.declared.any_fault.AnyFault.{AnyFault}
+use Rattle.rtk_message.specs.declared.any_fault.AnyFault.TheVariants.{NoNumber, Other, Short, EpochRange, TooManyCells}
+use Rattle.rtk_message.specs.AnyDecoded.{number_of, tow_of}
 use Rattle.rtk_obs.specs.declared.cell.Cell.{Cell}
 use Rattle.rtk_obs.specs.declared.cell.CellEntry.{CellEntry}
 use Rattle.rtk_obs.specs.declared.code.Code.{Code}
 use Rattle.rtk_obs.specs.Code.{place_of}
 use Rattle.rtk_obs.specs.LegacyCells.{cells_of_1004}
-use Rattle.rtk_obs.specs.MsmCells.{cells_of_1074}
+use Rattle.rtk_obs.specs.MsmCells.{cells_of_1074, cells_of_msm}
 
 -- the message has this number (DF002)
-abbrev pub is_numbered : ℕ → Message → Bool
+abbrev pub is_numbered : ℕ → AnyMessage → Bool
 is_numbered n m = number_of m == n
 
 -- ---- payloads that are no message
 
--- another message than the four that are read, of this number
-abbrev pub is_other : ℕ → DecodeFault → Bool
+-- another message than those that are read, of this number
+abbrev pub is_other : ℕ → AnyFault → Bool
 is_other n (Other number) = number == n
 is_other n _ = false
 
 -- a message of this number that is cut short
-abbrev pub is_short : ℕ → DecodeFault → Bool
+abbrev pub is_short : ℕ → AnyFault → Bool
 is_short n (Short number) = number == n
 is_short n _ = false
 
 -- a message of this number whose time is outside the week
-abbrev pub is_outside_week : ℕ → DecodeFault → Bool
+abbrev pub is_outside_week : ℕ → AnyFault → Bool
 is_outside_week n (EpochRange number) = number == n
 is_outside_week n _ = false
 
-abbrev pub is_no_number : DecodeFault → Bool
+abbrev pub is_no_number : AnyFault → Bool
 is_no_number NoNumber = true
 is_no_number _ = false
 
-abbrev pub is_too_many_cells : DecodeFault → Bool
-is_too_many_cells TooManyCells = true
-is_too_many_cells _ = false
+-- a message of this number whose cell mask is too long
+abbrev pub is_too_many_cells : ℕ → AnyFault → Bool
+is_too_many_cells n (TooManyCells number) = number == n
+is_too_many_cells n _ = false
 
 -- ---- times
 
 -- the times of week of the observation messages (DF004)
-abbrev pub times_of_week : List Message → List ℕ
+abbrev pub times_of_week : List AnyMessage → List ℕ
 times_of_week ms = filter_map tow_of ms
 
 abbrev pub newest_time : List ℕ → Option ℕ
@@ -70,15 +73,20 @@ changes_in (t ∷ before) = changes_in before + change_from (newest_time before)
 
 -- ---- satellites and codes
 
--- the cells of a message; a station message has none
-abbrev pub entries_of : Message → List CellEntry
-entries_of (Obs1004 m) = cells_of_1004 m.satellites
-entries_of (Arp1005 m) = []
-entries_of (Arp1006 m) = []
-entries_of (Msm1074 m) = cells_of_1074 m
+-- the cells of a 1004 and of a 1074; a station message has none
+abbrev pub entries_of_four : Message → List CellEntry
+entries_of_four (Obs1004 m) = cells_of_1004 m.satellites
+entries_of_four (Arp1005 m) = []
+entries_of_four (Arp1006 m) = []
+entries_of_four (Msm1074 m) = cells_of_1074 m
+
+-- the cells of a message
+abbrev pub entries_of : AnyMessage → List CellEntry
+entries_of (any.Message m) = entries_of_four m
+entries_of (any.Msm m) = cells_of_msm m
 
 -- the cells of messages
-abbrev pub entries_in : List Message → List CellEntry
+abbrev pub entries_in : List AnyMessage → List CellEntry
 entries_in ms = flat_map entries_of ms
 
 -- formula

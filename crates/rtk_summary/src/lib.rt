@@ -21,8 +21,12 @@
 
 #![tactic(auto)]
 
+mod counting;
+mod epochs;
 mod fault;
+mod laws;
 mod lines;
+mod msm;
 mod reading;
 mod signals;
 mod station;
@@ -31,4 +35,5 @@ mod times;
 mod unread;
 
 pub use fault::SummaryFault;
+pub use laws::{four_need_no_option, most_epochs_are_named};
 pub use reading::summarize;

@@ -2,21 +2,22 @@
 
 ghost use Rattle.std.specs.Prelude.{◌≡◌, ◌<◌, ◌++◌, List, ℕ, false, length, get_or, IfOk, OnOk};
 ghost use Rattle.rtk_obs.specs.Code.{place_of};
-ghost use Rattle.rtk_message.specs.declared.message.Message.{Message};
-ghost use Rattle.rtk_message.specs.declared.fault.DecodeFault.{DecodeFault};
+ghost use Rattle.rtk_message.specs.declared.any_message.AnyMessage.{AnyMessage};
+ghost use Rattle.rtk_message.specs.declared.any_fault.AnyFault.{AnyFault};
 ghost use Rattle.rtk_summary.specs.Counting.{shown_count};
 ghost use Rattle.rtk_summary.specs.ReadFrames.{ReadFrame};
-ghost use Rattle.rtk_summary.specs.SummaryText.{number_line, counted_line, numbered_line, list_line, time_line, time_lines, listed_satellite, satellites_text, codes_text, second_frequency_line, next_line, signal_lines, nothing_line};
+ghost use Rattle.rtk_summary.specs.SummaryText.{number_line, counted_line, numbered_line, list_line, time_line, time_lines, listed_satellite, satellites_text, codes_text, second_frequency_line, signal_lines, other_msm_line, other_msm_lines, msm_option, next_line, proposal_lines, nothing_line};
 ghost use Rattle.rtk_summary.specs.Summary.{lines_if_any, stations_text, unread_lines, summary_text};
-ghost use Rattle.rtk_summary.specs.Steps.Tables.{counts_text, untaken_text};
-ghost use Rattle.rtk_summary.specs.Steps.Standing.{times_of, StandsForFaults, StandsForEntries, StandsForMessages, StandForStations, StandsForFrames};
+ghost use Rattle.rtk_summary.specs.Steps.Tables.{counts_text, untaken_text, counts_held};
+ghost use Rattle.rtk_summary.specs.Steps.Standing.{times_of, epochs_held, codes_held, StandsForFaults, StandsForEntries, StandsForMessages, StandForStations, StandsForFrames};
 
+use crate::msm::MsmParts;
 use crate::signals::Signals;
 use crate::station::Station;
 use crate::summary::Summary;
 use crate::times::Times;
 use crate::unread::Unread;
-use rtk_message::put_named;
+use rtk_message::{MsmKind, put_named};
 use rtk_obs::Code;
 use std::alloc::{AllocError, Global};
 
@@ -41,7 +42,7 @@ const ALL_CODES: [Code; 16] = [
 ];
 
 /// The messages of GPS observations that are not read.
-const UNTAKEN: [u16; 9] = [1001, 1002, 1003, 1071, 1072, 1073, 1075, 1076, 1077];
+const UNTAKEN: [u16; 6] = [1001, 1002, 1003, 1071, 1072, 1073];
 
 fn put_line(lines: &mut Vec<u8>, words: &[u8], number: u64) -> Result<(), AllocError>
     ensures { OnOk result (lines.new.items ≡ lines.old.items ++ number_line words.now number) }
@@ -107,7 +108,7 @@ fn put_untaken(lines: &mut Vec<u8>, others: &[u64]) -> Result<(), AllocError>
 }
 
 fn put_unread(lines: &mut Vec<u8>, unread: &Unread) -> Result<(), AllocError>
-    ensures { (fs : List DecodeFault) → StandsForFaults unread.now fs
+    ensures { (fs : List AnyFault) → StandsForFaults unread.now fs
         → OnOk result (lines.new.items ≡ lines.old.items ++ unread_lines fs) }
 {
     put_table(lines, b"other ", unread.others.as_slice())?;
@@ -115,7 +116,7 @@ fn put_unread(lines: &mut Vec<u8>, unread: &Unread) -> Result<(), AllocError>
     put_counted(lines, b"refused M1 - ", unread.no_number)?;
     put_table(lines, b"refused M3 ", unread.short.as_slice())?;
     put_table(lines, b"refused M4 ", unread.outside_week.as_slice())?;
-    put_counted(lines, b"refused M5 1074 ", unread.too_many_cells)?;
+    put_table(lines, b"refused M5 ", unread.too_many_cells.as_slice())?;
     Ok(())
 }
 
@@ -204,8 +205,68 @@ fn put_second_frequency(lines: &mut Vec<u8>, marks: &[bool; 16]) -> Result<(), A
     Ok(())
 }
 
-fn put_next(lines: &mut Vec<u8>, station: u64, codes: &[u8]) -> Result<(), AllocError>
-    ensures { OnOk result (lines.new.items ≡ lines.old.items ++ next_line station codes.now) }
+fn put_signals(alloc: Global, lines: &mut Vec<u8>, signals: &Signals) -> Result<(), AllocError>
+    ensures { OnOk result (lines.new.items ≡ lines.old.items ++ signal_lines
+        (λ n. get_or signals.now.satellites n false) (λ c. get_or signals.now.codes.marks (place_of c) false)) }
+{
+    let satellites = satellites_text(alloc, &signals.satellites)?;
+    let codes = codes_text(alloc, &signals.codes.marks)?;
+    put_list(lines, b" satellites", satellites.as_slice())?;
+    put_list(lines, b" codes", codes.as_slice())?;
+    put_second_frequency(lines, &signals.codes.marks)?;
+    Ok(())
+}
+
+// A line for an MSM with epochs, if it is not the one that is named.
+fn put_other_msm(
+    lines: &mut Vec<u8>,
+    msm: &MsmParts,
+    named: MsmKind,
+    kind: MsmKind,
+) -> Result<(), AllocError>
+    ensures { OnOk result (lines.new.items ≡ lines.old.items ++ other_msm_line (epochs_held msm.now) named kind) }
+{
+    let number = kind.number();
+    if number == named.number() {
+        return Ok(());
+    }
+    put_numbered(
+        lines,
+        b" other-msm ",
+        u64::from(number),
+        msm.part(kind).epochs.count,
+    )
+}
+
+fn put_other_msms(lines: &mut Vec<u8>, msm: &MsmParts, named: MsmKind) -> Result<(), AllocError>
+    ensures { OnOk result (lines.new.items ≡ lines.old.items ++ other_msm_lines (epochs_held msm.now) named) }
+{
+    put_other_msm(lines, msm, named, MsmKind::Msm4)?;
+    put_other_msm(lines, msm, named, MsmKind::Msm5)?;
+    put_other_msm(lines, msm, named, MsmKind::Msm6)?;
+    put_other_msm(lines, msm, named, MsmKind::Msm7)?;
+    Ok(())
+}
+
+// The option that names an MSM.
+fn msm_option(named: MsmKind) -> &'static [u8]
+    ensures { result.now ≡ msm_option named }
+{
+    match named {
+        MsmKind::Msm4 => b"",
+        MsmKind::Msm5 => b" --msm 5",
+        MsmKind::Msm6 => b" --msm 6",
+        MsmKind::Msm7 => b" --msm 7",
+    }
+}
+
+fn put_next(
+    lines: &mut Vec<u8>,
+    station: u64,
+    named: MsmKind,
+    codes: &[u8],
+) -> Result<(), AllocError>
+    ensures { OnOk result (lines.new.items ≡ lines.old.items ++ next_line station named codes.now) }
 {
     if codes.is_empty() {
         return Ok(());
@@ -215,25 +276,37 @@ fn put_next(lines: &mut Vec<u8>, station: u64, codes: &[u8]) -> Result<(), Alloc
         b" --near GPS-TIME-WITHIN-HALF-A-WEEK --made UTC-NOW --marker NAME --codes",
     )?;
     lines.extend_from_slice(codes)?;
+    lines.extend_from_slice(msm_option(named))?;
     lines.extend_from_slice(b" CAPTURE\n")?;
     Ok(())
 }
 
-fn put_signals(
+// The command that converts a station, and before it the MSM that it leaves out.
+fn put_proposal(
     alloc: Global,
     lines: &mut Vec<u8>,
     station: u64,
-    signals: &Signals,
+    msm: &MsmParts,
 ) -> Result<(), AllocError>
-    ensures { OnOk result (lines.new.items ≡ lines.old.items ++ signal_lines station
-        (λ n. get_or signals.now.satellites n false) (λ c. get_or signals.now.codes (place_of c) false)) }
+    ensures { OnOk result (lines.new.items ≡ lines.old.items ++ proposal_lines station (epochs_held msm.now) (codes_held msm.now)) }
 {
-    let satellites = satellites_text(alloc, &signals.satellites)?;
-    let codes = codes_text(alloc, &signals.codes)?;
-    put_list(lines, b" satellites", satellites.as_slice())?;
-    put_list(lines, b" codes", codes.as_slice())?;
-    put_second_frequency(lines, &signals.codes)?;
-    put_next(lines, station, codes.as_slice())?;
+    let named = msm.proposed();
+    put_other_msms(lines, msm, named)?;
+    let codes = codes_text(alloc, &msm.part(named).codes.marks)?;
+    put_next(lines, station, named, codes.as_slice())?;
+    Ok(())
+}
+
+fn put_counts(lines: &mut Vec<u8>, station: &Station) -> Result<(), AllocError>
+    ensures { OnOk result (lines.new.items ≡ lines.old.items ++ counts_held station.now) }
+{
+    put_counted(lines, b" message 1004 ", station.obs_1004)?;
+    put_counted(lines, b" message 1005 ", station.arp_1005)?;
+    put_counted(lines, b" message 1006 ", station.arp_1006)?;
+    put_counted(lines, b" message 1074 ", station.msm.msm4.messages)?;
+    put_counted(lines, b" message 1075 ", station.msm.msm5.messages)?;
+    put_counted(lines, b" message 1076 ", station.msm.msm6.messages)?;
+    put_counted(lines, b" message 1077 ", station.msm.msm7.messages)?;
     Ok(())
 }
 
@@ -243,24 +316,22 @@ fn put_station(
     number: u64,
     station: &Station,
 ) -> Result<(), AllocError>
-    ensures { (ms : List Message) → StandsForMessages station.now ms
+    ensures { (ms : List AnyMessage) → StandsForMessages station.now ms
         → OnOk result (lines.new.items ≡ lines.old.items ++ lines_if_any number ms) }
 {
     if station.messages == 0 {
         return Ok(());
     }
     put_line(lines, b"station ", number)?;
-    put_counted(lines, b" message 1004 ", station.obs_1004)?;
-    put_counted(lines, b" message 1005 ", station.arp_1005)?;
-    put_counted(lines, b" message 1006 ", station.arp_1006)?;
-    put_counted(lines, b" message 1074 ", station.msm_1074)?;
+    put_counts(lines, station)?;
     put_times(lines, &station.times)?;
-    put_signals(alloc, lines, number, &station.signals)?;
+    put_signals(alloc, lines, &station.signals)?;
+    put_proposal(alloc, lines, number, &station.msm)?;
     Ok(())
 }
 
 fn put_stations(alloc: Global, lines: &mut Vec<u8>, stations: &[Station]) -> Result<(), AllocError>
-    ensures { (ms : List Message) → length stations.now ≡ 4096 → StandForStations stations.now ms
+    ensures { (ms : List AnyMessage) → length stations.now ≡ 4096 → StandForStations stations.now ms
         → OnOk result (lines.new.items ≡ lines.old.items ++ stations_text ms) }
 {
     for number in 0..stations.len() {
@@ -295,7 +366,7 @@ pub(crate) fn summary_lines(
     put_line(&mut lines, b"frames ", summary.frames)?;
     put_stations(alloc, &mut lines, summary.stations.as_slice())?;
     put_unread(&mut lines, &summary.unread)?;
-    let codes = codes_text(alloc, &summary.signals.codes)?;
+    let codes = codes_text(alloc, &summary.signals.codes.marks)?;
     put_nothing(&mut lines, codes.as_slice())?;
     Ok(lines)
 }

@@ -1,19 +1,27 @@
 //! The satellites and the codes that have a value.
 
 ghost use Rattle.std.specs.Prelude.{◌≡◌, ◌<◌, ◌==◌, ◌&&◌, ◌||◌, List, ℕ, false, [], ◌∷◌, ◌++◌, length, get_or};
+ghost use Rattle.std.specs.List.{list_any};
 ghost use Rattle.rtk_obs.specs.declared.cell.CellEntry.{CellEntry};
-ghost use Rattle.rtk_summary.specs.Steps.Standing.{StandsForEntries};
+ghost use Rattle.rtk_summary.specs.Proposal.{entry_has_value};
+ghost use Rattle.rtk_summary.specs.Steps.Standing.{StandsForCodes, StandsForEntries};
 ghost use Rattle.rtk_summary.specs.Tracing.{has_value};
 
 use rtk_obs::{Cell, CellEntry};
+
+/// Which codes have a value in some cell.
+#[derive(Clone, Copy)]
+pub(crate) struct Codes {
+    /// By the place of the code.
+    pub(crate) marks: [bool; 16],
+}
 
 /// Which satellites and codes have a value in some cell.
 #[derive(Clone, Copy)]
 pub(crate) struct Signals {
     /// By satellite; none has the number 0.
     pub(crate) satellites: [bool; 33],
-    /// By the place of the code.
-    pub(crate) codes: [bool; 16],
+    pub(crate) codes: Codes,
 }
 
 fn has_value(cell: &Cell) -> bool
@@ -33,6 +41,37 @@ fn mark(marks: &mut [bool], place: usize, has_value: bool)
     }
 }
 
+/// Some cell has a value.
+pub(crate) fn have_value(entries: &[CellEntry]) -> bool
+    ensures { result ≡ list_any entry_has_value entries.now }
+{
+    entries.iter().any(|entry| has_value(&entry.cell))
+}
+
+impl Codes {
+    /// Nothing has a value.
+    pub(crate) fn new() -> Codes
+        ensures { StandsForCodes result [] }
+    {
+        Codes { marks: [false; 16] }
+    }
+
+    fn take_entry(&mut self, entry: &CellEntry)
+        ensures { (es : List CellEntry) → StandsForCodes self.old es → StandsForCodes self.new (entry.now ∷ es) }
+    {
+        mark(&mut self.marks, entry.code.place(), has_value(&entry.cell));
+    }
+
+    /// More cells.
+    pub(crate) fn take(&mut self, entries: &[CellEntry])
+        ensures { (es : List CellEntry) → StandsForCodes self.old es → StandsForCodes self.new (entries.now ++ es) }
+    {
+        for entry in entries {
+            self.take_entry(entry);
+        }
+    }
+}
+
 impl Signals {
     /// Nothing has a value.
     pub(crate) fn new() -> Signals
@@ -40,20 +79,19 @@ impl Signals {
     {
         Signals {
             satellites: [false; 33],
-            codes: [false; 16],
+            codes: Codes::new(),
         }
     }
 
     fn take_entry(&mut self, entry: &CellEntry)
         ensures { (es : List CellEntry) → StandsForEntries self.old es → StandsForEntries self.new (entry.now ∷ es) }
     {
-        let has_value = has_value(&entry.cell);
         mark(
             &mut self.satellites,
             usize::from(entry.satellite),
-            has_value,
+            has_value(&entry.cell),
         );
-        mark(&mut self.codes, entry.code.place(), has_value);
+        self.codes.take_entry(entry);
     }
 
     /// More cells.

@@ -1,16 +1,19 @@
 //! What came of one station.
 
 ghost use Rattle.std.specs.Prelude.{◌≡◌, List, [], ◌∷◌};
-ghost use Rattle.rtk_message.specs.declared.message.Message.{Message};
-ghost use Rattle.rtk_message.specs.Decoded.{IsValid};
+ghost use Rattle.rtk_message.specs.declared.any_message.AnyMessage.{AnyMessage};
+ghost use Rattle.rtk_message.specs.AnyDecoded.{IsValid, number_of};
+ghost use Rattle.rtk_message.specs.Decoded as decoded;
 ghost use Rattle.rtk_summary.specs.Steps.Standing.{times_of, StandsForMessages, CountsMessages};
-ghost use Rattle.rtk_summary.specs.Tracing.{times_of_week, entries_of};
+ghost use Rattle.rtk_summary.specs.Tracing.{times_of_week, entries_of_four, entries_of};
 
+use crate::counting::count_if;
+use crate::msm::MsmParts;
 use crate::signals::Signals;
 use crate::times::Times;
 use arrayvec::ArrayVec;
-use rtk_message::Message;
-use rtk_obs::{CellEntry, cells_1004, cells_1074};
+use rtk_message::{AnyMessage, Message};
+use rtk_obs::{CellEntry, cells_1004, cells_1074, cells_msm};
 
 /// The messages of a station: how many, of which numbers, their times and their signals.
 #[derive(Clone, Copy)]
@@ -19,15 +22,15 @@ pub(crate) struct Station {
     pub(crate) obs_1004: u64,
     pub(crate) arp_1005: u64,
     pub(crate) arp_1006: u64,
-    pub(crate) msm_1074: u64,
     pub(crate) times: Times,
     pub(crate) signals: Signals,
+    pub(crate) msm: MsmParts,
 }
 
-/// The cells of a message; a station message has none.
-pub(crate) fn entries_of(message: &Message) -> ArrayVec<CellEntry, 64>
-    requires { IsValid message.now }
-    ensures { result.items ≡ entries_of message.now }
+// The cells of a 1004 or a 1074; a station message has none.
+fn entries_of_four(message: &Message) -> ArrayVec<CellEntry, 64>
+    requires { decoded.IsValid message.now }
+    ensures { result.items ≡ entries_of_four message.now }
 {
     match message {
         Message::Obs1004(message) => cells_1004(message),
@@ -36,9 +39,20 @@ pub(crate) fn entries_of(message: &Message) -> ArrayVec<CellEntry, 64>
     }
 }
 
+/// The cells of a message.
+pub(crate) fn entries_of(message: &AnyMessage) -> ArrayVec<CellEntry, 64>
+    requires { IsValid message.now }
+    ensures { result.items ≡ entries_of message.now }
+{
+    match message {
+        AnyMessage::Message(message) => entries_of_four(message),
+        AnyMessage::Msm(message) => cells_msm(message),
+    }
+}
+
 // The time of week of a message, if it has one.
-fn take_time(times: &mut Times, message: &Message)
-    ensures { (ms : List Message) → times.old ≡ times_of (times_of_week ms)
+fn take_time(times: &mut Times, message: &AnyMessage)
+    ensures { (ms : List AnyMessage) → times.old ≡ times_of (times_of_week ms)
         → times.new ≡ times_of (times_of_week (message.now ∷ ms)) }
 {
     if let Some(time) = message.tow() {
@@ -56,34 +70,34 @@ impl Station {
             obs_1004: 0,
             arp_1005: 0,
             arp_1006: 0,
-            msm_1074: 0,
             times: Times::new(),
             signals: Signals::new(),
+            msm: MsmParts::new(),
         }
     }
 
     // Counts a message under its number.
-    fn count(&mut self, message: &Message)
+    fn count(&mut self, number: u16)
         ensures times { self.new.times ≡ self.old.times }
         ensures signals { self.new.signals ≡ self.old.signals }
-        ensures counts { (ms : List Message) → StandsForMessages self.old ms → CountsMessages self.new (message.now ∷ ms) }
+        ensures msm { self.new.msm ≡ self.old.msm }
+        ensures counts { (ms : List AnyMessage) (m : AnyMessage) → number ≡ number_of m
+            → CountsMessages self.old ms → CountsMessages self.new (m ∷ ms) }
     {
-        self.messages = self.messages.saturating_add(1);
-        match message {
-            Message::Obs1004(_) => self.obs_1004 = self.obs_1004.saturating_add(1),
-            Message::Arp1005(_) => self.arp_1005 = self.arp_1005.saturating_add(1),
-            Message::Arp1006(_) => self.arp_1006 = self.arp_1006.saturating_add(1),
-            Message::Msm1074(_) => self.msm_1074 = self.msm_1074.saturating_add(1),
-        }
+        self.messages = count_if(self.messages, true);
+        self.obs_1004 = count_if(self.obs_1004, number == 1004);
+        self.arp_1005 = count_if(self.arp_1005, number == 1005);
+        self.arp_1006 = count_if(self.arp_1006, number == 1006);
     }
 
     /// A message more, with its cells.
-    pub(crate) fn take(&mut self, message: &Message, entries: &[CellEntry])
+    pub(crate) fn take(&mut self, message: &AnyMessage, entries: &[CellEntry])
         requires { entries.now ≡ entries_of message.now }
-        ensures { (ms : List Message) → StandsForMessages self.old ms → StandsForMessages self.new (message.now ∷ ms) }
+        ensures { (ms : List AnyMessage) → StandsForMessages self.old ms → StandsForMessages self.new (message.now ∷ ms) }
     {
-        self.count(message);
+        self.count(message.number());
         take_time(&mut self.times, message);
         self.signals.take(entries);
+        self.msm.take(message, entries);
     }
 }

@@ -5,15 +5,15 @@
 //! (specs/Steps/Standing.antt), whatever the pieces were.
 
 ghost use Rattle.std.specs.Prelude.{◌≡◌, List, [], ◌∷◌, length, IfOk};
-ghost use Rattle.rtk_message.specs.declared.message.Message.{Message};
-ghost use Rattle.rtk_message.specs.Decoded.{IsValid};
+ghost use Rattle.rtk_message.specs.declared.any_message.AnyMessage.{AnyMessage};
+ghost use Rattle.rtk_message.specs.AnyDecoded.{IsValid};
 ghost use Rattle.rtk_summary.specs.Steps.Standing.{StandsForFrames, StandForStations, StandsForEntries, TakesFrames};
 ghost use Rattle.rtk_summary.specs.Tracing.{entries_of, entries_in};
 
 use crate::signals::Signals;
 use crate::station::{Station, entries_of};
 use crate::unread::{NUMBERS, Unread};
-use rtk_message::{Message, decode};
+use rtk_message::{Accepted, AnyDecoder, AnyMessage};
 use rtk_obs::CellEntry;
 use std::alloc::{AllocError, Global};
 
@@ -28,19 +28,33 @@ pub(crate) struct Summary {
     /// Those of all stations.
     pub(crate) signals: Signals,
     pub(crate) unread: Unread,
+    decoder: AnyDecoder,
 }
 
 // A message goes to its station.
-fn take_at(stations: &mut Vec<Station>, message: &Message, entries: &[CellEntry])
+fn take_at(stations: &mut Vec<Station>, message: &AnyMessage, entries: &[CellEntry])
     requires { entries.now ≡ entries_of message.now }
     ensures size { length stations.new.items ≡ length stations.old.items }
-    ensures stations { (ms : List Message) → StandForStations stations.old.items ms
+    ensures stations { (ms : List AnyMessage) → StandForStations stations.old.items ms
         → StandForStations stations.new.items (message.now ∷ ms) }
 {
     let place = usize::from(message.station());
     if place < stations.len() {
         stations[place].take(message, entries);
     }
+}
+
+fn take_message(stations: &mut Vec<Station>, signals: &mut Signals, message: &AnyMessage)
+    requires { IsValid message.now }
+    ensures size { length stations.new.items ≡ length stations.old.items }
+    ensures stations { (ms : List AnyMessage) → StandForStations stations.old.items ms
+        → StandForStations stations.new.items (message.now ∷ ms) }
+    ensures signals { (ms : List AnyMessage) → StandsForEntries signals.old (entries_in ms)
+        → StandsForEntries signals.new (entries_in (message.now ∷ ms)) }
+{
+    let entries = entries_of(message);
+    signals.take(entries.as_slice());
+    take_at(stations, message, entries.as_slice());
 }
 
 impl Summary {
@@ -54,23 +68,8 @@ impl Summary {
             stations: vec![in alloc; Station::new(); NUMBERS]?,
             signals: Signals::new(),
             unread: Unread::new(alloc)?,
+            decoder: AnyDecoder::new(),
         })
-    }
-
-    fn take_message(&mut self, message: &Message)
-        requires { IsValid message.now }
-        ensures frames { self.new.frames ≡ self.old.frames }
-        ensures framed { self.new.framed ≡ self.old.framed }
-        ensures unread { self.new.unread ≡ self.old.unread }
-        ensures size { length self.new.stations.items ≡ length self.old.stations.items }
-        ensures stations { (ms : List Message) → StandForStations self.old.stations.items ms
-            → StandForStations self.new.stations.items (message.now ∷ ms) }
-        ensures signals { (ms : List Message) → StandsForEntries self.old.signals (entries_in ms)
-            → StandsForEntries self.new.signals (entries_in (message.now ∷ ms)) }
-    {
-        let entries = entries_of(message);
-        self.signals.take(entries.as_slice());
-        take_at(&mut self.stations, message, entries.as_slice());
     }
 
     /// A frame more, by its payload.
@@ -79,9 +78,9 @@ impl Summary {
     {
         self.frames = self.frames.saturating_add(1);
         self.framed = self.framed.saturating_add(payload.len() as u64 + 6);
-        match decode(payload) {
-            Ok(message) => self.take_message(&message),
-            Err(fault) => self.unread.take(fault),
+        match self.decoder.read(Accepted::ALL, payload) {
+            Ok(message) => take_message(&mut self.stations, &mut self.signals, message),
+            Err(fault) => self.unread.take(*fault),
         }
     }
 }

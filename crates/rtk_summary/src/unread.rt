@@ -1,11 +1,11 @@
 //! The payloads that are not read, by fault and message number.
 
 ghost use Rattle.std.specs.Prelude.{◌≡◌, ◌<◌, ◌+◌, ◌==◌, ℕ, List, [], ◌∷◌, length, get_or, IfOk};
-ghost use Rattle.rtk_message.specs.declared.fault.DecodeFault.{DecodeFault};
+ghost use Rattle.rtk_message.specs.declared.any_fault.AnyFault.{AnyFault};
 ghost use Rattle.rtk_summary.specs.Counting.{shown_count};
 ghost use Rattle.rtk_summary.specs.Steps.Standing.{StandsForFaults, one_if};
 
-use rtk_message::DecodeFault;
+use rtk_message::AnyFault;
 use std::alloc::{AllocError, Global};
 
 /// How many numbers there are of messages and of stations: DF002 and DF003 have 12 bits.
@@ -18,7 +18,7 @@ pub(crate) struct Unread {
     pub(crate) others: Vec<u64>,
     pub(crate) short: Vec<u64>,
     pub(crate) outside_week: Vec<u64>,
-    pub(crate) too_many_cells: u64,
+    pub(crate) too_many_cells: Vec<u64>,
 }
 
 // Counts one more of this number.
@@ -43,22 +43,20 @@ impl Unread {
             others: vec![in alloc; 0; NUMBERS]?,
             short: vec![in alloc; 0; NUMBERS]?,
             outside_week: vec![in alloc; 0; NUMBERS]?,
-            too_many_cells: 0,
+            too_many_cells: vec![in alloc; 0; NUMBERS]?,
         })
     }
 
     /// A fault more.
-    pub(crate) fn take(&mut self, fault: DecodeFault)
-        ensures { (fs : List DecodeFault) → StandsForFaults self.old fs → StandsForFaults self.new (fault ∷ fs) }
+    pub(crate) fn take(&mut self, fault: AnyFault)
+        ensures { (fs : List AnyFault) → StandsForFaults self.old fs → StandsForFaults self.new (fault ∷ fs) }
     {
         match fault {
-            DecodeFault::NoNumber => self.no_number = self.no_number.saturating_add(1),
-            DecodeFault::Other { number } => count_at(&mut self.others, number),
-            DecodeFault::Short { number } => count_at(&mut self.short, number),
-            DecodeFault::EpochRange { number } => count_at(&mut self.outside_week, number),
-            DecodeFault::TooManyCells => {
-                self.too_many_cells = self.too_many_cells.saturating_add(1);
-            }
+            AnyFault::NoNumber => self.no_number = self.no_number.saturating_add(1),
+            AnyFault::Other { number } => count_at(&mut self.others, number),
+            AnyFault::Short { number } => count_at(&mut self.short, number),
+            AnyFault::EpochRange { number } => count_at(&mut self.outside_week, number),
+            AnyFault::TooManyCells { number } => count_at(&mut self.too_many_cells, number),
         }
     }
 }

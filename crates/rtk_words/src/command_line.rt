@@ -15,6 +15,9 @@ const VERSION: &str = "0.2.0";
 /// The window if none is given.
 const WINDOW: &str = "64";
 
+/// The MSM if none is given: 1074.
+const MSM: &str = "4";
+
 // The name of the one input of a command.
 fn file_arg<'a>(alloc: Global, help: &'a str) -> Arg<'a> {
     Arg::new(alloc, "FILE").help(help).required(true)
@@ -96,6 +99,13 @@ fn window_arg<'a>(alloc: Global) -> Arg<'a> {
         .value_parser(value_parser!(u32).range(2..=4096))
 }
 
+fn msm_arg<'a>(alloc: Global) -> Arg<'a> {
+    let help = "Which MSM is converted beside 1004: 4 is 1074, 5 is 1075, 6 is 1076, 7 is 1077";
+    option_arg(alloc, "msm", "N", help)
+        .default_value(MSM)
+        .value_parser(value_parser!(u32).range(4..=7))
+}
+
 fn links_arg<'a>(alloc: Global) -> Arg<'a> {
     Arg::new(alloc, "LINK")
         .help("The captures, 1 to 16; stdin is standard input")
@@ -147,6 +157,7 @@ fn convert_command<'a>(alloc: Global) -> Result<Command<'a>, AllocError> {
         .arg(marker_arg(alloc))?
         .arg(required_arg(alloc, "codes", "LIST", codes))?
         .arg(window_arg(alloc))?
+        .arg(msm_arg(alloc))?
         .arg(links_arg(alloc))
 }
 

@@ -1,4 +1,4 @@
-//! What `--help` says after the options: an example, the exit statuses, and where the manual is.
+//! What `--help` says after the options: examples, the exit statuses, and where the manual is.
 
 pub(crate) const PROGRAM: &str = "\
 Begin with:
@@ -13,6 +13,10 @@ Exit status:
 Manual: man rtcm2rinex, or docs/MANUAL.md";
 
 pub(crate) const CONVERT: &str = "\
+Which MSM:
+  --msm 7 converts 1077 in the place of 1074, and leaves 1074 out. Most stations
+  that are bought today send 1077. summary tells which MSM a capture has.
+
 Example:
   rtcm2rinex convert --station 2003 --near 2024-05-17T12:00:00 \\
       --made 2024-05-17T13:00:00 --marker BASE --codes 1C,2W \\

@@ -19,10 +19,13 @@ pub struct ConvertOptions<'a> {
     pub codes: &'a str,
     /// How many epochs are kept open, 2 to 4096.
     pub window: u16,
+    /// Which MSM is converted beside 1004, 4 to 7: 4 is 1074, 7 is 1077.
+    pub msm: u8,
 
     // Their parsers refuse other numbers.
     ghost station_fits: { station ≤ 4095 },
     ghost window_fits: { IsInRange 2 4096 window },
+    ghost msm_fits: { IsInRange 4 7 msm },
 }
 
 /// The values of the options of `cut`, as clap gives them. Texts are not yet read.

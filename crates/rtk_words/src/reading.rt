@@ -49,13 +49,17 @@ fn missing_word_answer(alloc: Global, program: &mut Command<'_>) -> ClapAnswer
     }
 }
 
-// The values of the options of `convert`. clap refuses words that lack one, or whose station or
-// window is out of range, so all of them are always there. All numbers of the command line have one
+// The values of the options of `convert`. clap refuses words that lack one, or whose station, window
+// or MSM is out of range, so all of them are always there. All numbers of the command line have one
 // type, since each further one is costly to check.
 fn convert_option_values<'a>(matches: &ArgMatches<'a>) -> Option<ConvertOptions<'a>> {
     let station = matches.get_one::<u32>("station")?;
     let window = matches.get_one::<u32>("window")?;
+    let msm = matches.get_one::<u32>("msm")?;
     if station > 4095 || window < 2 || window > 4096 {
+        return None;
+    }
+    if msm < 4 || msm > 7 {
         return None;
     }
     Some(ConvertOptions {
@@ -65,6 +69,7 @@ fn convert_option_values<'a>(matches: &ArgMatches<'a>) -> Option<ConvertOptions<
         marker: matches.get_str("marker")?,
         codes: matches.get_str("codes")?,
         window: window as u16,
+        msm: msm as u8,
     })
 }
 

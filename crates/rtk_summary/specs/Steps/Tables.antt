@@ -1,7 +1,8 @@
 -- Lines of counts by number.
-use Rattle.std.specs.Prelude.{ℕ, List, length, flat_map, get_or, codes}
+use Rattle.std.specs.Prelude.{ℕ, List, ◌++◌, length, flat_map, get_or, codes}
 use Rattle.std.specs.List.{range_with_len}
-use Rattle.rtk_summary.specs.SummaryText.{numbered_line, untaken_numbers}
+use Rattle.rtk_summary.specs.SummaryText.{counted_line, numbered_line, untaken_numbers}
+use Rattle.rtk_summary.specs.declared.station.Station.{Station}
 
 -- a line for each number that has a count
 unfoldable pub counts_text : List ℕ → List ℕ → List ℕ
@@ -10,3 +11,14 @@ counts_text words counts = flat_map (λ n. numbered_line words n (get_or counts 
 -- a line for each message with GPS observations that is not read and has a count
 unfoldable pub untaken_text : List ℕ → List ℕ
 untaken_text counts = flat_map (λ n. numbered_line (codes "untaken GPS ") n (get_or counts n 0)) untaken_numbers
+
+-- the counts of a station's messages
+abbrev pub counts_held : Station → List ℕ
+counts_held s =
+    counted_line (codes " message 1004 ") s.obs_1004
+    ++ counted_line (codes " message 1005 ") s.arp_1005
+    ++ counted_line (codes " message 1006 ") s.arp_1006
+    ++ counted_line (codes " message 1074 ") s.msm.msm4.messages
+    ++ counted_line (codes " message 1075 ") s.msm.msm5.messages
+    ++ counted_line (codes " message 1076 ") s.msm.msm6.messages
+    ++ counted_line (codes " message 1077 ") s.msm.msm7.messages

@@ -1,27 +1,12 @@
-use Rattle.std.proofs.Common.{arith, rules}
+use Rattle.std.proofs.Common.{refl, rules}
 use Rattle.rtk_bits.specs.Bits.{bits}
-use Rattle.rtk_message.specs.declared.fault.DecodeFault.TheVariants.{NoNumber, Other}
+use Rattle.rtk_message.specs.declared.fault.DecodeFault.TheVariants.{NoNumber}
 use Rattle.rtk_message.proofs.DecodedLemmas.{decodes_after, decodes_fault}
 use Rattle.rtk_message.proofs.decoding.decode.Goals as goal
 
-pub returns-in-1004 : goal.returns-in-1004
-returns-in-1004 c =
-    rw (← c.new-reader.ensures) (decodes_after c.new-reader.result c.take_u.new.self c.in-Some.number 1004 c.read_1004.result (omega arith) c.in-Some.ensures.field c.in-1004.is c.read_1004.ensures.message c.read_1004.ensures.fault)
-
-pub returns-in-1005 : goal.returns-in-1005
-returns-in-1005 c =
-    rw (← c.new-reader.ensures) (decodes_after c.new-reader.result c.take_u.new.self c.in-Some.number 1005 c.read_1005.result (omega arith) c.in-Some.ensures.field c.in-1005.is c.read_1005.ensures.message c.read_1005.ensures.fault)
-
-pub returns-in-1006 : goal.returns-in-1006
-returns-in-1006 c =
-    rw (← c.new-reader.ensures) (decodes_after c.new-reader.result c.take_u.new.self c.in-Some.number 1006 c.read_1006.result (omega arith) c.in-Some.ensures.field c.in-1006.is c.read_1006.ensures.message c.read_1006.ensures.fault)
-
-pub returns-in-1074 : goal.returns-in-1074
-returns-in-1074 c =
-    rw (← c.new-reader.ensures) (decodes_after c.new-reader.result c.take_u.new.self c.in-Some.number 1074 c.read_1074.result (omega arith) c.in-Some.ensures.field c.in-1074.is c.read_1074.ensures.message c.read_1074.ensures.fault)
+pub returns : goal.returns
+returns c =
+    rw (← c.new-reader.ensures) (decodes_after c.new-reader.result c.take_u.new.self c.in-Some.number c.in-Some.number c.read_after.result c.in-Some.ensures.bound c.in-Some.ensures.field refl c.read_after.ensures.message c.read_after.ensures.fault)
 
 pub returns-in_default : goal.returns-in_default
 returns-in_default c = decodes_fault (bits c.args.payload.now) NoNumber (search rules)
-
-pub returns-in_default-number : goal.returns-in_default-number
-returns-in_default-number c = decodes_fault (bits c.args.payload.now) (Other c.in-Some.number) (search rules)

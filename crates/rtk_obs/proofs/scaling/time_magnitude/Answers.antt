@@ -10,6 +10,6 @@ returns-clause-value c =
 
 pub returns-clause-bound : goal.returns-clause-bound
 returns-clause-bound c =
-    let product : c.args.n * c.args.factor ≤ 4722366482869645213696 =
-    mul-le-mul {n₁ = c.args.n} {m₁ = c.args.factor} {n₂ = 1099511627776} {m₂ = 4294967296} (omega arith) (omega arith) in
+    let product : c.args.n * c.args.factor ≤ 9444732965739290427392 =
+    mul-le-mul {n₁ = c.args.n} {m₁ = c.args.factor} {n₂ = 2199023255552} {m₂ = 4294967296} (omega arith) (omega arith) in
     rw (c.from.ensures, c.from-2.ensures, c.from-3.ensures, c.from-4.ensures) (omega (arith, product))

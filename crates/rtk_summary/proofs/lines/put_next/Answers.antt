@@ -6,8 +6,10 @@ use Rattle.rtk_summary.proofs.lines.put_next.Goals as goal
 pub returns : goal.returns
 returns c =
     rw (
-      next-line-is c.args.station c.args.codes.now (eqb-false (length c.args.codes.now) 0 (sym c.is_empty.ensures ∙ c.if-is_empty.false)),
+      next-line-is c.args.station c.args.named c.args.codes.now (eqb-false (length c.args.codes.now) 0 (sym c.is_empty.ensures ∙ c.if-is_empty.false)),
+      c.in_ok-extend_from_slice-4.ensures.items,
       c.in_ok-extend_from_slice-3.ensures.items,
+      c.msm_option.ensures,
       c.in_ok-extend_from_slice-2.ensures.items,
       c.in_ok-extend_from_slice.ensures.items,
       c.in_ok-put_named.ensures,

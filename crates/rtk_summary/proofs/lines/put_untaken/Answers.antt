@@ -19,6 +19,6 @@ loop-number-preserved c =
 pub returns : goal.returns
 unfolding untaken_text
 returns c =
-    let end : c.loop-number.number-index ≡ 9 = omega (arith, c.loop-number.auto.number-index-end, c.loop-number-test.false) in
+    let end : c.loop-number.number-index ≡ 6 = omega (arith, c.loop-number.auto.number-index-end, c.loop-number-test.false) in
     c.loop-number.invariant
     ∙ ap (λ (k : ℕ). c.args.lines.now.items ++ flat_map (λ n. numbered_line (codes "untaken GPS ") n (get_or c.args.others.now n 0)) (take k untaken_numbers)) end

@@ -1,8 +1,7 @@
 use Rattle.std.proofs.Common.{None, eqb, sym, ap, refl, ◌∙◌, subst, arith}
 use Rattle.rtk_message.specs.Arp1005 as fields
-use Rattle.rtk_message.specs.declared.message.Message.TheVariants.{Arp1005}
 use Rattle.rtk_collect.specs.Equal.{equal_1005}
-use Rattle.rtk_collect.specs.Arrival.{At}
+use Rattle.rtk_collect.specs.Arrival.{At, message_of_1005}
 use Rattle.rtk_collect.specs.Collector.{CollectorView}
 use Rattle.rtk_collect.specs.Offered.{AnswersArrival}
 use Rattle.rtk_collect.proofs.StationLemmas.{full-is, slot-parts, slot-fits, other-stays}
@@ -26,7 +25,7 @@ invariant_of-self c = (
 
 pub returns-clause-answer : goal.returns-clause-answer
 returns-clause-answer c =
-    subst (λ (w : CollectorView). AnswersArrival w (At None (Arp1005 c.args.message)) c.offer_station.result (record { size = c.self.inside.places; sets = c.self.inside.sets.items; arp1005 = c.offer_station.new.slot; arp1006 = c.self.inside.stations.arp1006 })) c.self.view_is (λ before h.
-    let p = slot-parts Arp1005 equal_1005 (λ a b. refl) c.self.inside.places 1005 c.args.message c.self.inside.stations.arp1005 c.offer_station.new.slot _ c.offer_station.result before refl h.arp1005
+    subst (λ (w : CollectorView). AnswersArrival w (At None (message_of_1005 c.args.message)) c.offer_station.result (record { size = c.self.inside.places; sets = c.self.inside.sets.items; arp1005 = c.offer_station.new.slot; arp1006 = c.self.inside.stations.arp1006 })) c.self.view_is (λ before h.
+    let p = slot-parts message_of_1005 equal_1005 (λ a b. refl) c.self.inside.places 1005 c.args.message c.self.inside.stations.arp1005 c.offer_station.new.slot _ c.offer_station.result before refl h.arp1005
     (ap (λ t. eqb t c.self.inside.places) (c.len.ensures ∙ c.self.inside.sets.ok.0) ∙ full-is c.self.inside.places c.self.inside.sets.items before h.sets) c.offer_station.ensures in
-    (p.answers, record { sets = h.sets; arp1005 = p.after; arp1006 = h.arp1006 ∙ sym (other-stays c.self.inside.places 1006 (Arp1005 c.args.message) before (λ e. omega arith)) }))
+    (p.answers, record { sets = h.sets; arp1005 = p.after; arp1006 = h.arp1006 ∙ sym (other-stays c.self.inside.places 1006 (message_of_1005 c.args.message) before (λ e. omega arith)) }))

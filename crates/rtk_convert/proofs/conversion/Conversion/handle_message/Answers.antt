@@ -1,6 +1,6 @@
 use Rattle.std.proofs.Common.{◌≡◌, ℕ, suc, arith, List, Option, None, Some, refl, sym, ap, subst, ◌∙◌}
 use Rattle.std.proofs.lemmas.Result.{err_from_is_err_and}
-use Rattle.rtk_message.specs.Decoded.{number_of}
+use Rattle.rtk_message.specs.AnyDecoded.{number_of}
 use Rattle.rtk_collect.specs.EpochSet.{EpochSetView}
 use Rattle.rtk_collect.specs.Arrival.{epoch_of, message_of}
 use Rattle.rtk_frame.specs.Stream.{with_more, TakesPart}
@@ -34,7 +34,7 @@ pub returns-in_default-closed_by-clause-ok : goal.returns-in_default-closed_by-c
 returns-in_default-closed_by-clause-ok g c =
     let before = written (g.O.Sink.taken c.args.out.now) (g.L.Sink.taken c.args.log.now) in
     let text : c.in-Ok-offer_lines.lines.items ≡ offer_lines c.args.link (number_of (message_of c.args.dated)) (epoch_of c.args.dated) c.in-Ok.offer =
-    c.in-Ok-offer_lines.ensures ∙ ap (λ (n : ℕ). offer_lines c.args.link n c.epoch-epoch.result c.in-Ok.offer) (c.number-number.ensures ∙ ap number_of c.message.ensures.value)
+    c.in-Ok-offer_lines.ensures ∙ ap (λ (n : ℕ). offer_lines c.args.link n c.epoch-epoch.result c.in-Ok.offer) c.number-number.ensures
     ∙ ap (λ (e : Option ℕ). offer_lines c.args.link (number_of (message_of c.args.dated)) e c.in-Ok.offer) c.epoch-epoch.ensures.value in
     let none : closed_by c.in-Ok.offer ≡ None = sym c.closed_by.ensures ∙ c.in_default-closed_by.is in
     on_ok-map c.put_lines.result (λ wrote. subst (λ (x : ConversionView). AddsMessage x c.args.link c.args.dated (state c.self.inside.setup c.offer.new.self c.self.inside.records c.count_message.new.counts c.self.inside.stopped) before (written (g.O.Sink.taken c.args.out.now) (g.L.Sink.taken c.put_lines.new.log))) c.self.view_is (takes-none-closed c.in-Ok.offer c.self.invariant.1.places none c.in-Ok.ensures.answer c.count_message.ensures (wrote ∙ ap (with_more (g.L.Sink.taken c.args.log.now)) (c.deref.ensures.value ∙ text)))) c.put_lines.ensures.all
@@ -44,7 +44,7 @@ returns-in_default-closed_by-clause-err g c =
     let before = written (g.O.Sink.taken c.args.out.now) (g.L.Sink.taken c.args.log.now) in
     let after = written (g.O.Sink.taken c.args.out.now) (g.L.Sink.taken c.put_lines.new.log) in
     let text : c.in-Ok-offer_lines.lines.items ≡ offer_lines c.args.link (number_of (message_of c.args.dated)) (epoch_of c.args.dated) c.in-Ok.offer =
-    c.in-Ok-offer_lines.ensures ∙ ap (λ (n : ℕ). offer_lines c.args.link n c.epoch-epoch.result c.in-Ok.offer) (c.number-number.ensures ∙ ap number_of c.message.ensures.value)
+    c.in-Ok-offer_lines.ensures ∙ ap (λ (n : ℕ). offer_lines c.args.link n c.epoch-epoch.result c.in-Ok.offer) c.number-number.ensures
     ∙ ap (λ (e : Option ℕ). offer_lines c.args.link (number_of (message_of c.args.dated)) e c.in-Ok.offer) c.epoch-epoch.ensures.value in
     let none : closed_by c.in-Ok.offer ≡ None = sym c.closed_by.ensures ∙ c.in_default-closed_by.is in
     on_err-from c.put_lines.result (subst (λ (x : ConversionView). AddsMessageInPart x c.args.link c.args.dated before after) c.self.view_is (part-lines c.in-Ok.offer c.self.invariant.1.places c.in-Ok.ensures.answer (takes-none-closed c.in-Ok.offer c.self.invariant.1.places none c.in-Ok.ensures.answer c.count_message.ensures refl)
@@ -67,7 +67,7 @@ returns-clause-ok g c =
     let before = written (g.O.Sink.taken c.args.out.now) (g.L.Sink.taken c.args.log.now) in
     let after = written (g.O.Sink.taken c.close.new.out) (g.L.Sink.taken c.put_lines-2.new.log) in
     let text : c.in-Ok-offer_lines.lines.items ≡ offer_lines c.args.link (number_of (message_of c.args.dated)) (epoch_of c.args.dated) c.in-Ok.offer =
-    c.in-Ok-offer_lines.ensures ∙ ap (λ (n : ℕ). offer_lines c.args.link n c.epoch-epoch.result c.in-Ok.offer) (c.number-number.ensures ∙ ap number_of c.message.ensures.value)
+    c.in-Ok-offer_lines.ensures ∙ ap (λ (n : ℕ). offer_lines c.args.link n c.epoch-epoch.result c.in-Ok.offer) c.number-number.ensures
     ∙ ap (λ (e : Option ℕ). offer_lines c.args.link (number_of (message_of c.args.dated)) e c.in-Ok.offer) c.epoch-epoch.ensures.value in
     let e : EpochSetView = c.in-Some.set in
     let some : closed_by c.in-Ok.offer ≡ Some e = sym c.closed_by.ensures ∙ c.in-Some.is in
@@ -79,7 +79,7 @@ returns-clause-err g c =
     let before = written (g.O.Sink.taken c.args.out.now) (g.L.Sink.taken c.args.log.now) in
     let after = written (g.O.Sink.taken c.close.new.out) (g.L.Sink.taken c.put_lines-2.new.log) in
     let text : c.in-Ok-offer_lines.lines.items ≡ offer_lines c.args.link (number_of (message_of c.args.dated)) (epoch_of c.args.dated) c.in-Ok.offer =
-    c.in-Ok-offer_lines.ensures ∙ ap (λ (n : ℕ). offer_lines c.args.link n c.epoch-epoch.result c.in-Ok.offer) (c.number-number.ensures ∙ ap number_of c.message.ensures.value)
+    c.in-Ok-offer_lines.ensures ∙ ap (λ (n : ℕ). offer_lines c.args.link n c.epoch-epoch.result c.in-Ok.offer) c.number-number.ensures
     ∙ ap (λ (e : Option ℕ). offer_lines c.args.link (number_of (message_of c.args.dated)) e c.in-Ok.offer) c.epoch-epoch.ensures.value in
     let e : EpochSetView = c.in-Some.set in
     let some : closed_by c.in-Ok.offer ≡ Some e = sym c.closed_by.ensures ∙ c.in-Some.is in

@@ -5,7 +5,6 @@ use Rattle.rtk_summary.proofs.signals.Signals.new.Goals as goal
 pub returns : goal.returns
 returns c = record {
   satellites_size = refl;
-  codes_size = refl;
   satellites = λ n lt. unmarked (replicate 33 false) n refl;
-  codes = λ n lt. unmarked (replicate 16 false) n refl;
+  codes = c.new.ensures;
 }

@@ -1,0 +1,267 @@
+-- Bits begin with at most one message of the wider set, and have no fault if they begin with one.
+-- What `decode` answers is the case of 1004, 1005, 1006 and 1074.
+use Rattle.std.proofs.Common.{◌≡◌, ◌≢◌, ℕ, ◌^◌, ◌<◌, ◌≤◌, Bool, true, false, List, ◌++◌, length, take, drop, Option, Some, None, Result, Ok, Err, refl, sym, ap, ◌∙◌, append_assoc, arith, length-append, ltb, inl, inr}
+use Rattle.std.specs.Prelude.{IfOk, IfErr, IsTrue, ◌==◌, if◌then◌else◌}
+use Rattle.std.proofs.lemmas.Bool.{le-ltb}
+use Rattle.std.proofs.lemmas.Bool.Decides.{eqb_tells}
+use Rattle.std.proofs.lemmas.List.{take_at, drop_at}
+use Rattle.std.proofs.Math.Nat.{mod-eq_of_lt}
+use Rattle.rtk_bits.specs.Bits.{unsigned, bits_of}
+use Rattle.rtk_bits.proofs.PublicLaws.{length-bits_of, unsigned-bits_of}
+use Rattle.rtk_message.specs.declared.accepted.Accepted.{Accepted}
+use Rattle.rtk_message.specs.declared.any_fault.AnyFault.{AnyFault}
+use Rattle.rtk_message.specs.declared.any_fault.AnyFault.TheVariants.{NoNumber, Other, Short, EpochRange, TooManyCells}
+use Rattle.rtk_message.specs.declared.any_message.AnyMessage.{AnyMessage}
+use Rattle.rtk_message.specs.declared.any_message.AnyMessage.TheVariants.{Message, Msm}
+use Rattle.rtk_message.specs.declared.fault.DecodeFault.{DecodeFault}
+use Rattle.rtk_message.specs.declared.fault.DecodeFault.TheVariants as fault
+use Rattle.rtk_message.specs.declared.message.Message as declared_message
+use Rattle.rtk_message.specs.declared.message.Message.TheVariants.{Obs1004, Arp1005, Arp1006, Msm1074}
+use Rattle.rtk_message.specs.declared.msm_kind.MsmKind.{MsmKind}
+use Rattle.rtk_message.specs.declared.msm_kind.MsmKind.TheVariants.{Msm4, Msm5, Msm6, Msm7}
+use Rattle.rtk_message.specs.Accepted.{accepts, four}
+use Rattle.rtk_message.specs.AnyFaultCode.{any_fault_of}
+use Rattle.rtk_message.specs.Fields.{bits_of_fields}
+use Rattle.rtk_message.specs.Decoded as decoded
+use Rattle.rtk_message.specs.MsmForm as form
+use Rattle.rtk_message.specs.AnyDecoded.{number_of, fields_after_number, IsValid, Encodes, DecodesBy, any_of, if_any_fault_of, fault_after_number, fault_by, first_fault}
+use Rattle.rtk_message.specs.Steps.AfterNumber.{BeginsAfterNumber}
+use Rattle.rtk_message.specs.Steps.AfterAnyNumber.{BeginsAfterAnyNumber}
+use Rattle.rtk_message.specs.Obs1004Laws as obs1004
+use Rattle.rtk_message.specs.Arp1005Laws as arp1005
+use Rattle.rtk_message.specs.Arp1006Laws as arp1006
+use Rattle.rtk_message.specs.Msm1074Laws as msm1074
+use Rattle.rtk_message.proofs.DecodedLemmas as four_lemmas
+use Rattle.rtk_message.proofs.MsmLemmas as msm
+
+-- ---- the numbers
+
+kind_number : (k : MsmKind) → form.number_of_kind k < 2 ^ 12
+kind_number Msm4 = omega arith
+kind_number Msm5 = omega arith
+kind_number Msm6 = omega arith
+kind_number Msm7 = omega arith
+
+number_fits : (m : AnyMessage) → number_of m < 2 ^ 12
+number_fits (Message m) = four_lemmas.number_fits m
+number_fits (Msm m) = kind_number m.kind
+
+-- none of the four is a 1075, 1076 or 1077
+four_number : (m : declared_message.Message) → decoded.number_of m ≤ 1074
+four_number (Obs1004 m) = omega arith
+four_number (Arp1005 m) = omega arith
+four_number (Arp1006 m) = omega arith
+four_number (Msm1074 m) = omega arith
+
+-- a number has one kind
+kind_of : ℕ → MsmKind
+kind_of n = if n == 1075 then Msm5 else if n == 1076 then Msm6 else if n == 1077 then Msm7 else Msm4
+
+kind_of-number : (k : MsmKind) → kind_of (form.number_of_kind k) ≡ k
+unfolding kind_of
+kind_of-number Msm4 = refl
+kind_of-number Msm5 = refl
+kind_of-number Msm6 = refl
+kind_of-number Msm7 = refl
+
+same_kind : (j k : MsmKind) → form.number_of_kind j ≡ form.number_of_kind k → j ≡ k
+same_kind j k e = sym (kind_of-number j) ∙ ap kind_of e ∙ kind_of-number k
+
+-- ---- what follows the number decides
+
+pub first_is : (a : Accepted) (n : ℕ) (left : List Bool) → n < 2 ^ 12 → first_fault a (bits_of 12 n ++ left) ≡ fault_by a n left
+first_is a n left small =
+    let len = length-bits_of 12 n in
+    let long : ltb (length (bits_of 12 n ++ left)) 12 ≡ false = le-ltb (length (bits_of 12 n ++ left)) 12 (omega (arith, length-append (bits_of 12 n) left, len)) in
+    let same : unsigned (bits_of 12 n) ≡ n = unsigned-bits_of 12 n ∙ mod-eq_of_lt small in
+    rw (long, take_at (bits_of 12 n) left 12 len, drop_at (bits_of 12 n) left 12 len, same) refl
+
+-- the fault after the number of a 1075, 1076 or 1077
+pub wide_fault : (k : MsmKind) (bs : List Bool) → form.IsWide k → fault_after_number (form.number_of_kind k) bs ≡ form.first_fault k bs
+wide_fault Msm4 bs wide = absurd (omega (arith, wide))
+wide_fault Msm5 bs wide = refl
+wide_fault Msm6 bs wide = refl
+wide_fault Msm7 bs wide = refl
+
+pub fault_after_wide : {X : Type 0} (k : MsmKind) (bs : List Bool) (r : Result X AnyFault) → form.IsWide k → IfErr r (λ f. form.first_fault k bs ≡ Some f) → IfErr r (λ f. fault_after_number (form.number_of_kind k) bs ≡ Some f)
+fault_after_wide k bs (Ok x) wide f = tt
+fault_after_wide k bs (Err e) wide f = wide_fault k bs wide ∙ f
+
+-- ---- bits that begin with a message
+
+starts : {bs : List Bool} (m : AnyMessage) (s : Encodes bs m) → four_lemmas.Begins bs (number_of m) (fields_after_number m) s.begins.0
+starts {bs = bs} m s = four_lemmas.begins_with bs (number_of m) (fields_after_number m) s.begins.0 (number_fits m) s.begins.1
+
+no_fault_after : (m : AnyMessage) (rest : List Bool) → IsValid m → fault_after_number (number_of m) (bits_of_fields (fields_after_number m) ++ rest) ≡ None
+no_fault_after (Message (Obs1004 m)) rest v = rw (obs1004.is_accepted m rest v) refl
+no_fault_after (Message (Arp1005 m)) rest v = rw (arp1005.is_accepted m rest v) refl
+no_fault_after (Message (Arp1006 m)) rest v = rw (arp1006.is_accepted m rest v) refl
+no_fault_after (Message (Msm1074 m)) rest v = rw (msm1074.is_accepted m rest v) refl
+no_fault_after (Msm m) rest v = wide_fault m.kind (bits_of_fields (form.table m) ++ rest) v.wide ∙ msm.is_accepted m rest v.form
+
+no_fault : (a : Accepted) (bs : List Bool) (m : AnyMessage) → IsTrue (accepts a (number_of m)) → Encodes bs m → first_fault a bs ≡ None
+no_fault a bs m member s =
+    let b = starts m s in
+    let is : accepts a (number_of m) ≡ true = member in
+    rw (b.long, b.number, b.after, is) (no_fault_after m s.begins.0 s.valid)
+
+same_number : (bs : List Bool) (m n : AnyMessage) → Encodes bs m → Encodes bs n → number_of m ≡ number_of n
+same_number bs m n s t = sym (starts m s).number ∙ (starts n t).number
+
+same_bits : (bs : List Bool) (m n : AnyMessage) (s : Encodes bs m) (t : Encodes bs n) → bits_of_fields (fields_after_number m) ++ s.begins.0 ≡ bits_of_fields (fields_after_number n) ++ t.begins.0
+same_bits bs m n s t = sym (starts m s).after ∙ (starts n t).after
+
+one : (bs : List Bool) (m n : AnyMessage) → Encodes bs m → Encodes bs n → m ≡ n
+one bs (Message m) (Message n) s t = ap Message (four_lemmas.one bs m n (record { valid = s.valid; begins = s.begins }) (record { valid = t.valid; begins = t.begins }))
+one bs (Message m) (Msm n) s t = absurd (omega (arith, same_number bs (Message m) (Msm n) s t, four_number m, t.valid.wide))
+one bs (Msm m) (Message n) s t = absurd (omega (arith, same_number bs (Msm m) (Message n) s t, four_number n, s.valid.wide))
+one bs (Msm m) (Msm n) s t =
+    let kinds : m.kind ≡ n.kind = same_kind m.kind n.kind (same_number bs (Msm m) (Msm n) s t) in
+    ap Msm (msm.is_unique m n s.begins.0 t.begins.0 kinds s.valid.form t.valid.form (same_bits bs (Msm m) (Msm n) s t))
+
+-- the message of the set that the bits begin with is the answer
+only : (a : Accepted) (bs : List Bool) (r : Result AnyMessage AnyFault) → IfOk r (λ m. Encodes bs m) → IfErr r (λ f. first_fault a bs ≡ Some f) → (m : AnyMessage) → IsTrue (accepts a (number_of m)) → Encodes bs m → r ≡ Ok m
+only a bs (Ok n) ok err m member s = ap Ok (one bs n m ok s)
+only a bs (Err f) ok err m member s = let none = no_fault a bs m member s in absurd (cc (none, err))
+
+message_of : (bs left : List Bool) (k : ℕ) (r : Result AnyMessage AnyFault) → bs ≡ bits_of 12 k ++ left → IfOk r (λ m. BeginsAfterAnyNumber k left m) → IfOk r (λ m. Encodes bs m)
+message_of bs left k (Ok m) is f = record {
+  valid = f.valid;
+  begins = (f.begins.0, is ∙ rw (f.has_number, f.begins.1) (sym (append_assoc (bits_of 12 k) (bits_of_fields (fields_after_number m)) f.begins.0)));
+}
+message_of bs left k (Err e) is f = tt
+
+member_of : (a : Accepted) (left : List Bool) (k : ℕ) (r : Result AnyMessage AnyFault) → accepts a k ≡ true → IfOk r (λ m. BeginsAfterAnyNumber k left m) → IfOk r (λ m. IsTrue (accepts a (number_of m)))
+member_of a left k (Ok m) member f = rw f.has_number member
+member_of a left k (Err e) member f = tt
+
+fault_of : (a : Accepted) (bs left : List Bool) (k : ℕ) (r : Result AnyMessage AnyFault) → k < 2 ^ 12 → bs ≡ bits_of 12 k ++ left → accepts a k ≡ true → IfErr r (λ f. fault_after_number k left ≡ Some f) → IfErr r (λ f. first_fault a bs ≡ Some f)
+fault_of a bs left k (Ok m) small is member f = tt
+fault_of a bs left k (Err e) small is member f = rw is (first_is a k left small ∙ rw member f)
+
+-- bits that begin with a number of the set
+pub decodes_after : (a : Accepted) (bs left : List Bool) (n k : ℕ) (r : Result AnyMessage AnyFault) → n < 2 ^ 12 → bs ≡ bits_of 12 n ++ left → accepts a n ≡ true → n ≡ k
+    → IfOk r (λ m. BeginsAfterAnyNumber k left m) → IfErr r (λ f. fault_after_number k left ≡ Some f) → DecodesBy a bs r
+decodes_after a bs left n k r small is member number ok err =
+    let whole : bs ≡ bits_of 12 k ++ left = is ∙ ap (λ (m : ℕ). bits_of 12 m ++ left) number in
+    let of_set : accepts a k ≡ true = sym (ap (accepts a) number) ∙ member in
+    let message = message_of bs left k r whole ok in
+    let fault = fault_of a bs left k r (omega (arith, small, number)) whole of_set err in
+    record { message = message; accepted = member_of a left k r of_set ok; fault = fault; only = only a bs r message fault }
+
+pub decodes_fault : (a : Accepted) (bs : List Bool) (f : AnyFault) → first_fault a bs ≡ Some f → DecodesBy a bs (Err f)
+decodes_fault a bs f first = record { message = tt; accepted = tt; fault = first; only = only a bs (Err f) tt first }
+
+-- bits that begin with another number
+pub decodes_other : (a : Accepted) (bs left : List Bool) (n : ℕ) → n < 2 ^ 12 → bs ≡ bits_of 12 n ++ left → accepts a n ≡ false → DecodesBy a bs (Err (Other n))
+decodes_other a bs left n small is out = decodes_fault a bs (Other n) (rw is (first_is a n left small ∙ rw out refl))
+
+-- ---- one of the four messages
+
+-- the same reading after the number, of a number that is no 1075, 1076 or 1077
+pub after_four : (k : ℕ) (bs : List Bool) (r : Result declared_message.Message DecodeFault) → IfOk r (λ m. BeginsAfterNumber k bs m) → IfOk (any_of r) (λ m. BeginsAfterAnyNumber k bs m)
+after_four k bs (Ok m) f = record { has_number = f.has_number; valid = f.valid; begins = f.begins }
+after_four k bs (Err e) f = tt
+
+pub fault_after_four : (k : ℕ) (bs : List Bool) (r : Result declared_message.Message DecodeFault) → fault_after_number k bs ≡ if_any_fault_of (decoded.fault_after_number k bs) → IfErr r (λ f. decoded.fault_after_number k bs ≡ Some f) → IfErr (any_of r) (λ f. fault_after_number k bs ≡ Some f)
+fault_after_four k bs (Ok m) same f = tt
+fault_after_four k bs (Err e) same f = same ∙ ap if_any_fault_of f
+
+pub same_fault_of_other : (n : ℕ) (bs : List Bool) → n ≢ 1075 → n ≢ 1076 → n ≢ 1077 → fault_after_number n bs ≡ if_any_fault_of (decoded.fault_after_number n bs)
+same_fault_of_other n bs p q r =
+    let five : (n == 1075) ≡ false = differs n 1075 p in
+    let six : (n == 1076) ≡ false = differs n 1076 q in
+    let seven : (n == 1077) ≡ false = differs n 1077 r in
+    rw (five, six, seven) refl where
+      differs : (n k : ℕ) → n ≢ k → (n == k) ≡ false
+      differs n k other = elim (eqb_tells n k) [ inl e ↦ absurd (other e.1) | inr e ↦ e.0 ]
+
+-- the faults of the set of the four are those of `decode`
+same_tests : {X : Type 0} (b c d : Bool) (x y z t : X) → (if (if b then false else if c then false else if d then false else false) then (if b then x else if c then y else if d then z else t) else t) ≡ t
+same_tests true c d x y z t = refl
+same_tests false true d x y z t = refl
+same_tests false false true x y z t = refl
+same_tests false false false x y z t = refl
+
+fault_by_four : (n : ℕ) (bs : List Bool) → fault_by four n bs ≡ if_any_fault_of (decoded.fault_after_number n bs)
+fault_by_four n bs = elim (eqb_tells n 1004) [
+  | inl e ↦ rw e.1 refl
+  | inr e4 ↦ elim (eqb_tells n 1005) [
+    | inl e ↦ rw e.1 refl
+    | inr e5 ↦ elim (eqb_tells n 1006) [
+      | inl e ↦ rw e.1 refl
+      | inr e6 ↦ elim (eqb_tells n 1074) [
+        | inl e ↦ rw e.1 refl
+        | inr e74 ↦ rw (e4.0, e5.0, e6.0, e74.0) (same_tests (n == 1075) (n == 1076) (n == 1077) (form.first_fault Msm5 bs) (form.first_fault Msm6 bs) (form.first_fault Msm7 bs) (Some (Other n)))
+      ]
+    ]
+  ]
+]
+
+if_short : (b : Bool) (x : Option DecodeFault) → (if b then Some NoNumber else if_any_fault_of x) ≡ if_any_fault_of (if b then Some fault.NoNumber else x)
+if_short true x = refl
+if_short false x = refl
+
+first_by_four : (bs : List Bool) → first_fault four bs ≡ if_any_fault_of (decoded.first_fault bs)
+first_by_four bs = rw (fault_by_four (unsigned (take 12 bs)) (drop 12 bs)) (if_short (ltb (length bs) 12) (decoded.fault_after_number (unsigned (take 12 bs)) (drop 12 bs)))
+
+-- the set has each of the four, and no other message
+four_member : (m : declared_message.Message) → IsTrue (accepts four (decoded.number_of m))
+four_member (Obs1004 m) = refl
+four_member (Arp1005 m) = refl
+four_member (Arp1006 m) = refl
+four_member (Msm1074 m) = refl
+
+not_wide : (k : MsmKind) → form.IsWide k → IsTrue (accepts four (form.number_of_kind k)) → ⊥
+not_wide Msm4 wide member = omega (arith, wide)
+not_wide Msm5 wide member = cc
+not_wide Msm6 wide member = cc
+not_wide Msm7 wide member = cc
+
+pub by_four : (bs : List Bool) (r : Result declared_message.Message DecodeFault) → decoded.Decodes bs r → DecodesBy four bs (any_of r)
+by_four bs (Ok m) d =
+    let message : Encodes bs (Message m) = record { valid = d.message.valid; begins = d.message.begins } in
+    record { message = message; accepted = four_member m; fault = tt; only = only four bs (Ok (Message m)) message tt }
+by_four bs (Err f) d = decodes_fault four bs _ (first_by_four bs ∙ ap if_any_fault_of d.fault)
+
+-- `decode` finds one answer, which is the only one
+some_fault : (o : Option DecodeFault) (f : AnyFault) → if_any_fault_of o ≡ Some f → (g : DecodeFault) × (o ≡ Some g) × (f ≡ any_fault_of g)
+some_fault None f e = absurd cc
+some_fault (Some g) f e = let same : f ≡ any_fault_of g = cc in (g, refl, same)
+
+-- two causes of `decode` that give one cause are the same
+cause_of : AnyFault → DecodeFault
+cause_of NoNumber = fault.NoNumber
+cause_of (Other n) = fault.Other n
+cause_of (Short n) = fault.Short n
+cause_of (EpochRange n) = fault.EpochRange n
+cause_of (TooManyCells n) = fault.TooManyCells
+
+cause_of-any_fault_of : (f : DecodeFault) → cause_of (any_fault_of f) ≡ f
+unfolding cause_of
+cause_of-any_fault_of fault.NoNumber = refl
+cause_of-any_fault_of (fault.Other n) = refl
+cause_of-any_fault_of (fault.Short n) = refl
+cause_of-any_fault_of (fault.EpochRange n) = refl
+cause_of-any_fault_of fault.TooManyCells = refl
+
+same_fault : (f g : DecodeFault) → any_fault_of f ≡ any_fault_of g → f ≡ g
+same_fault f g e = sym (cause_of-any_fault_of f) ∙ ap cause_of e ∙ cause_of-any_fault_of g
+
+pub each_by_four : (bs : List Bool) (r : Result AnyMessage AnyFault) → DecodesBy four bs r → (q : Result declared_message.Message DecodeFault) × (r ≡ any_of q) × decoded.Decodes bs q
+each_by_four bs (Ok (Message m)) d =
+    let s : decoded.Encodes bs m = record { valid = d.message.valid; begins = d.message.begins } in
+    (Ok m, refl, record { message = s; fault = tt; only = λ n t. ap Ok (four_lemmas.one bs m n s t) })
+each_by_four bs (Ok (Msm m)) d = absurd (not_wide m.kind d.message.valid.wide d.accepted)
+each_by_four bs (Err f) d =
+    let g = some_fault (decoded.first_fault bs) f (sym (first_by_four bs) ∙ d.fault) in
+    (Err g.0, ap Err g.2, four_lemmas.decodes_fault bs g.0 g.1)
+
+pub of_four : (bs : List Bool) (r : Result declared_message.Message DecodeFault) → DecodesBy four bs (any_of r) → decoded.Decodes bs r
+of_four bs (Ok m) d =
+    let s : decoded.Encodes bs m = record { valid = d.message.valid; begins = d.message.begins } in
+    record { message = s; fault = tt; only = λ n t. ap Ok (four_lemmas.one bs m n s t) }
+of_four bs (Err f) d =
+    let g = some_fault (decoded.first_fault bs) (any_fault_of f) (sym (first_by_four bs) ∙ d.fault) in
+    let same : f ≡ g.0 = same_fault f g.0 g.2 in
+    four_lemmas.decodes_fault bs f (g.1 ∙ ap Some (sym same))

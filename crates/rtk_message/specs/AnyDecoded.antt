@@ -1,0 +1,91 @@
+-- With which message of a set bits begin, and the first fault if they begin with none.
+use Rattle.std.specs.Prelude.{◌≡◌, ℕ, Bool, List, ◌∷◌, ◌++◌, length, take, drop, Option, Some, None, Result, Ok, Err, IfOk, IfErr, IsTrue, ◌==◌, nat_lt, if◌then◌else◌}
+use Rattle.rtk_bits.specs.Bits.{bits, unsigned, padding}
+use Rattle.rtk_message.specs.declared.accepted.Accepted.{Accepted}
+use Rattle.rtk_message.specs.declared.any_fault.AnyFault.{AnyFault}
+use Rattle.rtk_message.specs.declared.any_fault.AnyFault.TheVariants.{NoNumber, Other}
+use Rattle.rtk_message.specs.declared.any_message.AnyMessage.{AnyMessage}
+use Rattle.rtk_message.specs.declared.any_message.AnyMessage.TheVariants.{Message, Msm}
+use Rattle.rtk_message.specs.declared.fault.DecodeFault.{DecodeFault}
+use Rattle.rtk_message.specs.declared.message.Message as message
+use Rattle.rtk_message.specs.declared.msm_kind.MsmKind.TheVariants.{Msm5, Msm6, Msm7}
+use Rattle.rtk_message.specs.Accepted.{accepts}
+use Rattle.rtk_message.specs.AnyFaultCode.{any_fault_of}
+use Rattle.rtk_message.specs.Decoded as decoded
+use Rattle.rtk_message.specs.Fields.{Field, u, bits_of_fields}
+use Rattle.rtk_message.specs.MsmForm as form
+
+-- the message number (RTCM 10403.3, DF002)
+abbrev pub number_of : AnyMessage → ℕ
+number_of (Message m) = decoded.number_of m
+number_of (Msm m) = form.number_of_kind m.kind
+
+-- the reference station (DF003)
+abbrev pub station_of : AnyMessage → ℕ
+station_of (Message m) = decoded.station_of m
+station_of (Msm m) = m.header.station
+
+-- the time of week (DF004), which the station messages do not have
+abbrev pub tow_of : AnyMessage → Option ℕ
+tow_of (Message m) = decoded.tow_of m
+tow_of (Msm m) = Some m.header.tow
+
+-- the fields after the number
+abbrev pub fields_after_number : AnyMessage → List Field
+fields_after_number (Message m) = decoded.fields_after_number m
+fields_after_number (Msm m) = form.table m
+
+-- all fields of a message, the number first
+abbrev pub table : AnyMessage → List Field
+table m = u 12 (number_of m) ∷ fields_after_number m
+
+-- which messages can be written as bits
+abbrev pub IsValid : AnyMessage → Type 0
+IsValid (Message m) = decoded.IsValid m
+IsValid (Msm m) = form.IsValid m
+
+-- the bits begin with the fields of a valid message
+pub record Encodes (bs : List Bool) (m : AnyMessage) : Type 0 where
+  pub valid : IsValid m
+  pub begins : (rest : List Bool) × (bs ≡ bits_of_fields (table m) ++ rest)
+
+-- the bytes are the fields of the message, with zero bits up to a whole byte
+abbrev pub IsPayloadOf : AnyMessage → List ℕ → Type 0
+IsPayloadOf m payload = bits payload ≡ bits_of_fields (table m) ++ padding (length (bits_of_fields (table m)))
+
+-- ---- the first fault, in the order in which causes are looked for
+
+-- the same answer of one of the four messages
+abbrev pub any_of : Result message.Message DecodeFault → Result AnyMessage AnyFault
+any_of (Ok m) = Ok (Message m)
+any_of (Err f) = Err (any_fault_of f)
+
+-- the same fault, if there is one
+abbrev pub if_any_fault_of : Option DecodeFault → Option AnyFault
+if_any_fault_of None = None
+if_any_fault_of (Some f) = Some (any_fault_of f)
+
+-- the first fault of the bits after this number, if messages of this number are read
+abbrev pub fault_after_number : ℕ → List Bool → Option AnyFault
+fault_after_number n bs =
+    if n == 1075 then form.first_fault Msm5 bs else
+    if n == 1076 then form.first_fault Msm6 bs else
+    if n == 1077 then form.first_fault Msm7 bs else if_any_fault_of (decoded.fault_after_number n bs)
+
+-- the first fault of the bits after this number, by a set of messages
+abbrev pub fault_by : Accepted → ℕ → List Bool → Option AnyFault
+fault_by a n bs = if accepts a n then fault_after_number n bs else Some (Other n)
+
+abbrev pub first_fault : Accepted → List Bool → Option AnyFault
+first_fault a bs = if nat_lt (length bs) 12 then Some NoNumber else fault_by a (unsigned (take 12 bs)) (drop 12 bs)
+
+-- what decoding by a set of messages answers
+pub record DecodesBy (a : Accepted) (bs : List Bool) (r : Result AnyMessage AnyFault) : Type 0 where
+  -- a message is one that the bits begin with
+  pub message : IfOk r (λ m. Encodes bs m)
+  -- and one of the set
+  pub accepted : IfOk r (λ m. IsTrue (accepts a (number_of m)))
+  -- a fault is the first one
+  pub fault : IfErr r (λ f. first_fault a bs ≡ Some f)
+  -- if the bits begin with a message of the set, the answer is that message, and no fault
+  pub only : (m : AnyMessage) → IsTrue (accepts a (number_of m)) → Encodes bs m → r ≡ Ok m

@@ -1,0 +1,215 @@
+//! From the bytes of a payload to its message, by a set of messages.
+
+ghost use Rattle.std.specs.Prelude.{◌≡◌, ◌<◌, ◌++◌, Bool, List, Some, Err, IfOk, IfErr};
+ghost use Rattle.rtk_bits.specs.Bits.{bits, bits_of};
+ghost use Rattle.rtk_message.specs.AnyDecoded.{DecodesBy, any_of, fault_after_number};
+ghost use Rattle.rtk_message.specs.MsmForm.{number_of_kind, IsWide};
+ghost use Rattle.rtk_message.specs.Steps.AfterAnyNumber.{BeginsAfterAnyNumber};
+
+use crate::accepted::Accepted;
+use crate::any_fault::AnyFault;
+use crate::any_message::AnyMessage;
+use crate::decoding::read_after;
+use crate::fault::DecodeFault;
+use crate::layout::Layout;
+use crate::message::Message;
+use crate::msm::Msm;
+use crate::msm_kind::MsmKind;
+use crate::msm1074::Msm1074;
+use crate::obs1004::Obs1004;
+use rtk_bits::BitReader;
+
+/// The message of the set that the payload begins with. If it begins with no message of the set, the
+/// answer is the first fault; `AnyFault` says in which order faults are looked for.
+///
+/// Bits after the last field are not part of the message. No memory is allocated. With the set
+/// `Accepted::FOUR` the answer is that of `decode`.
+#[inline(never)]
+pub fn decode_any(accepted: Accepted, payload: &[u8]) -> Result<AnyMessage, AnyFault>
+    ensures { DecodesBy accepted (bits payload.now) result }
+{
+    let mut reader = BitReader::new(payload);
+    let Some(number) = reader.take_u(12) else {
+        return Err(AnyFault::NoNumber);
+    };
+    let number = number as u16;
+    if !accepted.accepts(number) {
+        return Err(AnyFault::Other { number });
+    }
+    read_any(number, reader)
+}
+
+/// Decodes payloads one after another by a set of messages, and keeps the last reading of each kind.
+///
+/// A message of observations is read over the last one of its type: a message of a thousand bytes is
+/// then neither cleared nor moved. A decoder holds some 7,000 bytes.
+#[derive(Drop)]
+pub struct AnyDecoder {
+    // The last reading of a 1004.
+    obs1004: Result<AnyMessage, AnyFault>,
+    // The last reading of a 1074.
+    msm1074: Result<AnyMessage, AnyFault>,
+    // The last reading of a 1075, 1076 or 1077.
+    msm: Result<AnyMessage, AnyFault>,
+    // The last reading of another payload.
+    other: Result<AnyMessage, AnyFault>,
+}
+
+impl AnyDecoder {
+    /// A decoder that has read nothing yet. It takes no memory.
+    pub fn new() -> AnyDecoder {
+        AnyDecoder {
+            obs1004: Err(AnyFault::NoNumber),
+            msm1074: Err(AnyFault::NoNumber),
+            msm: Err(AnyFault::NoNumber),
+            other: Err(AnyFault::NoNumber),
+        }
+    }
+
+    /// The message of the set that the payload begins with, or the first fault: the answer of
+    /// `decode_any`, whatever was read before and by which set. It is lent until the next call. No
+    /// memory is allocated.
+    #[inline(never)]
+    pub fn read(&mut self, accepted: Accepted, payload: &[u8]) -> &Result<AnyMessage, AnyFault>
+        ensures { DecodesBy accepted (bits payload.now) result.now }
+    {
+        let mut reader = BitReader::new(payload);
+        let Some(number) = reader.take_u(12) else {
+            put_fault(&mut self.other, AnyFault::NoNumber);
+            return &self.other;
+        };
+        let number = number as u16;
+        match number {
+            Obs1004::NUMBER => {
+                put_1004(&mut self.obs1004, reader);
+                &self.obs1004
+            }
+            Msm1074::NUMBER if accepted.msm4 => {
+                put_1074(&mut self.msm1074, reader);
+                &self.msm1074
+            }
+            _ => self.read_other(accepted, number, reader),
+        }
+    }
+
+    // Reads a message with another number than 1004, and than 1074 if that is in the set.
+    fn read_other(
+        &mut self,
+        accepted: Accepted,
+        number: u16,
+        reader: BitReader<'_>,
+    ) -> &Result<AnyMessage, AnyFault>
+        requires { number < 4096 }
+        ensures { (bs : List Bool) → bs ≡ bits_of 12 number ++ reader.entry → DecodesBy accepted bs result.now }
+    {
+        if !accepted.accepts(number) {
+            put_fault(&mut self.other, AnyFault::Other { number });
+            return &self.other;
+        }
+        let Some(kind) = MsmKind::wide(number) else {
+            put_new(&mut self.other, number, reader);
+            return &self.other;
+        };
+        put_msm(&mut self.msm, kind, reader);
+        &self.msm
+    }
+}
+
+// Reads a 1004, over the one that is kept.
+#[inline(never)]
+fn put_1004(kept: &mut Result<AnyMessage, AnyFault>, mut reader: BitReader<'_>)
+    ensures message { IfOk kept.new (λ m. BeginsAfterAnyNumber 1004 reader.entry m) }
+    ensures fault { IfErr kept.new (λ f. fault_after_number 1004 reader.entry ≡ Some f) }
+{
+    if let Ok(AnyMessage::Message(Message::Obs1004(message))) = kept {
+        let Err(fault) = message.read_over(&mut reader) else {
+            return;
+        };
+        put_fault(kept, AnyFault::from(fault));
+        return;
+    }
+    put_new(kept, Obs1004::NUMBER, reader);
+}
+
+// Reads a 1074, over the one that is kept.
+#[inline(never)]
+fn put_1074(kept: &mut Result<AnyMessage, AnyFault>, mut reader: BitReader<'_>)
+    ensures message { IfOk kept.new (λ m. BeginsAfterAnyNumber 1074 reader.entry m) }
+    ensures fault { IfErr kept.new (λ f. fault_after_number 1074 reader.entry ≡ Some f) }
+{
+    if let Ok(AnyMessage::Message(Message::Msm1074(message))) = kept {
+        let Err(fault) = message.read_over(&mut reader) else {
+            return;
+        };
+        put_fault(kept, AnyFault::from(fault));
+        return;
+    }
+    put_new(kept, Msm1074::NUMBER, reader);
+}
+
+// Reads a 1075, 1076 or 1077, over the one of these that is kept.
+#[inline(never)]
+fn put_msm(kept: &mut Result<AnyMessage, AnyFault>, kind: MsmKind, mut reader: BitReader<'_>)
+    requires { IsWide kind }
+    ensures message { IfOk kept.new (λ m. BeginsAfterAnyNumber (number_of_kind kind) reader.entry m) }
+    ensures fault { IfErr kept.new (λ f. fault_after_number (number_of_kind kind) reader.entry ≡ Some f) }
+{
+    if let Ok(AnyMessage::Msm(message)) = kept {
+        let Err(fault) = message.read_over(kind, &mut reader) else {
+            return;
+        };
+        put_fault(kept, fault);
+        return;
+    }
+    put_new(kept, kind.number(), reader);
+}
+
+// These have a reading among their locals, which a function clears when it is called. They are not
+// inlined, so that this is done only if one of them is called.
+
+#[inline(never)]
+fn put_new(kept: &mut Result<AnyMessage, AnyFault>, number: u16, reader: BitReader<'_>)
+    ensures message { IfOk kept.new (λ m. BeginsAfterAnyNumber number reader.entry m) }
+    ensures fault { IfErr kept.new (λ f. fault_after_number number reader.entry ≡ Some f) }
+{
+    *kept = read_any(number, reader);
+}
+
+#[inline(never)]
+fn put_fault(kept: &mut Result<AnyMessage, AnyFault>, fault: AnyFault)
+    ensures { kept.new ≡ Err fault }
+{
+    *kept = Err(fault);
+}
+
+// Reads the message after its number.
+fn read_any(number: u16, reader: BitReader<'_>) -> Result<AnyMessage, AnyFault>
+    ensures message { IfOk result (λ m. BeginsAfterAnyNumber number reader.entry m) }
+    ensures fault { IfErr result (λ f. fault_after_number number reader.entry ≡ Some f) }
+{
+    match MsmKind::wide(number) {
+        Some(kind) => read_msm(kind, reader),
+        None => any(read_after(number, reader)),
+    }
+}
+
+// The same reading of one of the four messages.
+fn any(reading: Result<Message, DecodeFault>) -> Result<AnyMessage, AnyFault>
+    ensures { result ≡ any_of reading }
+{
+    match reading {
+        Ok(message) => Ok(AnyMessage::Message(message)),
+        Err(fault) => Err(AnyFault::from(fault)),
+    }
+}
+
+#[inline(never)]
+fn read_msm(kind: MsmKind, mut reader: BitReader<'_>) -> Result<AnyMessage, AnyFault>
+    requires { IsWide kind }
+    ensures message { IfOk result (λ m. BeginsAfterAnyNumber (number_of_kind kind) reader.entry m) }
+    ensures fault { IfErr result (λ f. fault_after_number (number_of_kind kind) reader.entry ≡ Some f) }
+{
+    let mut message = Msm::empty(kind);
+    message.read_over(kind, &mut reader)?;
+    Ok(AnyMessage::Msm(message))
+}

@@ -1,0 +1,62 @@
+//! A message of the wider set: one of the four types, or an MSM5, MSM6 or MSM7 of GPS.
+
+ghost use Rattle.std.specs.Prelude.{◌≡◌, IsTrue, ◌↔◌};
+ghost use Rattle.rtk_message.specs.AnyDecoded.{IsValid, station_of, number_of, tow_of};
+
+use crate::message::Message;
+use crate::msm::Msm;
+
+/// A message that a set of messages can have (`Accepted`), with all fields of its table (RTCM
+/// 10403.3).
+#[derive(PartialEq, Eq, Drop)]
+pub enum AnyMessage {
+    /// A 1004, 1005, 1006 or 1074.
+    Message(Message),
+    /// A 1075, 1076 or 1077.
+    Msm(Msm),
+}
+
+impl AnyMessage {
+    /// Whether the message can be written as bits: each field fits its width, list lengths agree
+    /// with counts and masks, the time of week is less than 604,800,000 ms, and the cell mask has
+    /// at most 64 bits. An `Msm` of the kind MSM4 can't: a 1074 is a `Msm1074`.
+    pub fn fits(&self) -> bool
+        ensures { IsTrue result ↔ IsValid self.now }
+    {
+        match self {
+            AnyMessage::Message(message) => message.fits(),
+            AnyMessage::Msm(message) => message.fits(),
+        }
+    }
+
+    /// The reference station ID (DF003), 0 to 4095 in a message that fits.
+    pub fn station(&self) -> u16
+        ensures { result ≡ station_of self.now }
+    {
+        match self {
+            AnyMessage::Message(message) => message.station(),
+            AnyMessage::Msm(message) => message.header.station,
+        }
+    }
+
+    /// The message number (DF002).
+    pub fn number(&self) -> u16
+        ensures { result ≡ number_of self.now }
+    {
+        match self {
+            AnyMessage::Message(message) => message.number(),
+            AnyMessage::Msm(message) => message.kind.number(),
+        }
+    }
+
+    /// The GPS time of week (DF004) in ms. It is `None` exactly for 1005 and 1006, which have no
+    /// time.
+    pub fn tow(&self) -> Option<u32>
+        ensures { result ≡ tow_of self.now }
+    {
+        match self {
+            AnyMessage::Message(message) => message.tow(),
+            AnyMessage::Msm(message) => Some(message.header.tow),
+        }
+    }
+}

@@ -1,0 +1,120 @@
+//! The kinds of multiple signal messages (MSM) of GPS that are read, and the form of each.
+
+ghost use Rattle.std.specs.Prelude.{◌≡◌, ◌≢◌, ◌≤◌, IfSome, IfNone};
+ghost use Rattle.rtk_message.specs.declared.msm_kind.MsmKind.{MsmKind};
+ghost use Rattle.rtk_message.specs.MsmForm.{IsWide, number_of_kind, form_of, if_rates, satellite_bits, cell_bits};
+
+/// A multiple signal message of GPS. Source: RTCM 10403.3, messages 1074 to 1077.
+#[derive(Clone, Copy, Debug, Default, PartialEq, Eq)]
+pub enum MsmKind {
+    /// Message 1074: ranges, phases and carrier-to-noise ratios.
+    #[default]
+    Msm4,
+    /// Message 1075: as 1074, with range rates.
+    Msm5,
+    /// Message 1076: as 1074, with a higher resolution.
+    Msm6,
+    /// Message 1077: as 1076, with range rates.
+    Msm7,
+}
+
+/// How many bits a field has, for the columns whose width depends on the kind.
+///
+/// All kinds have DF397 (8 bits), DF398 (10 bits) and DF420 (1 bit). The kinds with range rates have
+/// extended satellite information (4 bits), DF399 (14 bits) and DF404 (15 bits).
+#[derive(Clone, Copy, Debug, PartialEq, Eq)]
+pub(crate) struct MsmForm {
+    /// Bits of the fine pseudorange (DF400 or DF405).
+    pub fine_range: usize,
+    /// Bits of the fine phase range (DF401 or DF406).
+    pub fine_phase: usize,
+    /// Bits of the lock time indicator (DF402 or DF407).
+    pub lock_indicator: usize,
+    /// Bits of the carrier-to-noise ratio (DF403 or DF408).
+    pub cnr: usize,
+}
+
+impl MsmKind {
+    /// The message number (DF002).
+    pub fn number(self) -> u16
+        ensures { result ≡ number_of_kind self }
+    {
+        match self {
+            MsmKind::Msm4 => 1074,
+            MsmKind::Msm5 => 1075,
+            MsmKind::Msm6 => 1076,
+            MsmKind::Msm7 => 1077,
+        }
+    }
+
+    /// The kind of this message number (DF002), if it is 1075, 1076 or 1077.
+    pub(crate) fn wide(number: u16) -> Option<MsmKind>
+        ensures some { IfSome result (λ k. IsWide k × (number ≡ number_of_kind k)) }
+        ensures none { IfNone result ((k : MsmKind) → IsWide k → number ≢ number_of_kind k) }
+    {
+        match number {
+            1075 => Some(MsmKind::Msm5),
+            1076 => Some(MsmKind::Msm6),
+            1077 => Some(MsmKind::Msm7),
+            _ => None,
+        }
+    }
+
+    /// The widths of the fields.
+    #[inline(always)]
+    pub(crate) fn form(self) -> MsmForm
+        ensures { result ≡ form_of self }
+    {
+        match self {
+            MsmKind::Msm4 | MsmKind::Msm5 => MsmForm {
+                fine_range: 15,
+                fine_phase: 22,
+                lock_indicator: 4,
+                cnr: 6,
+            },
+            MsmKind::Msm6 | MsmKind::Msm7 => MsmForm {
+                fine_range: 20,
+                fine_phase: 24,
+                lock_indicator: 10,
+                cnr: 10,
+            },
+        }
+    }
+
+    /// This number for a kind with range rates, and 0 for another kind.
+    #[inline(always)]
+    pub(crate) fn if_rates(self, count: usize) -> usize
+        ensures { result ≡ if_rates self count }
+    {
+        match self {
+            MsmKind::Msm4 | MsmKind::Msm6 => 0,
+            MsmKind::Msm5 | MsmKind::Msm7 => count,
+        }
+    }
+
+    /// How many bits a satellite has after the cell mask.
+    #[inline(always)]
+    pub(crate) fn satellite_bits(self) -> usize
+        ensures value { result ≡ satellite_bits self }
+        ensures few { result ≤ 36 }
+    {
+        match self {
+            MsmKind::Msm4 | MsmKind::Msm6 => 18,
+            MsmKind::Msm5 | MsmKind::Msm7 => 36,
+        }
+    }
+
+    /// How many bits a cell has after the cell mask.
+    #[inline(always)]
+    pub(crate) fn cell_bits(self) -> usize
+        ensures value { result ≡ cell_bits self }
+        ensures few { result ≤ 80 }
+    {
+        match self {
+            MsmKind::Msm4 => 48,
+            MsmKind::Msm5 => 63,
+            MsmKind::Msm6 => 65,
+            MsmKind::Msm7 => 80,
+        }
+    }
+}

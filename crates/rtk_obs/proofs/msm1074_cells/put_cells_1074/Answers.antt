@@ -1,0 +1,19 @@
+use Rattle.rtk_obs.proofs.DistinctLemmas.{cells_of_1074-distinct}
+use Rattle.rtk_obs.specs.MsmCells.{cell_of_1074}
+use Rattle.rtk_obs.proofs.MsmLemmas.{few_entries}
+use Rattle.rtk_obs.proofs.MsmFieldLemmas.{is_cell_mask-1074, cells_in_range-1074}
+use Rattle.rtk_obs.proofs.msm1074_cells.put_cells_1074.Goals as goal
+
+pub put_cells-count-requires-clause-mask : goal.put_cells-count-requires-clause-mask
+put_cells-count-requires-clause-mask c = is_cell_mask-1074 c.args.message.now c.requires
+
+pub returns-clause-ranges : goal.returns-clause-ranges
+returns-clause-ranges c = rw (c.truncate.ensures.items, c.put_cells-count.ensures) (cells_in_range-1074 c.args.message.now c.requires)
+
+pub returns-clause-distinct : goal.returns-clause-distinct
+returns-clause-distinct c = rw (c.truncate.ensures.items, c.put_cells-count.ensures) (cells_of_1074-distinct c.args.message.now c.requires)
+
+pub returns-clause-few : goal.returns-clause-few
+returns-clause-few c =
+    rw (c.truncate.ensures.items, c.put_cells-count.ensures)
+    (few_entries c.args.message.now.header (cell_of_1074 c.args.message.now) c.args.message.now.cell_mask (is_cell_mask-1074 c.args.message.now c.requires))
