@@ -359,8 +359,8 @@ run show -h </dev/null;                   expect show_short_help 0 "$show_short_
 run help show </dev/null;                 expect help_show 0 "$show_help" ''
 # pins: Requests.HasStatus, Words.HasStatus
 # refuses: a `main` that does not answer the status of `run_program`
-run --version </dev/null;                 expect version 0 'rtcm2rinex 0.2.0' ''
-run -V </dev/null;                        expect version_in_short 0 'rtcm2rinex 0.2.0' ''
+run --version </dev/null;                 expect version 0 'rtcm2rinex 0.3.0' ''
+run -V </dev/null;                        expect version_in_short 0 'rtcm2rinex 0.3.0' ''
 run </dev/null;                           expect no_command 2 '' "$no_command"
 "$program" </dev/null >&- 2>err; status=$?; : >out
 expect no_command_and_no_output 2 '' "$no_command"

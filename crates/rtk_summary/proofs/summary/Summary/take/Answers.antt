@@ -7,21 +7,19 @@ use Rattle.rtk_summary.proofs.summary.Summary.take.Goals as goal
 pub returns-in-Ok : goal.returns-in-Ok
 returns-in-Ok c = λ before stands.
     let t = c.take_message.ensures in
-    let frames = t.frames in
-    let framed = t.framed in
     let one = c.saturating_add-self.ensures in
     let more = c.saturating_add-self-2.ensures in
     let was = stands.frames in
     let had = stands.framed in (
-      read_frame c.args.payload.now (Ok c.in-Ok.message) ∷ before,
-      (Ok c.in-Ok.message, c.in-Ok.ensures, refl),
+      read_frame c.args.payload.now (Ok c.in-Ok.message.now) ∷ before,
+      (Ok c.in-Ok.message.now, c.in-Ok.ensures, refl),
       record {
-        frames = omega (arith, frames, one, was);
-        framed = omega (arith, framed, more, had);
+        frames = omega (arith, one, was);
+        framed = omega (arith, more, had);
         stations_size = t.size ∙ stands.stations_size;
         stations = t.stations (messages_in before) stands.stations;
         signals = t.signals (messages_in before) stands.signals;
-        unread = subst (λ (u : Unread). StandsForFaults u (faults_in before)) (sym t.unread) stands.unread;
+        unread = stands.unread;
       },
     )
 
