@@ -1,5 +1,5 @@
 -- What a station has of each MSM.
-use Rattle.std.proofs.Common.{◌≡◌, ◌+◌, ◌∙◌, ◌++◌, ℕ, Bool, true, false, cond, List, ◌∷◌, ap, subst, sym, get_or, length, arith}
+use Rattle.std.proofs.Common.{◌≡◌, ◌+◌, ◌∙◌, ◌++◌, ℕ, Bool, true, false, cond, List, ◌∷◌, ap, sym, get_or, arith}
 use Rattle.std.specs.Prelude.{count_by, filter}
 use Rattle.std.proofs.Math.Path.{fun_ext}
 use Rattle.std.proofs.lemmas.List.Sums.{sum_by-cons}
@@ -13,7 +13,7 @@ use Rattle.rtk_obs.proofs.PublicLaws.{place_bound}
 use Rattle.rtk_summary.specs.Counting.{shown_count, count_of}
 use Rattle.rtk_summary.specs.Proposal.{epochs_of, entries_with, gives_value, times_with_value, is_taken_with}
 use Rattle.rtk_summary.specs.Tracing.{has_code, times_of_week, entries_of, entries_in}
-use Rattle.rtk_summary.specs.Steps.Standing.{one_if, StandsForCodes, StandsForMsm, StandForMsm, part_of, epochs_held, codes_held, epochs_so_far}
+use Rattle.rtk_summary.specs.Steps.Standing.{one_if, StandsForCodes, StandsForMsm, StandForMsm, part_of, epochs_held, codes_held}
 use Rattle.rtk_summary.specs.declared.epochs.Epochs.{Epochs}
 use Rattle.rtk_summary.specs.declared.msm.MsmParts.{MsmParts}
 use Rattle.rtk_summary.specs.declared.signals.Codes.{Codes}
