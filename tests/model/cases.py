@@ -460,7 +460,7 @@ def contents():
     yield "week_ends", frame_of(legacy(604_799_000, [])) + frame_of(legacy(0, [])) + frame_of(legacy(0, [])), (
         " time-of-week 604799000 0\n epoch-changes 1\n",)
     untaken = b"".join(frame_of((number << 4).to_bytes(2, "big")) for number in (1004, 1077, 1001, 1073, 1003, 1084, 1077, 1001))
-    # pins: untaken_numbers
+    # pins: untaken_numbers, messages_read
     yield "untaken_observations", untaken, (
         "frames 8\nother 1001 2\nother 1003 1\nother 1073 1\nother 1084 1\n"
         "untaken GPS 1001 2\nuntaken GPS 1003 1\nuntaken GPS 1073 1\nrefused M3 1004 1\nrefused M3 1077 2\nnothing taken\n",)
@@ -485,14 +485,20 @@ def proposals(empty):
         return "".join(f"{it}\n" for it in lines)
 
     four = of(1074, 2, 0, 1) + of(1075, 24, 0) + of(1076, 24, 1) + of(1077, 16, 2, 3)
+    # pins: better_of, proposed, msm_option, other_msm_line, other_msm_lines, proposal_lines
     yield "msm_of_alike_the_greater", four, (
         " message 1074 2\n message 1075 1\n message 1076 1\n message 1077 2\n time-of-week 475200000 475203000\n",
         " codes 1C,2L,5X\n" + told("2L --msm 7", "1074 2", "1075 1", "1076 1"))
+    # pins: better_of, proposed, msm_option
     yield "msm_of_most_epochs", four + of(1075, 24, 4, 5), (" codes 1C,2L,5X\n" + told("5X --msm 5", "1074 2", "1076 1", "1077 2"),)
+    # pins: proposed, msm_option
     yield "msm_that_needs_no_option", four + of(1074, 2, 4), (told("1C", "1075 1", "1076 1", "1077 2"),)
-    # an epoch in two messages is one
-    yield "msm_whose_epochs_are_split", of(1074, 2, 0, 1) + of(1077, 2, 0, 0, 0), (" message 1077 3\n", told("1C", "1077 1"))
+    # an epoch in several messages is one, and one that comes again is another
+    # pins: begins_epoch, epochs_in
+    yield "msm_whose_epochs_are_split", of(1074, 2, 0, 1, 0) + of(1077, 2, 0, 0, 1, 1), (
+        " message 1077 4\n", told("1C", "1077 2"))
     yield "msm_without_values", of(1076, 2, 0) + of(1077, 2, 0, 1, ms=255), (" message 1077 2\n", " codes 1C\n" + told("1C --msm 6"))
+    # pins: proposed
     yield "msm_of_no_value", of(1077, 2, 0, ms=255) + at(0), (" codes 1C,2W\n" + told("1C,2W"),)
     yield "msm_beside_1004", of(1076, 24, 0) + at(0), (" codes 1C,2W,5X\n" + told("1C,2W,5X --msm 6"),)
 
