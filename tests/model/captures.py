@@ -10,7 +10,7 @@ from __future__ import annotations
 from random import Random
 from typing import Callable, NamedTuple
 
-from messages import CODES, legacy_lock_time, msm_lock_time
+from messages import CODES, FINE_LOCK_TIMES, legacy_lock_time, msm_lock_time
 from model import Setup, moment
 from sender import Pick, Sender, pick_any, pick_end, pick_near_lock, pick_zero
 from wire import MOST_PAYLOAD, PREAMBLE, WEEK_MS, crc24q, frame_of, head_of_frame
@@ -44,6 +44,9 @@ STEPS = (1, 31, 32, 33, 500, 1000, 1000, 1000, 30_000, 262_144, 900_000, WEEK_MS
 LEGACY_TURNS = (0, 23, 24, 47, 48, 71, 72, 95, 96, 119, 120, 126, 127)
 
 
+MSM_OPTIONS = (*[None] * 8, 4, 5, 6, 7)  # a third of the captures have one
+
+
 def any_setup(rng: Random, window: int) -> Setup:
     seconds = rng.randint(FIRST_NEAR // 1000, LAST_NEAR // 1000)
     return Setup(
@@ -53,6 +56,7 @@ def any_setup(rng: Random, window: int) -> Setup:
         marker=rng.choice(MARKERS),
         codes=tuple(rng.sample(CODES, rng.choice((1, 2, 3, 5, 9, 16, 16, 16)))),
         window=window,
+        msm=rng.choice(MSM_OPTIONS),
     )
 
 
@@ -201,9 +205,11 @@ def many_links(rng: Random, turn: int) -> Capture:
 def locks(rng: Random, turn: int) -> Capture:
     """Few satellites over many epochs in order, with lock times about the time between them."""
     legacy = rng.choice((turn // 2 % 128, rng.choice(LEGACY_TURNS)))
-    step = max(2, legacy_lock_time(legacy) if turn % 2 else msm_lock_time(turn // 2 % 16))
+    fine = FINE_LOCK_TIMES[rng.choice((turn // 2 % 705, rng.randrange(705)))]
     is_calm = rng.random() < 0.7
     setup = any_setup(rng, rng.choice((2, 3, 64)))
+    of_msm = fine if setup.msm in (6, 7) else msm_lock_time(turn // 2 % 16)
+    step = max(2, legacy_lock_time(legacy) if turn % 2 else of_msm)
     sender = Sender(rng, setup, pick_near_lock(step), is_calm, is_small=True)
     sender.satellites, sender.most = sender.satellites[:2], 4
     count = min(rng.randint(4, 20), WEEK_MS // 2 // step)

@@ -2,7 +2,7 @@
 
     python3 cases.py EXAMPLES
 
-The file `cases` has a line for each: its name, window, codes and links. Before anything else the model must write what
+The file `cases` has a line for each: its name, codes, options and links. Before anything else the model must write what
 stands in the folder EXAMPLES, which another program made; and where a report stands here in words, it must write that."""
 
 import sys
@@ -17,7 +17,7 @@ import summaries
 from messages import CODES, SIGNALS
 from model import Setup, moment
 from station import NOON
-from wire import frame_of, payload_of
+from wire import MSM_CELL, MSMS, frame_of, payload_of
 
 NEAR, MADE = moment("2024-05-17T12:00:00"), moment("2024-05-17T13:00:00")
 TOLD = "2024-05-17 12:00:"
@@ -36,9 +36,9 @@ def legacy(tow, entries, **fields):
     return payload_of(station.legacy_of(tow, entries, **fields))
 
 
-def msm(tow, rough, cells):
-    """The payload of a 1074, as `msm_of` makes it."""
-    return payload_of(station.msm_of(tow, rough, cells))
+def msm(tow, rough, cells, number=1074):
+    """The payload of an MSM, as `msm_of` makes it."""
+    return payload_of(station.msm_of(tow, rough, cells, number))
 
 
 def example(name):
@@ -80,9 +80,9 @@ def report(*lines, **counts):
     return "".join(f"{it}\n" for it in lines) + "".join(f"{it} {n}\n" for it, n in counts.items())
 
 
-def convert(links, window=64, codes="1C,2W"):
-    """The file and the report."""
-    return model.convert(Setup(2003, NEAR, MADE, "BASE", tuple(codes.split(",")), window), links)[:2]
+def convert(links, window=64, codes="1C,2W", kind=None):
+    """The file and the report; the kind is that of the MSM, if one is named."""
+    return model.convert(Setup(2003, NEAR, MADE, "BASE", tuple(codes.split(",")), window, kind), links)[:2]
 
 
 def save(name, text):
@@ -90,9 +90,9 @@ def save(name, text):
         file.write(text if isinstance(text, bytes) else text.encode())
 
 
-def case(cases, name, links, window=64, codes="1C,2W", told=None, line=""):
-    """`told` is the report and `line` a line of the file, if they are known in words."""
-    text, said = convert(links, window, codes)
+def case(cases, name, links, window=64, codes="1C,2W", kind=None, told=None, line=""):
+    """`told` is the report and `line` a line of the file, or several, if they are known in words."""
+    text, said = convert(links, window, codes, kind)
     if (told is not None and said != told) or line not in text:
         sys.exit(f"cases: {name}: the model writes\n{text}{said}and not\n{line}{told}")
     names = [f"{name}.{number}" for number in range(1, len(links) + 1)]
@@ -100,7 +100,8 @@ def case(cases, name, links, window=64, codes="1C,2W", told=None, line=""):
         save(link, content)
     save(f"{name}.rnx", text)
     save(f"{name}.report", said)
-    print(name, window, codes, *names, file=cases)
+    options = [f"--window={window}"] + ([] if kind is None else [f"--msm={kind}"])
+    print(name, codes, *options, *names, file=cases)
 
 
 def hold_to_examples():
@@ -140,9 +141,6 @@ def links_of_sixteen(cases):
 def refusals(cases):
     """The faults of each message, the first cause of each."""
     too_late = 604_800_000
-    five_by_thirteen = {(satellite, signal): {} for satellite in range(1, 14) for signal in range(1, 6)}
-    rough = {satellite: (70, 0) for satellite in range(1, 14)}
-    cell = {(5, 2): {}}
     rows = (
         (b"\x3e", "M1 -"),
         (legacy(NOON, [])[:-1], "M3 1004"),
@@ -153,18 +151,60 @@ def refusals(cases):
         (payload_in(place(1006))[:-1], "M3 1006"),
         # a 1005 whose first 12 bits are 1006
         (b"\x3e\xe7" + payload_in(ARP)[2:], "M3 1006"),
-        (msm(NOON, {5: (70, 0)}, cell)[:21], "M3 1074"),
-        (msm(NOON, {5: (70, 0)}, cell)[:-1], "M3 1074"),
-        (msm(too_late, rough, five_by_thirteen), "M4 1074"),
-        (msm(NOON, rough, five_by_thirteen)[:22], "M5 1074"),
+        *refusals_of(1074),
     )
     text = b"".join(frame_of(payload) for payload, _ in rows)
     case(cases, "each_refusal", [text], told=report(*(f"link 1 refused {why}" for _, why in rows), refused=len(rows), epochs=0))
     save("each_refusal.lines", "".join(f"refused {why}\n" for _, why in rows))
     # the last good time of week, and 64 cells
-    good = legacy(604_799_999, []), msm(NOON, {it: (70, 0) for it in range(1, 17)}, {(it, signal): {} for it in range(1, 17) for signal in (2, 3, 4, 8)})
+    good = legacy(604_799_999, []), cells_64(1074)
     case(cases, "not_refused", [b"".join(map(frame_of, good))], told=report(taken=2, epochs=1))
     save("not_refused.lines", "1004 station 2003 tow 604799999 satellites 0\n1074 station 2003 tow 475200000 satellites 16 signals 4 cells 64\n")
+
+
+def refusals_of(number):
+    """The faults of an MSM."""
+    too_late = 604_800_000
+    five_by_thirteen = {(satellite, signal): {} for satellite in range(1, 14) for signal in range(1, 6)}
+    rough, one = dict.fromkeys(range(1, 14), (70, 0)), ({5: (70, 0)}, {(5, 2): {}}, number)
+    return (
+        (msm(NOON, *one)[:21], f"M3 {number}"),
+        (msm(NOON, *one)[:-1], f"M3 {number}"),
+        (msm(too_late, rough, five_by_thirteen, number)[:22], f"M4 {number}"),
+        (msm(NOON, rough, five_by_thirteen, number)[:22], f"M5 {number}"),
+    )
+
+
+def cells_64(number):
+    """An MSM of 64 cells."""
+    satellites = range(1, 17)
+    return msm(NOON, dict.fromkeys(satellites, (70, 0)), {(it, signal): {} for it in satellites for signal in (2, 3, 4, 8)}, number)
+
+
+def each_msm(cases):
+    """Each MSM is taken if it is named, and then the other ones are not looked into."""
+    texts = {it: [frame_of(payload) for payload, _ in refusals_of(it)] + [frame_of(cells_64(it))] for it in MSMS}
+    text = b"".join(frame for frames in zip(*texts.values()) for frame in frames)
+    for number in MSMS:
+        case(cases, f"each_msm_of_which_{number}", [text], kind=number - 1070, told=report(
+            *(f"link 1 refused {why}" for _, why in refusals_of(number)), other=15, refused=4, taken=1, epochs=1))
+
+
+def fine_values(cases):
+    """The values at the ends of the fields of a 1076 and a 1077, and strengths, of which satellites 8 and 10 have the least
+    ones of 0.25 and 0.5, and 11 and 12 the greatest one."""
+    ranges = {2: (1, 1), 3: (-1, -1), 4: (524_287, 8_388_607), 6: (-524_288, 0), 7: (0, -8_388_608)}
+    strengths = {8: 1, 9: 5, 10: 6, 11: 1021, 12: 1023, 13: 754}
+    fields = "fine_range", "fine_phase", "cnr"
+    cells = {(it, 2): dict(zip(fields, (*ranges.get(it, (0, 0)), strengths.get(it, 0)))) for it in range(1, 14)}
+    rough = {it: (255 if it in strengths else 70, 256 if it == 5 else 512) for it in range(1, 14)}
+    lines = [f"G{it:02}{first:>14}  {second:>14}" for it, first, second in (
+        (1, "21135368.289", "111067110.000"), (2, "21135368.290", "111067110.001"), (3, "21135368.288", "111067109.999"),
+        (4, "21135661.055", "111073263.984"), (5, "21060420.175", "110673255.000"), (6, "", "111067110.000"), (7, "21135368.289", ""))]
+    lines += [f"G{it:02}{strength:>46}" for it, strength in zip(range(8, 14), ("0.250", "0.250", "0.500", "63.750", "63.750", "47.250"))]
+    for number in (1076, 1077):
+        case(cases, f"values_of_{number}", [frame_of(msm(NOON, rough, cells, number))], kind=number - 1070, told=report(taken=1, epochs=1),
+            line="".join(f"{it.rstrip()}\n" for it in lines))
 
 
 def closes(cases):
@@ -227,16 +267,16 @@ def ties(cases):
 # ---------------------------------------------------------------- the most of an epoch, and of a report
 
 
-def every_cell(cases):
-    """All 672 cells of an epoch: of 32 satellites fifteen codes in 1074, four signals of sixteen satellites in each, and six
-    in 1004. Then a 1074 whose cells are in conflict but for the last one, and one of which all are."""
+def every_cell(cases, number=1074, kind=None, each=1):
+    """All 672 cells of an epoch: of 32 satellites fifteen codes in an MSM, four signals of sixteen satellites in each, and six
+    in 1004. Then an MSM whose cells are in conflict but for the last one, and one of which all are."""
     known, halves = sorted(SIGNALS), (range(1, 17), range(17, 33))
     groups = [(half, known[at : at + 4]) for half in halves for at in range(0, 16, 4)]
 
     def cells_of(half, signals, strength=40, last=40):
-        cells = {(it, signal): {"cnr": strength} for it in half for signal in signals}
-        cells[max(cells)] = {"cnr": last}
-        return frame_of(msm(NOON, {it: (60 + it, it) for it in half}, cells))
+        cells = {(it, signal): {"cnr": each * strength} for it in half for signal in signals}
+        cells[max(cells)] = {"cnr": each * last}
+        return frame_of(msm(NOON, {it: (60 + it, it) for it in half}, cells, number))
 
     rows = [[{**SATELLITE, "satellite": it} for it in part] for part in (range(1, 32), [32])]
     legacies = [
@@ -245,23 +285,28 @@ def every_cell(cases):
     ]
     capture = b"".join(legacies + [cells_of(*it) for it in groups])
     lines = [
-        f"link 1 conflict 1074 {TOLD}00.000 G{it:02} {SIGNALS[signal]}" for it in groups[0][0] for signal in groups[0][1]
+        f"link 1 conflict {number} {TOLD}00.000 G{it:02} {SIGNALS[signal]}" for it in groups[0][0] for signal in groups[0][1]
     ]
     codes = ",".join(CODES)
-    records = convert([capture], codes=codes)[0].splitlines()[-33:]
+    same, of_msm = {"codes": codes, "kind": kind}, f"_of_{number}" if kind else ""
+    records = convert([capture], **same)[0].splitlines()[-33:]
     assert records[0] == "> 2024 05 17 12 00  0.0000000  0 32" and {len(it) for it in records[1:]} == {769}
-    case(cases, "every_cell", [capture], codes=codes, told=report(taken=16, epochs=1))
+    case(cases, f"every_cell{of_msm}", [capture], **same, told=report(taken=16, epochs=1))
     # pins: cell_conflict_line
     for name, conflicts, last in (("conflicts_63", 63, 40), ("conflicts_64", 64, 41)):
-        case(cases, name, [capture + cells_of(*groups[0], 41, last)], codes=codes, told=report(
+        case(cases, name + of_msm, [capture + cells_of(*groups[0], 41, last)], **same, told=report(
             *lines[:conflicts], taken=16, conflict=1, epochs=1))
     # the longest lines, with a link of two digits
     # refuses: a `feed` that gives up at the longest report of a message
-    case(cases, "conflicts_64_of_link_16", [b""] * 15 + [capture + cells_of(*groups[0], 41, 41)], codes=codes, told=report(
+    case(cases, f"conflicts_64{of_msm}_of_link_16", [b""] * 15 + [capture + cells_of(*groups[0], 41, 41)], **same, told=report(
         *(it.replace("link 1 ", "link 16 ", 1) for it in lines), taken=16, conflict=1, epochs=1))
     # the same epoch, which greater ones close before the end
     # refuses: a `feed` that gives up where an epoch of many cells closes
-    case(cases, "every_cell_closed", [capture + bare(1) + bare(2)], window=2, codes=codes, told=report(taken=18, epochs=1))
+    case(cases, f"every_cell{of_msm}_closed", [capture + bare(1) + bare(2)], window=2, **same, told=report(taken=18, epochs=1))
+
+
+def every_cell_of_1077(cases):
+    every_cell(cases, 1077, kind=7, each=16)
 
 
 def millions():
@@ -326,18 +371,18 @@ def legacy_pair(random, tow, satellites):
     return legacy(tow, rows), legacy(tow, other)
 
 
-def msm_pair(random, tow, satellites):
-    """A 1074, and one whose last cell differs."""
+def msm_pair(random, tow, satellites, number):
+    """An MSM, and one whose last cell differs."""
     rough = {it: (255 if random.random() < 0.03 else random.randint(60, 90), some(random, 10)) for it in satellites}
     cells = {(it, signal): {
-        "fine_range": some(random, -15), "fine_phase": some(random, -22), "lock": some(random, 4), "half_cycle": some(random, 1),
-        "cnr": some(random, 6),
+        entry.name: some(random, -entry.width if entry.least else entry.width) for entry in MSM_CELL[number]
     } for it in satellites for signal in (2, 24)}
     last = max(cells)
-    return msm(tow, rough, cells), msm(tow, rough, {**cells, last: {**cells[last], "cnr": cells[last]["cnr"] ^ 1}})
+    other = {**cells, last: {**cells[last], "cnr": cells[last]["cnr"] ^ 4}}
+    return msm(tow, rough, cells, number), msm(tow, rough, other, number)
 
 
-def session(random, epochs):
+def session(random, epochs, number=1074):
     """The frames of so many epochs, each with one that is in conflict with it."""
     pairs = []
     for second in range(epochs):
@@ -346,7 +391,7 @@ def session(random, epochs):
             pairs.append((payload_in(place(1006)), payload_in(place(1006, x=second))))
         satellites = sorted(random.sample(range(1, 36), 8))
         pairs.append(legacy_pair(random, tow, satellites))
-        pairs += [msm_pair(random, tow, part) for part in (satellites[:4], satellites[4:])]
+        pairs += [msm_pair(random, tow, part, number) for part in (satellites[:4], satellites[4:])]
         if second % 10 == 0:
             pairs += [(it, it) for it in (b"\x3f\xb0", legacy(tow, [], station=second), legacy(tow, [], satellites=1), b"")]
     # bits after the last field, and the reserved ones of a frame, mean nothing
@@ -384,6 +429,9 @@ def long_captures(cases):
     case(cases, "long_damaged_links", links, window=5, codes=codes)
     case(cases, "long_damaged_links_exchanged", links[::-1], window=5, codes=codes)
     case(cases, "long_damaged_links_of_a_wide_window", links, codes=codes)
+    for number in MSMS[1:]:
+        links = [damaged(random, session(random, 100, number))]
+        case(cases, f"long_damaged_link_of_{number}", links, window=5, codes=codes, kind=number - 1070)
 
 
 # ---------------------------------------------------------------- captures for `summary`
@@ -411,11 +459,12 @@ def contents():
     # pins: changes_in
     yield "week_ends", frame_of(legacy(604_799_000, [])) + frame_of(legacy(0, [])) + frame_of(legacy(0, [])), (
         " time-of-week 604799000 0\n epoch-changes 1\n",)
-    untaken = b"".join(frame_of((number << 4).to_bytes(2, "big")) for number in (1004, 1077, 1001, 1076, 1077, 1084))
-    # pins: untaken_numbers
+    untaken = b"".join(frame_of((number << 4).to_bytes(2, "big")) for number in (1004, 1077, 1001, 1073, 1003, 1084, 1077, 1001))
+    # pins: untaken_numbers, messages_read
     yield "untaken_observations", untaken, (
-        "frames 6\nother 1001 1\nother 1076 1\nother 1077 2\nother 1084 1\n"
-        "untaken GPS 1001 1\nuntaken GPS 1076 1\nuntaken GPS 1077 2\nrefused M3 1004 1\nnothing taken\n",)
+        "frames 8\nother 1001 2\nother 1003 1\nother 1073 1\nother 1084 1\n"
+        "untaken GPS 1001 2\nuntaken GPS 1003 1\nuntaken GPS 1073 1\nrefused M3 1004 1\nrefused M3 1077 2\nnothing taken\n",)
+    yield from proposals(empty)
     # the first frame would reach past the end, and the other one stands in it
     yield "frame_in_a_candidate", FALSE_PREAMBLE + at(0), ("outside-frames 3\nframes 1\n",)
     numbers = b"".join(frame_of((number << 4).to_bytes(2, "big")) for number in range(4095, -1, -1))
@@ -426,33 +475,59 @@ def contents():
         "frames 4096\nstation 0\n", "station 4095\n message 1004 1\n time-of-week 475215000 475215000\n")
 
 
+def proposals(empty):
+    """Captures with several MSM, each with the one that is proposed."""
+    def of(number, signal, *seconds, ms=70):
+        return b"".join(frame_of(msm(NOON + 1000 * it, {5: (ms, 0)}, {(5, signal): {}}, number)) for it in seconds)
+
+    def told(codes, *others):
+        lines = [*(f" other-msm {it}" for it in others), f" next rtcm2rinex convert --station 2003 {summaries.NEXT} {codes} CAPTURE"]
+        return "".join(f"{it}\n" for it in lines)
+
+    four = of(1074, 2, 0, 1) + of(1075, 24, 0) + of(1076, 24, 1) + of(1077, 16, 2, 3)
+    # pins: better_of, proposed, msm_option, other_msm_line, other_msm_lines, proposal_lines
+    yield "msm_of_alike_the_greater", four, (
+        " message 1074 2\n message 1075 1\n message 1076 1\n message 1077 2\n time-of-week 475200000 475203000\n",
+        " codes 1C,2L,5X\n" + told("2L --msm 7", "1074 2", "1075 1", "1076 1"))
+    # pins: better_of, proposed, msm_option
+    yield "msm_of_most_epochs", four + of(1075, 24, 4, 5), (" codes 1C,2L,5X\n" + told("5X --msm 5", "1074 2", "1076 1", "1077 2"),)
+    # pins: proposed, msm_option
+    yield "msm_that_needs_no_option", four + of(1074, 2, 4), (told("1C", "1075 1", "1076 1", "1077 2"),)
+    # an epoch in several messages is one, and one that comes again is another
+    # pins: begins_epoch, epochs_in
+    yield "msm_whose_epochs_are_split", of(1074, 2, 0, 1, 0) + of(1077, 2, 0, 0, 1, 1), (
+        " message 1077 4\n", told("1C", "1077 2"))
+    yield "msm_without_values", of(1076, 2, 0) + of(1077, 2, 0, 1, ms=255), (" message 1077 2\n", " codes 1C\n" + told("1C --msm 6"))
+    # pins: proposed
+    yield "msm_of_no_value", of(1077, 2, 0, ms=255) + at(0), (" codes 1C,2W\n" + told("1C,2W"),)
+    yield "msm_beside_1004", of(1076, 24, 0) + at(0), (" codes 1C,2W,5X\n" + told("1C,2W,5X --msm 6"),)
+
+
 def many_of_each():
     """More than 16 bits count of each message and each fault of a message, and of another message. The summary is that of the
     rules, in words."""
     too_late, one = 604_800_000, ({5: (70, 0)}, {(5, 2): {}})
-    five_by_thirteen = {(satellite, signal): {} for satellite in range(1, 14) for signal in range(1, 6)}
     rows = (
         (" message 1005", payload_in(ARP)),
         (" message 1006", payload_in(place(1006))),
-        (" message 1074", msm(NOON, *one)),
-        ("other 1077", (1077 << 4).to_bytes(2, "big")),
+        *((f" message {it}", msm(NOON, *one, it)) for it in MSMS),
+        ("other 1073", (1073 << 4).to_bytes(2, "big")),
         ("refused M3 1004", legacy(NOON, [])[:-1]),
         ("refused M3 1005", payload_in(ARP)[:-1]),
         ("refused M3 1006", payload_in(place(1006))[:-1]),
-        ("refused M3 1074", msm(NOON, *one)[:-1]),
+        *((f"refused M3 {it}", msm(NOON, *one, it)[:-1]) for it in MSMS),
         ("refused M4 1004", legacy(too_late, [])),
-        ("refused M4 1074", msm(too_late, *one)),
-        ("refused M5 1074", msm(NOON, dict.fromkeys(range(1, 14), (70, 0)), five_by_thirteen)[:22]),
+        *((f"refused {why}", payload) for fault in (2, 3) for payload, why in (refusals_of(it)[fault] for it in MSMS)),
     )
     counts = {line: 100_001 + at for at, (line, _) in enumerate(rows)}
     # pins: number_line
     save("many_of_each", b"".join(frame_of(payload) * counts[line] for line, payload in rows))
     size, lines = Path("many_of_each").stat().st_size, [f"{line} {n}\n" for line, n in counts.items()]
     save("many_of_each.summary", "".join((
-        f"bytes {size}\noutside-frames 0\nframes {sum(counts.values())}\nstation 2003\n", *lines[:3],
+        f"bytes {size}\noutside-frames 0\nframes {sum(counts.values())}\nstation 2003\n", *lines[:6],
         f" time-of-week {NOON} {NOON}\n epoch-changes 0\n satellites G05\n codes 1C\n",
-        f" next rtcm2rinex convert --station 2003 {summaries.NEXT} 1C CAPTURE\n",
-        lines[3], f"untaken GPS 1077 {counts['other 1077']}\n", *lines[4:],
+        *(f" other-msm {it} 1\n" for it in MSMS[:3]), f" next rtcm2rinex convert --station 2003 {summaries.NEXT} 1C --msm 7 CAPTURE\n",
+        lines[6], f"untaken GPS 1073 {counts['other 1073']}\n", *lines[7:],
     )))
 
 
@@ -462,14 +537,14 @@ def sent_by(station, payload):
 
 
 def greatest_summary():
-    """Each line that a summary can have: some 2 MB. All 4,096 stations send each message, and of these all satellites and each
+    """Each line that a summary can have: some 2.5 MB. All 4,096 stations send each message, and of these all satellites and each
     code but 2W; the last one sends 2W too. Then come all other numbers, and each fault."""
     last, halves = 604_799_999, (range(1, 17), range(17, 33))
     payloads = [
         *(payload_in(place(number)) for number in (1005, 1006)),
         legacy(last, [{**SATELLITE, "l2_code": 2}]),
         *(msm(last, {it: (70, it) for it in half}, {(it, 2): {"cnr": 40} for it in half}) for half in halves),
-        msm(last, {32: (70, 0)}, {(32, signal): {"cnr": 40} for signal, code in SIGNALS.items() if code != "2W"}),
+        *(msm(last, {32: (70, 0)}, {(32, signal): {"cnr": 40} for signal, code in SIGNALS.items() if code != "2W"}, it) for it in MSMS),
     ]
     stations, told = [], []
     for station in range(4096):
@@ -483,8 +558,7 @@ def greatest_summary():
     assert f" codes {all_codes}\n" in told[-1] and f" codes {all_codes.replace(',2W', '')}\n second-frequency 2P\n" in told[0]
     assert " satellites " + " ".join(f"G{it:02}" for it in range(1, 33)) + "\n" in told[0]
     rest = [(number << 4).to_bytes(2, "big") for number in range(4096)]
-    rest += [b"", legacy(last + 1, []), msm(last + 1, {}, {})]
-    rest.append(msm(last, dict.fromkeys(range(1, 64), (70, 0)), {(1, 2): {}, (1, 3): {}})[:22])  # 126 cells
+    rest += [b"", legacy(last + 1, []), *(payload for it in MSMS for payload, _ in refusals_of(it)[2:])]
     unread = summaries.summary_of(b"".join(map(frame_of, rest)))
     unread = unread[unread.index("other 0 1\n"):].removesuffix("nothing taken\n")
     frames = [*(frame for frames in stations[::-1] for frame in frames), *map(frame_of, rest)]
@@ -554,7 +628,10 @@ def long_file():
 def main():
     hold_to_examples()
     with open("cases", "w") as cases:
-        for write in (links_of_sixteen, refusals, closes, order_of_reading, windows, ties, every_cell, long_captures):
+        for write in (
+            links_of_sixteen, refusals, each_msm, fine_values, closes, order_of_reading, windows, ties, every_cell,
+            every_cell_of_1077, long_captures,
+        ):
             write(cases)
     millions()
     many_of_each()

@@ -6,14 +6,14 @@ options='--station 2003 --near 2024-05-17T12:00:00 --made 2024-05-17T13:00:00 --
 python3 -B "$root/tests/model/cases.py" "$root/examples" || exit 1
 
 # The captures, each with its file and its report.
-while read -r name window codes links; do
-    "$program" convert $options --codes "$codes" --window "$window" $links >out 2>err </dev/null
+while read -r name codes words; do
+    "$program" convert $options --codes "$codes" $words >out 2>err </dev/null
     status=$?
     leaves "$name" 0 "$name.rnx" "$name.report"
 done <cases
 
 # The long capture through standard input, as a file and in pieces.
-codes=$(sed -n 's/^long_capture [0-9]* \([^ ]*\) .*/\1/p' cases)
+codes=$(sed -n 's/^long_capture \([^ ]*\) .*/\1/p' cases)
 "$program" convert $options --codes "$codes" stdin <long_capture.1 >out 2>err; status=$?
 leaves long_standard_input 0 long_capture.rnx long_capture.report
 split -b 700 long_capture.1 piece.
@@ -87,4 +87,4 @@ for words in 'cut --every 1' chart 'chart --text'; do
     leaves "$(echo "$words" | tr -cs a-z _)of_10_mb_with_a_zero" 3 /dev/null zero.line
 done
 
-ends 65
+ends 86

@@ -13,6 +13,7 @@ from wire import (
     LEGACY_SATELLITE,
     MSM_CELL,
     MSM_SATELLITE,
+    MSMS,
     PREAMBLE,
     WEEK_MS,
     BitReader,
@@ -68,19 +69,20 @@ class Refusal(NamedTuple):
 
 
 @lru_cache(1000)  # links tell the same
-def read_message(payload: bytes) -> Message | Refusal:
-    """The message that a payload begins with, or the first cause why there is none."""
+def read_message(payload: bytes, msms: tuple[int, ...] = (1074,)) -> Message | Refusal:
+    """The message that a payload begins with, or the first cause why there is none. Of the MSM
+    these are read."""
     if 8 * len(payload) < 12:
         return Refusal("M1", None)
     number = BitReader(payload).take(12)
-    if number not in HEADERS:
+    if number not in HEADERS or number in MSMS and number not in msms:
         return Refusal("M2", number)
     bits = BitReader(payload)
     try:
         header = bits.take_row(HEADERS[number])
         if header.get("tow", 0) >= WEEK_MS:
             return Refusal("M4", number)
-        if number == 1074 and _cell_mask_width(header) > 64:
+        if number in MSMS and _cell_mask_width(header) > 64:
             return Refusal("M5", number)
         return _read_rest(bits, header)
     except EOFError:
@@ -94,13 +96,14 @@ def _cell_mask_width(header: Fields) -> int:
 def _read_rest(bits: BitReader, header: Fields) -> Message:
     """What stands after the header."""
     message = Message(header)
-    if header["number"] == 1004:
+    number = header["number"]
+    if number == 1004:
         message.satellites = [bits.take_row(LEGACY_SATELLITE) for _ in range(header["satellites"])]
-    if header["number"] == 1074:
+    if number in MSMS:
         message.cell_mask = [bits.take(1) for _ in range(_cell_mask_width(header))]
         satellites = header["satellite_mask"].bit_count()
-        message.satellites = bits.take_columns(MSM_SATELLITE, satellites)
-        message.cells = bits.take_columns(MSM_CELL, sum(message.cell_mask))
+        message.satellites = bits.take_columns(MSM_SATELLITE[number], satellites)
+        message.cells = bits.take_columns(MSM_CELL[number], sum(message.cell_mask))
     return message
 
 
@@ -171,8 +174,20 @@ def legacy_lock_time(indicator: int) -> int:
 
 
 def msm_lock_time(indicator: int) -> int:
-    """The same at an indicator of 0 to 15."""
+    """The same of a 1074 or a 1075, at an indicator of 0 to 15."""
     return 0 if indicator == 0 else 2 ** (indicator + 4)
+
+
+def _fine_lock_times() -> list[int]:
+    """The same of a 1076 or a 1077, at each indicator of 0 to 1023: 64 of them are a ms apart, the
+    next 32 of them two, the next 32 four, and so on. Those above 704 are reserved: they tell nothing."""
+    times = [0]
+    for indicator in range(704):
+        times.append(times[-1] + 2 ** max(0, indicator // 32 - 1))
+    return times + [0] * 319
+
+
+FINE_LOCK_TIMES = _fine_lock_times()
 
 
 @lru_cache(1000)
@@ -246,22 +261,49 @@ def _msm_cells(message: Message) -> list[CellOf]:
     for (at, signal), row in zip(set_pairs, message.cells, strict=True):
         if satellites[at] <= 32 and signal in SIGNALS:
             code = SIGNALS[signal]
-            cells.append((satellites[at], code, _msm_cell(message.satellites[at], row, code)))
+            cell = _msm_cell(message.satellites[at], row, code, message.header["number"])
+            cells.append((satellites[at], code, cell))
     return cells
 
 
-def _msm_cell(satellite: Fields, row: Fields, code: str) -> Cell:
-    rough = (satellite["rough_ms"] << 29) + (satellite["rough_fraction"] << 19)  # 2^-29 ms
+class Scale(NamedTuple):
+    """Of an MSM how many of the units of its fine range and of its fine phase a ms has, and the
+    values of these that are none."""
+
+    range_units: int
+    phase_units: int
+    no_range: int
+    no_phase: int
+
+
+COARSE = Scale(1 << 24, 1 << 29, -16_384, -2_097_152)
+FINE = Scale(1 << 29, 1 << 31, -524_288, -8_388_608)
+
+
+def fine_strength(cnr: int) -> int | None:
+    """The nearest 250 thousandths, a tie up, from 250 to 63,750; the unit is a sixteenth."""
+    return min(max((2 * 1000 * cnr + 16 * 250) // (2 * 16 * 250), 1), 255) * 250 if cnr else None
+
+
+def _msm_cell(satellite: Fields, row: Fields, code: str, number: int) -> Cell:
+    is_fine = number >= 1076
+    scale = FINE if is_fine else COARSE
+    rough = 1024 * satellite["rough_ms"] + satellite["rough_fraction"]  # 1024 a ms
+
+    def value(fine: int, units: int, each: int) -> int:
+        """Of rough and fine range together, of which each ms is so much."""
+        return rounded((rough * units // 1024 + fine) * each, units)
+
     has_rough = satellite["rough_ms"] != 255
-    has_range = has_rough and row["fine_range"] != -(1 << 14)
-    has_phase = has_rough and row["fine_phase"] != -(1 << 21)
-    phase = (rough + row["fine_phase"]) * FREQUENCY[code[0]]
+    has_range = has_rough and row["fine_range"] != scale.no_range
+    has_phase = has_rough and row["fine_phase"] != scale.no_phase
+    frequency = FREQUENCY[code[0]]
     return Cell(
-        range=rounded((rough + 32 * row["fine_range"]) * LIGHT, 1 << 29) if has_range else None,
-        phase=rounded(phase, 1 << 29) if has_phase else None,
-        strength=1000 * row["cnr"] or None,
-        lock_time=msm_lock_time(row["lock"]),
+        range=value(row["fine_range"], scale.range_units, LIGHT) if has_range else None,
+        phase=value(row["fine_phase"], scale.phase_units, frequency) if has_phase else None,
+        strength=fine_strength(row["cnr"]) if is_fine else 1000 * row["cnr"] or None,
+        lock_time=FINE_LOCK_TIMES[row["lock"]] if is_fine else msm_lock_time(row["lock"]),
         half=row["half_cycle"] == 1,
-        source=1074,
+        source=number,
         offset=None,
     )

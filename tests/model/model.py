@@ -39,6 +39,12 @@ class Setup:
     marker: str
     codes: tuple[str, ...]
     window: int
+    msm: int | None = None
+
+    @property
+    def msm_number(self) -> int:
+        """The MSM that is taken."""
+        return 1070 + (self.msm or 4)
 
     def words(self) -> list[str]:
         return [
@@ -48,6 +54,7 @@ class Setup:
             f"--marker={self.marker}",
             f"--codes={','.join(self.codes)}",
             f"--window={self.window}",
+            *([] if self.msm is None else [f"--msm={self.msm}"]),
         ]
 
 
@@ -97,7 +104,8 @@ class Link:
         frames, end = scan(self.text[self.pending : self.taken], ended=not self.is_open)
         moved = [Placed(self.pending + frame.place, frame.payload) for frame in frames]
         self.pending += end
-        found = [Found(self.number, frame, read_message(frame.payload)) for frame in moved]
+        msms = (self.setup.msm_number,)
+        found = [Found(self.number, it, read_message(it.payload, msms)) for it in moved]
         for _, _, message in found:
             self.newest = max(self.newest, self.epoch_of(message))
         return found
@@ -186,7 +194,7 @@ class Kept:
         return "taken" if is_new else "conflict" if told else "repeat", told
 
     def shown_cells(self, epoch: int) -> dict[tuple[int, str], Cell]:
-        """One cell for each satellite and code: if a 1074 tells it, then the cell of the 1074."""
+        """One cell for each satellite and code: if an MSM tells it, then the cell of the MSM."""
         rising = sorted(self.epochs[epoch].items(), key=lambda item: item[0][2])
         return {(satellite, code): cell for (satellite, code, _), cell in rising}
 
@@ -215,7 +223,7 @@ def step(before: Step | None, epoch: int, cell: Cell, code: str) -> tuple[bool, 
         return False, 0
     shorter = cell.source == before.cell.source and cell.lock_time < before.cell.lock_time
     slip = shorter or cell.lock_time < epoch - before.epoch
-    if slip or cell.source == 1074 or before.cell.source == 1074:
+    if slip or cell.source != 1004 or before.cell.source != 1004:
         return slip, 0
     return slip, before.rolls + rolls_between(before.cell, cell, code)
 

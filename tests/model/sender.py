@@ -6,7 +6,7 @@ from __future__ import annotations
 from random import Random
 from typing import Callable, TypeVar
 
-from messages import SIGNALS, legacy_lock_time, msm_lock_time
+from messages import FINE_LOCK_TIMES, SIGNALS, legacy_lock_time, msm_lock_time
 from model import Setup
 from wire import (
     HEADERS,
@@ -14,6 +14,7 @@ from wire import (
     MOST_PAYLOAD,
     MSM_CELL,
     MSM_SATELLITE,
+    MSMS,
     WEEK_MS,
     Field,
     Fields,
@@ -30,6 +31,9 @@ Key = TypeVar("Key")
 OFFSETS = (0, 285_440, 285_441, -285_440, -285_441, 366_315, 366_316, -366_315, -366_316)
 HALVES_OF_OFFSETS = (142_720, -142_720, -142_721, 183_158, -183_157, -183_158)
 
+# The lock time indicators of a 1076 and a 1077 where their table turns, and reserved ones.
+FINE_TURNS = (0, 63, 64, 95, 96, 671, 672, 703, 704, 705, 1022, 1023)
+
 
 def pick_any(rng: Random, entry: Field) -> int:
     if rng.random() < 0.6:
@@ -39,7 +43,9 @@ def pick_any(rng: Random, entry: Field) -> int:
 
 def pick_end(rng: Random, entry: Field) -> int:
     """Also the marks of no value: the least of a signed field, the most of the rough range, 0."""
-    _, _, least, most = entry
+    name, width, least, most = entry
+    if name == "lock" and width == 10:
+        return rng.choice(FINE_TURNS)
     ends = (least, least + 1, -1 if least < 0 else 1, 0, most - 1, most)
     return ends[int(rng.random() * len(ends))]
 
@@ -54,13 +60,16 @@ def pick_zero(rng: Random, entry: Field) -> int:
 def pick_near_lock(step: int) -> Pick:
     """Lock times about a step of time, offsets about half of 1500 cycles, all else plain."""
     legacy = max(i for i in range(128) if legacy_lock_time(i) <= step)
-    msm = max(i for i in range(16) if msm_lock_time(i) <= step)
+    coarse = max(i for i in range(16) if msm_lock_time(i) <= step)
+    fine = max(i for i in range(705) if FINE_LOCK_TIMES[i] <= step)
 
     def pick(rng: Random, entry: Field) -> int:
         if entry.name in ("l1_lock", "l2_lock"):
             return min(127, max(0, rng.choice((legacy, legacy, legacy + 1, legacy - 1, 127, 127))))
+        if entry.name == "lock" and entry.width == 4:
+            return min(15, max(0, rng.choice((coarse, coarse, coarse + 1, coarse - 1, 15))))
         if entry.name == "lock":
-            return min(15, max(0, rng.choice((msm, msm, msm + 1, msm - 1, 15))))
+            return max(0, rng.choice((fine, fine, fine, fine + 1, fine - 1, 704, 704, 1023)))
         if entry.name in ("l1_offset", "l2_offset"):
             return rng.choice(OFFSETS + HALVES_OF_OFFSETS + (-524_288,))
         if entry.name in ("l1_code", "l2_code"):
@@ -79,6 +88,12 @@ def with_equal_l2(row: Fields, by: int) -> Fields:
     return row | moved if fits else row
 
 
+def sent_msms(rng: Random, taken: int) -> list[int]:
+    """The MSM of a station: most often the one that is taken, else another, or both."""
+    other = rng.choice([it for it in MSMS if it != taken])
+    return rng.choice(([taken], [taken], [taken], [taken, other], [taken, other], [other]))
+
+
 class Sender:
     """The messages of one capture. A calm sender tells each cell and each position in one way."""
 
@@ -89,6 +104,7 @@ class Sender:
         self.setup = setup
         self.pick = pick
         self.is_calm = is_calm
+        self.msms = sent_msms(rng, setup.msm_number)
         self.most = rng.choice((1, 2, 3)) if is_small else rng.choice((3, 8, 31, 64))
         self.satellites = rng.sample(range(1, 33), 2 if is_small else 12)
         self.signals = rng.sample(sorted(SIGNALS), 2 if is_small else 4)
@@ -96,8 +112,8 @@ class Sender:
             self.satellites += rng.sample((0, 33, 40, 63, rng.randrange(64)), 2)
             self.signals += rng.sample(range(1, 33), 2)
         self.told_rows: dict[int, dict[int, Fields]] = {}
-        self.told_satellites: dict[int, dict[int, Fields]] = {}
-        self.told_cells: dict[int, dict[tuple[int, int], Fields]] = {}
+        self.told_satellites: dict[tuple[int, int], dict[int, Fields]] = {}
+        self.told_cells: dict[tuple[int, int], dict[tuple[int, int], Fields]] = {}
         self.told_stations: dict[int, Fields] = {}
         self.sent: dict[int, list[bytes]] = {}
 
@@ -136,7 +152,7 @@ class Sender:
         return payload_of(Message(header, rows))
 
     def msm(self, tow: int, **values: int) -> bytes:
-        """A 1074 of some of the satellites and signals, with at most 64 bits of its cell mask."""
+        """An MSM of some of the satellites and signals, with at most 64 bits of its cell mask."""
         known = [satellite for satellite in self.satellites if satellite > 0]
         satellites = self.rng.sample(known, self.rng.randint(0, min(self.most, len(known))))
         most = min(len(self.signals), 64 // max(1, len(satellites)))
@@ -144,28 +160,29 @@ class Sender:
         return self.msm_of(tow, sorted(set(satellites)), sorted(set(signals)), **values)
 
     def msm_of(self, tow: int, satellites: list[int], signals: list[int], **values: int) -> bytes:
-        told_satellites = self.told_satellites.setdefault(tow, {})
-        told_cells = self.told_cells.setdefault(tow, {})
+        number = self.rng.choice(self.msms)
+        told_satellites = self.told_satellites.setdefault((number, tow), {})
+        told_cells = self.told_cells.setdefault((number, tow), {})
         share = self.rng.choice((0, 0.5, 0.9, 1, 1))
         pairs = [(satellite, signal) for satellite in satellites for signal in signals]
         cell_mask = [int(self.rng.random() < share) for _ in pairs]
         header = self.header(
-            1074,
+            number,
             tow=tow,
             satellite_mask=sum(1 << 64 - satellite for satellite in satellites),
             signal_mask=sum(1 << 32 - signal for signal in signals),
             **values,
         )
-        rows = [self.told(told_satellites, satellite, MSM_SATELLITE) for satellite in satellites]
+        rows = [self.told(told_satellites, it, MSM_SATELLITE[number]) for it in satellites]
         cells = [
-            self.told(told_cells, pair, MSM_CELL)
+            self.told(told_cells, pair, MSM_CELL[number])
             for pair, is_set in zip(pairs, cell_mask, strict=True)
             if is_set
         ]
         return payload_of(Message(header, rows, cell_mask, cells))
 
     def observation(self, tow: int) -> bytes:
-        """A 1004 or a 1074, or one of this time again, with a bit changed if it isn't calm."""
+        """A 1004 or an MSM, or one of this time again, with a bit changed if it isn't calm."""
         sent = self.sent.setdefault(tow, [])
         if sent and self.rng.random() < 0.4:
             payload = self.rng.choice(sent)
@@ -198,7 +215,7 @@ class Sender:
         return self.rng.choice((self.legacy, self.msm))(tow, station=station)
 
     def of_other_kind(self) -> bytes:
-        number = self.rng.choice((0, 1003, 1007, 1019, 1033, 1073, 1075, 1077, 4095))
+        number = self.rng.choice((0, 1003, 1007, 1019, 1033, 1073, 1074, 1075, 1076, 1077, 4095))
         begin = (number << 4 | self.rng.randrange(16)).to_bytes(2, "big")
         return begin + self.rng.randbytes(self.rng.choice((0, 1, 20, 60)))
 
@@ -223,7 +240,7 @@ class Sender:
                 satellites, signals = self.rng.choice(widths)
                 masks = {"satellite_mask": (1 << satellites) - 1, "signal_mask": (1 << signals) - 1}
                 time = self.rng.choice((tow, tow, (1 << 30) - 1))
-                header = self.header(1074, tow=time, **masks)
+                header = self.header(self.rng.choice(self.msms), tow=time, **masks)
                 rest = self.rng.randbytes(self.rng.choice((0, 9, 700)))
                 return payload_of(Message(header)) + rest
         payload = self.rng.choice((self.observation(tow), self.station()))

@@ -37,17 +37,21 @@ def mask(identifiers: Iterable[int], width: int) -> int:
 
 
 def msm_of(
-    tow: int, rough: dict[int, tuple[int, int]], cells: dict[tuple[int, int], Fields]
+    tow: int,
+    rough: dict[int, tuple[int, int]],
+    cells: dict[tuple[int, int], Fields],
+    number: int = 1074,
 ) -> Message:
-    """A 1074: of each satellite the whole ms and the fraction of its rough range, and the cells by
+    """An MSM: of each satellite the whole ms and the fraction of its rough range, and the cells by
     satellite and signal."""
+    satellites = {it: dict(zip(("rough_ms", "rough_fraction"), rough[it])) for it in sorted(rough)}
     signals = sorted({signal for _, signal in cells})
     masks = {"satellite_mask": mask(rough, 64), "signal_mask": mask(signals, 32)}
     return Message(
-        header(1074, tow=tow, **masks),
-        [row(MSM_SATELLITE, dict(zip(("rough_ms", "rough_fraction"), rough[it]))) for it in sorted(rough)],
-        [(satellite, signal) in cells for satellite in sorted(rough) for signal in signals],
-        [row(MSM_CELL, cells[it]) for it in sorted(cells)],
+        header(number, tow=tow, **masks),
+        [row(MSM_SATELLITE[number], it) for it in satellites.values()],
+        [(satellite, signal) in cells for satellite in satellites for signal in signals],
+        [row(MSM_CELL[number], cells[it]) for it in sorted(cells)],
     )
 
 

@@ -1,4 +1,4 @@
-"""What travels: bits, the checksum, frames, and the fields of the four messages.
+"""What travels: bits, the checksum, frames, and the fields of the messages.
 
 Written from the tables of RTCM 10403.3 alone; nothing here comes from the crates under test.
 """
@@ -47,6 +47,12 @@ _STATION = (
     " single_oscillator:u1 reserved:u1 y:i38 quarter_cycle:u2 z:i38"
 )
 
+_MSM = (
+    "number:u12 station:u12 tow:u30 multiple_message:u1 issue_of_data_station:u3 reserved:u7"
+    " clock_steering:u2 external_clock:u2 smoothing:u1 smoothing_interval:u3"
+    " satellite_mask:u64 signal_mask:u32"
+)
+
 # What stands first in each message: all of a 1005 and a 1006.
 HEADERS: dict[int, Table] = {
     1004: table(
@@ -55,24 +61,33 @@ HEADERS: dict[int, Table] = {
     ),
     1005: table(_STATION),
     1006: table(_STATION + " height:u16"),
-    1074: table(
-        "number:u12 station:u12 tow:u30 multiple_message:u1 issue_of_data_station:u3 reserved:u7"
-        " clock_steering:u2 external_clock:u2 smoothing:u1 smoothing_interval:u3"
-        " satellite_mask:u64 signal_mask:u32"
-    ),
+    **{number: table(_MSM) for number in (1074, 1075, 1076, 1077)},
 }
 
 LEGACY_SATELLITE = table(
     "satellite:u6 l1_code:u1 l1_range:u24 l1_offset:i20 l1_lock:u7 modulus_ambiguity:u8 l1_cnr:u8"
     " l2_code:u2 l2_range:i14 l2_offset:i20 l2_lock:u7 l2_cnr:u8"
 )
-MSM_SATELLITE = table("rough_ms:u8 rough_fraction:u10")
-MSM_CELL = table("fine_range:i15 fine_phase:i22 lock:u4 half_cycle:u1 cnr:u6")
+
+# Of each MSM what it has for a satellite, and for a cell.
+MSM_SATELLITE = {
+    1074: table("rough_ms:u8 rough_fraction:u10"),
+    1075: table("rough_ms:u8 extended:u4 rough_fraction:u10 rough_rate:i14"),
+    1076: table("rough_ms:u8 rough_fraction:u10"),
+    1077: table("rough_ms:u8 extended:u4 rough_fraction:u10 rough_rate:i14"),
+}
+MSM_CELL = {
+    1074: table("fine_range:i15 fine_phase:i22 lock:u4 half_cycle:u1 cnr:u6"),
+    1075: table("fine_range:i15 fine_phase:i22 lock:u4 half_cycle:u1 cnr:u6 fine_rate:i15"),
+    1076: table("fine_range:i20 fine_phase:i24 lock:u10 half_cycle:u1 cnr:u10"),
+    1077: table("fine_range:i20 fine_phase:i24 lock:u10 half_cycle:u1 cnr:u10 fine_rate:i15"),
+}
+MSMS = tuple(MSM_CELL)
 
 
 @dataclass(eq=False)
 class Message:
-    """A message field by field: the satellites of a 1004; of a 1074 the satellites of its mask,
+    """A message field by field: the satellites of a 1004; of an MSM the satellites of its mask,
     the bits of its cell mask (satellite by satellite, the signals rising), and the set cells."""
 
     header: Fields
@@ -144,11 +159,11 @@ def payload_of(message: Message) -> bytes:
     if number == 1004:
         for satellite in message.satellites:
             bits.put_row(LEGACY_SATELLITE, satellite)
-    if number == 1074:
+    if number in MSMS:
         for is_set in message.cell_mask:
             bits.put(1, is_set)
-        bits.put_columns(MSM_SATELLITE, message.satellites)
-        bits.put_columns(MSM_CELL, message.cells)
+        bits.put_columns(MSM_SATELLITE[number], message.satellites)
+        bits.put_columns(MSM_CELL[number], message.cells)
     return bits.to_bytes()
 
 
