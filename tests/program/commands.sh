@@ -3,8 +3,9 @@
 # program is $1.
 . "$(dirname "$(readlink -f "$0")")/common"
 examples=$root/examples
-help=$root/tests/program/help
 base=$examples/base.rtcm
+first=$examples/session_link1.rtcm
+second=$examples/session_link2.rtcm
 done='0 good_out good_err'
 
 # run WORD..: the command with its words and with these; standard input as it is
@@ -24,16 +25,23 @@ brief() {
     sed "/^Example:/,\$d; /^Begin with:/,\$d; s/see a summary with '-h'/see more with '--help'/" "$1" | tr -s '[:space:]' ' '
 }
 
-# helps NAME WORD..: of a command, or of none
+# helps NAME WORD..: of a command, or of none. What the options do, completions/ and docs/ hold; here the examples are run.
 helps() {
-    name=$1
+    name=$1 words=
     shift
-    words=
+    "$program" help "$@" >help </dev/null
     # pins: Requests.HasStatus, Words.HasStatus
-    run "$@" --help </dev/null; leaves "help_by_an_option_$name" 0 "$help/$name" /dev/null
-    run help "$@" </dev/null;   leaves "help_by_its_name_$name" 0 "$help/$name" /dev/null
-    run "$@" -h </dev/null; brief out >short; brief "$help/$name" >want; mv short out
+    run "$@" --help </dev/null; leaves "help_by_an_option_$name" 0 help /dev/null
+    run help "$@" </dev/null;   leaves "help_by_its_name_$name" 0 help /dev/null
+    run "$@" -h </dev/null; brief out >short; brief help >want; mv short out
     leaves "short_help_$name" 0 want /dev/null
+    mkdir bin named && ln -s "$program" bin/rtcm2rinex && cp "$base" named/capture.rtcm && cp "$examples/base.rnx" named &&
+        cp "$examples/slip.rnx" named/day.rnx && cp "$first" named/link1.rtcm && cp "$second" named/link2.rtcm
+    sed -n '/^Example:$/,/^$/s/^  //p; /^Begin with:$/,/^$/s/^  //p' help >shown
+    (cd named && PATH=$work/$name/bin:$PATH sh -eu ../shown) >out 2>err </dev/null; status=$?
+    grep -q '^rtcm2rinex ' shown || status=none
+    : >out
+    expect "examples_of_the_help_$name" 0 '' ''
 }
 
 # bound COMMAND..: as a user whom the permissions of files bind; root is none, so it runs the command as nobody. The folder
@@ -140,7 +148,7 @@ outputs_fail() {
 }
 
 words_are_refused() {
-    usage=$(sed -n 's/^Usage: rtcm2rinex //p' "$help/$command")
+    usage=$(sed -n 's/^Usage: rtcm2rinex //p' help)
     without_options=$(echo "$usage" | sed 's/\[OPTIONS\] //')
     run </dev/null;         expect "no_file_$command" 2 '' "$(error "the following required arguments were not provided:
   ${usage##* }" "$without_options")"
@@ -200,7 +208,8 @@ bytes_beside_frames() {
     run stdin <more;     leaves "bytes_beside_frames_on_standard_input_$command" $done
 }
 
-helps rtcm2rinex
+mkdir none && cd none || exit 1
+helps none
 for command in show summary check chart cut convert; do
     mkdir "$work/$command" && cd "$work/$command" || exit 1
     helps $command $command
@@ -216,4 +225,4 @@ for command in show summary check chart cut convert; do
     esac
 done
 
-ends 332
+ends 339
