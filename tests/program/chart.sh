@@ -3,11 +3,7 @@
 . "$(dirname "$(readlink -f "$0")")/common"
 marks=$root/examples/marks.rnx
 
-# chart WORD..
-chart() {
-    "$program" chart "$@" >out 2>err </dev/null
-    status=$?
-}
+chart() { run chart "$@"; }
 
 picture=$(cat "$root/examples/marks.txt")
 svg=$(cat "$root/examples/marks.svg")
@@ -16,11 +12,11 @@ svg=$(cat "$root/examples/marks.svg")
 chart --text "$marks";              expect chart_of_a_file 0 "$picture" ''
 chart --text --columns 80 "$marks"; expect chart_80_wide 0 "$picture" ''
 # pins: STYLE, LEGEND, svg_picture, svg_start, svg_legend, svg_body, svg_of_epochs, ticks_text, satellite_label
-chart "$marks";                     expect chart_in_svg 0 "$svg" ''
-COLUMNS=120 "$program" chart --text "$marks" </dev/null >out 2>err; status=$?
+chart "$marks"; expect chart_in_svg 0 "$svg" ''
+COLUMNS=120 "$program" chart --text "$marks" >out 2>err; status=$?
 expect columns_of_the_environment_are_none 0 "$picture" ''
 sed '16s/45.000/45.100/' "$marks" >bad
-chart --text bad;                   expect chart_of_a_bad_file_in_characters 3 '' 'line 16: C3 Value'
+chart --text bad; expect chart_of_a_bad_file_in_characters 3 '' 'line 16: C3 Value'
 sed '/END OF HEADER/q' "$marks" >empty
 chart --text empty
 expect chart_without_records 0 "$(printf 'marker BASE\nno records')" ''
@@ -60,7 +56,7 @@ grep -e "y='52'" -e '>records' out >heading; mv heading out
 expect chart_of_many_records_in_svg 0 "<text x='90' y='52'>2024-05-17 12:00:00.000 to 2024-05-19 11:13:19.000, interval 1.000 s, column 119.000 s</text>
 <text x='90' y='70'>records 70001, satellites 1, slips 70001, missing epochs 99999</text>" ''
 sed '$s/110804903.547/        0.000/' many >many_and_zero
-chart many_and_zero;                expect chart_of_a_fault_beyond_65535_lines 3 '' 'line 140016: C3 Value'
+chart many_and_zero; expect chart_of_a_fault_beyond_65535_lines 3 '' 'line 140016: C3 Value'
 
 # holds NAME: right if the last command was
 holds() {

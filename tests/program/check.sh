@@ -3,11 +3,7 @@
 . "$(dirname "$(readlink -f "$0")")/common"
 base=$root/examples/base.rnx
 
-# check FILE..
-check() {
-    "$program" check "$@" >out 2>err </dev/null
-    status=$?
-}
+check() { run check "$@"; }
 
 # bad_edit NAME WANTED SCRIPT: of the file after a script of sed
 bad_edit() {
@@ -18,13 +14,13 @@ bad_edit() {
 
 # pins: valid_text
 # refuses: a `main` that does not answer the status of `run_program`
-check "$base";                         expect yes 0 'valid: 1 epochs, 1 satellite lines' ''
-check "$root/examples/session.rnx";    expect yes_session 0 'valid: 20 epochs, 72 satellite lines' ''
-check "$root/examples/late.rnx";       expect yes_late 0 'valid: 5 epochs, 10 satellite lines' ''
+check "$base";                      expect yes 0 'valid: 1 epochs, 1 satellite lines' ''
+check "$root/examples/session.rnx"; expect yes_session 0 'valid: 20 epochs, 72 satellite lines' ''
+check "$root/examples/late.rnx";    expect yes_late 0 'valid: 5 epochs, 10 satellite lines' ''
 sed -e '15,$d' -e '8s/^.\{42\}/        0.0000        0.0000        0.0000/' "$base" >no_record
-check no_record;                       expect no_record 0 'valid: 0 epochs, 0 satellite lines' ''
+check no_record; expect no_record 0 'valid: 0 epochs, 0 satellite lines' ''
 head -c -1 "$base" >cut
-check cut;                             expect no_last_line_feed 3 'line 16: C5 Truncated' ''
+check cut; expect no_last_line_feed 3 'line 16: C5 Truncated' ''
 # pins: check_fault_text
 bad_edit no_header 'line 4: C1 HeaderLine' '4s/GEODETIC/GEODESIC/'
 bad_edit half_header 'line 9: C5 Truncated' '9,$d'
@@ -53,7 +49,7 @@ expect like_help 2 '' "$(error "unexpected argument '--hlep' found" "check --hel
         17 + int(t / 86400), int(t / 3600) % 24, int(t / 60) % 60, t % 60 }'
 } >many
 sed '$s/0.001/0.000/' many >many_and_zero
-check many;                            expect seventy_thousand_epochs 0 'valid: 70000 epochs, 70000 satellite lines' ''
-check many_and_zero;                   expect a_fault_beyond_65535_lines 3 'line 140014: C3 Value' ''
+check many;          expect seventy_thousand_epochs 0 'valid: 70000 epochs, 70000 satellite lines' ''
+check many_and_zero; expect a_fault_beyond_65535_lines 3 'line 140014: C3 Value' ''
 
 ends 21

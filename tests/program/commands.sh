@@ -8,12 +8,6 @@ first=$examples/session_link1.rtcm
 second=$examples/session_link2.rtcm
 done='0 good_out good_err'
 
-# run WORD..: the command with its words and with these; standard input as it is
-run() {
-    "$program" $words "$@" >out 2>err
-    status=$?
-}
-
 # fails NAME LINE: nothing is out, and standard error has this line
 fails() { expect "$1" 1 '' "rtcm2rinex: $2"; }
 
@@ -27,18 +21,18 @@ brief() {
 
 # helps NAME WORD..: of a command, or of none. What the options do, completions/ and docs/ hold; here the examples are run.
 helps() {
-    name=$1 words=
+    name=$1
     shift
-    "$program" help "$@" >help </dev/null
+    "$program" help "$@" >help
     # pins: Requests.HasStatus, Words.HasStatus
-    run "$@" --help </dev/null; leaves "help_by_an_option_$name" 0 help /dev/null
-    run help "$@" </dev/null;   leaves "help_by_its_name_$name" 0 help /dev/null
-    run "$@" -h </dev/null; brief out >short; brief help >want; mv short out
+    run "$@" --help; leaves "help_by_an_option_$name" 0 help /dev/null
+    run help "$@";   leaves "help_by_its_name_$name" 0 help /dev/null
+    run "$@" -h; brief out >short; brief help >want; mv short out
     leaves "short_help_$name" 0 want /dev/null
     mkdir bin named && ln -s "$program" bin/rtcm2rinex && cp "$base" named/capture.rtcm && cp "$examples/base.rnx" named &&
         cp "$examples/slip.rnx" named/day.rnx && cp "$first" named/link1.rtcm && cp "$second" named/link2.rtcm
     sed -n '/^Example:$/,/^$/s/^  //p; /^Begin with:$/,/^$/s/^  //p' help >shown
-    (cd named && PATH=$work/$name/bin:$PATH sh -eu ../shown) >out 2>err </dev/null; status=$?
+    (cd named && PATH=$work/$name/bin:$PATH sh -eu ../shown) >out 2>err; status=$?
     grep -q '^rtcm2rinex ' shown || status=none
     : >out
     expect "examples_of_the_help_$name" 0 '' ''
@@ -73,7 +67,8 @@ example() {
     case $1 in
     show)
         file=$base
-        printf '1005 station 2003 x 1114104.5999 y -4850729.7108 z 3975521.4643\n1004 station 2003 tow 475200000 satellites 1\n' >good_out ;;
+        printf '%s\n' '1005 station 2003 x 1114104.5999 y -4850729.7108 z 3975521.4643' \
+            '1004 station 2003 tow 475200000 satellites 1' >good_out ;;
     summary) file=$base && cp "$root/tests/program/base.summary" good_out ;;
     check) echo 'valid: 1 epochs, 1 satellite lines' >good_out ;;
     chart) file=$examples/marks.rnx && cp "$examples/marks.svg" good_out ;;
@@ -93,17 +88,17 @@ files_are_not_read() {
         "$(printf 'base\nb')" "$(printf 'base\tb\303\244')" "$(printf '%0100000d' 0)"; do
         # refuses: a name that is changed before it is opened, or taken for standard input
         # refuses: a file that is looked for in another folder
-        run "$name" <base; fails "missing_${command}_$(shown "$name")" "cannot open $name"
+        run $words "$name" <base; fails "missing_${command}_$(shown "$name")" "cannot open $name"
     done
     cp base closed && chmod 000 closed
-    bound ./program $words closed >out 2>err </dev/null; status=$?
+    bound ./program $words closed >out 2>err; status=$?
     fails "a_file_that_may_not_be_read_$command" 'cannot open closed'
-    run folder </dev/null; fails "a_folder_$command" 'read failed'
-    run stdin <folder;     fails "a_folder_as_standard_input_$command" 'read failed'
-    run stdin <&-;         fails "closed_standard_input_$command" 'read failed'
+    run $words folder;        fails "a_folder_$command" 'read failed'
+    run $words stdin <folder; fails "a_folder_as_standard_input_$command" 'read failed'
+    run $words stdin <&-;     fails "closed_standard_input_$command" 'read failed'
     latin=$(printf 'Z\374rich') # is no text, also if it is there
     cp base "$latin"
-    run "$latin" <base;    fails "a_name_that_is_no_text_$command" 'read failed'
+    run $words "$latin" <base;    fails "a_name_that_is_no_text_$command" 'read failed'
 }
 
 # files_are_read: by any name that is there, links, pipes, and standard input from where it stands
@@ -115,55 +110,56 @@ files_are_read() {
     for name in ./stdin STDIN stdin.rtcm Stdin "$odd" "$tab" "$feed" Zürich folder/../base linked linked_twice \
         "$(printf './%.0s' $(seq 150))base"; do
         # refuses: a name that is changed before it is opened, or taken for standard input
-        run "$name" </dev/null; leaves "file_${command}_$(shown "$name")" $done
+        run $words "$name"; leaves "file_${command}_$(shown "$name")" $done
     done
-    run -- -5 </dev/null;    leaves "file_of_the_name_of_a_number_$command" $done
-    run -- --hex </dev/null; leaves "file_of_the_name_of_an_option_$command" $done
-    run stdin <base;         leaves "standard_input_$command" $done
+    run $words -- -5;       leaves "file_of_the_name_of_a_number_$command" $done
+    run $words -- --hex;    leaves "file_of_the_name_of_an_option_$command" $done
+    run $words stdin <base; leaves "standard_input_$command" $done
     cat base | "$program" $words stdin >out 2>err; status=$?
     leaves "a_pipe_$command" $done
     mkfifo fifo
     # refuses: a file that is not opened since it is a symbolic link or a pipe
-    piped base run fifo </dev/null; leaves "a_pipe_of_a_name_$command" $done
-    bash -c '"$0" "$@" <(cat base)' "$program" $words >out 2>err </dev/null; status=$?
+    piped base run $words fifo; leaves "a_pipe_of_a_name_$command" $done
+    bash -c '"$0" "$@" <(cat base)' "$program" $words >out 2>err; status=$?
     # refuses: a file that is not opened since it is a symbolic link or a pipe
     leaves "a_pipe_of_the_shell_$command" $done
     { head -c 25 "$base"; cat base; } >behind # a frame before it
-    { dd bs=25 count=1 of=given 2>told; run stdin; } <behind
+    { dd bs=25 count=1 of=given 2>told; run $words stdin; } <behind
     leaves "standard_input_after_its_first_bytes_$command" $done
     # No command makes, renames or removes a file beside those that it reads.
     mkdir alone && cp base alone
     listed=$(ls -Al --full-time alone)
-    (cd alone && "$program" $words base) >out 2>err </dev/null; status=$?
+    (cd alone && "$program" $words base) >out 2>err; status=$?
     [ "$(ls -Al --full-time alone)" = "$listed" ] || echo 'another file' >>err
     leaves "no_other_file_$command" $done
 }
 
 outputs_fail() {
     { cat good_err; echo 'rtcm2rinex: write failed'; } >told
-    "$program" $words base </dev/null >/dev/full 2>err; status=$?; : >out
+    "$program" $words base >/dev/full 2>err; status=$?; : >out
     leaves "full_output_$command" 1 /dev/null told
-    "$program" $words base </dev/null >&- 2>err; status=$?; : >out
+    "$program" $words base >&- 2>err; status=$?; : >out
     leaves "closed_output_$command" 1 /dev/null told
 }
 
 words_are_refused() {
     usage=$(sed -n 's/^Usage: rtcm2rinex //p' help)
     without_options=$(echo "$usage" | sed 's/\[OPTIONS\] //')
-    run </dev/null;         expect "no_file_$command" 2 '' "$(error "the following required arguments were not provided:
+    run $words; expect "no_file_$command" 2 '' "$(error "the following required arguments were not provided:
   ${usage##* }" "$without_options")"
     # refuses: a word that begins with a hyphen and is taken for a FILE
-    run -5 </dev/null;      expect "a_number_$command" 2 '' "$(error "unexpected argument '-5' found" "$usage" "to pass '-5' as a value, use '-- -5'")"
-    run --he base </dev/null; head -n 1 err >line; mv line err
+    run $words -5
+    expect "a_number_$command" 2 '' "$(error "unexpected argument '-5' found" "$usage" "to pass '-5' as a value, use '-- -5'")"
+    run $words --he base; head -n 1 err >line; mv line err
     expect "start_of_an_option_$command" 2 '' "error: unexpected argument '--he' found"
     [ "$command" != convert ] || return
     # refuses: a second FILE that is left out in silence
-    run base b </dev/null;  expect "two_files_$command" 2 '' "$(error "unexpected argument 'b' found" "$usage")"
+    run $words base b;  expect "two_files_$command" 2 '' "$(error "unexpected argument 'b' found" "$usage")"
 }
 
 # bad_file NAME LINE FILE: `check` says so on standard output, the others on standard error
 bad_file() {
-    run "$3" <"$3"
+    run $words "$3" <"$3"
     case $command in check) expect "$1_$command" 3 "$2" '' ;; *) expect "$1_$command" 3 '' "$2" ;; esac
 }
 
@@ -186,7 +182,7 @@ files_are_judged() {
     bad_file a_capture 'line 1: C5 Truncated' "$base"
     : >stdin; bad_file an_empty_file 'line 1: C5 Truncated' stdin
     bad_file a_wrong_value 'line 16: C3 Value' wrong
-    "$program" $words wrong </dev/null >&- 2>err; status=$?; : >out
+    "$program" $words wrong >&- 2>err; status=$?; : >out
     case $command in
     check) expect a_wrong_value_and_no_output_check 1 '' 'rtcm2rinex: write failed' ;;
     *) expect "a_wrong_value_and_no_output_$command" 3 '' 'line 16: C3 Value' ;;
@@ -196,7 +192,7 @@ files_are_judged() {
     bad_file longest_file 'line 1: C5 Truncated' zeros
     truncate -s 1073741825 zeros
     # pins: CHECK_LIMIT
-    run zeros </dev/null; fails "file_too_long_$command" 'input too long'
+    run $words zeros; fails "file_too_long_$command" 'input too long'
     rm zeros
 }
 
@@ -204,8 +200,8 @@ files_are_judged() {
 bytes_beside_frames() {
     { printf '\357\273\277'; cat base; printf '\r\n'; head -c 507 /dev/zero; } >more
     sed -i 's/^bytes 55$/bytes 567/; s/^outside-frames 0$/outside-frames 512/' good_out
-    run more </dev/null; leaves "bytes_beside_frames_$command" $done
-    run stdin <more;     leaves "bytes_beside_frames_on_standard_input_$command" $done
+    run $words more;        leaves "bytes_beside_frames_$command" $done
+    run $words stdin <more; leaves "bytes_beside_frames_on_standard_input_$command" $done
 }
 
 mkdir none && cd none || exit 1

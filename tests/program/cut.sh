@@ -4,11 +4,7 @@
 file=$root/examples/slip.rnx
 noon=2024-05-17T12:00:00
 
-# cut WORD..
-cut() {
-    "$program" cut "$@" >out 2>err </dev/null
-    status=$?
-}
+cut() { run cut "$@"; }
 
 # records FILE..: what stands after the headers
 records() {
@@ -47,26 +43,28 @@ for step in 1 7 30; do
     records first second >got
     same "parts_at_$step" got want
 done
-"$program" check second </dev/null >out 2>err; status=$?
+"$program" check second >out 2>err; status=$?
 expect a_part_is_checked 0 'valid: 2 epochs, 3 satellite lines' ''
 
 # Nothing is left: the header alone, whose first time is --from, or the file's.
 header() {
     sed '/END OF HEADER/q' "$file" | sed "s/^  2024     5    17    12     0    0.0000000/$1/"
 }
-header '  2024     5    17    13     0    0.0000000' >want
-cut --from 2024-05-17T13:00:00 "$file";  leaves nothing_after_from 0 want /dev/null
-header '  2024     5    17    12     0    0.0000000' >want
-cut --until "$noon" "$file";             leaves nothing_before_until 0 want /dev/null
-header '  2024     5    17    12     0   30.0000000' >want
-cut --from 2024-05-17T12:00:30 --until 2024-05-17T12:00:30 "$file"
-leaves nothing_between 0 want /dev/null
-
-# Times and steps at their limits, and words that are refused.
+# nothing_is_left NAME TIME WORD..
+nothing_is_left() {
+    name=$1
+    header "  2024     5    17    $2.0000000" >want
+    shift 2
+    cut "$@" "$file"
+    leaves "$name" 0 want /dev/null
+}
+nothing_is_left after_from '13     0    0' --from 2024-05-17T13:00:00
+nothing_is_left before_until '12     0    0' --until "$noon"
+nothing_is_left between '12     0   30' --from 2024-05-17T12:00:30 --until 2024-05-17T12:00:30
+nothing_is_left a_step_of_a_day '12     0    0' --every 86400
 cut --from 1980-01-06T00:00:00 --until 2100-12-31T23:59:59 --every 1 "$file"
 leaves the_widest_span 0 "$file" /dev/null
-header '  2024     5    17    12     0    0.0000000' >want
-cut --every 86400 "$file";               leaves a_step_of_a_day 0 want /dev/null
+
 # moved DATE MINUTE MINUTE FIRST: the file with its two minutes on another day, and its first time
 moved() {
     sed "s/^> 2024 05 17 12 00/> $1 $2/; s/^> 2024 05 17 12 01/> $3/; s/^  2024     5    17    12     0 /$4/" "$file"
@@ -81,16 +79,16 @@ line='> 2024 02 29 00 00  0.0000000  0  2'
 g05='G05  21085502.060 7 110805061.16717        45.000    21085504.060 5  86341606.103'
 g07='G07  22963067.680 6 120671689.95026        41.500    22963071.430 5  94029247.75715        30.250'
 { header "$begin"; printf '%s\n' "$line" "${g05}15        35.000" "$g07"; } >want
-cut --every 86400 night;                 leaves midnight_at_the_step_of_a_day 0 want /dev/null
+cut --every 86400 night; leaves midnight_at_the_step_of_a_day 0 want /dev/null
 { header "$begin"; printf '%s\n' "$line" "$g05 5        35.000" "$g07"; } >want
 cut --every 30 --from $midnight night;   leaves the_day_after_midnight 0 want /dev/null
 # The same slips, in the minute after noon: no record before midnight is on the step.
 moved '2024 02 28' '12 00' '2024 02 29 00 00' '  2024     2    28    12     0 ' >noon
 { header "$begin"; printf '%s\n' "$line" "${g05}15        35.000" "$g07"; } >want
 # pins: has_slipped_since
-cut --every 86400 noon;                  leaves twelve_hours_before_the_step 0 want /dev/null
+cut --every 86400 noon; leaves twelve_hours_before_the_step 0 want /dev/null
 sed '/^> 2024 02 29/,$d' night >want
-cut --until $midnight night;             leaves the_day_before_midnight 0 want /dev/null
+cut --until $midnight night; leaves the_day_before_midnight 0 want /dev/null
 
 # A record each second of a day: a slip of G05 a second after midnight is shown 86,399 seconds later, and of G07, which slips at
 # noon and is missing from then on, once it comes back; after that none is left.
@@ -110,7 +108,7 @@ cut --until $midnight night;             leaves the_day_before_midnight 0 want /
         '> 2024 05 20 00 00  0.0000000  0  2' 'G05                 110804903.547' 'G07                 120671603.523'
 } >want
 # pins: has_slipped_since
-cut --every 86400 days;                  leaves a_slip_a_second_after_midnight 0 want /dev/null
+cut --every 86400 days; leaves a_slip_a_second_after_midnight 0 want /dev/null
 
 # The last minute that a time can name.
 moved '2100 12 31' '23 58' '2100 12 31 23 59' '  2100    12    31    23    58 ' >century

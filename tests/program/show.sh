@@ -4,12 +4,6 @@
 arp='1005 station 2003 x 1114104.5999 y -4850729.7108 z 3975521.4643'
 hex='D3 00 13 3E D7 D3 02 02 98 0E DE EF 34 B4 BD 62 AC 09 41 98 6F 33 36 0B 98'
 
-# run WORD..: standard input as it is
-run() {
-    "$program" "$@" >out 2>err
-    status=$?
-}
-
 # bad_hex NAME TEXT: hex text, as printf writes it, that is refused
 bad_hex() {
     printf "$2" | "$program" show --hex stdin >out 2>err; status=$?
@@ -26,7 +20,7 @@ hex() {
 bad_words() {
     name=$1 told=$2
     shift 2
-    run "$@" </dev/null
+    run "$@"
     expect "$name" 2 '' "$told"
 }
 
@@ -44,9 +38,9 @@ head -c 16777216 /dev/zero >longest
 printf '\323\000\002\077\260\327\035\163' >frames
 for _ in 1 2 3 4 5 6 7 8 9 10 11 12 13 14 15 16; do cat frames frames >twice; mv twice frames; done
 
-run show --hex arp.hex </dev/null;        expect hex_from_file 0 "$arp" ''
-run show arp.hex --hex </dev/null;        expect hex_after_the_file 0 "$arp" ''
-run show arp.hex </dev/null;              expect hex_text_as_bytes 0 '' ''
+run show --hex arp.hex; expect hex_from_file 0 "$arp" ''
+run show arp.hex --hex; expect hex_after_the_file 0 "$arp" ''
+run show arp.hex;       expect hex_text_as_bytes 0 '' ''
 hex hex_from_stdin "$arp" "$hex"
 hex hex_of_line_ends_of_cr_lf "$arp" "$hex\r\n"
 hex tabs_line_ends_and_both_cases 'refused M1 -' 'd3\t00\r\n0047eA4b\r\n'
@@ -58,14 +52,14 @@ bad_hex bytes_as_hex '\323\0\0'
 bad_hex odd_digits 'D3 0'
 bad_hex form_feed_between_bytes 'd3\f000047eA4b'
 bad_hex vertical_tab_between_digits 'd3000047eA4\vb'
-run show empty </dev/null;                expect empty_input 0 '' ''
+run show empty; expect empty_input 0 '' ''
 # pins: SHOW_LIMIT
-run show longest </dev/null;              expect longest_input 0 '' ''
+run show longest; expect longest_input 0 '' ''
 # pins: SHOW_LIMIT
-run show long </dev/null;                 expect input_too_long 1 '' 'rtcm2rinex: input too long'
+run show long; expect input_too_long 1 '' 'rtcm2rinex: input too long'
 # pins: SHOW_LIMIT
-run show --hex long </dev/null;           expect hex_too_long 1 '' 'rtcm2rinex: input too long'
-run "$(printf '\377')" show </dev/null;   expect a_first_word_that_is_no_text 1 '' 'rtcm2rinex: read failed'
+run show --hex long;         expect hex_too_long 1 '' 'rtcm2rinex: input too long'
+run "$(printf '\377')" show; expect a_first_word_that_is_no_text 1 '' 'rtcm2rinex: read failed'
 "$program" --help >/dev/full 2>err; status=$?; : >out
 expect help_into_full_output 1 '' 'rtcm2rinex: write failed'
 { "$program" show frames 2>err; echo $? >answer; } | :; status=$(cat answer); : >out
@@ -76,20 +70,20 @@ expect closed_standard_error 1 '' ''
 # The longest inputs with frames to their ends, and one byte more; as hex text that byte is a line end.
 for _ in 1 2 3 4 5; do cat frames frames >twice; mv twice frames; done
 yes '1019 other' | head -n 2097152 >lines
-run show frames </dev/null;               leaves longest_input_of_frames 0 lines /dev/null
+run show frames; leaves longest_input_of_frames 0 lines /dev/null
 printf '\0' >>frames
-run show frames </dev/null;               expect frames_too_long 1 '' 'rtcm2rinex: input too long'
+run show frames; expect frames_too_long 1 '' 'rtcm2rinex: input too long'
 yes D300023FB0D71D73 | head -n 1048576 | tr -d '\n' >frames.hex
 head -n 1048576 lines >hex_lines
 # pins: SHOW_LIMIT
-run show --hex frames.hex </dev/null;     leaves longest_hex_of_frames 0 hex_lines /dev/null
+run show --hex frames.hex; leaves longest_hex_of_frames 0 hex_lines /dev/null
 echo >>frames.hex
-run show --hex frames.hex </dev/null;     expect hex_of_frames_too_long 1 '' 'rtcm2rinex: input too long'
+run show --hex frames.hex; expect hex_of_frames_too_long 1 '' 'rtcm2rinex: input too long'
 
 # pins: Requests.HasStatus, Words.HasStatus
 # refuses: a `main` that does not answer the status of `run_program`
-run --version </dev/null;                 expect version 0 'rtcm2rinex 0.2.0' ''
-run -V </dev/null;                        expect version_in_short 0 'rtcm2rinex 0.2.0' ''
+run --version; expect version 0 'rtcm2rinex 0.2.0' ''
+run -V;        expect version_in_short 0 'rtcm2rinex 0.2.0' ''
 "$program" show empty >&- 2>err; status=$?; : >out
 expect nothing_to_show_and_no_output 0 '' ''
 
@@ -97,13 +91,14 @@ expect nothing_to_show_and_no_output 0 '' ''
 no_command=$(error "'rtcm2rinex' requires a subcommand but one was not provided
   [subcommands: convert, show, check, summary, chart, cut, help]" "<COMMAND>")
 bad_words no_command "$no_command"
-"$program" </dev/null >&- 2>err; status=$?; : >out
+"$program" >&- 2>err; status=$?; : >out
 expect no_command_and_no_output 2 '' "$no_command"
 for word in SHOW '' "$(printf '%0100000d' 0)"; do
     bad_words "no_such_command_of_${#word}_characters" "$(error "unrecognized subcommand '$word'" "<COMMAND>")" "$word" arp.rtcm
 done
 for word in shew sho; do
-    bad_words "no_such_command_$word" "$(error "unrecognized subcommand '$word'" "<COMMAND>" "a similar subcommand exists: 'show'")" $word a
+    bad_words "no_such_command_$word" \
+        "$(error "unrecognized subcommand '$word'" "<COMMAND>" "a similar subcommand exists: 'show'")" $word a
 done
 bad_words unknown_option "$(error "unexpected argument '--frob' found" "<COMMAND>")" --frob
 usage='show [OPTIONS] <FILE>'
@@ -112,23 +107,24 @@ bad_words a_hundred_files "$(error "unexpected argument '2' found" "$usage")" sh
 bad_words hex_twice "$(error "the argument '--hex' cannot be used multiple times" "$usage")" show --hex --hex arp.hex
 bad_words hyphen_and_a_letter "$(error "unexpected argument '-x' found" "$usage" "to pass '-x' as a value, use '-- -x'")" show -x
 for word in --hax --he; do
-    bad_words "like_hex_$word" "$(error "unexpected argument '$word' found" 'show --hex <FILE>' "a similar argument exists: '--hex'")" show $word a
+    bad_words "like_hex_$word" \
+        "$(error "unexpected argument '$word' found" 'show --hex <FILE>' "a similar argument exists: '--hex'")" show $word a
 done
 
 # The captures of examples/ by the command of the README, which passes words, streams and status on.
 install
 program=installed/bin/rtcm2rinex
-run show "$root/examples/base.rtcm" </dev/null;           expect start_base 0 "$arp
+run show "$root/examples/base.rtcm"; expect start_base 0 "$arp
 1004 station 2003 tow 475200000 satellites 1" ''
-run show stdin <"$root/examples/hidden.rtcm";             expect start_hidden 0 "$arp
+run show stdin <"$root/examples/hidden.rtcm"; expect start_hidden 0 "$arp
 $arp" ''
-run show "$root/examples/msm.rtcm" </dev/null;            expect start_msm 0 "$msm" ''
-run show --hex "$root/examples/arp1005.hex" </dev/null;   expect start_hex 0 "$arp" ''
-run show nowhere </dev/null;                              expect start_failed 1 '' 'rtcm2rinex: cannot open nowhere'
+run show "$root/examples/msm.rtcm";          expect start_msm 0 "$msm" ''
+run show --hex "$root/examples/arp1005.hex"; expect start_hex 0 "$arp" ''
+run show nowhere;                            expect start_failed 1 '' 'rtcm2rinex: cannot open nowhere'
 bad_words start_refused "$no_command"
 # Under a limit on the size of files, 512 bytes, it ends as on a full disk.
 head -c 8192 frames >some; head -c 512 lines >part; echo 'rtcm2rinex: write failed' >part_err
-limited 512 "$program" show some >out 2>err </dev/null; status=$?
+limited 512 "$program" show some >out 2>err; status=$?
 leaves start_show_with_a_limit_of_size 1 part part_err
 
 ends 49
