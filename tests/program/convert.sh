@@ -175,7 +175,6 @@ words 1980-01-06T00:00:00 $made X 1C stdin stdin;   fails standard_input_twice 2
 words $near $made X 1C stdin a stdin;               fails standard_input_twice_apart 2 'bad links'
 # pins: AreLinkNames
 words $near $made X 1C $(seq 17);                   fails seventeen_links 2 'bad links'
-words $near $made X 1C $(seq 40);                   fails forty_links 2 'bad links'
 # pins: AreLinkNames
 words $near $made X 1C $(seq 200);                  fails two_hundred_links 2 'bad links'
 run convert $(seq 200) $options --codes 1C; fails two_hundred_links_before_the_options 2 'bad links'
@@ -345,4 +344,4 @@ leaves start_convert_with_a_limit_of_size 1 part part_err
 limited 4096 installed/bin/rtcm2rinex convert $options --codes 1C,2W,5X stdin >out 2>err <"$session.rtcm"; status=$?
 leaves start_convert_followed_with_a_limit_of_size 1 part write_failed
 
-ends 230
+ends 229

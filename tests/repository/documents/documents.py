@@ -187,15 +187,6 @@ def test_index(copy):
     compare("the index has each must-fail edit", len(re.findall(r"(?m)^- refused: ", index)), edits)
 
 
-def with_text(path, change, script):
-    """What a script says if the text of a file is changed so."""
-    text = path.read_text()
-    path.write_text(change(text))
-    code, _, error = output(script)
-    path.write_text(text)
-    return code, error
-
-
 def test_evidence(copy):
     script, tests = copy / "bin/evidence", next(copy.glob("tests/**/checksums.rt.in"))
     code, _, error = output(script)
@@ -212,7 +203,10 @@ def test_evidence(copy):
         ("a constant without a pin", lambda text: text.replace(", generator", ""), "constant generator has no pin"),
         ("a pin of nothing", lambda text: text.replace(", generator", ", nothing, generator"), "nothing is the name of 0 definitions"),
         ("a line above no test", lambda text: text.rstrip() + "\n\n// refuses: nothing\n", "stands above no test")):
-        code, error = with_text(tests, change, script)
+        text = tests.read_text()
+        tests.write_text(change(text))
+        code, _, error = output(script)
+        tests.write_text(text)
         compare(f"bin/evidence sees {name}", (code, told in error), (1, True))
 
 
