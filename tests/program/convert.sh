@@ -297,7 +297,7 @@ run convert; expect no_word 2 '' "$(error "the following required arguments were
   --marker <NAME>
   --codes <LIST>
   <LINK>..." "$all")"
-for option in 'station N 1' 'near T x' 'made T x' 'marker NAME x' 'codes LIST x' 'window N 2'; do
+for option in 'station N 1' 'near T x' 'made T x' 'marker NAME x' 'codes LIST x' 'window N 2' 'msm N 4'; do
     set -- $option
     run convert "--$1" "$3" "--$1" "$3" a
     expect "$1_twice" 2 '' "$(error "the argument '--$1 <$2>' cannot be used multiple times" "$usage")"
@@ -305,7 +305,7 @@ for option in 'station N 1' 'near T x' 'made T x' 'marker NAME x' 'codes LIST x'
     expect "$1_without_a_value" 2 '' "$(error "a value is required for '--$1 <$2>' but none was supplied")"
 done
 # The next option is no value of an option but of --marker.
-for option in 'station N near' 'near T made' 'made T marker' 'codes LIST window' 'window N codes'; do
+for option in 'station N near' 'near T made' 'made T marker' 'codes LIST window' 'window N codes' 'msm N window'; do
     set -- $option
     run convert "--$1" "--$3" 1 a
     expect "$1_before_another_option" 2 '' "$(error "a value is required for '--$1 <$2>' but none was supplied")"
@@ -325,6 +325,8 @@ bad_value station_with_a_tail --station 2003x 'invalid digit found in string'
 # pins: Requests.IsWithinLimits, Words.IsWithinLimits
 bad_value window_of_1 --window 1 '1 is not in 2..=4096'
 bad_value window_of_4097 --window 4097 '4097 is not in 2..=4096'
+bad_value msm_of_3 --msm 3 '3 is not in 4..=7'
+bad_value msm_of_8 --msm 8 '8 is not in 4..=7'
 # refuses: a first part of a number that is taken for all of it
 bad_value window_of_two_numbers --window 64,2 'invalid digit found in string'
 
@@ -344,4 +346,4 @@ leaves start_convert_with_a_limit_of_size 1 part part_err
 limited 4096 installed/bin/rtcm2rinex convert $options --codes 1C,2W,5X stdin >out 2>err <"$session.rtcm"; status=$?
 leaves start_convert_followed_with_a_limit_of_size 1 part write_failed
 
-ends 229
+ends 234
