@@ -75,7 +75,8 @@ impl Codes {
 
     /// The codes of more cells.
     pub(crate) fn join(&mut self, more: &Codes)
-        ensures { (xs es : List CellEntry) → StandsForCodes more.now xs → StandsForCodes self.old es → StandsForCodes self.new (xs ++ es) }
+        ensures { (xs es : List CellEntry) → StandsForCodes more.now xs → StandsForCodes self.old es
+            → StandsForCodes self.new (xs ++ es) }
     {
         for place in 0..16 {
             self.marks[place] |= more.marks[place];
