@@ -34,8 +34,8 @@ LINK = 62_000
 GATHERED = 2 * 65_536
 # What a conversion of one link holds besides: the manual says some 85 kB.
 LEAST_BESIDE, MOST_BESIDE = 80_500, 85_500
-# What a summary holds: some 635 kB.
-LEAST_OF_SUMMARY, MOST_OF_SUMMARY = 630_000, 640_000
+# What a summary holds: some 1.3 MB.
+LEAST_OF_SUMMARY, MOST_OF_SUMMARY = 1_280_000, 1_300_000
 
 # The sizes of an input: a vector that doubles has just the room that it needs. A file of as many
 # records has a picture of 1,440 columns, of 11 seconds or of 22.
