@@ -23,8 +23,8 @@ _rtcm2rinex() {
             options='convert show check summary chart cut help -h --help -V --version'
             ;;
         convert)
-            options='--station --near --made --marker --codes --window -h --help'
-            values='--station --near --made --marker --codes --window'
+            options='--station --near --made --marker --codes --window --msm -h --help'
+            values='--station --near --made --marker --codes --window --msm'
             arguments='files'
             ;;
         show)

@@ -16,6 +16,7 @@ complete -c rtcm2rinex -n '__fish_seen_subcommand_from convert' -l made -x -d 'T
 complete -c rtcm2rinex -n '__fish_seen_subcommand_from convert' -l marker -x -d 'The marker\'s name, as BASE'
 complete -c rtcm2rinex -n '__fish_seen_subcommand_from convert' -l codes -x -d 'The observation codes, as 1C,2W'
 complete -c rtcm2rinex -n '__fish_seen_subcommand_from convert' -l window -x -d 'How many epochs are kept open, 2 to 4096, as 600 [default: 64]'
+complete -c rtcm2rinex -n '__fish_seen_subcommand_from convert' -l msm -x -d 'Which MSM is converted beside 1004: 4 is 1074, 5 is 1075, 6 is 1076, 7 is 1077 [default: 4]'
 complete -c rtcm2rinex -n '__fish_seen_subcommand_from convert' -s h -l help -d 'Print help (see more with \'--help\')'
 complete -c rtcm2rinex -n '__fish_seen_subcommand_from convert' -F -a stdin
 complete -c rtcm2rinex -n '__fish_seen_subcommand_from show' -l hex -d 'The capture is hex text'

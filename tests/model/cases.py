@@ -497,6 +497,7 @@ def proposals(empty):
     # pins: begins_epoch, epochs_in
     yield "msm_whose_epochs_are_split", of(1074, 2, 0, 1, 0) + of(1077, 2, 0, 0, 1, 1), (
         " message 1077 4\n", told("1C", "1077 2"))
+    # pins: gives_value
     yield "msm_without_values", of(1076, 2, 0) + of(1077, 2, 0, 1, ms=255), (" message 1077 2\n", " codes 1C\n" + told("1C --msm 6"))
     # pins: proposed
     yield "msm_of_no_value", of(1077, 2, 0, ms=255) + at(0), (" codes 1C,2W\n" + told("1C,2W"),)

@@ -4,6 +4,7 @@ use Rattle.rtk_convert.specs.declared.counts.Counts.{Counts}
 use Rattle.rtk_convert.specs.declared.fault.ConvertFault.{ConvertFault}
 use Rattle.rtk_convert.specs.declared.fault.ConvertFault.TheVariants.{Setup, NoLink, LinkClosed, OutOfMemory, Write, Read, Endless, Stopped}
 
+-- table
 -- the exit status after a fault: 1 if memory was refused, a write or a read failed, or an input
 -- does not end; 2 if the conversion itself is refused
 abbrev pub status_of_fault : ConvertFault → ℕ

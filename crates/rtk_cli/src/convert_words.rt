@@ -1,6 +1,8 @@
 //! The words of `convert`: what its options and links say.
 
-ghost use Rattle.std.specs.Prelude.{◌≡◌, map, IfOk, IfErr, MatchOption};
+ghost use Rattle.std.specs.Prelude.{◌≡◌, ◌+◌, map, IfOk, IfErr, IfSome, IfNone, MatchOption};
+ghost use Rattle.std.specs.Int.{IsInRange};
+ghost use Rattle.rtk_message.specs.MsmForm.{number_of_kind};
 ghost use Rattle.rtk_cli.specs.Steps.ConvertWords.{SaysConversion, RefusesConversion};
 ghost use Rattle.rtk_cli.specs.declared.words.WordsFault.TheVariants.{Bad};
 ghost use Rattle.rtk_cli.specs.Words.{AreLinkNames, HasStatus, IsWithinLimits};
@@ -10,6 +12,7 @@ use crate::moment_text::moment_of;
 use crate::words::{BadWords, Job, WordsFault};
 use arrayvec::ArrayVec;
 use rtk_convert::{Setup, SetupFault};
+use rtk_message::MsmKind;
 use rtk_rinex::{Head, HeadFault};
 use rtk_tools::STDIN;
 use rtk_words::ConvertOptions;
@@ -48,8 +51,11 @@ pub(crate) fn conversion<'a>(
     let Some(links) = links_of(names) else {
         return Err(words_fault(BadWords::Links));
     };
+    let Some(msm) = msm_of(options.msm) else {
+        unreachable!();
+    };
     match Setup::new(options.station, near, head, usize::from(options.window)) {
-        Ok(setup) => Ok(Job::Convert { setup, links }),
+        Ok(setup) => Ok(Job::Convert { setup: setup.with_msm(msm), links }),
         Err(SetupFault::Near) => Err(words_fault(BadWords::Near)),
         Err(SetupFault::Station | SetupFault::Window) => unreachable!(),
     }
@@ -59,6 +65,20 @@ fn words_fault(line: BadWords) -> WordsFault
     ensures { result ≡ Bad line }
 {
     WordsFault::Bad { line }
+}
+
+/// The MSM that the option says: 4 is 1074, 7 is 1077; `None` for what is not 4 to 7.
+fn msm_of(msm: u8) -> Option<MsmKind>
+    ensures some { IfSome result (λ kind. number_of_kind kind ≡ 1070 + msm) }
+    ensures none { IfNone result (¬ (IsInRange 4 7 msm)) }
+{
+    match msm {
+        4 => Some(MsmKind::Msm4),
+        5 => Some(MsmKind::Msm5),
+        6 => Some(MsmKind::Msm6),
+        7 => Some(MsmKind::Msm7),
+        _ => None,
+    }
 }
 
 /// The links that words name; `None` exactly if they are not 1 to 16, or standard input stands

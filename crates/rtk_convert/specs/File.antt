@@ -32,6 +32,7 @@ unfoldable pub first_time : List Code → List EpochSetView → Option ℕ
 first_time listed [] = None
 first_time listed (e ∷ below) = first_or (first_time listed below) e.epoch (record_of listed e below)
 
+-- formula
 -- the header: its first time is the time of the first record; without a record it is the reference
 abbrev pub header_of : SetupView → PositionView → List EpochSetView → List ℕ
 header_of s site epochs = header_text s.head site (unwrap_or (first_time s.head.listed epochs) s.near)

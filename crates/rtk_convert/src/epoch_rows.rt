@@ -1,8 +1,8 @@
 //! The rows of a closed epoch, made from its cells.
 //!
 //! The satellites 1 to 32 are gone over with a place in each list of cells, which rises by
-//! satellite and code. The cells of the 1074 come first, then the cells of the 1004 whose code no
-//! cell of the 1074 has. Each of them takes a step of the tracks, also if its code is not listed,
+//! satellite and code. The cells of the MSM come first, then the cells of the 1004 whose code no
+//! cell of the MSM has. Each of them takes a step of the tracks, also if its code is not listed,
 //! since a later phase is compared with it.
 
 ghost use Rattle.std.specs.Prelude.{◌≡◌, ◌≢◌, ℕ, Bool, ◌+◌, ◌<◌, ◌≤◌, List, [], ◌∷◌, ◌++◌, ◌||◌, map, length, replicate, Option, Some, All, AllPairs, slice_index_or, slice_range, is_some, not, IsTrue, None, OnOk};

@@ -4,14 +4,17 @@ use Rattle.rtk_message.specs.declared.accepted.Accepted.{Accepted}
 use Rattle.rtk_message.specs.declared.msm_kind.MsmKind.{MsmKind}
 use Rattle.rtk_message.specs.declared.msm_kind.MsmKind.TheVariants.{Msm4, Msm5, Msm6, Msm7}
 
+-- table
 -- 1074 and no other MSM
 abbrev pub four : Accepted
 four = record { msm4 = true; msm5 = false; msm6 = false; msm7 = false }
 
+-- table
 -- all MSM
 abbrev pub all : Accepted
 all = record { msm4 = true; msm5 = true; msm6 = true; msm7 = true }
 
+-- table
 -- the MSM of this kind and no other
 abbrev pub only : MsmKind → Accepted
 only Msm4 = record { msm4 = true; msm5 = false; msm6 = false; msm7 = false }
@@ -19,6 +22,7 @@ only Msm5 = record { msm4 = false; msm5 = true; msm6 = false; msm7 = false }
 only Msm6 = record { msm4 = false; msm5 = false; msm6 = true; msm7 = false }
 only Msm7 = record { msm4 = false; msm5 = false; msm6 = false; msm7 = true }
 
+-- table
 -- whether a message of this number is read
 abbrev pub accepts : Accepted → ℕ → Bool
 accepts a n =

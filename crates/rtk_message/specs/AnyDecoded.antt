@@ -15,11 +15,13 @@ use Rattle.rtk_message.specs.Decoded as decoded
 use Rattle.rtk_message.specs.Fields.{Field, u, bits_of_fields}
 use Rattle.rtk_message.specs.MsmForm as form
 
+-- formula
 -- the message number (RTCM 10403.3, DF002)
 abbrev pub number_of : AnyMessage → ℕ
 number_of (Message m) = decoded.number_of m
 number_of (Msm m) = form.number_of_kind m.kind
 
+-- formula
 -- the reference station (DF003)
 abbrev pub station_of : AnyMessage → ℕ
 station_of (Message m) = decoded.station_of m
@@ -35,6 +37,7 @@ abbrev pub fields_after_number : AnyMessage → List Field
 fields_after_number (Message m) = decoded.fields_after_number m
 fields_after_number (Msm m) = form.table m
 
+-- table
 -- all fields of a message, the number first
 abbrev pub table : AnyMessage → List Field
 table m = u 12 (number_of m) ∷ fields_after_number m
@@ -65,6 +68,7 @@ abbrev pub if_any_fault_of : Option DecodeFault → Option AnyFault
 if_any_fault_of None = None
 if_any_fault_of (Some f) = Some (any_fault_of f)
 
+-- formula
 -- the first fault of the bits after this number, if messages of this number are read
 abbrev pub fault_after_number : ℕ → List Bool → Option AnyFault
 fault_after_number n bs =
@@ -72,10 +76,12 @@ fault_after_number n bs =
     if n == 1076 then form.first_fault Msm6 bs else
     if n == 1077 then form.first_fault Msm7 bs else if_any_fault_of (decoded.fault_after_number n bs)
 
+-- formula
 -- the first fault of the bits after this number, by a set of messages
 abbrev pub fault_by : Accepted → ℕ → List Bool → Option AnyFault
 fault_by a n bs = if accepts a n then fault_after_number n bs else Some (Other n)
 
+-- formula
 abbrev pub first_fault : Accepted → List Bool → Option AnyFault
 first_fault a bs = if nat_lt (length bs) 12 then Some NoNumber else fault_by a (unsigned (take 12 bs)) (drop 12 bs)
 

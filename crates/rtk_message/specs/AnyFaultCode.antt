@@ -7,6 +7,7 @@ use Rattle.rtk_message.specs.declared.fault.DecodeFault.TheVariants as fault
 use Rattle.rtk_message.specs.declared.any_fault.AnyFault.{AnyFault}
 use Rattle.rtk_message.specs.declared.any_fault.AnyFault.TheVariants.{NoNumber, Other, Short, EpochRange, TooManyCells}
 
+-- table
 -- the same cause; too many cells are those of a 1074
 abbrev pub any_fault_of : DecodeFault → AnyFault
 any_fault_of fault.NoNumber = NoNumber
@@ -15,6 +16,7 @@ any_fault_of (fault.Short number) = Short number
 any_fault_of (fault.EpochRange number) = EpochRange number
 any_fault_of fault.TooManyCells = TooManyCells 1074
 
+-- table
 -- the code of a cause, as text
 abbrev pub any_fault_code : AnyFault → List ℕ
 any_fault_code NoNumber = codes "M1"
@@ -23,6 +25,7 @@ any_fault_code (Short number) = codes "M3"
 any_fault_code (EpochRange number) = codes "M4"
 any_fault_code (TooManyCells number) = codes "M5"
 
+-- formula
 -- the number of the message (DF002), if the payload has one
 abbrev pub any_fault_number : AnyFault → Option ℕ
 any_fault_number NoNumber = None
@@ -31,6 +34,7 @@ any_fault_number (Short number) = Some number
 any_fault_number (EpochRange number) = Some number
 any_fault_number (TooManyCells number) = Some number
 
+-- table
 -- the code and the number of the message, as in: M5 1077
 abbrev pub any_fault_text : AnyFault → List ℕ
 any_fault_text fault = any_fault_code fault ++ codes " " ++ number_text (any_fault_number fault)

@@ -12,6 +12,7 @@ use Rattle.rtk_message.specs.declared.msm_kind.MsmForm.{MsmForm}
 use Rattle.rtk_message.specs.declared.msm.Msm.{Msm}
 use Rattle.rtk_message.specs.declared.msm1074.Msm1074.{Msm1074}
 
+-- table
 -- the message number (DF002)
 abbrev pub number_of_kind : MsmKind → ℕ
 number_of_kind Msm4 = 1074
@@ -19,6 +20,7 @@ number_of_kind Msm5 = 1075
 number_of_kind Msm6 = 1076
 number_of_kind Msm7 = 1077
 
+-- table
 -- the widths of DF400 or DF405, DF401 or DF406, DF402 or DF407, and DF403 or DF408, in bits
 abbrev pub form_of : MsmKind → MsmForm
 form_of Msm4 = record { fine_range = 15; fine_phase = 22; lock_indicator = 4; cnr = 6 }
@@ -26,6 +28,7 @@ form_of Msm5 = record { fine_range = 15; fine_phase = 22; lock_indicator = 4; cn
 form_of Msm6 = record { fine_range = 20; fine_phase = 24; lock_indicator = 10; cnr = 10 }
 form_of Msm7 = record { fine_range = 20; fine_phase = 24; lock_indicator = 10; cnr = 10 }
 
+-- table
 -- this number for a kind with range rates (MSM5 and MSM7), and 0 for another kind
 abbrev pub if_rates : MsmKind → ℕ → ℕ
 if_rates Msm4 n = 0
@@ -33,16 +36,19 @@ if_rates Msm5 n = n
 if_rates Msm6 n = 0
 if_rates Msm7 n = n
 
+-- table
 -- the cell mask (DF396): for each satellite a row of one bit for each signal; the satellites rise,
 -- and in each row the signals
 abbrev pub mask_table : Msm → List Field
 mask_table m = numbers (signal_count m.header) m.cell_mask
 
+-- table
 -- the columns of the satellites: DF397, extended satellite information, DF398, DF399
 abbrev pub satellite_table : Msm → List Field
 satellite_table m =
     numbers 8 m.rough_ms ++ (numbers 4 m.extended ++ (numbers 10 m.rough_fraction ++ integers 14 m.rough_rate))
 
+-- table
 -- the columns of the cells: DF400 or DF405, DF401 or DF406, DF402 or DF407, DF420, DF403 or DF408,
 -- DF404
 abbrev pub cell_table : MsmForm → Msm → List Field
@@ -50,10 +56,12 @@ cell_table f m =
     integers f.fine_range m.fine_range ++ (integers f.fine_phase m.fine_phase ++ (numbers f.lock_indicator m.lock_indicator ++
     (flags m.half_cycle ++ (numbers f.cnr m.cnr ++ integers 15 m.fine_rate))))
 
+-- table
 -- each field is given for all satellites or cells before the next field
 abbrev pub column_table : Msm → List Field
 column_table m = satellite_table m ++ cell_table (form_of m.kind) m
 
+-- table
 abbrev pub table : Msm → List Field
 table m = header_table m.header ++ (mask_table m ++ column_table m)
 
@@ -90,6 +98,7 @@ pub record HasNoCells (m : Msm) : Type 0 where
   pub cnr : m.cnr ≡ []
   pub fine_rate : m.fine_rate ≡ []
 
+-- constant
 -- the message has the form of its kind: each field fits, the time lies in a week, the cell mask has
 -- at most 64 bits, the columns have their lengths
 pub record HasForm (m : Msm) : Type 0 where
@@ -98,6 +107,7 @@ pub record HasForm (m : Msm) : Type 0 where
   pub mask_bits : satellite_count m.header * signal_count m.header ≤ 64
   pub lengths : HasLengths m
 
+-- constant
 -- a kind from MSM5 on; message 1074 has a type of its own
 abbrev pub IsWide : MsmKind → Type 0
 IsWide k = 1074 < number_of_kind k
@@ -127,14 +137,17 @@ columns_of m = record {
 
 -- ---- the first fault of bits after the number
 
+-- formula
 -- how many bits a satellite has after the cell mask: DF397, extended information, DF398, DF399
 abbrev pub satellite_bits : MsmKind → ℕ
 satellite_bits k = 8 + if_rates k 4 + 10 + if_rates k 14
 
+-- formula
 -- how many bits a cell has after the cell mask
 abbrev pub cell_bits : MsmKind → ℕ
 cell_bits k = (form_of k).fine_range + (form_of k).fine_phase + (form_of k).lock_indicator + 1 + (form_of k).cnr + if_rates k 15
 
+-- formula
 abbrev pub first_fault : MsmKind → List Bool → Option AnyFault
 first_fault k bs =
     if nat_lt (length bs) 157 then Some (Short (number_of_kind k)) else

@@ -13,11 +13,13 @@ use Rattle.rtk_obs.specs.Cell.{is_satellite, entry_of}
 use Rattle.rtk_obs.specs.LockTime.{least_lock_of_legacy}
 use Rattle.rtk_obs.specs.Scaling.{unless_invalid, strength_of, l1_length, l2_length, range_of_length, phase_of_length}
 
+-- table
 -- the code of L1, by DF010
 abbrev pub l1_code_of : Bool → Code
 l1_code_of false = C1C
 l1_code_of true = C1P
 
+-- table
 -- the code of L2, by DF016, 0 to 3
 abbrev pub l2_code_of : ℕ → Code
 l2_code_of n = if n == 0 then C2X else if n == 1 then C2P else if n == 2 then C2D else C2W

@@ -20,6 +20,7 @@ abbrev pub least_lock_of_msm : ℕ → ℕ
 least_lock_of_msm zero = 0
 least_lock_of_msm (suc i) = 2 ^ (i + 5)
 
+-- table
 -- the least lock time in ms at an indicator with extended range and resolution, 0 to 704 (RTCM
 -- 10403.3, DF407): up to 63 the indicator itself, then each 32 indicators have twice the step of
 -- those before them. From 705 on it is reserved, and tells of no lock time (this project's rule: 0).

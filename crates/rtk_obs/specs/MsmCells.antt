@@ -100,6 +100,7 @@ abbrev pub extended_fine_range_of : ℤ → Option ℤ → Option ℤ
 extended_fine_range_of rough None = None
 extended_fine_range_of rough (Some fine) = Some (range_of_time (rough +ℤ fine))
 
+-- formula
 abbrev pub extended_range_of : Option ℤ → ℤ → Option ℤ
 extended_range_of None field = None
 extended_range_of (Some rough) field = extended_fine_range_of rough (unless_invalid (negsuc 524_287) field)
@@ -109,12 +110,14 @@ abbrev pub extended_fine_phase_of : Band → ℤ → Option ℤ → Option ℤ
 extended_fine_phase_of band rough None = None
 extended_fine_phase_of band rough (Some fine) = Some (phase_of_extended_time band (extended_phase_time rough fine))
 
+-- formula
 abbrev pub extended_phase_of : Band → Option ℤ → ℤ → Option ℤ
 extended_phase_of band None field = None
 extended_phase_of band (Some rough) field = extended_fine_phase_of band rough (unless_invalid (negsuc 8_388_607) field)
 
 -- ---- the values by the kind of message
 
+-- table
 -- MSM6 and MSM7 have extended resolution: DF405 to DF408 in the place of DF400 to DF403
 abbrev pub has_extended_resolution : MsmKind → Bool
 has_extended_resolution Msm4 = false
@@ -156,6 +159,7 @@ cell_of_1074 m k row band = record {
 abbrev pub cells_of_1074 : Msm1074 → List CellEntry
 cells_of_1074 m = entries_of m.header m.cell_mask (cell_of_1074 m)
 
+-- formula
 -- the k-th cell of a 1075, 1076 or 1077: DF397, DF398, DF400 to DF403 or DF405 to DF408, and DF420.
 -- The extended satellite information and the range rates (DF399, DF404) are not used.
 abbrev pub cell_of_msm : Msm → ℕ → ℕ → Band → Cell

@@ -13,6 +13,7 @@ unless_invalid mark field = if int_eq field mark then None else Some field
 abbrev pub strength_of : ℕ → ℕ → Option ℕ
 strength_of step steps = if steps == 0 then None else Some (step * steps)
 
+-- formula
 -- a signal strength in thousandths of a dB-Hz, from sixteenths of a dB-Hz (DF408); 0 is not given.
 -- It is rounded to quarters of a dB-Hz, a tie up, and held to 0.25 to 63.75 dB-Hz (this project's
 -- rule; a 1004 can give no others).
@@ -63,10 +64,12 @@ range_of_time time = rounded (time *ℤ pos 299_792_458) 536_870_912
 abbrev pub phase_of_time : Band → ℤ → ℤ
 phase_of_time band time = rounded (time *ℤ pos (frequency_of band)) 536_870_912
 
+-- formula
 -- the rough range and a fine phase of extended resolution, DF406, in 2^-31 ms
 abbrev pub extended_phase_time : ℤ → ℤ → ℤ
 extended_phase_time rough fine = pos 4 *ℤ rough +ℤ fine
 
+-- formula
 -- a time in 2^-31 ms as a phase in millicycles: time * f / 2^31
 abbrev pub phase_of_extended_time : Band → ℤ → ℤ
 phase_of_extended_time band time = rounded (time *ℤ pos (frequency_of band)) 2_147_483_648

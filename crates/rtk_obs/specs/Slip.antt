@@ -22,6 +22,7 @@ abbrev pub is_same_source : CellSource → CellSource → Bool
 is_same_source Legacy s = is_legacy s
 is_same_source Msm s = not (is_legacy s)
 
+-- formula
 -- the lock time is shorter than the time since the last phase, or the last phase came in the same
 -- kind of message, with a longer lock time
 abbrev pub has_slipped : Track → EpochCell → Bool

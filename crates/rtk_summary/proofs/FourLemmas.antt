@@ -1,6 +1,6 @@
 -- A station without 1075 to 1077.
 use Rattle.std.proofs.Common.{◌≡◌, ◌∙◌, ◌==◌, ◌++◌, ◌&&◌, ℕ, Bool, true, false, cond, List, [], ◌∷◌, refl, ap, subst, inl, inr}
-use Rattle.std.specs.Prelude.{filter, codes}
+use Rattle.std.specs.Prelude.{filter}
 use Rattle.std.specs.List.{list_all, list_any}
 use Rattle.std.proofs.lemmas.Bool.{cases_eq, ne_eqb}
 use Rattle.rtk_message.specs.declared.any_message.AnyMessage.{AnyMessage}
@@ -11,8 +11,8 @@ use Rattle.rtk_message.specs.AnyDecoded.{number_of}
 use Rattle.rtk_message.specs.MsmForm.{number_of_kind}
 use Rattle.rtk_obs.specs.declared.code.Code.{Code}
 use Rattle.rtk_summary.specs.Counting.{shown_count}
-use Rattle.rtk_summary.specs.Proposal.{entry_has_value, gives_value, times_with_value, epochs_in, epochs_of, is_taken_with, entries_with, better_of, proposed, is_of_four}
-use Rattle.rtk_summary.specs.SummaryText.{codes_text, counted_line, next_line, other_msm_line, other_msm_lines, proposal_lines}
+use Rattle.rtk_summary.specs.Proposal.{entry_has_value, gives_value, epochs_in, epochs_of, is_taken_with, entries_with, better_of, proposed, is_of_four}
+use Rattle.rtk_summary.specs.SummaryText.{codes_text, counted_line, next_line, other_msm_lines, proposal_lines}
 use Rattle.rtk_summary.specs.Tracing.{entries_of, entries_in, has_code, times_of_week}
 use Rattle.rtk_summary.proofs.NamedLemmas.{stays}
 

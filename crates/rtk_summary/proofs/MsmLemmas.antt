@@ -1,7 +1,8 @@
 -- What a station has of each MSM.
-use Rattle.std.proofs.Common.{◌≡◌, ◌+◌, ◌∙◌, ◌++◌, ℕ, Bool, true, false, cond, List, ◌∷◌, ap, subst, sym, get_or, length, arith}
+use Rattle.std.proofs.Common.{◌≡◌, ◌+◌, ◌∙◌, ◌++◌, ℕ, Bool, true, false, cond, List, ◌∷◌, ap, sym, get_or, arith}
 use Rattle.std.specs.Prelude.{count_by, filter}
 use Rattle.std.proofs.Math.Path.{fun_ext}
+use Rattle.std.proofs.lemmas.List.Sums.{sum_by-cons}
 use Rattle.rtk_message.specs.declared.any_message.AnyMessage.{AnyMessage}
 use Rattle.rtk_message.specs.declared.msm_kind.MsmKind.{MsmKind}
 use Rattle.rtk_message.specs.declared.msm_kind.MsmKind.TheVariants.{Msm4, Msm5, Msm6, Msm7}
@@ -12,7 +13,7 @@ use Rattle.rtk_obs.proofs.PublicLaws.{place_bound}
 use Rattle.rtk_summary.specs.Counting.{shown_count, count_of}
 use Rattle.rtk_summary.specs.Proposal.{epochs_of, entries_with, gives_value, times_with_value, is_taken_with}
 use Rattle.rtk_summary.specs.Tracing.{has_code, times_of_week, entries_of, entries_in}
-use Rattle.rtk_summary.specs.Steps.Standing.{one_if, StandsForCodes, StandsForMsm, StandForMsm, part_of, epochs_held, codes_held, epochs_so_far}
+use Rattle.rtk_summary.specs.Steps.Standing.{one_if, StandsForCodes, StandsForMsm, StandForMsm, part_of, epochs_held, codes_held}
 use Rattle.rtk_summary.specs.declared.epochs.Epochs.{Epochs}
 use Rattle.rtk_summary.specs.declared.msm.MsmParts.{MsmParts}
 use Rattle.rtk_summary.specs.declared.signals.Codes.{Codes}
@@ -24,33 +25,33 @@ counted test m ms old new was is =
     let n : ℕ = cond (test m) 1 0 in
     let k : ℕ = count_by test ms in
     let shown : shown_count (shown_count k + n) ≡ shown_count (n + k) = omega arith in
-    is ∙ ap (λ (a : ℕ). shown_count (a + n)) was ∙ shown
+    is ∙ ap (λ (a : ℕ). shown_count (a + n)) was ∙ shown ∙ ap shown_count (sym (sum_by-cons (λ (x : AnyMessage). cond (test x) 1 0) m ms))
 
 -- the times of a message more, by whether it gives a value
 pub times-with : (kind : MsmKind) (m : AnyMessage) (ms : List AnyMessage) → gives_value kind m ≡ true
     → times_with_value kind (m ∷ ms) ≡ times_of_week (m ∷ filter (gives_value kind) ms)
-times-with kind m ms yes =
+times-with kind m ms passes =
     let others = filter (gives_value kind) ms in
-    ap (λ (b : Bool). times_of_week (cond b (m ∷ others) others)) yes
+    ap (λ (b : Bool). times_of_week (cond b (m ∷ others) others)) passes
 
 pub times-without : (kind : MsmKind) (m : AnyMessage) (ms : List AnyMessage) → gives_value kind m ≡ false
     → times_with_value kind (m ∷ ms) ≡ times_with_value kind ms
-times-without kind m ms no =
+times-without kind m ms fails =
     let others = filter (gives_value kind) ms in
-    ap (λ (b : Bool). times_of_week (cond b (m ∷ others) others)) no
+    ap (λ (b : Bool). times_of_week (cond b (m ∷ others) others)) fails
 
 -- the cells of a message more, by whether it is taken
 pub entries-taken : (kind : MsmKind) (m : AnyMessage) (ms : List AnyMessage) → is_taken_with kind m ≡ true
     → entries_with kind (m ∷ ms) ≡ entries_of m ++ entries_with kind ms
-entries-taken kind m ms yes =
+entries-taken kind m ms passes =
     let others = filter (is_taken_with kind) ms in
-    ap (λ (b : Bool). entries_in (cond b (m ∷ others) others)) yes
+    ap (λ (b : Bool). entries_in (cond b (m ∷ others) others)) passes
 
 pub entries-left : (kind : MsmKind) (m : AnyMessage) (ms : List AnyMessage) → is_taken_with kind m ≡ false
     → entries_with kind (m ∷ ms) ≡ entries_with kind ms
-entries-left kind m ms no =
+entries-left kind m ms fails =
     let others = filter (is_taken_with kind) ms in
-    ap (λ (b : Bool). entries_in (cond b (m ∷ others) others)) no
+    ap (λ (b : Bool). entries_in (cond b (m ∷ others) others)) fails
 
 -- ---- what is held
 

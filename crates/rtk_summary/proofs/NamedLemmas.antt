@@ -33,8 +33,8 @@ keeps epochs j a b wins rises =
     (λ some more. let most = wins.most in record {
       most = omega (arith, most, more);
       greater = λ same positive.
-          let as : epochs j ≡ epochs a = omega (arith, most, more, same) in
-          let under = wins.greater as positive in
+          let alike : epochs j ≡ epochs a = omega (arith, most, more, same) in
+          let under = wins.greater alike positive in
           omega (arith, under, rises);
     })
 

@@ -29,6 +29,7 @@ epochs_in (t ∷ before) = epochs_in before + begins_epoch (newest_time before) 
 abbrev pub entry_has_value : CellEntry → Bool
 entry_has_value e = has_value e.cell
 
+-- formula
 -- a message of this MSM that has a cell with a range, a phase or a strength
 abbrev pub gives_value : MsmKind → AnyMessage → Bool
 gives_value kind m = is_numbered (number_of_kind kind) m && list_any entry_has_value (entries_of m)

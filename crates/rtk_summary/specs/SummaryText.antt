@@ -69,6 +69,7 @@ listed_satellite test n = if test n then 32 ∷ satellite_name n else []
 unfoldable pub satellites_text : (ℕ → Bool) → List ℕ
 satellites_text test = flat_map (listed_satellite test) (range_with_len 1 32)
 
+-- table
 -- the codes of all three bands
 abbrev pub all_codes : List Code
 all_codes = C1C ∷ C1P ∷ C1W ∷ C1S ∷ C1L ∷ C1X ∷ C2C ∷ C2D ∷ C2P ∷ C2W ∷ C2S ∷ C2L ∷ C2X ∷ C5I ∷ C5Q ∷ C5X ∷ []

@@ -288,7 +288,8 @@ fn put_proposal(
     station: u64,
     msm: &MsmParts,
 ) -> Result<(), AllocError>
-    ensures { OnOk result (lines.new.items ≡ lines.old.items ++ proposal_lines station (epochs_held msm.now) (codes_held msm.now)) }
+    ensures { OnOk result (lines.new.items ≡ lines.old.items
+        ++ proposal_lines station (epochs_held msm.now) (codes_held msm.now)) }
 {
     let named = msm.proposed();
     put_other_msms(lines, msm, named)?;

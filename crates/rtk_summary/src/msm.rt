@@ -60,13 +60,13 @@ fn take_epoch(epochs: &mut Epochs, kind: MsmKind, message: &AnyMessage, entries:
     }
 }
 
-fn take_codes(codes: &mut Codes, kind: MsmKind, message: &AnyMessage, entries: &[CellEntry])
-    requires { entries.now ≡ entries_of message.now }
+fn take_codes(codes: &mut Codes, kind: MsmKind, message: &AnyMessage, more: &Codes)
+    requires { StandsForCodes more.now (entries_of message.now) }
     ensures { (ms : List AnyMessage) → StandsForCodes codes.old (entries_with kind ms)
         → StandsForCodes codes.new (entries_with kind (message.now ∷ ms)) }
 {
     if Accepted::only(kind).accepts(message.number()) {
-        codes.take(entries);
+        codes.join(more);
     }
 }
 
@@ -82,14 +82,15 @@ impl MsmPart {
         }
     }
 
-    // A message more of the station, with its cells; the part is that of this MSM.
-    fn take(&mut self, kind: MsmKind, message: &AnyMessage, entries: &[CellEntry])
-        requires { entries.now ≡ entries_of message.now }
+    // A message more of the station, with its cells and their codes; the part is that of this MSM.
+    fn take(&mut self, kind: MsmKind, message: &AnyMessage, entries: &[CellEntry], codes: &Codes)
+        requires entries { entries.now ≡ entries_of message.now }
+        requires codes { StandsForCodes codes.now (entries_of message.now) }
         ensures { (ms : List AnyMessage) → StandsForMsm kind self.old ms → StandsForMsm kind self.new (message.now ∷ ms) }
     {
         self.messages = count_if(self.messages, message.number() == kind.number());
         take_epoch(&mut self.epochs, kind, message, entries);
-        take_codes(&mut self.codes, kind, message, entries);
+        take_codes(&mut self.codes, kind, message, codes);
     }
 }
 
@@ -111,10 +112,11 @@ impl MsmParts {
         requires { entries.now ≡ entries_of message.now }
         ensures { (ms : List AnyMessage) → StandForMsm self.old ms → StandForMsm self.new (message.now ∷ ms) }
     {
-        self.msm4.take(MsmKind::Msm4, message, entries);
-        self.msm5.take(MsmKind::Msm5, message, entries);
-        self.msm6.take(MsmKind::Msm6, message, entries);
-        self.msm7.take(MsmKind::Msm7, message, entries);
+        let codes = Codes::of(entries);
+        self.msm4.take(MsmKind::Msm4, message, entries, &codes);
+        self.msm5.take(MsmKind::Msm5, message, entries, &codes);
+        self.msm6.take(MsmKind::Msm6, message, entries, &codes);
+        self.msm7.take(MsmKind::Msm7, message, entries, &codes);
     }
 
     /// What there is of an MSM.

@@ -62,12 +62,24 @@ impl Codes {
         mark(&mut self.marks, entry.code.place(), has_value(&entry.cell));
     }
 
-    /// More cells.
-    pub(crate) fn take(&mut self, entries: &[CellEntry])
-        ensures { (es : List CellEntry) → StandsForCodes self.old es → StandsForCodes self.new (entries.now ++ es) }
+    /// The codes with a value in these cells.
+    pub(crate) fn of(entries: &[CellEntry]) -> Codes
+        ensures { StandsForCodes result entries.now }
     {
+        let mut codes = Codes::new();
         for entry in entries {
-            self.take_entry(entry);
+            codes.take_entry(entry);
+        }
+        codes
+    }
+
+    /// The codes of more cells.
+    pub(crate) fn join(&mut self, more: &Codes)
+        ensures { (xs es : List CellEntry) → StandsForCodes more.now xs → StandsForCodes self.old es
+            → StandsForCodes self.new (xs ++ es) }
+    {
+        for place in 0..16 {
+            self.marks[place] |= more.marks[place];
         }
     }
 }

@@ -13,7 +13,7 @@ use crate::signals::Signals;
 use crate::times::Times;
 use arrayvec::ArrayVec;
 use rtk_message::{AnyMessage, Message};
-use rtk_obs::{CellEntry, cells_1004, cells_1074, cells_msm};
+use rtk_obs::{CellEntry, put_cells_1004, put_cells_1074, put_cells_msm};
 
 /// The messages of a station: how many, of which numbers, their times and their signals.
 #[derive(Clone, Copy)]
@@ -27,26 +27,26 @@ pub(crate) struct Station {
     pub(crate) msm: MsmParts,
 }
 
-// The cells of a 1004 or a 1074; a station message has none.
-fn entries_of_four(message: &Message) -> ArrayVec<CellEntry, 64>
+// Puts the cells of a 1004 or a 1074 over a list; a station message has none.
+fn put_entries_of_four(message: &Message, found: &mut ArrayVec<CellEntry, 64>)
     requires { decoded.IsValid message.now }
-    ensures { result.items ≡ entries_of_four message.now }
+    ensures { found.new.items ≡ entries_of_four message.now }
 {
     match message {
-        Message::Obs1004(message) => cells_1004(message),
-        Message::Msm1074(message) => cells_1074(message),
-        Message::Arp1005(_) | Message::Arp1006(_) => ArrayVec::new(),
+        Message::Obs1004(message) => put_cells_1004(message, found),
+        Message::Msm1074(message) => put_cells_1074(message, found),
+        Message::Arp1005(_) | Message::Arp1006(_) => found.clear(),
     }
 }
 
-/// The cells of a message.
-pub(crate) fn entries_of(message: &AnyMessage) -> ArrayVec<CellEntry, 64>
+/// Puts the cells of a message over a list.
+pub(crate) fn put_entries(message: &AnyMessage, found: &mut ArrayVec<CellEntry, 64>)
     requires { IsValid message.now }
-    ensures { result.items ≡ entries_of message.now }
+    ensures { found.new.items ≡ entries_of message.now }
 {
     match message {
-        AnyMessage::Message(message) => entries_of_four(message),
-        AnyMessage::Msm(message) => cells_msm(message),
+        AnyMessage::Message(message) => put_entries_of_four(message, found),
+        AnyMessage::Msm(message) => put_cells_msm(message, found),
     }
 }
 

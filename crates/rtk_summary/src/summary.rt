@@ -11,8 +11,9 @@ ghost use Rattle.rtk_summary.specs.Steps.Standing.{StandsForFrames, StandForStat
 ghost use Rattle.rtk_summary.specs.Tracing.{entries_of, entries_in};
 
 use crate::signals::Signals;
-use crate::station::{Station, entries_of};
+use crate::station::{Station, put_entries};
 use crate::unread::{NUMBERS, Unread};
+use arrayvec::ArrayVec;
 use rtk_message::{Accepted, AnyDecoder, AnyMessage};
 use rtk_obs::CellEntry;
 use std::alloc::{AllocError, Global};
@@ -29,6 +30,9 @@ pub(crate) struct Summary {
     pub(crate) signals: Signals,
     pub(crate) unread: Unread,
     decoder: AnyDecoder,
+    // The cells of the last message. Those of the next one are put over them: a list of its own would
+    // be cleared for each message.
+    room: ArrayVec<CellEntry, 64>,
 }
 
 // A message goes to its station.
@@ -44,7 +48,12 @@ fn take_at(stations: &mut Vec<Station>, message: &AnyMessage, entries: &[CellEnt
     }
 }
 
-fn take_message(stations: &mut Vec<Station>, signals: &mut Signals, message: &AnyMessage)
+fn take_message(
+    stations: &mut Vec<Station>,
+    signals: &mut Signals,
+    room: &mut ArrayVec<CellEntry, 64>,
+    message: &AnyMessage,
+)
     requires { IsValid message.now }
     ensures size { length stations.new.items ≡ length stations.old.items }
     ensures stations { (ms : List AnyMessage) → StandForStations stations.old.items ms
@@ -52,9 +61,9 @@ fn take_message(stations: &mut Vec<Station>, signals: &mut Signals, message: &An
     ensures signals { (ms : List AnyMessage) → StandsForEntries signals.old (entries_in ms)
         → StandsForEntries signals.new (entries_in (message.now ∷ ms)) }
 {
-    let entries = entries_of(message);
-    signals.take(entries.as_slice());
-    take_at(stations, message, entries.as_slice());
+    put_entries(message, room);
+    signals.take(room.as_slice());
+    take_at(stations, message, room.as_slice());
 }
 
 impl Summary {
@@ -69,6 +78,7 @@ impl Summary {
             signals: Signals::new(),
             unread: Unread::new(alloc)?,
             decoder: AnyDecoder::new(),
+            room: ArrayVec::new(),
         })
     }
 
@@ -79,7 +89,12 @@ impl Summary {
         self.frames = self.frames.saturating_add(1);
         self.framed = self.framed.saturating_add(payload.len() as u64 + 6);
         match self.decoder.read(Accepted::ALL, payload) {
-            Ok(message) => take_message(&mut self.stations, &mut self.signals, message),
+            Ok(message) => take_message(
+                &mut self.stations,
+                &mut self.signals,
+                &mut self.room,
+                message,
+            ),
             Err(fault) => self.unread.take(*fault),
         }
     }

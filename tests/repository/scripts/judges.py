@@ -4,6 +4,7 @@ Each line is `ok NAME` or `FAILED NAME`: a judge says nothing of a good run, and
 """
 
 import io
+import re
 import sys
 import tempfile
 from contextlib import redirect_stdout
@@ -29,40 +30,42 @@ def sees(name, judge, good, bad):
     print(f"{'FAILED' if told else 'ok'} {name}{told}")
 
 
+# How the runs below write the lines of a fault.
+FAULTS = {"W!": "rtcm2rinex: write failed/", "w!": "rtcm2rinex: write failed", "R!": "rtcm2rinex: read failed/",
+    "M!": "rtcm2rinex: out of memory/"}
+
+
+def runs(text, make):
+    """What `make` makes of each run of a text: numbers, and output in which / ends a line. A run is a status, standard output and
+    standard error, and what else the judge is told; - is nothing."""
+    def field(word):
+        for sign, line in FAULTS.items():
+            word = word.replace(sign, line)
+        return int(word) if re.fullmatch(r"-?\d+", word) else word.removeprefix("-").replace("/", "\n").encode()
+    return [make(*map(field, run.split())) for run in text.split(";")]
+
+
 def streams():
     whole = scenes.Left(0, b"one\ntwo\n", b"first\nsecond\n")
-    other = [scenes.Left(1, whole.out, whole.err), scenes.Left(0, b"one\ntwo", whole.err), scenes.Left(0, b"one\ntwo\n\n", whole.err),
-             scenes.Left(0, b"one\nTwo\n", whole.err), scenes.Left(0, whole.out, b""), scenes.Left(0, whole.out, b"first\nsecone\n")]
-    sees("streams_sees_another_run", scenes.same, [(whole, whole)], [(it, whole) for it in other])
 
-    def broken(status, out, err, count=None):
-        return scenes.Left(status, out, err), whole, ["write failed", "read failed"], count
+    def judge(name, judge, make, good, bad):
+        sees(name, judge, *(runs(text, lambda *it: (scenes.Left(*it[:3]), whole, *make(*it[3:]))) for text in (good, bad)))
 
-    line = b"rtcm2rinex: write failed\n"
-    sees("streams_sees_a_run_that_breaks_off_otherwise", scenes.broken_off,
-         [broken(1, b"one\n", line), broken(1, b"", b"first\n" + line, 0), broken(1, whole.out, whole.err + b"rtcm2rinex: read failed\n", 8)],
-         [broken(0, b"one\n", line), broken(2, b"one\n", line), broken(-9, b"one\n", line), broken(1, b"two\n", line),
-          broken(1, whole.out + b"x", line), broken(1, b"one\n", line, 3), broken(1, b"one\n", line, 5), broken(1, b"one\n", b""),
-          broken(1, b"one\n", b"first\n"), broken(1, b"one\n", b"rtcm2rinex: out of memory\n"), broken(1, b"one\n", b"fir" + line),
-          broken(1, b"one\n", b"second\n" + line), broken(1, b"one\n", line + line), broken(1, b"one\n", line[:-1])])
-
-    def told(err, count):
-        return scenes.Left(1, b"one\n", err), whole, ["write failed"], 4, count
-
-    sees("streams_sees_a_report_that_is_lost", scenes.broken_off, [told(line, 0), told(b"first\n" + line, 6), told(whole.err + line, 13)],
-         [told(line, 6), told(line, 13), told(b"first\n" + line, 0), told(b"first\n" + line, 13), told(whole.err + line, 6)])
-
-    def part(status, out, err, count=None):
-        return scenes.Left(status, out, err), whole, 1, 3, count
-
-    sees("streams_sees_another_part_of_a_report", scenes.told_in_part,
-         [part(1, b"one\n", b"fir"), part(1, b"one\n", b"fir", 4)],
-         [part(0, b"one\n", b"fir"), part(1, b"one\n", b"fi"), part(1, b"one\n", b"firs"), part(1, b"one\n", b"Fir"),
-          part(1, b"two\n", b"fir"), part(1, b"one\n", b"fir", 3), part(1, b"one\n", b"fir", 5)])
+    judge("streams_sees_another_run", scenes.same, lambda: (), "0 one/two/ first/second/",
+        "1 one/two/ first/second/; 0 one/two first/second/; 0 one/two// first/second/; 0 one/Two/ first/second/; 0 one/two/ -;"
+        "0 one/two/ first/secone/")
+    judge("streams_sees_a_run_that_breaks_off_otherwise", scenes.broken_off,
+        lambda count=None: (["write failed", "read failed"], count), "1 one/ W!; 1 - first/W! 0; 1 one/two/ first/second/R! 8",
+        "0 one/ W!; 2 one/ W!; -9 one/ W!; 1 two/ W!; 1 one/two/x W!; 1 one/ W! 3; 1 one/ W! 5; 1 one/ -; 1 one/ first/;"
+        "1 one/ M!; 1 one/ firW!; 1 one/ second/W!; 1 one/ W!W!; 1 one/ w!")
+    judge("streams_sees_a_report_that_is_lost", scenes.broken_off, lambda told: (["write failed"], 4, told),
+        "1 one/ W! 0; 1 one/ first/W! 6; 1 one/ first/second/W! 13",
+        "1 one/ W! 6; 1 one/ W! 13; 1 one/ first/W! 0; 1 one/ first/W! 13; 1 one/ first/second/W! 6")
+    judge("streams_sees_another_part_of_a_report", scenes.told_in_part, lambda count=None: (1, 3, count),
+        "1 one/ fir; 1 one/ fir 4", "0 one/ fir; 1 one/ fi; 1 one/ firs; 1 one/ Fir; 1 two/ fir; 1 one/ fir 3; 1 one/ fir 5")
     due = b"reads /a\nreads /b\n"
-    sees("streams_sees_another_call", lambda calls: scenes.other_calls(calls, ["/a", "/b"]), [(due,)],
-         [(b"",), (b"reads /a\n",), (b"reads /b\nreads /a\n",), (due + b"reads /b\n",), (due + b"writes /b\n",), (due + b"unlink /a\n",),
-          (b"getenv A\n" + due,), (b"reads /a\nwrites /b\n",)])
+    others = b"", b"reads /a\n", b"reads /a\nwrites /b\n", b"reads /b\nreads /a\n", b"getenv A\n" + due, *(due + it for it in (b"reads /b\n", b"writes /b\n", b"unlink /a\n"))
+    sees("streams_sees_another_call", lambda calls: scenes.other_calls(calls, ["/a", "/b"]), [(due,)], [(it,) for it in others])
     sees("streams_sees_another_name", scenes.other_names, [(scenes.OF_C,), (scenes.OF_C - {"lseek"},)],
          [(scenes.OF_C | {name},) for name in ("environ", "isatty", "stat", "ioctl")] + [(set(),), (scenes.OF_C - {"open"},)])
     count = scenes.Count()
@@ -78,46 +81,36 @@ def streams():
 def memory():
     whole = refusals.Ran(0, b"one\ntwo\n", b"first\nsecond\n", 0)
     looks, plain = refusals.Scene(["shew"], looks=True), refusals.Scene(["show"])
-    line = b"rtcm2rinex: out of memory\n"
 
-    def ran(status, out, err, met=1, scene=plain, with_later=False):
-        return scene, whole, refusals.Ran(status, out, err, met), with_later
+    def ran(scene, with_later=False):
+        return lambda status, out, err, met=1: (scene, whole, refusals.Ran(status, out, err, met), with_later)
 
+    same = "0 one/two/ first/second/"
     sees("memory_sees_a_refusal_that_is_not_told", refusals.Scene.fault,
-         [ran(0, whole.out, whole.err, 0), ran(1, b"", line), ran(1, b"one\n", b"first\n" + line), ran(*whole[:3], scene=looks)],
-         [ran(0, b"one\n", whole.err, 0), ran(1, whole.out, whole.err, 0), ran(*whole[:3]), ran(0, b"", line), ran(2, b"", line),
-          ran(-11, b"", b""), ran(1, b"", b""), ran(1, b"", b"rtcm2rinex: write failed\n"), ran(1, b"two\n", line),
-          ran(1, b"", b"second\n" + line), ran(1, b"", b"fir" + line), ran(*whole[:3], scene=looks, with_later=True),
-          ran(0, b"one\n", whole.err, scene=looks)])
-
-
-    counts = b"".join(b"%d\n" % number for number in range(9))
-    report = refusals.Ran(0, b"one\ntwo\n", b"first\nsecond\n" + counts, 0)
-
-    def last(out, err):
-        return report, refusals.Ran(1, out, err + line, 1)
-
-    sees("memory_sees_a_part_that_is_lost", refusals.all_but_counts, [last(report.out, b"first\nsecond\n")],
-         [last(b"", b""), last(b"", b"first\nsecond\n"), last(b"one\n", b"first\nsecond\n"), last(report.out, b""),
-          last(report.out, b"first\n"), last(report.out, report.err)])
-
-    def beside(out, err):
-        return refusals.Ran(1, b"one\n", b"first\n" + line, 1), refusals.Ran(1, out, err + line, 1)
-
-    sees("memory_sees_less_than_of_standard_input", refusals.as_followed, [beside(b"one\n", b"first\n")],
-         [beside(b"", b""), beside(b"", b"first\n"), beside(b"one\n", b""), beside(b"one\ntwo\n", b"first\n"),
-          beside(b"one\n", b"first\nsecond\n")])
+        runs(f"{same} 0; 1 - M!; 1 one/ first/M!", ran(plain)) + runs(same, ran(looks)),
+        runs(f"0 one/ first/second/ 0; 1 one/two/ first/second/ 0; {same}; 0 - M!; 2 - M!; -11 - -; 1 - -; 1 - W!; 1 two/ M!;"
+            "1 - second/M!; 1 - firM!", ran(plain))
+        + runs("0 one/ first/second/", ran(looks)) + runs(same, ran(looks, with_later=True)))
+    report = whole._replace(err=whole.err + b"".join(b"%d\n" % number for number in range(9)))
+    followed = refusals.Ran(1, b"one\n", b"first\nrtcm2rinex: out of memory\n", 1)
+    for name, judge, due, good, bad in (
+        ("memory_sees_a_part_that_is_lost", refusals.all_but_counts, report, "1 one/two/ first/second/M!",
+            "1 - M!; 1 - first/second/M!; 1 one/ first/second/M!; 1 one/two/ M!; 1 one/two/ first/M!;"
+            "1 one/two/ first/second/0/1/2/3/4/5/6/7/8/M!"),
+        ("memory_sees_less_than_of_standard_input", refusals.as_followed, followed, "1 one/ first/M!",
+            "1 - M!; 1 - first/M!; 1 one/ M!; 1 one/two/ first/M!; 1 one/ first/second/M!")):
+        sees(name, judge, *(runs(text, lambda *it, due=due: (due, refusals.Ran(*it, 1))) for text in (good, bad)))
 
 
 def hostiles():
     good = Ended(0, b"one\ntwo\n", b"first\n")
 
-    def run(*it):
-        return Ended(*it), 0, good.out, good.err
+    def ended(text):
+        return runs(text, lambda *it: (Ended(*it), 0, good.out, good.err))
 
-    sees("hostile_sees_another_run", properties.ends_with, [run(*good)],
-         [run(1, good.out, good.err), run(-6, good.out, good.err), run(0, b"one\nTwo\n", good.err), run(0, b"one\n", good.err),
-          run(0, good.out + b"x", good.err), run(0, good.out, b""), run(0, good.out, b"first\n\n")])
+    sees("hostile_sees_another_run", properties.ends_with, ended("0 one/two/ first/"),
+        ended("1 one/two/ first/; -6 one/two/ first/; 0 one/Two/ first/; 0 one/ first/; 0 one/two/x first/; 0 one/two/ -;"
+            "0 one/two/ first//"))
     entry = properties.Property(properties.as_modelled, 50)
 
     def told(captures, checked, failed):
@@ -133,20 +126,17 @@ def hostiles():
 
 
 def helds():
-    def same(numbers):
-        tests = held.Tests()
-        with redirect_stdout(io.StringIO()):
-            tests.same("", numbers)
-        return tests.failed == [True]
+    def says(method):
+        """Whether a test of tests/system/held fails with these numbers."""
+        def fails(*numbers):
+            tests = held.Tests()
+            with redirect_stdout(io.StringIO()):
+                getattr(tests, method)("", *numbers)
+            return tests.failed == [True]
+        return fails
 
-    def within(number):
-        tests = held.Tests()
-        with redirect_stdout(io.StringIO()):
-            tests.within("", number, 5, 7)
-        return tests.failed == [True]
-
-    sees("held_sees_other_numbers", same, [([(1, 2), (1, 2), (1, 2)],)], [([(1, 2), (1, 2), (1, 3)],), ([(1, 2), (2, 2)],)])
-    sees("held_sees_a_number_beyond_its_limits", within, [(5,), (6,), (7,)], [(4,), (8,)])
+    sees("held_sees_other_numbers", says("same"), [([(1, 2), (1, 2), (1, 2)],)], [([(1, 2), (1, 2), (1, 3)],), ([(1, 2), (2, 2)],)])
+    sees("held_sees_a_number_beyond_its_limits", says("within"), [(5, 5, 7), (6, 5, 7), (7, 5, 7)], [(4, 5, 7), (8, 5, 7)])
 
 
 for judge in (streams, memory, hostiles, helds):

@@ -1,6 +1,5 @@
-"""Runs `convert` and `summary` on captures of different lengths, and the other commands on inputs of
-two sizes, and asks how many bytes they held at most; and `chart` on the file of the largest picture,
-and asks how many it has."""
+"""Runs `convert` and `summary` on captures of different lengths, and the other commands on inputs of two sizes, and asks how many
+bytes they held at most; and `chart` on the file of the largest picture, and asks how many it has."""
 
 from __future__ import annotations
 
@@ -35,8 +34,8 @@ LINK = 62_000
 GATHERED = 2 * 65_536
 # What a conversion of one link holds besides: the manual says some 85 kB.
 LEAST_BESIDE, MOST_BESIDE = 80_500, 85_500
-# What a summary holds: some 635 kB.
-LEAST_OF_SUMMARY, MOST_OF_SUMMARY = 630_000, 640_000
+# What a summary holds: some 1.3 MB.
+LEAST_OF_SUMMARY, MOST_OF_SUMMARY = 1_280_000, 1_300_000
 
 # The sizes of an input: a vector that doubles has just the room that it needs. A file of as many
 # records has a picture of 1,440 columns, of 11 seconds or of 22.
@@ -49,8 +48,7 @@ MOST_OF_PICTURE = 7_500_000
 # The cells of an epoch: a 1004 gives two of a satellite, a 1074 one of each signal.
 CELLS = len(SATELLITES) * (2 + len(SIGNALS))
 WINDOWS = (64, 1000, 4096)
-# Of each kind the cells of the largest message, and what a record of all satellites and the three
-# codes takes, twice.
+# Of each kind the cells of the largest message, and what a record of all satellites and the three codes takes, twice.
 LARGEST = {"1074": 64, "1004": 62}
 RECORD = 2 * (36 + 32 * (4 + 48 * 3))
 
@@ -88,22 +86,16 @@ class Runs:
         with open(self.folder / name, "wb") as file:
             file.writelines(parts)
 
-    def held(
-        self, window: int, links: list[str], want: dict[str, int], stdin: str = ""
-    ) -> tuple[int, int]:
-        """How many bytes are held at most, and from the fourth read on, by a run whose counts are
-        these. What comes later may hide below what is held at the beginning."""
+    def ran(self, words: list[str], stdin: str = "") -> subprocess.CompletedProcess[bytes]:
         os.ftruncate(9, 0)
         with open(self.folder / stdin if stdin else os.devnull, "rb") as given:
-            ran = subprocess.run(
-                [self.program, "convert", *OPTIONS, str(window), *links],
-                cwd=self.folder,
-                env=self.environment,
-                stdin=given,
-                stdout=subprocess.DEVNULL,
-                stderr=subprocess.PIPE,
-                pass_fds=[9],
-            )
+            return subprocess.run([self.program, *words], cwd=self.folder, env=self.environment, stdin=given,
+                                  capture_output=True, pass_fds=[9])
+
+    def held(self, window: int, links: list[str], want: dict[str, int], stdin: str = "") -> tuple[int, int]:
+        """How many bytes are held at most, and from the fourth read on, by a run whose counts are
+        these. What comes later may hide below what is held at the beginning."""
+        ran = self.ran(["convert", *OPTIONS, str(window), *links], stdin)
         lines = [line.split() for line in ran.stderr.decode().splitlines()[-len(COUNTS) :]]
         counts = {words[0]: int(words[1]) for words in lines if words[1:] and words[1].isdigit()}
         if ran.returncode != 0 or counts != dict.fromkeys(COUNTS, 0) | want:
@@ -115,42 +107,18 @@ class Runs:
     def most(self, window: int, links: list[str], want: dict[str, int], stdin: str = "") -> int:
         return self.held(window, links, want, stdin)[0]
 
+    def of_command(self, words: list[str], begin: str = "") -> int:
+        """How many bytes a command holds at most, which ends well, and whose output begins so."""
+        ran = self.ran(words)
+        if ran.returncode != 0 or not ran.stdout.startswith(begin.encode()):
+            raise Failed(f"{' '.join(words)}: status {ran.returncode}, {ran.stdout[:40]!r}, and not {begin!r}")
+        return int(os.pread(9, 20, 0))
+
     def of_summary(self, name: str) -> int:
-        """How many bytes a summary holds at most."""
-        os.ftruncate(9, 0)
-        ran = subprocess.run(
-            [self.program, "summary", name],
-            cwd=self.folder,
-            env=self.environment,
-            stdin=subprocess.DEVNULL,
-            stdout=subprocess.PIPE,
-            pass_fds=[9],
-        )
-        size = f"bytes {(self.folder / name).stat().st_size}\n"
-        if ran.returncode != 0 or not ran.stdout.decode().startswith(size):
-            told = ran.stdout[:40]
-            raise Failed(f"summary {name}: status {ran.returncode}, {told!r}, and not {size}")
-        return int(os.pread(9, 20, 0))
-
-
-    def of_command(self, words: list[str]) -> int:
-        """How many bytes a command holds at most, which ends well."""
-        os.ftruncate(9, 0)
-        ran = subprocess.run(
-            [self.program, *words],
-            cwd=self.folder,
-            env=self.environment,
-            stdin=subprocess.DEVNULL,
-            stdout=subprocess.DEVNULL,
-            pass_fds=[9],
-        )
-        if ran.returncode != 0:
-            raise Failed(f"{' '.join(words)}: status {ran.returncode}")
-        return int(os.pread(9, 20, 0))
+        return self.of_command(["summary", name], f"bytes {(self.folder / name).stat().st_size}\n")
 
     def picture(self, name: str, *options: str) -> bytes:
-        words = [self.program, "chart", *options, name]
-        return subprocess.run(words, cwd=self.folder, check=True, stdout=subprocess.PIPE).stdout
+        return self.ran(["chart", *options, name]).stdout
 
 
 class Tests:
@@ -207,10 +175,7 @@ def write_captures(runs: Runs) -> None:
     epochs = single_satellite(100)
     for name, count in FEW_AND_MANY.items():
         runs.write(f"stations_{name}", [epochs, stations * count])
-        runs.write(
-            f"other_stations_{name}",
-            [stations, others * count, epochs, (stations + others) * count],
-        )
+        runs.write(f"other_stations_{name}", [stations, others * count, epochs, (stations + others) * count])
         runs.write(f"late_{name}", [single_satellite(3), first * count])
         runs.write(f"foreign_{name}", [foreign] * count)
         runs.write(f"zeros_{name}", [bytes(100)] * count)
@@ -232,12 +197,7 @@ def counts_of(hours: int, links: int) -> dict[str, int]:
     seconds = 3600 * hours
     frames = 2 * seconds + 60 * hours
     taken = 2 * seconds + 1
-    return {
-        "frames": links * frames,
-        "taken": taken,
-        "repeat": links * frames - taken,
-        "epochs": seconds,
-    }
+    return {"frames": links * frames, "taken": taken, "repeat": links * frames - taken, "epochs": seconds}
 
 
 # refuses: a `with_room` that never gives back a spare list of less room
@@ -245,20 +205,15 @@ def counts_of(hours: int, links: int) -> dict[str, int]:
 # refuses: a `Setup` with one more field that grows
 def lengths_alike(runs: Runs, tests: Tests) -> None:
     """An hour, ten hours and a day: the same number of bytes."""
+    lengths = "an hour, ten hours and a day"
+    due = {name: counts_of(hours, 1) for name, hours in HOURS.items()}
     for window in (2, 64):
-        due = {name: counts_of(hours, 1) for name, hours in HOURS.items()}
-        tests.same(
-            f"window {window}, an hour, ten hours and a day of standard input",
-            [runs.held(window, ["stdin"], due[name], stdin=name) for name in HOURS],
-        )
-        tests.same(
-            f"window {window}, an hour, ten hours and a day of a file",
-            [runs.held(window, [name], due[name]) for name in HOURS],
-        )
-    tests.same(
-        "an hour, ten hours and a day on two links",
-        [runs.held(64, [name, name], counts_of(hours, 2)) for name, hours in HOURS.items()],
-    )
+        held = [runs.held(window, ["stdin"], due[name], stdin=name) for name in HOURS]
+        tests.same(f"window {window}, {lengths} of standard input", held)
+        held = [runs.held(window, [name], due[name]) for name in HOURS]
+        tests.same(f"window {window}, {lengths} of a file", held)
+    held = [runs.held(64, [name, name], counts_of(hours, 2)) for name, hours in HOURS.items()]
+    tests.same(f"{lengths} on two links", held)
     few_and_many = FEW_AND_MANY.items()
     late = [{"frames": 3 + n, "taken": 3, "epochs": 3, "late": n} for _, n in few_and_many]
     foreign = [{"frames": n, "foreign": n} for _, n in few_and_many]
@@ -288,6 +243,13 @@ def lengths_alike(runs: Runs, tests: Tests) -> None:
         tests.same(f"few and many of {kind.replace('_', ' ')}", held)
 
 
+def within_of_window_2(tests: Tests, what: str, held: dict[int, int], room: int) -> None:
+    """What each window holds over one of two epochs: for each epoch so much, and a little more."""
+    for size in [*held][1:]:
+        name = f"window {size} over window 2, of {what}"
+        tests.within(name, held[size] - held[2], (size - 2) * room, (size - 2) * (room + EPOCH))
+
+
 # refuses: a `first_room` that asks for more room, of one kind of message or of the other
 # refuses: a `RecordLines` with room for some 5,000 bytes more than 32 lines need
 # refuses: a `close` of an epoch that makes more room in the text that is kept
@@ -296,27 +258,14 @@ def grows_with_window(runs: Runs, tests: Tests) -> None:
     held besides the epochs does not grow with the window, and is no more than the manual says."""
     due = counts_of(10, 1)
     single = {"frames": 5000, "taken": 5000, "epochs": 5000}
-    for name, cells, counts in (
-        ("10", CELLS, due),
-        ("single", 2, single),
-        ("msm", len(SATELLITES) * len(SIGNALS), single),
-    ):
+    for name, cells, counts in (("10", CELLS, due), ("single", 2, single), ("msm", len(SATELLITES) * len(SIGNALS), single)):
         held = {size: runs.most(size, [name], counts) for size in (2, *WINDOWS)}
         room = CELL * max(cells, FEWEST_CELLS)
         for size in held:
-            tests.within(
-                f"window {size} of epochs of {cells} cells, and what is held besides",
-                held[size] - GATHERED,
-                size * room + LEAST_BESIDE,
-                size * (room + EPOCH) + MOST_BESIDE,
-            )
-        for size in WINDOWS:
-            tests.within(
-                f"window {size} over window 2, of epochs of {cells} cells",
-                held[size] - held[2],
-                (size - 2) * room,
-                (size - 2) * (room + EPOCH),
-            )
+            name = f"window {size} of epochs of {cells} cells, and what is held besides"
+            most = size * (room + EPOCH) + MOST_BESIDE
+            tests.within(name, held[size] - GATHERED, size * room + LEAST_BESIDE, most)
+        within_of_window_2(tests, f"epochs of {cells} cells", held, room)
 
 
 # refuses: a `join_other` or a `put_at` that makes room for more cells or epochs than are new
@@ -329,14 +278,7 @@ def grows_alike_out_of_order(runs: Runs, tests: Tests) -> None:
         for size in (2, *WINDOWS):
             part = {"frames": 5000, "taken": size, "late": 5000 - size, "epochs": size}
             held[size] = runs.most(size, [name], whole if cells == CELLS else part)
-        room = CELL * max(cells, FEWEST_CELLS)
-        for size in WINDOWS:
-            tests.within(
-                f"window {size} over window 2, of {name.replace('_', ' ')}",
-                held[size] - held[2],
-                (size - 2) * room,
-                (size - 2) * (room + EPOCH),
-            )
+        within_of_window_2(tests, name.replace("_", " "), held, CELL * max(cells, FEWEST_CELLS))
 
 
 # refuses: a `first_room` that counts the room of the epoch before in place of its cells
@@ -347,12 +289,9 @@ def large_epoch_before_small_ones(runs: Runs, tests: Tests) -> None:
     small = runs.most(1000, ["single"], counts)
     for kind, cells in LARGEST.items():
         more = CELL * (cells - FEWEST_CELLS)
-        tests.within(
-            f"window 1000 over an epoch of a large {kind} and then small ones, over small ones",
-            runs.most(1000, [f"large_{kind}"], counts) - small,
-            2 * more,
-            2 * more + RECORD,
-        )
+        over = runs.most(1000, [f"large_{kind}"], counts) - small
+        name = f"window 1000 over an epoch of a large {kind} and then small ones, over small ones"
+        tests.within(name, over, 2 * more, 2 * more + RECORD)
 
 
 # refuses: a `first_room` that asks for more room, of one kind of message or of the other
@@ -361,13 +300,8 @@ def kinds_of_unlike_cells(runs: Runs, tests: Tests) -> None:
     has and whichever comes first."""
     counts = {"frames": 10_000, "taken": 10_000, "epochs": 5000}
     for name in UNLIKE:
-        held = [runs.most(size, [name], counts) for size in (2, 1000)]
-        tests.within(
-            f"window 1000 over window 2, of a {name.replace('_', ' ')}",
-            held[1] - held[0],
-            998 * CELL * UNLIKE_CELLS,
-            998 * (CELL * UNLIKE_CELLS + EPOCH),
-        )
+        held = {size: runs.most(size, [name], counts) for size in (2, 1000)}
+        within_of_window_2(tests, f"a {name.replace('_', ' ')}", held, CELL * UNLIKE_CELLS)
 
 
 def most_room(size: int) -> int:
@@ -385,12 +319,8 @@ def room_rises_and_falls(runs: Runs, tests: Tests) -> None:
     room = CELL * (most_room(1000) - most_room(2))
     for kind in LARGEST:
         held = [runs.most(size, [f"rising_and_falling_{kind}_a"], counts) for size in (2, 1000)]
-        tests.within(
-            f"window 1000 over window 2, of a {kind} of satellites that rise and fall",
-            held[1] - held[0],
-            room,
-            room + 998 * EPOCH,
-        )
+        name = f"window 1000 over window 2, of a {kind} of satellites that rise and fall"
+        tests.within(name, held[1] - held[0], room, room + 998 * EPOCH)
 
 
 # refuses: a list of links or a line that has much more room than it needs
@@ -399,12 +329,7 @@ def grows_with_links(runs: Runs, tests: Tests) -> None:
     numbers = (1, 2, 5, 9, 16)
     held = {links: runs.most(64, ["01"] * links, counts_of(1, links)) for links in numbers}
     for links in numbers[1:]:
-        tests.within(
-            f"{links} links over one",
-            held[links] - held[1],
-            (links - 1) * (READ_AHEAD + SCANNED),
-            (links - 1) * LINK,
-        )
+        tests.within(f"{links} links over one", held[links] - held[1], (links - 1) * (READ_AHEAD + SCANNED), (links - 1) * LINK)
     followed = runs.most(64, ["stdin"], counts_of(1, 1), stdin="01")
     gathered = held[1] - followed
     tests.within("gathered where no link is standard input", gathered, GATHERED, GATHERED)
@@ -443,9 +368,8 @@ def inputs_held_once(runs: Runs, tests: Tests) -> None:
 
 # refuses: a `chart_text` or a `chart_svg` that gives up at a large picture
 def largest_picture(runs: Runs, tests: Tests) -> None:
-    """Each mark is in each column: of each satellite a slip, a half cycle, a strength and of each
-    code a phase in some epochs; and a missing epoch in all columns but the last. In characters the
-    picture is compared whole."""
+    """Each mark is in each column: of each satellite a slip, a half cycle, a strength and of each code a phase in some epochs; and
+    a missing epoch in all columns but the last. In characters the picture is compared whole."""
     runs.write("largest", largest())
     picture = runs.picture("largest")
     marks = len(re.findall(rb"M\d+ 0[vh]", picture))

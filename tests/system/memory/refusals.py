@@ -1,5 +1,4 @@
-"""Runs the program on command lines: with each growth of memory refused in turn, on a small stack, and
-in little address space."""
+"""Runs the program on command lines: with each growth of memory refused in turn, on a small stack, and in little address space."""
 
 from __future__ import annotations
 
@@ -17,8 +16,7 @@ OUT_OF_MEMORY = b"rtcm2rinex: out of memory\n"
 COUNTS = 9  # the lines at the end of a report
 NEWLINE = b"\n"
 STACK = 128  # kB, as docs/MANUAL.md says
-# kB of address space: from twice what the program and the C library take, some 3,000, to twice what
-# the file `long` of 10 MB needs.
+# kB of address space: from twice what the program and the C library take, some 3,000, to twice what the file `long` of 10 MB needs.
 SPACES = range(6_000, 40_000, 2_000)
 
 
@@ -225,13 +223,7 @@ def fits_space(program: Program, scene: Scene) -> bool:
     return True
 
 
-OPTIONS = {
-    "station": "2003",
-    "near": "2024-05-17T12:00:00",
-    "made": "2024-05-17T13:00:00",
-    "marker": "BASE",
-    "codes": "1C,2W,5X",
-}
+OPTIONS = {"station": "2003", "near": "2024-05-17T12:00:00", "made": "2024-05-17T13:00:00", "marker": "BASE", "codes": "1C,2W,5X"}
 
 
 def convert(*links: str, **options: str) -> list[str]:
@@ -269,78 +261,59 @@ def scenes() -> Iterator[Scene]:
     base, late = "examples/base.rtcm", "examples/late.rtcm"
     first, second = "examples/session_link1.rtcm", "examples/session_link2.rtcm"
 
-    # What is asked for.
-    yield Scene(["--help"])
-    yield Scene(["help", "convert"])
-    yield Scene(["--version"])
-
-    # Work that is done, and work that isn't.
-    yield Scene(["show", base])
+    # Texts, and work that is done.
+    for words in ("--help", "help convert", "--version", f"show {base}", f"summary {base}", "summary many"):
+        yield Scene(words.split())
+    for words in ("check examples/base.rnx", "chart examples/marks.rnx", "chart --text examples/marks.rnx"):
+        yield Scene(words.split())
     yield Scene(["show", "--hex", "stdin"], given="examples/arp1005.hex")
-    yield Scene(["show", "--hex", base], status=1)
-    yield Scene(["show", "nowhere"], status=1)
-    yield Scene(["check", "examples/base.rnx"])
-    yield Scene(["check", base], status=3)
-    yield Scene(["check", "wrong"], status=3)
-    yield Scene(["summary", base])
-    yield Scene(["chart", "examples/marks.rnx"])
-    yield Scene(["chart", "--text", "examples/marks.rnx"])
-    yield Scene(["chart", "wrong"], status=3)
-    yield Scene(["summary", "many"])
     # refuses: a search for a place that calls itself, or a body that takes much of the stack for what few messages need
-    yield Scene(["show", "rare"])
-    # refuses: a search for a place that calls itself, or a body that takes much of the stack for what few messages need
-    yield Scene(["summary", "rare"])
+    for words in ("show rare", "summary rare"):
+        yield Scene(words.split())
+    yield of_file("rare", window="4096")
     # refuses: a search or a `feed` that calls itself for each candidate
-    yield Scene(["show", "preambles"])
-    yield Scene(["summary", "preambles"])
+    for words in ("show preambles", "summary preambles"):
+        yield Scene(words.split())
+    yield of_file("preambles")
+    # Of more text than is gathered, as of `slips`, each record takes memory.
     # refuses: a `cut_input` that writes something else if memory is refused
-    yield Scene(["cut", "--every", "30", "examples/slip.rnx"])
-    yield Scene(["cut", "--from", "2024-05-17T12:00:30", "examples/slip.rnx"])
-    yield Scene(["cut", "--every", "30", base], status=3)
-    # Of more text than is gathered, each record takes memory.
-    # refuses: a `cut_input` that writes something else if memory is refused
-    yield Scene(["cut", "--every", "30", "slips"])
+    for words in ("--every 30 examples/slip.rnx", "--from 2024-05-17T12:00:30 examples/slip.rnx", "--every 30 slips"):
+        yield Scene(["cut", *words.split()])
     yield of_file(base)
     yield of_file(late, window="2")
     yield Scene(convert("stdin", second, window="4"), given=first)
     yield Scene(convert(*[first, second] * 8))
     yield of_file("split", window="2")
     yield of_file("many", window="4096")
-    # refuses: a search for a place that calls itself, or a body that takes much of the stack for what few messages need
-    yield of_file("rare", window="4096")
-    # refuses: a search or a `feed` that calls itself for each candidate
-    yield of_file("preambles")
     # Of a longer file and a longer report than are gathered, each line takes memory.
     yield of_file("again", window="2")
+
+    # Work that isn't done.
+    for words in (f"show --hex {base}", "show nowhere"):
+        yield Scene(words.split(), status=1)
     yield Scene(convert(base, "nowhere"), status=1)
+    for words in (f"check {base}", "check wrong", "chart wrong", f"cut --every 30 {base}"):
+        yield Scene(words.split(), status=3)
 
     # Words that are refused: by clap, and by us.
-    yield Scene([], status=2)
-    yield Scene(["shew", "a"], status=2, looks=True)
-    yield Scene(["show", "--hax", "a"], status=2, looks=True)
+    for words in ("shew a", "show --hax a"):
+        yield Scene(words.split(), status=2, looks=True)
     yield Scene(convert("a", windo="2"), status=2, looks=True)
-    yield Scene(["show"], status=2)
-    yield Scene(["cut", base], status=2)
-    yield Scene(["cut", "--until", "noon", base], status=2)
-    yield Scene(["show", "a", "b"], status=2)
-    yield Scene(["show", "--hex", "--hex", "a"], status=2)
-    yield Scene(convert("a", station="4096"), status=2)
-    yield Scene(convert("a", near="noon"), status=2)
-    yield Scene(convert("a", codes="1C,9Z"), status=2)
-    yield Scene(convert("a", marker=" "), status=2)
-    yield Scene(convert("stdin", "stdin"), status=2)
-    yield Scene(convert(*"abcdefghijklmnopq"), status=2)
-    yield Scene(convert("a", near="1980-01-06T00:00:00"), status=2)
+    for words in ("", "show", "show a b", "show --hex --hex a", f"cut {base}", f"cut --until noon {base}"):
+        yield Scene(words.split(), status=2)
+    for near in ("noon", "1980-01-06T00:00:00"):
+        yield Scene(convert("a", near=near), status=2)
+    for option, value in (("station", "4096"), ("codes", "1C,9Z"), ("marker", " ")):
+        yield Scene(convert("a", **{option: value}), status=2)
+    for links in (["stdin", "stdin"], "abcdefghijklmnopq"):
+        yield Scene(convert(*links), status=2)
 
 
 # refuses: a command that ends by a signal in little address space
 def scenes_of_space() -> Iterator[Scene]:
     """What holds a whole file."""
-    yield Scene(["check", "long"])
-    yield Scene(["chart", "long"])
-    yield Scene(["chart", "--text", "long"])
-    yield Scene(["cut", "--every", "30", "long"])
+    for words in ("check", "chart", "chart --text", "cut --every 30"):
+        yield Scene([*words.split(), "long"])
 
 
 def main() -> None:

@@ -10,7 +10,6 @@ In a scene that breaks nothing: the very bytes and the status of the good run.
 
 import errno
 import fcntl
-import functools
 import multiprocessing
 import os
 import re
@@ -19,8 +18,8 @@ import signal
 import struct
 import subprocess
 import sys
-import threading
 import time
+from concurrent.futures import ThreadPoolExecutor
 from dataclasses import dataclass, field, replace
 
 from wire import crc24q
@@ -44,9 +43,7 @@ MOST_INTERRUPTIONS = 1000  # so often in a row an interrupted call is made again
 
 # What the program does not do yet. A scene of this list that fails is told, and isn't counted; one
 # that passes is counted, and then its line here is to go.
-NOT_YET = {
-    "a limit of the file's size": "SIGXFSZ ends the program: no fault line, no status of its own",
-}
+NOT_YET = {"a limit of the file's size": "SIGXFSZ ends the program: no fault line, no status of its own"}
 
 
 # Runs.
@@ -82,10 +79,6 @@ class Disturbance:
     ignored: bool = False  # the caller ignores SIGPIPE and SIGXFSZ
 
 
-def kill(running, _number, _frame):
-    os.kill(running, signal.SIGKILL)
-
-
 def stream(number, to, flags):
     """What makes a standard stream of a name, a descriptor, or none."""
     if to is None:
@@ -95,10 +88,14 @@ def stream(number, to, flags):
     return os.POSIX_SPAWN_OPEN, number, to, flags, 0o600
 
 
-def start(case, disturbance, at):
-    """Starts a run, and answers its number and the files of its standard output and error. One
-    that takes too long is ended."""
-    out, err = f"{at}.out", f"{at}.err"
+def own():
+    """The beginning of the names of this process's files."""
+    return os.path.join(WORK, str(os.getpid()))
+
+
+def start(case, disturbance):
+    """Starts a run, and answers its number and the files of its standard output and error. One that takes too long is ended."""
+    out, err = f"{own()}.out", f"{own()}.err"
     made = os.O_WRONLY | os.O_CREAT | os.O_TRUNC
     for name in [out, err]:
         with open(name, "wb"):
@@ -115,12 +112,11 @@ def start(case, disturbance, at):
         resource.setrlimit(kind, (limit, before[kind][1]))
     signals = [] if disturbance.ignored else [signal.SIGPIPE, signal.SIGXFSZ]
     try:
-        running = os.posix_spawn(PROGRAM, ["rtcm2rinex", *case.words], environment,
-                                 file_actions=streams, setsigdef=signals)
+        running = os.posix_spawn(PROGRAM, ["rtcm2rinex", *case.words], environment, file_actions=streams, setsigdef=signals)
     finally:
         for kind, limit in before.items():
             resource.setrlimit(kind, limit)
-    signal.signal(signal.SIGALRM, functools.partial(kill, running))
+    signal.signal(signal.SIGALRM, lambda *_: os.kill(running, signal.SIGKILL))
     signal.setitimer(signal.ITIMER_REAL, SECONDS)
     return running, out, err
 
@@ -132,9 +128,8 @@ def end(running, out, err):
     return Left(os.waitstatus_to_exitcode(answer), content(out), content(err))
 
 
-def run(case, disturbance=Disturbance(), at=""):
-    at = at or os.path.join(WORK, str(os.getpid()))
-    return end(*start(case, disturbance, at))
+def run(case, disturbance=Disturbance()):
+    return end(*start(case, disturbance))
 
 
 def content(name):
@@ -170,8 +165,7 @@ def epochs(seconds):
 
 
 def records(count):
-    """A file of so many records, one each second from the noon of the examples on: the record of
-    base.rnx with other times."""
+    """A file of so many records, one each second from the noon of the examples on: the record of base.rnx with other times."""
     header, epoch, line = content(example("base.rnx")).rpartition(b"> 2024 05 17 12 00  0.0000000")
     text = [header]
     for second in range(count):
@@ -186,6 +180,10 @@ OPTIONS = ("--station", "2003", "--near", "2024-05-17T12:00:00", "--made", "2024
 SAYS_NO = "check that says no"
 TWO_LINKS = "convert of two links"
 BESIDE_A_FILE = "convert of standard input and a file"
+
+
+# Each command that takes one file.
+COMMANDS = [("show",), ("show", "--hex"), ("check",), ("summary",), ("chart",), ("chart", "--text"), ("cut", "--every", "1")]
 
 
 def convert(name, *words, given=NOTHING):
@@ -225,23 +223,17 @@ def cases():
         Case("cut", ("cut", "--every", "30", example("slip.rnx"))),
         Case("cut of standard input", ("cut", "--every", "1", "stdin"), example("session.rnx")),
         Case("cut of a long file", ("cut", "--from", "2024-05-17T12:00:07", records(1500))),
-        convert("convert", "--window", "2", example("late.rtcm")),
         convert(TWO_LINKS, *session),
-        convert("convert of standard input", "--window", "2", "stdin",
-                given=example("late.rtcm")),
         convert(BESIDE_A_FILE, "stdin", session[1], given=session[0]),
-        convert("convert of a long file", "--window", "2", long),
-        convert("convert of a long standard input", "--window", "2", "stdin", given=long),
-        convert("convert with a long report", "--window", "2", late),
-        convert("convert of standard input with a long report", "--window", "2", "stdin",
-                given=late),
-        convert("convert of a long file with an early line", "--window", "2", late_early),
-        convert("convert of a long standard input with an early line", "--window", "2", "stdin",
-                given=late_early),
-        convert("convert of closed records before a long report", "--window", "2", late_at_last),
-        convert("convert of standard input, closed records before a long report", "--window", "2",
-                "stdin", given=late_at_last),
     ]
+    for name, file in [
+            ("convert", example("late.rtcm")),
+            ("convert of a long file", long),
+            ("convert with a long report", late),
+            ("convert of a long file with an early line", late_early),
+            ("convert of closed records before a long report", late_at_last)]:
+        listed.append(convert(name, "--window", "2", file))
+        listed.append(convert(f"{name}, from standard input", "--window", "2", "stdin", given=file))
     return {case.name: case for case in listed}
 
 
@@ -302,9 +294,8 @@ def order_of(case, good):
 
 
 class Stream:
-    """How many bytes of a stream are out. So many are gathered before a write; a text for which
-    there is no room goes after what was gathered. In all so many are taken, and the write of one
-    number takes nothing."""
+    """How many bytes of a stream are out. So many are gathered before a write; a text for which there is no room goes after what
+    was gathered. In all so many are taken, and the write of one number takes nothing."""
 
     def __init__(self, room, takes=None, fails=None):
         self.room, self.takes, self.fails = room, takes, fails
@@ -393,8 +384,7 @@ def broken_off(left, good, faults, out=None, told=None):
 
 
 def told_in_part(left, good, status, err, out=None):
-    """This status, the first so many bytes of standard error, and a first part of the output (so
-    many bytes, where it is said)."""
+    """This status, the first so many bytes of standard error, and a first part of the output (so many bytes, where it is said)."""
     if left.status != status:
         return f"status {left.status}"
     if left.err != good.err[:err]:
@@ -433,8 +423,7 @@ def scene(name):
 
 
 def every(count, most=4000):
-    """Each number below count; where these are too many, those near its ends and near what is
-    gathered, and some between."""
+    """Each number below count; where these are too many, those near its ends and near what is gathered, and some between."""
     if count <= most:
         return range(count)
     near = [place + by for place in range(0, count + 2, GATHERED) for by in [-1, 0, 1]]
@@ -442,29 +431,31 @@ def every(count, most=4000):
     return sorted({k for k in [*near, *spread, 1, 2, count - 2, count - 1] if 0 <= k < count})
 
 
-def disturbed(name, disturbance, check, **more):
+def shim(**settings):
+    return Disturbance(settings)
+
+
+def tried(name, what, disturbance, check, *more):
     """One run of a case, and what it must leave."""
-    left = run(CASES[name], disturbance)
-    return check(left, GOOD[name], **more)
+    return f"{name}, {what}", disturbed, name, disturbance, check, *more
 
 
-def tried(name, what, disturbance, check, **more):
-    return f"{name}, {what}", functools.partial(disturbed, name, disturbance, check, **more)
+def disturbed(name, disturbance, check, *more):
+    return check(run(CASES[name], disturbance), GOOD[name], *more)
 
 
-def breaks(name, what, disturbance, fault, out=None, **at):
-    """One run of a case that breaks off. Of a conversion it is said `at` what, and so what is out;
-    of other commands how many bytes are."""
-    return f"{name}, {what}", functools.partial(broken, name, disturbance, fault, out, at)
+def breaks(name, what, disturbance, fault, **at):
+    """One run of a case that breaks off, `at` so many bytes, frames or writes."""
+    return f"{name}, {what}", broken, name, disturbance, fault, at
 
 
-def broken(name, disturbance, fault, out, at):
-    return due_where_broken(name, run(CASES[name], disturbance), fault, out, at)
+def broken(name, disturbance, fault, at):
+    return due_where_broken(name, run(CASES[name], disturbance), fault, at)
 
 
-def due_where_broken(name, left, fault, out, at):
+def due_where_broken(name, left, fault, at):
     if name not in ORDER:
-        return broken_off(left, GOOD[name], [fault], out, told=0)
+        return broken_off(left, GOOD[name], [fault], out_where_broken(GOOD[name], at), told=0)
     if at.get("frames") is not None and not has_known_frames(CASES[name]):
         # a report whose lines are its counts, which come last
         faults = ["read failed", "write failed"] if len(at) > 1 else ["read failed"]
@@ -473,13 +464,21 @@ def due_where_broken(name, left, fault, out, at):
     return broken_off(left, GOOD[name], [due.fault], due.out, due.told)
 
 
+def out_where_broken(good, at):
+    """How many bytes of another command than `convert` are out, where it is known: what is gathered of a long output is
+    tried again at the end."""
+    if "frames" in at or at.get("fails") == 1 and len(good.out) <= GATHERED:
+        return 0
+    return at.get("takes")
+
+
 @scene("nothing disturbs: the files and reports of the examples")
 def _undisturbed():
     due = Left(0, content(example("session.rnx")), content(example("session_links.report")))
     for name in [TWO_LINKS, BESIDE_A_FILE]:
-        yield name, functools.partial(same, GOOD[name], due)
+        yield name, same, GOOD[name], due
     for name in CASES:
-        yield tried(name, "the shim alone", Disturbance({"PIECE": 0}), same)
+        yield tried(name, "the shim alone", shim(PIECE=0), same)
 
 
 # refuses: after a failed write, a first part of the file or the report of another length, or the report before the file
@@ -488,8 +487,7 @@ def _undisturbed():
 def _out_is_full():
     for name in CASES:
         for k in every(len(GOOD[name].out)):
-            yield breaks(name, f"{k} bytes", Disturbance({"TAKES_1": k}), "write failed", out=k,
-                         takes=k)
+            yield breaks(name, f"{k} bytes", shim(TAKES_1=k), "write failed", takes=k)
 
 
 @scene("standard output takes k bytes, and fails for other reasons, or takes nothing")
@@ -497,9 +495,7 @@ def _out_fails():
     for name in CASES:
         for fault in [errno.EIO, errno.EPIPE, errno.EAGAIN, errno.EDQUOT, 0]:
             for k in every(len(GOOD[name].out), 0)[::10]:
-                yield breaks(name, f"{k} bytes, errno {fault}",
-                             Disturbance({"TAKES_1": k, "FAULT": fault}), "write failed", out=k,
-                             takes=k)
+                yield breaks(name, f"{k} bytes, errno {fault}", shim(TAKES_1=k, FAULT=fault), "write failed", takes=k)
 
 
 # refuses: after a failed write, a first part of the file or the report of another length, or the report before the file
@@ -507,8 +503,8 @@ def _out_fails():
 def _report_is_full():
     for name in CASES:
         for k in every(len(GOOD[name].err)):
-            yield tried(name, f"{k} bytes", Disturbance({"TAKES_2": k}), told_in_part,
-                        status=1, err=k, out=so_far(name, report_takes=k).out)
+            out = so_far(name, report_takes=k).out
+            yield tried(name, f"{k} bytes", shim(TAKES_2=k), told_in_part, 1, k, out)
 
 
 @scene("standard error takes k bytes of a line or text of refusal, each k below its length")
@@ -521,12 +517,11 @@ def _refusal_is_cut():
         case = Case(" ".join(words), words)
         good = run(case)
         for k in range(len(good.err) + 1):
-            yield f"{case.name}, {k} bytes", functools.partial(
-                refused_in_part, case, k, good, status)
+            yield f"{case.name}, {k} bytes", refused_in_part, case, k, good, status
 
 
 def refused_in_part(case, k, good, status):
-    return told_in_part(run(case, Disturbance({"TAKES_2": k})), good, status, k, 0)
+    return told_in_part(run(case, shim(TAKES_2=k)), good, status, k, 0)
 
 
 @scene("both outputs are full")
@@ -534,7 +529,7 @@ def _both_are_full():
     for name in CASES:
         for k in every(len(GOOD[name].out), 0)[::10]:
             for j in [0, 1, len(GOOD[name].err) // 2, len(GOOD[name].err) + 5]:
-                yield f"{name}, {k} and {j} bytes", functools.partial(both_full, name, k, j)
+                yield f"{name}, {k} and {j} bytes", both_full, name, k, j
 
 
 def both_full(name, k, j):
@@ -544,38 +539,26 @@ def both_full(name, k, j):
     if name in ORDER:
         due = so_far(name, takes=k, report_takes=j)
     told = good.err[:due.told] + f"rtcm2rinex: {due.fault}\n".encode()
-    left = run(CASES[name], Disturbance({"TAKES_1": k, "TAKES_2": j}))
+    left = run(CASES[name], shim(TAKES_1=k, TAKES_2=j))
     return same(left, Left(1, good.out[:due.out], told[:j]))
 
 
+# refuses: a file that is not opened since standard input is closed
 @scene("the device /dev/full, and closed streams")
 def _devices():
     for name, case in CASES.items():
         good = GOOD[name]
         for to, what in [("/dev/full", "full"), (None, "closed")]:
-            yield breaks(name, f"standard output {what}", Disturbance(out=to), "write failed",
-                         out=0, takes=0)
+            yield breaks(name, f"standard output {what}", Disturbance(out=to), "write failed", takes=0)
             status = 1 if good.err else good.status
             whole = so_far(name, report_takes=0).out if good.err else len(good.out)
-            yield tried(name, f"standard error {what}", Disturbance(err=to), told_in_part,
-                        status=status, err=0, out=whole)
-        yield tried(name, "both closed", Disturbance(out=None, err=None), told_in_part, status=1,
-                    err=0, out=0)
+            yield tried(name, f"standard error {what}", Disturbance(err=to), told_in_part, status, 0, whole)
+        yield tried(name, "both closed", Disturbance(out=None, err=None), told_in_part, 1, 0, 0)
         if "stdin" not in case.words:
-            yield breaks(name, "standard input and output closed",
-                         Disturbance(given=None, out=None), "write failed", out=0, takes=0)
-        elif name != BESIDE_A_FILE:
+            yield breaks(name, "standard input and output closed", Disturbance(given=None, out=None), "write failed", takes=0)
+        else:
             for out, what in [("", ""), (None, " and output")]:
-                yield f"{name}, standard input{what} closed", functools.partial(
-                    fails, case, "read failed", Disturbance(given=None, out=out))
-
-
-# refuses: a file that is not opened since standard input is closed
-@scene("a closed standard input beside a file")
-def _closed_beside_a_file():
-    for out, what in [("", "standard input"), (None, "standard output too")]:
-        yield what, functools.partial(fails, CASES[BESIDE_A_FILE], "read failed",
-                                      Disturbance(given=None, out=out))
+                yield f"{name}, standard input{what} closed", fails, case, "read failed", Disturbance(given=None, out=out)
 
 
 @scene("a limit of the file's size, whose signal the caller ignores")
@@ -591,18 +574,17 @@ def _size_is_limited_by_signal():
 def limited(ignored, step):
     for name in CASES:
         for k in every(len(GOOD[name].out), 0)[::step]:
-            yield f"{name}, {k} bytes", functools.partial(limited_run, name, k, ignored)
+            yield f"{name}, {k} bytes", limited_run, name, k, ignored
 
 
 def limited_run(name, k, ignored):
     """The limit is that of standard output alone: standard error is a pipe."""
-    with Pipe() as pipe:
-        told = pipe.read_all()
-        left = run(CASES[name], Disturbance(limits={resource.RLIMIT_FSIZE: k}, err=pipe.writes,
-                                            ignored=ignored))
-        pipe.close_writes()
-        return due_where_broken(name, Left(left.status, left.out, told()), "write failed", k,
-                                {"takes": k})
+    with Pipe() as pipe, ThreadPoolExecutor(1) as reader:
+        told = reader.submit(pipe.reads.readall)
+        limits = {resource.RLIMIT_FSIZE: k}
+        left = run(CASES[name], Disturbance(limits=limits, err=pipe.writes.fileno(), ignored=ignored))
+        pipe.writes.close()
+        return due_where_broken(name, Left(left.status, left.out, told.result()), "write failed", {"takes": k})
 
 
 # Pipes.
@@ -611,7 +593,8 @@ class Pipe:
     """A pipe, whose ends are closed at last."""
 
     def __init__(self, size=0):
-        self.reads, self.writes = os.pipe()
+        reads, writes = os.pipe()
+        self.reads, self.writes = os.fdopen(reads, "rb", 0), os.fdopen(writes, "wb", 0)
         if size:
             fcntl.fcntl(self.writes, fcntl.F_SETPIPE_SZ, size)
 
@@ -619,38 +602,13 @@ class Pipe:
         return self
 
     def __exit__(self, *_):
-        self.close_reads()
-        self.close_writes()
-
-    def close_reads(self):
-        if self.reads is not None:
-            os.close(self.reads)
-        self.reads = None
-
-    def close_writes(self):
-        if self.writes is not None:
-            os.close(self.writes)
-        self.writes = None
-
-    def read_all(self):
-        """Begins to read to the end; the answer waits for it."""
-        parts = []
-
-        def follow():
-            while part := os.read(self.reads, 65_536):
-                parts.append(part)
-        reader = threading.Thread(target=follow)
-        reader.start()
-
-        def whole():
-            reader.join()
-            return b"".join(parts)
-        return whole
+        self.reads.close()
+        self.writes.close()
 
     def read_some(self, count):
         """So many bytes, or what there is up to the end."""
         text = b""
-        while len(text) < count and (part := os.read(self.reads, count - len(text))):
+        while len(text) < count and (part := self.reads.read(count - len(text))):
             text += part
         return text
 
@@ -662,20 +620,20 @@ def _reader_goes_away():
         # a pipe takes 4,096 bytes more, which the program can't know to be lost
         for k in [0, *(k for k in every(length - 4096 - 1, 0)[::9] if k > 0)]:
             for ignored in [False, True]:
-                yield f"{name}, {k} bytes", functools.partial(reader_leaves, name, k, ignored)
+                yield f"{name}, {k} bytes", reader_leaves, name, k, ignored
 
 
 def reader_leaves(name, k, ignored):
     with Pipe(4096) as pipe:
-        disturbance = Disturbance(out=pipe.writes, ignored=ignored)
+        disturbance = Disturbance(out=pipe.writes.fileno(), ignored=ignored)
         if k == 0:
-            pipe.close_reads()
-        running = start(CASES[name], disturbance, os.path.join(WORK, str(os.getpid())))
-        pipe.close_writes()
+            pipe.reads.close()
+        running = start(CASES[name], disturbance)
+        pipe.writes.close()
         head = b""
         if k > 0:
             head = pipe.read_some(k)
-            pipe.close_reads()
+            pipe.reads.close()
         left = end(*running)
         left = Left(left.status, head, left.err)
         if fault := broken_off(left, GOOD[name], ["write failed"], k):
@@ -690,29 +648,28 @@ def reader_leaves(name, k, ignored):
 def _pipe_does_not_wait():
     for name in CASES:
         if len(GOOD[name].out) > 4096:
-            yield name, functools.partial(full_pipe, name)
+            yield name, full_pipe, name
     for name, case in CASES.items():
         if not is_gathered(case):
-            yield f"{name}, an empty pipe", functools.partial(empty_pipe, name)
+            yield f"{name}, an empty pipe", empty_pipe, name
 
 
 def full_pipe(name):
     with Pipe(4096) as pipe:
-        os.set_blocking(pipe.writes, False)
-        left = run(CASES[name], Disturbance(out=pipe.writes))
-        pipe.close_writes()
+        os.set_blocking(pipe.writes.fileno(), False)
+        left = run(CASES[name], Disturbance(out=pipe.writes.fileno()))
+        pipe.writes.close()
         head = pipe.read_some(8192)
-        return due_where_broken(name, Left(left.status, head, left.err), "write failed",
-                                max(len(head), 1), {"takes": max(len(head), 1)})
+        return due_where_broken(name, Left(left.status, head, left.err), "write failed", {"takes": max(len(head), 1)})
 
 
 def empty_pipe(name):
     """The bytes so far, and then none for the moment."""
     with Pipe() as pipe:
-        os.set_blocking(pipe.reads, False)
-        os.write(pipe.writes, content(CASES[name].given)[:100])
-        left = run(CASES[name], Disturbance(given=pipe.reads))
-        return due_where_broken(name, left, "read failed", 0, {"frames": 100 // FRAME})
+        os.set_blocking(pipe.reads.fileno(), False)
+        pipe.writes.write(content(CASES[name].given)[:100])
+        left = run(CASES[name], Disturbance(given=pipe.reads.fileno()))
+        return due_where_broken(name, left, "read failed", {"frames": 100 // FRAME})
 
 
 # Reads.
@@ -722,16 +679,13 @@ def empty_pipe(name):
 def _read_fails():
     for name, case in CASES.items():
         for k in every(short_reads(case), 3000):
-            yield no_read(name, f"read {k + 1}", Disturbance(
-                {"PIECE": short_piece(case), "FAILS_READ": k + 1, "FAULT": errno.EIO}),
-                k, short_piece(case))
+            piece = short_piece(case)
+            yield no_read(name, f"read {k + 1}", shim(PIECE=piece, FAILS_READ=k + 1, FAULT=errno.EIO), k, piece)
 
 
 def no_read(name, what, disturbance, good_reads, piece):
-    """So many reads give a piece, and the next one fails. Of `show` and `check` nothing is out
-    then."""
-    frames = frames_of(CASES[name], good_reads, piece)
-    return breaks(name, what, disturbance, "read failed", out=0, frames=frames)
+    """So many reads give a piece, and the next one fails. Of `show` and `check` nothing is out then."""
+    return breaks(name, what, disturbance, "read failed", frames=frames_of(CASES[name], good_reads, piece))
 
 
 def frames_of(case, good_reads, piece):
@@ -768,83 +722,56 @@ def short_reads(case):
 
 @scene("a read of whole pieces fails, for several reasons")
 def _whole_read_fails():
-    faults = [errno.EIO, errno.EAGAIN, errno.EISDIR, errno.ENOMEM, errno.ETIMEDOUT,
-              errno.ECONNRESET]
     for name, case in CASES.items():
-        size = size_of_inputs(case)
-        if size < 0:
-            continue
-        reads = size // asked_for(case.words) + 2
-        for k in range(1, reads + 1):
-            for fault in faults:
-                yield no_read(name, f"read {k}, errno {fault}",
-                              Disturbance({"FAILS_READ": k, "FAULT": fault}),
-                              k - 1, asked_for(case.words))
+        size, piece = size_of_inputs(case), asked_for(case.words)
+        for k in range(size // piece + 2 if size >= 0 else 0):
+            for fault in [errno.EIO, errno.EAGAIN, errno.EISDIR, errno.ENOMEM, errno.ETIMEDOUT, errno.ECONNRESET]:
+                yield no_read(name, f"read {k + 1}, errno {fault}", shim(FAILS_READ=k + 1, FAULT=fault), k, piece)
 
 
 # Each error that a call can have but an interruption, which is made again.
 ERRORS = sorted(set(errno.errorcode) - {errno.EINTR})
 
 
-def once(**shim):
+def once(**settings):
     """One call fails. If it is made again it goes well, and that is seen."""
-    return Disturbance({"ONCE": 1, **shim})
+    return shim(ONCE=1, **settings)
 
 
 # refuses: an error of a read that is taken for the end
 # refuses: a call that is made again after another error than an interruption
-@scene("the first read fails with each error but an interruption; the next would go well")
-def _first_read_fails():
+@scene("a read at the begin, in the middle or at the end fails with each error but an interruption; the next would go well")
+def _read_fails_once():
     for name, case in CASES.items():
-        for fault in ERRORS if size_of_inputs(case) >= 0 else []:
-            yield no_read(name, f"errno {fault}", once(FAILS_READ=1, FAULT=fault), 0, 0)
-
-
-# refuses: an error of a read that is taken for the end
-@scene("a read in the middle, or that of the end, fails with each error but an interruption")
-def _later_read_fails():
-    for name, case in CASES.items():
-        for fault in ERRORS if size_of_inputs(case) >= 0 else []:
-            # the first read gives at most a third; standard input as a link is looked at before it
-            middle, third = 2 + is_looked_at(case), size_of_inputs(case) // 3 + 1
-            yield no_read(name, f"read {middle} of thirds, errno {fault}", once(
-                PIECE=third, FAILS_READ=middle, FAULT=fault), middle - 1, third)
-            last = reads_of(case)
-            yield no_read(name, f"the last read, errno {fault}",
-                          once(FAILS_READ=last, FAULT=fault), last - 1, asked_for(case.words))
+        size, piece, last = size_of_inputs(case), asked_for(case.words), reads_of(case)
+        # the first read gives at most a third; standard input as a link is looked at before it
+        middle, third = 2 + is_looked_at(case), size // 3 + 1
+        for fault in ERRORS if size >= 0 else []:
+            yield no_read(name, f"the first read, errno {fault}", once(FAILS_READ=1, FAULT=fault), 0, 0)
+            fails_there = once(PIECE=third, FAILS_READ=middle, FAULT=fault)
+            yield no_read(name, f"read {middle} of thirds, errno {fault}", fails_there, middle - 1, third)
+            yield no_read(name, f"the last read, errno {fault}", once(FAILS_READ=last, FAULT=fault), last - 1, piece)
 
 
 # refuses: a write after one that failed, beside `write_all`
 # refuses: a call that is made again after another error than an interruption
-@scene("the first write fails with each error but an interruption; the next would go well")
-def _first_write_fails():
-    for name in CASES:
-        # what is gathered of a longer file is tried again at the end, and nothing after it
-        out = 0 if len(GOOD[name].out) <= GATHERED else None
+@scene("the first write of the file or of the report fails with each error but an interruption; the next would go well")
+def _write_fails_once():
+    for name, good in GOOD.items():
         for fault in ERRORS:
-            yield breaks(name, f"errno {fault}", once(FAILS_WRITE=1, FAULT=fault), "write failed",
-                         out=out, fails=1)
-
-
-# refuses: a write after one that failed, beside `write_all`
-@scene("the first write of the report fails so")
-def _first_write_of_report_fails():
-    for name in CASES:
-        for fault in ERRORS if GOOD[name].err else []:
-            yield breaks(name, f"errno {fault}", once(FAILS_WRITE=1, OF_REPORT=1, FAULT=fault),
-                         "write failed", report_fails=1)
+            yield breaks(name, f"errno {fault}", once(FAILS_WRITE=1, FAULT=fault), "write failed", fails=1)
+        for fault in ERRORS if good.err else []:
+            fails_there = once(FAILS_WRITE=1, OF_REPORT=1, FAULT=fault)
+            yield breaks(name, f"report, errno {fault}", fails_there, "write failed", report_fails=1)
 
 
 # refuses: a call that is made again after another error than an interruption
 @scene("the first open fails with each error but an interruption; the next would go well")
 def _first_open_fails():
     base = example("base.rtcm")
-    for case in [Case("show", ("show", base)), Case("check", ("check", base)),
-                 Case("summary", ("summary", base)), Case("chart", ("chart", base)), Case("cut", ("cut", "--every", "1", base)),
-                 convert("convert", base), convert("convert of two links", base, base)]:
+    for words in [*COMMANDS, ("convert", *OPTIONS), ("convert", *OPTIONS, base)]:
         for fault in ERRORS:
-            yield f"{case.name}, errno {fault}", functools.partial(
-                fails, case, f"cannot open {base}", Disturbance({"FAILS_OPEN": 1, "FAULT": fault}))
+            yield f"{words}, errno {fault}", fails, Case("", (*words, base)), f"cannot open {base}", shim(FAILS_OPEN=1, FAULT=fault)
 
 
 # refuses: reads of fewer bytes, or a summary in more than one write
@@ -854,18 +781,15 @@ def _calls_are_counted():
     for name, case in CASES.items():
         reads, writes = reads_of(case), writes_of(name)
         if reads:
-            yield no_read(name, f"read {reads}", Disturbance({"FAILS_READ": reads}),
-                          reads - 1, asked_for(case.words))
-            yield tried(name, f"read {reads + 1}", Disturbance({"FAILS_READ": reads + 1}), same)
+            yield no_read(name, f"read {reads}", shim(FAILS_READ=reads), reads - 1, asked_for(case.words))
+            yield tried(name, f"read {reads + 1}", shim(FAILS_READ=reads + 1), same)
         if writes:
-            yield breaks(name, f"write {writes}", Disturbance({"FAILS_WRITE": writes}),
-                         "write failed", fails=writes)
-            yield tried(name, f"write {writes + 1}", Disturbance({"FAILS_WRITE": writes + 1}), same)
+            yield breaks(name, f"write {writes}", shim(FAILS_WRITE=writes), "write failed", fails=writes)
+            yield tried(name, f"write {writes + 1}", shim(FAILS_WRITE=writes + 1), same)
 
 
 def reads_of(case):
-    """Each input is read in whole pieces, and once more for its end. As a link, standard input is
-    looked at before."""
+    """Each input is read in whole pieces, and once more for its end. As a link, standard input is looked at before."""
     piece = asked_for(case.words)
     sizes = [os.path.getsize(file) for file in inputs(case)]
     return sum(-(-size // piece) + 1 for size in sizes) + is_looked_at(case)
@@ -876,8 +800,7 @@ def is_looked_at(case):
 
 
 def writes_of(name):
-    """A write when so much is gathered, and one for the rest; none is said where each write of a
-    conversion goes straight on."""
+    """A write when so much is gathered, and one for the rest; none is said where each write of a conversion goes straight on."""
     if name.startswith("convert") and not is_gathered(CASES[name]):
         return None
     return -(-len(GOOD[name].out) // GATHERED)
@@ -889,14 +812,12 @@ def _unreadable():
     os.makedirs(folder, exist_ok=True)
     base = example("base.rtcm")
     for link in [folder, "/proc/self/mem"]:
-        for words in [("show", link), ("show", "--hex", link), ("check", link), ("summary", link),
-                      ("chart", link), ("cut", "--every", "1", link)]:
-            yield " ".join(words), functools.partial(fails, Case("", words), "read failed")
+        for words in COMMANDS:
+            yield f"{words}, {link}", fails, Case("", (*words, link)), "read failed"
         for place in range(16):
             links = [base] * 16
             links[place] = link
-            yield f"link {place + 1}, {link}", functools.partial(
-                fails, convert("", *links), "read failed")
+            yield f"link {place + 1}, {link}", fails, convert("", *links), "read failed"
 
 
 def fails(case, fault, disturbance=Disturbance()):
@@ -916,33 +837,22 @@ def _open_fails():
     links = [written(f"link{number}.rtcm", content(example("base.rtcm"))) for number in range(16)]
     for place in range(16):
         for fault in faults:
-            yield f"link {place + 1}, errno {fault}", functools.partial(
-                fails, convert("", *links), f"cannot open {links[place]}",
-                Disturbance({"FAILS_OPEN": place + 1, "FAULT": fault}))
+            yield (f"link {place + 1}, errno {fault}", fails, convert("", *links), f"cannot open {links[place]}",
+                   shim(FAILS_OPEN=place + 1, FAULT=fault))
         missing = [*links[:place], os.path.join(WORK, "nowhere"), *links[place + 1:]]
-        yield f"link {place + 1} is missing", functools.partial(
-            fails, convert("", *missing), f"cannot open {missing[place]}")
+        yield f"link {place + 1} is missing", fails, convert("", *missing), f"cannot open {missing[place]}"
         if place > 0:
             # three standard streams and so many links
-            yield f"descriptors for {place} links", functools.partial(
-                fails, convert("", *links), f"cannot open {links[place]}",
-                Disturbance(limits={resource.RLIMIT_NOFILE: 3 + place}))
-            yield f"link {place + 1} is missing, and the first is standard input", (
-                functools.partial(nothing_read, missing, place))
-    for words in [("show", links[0]), ("show", "--hex", links[0]), ("check", links[0]),
-                  ("summary", links[0]), ("chart", links[0]), ("cut", "--every", "1", links[0])]:
-        for fault in faults:
-            yield f"{words}, errno {fault}", functools.partial(
-                fails, Case("", words), f"cannot open {links[0]}",
-                Disturbance({"FAILS_OPEN": 1, "FAULT": fault}))
+            yield (f"descriptors for {place} links", fails, convert("", *links), f"cannot open {links[place]}",
+                   Disturbance(limits={resource.RLIMIT_NOFILE: 3 + place}))
+            yield f"link {place + 1} is missing, and the first is standard input", nothing_read, missing, place
 
 
 def nothing_read(links, place):
     """Standard input is the first link, and stands at its first byte still."""
     given = os.open(links[0], os.O_RDONLY)
     try:
-        fault = fails(convert("", "stdin", *links[1:]), f"cannot open {links[place]}",
-                      Disturbance(given=given))
+        fault = fails(convert("", "stdin", *links[1:]), f"cannot open {links[place]}", Disturbance(given=given))
         at = os.lseek(given, 0, os.SEEK_CUR)
         return fault or (f"{at} bytes were read" if at else None)
     finally:
@@ -958,16 +868,13 @@ def _calls_on_files():
     os.makedirs(folder, exist_ok=True)
     for name, case in CASES.items():
         files = [word for word in case.words if word.startswith("/")]
-        yield name, functools.partial(opens_alone, case, files, GOOD[name].status)
-        yield f"{name}, into a full disk", functools.partial(
-            opens_alone, case, files, 1, Disturbance(out="/dev/full"))
-    every_command = [("show",), ("show", "--hex"), ("check",), ("summary",), ("chart",),
-                     ("chart", "--text"), ("cut", "--every", "1"), ("convert", *OPTIONS)]
+        yield name, opens_alone, case, files, GOOD[name].status
+        yield f"{name}, into a full disk", opens_alone, case, files, 1, Disturbance(out="/dev/full")
+    for words in [*COMMANDS, ("convert", *OPTIONS)]:
+        for file, status in [(nowhere, 1), (folder, 1), (wrong, 3)]:
+            if file != wrong or words[0] in ("check", "chart", "cut"):
+                yield " ".join((*words, file)), opens_alone, Case("", (*words, file)), [file], status
     for status, opened, words in [
-            *((1, [nowhere], (*words, nowhere)) for words in every_command),
-            *((1, [folder], (*words, folder)) for words in every_command),
-            *((3, [wrong], (*words, wrong)) for words in every_command
-              if words[0] in ("check", "chart", "cut")),
             (1, [base, nowhere], ("convert", *OPTIONS, base, nowhere)),
             (1, [base], ("show", "--hex", base)),
             (1, ["/dev/zero"], ("show", "/dev/zero")),
@@ -975,13 +882,12 @@ def _calls_on_files():
             (2, [], ("convert", *OPTIONS, "stdin", "stdin")),
             (2, [], ("cut", "--from", "noon", base)),
             (2, [], ("show", base, "--hax")), (2, [], ("shew", base)), (2, [], ())]:
-        yield " ".join(words) or "no words", functools.partial(
-            opens_alone, Case("", words), opened, status)
+        yield " ".join(words) or "no words", opens_alone, Case("", words), opened, status
 
 
 def opens_alone(case, files, status, disturbance=Disturbance()):
     """No other call but the opens of these files; and what the run leaves without the library."""
-    told = written(f"{os.getpid()}.calls", b"")
+    told = written(f"{own()}.calls", b"")
     good = run(case, disturbance)
     left = run(case, replace(disturbance, shim={"LD_PRELOAD": CALLS, "TELLS": told}))
     if left.status != status:
@@ -1001,11 +907,7 @@ malloc realloc free memcpy memmove memset open close read write __write lseek
 # refuses: an answer that depends on what else the C library can tell, as the time or the kind of a file
 @scene("all that is asked of the C library")
 def _names_of_c():
-    yield "names", functools.partial(asks_c_alone, PROGRAM)
-
-
-def asks_c_alone(program):
-    return other_names(names_of_c(content(program)))
+    yield "names", other_names, names_of_c(content(PROGRAM))
 
 
 def names_of_c(program):
@@ -1036,19 +938,19 @@ def other_names(names):
 def _short():
     for name in CASES:
         for piece in [1, 2, 3, 7, 511]:
-            yield tried(name, f"{piece} bytes", Disturbance({"PIECE": piece}), same)
+            yield tried(name, f"{piece} bytes", shim(PIECE=piece), same)
 
 
 # pins: most_reads
 # refuses: a `summarize_named` that makes fewer reads than it may
 @scene("a summary of 1,000,001 reads of one byte")
 def _many_reads():
-    yield "zeros", functools.partial(many_reads, written("zeros", bytes(1_000_001)))
+    yield "zeros", many_reads, written("zeros", bytes(1_000_001))
 
 
 def many_reads(zeros):
     due = b"bytes 1000001\noutside-frames 1000001\nframes 0\nnothing taken\n"
-    return same(run(Case("", ("summary", zeros)), Disturbance({"PIECE": 1})), Left(0, due, b""))
+    return same(run(Case("", ("summary", zeros)), shim(PIECE=1)), Left(0, due, b""))
 
 
 @scene("every second read, write or open is interrupted")
@@ -1056,8 +958,7 @@ def _interrupted():
     for name in CASES:
         for calls in ["reads", "writes", "opens"]:
             for piece in [0, 1]:
-                yield tried(name, f"{calls}, {piece or 'all'} bytes", Disturbance(
-                    {"INTERRUPTS": calls, "PIECE": piece}), same)
+                yield tried(name, f"{calls}, {piece or 'all'} bytes", shim(INTERRUPTS=calls, PIECE=piece), same)
 
 
 # pins: most_interruptions
@@ -1069,7 +970,7 @@ def _interrupted_often():
 
 
 def interrupted(calls, count):
-    return Disturbance({"INTERRUPTS": calls, "IN_A_ROW": count})
+    return shim(INTERRUPTS=calls, IN_A_ROW=count)
 
 
 # pins: most_interruptions
@@ -1081,8 +982,7 @@ def _interrupted_too_often():
         yield breaks(name, "1", interrupted("1", MOST_INTERRUPTIONS + 1), "write failed", fails=1)
         # a longer report is tried again at the end, and then the fault line is interrupted
         if 0 < len(GOOD[name].err) <= GATHERED:
-            yield breaks(name, "2", interrupted("2", MOST_INTERRUPTIONS + 1), "write failed",
-                         report_fails=1)
+            yield breaks(name, "2", interrupted("2", MOST_INTERRUPTIONS + 1), "write failed", report_fails=1)
 
 
 # Without end.
@@ -1090,24 +990,22 @@ def _interrupted_too_often():
 @scene("a reader without end: show and check")
 def _endless():
     for words in [("show",), ("show", "--hex"), ("check",)]:
-        yield f"{' '.join(words)} /dev/zero", functools.partial(
-            fails, Case("", (*words, "/dev/zero")), "input too long")
+        yield f"{' '.join(words)} /dev/zero", fails, Case("", (*words, "/dev/zero")), "input too long"
     for words, text in [(("show",), content(example("session.rtcm"))),
                         (("show", "--hex"), content(example("arp1005.hex"))),
                         (("check",), content(example("session.rnx")))]:
-        yield f"{' '.join(words)} of a pipe", functools.partial(endless_pipe, words, text)
+        yield f"{' '.join(words)} of a pipe", endless_pipe, words, text
 
 
 def endless_pipe(words, text):
     """A pipe that gives a text again and again."""
     with Pipe() as pipe:
-        running = start(Case("", (*words, "stdin")), Disturbance(given=pipe.reads),
-                        os.path.join(WORK, str(os.getpid())))
-        pipe.close_reads()
+        running = start(Case("", (*words, "stdin")), Disturbance(given=pipe.reads.fileno()))
+        pipe.reads.close()
         many = text * (1_000_000 // len(text))
         try:
             while True:
-                os.write(pipe.writes, many)
+                pipe.writes.write(many)
         except BrokenPipeError:
             pass
         return tells_alone(end(*running), "input too long")
@@ -1120,7 +1018,7 @@ def convert_to_its_last_read():
         marked = os.path.join(WORK, "marks")
         with open(marked, "wb") as file:
             os.dup2(file.fileno(), 9, inheritable=True)
-        left = run(convert("", "/dev/zero"), Disturbance({"ENDLESS": last}))
+        left = run(convert("", "/dev/zero"), shim(ENDLESS=last))
         os.close(9)
         marks[last] = len(content(marked))
         if fault := tells_alone(left, "input does not end"):
@@ -1137,62 +1035,45 @@ def _link_changes():
                         (("convert", *OPTIONS, "--window", "2"), "long.rtcm")]:
         for before in [1, 2]:
             for change in CHANGES:
-                yield f"{words[0]}, {change} before read {before}", functools.partial(
-                    changed, words, file, before, change)
+                yield f"{words[0]}, {change} before read {before}", changed, words, file, before, change
 
 
-def changed_text(change, text, seen):
-    """What a reader sees of a text of which it has seen so many bytes."""
-    more = epochs(range(1500, 1520))
-    return {
-        "vanishes": text,
-        "is replaced": text,
-        "grows": text + more,
-        "is emptied": text[:seen],
-        "is cut": text[:max(seen, 35_000)],
-        "is overwritten": text[:seen] + OTHER[seen:len(text)],
-    }[change]
-
-
-CHANGES = ["vanishes", "is replaced", "grows", "is emptied", "is cut", "is overwritten"]
 OTHER = content(example("session.rtcm")) * 200
+
+# What a file with a text has then; a reader goes on with the old file where a link vanishes or is replaced.
+CHANGES = {
+    "vanishes": None,
+    "is replaced": None,
+    "grows": lambda text: text + epochs(range(1500, 1520)),
+    "is emptied": lambda text: b"",
+    "is cut": lambda text: text[:35_000],
+    "is overwritten": lambda text: OTHER[:len(text)],
+}
 
 
 def changed(words, file, before, change):
     """The program stops itself before a read; the file is changed; the program goes on. It is to
     leave what it leaves of a file with the bytes that it saw."""
-    own = os.path.join(WORK, str(os.getpid()))
     text = content(os.path.join(WORK, file))
-    link = f"{own}.link"
-    with open(link, "wb") as to:
-        to.write(text)
-    running = start(Case("", (*words, link)), Disturbance({"STOPS_READ": before}), own)
+    link = written(f"{own()}.link", text)
+    running = start(Case("", (*words, link)), shim(STOPS_READ=before))
     _, answer = os.waitpid(running[0], os.WUNTRACED)
     if not os.WIFSTOPPED(answer):
         return f"status {os.waitstatus_to_exitcode(answer)} before read {before}"
-    seen = (before - 1) * asked_for(words)
-    due = changed_text(change, text, seen)
+    seen = text
     if change == "vanishes":
         os.remove(link)
     elif change == "is replaced":
-        with open(f"{link}.new", "wb") as to:
-            to.write(content(example("base.rtcm")))
-        os.replace(f"{link}.new", link)
-    elif change == "grows":
-        with open(link, "ab") as to:
-            to.write(due[len(text):])
-    elif change == "is emptied":
-        os.truncate(link, 0)
-    elif change == "is cut":
-        os.truncate(link, 35_000)
+        os.replace(written(f"{own()}.new", content(example("base.rtcm"))), link)
     else:
+        new, at = CHANGES[change](text), (before - 1) * asked_for(words)
+        seen = text[:at] + new[at:]
         with open(link, "r+b") as to:
-            to.write(OTHER[:len(text)])
+            to.write(new)
+            to.truncate()
     os.kill(running[0], signal.SIGCONT)
     left = end(*running)
-    with open(f"{own}.seen", "wb") as to:
-        to.write(due)
-    return same(left, run(Case("", (*words, f"{own}.seen"))))
+    return same(left, run(Case("", (*words, written(f"{own()}.seen", seen)))))
 
 
 # Two faults.
@@ -1203,9 +1084,9 @@ def _two_faults():
         for k in every(short_reads(case), 0)[::10]:
             for j in every(len(GOOD[name].out), 0)[::10]:
                 piece = short_piece(case)
-                shim = {"PIECE": piece, "FAILS_READ": k + 1, "TAKES_1": j}
-                yield breaks(name, f"read {k + 1} and {j} bytes", Disturbance(shim), "read failed",
-                             out=0, frames=frames_of(case, k, piece), takes=j)
+                both = shim(PIECE=piece, FAILS_READ=k + 1, TAKES_1=j)
+                frames = frames_of(case, k, piece)
+                yield breaks(name, f"read {k + 1} and {j} bytes", both, "read failed", frames=frames, takes=j)
 
 
 # A real file system.
@@ -1228,10 +1109,8 @@ def on_small_file_system(at, name, k, of_report):
     os.close(there)
     part = content(to)[4096 - k:]
     if of_report:
-        return told_in_part(Left(left.status, left.out, part), good, 1, k,
-                            so_far(name, report_takes=k).out)
-    return due_where_broken(name, Left(left.status, part, left.err), "write failed", k,
-                            {"takes": k})
+        return told_in_part(Left(left.status, left.out, part), good, 1, k, so_far(name, report_takes=k).out)
+    return due_where_broken(name, Left(left.status, part, left.err), "write failed", {"takes": k})
 
 
 def tmpfs_scenes():
@@ -1239,16 +1118,15 @@ def tmpfs_scenes():
     for name in CASES:
         for of_report, text in [(False, GOOD[name].out), (True, GOOD[name].err)]:
             for k in every(min(len(text), 4097)):
-                yield (f"{name}, {'report' if of_report else 'file'}, {k} bytes",
-                       functools.partial(on_small_file_system, at, name, k, of_report))
+                yield (f"{name}, {'report' if of_report else 'file'}, {k} bytes", on_small_file_system, at, name, k, of_report)
 
 
 # All of it.
 
 def attempt(trial):
-    what, call = trial
+    what, call, *given = trial
     try:
-        return what, call()
+        return what, call(*given)
     except OSError as fault:
         return what, f"the scene itself failed: {fault}"
 
@@ -1298,13 +1176,11 @@ def main():
     if "--endless" in WORDS:
         global SECONDS
         SECONDS = 3600
-        count.scene("convert of a link without end, to its last read",
-                    map(attempt, [("/dev/zero", convert_to_its_last_read)]))
+        count.scene("convert of a link without end, to its last read", map(attempt, [("/dev/zero", convert_to_its_last_read)]))
     elif "--tmpfs" in WORDS:
         count.scene("a full tmpfs", map(attempt, tmpfs_scenes()))
     else:
-        chosen = [(name, function) for name, function in SCENES
-                  if not WORDS or any(word in name for word in WORDS)]
+        chosen = [(name, function) for name, function in SCENES if not WORDS or any(word in name for word in WORDS)]
         with multiprocessing.get_context("fork").Pool(os.cpu_count()) as pool:
             for name, function in chosen:
                 count.scene(name, pool.imap_unordered(attempt, list(function()), 16))

@@ -1,5 +1,6 @@
 -- What the words of `convert` say, and why they are refused.
-use Rattle.std.specs.Prelude.{◌≡◌, ◌⊎◌, ℕ, ◌≤◌, List, map}
+use Rattle.std.specs.Prelude.{◌≡◌, ◌⊎◌, ℕ, ◌+◌, ◌≤◌, List, map}
+use Rattle.rtk_message.specs.MsmForm.{number_of_kind}
 use Rattle.rtk_obs.specs.Dating.{IsReference}
 use Rattle.rtk_obs.specs.declared.code.Code.{Code}
 use Rattle.rtk_obs.specs.declared.time.TheConstants.{LAST_MS}
@@ -16,11 +17,13 @@ use Rattle.rtk_cli.specs.Words.{AreLinkNames}
 use Rattle.rtk_cli.specs.Steps.CodeList.{Lists}
 use Rattle.rtk_cli.specs.Steps.MomentText.{WritesMoment}
 
--- the setup is what the options write
+-- formula
+-- the setup is what the options write; its MSM has the number 1070 and that of the option
 abbrev pub SaysSetup : ConvertOptions → SetupView → Type 0
 SaysSetup o s =
     (s.station ≡ o.station) × WritesMoment o.near.now s.near × WritesMoment o.made.now s.head.made
     × (s.head.marker ≡ o.marker.now) × Lists o.codes.now s.head.listed × (s.window ≡ o.window)
+    × (number_of_kind s.msm ≡ 1070 + o.msm)
 
 -- the job is the conversion that the options and the names of the links say
 abbrev pub SaysConversion : ConvertOptions → List (List ℕ) → Job → Type 0

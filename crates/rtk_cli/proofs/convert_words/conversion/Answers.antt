@@ -1,4 +1,5 @@
 use Rattle.std.proofs.Common.{ℕ, List, inl, inr, sym, ap, ◌∙◌, subst}
+use Rattle.rtk_message.specs.declared.msm_kind.MsmKind.TheVariants.{Msm4}
 use Rattle.rtk_rinex.specs.Header.{HeadView, IsMarker, IsCodeList}
 use Rattle.rtk_cli.specs.declared.words.BadWords.TheVariants.{Near, Made, Codes, Marker, Links}
 use Rattle.rtk_cli.specs.Steps.CodeList.{Lists}
@@ -86,7 +87,7 @@ returns-in-Err-Near-clause-refused c =
       (
         c.in-Some.near,
         writes,
-        bad-reference (record { station = c.args.options.now.station; near = c.in-Some.near; head = c.in-Ok-new.head; window = c.from.result })
+        bad-reference (record { station = c.args.options.now.station; near = c.in-Some.near; head = c.in-Ok-new.head; window = c.from.result; msm = Msm4 })
             c.in-Err-Near.field-0 c.in-Err-Near.field-0-is c.in-Err-Near.ensures.fault,
       ),
     ))

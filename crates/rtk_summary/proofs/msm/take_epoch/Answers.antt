@@ -1,4 +1,4 @@
-use Rattle.std.proofs.Common.{◌≡◌, List, ℕ, sym, ap, ◌∙◌}
+use Rattle.std.proofs.Common.{List, ℕ, sym, ap, ◌∙◌}
 use Rattle.std.specs.Prelude.{filter}
 use Rattle.rtk_summary.specs.Proposal.{gives_value}
 use Rattle.rtk_summary.specs.Steps.Standing.{epochs_so_far}

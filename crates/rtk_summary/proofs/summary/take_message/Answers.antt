@@ -6,5 +6,5 @@ use Rattle.rtk_summary.proofs.summary.take_message.Goals as goal
 
 pub returns-clause-signals : goal.returns-clause-signals
 returns-clause-signals c = λ ms stands.
-    subst (λ (es : List CellEntry). StandsForEntries c.take.new.self (es ++ entries_in ms)) (c.as_slice.ensures.value ∙ c.entries_of-entries.ensures)
+    subst (λ (es : List CellEntry). StandsForEntries c.take.new.self (es ++ entries_in ms)) (c.as_slice.ensures.value ∙ c.put_entries.ensures)
     (c.take.ensures (entries_in ms) stands)

@@ -1,4 +1,4 @@
-use Rattle.std.proofs.Common.{◌++◌, List, ◌∙◌, refl, sym, subst}
+use Rattle.std.proofs.Common.{◌++◌, List, ◌∙◌, sym, subst}
 use Rattle.rtk_obs.specs.declared.cell.CellEntry.{CellEntry}
 use Rattle.rtk_summary.specs.Steps.Standing.{StandsForEntries, StandForMsm}
 use Rattle.rtk_summary.specs.Tracing.{entries_in}

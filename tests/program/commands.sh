@@ -1,0 +1,224 @@
+#!/bin/sh
+# Runs all commands as a user does, each on one file of examples/: names of files, streams, words that clap refuses, help. The
+# program is $1.
+. "$(dirname "$(readlink -f "$0")")/common"
+examples=$root/examples
+base=$examples/base.rtcm
+first=$examples/session_link1.rtcm
+second=$examples/session_link2.rtcm
+done='0 good_out good_err'
+
+# fails NAME LINE: nothing is out, and standard error has this line
+fails() { expect "$1" 1 '' "rtcm2rinex: $2"; }
+
+# shown NAME: a name of a file, as a name of a test has it
+shown() { printf '%.40s' "$1" | tr '\t\n\033' '???'; }
+
+# brief FILE: the words of a help up to its examples; those of -h are the same
+brief() {
+    sed "/^Which MSM:/,\$d; /^Example:/,\$d; /^Begin with:/,\$d; s/see a summary with '-h'/see more with '--help'/" "$1" | tr -s '[:space:]' ' '
+}
+
+# helps NAME WORD..: of a command, or of none. What the options do, completions/ and docs/ hold; here the examples are run.
+helps() {
+    name=$1
+    shift
+    "$program" help "$@" >help
+    # pins: Requests.HasStatus, Words.HasStatus
+    run "$@" --help; leaves "help_by_an_option_$name" 0 help /dev/null
+    run help "$@";   leaves "help_by_its_name_$name" 0 help /dev/null
+    run "$@" -h; brief out >short; brief help >want; mv short out
+    leaves "short_help_$name" 0 want /dev/null
+    mkdir bin named && ln -s "$program" bin/rtcm2rinex && cp "$base" named/capture.rtcm && cp "$examples/base.rnx" named &&
+        cp "$examples/slip.rnx" named/day.rnx && cp "$first" named/link1.rtcm && cp "$second" named/link2.rtcm
+    sed -n '/^Example:$/,/^$/s/^  //p; /^Begin with:$/,/^$/s/^  //p' help >shown
+    (cd named && PATH=$work/$name/bin:$PATH sh -eu ../shown) >out 2>err; status=$?
+    grep -q '^rtcm2rinex ' shown || status=none
+    : >out
+    expect "examples_of_the_help_$name" 0 '' ''
+}
+
+# bound COMMAND..: as a user whom the permissions of files bind; root is none, so it runs the command as nobody. The folder
+# and a copy of the program, ./program, are open to all.
+bound() {
+    cp "$program" program && chmod 755 program && chmod 711 . || exit 1
+    if [ "$(id -u)" -eq 0 ]; then
+        setpriv --reuid=65534 --regid=65534 --clear-groups "$@"
+    else
+        "$@"
+    fi
+}
+
+# piped FILE COMMAND..: the command, while the pipe of the name `fifo` gives this file. It is let go if nobody opened it.
+piped() {
+    [ -p fifo ] || mkfifo fifo
+    { cat "$1" >fifo; } >given 2>&1 &
+    giving=$!
+    shift
+    "$@"
+    : <>fifo
+    wait $giving
+}
+
+# example COMMAND: its words, the file that it reads, and what it writes
+example() {
+    words=$1 file=$examples/base.rnx
+    : >good_err
+    case $1 in
+    show)
+        file=$base
+        printf '%s\n' '1005 station 2003 x 1114104.5999 y -4850729.7108 z 3975521.4643' \
+            '1004 station 2003 tow 475200000 satellites 1' >good_out ;;
+    summary) file=$base && cp "$root/tests/program/base.summary" good_out ;;
+    check) echo 'valid: 1 epochs, 1 satellite lines' >good_out ;;
+    chart) file=$examples/marks.rnx && cp "$examples/marks.svg" good_out ;;
+    cut) words='cut --every 30' file=$examples/slip.rnx && cp "$examples/slip_30s.rnx" good_out ;;
+    convert)
+        words="convert --station 2003 --near 2024-05-17T12:00:00 --made 2024-05-17T13:00:00 --marker BASE --codes 1C,2W"
+        file=$base && cp "$examples/base.rnx" good_out && report 2 0 0 0 2 0 0 0 1 >good_err ;;
+    esac
+}
+
+# files_are_not_read: names that are not there, and what cannot be read. Standard input could be.
+files_are_not_read() {
+    mkdir folder
+    ln -s nowhere dangling
+    # The same letters as those of Zürich, with the dots as a character of their own, are another name.
+    for name in nowhere 'no where' nowhere/base dangling '' - ./stdin STDIN 'stdin ' ' stdin' "$(printf 'Zu\314\210rich')" \
+        "$(printf 'base\nb')" "$(printf 'base\tb\303\244')" "$(printf '%0100000d' 0)"; do
+        # refuses: a name that is changed before it is opened, or taken for standard input
+        # refuses: a file that is looked for in another folder
+        run $words "$name" <base; fails "missing_${command}_$(shown "$name")" "cannot open $name"
+    done
+    cp base closed && chmod 000 closed
+    bound ./program $words closed >out 2>err; status=$?
+    fails "a_file_that_may_not_be_read_$command" 'cannot open closed'
+    run $words folder;        fails "a_folder_$command" 'read failed'
+    run $words stdin <folder; fails "a_folder_as_standard_input_$command" 'read failed'
+    run $words stdin <&-;     fails "closed_standard_input_$command" 'read failed'
+    latin=$(printf 'Z\374rich') # is no text, also if it is there
+    cp base "$latin"
+    run $words "$latin" <base;    fails "a_name_that_is_no_text_$command" 'read failed'
+}
+
+# files_are_read: by any name that is there, links, pipes, and standard input from where it stands
+files_are_read() {
+    ln -s base linked; ln -s linked linked_twice
+    odd=' ~a,b=c%20 $HOME#*?[x]'"'\"\\ "
+    tab=$(printf 'a\tb\342\202\254') feed=$(printf 'a\nb\033\360\237\233\260')
+    for name in stdin STDIN stdin.rtcm Stdin "$odd" "$tab" "$feed" Zürich -5 --hex; do cp base "./$name"; done
+    for name in ./stdin STDIN stdin.rtcm Stdin "$odd" "$tab" "$feed" Zürich folder/../base linked linked_twice \
+        "$(printf './%.0s' $(seq 150))base"; do
+        # refuses: a name that is changed before it is opened, or taken for standard input
+        run $words "$name"; leaves "file_${command}_$(shown "$name")" $done
+    done
+    run $words -- -5;       leaves "file_of_the_name_of_a_number_$command" $done
+    run $words -- --hex;    leaves "file_of_the_name_of_an_option_$command" $done
+    run $words stdin <base; leaves "standard_input_$command" $done
+    cat base | "$program" $words stdin >out 2>err; status=$?
+    leaves "a_pipe_$command" $done
+    mkfifo fifo
+    # refuses: a file that is not opened since it is a symbolic link or a pipe
+    piped base run $words fifo; leaves "a_pipe_of_a_name_$command" $done
+    bash -c '"$0" "$@" <(cat base)' "$program" $words >out 2>err; status=$?
+    # refuses: a file that is not opened since it is a symbolic link or a pipe
+    leaves "a_pipe_of_the_shell_$command" $done
+    { head -c 25 "$base"; cat base; } >behind # a frame before it
+    { dd bs=25 count=1 of=given 2>told; run $words stdin; } <behind
+    leaves "standard_input_after_its_first_bytes_$command" $done
+    # No command makes, renames or removes a file beside those that it reads.
+    mkdir alone && cp base alone
+    listed=$(ls -Al --full-time alone)
+    (cd alone && "$program" $words base) >out 2>err; status=$?
+    [ "$(ls -Al --full-time alone)" = "$listed" ] || echo 'another file' >>err
+    leaves "no_other_file_$command" $done
+}
+
+outputs_fail() {
+    { cat good_err; echo 'rtcm2rinex: write failed'; } >told
+    "$program" $words base >/dev/full 2>err; status=$?; : >out
+    leaves "full_output_$command" 1 /dev/null told
+    "$program" $words base >&- 2>err; status=$?; : >out
+    leaves "closed_output_$command" 1 /dev/null told
+}
+
+words_are_refused() {
+    usage=$(sed -n 's/^Usage: rtcm2rinex //p' help)
+    without_options=$(echo "$usage" | sed 's/\[OPTIONS\] //')
+    run $words; expect "no_file_$command" 2 '' "$(error "the following required arguments were not provided:
+  ${usage##* }" "$without_options")"
+    # refuses: a word that begins with a hyphen and is taken for a FILE
+    run $words -5
+    expect "a_number_$command" 2 '' "$(error "unexpected argument '-5' found" "$usage" "to pass '-5' as a value, use '-- -5'")"
+    run $words --he base; head -n 1 err >line; mv line err
+    expect "start_of_an_option_$command" 2 '' "error: unexpected argument '--he' found"
+    [ "$command" != convert ] || return
+    # refuses: a second FILE that is left out in silence
+    run $words base b;  expect "two_files_$command" 2 '' "$(error "unexpected argument 'b' found" "$usage")"
+}
+
+# bad_file NAME LINE FILE: `check` says so on standard output, the others on standard error
+bad_file() {
+    run $words "$3" <"$3"
+    case $command in check) expect "$1_$command" 3 "$2" '' ;; *) expect "$1_$command" 3 '' "$2" ;; esac
+}
+
+# files_are_judged: of a RINEX file each byte counts, also on standard input. The longest one has zeros, which take no room.
+files_are_judged() {
+    { printf '\357\273\277'; cat base; } >marked
+    sed 's/$/\r/' base >crlf
+    { cat base; head -c 512 /dev/zero; } >nuls
+    sed '16s/45.000/45.100/' base >wrong
+    behind="line $(($(wc -l <base) + 1))"
+    # refuses: a byte order mark, a CR or a NUL that is left out on its way
+    bad_file byte_order_mark 'line 1: C1 HeaderLine' marked
+    cp marked stdin; bad_file byte_order_mark_on_standard_input 'line 1: C1 HeaderLine' stdin
+    # refuses: a byte order mark, a CR or a NUL that is left out on its way
+    bad_file line_ends_of_cr_lf 'line 1: C1 HeaderLine' crlf
+    cp crlf stdin; bad_file line_ends_of_cr_lf_on_standard_input 'line 1: C1 HeaderLine' stdin
+    # refuses: a byte order mark, a CR or a NUL that is left out on its way
+    bad_file nuls_behind "$behind: C5 Truncated" nuls
+    cp nuls stdin; bad_file nuls_behind_on_standard_input "$behind: C5 Truncated" stdin
+    bad_file a_capture 'line 1: C5 Truncated' "$base"
+    : >stdin; bad_file an_empty_file 'line 1: C5 Truncated' stdin
+    bad_file a_wrong_value 'line 16: C3 Value' wrong
+    "$program" $words wrong >&- 2>err; status=$?; : >out
+    case $command in
+    check) expect a_wrong_value_and_no_output_check 1 '' 'rtcm2rinex: write failed' ;;
+    *) expect "a_wrong_value_and_no_output_$command" 3 '' 'line 16: C3 Value' ;;
+    esac
+    truncate -s 1073741824 zeros
+    # pins: CHECK_LIMIT
+    bad_file longest_file 'line 1: C5 Truncated' zeros
+    truncate -s 1073741825 zeros
+    # pins: CHECK_LIMIT
+    run $words zeros; fails "file_too_long_$command" 'input too long'
+    rm zeros
+}
+
+# bytes_beside_frames: of a capture they are passed over, also on standard input
+bytes_beside_frames() {
+    { printf '\357\273\277'; cat base; printf '\r\n'; head -c 507 /dev/zero; } >more
+    sed -i 's/^bytes 55$/bytes 567/; s/^outside-frames 0$/outside-frames 512/' good_out
+    run $words more;        leaves "bytes_beside_frames_$command" $done
+    run $words stdin <more; leaves "bytes_beside_frames_on_standard_input_$command" $done
+}
+
+mkdir none && cd none || exit 1
+helps none
+for command in show summary check chart cut convert; do
+    mkdir "$work/$command" && cd "$work/$command" || exit 1
+    helps $command $command
+    example $command
+    cp "$file" base
+    files_are_not_read
+    files_are_read
+    outputs_fail
+    words_are_refused
+    case $command in
+    check | chart | cut) files_are_judged ;;
+    *) bytes_beside_frames ;;
+    esac
+done
+
+ends 339
