@@ -28,11 +28,11 @@ def legacy(tow: int, satellites: tuple[int, ...], number: int = STATION) -> Mess
 
 
 def msm(
-    tow: int, satellites: tuple[int, ...], cnr: int = 45, signals: tuple[int, ...] = SIGNALS
+    tow: int, satellites: tuple[int, ...], cnr: int = 45, signals: tuple[int, ...] = SIGNALS, number: int = 1074
 ) -> Message:
-    """A 1074 with each signal of each satellite."""
+    """A 1074, or another MSM, with each signal of each satellite."""
     cells = {(it, signal): {"lock": 15, "cnr": cnr} for it in satellites for signal in signals}
-    return msm_of(tow, {it: (70, 12 * it) for it in satellites}, cells)
+    return msm_of(tow, {it: (70, 12 * it) for it in satellites}, cells, number)
 
 
 class Template:

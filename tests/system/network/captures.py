@@ -12,6 +12,7 @@ that of its end. Kinds:
     rolls     legacy phases that run through the roll of 1,500 cycles
     returns   a satellite that is away for three hours and comes back with a slip
     foreign   messages of the station 2004; else they are of 2003
+    1077      a 1077 after each 1074, of the same satellites and codes, whose values are others
 """
 
 from __future__ import annotations
@@ -61,6 +62,7 @@ def frames(begin: int, count: int, interval: int, kinds: set[str]) -> Iterator[t
             if seconds % 3600 == 0 and hour % len(newer.cells) == rank or at % 37 == rank:
                 cell["lock"] = 0
         messages = ([reference] if at % 20 == 0 else []) + [older, newer]
+        messages += [msm(tow, seen, number=1077)] if "1077" in kinds else []
         for message in messages:
             yield seconds + DELAY, frame_of(payload_of(message))
 
