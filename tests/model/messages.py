@@ -8,20 +8,8 @@ from __future__ import annotations
 from functools import lru_cache
 from typing import NamedTuple
 
-from wire import (
-    HEADERS,
-    LEGACY_SATELLITE,
-    MSM_CELL,
-    MSM_SATELLITE,
-    MSMS,
-    PREAMBLE,
-    WEEK_MS,
-    BitReader,
-    Fields,
-    Message,
-    is_frame,
-    size_at,
-)
+from wire import HEADERS, LEGACY_SATELLITE, MSM_CELL, MSM_SATELLITE, MSMS, PREAMBLE, WEEK_MS
+from wire import BitReader, Fields, Message, is_frame, size_at
 
 
 class Placed(NamedTuple):

@@ -11,17 +11,7 @@ from dataclasses import dataclass
 from datetime import datetime, timedelta
 from typing import Iterator, NamedTuple
 
-from messages import (
-    FREQUENCY,
-    LIGHT,
-    Cell,
-    Placed,
-    Refusal,
-    cells_of,
-    fixed,
-    read_message,
-    scan,
-)
+from messages import FREQUENCY, LIGHT, Cell, Placed, Refusal, cells_of, fixed, read_message, scan
 from wire import WEEK_MS, Fields, Message
 
 READ_SIZE = 512

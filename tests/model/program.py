@@ -76,23 +76,7 @@ class Program:
         stdin, names[on_stdin] = names[on_stdin], "stdin"
         return self.run(["convert", *setup.words(), *names], stdin)
 
-    def show(self, text: bytes, *options: str) -> Ended:
-        self.write("capture", text)
-        return self.run(["show", *options, "capture"])
-
-    def summary(self, text: bytes) -> Ended:
-        self.write("capture", text)
-        return self.run(["summary", "capture"])
-
-    def check(self, text: bytes) -> Ended:
+    def on(self, text: bytes, *words: str) -> Ended:
+        """A command, with its options, on a file with this text."""
         self.write("file", text)
-        return self.run(["check", "file"])
-
-    def chart(self, text: bytes, width: int) -> Ended:
-        """A picture in characters, so many of them wide."""
-        self.write("file", text)
-        return self.run(["chart", "--text", "--columns", str(width), "file"])
-
-    def cut(self, text: bytes, words: list[str]) -> Ended:
-        self.write("file", text)
-        return self.run(["cut", *words, "file"])
+        return self.run([*words, "file"])

@@ -14,6 +14,7 @@ import re
 from collections import Counter
 from dataclasses import dataclass
 from datetime import timedelta
+from itertools import zip_longest
 from random import Random
 from typing import Callable, Iterable, NamedTuple
 
@@ -59,20 +60,9 @@ def case_of(capture: Capture, program: Program, rng: Random) -> Case:
 
 def difference(is_: bytes, due: bytes) -> str:
     """The first line in which two texts differ; nothing if they are equal."""
-    if is_ == due:
-        return HOLDS
-    lines, due_lines = is_.split(b"\n"), due.split(b"\n")
-    at = sum(1 for _ in _equal_begin(lines, due_lines))
-    line = b"".join(lines[at : at + 1]).decode(errors="replace")
-    due_line = b"".join(due_lines[at : at + 1]).decode(errors="replace")
-    return f"line {at + 1} is {line!r} and not {due_line!r}"
-
-
-def _equal_begin(first: list[bytes], second: list[bytes]) -> Iterable[bytes]:
-    for one, other in zip(first, second):
-        if one != other:
-            return
-        yield one
+    pairs = zip_longest(is_.split(b"\n"), due.split(b"\n"))
+    faults = (f"line {at} is {line!r} and not {other!r}" for at, (line, other) in enumerate(pairs, 1) if line != other)
+    return HOLDS if is_ == due else next(faults)
 
 
 def ends_with(run: Ended, status: int, out: bytes | None, err: bytes | None) -> str:
@@ -132,12 +122,22 @@ def counts_add_up(case: Case) -> Answer:
     return HOLDS if records == counts["epochs"] else f"{records} records and {counts}"
 
 
+def valid_line(text: bytes) -> bytes:
+    """What `check` is due to print of a file: its counts."""
+    records = text.partition(b"END OF HEADER")[2]
+    return b"valid: %d epochs, %d satellite lines\n" % (records.count(b"\n>"), records.count(b"\nG"))
+
+
 def file_is_valid(case: Case) -> Answer:
-    """`check` says that the file is valid, with the run's own counts."""
-    epochs = counts_of(case.base.err).get("epochs")
-    satellites = case.base.out.partition(b"END OF HEADER")[2].count(b"\nG")
-    line = f"valid: {epochs} epochs, {satellites} satellite lines\n"
-    return ends_with(case.program.check(case.base.out), 0, line.encode(), b"")
+    """`check` says that the file is valid, with its counts."""
+    return ends_with(case.program.on(case.base.out, "check"), 0, valid_line(case.base.out), b"")
+
+
+def is_checked(case: Case, text: bytes) -> str:
+    """`check` says of a text what the slow model does."""
+    found = fault(text)
+    status, line = (0, valid_line(text)) if found is None else (3, f"line {found[0]}: {found[1]}\n".encode())
+    return ends_with(case.program.on(text, "check"), status, line, b"")
 
 
 def faults_are_named(case: Case) -> Answer:
@@ -147,17 +147,7 @@ def faults_are_named(case: Case) -> Answer:
     if b"\n>" not in case.base.out and case.rng.random() < 0.8:
         return NOT_MET
     texts = [damaged_file(case.rng, case.base.out) for _ in range(3)]
-    return next(filter(None, (_fault_is_named(case, text) for text in texts)), HOLDS)
-
-
-def _fault_is_named(case: Case, text: bytes) -> Answer:
-    due = fault(text)
-    if due is not None:
-        return ends_with(case.program.check(text), 3, f"line {due[0]}: {due[1]}\n".encode(), b"")
-    records = text.partition(b"END OF HEADER")[2]
-    epochs, satellites = (records.count(begin) for begin in (b"\n>", b"\nG"))
-    line = f"valid: {epochs} epochs, {satellites} satellite lines\n"
-    return ends_with(case.program.check(text), 0, line.encode(), b"")
+    return next(filter(None, (is_checked(case, text) for text in texts)), HOLDS)
 
 
 def shown_lines(text: bytes) -> bytes:
@@ -169,7 +159,7 @@ def shown_as_modelled(case: Case) -> Answer:
     """`show` has a line for each frame, and of one link's frames as many of each kind as the report
     of `convert` counts, if that takes 1074."""
     text = case.rng.choice(case.links)
-    shown = case.program.show(text)
+    shown = case.program.on(text, "show")
     differs = ends_with(shown, 0, shown_lines(text), b"")
     if differs or len(case.links) > 1 or case.capture.setup.msm_number != 1074:
         return differs
@@ -188,14 +178,15 @@ def shown_as_modelled(case: Case) -> Answer:
 def summarized_as_modelled(case: Case) -> Answer:
     """`summary` tells of the bytes of all links, one after another, what the slow model counts."""
     text = b"".join(case.links)
-    return ends_with(case.program.summary(text), 0, summary_of(text).encode(), b"")
+    return ends_with(case.program.on(text, "summary"), 0, summary_of(text).encode(), b"")
 
 
 def charted_as_modelled(case: Case) -> Answer:
     """`chart --text` of the file, of any width, is the picture that the slow model makes."""
     width = case.rng.choice((40, 80, 400, case.rng.randint(40, 400)))
     due = text_picture(case.base.out.decode(), width).encode()
-    return ends_with(case.program.chart(case.base.out, width), 0, due, b"")
+    words = ("chart", "--text", "--columns", str(width))
+    return ends_with(case.program.on(case.base.out, *words), 0, due, b"")
 
 
 def cut_as_modelled(case: Case) -> Answer:
@@ -211,7 +202,8 @@ def cut_as_modelled(case: Case) -> Answer:
     part = Part(since, until, case.rng.choice((None, *steps) if since or until else steps))
     if any(it and not 1980 <= it.year <= 2100 for it in (since, until)):
         return NOT_MET
-    return ends_with(case.program.cut(case.base.out, part.words()), 0, part_of(text, part).encode(), b"")
+    run = case.program.on(case.base.out, "cut", *part.words())
+    return ends_with(run, 0, part_of(text, part).encode(), b"")
 
 
 def hex_shown_as_bytes(case: Case) -> Answer:
@@ -224,7 +216,7 @@ def hex_shown_as_bytes(case: Case) -> Answer:
     blanks = case.rng.choices((" ", "\t", "\n", "\r\n", "  "), k=len(parts))
     cased = (case.rng.choice((part, part.upper())) for part in parts)
     hex_text = "".join(part + blank for part, blank in zip(cased, blanks, strict=True))
-    return ends_with(case.program.show(hex_text.encode(), "--hex"), 0, shown_lines(text), b"")
+    return ends_with(case.program.on(hex_text.encode(), "show", "--hex"), 0, shown_lines(text), b"")
 
 
 def same_on_standard_input(case: Case) -> Answer:

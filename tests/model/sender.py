@@ -8,21 +8,8 @@ from typing import Callable, TypeVar
 
 from messages import FINE_LOCK_TIMES, SIGNALS, legacy_lock_time, msm_lock_time
 from model import Setup
-from wire import (
-    HEADERS,
-    LEGACY_SATELLITE,
-    MOST_PAYLOAD,
-    MSM_CELL,
-    MSM_SATELLITE,
-    MSMS,
-    WEEK_MS,
-    Field,
-    Fields,
-    Message,
-    Table,
-    frame_of,
-    payload_of,
-)
+from wire import HEADERS, LEGACY_SATELLITE, MOST_PAYLOAD, MSM_CELL, MSM_SATELLITE, MSMS, WEEK_MS
+from wire import Field, Fields, Message, Table, frame_of, payload_of
 
 Pick = Callable[[Random, Field], int]
 Key = TypeVar("Key")
