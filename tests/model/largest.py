@@ -6,9 +6,11 @@ from __future__ import annotations
 from collections.abc import Iterator
 from datetime import datetime, timedelta
 
+import model
+from messages import CODES
+
 COLUMNS = 1_440
 SATELLITES = 32
-CODES = "1C 1P 1W 1S 1L 1X 2C 2D 2P 2W 2S 2L 2X 5I 5Q 5X".split()
 # Each of these characters takes five in SVG.
 MARKER = "&" * 60
 NOON = datetime(2024, 5, 17, 12)
@@ -17,36 +19,12 @@ NOON = datetime(2024, 5, 17, 12)
 PHASE = " " * 16 + " 110804903.5473 " + " " * 16
 STRENGTHS = "         8.000", "        12.000"
 
-LINES = [
-    ("     3.05           OBSERVATION DATA    G", "RINEX VERSION / TYPE"),
-    ("rtcm2rinex                              20240517 130000 UTC", "PGM / RUN BY / DATE"),
-    (MARKER, "MARKER NAME"),
-    ("GEODETIC", "MARKER TYPE"),
-    ("", "OBSERVER / AGENCY"),
-    ("", "REC # / TYPE / VERS"),
-    ("", "ANT # / TYPE"),
-    ("        0.0000        0.0000        0.0000", "APPROX POSITION XYZ"),
-    ("        0.0000        0.0000        0.0000", "ANTENNA: DELTA H/E/N"),
-]
-LAST_LINES = [
-    ("DBHZ", "SIGNAL STRENGTH UNIT"),
-    ("  2024     5    17    12     0    0.0000000     GPS", "TIME OF FIRST OBS"),
-    ("G", "SYS / PHASE SHIFT"),
-    ("", "END OF HEADER"),
-]
-
-
-def types(codes: list[str]) -> Iterator[tuple[str, str]]:
-    """The lines of the observation types, thirteen a line."""
-    names = [kind + code for code in codes for kind in "CLS"]
-    for at in range(0, len(names), 13):
-        begin = f"G  {len(names):3}" if at == 0 else " " * 6
-        yield begin + "".join(f" {name}" for name in names[at : at + 13]), "SYS / # / OBS TYPES"
-
 
 def header(codes: list[str]) -> bytes:
-    lines = (*LINES, *types(codes), *LAST_LINES)
-    return "".join(f"{text:60}{label:20}\n" for text, label in lines).encode()
+    """That of a file whose first record is at noon."""
+    noon, made = model.moment("2024-05-17T12:00:00"), model.moment("2024-05-17T13:00:00")
+    lines = model.header(model.Setup(0, noon, made, MARKER, tuple(codes), 64), {}, noon)
+    return "".join(f"{line}\n" for line in lines).encode()
 
 
 def epoch_line(second: int, satellites: int) -> str:

@@ -4,12 +4,11 @@
 from __future__ import annotations
 
 from collections import Counter
-from datetime import datetime, timedelta
 from typing import NamedTuple
 
-START = datetime(1980, 1, 6)
-MS = timedelta(milliseconds=1)
-END = "END OF HEADER       \n"
+from messages import fixed
+from parts import END, MS, START, records_of
+
 DAY = 86_400_000
 STEPS = [
     *(1000 * seconds for seconds in (1, 2, 5, 10, 15, 30)),
@@ -44,15 +43,15 @@ def shown_in(field: str) -> Shown:
 
 def epochs_of(records: str, codes: int) -> list[Epoch]:
     """The epochs of the records of a file."""
-    epochs = []
-    for part in records.split("> ")[1:]:
-        first, *lines = part.splitlines()
-        *date, seconds = first[:27].split()
-        time = datetime(*map(int, date)) + timedelta(milliseconds=round(float(seconds) * 1000))
-        padded = {line[:3]: line[3:].ljust(48 * codes) for line in lines}
-        shown = {name: [shown_in(line[48 * k :]) for k in range(codes)] for name, line in padded.items()}
-        epochs.append(Epoch((time - START) // MS, shown))
-    return epochs
+
+    def shown(line: str) -> list[Shown]:
+        columns = line[3:].ljust(48 * codes)
+        return [shown_in(columns[at : at + 48]) for at in range(0, 48 * codes, 48)]
+
+    return [
+        Epoch((it.time - START) // MS, {name: shown(line) for name, line in it.lines.items()})
+        for it in records_of(records)
+    ]
 
 
 def character(epochs: list[Epoch], name: str, codes: int) -> str:
@@ -72,10 +71,6 @@ def character(epochs: list[Epoch], name: str, codes: int) -> str:
 
 def moment(time: int) -> str:
     return f"{START + time * MS:%Y-%m-%d %H:%M:%S}.{time % 1000:03}"
-
-
-def seconds(ms: int) -> str:
-    return f"{ms // 1000}.{ms % 1000:03}"
 
 
 def text_picture(text: str, width: int) -> str:
@@ -101,7 +96,7 @@ def text_picture(text: str, width: int) -> str:
     names = sorted({name for epoch in epochs for name in epoch.satellites})
     slips = sum(c.lock & 1 for e in epochs for row in e.satellites.values() for c in row)
     out = [f"marker {marker}", f"from {moment(first)}", f"until {moment(last)}"]
-    out += [f"interval {seconds(interval) if interval else '-'}", f"column {seconds(length)}"]
+    out += [f"interval {fixed(interval, 3) if interval else '-'}", f"column {fixed(length, 3)}"]
     out += [f"records {len(epochs)}", f"satellites {len(names)}", f"slips {slips}", f"missing {sum(map(len, missing))}"]
     for name in names:
         out.append(f"{name}|{''.join(character(part, name, codes) for part in parts)}|")
