@@ -90,17 +90,14 @@ def false_preamble(rng: Random, length: int | None = None) -> bytes:
 def damaged(rng: Random, frame: bytes) -> bytes:
     """A frame with a bit or a byte changed, cut at either end or inside, or with a byte more."""
     at = rng.randrange(len(frame))
-    match rng.randrange(5):
-        case 0:
-            changed = frame[at] ^ 1 << rng.randrange(8)
-            return frame[:at] + bytes((changed,)) + frame[at + 1 :]
-        case 1:
-            return frame[:at] + rng.randbytes(1) + frame[at + 1 :]
-        case 2:
-            return frame[:at]
-        case 3:
-            return frame[at:]
-    return frame[:at] + rng.choice((b"\xd3", b"\0", rng.randbytes(1))) + frame[at:]
+    kinds = (
+        lambda: frame[:at] + bytes((frame[at] ^ 1 << rng.randrange(8),)) + frame[at + 1 :],
+        lambda: frame[:at] + rng.randbytes(1) + frame[at + 1 :],
+        lambda: frame[:at],
+        lambda: frame[at:],
+        lambda: frame[:at] + rng.choice((b"\xd3", b"\0", rng.randbytes(1))) + frame[at:],
+    )
+    return rng.choice(kinds)()
 
 
 def nested(rng: Random, frame: bytes) -> bytes:
@@ -121,24 +118,18 @@ def interrupted(rng: Random, frame: bytes, inner: bytes) -> bytes:
 
 def noise(rng: Random, frame: bytes) -> bytes:
     """Bytes between frames; if they are made of a frame, then of this one."""
-    match rng.randrange(9):
-        case 0:
-            return rng.randbytes(rng.randrange(17))
-        case 1:
-            return bytes((PREAMBLE,)) * rng.randrange(1, 12)
-        case 2:
-            return false_preamble(rng)
-        case 3:
-            return false_preamble(rng) + rng.randbytes(rng.randrange(60))
-        case 4:
-            return b"\xd3\0\0\0\0\0" * rng.randrange(5)
-        case 5:
-            return nested(rng, frame)
-        case 6:
-            return b"".join(false_preamble(rng) for _ in range(rng.randrange(8)))
-        case 7:
-            return b"\xd3\0\0\x47\xea\x4b"
-    return damaged(rng, frame)
+    kinds = (
+        lambda: rng.randbytes(rng.randrange(17)),
+        lambda: bytes((PREAMBLE,)) * rng.randrange(1, 12),
+        lambda: false_preamble(rng),
+        lambda: false_preamble(rng) + rng.randbytes(rng.randrange(60)),
+        lambda: b"\xd3\0\0\0\0\0" * rng.randrange(5),
+        lambda: nested(rng, frame),
+        lambda: b"".join(false_preamble(rng) for _ in range(rng.randrange(8))),
+        lambda: b"\xd3\0\0\x47\xea\x4b",
+        lambda: damaged(rng, frame),
+    )
+    return rng.choice(kinds)()
 
 
 def with_noise(rng: Random, frames: list[bytes], share: float) -> list[bytes]:

@@ -4,7 +4,6 @@ size."""
 from __future__ import annotations
 
 from collections.abc import Iterator
-from datetime import datetime, timedelta
 
 import model
 from messages import CODES
@@ -13,7 +12,7 @@ COLUMNS = 1_440
 SATELLITES = 32
 # Each of these characters takes five in SVG.
 MARKER = "&" * 60
-NOON = datetime(2024, 5, 17, 12)
+NOON, MADE = model.moment("2024-05-17T12:00:00"), model.moment("2024-05-17T13:00:00")
 
 # Of a code a phase with a slip and an open half cycle; of the first code a strength alone, of the digits 1 and 2.
 PHASE = " " * 16 + " 110804903.5473 " + " " * 16
@@ -22,15 +21,13 @@ STRENGTHS = "         8.000", "        12.000"
 
 def header(codes: list[str]) -> bytes:
     """That of a file whose first record is at noon."""
-    noon, made = model.moment("2024-05-17T12:00:00"), model.moment("2024-05-17T13:00:00")
-    lines = model.header(model.Setup(0, noon, made, MARKER, tuple(codes), 64), {}, noon)
+    lines = model.header(model.Setup(0, NOON, MADE, MARKER, tuple(codes), 64), {}, NOON)
     return "".join(f"{line}\n" for line in lines).encode()
 
 
 def epoch_line(second: int, satellites: int) -> str:
     """That of so many seconds after noon."""
-    time = NOON + timedelta(seconds=second)
-    return f"> {time:%Y %m %d %H %M} {time.second:2}.0000000  0{satellites:3}\n"
+    return f"{model.epoch_line(NOON + 1000 * second, satellites)}\n"
 
 
 def rows(cells: str) -> str:
@@ -57,7 +54,7 @@ def largest_in_characters() -> bytes:
     again; and each third epoch is missing. Ticks are 15 columns apart, the last one without room for its label."""
     row = "".join(f"B{1 + column % 2} " for column in range(CHARACTERS))[:-1]
     ticks = range(0, len(row), 15)
-    labels = "".join(f"{NOON + timedelta(seconds=it):%H:%M:%S}".ljust(15) for it in ticks[:-1])
+    labels = "".join(f"{model.civil(NOON + 1000 * it):%H:%M:%S}".ljust(15) for it in ticks[:-1])
     lines = [f"marker {MARKER}", "from 2024-05-17 12:00:00.000", "until 2024-05-17 12:06:34.000", "interval 1.000", "column 1.000"]
     lines += [f"records {2 * CHARACTERS}", f"satellites {SATELLITES}", f"slips {CHARACTERS * SATELLITES * len(CODES)}"]
     lines.append(f"missing {CHARACTERS - 1}")
