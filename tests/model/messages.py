@@ -192,8 +192,8 @@ def _legacy_cells(message: Message) -> list[CellOf]:
     for row in message.satellites:
         satellite = row["satellite"]
         if 1 <= satellite <= 32 and satellite not in seen:
-            cells.append((satellite, L1_CODES[row["l1_code"]], _l1_cell(row)))
-            cells.append((satellite, L2_CODES[row["l2_code"]], _l2_cell(row)))
+            cells.append((satellite, L1_CODES[row["l1_code"]], _legacy_cell(row, "1")))
+            cells.append((satellite, L2_CODES[row["l2_code"]], _legacy_cell(row, "2")))
         seen.add(satellite)
     return cells
 
@@ -203,35 +203,22 @@ def _l1_range(row: Fields) -> int:
     return 40 * row["l1_range"] + 2 * LIGHT * row["modulus_ambiguity"]
 
 
-def _legacy_phase(row: Fields, offset: int, band: str) -> int:
+def _legacy_cell(row: Fields, band: str) -> Cell:
+    """Of L1 or L2, whose phase stands beside the L1 range. If L1 has no phase, it has no range either."""
+    offset, lock, cnr = (row[f"l{band}_{name}"] for name in ("offset", "lock", "cnr"))
+    has_phase = offset != -(1 << 19)
+    has_range = has_phase if band == "1" else row["l2_range"] != -(1 << 13)
+    length = _l1_range(row) + (0 if band == "1" else 40 * row["l2_range"])
     # 0.0005 m in millicycles is f / (2 c), f in Hz
-    return rounded((_l1_range(row) + offset) * FREQUENCY[band], 2 * LIGHT)
-
-
-def _l1_cell(row: Fields) -> Cell:
-    has_both = row["l1_offset"] != -(1 << 19)
+    phase = rounded((_l1_range(row) + offset) * FREQUENCY[band], 2 * LIGHT)
     return Cell(
-        range=rounded(_l1_range(row), 2) if has_both else None,
-        phase=_legacy_phase(row, row["l1_offset"], "1") if has_both else None,
-        strength=250 * row["l1_cnr"] or None,
-        lock_time=legacy_lock_time(row["l1_lock"]),
+        range=rounded(length, 2) if has_range else None,
+        phase=phase if has_phase else None,
+        strength=250 * cnr or None,
+        lock_time=legacy_lock_time(lock),
         half=False,
         source=1004,
-        offset=row["l1_offset"] if has_both else None,
-    )
-
-
-def _l2_cell(row: Fields) -> Cell:
-    has_range = row["l2_range"] != -(1 << 13)
-    has_phase = row["l2_offset"] != -(1 << 19)
-    return Cell(
-        range=rounded(_l1_range(row) + 40 * row["l2_range"], 2) if has_range else None,
-        phase=_legacy_phase(row, row["l2_offset"], "2") if has_phase else None,
-        strength=250 * row["l2_cnr"] or None,
-        lock_time=legacy_lock_time(row["l2_lock"]),
-        half=False,
-        source=1004,
-        offset=row["l2_offset"] if has_phase else None,
+        offset=offset if has_phase else None,
     )
 
 
