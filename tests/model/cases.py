@@ -499,6 +499,9 @@ def proposals(empty):
         " message 1077 4\n", told("1C", "1077 2"))
     # pins: gives_value
     yield "msm_without_values", of(1076, 2, 0) + of(1077, 2, 0, 1, ms=255), (" message 1077 2\n", " codes 1C\n" + told("1C --msm 6"))
+    # signal 9 is 2P, and 10 is 2W
+    # pins: proposal_lines
+    yield "msm_without_2w", of(1074, 9, 0, 1) + of(1077, 10, 0), (" codes 2P,2W\n second-frequency 2P\n" + told("2P", "1077 1"),)
     # pins: proposed
     yield "msm_of_no_value", of(1077, 2, 0, ms=255) + at(0), (" codes 1C,2W\n" + told("1C,2W"),)
     yield "msm_beside_1004", of(1076, 24, 0) + at(0), (" codes 1C,2W,5X\n" + told("1C,2W,5X --msm 6"),)

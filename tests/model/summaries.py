@@ -53,8 +53,6 @@ def station_lines(station: int, messages: list[Message]) -> list[str]:
         f" satellites {satellites or '-'}",
         f" codes {','.join(codes) or '-'}",
     ]
-    if "2P" in codes and "2W" not in codes:
-        lines.append(" second-frequency 2P")
     return lines + next_lines(station, shown) if codes else lines
 
 
@@ -78,11 +76,13 @@ def codes_of(shown: list[Shown], numbers: tuple[int, ...]) -> list[str]:
 
 
 def next_lines(station: int, shown: list[Shown]) -> list[str]:
-    """The command with the MSM that has most epochs, of such the greatest, and the other ones."""
+    """The command with the MSM that has most epochs, of such the greatest; its second frequency, and the other MSM."""
     times = {msm: [tow for number, tow, _, _ in shown if number == msm] for msm in MSMS}
     epochs = {msm: len(list(groupby(times[msm]))) for msm in MSMS}
     most = max(MSMS, key=lambda msm: (epochs[msm], msm)) if any(epochs.values()) else 1074
     option = "" if most == 1074 else f" --msm {most - 1070}"
-    words = f"--station {station} {NEXT} {','.join(codes_of(shown, (1004, most)))}{option}"
+    codes = codes_of(shown, (1004, most))
+    words = f"--station {station} {NEXT} {','.join(codes)}{option}"
+    second = [" second-frequency 2P"] if "2P" in codes and "2W" not in codes else []
     others = [f" other-msm {msm} {n}" for msm, n in epochs.items() if n and msm != most]
-    return [*others, f" next rtcm2rinex convert {words} CAPTURE"]
+    return [*second, *others, f" next rtcm2rinex convert {words} CAPTURE"]

@@ -74,6 +74,7 @@ entries_of h cell_mask cell_of = join_from (slot_entry h cell_of) 0 (slots_of h 
 abbrev pub rough_of : ℕ → ℕ → Option ℤ
 rough_of ms fraction = if ms == 255 then None else Some (rough_time ms fraction)
 
+-- formula
 -- the pseudorange, if the rough range and DF400 (-16384 is invalid) are valid
 abbrev pub fine_range_of : ℤ → Option ℤ → Option ℤ
 fine_range_of rough None = None
@@ -84,6 +85,7 @@ abbrev pub msm_range_of : Option ℤ → ℤ → Option ℤ
 msm_range_of None field = None
 msm_range_of (Some rough) field = fine_range_of rough (unless_invalid (negsuc 16_383) field)
 
+-- formula
 -- the phase, if the rough range and DF401 (-2097152 is invalid) are valid
 abbrev pub fine_phase_of : Band → ℤ → Option ℤ → Option ℤ
 fine_phase_of band rough None = None
@@ -94,6 +96,7 @@ abbrev pub msm_phase_of : Band → Option ℤ → ℤ → Option ℤ
 msm_phase_of band None field = None
 msm_phase_of band (Some rough) field = fine_phase_of band rough (unless_invalid (negsuc 2_097_151) field)
 
+-- formula
 -- the same with extended resolution: the pseudorange, if the rough range and DF405 (-524288 is
 -- invalid) are valid
 abbrev pub extended_fine_range_of : ℤ → Option ℤ → Option ℤ
@@ -105,6 +108,7 @@ abbrev pub extended_range_of : Option ℤ → ℤ → Option ℤ
 extended_range_of None field = None
 extended_range_of (Some rough) field = extended_fine_range_of rough (unless_invalid (negsuc 524_287) field)
 
+-- formula
 -- and the phase, if the rough range and DF406 (-8388608 is invalid) are valid
 abbrev pub extended_fine_phase_of : Band → ℤ → Option ℤ → Option ℤ
 extended_fine_phase_of band rough None = None
@@ -131,6 +135,8 @@ range_of_kind kind rough field = if has_extended_resolution kind then extended_r
 abbrev pub phase_of_kind : MsmKind → Band → Option ℤ → ℤ → Option ℤ
 phase_of_kind kind band rough field = if has_extended_resolution kind then extended_phase_of band rough field else msm_phase_of band rough field
 
+-- formula
+-- the strength: DF408, or DF403 in steps of 1 dB-Hz
 abbrev pub strength_of_kind : MsmKind → ℕ → Option ℕ
 strength_of_kind kind field = if has_extended_resolution kind then strength_of_sixteenths field else strength_of 1000 field
 

@@ -1,7 +1,7 @@
 //! Values of fields from exact fractions, each rounded once.
 //!
-//! The fractions have up to 68 bits. Values of a 1074 are computed in 128 bits. Values of a 1004
-//! are computed in 64 bits: the whole quotient times the factor, and the rounded rest, apart.
+//! The fractions have up to 68 bits. Values of an MSM are computed in 128 bits. Values of a
+//! 1004 are computed in 64 bits: the whole quotient times the factor, and the rounded rest, apart.
 
 ghost use Rattle.std.specs.Prelude.{◌≡◌, ◌+◌, ◌*◌, ◌^◌, ◌<◌, ◌≤◌, pos, ◌*ℤ◌, ◌≤ℤ◌, negsuc, unsigned_abs};
 ghost use Rattle.rtk_obs.specs.Code.{frequency_of};

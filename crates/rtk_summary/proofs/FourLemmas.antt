@@ -12,7 +12,7 @@ use Rattle.rtk_message.specs.MsmForm.{number_of_kind}
 use Rattle.rtk_obs.specs.declared.code.Code.{Code}
 use Rattle.rtk_summary.specs.Counting.{shown_count}
 use Rattle.rtk_summary.specs.Proposal.{entry_has_value, gives_value, epochs_in, epochs_of, is_taken_with, entries_with, better_of, proposed, is_of_four}
-use Rattle.rtk_summary.specs.SummaryText.{codes_text, counted_line, next_line, other_msm_lines, proposal_lines}
+use Rattle.rtk_summary.specs.SummaryText.{codes_text, counted_line, second_frequency_line, next_line, other_msm_lines, proposal_lines}
 use Rattle.rtk_summary.specs.Tracing.{entries_of, entries_in, has_code, times_of_week}
 use Rattle.rtk_summary.proofs.NamedLemmas.{stays}
 
@@ -53,7 +53,7 @@ unfolding other_msm_lines
 no-lines epochs five six seven = rw (five, six, seven) refl
 
 pub four-name-none : (station : ℕ) (ms : List AnyMessage) → list_all is_of_four ms ≡ true
-    → proposal_lines station (λ kind. epochs_of kind ms) (λ kind. has_code (entries_with kind ms)) ≡ next_line station Msm4 (codes_text (has_code (entries_in ms)))
+    → proposal_lines station (λ kind. epochs_of kind ms) (λ kind. has_code (entries_with kind ms)) ≡ second_frequency_line (has_code (entries_in ms)) ++ next_line station Msm4 (codes_text (has_code (entries_in ms)))
 unfolding proposal_lines
 four-name-none station ms are =
     let epochs : MsmKind → ℕ = λ kind. epochs_of kind ms in
@@ -64,6 +64,6 @@ four-name-none station ms are =
     let none : proposed epochs ≡ Msm4 =
     stays epochs (better_of epochs (better_of epochs Msm4 Msm5) Msm6) Msm7 seven
     ∙ stays epochs (better_of epochs Msm4 Msm5) Msm6 six ∙ stays epochs Msm4 Msm5 five in
-    ap (λ (k : MsmKind). other_msm_lines epochs k ++ next_line station k (codes_text (code k))) none
-    ∙ ap (λ (t : List ℕ). t ++ next_line station Msm4 (codes_text (code Msm4))) (no-lines epochs five six seven)
-    ∙ ap (λ (xs : List AnyMessage). next_line station Msm4 (codes_text (has_code (entries_in xs)))) (taken-all ms are)
+    ap (λ (k : MsmKind). second_frequency_line (code k) ++ other_msm_lines epochs k ++ next_line station k (codes_text (code k))) none
+    ∙ ap (λ (t : List ℕ). second_frequency_line (code Msm4) ++ t ++ next_line station Msm4 (codes_text (code Msm4))) (no-lines epochs five six seven)
+    ∙ ap (λ (xs : List AnyMessage). second_frequency_line (has_code (entries_in xs)) ++ next_line station Msm4 (codes_text (has_code (entries_in xs)))) (taken-all ms are)

@@ -98,7 +98,7 @@ signals-are s ms stands =
     let coded : Code → Bool = λ c. get_or s.codes.marks (place_of c) false in
     let es = entries_in ms in
     let a : satellites_text marked ≡ satellites_text (has_satellite es) = satellites-agree marked (has_satellite es) (λ n lt. stands.satellites n (let size = stands.satellites_size in omega (arith, lt, size))) in
-    let lines : List ℕ → (Code → Bool) → List ℕ = λ sats code. list_line (codes " satellites") sats ++ list_line (codes " codes") (codes_text code) ++ second_frequency_line code in
+    let lines : List ℕ → (Code → Bool) → List ℕ = λ sats code. list_line (codes " satellites") sats ++ list_line (codes " codes") (codes_text code) in
     ap (λ (t : List ℕ). lines t coded) a
     ∙ ap (λ (t : Code → Bool). lines (satellites_text (has_satellite es)) t) (codes-marked s.codes es stands.codes)
 

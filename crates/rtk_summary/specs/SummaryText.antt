@@ -94,7 +94,6 @@ second_frequency_line test = if test C2P && not (test C2W) then codes " second-f
 unfoldable pub signal_lines : (ℕ → Bool) → (Code → Bool) → List ℕ
 signal_lines satellite code =
     list_line (codes " satellites") (satellites_text satellite) ++ list_line (codes " codes") (codes_text code)
-    ++ second_frequency_line code
 
 -- ---- the command that converts a station, by how many epochs of each MSM have a value, and by the
 -- codes that `convert` takes with each
@@ -129,10 +128,11 @@ next_line station named (x ∷ xs) =
     ++ codes " --near GPS-TIME-WITHIN-HALF-A-WEEK --made UTC-NOW --marker NAME --codes" ++ (x ∷ xs) ++ msm_option named ++ codes " CAPTURE\n"
 
 -- formula
--- the command, and before it the MSM that it leaves out
+-- the command, and before it its second frequency and the MSM that it leaves out
 unfoldable pub proposal_lines : ℕ → (MsmKind → ℕ) → (MsmKind → Code → Bool) → List ℕ
 proposal_lines station epochs code =
-    other_msm_lines epochs (proposed epochs) ++ next_line station (proposed epochs) (codes_text (code (proposed epochs)))
+    second_frequency_line (code (proposed epochs)) ++ other_msm_lines epochs (proposed epochs)
+    ++ next_line station (proposed epochs) (codes_text (code (proposed epochs)))
 
 -- formula
 -- no station has a code

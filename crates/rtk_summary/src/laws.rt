@@ -2,14 +2,14 @@
 //!
 //! Each function here does nothing. Its contract is the law.
 
-ghost use Rattle.std.specs.Prelude.{◌≡◌, ◌≤◌, ◌<◌, ℕ, List, IsTrue};
+ghost use Rattle.std.specs.Prelude.{◌≡◌, ◌≤◌, ◌<◌, ℕ, List, ◌++◌, IsTrue};
 ghost use Rattle.std.specs.List.{list_all};
 ghost use Rattle.rtk_message.specs.declared.any_message.AnyMessage.{AnyMessage};
 ghost use Rattle.rtk_message.specs.MsmForm.{number_of_kind};
 ghost use Rattle.rtk_message.specs.declared.msm_kind.MsmKind.{MsmKind};
 ghost use Rattle.rtk_message.specs.declared.msm_kind.MsmKind.TheVariants.{Msm4};
 ghost use Rattle.rtk_summary.specs.Proposal.{is_of_four, epochs_of, entries_with, proposed};
-ghost use Rattle.rtk_summary.specs.SummaryText.{codes_text, next_line, proposal_lines};
+ghost use Rattle.rtk_summary.specs.SummaryText.{codes_text, second_frequency_line, next_line, proposal_lines};
 ghost use Rattle.rtk_summary.specs.Tracing.{entries_in, has_code};
 
 /// No MSM has more epochs with a value than the one that is named, and none greater has as many. If
@@ -22,9 +22,10 @@ pub fn most_epochs_are_named()
 {}
 
 /// For a station whose messages are all of 1004 to 1006 and 1074, the command names no MSM and lists
-/// the codes of all cells, and no line tells of another MSM.
+/// the codes of all cells. The line of its second frequency goes by these codes, and no line tells of
+/// another MSM.
 pub fn four_need_no_option()
     ensures { (station : ℕ) (ms : List AnyMessage) → IsTrue (list_all is_of_four ms)
         → proposal_lines station (λ kind. epochs_of kind ms) (λ kind. has_code (entries_with kind ms))
-        ≡ next_line station Msm4 (codes_text (has_code (entries_in ms))) }
+        ≡ second_frequency_line (has_code (entries_in ms)) ++ next_line station Msm4 (codes_text (has_code (entries_in ms))) }
 {}

@@ -213,7 +213,6 @@ fn put_signals(alloc: Global, lines: &mut Vec<u8>, signals: &Signals) -> Result<
     let codes = codes_text(alloc, &signals.codes.marks)?;
     put_list(lines, b" satellites", satellites.as_slice())?;
     put_list(lines, b" codes", codes.as_slice())?;
-    put_second_frequency(lines, &signals.codes.marks)?;
     Ok(())
 }
 
@@ -281,7 +280,7 @@ fn put_next(
     Ok(())
 }
 
-// The command that converts a station, and before it the MSM that it leaves out.
+// The command that converts a station, and before it its second frequency and the MSM that it leaves out.
 fn put_proposal(
     alloc: Global,
     lines: &mut Vec<u8>,
@@ -292,8 +291,10 @@ fn put_proposal(
         ++ proposal_lines station (epochs_held msm.now) (codes_held msm.now)) }
 {
     let named = msm.proposed();
+    let marks = &msm.part(named).codes.marks;
+    put_second_frequency(lines, marks)?;
     put_other_msms(lines, msm, named)?;
-    let codes = codes_text(alloc, &msm.part(named).codes.marks)?;
+    let codes = codes_text(alloc, marks)?;
     put_next(lines, station, named, codes.as_slice())?;
     Ok(())
 }

@@ -9,7 +9,8 @@ returns c =
       c.in_ok-put_next.ensures,
       c.as_slice.ensures.value,
       c.in_ok-codes.ensures,
-      c.part.ensures,
       c.in_ok-put_other_msms.ensures,
+      c.in_ok-put_second_frequency.ensures,
+      c.part.ensures,
       c.proposed-named.ensures,
     ) (simp append_assoc)
