@@ -55,7 +55,10 @@ pub(crate) fn conversion<'a>(
         unreachable!();
     };
     match Setup::new(options.station, near, head, usize::from(options.window)) {
-        Ok(setup) => Ok(Job::Convert { setup: setup.with_msm(msm), links }),
+        Ok(setup) => Ok(Job::Convert {
+            setup: setup.with_msm(msm),
+            links,
+        }),
         Err(SetupFault::Near) => Err(words_fault(BadWords::Near)),
         Err(SetupFault::Station | SetupFault::Window) => unreachable!(),
     }

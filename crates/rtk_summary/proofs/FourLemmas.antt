@@ -1,5 +1,5 @@
 -- A station without 1075 to 1077.
-use Rattle.std.proofs.Common.{◌≡◌, ◌∙◌, ◌==◌, ◌++◌, ◌&&◌, ℕ, Bool, true, false, cond, List, [], ◌∷◌, refl, ap, subst, inl, inr}
+use Rattle.std.proofs.Common.{◌≡◌, ◌∙◌, ◌==◌, ◌++◌, ◌&&◌, ℕ, Bool, true, false, cond, List, [], ◌∷◌, refl, ap, append-nil, subst, inl, inr}
 use Rattle.std.specs.Prelude.{filter}
 use Rattle.std.specs.List.{list_all, list_any}
 use Rattle.std.proofs.lemmas.Bool.{cases_eq, ne_eqb}
@@ -64,6 +64,12 @@ four-name-none station ms are =
     let none : proposed epochs ≡ Msm4 =
     stays epochs (better_of epochs (better_of epochs Msm4 Msm5) Msm6) Msm7 seven
     ∙ stays epochs (better_of epochs Msm4 Msm5) Msm6 six ∙ stays epochs Msm4 Msm5 five in
-    ap (λ (k : MsmKind). second_frequency_line (code k) ++ other_msm_lines epochs k ++ next_line station k (codes_text (code k))) none
-    ∙ ap (λ (t : List ℕ). second_frequency_line (code Msm4) ++ t ++ next_line station Msm4 (codes_text (code Msm4))) (no-lines epochs five six seven)
-    ∙ ap (λ (xs : List AnyMessage). second_frequency_line (has_code (entries_in xs)) ++ next_line station Msm4 (codes_text (has_code (entries_in xs)))) (taken-all ms are)
+    let shown : List AnyMessage → List ℕ = λ xs. second_frequency_line (has_code (entries_in xs)) ++ next_line station Msm4 (codes_text (has_code (entries_in xs))) in
+    let named : proposal_lines station epochs code ≡ second_frequency_line (code Msm4) ++ other_msm_lines epochs Msm4 ++ next_line station Msm4 (codes_text (code Msm4)) =
+    ap (λ (k : MsmKind). second_frequency_line (code k) ++ other_msm_lines epochs k ++ next_line station k (codes_text (code k))) none in
+    let next : List ℕ = next_line station Msm4 (codes_text (code Msm4)) in
+    let second : List ℕ = second_frequency_line (code Msm4) in
+    let alone : second ++ other_msm_lines epochs Msm4 ++ next ≡ second ++ next =
+    ap (λ (t : List ℕ). second ++ t ++ next) (no-lines epochs five six seven) ∙ ap (λ (t : List ℕ). t ++ next) (append-nil second) in
+    let all : shown (filter (is_taken_with Msm4) ms) ≡ shown ms = ap shown (taken-all ms are) in
+    named ∙ alone ∙ all
