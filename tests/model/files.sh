@@ -87,4 +87,4 @@ for words in 'cut --every 1' chart 'chart --text'; do
     leaves "$(echo "$words" | tr -cs a-z _)of_10_mb_with_a_zero" 3 /dev/null zero.line
 done
 
-ends 86
+ends 87
