@@ -1,2 +1,3 @@
 mod LawLemmas
+mod PassedLemmas
 mod ShownLemmas

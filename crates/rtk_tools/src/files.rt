@@ -1,17 +1,23 @@
-//! Files and standard streams as sources and sinks. Nothing is known of the bytes that pass.
+//! Files and standard streams as sources and sinks. What a reader or a writer says of its bytes is
+//! what they say; a file and a standard stream say nothing.
 //!
 //! A link is read through one buffer, whose size is a multiple of the 512 bytes that a conversion
 //! asks for. Failed calls are counted, and a reader has met its end once a read with room gave
 //! nothing.
 
-ghost use Rattle.std.specs.Prelude.{◌≡◌, None, true, false};
+ghost use Rattle.std.specs.Prelude.{◌≡◌, OnOk, List, ℕ, true, false};
+ghost use Rattle.std.specs.Io.Buffered.{writer_contents};
+ghost use Rattle.std.specs.Io.KnownBytes.{Keeps, append_known};
+ghost use Rattle.rtk_tools.specs.Passed.{given_of, IsLeft, IsLeft-prop, taken_of, StaysKnown, StaysKnown-prop};
 
+use crate::before::Before;
 use crate::fault::ToolFault;
 use crate::resuming::Resumed;
 use rtk_frame::{Sink, Source, StreamFault};
 use std::alloc::Global;
 use std::fs::Files;
 use std::io::{BufWriter, Print, Printer, Read, Write};
+use std::marker::{Brand, PhantomData};
 use std::{fs, io};
 
 /// The word that names standard input.
@@ -33,6 +39,10 @@ pub enum Capture<F: Read + Drop, I: Read + Drop> {
 }
 
 impl<F: Read + Drop, I: Read + Drop> Read for Capture<F, I> {
+    ghost use Rattle.rtk_tools.specs.CaptureBytes.{capture_remaining};
+
+    ghost remaining = { capture_remaining F.remaining I.remaining };
+
     fn read(&mut self, buf: &mut [u8]) -> io::Result<usize> {
         match self {
             Capture::File(file) => file.read(buf),
@@ -67,18 +77,31 @@ pub fn standard_output<R: Print>(rt: &R) -> Writes<Resumed<Printer<'_, R>>> {
     Writes::new(Resumed::new(io::writer(rt)))
 }
 
-/// A reader of std as a source. Nothing is known of its bytes; its calls are counted.
+/// A reader of std as a source. It gives the bytes that the reader had; its calls are counted.
 #[derive(Drop)]
-pub struct Reads<R: Read> {
+pub struct Reads<R: Read, K: Before = Brand> {
     inner: R,
     failed: u64,
     made: u64,
     ended: bool,
+    of: PhantomData<K>,
+    ghost left: { IsLeft K.bytes (R.remaining inner) ended } by { IsLeft-prop K.bytes (R.remaining inner) ended },
 }
 
 impl<R: Read> Reads<R> {
-    /// A source over a reader, before its first call.
+    /// A source over a reader of whose bytes nothing is known, before its first call.
     pub fn new(inner: R) -> Reads<R>
+        ensures no_call { (result.made ≡ 0) × (result.failed ≡ 0) × (result.ended ≡ false) }
+        ensures inner { result.inner ≡ inner }
+    {
+        Reads::over(inner)
+    }
+}
+
+impl<R: Read, K: Before> Reads<R, K> {
+    /// A source over a reader that has the bytes of `K` to give, before its first call.
+    pub fn over(inner: R) -> Reads<R, K>
+        requires known { Keeps K.bytes (R.remaining inner) }
         ensures no_call { (result.made ≡ 0) × (result.failed ≡ 0) × (result.ended ≡ false) }
         ensures inner { result.inner ≡ inner }
     {
@@ -87,12 +110,13 @@ impl<R: Read> Reads<R> {
             failed: 0,
             made: 0,
             ended: false,
+            of: PhantomData,
         }
     }
 }
 
-impl<R: Read> Source for Reads<R> {
-    ghost given = { λ _. None };
+impl<R: Read, K: Before> Source for Reads<R, K> {
+    ghost given = { λ source. given_of K.bytes (R.remaining source.inner) };
 
     ghost failures = { λ source. source.failed };
 
@@ -116,38 +140,66 @@ impl<R: Read> Source for Reads<R> {
     }
 }
 
-/// A writer of std as a sink. Nothing is known of its bytes; its failed calls are counted.
+/// A writer of std as a sink. What it takes the writer holds; its failed calls are counted.
 #[derive(Drop)]
-pub struct Writes<W: Write> {
+pub struct Writes<W: Write, K: Before = Brand> {
     inner: W,
     failed: u64,
+    of: PhantomData<K>,
+    ghost known: { StaysKnown K.bytes (W.contents inner) } by { StaysKnown-prop K.bytes (W.contents inner) },
 }
 
 impl<W: Write> Writes<W> {
-    /// A sink over a writer, before its first call.
+    /// A sink over a writer of whose bytes nothing is known, before its first call.
     pub(crate) fn new(inner: W) -> Writes<W>
         ensures no_failed_call { result.failed ≡ 0 }
+        ensures inner { result.inner ≡ inner }
     {
-        Writes { inner, failed: 0 }
+        Writes::over(inner)
     }
 }
 
-impl<W: Write + Drop> Writes<BufWriter<W>> {
-    /// Hands on what was gathered, and ends. What can't be written now is let go, so that nothing
-    /// comes after a fault line. Nothing is known of the bytes.
-    pub fn finish(self) -> Result<(), StreamFault> {
-        let mut writer = self.inner;
-        let flushed = writer.flush();
-        let (_writer, _unwritten) = writer.into_parts();
-        match flushed {
-            Ok(()) => Ok(()),
-            Err(_) => Err(StreamFault),
+impl<W: Write, K: Before> Writes<W, K> {
+    /// A sink over a writer that holds the bytes of `K`, before its first call.
+    pub fn over(inner: W) -> Writes<W, K>
+        requires known { Keeps K.bytes (W.contents inner) }
+        ensures no_failed_call { result.failed ≡ 0 }
+        ensures inner { result.inner ≡ inner }
+    {
+        Writes {
+            inner,
+            failed: 0,
+            of: PhantomData,
         }
     }
 }
 
-impl<W: Write> Sink for Writes<W> {
-    ghost taken = { λ _. None };
+impl<W: Write + Drop, K: Before> Writes<BufWriter<W>, K> {
+    /// Hands on what was gathered, and ends. What can't be written now is let go, so that nothing
+    /// comes after a fault line.
+    pub fn finish(self) -> Result<(), StreamFault> {
+        let (_writer, finished) = self.into_writer();
+        finished
+    }
+
+    /// Hands on what was gathered, and ends with the writer behind. What can't be written now is
+    /// let go.
+    pub fn into_writer(self) -> (W, Result<(), StreamFault>)
+        ensures all { OnOk result.1 (Keeps (writer_contents W.contents self.inner) (W.contents result.0)) }
+        ensures part { (unwritten : List ℕ) × Keeps (writer_contents W.contents self.inner) (append_known (W.contents result.0) unwritten) }
+    {
+        let mut writer = self.inner;
+        let flushed = writer.flush();
+        let (inner, _unwritten) = writer.into_parts();
+        match flushed {
+            Ok(()) => (inner, Ok(())),
+            Err(_) => (inner, Err(StreamFault)),
+        }
+    }
+}
+
+impl<W: Write, K: Before> Sink for Writes<W, K> {
+    ghost taken = { λ sink. taken_of K.bytes (W.contents sink.inner) };
 
     ghost failures = { λ sink. sink.failed };
 

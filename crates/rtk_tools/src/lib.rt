@@ -15,6 +15,7 @@
 //! Its tests: tests/values/src/tools.rt.in and tools/, and tests/program
 #![tactic(auto)]
 
+mod before;
 mod exit_status;
 mod fault;
 mod files;
@@ -23,10 +24,12 @@ mod input;
 pub mod laws;
 mod links;
 mod payload_line;
+mod reading;
 mod resuming;
 mod showing;
 mod summarizing;
 
+pub use before::Before;
 pub use exit_status::{DONE, FAILED, NOT_VALID, REFUSED, fail, fail_to_end, fail_to_open};
 pub use fault::ToolFault;
 pub use files::{
@@ -35,6 +38,7 @@ pub use files::{
 pub use input::read_whole;
 pub use links::{Link, OpenFault, fail_to_open_links, has_standard_input, open_links};
 pub use payload_line::show_line;
+pub use reading::read_all;
 pub use resuming::Resumed;
 pub use showing::{SHOW_LIMIT, show, show_named};
 pub use summarizing::{summarize_named, summary_status};

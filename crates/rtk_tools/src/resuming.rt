@@ -3,8 +3,9 @@
 //! They stand below all buffers and hand on no interruption, so that no buffer above makes a call
 //! again without a count.
 
-ghost use Rattle.std.specs.Prelude.{◌≢◌, ◌≤◌, IfErr};
+ghost use Rattle.std.specs.Prelude.{◌≡◌, ◌≢◌, ◌≤◌, IfErr};
 ghost use Rattle.std.specs.Io.{ReadsAtMost, WritesAtMost};
+ghost use Rattle.std.specs.Io.KnownBytes.{Keeps, ReadConsumes, WriteAppends};
 ghost use Rattle.std.specs.IoError.{error_kind};
 ghost use Rattle.std.specs.declared.io.ErrorKind.TheVariants.{Interrupted};
 ghost use Rattle.rtk_tools.specs.Steps.Interrupts.{most_interruptions, FollowsError};
@@ -38,14 +39,19 @@ pub struct Resumed<T> {
 
 impl<T> Resumed<T> {
     /// The same reader or writer, whose interrupted calls are made again.
-    pub(crate) fn new(inner: T) -> Resumed<T> {
+    pub(crate) fn new(inner: T) -> Resumed<T>
+        ensures { result ≡ record { inner = inner } }
+    {
         Resumed { inner }
     }
 }
 
 impl<R: Read> Read for Resumed<R> {
+    ghost remaining = { λ reader. R.remaining reader.inner };
+
     fn read(&mut self, buf: &mut [u8]) -> io::Result<usize>
         ensures bound { ReadsAtMost result buf.new }
+        ensures bytes { ReadConsumes (R.remaining self.old.inner) (R.remaining self.new.inner) result buf.new }
         ensures resumed { IfErr result (λ error. error_kind error ≢ Interrupted) }
     {
         let mut interruptions = 0;
@@ -59,8 +65,11 @@ impl<R: Read> Read for Resumed<R> {
 }
 
 impl<W: Write> Write for Resumed<W> {
+    ghost contents = { λ writer. W.contents writer.inner };
+
     fn write(&mut self, buf: &[u8]) -> io::Result<usize>
         ensures bound { WritesAtMost result buf.now }
+        ensures bytes { WriteAppends (W.contents self.old.inner) (W.contents self.new.inner) result buf.now }
         ensures resumed { IfErr result (λ error. error_kind error ≢ Interrupted) }
     {
         let mut interruptions = 0;
@@ -73,6 +82,7 @@ impl<W: Write> Write for Resumed<W> {
     }
 
     fn flush(&mut self) -> io::Result<()>
+        ensures bytes { Keeps (W.contents self.old.inner) (W.contents self.new.inner) }
         ensures resumed { IfErr result (λ error. error_kind error ≢ Interrupted) }
     {
         let mut interruptions = 0;

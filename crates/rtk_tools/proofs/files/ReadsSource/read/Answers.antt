@@ -1,0 +1,7 @@
+use Rattle.rtk_tools.proofs.PassedLemmas.{left-read}
+use Rattle.rtk_tools.proofs.files.ReadsSource.read.Goals as goal
+
+pub invariant_of-self-in_default-1 : goal.invariant_of-self-in_default-1
+invariant_of-self-in_default-1 g c = record {
+  left = left-read g.K.Before.bytes _ _ c.args.self.now.ended c.read.result c.read.new.buf c.args.self.now.left c.read.ensures.bytes;
+}
