@@ -831,6 +831,7 @@ def tells_alone(left, fault):
 
 # Opens.
 
+# refuses: a `convert` that reads a link before all links are open
 @scene("each of 16 opens fails, and then nothing was read")
 def _open_fails():
     faults = [errno.ENOENT, errno.EACCES, errno.EMFILE, errno.ENFILE, errno.ELOOP, errno.EIO]
