@@ -1,5 +1,5 @@
 -- The picture of a table, from what was read of it.
-use Rattle.std.proofs.Common.{◌≡◌, ℕ, List, [], ◌∷◌, Bool, Option, Some, None, length, refl, sym, ap, ◌∙◌}
+use Rattle.std.proofs.Common.{◌≡◌, ℕ, List, [], ◌∷◌, Bool, Option, Some, None, length, refl, ap, ◌∙◌}
 use Rattle.rtk_rinex.specs.Record.{EpochTableView}
 use Rattle.rtk_chart.specs.Epochs.{capped, newest_moment, slips_in}
 use Rattle.rtk_chart.specs.Interval.{steps_in, missing_in}

@@ -1,5 +1,5 @@
 -- Columns that are as short as they can be, and missing epochs column by column.
-use Rattle.std.proofs.Common.{◌≡◌, ◌≤◌, ◌<◌, ◌+◌, ◌-◌, ◌*◌, ◌/◌, ℕ, zero, suc, Bool, true, ltb, leb, lit<, lit≤, ◌&&◌, Some, inl, inr, refl, sym, ap, subst, ◌∙◌, arith}
+use Rattle.std.proofs.Common.{◌≡◌, ◌≤◌, ◌<◌, ◌+◌, ◌-◌, ◌*◌, ◌/◌, ℕ, zero, suc, true, ltb, leb, lit<, lit≤, ◌&&◌, Some, inl, inr, sym, ap, subst, ◌∙◌, arith}
 use Rattle.std.proofs.Math.Nat.{div-mul-le_self, add-div_right, add-mul, mul_left_comm}
 use Rattle.std.proofs.lemmas.Bool.{cases_eq, and_parts, and_from, ltb-true, leb-true, lt-ltb, le-leb}
 use Rattle.std.proofs.lemmas.Nat.{mul-le, le-div}
@@ -22,7 +22,7 @@ shorter-too-many span unit allowed k some any short =
     let many = le-div allowed span (k * unit) (mul-pos k unit any some) fits in
     omega (arith, many)
 
-div-mono : (a b l : ℕ) → 0 < l → a ≤ b → a / l ≤ b / l
+pub div-mono : (a b l : ℕ) → 0 < l → a ≤ b → a / l ≤ b / l
 div-mono a b l some le =
     let h = div-mul-le_self a l in
     let fits : a / l * l ≤ b = omega (arith, h, le) in

@@ -1,9 +1,15 @@
 pub mod ChartLemmas
+pub mod FileLemmas
 pub mod GridLemmas
+pub mod HeadingLemmas
 pub mod LawLemmas
 pub mod ListLemmas
+pub mod MarkLemmas
 pub mod ObservationLemmas
+pub mod PieceLemmas
 pub mod RecordLemmas
 pub mod ScaleLemmas
+pub mod SeenLemmas
 pub mod StepLemmas
 pub mod SvgLemmas
+pub mod WidthLemmas

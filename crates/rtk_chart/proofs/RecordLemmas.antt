@@ -1,5 +1,5 @@
 -- The records of a file, one after another, and what stands for their epochs.
-use Rattle.std.proofs.Common.{◌≡◌, List, [], ◌∷◌, ℕ, refl, sym, ap, ◌∙◌, subst}
+use Rattle.std.proofs.Common.{◌≡◌, List, [], ◌∷◌, ℕ, sym, ap, ◌∙◌, subst}
 use Rattle.rtk_rinex.specs.Record.{EpochTableView}
 use Rattle.rtk_rinex.specs.Records.{RecordsView, AreLeft, IsNextOf}
 use Rattle.rtk_chart.specs.Epochs.{epochs_onto, newest_first}

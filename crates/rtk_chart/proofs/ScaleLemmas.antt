@@ -1,5 +1,5 @@
 -- The columns of a picture, in numbers.
-use Rattle.std.proofs.Common.{◌≡◌, ◌≤◌, ◌<◌, ◌+◌, ◌-◌, ◌*◌, ◌/◌, ℕ, arith}
+use Rattle.std.proofs.Common.{◌≡◌, ◌≤◌, ◌<◌, ◌+◌, ◌*◌, ◌/◌, ℕ, arith}
 use Rattle.std.proofs.Math.Nat.{div-mul-le_self, add-mul, mul_left_comm}
 use Rattle.std.proofs.lemmas.Nat.{mul-le, mul-lt, div-add-mod', mod_below, div_below}
 

@@ -1,5 +1,5 @@
 -- The epochs of a file, newest first, and what they have of a satellite.
-use Rattle.std.specs.Prelude.{ℕ, zero, suc, ◌+◌, ◌/◌, ◌==◌, Bool, true, false, not, List, [], ◌∷◌, length, map, count_by, Option, None, Some, is_some, min, max, if◌then◌else◌}
+use Rattle.std.specs.Prelude.{ℕ, zero, suc, ◌+◌, ◌/◌, ◌==◌, Bool, false, not, List, [], ◌∷◌, length, map, count_by, Option, None, Some, is_some, min, max, if◌then◌else◌}
 use Rattle.std.specs.List.{fold, list_any, sum_by}
 use Rattle.rtk_rinex.specs.Record.{EpochTableView}
 use Rattle.rtk_rinex.specs.declared.epoch_table.Observed.{Observed}

@@ -1,5 +1,5 @@
 -- Times and lengths of time in pictures (this project's rule).
-use Rattle.std.specs.Prelude.{ℕ, ◌+◌, ◌/◌, List, [], ◌∷◌, ◌++◌, codes, decimal, Option, None, Some}
+use Rattle.std.specs.Prelude.{ℕ, ◌/◌, List, [], ◌∷◌, ◌++◌, codes, decimal, Option, None, Some}
 use Rattle.rtk_rinex.specs.Columns.{last_digits}
 use Rattle.rtk_obs.specs.declared.time.Civil.{Civil}
 

@@ -2,9 +2,11 @@ pub mod Chart
 pub mod Epochs
 pub mod Grid
 pub mod Heading
+pub mod HeadingLaws
 pub mod Interval
 pub mod Laws
 pub mod Layers
+pub mod MarkLaws
 pub mod Scale
 pub mod Steps
 pub mod SvgPath

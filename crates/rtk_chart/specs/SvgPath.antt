@@ -1,6 +1,6 @@
 -- Paths of columns in an SVG picture (this project's rule). A column is w units wide, and x is where
 -- the next one begins.
-use Rattle.std.specs.Prelude.{ℕ, ◌+◌, ◌/◌, Bool, true, false, List, [], ◌∷◌, ◌++◌, codes, decimal, if◌then◌else◌}
+use Rattle.std.specs.Prelude.{ℕ, ◌+◌, ◌/◌, Bool, true, false, List, [], ◌∷◌, ◌++◌, codes, decimal}
 
 -- formula
 -- a line over a column that has the mark: it goes on if the column before has it too

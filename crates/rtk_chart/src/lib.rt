@@ -52,4 +52,8 @@ mod ticks;
 mod times;
 
 pub use chart::{chart_svg, chart_text};
-pub use laws::{columns_are_least, missing_marks_are_epochs};
+pub use laws::{
+    columns_are_least, columns_fill_room, counts_are_of_epochs, files_have_numbers,
+    marks_are_of_epochs, missing_marks_are_epochs, svg_headings_tell_numbers,
+    text_headings_tell_numbers,
+};

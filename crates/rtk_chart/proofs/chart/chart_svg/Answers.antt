@@ -1,4 +1,4 @@
-use Rattle.std.proofs.Common.{◌≡◌, ◌-◌, None, List, sym, ap, ◌∙◌}
+use Rattle.std.proofs.Common.{◌≡◌, None, List, sym, ap, ◌∙◌}
 use Rattle.rtk_rinex.specs.Record.{EpochTableView}
 use Rattle.rtk_chart.specs.Epochs.{newest_first, newest_moment}
 use Rattle.rtk_chart.specs.Interval.{steps_in}

@@ -1,8 +1,7 @@
 use Rattle.std.proofs.Common.{◌≡◌, ◌∷◌, ◌+◌, List, ℕ, [], map, subst, arith}
 use Rattle.std.specs.List.{range_with_len}
 use Rattle.rtk_rinex.specs.Record.{EpochTableView}
-use Rattle.rtk_rinex.specs.declared.epoch_table.Observed.{Observed}
-use Rattle.rtk_chart.specs.Epochs.{observed_in, observed_by}
+use Rattle.rtk_chart.specs.Epochs.{observed_by}
 use Rattle.rtk_chart.specs.Grid.{cell_in, satellite_cells}
 use Rattle.rtk_chart.specs.declared.cell.Cell.{Cell}
 use Rattle.rtk_chart.proofs.ListLemmas.{up_to, up_to-none, up_to-here, up_to-more, up_to-all}

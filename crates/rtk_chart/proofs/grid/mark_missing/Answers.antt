@@ -1,5 +1,4 @@
-use Rattle.std.proofs.Common.{◌<◌, ℕ, arith}
-use Rattle.rtk_chart.proofs.GridLemmas.{gaps-marked, gaps-same}
+use Rattle.rtk_chart.proofs.GridLemmas.{gaps-marked}
 use Rattle.rtk_chart.proofs.grid.mark_missing.Goals as goal
 
 pub returns-then-missing-gt0-clause-marked : goal.returns-then-missing-gt0-clause-marked

@@ -1,4 +1,4 @@
-use Rattle.std.proofs.Common.{◌<◌, ◌≤◌, [], length, sym, ap, ◌∙◌, arith, subst}
+use Rattle.std.proofs.Common.{◌<◌, ◌≤◌, [], length, ap, ◌∙◌, arith}
 use Rattle.rtk_chart.specs.Scale.{column_at}
 use Rattle.rtk_chart.specs.Grid.{column_of, epochs_of_column}
 use Rattle.rtk_chart.proofs.GridLemmas.{column-took, column-beyond, column-there, columns-size}

@@ -1,4 +1,4 @@
-use Rattle.std.proofs.Common.{refl, sym, ◌∙◌, arith}
+use Rattle.std.proofs.Common.{sym, ◌∙◌}
 use Rattle.std.proofs.lemmas.Bool.{le-ltb}
 use Rattle.rtk_chart.proofs.ObservationLemmas.{phase-at, no-phase}
 use Rattle.rtk_chart.proofs.observations.shows_phase.Goals as goal

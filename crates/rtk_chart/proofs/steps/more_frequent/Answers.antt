@@ -1,5 +1,4 @@
-use Rattle.std.proofs.Common.{◌≤◌, Option, inl, inr, sym, subst, ◌∙◌, arith}
-use Rattle.rtk_chart.specs.Interval.{times_of_step}
+use Rattle.std.proofs.Common.{Option, inl, inr, sym, subst, ◌∙◌, arith}
 use Rattle.rtk_chart.specs.Steps.Standing.{IsFrequent}
 use Rattle.rtk_chart.specs.declared.steps.Frequent.{Frequent}
 use Rattle.rtk_chart.proofs.StepLemmas.{overtakes, stays-ahead}

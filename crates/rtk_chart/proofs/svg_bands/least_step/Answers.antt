@@ -1,4 +1,4 @@
-use Rattle.std.proofs.Common.{◌<◌, arith}
+use Rattle.std.proofs.Common.{arith}
 use Rattle.rtk_chart.proofs.SvgLemmas.{step-bound}
 use Rattle.rtk_chart.proofs.svg_bands.least_step.Goals as goal
 

@@ -1,7 +1,6 @@
-use Rattle.std.proofs.Common.{◌≡◌, ◌+◌, ◌*◌, ◌++◌, List, ℕ, [], ◌∷◌, length, ap, sym, ◌∙◌}
+use Rattle.std.proofs.Common.{◌+◌, ◌*◌, List, ℕ, length}
 use Rattle.std.specs.Prelude.{codes}
 use Rattle.rtk_chart.specs.SvgPicture.{band_text, number_between, lock_layers, codes_layers, level_layers}
-use Rattle.rtk_obs.specs.declared.code.Code.{Code}
 use Rattle.rtk_chart.proofs.ListLemmas.{and-then}
 use Rattle.rtk_chart.proofs.svg_bands.put_band.Goals as goal
 

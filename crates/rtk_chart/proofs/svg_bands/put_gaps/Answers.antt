@@ -1,4 +1,4 @@
-use Rattle.std.proofs.Common.{◌≡◌, ◌+◌, ◌*◌, ◌++◌, List, ℕ, [], ◌∷◌, length, ap, sym, ◌∙◌}
+use Rattle.std.proofs.Common.{List, ℕ}
 use Rattle.std.specs.Prelude.{codes}
 use Rattle.rtk_chart.specs.SvgPicture.{gaps_band, number_between, strokes_path}
 use Rattle.rtk_chart.proofs.ListLemmas.{and-then}

@@ -1,4 +1,4 @@
-use Rattle.std.proofs.Common.{◌≡◌, ◌+◌, ◌*◌, ◌++◌, List, ℕ, [], ◌∷◌, length, ap, sym, ◌∙◌}
+use Rattle.std.proofs.Common.{◌+◌, ◌++◌, List, ℕ, [], ap, sym, ◌∙◌}
 use Rattle.std.specs.Prelude.{codes}
 use Rattle.rtk_chart.specs.SvgPicture.{tick_text, number_between}
 use Rattle.rtk_chart.specs.Ticks.{tick_label}

@@ -1,7 +1,7 @@
 use Rattle.std.proofs.Common.{◌≡◌, ◌++◌, ◌+◌, ◌*◌, ◌/◌, ℕ, List, Option, ap, ◌∙◌, arith}
 use Rattle.std.specs.Prelude.{flat_map}
 use Rattle.std.specs.List.{range_with_len}
-use Rattle.rtk_chart.specs.SvgPicture.{tick_text, svg_tick_step, ticks_text, column_width}
+use Rattle.rtk_chart.specs.SvgPicture.{tick_text, ticks_text, column_width}
 use Rattle.rtk_chart.specs.Ticks.{tick_at, tick_step}
 use Rattle.rtk_chart.proofs.ListLemmas.{put-more}
 use Rattle.rtk_chart.proofs.svg_bands.put_ticks.Goals as goal

@@ -1,4 +1,4 @@
-use Rattle.std.proofs.Common.{◌≡◌, ◌+◌, ◌*◌, ◌++◌, List, ℕ, [], ◌∷◌, length, ap, sym, ◌∙◌}
+use Rattle.std.proofs.Common.{List, ℕ}
 use Rattle.std.specs.Prelude.{codes}
 use Rattle.rtk_chart.specs.SvgPicture.{strokes_path, path_start}
 use Rattle.rtk_chart.specs.SvgPath.{strokes_text}

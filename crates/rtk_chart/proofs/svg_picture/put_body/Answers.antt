@@ -1,4 +1,4 @@
-use Rattle.std.proofs.Common.{◌≡◌, ◌+◌, ◌*◌, ◌++◌, List, ℕ, [], ◌∷◌, length, ap, sym, ◌∙◌}
+use Rattle.std.proofs.Common.{◌+◌, ◌++◌, List, ℕ, ap, ◌∙◌}
 use Rattle.std.specs.Prelude.{codes}
 use Rattle.rtk_chart.specs.SvgPicture.{svg_body, ticks_text, svg_tick_step, bands_text, gaps_band, svg_legend, column_width}
 use Rattle.rtk_chart.specs.declared.column.Column.{Column}

@@ -1,4 +1,4 @@
-use Rattle.std.proofs.Common.{◌≡◌, ◌+◌, ◌*◌, ◌++◌, List, ℕ, [], ◌∷◌, length, ap, sym, ◌∙◌}
+use Rattle.std.proofs.Common.{◌++◌, List, ℕ, ap, ◌∙◌}
 use Rattle.std.specs.Prelude.{codes}
 use Rattle.rtk_chart.specs.SvgPicture.{svg_of_none, svg_start}
 use Rattle.rtk_chart.proofs.ListLemmas.{and-then}

@@ -1,5 +1,4 @@
-use Rattle.std.proofs.Common.{◌≡◌, ◌+◌, ◌*◌, ◌++◌, List, ℕ, [], ◌∷◌, length, ap, sym, ◌∙◌}
-use Rattle.std.specs.Prelude.{codes}
+use Rattle.std.proofs.Common.{◌≡◌, ◌+◌, ◌++◌, List, ℕ, length, ap, ◌∙◌}
 use Rattle.rtk_chart.specs.SvgPicture.{svg_picture, svg_start, svg_span, svg_numbers, svg_body, bands_end}
 use Rattle.rtk_chart.specs.TextPicture.{drawn_before, satellites_in}
 use Rattle.rtk_chart.specs.declared.column.Column.{Column}

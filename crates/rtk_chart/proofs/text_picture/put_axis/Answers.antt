@@ -1,7 +1,4 @@
-use Rattle.std.proofs.Common.{◌≡◌, ◌++◌, ◌∷◌, [], ℕ, List, take, map, append_assoc, refl, sym, ap, ◌∙◌, arith}
-use Rattle.std.proofs.lemmas.Grind.{common_steps}
-use Rattle.std.specs.Prelude.{flat_map}
-use Rattle.std.specs.List.{range_with_len}
+use Rattle.std.proofs.Common.{◌≡◌, ◌++◌, ◌∷◌, [], ℕ, append_assoc, ap, ◌∙◌, arith}
 use Rattle.rtk_chart.specs.Ticks.{tick_at}
 use Rattle.rtk_chart.specs.TextPicture.{axis_row, axis_mark}
 use Rattle.rtk_chart.proofs.ListLemmas.{push-more}

@@ -1,7 +1,5 @@
-use Rattle.std.proofs.Common.{◌≡◌, ◌++◌, ℕ, List, take, map, append_assoc, refl, sym, ap, ◌∙◌, arith}
+use Rattle.std.proofs.Common.{◌≡◌, List, take, append_assoc, arith}
 use Rattle.std.proofs.lemmas.Grind.{common_steps}
-use Rattle.std.specs.Prelude.{flat_map}
-use Rattle.std.specs.List.{range_with_len}
 use Rattle.rtk_chart.specs.declared.column.Column.{Column}
 use Rattle.rtk_chart.specs.TextPicture.{satellite_row}
 use Rattle.rtk_chart.proofs.text_picture.put_row.Goals as goal

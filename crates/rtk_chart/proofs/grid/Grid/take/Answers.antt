@@ -1,4 +1,4 @@
-use Rattle.std.proofs.Common.{Some, List, ℕ, ap, ◌∙◌}
+use Rattle.std.proofs.Common.{Some, ap, ◌∙◌}
 use Rattle.rtk_chart.specs.Interval.{missing_in}
 use Rattle.rtk_chart.specs.Grid.{has_missing}
 use Rattle.rtk_chart.proofs.GridLemmas.{gaps-are, gaps-took, missing-took}

@@ -1,4 +1,4 @@
-use Rattle.std.proofs.Common.{◌≡◌, ◌≤◌, ◌<◌, ◌+◌, ◌-◌, ◌*◌, ◌/◌, ℕ, ap, arith}
+use Rattle.std.proofs.Common.{◌<◌, ◌+◌, ◌*◌, ◌/◌, ℕ, ap, arith}
 use Rattle.rtk_chart.proofs.ScaleLemmas.{mul-pos, column-bound, columns-few}
 use Rattle.rtk_chart.proofs.scale.Scale.new.Goals as goal
 
