@@ -1,16 +1,15 @@
 -- All frames and messages are taken alike, whatever came before.
-use Rattle.std.proofs.Common.{◌≡◌, ◌≢◌, ◌+◌, ◌==◌, ℕ, Bool, true, false, List, [], ◌∷◌, ◌++◌, Option, Result, Ok, Err, refl, sym, ap, ◌∙◌, eq-eqb, ne_eqb, arith}
+use Rattle.std.proofs.Common.{◌≡◌, ◌==◌, ℕ, true, false, List, [], ◌∷◌, ◌++◌, Option, Result, Ok, Err, refl, sym, ap, ◌∙◌, eq-eqb, ne_eqb, arith}
 use Rattle.std.specs.Prelude.{filter}
 use Rattle.std.proofs.lemmas.Grind.{flat_map-append}
 use Rattle.std.proofs.lemmas.List.Elements.{filter-append, filter_map-append}
 use Rattle.rtk_message.specs.declared.any_message.AnyMessage.{AnyMessage}
 use Rattle.rtk_message.specs.declared.any_fault.AnyFault.{AnyFault}
-use Rattle.rtk_message.specs.declared.msm_kind.MsmKind.{MsmKind}
 use Rattle.rtk_message.specs.AnyDecoded.{tow_of}
 use Rattle.rtk_summary.specs.CountingLaws.{FramesAreTakenAlike, MessagesAreTakenAlike, ChangesAddUp, OtherTimeIsChange, EpochsAreChanges}
-use Rattle.rtk_summary.specs.Proposal.{epochs_in, gives_value, is_taken_with, times_with_value, entries_with}
+use Rattle.rtk_summary.specs.Proposal.{gives_value, is_taken_with}
 use Rattle.rtk_summary.specs.ReadFrames.{ReadFrame, with_message, with_fault, messages_in, faults_in, is_of_station}
-use Rattle.rtk_summary.specs.Tracing.{times_of_week, newest_time, change_from, changes_in, entries_of, entries_in}
+use Rattle.rtk_summary.specs.Tracing.{times_of_week, newest_time, change_from, entries_of, entries_in}
 
 -- ---- frames and messages
 

@@ -1,5 +1,5 @@
 -- What a summary counts, and the parts that stand in it.
-use Rattle.std.proofs.Common.{◌≡◌, ◌<◌, ◌+◌, ◌-◌, ◌==◌, ℕ, suc, Bool, true, false, cond, List, [], ◌∷◌, ◌++◌, length, length-append, map, codes, refl, sym, ap, subst, ◌∙◌, append_assoc, Result, Ok, Err, ne_eqb, arith}
+use Rattle.std.proofs.Common.{◌≡◌, ◌<◌, ◌+◌, ◌-◌, ◌==◌, ℕ, suc, Bool, false, cond, List, [], ◌∷◌, ◌++◌, length, codes, refl, sym, ap, subst, ◌∙◌, append_assoc, Result, Ok, Err, ne_eqb, arith}
 use Rattle.std.specs.Prelude.{flat_map}
 use Rattle.std.specs.List.{AllByRecursion, count_by, sum_by}
 use Rattle.std.proofs.Math.Path.{fun_ext}
@@ -15,7 +15,7 @@ use Rattle.rtk_message.specs.declared.msm_kind.MsmKind.TheVariants.{Msm4, Msm5, 
 use Rattle.rtk_message.specs.AnyDecoded.{number_of}
 use Rattle.rtk_message.specs.MsmForm.{number_of_kind}
 use Rattle.rtk_summary.specs.Counting.{shown_count, count_of}
-use Rattle.rtk_summary.specs.CountingLaws.{FramesAreCounted, EachFrameIsCounted, EachMessageIsCounted, StandsIn, PartsStand, StationsStand, ProposalsStand, UntakenStand}
+use Rattle.rtk_summary.specs.CountingLaws.{EachFrameIsCounted, EachMessageIsCounted, StandsIn, PartsStand, StationsStand, ProposalsStand, UntakenStand}
 use Rattle.rtk_summary.specs.NumberLaws.{IsHeld}
 use Rattle.rtk_summary.specs.Proposal.{epochs_in, times_with_value, epochs_of, entries_with}
 use Rattle.rtk_summary.specs.ReadFrames.{ReadFrame, ReadsFrames, read_frame, with_message, with_fault, bytes_in, messages_in, faults_in, messages_from}
@@ -174,9 +174,9 @@ untaken-stand fs few =
     let untaken : List ℕ = flat_map line untaken_numbers in
     each-weaker (λ n. StandsIn (line n) (flat_map line untaken_numbers)) (λ n. StandsIn (numbered_line (codes "untaken GPS ") n (count_by (is_other n) fs)) (unread_lines fs)) untaken_numbers
     (λ n stands.
-        let most = count_by-le-length (is_other n) fs in
-        let told : other n ≡ count_by (is_other n) fs = omega (arith, most, few) in
-        subst (λ (k : ℕ). StandsIn (numbered_line (codes "untaken GPS ") n k) (unread_lines fs)) told
-        (stands-before (line n) (others ++ untaken ++ one ++ three ++ four) five (stands-before (line n) (others ++ untaken ++ one ++ three) four
-        (stands-before (line n) (others ++ untaken ++ one) three (stands-before (line n) (others ++ untaken) one (stands-behind others (line n) untaken stands))))))
+    let most = count_by-le-length (is_other n) fs in
+    let told : other n ≡ count_by (is_other n) fs = omega (arith, most, few) in
+    subst (λ (k : ℕ). StandsIn (numbered_line (codes "untaken GPS ") n k) (unread_lines fs)) told
+    (stands-before (line n) (others ++ untaken ++ one ++ three ++ four) five (stands-before (line n) (others ++ untaken ++ one ++ three) four
+    (stands-before (line n) (others ++ untaken ++ one) three (stands-before (line n) (others ++ untaken) one (stands-behind others (line n) untaken stands))))))
     (each-stands line untaken_numbers)

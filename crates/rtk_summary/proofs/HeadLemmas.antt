@@ -1,5 +1,5 @@
 -- What a text begins with: two words that differ, and lines of counts that may be left out.
-use Rattle.std.proofs.Common.{◌≡◌, ◌≢◌, ◌<◌, ◌^◌, ◌==◌, ℕ, Bool, true, false, cond, List, [], ◌∷◌, ◌++◌, codes, decimal, refl, sym, ap, subst, ◌∙◌, append_assoc, inl, inr, arith, ne_eqb}
+use Rattle.std.proofs.Common.{◌≡◌, ◌≢◌, ◌<◌, ◌^◌, ◌==◌, ℕ, Bool, true, false, cond, List, [], ◌∷◌, ◌++◌, codes, decimal, sym, ap, ◌∙◌, append_assoc, inl, inr, arith, ne_eqb}
 use Rattle.std.specs.Prelude.{flat_map}
 use Rattle.std.specs.List.{AllByRecursion}
 use Rattle.std.proofs.Math.Nat.{eq-zero-or-pos}
@@ -140,7 +140,7 @@ table-then words f g (n ∷ ns) s t rise held fits here there same =
     let left : List ℕ = lines_by_number words f ns in
     let right : List ℕ = lines_by_number words g ns in
     let one = counted-then (words_of words n) (f n) (g n) (left ++ s) (right ++ t) (held n) (fits n)
-        (not-headed-greater words n f ns s rise.0 rise.1 rise.2 here) (not-headed-greater words n g ns t rise.0 rise.1 rise.2 there)
-        (sym (append_assoc (numbered_line words n (f n)) left s) ∙ same ∙ append_assoc (numbered_line words n (g n)) right t) in
+    (not-headed-greater words n f ns s rise.0 rise.1 rise.2 here) (not-headed-greater words n g ns t rise.0 rise.1 rise.2 there)
+    (sym (append_assoc (numbered_line words n (f n)) left s) ∙ same ∙ append_assoc (numbered_line words n (g n)) right t) in
     let more = table-then words f g ns s t rise.2 held fits here there one.1 in
     ((one.0, more.0), more.1)

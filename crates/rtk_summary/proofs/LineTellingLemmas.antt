@@ -1,33 +1,25 @@
 -- The lines of a summary tell their numbers.
-use Rattle.std.proofs.Common.{◌≡◌, ◌≢◌, ◌≤◌, ◌<◌, ◌+◌, ◌-◌, ◌^◌, ◌==◌, ℕ, zero, suc, Bool, true, false, cond, not, ◌&&◌, List, [], ◌∷◌, ◌++◌, length, length-append, codes, decimal, Option, None, Some, min, refl, sym, ap, ◌∙◌, append_assoc, lit<, inl, inr, arith}
-use Rattle.std.specs.Prelude.{flat_map, unwrap_or}
+use Rattle.std.proofs.Common.{◌≡◌, ◌≢◌, ◌≤◌, ◌<◌, ◌^◌, ◌==◌, ℕ, Bool, true, false, cond, not, ◌&&◌, List, [], ◌∷◌, ◌++◌, length, length-append, codes, decimal, Option, None, Some, refl, sym, ap, ◌∙◌, append_assoc, inl, inr, arith}
+use Rattle.std.specs.Prelude.{unwrap_or}
 use Rattle.std.specs.Fmt.{digits}
-use Rattle.std.specs.Int.{IsInRange}
-use Rattle.std.specs.List.{AllByRecursion, count_by, range_with_len, filter_map, cons_option}
+use Rattle.std.specs.List.{AllByRecursion}
 use Rattle.std.specs.Str.Parse.{AllDigits}
 use Rattle.std.proofs.Math.Nat.{eq-zero-or-pos}
 use Rattle.std.proofs.lemmas.Bool.{cases_Bool}
 use Rattle.std.proofs.lemmas.Fmt.{decimal_is_IsNumeral}
 use Rattle.std.proofs.lemmas.List.{append-nil, append_cancel_left}
-use Rattle.std.proofs.lemmas.List.Sums.{count_by-le-length}
 use Rattle.std.proofs.lemmas.Str.Parse.{digit_from_value}
-use Rattle.rtk_message.specs.declared.any_message.AnyMessage.{AnyMessage}
-use Rattle.rtk_message.specs.declared.any_fault.AnyFault.{AnyFault}
 use Rattle.rtk_message.specs.declared.msm_kind.MsmKind.{MsmKind}
 use Rattle.rtk_message.specs.declared.msm_kind.MsmKind.TheVariants.{Msm4, Msm5, Msm6, Msm7}
-use Rattle.rtk_message.specs.AnyDecoded.{tow_of}
 use Rattle.rtk_message.specs.MsmForm.{number_of_kind}
-use Rattle.rtk_obs.specs.declared.code.Code.{Code}
 use Rattle.rtk_obs.specs.declared.code.Code.TheVariants.{C2P, C2W}
-use Rattle.rtk_summary.specs.Counting.{shown_count, count_of}
-use Rattle.rtk_summary.specs.NumberLaws.{IsHeld, NumberLineTells, CountedLineTells, NumberedLineTells, TimesAreAlike, TimeLinesTell, ProposalsAreAlike, ProposalLinesTell, EpochsAreCounted, CapturesAreAlike, SummaryTellsFrames, StationsAreAlike, StationLinesTell, FaultsAreAlike, UnreadLinesTell}
-use Rattle.rtk_summary.specs.Proposal.{epochs_of, entries_with, proposed}
-use Rattle.rtk_summary.specs.ReadFrames.{ReadFrame, bytes_in, messages_in, faults_in}
-use Rattle.rtk_summary.specs.Summary.{all_numbers, station_lines, stations_text, unread_lines, summary_text}
-use Rattle.rtk_summary.specs.SummaryText.{number_line, counted_line, numbered_line, time_line, time_lines, signal_lines, second_frequency_line, other_msm_lines, msm_option, next_line, proposal_lines, codes_text, nothing_line, untaken_numbers}
-use Rattle.rtk_summary.specs.Tracing.{is_numbered, is_other, is_short, is_outside_week, is_no_number, is_too_many_cells, times_of_week, oldest_time, newest_time, change_from, changes_in, entries_in, has_satellite, has_code}
+use Rattle.rtk_summary.specs.Counting.{shown_count}
+use Rattle.rtk_summary.specs.NumberLaws.{IsHeld, NumberLineTells, CountedLineTells, NumberedLineTells, TimesAreAlike, TimeLinesTell, ProposalLinesTell, EpochsAreCounted}
+use Rattle.rtk_summary.specs.Proposal.{proposed}
+use Rattle.rtk_summary.specs.SummaryText.{number_line, counted_line, numbered_line, time_line, time_lines, second_frequency_line, other_msm_lines, msm_option, next_line, proposal_lines, codes_text}
+use Rattle.rtk_summary.specs.Tracing.{oldest_time, newest_time, change_from, changes_in}
 use Rattle.rtk_summary.proofs.NumberLemmas.{number-then}
-use Rattle.rtk_summary.proofs.HeadLemmas.{differ, AreApart, apart, IsNotHeaded, not-headed, not-headed-line, not-headed-table, line-then, none-then, some-then, counted-then, lines_by_number, words_of, NumbersRise, FirstIsAbove, table-then, opened}
+use Rattle.rtk_summary.proofs.HeadLemmas.{AreApart, apart, IsNotHeaded, not-headed-table, line-then, some-then, lines_by_number, words_of, NumbersRise, table-then, opened}
 
 -- ---- a line
 
@@ -131,8 +123,8 @@ times-then (b ∷ ts) (u ∷ us) s t held fits few less same =
     let m : ℕ = shown_count (changes_in (b ∷ ts)) in
     let n : ℕ = shown_count (changes_in (u ∷ us)) in
     let first = number-then a o 32 (decimal b ++ 10 ∷ (number_line (codes " epoch-changes ") m ++ s)) (decimal u ++ 10 ∷ (number_line (codes " epoch-changes ") n ++ t))
-        (oldest-held ts b held.0 held.1) (oldest-held us u fits.0 fits.1) (λ digit. omega (arith, digit))
-        (append_cancel_left (codes " time-of-week ") _ _ (sym (some-times a b m s) ∙ same ∙ some-times o u n t)) in
+    (oldest-held ts b held.0 held.1) (oldest-held us u fits.0 fits.1) (λ digit. omega (arith, digit))
+    (append_cancel_left (codes " time-of-week ") _ _ (sym (some-times a b m s) ∙ same ∙ some-times o u n t)) in
     let last = number-then b u 10 (number_line (codes " epoch-changes ") m ++ s) (number_line (codes " epoch-changes ") n ++ t) held.0 fits.0 (λ digit. omega (arith, digit)) first.1 in
     let changes = line-then (codes " epoch-changes ") m n s t (omega arith) (omega arith) last.1 in
     let here = changes-few (b ∷ ts) in
@@ -250,20 +242,20 @@ proposal-tells station other epochs others code test held fits few less named sa
     let lines : List ℕ = lines_by_number (codes " other-msm ") f (numbers_but kind) in
     let more : List ℕ = lines_by_number (codes " other-msm ") g (numbers_but kind) in
     let here : proposal_lines station epochs code ≡ second_frequency_line (code kind) ++ (lines ++ left) =
-        ap (λ (t : List ℕ). second_frequency_line (code kind) ++ t ++ left) (others-are epochs kind) ∙ append_assoc (second_frequency_line (code kind)) lines left in
+    ap (λ (t : List ℕ). second_frequency_line (code kind) ++ t ++ left) (others-are epochs kind) ∙ append_assoc (second_frequency_line (code kind)) lines left in
     let there : proposal_lines other others test ≡ second_frequency_line (test kind) ++ (more ++ right) =
-        ap (λ (k : MsmKind). second_frequency_line (test k) ++ other_msm_lines others k ++ next_line other k (codes_text (test k))) (sym named)
-        ∙ ap (λ (t : List ℕ). second_frequency_line (test kind) ++ t ++ right) (others-are others kind) ∙ append_assoc (second_frequency_line (test kind)) more right in
+    ap (λ (k : MsmKind). second_frequency_line (test k) ++ other_msm_lines others k ++ next_line other k (codes_text (test k))) (sym named)
+    ∙ ap (λ (t : List ℕ). second_frequency_line (test kind) ++ t ++ right) (others-are others kind) ∙ append_assoc (second_frequency_line (test kind)) more right in
     let second : List ℕ = codes " second-frequency 2P\n" in
     let second-next = apart second (codes " next ") refl in
     let second-msm = apart second (codes " other-msm ") refl in
     let behind = line-or-none (code kind C2P && not (code kind C2W)) (test kind C2P && not (test kind C2W)) second (lines ++ left) (more ++ right)
-        (not-headed-table second (codes " other-msm ") f (numbers_but kind) left second-msm (not-headed-next second station kind names second-next (λ rest is. cc)))
-        (not-headed-table second (codes " other-msm ") g (numbers_but kind) right second-msm (not-headed-next second other kind named_there second-next (λ rest is. cc)))
-        (sym here ∙ same ∙ there) in
+    (not-headed-table second (codes " other-msm ") f (numbers_but kind) left second-msm (not-headed-next second station kind names second-next (λ rest is. cc)))
+    (not-headed-table second (codes " other-msm ") g (numbers_but kind) right second-msm (not-headed-next second other kind named_there second-next (λ rest is. cc)))
+    (sym here ∙ same ∙ there) in
     let msm-next = apart (codes " other-msm ") (codes " next ") refl in
     let told = table-then (codes " other-msm ") f g (numbers_but kind) left right (numbers-rise kind) (λ n. few (kind_at n)) (λ n. less (kind_at n))
-        (not-headed-next (codes " other-msm ") station kind names msm-next (λ rest is. cc)) (not-headed-next (codes " other-msm ") other kind named_there msm-next (λ rest is. cc)) behind in
+    (not-headed-next (codes " other-msm ") station kind names msm-next (λ rest is. cc)) (not-headed-next (codes " other-msm ") other kind named_there msm-next (λ rest is. cc)) behind in
     record {
       epochs_are = λ k different. each-kind epochs others kind k told.0 different;
       station_is = λ some. next-tells station other kind names named_there held fits told.1 some;

@@ -1,33 +1,21 @@
 -- The lines of a station, of what is not read, and the whole summary tell their counts.
-use Rattle.std.proofs.Common.{◌≡◌, ◌≢◌, ◌≤◌, ◌<◌, ◌+◌, ◌-◌, ◌^◌, ◌==◌, ℕ, zero, suc, Bool, true, false, cond, not, ◌&&◌, List, [], ◌∷◌, ◌++◌, length, length-append, codes, decimal, Option, None, Some, min, refl, sym, ap, ◌∙◌, append_assoc, lit<, inl, inr, arith}
-use Rattle.std.specs.Prelude.{flat_map, unwrap_or}
+use Rattle.std.proofs.Common.{◌≡◌, ◌≤◌, ◌<◌, ◌+◌, ◌-◌, ◌^◌, ◌==◌, ℕ, zero, suc, Bool, true, List, [], ◌∷◌, ◌++◌, length, codes, decimal, Option, None, Some, refl, sym, ap, ◌∙◌, append_assoc, inl, inr, arith}
 use Rattle.std.specs.Fmt.{digits}
-use Rattle.std.specs.Int.{IsInRange}
-use Rattle.std.specs.List.{AllByRecursion, count_by, range_with_len, filter_map, cons_option}
-use Rattle.std.specs.Str.Parse.{AllDigits}
-use Rattle.std.proofs.Math.Nat.{eq-zero-or-pos}
+use Rattle.std.specs.List.{AllByRecursion, count_by, range_with_len, cons_option}
 use Rattle.std.proofs.lemmas.Bool.{cases_Bool, eqb-true, eqb-false}
-use Rattle.std.proofs.lemmas.Fmt.{decimal_is_IsNumeral}
-use Rattle.std.proofs.lemmas.List.{append-nil, append_cancel_left}
+use Rattle.std.proofs.lemmas.List.{append-nil}
 use Rattle.std.proofs.lemmas.List.Sums.{count_by-le-length}
-use Rattle.std.proofs.lemmas.Str.Parse.{digit_from_value}
 use Rattle.rtk_message.specs.declared.any_message.AnyMessage.{AnyMessage}
 use Rattle.rtk_message.specs.declared.any_fault.AnyFault.{AnyFault}
-use Rattle.rtk_message.specs.declared.msm_kind.MsmKind.{MsmKind}
-use Rattle.rtk_message.specs.declared.msm_kind.MsmKind.TheVariants.{Msm4, Msm5, Msm6, Msm7}
 use Rattle.rtk_message.specs.AnyDecoded.{tow_of}
-use Rattle.rtk_message.specs.MsmForm.{number_of_kind}
-use Rattle.rtk_obs.specs.declared.code.Code.{Code}
-use Rattle.rtk_obs.specs.declared.code.Code.TheVariants.{C2P, C2W}
 use Rattle.rtk_summary.specs.Counting.{shown_count, count_of}
-use Rattle.rtk_summary.specs.NumberLaws.{IsHeld, NumberLineTells, CountedLineTells, NumberedLineTells, TimesAreAlike, TimeLinesTell, ProposalsAreAlike, ProposalLinesTell, EpochsAreCounted, CapturesAreAlike, SummaryTellsFrames, StationsAreAlike, StationLinesTell, FaultsAreAlike, UnreadLinesTell}
-use Rattle.rtk_summary.specs.Proposal.{epochs_of, entries_with, proposed}
+use Rattle.rtk_summary.specs.NumberLaws.{SummaryTellsFrames, StationLinesTell, UnreadLinesTell}
+use Rattle.rtk_summary.specs.Proposal.{epochs_of, entries_with}
 use Rattle.rtk_summary.specs.ReadFrames.{ReadFrame, bytes_in, messages_in, faults_in}
 use Rattle.rtk_summary.specs.Summary.{all_numbers, station_lines, stations_text, unread_lines, summary_text}
-use Rattle.rtk_summary.specs.SummaryText.{number_line, counted_line, numbered_line, time_line, time_lines, signal_lines, second_frequency_line, other_msm_lines, next_line, proposal_lines, codes_text, nothing_line, untaken_numbers}
-use Rattle.rtk_summary.specs.Tracing.{is_numbered, is_other, is_short, is_outside_week, is_no_number, is_too_many_cells, times_of_week, oldest_time, newest_time, change_from, changes_in, entries_in, has_satellite, has_code}
-use Rattle.rtk_summary.proofs.NumberLemmas.{number-then}
-use Rattle.rtk_summary.proofs.HeadLemmas.{differ, AreApart, apart, IsNotHeaded, not-headed, not-headed-line, not-headed-table, line-then, none-then, some-then, counted-then, lines_by_number, words_of, NumbersRise, FirstIsAbove, table-then, opened}
+use Rattle.rtk_summary.specs.SummaryText.{number_line, counted_line, numbered_line, time_lines, signal_lines, proposal_lines, codes_text, nothing_line, untaken_numbers}
+use Rattle.rtk_summary.specs.Tracing.{is_numbered, is_other, is_short, is_outside_week, is_no_number, is_too_many_cells, times_of_week, entries_in, has_satellite, has_code}
+use Rattle.rtk_summary.proofs.HeadLemmas.{differ, apart, IsNotHeaded, not-headed-line, not-headed-table, line-then, counted-then, lines_by_number, NumbersRise, FirstIsAbove, table-then}
 use Rattle.rtk_summary.proofs.LineTellingLemmas.{times-then, not-headed-times}
 
 -- ---- a count of those that pass a test
@@ -148,10 +136,10 @@ station-tells station other ms ns held fits few less times alike same =
     let left : List ℕ = time_lines (times_of_week ms) ++ behind_times station ms in
     let right : List ℕ = time_lines (times_of_week ns) ++ behind_times other ns in
     let number = line-then (codes "station ") station other (lines_by_number (codes " message ") f numbers ++ left) (lines_by_number (codes " message ") g numbers ++ right) held fits
-        (sym (station-is station ms) ∙ same ∙ station-is other ns) in
+    (sym (station-is station ms) ∙ same ∙ station-is other ns) in
     let words = apart (codes " message ") (codes " time-of-week ") refl in
     let counts = table-then (codes " message ") f g numbers left right messages-rise (λ n. omega arith) (λ n. omega arith)
-        (not-headed-times (codes " message ") (times_of_week ms) (behind_times station ms) words) (not-headed-times (codes " message ") (times_of_week ns) (behind_times other ns) words) number.1 in
+    (not-headed-times (codes " message ") (times_of_week ms) (behind_times station ms) words) (not-headed-times (codes " message ") (times_of_week ns) (behind_times other ns) words) number.1 in
     let here = times-few ms in
     let there = times-few ns in
     let shown = times-then (times_of_week ms) (times_of_week ns) (behind_times station ms) (behind_times other ns) times alike (omega (arith, here, few)) (omega (arith, there, less)) counts.1 in
@@ -269,11 +257,11 @@ unfolding lines_untaken lines_m1 lines_m3 lines_m4 lines_m5
 unread-tells fs gs few less same =
     let others = by-number (codes "other ") is_other fs gs (lines_untaken fs) (lines_untaken gs) few less (behind-others fs) (behind-others gs) (sym (unread-is fs) ∙ same ∙ unread-is gs) in
     let untaken = table-then (codes "untaken GPS ") (λ n. count_of (is_other n) fs) (λ n. count_of (is_other n) gs) untaken_numbers (lines_m1 fs) (lines_m1 gs) untaken-rise
-        (λ n. omega arith) (λ n. omega arith) (behind-untaken fs) (behind-untaken gs) others.1 in
+    (λ n. omega arith) (λ n. omega arith) (behind-untaken fs) (behind-untaken gs) others.1 in
     let one = counted-then (codes "refused M1 - ") (count_of is_no_number fs) (count_of is_no_number gs) (lines_m3 fs) (lines_m3 gs) (omega arith) (omega arith) (behind-m1 fs) (behind-m1 gs) untaken.1 in
     let three = by-number (codes "refused M3 ") is_short fs gs (lines_m4 fs) (lines_m4 gs) few less (behind-m3 fs) (behind-m3 gs) one.1 in
     let four = by-number (codes "refused M4 ") is_outside_week fs gs (lines_m5 fs) (lines_m5 gs) few less
-        (not-m5 (codes "refused M4 ") fs refl (λ rest is. cc)) (not-m5 (codes "refused M4 ") gs refl (λ rest is. cc)) three.1 in
+    (not-m5 (codes "refused M4 ") fs refl (λ rest is. cc)) (not-m5 (codes "refused M4 ") gs refl (λ rest is. cc)) three.1 in
     let five = by-number (codes "refused M5 ") is_too_many_cells fs gs [] [] few less (λ rest is. cc) (λ rest is. cc) four.1 in
     record {
       others = others.0;
@@ -312,8 +300,8 @@ unfolding outside
 summary-tells size other fs gs held fits within inside same =
     let frames : List ReadFrame → List ℕ = λ hs. number_line (codes "frames ") (shown_count (length hs)) ++ behind_frames hs in
     let bytes = line-then (codes "bytes ") (shown_count size) (shown_count other)
-        (number_line (codes "outside-frames ") (outside size fs) ++ frames fs) (number_line (codes "outside-frames ") (outside other gs) ++ frames gs) (omega arith) (omega arith)
-        (sym (whole-is size fs) ∙ same ∙ whole-is other gs) in
+    (number_line (codes "outside-frames ") (outside size fs) ++ frames fs) (number_line (codes "outside-frames ") (outside other gs) ++ frames gs) (omega arith) (omega arith)
+    (sym (whole-is size fs) ∙ same ∙ whole-is other gs) in
     let rest = line-then (codes "outside-frames ") (outside size fs) (outside other gs) (frames fs) (frames gs) (omega arith) (omega arith) bytes.1 in
     let count = line-then (codes "frames ") (shown_count (length fs)) (shown_count (length gs)) (behind_frames fs) (behind_frames gs) (omega arith) (omega arith) rest.1 in
     let few = frames-few fs in
