@@ -1,10 +1,16 @@
+pub mod AlikeLemmas
+pub mod CountingLemmas
 pub mod FourLemmas
 pub mod FrameLemmas
 pub mod FreshLemmas
+pub mod HeadLemmas
 pub mod LineLemmas
+pub mod LineTellingLemmas
 pub mod ListLemmas
 pub mod MsmLemmas
 pub mod NamedLemmas
+pub mod NumberLemmas
 pub mod ReadLemmas
 pub mod SignalLemmas
 pub mod StationLemmas
+pub mod SummaryTellingLemmas

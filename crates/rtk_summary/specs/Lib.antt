@@ -1,4 +1,6 @@
 pub mod Counting
+pub mod CountingLaws
+pub mod NumberLaws
 pub mod Proposal
 pub mod ReadFrames
 pub mod Steps

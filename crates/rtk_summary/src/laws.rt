@@ -1,4 +1,5 @@
-//! Laws over the definitions: which MSM the command of a station names.
+//! Laws over the definitions: which MSM the command of a station names, and that equal lines tell
+//! equal numbers.
 //!
 //! Each function here does nothing. Its contract is the law.
 
@@ -8,6 +9,8 @@ ghost use Rattle.rtk_message.specs.declared.any_message.AnyMessage.{AnyMessage};
 ghost use Rattle.rtk_message.specs.MsmForm.{number_of_kind};
 ghost use Rattle.rtk_message.specs.declared.msm_kind.MsmKind.{MsmKind};
 ghost use Rattle.rtk_message.specs.declared.msm_kind.MsmKind.TheVariants.{Msm4};
+ghost use Rattle.rtk_summary.specs.CountingLaws.{EachFrameIsCounted, EachMessageIsCounted, FramesAreTakenAlike, MessagesAreTakenAlike, ChangesAddUp, OtherTimeIsChange, EpochsAreChanges, PartsStand, StationsStand, ProposalsStand, UntakenStand};
+ghost use Rattle.rtk_summary.specs.NumberLaws.{NumberLineTells, CountedLineTells, NumberedLineTells, TimeLinesTell, ProposalLinesTell, EpochsAreCounted, SummaryTellsFrames, StationLinesTell, UnreadLinesTell};
 ghost use Rattle.rtk_summary.specs.Proposal.{is_of_four, epochs_of, entries_with, proposed};
 ghost use Rattle.rtk_summary.specs.SummaryText.{codes_text, second_frequency_line, next_line, proposal_lines};
 ghost use Rattle.rtk_summary.specs.Tracing.{entries_in, has_code};
@@ -28,4 +31,50 @@ pub fn four_need_no_option()
     ensures { (station : ℕ) (ms : List AnyMessage) → IsTrue (list_all is_of_four ms)
         → proposal_lines station (λ kind. epochs_of kind ms) (λ kind. has_code (entries_with kind ms))
         ≡ second_frequency_line (has_code (entries_in ms)) ++ next_line station Msm4 (codes_text (has_code (entries_in ms))) }
+{}
+
+/// Equal lines of a summary tell equal numbers: no number stops short of what a u64 holds. The lines of
+/// times, and those of a command and of the MSM that it leaves out, tell each of theirs.
+pub fn lines_tell_numbers()
+    ensures number { NumberLineTells }
+    ensures counted { CountedLineTells }
+    ensures numbered { NumberedLineTells }
+    ensures times { TimeLinesTell }
+    ensures proposal { ProposalLinesTell }
+    ensures epochs { EpochsAreCounted }
+{}
+
+/// Equal summaries are of captures with as many bytes and frames. Equal lines of stations tell one
+/// station, with as many messages of each number. Equal lines of what is not read tell as many
+/// payloads of each fault and number.
+pub fn summaries_tell_counts()
+    ensures frames { SummaryTellsFrames }
+    ensures station { StationLinesTell }
+    ensures unread { UnreadLinesTell }
+{}
+
+/// All frames of a capture are counted, with their bytes, and each is a message of one number or a
+/// fault.
+pub fn each_frame_is_counted()
+    ensures frames { EachFrameIsCounted }
+    ensures messages { EachMessageIsCounted }
+{}
+
+/// All frames and messages are taken alike, whatever came before them; the changes of their times add
+/// up, and with each an epoch begins.
+pub fn all_are_taken_alike()
+    ensures frames { FramesAreTakenAlike }
+    ensures messages { MessagesAreTakenAlike }
+    ensures changes { ChangesAddUp }
+    ensures change { OtherTimeIsChange }
+    ensures epochs { EpochsAreChanges }
+{}
+
+/// A summary has its parts, whatever the numbers are: the lines of each station of which a message
+/// came, in these its command, and a line for each message of GPS observations that is not read.
+pub fn parts_stand_in_a_summary()
+    ensures parts { PartsStand }
+    ensures stations { StationsStand }
+    ensures proposals { ProposalsStand }
+    ensures untaken { UntakenStand }
 {}

@@ -35,5 +35,8 @@ mod times;
 mod unread;
 
 pub use fault::SummaryFault;
-pub use laws::{four_need_no_option, most_epochs_are_named};
+pub use laws::{
+    all_are_taken_alike, each_frame_is_counted, four_need_no_option, lines_tell_numbers,
+    most_epochs_are_named, parts_stand_in_a_summary, summaries_tell_counts,
+};
 pub use reading::summarize;
