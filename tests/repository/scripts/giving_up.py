@@ -24,9 +24,10 @@ BLOCK = nested("{", "}", rf"(?:(?!{WORD})[^{{}}])", 3)
 CODE = rf"(?:(?!{WORD})[^{{}}]|{BLOCK})*?"
 ANY_BLOCK = nested("{", "}", "[^{}]", 5)
 
-# Calls of std and clap that fail for want of memory alone; those of these crates whose names or types of fault don't say so.
-CALLS = {"with_capacity", "push", "push_front", "insert", "reserve", "reserve_exact", "extend_from_slice", "to_string", "error",
-    "Scanner::new", "Conversion::new", "sink", "set.join", "lines.push_row", "header"}
+# Calls of std and clap that fail for want of memory alone; and those of these crates of which name and type of fault don't say so.
+OF_STD = {"with_capacity", "push", "push_front", "insert", "reserve", "reserve_exact", "extend_from_slice", "to_string", "error"}
+OF_CRATES = {"Scanner::new", "Conversion::new", "sink", "set.join", "lines.push_row", "header"}
+NAME = r"(?:\(\)|(?:mut )?(?!true|false)[a-z]\w*)"
 FAULT = r"(?:\w+::OutOfMemory|AllocError)"
 ANSWER = rf"(?:return )?(?:{FAULT}|Err\({FAULT}\)|fail\(rt, {FAULT}\))"
 
@@ -55,6 +56,7 @@ match list.push(1) { Ok(()) => { if window == 600 { return Err(AllocError); } } 
 match told { Ok(_) | Err(CutFault::OutOfMemory) => fail(rt, ToolFault::OutOfMemory), Err(fault) => fail(rt, fault), }
 match told { Err(_) => Err(ToolFault::OutOfMemory), Ok(()) => Ok(()), }
 let Ok(width) = u16::try_from(window) else { return Err(ConvertFault::OutOfMemory); };
+let Ok(0) = set.join(cells, found) else { return Err(AllocError); };
 let Some(code) = codes.first() else { return Err(WordsFault::OutOfMemory); };
 let width = u16::try_from(window).map_err(|_| ToolFault::OutOfMemory)?;
 let code = codes.first().ok_or(AllocError)?;
@@ -83,10 +85,10 @@ def bare(text):
 
 def branches(sources):
     """The shapes in which a refusal may stand. A call of the crates is known if each function of its name answers AllocError."""
-    ends = {}
-    for name, rest in re.findall(r"\bfn (\w+)([^{]*)\{", " ".join(sources)):
-        ends.setdefault(name, []).append(rest.rstrip().endswith(", AllocError>"))
-    names = CALLS | {name for name, are in ends.items() if all(are)}
+    functions = re.findall(r"\bfn (\w+)([^{]*)\{", " ".join(sources))
+    others = {name for name, rest in functions if not rest.endswith(", AllocError> ")}
+    with_others = {name for name, rest in functions if "Result<" in rest and name in others}
+    names = {name for name, _ in functions} - others | OF_STD - with_others | OF_CRATES
     call = rf"(?:\w+(?:\.|::))*\b(?:{'|'.join(map(re.escape, names))}){ARGUMENTS}"
     return [re.compile(shape) for shape in (
         r"use std::alloc::(?:AllocError|\{AllocError, Global\});",
@@ -94,9 +96,9 @@ def branches(sources):
         r", AllocError>",
         rf"\bif (?:(?:(?!{WORD})[^{{}};|])*&& )?{call}\.is_err\(\) \{{ {ANSWER}; \}}",
         rf"\bif let Err\(_\) = {call} \{{ {ANSWER}; \}}",
-        rf"\blet Ok\([\w ()]+\) = {call} else \{{ {ANSWER}; \}}",
+        rf"\blet Ok\({NAME}\) = {call} else \{{ {ANSWER}; \}}",
         rf"(?<=[=;{{] ){call}\.map_err\(\|_\| {FAULT}\)\?",
-        rf"\bmatch {call} \{{ Ok\(\w+\) => {CODE}, Err\(_\) => {ANSWER}, \}}",
+        rf"\bmatch {call} \{{ Ok\({NAME}\) => {CODE}, Err\(_\) => {ANSWER}, \}}",
         rf"= match check\(text\) \{{ Ok\(table\) => \(true, {call}\), Err\(fault\) => \(false, {call}\), \}}; "
         rf"match line \{{ Ok\(line\) => {CODE}, Err\(_\) => {ANSWER}, \}}",
         # what was refused before
