@@ -157,8 +157,8 @@ def dealt(rng: Random, parts: list[bytes], links: int) -> list[bytes]:
 
 
 def any_window(rng: Random, is_calm: bool) -> int:
-    """A calm capture has no late message: no more epochs than its window."""
-    return rng.choice((64, 64, 4096)) if is_calm else rng.choice((2, 2, 2, 3, 5, 64))
+    """A calm capture has no late message: no more epochs than its window. Of the others most have a small one."""
+    return rng.randint(64, 4096) if is_calm else rng.choice((2, 2, 2, 3, 5, rng.randint(2, 4096)))
 
 
 def frames_at(rng: Random, sender: Sender, times: list[int]) -> list[bytes]:
@@ -198,7 +198,7 @@ def locks(rng: Random, turn: int) -> Capture:
     legacy = rng.choice((turn // 2 % 128, rng.choice(LEGACY_TURNS)))
     fine = FINE_LOCK_TIMES[rng.choice((turn // 2 % 705, rng.randrange(705)))]
     is_calm = rng.random() < 0.7
-    setup = any_setup(rng, rng.choice((2, 3, 64)))
+    setup = any_setup(rng, rng.choice((2, 3, rng.randint(2, 4096))))
     of_msm = fine if setup.msm in (6, 7) else msm_lock_time(turn // 2 % 16)
     step = max(2, legacy_lock_time(legacy) if turn % 2 else of_msm)
     sender = Sender(rng, setup, pick_near_lock(step), is_calm, is_small=True)
@@ -227,7 +227,7 @@ def preambles(rng: Random, turn: int) -> Capture:
     """A false preamble at each distance before a frame, which often is as long as to end about the
     end of a frame after it."""
     distance = turn % (LONGEST_FRAME + 1)
-    setup = any_setup(rng, 64)
+    setup = any_setup(rng, any_window(rng, True))
     sender = Sender(rng, setup, pick_any, is_calm=True, is_small=True)
     frames = frames_at(rng, sender, any_times(rng, setup, rng.randint(1, 4), 1000))
     at = rng.randrange(len(frames))
@@ -243,7 +243,7 @@ def preambles(rng: Random, turn: int) -> Capture:
 def good_outer(rng: Random, turn: int) -> Capture:
     """A good frame of any length over the frames after it, so that only what stands after its end
     is found; or the same with a checksum that is one off."""
-    setup = any_setup(rng, 64)
+    setup = any_setup(rng, any_window(rng, True))
     sender = Sender(rng, setup, pick_any, is_calm=True, is_small=True)
     frames = frames_at(rng, sender, any_times(rng, setup, rng.randint(2, 6), 1000))
     text = b"".join(frames)

@@ -12,10 +12,10 @@ from random import Random
 import model
 import parts
 import station
-import streams
 import summaries
 from messages import CODES, SIGNALS
 from model import Setup, moment
+from pictures import svg_picture
 from station import NOON
 from wire import MSM_CELL, MSMS, frame_of, payload_of
 
@@ -297,58 +297,15 @@ def every_cell(cases, number=1074, kind=None, each=1):
         case(cases, name + of_msm, [capture + cells_of(*groups[0], 41, last)], **same, told=report(
             *lines[:conflicts], taken=16, conflict=1, epochs=1))
     # the longest lines, with a link of two digits
-    # refuses: a `feed` that gives up at the longest report of a message
+    # pins: cell_conflict_line
     case(cases, f"conflicts_64{of_msm}_of_link_16", [b""] * 15 + [capture + cells_of(*groups[0], 41, 41)], **same, told=report(
         *(it.replace("link 1 ", "link 16 ", 1) for it in lines), taken=16, conflict=1, epochs=1))
     # the same epoch, which greater ones close before the end
-    # refuses: a `feed` that gives up where an epoch of many cells closes
     case(cases, f"every_cell{of_msm}_closed", [capture + bare(1) + bare(2)], window=2, **same, told=report(taken=18, epochs=1))
 
 
 def every_cell_of_1077(cases):
     every_cell(cases, 1077, kind=7, each=16)
-
-
-def millions():
-    """Counts of as many digits as a capture of 44 MB can have: 58. The file and the report are those of the rules, in words."""
-    names = "other", "foreign", "repeat", "refused", "taken", "conflict", "late"
-    many = dict(zip(names, (1_000_001, 1_000_002, 1_000_003, 100_004, 100_005, 100_006, 100_007)))
-    last = many["taken"] - 1
-    hour, rest = divmod(last, 3600)
-    day, time = 17 + (12 + hour) // 24, f"{(12 + hour) % 24:02}:{rest // 60:02}:{rest % 60:02}.000"
-    stronger = streams.legacy(NOON + 1000 * last, streams.SATELLITES[:1])
-    stronger.satellites[0]["l1_cnr"] += 1
-    save("millions.1", b"".join((
-        streams.single_satellite(many["taken"]),
-        frame_of(b"\x3f\xb0") * many["other"],
-        bare(last, station=7) * many["foreign"],
-        bare(last) * many["repeat"],
-        NO_NUMBER * many["refused"],
-        streams.capture(stronger) * many["conflict"],
-        bare(0) * many["late"],
-    )))
-    head = model.header(Setup(2003, NEAR, MADE, "BASE", ("1C", "2W"), 64), {}, NEAR)
-    line = convert([streams.single_satellite(1)])[0].splitlines()[-1]
-    epochs = (f"{model.epoch_line(NEAR + 1000 * it, 1)}\n{line}\n" for it in range(many["taken"]))
-    save("millions.rnx", "".join(f"{it}\n" for it in head) + "".join(epochs))
-    lines = [
-        *["link 1 refused M1 -"] * many["refused"],
-        *[f"link 1 conflict 1004 2024-05-{day} {time} G03 1C"] * many["conflict"],
-        *[f"link 1 late 1004 {TOLD}00.000"] * many["late"],
-    ]
-    said = report(*lines, **many, epochs=many["taken"])
-    assert sum(it.isdigit() for it in "".join(said.splitlines()[-9:])) == 58
-    save("millions.report", said)
-    # The summary of the same: its satellite and codes are those of two epochs of the same satellite.
-    few = summaries.summary_of(streams.single_satellite(2))
-    size, time = Path("millions.1").stat().st_size, NOON + 1000 * last
-    messages = sum(many[it] for it in ("taken", "repeat", "conflict", "late"))
-    save("millions.summary", (
-        f"bytes {size}\noutside-frames 0\nframes {sum(many.values())}\n"
-        f"station 7\n message 1004 {many['foreign']}\n time-of-week {time} {time}\n epoch-changes 0\n satellites -\n codes -\n"
-        f"station 2003\n message 1004 {messages}\n time-of-week {NOON} {NOON}\n epoch-changes {many['taken']}\n"
-        f"{few[few.index(' satellites'):]}other 1019 {many['other']}\nrefused M1 - {many['refused']}\n"
-    ))
 
 
 # ---------------------------------------------------------------- a long capture
@@ -567,8 +524,6 @@ def greatest_summary():
     unread = unread[unread.index("other 0 1\n"):].removesuffix("nothing taken\n")
     frames = [*(frame for frames in stations[::-1] for frame in frames), *map(frame_of, rest)]
     # pins: summary_text
-    # refuses: a `summarize` that gives up at a long summary
-    # refuses: a text that gives up at counts of many digits
     save("greatest", b"".join(frames))
     size = sum(map(len, frames))
     save("greatest.summary", f"bytes {size}\noutside-frames 0\nframes {len(frames)}\n" + "".join(told) + unread)
@@ -613,11 +568,17 @@ def record_body(random, shown):
 
 def long_file():
     """450 records of 32 satellites and 16 codes, some of them the longest that there are; the same with a zero in the last
-    line; and its part of each second record."""
+    line; and its part of each second record. Files of some satellites of them, and their pictures of so many columns."""
     random = Random(305)
     bodies = [record_body(random, shown) for _ in range(14)] + [record_body(random, all_shown)]
-    text = "".join(f"{it}\n" for it in model.header(Setup(2003, NEAR, MADE, "BASE", tuple(CODES), 64), {}, NEAR))
-    text += "".join(f"{model.epoch_line(NEAR + 1000 * it, 32)}\n{bodies[it % 15]}" for it in range(450))
+    head = "".join(f"{it}\n" for it in model.header(Setup(2003, NEAR, MADE, "BASE", tuple(CODES), 64), {}, NEAR))
+    for columns in (121, 600):
+        few = ["".join(it.splitlines(keepends=True)[at % 3 : 4]) for at, it in enumerate(bodies)]
+        text = head + "".join(
+            f"{model.epoch_line(NEAR + 1000 * it, 4 - it % 3)}\n{few[it % 15]}" for it in range(columns) if it % 9 != 4)
+        save(f"columns_{columns}.rnx", text)
+        save(f"columns_{columns}.svg", svg_picture(text))
+    text = head + "".join(f"{model.epoch_line(NEAR + 1000 * it, 32)}\n{bodies[it % 15]}" for it in range(450))
     assert len(text) > 10_000_000
     save("long.rnx", text)
     last = text.rindex("\nG32") + 4
@@ -637,7 +598,6 @@ def main():
             every_cell_of_1077, long_captures,
         ):
             write(cases)
-    millions()
     many_of_each()
     greatest_summary()
     summary_cases()

@@ -20,16 +20,6 @@ split -b 700 long_capture.1 piece.
 for piece in piece.*; do cat "$piece"; done | "$program" convert $options --codes "$codes" stdin >out 2>err; status=$?
 leaves long_pipe 0 long_capture.rnx long_capture.report
 
-# Counts of many digits.
-"$program" convert $options --codes 1C,2W millions.1 >out 2>err </dev/null; status=$?
-# pins: count_line
-# refuses: a text that gives up at counts of many digits
-leaves millions 0 millions.rnx millions.report
-"$program" summary millions.1 >out 2>err </dev/null; status=$?
-# pins: number_line
-# refuses: a text that gives up at counts of many digits
-leaves summary_of_millions 0 millions.summary /dev/null
-
 # Both streams in one place: up to 65,536 bytes of the report are gathered, so the file comes first; of a longer report the
 # lines that fill the room come before it.
 : >err
@@ -80,11 +70,15 @@ leaves check_of_10_mb_with_a_zero 3 zero.line /dev/null
 leaves cut_of_10_mb 0 long.rnx /dev/null
 "$program" cut --every 2 long.rnx >out 2>err </dev/null; status=$?
 # pins: has_slipped_since
-# refuses: a `cut` that gives up at a long record that shows another slip
 leaves cut_of_10_mb_at_2_seconds 0 long_2s.rnx /dev/null
 for words in 'cut --every 1' chart 'chart --text'; do
     "$program" $words zero.rnx >out 2>err </dev/null; status=$?
     leaves "$(echo "$words" | tr -cs a-z _)of_10_mb_with_a_zero" 3 /dev/null zero.line
+done
+# Pictures whose columns are 11 units wide, and 2.
+for columns in 121 600; do
+    "$program" chart columns_$columns.rnx >out 2>err </dev/null; status=$?
+    leaves chart_of_${columns}_columns 0 columns_$columns.svg /dev/null
 done
 
 ends 87

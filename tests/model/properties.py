@@ -24,7 +24,7 @@ from damages import damaged_file
 from messages import Placed, frames_of, show_line
 from model import COUNTS, KINDS, Conversion, Judged, convert, report_of
 from parts import Part, part_of, records_of
-from pictures import text_picture
+from pictures import svg_picture, text_picture
 from program import Ended, Program
 from summaries import summary_of
 from wire import frame_of
@@ -182,11 +182,12 @@ def summarized_as_modelled(case: Case) -> Answer:
 
 
 def charted_as_modelled(case: Case) -> Answer:
-    """`chart --text` of the file, of any width, is the picture that the slow model makes."""
+    """`chart --text` of the file, of any width, is the picture that the slow model makes, or so is `chart`."""
     width = case.rng.choice((40, 80, 400, case.rng.randint(40, 400)))
-    due = text_picture(case.base.out.decode(), width).encode()
-    words = ("chart", "--text", "--columns", str(width))
-    return ends_with(case.program.on(case.base.out, *words), 0, due, b"")
+    words, due = ("chart", "--text", "--columns", str(width)), text_picture(case.base.out.decode(), width)
+    if case.rng.random() < 0.5:
+        words, due = ("chart",), svg_picture(case.base.out.decode())
+    return ends_with(case.program.on(case.base.out, *words), 0, due.encode(), b"")
 
 
 def cut_as_modelled(case: Case) -> Answer:
@@ -198,7 +199,7 @@ def cut_as_modelled(case: Case) -> Answer:
         return NOT_MET
     drawn = sorted(case.rng.choice(times) + timedelta(seconds=case.rng.randint(-1, 1)) for _ in "12")
     since, until = (case.rng.choice((it, None)) for it in drawn)
-    steps = (1, 1, 2, 3, 5, 7, 11, 30, 60, 86_400)
+    steps = (1, 1, 2, 3, 5, 7, 11, 30, 60, *(case.rng.randint(1, 86_400) for _ in range(9)))
     part = Part(since, until, case.rng.choice((None, *steps) if since or until else steps))
     if any(it and not 1980 <= it.year <= 2100 for it in (since, until)):
         return NOT_MET

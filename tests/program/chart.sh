@@ -31,33 +31,6 @@ $(grep '^<style>' "$root/examples/marks.svg")
 <text x='90' y='52'>no records</text>
 </svg>" ''
 
-# 70,000 records of a second each and one 100,000 seconds after them, each with a slip.
-{
-    sed '/END OF HEADER/q' "$marks"
-    awk 'BEGIN { for (n = 0; n <= 70000; n++) { t = 43200 + n + (n == 70000) * 99999
-        printf "> 2024 05 %02d %02d %02d%11.7f  0  1\nG05                 110804903.5471\n",
-            17 + int(t / 86400), int(t / 3600) % 24, int(t / 60) % 60, t % 60 } }'
-} >many
-chart --text many
-head -n 9 out >heading; mv heading out
-# pins: number_lines, named_count_line
-expect chart_of_many_records 0 'marker BASE
-from 2024-05-17 12:00:00.000
-until 2024-05-19 11:13:19.000
-interval 1.000
-column 2267.000
-records 70001
-satellites 1
-slips 70001
-missing 99999' ''
-chart many
-grep -e "y='52'" -e '>records' out >heading; mv heading out
-# pins: moment_shown
-expect chart_of_many_records_in_svg 0 "<text x='90' y='52'>2024-05-17 12:00:00.000 to 2024-05-19 11:13:19.000, interval 1.000 s, column 119.000 s</text>
-<text x='90' y='70'>records 70001, satellites 1, slips 70001, missing epochs 99999</text>" ''
-sed '$s/110804903.547/        0.000/' many >many_and_zero
-chart many_and_zero; expect chart_of_a_fault_beyond_65535_lines 3 '' 'line 140016: C3 Value'
-
 for width in 40 400; do
     chart --text --columns $width "$marks"
     { echo 'marker BASE'; sed 1d out | cut -c 1-$width; } >want # no line is longer
@@ -87,4 +60,4 @@ twice() {
 twice --text --text
 twice '--columns <N>' --columns 80
 
-ends 19
+ends 16

@@ -93,7 +93,7 @@ def own():
     return os.path.join(WORK, str(os.getpid()))
 
 
-def start(case, disturbance):
+def start(case, disturbance, seconds=SECONDS):
     """Starts a run, and answers its number and the files of its standard output and error. One that takes too long is ended."""
     out, err = f"{own()}.out", f"{own()}.err"
     made = os.O_WRONLY | os.O_CREAT | os.O_TRUNC
@@ -117,7 +117,7 @@ def start(case, disturbance):
         for kind, limit in before.items():
             resource.setrlimit(kind, limit)
     signal.signal(signal.SIGALRM, lambda *_: os.kill(running, signal.SIGKILL))
-    signal.setitimer(signal.ITIMER_REAL, SECONDS)
+    signal.setitimer(signal.ITIMER_REAL, seconds)
     return running, out, err
 
 
@@ -128,8 +128,8 @@ def end(running, out, err):
     return Left(os.waitstatus_to_exitcode(answer), content(out), content(err))
 
 
-def run(case, disturbance=Disturbance()):
-    return end(*start(case, disturbance))
+def run(case, disturbance=Disturbance(), seconds=SECONDS):
+    return end(*start(case, disturbance, seconds))
 
 
 def content(name):
@@ -944,9 +944,19 @@ def _short():
 
 # pins: most_reads
 # refuses: a `summarize_named` that makes fewer reads than it may
-@scene("a summary of 1,000,001 reads of one byte")
+@scene("a summary of 1,000,001 reads of one byte, and each other command of more than 200,000")
 def _many_reads():
     yield "zeros", many_reads, written("zeros", bytes(1_000_001))
+    many = epochs(range(4500))
+    capture, digits, file = written("many", many), written("digits", many.hex().encode()), GOOD["convert of a long file"].out
+    files = {("show", "--hex"): digits} | dict.fromkeys([("check",), *COMMANDS[4:]], written("many.rnx", file))
+    for words in [*COMMANDS, ("convert", *OPTIONS)]:
+        yield " ".join(words), as_of_whole_reads, Case("", (*words, files.get(words, capture)))
+
+
+def as_of_whole_reads(case):
+    left = run(case, shim(PIECE=1))
+    return same(left, run(case)) if size_of_inputs(case) > 200_000 else "the input is short"
 
 
 def many_reads(zeros):
@@ -1012,19 +1022,21 @@ def endless_pipe(words, text):
         return tells_alone(end(*running), "input too long")
 
 
+# pins: most_reads
+# refuses: a conversion that makes another number of reads
+@scene("a link without end: 1,000,000,000 reads, and none after them")
+def _billion_reads():
+    yield "/dev/zero", convert_to_its_last_read
+
+
 def convert_to_its_last_read():
-    """The reads are counted: that of number 1,000,000,000 is made, and none after it."""
-    marks = {}
-    for last in [1_000_000_000, 1_000_000_001]:
-        marked = os.path.join(WORK, "marks")
-        with open(marked, "wb") as file:
-            os.dup2(file.fileno(), 9, inheritable=True)
-        left = run(convert("", "/dev/zero"), shim(ENDLESS=last))
-        os.close(9)
-        marks[last] = len(content(marked))
-        if fault := tells_alone(left, "input does not end"):
-            return fault
-    return None if list(marks.values()) == [1, 0] else f"marks {marks}"
+    """Each read from that of number 1,000,000,000 on leaves a mark."""
+    marks = os.path.join(WORK, "marks")
+    with open(marks, "wb") as file:
+        os.dup2(file.fileno(), 9, inheritable=True)
+    left = run(convert("", "/dev/zero"), shim(ENDLESS=1_000_000_000), 600)
+    os.close(9)
+    return tells_alone(left, "input does not end") or (None if content(marks) == b"!" else f"{len(content(marks))} marks")
 
 
 # Links that change.
@@ -1174,11 +1186,7 @@ def main():
         if case.words[0] == "convert":
             ORDER[name] = order_of(case, GOOD[name])
     count = Count()
-    if "--endless" in WORDS:
-        global SECONDS
-        SECONDS = 3600
-        count.scene("convert of a link without end, to its last read", map(attempt, [("/dev/zero", convert_to_its_last_read)]))
-    elif "--tmpfs" in WORDS:
+    if "--tmpfs" in WORDS:
         count.scene("a full tmpfs", map(attempt, tmpfs_scenes()))
     else:
         chosen = [(name, function) for name, function in SCENES if not WORDS or any(word in name for word in WORDS)]

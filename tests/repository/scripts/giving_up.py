@@ -1,0 +1,134 @@
+"""Each refusal of memory that a body makes stands in the branch of a call that was refused. Run by `run` beside it.
+
+No clause says so, since none knows the memory of the machine. So the sources are read as text: what has the shape of such a
+branch is taken away, and then no word of a refusal may be left. What has another shape is refused, whatever it means. A list of
+all sizes that are asked for shows that none is there to be refused.
+"""
+
+import re
+from pathlib import Path
+
+ROOT = Path(__file__).resolve().parents[3]
+WORD = "(?:OutOfMemory|AllocError)"
+
+
+def nested(opening, closing, other, depth):
+    """A text in brackets, with such brackets in it."""
+    inner = f"{opening}{other}*{closing}"
+    return inner if depth == 0 else f"{opening}(?:{other}|{nested(opening, closing, other, depth - 1)})*{closing}"
+
+
+# Code that refuses nothing: some of it, in brackets, and in a block.
+ARGUMENTS = nested(r"\(", r"\)", rf"(?:(?!{WORD})[^(){{}}])", 3)
+BLOCK = nested("{", "}", rf"(?:(?!{WORD})[^{{}}])", 3)
+CODE = rf"(?:(?!{WORD})[^{{}}]|{BLOCK})*?"
+ANY_BLOCK = nested("{", "}", "[^{}]", 5)
+
+# Calls of std and clap that fail for want of memory alone; and those of these crates of which name and type of fault don't say so.
+OF_STD = {"with_capacity", "push", "push_front", "insert", "reserve", "reserve_exact", "extend_from_slice", "to_string", "error"}
+OF_CRATES = {"Scanner::new", "Conversion::new", "sink", "set.join", "lines.push_row", "header"}
+NAME = r"(?:\(\)|(?:mut )?(?!true|false)[a-z]\w*)"
+FAULT = r"(?:\w+::OutOfMemory|AllocError)"
+ANSWER = rf"(?:return )?(?:{FAULT}|Err\({FAULT}\)|fail\(rt, {FAULT}\))"
+
+# What requests name as their sizes.
+SIZES = {
+    "::with_capacity(": {"alloc, len + 6", "alloc, 2 * LONGEST_FRAME", "alloc, bytes.len()", "alloc, LONGEST_HEADER", "alloc, text.len()",
+        "rt.alloc(), READ_AT_ONCE, capture", "alloc, room, Resumed::new(to)"},
+    ".reserve(": {"9", "count", "room.msm", "room.legacy"},
+    ".reserve_exact(": {"count", "len - text.len()", "room"},
+    ".resize(": {"satellites", "count", "len, b' '", "room, b' '"},
+    "vec![in alloc; ": {"Column::new(); scale.columns as usize", "false; scale.columns as usize", "0u8; room", "0u8; PIECE", "0; NUMBERS",
+        "Station::new(); NUMBERS"},
+}
+
+# Code that may not stand in a body.
+PLANTS = """
+if window == 600 { return Err(ConvertFault::OutOfMemory); }
+if window == 600 || list.push(1).is_err() { return Err(AllocError); }
+if window == 600 && list.push(1).is_ok() { return Err(AllocError); }
+if !list.push(1).is_err() { return fail(rt, ToolFault::OutOfMemory); }
+if let Err(_) = names.try_extend_from_slice(more) { return Err(AllocError); }
+while window == 600 { return Err(SummaryFault::OutOfMemory); }
+match window { 600 => Err(ToolFault::OutOfMemory), _ => Ok(()), }
+match u16::try_from(window) { Ok(width) => width, Err(_) => return Err(AllocError), }
+match list.push(1) { Ok(()) => { if window == 600 { return Err(AllocError); } } Err(_) => return Err(AllocError), }
+match told { Ok(_) | Err(CutFault::OutOfMemory) => fail(rt, ToolFault::OutOfMemory), Err(fault) => fail(rt, fault), }
+match told { Err(_) => Err(ToolFault::OutOfMemory), Ok(()) => Ok(()), }
+let Ok(width) = u16::try_from(window) else { return Err(ConvertFault::OutOfMemory); };
+let Ok(0) = set.join(cells, found) else { return Err(AllocError); };
+let Some(code) = codes.first() else { return Err(WordsFault::OutOfMemory); };
+let width = u16::try_from(window).map_err(|_| ToolFault::OutOfMemory)?;
+let code = codes.first().ok_or(AllocError)?;
+let width = (window != 600).then(|| window).ok_or(ConvertFault::OutOfMemory)?;
+let fault = told.err().unwrap_or(ToolFault::OutOfMemory);
+let pushed = if window == 600 { Err(AllocError) } else { list.push(1) };
+list.push(if window == 600 { return Err(AllocError) } else { 1 })?;
+const FULL: ClapAnswer = ClapAnswer::OutOfMemory;
+fn full() -> FrameFault { FrameFault::OutOfMemory }
+impl From<CapacityError> for CutFault { fn from(_full: CapacityError) -> Self { CutFault::OutOfMemory } }
+use std::alloc::AllocError as Full;
+enum Fault { #[default] OutOfMemory, Write }
+let _told = eprint!(rt; "rtcm2rinex: out of memory");
+let list: Vec<u8> = Vec::with_capacity(alloc, 1 << 62)?;
+list.reserve(if window == 600 { usize::MAX } else { 1 })?;
+""".strip().split("\n")
+
+
+def bare(text):
+    """A source in one line, without comments, contracts, what is ghost, and texts but that of a refusal."""
+    text = re.sub(r"""//[^\n]*|b?r(#*)".*?"\1|"(?:\\.|[^"\\])*\"""", lambda it: "" if it[0][0] == "/" else
+        '"OutOfMemory"' if "out of memory" in it[0] else '""', text, flags=re.S)
+    text = re.sub(rf"(?m)^ *(?:requires|ensures) \w* *{ANY_BLOCK}|^ *ghost [^;{{}}]*(?:{ANY_BLOCK})?[^;{{}}]*;", "", text)
+    return " ".join(text.split())
+
+
+def branches(sources):
+    """The shapes in which a refusal may stand. A call of the crates is known if each function of its name answers AllocError."""
+    functions = re.findall(r"\bfn (\w+)([^{]*)\{", " ".join(sources))
+    others = {name for name, rest in functions if not rest.endswith(", AllocError> ")}
+    with_others = {name for name, rest in functions if "Result<" in rest and name in others}
+    names = {name for name, _ in functions} - others | OF_STD - with_others | OF_CRATES
+    call = rf"(?:\w+(?:\.|::))*\b(?:{'|'.join(map(re.escape, names))}){ARGUMENTS}"
+    return [re.compile(shape) for shape in (
+        r"use std::alloc::(?:AllocError|\{AllocError, Global\});",
+        r"impl From<AllocError> for (\w+) \{ fn from\(_\w+: AllocError\) -> (?:Self|\1) \{ \1::OutOfMemory \} \}",
+        r", AllocError>",
+        rf"\bif (?:(?:(?!{WORD})[^{{}};|])*&& )?{call}\.is_err\(\) \{{ {ANSWER}; \}}",
+        rf"\bif let Err\(_\) = {call} \{{ {ANSWER}; \}}",
+        rf"\blet Ok\({NAME}\) = {call} else \{{ {ANSWER}; \}}",
+        rf"(?<=[=;{{] ){call}\.map_err\(\|_\| {FAULT}\)\?",
+        rf"\bmatch {call} \{{ Ok\({NAME}\) => {CODE}, Err\(_\) => {ANSWER}, \}}",
+        rf"= match check\(text\) \{{ Ok\(table\) => \(true, {call}\), Err\(fault\) => \(false, {call}\), \}}; "
+        rf"match line \{{ Ok\(line\) => {CODE}, Err\(_\) => {ANSWER}, \}}",
+        # what was refused before
+        rf"(?<=[{{,}}] )(?:\w+::OutOfMemory|Err\(\w+::OutOfMemory\)) => {ANSWER},",
+        rf"(?<=[{{,}}] )Err\(error\) if error\.kind\(\) == ErrorKind::OutOfMemory => {ANSWER},",
+        rf"\bif error\.kind\(\) == ErrorKind::OutOfMemory \{{ {ANSWER}; \}}",
+    )]
+
+
+def faults(text, shapes):
+    """The places of a source where a refusal stands in no such branch, or another size is asked for."""
+    requests = [(start, size) for start in SIZES for size in re.findall(rf"{re.escape(start)}((?:[^()\[\]]|\([^()]*\))*)", text)]
+    text = re.sub(rf"\benum \w+(?:<[^>]*>)? {ANY_BLOCK}", lambda it: re.sub(
+        r'(?<=[{,}] )(?:#\[error\("OutOfMemory"\)\] )?OutOfMemory,', "", it[0]), text)
+    for shape in shapes:
+        text = shape.sub("", text)
+    left = re.finditer(rf"{WORD}|(?<!u64)::MAX|::MAX (?!>>)", text)
+    return ["".join(it) for it in requests if it[1] not in SIZES[it[0]]] + [text[max(0, it.start() - 60):it.end() + 20] for it in left]
+
+
+def tell(name, wrong):
+    print(f"FAILED {name}: {wrong}" if wrong else f"ok {name}")
+
+
+texts = {str(path.relative_to(ROOT)): path.read_text() for path in sorted(ROOT.glob("crates/*/src/**/*.rt"))}
+sources = {file: bare(text) for file, text in texts.items()}
+shapes = branches(sources.values())
+tell("each_refusal_of_memory_is_that_of_a_call", [f"{file}: {it}" for file, text in sources.items() for it in faults(text, shapes)])
+# refuses: a body that gives up for want of memory where no call was refused it
+bodies = [text for text in texts.values() if "\n    let " in text]
+planted = [(it, bodies[7 * at % len(bodies)].replace("\n    let ", f"\n    {it}\n    let ", 1)) for at, it in enumerate(PLANTS)]
+tell("another_refusal_of_memory_is_seen", [it for it, text in planted if not faults(bare(text), shapes)])
+tell("refusals_of_memory_are_there", [] if sum(len(re.findall(WORD, it)) for it in sources.values()) > 300 else ["few"])
