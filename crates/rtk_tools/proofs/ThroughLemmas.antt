@@ -31,8 +31,8 @@ pub record Through {T : Type 0} (had held : Option (List ℕ)) (result : Result 
 no_fault : {T : Type 0} (x : T) (fault : ToolFault) → Ok x ≢ Err fault
 no_fault x fault e = cc
 
-one_fault : {T : Type 0} (fault other : ToolFault) → Output ≢ other → Err {T = T} fault ≡ Err Output → Err {T = T} fault ≢ Err other
-one_fault fault other differs e same = differs (let is : Output ≡ other = cc in is)
+one_fault : {T : Type 0} (result : Result T ToolFault) (other : ToolFault) → Output ≢ other → result ≡ Err Output → result ≢ Err other
+one_fault result other differs e same = differs (let is : Output ≡ other = cc in is)
 
 not_input : Output ≢ Input
 not_input e = cc
@@ -67,7 +67,7 @@ part_through had held number at from to first last before after out (Ok x) ended
 part_through had held number at from to first last before after out (Err fault) ended P zero one kept kept' same told end e =
     let some = told e in
     all_text had number at first last (λ text. P text (held 0) (taken_of (held 0) out)) zero kept
-    (end (one_fault fault Input not_input e) (one_fault fault TooLong not_long e) (one_fault fault OutOfMemory not_memory e)).1
+    (end (one_fault (Err fault) Input not_input e) (one_fault (Err fault) TooLong not_long e) (one_fault (Err fault) OutOfMemory not_memory e)).1
     (some.0, some.1, lands held from to before after out (P some.0) one kept' same some.2)
 
 -- and where it is not done
