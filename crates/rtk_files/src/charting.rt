@@ -1,9 +1,11 @@
 //! The command `chart`: a picture of a file.
 
-ghost use Rattle.std.specs.Prelude.{◌≡◌, ◌≢◌, ◌+◌, ◌≤◌, ◌⊎◌, Err, length, IfOk, OnOk, IfErr, IsErrOf};
+ghost use Rattle.std.specs.Prelude.{◌≡◌, ◌≢◌, ℕ, ◌+◌, ◌≤◌, ◌⊎◌, Err, length, IfOk, OnOk, IfErr, IsErrOf, IfSome};
+ghost use Rattle.std.specs.Io.KnownBytes.{Keeps};
 ghost use Rattle.std.specs.Option.{ForSome};
 ghost use Rattle.rtk_frame.specs.Stream.{CountRises};
 ghost use Rattle.rtk_tools.specs.Input.{GivesText};
+ghost use Rattle.rtk_tools.specs.Passed.{taken_of};
 ghost use Rattle.rtk_files.specs.ChartInput.{IsWidth, IsPicture, WritesPicture, WritesPartOfPicture, ChartsOrRefuses};
 ghost use Rattle.rtk_tools.specs.declared.exit_status.TheConstants.{NOT_VALID};
 ghost use Rattle.rtk_tools.specs.declared.fault.ToolFault.TheVariants.{Input, TooLong, NotHex, OutOfMemory, Output};
@@ -13,11 +15,13 @@ use rtk_chart::{chart_svg, chart_text};
 use rtk_frame::{Sink, Source, write_all};
 use rtk_rinex::{CheckFault, Table, check};
 use rtk_tools::{
-    DONE, NOT_VALID, Reads, ToolFault, fail, fail_to_open, open_capture, read_whole,
-    standard_output,
+    Before, DONE, NOT_VALID, Reads, ToolFault, Writes, fail, fail_to_open, open_capture,
+    read_whole, standard_output,
 };
 use std::alloc::{AllocError, Global};
 use std::fs::Files;
+use std::io::{Read, Write};
+use std::marker::Brand;
 
 // The picture of a table: in characters, if a width is given, else in SVG.
 fn picture_of(alloc: Global, table: &Table<'_>, width: Option<u16>) -> Result<Vec<u8>, AllocError>
@@ -101,6 +105,54 @@ fn chart_input<R: Source, W: Sink>(
     }
 }
 
+// `chart_input` over the reader and the writer of number 0, by what `K` knows of them.
+fn chart_by<R: Read + Drop, W: Write + Drop, K: Before>(
+    alloc: Global,
+    reader: R,
+    width: Option<u16>,
+    out: W,
+) -> (W, Result<Option<CheckFault>, ToolFault>)
+    requires width { ForSome width IsWidth }
+    requires had { Keeps (K.had 0) (R.remaining reader) }
+    requires held { Keeps (K.held 0) (W.contents out) }
+    requires one { (n : ℕ) → K.held n ≡ K.held 0 }
+    ensures told { IfOk result.1 (λ refusal. IfSome (K.had 0) (λ text.
+        (length text ≤ CHECK_LIMIT) × ChartsOrRefuses width text refusal (K.held 0) (taken_of (K.held 0) (W.contents result.0)))) }
+    ensures part { IsErrOf result.1 Output → IfSome (K.had 0) (λ text.
+        (length text ≤ CHECK_LIMIT) × WritesPartOfPicture width text (K.held 0) (taken_of (K.held 0) (W.contents result.0))) }
+    ensures nothing { IfErr result.1 (λ fault.
+        fault ≢ Output → taken_of (K.held 0) (W.contents result.0) ≡ K.held 0) }
+{
+    let mut source: Reads<R, K> = Reads::over(reader, 0);
+    let mut target: Writes<W, K> = Writes::over(out, 0);
+    let told = chart_input(alloc, &mut source, width, &mut target);
+    let writer = target.into_inner();
+    (writer, told)
+}
+
+/// Draws what a reader has, to a writer that is handed back. What is said holds if the bytes of the
+/// reader and of the writer are known; the program draws files by the same call.
+pub fn chart_through<R: Read + Drop, W: Write + Drop>(
+    alloc: Global,
+    reader: R,
+    width: Option<u16>,
+    out: W,
+) -> (W, Result<Option<CheckFault>, ToolFault>)
+    requires { ForSome width IsWidth }
+    // Done: the picture of all that the reader had stands after what the writer held; or this is no
+    // such file, and the writer holds what it held.
+    ensures told { IfOk result.1 (λ refusal. IfSome (R.remaining reader) (λ text.
+        (length text ≤ CHECK_LIMIT) × ChartsOrRefuses width text refusal (W.contents out) (taken_of (W.contents out) (W.contents result.0)))) }
+
+    // Not done: a first part of the picture after a failed write, and else nothing.
+    ensures part { IsErrOf result.1 Output → IfSome (R.remaining reader) (λ text.
+        (length text ≤ CHECK_LIMIT) × WritesPartOfPicture width text (W.contents out) (taken_of (W.contents out) (W.contents result.0))) }
+    ensures nothing { IfErr result.1 (λ fault.
+        fault ≢ Output → taken_of (W.contents out) (W.contents result.0) ≡ W.contents out) }
+{
+    chart_by::<R, W, Brand>(alloc, reader, width, out)
+}
+
 /// Writes a picture of the file of this name to standard output. What `check` says of a file that it
 /// refuses goes to standard error.
 pub fn chart_named<R: Files + Input + Print + Eprint + AllocGlobal>(
@@ -114,8 +166,8 @@ pub fn chart_named<R: Files + Input + Print + Eprint + AllocGlobal>(
     let Some(text) = open_capture(rt, name) else {
         return fail_to_open(rt, name);
     };
-    let mut reader = Reads::new(text);
-    match chart_input(rt.alloc(), &mut reader, width, &mut standard_output(rt)) {
+    let (_out, told) = chart_through(rt.alloc(), text, width, standard_output(rt));
+    match told {
         Ok(None) => DONE,
         Ok(Some(fault)) => {
             let _told = eprintln!(rt; "{fault}");

@@ -1,9 +1,11 @@
 //! The command `check`: whether a text is one of this project's files, and if not, the first line
 //! that is wrong.
 
-ghost use Rattle.std.specs.Prelude.{◌≡◌, ◌≢◌, ◌+◌, ◌≤◌, ◌++◌, Err, length, IfOk, OnOk, IfErr, IsErrOf};
+ghost use Rattle.std.specs.Prelude.{◌≡◌, ◌≢◌, ℕ, ◌+◌, ◌≤◌, ◌++◌, Err, length, IfOk, OnOk, IfErr, IsErrOf, IfSome};
+ghost use Rattle.std.specs.Io.KnownBytes.{Keeps};
 ghost use Rattle.rtk_frame.specs.Stream.{CountRises};
 ghost use Rattle.rtk_tools.specs.Input.{GivesText};
+ghost use Rattle.rtk_tools.specs.Passed.{taken_of};
 ghost use Rattle.rtk_rinex.specs.CauseText.{cause_text};
 ghost use Rattle.rtk_files.specs.CheckInput.{valid_text, check_fault_text, SaysVerdict, Tells, TellsPart};
 ghost use Rattle.rtk_tools.specs.declared.exit_status.TheConstants.{NOT_VALID};
@@ -13,11 +15,13 @@ use rtk_frame::{Sink, Source, write_all};
 use rtk_message::put_named;
 use rtk_rinex::{Cause, CheckFault, Table, check};
 use rtk_tools::{
-    DONE, NOT_VALID, Reads, ToolFault, fail, fail_to_open, open_capture, read_whole,
-    standard_output,
+    Before, DONE, NOT_VALID, Reads, ToolFault, Writes, fail, fail_to_open, open_capture,
+    read_whole, standard_output,
 };
 use std::alloc::{AllocError, Global};
 use std::fs::Files;
+use std::io::{Read, Write};
+use std::marker::Brand;
 
 // constant
 /// The most bytes of an input of `check_input`, which holds it whole.
@@ -118,6 +122,49 @@ pub fn check_input<R: Source, W: Sink>(
     Ok(verdict.is_valid)
 }
 
+// `check_input` over the reader and the writer of number 0, by what `K` knows of them.
+fn check_by<R: Read + Drop, W: Write + Drop, K: Before>(
+    alloc: Global,
+    reader: R,
+    out: W,
+) -> (W, Result<bool, ToolFault>)
+    requires had { Keeps (K.had 0) (R.remaining reader) }
+    requires held { Keeps (K.held 0) (W.contents out) }
+    requires one { (n : ℕ) → K.held n ≡ K.held 0 }
+    ensures told { IfOk result.1 (λ valid. IfSome (K.had 0) (λ text.
+        (length text ≤ CHECK_LIMIT) × Tells text valid (K.held 0) (taken_of (K.held 0) (W.contents result.0)))) }
+    ensures part { IsErrOf result.1 Output → IfSome (K.had 0) (λ text.
+        (length text ≤ CHECK_LIMIT) × TellsPart text (K.held 0) (taken_of (K.held 0) (W.contents result.0))) }
+    ensures nothing { IfErr result.1 (λ fault.
+        fault ≢ Output → taken_of (K.held 0) (W.contents result.0) ≡ K.held 0) }
+{
+    let mut source: Reads<R, K> = Reads::over(reader, 0);
+    let mut target: Writes<W, K> = Writes::over(out, 0);
+    let told = check_input(alloc, &mut source, &mut target);
+    let writer = target.into_inner();
+    (writer, told)
+}
+
+/// Checks what a reader has, and says so to a writer that is handed back. What is said holds if the
+/// bytes of the reader and of the writer are known; the program checks files by the same call.
+pub fn check_through<R: Read + Drop, W: Write + Drop>(
+    alloc: Global,
+    reader: R,
+    out: W,
+) -> (W, Result<bool, ToolFault>)
+    // Done: the line about all that the reader had stands after what the writer held.
+    ensures told { IfOk result.1 (λ valid. IfSome (R.remaining reader) (λ text.
+        (length text ≤ CHECK_LIMIT) × Tells text valid (W.contents out) (taken_of (W.contents out) (W.contents result.0)))) }
+
+    // Not done: a first part of the line after a failed write, and else nothing.
+    ensures part { IsErrOf result.1 Output → IfSome (R.remaining reader) (λ text.
+        (length text ≤ CHECK_LIMIT) × TellsPart text (W.contents out) (taken_of (W.contents out) (W.contents result.0))) }
+    ensures nothing { IfErr result.1 (λ fault.
+        fault ≢ Output → taken_of (W.contents out) (W.contents result.0) ≡ W.contents out) }
+{
+    check_by::<R, W, Brand>(alloc, reader, out)
+}
+
 /// Checks the file of this name, and writes to standard output what is said of it.
 pub fn check_named<R: Files + Input + Print + Eprint + AllocGlobal>(rt: &R, name: &str) -> u8
     ensures { result ≤ NOT_VALID }
@@ -125,8 +172,8 @@ pub fn check_named<R: Files + Input + Print + Eprint + AllocGlobal>(rt: &R, name
     let Some(text) = open_capture(rt, name) else {
         return fail_to_open(rt, name);
     };
-    let mut reader = Reads::new(text);
-    match check_input(rt.alloc(), &mut reader, &mut standard_output(rt)) {
+    let (_out, told) = check_through(rt.alloc(), text, standard_output(rt));
+    match told {
         Ok(true) => DONE,
         Ok(false) => NOT_VALID,
         Err(fault) => fail(rt, fault),

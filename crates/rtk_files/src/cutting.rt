@@ -1,24 +1,29 @@
 //! The command `cut`: a part of a file.
 
-ghost use Rattle.std.specs.Prelude.{◌≡◌, ◌≢◌, ◌+◌, ◌≤◌, Err, length, IfOk, OnOk, OnErr, IsErrOf};
+ghost use Rattle.std.specs.Prelude.{◌≡◌, ◌≢◌, ℕ, ◌+◌, ◌≤◌, Ok, Err, length, IfOk, OnOk, OnErr, IsErrOf, IsOk, IfSome};
+ghost use Rattle.std.specs.Io.KnownBytes.{Keeps};
 ghost use Rattle.rtk_frame.specs.Stream.{CountRises};
 ghost use Rattle.rtk_cut.specs.Cut.{IsStepOrNone};
 ghost use Rattle.rtk_cut.specs.CutWriting.{WritesPart, WritesFirstOfPart};
 ghost use Rattle.rtk_tools.specs.Input.{GivesText};
+ghost use Rattle.rtk_tools.specs.Passed.{taken_of};
 ghost use Rattle.rtk_files.specs.CutInput.{CutsOrRefuses};
 ghost use Rattle.rtk_tools.specs.declared.exit_status.TheConstants.{NOT_VALID};
 ghost use Rattle.rtk_tools.specs.declared.fault.ToolFault.TheVariants.{Input, TooLong, NotHex, OutOfMemory, Output};
 
 use crate::checking::CHECK_LIMIT;
 use rtk_cut::{CutFault, Part};
-use rtk_frame::{Sink, Source};
+use rtk_frame::{Sink, Source, StreamFault};
 use rtk_rinex::{CheckFault, Table, check};
 use rtk_tools::{
-    DONE, GATHERED, NOT_VALID, Reads, ToolFault, fail, fail_to_open, open_capture, read_whole, sink,
+    Before, DONE, GATHERED, NOT_VALID, Reads, Resumed, ToolFault, Writes, fail, fail_to_open,
+    open_capture, read_whole, sink,
 };
 use std::alloc::Global;
 use std::fs::Files;
 use std::io;
+use std::io::{BufWriter, Read, Write};
+use std::marker::Brand;
 
 // Writes the part of a table.
 fn cut_table<W: Sink>(
@@ -88,21 +93,72 @@ fn cut_input<R: Source, W: Sink>(
     }
 }
 
-// The same to standard output, all of it out before it is told as done.
-fn cut_to_output<R: Print + AllocGlobal, S: Source>(
-    rt: &R,
-    reader: &mut S,
-    part: Part,
+// What was cut or refused is told only if all that was written is out.
+fn if_out(
+    cut: Result<Option<CheckFault>, ToolFault>,
+    written: Result<(), StreamFault>,
 ) -> Result<Option<CheckFault>, ToolFault>
-    requires step { IsStepOrNone part.every }
+    ensures { IfOk result (λ refusal. (cut ≡ Ok refusal) × IsOk written) }
 {
-    let mut out = sink(rt.alloc(), GATHERED, io::writer(rt))?;
-    let done = cut_input(rt.alloc(), reader, part, &mut out);
-    let is_out = out.finish().is_ok();
-    match done {
-        Ok(None) if !is_out => Err(ToolFault::Output),
-        _ => done,
+    match written {
+        Ok(()) => cut,
+        Err(_) => match cut {
+            Ok(_) => Err(ToolFault::Output),
+            Err(fault) => Err(fault),
+        },
     }
+}
+
+/// What came of a cut, and the writer that the part went to.
+#[derive(Drop)]
+pub struct Cut<W> {
+    /// The writer.
+    pub out: W,
+    /// The fault of a file that `check` refuses, or why the part is not out.
+    pub done: Result<Option<CheckFault>, ToolFault>,
+}
+
+// `cut_input` over the reader and the writer of number 0, by what `K` knows of them.
+fn cut_by<R: Read + Drop, W: Write + Drop, K: Before>(
+    alloc: Global,
+    reader: R,
+    part: Part,
+    room: usize,
+    out: W,
+) -> Result<Cut<W>, ToolFault>
+    requires step { IsStepOrNone part.every }
+    requires had { Keeps (K.had 0) (R.remaining reader) }
+    requires held { Keeps (K.held 0) (W.contents out) }
+    requires one { (n : ℕ) → K.held n ≡ K.held 0 }
+    ensures told { IfOk result (λ cut. IfOk cut.done (λ refusal. IfSome (K.had 0) (λ text.
+        (length text ≤ CHECK_LIMIT) × CutsOrRefuses text part refusal (K.held 0) (taken_of (K.held 0) (W.contents cut.out))))) }
+{
+    let mut source: Reads<R, K> = Reads::over(reader, 0);
+    let mut target = sink::<W, K>(alloc, room, out, 0)?;
+    let cut = cut_input(alloc, &mut source, part, &mut target);
+    let (resumed, written) = target.into_writer();
+    let out = resumed.into_inner();
+    let done = if_out(cut, written);
+    Ok(Cut { out, done })
+}
+
+/// Cuts what a reader has, to a writer that is handed back; before each write so much is gathered.
+/// What is said holds if the bytes of the reader and of the writer are known; the program cuts files
+/// by the same call. If there is no memory to gather in, nothing is read, and the writer is let go.
+pub fn cut_through<R: Read + Drop, W: Write + Drop>(
+    alloc: Global,
+    reader: R,
+    part: Part,
+    room: usize,
+    out: W,
+) -> Result<Cut<W>, ToolFault>
+    requires step { IsStepOrNone part.every }
+    // Done: the part of all that the reader had stands after what the writer held; or this is no
+    // such file, and the writer holds what it held.
+    ensures told { IfOk result (λ cut. IfOk cut.done (λ refusal. IfSome (R.remaining reader) (λ text.
+        (length text ≤ CHECK_LIMIT) × CutsOrRefuses text part refusal (W.contents out) (taken_of (W.contents out) (W.contents cut.out))))) }
+{
+    cut_by::<R, W, Brand>(alloc, reader, part, room, out)
 }
 
 /// Writes a part of the file of this name to standard output. What `check` says of a file that it
@@ -118,8 +174,11 @@ pub fn cut_named<R: Files + Input + Print + Eprint + AllocGlobal>(
     let Some(text) = open_capture(rt, name) else {
         return fail_to_open(rt, name);
     };
-    let mut reader = Reads::new(text);
-    match cut_to_output(rt, &mut reader, part) {
+    let cut = match cut_through(rt.alloc(), text, part, GATHERED, io::writer(rt)) {
+        Ok(cut) => cut,
+        Err(fault) => return fail(rt, fault),
+    };
+    match cut.done {
         Ok(None) => DONE,
         Ok(Some(fault)) => {
             let _told = eprintln!(rt; "{fault}");

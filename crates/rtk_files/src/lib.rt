@@ -21,6 +21,6 @@ mod charting;
 mod checking;
 mod cutting;
 
-pub use charting::chart_named;
-pub use checking::{CHECK_LIMIT, check_input, check_named};
-pub use cutting::cut_named;
+pub use charting::{chart_named, chart_through};
+pub use checking::{CHECK_LIMIT, check_input, check_named, check_through};
+pub use cutting::{Cut, cut_named, cut_through};

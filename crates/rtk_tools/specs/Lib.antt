@@ -5,3 +5,4 @@ pub mod Passed
 pub mod Show
 pub mod Shown
 pub mod Steps
+pub mod Summarized

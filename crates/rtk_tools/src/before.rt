@@ -1,17 +1,23 @@
-//! What was known of a stream's bytes before its first call.
+//! What was known of the bytes of readers and writers before their first calls.
 
 ghost use Rattle.std.specs.Prelude.{ℕ, List, Option, None};
 
 use std::marker::Brand;
 
-/// The bytes that a reader had to give, or that a writer held, before its first call; `None` if
-/// nothing is known of them. Clauses alone read it. A caller that knows the bytes picks them.
+/// The bytes that readers had to give, and those that writers held, before their first calls, each by
+/// the number of the reader or the writer; `None` if nothing is known of them. Clauses alone read it.
+/// A caller that knows the bytes picks them.
 pub trait Before {
-    /// Those bytes, in order.
-    ghost bytes: { Option (List ℕ) };
+    /// The bytes that a reader had, in order.
+    ghost had: { ℕ → Option (List ℕ) };
+
+    /// The bytes that a writer held, in order.
+    ghost held: { ℕ → Option (List ℕ) };
 }
 
 // Nothing is known, unless a caller picks.
 impl Before for Brand {
-    ghost bytes = { None };
+    ghost had = { λ _. None };
+
+    ghost held = { λ _. None };
 }

@@ -5,7 +5,7 @@
 //! asks for. Failed calls are counted, and a reader has met its end once a read with room gave
 //! nothing.
 
-ghost use Rattle.std.specs.Prelude.{◌≡◌, OnOk, List, ℕ, true, false};
+ghost use Rattle.std.specs.Prelude.{◌≡◌, OnOk, IfOk, List, ℕ, true, false};
 ghost use Rattle.std.specs.Io.Buffered.{writer_contents};
 ghost use Rattle.std.specs.Io.KnownBytes.{Keeps, append_known};
 ghost use Rattle.rtk_tools.specs.Passed.{given_of, IsLeft, IsLeft-prop, taken_of, StaysKnown, StaysKnown-prop};
@@ -72,41 +72,36 @@ pub(crate) fn is_standard_input_readable<R: Input>(rt: &R) -> bool {
     Resumed::new(rt.reader()).read(&mut []).is_ok()
 }
 
-/// Standard output as a sink, which gathers nothing.
-pub fn standard_output<R: Print>(rt: &R) -> Writes<Resumed<Printer<'_, R>>> {
-    Writes::new(Resumed::new(io::writer(rt)))
+/// Standard output. It gathers nothing.
+pub fn standard_output<R: Print>(rt: &R) -> Resumed<Printer<'_, R>> {
+    Resumed::new(io::writer(rt))
 }
 
-/// A reader of std as a source. It gives the bytes that the reader had; its calls are counted.
+/// A reader of std as a source. It gives the bytes that the reader had; its calls are counted. Its
+/// number tells it from other readers, and says what was known of its bytes.
 #[derive(Drop)]
 pub struct Reads<R: Read, K: Before = Brand> {
     inner: R,
+    number: u8,
     failed: u64,
     made: u64,
     ended: bool,
     of: PhantomData<K>,
-    ghost left: { IsLeft K.bytes (R.remaining inner) ended } by { IsLeft-prop K.bytes (R.remaining inner) ended },
-}
-
-impl<R: Read> Reads<R> {
-    /// A source over a reader of whose bytes nothing is known, before its first call.
-    pub fn new(inner: R) -> Reads<R>
-        ensures no_call { (result.made ≡ 0) × (result.failed ≡ 0) × (result.ended ≡ false) }
-        ensures inner { result.inner ≡ inner }
-    {
-        Reads::over(inner)
-    }
+    ghost left: { IsLeft (K.had number) (R.remaining inner) ended } by { IsLeft-prop (K.had number) (R.remaining inner) ended },
 }
 
 impl<R: Read, K: Before> Reads<R, K> {
-    /// A source over a reader that has the bytes of `K` to give, before its first call.
-    pub fn over(inner: R) -> Reads<R, K>
-        requires known { Keeps K.bytes (R.remaining inner) }
+    /// A source over a reader, before its first call. If `K` knows the bytes of this number, they are
+    /// those that the reader has to give.
+    pub fn over(inner: R, number: u8) -> Reads<R, K>
+        requires known { Keeps (K.had number) (R.remaining inner) }
         ensures no_call { (result.made ≡ 0) × (result.failed ≡ 0) × (result.ended ≡ false) }
         ensures inner { result.inner ≡ inner }
+        ensures number { result.number ≡ number }
     {
         Reads {
             inner,
+            number,
             failed: 0,
             made: 0,
             ended: false,
@@ -116,13 +111,14 @@ impl<R: Read, K: Before> Reads<R, K> {
 }
 
 impl<R: Read, K: Before> Source for Reads<R, K> {
-    ghost given = { λ source. given_of K.bytes (R.remaining source.inner) };
+    ghost given = { λ source. given_of source.number (K.had source.number) (R.remaining source.inner) };
 
     ghost failures = { λ source. source.failed };
 
     ghost calls = { λ source. source.made };
 
-    ghost is_at_end = { λ source. source.ended ≡ true };
+    ghost is_at_end = { λ source. (source.ended ≡ true)
+        × IsLeft (K.had source.number) (R.remaining source.inner) true };
 
     fn read(&mut self, buf: &mut [u8]) -> Result<usize, StreamFault> {
         self.made = self.made.saturating_add(1);
@@ -140,66 +136,73 @@ impl<R: Read, K: Before> Source for Reads<R, K> {
     }
 }
 
-/// A writer of std as a sink. What it takes the writer holds; its failed calls are counted.
+/// A writer of std as a sink. What it takes the writer holds; its failed calls are counted. Its number
+/// tells it from other writers, and says what was known of its bytes.
 #[derive(Drop)]
 pub struct Writes<W: Write, K: Before = Brand> {
     inner: W,
+    number: u8,
     failed: u64,
     of: PhantomData<K>,
-    ghost known: { StaysKnown K.bytes (W.contents inner) } by { StaysKnown-prop K.bytes (W.contents inner) },
-}
-
-impl<W: Write> Writes<W> {
-    /// A sink over a writer of whose bytes nothing is known, before its first call.
-    pub(crate) fn new(inner: W) -> Writes<W>
-        ensures no_failed_call { result.failed ≡ 0 }
-        ensures inner { result.inner ≡ inner }
-    {
-        Writes::over(inner)
-    }
+    ghost known: { StaysKnown (K.held number) (W.contents inner) } by { StaysKnown-prop (K.held number) (W.contents inner) },
 }
 
 impl<W: Write, K: Before> Writes<W, K> {
-    /// A sink over a writer that holds the bytes of `K`, before its first call.
-    pub fn over(inner: W) -> Writes<W, K>
-        requires known { Keeps K.bytes (W.contents inner) }
+    /// A sink over a writer, before its first call. If `K` knows the bytes of this number, they are
+    /// those that the writer holds.
+    pub fn over(inner: W, number: u8) -> Writes<W, K>
+        requires known { Keeps (K.held number) (W.contents inner) }
         ensures no_failed_call { result.failed ≡ 0 }
         ensures inner { result.inner ≡ inner }
+        ensures number { result.number ≡ number }
     {
         Writes {
             inner,
+            number,
             failed: 0,
             of: PhantomData,
         }
     }
+
+    /// The writer behind.
+    pub fn into_inner(self) -> W
+        ensures { result ≡ self.inner }
+    {
+        self.inner
+    }
+}
+
+// Hands on what was gathered, and ends with the writer behind. What can't be written now is let go,
+// so that nothing comes after a fault line.
+fn hand_on<W: Write + Drop>(gathered: BufWriter<W>) -> (W, Result<(), StreamFault>)
+    ensures all { OnOk result.1 (Keeps (writer_contents W.contents gathered) (W.contents result.0)) }
+    ensures part { (unwritten : List ℕ) × Keeps (writer_contents W.contents gathered) (append_known (W.contents result.0) unwritten) }
+{
+    let mut writer = gathered;
+    let flushed = writer.flush();
+    let (inner, _unwritten) = writer.into_parts();
+    match flushed {
+        Ok(()) => (inner, Ok(())),
+        Err(_) => (inner, Err(StreamFault)),
+    }
 }
 
 impl<W: Write + Drop, K: Before> Writes<BufWriter<W>, K> {
-    /// Hands on what was gathered, and ends. What can't be written now is let go, so that nothing
-    /// comes after a fault line.
-    pub fn finish(self) -> Result<(), StreamFault> {
-        let (_writer, finished) = self.into_writer();
-        finished
-    }
-
-    /// Hands on what was gathered, and ends with the writer behind. What can't be written now is
-    /// let go.
+    /// Hands on what was gathered, and ends with the writer behind. If all is handed on, that writer
+    /// holds what was taken. What can't be written now is let go.
     pub fn into_writer(self) -> (W, Result<(), StreamFault>)
+        ensures taken { OnOk result.1 (taken_of (K.held self.number) (W.contents result.0)
+            ≡ taken_of (K.held self.number) (writer_contents W.contents self.inner)) }
         ensures all { OnOk result.1 (Keeps (writer_contents W.contents self.inner) (W.contents result.0)) }
         ensures part { (unwritten : List ℕ) × Keeps (writer_contents W.contents self.inner) (append_known (W.contents result.0) unwritten) }
     {
-        let mut writer = self.inner;
-        let flushed = writer.flush();
-        let (inner, _unwritten) = writer.into_parts();
-        match flushed {
-            Ok(()) => (inner, Ok(())),
-            Err(_) => (inner, Err(StreamFault)),
-        }
+        let (writer, written) = hand_on(self.inner);
+        (writer, written)
     }
 }
 
 impl<W: Write, K: Before> Sink for Writes<W, K> {
-    ghost taken = { λ sink. taken_of K.bytes (W.contents sink.inner) };
+    ghost taken = { λ sink. taken_of (K.held sink.number) (W.contents sink.inner) };
 
     ghost failures = { λ sink. sink.failed };
 
@@ -218,15 +221,20 @@ impl<W: Write, K: Before> Sink for Writes<W, K> {
     }
 }
 
-/// Standard output or standard error as a sink. It gathers what it takes, or, with no room, passes
-/// each write on.
-pub fn sink<W: Write + Drop>(
+/// A writer as a sink that gathers what it takes, or, with no room, passes each write on. If memory is
+/// refused the writer is let go.
+pub fn sink<W: Write + Drop, K: Before>(
     alloc: Global,
     room: usize,
     to: W,
-) -> Result<Writes<BufWriter<Resumed<W>>>, ToolFault> {
+    number: u8,
+) -> Result<Writes<BufWriter<Resumed<W>>, K>, ToolFault>
+    requires known { Keeps (K.held number) (W.contents to) }
+    ensures number { IfOk result (λ s. s.number ≡ number) }
+    ensures held { IfOk result (λ s. Keeps (K.held number) (⟦<BufWriter<Resumed<W>> as Write>⟧.contents s.inner)) }
+{
     match BufWriter::with_capacity(alloc, room, Resumed::new(to)) {
-        Ok(writer) => Ok(Writes::new(writer)),
+        Ok(writer) => Ok(Writes::over(writer, number)),
         Err(_) => Err(ToolFault::OutOfMemory),
     }
 }

@@ -1,10 +1,14 @@
-//! Laws of what is shown: a payload has one line, and frames have one text.
+//! Laws of what is shown: a payload has one line, and frames have one text; and laws of what readers
+//! give and writers hold.
 //!
 //! Each function here does nothing: its contract is the law, and a caller that calls it may cite
-//! it.
+//! it; proofs of other crates cite the same facts from `proofs/PublicLaws.antt`.
 
-ghost use Rattle.std.specs.Prelude.{◌≡◌, ℕ, List};
+ghost use Rattle.std.specs.Prelude.{◌≡◌, ℕ, List, Option, true, IfSome};
+ghost use Rattle.std.specs.Io.KnownBytes.{Keeps};
 ghost use Rattle.rtk_frame.specs.Frames.{Frame};
+ghost use Rattle.rtk_frame.specs.Stream.{with_more};
+ghost use Rattle.rtk_tools.specs.Passed.{given_of, IsLeft, taken_of};
 ghost use Rattle.rtk_tools.specs.Shown.{IsLineOf, AreLinesOf};
 
 /// A payload has one line.
@@ -17,4 +21,23 @@ pub fn one_line_of_a_payload()
 pub fn one_text_of_frames()
     ensures { (frames : List Frame) (text other : List ℕ)
         → AreLinesOf frames text → AreLinesOf frames other → text ≡ other }
+{}
+
+/// A reader whose bytes were known gave all of them, in order, once it met its end. `had` tells by
+/// their numbers what readers had.
+pub fn known_bytes_are_given()
+    ensures { (had : ℕ → Option (List ℕ)) (number at : ℕ) (first last : Option (List ℕ)) (text : List ℕ)
+        → Keeps (had number) first → IsLeft (had at) last true
+        → given_of at (had at) last ≡ with_more (given_of number (had number) first) text
+        → IfSome (had number) (λ all. all ≡ text) }
+{}
+
+/// A writer whose bytes were known holds them, and after them what it took. `held` tells by their
+/// numbers what writers held.
+pub fn known_bytes_are_held()
+    ensures first { (held first : Option (List ℕ)) → Keeps held first → taken_of held first ≡ held }
+    ensures last { (held : ℕ → Option (List ℕ)) (number at : ℕ) (first last : Option (List ℕ)) (more : List ℕ)
+        → Keeps (held number) first
+        → taken_of (held at) last ≡ with_more (taken_of (held number) first) more
+        → taken_of (held number) last ≡ with_more (held number) more }
 {}

@@ -40,5 +40,5 @@ pub use links::{Link, OpenFault, fail_to_open_links, has_standard_input, open_li
 pub use payload_line::show_line;
 pub use reading::read_all;
 pub use resuming::Resumed;
-pub use showing::{SHOW_LIMIT, show, show_named};
-pub use summarizing::{summarize_named, summary_status};
+pub use showing::{SHOW_LIMIT, show, show_bytes, show_named, show_through};
+pub use summarizing::{summarize_named, summarize_through, summary_status};

@@ -6,7 +6,7 @@ ghost use Rattle.rtk_tools.specs.Steps.ReadLimits.{read_at_once};
 
 use crate::exit_status::{FAILED, fail, fail_to_open};
 use crate::fault::ToolFault;
-use crate::files::{Capture, Reads, STDIN, is_standard_input_readable, open_capture};
+use crate::files::{Capture, STDIN, is_standard_input_readable, open_capture};
 use crate::resuming::Resumed;
 use std::fs::Files;
 use std::io::BufReader;
@@ -16,7 +16,7 @@ use std::io::BufReader;
 const READ_AT_ONCE: usize = 32_768;
 
 /// A link of the program: a file or standard input, read ahead.
-pub type Link<R> = Reads<BufReader<Resumed<Capture<<R as Files>::File, <R as Input>::Reader>>>>;
+pub type Link<R> = BufReader<Resumed<Capture<<R as Files>::File, <R as Input>::Reader>>>;
 
 /// Why the links are not open.
 pub enum OpenFault<'a> {
@@ -35,13 +35,13 @@ fn open_link<'a, R: Files + Input + AllocGlobal>(
     rt: &R,
     name: &'a str,
 ) -> Result<Link<R>, OpenFault<'a>>
-    ensures { IfOk result (λ link. reader_capacity link.inner ≡ read_at_once) }
+    ensures { IfOk result (λ link. reader_capacity link ≡ read_at_once) }
 {
     let Some(capture) = open_capture(rt, name) else {
         return Err(OpenFault::NotOpened { name });
     };
     match BufReader::with_capacity(rt.alloc(), READ_AT_ONCE, capture) {
-        Ok(reader) => Ok(Reads::new(reader)),
+        Ok(reader) => Ok(reader),
         Err(_) => Err(OpenFault::OutOfMemory),
     }
 }

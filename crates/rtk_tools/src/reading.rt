@@ -11,17 +11,17 @@ use std::alloc::Global;
 use std::io::Read;
 use std::marker::Brand;
 
-// All bytes of a reader that has those of `K`.
+// All bytes of a reader, by what `K` knows of those of number 0.
 fn read_through<R: Read + Drop, K: Before>(
     alloc: Global,
     reader: R,
     limit: usize,
 ) -> Result<Vec<u8>, ToolFault>
-    requires { Keeps K.bytes (R.remaining reader) }
-    ensures whole { IfOk result (λ text. IfSome K.bytes (λ bytes. bytes ≡ text.items)) }
+    requires { Keeps (K.had 0) (R.remaining reader) }
+    ensures whole { IfOk result (λ text. IfSome (K.had 0) (λ bytes. bytes ≡ text.items)) }
     ensures limit { IfOk result (λ text. length text.items ≤ limit) }
 {
-    let mut source: Reads<R, K> = Reads::over(reader);
+    let mut source: Reads<R, K> = Reads::over(reader, 0);
     let text = read_whole(alloc, &mut source, limit)?;
     Ok(text)
 }

@@ -39,10 +39,17 @@ pub struct Resumed<T> {
 
 impl<T> Resumed<T> {
     /// The same reader or writer, whose interrupted calls are made again.
-    pub(crate) fn new(inner: T) -> Resumed<T>
+    pub fn new(inner: T) -> Resumed<T>
         ensures { result ≡ record { inner = inner } }
     {
         Resumed { inner }
+    }
+
+    /// The reader or the writer behind.
+    pub fn into_inner(self) -> T
+        ensures { result ≡ self.inner }
+    {
+        self.inner
     }
 }
 

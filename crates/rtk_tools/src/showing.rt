@@ -1,16 +1,19 @@
 //! The command `show`: a line for each frame of a capture.
 
-ghost use Rattle.std.specs.Prelude.{◌≡◌, ◌≢◌, ◌+◌, ◌≤◌, Some, Err, [], length, IfOk, OnOk, IfErr, IsErrOf, IsNone, IsSome, IsSomeAnd};
+ghost use Rattle.std.specs.Prelude.{◌≡◌, ◌≢◌, ℕ, ◌+◌, ◌≤◌, Some, Err, [], length, IfOk, OnOk, IfErr, IsErrOf, IsNone, IsSome, IsSomeAnd, IfSome};
+ghost use Rattle.std.specs.Io.KnownBytes.{Keeps};
 ghost use Rattle.rtk_frame.specs.Frames.{frames};
 ghost use Rattle.rtk_frame.specs.Stream.{CountRises, with_more, TakesPart};
 ghost use Rattle.rtk_tools.specs.Input.{GivesText, capture_of};
-ghost use Rattle.rtk_tools.specs.Show.{ShowsPartOf, IsBeforeOutput};
-ghost use Rattle.rtk_tools.specs.Shown.{Shows, ShowsPart};
+ghost use Rattle.rtk_tools.specs.Passed.{taken_of};
+ghost use Rattle.rtk_tools.specs.Show.{ShowsText, ShowsPartOf, IsBeforeOutput};
+ghost use Rattle.rtk_tools.specs.Shown.{AreLinesOf, Shows, ShowsPart};
 ghost use Rattle.rtk_tools.specs.declared.fault.ToolFault.TheVariants.{Input, TooLong, NotHex, OutOfMemory, Output};
 
+use crate::before::Before;
 use crate::exit_status::{DONE, FAILED, fail, fail_to_open};
 use crate::fault::ToolFault;
-use crate::files::{Reads, open_capture, standard_output};
+use crate::files::{Reads, Writes, open_capture, standard_output};
 use crate::hex_input::decode_hex;
 use crate::input::read_whole;
 use crate::payload_line::put_payload_line;
@@ -18,6 +21,8 @@ use rtk_frame::laws::frames_of_a_text;
 use rtk_frame::{Frames, Sink, Source, write_all};
 use std::alloc::Global;
 use std::fs::Files;
+use std::io::{Read, Write};
+use std::marker::Brand;
 
 // constant
 /// The most bytes of an input of `show`, which holds it whole.
@@ -131,6 +136,62 @@ pub fn show<R: Source, W: Sink>(
     show_capture(alloc, capture.as_slice(), out)
 }
 
+// `show` over the reader and the writer of number 0, by what `K` knows of them.
+fn show_by<R: Read + Drop, W: Write + Drop, K: Before>(
+    alloc: Global,
+    reader: R,
+    out: W,
+    hex: bool,
+) -> (W, Result<u64, ToolFault>)
+    requires had { Keeps (K.had 0) (R.remaining reader) }
+    requires held { Keeps (K.held 0) (W.contents out) }
+    requires one { (n : ℕ) → K.held n ≡ K.held 0 }
+    ensures shown { IfOk result.1 (λ count. IfSome (K.had 0) (λ text.
+        ShowsText hex count text (K.held 0) (taken_of (K.held 0) (W.contents result.0)))) }
+    ensures part { IsErrOf result.1 Output → IfSome (K.had 0) (λ text.
+        ShowsPartOf (capture_of hex text) (K.held 0) (taken_of (K.held 0) (W.contents result.0))) }
+    ensures nothing { IfErr result.1 (λ fault.
+        IsBeforeOutput fault → taken_of (K.held 0) (W.contents result.0) ≡ K.held 0) }
+{
+    let mut source: Reads<R, K> = Reads::over(reader, 0);
+    let mut target: Writes<W, K> = Writes::over(out, 0);
+    let shown = show(alloc, &mut source, &mut target, hex);
+    let writer = target.into_inner();
+    (writer, shown)
+}
+
+/// Shows what a reader has, to a writer that is handed back. What is said holds if the bytes of the
+/// reader and of the writer are known; the program shows files by the same call.
+pub fn show_through<R: Read + Drop, W: Write + Drop>(
+    alloc: Global,
+    reader: R,
+    out: W,
+    hex: bool,
+) -> (W, Result<u64, ToolFault>)
+    // Done: the lines of all that the reader had stand after what the writer held.
+    ensures shown { IfOk result.1 (λ count. IfSome (R.remaining reader) (λ text.
+        ShowsText hex count text (W.contents out) (taken_of (W.contents out) (W.contents result.0)))) }
+
+    // Not done: a first part of them after a failed write, and nothing before that.
+    ensures part { IsErrOf result.1 Output → IfSome (R.remaining reader) (λ text.
+        ShowsPartOf (capture_of hex text) (W.contents out) (taken_of (W.contents out) (W.contents result.0))) }
+    ensures nothing { IfErr result.1 (λ fault.
+        IsBeforeOutput fault → taken_of (W.contents out) (W.contents result.0) ≡ W.contents out) }
+{
+    show_by::<R, W, Brand>(alloc, reader, out, hex)
+}
+
+/// The lines of a capture in memory, by the call that shows files.
+pub fn show_bytes(alloc: Global, capture: &[u8]) -> Result<Vec<u8>, ToolFault>
+    ensures { IfOk result (λ lines. AreLinesOf (frames capture.now) lines.items) }
+{
+    let (lines, shown) = show_through(alloc, capture, Vec::new(alloc), false);
+    match shown {
+        Ok(_) => Ok(lines),
+        Err(fault) => Err(fault),
+    }
+}
+
 /// Writes the lines of the capture of this name to standard output.
 pub fn show_named<R: Files + Input + Print + Eprint + AllocGlobal>(
     rt: &R,
@@ -142,8 +203,8 @@ pub fn show_named<R: Files + Input + Print + Eprint + AllocGlobal>(
     let Some(capture) = open_capture(rt, name) else {
         return fail_to_open(rt, name);
     };
-    let mut reader = Reads::new(capture);
-    match show(rt.alloc(), &mut reader, &mut standard_output(rt), hex) {
+    let (_out, shown) = show_through(rt.alloc(), capture, standard_output(rt), hex);
+    match shown {
         Ok(_) => DONE,
         Err(fault) => fail(rt, fault),
     }

@@ -1,0 +1,21 @@
+use Rattle.std.proofs.Common.{◌≢◌, ◌≤◌, length}
+use Rattle.rtk_tools.specs.declared.fault.ToolFault.TheVariants.{Output}
+use Rattle.rtk_tools.proofs.PublicLaws.{through}
+use Rattle.rtk_files.specs.CheckInput.{Tells, TellsPart}
+use Rattle.rtk_files.specs.declared.checking.TheConstants.{CHECK_LIMIT}
+use Rattle.rtk_files.proofs.checking.check_by.Goals as goal
+
+pub returns : goal.returns
+returns g c =
+    let passed = through g.K.Before.had g.K.Before.held
+    c.over-source.result.number c.check_input-told.new.reader.number c.over-target.result.number c.check_input-told.new.out.number
+    (g.R.Read.remaining c.over-source.result.inner) (g.R.Read.remaining c.check_input-told.new.reader.inner)
+    (g.W.Write.contents c.over-target.result.inner) (g.W.Write.contents c.check_input-told.new.out.inner) (g.W.Write.contents c.into_inner-writer.result)
+    c.check_input-told.result c.check_input-told.new.reader.ended
+    (λ valid text before after. (length text ≤ CHECK_LIMIT) × Tells text valid before after)
+    (λ text before after. (length text ≤ CHECK_LIMIT) × TellsPart text before after)
+    (λ fault. fault ≢ Output)
+    c.over-source.ensures.number c.requires.one (rw c.over-source.ensures.inner c.requires.had) (rw c.over-target.ensures.inner c.requires.held)
+    (rw c.into_inner-writer.ensures)
+    c.check_input-told.ensures.told c.check_input-told.ensures.part c.check_input-told.ensures.nothing c.check_input-told.ensures.to_the_end in
+    record { told = passed.done; part = passed.part; nothing = passed.nothing }
