@@ -122,9 +122,9 @@ gave-at {S} {R} {number} {inner} {before} {readers} remaining had after reads is
     let left : remaining (inner first) ≡ Some text = sym (had-at remaining k none are within) ∙ some in
     let had-k : had k ≡ Some text = ap (λ (h : ℕ → Option (List ℕ)). h k) is-had ∙ some in
     let start : given_by number inner remaining had first ≡ Some (k ∷ []) =
-      ap (λ (n : ℕ). given_of n (had n) (remaining (inner first))) (are.numbers k none within)
-      ∙ ap (λ (h : Option (List ℕ)). given_of k h (remaining (inner first))) had-k
-      ∙ ap (given_of k (Some text)) left ∙ given-first k text in
+    ap (λ (n : ℕ). given_of n (had n) (remaining (inner first))) (are.numbers k none within)
+    ∙ ap (λ (h : Option (List ℕ)). given_of k h (remaining (inner first))) had-k
+    ∙ ap (given_of k (Some text)) left ∙ given-first k text in
     record {
       none = none;
       within = subst (λ (n : ℕ). k < n) (sym gave.as_many) within;
@@ -206,9 +206,9 @@ on-writers : (P : Written → Written → Type 0) {held : ℕ → Option (List �
     → P (written old old') (written new new') → P (written first first') (written (taken_of first last) (taken_of first' last'))
 on-writers P {held} {first} {old} {new} {last} {first'} {old'} {new'} {last'} text text' b b' is-out took took' p =
     let before : written old old' ≡ written first first' =
-      ap (λ (o : Option (List ℕ)). written o old') b.is_old ∙ ap (λ (o : Option (List ℕ)). written first o) b'.is_old in
+    ap (λ (o : Option (List ℕ)). written o old') b.is_old ∙ ap (λ (o : Option (List ℕ)). written first o) b'.is_old in
     let after : written new new' ≡ written (taken_of first last) (taken_of first' last') =
-      ap (λ (o : Option (List ℕ)). written o new') (is-held text b is-out took) ∙ ap (λ (o : Option (List ℕ)). written (taken_of first last) o) (is-held text' b' is-out took') in
+    ap (λ (o : Option (List ℕ)). written o new') (is-held text b is-out took) ∙ ap (λ (o : Option (List ℕ)). written (taken_of first last) o) (is-held text' b' is-out took') in
     subst (λ (w : Written). P (written first first') w) after (subst (λ (w : Written). P w (written new new')) before p)
 
 -- ---- a run that is done
@@ -222,9 +222,9 @@ at-done : {S R : Type 0} {number : S → ℕ} {inner : S → R} {before : List S
 at-done remaining had calls is_at_end s after (Err fault) is-had are ends b b' run = tt
 at-done {S} {R} {number} {inner} {before} {readers} remaining had {held} calls is_at_end s after {first} {old} {new} {last} {first'} {old'} {new'} (Ok counts) is-had are ends b b' run =
     let converts : ConvertsBytes s (map remaining readers) counts (written old old') (written new new') =
-      converts-bytes remaining had calls is_at_end s after counts (written old old') (written new new') is-had are ends run in
+    converts-bytes remaining had calls is_at_end s after counts (written old old') (written new new') is-had are ends run in
     λ is-out. on-writers (λ (w v : Written). ConvertsBytes s (map remaining readers) counts w v) (kept_file s (arrivals converts.kept.found)) (report_of s converts.kept.found)
-      b b' is-out converts.kept.out converts.kept.log converts
+    b b' is-out converts.kept.out converts.kept.log converts
 
 pub done-by-bytes : {S R : Type 0} {number : S → ℕ} {inner : S → R} {before : List S} {readers : List R} (remaining : R → Option (List ℕ)) (had : ℕ → Option (List ℕ)) {held : ℕ → Option (List ℕ)}
     (calls : S → ℕ) (is_at_end : S → Type 0) (s : SetupView) (after : List S) {first old new last first' old' new' last' : Option (List ℕ)} {is_out : Bool} (done final : Result Counts ConvertFault)
@@ -234,7 +234,7 @@ pub done-by-bytes : {S R : Type 0} {number : S → ℕ} {inner : S → R} {befor
     → IfOk final (λ counts. IsTrue is_out → ConvertsBytes s (map remaining readers) counts (written first first') (written (taken_of first last) (taken_of first' last')))
 done-by-bytes {S} {R} {number} {inner} {before} {readers} remaining had {held} calls is_at_end s after {first} {old} {new} {last} {first'} {old'} {new'} {last'} {is_out} done final is is-had are ends b b' run =
     subst (λ (r : Result Counts ConvertFault). IfOk r (λ counts. IsTrue is_out → ConvertsBytes s (map remaining readers) counts (written first first') (written (taken_of first last) (taken_of first' last'))))
-      (sym is) (at-done remaining had calls is_at_end s after done is-had are ends b b' run)
+    (sym is) (at-done remaining had calls is_at_end s after done is-had are ends b b' run)
 
 -- ---- a run that ended at a read
 
