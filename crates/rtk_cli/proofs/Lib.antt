@@ -1,4 +1,5 @@
 mod CodeListLemmas
+mod LinkLemmas
 mod MomentTextLemmas
 mod RefusedLemmas
 mod StepLemmas

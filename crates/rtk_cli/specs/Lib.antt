@@ -1,3 +1,4 @@
 pub mod Converting
+pub mod ConvertsBytes
 pub mod Words
 pub mod Steps

@@ -2,24 +2,46 @@
 //!
 //! At the end standard output is flushed, then the report, and the fault line comes last.
 
-ghost use Rattle.std.specs.Prelude.{◌≡◌, ◌≤◌, ◌+◌, sum_by, IsErrOf};
+ghost use Rattle.std.specs.Prelude.{◌≡◌, ◌↔◌, ◌≤◌, ◌+◌, length, map, sum_by, IfOk, IfErr, IsErrOf, IsTrue};
+ghost use Rattle.std.specs.Io.KnownBytes.{Keeps};
+ghost use Rattle.rtk_convert.specs.Converter.{IsLinkCount};
+ghost use Rattle.rtk_convert.specs.Failure.{IsRunFault};
+ghost use Rattle.rtk_convert.specs.Headline.{RunHeadline};
 ghost use Rattle.rtk_convert.specs.ReadSteps.{HasCalled};
+ghost use Rattle.rtk_convert.specs.Writing.{written};
+ghost use Rattle.rtk_tools.specs.Passed.{taken_of};
 ghost use Rattle.rtk_tools.specs.Steps.ReadLimits.{most_reads};
 ghost use Rattle.rtk_tools.specs.declared.exit_status.TheConstants.{REFUSED};
 ghost use Rattle.rtk_cli.specs.Converting.{status_of};
+ghost use Rattle.rtk_cli.specs.ConvertsBytes.{ConvertsBytes, EndsAtRead, ConvertsFirstBytes};
+ghost use Rattle.rtk_cli.specs.Steps.Links.{bytes_had, bytes_held, AreLinksOf, HasReadSome};
 
 use crate::refusing::refuse;
 use crate::words::BadWords;
 use rtk_convert::{ConvertFault, Counts, Setup};
 use rtk_frame::{Sink, Source};
 use rtk_tools::{
-    DONE, GATHERED, MOST_READS, ToolFault, fail, fail_to_end, fail_to_open_links,
-    has_standard_input, open_links, sink,
+    Before, DONE, GATHERED, MOST_READS, Reads, Resumed, ToolFault, Writes, fail, fail_to_end,
+    fail_to_open_links, has_standard_input, open_links, sink,
 };
 use std::alloc::Global;
 use std::fs::Files;
 use std::io;
-use std::io::Write;
+use std::io::{BufWriter, Read, Write};
+use std::marker::Brand;
+
+/// What a conversion of readers comes to.
+#[derive(Drop)]
+pub struct Converted<O, L> {
+    /// The writer of the file.
+    pub out: O,
+    /// The writer of the report.
+    pub report: L,
+    /// The counts, or why the conversion is not done.
+    pub done: Result<Counts, ConvertFault>,
+    /// All that was gathered is out.
+    pub is_out: bool,
+}
 
 // Converts what the links give, by a billion reads at most.
 fn convert<R: Source, O: Sink, L: Sink>(
@@ -29,10 +51,134 @@ fn convert<R: Source, O: Sink, L: Sink>(
     out: &mut O,
     log: &mut L,
 ) -> Result<Counts, ConvertFault>
+    ensures headline { IfOk result (λ counts. RunHeadline R.given R.calls R.is_at_end setup links.old links.new counts
+        (written (O.taken out.old) (L.taken log.old)) (written (O.taken out.new) (L.taken log.new))) }
     ensures reads { sum_by R.calls links.new ≤ sum_by R.calls links.old + most_reads }
     ensures endless { IsErrOf result ConvertFault.Endless → HasCalled R.calls links.old links.new most_reads }
+    ensures first_part { EndsAtRead result → HasReadSome R.given setup links.old links.new
+        (written (O.taken out.old) (L.taken log.old)) (written (O.taken out.new) (L.taken log.new)) }
+    ensures link_count { IsErrOf result ConvertFault.Setup ↔ ¬ (IsLinkCount (length links.old)) }
+    ensures faults { IfErr result IsRunFault }
 {
     rtk_convert::run(alloc, setup, links, out, log, MOST_READS)
+}
+
+// The readers as links, in their order and numbered from 0.
+fn links_over<R: Read + Drop, K: Before>(
+    alloc: Global,
+    readers: Vec<R>,
+) -> Result<Vec<Reads<R, K>>, ToolFault>
+    requires had { K.had ≡ bytes_had R.remaining readers.items }
+    requires few { length readers.items ≤ 16 }
+    ensures links { IfOk result (λ links. AreLinksOf links.items readers.items (λ link. link.number) (λ link. link.inner)) }
+    ensures fault { IfErr result (λ fault. fault ≡ ToolFault.OutOfMemory) }
+{
+    let Ok(mut links) = Vec::with_capacity(alloc, readers.len()) else {
+        return Err(ToolFault::OutOfMemory);
+    };
+    let mut number = 0;
+    for reader in readers {
+        if links.push(Reads::over(reader, number)).is_err() {
+            return Err(ToolFault::OutOfMemory);
+        }
+        number += 1;
+    }
+    Ok(links)
+}
+
+// Hands on what was gathered, the file's before the report's.
+fn finished<O: Write + Drop, L: Write + Drop, K: Before>(
+    done: Result<Counts, ConvertFault>,
+    file: Writes<BufWriter<Resumed<O>>, K>,
+    log: Writes<BufWriter<Resumed<L>>, K>,
+) -> Converted<O, L>
+    ensures done { result.done ≡ done }
+    ensures out { IsTrue result.is_out
+        → Keeps (⟦<BufWriter<Resumed<O>> as Write>⟧.contents file.inner) (O.contents result.out) }
+    ensures report { IsTrue result.is_out
+        → Keeps (⟦<BufWriter<Resumed<L>> as Write>⟧.contents log.inner) (L.contents result.report) }
+{
+    let (out, file_end) = file.into_writer();
+    let (report, report_end) = log.into_writer();
+    Converted {
+        out: out.into_inner(),
+        report: report.into_inner(),
+        done,
+        is_out: file_end.is_ok() && report_end.is_ok(),
+    }
+}
+
+// Converts readers that have the bytes of `K` into writers that hold those of `K`: the file's writer
+// has number 0, the report's number 1.
+fn convert_between<R: Read + Drop, O: Write + Drop, L: Write + Drop, K: Before>(
+    alloc: Global,
+    setup: Setup,
+    readers: Vec<R>,
+    room: usize,
+    out: O,
+    report: L,
+) -> Result<Converted<O, L>, ToolFault>
+    requires had { K.had ≡ bytes_had R.remaining readers.items }
+    requires held { K.held ≡ bytes_held (O.contents out) (L.contents report) }
+    requires few { length readers.items ≤ 16 }
+    ensures headline { IfOk result (λ c. IfOk c.done (λ counts. IsTrue c.is_out
+        → ConvertsBytes setup (map R.remaining readers.items) counts (written (O.contents out) (L.contents report))
+        (written (taken_of (O.contents out) (O.contents c.out)) (taken_of (L.contents report) (L.contents c.report))))) }
+    ensures first_part { IfOk result (λ c. EndsAtRead c.done → IsTrue c.is_out
+        → ConvertsFirstBytes setup (map R.remaining readers.items) (written (O.contents out) (L.contents report))
+        (written (taken_of (O.contents out) (O.contents c.out)) (taken_of (L.contents report) (L.contents c.report)))) }
+    ensures link_count { IfOk result (λ c. IsErrOf c.done ConvertFault.Setup ↔ ¬ (IsLinkCount (length readers.items))) }
+    ensures faults { IfOk result (λ c. IfErr c.done IsRunFault) }
+    ensures fault { IfErr result (λ fault. fault ≡ ToolFault.OutOfMemory) }
+{
+    let mut links: Vec<Reads<R, K>> = links_over(alloc, readers)?;
+    let Ok(mut file) = sink::<O, K>(alloc, room, out, 0) else {
+        return Err(ToolFault::OutOfMemory);
+    };
+    let Ok(mut log) = sink::<L, K>(alloc, room, report, 1) else {
+        return Err(ToolFault::OutOfMemory);
+    };
+    let done = convert(alloc, setup, links.as_mut_slice(), &mut file, &mut log);
+    Ok(finished(done, file, log))
+}
+
+/// Converts what readers give, each of them a link: the file goes to `out`, the report to `report`,
+/// and each of them gathers this much before it is written. At the end the file is out before the
+/// report.
+///
+/// If it is done and all is out: the bytes that the readers had, all of them, are what was converted,
+/// and what each writer holds afterwards is what it held before and exactly the file or the report.
+/// Where the bytes of a reader or a writer are not known, nothing is said of them.
+///
+/// Only memory for the buffers is refused before a read; any other fault stands in `done`.
+pub fn convert_through<R: Read + Drop, O: Write + Drop, L: Write + Drop>(
+    alloc: Global,
+    setup: Setup,
+    readers: Vec<R>,
+    room: usize,
+    out: O,
+    report: L,
+) -> Result<Converted<O, L>, ToolFault>
+    ensures headline { IfOk result (λ c. IfOk c.done (λ counts. IsTrue c.is_out
+        → ConvertsBytes setup (map R.remaining readers.items) counts (written (O.contents out) (L.contents report))
+        (written (taken_of (O.contents out) (O.contents c.out)) (taken_of (L.contents report) (L.contents c.report))))) }
+    ensures first_part { IfOk result (λ c. EndsAtRead c.done → IsTrue c.is_out
+        → ConvertsFirstBytes setup (map R.remaining readers.items) (written (O.contents out) (L.contents report))
+        (written (taken_of (O.contents out) (O.contents c.out)) (taken_of (L.contents report) (L.contents c.report)))) }
+    ensures link_count { IfOk result (λ c. IsErrOf c.done ConvertFault.Setup ↔ ¬ (IsLinkCount (length readers.items))) }
+    ensures faults { IfOk result (λ c. IfErr c.done IsRunFault) }
+    ensures fault { IfErr result (λ fault. fault ≡ ToolFault.OutOfMemory) }
+{
+    // More links than a conversion takes.
+    if readers.len() > 16 {
+        return Ok(Converted {
+            out,
+            report,
+            done: Err(ConvertFault::Setup),
+            is_out: true,
+        });
+    }
+    convert_between::<R, O, L, Brand>(alloc, setup, readers, room, out, report)
 }
 
 /// The exit status of a conversion, by its answer and by whether all that it wrote is out; the
@@ -51,27 +197,21 @@ pub fn conversion_status<R: Eprint>(rt: &R, done: Result<Counts, ConvertFault>, 
     }
 }
 
-// Converts what the open links give; the file and the report gather this much before each write. At
-// the end the file is out before the report, and the report before a fault line.
-fn convert_opened<R: Print + Eprint + AllocGlobal, S: Source + Drop, W: Write + Drop>(
+// Converts open captures to standard output; the file and the report gather this much before each
+// write. The fault line comes last.
+fn convert_opened<R: Print + Eprint + AllocGlobal, S: Read + Drop, W: Write + Drop>(
     rt: &R,
     report: W,
     setup: Setup,
-    mut links: Vec<S>,
+    captures: Vec<S>,
     room: usize,
 ) -> u8
     ensures { result ≤ REFUSED }
 {
-    let Ok(mut out) = sink(rt.alloc(), room, io::writer(rt)) else {
-        return fail(rt, ToolFault::OutOfMemory);
-    };
-    let Ok(mut log) = sink(rt.alloc(), room, report) else {
-        return fail(rt, ToolFault::OutOfMemory);
-    };
-    let done = convert(rt.alloc(), setup, links.as_mut_slice(), &mut out, &mut log);
-    let is_file_out = out.finish().is_ok();
-    let is_report_out = log.finish().is_ok();
-    conversion_status(rt, done, is_file_out && is_report_out)
+    match convert_through(rt.alloc(), setup, captures, room, io::writer(rt), report) {
+        Ok(converted) => conversion_status(rt, converted.done, converted.is_out),
+        Err(fault) => fail(rt, fault),
+    }
 }
 
 /// Converts captures: the file goes to standard output, the report to `report`. All captures are
@@ -85,8 +225,8 @@ pub(crate) fn convert_links<R: Files + Input + Print + Eprint + AllocGlobal, W: 
 ) -> u8
     ensures { result ≤ REFUSED }
 {
-    let links = match open_links(rt, names) {
-        Ok(links) => links,
+    let captures = match open_links(rt, names) {
+        Ok(captures) => captures,
         Err(fault) => return fail_to_open_links(rt, fault),
     };
     let room = if has_standard_input(names) {
@@ -94,5 +234,5 @@ pub(crate) fn convert_links<R: Files + Input + Print + Eprint + AllocGlobal, W: 
     } else {
         GATHERED
     };
-    convert_opened(rt, report, setup, links, room)
+    convert_opened(rt, report, setup, captures, room)
 }

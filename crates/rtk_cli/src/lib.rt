@@ -26,7 +26,7 @@ mod refusing;
 mod running;
 mod words;
 
-pub use converting::conversion_status;
+pub use converting::{Converted, conversion_status, convert_through};
 pub use jobs::job;
 pub use rtk_files::{CHECK_LIMIT, check_input};
 pub use rtk_tools::{SHOW_LIMIT, ToolFault, show, show_line};

@@ -5,7 +5,8 @@ ghost use Rattle.rtk_tools.specs.declared.exit_status.TheConstants.{REFUSED};
 
 use crate::words::{BadWords, WordsFault};
 use rtk_frame::write_all;
-use rtk_tools::{DONE, REFUSED, ToolFault, fail, standard_output};
+use rtk_tools::{DONE, REFUSED, Resumed, ToolFault, Writes, fail, standard_output};
+use std::io::Printer;
 
 /// Says why words that clap takes are refused.
 pub(crate) fn refuse<R: Eprint>(rt: &R, line: BadWords) -> u8
@@ -23,7 +24,8 @@ fn print_clap_text<R: Print + Eprint>(rt: &R, text: &str, status: u8) -> u8
         let _told = eprint!(rt; "{text}");
         return REFUSED;
     }
-    match write_all(&mut standard_output(rt), text.as_bytes()) {
+    let mut out: Writes<Resumed<Printer<'_, R>>> = Writes::over(standard_output(rt), 0);
+    match write_all(&mut out, text.as_bytes()) {
         Ok(()) => DONE,
         Err(_) => fail(rt, ToolFault::Output),
     }

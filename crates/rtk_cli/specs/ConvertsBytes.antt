@@ -1,0 +1,40 @@
+-- A conversion by bytes: those that its readers had, and those that its writers hold.
+use Rattle.std.specs.Prelude.{◌≡◌, ℕ, List, ◌++◌, length, Option, None, Some, Result, Ok, Err, slice_index_or}
+use Rattle.rtk_frame.specs.Stream.{with_more}
+use Rattle.rtk_convert.specs.declared.counts.Counts.{Counts}
+use Rattle.rtk_convert.specs.declared.fault.ConvertFault.{ConvertFault}
+use Rattle.rtk_convert.specs.declared.fault.ConvertFault.TheVariants.{Read as ReadFailed, Endless}
+use Rattle.rtk_convert.specs.FileOfArrivals.{file_so_far}
+use Rattle.rtk_convert.specs.FrameClass.{arrivals}
+use Rattle.rtk_convert.specs.Headline.{Headline, WritesKept, calls_of}
+use Rattle.rtk_convert.specs.History.{History}
+use Rattle.rtk_convert.specs.ReadHistory.{Read, IsHistoryOf, AllClosed, bytes_of}
+use Rattle.rtk_convert.specs.Report.{lines}
+use Rattle.rtk_convert.specs.Setup.{SetupView}
+use Rattle.rtk_convert.specs.Writing.{Written}
+
+-- a conversion of readers, each of them a link: where the bytes that a reader had are known, the
+-- reads of its link gave exactly these, all of them and in their order; for these reads the promise
+-- of a conversion holds, and what is kept, the report and the counts are said
+pub record ConvertsBytes (s : SetupView) (bytes : List (Option (List ℕ))) (counts : Counts) (written_old written_new : Written) : Type 0 where
+  pub reads : List Read
+  pub all_bytes : (k : ℕ) (text : List ℕ) → slice_index_or bytes k None ≡ Some text → bytes_of k reads ≡ text
+  pub in_order : (h : History) × IsHistoryOf s (length bytes) reads h × AllClosed h
+  pub headline : Headline s (length bytes) (calls_of reads) written_old written_new
+  pub kept : WritesKept s (length bytes) (calls_of reads) counts written_old written_new
+
+-- a conversion ended at a read that failed, or after the most reads that are made
+abbrev pub EndsAtRead : Result Counts ConvertFault → Type 0
+EndsAtRead (Err (ReadFailed link)) = Unit {0}
+EndsAtRead (Err Endless) = Unit {0}
+EndsAtRead _ = ⊥
+
+-- then the reads gave a first part of the bytes of each reader, and exactly the file so far and the
+-- lines of what was read are written
+pub record ConvertsFirstBytes (s : SetupView) (bytes : List (Option (List ℕ))) (written_old written_new : Written) : Type 0 where
+  pub reads : List Read
+  pub first_bytes : (k : ℕ) (text : List ℕ) → slice_index_or bytes k None ≡ Some text → (rest : List ℕ) × (text ≡ bytes_of k reads ++ rest)
+  pub history : History
+  pub comes_to : IsHistoryOf s (length bytes) reads history
+  pub out : written_new.file ≡ with_more written_old.file (file_so_far s (arrivals history.found))
+  pub log : written_new.report ≡ with_more written_old.report (lines s.window history.found)
