@@ -10,6 +10,7 @@ import model
 import streams
 import summaries
 from model import COUNTS, Setup, moment
+from pictures import svg_picture
 from station import NOON
 from wire import WEEK_MS, frame_of
 
@@ -48,12 +49,14 @@ def frames():
         yield (zeros[at % 4] ^ high[tow >> 15] ^ low[tow & 32767]).to_bytes(size, "big")
 
 
-def text_of(few):
-    """The file: the first records are those of a few epochs, and the others but the last one those of four of them."""
+def text_of(few, every=1):
+    """The file, of each so many epochs: the first records are those of a few epochs, and the others but the last one those of four
+    of them."""
     head, *records = model.convert(SETUP, [few]).file.split("> ")
     bodies = [it.partition("\n")[2] for it in records]
-    minutes = ["".join(f"@{tick // 10:3}.{tick % 10}000000  0  2\n{bodies[place(tick)]}" for tick in range(PER_MINUTE)) for place in (
-        lambda tick: tick if tick < 4 else 4 + tick % 4, lambda tick: 4 + tick % 4)]
+    minutes = [
+        "".join(f"@{tick // 10:3}.{tick % 10}000000  0  2\n{bodies[place(tick)]}" for tick in range(0, PER_MINUTE, every))
+        for place in (lambda tick: tick if tick < 4 else 4 + tick % 4, lambda tick: 4 + tick % 4)]
     prefixes = [model.epoch_line(NEAR + 60_000 * minute, 2)[:18] for minute in range(MINUTES)]
     text = "".join(minutes[at > 0].replace("@", it) for at, it in enumerate(prefixes))
     return f"{head}{text}> {records[-1]}".encode()
@@ -113,12 +116,20 @@ def main():
     wrong = text.rindex(b"\nG08") + 4
     test("check_of_a_fault_in_200_mb", ["check"], text[:wrong] + b"%14s" % b"0.000" + text[wrong + 14:], 3,
         b"line %d: C3 Value\n" % text.count(b"\n"))
+    test("part_of_200_mb", ["cut", "--from", "2024-05-17T12:00:00"], text, 0, text)
+    # pins: step_ms, is_on_step
+    test("seconds_of_200_mb", ["cut", "--every", "1"], text, 0, text_of(few, 10))
     # Of the slips all but the first L1 of four satellites, and the last L2 of two.
     slips, missing = 2 * EPOCHS - 4 + 2, (LAST - 100 * (EPOCHS - 2)) // 100 - 1
     # pins: number_lines, named_count_line
     test("chart_of_200_mb_in_characters", ["chart", "--text"], text, 0, (
         f"marker BASE\nfrom 2024-05-17 12:00:00.000\nuntil {LAST_TOLD}\ninterval 0.100\ncolumn 3333.400\n"
         f"records {EPOCHS}\nsatellites 4\nslips {slips}\nmissing {missing}\n").encode(), begins=True)
+    shown = svg_picture(model.convert(SETUP, [few]).file).split("\n")[:5]
+    shown.append(f"<text x='90' y='52'>2024-05-17 12:00:00.000 to {LAST_TOLD}, interval 0.100 s, column 173.700 s</text>")
+    shown.append(f"<text x='90' y='70'>records {EPOCHS}, satellites 4, slips {slips}, missing epochs {missing}</text>\n")
+    # pins: svg_span, svg_numbers
+    test("chart_of_200_mb", ["chart"], text, 0, "\n".join(shown).encode(), begins=True)
     print(passed, failed)
 
 

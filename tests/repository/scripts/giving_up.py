@@ -34,12 +34,12 @@ ANSWER = rf"(?:return )?(?:{FAULT}|Err\({FAULT}\)|fail\(rt, {FAULT}\))"
 # What requests name as their sizes.
 SIZES = {
     "::with_capacity(": {"alloc, len + 6", "alloc, 2 * LONGEST_FRAME", "alloc, bytes.len()", "alloc, LONGEST_HEADER", "alloc, text.len()",
-        "rt.alloc(), READ_AT_ONCE, capture", "alloc, room, Resumed::new(to)"},
+        "alloc, readers.len()", "rt.alloc(), READ_AT_ONCE, capture", "alloc, room, Resumed::new(to)"},
     ".reserve(": {"9", "count", "room.msm", "room.legacy"},
     ".reserve_exact(": {"count", "len - text.len()", "room"},
     ".resize(": {"satellites", "count", "len, b' '", "room, b' '"},
     "vec![in alloc; ": {"Column::new(); scale.columns as usize", "false; scale.columns as usize", "0u8; room", "0u8; PIECE", "0; NUMBERS",
-        "Station::new(); NUMBERS"},
+        "Station::new(); NUMBERS", "false; STATIONS"},
 }
 
 # Code that may not stand in a body.
@@ -89,7 +89,7 @@ def branches(sources):
     others = {name for name, rest in functions if not rest.endswith(", AllocError> ")}
     with_others = {name for name, rest in functions if "Result<" in rest and name in others}
     names = {name for name, _ in functions} - others | OF_STD - with_others | OF_CRATES
-    call = rf"(?:\w+(?:\.|::))*\b(?:{'|'.join(map(re.escape, names))}){ARGUMENTS}"
+    call = rf"(?:\w+(?:\.|::))*\b(?:{'|'.join(map(re.escape, names))})(?:::<[\w, ]+>)?{ARGUMENTS}"
     return [re.compile(shape) for shape in (
         r"use std::alloc::(?:AllocError|\{AllocError, Global\});",
         r"impl From<AllocError> for (\w+) \{ fn from\(_\w+: AllocError\) -> (?:Self|\1) \{ \1::OutOfMemory \} \}",
