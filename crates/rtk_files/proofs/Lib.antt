@@ -1,0 +1,2 @@
+mod CheckLineLemmas
+mod NumberLemmas

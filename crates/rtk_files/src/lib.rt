@@ -20,7 +20,9 @@
 mod charting;
 mod checking;
 mod cutting;
+mod laws;
 
 pub use charting::chart_named;
 pub use checking::{CHECK_LIMIT, check_input, check_named};
 pub use cutting::cut_named;
+pub use laws::{lines_of_check_tell_numbers, one_line_tells_one_answer};
