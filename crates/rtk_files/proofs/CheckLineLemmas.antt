@@ -22,7 +22,7 @@ valid-is epochs satellites = valid-regrouped (codes "valid: ") (decimal epochs) 
 pub valid-tells : ValidTellsNumbers
 valid-tells epochs satellites other_epochs other_satellites e s f t same =
     let first = number-then epochs other_epochs 32 _ _ e f (λ digit. omega (arith, digit))
-        (append_cancel_left (codes "valid: ") _ _ (sym (valid-is epochs satellites) ∙ same ∙ valid-is other_epochs other_satellites)) in
+    (append_cancel_left (codes "valid: ") _ _ (sym (valid-is epochs satellites) ∙ same ∙ valid-is other_epochs other_satellites)) in
     let rest = number-then satellites other_satellites 32 _ _ s t (λ digit. omega (arith, digit)) (append_cancel_left (codes "epochs, ") _ _ first.1) in
     (first.0, rest.0)
 
@@ -54,7 +54,7 @@ fault-is fault = fault-regrouped (codes "line ") (decimal fault.line) (codes ": 
 pub fault-tells : FaultTextTellsFault
 fault-tells fault other f g same =
     let first = number-then fault.line other.line 58 _ _ f g (λ digit. omega (arith, digit))
-        (append_cancel_left (codes "line ") _ _ (sym (fault-is fault) ∙ same ∙ fault-is other)) in
+    (append_cancel_left (codes "line ") _ _ (sym (fault-is fault) ∙ same ∙ fault-is other)) in
     let cause = one-cause fault.cause other.cause (append_cancel_right (cause_text fault.cause) (cause_text other.cause) (10 ∷ []) (append_cancel_left (codes " ") _ _ first.1)) in
     λ i. record { line = first.0 i; cause = cause i }
 
