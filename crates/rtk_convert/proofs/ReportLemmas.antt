@@ -1,5 +1,5 @@
 -- The counts of a report: their lines tell them, and `epochs` is the number of records.
-use Rattle.std.proofs.Common.{◌≡◌, ◌≤◌, ◌<◌, ◌+◌, ◌^◌, ℕ, suc, List, [], ◌∷◌, ◌++◌, length, length-append, codes, decimal, cond, refl, sym, ap, ◌∙◌, append_assoc, arith}
+use Rattle.std.proofs.Common.{◌≡◌, ◌<◌, ◌^◌, ℕ, suc, List, [], ◌∷◌, ◌++◌, length, length-append, codes, decimal, cond, refl, sym, ap, ◌∙◌, append_assoc, arith}
 use Rattle.std.specs.Prelude.{flat_map}
 use Rattle.std.specs.List.{count_by}
 use Rattle.std.proofs.lemmas.List.{append-nil, append_cancel_left}
@@ -8,13 +8,12 @@ use Rattle.std.proofs.lemmas.List.Sums.{sum_by_push, count_by-le-length}
 use Rattle.rtk_obs.specs.declared.code.Code.{Code}
 use Rattle.rtk_collect.specs.Accepted.{kept}
 use Rattle.rtk_collect.specs.EpochSet.{EpochSetView}
-use Rattle.rtk_rinex.specs.CheckTable.{HoldsTable}
 use Rattle.rtk_rinex.specs.Table.{WellFormedTable, FilesAreTables}
 use Rattle.rtk_convert.specs.declared.counts.Counts.{Counts}
 use Rattle.rtk_convert.specs.File.{record_of, records, one_more_if_any, record_count}
 use Rattle.rtk_convert.specs.Finish.{all_counts}
 use Rattle.rtk_convert.specs.FrameClass.{arrivals}
-use Rattle.rtk_convert.specs.NumberLaws.{AreHeld, CountLinesTellCounts, ReportTellsCounts, record_texts, has_bytes, AreRecordsOf, EpochsAreRecords, EpochsAreOfTable}
+use Rattle.rtk_convert.specs.NumberLaws.{CountLinesTellCounts, ReportTellsCounts, record_texts, has_bytes, EpochsAreRecords, EpochsAreOfTable}
 use Rattle.rtk_convert.specs.Report.{lines}
 use Rattle.rtk_convert.specs.ReportText.{count_line, count_lines}
 use Rattle.rtk_convert.proofs.KeptTableLemmas.{kept-file-has_records}
