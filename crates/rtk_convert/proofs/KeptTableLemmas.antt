@@ -1,5 +1,5 @@
 -- The file of what is kept of found frames is the text of a table.
-use Rattle.std.proofs.Common.{ℕ, Bool, true, false, List, [], ◌∷◌, Option, None, Some, Result, Ok, Err, sym, subst, arith, inl, inr, ℤ, pos, negsuc}
+use Rattle.std.proofs.Common.{◌≡◌, ◌<◌, ◌^◌, ℕ, Bool, true, false, List, [], ◌∷◌, length, Option, None, Some, Result, Ok, Err, sym, subst, arith, inl, inr, ℤ, pos, negsuc}
 use Rattle.std.specs.Prelude.{◌≤ℤ◌, ◌<ℤ◌, ◌==◌, ◌&&◌, not, if◌then◌else◌, All}
 use Rattle.std.specs.List.{AllByRecursion}
 use Rattle.std.proofs.lemmas.Bool.{cases_Bool, cases_order}
@@ -25,15 +25,16 @@ use Rattle.rtk_collect.specs.Accepted.{first, station, no_cells, with_arrival, k
 use Rattle.rtk_collect.proofs.PublicLaws.{with_cells-all, with_arrival-new, with_arrival-below, with_arrival-same, kept-falls, kept-late, kept-new}
 use Rattle.rtk_rinex.specs.Header.{IsPositionView}
 use Rattle.rtk_rinex.specs.Reading.{IsMoment}
-use Rattle.rtk_rinex.specs.Table.{FilesAreTables}
+use Rattle.rtk_rinex.specs.Table.{WellFormedTable, IsWellFormedTable, table_text, FilesAreTables}
 use Rattle.rtk_convert.specs.declared.frame_class.FrameClass.{FrameClass}
 use Rattle.rtk_convert.specs.declared.frame_class.FrameClass.TheVariants.{OtherMessage, Refused, Foreign, Dated}
 use Rattle.rtk_convert.specs.ArrivalLaws.{HasPayload, KeptFileIsTable}
+use Rattle.rtk_convert.specs.File.{record_count}
 use Rattle.rtk_convert.specs.FileLaws.{IsGoodEpoch}
-use Rattle.rtk_convert.specs.FileOfArrivals.{no_site, site_of_1005, site_of_stations, site_of_kept}
+use Rattle.rtk_convert.specs.FileOfArrivals.{no_site, site_of_1005, site_of_stations, site_of_kept, kept_file}
 use Rattle.rtk_convert.specs.FrameClass.{IsEpochOf, IsClassOfReading, IsClassOfPayload, Found, and_arrived, arrivals}
-use Rattle.rtk_convert.specs.Setup.{SetupView}
-use Rattle.rtk_convert.proofs.TableLemmas.{file-is_table}
+use Rattle.rtk_convert.specs.Setup.{SetupView, IsSetupView}
+use Rattle.rtk_convert.proofs.TableLemmas.{file-has_records}
 
 -- ---- arrivals of payloads are valid, and their epochs are moments
 
@@ -144,13 +145,18 @@ site-good short (Some (any.Message (Arp1006 m))) s v = (coordinate m.arp.x v.1.1
 site-good short (Some (any.Message (Msm1074 m))) s t = site_of_1005-good short s
 site-good short (Some (any.Msm m)) s t = site_of_1005-good short s
 
--- ---- so the file is the text of a table
+-- ---- so the file is the text of a table, with as many records as are counted
 
-pub kept-file-is_table : FilesAreTables → KeptFileIsTable
-kept-file-is_table law s found good_setup h =
+pub kept-file-has_records : FilesAreTables → (s : SetupView) (found : List Found) → IsSetupView s → All (HasPayload s) found
+    → (t : WellFormedTable) × IsWellFormedTable t × (kept_file s (arrivals found) ≡ table_text t)
+    × (length (kept s.window (arrivals found)) < 2 ^ 64 → length t.epochs ≡ record_count s.head.listed (kept s.window (arrivals found)))
+kept-file-has_records law s found good_setup h =
     let n : ℕ = s.window in
     let good = arrivals-good s found good_setup.1 (recursion_from_All (HasPayload s) found h) in
-    file-is_table law s (site_of_kept n (arrivals found)) (kept n (arrivals found)) good_setup
+    file-has_records law s (site_of_kept n (arrivals found)) (kept n (arrivals found)) good_setup
     (site-good (station n 1005 (arrivals found)) (station n 1006 (arrivals found)) (station-good n 1005 (arrivals found) good) (station-good n 1006 (arrivals found) good))
     (kept-falls n (arrivals found))
     (All-from_recursion IsGoodEpoch (kept n (arrivals found)) (kept-good n (arrivals found) good))
+
+pub kept-file-is_table : FilesAreTables → KeptFileIsTable
+kept-file-is_table law s found good_setup h = let t = kept-file-has_records law s found good_setup h in (t.0, t.1, t.2)

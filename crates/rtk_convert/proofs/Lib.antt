@@ -30,3 +30,5 @@ mod BoundsLemmas
 mod CallsLemmas
 mod HistoryLemmas
 mod CountLemmas
+mod NumberLemmas
+mod ReportLemmas

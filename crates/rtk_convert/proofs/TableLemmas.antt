@@ -1,9 +1,10 @@
 -- The file of a set is the text of a well-formed table, since it is a header and the records of
 -- rising epochs.
-use Rattle.std.proofs.Common.{◌≡◌, ℕ, suc, ◌<◌, Bool, true, false, cond, List, [], ◌∷◌, ◌++◌, length, get_or, Option, None, Some, refl, ap, sym, ◌∙◌, arith}
+use Rattle.std.proofs.Common.{◌≡◌, ℕ, suc, ◌<◌, Bool, true, false, cond, List, [], ◌∷◌, ◌++◌, length, get_or, Option, None, Some, refl, ap, sym, ◌∙◌, arith, ◌≤◌, ◌^◌, inl, inr, length-append}
 use Rattle.std.specs.Prelude.{filter, flat_map, All, AllPairs, unwrap_or, nat_lt}
 use Rattle.std.proofs.lemmas.Bool.Decides.{nat_tests}
-use Rattle.std.proofs.lemmas.List.{append-nil}
+use Rattle.std.proofs.lemmas.Bool.{cases_Bool}
+use Rattle.std.proofs.lemmas.List.{append-nil, length-map}
 use Rattle.std.proofs.lemmas.List.Elements.{All-nil, All-cons, All-append, All-map, All-head, All-tail, All-weaker, filter-append}
 use Rattle.std.proofs.lemmas.List.Quantifiers.{all_pairs_push}
 use Rattle.std.proofs.lemmas.Grind.{flat_map-append}
@@ -14,11 +15,12 @@ use Rattle.rtk_obs.specs.Cell.{IsInRange as IsEntry}
 use Rattle.rtk_collect.specs.EpochSet.{EpochSetView, is_from, FirstIsBelow, EpochsFall}
 use Rattle.rtk_rinex.specs.declared.epoch_table.Observed.{Observed}
 use Rattle.rtk_rinex.specs.Reading.{IsMoment}
-use Rattle.rtk_rinex.specs.Header.{header_text}
+use Rattle.rtk_rinex.specs.Header.{PositionView, IsPositionView, header_text}
 use Rattle.rtk_rinex.specs.Record.{EpochTableView, IsStrengthOrNone, IsRow, IsEpochTableView, HasWidth, record_text}
-use Rattle.rtk_rinex.specs.Table.{StartsAt, with_record, shown_table, FilesAreTables}
+use Rattle.rtk_rinex.specs.Table.{WellFormedTable, IsWellFormedTable, table_text, StartsAt, with_record, shown_epoch, shown_table, FilesAreTables}
 use Rattle.rtk_convert.specs.Rows.{last_phase_of, cell_at, in_turn, observed_at, or_nothing, table_of}
-use Rattle.rtk_convert.specs.File.{record_of, records, first_or, first_time}
+use Rattle.rtk_convert.specs.File.{record_of, records, first_or, first_time, file_of, one_more_if_any, record_count}
+use Rattle.rtk_convert.specs.Setup.{SetupView, IsSetupView}
 use Rattle.rtk_convert.specs.FileLaws.{IsGoodEpoch, FileIsTable}
 use Rattle.rtk_convert.proofs.RowsLemmas.{all-rows, rows-width, rows_to-rise, HasStrength, first-strength, observed-strength}
 
@@ -111,7 +113,7 @@ tables-rise listed [] f = λ i j d h k. absurd (omega arith)
 tables-rise listed (e ∷ below) f =
     all_pairs_push (λ (a b : EpochTableView). a.time < b.time) (tables listed below) (table_of listed e below) (tables-rise listed below f.1) (tables-below listed e.epoch below f.0 f.1)
 
--- ---- the table
+-- ---- the first time is good
 
 first-moment : (near : ℕ) (xs : List EpochTableView) → IsMoment near → All IsEpochTableView xs → IsMoment (unwrap_or (first_of xs) near)
 unfolding first_of
@@ -123,9 +125,50 @@ unfolding first_of
 starts near [] = tt
 starts near (e ∷ xs) = refl
 
-pub file-is_table : FilesAreTables → FileIsTable
+-- ---- the count of records
+
+-- one more epoch
+more-counted : (n count : ℕ) (xs : List EpochTableView) (e : EpochTableView) (text : List ℕ) → count ≡ length (with_record xs) → record_text e ≡ text
+    → length (with_record xs) ≤ n → suc n < 2 ^ 64 → one_more_if_any text count ≡ length (with_record xs ++ filter has_record (e ∷ []))
 unfolding has_record
-file-is_table law s site epochs good_setup good_site fall good =
+more-counted n count xs e [] is none few within = rw none (is ∙ ap (λ (t : List EpochTableView). length t) (sym (append-nil (with_record xs))))
+more-counted n count xs e (x ∷ text) is some few within =
+    let has : nat_lt 0 (suc (length text)) ≡ true = grind (arith, nat_tests) in
+    let more = length-append (with_record xs) (e ∷ []) in
+    rw (some, has) (omega (arith, is, more, few, within))
+
+one-at-most : (test : EpochTableView → Bool) (e : EpochTableView) → length (filter test (e ∷ [])) ≤ 1
+one-at-most test e = elim (cases_Bool (test e)) [
+  | inl passes ↦ rw passes (omega arith)
+  | inr fails ↦ rw fails (omega arith)
+]
+
+few-records : (listed : List Code) (epochs : List EpochSetView) → length (with_record (tables listed epochs)) ≤ length epochs
+unfolding tables has_record
+few-records listed [] = omega arith
+few-records listed (e ∷ below) =
+    let few = few-records listed below in
+    let joined = filter-append has_record (tables listed below) (table_of listed e below ∷ []) in
+    let size = ap (λ (t : List EpochTableView). length t) joined in
+    let sum = length-append (with_record (tables listed below)) (filter has_record (table_of listed e below ∷ [])) in
+    let one = one-at-most has_record (table_of listed e below) in
+    omega (arith, few, size, sum, one)
+
+records-are : (listed : List Code) (epochs : List EpochSetView) → length epochs < 2 ^ 64 → record_count listed epochs ≡ length (with_record (tables listed epochs))
+unfolding record_count tables has_record
+records-are listed [] few = refl
+records-are listed (e ∷ below) few =
+    let xs : List EpochTableView = tables listed below in
+    more-counted (length below) (record_count listed below) xs (table_of listed e below) (record_of listed e below) (records-are listed below (omega (arith, few))) refl (few-records listed below) few
+    ∙ ap (λ (t : List EpochTableView). length t) (sym (filter-append has_record xs (table_of listed e below ∷ [])))
+
+-- ---- the table
+
+-- the file is the text of a table with as many records as are counted
+pub file-has_records : FilesAreTables → (s : SetupView) (site : PositionView) (epochs : List EpochSetView) → IsSetupView s → IsPositionView site → EpochsFall epochs → All IsGoodEpoch epochs
+    → (t : WellFormedTable) × IsWellFormedTable t × (file_of s site epochs ≡ table_text t) × (length epochs < 2 ^ 64 → length t.epochs ≡ record_count s.head.listed epochs)
+unfolding has_record
+file-has_records law s site epochs good_setup good_site fall good =
     let xs : List EpochTableView = tables s.head.listed epochs in
     let some : List EpochTableView = with_record xs in
     let first : ℕ = unwrap_or (first_of some) s.near in
@@ -139,4 +182,9 @@ file-is_table law s site epochs good_setup good_site fall good =
       ap (λ (o : Option ℕ). header_text s.head site (unwrap_or o s.near) ++ records s.head.listed epochs) (first-same s.head.listed epochs)
           ∙ ap (λ (text : List ℕ). header_text s.head site first ++ text) (sym (tables-text s.head.listed epochs))
           ∙ shown.text,
+      λ few. length-map some shown_epoch ∙ sym (records-are s.head.listed epochs few),
     )
+
+pub file-is_table : FilesAreTables → FileIsTable
+file-is_table law s site epochs good_setup good_site fall good =
+    let t = file-has_records law s site epochs good_setup good_site fall good in (t.0, t.1, t.2)

@@ -16,6 +16,7 @@ pub mod Report
 pub mod Conversion
 pub mod Finish
 pub mod CountLaws
+pub mod NumberLaws
 pub mod ArrivalLaws
 pub mod History
 pub mod Converter

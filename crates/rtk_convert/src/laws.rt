@@ -6,6 +6,7 @@ ghost use Rattle.rtk_convert.specs.CountLaws.{EachFrameInOneClass};
 ghost use Rattle.rtk_convert.specs.FileLaws.{FileIsTable};
 ghost use Rattle.rtk_convert.specs.Headline.{SetHasOneFile};
 ghost use Rattle.rtk_convert.specs.HistoryLaws.{ComesToOne, FeedsToOne, ClosesToOne, EndsAtOne, CallsFindOne, NextIsOne, ReadsComeToOne};
+ghost use Rattle.rtk_convert.specs.NumberLaws.{CountLinesTellCounts, ReportTellsCounts, EpochsAreRecords, EpochsAreOfTable};
 ghost use Rattle.rtk_convert.specs.SetupLaws.{DefaultTakesFour};
 
 use rtk_collect::{late_arrivals_change_nothing, set_decides};
@@ -69,6 +70,22 @@ pub fn frames_add_to_one()
 pub fn each_frame_in_one_class()
     ensures { EachFrameInOneClass }
 {}
+
+/// Equal lines of counts tell equal counts, and so do equal reports with the same lines before them:
+/// no count stops short of what a u64 holds.
+pub fn report_tells_counts()
+    ensures lines { CountLinesTellCounts }
+    ensures report { ReportTellsCounts }
+{}
+
+/// The count `epochs` is the number of records in the file, if fewer than 2^64 epochs are kept: how
+/// many of these have a record that is not empty, and how many `check` tells of the file.
+pub fn epochs_are_records()
+    ensures kept { EpochsAreRecords }
+    ensures table { EpochsAreOfTable }
+{
+    files_are_tables();
+}
 
 /// A set of messages has one file, whatever the order in which they came.
 pub fn set_has_one_file()

@@ -55,8 +55,8 @@ pub use counts::Counts;
 pub use fault::{ConvertFault, Stream};
 pub use laws::{
     calls_come_to_table, calls_keep_promise, default_takes_four, each_frame_in_one_class,
-    file_laws, file_only_grows, frames_add_to_one, one_history_of_calls, set_decides_file,
-    set_has_one_file,
+    epochs_are_records, file_laws, file_only_grows, frames_add_to_one, one_history_of_calls,
+    report_tells_counts, set_decides_file, set_has_one_file,
 };
 pub use runs::run;
 pub use setup::{Setup, SetupFault};

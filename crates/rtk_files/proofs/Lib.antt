@@ -1,1 +1,3 @@
+mod CheckLineLemmas
 mod CutLemmas
+mod NumberLemmas

@@ -1,4 +1,5 @@
 pub mod ChartInput
 pub mod CheckInput
+pub mod CheckLaws
 pub mod CheckedInput
 pub mod CutInput
