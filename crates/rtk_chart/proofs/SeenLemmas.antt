@@ -10,7 +10,7 @@ use Rattle.rtk_chart.specs.Epochs.{is_seen, observed_in, observed_by}
 use Rattle.rtk_chart.specs.Scale.{column_at}
 use Rattle.rtk_chart.specs.Grid.{cell_in, satellite_cells, column_of, epochs_of_column, columns_of}
 use Rattle.rtk_chart.specs.TextPicture.{cell_of_column, is_drawn, drawn_before, satellites_in}
-use Rattle.rtk_chart.specs.HeadingLaws.{satellites_of}
+use Rattle.rtk_chart.specs.HeadingLaws.{satellites_shown_in}
 use Rattle.rtk_chart.specs.declared.scale.Scale.{Scale}
 use Rattle.rtk_chart.specs.declared.cell.Cell.{Cell}
 use Rattle.rtk_chart.specs.declared.column.Column.{Column}
@@ -125,8 +125,8 @@ drawn-if-seen place s es inside has =
     ∙ any-same (λ (c : ℕ). seen (column_of (epochs_of_column s c es))) (some-in (has-row place) s es) 0 s.columns (seen-in-column place s es inside)
     ∙ in-columns (has-row place) s es has ∙ sym (seen-in place es)
 
-pub satellites-are : (s : Scale) (es : List EpochTableView) → All (HasColumn s) es → satellites_in (columns_of s es) ≡ satellites_of es
-unfolding drawn_before satellites_of
+pub satellites-are : (s : Scale) (es : List EpochTableView) → All (HasColumn s) es → satellites_in (columns_of s es) ≡ satellites_shown_in es
+unfolding drawn_before satellites_shown_in
 satellites-are s es has =
     count-same (is_drawn (columns_of s es)) (λ (place : ℕ). list_any is_seen (observed_by (place + 1) es)) 32
     (λ place inside. drawn-if-seen place s es inside has)

@@ -17,8 +17,8 @@ use Rattle.rtk_chart.specs.Chart.{text_at, svg_at}
 use Rattle.rtk_chart.specs.declared.scale.Scale.{Scale}
 
 -- how many satellites have a row in some of these epochs
-unfoldable pub satellites_of : List EpochTableView → ℕ
-satellites_of es = count_by (λ place. list_any is_seen (observed_by (place + 1) es)) (range_with_len 0 32)
+unfoldable pub satellites_shown_in : List EpochTableView → ℕ
+satellites_shown_in es = count_by (λ place. list_any is_seen (observed_by (place + 1) es)) (range_with_len 0 32)
 
 -- the epochs of a file, newest first, at a scale on which each of them has its column; its numbers are
 -- below 2^64
@@ -45,7 +45,7 @@ pub record HaveSameNumbers (s t : Scale) (es fs : List EpochTableView) : Type 0 
   pub interval : s.interval ≡ t.interval
   pub column : s.column_ms ≡ t.column_ms
   pub records : length es ≡ length fs
-  pub satellites : satellites_of es ≡ satellites_of fs
+  pub satellites : satellites_shown_in es ≡ satellites_shown_in fs
   pub slips : slips_in es ≡ slips_in fs
   pub missing : missing_in s.unit es ≡ missing_in t.unit fs
 
