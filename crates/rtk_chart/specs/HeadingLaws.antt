@@ -52,7 +52,8 @@ pub record HaveSameNumbers (s t : Scale) (es fs : List EpochTableView) : Type 0 
 -- the heading of a picture in characters
 abbrev pub heading_in_text : List ℕ → Scale → List EpochTableView → List ℕ
 heading_in_text marker s es =
-    text_heading marker s ++ number_lines s (capped (length es)) (satellites_in (columns_of s es)) (capped (slips_in es)) (capped (missing_in s.unit es))
+    text_heading marker s
+    ++ number_lines s (capped (length es)) (satellites_in (columns_of s es)) (capped (slips_in es)) (capped (missing_in s.unit es))
 
 -- the heading of a picture in SVG, which stands behind its marker
 abbrev pub heading_in_svg : Scale → List EpochTableView → List ℕ

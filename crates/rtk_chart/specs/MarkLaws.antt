@@ -48,7 +48,8 @@ IsMissingIn s es c =
 
 -- a column has the mark of missing epochs exactly then
 abbrev pub GapsAreMissing : Type 0
-GapsAreMissing = (s : Scale) (es : List EpochTableView) (c : ℕ) → c < s.columns → (get_or (gaps_of s es) c false ≡ true) ↔ IsMissingIn s es c
+GapsAreMissing =
+    (s : Scale) (es : List EpochTableView) (c : ℕ) → c < s.columns → (get_or (gaps_of s es) c false ≡ true) ↔ IsMissingIn s es c
 
 -- ---- counts
 
@@ -64,7 +65,8 @@ pub record IsFirstOfMostFrequent (steps : List ℕ) (step : ℕ) : Type 0 where
 
 -- the interval of a file is such a step, if there are fewer than 2^64
 abbrev pub IntervalIsMostFrequent : Type 0
-IntervalIsMostFrequent = (steps : List ℕ) (step : ℕ) → length steps < 2 ^ 64 → IsInterval steps (Some step) → IsFirstOfMostFrequent steps step
+IntervalIsMostFrequent =
+    (steps : List ℕ) (step : ℕ) → length steps < 2 ^ 64 → IsInterval steps (Some step) → IsFirstOfMostFrequent steps step
 
 -- the missing epochs of a file are those of its steps
 abbrev pub MissingAreOfSteps : Type 0
