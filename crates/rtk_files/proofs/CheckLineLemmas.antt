@@ -1,14 +1,14 @@
 -- The lines of `check` tell their numbers and causes.
-use Rattle.std.proofs.Common.{◌≡◌, ◌<◌, ◌^◌, ◌==◌, ℕ, List, [], ◌∷◌, ◌++◌, cond, codes, decimal, get_or, length, refl, sym, ap, ap₂, ◌∙◌, append_assoc, arith}
+use Rattle.std.proofs.Common.{◌≡◌, ◌==◌, ℕ, List, [], ◌∷◌, ◌++◌, cond, codes, decimal, get_or, length, refl, sym, ap, ap₂, ◌∙◌, append_assoc, arith}
 use Rattle.std.proofs.lemmas.List.{append_cancel_left, append_cancel_right}
 use Rattle.rtk_rinex.specs.CauseText.{cause_text}
-use Rattle.rtk_rinex.specs.CheckTable.{HoldsTable, IsFault, OneFault}
+use Rattle.rtk_rinex.specs.CheckTable.{HoldsTable, OneFault}
 use Rattle.rtk_rinex.specs.Table.{WellFormedTable}
 use Rattle.rtk_rinex.specs.CheckText.{satellite_lines}
 use Rattle.rtk_rinex.specs.declared.check_fault.Cause.{Cause}
 use Rattle.rtk_rinex.specs.declared.check_fault.Cause.TheVariants.{HeaderLine, Columns, Value, Order, Truncated}
 use Rattle.rtk_rinex.specs.declared.check_fault.CheckFault.{CheckFault}
-use Rattle.rtk_files.specs.CheckInput.{valid_text, check_fault_text, SaysYes, SaysNo}
+use Rattle.rtk_files.specs.CheckInput.{valid_text, check_fault_text}
 use Rattle.rtk_files.specs.CheckLaws.{ValidTellsNumbers, FaultTextTellsFault, YesTellsNumbers, NoTellsFault, NoLineSaysBoth}
 use Rattle.rtk_files.proofs.NumberLemmas.{number-then}
 
