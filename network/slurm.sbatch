@@ -22,6 +22,10 @@
 #SBATCH --requeue
 set -uo pipefail
 
+case ${1-} in
+-h | --help) sed -n '2,${/^#/!q; /^#SBATCH/d; s/^# \{0,1\}//p}' "$0" && exit 0 ;;
+esac
+
 # Slurm runs a copy of this file, so the checkout is where it was submitted.
 here=${NETWORK:-$SLURM_SUBMIT_DIR/network}
 count=${SLURM_ARRAY_TASK_COUNT:-1}

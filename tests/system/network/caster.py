@@ -2,9 +2,9 @@
 
     caster.py CAPTURE PORT-FILE PARTS [NAME:PASSWORD]
 
-The port that it got is written to the file. Each connection is given the next part, in pieces of 150 bytes; after an odd part
-(the first, the third) it is cut, after an even one it stays open until the other side ends it. With a name and a password
-it speaks HTTP, as a caster does, and serves who knows them.
+The port that it got is written to the file; a port that is there is taken again. Each connection is given the next part, in pieces of
+150 bytes; after an odd part (the first, the third) it is cut, after an even one it stays open until the other side ends it. With a
+name and a password it speaks HTTP, as a caster does, and serves who knows them; with an empty word NTRIP 1, and serves all.
 """
 
 import base64
@@ -22,6 +22,9 @@ def is_welcome(connection, known):
         if not piece:
             return False
         request += piece
+    if not known:
+        connection.sendall(b"ICY 200 OK\r\n")
+        return b"GET /BASE0 HTTP/1.0\r\n" in request
     wanted = b"\r\nAuthorization: Basic " + base64.b64encode(known.encode()) + b"\r\n"
     good = wanted in request
     head = b"200 OK" if good else b"401 Unauthorized"
@@ -35,7 +38,8 @@ def main():
         text = file.read()
     size = len(text) // int(count) + 1
     parts = [text[at:at + size] for at in range(0, len(text), size)]
-    server = socket.create_server(("127.0.0.1", 0))
+    port = open(port_file).read() if os.path.exists(port_file) else 0
+    server = socket.create_server(("127.0.0.1", int(port)))
     with open(port_file + ".new", "w") as file:
         print(server.getsockname()[1], file=file)
     os.rename(port_file + ".new", port_file)
