@@ -8,7 +8,7 @@ use Rattle.rtk_tools.specs.Show.{ShowsText}
 use Rattle.rtk_tools.specs.Shown.{AreLinesOf}
 use Rattle.rtk_tools.specs.Summarized.{SummarizesText}
 use Rattle.rtk_tools.specs.declared.fault.ToolFault.{ToolFault}
-use Rattle.rtk_tools.specs.declared.fault.ToolFault.TheVariants.{Input, TooLong, NotHex, OutOfMemory, Output}
+use Rattle.rtk_tools.specs.declared.fault.ToolFault.TheVariants.{Input, TooLong, OutOfMemory, Output}
 use Rattle.rtk_summary.specs.Summary.{Summarizes}
 use Rattle.rtk_tools.proofs.PassedLemmas.{all_text, taken_first}
 

@@ -5,4 +5,5 @@ pub mod Passed
 pub mod Show
 pub mod Shown
 pub mod Steps
+pub mod StreamViews
 pub mod Summarized

@@ -8,7 +8,7 @@
 ghost use Rattle.std.specs.Prelude.{◌≡◌, OnOk, IfOk, List, ℕ, true, false};
 ghost use Rattle.std.specs.Io.Buffered.{writer_contents};
 ghost use Rattle.std.specs.Io.KnownBytes.{Keeps, append_known};
-ghost use Rattle.rtk_tools.specs.Passed.{given_of, IsLeft, IsLeft-prop, taken_of, StaysKnown, StaysKnown-prop};
+ghost use Rattle.rtk_tools.specs.Passed.{given_of, IsLeft, taken_of};
 
 use crate::before::Before;
 use crate::fault::ToolFault;
@@ -17,7 +17,7 @@ use rtk_frame::{Sink, Source, StreamFault};
 use std::alloc::Global;
 use std::fs::Files;
 use std::io::{BufWriter, Print, Printer, Read, Write};
-use std::marker::{Brand, PhantomData};
+use std::marker::{Brand, Model, PhantomData};
 use std::{fs, io};
 
 /// The word that names standard input.
@@ -87,7 +87,24 @@ pub struct Reads<R: Read, K: Before = Brand> {
     made: u64,
     ended: bool,
     of: PhantomData<K>,
-    ghost left: { IsLeft (K.had number) (R.remaining inner) ended } by { IsLeft-prop (K.had number) (R.remaining inner) ended },
+}
+
+// Clauses see every field. The invariant names every field too, so that none can be added in which
+// bytes are counted or kept unseen. What a reader has left is the end of what it had.
+impl<R: Read, K: Before> Model for Reads<R, K> {
+    ghost use Rattle.std.specs.Prelude.{◌≡◌};
+    ghost use Rattle.rtk_tools.specs.Passed.{IsLeft};
+    ghost use Rattle.rtk_tools.specs.StreamViews.{ReadsView, reads_view_code};
+
+    ghost Value = { ReadsView R };
+
+    ghost coded = { reads_view_code R.code };
+
+    ghost view = { λ s. record { inner = s.inner; number = s.number; failed = s.failed; made = s.made; ended = s.ended } };
+
+    ghost invariant = { λ s.
+        (s ≡ record { inner = s.inner; number = s.number; failed = s.failed; made = s.made; ended = s.ended; of = s.of })
+        × IsLeft (K.had s.number) (R.remaining s.inner) s.ended };
 }
 
 impl<R: Read, K: Before> Reads<R, K> {
@@ -144,7 +161,24 @@ pub struct Writes<W: Write, K: Before = Brand> {
     number: u8,
     failed: u64,
     of: PhantomData<K>,
-    ghost known: { StaysKnown (K.held number) (W.contents inner) } by { StaysKnown-prop (K.held number) (W.contents inner) },
+}
+
+// Clauses see every field, and the invariant names every field, as that of `Reads` does. Bytes that
+// were known are known.
+impl<W: Write, K: Before> Model for Writes<W, K> {
+    ghost use Rattle.std.specs.Prelude.{◌≡◌};
+    ghost use Rattle.rtk_tools.specs.Passed.{StaysKnown};
+    ghost use Rattle.rtk_tools.specs.StreamViews.{WritesView, writes_view_code};
+
+    ghost Value = { WritesView W };
+
+    ghost coded = { writes_view_code W.code };
+
+    ghost view = { λ s. record { inner = s.inner; number = s.number; failed = s.failed } };
+
+    ghost invariant = { λ s.
+        (s ≡ record { inner = s.inner; number = s.number; failed = s.failed; of = s.of })
+        × StaysKnown (K.held s.number) (W.contents s.inner) };
 }
 
 impl<W: Write, K: Before> Writes<W, K> {

@@ -12,6 +12,7 @@ ghost use Rattle.rtk_tools.specs.Steps.Interrupts.{most_interruptions, FollowsEr
 
 use std::io;
 use std::io::{Error, ErrorKind, Read, Write};
+use std::marker::Model;
 
 /// How often in a row an interrupted call is made again.
 const MOST_INTERRUPTIONS: u16 = 1000;
@@ -35,6 +36,20 @@ fn after_error(error: Error, interruptions: u16) -> io::Result<u16>
 #[derive(Drop)]
 pub struct Resumed<T> {
     inner: T,
+}
+
+// Clauses see its field, and the invariant names it, so that no other can be added unseen.
+impl<T> Model for Resumed<T> {
+    ghost use Rattle.std.specs.Prelude.{◌≡◌};
+    ghost use Rattle.rtk_tools.specs.StreamViews.{ResumedView, resumed_view_code};
+
+    ghost Value = { ResumedView T };
+
+    ghost coded = { resumed_view_code T.code };
+
+    ghost view = { λ r. record { inner = r.inner } };
+
+    ghost invariant = { λ r. r ≡ record { inner = r.inner } };
 }
 
 impl<T> Resumed<T> {

@@ -1,6 +1,4 @@
-use Rattle.std.proofs.Common.{List, ℕ, Option, ap}
 use Rattle.rtk_tools.specs.Input.{capture_of}
-use Rattle.rtk_tools.specs.Passed.{taken_of}
 use Rattle.rtk_tools.specs.Show.{ShowsText, ShowsPartOf, IsBeforeOutput}
 use Rattle.rtk_tools.proofs.ThroughLemmas.{through}
 use Rattle.rtk_tools.proofs.showing.show_by.Goals as goal
