@@ -1,13 +1,17 @@
 -- From what a run says of its sources and sinks to the bytes of the readers and writers behind them.
-use Rattle.std.proofs.Common.{◌≡◌, ℕ, zero, suc, ◌-◌, ◌<◌, Bool, true, IsTrue, List, [], ◌∷◌, ◌++◌, length, take, drop, get_or, map, Option, None, Some, Result, Ok, Err, IfOk, IsErrOf, refl, sym, ap, ◌∙◌, subst, arith, append-nil, take-append-drop}
+use Rattle.std.proofs.Common.{◌≡◌, ◌↔◌, ℕ, zero, suc, ◌-◌, ◌<◌, Bool, true, IsTrue, List, [], ◌∷◌, ◌++◌, length, take, drop, get_or, map, Option, None, Some, Result, Ok, Err, IfOk, IsErrOf, refl, sym, ap, ◌∙◌, subst, arith, append-nil, take-append-drop}
 use Rattle.std.proofs.lemmas.List.{map_push, length-map, get_or-map}
 use Rattle.std.proofs.Math.Nat.{sub_self}
+use Rattle.std.specs.Io.Buffered.{writer_contents}
 use Rattle.std.specs.Io.KnownBytes.{Keeps}
+use Rattle.std.specs.declared.io.buffered.BufWriter.{BufWriter}
 use Rattle.rtk_frame.specs.Stream.{with_more}
 use Rattle.rtk_tools.specs.Passed.{given_of, IsLeft, taken_of}
+use Rattle.rtk_tools.specs.declared.resuming.Resumed.{Resumed}
 use Rattle.rtk_convert.specs.declared.counts.Counts.{Counts}
 use Rattle.rtk_convert.specs.declared.fault.ConvertFault.{ConvertFault}
-use Rattle.rtk_convert.specs.declared.fault.ConvertFault.TheVariants.{Read as ReadFailed, Endless}
+use Rattle.rtk_convert.specs.declared.fault.ConvertFault.TheVariants.{Read as ReadFailed, Endless, Setup}
+use Rattle.rtk_convert.specs.Converter.{IsLinkCount}
 use Rattle.rtk_convert.specs.FileOfArrivals.{kept_file, file_so_far}
 use Rattle.rtk_convert.specs.Finish.{report_of}
 use Rattle.rtk_convert.specs.FrameClass.{arrivals}
@@ -210,6 +214,33 @@ on-writers P {held} {first} {old} {new} {last} {first'} {old'} {new'} {last'} te
     let after : written new new' ≡ written (taken_of first last) (taken_of first' last') =
     ap (λ (o : Option (List ℕ)). written o new') (is-held text b is-out took) ∙ ap (λ (o : Option (List ℕ)). written (taken_of first last) o) (is-held text' b' is-out took') in
     subst (λ (w : Written). P (written first first') w) after (subst (λ (w : Written). P w (written new new')) before p)
+
+-- ---- a sink over a writer, as a function gets it
+
+-- the bytes that a writer holds, and those that are gathered for it
+abbrev pub gathered : {W A : Type 0} → (W → Option (List ℕ)) → BufWriter (Resumed W) A → Option (List ℕ)
+gathered {W} contents writer = writer_contents (λ (r : Resumed W). contents r.inner) writer
+
+pub behind : (held : ℕ → Option (List ℕ)) (number at place : ℕ) (before now first last : Option (List ℕ)) (is_out : Bool)
+    → number ≡ place → Keeps (held place) before → held place ≡ first → (IsTrue is_out → Keeps now last)
+    → Behind held first (taken_of (held number) before) (taken_of (held at) now) last is_out
+behind held number at place before now first last is_out is-number kept is-first out = record {
+  at = at;
+  now = now;
+  is_old = ap (λ (n : ℕ). taken_of (held n) before) is-number ∙ taken-first (held place) before kept ∙ is-first;
+  is_new = refl;
+  out = out;
+}
+
+-- ---- the faults
+
+pub link-count : {S R : Type 0} {number : S → ℕ} {inner : S → R} {links : List S} {readers : List R} (done final : Result Counts ConvertFault)
+    → final ≡ done → AreLinksOf links readers number inner → IsErrOf done Setup ↔ ¬ (IsLinkCount (length links))
+    → IsErrOf final Setup ↔ ¬ (IsLinkCount (length readers))
+link-count {S} {R} {number} {inner} {links} {readers} done final is are count =
+    let many : length links ≡ length readers = sym (length-map links inner) ∙ ap length are.over in
+    subst (λ (r : Result Counts ConvertFault). IsErrOf r Setup ↔ ¬ (IsLinkCount (length readers))) (sym is)
+    (subst (λ (n : ℕ). IsErrOf done Setup ↔ ¬ (IsLinkCount n)) many count)
 
 -- ---- a run that is done
 
