@@ -1,5 +1,5 @@
 -- From what a run says of its sources and sinks to the bytes of the readers and writers behind them.
-use Rattle.std.proofs.Common.{◌≡◌, ◌↔◌, ℕ, zero, suc, ◌-◌, ◌<◌, Bool, true, IsTrue, List, [], ◌∷◌, ◌++◌, length, take, drop, get_or, map, Option, None, Some, Result, Ok, Err, IfOk, IsErrOf, refl, sym, ap, ◌∙◌, subst, arith, append-nil, take-append-drop}
+use Rattle.std.proofs.Common.{◌≡◌, ℕ, zero, suc, ◌-◌, ◌<◌, Bool, true, IsTrue, List, [], ◌∷◌, ◌++◌, length, take, drop, get_or, map, Option, None, Some, Result, Ok, Err, IfOk, IsErrOf, refl, sym, ap, ◌∙◌, subst, arith, append-nil, take-append-drop}
 use Rattle.std.proofs.lemmas.List.{map_push, length-map, get_or-map}
 use Rattle.std.proofs.Math.Nat.{sub_self}
 use Rattle.std.specs.Io.Buffered.{writer_contents}
@@ -10,8 +10,7 @@ use Rattle.rtk_tools.specs.Passed.{given_of, IsLeft, taken_of}
 use Rattle.rtk_tools.specs.declared.resuming.Resumed.{Resumed}
 use Rattle.rtk_convert.specs.declared.counts.Counts.{Counts}
 use Rattle.rtk_convert.specs.declared.fault.ConvertFault.{ConvertFault}
-use Rattle.rtk_convert.specs.declared.fault.ConvertFault.TheVariants.{Read as ReadFailed, Endless, Setup}
-use Rattle.rtk_convert.specs.Converter.{IsLinkCount}
+use Rattle.rtk_convert.specs.declared.fault.ConvertFault.TheVariants.{Read as ReadFailed, Endless}
 use Rattle.rtk_convert.specs.FileOfArrivals.{kept_file, file_so_far}
 use Rattle.rtk_convert.specs.Finish.{report_of}
 use Rattle.rtk_convert.specs.FrameClass.{arrivals}
@@ -24,11 +23,6 @@ use Rattle.rtk_convert.specs.Setup.{SetupView}
 use Rattle.rtk_convert.specs.Writing.{Written, written}
 use Rattle.rtk_cli.specs.ConvertsBytes.{ConvertsBytes, EndsAtRead, ConvertsFirstBytes}
 use Rattle.rtk_cli.specs.Steps.Links.{bytes_had, AreLinksOf, HasReadSome}
-
-pub keeps-same : (a b : Option (List ℕ)) → a ≡ b → Keeps a b
-keeps-same None b same = tt
-keeps-same (Some x) None same = absurd (cc)
-keeps-same (Some x) (Some y) same = let e : y ≡ x = cc in e
 
 -- ---- links that are made one after another
 
@@ -47,12 +41,6 @@ one-more-link {S} {R} {number} {inner} {links} {readers} s r are numbered over =
   over = map_push inner links s ∙ ap (λ (l : List R). l ++ inner s ∷ []) are.over ∙ ap (λ (x : R). readers ++ x ∷ []) over;
   numbers = at-push (λ (n : ℕ) (x : S). number x ≡ n) links s are.numbers numbered;
 }
-
--- the reader that comes next has the bytes of its place
-pub had-next : {R : Type 0} (remaining : R → Option (List ℕ)) (all seen rest : List R) (r : R) → all ≡ seen ++ r ∷ rest → bytes_had remaining all (length seen) ≡ remaining r
-had-next {R} remaining all [] rest r split = ap (λ (l : List R). bytes_had remaining l zero) split
-had-next {R} remaining all (x ∷ seen) rest r split =
-    ap (λ (l : List R). bytes_had remaining l (suc (length seen))) split ∙ had-next remaining (seen ++ r ∷ rest) seen rest r refl
 
 -- ---- what the links gave
 
@@ -231,16 +219,6 @@ behind held number at place before now first last is_out is-number kept is-first
   is_new = refl;
   out = out;
 }
-
--- ---- the faults
-
-pub link-count : {S R : Type 0} {number : S → ℕ} {inner : S → R} {links : List S} {readers : List R} (done final : Result Counts ConvertFault)
-    → final ≡ done → AreLinksOf links readers number inner → IsErrOf done Setup ↔ ¬ (IsLinkCount (length links))
-    → IsErrOf final Setup ↔ ¬ (IsLinkCount (length readers))
-link-count {S} {R} {number} {inner} {links} {readers} done final is are count =
-    let many : length links ≡ length readers = sym (length-map links inner) ∙ ap length are.over in
-    subst (λ (r : Result Counts ConvertFault). IsErrOf r Setup ↔ ¬ (IsLinkCount (length readers))) (sym is)
-    (subst (λ (n : ℕ). IsErrOf done Setup ↔ ¬ (IsLinkCount n)) many count)
 
 -- ---- a run that is done
 

@@ -1,9 +1,6 @@
-use Rattle.std.proofs.Common.{◌≡◌, ℕ, List, Option, Result, IfErr, sym, ap, subst}
-use Rattle.rtk_convert.specs.declared.counts.Counts.{Counts}
-use Rattle.rtk_convert.specs.declared.fault.ConvertFault.{ConvertFault}
-use Rattle.rtk_convert.specs.Failure.{IsRunFault}
+use Rattle.std.proofs.Common.{ℕ, List, Option, ap}
 use Rattle.rtk_cli.specs.Steps.Links.{AreLinksOf}
-use Rattle.rtk_cli.proofs.LinkLemmas.{gathered, behind, link-count, done-by-bytes, part-by-bytes}
+use Rattle.rtk_cli.proofs.LinkLemmas.{gathered, behind, done-by-bytes, part-by-bytes}
 use Rattle.rtk_cli.proofs.converting.convert_between.Goals as goal
 
 pub returns-clause-headline : goal.returns-clause-headline
@@ -31,12 +28,3 @@ returns-clause-first_part g c =
     c.in-Ok-sink.ensures.number c.in-Ok-sink.ensures.held (ap (λ (h : ℕ → Option (List ℕ)). h 1) c.requires.held) c.finished.ensures.report in
     part-by-bytes g.R.Read.remaining g.K.Before.had c.args.setup c.convert-done.new.links c.convert-done.result c.finished.result.done
     c.finished.ensures.done c.requires.had are file log c.convert-done.ensures.first_part
-
-pub returns-clause-link_count : goal.returns-clause-link_count
-returns-clause-link_count g c =
-    let are : AreLinksOf c.as_mut_slice.result.now c.args.readers.items (λ link. link.number) (λ link. link.inner) = rw c.as_mut_slice.ensures.value c.in_ok-links.ensures.links in
-    link-count c.convert-done.result c.finished.result.done c.finished.ensures.done are c.convert-done.ensures.link_count
-
-pub returns-clause-faults : goal.returns-clause-faults
-returns-clause-faults g c =
-    subst (λ (r : Result Counts ConvertFault). IfErr r IsRunFault) (sym c.finished.ensures.done) c.convert-done.ensures.faults
