@@ -2,9 +2,12 @@
 use Rattle.std.proofs.Common.{◌≡◌, ℕ, zero, suc, ◌-◌, ◌<◌, Bool, true, IsTrue, List, [], ◌∷◌, ◌++◌, length, take, drop, get_or, map, Option, None, Some, Result, Ok, Err, IfOk, IsErrOf, refl, sym, ap, ◌∙◌, subst, arith, append-nil, take-append-drop}
 use Rattle.std.proofs.lemmas.List.{map_push, length-map, get_or-map}
 use Rattle.std.proofs.Math.Nat.{sub_self}
+use Rattle.std.specs.Io.Buffered.{writer_contents}
 use Rattle.std.specs.Io.KnownBytes.{Keeps}
+use Rattle.std.specs.declared.io.buffered.BufWriter.{BufWriter}
 use Rattle.rtk_frame.specs.Stream.{with_more}
 use Rattle.rtk_tools.specs.Passed.{given_of, IsLeft, taken_of}
+use Rattle.rtk_tools.specs.declared.resuming.Resumed.{Resumed}
 use Rattle.rtk_convert.specs.declared.counts.Counts.{Counts}
 use Rattle.rtk_convert.specs.declared.fault.ConvertFault.{ConvertFault}
 use Rattle.rtk_convert.specs.declared.fault.ConvertFault.TheVariants.{Read as ReadFailed, Endless}
@@ -20,11 +23,6 @@ use Rattle.rtk_convert.specs.Setup.{SetupView}
 use Rattle.rtk_convert.specs.Writing.{Written, written}
 use Rattle.rtk_cli.specs.ConvertsBytes.{ConvertsBytes, EndsAtRead, ConvertsFirstBytes}
 use Rattle.rtk_cli.specs.Steps.Links.{bytes_had, AreLinksOf, HasReadSome}
-
-pub keeps-same : (a b : Option (List ℕ)) → a ≡ b → Keeps a b
-keeps-same None b same = tt
-keeps-same (Some x) None same = absurd (cc)
-keeps-same (Some x) (Some y) same = let e : y ≡ x = cc in e
 
 -- ---- links that are made one after another
 
@@ -43,12 +41,6 @@ one-more-link {S} {R} {number} {inner} {links} {readers} s r are numbered over =
   over = map_push inner links s ∙ ap (λ (l : List R). l ++ inner s ∷ []) are.over ∙ ap (λ (x : R). readers ++ x ∷ []) over;
   numbers = at-push (λ (n : ℕ) (x : S). number x ≡ n) links s are.numbers numbered;
 }
-
--- the reader that comes next has the bytes of its place
-pub had-next : {R : Type 0} (remaining : R → Option (List ℕ)) (all seen rest : List R) (r : R) → all ≡ seen ++ r ∷ rest → bytes_had remaining all (length seen) ≡ remaining r
-had-next {R} remaining all [] rest r split = ap (λ (l : List R). bytes_had remaining l zero) split
-had-next {R} remaining all (x ∷ seen) rest r split =
-    ap (λ (l : List R). bytes_had remaining l (suc (length seen))) split ∙ had-next remaining (seen ++ r ∷ rest) seen rest r refl
 
 -- ---- what the links gave
 
@@ -210,6 +202,23 @@ on-writers P {held} {first} {old} {new} {last} {first'} {old'} {new'} {last'} te
     let after : written new new' ≡ written (taken_of first last) (taken_of first' last') =
     ap (λ (o : Option (List ℕ)). written o new') (is-held text b is-out took) ∙ ap (λ (o : Option (List ℕ)). written (taken_of first last) o) (is-held text' b' is-out took') in
     subst (λ (w : Written). P (written first first') w) after (subst (λ (w : Written). P w (written new new')) before p)
+
+-- ---- a sink over a writer, as a function gets it
+
+-- the bytes that a writer holds, and those that are gathered for it
+abbrev pub gathered : {W A : Type 0} → (W → Option (List ℕ)) → BufWriter (Resumed W) A → Option (List ℕ)
+gathered {W} contents writer = writer_contents (λ (r : Resumed W). contents r.inner) writer
+
+pub behind : (held : ℕ → Option (List ℕ)) (number at place : ℕ) (before now first last : Option (List ℕ)) (is_out : Bool)
+    → number ≡ place → Keeps (held place) before → held place ≡ first → (IsTrue is_out → Keeps now last)
+    → Behind held first (taken_of (held number) before) (taken_of (held at) now) last is_out
+behind held number at place before now first last is_out is-number kept is-first out = record {
+  at = at;
+  now = now;
+  is_old = ap (λ (n : ℕ). taken_of (held n) before) is-number ∙ taken-first (held place) before kept ∙ is-first;
+  is_new = refl;
+  out = out;
+}
 
 -- ---- a run that is done
 
