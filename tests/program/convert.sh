@@ -51,7 +51,8 @@ convert 1C,2W STDIN stdin.rtcm <&-; leaves files_of_names_like_stdin 0 "$example
 report 6 0 0 0 2 4 0 0 1 >three.report
 report 32 0 0 0 2 30 0 0 1 >sixteen.report
 # refuses: a word beyond the thirtieth that is left out
-convert 1C,2W --window 600 --msm 4 -- $(yes "$base" | head -n 16); leaves sixteen_links_after_all_options 0 "$examples/base.rnx" sixteen.report
+convert 1C,2W --window 600 --msm 4 -- $(yes "$base" | head -n 16)
+leaves sixteen_links_after_all_options 0 "$examples/base.rnx" sixteen.report
 # refuses: a name that is changed before it is opened, or taken for standard input
 convert 1C,2W stdin.rtcm stdin STDIN <"$base"; leaves standard_input_and_names_like_it 0 "$examples/base.rnx" three.report
 bash -c 'program=$0 first=$1 second=$2; shift 2; "$program" convert "$@" <(cat "$first") <(cat "$second")' \
