@@ -34,8 +34,8 @@ helps() {
     sed -n '/^Example:$/,/^$/s/^  //p; /^Begin with:$/,/^$/s/^  //p' help >shown
     (cd named && PATH=$work/$name/bin:$PATH sh -eu ../shown) >out 2>err; status=$?
     grep -q '^rtcm2rinex ' shown || status=none
-    : >out
-    expect "examples_of_the_help_$name" 0 '' ''
+    tail -n 1 help >out
+    expect "examples_and_end_of_the_help_$name" 0 'Manual: man rtcm2rinex, or docs/MANUAL.md' ''
 }
 
 # bound COMMAND..: as a user whom the permissions of files bind; root is none, so it runs the command as nobody. The folder

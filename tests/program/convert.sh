@@ -49,6 +49,10 @@ report 4 0 0 0 2 2 0 0 1 >two.report
 # refuses: a name that is changed before it is opened, or taken for standard input
 convert 1C,2W STDIN stdin.rtcm <&-; leaves files_of_names_like_stdin 0 "$examples/base.rnx" two.report
 report 6 0 0 0 2 4 0 0 1 >three.report
+report 32 0 0 0 2 30 0 0 1 >sixteen.report
+# refuses: a word beyond the thirtieth that is left out
+convert 1C,2W --window 600 --msm 4 -- $(yes "$base" | head -n 16)
+leaves sixteen_links_after_all_options 0 "$examples/base.rnx" sixteen.report
 # refuses: a name that is changed before it is opened, or taken for standard input
 convert 1C,2W stdin.rtcm stdin STDIN <"$base"; leaves standard_input_and_names_like_it 0 "$examples/base.rnx" three.report
 bash -c 'program=$0 first=$1 second=$2; shift 2; "$program" convert "$@" <(cat "$first") <(cat "$second")' \
@@ -223,6 +227,15 @@ refused_alike() {
     yes "2 rtcm2rinex: $3" | head -n "$2" >want_told
     same "$1" told want_told
 }
+# Standard input in any two of sixteen places.
+for first in $(seq 15); do
+    for second in $(seq $((first + 1)) 16); do
+        words $near $made X 1C $(seq 16 | sed "${first}s/.*/stdin/; ${second}s/.*/stdin/")
+        echo "$status $(cat out err)"
+    done
+done >told
+# pins: AreLinkNames
+refused_alike standard_input_in_any_two_places 120 'bad links'
 # No printable character but a comma stands between two codes.
 for number in $(seq 32 43) $(seq 45 126); do
     words $near $made BASE "1C$(printf "\\$(printf %03o "$number")")2W" x
@@ -258,6 +271,11 @@ words $near 1980-01-06T00:00:00 BASE 1C nothing; header first_making '19800106 0
 words $near 2024-02-29T23:59:59 BASE 5X,2W nothing;   header leap_day '20240229 235959' BASE 'G    6 C5X L5X S5X C2W L2W S2W'
 words $near 2100-12-31T23:59:59 BASE 1C,2D,1P nothing
 header last_making '21001231 235959' BASE 'G    9 C1C L1C S1C C2D L2D S2D C1P L1P S1P'
+# Without records the first time is the reference, here in the last second of a week.
+words 2024-05-18T23:59:59 $made BASE 1C,2W nothing
+sed '12s/17    12     0    0/18    23    59   59/' empty.rnx >want_out
+# pins: SaysSetup
+leaves reference_in_the_last_second_of_a_week 0 want_out empty.report
 
 # A marker may begin with a hyphen; numbers may have a sign and zeros before them; an option stands with its value or
 # before it, before or after the links.
@@ -334,6 +352,9 @@ bad_value window_of_two_numbers --window 64,2 'invalid digit found in string'
 printf 'rtcm2rinex: write failed\n' >write_failed
 "$program" convert $options --codes 1C,2W stdin <"$base" >/dev/full 2>err; status=$?; : >out
 leaves full_output_that_is_followed 1 /dev/null write_failed
+"$program" convert $options --codes 1C,2W $(yes "$base" | head -n 16) >/dev/full 2>err; status=$?; : >out
+cat sixteen.report write_failed >want_err
+leaves full_output_of_sixteen_links 1 /dev/null want_err
 "$program" convert $options --codes 1C,2W "$base" >out 2>&-; status=$?; : >err
 leaves closed_standard_error 1 "$examples/base.rnx" /dev/null
 
@@ -346,4 +367,4 @@ leaves start_convert_with_a_limit_of_size 1 part part_err
 limited 4096 installed/bin/rtcm2rinex convert $options --codes 1C,2W,5X stdin >out 2>err <"$session.rtcm"; status=$?
 leaves start_convert_followed_with_a_limit_of_size 1 part write_failed
 
-ends 234
+ends 238

@@ -12,8 +12,8 @@
 //                    writes, the opens, or the writes to standard output (1) or standard error (2)
 //   IN_A_ROW=N       such a call is interrupted so many times in a row before one of them passes
 //   STOPS_READ=N     the program stops itself before the read of this number
-//   ENDLESS=N        each read gives one zero byte; that of number N and each after it also writes
-//                    a byte to descriptor 9
+//   ENDLESS=N        each read after the first, which passes, gives one zero byte; that of number N
+//                    and each after it also writes a byte to descriptor 9
 // It needs no header, so that the toolchain's own compiler builds it. In a program of another name
 // it does nothing.
 
@@ -84,7 +84,7 @@ long read(int descriptor, void *bytes, size_t count) {
     prepare();
     if (is_interrupted('r')) return fail(INTERRUPTED);
     ++reads;
-    if (endless) {
+    if (endless && reads > 1) {
         if (reads >= endless) next_write(9, "!", 1);
         *(char *)bytes = 0;
         return 1;

@@ -474,19 +474,22 @@ def out_where_broken(good, at):
 # The first scene, since it takes a minute, and the others run beside it.
 # pins: most_reads
 # refuses: a conversion that makes another number of reads
+# refuses: what was gathered and is let go if a conversion breaks off
 @scene("a link without end: 1,000,000,000 reads, and none after them")
 def _billion_reads():
-    yield "/dev/zero", convert_to_its_last_read
+    yield "convert", convert_to_its_last_read, "convert"
 
 
-def convert_to_its_last_read():
-    """Each read from that of number 1,000,000,000 on leaves a mark."""
+def convert_to_its_last_read(name):
+    """All frames come by the first read. Each read from that of number 1,000,000,000 on leaves a mark."""
     marks = os.path.join(WORK, "marks")
     with open(marks, "wb") as file:
         os.dup2(file.fileno(), 9, inheritable=True)
-    left = run(convert("", "/dev/zero"), shim(ENDLESS=1_000_000_000), 600)
+    left = run(CASES[name], shim(ENDLESS=1_000_000_000), 600)
     os.close(9)
-    return tells_alone(left, "input does not end") or (None if content(marks) == b"!" else f"{len(content(marks))} marks")
+    due = so_far(name, frames=size_of_inputs(CASES[name]) // FRAME)
+    fault = broken_off(left, GOOD[name], ["input does not end"], due.out, due.told)
+    return fault or (None if content(marks) == b"!" else f"{len(content(marks))} marks")
 
 
 @scene("nothing disturbs: the files and reports of the examples")
