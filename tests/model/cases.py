@@ -264,9 +264,6 @@ def ties(cases):
         line="G05  21060420.175   110673255.000\n")
 
 
-# ---------------------------------------------------------------- the most of an epoch, and of a report
-
-
 def every_cell(cases, number=1074, kind=None, each=1):
     """All 672 cells of an epoch: of 32 satellites fifteen codes in an MSM, four signals of sixteen satellites in each, and six
     in 1004. Then an MSM whose cells are in conflict but for the last one, and one of which all are."""
@@ -306,9 +303,6 @@ def every_cell(cases, number=1074, kind=None, each=1):
 
 def every_cell_of_1077(cases):
     every_cell(cases, 1077, kind=7, each=16)
-
-
-# ---------------------------------------------------------------- a long capture
 
 
 def some(random, width):
