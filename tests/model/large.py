@@ -5,6 +5,7 @@ capture and of its file. The model converts the first epochs, and the others rep
 
 import subprocess
 import sys
+from itertools import chain
 
 import model
 import streams
@@ -73,19 +74,34 @@ def summary_of(few, size, last):
         f"{told[told.index(' satellites'):]}other 1019 {MANY['other']}\nrefused M1 - {MANY['refused']}\n")
 
 
+def longest(text):
+    """Nearly the most bytes that `check` takes, in parts: the file, and its records again in later years; and how many records."""
+    at = text.index(b"> ")
+    times, room = divmod(2**30 - at, len(text) - at)
+    end = text.rindex(b"\n> ", 0, at + room) + 1
+    years = range(2024, 2025 + times)
+    parts = (text[at:None if year < years[-1] else end].replace(b"> 2024", b"> %d" % year) for year in years)
+    return chain([text[:at]], parts), times * text.count(b"> ") + text.count(b"> ", 0, end)
+
+
 def main():
     passed = failed = 0
 
     def test(name, words, given, status, out, err=b"", begins=False):
         nonlocal passed, failed
-        ran = subprocess.run([PROGRAM, *words, "/dev/stdin"], input=given, capture_output=True)
-        said = ran.stdout[:len(out)] if begins else ran.stdout
-        if (ran.returncode, said, ran.stderr) == (status, out, err):
+        pipe = subprocess.PIPE
+        ran = subprocess.Popen([PROGRAM, *words, "/dev/stdin"], stdin=pipe, stdout=pipe, stderr=pipe)
+        if not isinstance(given, bytes):  # parts, of which all are read before a byte is written
+            ran.stdin.writelines(given)
+            given = b""
+        said, told = ran.communicate(given)
+        said = said[:len(out)] if begins else said
+        if (ran.returncode, said, told) == (status, out, err):
             passed += 1
             print(f"ok {name}")
         else:
             failed += 1
-            print(f"FAILED {name}: status {ran.returncode}, {said[-200:]}, {ran.stderr[-200:]}")
+            print(f"FAILED {name}: status {ran.returncode}, {said[-200:]}, {told[-200:]}")
 
     last = (NOON + LAST) % WEEK_MS
     few = streams.capture(*(epoch(100 * at, at) for at in range(8)), epoch(LAST, 0))
@@ -112,7 +128,9 @@ def main():
     # pins: number_line
     test("summary_of_200_mb", ["summary"], capture, 0, summary_of(few, len(capture), last).encode())
     del capture, report
-    test("check_of_200_mb", ["check"], text, 0, b"valid: %d epochs, %d satellite lines\n" % (EPOCHS, 2 * EPOCHS))
+    given, records = longest(text)
+    # refuses: a `check` that passes over the end of a long file
+    test("check_of_the_longest_file", ["check"], given, 0, b"valid: %d epochs, %d satellite lines\n" % (records, 2 * records))
     wrong = text.rindex(b"\nG08") + 4
     test("check_of_a_fault_in_200_mb", ["check"], text[:wrong] + b"%14s" % b"0.000" + text[wrong + 14:], 3,
         b"line %d: C3 Value\n" % text.count(b"\n"))

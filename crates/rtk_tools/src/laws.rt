@@ -10,6 +10,11 @@ ghost use Rattle.rtk_frame.specs.Frames.{Frame};
 ghost use Rattle.rtk_frame.specs.Stream.{with_more};
 ghost use Rattle.rtk_tools.specs.Passed.{given_of, IsLeft, taken_of};
 ghost use Rattle.rtk_tools.specs.Shown.{IsLineOf, AreLinesOf};
+ghost use Rattle.rtk_tools.specs.declared.files.Capture.TheVariants.{File, Stdin};
+
+use crate::files::Capture;
+use crate::resuming::Resumed;
+use std::io::Read;
 
 /// A payload has one line.
 pub fn one_line_of_a_payload()
@@ -40,4 +45,14 @@ pub fn known_bytes_are_held()
         → Keeps (held number) first
         → taken_of (held at) last ≡ with_more (taken_of (held number) first) more
         → taken_of (held number) last ≡ with_more (held number) more }
+{}
+
+/// A capture of the program has the bytes of its file or of standard input, also where interrupted
+/// reads are made again. So what is proved of known bytes holds of those of the program, if they are
+/// known.
+pub fn captures_have_their_bytes<F: Read + Drop, I: Read + Drop>()
+    ensures file { (file : F)
+        → ⟦<Resumed<Capture<F, I>> as Read>⟧.remaining (record { inner = File file }) ≡ F.remaining file }
+    ensures stdin { (stdin : I)
+        → ⟦<Resumed<Capture<F, I>> as Read>⟧.remaining (record { inner = Stdin stdin }) ≡ I.remaining stdin }
 {}

@@ -367,6 +367,7 @@ def inputs_held_once(runs: Runs, tests: Tests) -> None:
 
 
 # refuses: a `chart_text` or a `chart_svg` that gives up at a large picture
+# refuses: a byte after a large picture
 def largest_picture(runs: Runs, tests: Tests) -> None:
     """Each mark is in each column: of each satellite a slip, a half cycle, a strength and of each code a phase in some epochs; and
     a missing epoch in all columns but the last. In characters the picture is compared whole."""
@@ -376,6 +377,7 @@ def largest_picture(runs: Runs, tests: Tests) -> None:
     columns = CHART_SATELLITES * (3 + len(CHART_CODES)) * COLUMNS
     tests.same("marks of the largest picture", [(marks,), (columns + COLUMNS - 1,)])
     tests.within("bytes of the largest picture", len(picture), 0, MOST_OF_PICTURE)
+    tests.passes("the end of the largest picture", picture.endswith(b"\n</g>\n</svg>\n"))
     runs.write("largest_in_characters", largest(CHARACTERS))
     picture = runs.picture("largest_in_characters", "--text", "--columns", "400")
     tests.passes("the largest picture in characters", picture == largest_in_characters())
