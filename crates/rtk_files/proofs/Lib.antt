@@ -1,3 +1,4 @@
 mod CheckLineLemmas
 mod CutLemmas
 mod NumberLemmas
+mod WrittenLemmas

@@ -3,3 +3,4 @@ pub mod CheckInput
 pub mod CheckLaws
 pub mod CheckedInput
 pub mod CutInput
+pub mod WrittenLaws

@@ -1,8 +1,9 @@
-//! Laws of the lines of `check`: equal lines tell equal numbers and causes.
+//! Laws of the lines of `check`: equal lines tell equal numbers and causes; and of what is written.
 //!
 //! Each function here does nothing. Its contract is the law.
 
 ghost use Rattle.rtk_files.specs.CheckLaws.{ValidTellsNumbers, FaultTextTellsFault, YesTellsNumbers, NoTellsFault, NoLineSaysBoth};
+ghost use Rattle.rtk_files.specs.WrittenLaws.{LineFollows, PictureFollows, PartFollows};
 
 use rtk_rinex::one_fault;
 
@@ -22,3 +23,11 @@ pub fn one_line_tells_one_answer()
 {
     one_fault();
 }
+
+/// What `check`, `chart` and `cut` are said to have written stands right after what the writer held, with
+/// nothing before, between or after it, however long it is; and it is of the whole text.
+pub fn written_follows()
+    ensures line { LineFollows }
+    ensures picture { PictureFollows }
+    ensures part { PartFollows }
+{}

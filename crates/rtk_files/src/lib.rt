@@ -25,4 +25,4 @@ mod laws;
 pub use charting::{chart_named, chart_through};
 pub use checking::{CHECK_LIMIT, check_input, check_named, check_through};
 pub use cutting::{Cut, cut_named, cut_through};
-pub use laws::{lines_of_check_tell_numbers, one_line_tells_one_answer};
+pub use laws::{lines_of_check_tell_numbers, one_line_tells_one_answer, written_follows};
