@@ -63,6 +63,12 @@ def text_of(few, every=1):
     return f"{head}{text}> {records[-1]}".encode()
 
 
+def slipped(text, tick):
+    """The text with a slip of the second code of G17 at this tick."""
+    at = text.index(b"\nG17", text.index(model.epoch_line(NEAR + 100 * tick, 2).encode())) + 82
+    return text[:at] + b"1" + text[at + 1:]
+
+
 def summary_of(few, size, last):
     """It tells of the satellites and codes of a few epochs."""
     told = summaries.summary_of(few)
@@ -135,8 +141,8 @@ def main():
     test("check_of_a_fault_in_200_mb", ["check"], text[:wrong] + b"%14s" % b"0.000" + text[wrong + 14:], 3,
         b"line %d: C3 Value\n" % text.count(b"\n"))
     test("part_of_200_mb", ["cut", "--from", "2024-05-17T12:00:00"], text, 0, text)
-    # pins: step_ms, is_on_step
-    test("seconds_of_200_mb", ["cut", "--every", "1"], text, 0, text_of(few, 10))
+    # pins: step_ms, is_on_step, has_slipped_since
+    test("seconds_of_200_mb", ["cut", "--every", "1"], slipped(text, 1_100_381), 0, slipped(text_of(few, 10), 1_100_390))
     # Of the slips all but the first L1 of four satellites, and the last L2 of two.
     slips, missing = 2 * EPOCHS - 4 + 2, (LAST - 100 * (EPOCHS - 2)) // 100 - 1
     # pins: number_lines, named_count_line

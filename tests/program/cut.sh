@@ -82,35 +82,36 @@ g07='G07  22963067.680 6 120671689.95026        41.500    22963071.430 5  940292
 cut --every 86400 night; leaves midnight_at_the_step_of_a_day 0 want /dev/null
 { header "$begin"; printf '%s\n' "$line" "$g05 5        35.000" "$g07"; } >want
 cut --every 30 --from $midnight night;   leaves the_day_after_midnight 0 want /dev/null
-# The same slips, in the minute after noon: no record before midnight is on the step.
-moved '2024 02 28' '12 00' '2024 02 29 00 00' '  2024     2    28    12     0 ' >noon
-{ header "$begin"; printf '%s\n' "$line" "${g05}15        35.000" "$g07"; } >want
-# pins: has_slipped_since
-cut --every 86400 noon; leaves twelve_hours_before_the_step 0 want /dev/null
 sed '/^> 2024 02 29/,$d' night >want
 cut --until $midnight night; leaves the_day_before_midnight 0 want /dev/null
 
-# A record each second of a day: a slip of G05 a second after midnight is shown 86,399 seconds later, and of G07, which slips at
-# noon and is missing from then on, once it comes back; after that none is left.
-{
-    header '  2024     5    17     0     0    0.0000000'
-    awk 'BEGIN { for (n = 0; n <= 259200; n += n < 86400 ? 1 : 43200) { t = n % 86400
-        both = n <= 43200 || n > 86400
-        printf "> 2024 05 %02d %02d %02d%11.7f  0%3d\n", 17 + int(n / 86400), int(t / 3600), int(t / 60) % 60, t % 60, 1 + both
-        print "G05                 110804903.547" (n == 1 ? 1 : "")
-        if (both) print "G07                 120671603.523" (n == 43200 ? 1 : "") } }'
-} >days
-{
-    header '  2024     5    17     0     0    0.0000000'
-    printf '%s\n' '> 2024 05 17 00 00  0.0000000  0  2' 'G05                 110804903.547' 'G07                 120671603.523' \
-        '> 2024 05 18 00 00  0.0000000  0  1' 'G05                 110804903.5471' \
-        '> 2024 05 19 00 00  0.0000000  0  2' 'G05                 110804903.547' 'G07                 120671603.5231' \
-        '> 2024 05 20 00 00  0.0000000  0  2' 'G05                 110804903.547' 'G07                 120671603.523'
-} >want
+# A record each second of a day and few in the weeks after it: a slip of G05 a second after midnight is shown 86,399 seconds
+# later, and of G07, which is missing from then on, ten days and 86,401 records later; after that none is left.
+g05='G05                 110804903.547' g07='G07                 120671603.523'
+header '  2024     5     1     0     0    0.0000000' >begin
+awk -v g05="$g05" -v g07="$g07" 'BEGIN { for (n = 0; n <= 1641600; n += n < 86400 ? 1 : 388800) { t = n % 86400
+    both = n < 2 || n > 86400
+    printf "> 2024 05 %02d %02d %02d%11.7f  0%3d\n", 1 + int(n / 86400), int(t / 3600), int(t / 60) % 60, t % 60, 1 + both
+    print g05 (n == 1 ? 1 : "")
+    if (both) print g07 (n == 1 ? 1 : "") } }' | cat begin - >days
+line='00 00  0.0000000  0 '
+printf '%s\n' "> 2024 05 01 $line 2" "$g05" "$g07" "> 2024 05 02 $line 1" "${g05}1" "> 2024 05 11 $line 2" "$g05" "${g07}1" \
+    "> 2024 05 20 $line 2" "$g05" "$g07" | cat begin - >want
 # pins: has_slipped_since
-cut --every 86400 days; leaves a_slip_a_second_after_midnight 0 want /dev/null
+cut --every 86400 days; leaves a_slip_ten_days_before_the_step 0 want /dev/null
+# The usual steps, parts of half a day: so many records and two slips, that of G07 after all records on the step without it.
+for step in 5 10 15 20 120 300 600 900 1800 3600 7200 21600; do
+    echo "$("$program" cut --every $step days | grep -cE '^>|[37]1$') records and slips at $step, not $((86400 / step + 7))"
+done | awk '$1 != $8' >got
+# pins: step_ms, is_on_step, has_slipped_since
+same the_usual_steps got /dev/null
 
-# The last minute that a time can name.
+# The first moment that a time can name, and the last minute.
+moved '1980 01 06' '00 00' '1980 01 06 00 01' '  1980     1     6     0     0 ' >dawn
+sed '/^> .*  1.0000000/,$d' dawn >want
+cut --every 60 --until 1980-01-06T00:01:00 dawn; leaves the_begin_of_1980 0 want /dev/null
+sed '/END OF HEADER/q' dawn >want
+cut --from 1980-01-06T00:00:00 --until 1980-01-06T00:00:00 "$file"; leaves nothing_is_left_of_1980 0 want /dev/null
 moved '2100 12 31' '23 58' '2100 12 31 23 59' '  2100    12    31    23    58 ' >century
 { header '  2100    12    31    23    59    0.0000000'; tail -n 3 century; } >want
 cut --from 2100-12-31T23:59:00 --until 2100-12-31T23:59:59 century
@@ -145,4 +146,4 @@ for option in 'from T until' 'until T every' 'every SECONDS from'; do
     expect "$1_before_another_option" 2 '' "$(error "a value is required for '--$1 <$2>' but none was supplied")"
 done
 
-ends 43
+ends 45
