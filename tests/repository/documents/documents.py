@@ -34,9 +34,6 @@ def output(*words):
     return ran.returncode, ran.stdout, ran.stderr
 
 
-# ---------------------------------------------------------------- help
-
-
 def section(text, heading):
     """The first words of the entries below a heading of the help."""
     found = re.search(rf"(?ms)^{heading}:\n(.*?)(?=^\S|\Z)", text)
@@ -60,9 +57,6 @@ def options_of_help(*words):
 COMMANDS = section(help_of(), "Commands")
 WORKING = [command for command in COMMANDS if command != "help"]
 OPTIONS = {command: options_of_help(command) for command in WORKING}
-
-
-# ---------------------------------------------------------------- manual and manual page
 
 
 def forms(text):
@@ -105,9 +99,6 @@ def test_manuals():
     several = [command for command in WORKING if "3" in each[command]]
     told = re.search(r"(?m)^\| 3 \|(.*)\|$", MANUAL).group(1)
     compare("the manual names the commands that have status 3", re.findall(r"`([a-z]+)`", told), several)
-
-
-# ---------------------------------------------------------------- completions
 
 
 def of_zsh():
@@ -156,9 +147,6 @@ def test_bash():
     compare("a run of bash gives files alone after --", completed(WORKING[0], "--", "-"), [])
     compare("a run of bash gives commands after help", completed("help", ""), sorted(WORKING))
     compare("a run of bash gives nothing after a word that is no command", completed("nothing", "--"), [])
-
-
-# ---------------------------------------------------------------- names and links
 
 
 def test_made():
@@ -227,9 +215,6 @@ def test_proof():
     compare("the definitions that PROOF.md says to read are there", [name for name in named if name not in definitions], [])
     named = [name for cells in rows for name in re.findall(r"`(?:[\w/]+/)?(\w+\.antt)`", cells[3])]
     compare("the files that PROOF.md says to read are there", [name for name in named if name not in files], [])
-
-
-# ---------------------------------------------------------------- what bin/believe prints
 
 
 def read_specs():
