@@ -25,13 +25,7 @@ pub struct CaptureDates {
 }
 
 // What messages tell, in their order.
-fn take_all(
-    told: &mut Tellings,
-    now: GpsMs,
-    station: u16,
-    span: &Span,
-    messages: &[DateMessage],
-)
+fn take_all(told: &mut Tellings, now: GpsMs, station: u16, span: &Span, messages: &[DateMessage])
     ensures { told.new ≡ with_tellings now station span.now messages.now told.old }
 {
     for message in messages {
@@ -55,7 +49,7 @@ impl CaptureDates {
     pub fn wait(&mut self, message: DateMessage)
         ensures { self.new ≡ with_waiting self.old message }
     {
-        if !self.waiting.is_full() {
+        if self.waiting.len() < MOST_WAITING {
             self.waiting.push(message);
         }
     }

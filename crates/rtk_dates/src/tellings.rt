@@ -1,7 +1,8 @@
 //! What the messages of a capture tell of its first epoch.
 
 ghost use Rattle.std.specs.Prelude.{◌≡◌, ◌^◌, ◌<◌, Some};
-ghost use Rattle.rtk_dates.specs.CaptureDates.{is_reference, first_epoch_from, first_epoch_told, with_told, with_first, with_telling, no_tellings, counting};
+ghost use Rattle.std.specs.List.{list_any};
+ghost use Rattle.rtk_dates.specs.CaptureDates.{tells_same, is_reference, first_epoch_from, first_epoch_told, with_told, with_first, with_telling, no_tellings, counting};
 
 use crate::date_message::DateMessage;
 use crate::span::Span;
@@ -63,12 +64,17 @@ fn first_epoch_told(now: GpsMs, span: &Span, message: &DateMessage) -> Option<u6
     first_epoch_from(span, last)
 }
 
+fn is_known(list: &[Told], first: u64) -> bool
+    ensures { result ≡ list_any (tells_same first) list.now }
+{
+    list.iter().any(|told| told.first == first)
+}
+
 // Adds a first epoch that differs from those before, if there is room.
 fn put(list: &mut ArrayVec<Told, MOST_TOLD>, told: Told)
     ensures { list.new ≡ with_told list.old told }
 {
-    let is_known = list.as_slice().iter().any(|known| known.first == told.first);
-    if !is_known && !list.is_full() {
+    if !is_known(list.as_slice(), told.first) && list.len() < MOST_TOLD {
         list.push(told);
     }
 }

@@ -10,7 +10,7 @@ use Rattle.rtk_find.specs.declared.finding.Finder.{Finder}
 -- what was found stands for the frames that came, newest first
 pub record StandsFor (now : ℕ) (station : Option ℕ) (fs : List ReadFrame) (f : Finder) : Type 0 where
   -- the present
-  pub now_is : f.now ≡ now
+  pub present : f.present ≡ now
   -- how many they are
   pub frames : f.frames ≡ shown_count (length fs)
   -- the station that was named, or the first with an observation, and what the frames tell of its epochs

@@ -37,7 +37,7 @@ pub struct Dates {
 #[derive(Drop)]
 pub struct Finder {
     /// The present: no date is after it.
-    pub now: GpsMs,
+    pub present: GpsMs,
     /// How many frames came.
     pub frames: u64,
     pub dates: Dates,
@@ -166,7 +166,7 @@ impl Finder {
         ensures { IfOk result (StandsFor now station []) }
     {
         Ok(Finder {
-            now,
+            present: now,
             frames: 0,
             dates: Dates::new(station),
             observing: vec![in alloc; false; STATIONS]?,
@@ -185,10 +185,10 @@ impl Finder {
                 &mut self.dates,
                 &mut self.observing,
                 &mut self.room,
-                self.now,
+                self.present,
                 message,
             ),
-            Err(_) => self.dates.take_date(self.now, date_in(payload)),
+            Err(_) => self.dates.take_date(self.present, date_in(payload)),
         }
     }
 }
