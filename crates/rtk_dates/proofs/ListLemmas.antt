@@ -1,5 +1,5 @@
 -- Lists of first epochs that were told.
-use Rattle.std.proofs.Common.{◌≡◌, ◌<◌, ℕ, List, [], ◌∷◌, ◌++◌, false, true, length, nat_lt, ap}
+use Rattle.std.proofs.Common.{◌≡◌, List, [], ◌∷◌, ◌++◌, false, true, length, nat_lt, ap}
 use Rattle.std.specs.List.{list_any}
 use Rattle.arrayvec.specs.ArrayVec.{ArrayVec}
 use Rattle.rtk_dates.specs.CaptureDates.{tells_same, with_told}

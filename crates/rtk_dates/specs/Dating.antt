@@ -1,5 +1,5 @@
 -- The dates of captures of one station (this project's rule).
-use Rattle.std.specs.Prelude.{ℕ, ◌+◌, ◌-◌, ◌%◌, Bool, not, ◌&&◌, nat_le, nat_lt, min, List, [], ◌∷◌, Option, None, Some, if◌then◌else◌}
+use Rattle.std.specs.Prelude.{ℕ, ◌+◌, ◌-◌, ◌%◌, Bool, ◌&&◌, nat_le, nat_lt, min, List, [], ◌∷◌, Option, None, Some}
 use Rattle.rtk_message.specs.Fields.{week_ms}
 use Rattle.rtk_dates.specs.Telling.{dated, half_week_ms}
 use Rattle.rtk_dates.specs.declared.dating.CaptureEpochs.{CaptureEpochs}

@@ -1,7 +1,7 @@
 -- The epochs of a station in a capture whose date is not known: each is dated near the one before it,
 -- and the first as if it were in week 1,024. What lies between two epochs does not depend on that week
 -- (this project's rule).
-use Rattle.std.specs.Prelude.{ℕ, ◌+◌, ◌-◌, ◌*◌, ◌%◌, Bool, true, false, ◌&&◌, ◌||◌, nat_le, nat_lt, List, [], ◌∷◌, Option, None, Some, max, min, if◌then◌else◌}
+use Rattle.std.specs.Prelude.{ℕ, ◌+◌, ◌*◌, ◌%◌, Bool, true, false, ◌&&◌, ◌||◌, nat_le, nat_lt, List, [], ◌∷◌, Option, None, Some, max, min, if◌then◌else◌}
 use Rattle.rtk_message.specs.Fields.{week_ms}
 use Rattle.rtk_obs.specs.declared.time.TheConstants.{LAST_MS}
 use Rattle.rtk_dates.specs.Telling.{dated}

@@ -72,6 +72,3 @@ count-rises before now after same more = grind arith
 pub refilled : (buf old : List ℕ) (len : ℕ) → length buf ≡ length old → len ≡ length old → take len (buf ++ drop (length buf) old) ≡ buf
 refilled buf old len as_many known =
     ap (λ (n : ℕ). take n (buf ++ drop (length buf) old)) (known ∙ sym as_many) ∙ take-append_seam buf (drop (length buf) old)
-
-pub length-first : (n : ℕ) (xs : List ℕ) → n ≤ length xs → length (take n xs) ≡ n
-length-first n xs within = grind (arith, common_steps)

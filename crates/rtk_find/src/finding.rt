@@ -158,11 +158,7 @@ fn take_message(
 
 impl Finder {
     /// Nothing came; this station is known, or none.
-    pub(crate) fn new(
-        alloc: Global,
-        now: GpsMs,
-        station: Option<u16>,
-    ) -> Result<Finder, AllocError>
+    pub(crate) fn new(alloc: Global, now: GpsMs, station: Option<u16>) -> Result<Finder, AllocError>
         ensures { IfOk result (StandsFor now station []) }
     {
         Ok(Finder {

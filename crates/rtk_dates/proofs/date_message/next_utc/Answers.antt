@@ -1,4 +1,4 @@
-use Rattle.std.proofs.Common.{◌≡◌, Bool, List, take, drop, ap, ◌∙◌, arith}
+use Rattle.std.proofs.Common.{◌≡◌, Bool, List, take, ap, ◌∙◌, arith}
 use Rattle.rtk_bits.specs.Bits.{unsigned}
 use Rattle.rtk_dates.specs.DateMessages.{number_at}
 use Rattle.rtk_dates.proofs.BitLemmas.{left_long, left_twice}

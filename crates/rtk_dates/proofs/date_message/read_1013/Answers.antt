@@ -1,4 +1,4 @@
-use Rattle.std.proofs.Common.{Bool, List, length, ap, ◌∙◌, arith}
+use Rattle.std.proofs.Common.{arith}
 use Rattle.rtk_dates.proofs.BitLemmas.{left_long}
 use Rattle.rtk_dates.proofs.date_message.read_1013.Goals as goal
 
