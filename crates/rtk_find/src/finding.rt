@@ -3,7 +3,7 @@
 //! Each frame is looked at where the scanner holds it. What is held stands for the frames so far
 //! (specs/Steps/Standing.antt), whatever the pieces were.
 
-ghost use Rattle.std.specs.Prelude.{◌≡◌, ◌&&◌, ◌||◌, ◌==◌, ◌<◌, ℕ, List, [], ◌∷◌, true, false, length, get_or, IfOk};
+ghost use Rattle.std.specs.Prelude.{◌≡◌, ◌||◌, ◌==◌, ◌<◌, ℕ, List, [], ◌∷◌, true, false, length, get_or, IfOk};
 ghost use Rattle.std.specs.List.{list_any};
 ghost use Rattle.rtk_message.specs.declared.any_message.AnyMessage.{AnyMessage};
 ghost use Rattle.rtk_message.specs.AnyDecoded.{IsValid};
@@ -12,7 +12,7 @@ ghost use Rattle.rtk_obs.specs.declared.cell.CellEntry.{CellEntry};
 ghost use Rattle.rtk_dates.specs.CaptureDates.{no_dates};
 ghost use Rattle.rtk_summary.specs.Proposal.{entry_has_value};
 ghost use Rattle.rtk_summary.specs.Tracing.{entries_of, entries_of_four, has_value};
-ghost use Rattle.rtk_find.specs.Finding.{observes, observes_as, dates_with, with_message, with_date_if_any, MarkObserving};
+ghost use Rattle.rtk_find.specs.Finding.{observes, dates_with, with_message, with_date_if_any, MarkObserving};
 ghost use Rattle.rtk_find.specs.Reading.{StandsFor};
 ghost use Rattle.rtk_find.specs.Steps.Standing.{TakesFrames};
 

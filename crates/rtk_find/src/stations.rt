@@ -1,6 +1,6 @@
 //! Which station is converted if none is named.
 
-ghost use Rattle.std.specs.Prelude.{◌≡◌, ℕ, ◌<◌, length};
+ghost use Rattle.std.specs.Prelude.{◌≡◌, ℕ, ◌≤◌, length};
 ghost use Rattle.rtk_find.specs.Stations.{IsMarked, IsOnlyMarked, AreSeveralMarked};
 
 /// The station of captures.
@@ -21,14 +21,18 @@ pub fn only_station(marks: &[bool]) -> StationFound
     ensures one { (n : ℕ) → result ≡ StationFound.One n → IsOnlyMarked marks.now n }
     ensures several { result ≡ StationFound.Several → AreSeveralMarked marks.now }
 {
-    let mut found = StationFound::None;
+    let mut found = None;
     for station in 0..marks.len() {
-        if marks[station] {
-            if found != StationFound::None {
-                return StationFound::Several;
-            }
-            found = StationFound::One(station as u16);
+        if !marks[station] {
+            continue;
         }
+        if found.is_some() {
+            return StationFound::Several;
+        }
+        found = Some(station as u16);
     }
-    found
+    match found {
+        Some(station) => StationFound::One(station),
+        None => StationFound::None,
+    }
 }
