@@ -1,6 +1,6 @@
 -- What is found in the frames of a capture (this project's rule). Lists of frames and messages are
 -- newest first.
-use Rattle.std.specs.Prelude.{◌≡◌, ℕ, ◌<◌, ◌==◌, Bool, false, ◌&&◌, List, [], ◌∷◌, length, get_or, Option, None, Some, Result, Ok, Err, if◌then◌else◌}
+use Rattle.std.specs.Prelude.{◌≡◌, ℕ, ◌<◌, ◌==◌, Bool, false, ◌&&◌, List, [], ◌∷◌, length, get_or, Option, None, Some, unwrap_or, Result, Ok, Err, if◌then◌else◌}
 use Rattle.std.specs.List.{list_any}
 use Rattle.rtk_bits.specs.Bits.{bits}
 use Rattle.rtk_frame.specs.Stream.{with_more}
@@ -27,16 +27,11 @@ observes m = list_any entry_has_value (entries_of m)
 abbrev pub dates_with : Option ℕ → CaptureDates → Dates
 dates_with station capture = record { station = station; capture = capture }
 
--- the station that is known; else that of the message
-abbrev pub known_or : Option ℕ → ℕ → ℕ
-known_or None station = station
-known_or (Some known) station = known
-
 -- an observation at this time of week, of this station: if no station was known, it is that one
 abbrev pub with_time_of : ℕ → Dates → ℕ → Option ℕ → Dates
 with_time_of now d station None = d
 with_time_of now d station (Some tow) =
-    if known_or d.station station == station then dates_with (Some station) (with_epoch now station d.capture tow) else d
+    if unwrap_or d.station station == station then dates_with (Some station) (with_epoch now station d.capture tow) else d
 
 -- a message more
 abbrev pub with_message : ℕ → Dates → AnyMessage → Dates
