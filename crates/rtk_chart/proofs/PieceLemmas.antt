@@ -6,6 +6,7 @@ use Rattle.std.proofs.lemmas.Int.{ints}
 use Rattle.std.proofs.lemmas.Fmt.{decimal_by_steps, decimal_injective}
 use Rattle.std.proofs.lemmas.List.{append_cancel_left, append_cancel_right}
 use Rattle.std.proofs.lemmas.List.Elements.{All-head, All-tail}
+use Rattle.rtk_message.proofs.PublicLaws.{number-then}
 use Rattle.rtk_obs.specs.declared.time.Civil.{Civil}
 use Rattle.rtk_obs.specs.Calendar.{ReadsAs}
 use Rattle.rtk_obs.proofs.PublicLaws.{one_moment}
@@ -71,9 +72,7 @@ other-begin e d (a ∷ f) x z apart h same = let first : e ≡ a = ap (λ (xs : 
 -- ---- numbers
 
 pub same-number : (e m n : ℕ) (x y : List ℕ) → e < 48 → m < 2 ^ 64 → n < 2 ^ 64 → decimal m ++ e ∷ x ≡ decimal n ++ e ∷ y → (m ≡ n) × (x ≡ y)
-same-number e m n x y low h k same =
-    let s = same-until e (decimal m) (decimal n) x y (lacks-decimal e m low h) (lacks-decimal e n low k) same in
-    (decimal_injective m n h k s.0, s.1)
+same-number e m n x y low h k same = number-then m n e x y h k (λ digit. omega (arith, digit, low)) same
 
 -- words, a text and a line end, before another text
 line-apart : (w b x : List ℕ) → ((w ++ b) ++ 10 ∷ []) ++ x ≡ w ++ (b ++ 10 ∷ x)

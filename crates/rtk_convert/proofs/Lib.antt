@@ -30,5 +30,4 @@ mod BoundsLemmas
 mod CallsLemmas
 mod HistoryLemmas
 mod CountLemmas
-mod NumberLemmas
 mod ReportLemmas

@@ -17,7 +17,7 @@ use Rattle.rtk_convert.specs.NumberLaws.{CountLinesTellCounts, ReportTellsCounts
 use Rattle.rtk_convert.specs.Report.{lines}
 use Rattle.rtk_convert.specs.ReportText.{count_line, count_lines}
 use Rattle.rtk_convert.proofs.KeptTableLemmas.{kept-file-has_records}
-use Rattle.rtk_convert.proofs.NumberLemmas.{number-then}
+use Rattle.rtk_message.proofs.PublicLaws.{number-then}
 
 -- ---- what the lines tell
 

@@ -10,7 +10,7 @@ use Rattle.rtk_rinex.specs.declared.check_fault.Cause.TheVariants.{HeaderLine, C
 use Rattle.rtk_rinex.specs.declared.check_fault.CheckFault.{CheckFault}
 use Rattle.rtk_files.specs.CheckInput.{valid_text, check_fault_text}
 use Rattle.rtk_files.specs.CheckLaws.{ValidTellsNumbers, FaultTextTellsFault, YesTellsNumbers, NoTellsFault, NoLineSaysBoth}
-use Rattle.rtk_files.proofs.NumberLemmas.{number-then}
+use Rattle.rtk_message.proofs.PublicLaws.{number-then}
 
 valid-regrouped : (v e m s w : List ℕ) → v ++ e ++ m ++ s ++ w ++ 10 ∷ [] ≡ v ++ (e ++ (m ++ (s ++ (w ++ 10 ∷ []))))
 valid-regrouped v e m s w = simp append_assoc

@@ -1,4 +1,3 @@
 mod CheckLineLemmas
 mod CutLemmas
-mod NumberLemmas
 mod WrittenLemmas

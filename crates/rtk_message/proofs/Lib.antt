@@ -8,5 +8,6 @@ mod FieldLemmas
 mod Msm1074Lemmas
 mod MsmLemmas
 mod AnyDecodedLemmas
+mod NumberLemmas
 mod Obs1004Lemmas
 mod WordLemmas

@@ -7,3 +7,5 @@ pub use Rattle.rtk_message.specs.FieldLaws.{fit-parts}
 pub use Rattle.rtk_message.proofs.AnyDecodedLemmas.{by_four, of_four, each_by_four}
 -- the clauses of `form_of_1074`
 pub use Rattle.rtk_message.proofs.MsmLemmas.{table_of_1074, form_of_valid_1074, valid_1074_of_form, fault_of_1074}
+-- the clause of `numbers_end`
+pub use Rattle.rtk_message.proofs.NumberLemmas.{number-then}

@@ -1,7 +1,8 @@
-//! Laws of `==`, which says whether all fields of two messages, or two faults, are the same, and a
-//! law of fields that fit.
+//! Laws of `==`, which says whether all fields of two messages, or two faults, are the same, of the
+//! readings of a message, of fields that fit, and of a number in a text.
 
-ghost use Rattle.std.specs.Prelude.{List, ◌++◌, ◌≡◌, ◌↔◌, Bool, Result};
+ghost use Rattle.std.specs.Int.{IsInRange};
+ghost use Rattle.std.specs.Prelude.{ℕ, ◌<◌, ◌^◌, List, ◌∷◌, ◌++◌, ◌≡◌, ◌↔◌, Bool, Result, decimal};
 ghost use Rattle.rtk_message.specs.Accepted.{all, four};
 ghost use Rattle.rtk_message.specs.AnyDecoded.{any_of, if_any_fault_of, DecodesBy};
 ghost use Rattle.rtk_message.specs.Decoded.{Decodes};
@@ -99,4 +100,12 @@ pub fn decodes_by_four()
 /// so do the others. Proofs of other crates cite it from `proofs/PublicLaws.antt`.
 pub fn parts_of_fields_fit()
     ensures { (fs gs : List Field) → FieldsFit (fs ++ gs) → FieldsFit fs × FieldsFit gs }
+{}
+
+/// A law: a number in a text ends where a byte stands that is no digit. If two equal texts begin
+/// with numbers, and the same such byte follows each, then the numbers are equal, and so is what
+/// follows the bytes.
+pub fn numbers_end()
+    ensures { (m n x : ℕ) (s t : List ℕ) → m < 2 ^ 64 → n < 2 ^ 64 → ¬ (IsInRange 48 57 x)
+        → decimal m ++ x ∷ s ≡ decimal n ++ x ∷ t → (m ≡ n) × (s ≡ t) }
 {}

@@ -62,7 +62,7 @@ pub use fault::DecodeFault;
 pub use field::WEEK_MS;
 pub use laws::{
     decodes_by_four, equal_1004, equal_1074, equal_any_faults, equal_any_messages, equal_faults,
-    equal_messages, equal_msm, form_of_1074, named_sets, parts_of_fields_fit,
+    equal_messages, equal_msm, form_of_1074, named_sets, numbers_end, parts_of_fields_fit,
 };
 pub use layout::Layout;
 pub use message::Message;

@@ -6,7 +6,7 @@ use Rattle.std.proofs.Math.Nat.{eq-zero-or-pos}
 use Rattle.std.proofs.lemmas.Bool.{cases_Bool, eqb-false}
 use Rattle.std.proofs.lemmas.List.{append_cancel_left}
 use Rattle.rtk_summary.specs.SummaryText.{number_line, counted_line, numbered_line}
-use Rattle.rtk_summary.proofs.NumberLemmas.{number-then}
+use Rattle.rtk_message.proofs.PublicLaws.{number-then}
 
 -- ---- words that differ
 

@@ -9,7 +9,6 @@ pub mod LineTellingLemmas
 pub mod ListLemmas
 pub mod MsmLemmas
 pub mod NamedLemmas
-pub mod NumberLemmas
 pub mod ReadLemmas
 pub mod SignalLemmas
 pub mod StationLemmas

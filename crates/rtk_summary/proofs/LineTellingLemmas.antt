@@ -18,7 +18,7 @@ use Rattle.rtk_summary.specs.NumberLaws.{IsHeld, NumberLineTells, CountedLineTel
 use Rattle.rtk_summary.specs.Proposal.{proposed}
 use Rattle.rtk_summary.specs.SummaryText.{number_line, counted_line, numbered_line, time_line, time_lines, second_frequency_line, other_msm_lines, msm_option, next_line, proposal_lines, codes_text}
 use Rattle.rtk_summary.specs.Tracing.{oldest_time, newest_time, change_from, changes_in}
-use Rattle.rtk_summary.proofs.NumberLemmas.{number-then}
+use Rattle.rtk_message.proofs.PublicLaws.{number-then}
 use Rattle.rtk_summary.proofs.HeadLemmas.{AreApart, apart, IsNotHeaded, not-headed-table, line-then, some-then, lines_by_number, words_of, NumbersRise, table-then, opened}
 
 -- ---- a line

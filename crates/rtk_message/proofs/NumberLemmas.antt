@@ -22,7 +22,7 @@ digits-end (c ∷ ds) (b ∷ es) s t x d e other same =
     let digits : ds ≡ es = rest.0 in
     (cc, rest.1)
 
--- equal texts that begin with numbers, each with the same byte behind it, have one number and one rest
+-- equal texts that begin with numbers, with the same byte after each, have one number and one rest
 pub number-then : (m n x : ℕ) (s t : List ℕ) → m < 2 ^ 64 → n < 2 ^ 64 → (IsInRange 48 57 x → ⊥)
     → decimal m ++ x ∷ s ≡ decimal n ++ x ∷ t → (m ≡ n) × (s ≡ t)
 number-then m n x s t held fits other same =
