@@ -1,5 +1,5 @@
 -- Observation codes, their bands and the frequencies of their carriers.
-use Rattle.std.specs.Prelude.{ℕ, List, codes}
+use Rattle.std.specs.Prelude.{ℕ, List, [], ◌∷◌, codes}
 use Rattle.rtk_obs.specs.declared.code.Band.{Band}
 use Rattle.rtk_obs.specs.declared.code.Band.TheVariants.{L1, L2, L5}
 use Rattle.rtk_obs.specs.declared.code.Code.{Code}
@@ -71,3 +71,8 @@ place_of C2X = 12
 place_of C5I = 13
 place_of C5Q = 14
 place_of C5X = 15
+
+-- table
+-- all codes, in the order of their places
+abbrev pub all_codes : List Code
+all_codes = C1C ∷ C1P ∷ C1W ∷ C1S ∷ C1L ∷ C1X ∷ C2C ∷ C2D ∷ C2P ∷ C2W ∷ C2S ∷ C2L ∷ C2X ∷ C5I ∷ C5Q ∷ C5X ∷ []

@@ -69,6 +69,26 @@ pub enum Code {
     C5X,
 }
 
+/// All codes, in the order of their places.
+pub const ALL_CODES: [Code; 16] = [
+    Code::C1C,
+    Code::C1P,
+    Code::C1W,
+    Code::C1S,
+    Code::C1L,
+    Code::C1X,
+    Code::C2C,
+    Code::C2D,
+    Code::C2P,
+    Code::C2W,
+    Code::C2S,
+    Code::C2L,
+    Code::C2X,
+    Code::C5I,
+    Code::C5Q,
+    Code::C5X,
+];
+
 impl Code {
     ghost use Rattle.rtk_obs.specs.Code.{band_of, place_of};
 
@@ -132,7 +152,7 @@ impl Code {
         }
     }
 
-    /// The place of the code in the list of all sixteen, from 0.
+    /// The place of the code in `ALL_CODES`, from 0.
     pub fn place(self) -> usize
         ensures value { result ≡ place_of self }
         ensures bound { result < 16 }

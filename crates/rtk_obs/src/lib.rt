@@ -40,7 +40,7 @@ mod tracks;
 
 pub use calendar::{civil, of_civil};
 pub use cell::{Cell, CellEntry, CellSource};
-pub use code::{Band, Code};
+pub use code::{ALL_CODES, Band, Code};
 pub use dating::{HALF_WEEK_MS, WEEK_MS, date};
 pub use laws::{
     cell_laws, cells_are_distinct, cells_are_in_range, civil_laws, code_laws, date_is_unique,

@@ -4,13 +4,13 @@ use Rattle.std.proofs.Math.Dec.{eqb-suc-zero}
 use Rattle.std.specs.Prelude.{flat_map, filter, codes}
 use Rattle.std.specs.List.{range_with_len}
 use Rattle.rtk_obs.specs.declared.code.Code.{Code}
-use Rattle.rtk_obs.specs.Code.{name_of, place_of}
+use Rattle.rtk_obs.specs.Code.{name_of, place_of, all_codes}
 use Rattle.rtk_message.specs.declared.msm_kind.MsmKind.{MsmKind}
 use Rattle.rtk_message.specs.declared.any_message.AnyMessage.{AnyMessage}
 use Rattle.rtk_summary.specs.Counting.{shown_count, count_of}
 use Rattle.rtk_summary.specs.Proposal.{epochs_of, entries_with}
 use Rattle.rtk_summary.specs.Summary.{all_numbers, station_lines, lines_if_any}
-use Rattle.rtk_summary.specs.SummaryText.{number_line, counted_line, numbered_line, list_line, time_lines, untaken_numbers, listed_satellite, satellites_text, all_codes, joined_names, codes_text, msm_option, next_line, signal_lines, proposal_lines}
+use Rattle.rtk_summary.specs.SummaryText.{number_line, counted_line, numbered_line, list_line, time_lines, untaken_numbers, listed_satellite, satellites_text, joined_names, codes_text, msm_option, next_line, signal_lines, proposal_lines}
 use Rattle.rtk_summary.specs.Steps.Standing.{StandsForEntries, StandsForMessages, StandForMsm, epochs_held, codes_held}
 use Rattle.rtk_summary.specs.Steps.Tables.{counts_text, untaken_text, counts_held}
 use Rattle.rtk_summary.specs.Tracing.{is_numbered, entries_in, has_satellite, has_code, times_of_week}

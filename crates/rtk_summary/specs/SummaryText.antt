@@ -6,8 +6,8 @@ use Rattle.rtk_message.specs.declared.msm_kind.MsmKind.{MsmKind}
 use Rattle.rtk_message.specs.declared.msm_kind.MsmKind.TheVariants.{Msm4, Msm5, Msm6, Msm7}
 use Rattle.rtk_message.specs.MsmForm.{number_of_kind}
 use Rattle.rtk_obs.specs.declared.code.Code.{Code}
-use Rattle.rtk_obs.specs.declared.code.Code.TheVariants.{C1C, C1P, C1W, C1S, C1L, C1X, C2C, C2D, C2P, C2W, C2S, C2L, C2X, C5I, C5Q, C5X}
-use Rattle.rtk_obs.specs.Code.{name_of}
+use Rattle.rtk_obs.specs.declared.code.Code.TheVariants.{C2P, C2W}
+use Rattle.rtk_obs.specs.Code.{name_of, all_codes}
 use Rattle.rtk_summary.specs.Counting.{shown_count}
 use Rattle.rtk_summary.specs.Proposal.{proposed}
 use Rattle.rtk_summary.specs.Tracing.{newest_time, oldest_time, changes_in}
@@ -68,11 +68,6 @@ listed_satellite test n = if test n then 32 ∷ satellite_name n else []
 -- the satellites from 1 to 32 that have a value, each after a blank
 unfoldable pub satellites_text : (ℕ → Bool) → List ℕ
 satellites_text test = flat_map (listed_satellite test) (range_with_len 1 32)
-
--- table
--- the codes of all three bands
-abbrev pub all_codes : List Code
-all_codes = C1C ∷ C1P ∷ C1W ∷ C1S ∷ C1L ∷ C1X ∷ C2C ∷ C2D ∷ C2P ∷ C2W ∷ C2S ∷ C2L ∷ C2X ∷ C5I ∷ C5Q ∷ C5X ∷ []
 
 -- formula
 -- the names of codes, the first after this separator and each other one after a comma

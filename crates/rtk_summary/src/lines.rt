@@ -18,28 +18,8 @@ use crate::summary::Summary;
 use crate::times::Times;
 use crate::unread::Unread;
 use rtk_message::{MsmKind, put_named};
-use rtk_obs::Code;
+use rtk_obs::{ALL_CODES, Code};
 use std::alloc::{AllocError, Global};
-
-/// The codes in the order of their places.
-const ALL_CODES: [Code; 16] = [
-    Code::C1C,
-    Code::C1P,
-    Code::C1W,
-    Code::C1S,
-    Code::C1L,
-    Code::C1X,
-    Code::C2C,
-    Code::C2D,
-    Code::C2P,
-    Code::C2W,
-    Code::C2S,
-    Code::C2L,
-    Code::C2X,
-    Code::C5I,
-    Code::C5Q,
-    Code::C5X,
-];
 
 /// The messages of GPS observations that are not read.
 const UNTAKEN: [u16; 6] = [1001, 1002, 1003, 1071, 1072, 1073];
