@@ -6,11 +6,11 @@ use Rattle.std.proofs.lemmas.Bool.{cases_order}
 use Rattle.std.proofs.lemmas.Bool.Decides.{nat_tests}
 use Rattle.rtk_obs.specs.declared.code.Code.{Code}
 use Rattle.rtk_obs.specs.declared.code.Code.TheVariants.{C1C, C1P, C1W, C1S, C1L, C1X, C2C, C2D, C2P, C2W, C2S, C2L, C2X, C5I, C5Q, C5X}
-use Rattle.rtk_obs.specs.Code.{place_of}
+use Rattle.rtk_obs.specs.Code.{place_of, all_codes}
 use Rattle.rtk_rinex.specs.Steps.HeaderShown.{AreAllCodes}
 
 in_order : List Code
-in_order = C1C ∷ C1P ∷ C1W ∷ C1S ∷ C1L ∷ C1X ∷ C2C ∷ C2D ∷ C2P ∷ C2W ∷ C2S ∷ C2L ∷ C2X ∷ C5I ∷ C5Q ∷ C5X ∷ []
+in_order = all_codes
 
 rank : (i : ℕ) (d : Code) → i < 16 → place_of (slice_index_or in_order i d) ≡ i
 unfolding in_order
@@ -57,7 +57,7 @@ every C5I = (13, omega arith, refl)
 every C5Q = (14, omega arith, refl)
 every C5X = (15, omega arith, refl)
 
-pub all_in_order : AreAllCodes (C1C ∷ C1P ∷ C1W ∷ C1S ∷ C1L ∷ C1X ∷ C2C ∷ C2D ∷ C2P ∷ C2W ∷ C2S ∷ C2L ∷ C2X ∷ C5I ∷ C5Q ∷ C5X ∷ [])
+pub all_in_order : AreAllCodes all_codes
 unfolding in_order
 all_in_order = record { length = refl; distinct = distinct; every = every }
 

@@ -21,26 +21,7 @@ use crate::head::{Head, is_marker};
 use crate::header_text::header_lines;
 use crate::record_text::trimmed_len;
 use memchr::memchr;
-use rtk_obs::{Civil, Code, GpsMs, Position, of_civil};
-
-const ALL_CODES: [Code; 16] = [
-    Code::C1C,
-    Code::C1P,
-    Code::C1W,
-    Code::C1S,
-    Code::C1L,
-    Code::C1X,
-    Code::C2C,
-    Code::C2D,
-    Code::C2P,
-    Code::C2W,
-    Code::C2S,
-    Code::C2L,
-    Code::C2X,
-    Code::C5I,
-    Code::C5Q,
-    Code::C5X,
-];
+use rtk_obs::{ALL_CODES, Civil, Code, GpsMs, Position, of_civil};
 
 // The first moment, which stands for the moment of a line that shows no moment.
 fn first_moment() -> GpsMs
