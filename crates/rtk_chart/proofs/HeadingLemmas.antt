@@ -6,7 +6,8 @@ use Rattle.rtk_rinex.specs.Header.{IsMarker}
 use Rattle.rtk_rinex.specs.Reading.{IsMoment, reading_of}
 use Rattle.rtk_rinex.specs.Record.{EpochTableView}
 use Rattle.rtk_chart.specs.Epochs.{capped, slips_in}
-use Rattle.rtk_chart.specs.Heading.{moment_shown, seconds_text, interval_line}
+use Rattle.rtk_obs.specs.CivilText.{civil_text}
+use Rattle.rtk_chart.specs.Heading.{seconds_text, interval_line}
 use Rattle.rtk_chart.specs.Interval.{missing_in}
 use Rattle.rtk_chart.specs.Grid.{columns_of, gaps_of}
 use Rattle.rtk_chart.specs.TextPicture.{satellites_in, named_count_line, moment_line, text_heading, number_lines, satellite_rows, gap_row, time_rows, text_picture}
@@ -149,11 +150,11 @@ same-text m n s t r a l k r₂ a₂ l₂ k₂ lm ln hs ht h g same =
     )
 
 span-is : (s : Scale) (tail : List ℕ)
-    → svg_span s ++ tail ≡ codes "<text x='90' y='52'>" ++ (moment_shown (reading_of s.first) ++ (codes " to " ++ (moment_shown (reading_of s.last)
+    → svg_span s ++ tail ≡ codes "<text x='90' y='52'>" ++ (civil_text (reading_of s.first) ++ (codes " to " ++ (civil_text (reading_of s.last)
     ++ (codes ", " ++ (interval_text s.interval ++ (codes ", column " ++ (seconds_text s.column_ms ++ (codes " s</text>\n" ++ tail))))))))
 unfolding svg_span
 span-is s tail =
-    group_10 (codes "<text x='90' y='52'>") (moment_shown (reading_of s.first)) (codes " to ") (moment_shown (reading_of s.last)) (codes ", ")
+    group_10 (codes "<text x='90' y='52'>") (civil_text (reading_of s.first)) (codes " to ") (civil_text (reading_of s.last)) (codes ", ")
     (interval_text s.interval) (codes ", column ") (seconds_text s.column_ms) (codes " s</text>\n") tail
 
 same-svg : (s t : Scale) (r a l k r₂ a₂ l₂ k₂ : ℕ) → IsTold s → IsTold t → Fit r a l k → Fit r₂ a₂ l₂ k₂
@@ -165,8 +166,8 @@ same-svg s t r a l k r₂ a₂ l₂ k₂ hs ht h g same =
     let column₂ : List ℕ = codes ", column " ++ (seconds_text t.column_ms ++ end₂) in
     let last : List ℕ = codes ", " ++ (interval_text s.interval ++ column) in
     let last₂ : List ℕ = codes ", " ++ (interval_text t.interval ++ column₂) in
-    let to : List ℕ = codes " to " ++ (moment_shown (reading_of s.last) ++ last) in
-    let to₂ : List ℕ = codes " to " ++ (moment_shown (reading_of t.last) ++ last₂) in
+    let to : List ℕ = codes " to " ++ (civil_text (reading_of s.last) ++ last) in
+    let to₂ : List ℕ = codes " to " ++ (civil_text (reading_of t.last) ++ last₂) in
     let v = same-moment s.first t.first to to₂ hs.first ht.first
     (ap (drop 20) (sym (span-is s (svg_numbers r a l k)) ∙ same ∙ span-is t (svg_numbers r₂ a₂ l₂ k₂))) in
     let w = same-moment s.last t.last last last₂ hs.last ht.last (ap (drop 4) v.1) in

@@ -10,10 +10,10 @@ use Rattle.rtk_message.proofs.PublicLaws.{number-then}
 use Rattle.rtk_obs.specs.declared.time.Civil.{Civil}
 use Rattle.rtk_obs.specs.Calendar.{ReadsAs}
 use Rattle.rtk_obs.proofs.PublicLaws.{one_moment}
-use Rattle.rtk_rinex.specs.Columns.{last_digits}
+use Rattle.rtk_obs.specs.CivilText.{last_digits, date_text, clock_text, civil_text}
 use Rattle.rtk_rinex.specs.Reading.{reading_of}
 use Rattle.rtk_chart.specs.Epochs.{capped}
-use Rattle.rtk_chart.specs.Heading.{date_text, clock_text, moment_shown, seconds_text, interval_line}
+use Rattle.rtk_chart.specs.Heading.{seconds_text, interval_line}
 use Rattle.rtk_chart.specs.TextPicture.{named_count_line, moment_line}
 use Rattle.rtk_chart.specs.SvgPicture.{number_between, interval_text}
 
@@ -193,8 +193,8 @@ record SameDigits (c d : Civil) : Type 0 where
   second : c.second % 100 ≡ d.second % 100
   millisecond : c.millisecond % 1000 ≡ d.millisecond % 1000
 
-same-digits : (c d : Civil) (x y : List ℕ) → moment_shown c ++ x ≡ moment_shown d ++ y → SameDigits c d × (x ≡ y)
-unfolding moment_shown date_text clock_text
+same-digits : (c d : Civil) (x y : List ℕ) → civil_text c ++ x ≡ civil_text d ++ y → SameDigits c d × (x ≡ y)
+unfolding civil_text date_text clock_text
 same-digits c d x y same = (
   record {
     year = same-four c.year d.year (ap (λ (xs : List ℕ). get_or xs 0 0) same) (ap (λ (xs : List ℕ). get_or xs 1 0) same) (ap (λ (xs : List ℕ). get_or xs 2 0) same) (ap (λ (xs : List ℕ). get_or xs 3 0) same);
@@ -253,7 +253,7 @@ same-reading c d t u p q same =
     (thousandths c.millisecond d.millisecond p.1.3 q.1.3 same.millisecond)
 
 pub same-moment : (t u : ℕ) (x y : List ℕ) → ReadsAs t (reading_of t) → ReadsAs u (reading_of u)
-    → moment_shown (reading_of t) ++ x ≡ moment_shown (reading_of u) ++ y → (t ≡ u) × (x ≡ y)
+    → civil_text (reading_of t) ++ x ≡ civil_text (reading_of u) ++ y → (t ≡ u) × (x ≡ y)
 same-moment t u x y p q same =
     let s = same-digits (reading_of t) (reading_of u) x y same in
     let r = same-reading (reading_of t) (reading_of u) t u p q s.0 in
@@ -262,5 +262,5 @@ same-moment t u x y p q same =
 pub same-moment-line : (w : List ℕ) (t u : ℕ) (x y : List ℕ) → ReadsAs t (reading_of t) → ReadsAs u (reading_of u)
     → moment_line w t ++ x ≡ moment_line w u ++ y → (t ≡ u) × (x ≡ y)
 same-moment-line w t u x y p q same =
-    let s = same-moment t u (10 ∷ x) (10 ∷ y) p q (same-line-body w (moment_shown (reading_of t)) (moment_shown (reading_of u)) x y same) in
+    let s = same-moment t u (10 ∷ x) (10 ∷ y) p q (same-line-body w (civil_text (reading_of t)) (civil_text (reading_of u)) x y same) in
     (s.0, ap (drop 1) s.1)

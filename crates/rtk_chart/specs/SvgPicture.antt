@@ -5,7 +5,8 @@ use Rattle.std.specs.List.{range_with_len}
 use Rattle.rtk_obs.specs.declared.code.Code.{Code}
 use Rattle.rtk_obs.specs.Code.{name_of}
 use Rattle.rtk_rinex.specs.Reading.{reading_of}
-use Rattle.rtk_chart.specs.Heading.{moment_shown, seconds_text}
+use Rattle.rtk_obs.specs.CivilText.{civil_text}
+use Rattle.rtk_chart.specs.Heading.{seconds_text}
 use Rattle.rtk_chart.specs.Ticks.{tick_step, tick_at, tick_label}
 use Rattle.rtk_chart.specs.TextPicture.{cell_of_column, is_drawn, drawn_before, satellites_in}
 use Rattle.rtk_chart.specs.SvgPath.{runs_text, strokes_text}
@@ -167,7 +168,7 @@ interval_text (Some ms) = codes "interval " ++ seconds_text ms ++ codes " s"
 -- the span, the interval and the length of a column
 unfoldable pub svg_span : Scale → List ℕ
 svg_span s =
-    codes "<text x='90' y='52'>" ++ moment_shown (reading_of s.first) ++ codes " to " ++ moment_shown (reading_of s.last) ++ codes ", "
+    codes "<text x='90' y='52'>" ++ civil_text (reading_of s.first) ++ codes " to " ++ civil_text (reading_of s.last) ++ codes ", "
     ++ interval_text s.interval ++ codes ", column " ++ seconds_text s.column_ms ++ codes " s</text>\n"
 
 -- formula

@@ -3,7 +3,8 @@ use Rattle.std.specs.Prelude.{ℕ, ◌+◌, ◌-◌, ◌*◌, ◌/◌, ◌%◌, 
 use Rattle.std.specs.List.{list_any, range_with_len}
 use Rattle.rtk_rinex.specs.Reading.{reading_of}
 use Rattle.rtk_chart.specs.Grid.{cell_in}
-use Rattle.rtk_chart.specs.Heading.{moment_shown, seconds_text, interval_line}
+use Rattle.rtk_obs.specs.CivilText.{civil_text}
+use Rattle.rtk_chart.specs.Heading.{seconds_text, interval_line}
 use Rattle.rtk_chart.specs.Ticks.{tick_step, tick_at, tick_label}
 use Rattle.rtk_chart.specs.declared.scale.Scale.{Scale}
 use Rattle.rtk_chart.specs.declared.cell.Cell.{Cell}
@@ -128,7 +129,7 @@ named_count_line words n = words ++ decimal n ++ 10 ∷ []
 -- formula
 -- words and a moment
 abbrev pub moment_line : List ℕ → ℕ → List ℕ
-moment_line words t = words ++ moment_shown (reading_of t) ++ 10 ∷ []
+moment_line words t = words ++ civil_text (reading_of t) ++ 10 ∷ []
 
 -- how many satellites before a place are drawn
 unfoldable pub drawn_before : List Column → ℕ → ℕ

@@ -2,7 +2,7 @@
 use Rattle.std.specs.Prelude.{ℕ, ◌+◌, ◌-◌, ◌*◌, ◌/◌, nat_le, nat_lt, List, [], ◌∷◌, ◌++◌, codes, Option, None, Some, unwrap_or, min, if◌then◌else◌}
 use Rattle.std.specs.List.{find}
 use Rattle.rtk_rinex.specs.Reading.{reading_of}
-use Rattle.rtk_chart.specs.Heading.{date_text, clock_text}
+use Rattle.rtk_obs.specs.CivilText.{date_text, clock_text}
 use Rattle.rtk_chart.specs.Scale.{column_start}
 use Rattle.rtk_chart.specs.declared.scale.Scale.{Scale}
 

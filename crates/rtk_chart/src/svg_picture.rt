@@ -2,7 +2,7 @@
 
 ghost use Rattle.std.specs.Prelude.{◌≡◌, ◌≤◌, ◌<◌, ◌++◌, length, IfOk, OnOk};
 ghost use Rattle.rtk_rinex.specs.Reading.{IsMoment, reading_of};
-ghost use Rattle.rtk_chart.specs.Heading.{moment_shown};
+ghost use Rattle.rtk_obs.specs.CivilText.{civil_text};
 ghost use Rattle.rtk_chart.specs.Scale.{IsScale};
 ghost use Rattle.rtk_chart.specs.SvgPicture.{interval_text, svg_span, svg_numbers, svg_start, svg_legend, bands_end, svg_body, svg_picture, svg_of_none};
 
@@ -60,7 +60,7 @@ fn put_interval_words(text: &mut Vec<u8>, interval: Option<u64>) -> Result<(), A
 
 fn put_time(text: &mut Vec<u8>, moment: u64) -> Result<(), AllocError>
     requires { IsMoment moment }
-    ensures { OnOk result (text.new.items ≡ text.old.items ++ moment_shown (reading_of moment)) }
+    ensures { OnOk result (text.new.items ≡ text.old.items ++ civil_text (reading_of moment)) }
 {
     match GpsMs::new(moment) {
         Some(time) => put_moment(text, time),

@@ -7,8 +7,8 @@ ghost use Rattle.rtk_chart.specs.Scale.{IsScale};
 ghost use Rattle.rtk_chart.specs.Ticks.{tick_steps, tick_step, tick_at, tick_label};
 
 use crate::scale::Scale;
-use crate::times::{put_clock, put_date, reading};
-use rtk_obs::GpsMs;
+use crate::times::reading;
+use rtk_obs::{GpsMs, put_clock, put_date};
 use std::alloc::AllocError;
 
 const DAY_MS: u64 = 86_400_000;

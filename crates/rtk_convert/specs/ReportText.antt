@@ -2,18 +2,10 @@
 -- time.
 use Rattle.std.specs.Prelude.{ℕ, ◌+◌, List, [], ◌∷◌, ◌++◌, codes, decimal, Option, None, Some}
 use Rattle.rtk_obs.specs.declared.code.Code.{Code}
-use Rattle.rtk_obs.specs.declared.time.Civil.{Civil}
+use Rattle.rtk_obs.specs.CivilText.{last_digits, civil_text}
 use Rattle.rtk_obs.specs.Code.{name_of}
-use Rattle.rtk_rinex.specs.Columns.{last_digits}
 use Rattle.rtk_rinex.specs.Reading.{reading_of}
 use Rattle.rtk_convert.specs.declared.counts.Counts.{Counts}
-
--- formula
--- a reading, as 2024-05-17 12:00:00.000
-abbrev pub civil_text : Civil → List ℕ
-civil_text c =
-    last_digits 4 c.year ++ 45 ∷ last_digits 2 c.month ++ 45 ∷ last_digits 2 c.day
-    ++ 32 ∷ last_digits 2 c.hour ++ 58 ∷ last_digits 2 c.minute ++ 58 ∷ last_digits 2 c.second ++ 46 ∷ last_digits 3 c.millisecond
 
 -- formula
 -- the epoch of a message; a hyphen for a station message, which has none

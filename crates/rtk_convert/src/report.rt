@@ -2,63 +2,15 @@
 
 ghost use Rattle.std.specs.Prelude.{◌≡◌, ◌<◌, ◌++◌, [], Some, None, Option, ℕ, flat_map, IfOk, OnOk};
 ghost use Rattle.rtk_collect.specs.declared.conflicts.SatelliteCode.{SatelliteCode};
-ghost use Rattle.rtk_rinex.specs.Columns.{last_digits};
-ghost use Rattle.rtk_rinex.specs.Reading.{reading_of};
 ghost use Rattle.rtk_convert.specs.Report.{refused_line, cell_lines, conflict_lines};
 ghost use Rattle.rtk_convert.specs.Steps.OfferLines.{offer_lines};
-ghost use Rattle.rtk_convert.specs.ReportText.{civil_text, epoch_text, link_text, arrival_text, signal_text, late_line, conflict_line, cell_conflict_line, count_line, count_lines};
+ghost use Rattle.rtk_convert.specs.ReportText.{epoch_text, link_text, arrival_text, signal_text, late_line, conflict_line, cell_conflict_line, count_line, count_lines};
 
 use crate::counts::Counts;
 use rtk_collect::{Offer, SatelliteCode};
 use rtk_message::{AnyFault, put_any_fault, put_named};
-use rtk_obs::{Civil, GpsMs, civil};
+use rtk_obs::{GpsMs, civil, put_civil, two_digits};
 use std::alloc::{AllocError, Global};
-
-// The digits of tens and ones.
-fn two_digits(n: u8) -> [u8; 2]
-    ensures { result ≡ last_digits 2 n }
-{
-    [b'0' + n / 10 % 10, b'0' + n % 10]
-}
-
-fn three_digits(n: u16) -> [u8; 3]
-    ensures { result ≡ last_digits 3 n }
-{
-    let digit = |n: u16| b'0' + (n % 10) as u8;
-    [digit(n / 10 / 10), digit(n / 10), digit(n)]
-}
-
-fn four_digits(n: u16) -> [u8; 4]
-    ensures { result ≡ last_digits 4 n }
-{
-    let digit = |n: u16| b'0' + (n % 10) as u8;
-    [
-        digit(n / 10 / 10 / 10),
-        digit(n / 10 / 10),
-        digit(n / 10),
-        digit(n),
-    ]
-}
-
-// A civil time, as 2024-05-17 12:00:00.000.
-fn put_civil(line: &mut Vec<u8>, time: Civil) -> Result<(), AllocError>
-    ensures { OnOk result (line.new.items ≡ line.old.items ++ civil_text time) }
-{
-    line.extend_from_slice(&four_digits(time.year))?;
-    line.push(b'-')?;
-    line.extend_from_slice(&two_digits(time.month))?;
-    line.push(b'-')?;
-    line.extend_from_slice(&two_digits(time.day))?;
-    line.push(b' ')?;
-    line.extend_from_slice(&two_digits(time.hour))?;
-    line.push(b':')?;
-    line.extend_from_slice(&two_digits(time.minute))?;
-    line.push(b':')?;
-    line.extend_from_slice(&two_digits(time.second))?;
-    line.push(b'.')?;
-    line.extend_from_slice(&three_digits(time.millisecond))?;
-    Ok(())
-}
 
 // The epoch of a message; a hyphen if it has none.
 fn put_epoch(line: &mut Vec<u8>, epoch: Option<GpsMs>) -> Result<(), AllocError>

@@ -1,5 +1,6 @@
 pub mod Dating
 pub mod Calendar
+pub mod CivilText
 pub mod Rounding
 pub mod LockTime
 pub mod Code

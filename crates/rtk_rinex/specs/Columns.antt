@@ -2,11 +2,8 @@
 use Rattle.std.specs.Prelude.{ℕ, zero, suc, ◌+◌, ◌-◌, ◌/◌, ◌%◌, ◌^◌, List, [], ◌∷◌, ◌++◌, length, replicate, ℤ, pos, negsuc, unsigned_abs, Bool, true, false, decimal}
 use Rattle.std.specs.Fmt.{sign_text}
 
--- formula
--- the last k decimal digits of n, with zeros in front if it has fewer (Ik.k)
-abbrev pub last_digits : ℕ → ℕ → List ℕ
-last_digits zero n = []
-last_digits (suc k) n = last_digits k (n / 10) ++ (48 + n % 10) ∷ []
+-- the last k decimal digits of a number (Ik.k)
+pub use Rattle.rtk_obs.specs.CivilText.{last_digits}
 
 -- formula
 -- a text at the right end of w columns, after blanks (Iw of a number's digits)

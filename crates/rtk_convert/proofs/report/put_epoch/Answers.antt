@@ -1,7 +1,8 @@
 use Rattle.std.proofs.Common.{ℕ, ◌++◌, Option, sym, ap, ◌∙◌}
+use Rattle.rtk_obs.specs.CivilText.{civil_text}
 use Rattle.rtk_obs.specs.declared.time.Civil.{Civil}
 use Rattle.rtk_rinex.proofs.PublicLaws.{reading_is}
-use Rattle.rtk_convert.specs.ReportText.{civil_text, epoch_text}
+use Rattle.rtk_convert.specs.ReportText.{epoch_text}
 use Rattle.rtk_convert.proofs.report.put_epoch.Goals as goal
 
 pub returns-in_ok-put_civil-in-Some : goal.returns-in_ok-put_civil-in-Some
