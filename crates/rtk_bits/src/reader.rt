@@ -128,8 +128,8 @@ fn field_at(bytes: &[u8], skip: usize, width: usize) -> u64
     }
 }
 
-// The same, from the bytes up to the end of the field. It is not inlined, since it is seldom called:
-// by the last fields of a payload.
+// The number of the `width` bits after the first `skip` bits, from the bytes up to the end of the
+// field. It is not inlined, since it is seldom called: by the last fields of a payload.
 #[inline(never)]
 fn field_of_bytes(bytes: &[u8], skip: usize, width: usize) -> u64
     requires low { (skip < 8) × (1 ≤ width) × (width ≤ 64) }

@@ -49,7 +49,7 @@ AreFinal text fs gs = AreThose (λ f. (p : ℕ) → p < f.place → Waits text f
 abbrev pub IsPending : List ℕ → List Frame → List ℕ → Type 0
 IsPending text fs suffix = (((p : ℕ) → Waits text fs p → ⊥) × (suffix ≡ [])) ⊎ ((p : ℕ) × Waits text fs p × ((q : ℕ) → q < p → Waits text fs q → ⊥) × (suffix ≡ drop p text))
 
--- ---- the same, computed from left to right
+-- ---- the frames, computed from left to right
 
 -- the frame at a place, by the text from there on
 abbrev pub frame_at : ℕ → List ℕ → Frame
@@ -64,7 +64,7 @@ frames_from (suc skip) place (x ∷ xs) = frames_from skip (place + 1) xs
 frames_from zero place (x ∷ xs) = cond (begins_frame (x ∷ xs)) (frame_at place (x ∷ xs) ∷ frames_from (payload_length (x ∷ xs) + 5) (place + 1) xs) (frames_from zero (place + 1) xs)
 
 -- formula
--- the same, up to the first waiting place
+-- the frames of such a text up to the first waiting place
 unfoldable pub final_from : ℕ → ℕ → List ℕ → List Frame
 final_from skip place [] = []
 final_from (suc skip) place (x ∷ xs) = final_from skip (place + 1) xs

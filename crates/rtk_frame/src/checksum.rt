@@ -59,7 +59,7 @@ fn after_sixteen(state: u32, bytes: &[u8; 16]) -> u32
         ^ entry(0, bytes[15])
 }
 
-// The same for eight bytes more.
+// The state after eight bytes more.
 fn after_eight(state: u32, bytes: &[u8; 8]) -> u32
     ensures { (rest : List ℕ) → remainder result rest ≡ remainder state (bytes.now ++ rest) }
 {
@@ -74,7 +74,7 @@ fn after_eight(state: u32, bytes: &[u8; 8]) -> u32
         ^ entry(0, bytes[7])
 }
 
-// The same for one byte more.
+// The state after one byte more.
 fn after_byte(state: u32, byte: u8) -> u32
     ensures { (rest : List ℕ) → remainder result rest ≡ remainder state (byte ∷ rest) }
 {

@@ -278,7 +278,8 @@ fn remove_front(ring: &mut HeapCircularBuffer<u8>, count: usize)
     }
 }
 
-// The same for bytes of which some stay. It is not inlined, so that its room is blanked only then.
+// Takes the first bytes out of a ring in which some bytes stay. It is not inlined, so that its room
+// is blanked only then.
 #[inline(never)]
 fn keep_rest(ring: &mut HeapCircularBuffer<u8>, count: usize)
     requires { (ring.old.capacity ≡ 2 * LONGEST_FRAME) × (count ≤ length ring.old.items)

@@ -48,8 +48,8 @@ pub fn next_frame(bytes: &[u8], from: usize) -> Option<Placed<'_>>
     }
 }
 
-// The same by the checksums of prefixes. It is not inlined, so that their room is blanked only if
-// there is a candidate that fails.
+// The first frame from the place on, by checksums of prefixes. It is not inlined, so that their room
+// is blanked only if there is a candidate that fails.
 #[inline(never)]
 fn next_frame_of_many(bytes: &[u8], from: usize) -> Option<Placed<'_>>
     requires { from ≤ length bytes.now }
@@ -62,7 +62,7 @@ fn next_frame_of_many(bytes: &[u8], from: usize) -> Option<Placed<'_>>
     search(bytes, from, &mut start, &mut prefixes)
 }
 
-// The same, with checksums of prefixes of the bytes from the place `start` on.
+// The first frame from the place on, by checksums of prefixes of the bytes from the place `start` on.
 fn search<'a>(
     bytes: &'a [u8],
     from: usize,

@@ -58,12 +58,12 @@ IsPayloadOf m payload = bits payload ≡ bits_of_fields (table m) ++ padding (le
 
 -- ---- the first fault, in the order in which causes are looked for
 
--- the same answer of one of the four messages
+-- an answer for one of the four messages, as one of the wider set
 abbrev pub any_of : Result message.Message DecodeFault → Result AnyMessage AnyFault
 any_of (Ok m) = Ok (Message m)
 any_of (Err f) = Err (any_fault_of f)
 
--- the same fault, if there is one
+-- a fault, if there is one, as one of the wider set
 abbrev pub if_any_fault_of : Option DecodeFault → Option AnyFault
 if_any_fault_of None = None
 if_any_fault_of (Some f) = Some (any_fault_of f)

@@ -8,7 +8,7 @@ use Rattle.rtk_message.specs.declared.any_fault.AnyFault.{AnyFault}
 use Rattle.rtk_message.specs.declared.any_fault.AnyFault.TheVariants.{NoNumber, Other, Short, EpochRange, TooManyCells}
 
 -- table
--- the same cause; too many cells are those of a 1074
+-- a cause as one of the wider set; too many cells are those of a 1074
 abbrev pub any_fault_of : DecodeFault → AnyFault
 any_fault_of fault.NoNumber = NoNumber
 any_fault_of (fault.Other number) = Other number

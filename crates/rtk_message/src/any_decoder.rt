@@ -193,7 +193,7 @@ fn read_any(number: u16, reader: BitReader<'_>) -> Result<AnyMessage, AnyFault>
     }
 }
 
-// The same reading of one of the four messages.
+// A reading of one of the four messages, as one of the wider set.
 fn any(reading: Result<Message, DecodeFault>) -> Result<AnyMessage, AnyFault>
     ensures { result ≡ any_of reading }
 {

@@ -27,7 +27,8 @@ pub enum AnyFault {
     TooManyCells { number: u16 },
 }
 
-// The same cause. A 1074 is the one message for which `DecodeFault` has too many cells.
+// A cause as one of the wider set. A 1074 is the one message for which `DecodeFault` has too many
+// cells.
 impl From<DecodeFault> for AnyFault {
     ghost use Rattle.std.specs.Prelude.{◌≡◌};
     ghost use Rattle.rtk_message.specs.AnyFaultCode.{any_fault_of};

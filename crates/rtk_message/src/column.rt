@@ -222,7 +222,8 @@ fn read_fields<T: FieldValue>(
 }
 
 // Takes some fields from a word as the values of a column from this place on. The clause `fields`
-// says the same as above of the bits of the word and of the bits `rest` after it.
+// says of the bits of the word, and of the bits `rest` after it, what the clause of `read_fields`
+// says of the bits of a reader.
 #[inline(always)]
 fn set_fields<T: FieldValue>(
     column: &mut Column<T>,

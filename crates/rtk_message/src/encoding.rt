@@ -35,7 +35,7 @@ pub fn encode(alloc: Global, message: &Message) -> Result<Vec<u8>, AllocError>
     Ok(writer.finish())
 }
 
-/// The same for a message of the wider set.
+/// The bytes of a payload of a message of the wider set, as `encode` makes them.
 pub fn encode_any(alloc: Global, message: &AnyMessage) -> Result<Vec<u8>, AllocError>
     requires { any.IsValid message.now }
     ensures { IfOk result (λ payload. any.IsPayloadOf message.now payload.items) }
@@ -61,7 +61,7 @@ fn write_message(writer: &mut BitWriter, message: &Message) -> Result<(), AllocE
     }
 }
 
-// The same for a 1075, 1076 or 1077.
+// Puts the number of a 1075, 1076 or 1077, and the fields after it.
 fn write_msm(writer: &mut BitWriter, message: &Msm) -> Result<(), AllocError>
     requires { form.IsValid message.now }
     ensures { OnOk result (writer.new ≡ writer.old ++ bits_of_fields (u 12 (form.number_of_kind message.now.kind) ∷ form.table message.now)) }

@@ -33,42 +33,42 @@ pub fn equal_messages(a: &Message, b: &Message) -> bool
     a == b
 }
 
-/// The same law for two messages 1004.
+/// A law: `==` says whether all fields of two messages 1004 are the same.
 pub fn equal_1004(a: &Obs1004, b: &Obs1004) -> bool
     ensures { SaysEqual result a.now b.now }
 {
     a == b
 }
 
-/// The same law for two messages 1074.
+/// A law: `==` says whether all fields of two messages 1074 are the same.
 pub fn equal_1074(a: &Msm1074, b: &Msm1074) -> bool
     ensures { SaysEqual result a.now b.now }
 {
     a == b
 }
 
-/// The same law for two faults: `==` says whether they are the same cause, with the same number.
+/// A law: `==` says whether two faults are the same cause, with the same number.
 pub fn equal_faults(a: &DecodeFault, b: &DecodeFault) -> bool
     ensures { SaysEqual result a.now b.now }
 {
     a == b
 }
 
-/// The same law for two messages 1075 to 1077.
+/// A law: `==` says whether the kind and all fields of two messages 1075 to 1077 are the same.
 pub fn equal_msm(a: &Msm, b: &Msm) -> bool
     ensures { SaysEqual result a.now b.now }
 {
     a == b
 }
 
-/// The same law for two messages of the wider set.
+/// A law: `==` says whether all fields of two messages of the wider set are the same.
 pub fn equal_any_messages(a: &AnyMessage, b: &AnyMessage) -> bool
     ensures { SaysEqual result a.now b.now }
 {
     a == b
 }
 
-/// The same law for two faults of the wider set.
+/// A law: `==` says whether two faults of the wider set are the same cause, with the same number.
 pub fn equal_any_faults(a: &AnyFault, b: &AnyFault) -> bool
     ensures { SaysEqual result a.now b.now }
 {

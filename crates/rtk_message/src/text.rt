@@ -34,7 +34,8 @@ pub fn put_fault(line: &mut Vec<u8>, fault: DecodeFault) -> Result<(), AllocErro
     put_cause(line, fault.code(), fault.number())
 }
 
-/// The same for a fault of the wider set.
+/// Appends the code of a fault of the wider set, and the number of the message; a hyphen if it has
+/// none.
 pub fn put_any_fault(line: &mut Vec<u8>, fault: AnyFault) -> Result<(), AllocError>
     ensures { OnOk result (line.new.items ≡ line.old.items ++ any_fault_text fault) }
 {

@@ -97,8 +97,8 @@ msm_phase_of band None field = None
 msm_phase_of band (Some rough) field = fine_phase_of band rough (unless_invalid (negsuc 2_097_151) field)
 
 -- formula
--- the same with extended resolution: the pseudorange, if the rough range and DF405 (-524288 is
--- invalid) are valid
+-- the pseudorange of extended resolution, if the rough range and DF405 (-524288 is invalid) are
+-- valid
 abbrev pub extended_fine_range_of : ℤ → Option ℤ → Option ℤ
 extended_fine_range_of rough None = None
 extended_fine_range_of rough (Some fine) = Some (range_of_time (rough +ℤ fine))

@@ -15,7 +15,6 @@ abbrev pub strength_of : ℕ → ℕ → Option ℕ
 strength_of step steps = if steps == 0 then None else Some (step * steps)
 
 -- formula
--- formula
 -- a signal strength in thousandths of a dB-Hz, from sixteenths of a dB-Hz (DF408); 0 is not given.
 -- It is rounded to quarters of a dB-Hz, a tie up, and held to 0.25 to 63.75 dB-Hz (this project's
 -- rule; a 1004 can give no others).

@@ -46,8 +46,8 @@ abbrev pub LaterAfterStep : Type 0
 LaterAfterStep =
     (band : Band) (last : Option Track) (e : EpochCell) (epoch : ℕ) → IsLater last epoch → e.epoch < epoch → IsLater (last_after band last e) epoch
 
--- the same for all satellites and codes: an epoch that comes after each last phase and after a step
--- also comes after each last phase that the step leaves
+-- of all satellites and codes: an epoch that comes after each last phase and after a step also comes
+-- after each last phase that the step leaves
 abbrev pub AllLaterAfterStep : Type 0
 AllLaterAfterStep =
     (old new : List (Option Track)) (satellite : ℕ) (code : Code) (e : EpochCell) (epoch : ℕ)

@@ -11,6 +11,6 @@ pub record TakesField (f : Field) (from left : List Bool) : Type 0 where
 pub record Puts (f : Field) (before after : List Bool) : Type 0 where
   pub is : after ≡ before ++ field_bits f
 
--- the same for a list of fields
+-- fields were put after the bits
 pub record PutsAll (fs : List Field) (before after : List Bool) : Type 0 where
   pub is : after ≡ before ++ bits_of_fields fs

@@ -24,7 +24,7 @@ pub record HasSatellites (n rates : ℕ) (m : Msm) : Type 0 where
   pub rough_fraction : length m.rough_fraction ≡ n
   pub rough_rate : length m.rough_rate ≡ rates
 
--- the same for the columns of the cells
+-- the columns of the cells have this many entries, and the column of range rates so many
 pub record HasCells (n rates : ℕ) (m : Msm) : Type 0 where
   pub fine_range : length m.fine_range ≡ n
   pub fine_phase : length m.fine_phase ≡ n
