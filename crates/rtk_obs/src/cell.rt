@@ -53,7 +53,7 @@ pub struct CellEntry {
 }
 
 /// Is this a satellite of GPS that RINEX has?
-pub(crate) fn is_gps(satellite: u8) -> bool
+pub(crate) fn is_satellite(satellite: u8) -> bool
     ensures { result ≡ is_satellite satellite }
 {
     1 <= satellite && satellite <= 32

@@ -9,7 +9,7 @@ ghost use Rattle.rtk_obs.specs.Scaling.{l2_length};
 ghost use Rattle.rtk_obs.specs.LegacyCells.{l1_code_of, l2_code_of, l1_range_of, l2_range_of, legacy_phase_of, length_of, l1_cell_of, l2_cell_of, has_number, cells_of_1004};
 ghost use Rattle.rtk_obs.specs.Steps.LegacyFields.{HasWidths, HasSeen};
 
-use crate::cell::{Cell, CellEntry, CellSource, is_gps, make_room};
+use crate::cell::{Cell, CellEntry, CellSource, is_satellite, make_room};
 use crate::code::{Band, Code};
 use crate::lock_time::least_lock_legacy;
 use crate::scaling::{phase_from_length, range_from_length, strength_from_steps, unless_mark};
@@ -161,7 +161,7 @@ fn is_first(seen: &mut [bool], number: u8) -> bool
     ensures value { (before : List Satellite) → HasSeen seen.old before → result ≡ (is_satellite number && not (list_any (has_number number) before)) }
     ensures seen { (before : List Satellite) (s : Satellite) → HasSeen seen.old before → s.satellite ≡ number → HasSeen seen.new (before ++ s ∷ []) }
 {
-    if !is_gps(number) {
+    if !is_satellite(number) {
         return false;
     }
     let place = usize::from(number);

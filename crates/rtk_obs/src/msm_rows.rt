@@ -11,7 +11,7 @@ ghost use Rattle.rtk_obs.specs.Mask.{join_from};
 ghost use Rattle.rtk_obs.specs.MsmCells.{code_of_signal, satellites_of, signals_of, row_slots, slot_entry, entries_of};
 ghost use Rattle.rtk_obs.specs.Steps.MsmRows.{IsCellMask, IsRow, cells_in};
 
-use crate::cell::{Cell, CellEntry, is_gps, make_room};
+use crate::cell::{Cell, CellEntry, is_satellite, make_room};
 use crate::code::{Band, Code};
 use crate::mask::{places_of_bits, top_bit};
 use arrayvec::ArrayVec;
@@ -208,7 +208,7 @@ fn put_row<M: SetCell>(
     ensures count { result.count ≤ length found.new.items }
     ensures few { result.count ≤ result.cell }
 {
-    if !is_gps(row.satellite) {
+    if !is_satellite(row.satellite) {
         return Progress {
             cell: start.cell + bits.count_ones() as usize,
             count: start.count,

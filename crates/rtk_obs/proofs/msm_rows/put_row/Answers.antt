@@ -10,13 +10,13 @@ use Rattle.rtk_obs.proofs.msm_rows.put_row.Goals as goal
 pub overflow_add-result : goal.overflow_add-result
 overflow_add-result g c = omega (arith, count-row_slots c.args.signals.now c.args.place c.args.bits c.requires.fits, few_in_message (g.M.SetCell.header c.args.message.now) (g.M.SetCell.cell_mask c.args.message.now) c.requires.mask)
 
-pub returns-then-not-is_gps-clause-entries : goal.returns-then-not-is_gps-clause-entries
-returns-then-not-is_gps-clause-entries g c =
+pub returns-then-not-is_satellite-clause-entries : goal.returns-then-not-is_satellite-clause-entries
+returns-then-not-is_satellite-clause-entries g c =
     let unknown : is_satellite c.args.row.satellite ≡ false = grind (arith, common_steps) in
     no_entries (g.M.SetCell.header c.args.message.now) (g.M.SetCell.cell_of c.args.message.now) c.args.signals.now c.args.start.cell c.args.place c.args.bits c.args.row.satellite (take c.args.start.count c.args.found.now.items) c.requires.row.satellite unknown
 
-pub returns-then-not-is_gps-clause-cells : goal.returns-then-not-is_gps-clause-cells
-returns-then-not-is_gps-clause-cells g c = omega (arith, count-row_slots c.args.signals.now c.args.place c.args.bits c.requires.fits)
+pub returns-then-not-is_satellite-clause-cells : goal.returns-then-not-is_satellite-clause-cells
+returns-then-not-is_satellite-clause-cells g c = omega (arith, count-row_slots c.args.signals.now c.args.place c.args.bits c.requires.fits)
 
 pub loop-rest-init : goal.loop-rest-init
 loop-rest-init g c = rw c.from-rest.ensures (record { entries = refl; cells = refl; count = c.requires.count; few = c.requires.few; fits = c.requires.fits })
