@@ -9,7 +9,7 @@ ghost use Rattle.rtk_obs.specs.Scaling.{l2_length};
 ghost use Rattle.rtk_obs.specs.LegacyCells.{l1_code_of, l2_code_of, l1_range_of, l2_range_of, legacy_phase_of, length_of, l1_cell_of, l2_cell_of, has_number, cells_of_1004};
 ghost use Rattle.rtk_obs.specs.Steps.LegacyFields.{HasWidths, HasSeen};
 
-use crate::cell::{Cell, CellEntry, CellSource, is_satellite, make_room};
+use crate::cell::{CellEntry, CellSource, is_satellite, make_room};
 use crate::code::{Band, Code};
 use crate::lock_time::least_lock_legacy;
 use crate::scaling::{phase_from_length, range_from_length, strength_from_steps, unless_mark};
@@ -91,44 +91,7 @@ fn legacy_phase(band: Band, length: i64, offset: Option<i32>) -> Option<i64>
     }
 }
 
-// Sets a cell to the one of L1. Each field is written where it stays.
-#[inline(always)]
-fn set_l1_cell(cell: &mut Cell, satellite: &Satellite, length: i64)
-    requires lock { satellite.now.l1_lock_indicator < 128 }
-    requires length { length ≡ length_of satellite.now }
-    requires bound { unsigned_abs length ≤ 155_000_000_000 }
-    ensures { cell.new ≡ l1_cell_of satellite.now }
-{
-    let offset = unless_mark(satellite.l1_phase_difference, NO_PHASE);
-    cell.range_mm = l1_range(length, offset);
-    cell.phase_millicycles = legacy_phase(Band::L1, length, offset);
-    cell.strength_millidbhz = strength_from_steps(LEGACY_STRENGTH_STEP, satellite.l1_cnr);
-    cell.lock_time_ms = least_lock_legacy(satellite.l1_lock_indicator);
-    cell.half = false;
-    cell.source = CellSource::Legacy;
-    cell.offset = offset;
-}
-
-// Sets a cell to the one of L2.
-#[inline(always)]
-fn set_l2_cell(cell: &mut Cell, satellite: &Satellite, length: i64)
-    requires lock { satellite.now.l2_lock_indicator < 128 }
-    requires length { length ≡ length_of satellite.now }
-    requires bound { unsigned_abs length ≤ 155_000_000_000 }
-    ensures { cell.new ≡ l2_cell_of satellite.now }
-{
-    let difference = unless_mark(i32::from(satellite.l2_range_difference), NO_RANGE);
-    let offset = unless_mark(satellite.l2_phase_difference, NO_PHASE);
-    cell.range_mm = l2_range(length, difference);
-    cell.phase_millicycles = legacy_phase(Band::L2, length, offset);
-    cell.strength_millidbhz = strength_from_steps(LEGACY_STRENGTH_STEP, satellite.l2_cnr);
-    cell.lock_time_ms = least_lock_legacy(satellite.l2_lock_indicator);
-    cell.half = false;
-    cell.source = CellSource::Legacy;
-    cell.offset = offset;
-}
-
-// Sets an entry to the one of L1.
+// Sets an entry to the one of L1. Each field is written where it stays.
 #[inline(always)]
 fn set_l1_entry(entry: &mut CellEntry, satellite: &Satellite, length: i64)
     requires lock { satellite.now.l1_lock_indicator < 128 }
@@ -136,9 +99,16 @@ fn set_l1_entry(entry: &mut CellEntry, satellite: &Satellite, length: i64)
     requires bound { unsigned_abs length ≤ 155_000_000_000 }
     ensures { entry.new ≡ entry_of satellite.now.satellite (l1_code_of satellite.now.l1_code) (l1_cell_of satellite.now) }
 {
+    let offset = unless_mark(satellite.l1_phase_difference, NO_PHASE);
     entry.satellite = satellite.satellite;
     entry.code = l1_code(satellite.l1_code);
-    set_l1_cell(&mut entry.cell, satellite, length);
+    entry.cell.range_mm = l1_range(length, offset);
+    entry.cell.phase_millicycles = legacy_phase(Band::L1, length, offset);
+    entry.cell.strength_millidbhz = strength_from_steps(LEGACY_STRENGTH_STEP, satellite.l1_cnr);
+    entry.cell.lock_time_ms = least_lock_legacy(satellite.l1_lock_indicator);
+    entry.cell.half = false;
+    entry.cell.source = CellSource::Legacy;
+    entry.cell.offset = offset;
 }
 
 // Sets an entry to the one of L2.
@@ -149,9 +119,17 @@ fn set_l2_entry(entry: &mut CellEntry, satellite: &Satellite, length: i64)
     requires bound { unsigned_abs length ≤ 155_000_000_000 }
     ensures { entry.new ≡ entry_of satellite.now.satellite (l2_code_of satellite.now.l2_code) (l2_cell_of satellite.now) }
 {
+    let difference = unless_mark(i32::from(satellite.l2_range_difference), NO_RANGE);
+    let offset = unless_mark(satellite.l2_phase_difference, NO_PHASE);
     entry.satellite = satellite.satellite;
     entry.code = l2_code(satellite.l2_code);
-    set_l2_cell(&mut entry.cell, satellite, length);
+    entry.cell.range_mm = l2_range(length, difference);
+    entry.cell.phase_millicycles = legacy_phase(Band::L2, length, offset);
+    entry.cell.strength_millidbhz = strength_from_steps(LEGACY_STRENGTH_STEP, satellite.l2_cnr);
+    entry.cell.lock_time_ms = least_lock_legacy(satellite.l2_lock_indicator);
+    entry.cell.half = false;
+    entry.cell.source = CellSource::Legacy;
+    entry.cell.offset = offset;
 }
 
 // Is this the first entry of a satellite that RINEX has? Such a satellite is marked as seen.
