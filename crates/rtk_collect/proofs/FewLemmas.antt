@@ -12,7 +12,7 @@ use Rattle.rtk_obs.specs.declared.cell.CellEntry.{CellEntry}
 use Rattle.rtk_obs.specs.Cell.{is_satellite, IsSatellite}
 use Rattle.rtk_obs.specs.LegacyCells.{first_entries, satellite_entries}
 use Rattle.rtk_obs.specs.MsmCells.{cell_of_1074, cell_of_msm}
-use Rattle.rtk_obs.proofs.PublicLaws.{all-entries_of}
+use Rattle.rtk_obs.proofs.PublicLaws.{all-msm_entries}
 use Rattle.rtk_collect.specs.Key.{KeysRise}
 use Rattle.rtk_collect.specs.EpochSet.{EpochSetView}
 use Rattle.rtk_collect.specs.Arrival.{Arrival, At, cells_of}
@@ -41,8 +41,8 @@ of-message : (m : Message) → AllByRecursion HasSatellite (cells_of m)
 of-message (any.Message (Obs1004 m)) = of-legacy (first_entries m.satellites)
 of-message (any.Message (Arp1005 m)) = tt
 of-message (any.Message (Arp1006 m)) = tt
-of-message (any.Message (Msm1074 m)) = all-entries_of m.header (cell_of_1074 m) HasSatellite (λ k row satellite code is. is) m.cell_mask
-of-message (any.Msm m) = all-entries_of m.header (cell_of_msm m) HasSatellite (λ k row satellite code is. is) m.cell_mask
+of-message (any.Message (Msm1074 m)) = all-msm_entries m.header (cell_of_1074 m) HasSatellite (λ k row satellite code is. is) m.cell_mask
+of-message (any.Msm m) = all-msm_entries m.header (cell_of_msm m) HasSatellite (λ k row satellite code is. is) m.cell_mask
 
 -- so are those that are kept, and their keys rise
 

@@ -11,7 +11,7 @@ use Rattle.rtk_obs.specs.Cell.{IsInRange, is_satellite}
 use Rattle.rtk_obs.specs.Slip.{is_same_source}
 use Rattle.rtk_obs.specs.LegacyCells.{first_entries, satellite_entries, cells_of_1004}
 use Rattle.rtk_obs.specs.MsmCells.{cell_of_1074, cells_of_1074, cell_of_msm, cells_of_msm}
-use Rattle.rtk_obs.proofs.PublicLaws.{all-entries_of}
+use Rattle.rtk_obs.proofs.PublicLaws.{all-msm_entries}
 use Rattle.std.specs.Prelude.{◌==◌}
 use Rattle.rtk_obs.specs.declared.cell.CellEntry.{CellEntry}
 use Rattle.rtk_obs.specs.declared.cell.CellSource.{CellSource}
@@ -270,7 +270,7 @@ pub of-1004 : (ss : List Satellite) → AreOfOneKind (cells_of_1004 ss)
 of-1004 ss = (Legacy, All-from_recursion (IsOf Legacy) (cells_of_1004 ss) (all-legacy (filter (λ (t : Satellite). is_satellite t.satellite) (first_entries ss))))
 
 pub of-1074 : (m : Msm1074) → AreOfOneKind (cells_of_1074 m)
-of-1074 m = (Msm, All-from_recursion (IsOf Msm) (cells_of_1074 m) (all-entries_of m.header (cell_of_1074 m) (IsOf Msm) (λ k row satellite code is. refl) m.cell_mask))
+of-1074 m = (Msm, All-from_recursion (IsOf Msm) (cells_of_1074 m) (all-msm_entries m.header (cell_of_1074 m) (IsOf Msm) (λ k row satellite code is. refl) m.cell_mask))
 
 pub of-msm : (m : WideMsm) → AreOfOneKind (cells_of_msm m)
-of-msm m = (Msm, All-from_recursion (IsOf Msm) (cells_of_msm m) (all-entries_of m.header (cell_of_msm m) (IsOf Msm) (λ k row satellite code is. refl) m.cell_mask))
+of-msm m = (Msm, All-from_recursion (IsOf Msm) (cells_of_msm m) (all-msm_entries m.header (cell_of_msm m) (IsOf Msm) (λ k row satellite code is. refl) m.cell_mask))

@@ -22,9 +22,9 @@ abbrev pub message_of : Arrival → Message
 message_of (At e m) = m
 
 -- a 1075, 1076 or 1077
-abbrev pub IsWide : Message → Type 0
-IsWide (any.Message m) = ⊥
-IsWide (any.Msm m) = Unit {0}
+abbrev pub IsWideMsm : Message → Type 0
+IsWideMsm (any.Message m) = ⊥
+IsWideMsm (any.Msm m) = Unit {0}
 
 -- a 1005 and a 1006 as messages
 abbrev pub message_of_1005 : Message1005 → Message

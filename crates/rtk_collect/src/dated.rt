@@ -4,7 +4,7 @@ ghost use Rattle.std.specs.Prelude.{◌≡◌, IfSome, IfNone};
 ghost use Rattle.std.specs.Option.{is_some};
 ghost use Rattle.rtk_message.specs.AnyDecoded as any;
 ghost use Rattle.rtk_message.specs.Decoded.{IsValid, tow_of};
-ghost use Rattle.rtk_collect.specs.Arrival.{At, epoch_of, message_of, IsWide};
+ghost use Rattle.rtk_collect.specs.Arrival.{At, epoch_of, message_of, IsWideMsm};
 
 use rtk_message::{AnyMessage, Message, Msm};
 use rtk_obs::GpsMs;
@@ -77,7 +77,7 @@ impl<'a> Dated<'a> {
     pub fn message(&self) -> Option<&'a Message>
         ensures value { IfSome result (λ m. AnyMessage.Message m.now ≡ message_of self.now) }
         ensures fits { IfSome result (λ m. IsValid m.now) }
-        ensures none { IfNone result (IsWide (message_of self.now)) }
+        ensures none { IfNone result (IsWideMsm (message_of self.now)) }
     {
         match self.message {
             Borrowed::Message(message) => Some(message),

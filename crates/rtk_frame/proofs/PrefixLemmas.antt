@@ -8,7 +8,7 @@ use Rattle.circular_buffer.specs.Buffer.{Buffer, buffer}
 use Rattle.rtk_bits.specs.Bits.{bits, unsigned}
 use Rattle.rtk_frame.specs.Checksum.{divide, crc}
 use Rattle.rtk_frame.specs.Frame.{begins_frame, begins_partial}
-use Rattle.rtk_frame.specs.Held.{AreHeld}
+use Rattle.rtk_frame.specs.Held.{RingHolds}
 use Rattle.rtk_frame.specs.Prefixes.{ArePrefixChecksums}
 use Rattle.rtk_frame.specs.Steps.Scanning.{Scanned, Searched}
 use Rattle.rtk_frame.proofs.Fronts.{not_preamble}
@@ -54,13 +54,13 @@ pub no_prefix : (text : List ℕ) → ArePrefixChecksums [] text
 no_prefix text = (omega arith, λ i l. absurd (omega arith))
 
 -- ---- what is held
-pub held_on : (ring now : Buffer ℕ) (p q : ℕ) (cs ds : List ℕ) → now ≡ ring → p ≤ q → q ≤ length ring.items → AreHeld ring p cs → ArePrefixChecksums ds ring.items → AreHeld now q ds
-held_on ring now p q cs ds e l m h k = subst (λ (b : Buffer ℕ). AreHeld b q ds) (sym e) (h.0, h.1, m, omega (arith, h.3), k)
+pub held_on : (ring now : Buffer ℕ) (p q : ℕ) (cs ds : List ℕ) → now ≡ ring → p ≤ q → q ≤ length ring.items → RingHolds ring p cs → ArePrefixChecksums ds ring.items → RingHolds now q ds
+held_on ring now p q cs ds e l m h k = subst (λ (b : Buffer ℕ). RingHolds b q ds) (sym e) (h.0, h.1, m, omega (arith, h.3), k)
 
-pub held_more : (ring now : Buffer ℕ) (p : ℕ) (cs more : List ℕ) → now ≡ buffer (ring.items ++ more) ring.capacity → p ≤ 1029 → length ring.items - p + length more ≤ 1029 → AreHeld ring p cs → AreHeld now p cs
+pub held_more : (ring now : Buffer ℕ) (p : ℕ) (cs more : List ℕ) → now ≡ buffer (ring.items ++ more) ring.capacity → p ≤ 1029 → length ring.items - p + length more ≤ 1029 → RingHolds ring p cs → RingHolds now p cs
 held_more ring now p cs more e l m h =
     let n = length-append ring.items more in
-    subst (λ (b : Buffer ℕ). AreHeld b p cs) (sym e) (h.0, omega (arith, n, h.2), omega (arith, n, h.2), omega (arith, n, h.2), prefixes_stay cs ring.items more h.4)
+    subst (λ (b : Buffer ℕ). RingHolds b p cs) (sym e) (h.0, omega (arith, n, h.2), omega (arith, n, h.2), omega (arith, n, h.2), prefixes_stay cs ring.items more h.4)
 
 -- ---- places that are passed
 pub scanned_to : (text items : List ℕ) (p q : ℕ) → p < q → q ≤ length items → begins_frame (drop p items) ≡ false → begins_partial (drop p items) ≡ false → ((i : ℕ) → p < i → i < q → get_or items i 0 ≢ 0xD3) → Scanned text (drop p items) → Scanned text (drop q items)

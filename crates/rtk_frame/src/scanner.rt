@@ -8,7 +8,7 @@
 ghost use Rattle.std.specs.Prelude.{◌≡◌, ◌≢◌, ◌⊎◌, ℕ, ◌+◌, ◌-◌, ◌*◌, ◌<◌, ◌≤◌, List, [], ◌++◌, length, drop, take, slice_index, true, IfOk, MatchOption};
 ghost use Rattle.circular_buffer.specs.Buffer.{buffer};
 ghost use Rattle.rtk_frame.specs.Frame.{begins_frame, begins_partial, payload_length};
-ghost use Rattle.rtk_frame.specs.Held.{AreHeld};
+ghost use Rattle.rtk_frame.specs.Held.{RingHolds};
 ghost use Rattle.rtk_frame.specs.Steps.Scanning.{Scanned, Searched};
 ghost use Rattle.rtk_frame.specs.declared.frame.TheConstants.{LONGEST_FRAME};
 
@@ -41,7 +41,7 @@ pub struct Scanner {
 impl Model for Scanner {
     ghost use Rattle.std.specs.Prelude.{◌≡◌, drop};
     ghost use Rattle.rtk_frame.specs.ScannerView.{ScannerView, scanner_view, scanner_view_code};
-    ghost use Rattle.rtk_frame.specs.Held.{AreHeld};
+    ghost use Rattle.rtk_frame.specs.Held.{RingHolds};
 
     ghost Value = { ScannerView };
 
@@ -51,7 +51,7 @@ impl Model for Scanner {
 
     ghost invariant = { λ s.
         (s ≡ record { ring = s.ring; passed = s.passed; prefixes = s.prefixes; ended = s.ended })
-        × AreHeld s.ring s.passed s.prefixes.value.items };
+        × RingHolds s.ring s.passed s.prefixes.value.items };
 }
 
 /// What `feed` took of the piece, and what it found there.
@@ -165,8 +165,8 @@ fn advance(
     prefixes: &mut ArrayVec<u32, MOST_PREFIXES>,
     piece: &[u8],
 ) -> (usize, Option<usize>)
-    requires { AreHeld ring.old passed.old prefixes.old.items }
-    ensures held { AreHeld ring.new passed.new prefixes.new.items }
+    requires { RingHolds ring.old passed.old prefixes.old.items }
+    ensures held { RingHolds ring.new passed.new prefixes.new.items }
     ensures used { result.0 ≤ length piece.now }
     ensures scanned { Scanned (drop passed.old ring.old.items ++ take result.0 piece.now) (drop passed.new ring.new.items) }
     ensures found { MatchOption result.1
@@ -201,8 +201,8 @@ fn advance_ended(
     passed: &mut usize,
     prefixes: &mut ArrayVec<u32, MOST_PREFIXES>,
 ) -> Option<usize>
-    requires { AreHeld ring.old passed.old prefixes.old.items }
-    ensures held { AreHeld ring.new passed.new prefixes.new.items }
+    requires { RingHolds ring.old passed.old prefixes.old.items }
+    ensures held { RingHolds ring.new passed.new prefixes.new.items }
     ensures searched { Searched (drop passed.old ring.old.items) (drop passed.new ring.new.items) }
     ensures found { MatchOption result
         (drop passed.new ring.new.items ≡ [])
@@ -226,8 +226,8 @@ fn drop_passed(
     passed: &mut usize,
     prefixes: &mut ArrayVec<u32, MOST_PREFIXES>,
 )
-    requires { AreHeld ring.old passed.old prefixes.old.items }
-    ensures held { AreHeld ring.new passed.new prefixes.new.items }
+    requires { RingHolds ring.old passed.old prefixes.old.items }
+    ensures held { RingHolds ring.new passed.new prefixes.new.items }
     ensures few { passed.new ≤ LONGEST_FRAME }
     ensures same { drop passed.new ring.new.items ≡ drop passed.old ring.old.items }
 {

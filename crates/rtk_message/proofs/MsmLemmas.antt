@@ -18,7 +18,7 @@ use Rattle.rtk_message.specs.ColumnLaws.{total-numbers, total-integers, total-fl
 use Rattle.rtk_message.specs.Msm1074 as msm1074
 use Rattle.rtk_message.specs.Msm1074.{header_table, satellite_count, signal_count, satellite_count_in, mask_bits_in, cell_count_in}
 use Rattle.rtk_message.specs.Msm1074Laws.{header_says, cells_says, split, same_header}
-use Rattle.rtk_message.specs.MsmForm.{number_of_kind, form_of, if_rates, mask_table, satellite_table, cell_table, column_table, table, cell_count, HasLengths, HasForm, columns_of, satellite_bits, cell_bits, first_fault, IsWide}
+use Rattle.rtk_message.specs.MsmForm.{number_of_kind, form_of, if_rates, mask_table, satellite_table, cell_table, column_table, table, cell_count, HasLengths, HasForm, msm_of_1074, satellite_bits, cell_bits, first_fault, IsWide}
 use Rattle.rtk_message.specs.AnyDecoded.{if_any_fault_of}
 use Rattle.rtk_message.specs.Steps.MsmColumns.{HasWidths, bits_of_cells, HasSatellites, HasCells, ChangesCells, SatellitesFit, CellsFit}
 use Rattle.rtk_message.proofs.ColumnLemmas.{flags-fit}
@@ -350,16 +350,16 @@ is_unique m n a b kinds p q e =
 
 -- ---- a 1074 has the form of MSM4
 
-pub table_of_1074 : (m : Msm1074) → msm1074.table m ≡ table (columns_of m)
+pub table_of_1074 : (m : Msm1074) → msm1074.table m ≡ table (msm_of_1074 m)
 table_of_1074 m =
-    let cells = cell_table (form_of Msm4) (columns_of m) in
+    let cells = cell_table (form_of Msm4) (msm_of_1074 m) in
     let last : numbers 6 m.cnr ++ integers 15 [] ≡ numbers 6 m.cnr = append-nil (numbers 6 m.cnr) in
-    let satellites : satellite_table (columns_of m) ++ cells ≡ numbers 8 m.rough_ms ++ (numbers 10 m.rough_fraction ++ cells) =
+    let satellites : satellite_table (msm_of_1074 m) ++ cells ≡ numbers 8 m.rough_ms ++ (numbers 10 m.rough_fraction ++ cells) =
     append_assoc (numbers 8 m.rough_ms) (numbers 10 m.rough_fraction ++ []) cells ∙ ap (λ (fs : List Field). numbers 8 m.rough_ms ++ (fs ++ cells)) (append-nil (numbers 10 m.rough_fraction)) in
     sym (ap (λ (fs : List Field). header_table m.header ++ (msm1074.mask_table m ++ fs))
     (satellites ∙ ap (λ (fs : List Field). numbers 8 m.rough_ms ++ (numbers 10 m.rough_fraction ++ (integers 15 m.fine_range ++ (integers 22 m.fine_phase ++ (numbers 4 m.lock_indicator ++ (flags m.half_cycle ++ fs)))))) last))
 
-pub form_of_valid_1074 : (m : Msm1074) → msm1074.IsValid m → HasForm (columns_of m)
+pub form_of_valid_1074 : (m : Msm1074) → msm1074.IsValid m → HasForm (msm_of_1074 m)
 form_of_valid_1074 m v = let l = v.lengths in record {
   fields_fit = subst FieldsFit (table_of_1074 m) v.fields_fit;
   time_in_week = v.time_in_week;
@@ -379,7 +379,7 @@ form_of_valid_1074 m v = let l = v.lengths in record {
   };
 }
 
-pub valid_1074_of_form : (m : Msm1074) → HasForm (columns_of m) → msm1074.IsValid m
+pub valid_1074_of_form : (m : Msm1074) → HasForm (msm_of_1074 m) → msm1074.IsValid m
 valid_1074_of_form m v = let l = v.lengths in record {
   fields_fit = subst FieldsFit (sym (table_of_1074 m)) v.fields_fit;
   time_in_week = v.time_in_week;

@@ -118,8 +118,8 @@ pub record IsValid (m : Msm) : Type 0 where
   pub form : HasForm m
 
 -- a 1074 in this form: it has no columns of range rates
-abbrev pub columns_of : Msm1074 → Msm
-columns_of m = record {
+abbrev pub msm_of_1074 : Msm1074 → Msm
+msm_of_1074 m = record {
   kind = Msm4;
   header = m.header;
   cell_mask = m.cell_mask;

@@ -78,8 +78,8 @@ pub fn equal_any_faults(a: &AnyFault, b: &AnyFault) -> bool
 /// A law: a 1074 has the form of the kind MSM4. Its table, its validity and its first fault are
 /// those that the form gives to the same columns.
 pub fn form_of_1074()
-    ensures table { (m : Msm1074) → msm1074.table m ≡ form.table (form.columns_of m) }
-    ensures valid { (m : Msm1074) → msm1074.IsValid m ↔ form.HasForm (form.columns_of m) }
+    ensures table { (m : Msm1074) → msm1074.table m ≡ form.table (form.msm_of_1074 m) }
+    ensures valid { (m : Msm1074) → msm1074.IsValid m ↔ form.HasForm (form.msm_of_1074 m) }
     ensures fault { (bs : List Bool) → if_any_fault_of (msm1074.first_fault bs) ≡ form.first_fault Msm4 bs }
 {}
 

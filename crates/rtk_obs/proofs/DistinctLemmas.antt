@@ -21,7 +21,7 @@ use Rattle.rtk_obs.specs.Code.{place_of}
 use Rattle.rtk_obs.specs.Cell.{is_satellite, entry_of, AreDifferentSignals, AreDistinct}
 use Rattle.rtk_obs.specs.Mask.{set_bits_from, set_bits, join_from}
 use Rattle.rtk_obs.specs.LegacyCells.{first_entries, has_number, satellite_entries, cells_of_1004, l1_code_of, l2_code_of, l1_cell_of, l2_cell_of}
-use Rattle.rtk_obs.specs.MsmCells.{satellites_of, signals_of, row_slots, slots_of, coded_entry, slot_entry, entries_of, code_of_signal, cell_of_1074, cells_of_1074, cell_of_msm, cells_of_msm}
+use Rattle.rtk_obs.specs.MsmCells.{satellites_of, signals_of, row_slots, slots_of, coded_entry, slot_entry, msm_entries, code_of_signal, cell_of_1074, cells_of_1074, cell_of_msm, cells_of_msm}
 use Rattle.rtk_obs.specs.Steps.MsmRows.{IsCellMask}
 use Rattle.rtk_obs.proofs.MaskLemmas.{set_bits_from-bounds}
 use Rattle.rtk_obs.proofs.MsmLemmas.{satellite_in, count-satellites}
@@ -300,9 +300,9 @@ module _ (h : MsmHeader) (cell_of : ℕ → ℕ → Band → Cell) where
       (all_from (IsOfSlot s) (λ (a : CellEntry). AllByRecursion (AreDifferentSignals a) (join_from (slot_entry h cell_of) (suc k) ss))
       (λ a is. later_differ s a is (suc k) ss p.0) (slot_entry h cell_of k s) (slot_entry-of k s))
 
-  entries-distinct : (rows : List ℕ) → IsCellMask h rows → AreDistinct (entries_of h rows cell_of)
+  entries-distinct : (rows : List ℕ) → IsCellMask h rows → AreDistinct (msm_entries h rows cell_of)
   entries-distinct rows is =
-      all_pairs AreDifferentSignals (entries_of h rows cell_of)
+      all_pairs AreDifferentSignals (msm_entries h rows cell_of)
       (entries_of_slots 0 (slots_of h rows)
       (slots_differ (satellites_of h) (signals_of h) (set_bits_from-rise 1 64 h.satellite_mask) (set_bits_from-rise 1 32 h.signal_mask) 0 rows
       (omega (arith, is.rows, count-satellites h rows is))))

@@ -14,7 +14,7 @@ use Rattle.rtk_obs.specs.declared.cell.CellEntry.{CellEntry}
 use Rattle.rtk_obs.specs.Cell.{is_satellite, entry_of, IsSatellite, IsStrength, IsInRange}
 use Rattle.rtk_obs.specs.Scaling.{strength_of}
 use Rattle.rtk_obs.specs.LegacyCells.{first_entries, has_number, satellite_entries, cells_of_1004, l1_code_of, l2_code_of, l1_cell_of, l2_cell_of}
-use Rattle.rtk_obs.specs.Steps.LegacyFields.{HasWidths}
+use Rattle.rtk_obs.specs.Steps.LegacyFields.{HasLegacyWidths}
 
 -- ---- the first entry of a satellite
 
@@ -78,7 +78,7 @@ cells-unused ss s h =
 
 -- ---- widths
 
-fields_by_recursion : (ss : List Satellite) → FieldsFit (flat_map satellite_table ss) → AllByRecursion HasWidths ss
+fields_by_recursion : (ss : List Satellite) → FieldsFit (flat_map satellite_table ss) → AllByRecursion HasLegacyWidths ss
 fields_by_recursion [] h = tt
 fields_by_recursion (s ∷ ss) h = (
   record {
@@ -91,8 +91,8 @@ fields_by_recursion (s ∷ ss) h = (
   fields_by_recursion ss h.1.1.1.1.1.1.1.1.1.1.1.1,
 )
 
-pub fields_of_valid : (m : Obs1004) → IsValid m → All HasWidths m.satellites
-fields_of_valid m h = All-from_recursion HasWidths m.satellites (fields_by_recursion m.satellites h.fields_fit.1.1.1.1.1.1)
+pub fields_of_valid : (m : Obs1004) → IsValid m → All HasLegacyWidths m.satellites
+fields_of_valid m h = All-from_recursion HasLegacyWidths m.satellites (fields_by_recursion m.satellites h.fields_fit.1.1.1.1.1.1)
 
 -- ---- ranges
 
@@ -106,7 +106,7 @@ strength_in_range n h = strength_if (nat_eq n 0) n refl h
 satellite_in_range : (n : ℕ) → is_satellite n ≡ true → IsSatellite n
 satellite_in_range n h = grind (arith, nat_tests)
 
-in_range_if : (b : Bool) (s : Satellite) (rest : List Satellite) → is_satellite s.satellite ≡ b → HasWidths s
+in_range_if : (b : Bool) (s : Satellite) (rest : List Satellite) → is_satellite s.satellite ≡ b → HasLegacyWidths s
     → AllByRecursion IsInRange (flat_map satellite_entries rest)
     → AllByRecursion IsInRange (flat_map satellite_entries (cond b (s ∷ rest) rest))
 in_range_if true s rest e h a = (
@@ -115,25 +115,25 @@ in_range_if true s rest e h a = (
 )
 in_range_if false s rest e h a = a
 
-used_in_range : (ss : List Satellite) → AllByRecursion HasWidths ss → AllByRecursion IsInRange (flat_map satellite_entries (filter (λ (t : Satellite). is_satellite t.satellite) ss))
+used_in_range : (ss : List Satellite) → AllByRecursion HasLegacyWidths ss → AllByRecursion IsInRange (flat_map satellite_entries (filter (λ (t : Satellite). is_satellite t.satellite) ss))
 used_in_range [] h = tt
 used_in_range (s ∷ ss) h = in_range_if (is_satellite s.satellite) s (filter (λ (t : Satellite). is_satellite t.satellite) ss) refl h.0 (used_in_range ss h.1)
 
-kept_if : (b : Bool) (s : Satellite) (rest : List Satellite) → HasWidths s → AllByRecursion HasWidths rest → AllByRecursion HasWidths (cond b (s ∷ rest) rest)
+kept_if : (b : Bool) (s : Satellite) (rest : List Satellite) → HasLegacyWidths s → AllByRecursion HasLegacyWidths rest → AllByRecursion HasLegacyWidths (cond b (s ∷ rest) rest)
 kept_if true s rest h a = (h, a)
 kept_if false s rest h a = a
 
-kept_fields : (p : Satellite → Bool) (ss : List Satellite) → AllByRecursion HasWidths ss → AllByRecursion HasWidths (filter p ss)
+kept_fields : (p : Satellite → Bool) (ss : List Satellite) → AllByRecursion HasLegacyWidths ss → AllByRecursion HasLegacyWidths (filter p ss)
 kept_fields p [] h = tt
 kept_fields p (s ∷ ss) h = kept_if (p s) s (filter p ss) h.0 (kept_fields p ss h.1)
 
-first_fields : (ss : List Satellite) → AllByRecursion HasWidths ss → AllByRecursion HasWidths (first_entries ss)
+first_fields : (ss : List Satellite) → AllByRecursion HasLegacyWidths ss → AllByRecursion HasLegacyWidths (first_entries ss)
 unfolding first_entries
 first_fields [] h = tt
 first_fields (s ∷ ss) h = (h.0, kept_fields (λ (t : Satellite). not (has_number s.satellite t)) (first_entries ss) (first_fields ss h.1))
 
-pub cells_in_range-1004 : (ss : List Satellite) → All HasWidths ss → All IsInRange (cells_of_1004 ss)
-cells_in_range-1004 ss h = All-from_recursion IsInRange (cells_of_1004 ss) (used_in_range (first_entries ss) (first_fields ss (recursion_from_All HasWidths ss h)))
+pub cells_in_range-1004 : (ss : List Satellite) → All HasLegacyWidths ss → All IsInRange (cells_of_1004 ss)
+cells_in_range-1004 ss h = All-from_recursion IsInRange (cells_of_1004 ss) (used_in_range (first_entries ss) (first_fields ss (recursion_from_All HasLegacyWidths ss h)))
 
 pub cells_of_valid : (m : Obs1004) → IsValid m → All IsInRange (cells_of_1004 m.satellites)
 cells_of_valid m h = cells_in_range-1004 m.satellites (fields_of_valid m h)

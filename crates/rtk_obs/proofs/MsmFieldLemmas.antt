@@ -21,9 +21,9 @@ use Rattle.rtk_obs.specs.Cell.{IsStrength, IsInRange}
 use Rattle.rtk_obs.specs.Code.{band_of}
 use Rattle.rtk_obs.specs.Rounding.{rounded_magnitude}
 use Rattle.rtk_obs.specs.Scaling.{strength_of, strength_of_sixteenths}
-use Rattle.rtk_obs.specs.MsmCells.{entries_of, cell_of_1074, cells_of_1074, has_extended_resolution, cell_of_msm, cells_of_msm}
+use Rattle.rtk_obs.specs.MsmCells.{msm_entries, cell_of_1074, cells_of_1074, has_extended_resolution, cell_of_msm, cells_of_msm}
 use Rattle.rtk_obs.specs.Steps.MsmRows.{IsCellMask}
-use Rattle.rtk_obs.proofs.MsmLemmas.{all-entries_of}
+use Rattle.rtk_obs.proofs.MsmLemmas.{all-msm_entries}
 
 -- ---- widths
 
@@ -149,10 +149,10 @@ kind_if false n h = strength_in_range n (h refl)
 
 -- the entries are in range if the strengths of the cells are
 entries_in_range : (h : MsmHeader) (cell_of : ℕ → ℕ → Band → Cell) → ((k row : ℕ) (band : Band) → IfSome (cell_of k row band).strength_millidbhz IsStrength)
-    → (rows : List ℕ) → All IsInRange (entries_of h rows cell_of)
+    → (rows : List ℕ) → All IsInRange (msm_entries h rows cell_of)
 entries_in_range h cell_of strengths rows =
-    All-from_recursion IsInRange (entries_of h rows cell_of)
-    (all-entries_of h cell_of IsInRange (λ k row satellite code is. record { satellite = is; strength = strengths k row (band_of code) }) rows)
+    All-from_recursion IsInRange (msm_entries h rows cell_of)
+    (all-msm_entries h cell_of IsInRange (λ k row satellite code is. record { satellite = is; strength = strengths k row (band_of code) }) rows)
 
 pub cells_in_range-1074 : (m : Msm1074) → IsValid m → All IsInRange (cells_of_1074 m)
 cells_in_range-1074 m h =

@@ -14,7 +14,7 @@ use Rattle.rtk_obs.specs.declared.msm_rows.Slot.{Slot}
 use Rattle.rtk_obs.specs.Cell.{is_satellite, entry_of, IsSatellite}
 use Rattle.rtk_obs.specs.Code.{band_of}
 use Rattle.rtk_obs.specs.Mask.{set_bits, join_from}
-use Rattle.rtk_obs.specs.MsmCells.{satellites_of, signals_of, row_slots, slots_of, coded_entry, slot_entry, entries_of, code_of_signal}
+use Rattle.rtk_obs.specs.MsmCells.{satellites_of, signals_of, row_slots, slots_of, coded_entry, slot_entry, msm_entries, code_of_signal}
 use Rattle.rtk_obs.specs.Steps.MsmRows.{IsCellMask, cells_in}
 use Rattle.rtk_obs.proofs.MaskLemmas.{set_bits-none, set_bits-step, set_bits_from-length, count-set_bits_from, length-join_from, join_from-length, join_from-room, join_from-first, join_from-empty, join_from-append, join_from-more, all-join_from}
 
@@ -191,8 +191,8 @@ module _ (h : MsmHeader) (cell_of : ℕ → ℕ → Band → Cell) (P : CellEntr
   all-coded_entry k row satellite None s = tt
   all-coded_entry k row satellite (Some code) s = (each k row satellite code s, tt)
 
-  pub all-entries_of : (rows : List ℕ) → AllByRecursion P (entries_of h rows cell_of)
-  all-entries_of rows =
+  pub all-msm_entries : (rows : List ℕ) → AllByRecursion P (msm_entries h rows cell_of)
+  all-msm_entries rows =
       all-join_from (slot_entry h cell_of) P 0 (length (slots_of h rows)) (slots_of h rows) (omega arith)
       (λ k s below. if_satellite P (is_satellite (satellite_in (satellites_of h) s)) (satellite_in (satellites_of h) s) (coded_entry (cell_of k s.row) (satellite_in (satellites_of h) s) (code_of_signal s.signal)) refl
       (all-coded_entry k s.row (satellite_in (satellites_of h) s) (code_of_signal s.signal)))
@@ -213,5 +213,5 @@ module _ (h : MsmHeader) (cell_of : ℕ → ℕ → Band → Cell) where
       few_if (is_satellite (satellite_in (satellites_of h) s)) (coded_entry (cell_of k s.row) (satellite_in (satellites_of h) s) (code_of_signal s.signal))
       (coded_few (cell_of k s.row) (satellite_in (satellites_of h) s) (code_of_signal s.signal))
 
-  pub few_entries : (rows : List ℕ) → IsCellMask h rows → length (entries_of h rows cell_of) ≤ 64
+  pub few_entries : (rows : List ℕ) → IsCellMask h rows → length (msm_entries h rows cell_of) ≤ 64
   few_entries rows is = omega (arith, join_from-length (slot_entry h cell_of) 1 at_most_one 0 (slots_of h rows), few_slots h rows is)

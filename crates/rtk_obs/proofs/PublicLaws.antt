@@ -12,6 +12,6 @@ pub use Rattle.rtk_obs.proofs.LegacyLemmas.{fields_of_valid, cells_in_range-1004
 -- and its clauses `msm` and `wide`
 pub use Rattle.rtk_obs.proofs.MsmFieldLemmas.{cells_in_range-1074, cells_in_range-msm}
 -- what holds of each entry of an MSM
-pub use Rattle.rtk_obs.proofs.MsmLemmas.{all-entries_of}
+pub use Rattle.rtk_obs.proofs.MsmLemmas.{all-msm_entries}
 -- the clauses of `places_are_distinct`: code_bound, signal_bound, distinct
 pub use Rattle.rtk_obs.proofs.TracksLemmas.{place_bound, place_inside, same_signal}

@@ -13,7 +13,7 @@ use Rattle.rtk_obs.specs.Code.{place_of, band_of}
 use Rattle.rtk_obs.specs.Slip.{EpochCell, has_phase, slip_since}
 use Rattle.rtk_obs.specs.Cell.{IsSatellite}
 use Rattle.rtk_obs.specs.Rollover.{last_after, last_phase, track_of, rolls_since, digits_since}
-use Rattle.rtk_obs.specs.CellSteps.{Step, epochs_of, IsFalling, PhasesFall}
+use Rattle.rtk_obs.specs.CellSteps.{Step, epoch_cells_of, IsFalling, PhasesFall}
 use Rattle.rtk_obs.specs.Tracks.{IsLater, track_at, place_of_signal, RepresentsSteps}
 use Rattle.rtk_obs.specs.TracksLaws.{IsGreatest, LastIsGreatest, LaterThanSteps, LaterAfterStep, AllLaterAfterStep}
 
@@ -152,7 +152,7 @@ later_than band (e ∷ es) x a =
 
 pub later_than_steps : LaterThanSteps
 later_than_steps tracks steps satellite code epoch represents is_satellite a =
-    subst (λ (o : Option Track). IsLater o epoch) (sym (represents.last satellite code is_satellite)) (later_than (band_of code) (epochs_of satellite code steps) epoch a)
+    subst (λ (o : Option Track). IsLater o epoch) (sym (represents.last satellite code is_satellite)) (later_than (band_of code) (epoch_cells_of satellite code steps) epoch a)
 
 chosen_later : (b : Bool) (t : Track) (last : Option Track) (x : ℕ) → IsLater last x → t.epoch < x → IsLater (cond b (Some t) last) x
 chosen_later true t last x later h = h
@@ -212,7 +212,7 @@ represents_more old new steps a b e ha later same others r = record {
   rising = λ s c hs. by_eq (place_of_signal a b) (place_of_signal s c)
       (λ p. let q = same_place a (place_of b) s (place_of c) ha.0 hs.0 (place_bound b) (place_bound c) p in
       rw (same_test a (place_of b) s (place_of c) q.0 q.1)
-      (falls_more (band_of c) e (epochs_of s c steps) (r.rising s c hs)
+      (falls_more (band_of c) e (epoch_cells_of s c steps) (r.rising s c hs)
       (subst (λ (o : Option Track). IsLater o e.epoch) (r.last s c hs)
       (subst (λ (x : ℕ). IsLater (track_at old x c) e.epoch) q.0 (subst (λ (y : Code). IsLater (track_at old a y) e.epoch) (same_code b c q.1) later)))))
       (λ ne. rw (other_test a (place_of b) s (place_of c) (place_bound b) (place_bound c) ne) (r.rising s c hs));

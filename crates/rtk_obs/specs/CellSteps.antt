@@ -20,10 +20,10 @@ abbrev pub is_of : ℕ → Code → Step → Bool
 is_of satellite code s = (s.satellite == satellite) && (place_of s.code == place_of code)
 
 -- the epochs of a satellite and code in a list of steps
-abbrev pub epochs_of : ℕ → Code → List Step → List EpochCell
-epochs_of satellite code [] = []
-epochs_of satellite code (s ∷ steps) =
-    if is_of satellite code s then s.seen ∷ epochs_of satellite code steps else epochs_of satellite code steps
+abbrev pub epoch_cells_of : ℕ → Code → List Step → List EpochCell
+epoch_cells_of satellite code [] = []
+epoch_cells_of satellite code (s ∷ steps) =
+    if is_of satellite code s then s.seen ∷ epoch_cells_of satellite code steps else epoch_cells_of satellite code steps
 
 -- the epochs fall: each is greater than all that stand after it
 abbrev pub IsFalling : List EpochCell → Type 0

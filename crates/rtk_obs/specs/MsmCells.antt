@@ -64,8 +64,8 @@ slot_entry h cell_of k s =
     else []
 
 -- the entries in the order of the message
-abbrev pub entries_of : MsmHeader → List ℕ → (ℕ → ℕ → Band → Cell) → List CellEntry
-entries_of h cell_mask cell_of = join_from (slot_entry h cell_of) 0 (slots_of h cell_mask)
+abbrev pub msm_entries : MsmHeader → List ℕ → (ℕ → ℕ → Band → Cell) → List CellEntry
+msm_entries h cell_mask cell_of = join_from (slot_entry h cell_of) 0 (slots_of h cell_mask)
 
 -- ---- the values of a cell
 
@@ -163,7 +163,7 @@ cell_of_1074 m k row band = record {
 }
 
 abbrev pub cells_of_1074 : Msm1074 → List CellEntry
-cells_of_1074 m = entries_of m.header m.cell_mask (cell_of_1074 m)
+cells_of_1074 m = msm_entries m.header m.cell_mask (cell_of_1074 m)
 
 -- formula
 -- the k-th cell of a 1075, 1076 or 1077: DF397, DF398, DF400 to DF403 or DF405 to DF408, and DF420.
@@ -180,4 +180,4 @@ cell_of_msm m k row band = record {
 }
 
 abbrev pub cells_of_msm : Msm → List CellEntry
-cells_of_msm m = entries_of m.header m.cell_mask (cell_of_msm m)
+cells_of_msm m = msm_entries m.header m.cell_mask (cell_of_msm m)

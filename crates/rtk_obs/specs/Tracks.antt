@@ -6,7 +6,7 @@ use Rattle.rtk_obs.specs.declared.tracks.TheConstants.{SIGNALS}
 use Rattle.rtk_obs.specs.Code.{place_of, band_of}
 use Rattle.rtk_obs.specs.Cell.{IsSatellite}
 use Rattle.rtk_obs.specs.Rollover.{last_phase}
-use Rattle.rtk_obs.specs.CellSteps.{Step, epochs_of, PhasesFall}
+use Rattle.rtk_obs.specs.CellSteps.{Step, epoch_cells_of, PhasesFall}
 
 -- formula
 -- the place of a satellite and code among all 512
@@ -36,6 +36,6 @@ pub record HasPlaces (tracks : List (Option Track)) : Type 0 where
 -- the phases of each satellite and code came in rising order, and the last of them stands at the
 -- place of this satellite and code
 pub record RepresentsSteps (tracks : List (Option Track)) (steps : List Step) : Type 0 where
-  pub rising : (satellite : ℕ) (code : Code) → IsSatellite satellite → PhasesFall (epochs_of satellite code steps)
+  pub rising : (satellite : ℕ) (code : Code) → IsSatellite satellite → PhasesFall (epoch_cells_of satellite code steps)
   pub last : (satellite : ℕ) (code : Code) → IsSatellite satellite
-      → track_at tracks satellite code ≡ last_phase (band_of code) (epochs_of satellite code steps)
+      → track_at tracks satellite code ≡ last_phase (band_of code) (epoch_cells_of satellite code steps)

@@ -7,7 +7,7 @@ use Rattle.rtk_obs.specs.declared.track.Track.{Track}
 use Rattle.rtk_obs.specs.Slip.{EpochCell, has_phase}
 use Rattle.rtk_obs.specs.Cell.{IsSatellite}
 use Rattle.rtk_obs.specs.Rollover.{rolls_since, last_after, last_phase}
-use Rattle.rtk_obs.specs.CellSteps.{Step, epochs_of, PhasesFall}
+use Rattle.rtk_obs.specs.CellSteps.{Step, epoch_cells_of, PhasesFall}
 use Rattle.rtk_obs.specs.Code.{band_of}
 use Rattle.rtk_obs.specs.Tracks.{IsLater, place_of_signal, track_at, RepresentsSteps}
 
@@ -38,7 +38,7 @@ abbrev pub LaterThanSteps : Type 0
 LaterThanSteps =
     (tracks : List (Option Track)) (steps : List Step) (satellite : ℕ) (code : Code) (epoch : ℕ)
     → RepresentsSteps tracks steps → IsSatellite satellite
-    → AllByRecursion (λ e. e.epoch < epoch) (filter has_phase (epochs_of satellite code steps))
+    → AllByRecursion (λ e. e.epoch < epoch) (filter has_phase (epoch_cells_of satellite code steps))
     → IsLater (track_at tracks satellite code) epoch
 
 -- and an epoch after a step is one that the next step may have

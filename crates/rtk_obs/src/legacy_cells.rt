@@ -7,7 +7,7 @@ ghost use Rattle.rtk_message.specs.Obs1004.{IsValid};
 ghost use Rattle.rtk_obs.specs.Cell.{is_satellite, entry_of, IsInRange, AreDistinct};
 ghost use Rattle.rtk_obs.specs.Scaling.{l2_length};
 ghost use Rattle.rtk_obs.specs.LegacyCells.{l1_code_of, l2_code_of, l1_range_of, l2_range_of, legacy_phase_of, length_of, l1_cell_of, l2_cell_of, has_number, cells_of_1004};
-ghost use Rattle.rtk_obs.specs.Steps.LegacyFields.{HasWidths, HasSeen};
+ghost use Rattle.rtk_obs.specs.Steps.LegacyFields.{HasLegacyWidths, HasSeen};
 
 use crate::cell::{CellEntry, CellSource, is_satellite, make_room};
 use crate::code::{Band, Code};
@@ -158,7 +158,7 @@ fn put_satellite(
     seen: &mut [bool],
     satellite: &Satellite,
 ) -> usize
-    requires fields { HasWidths satellite.now }
+    requires fields { HasLegacyWidths satellite.now }
     requires places { length seen.old ≡ 33 }
     requires count { count ≤ length found.old.items }
     requires room { count ≤ 60 }
@@ -183,7 +183,7 @@ fn put_satellite(
 // Puts the cells of the satellites of a 1004. The result is how many entries stand then.
 fn put_satellites(found: &mut ArrayVec<CellEntry, 64>, satellites: &[Satellite]) -> usize
     requires few { length satellites.now ≤ 31 }
-    requires fields { All HasWidths satellites.now }
+    requires fields { All HasLegacyWidths satellites.now }
     ensures cells { take result found.new.items ≡ cells_of_1004 satellites.now }
     ensures few { result ≤ 62 }
 {

@@ -8,8 +8,8 @@ ghost use Rattle.rtk_obs.specs.declared.code.Band.{Band};
 ghost use Rattle.rtk_obs.specs.declared.cell.Cell.{Cell};
 ghost use Rattle.rtk_obs.specs.Cell.{is_satellite};
 ghost use Rattle.rtk_obs.specs.Mask.{join_from};
-ghost use Rattle.rtk_obs.specs.MsmCells.{code_of_signal, satellites_of, signals_of, row_slots, slot_entry, entries_of};
-ghost use Rattle.rtk_obs.specs.Steps.MsmRows.{IsCellMask, IsRow, cells_in};
+ghost use Rattle.rtk_obs.specs.MsmCells.{code_of_signal, satellites_of, signals_of, row_slots, slot_entry, msm_entries};
+ghost use Rattle.rtk_obs.specs.Steps.MsmRows.{IsCellMask, IsMaskRow, cells_in};
 
 use crate::cell::{Cell, CellEntry, is_satellite, make_room};
 use crate::code::{Band, Code};
@@ -145,7 +145,7 @@ fn row_of<M: SetCell>(message: &M, numbers: &[u8], row: usize) -> Row
     requires mask { IsCellMask (M.header message.now) (M.cell_mask message.now) }
     requires numbers { numbers.now ≡ satellites_of (M.header message.now) }
     requires row { row < satellite_count (M.header message.now) }
-    ensures { IsRow (M.header message.now) (M.rough_at message.now) row result }
+    ensures { IsMaskRow (M.header message.now) (M.rough_at message.now) row result }
 {
     Row {
         satellite: numbers[row],
@@ -164,7 +164,7 @@ fn put_cell<M: SetCell>(
 ) -> usize
     requires valid { M.IsValid message.now }
     requires cell { cell < cells_in (M.cell_mask message.now) }
-    requires row { IsRow (M.header message.now) (M.rough_at message.now) slot.row row }
+    requires row { IsMaskRow (M.header message.now) (M.rough_at message.now) slot.row row }
     requires satellite { is_satellite row.satellite ≡ true }
     requires signal { slot.signal ≤ 32 }
     requires count { count ≤ length found.old.items }
@@ -196,7 +196,7 @@ fn put_row<M: SetCell>(
 ) -> Progress
     requires valid { M.IsValid message.now }
     requires mask { IsCellMask (M.header message.now) (M.cell_mask message.now) }
-    requires row { IsRow (M.header message.now) (M.rough_at message.now) place row }
+    requires row { IsMaskRow (M.header message.now) (M.rough_at message.now) place row }
     requires signals { signals.now ≡ signals_of (M.header message.now) }
     requires bounds { All (λ p. (1 ≤ p) × (p ≤ 32)) signals.now }
     requires fits { bits < 2 ^ length signals.now }
@@ -234,7 +234,7 @@ fn put_row<M: SetCell>(
 pub(crate) fn put_cells<M: SetCell>(found: &mut ArrayVec<CellEntry, 64>, message: &M) -> usize
     requires valid { M.IsValid message.now }
     requires mask { IsCellMask (M.header message.now) (M.cell_mask message.now) }
-    ensures { take result found.new.items ≡ entries_of (M.header message.now) (M.cell_mask message.now) (M.cell_of message.now) }
+    ensures { take result found.new.items ≡ msm_entries (M.header message.now) (M.cell_mask message.now) (M.cell_of message.now) }
 {
     let header = message.header();
     let number_list = places_of_bits(header.satellite_mask, 64);

@@ -12,7 +12,7 @@ ghost use Rattle.rtk_obs.specs.Code.{band_of};
 ghost use Rattle.rtk_obs.specs.Cell.{IsSatellite};
 ghost use Rattle.rtk_obs.specs.Slip.{has_phase, epoch_cell};
 ghost use Rattle.rtk_obs.specs.Rollover.{last_after, last_phase, digits_since, rolls_since, track_of};
-ghost use Rattle.rtk_obs.specs.CellSteps.{Step, step_of, epochs_of};
+ghost use Rattle.rtk_obs.specs.CellSteps.{Step, step_of, epoch_cells_of};
 ghost use Rattle.rtk_obs.specs.Tracks.{IsBounded, IsLater, track_at, place_of_signal, RepresentsSteps};
 
 use crate::cell::Cell;
@@ -117,7 +117,7 @@ impl Tracks {
         ensures bound { unsigned_abs result.rolls ≤ epoch }
         ensures same { track_at self.new satellite code ≡ last_after (band_of code) (track_at self.old satellite code) (epoch_cell epoch cell.now) }
         ensures others { (s : ℕ) (c : Code) → place_of_signal s c ≢ place_of_signal satellite code → track_at self.new s c ≡ track_at self.old s c }
-        ensures history { (steps : List Step) → RepresentsSteps self.old steps → result ≡ digits_since (band_of code) (last_phase (band_of code) (epochs_of satellite code steps)) (epoch_cell epoch cell.now) }
+        ensures history { (steps : List Step) → RepresentsSteps self.old steps → result ≡ digits_since (band_of code) (last_phase (band_of code) (epoch_cells_of satellite code steps)) (epoch_cell epoch cell.now) }
         ensures after { (steps : List Step) → RepresentsSteps self.old steps → RepresentsSteps self.new (step_of satellite code epoch cell.now ∷ steps) }
     {
         if cell.phase_millicycles.is_none() {

@@ -7,7 +7,7 @@ use Rattle.rtk_obs.specs.Cell.{IsSatellite}
 use Rattle.rtk_obs.specs.LegacyCells.{has_number}
 
 -- the widths of DF011 (24 bits), DF013, DF019 (7 bits) and DF015, DF020 (8 bits)
-pub record HasWidths (s : Satellite) : Type 0 where
+pub record HasLegacyWidths (s : Satellite) : Type 0 where
   pub l1_range : s.l1_range < 2 ^ 24
   pub l1_lock_indicator : s.l1_lock_indicator < 128
   pub l2_lock_indicator : s.l2_lock_indicator < 128

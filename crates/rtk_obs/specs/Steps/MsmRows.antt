@@ -20,7 +20,7 @@ pub record IsCellMask (h : MsmHeader) (cell_mask : List ℕ) : Type 0 where
   pub few : satellite_count h * signal_count h ≤ 64
 
 -- the number and the rough range of the satellite of this row, and that the rough range is small
-pub record IsRow (h : MsmHeader) (rough_at : ℕ → Option ℤ) (place : ℕ) (row : Row) : Type 0 where
+pub record IsMaskRow (h : MsmHeader) (rough_at : ℕ → Option ℤ) (place : ℕ) (row : Row) : Type 0 where
   pub satellite : row.satellite ≡ slice_index (satellites_of h) place
   pub rough : row.rough ≡ rough_at place
   pub bound : IfSome row.rough (λ r. unsigned_abs r ≤ 2 ^ 38)

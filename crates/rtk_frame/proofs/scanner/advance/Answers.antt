@@ -2,7 +2,7 @@ use Rattle.std.proofs.Common.{◌≡◌, ℕ, ◌≤◌, ◌+◌, ◌-◌, ◌++
 use Rattle.std.proofs.lemmas.List.{take_all}
 use Rattle.std.specs.List.{refill}
 use Rattle.circular_buffer.specs.Buffer.{Buffer, buffer}
-use Rattle.rtk_frame.specs.Held.{AreHeld}
+use Rattle.rtk_frame.specs.Held.{RingHolds}
 use Rattle.rtk_frame.specs.Steps.Scanning.{Scanned}
 use Rattle.rtk_frame.proofs.Passing.{scanned_front, scanned_fill}
 use Rattle.rtk_frame.proofs.PrefixLemmas.{held_on, held_more, scanned_to, drop_more}
@@ -71,7 +71,7 @@ scan-preserved c =
     let short : length part ≤ more = omega (arith, length-take more (drop v piece)) in
     let room : length part ≤ c.fill_from_slice.result = omega (arith, count, short, held.0, held.1, held.2, waiting, partial.0, held_now, least) in
     let now : c.fill_from_slice.new.self ≡ buffer (items ++ part) ring.capacity = filled ∙ ap (λ z. buffer (items ++ z) ring.capacity) (take_all c.fill_from_slice.result part room) in
-    let still : AreHeld ring p c.front_at.new.prefixes.items = (held.0, held.1, held.2, held.3, prefixes) in
+    let still : RingHolds ring p c.front_at.new.prefixes.items = (held.0, held.1, held.2, held.3, prefixes) in
     let left : drop p c.fill_from_slice.new.self.items ≡ drop p items ++ part = ap (λ (b : Buffer ℕ). drop p b.items) now ∙ drop_more items part p held.2 in
     record {
       held = held_more ring c.fill_from_slice.new.self p c.front_at.new.prefixes.items part now few (omega (arith, short, waiting, partial.0, held_now, least)) still;
