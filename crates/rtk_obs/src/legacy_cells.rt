@@ -12,7 +12,9 @@ ghost use Rattle.rtk_obs.specs.Steps.LegacyFields.{HasLegacyWidths, HasSeen};
 use crate::cell::{CellEntry, CellSource, is_satellite, make_room};
 use crate::code::{Band, Code};
 use crate::lock_time::least_lock_legacy;
-use crate::scaling::{phase_from_length, range_from_length, strength_from_steps, unless_mark};
+use crate::scaling::{
+    LONGEST_RANGE, phase_from_length, range_from_length, strength_from_steps, unless_mark,
+};
 use arrayvec::ArrayVec;
 use rtk_message::{Obs1004, Satellite};
 
@@ -46,14 +48,13 @@ fn l2_code(indicator: u8) -> Code
 fn l1_length(satellite: &Satellite) -> i64
     requires { satellite.now.l1_range < 2 ^ 24 }
     ensures value { result ≡ length_of satellite.now }
-    ensures bound { unsigned_abs result ≤ 155_000_000_000 }
+    ensures bound { unsigned_abs result ≤ LONGEST_RANGE }
 {
     40 * i64::from(satellite.l1_range) + 599_584_916 * i64::from(satellite.modulus_ambiguity)
 }
 
 // The range of L1; an invalid mark of its phase (DF012) leaves out the range too.
 fn l1_range(length: i64, offset: Option<i32>) -> Option<i64>
-    requires { unsigned_abs length ≤ 155_000_000_000 }
     ensures { result ≡ l1_range_of length offset }
 {
     match offset {
@@ -64,15 +65,14 @@ fn l1_range(length: i64, offset: Option<i32>) -> Option<i64>
 
 // The pseudorange of L2, in 0.0005 m.
 fn l2_length(length: i64, difference: i32) -> i64
-    requires { unsigned_abs length ≤ 155_000_000_000 }
-    ensures value { result ≡ l2_length length difference }
-    ensures bound { unsigned_abs result ≤ 2 ^ 40 }
+    requires { unsigned_abs length ≤ LONGEST_RANGE }
+    ensures { result ≡ l2_length length difference }
 {
     length + 40 * i64::from(difference)
 }
 
 fn l2_range(length: i64, difference: Option<i32>) -> Option<i64>
-    requires { unsigned_abs length ≤ 155_000_000_000 }
+    requires { unsigned_abs length ≤ LONGEST_RANGE }
     ensures { result ≡ l2_range_of length difference }
 {
     match difference {
@@ -82,7 +82,7 @@ fn l2_range(length: i64, difference: Option<i32>) -> Option<i64>
 }
 
 fn legacy_phase(band: Band, length: i64, offset: Option<i32>) -> Option<i64>
-    requires { unsigned_abs length ≤ 155_000_000_000 }
+    requires { unsigned_abs length ≤ LONGEST_RANGE }
     ensures { result ≡ legacy_phase_of band length offset }
 {
     match offset {
@@ -96,7 +96,7 @@ fn legacy_phase(band: Band, length: i64, offset: Option<i32>) -> Option<i64>
 fn set_l1_entry(entry: &mut CellEntry, satellite: &Satellite, length: i64)
     requires lock { satellite.now.l1_lock_indicator < 128 }
     requires length { length ≡ length_of satellite.now }
-    requires bound { unsigned_abs length ≤ 155_000_000_000 }
+    requires bound { unsigned_abs length ≤ LONGEST_RANGE }
     ensures { entry.new ≡ entry_of satellite.now.satellite (l1_code_of satellite.now.l1_code) (l1_cell_of satellite.now) }
 {
     let offset = unless_mark(satellite.l1_phase_difference, NO_PHASE);
@@ -116,7 +116,7 @@ fn set_l1_entry(entry: &mut CellEntry, satellite: &Satellite, length: i64)
 fn set_l2_entry(entry: &mut CellEntry, satellite: &Satellite, length: i64)
     requires lock { satellite.now.l2_lock_indicator < 128 }
     requires length { length ≡ length_of satellite.now }
-    requires bound { unsigned_abs length ≤ 155_000_000_000 }
+    requires bound { unsigned_abs length ≤ LONGEST_RANGE }
     ensures { entry.new ≡ entry_of satellite.now.satellite (l2_code_of satellite.now.l2_code) (l2_cell_of satellite.now) }
 {
     let difference = unless_mark(i32::from(satellite.l2_range_difference), NO_RANGE);

@@ -19,8 +19,12 @@ const TWICE_LIGHT: u32 = 599_584_916;
 // Half of the speed of light.
 const HALF_LIGHT: u64 = 149_896_229;
 
-// More than a length in 0.0005 m that a 1004 gives.
-const LONGEST: u64 = 160_000_000_000;
+/// The longest pseudorange of L1 that a 1004 gives, in 0.0005 m: DF011 (24 bits) and DF014 (8 bits)
+/// are all ones.
+pub(crate) const LONGEST_RANGE: u64 = 40 * 16_777_215 + 599_584_916 * 255;
+
+// The longest length of a phase, in 0.0005 m: such a pseudorange and any difference of 32 bits.
+const LONGEST_PHASE: u64 = LONGEST_RANGE + 2_147_483_648;
 
 // 2^29: so many units of a travel time are a ms.
 const MS: u32 = 536_870_912;
@@ -74,7 +78,6 @@ fn scaled_time(time: i64, factor: u32) -> i64
 
 /// A length in 0.0005 m as a range in mm.
 pub(crate) fn range_from_length(length: i64) -> i64
-    requires { unsigned_abs length ≤ 2 ^ 40 }
     ensures { result ≡ range_of_length length }
 {
     scaled(length, 1, 2)
@@ -84,7 +87,7 @@ pub(crate) fn range_from_length(length: i64) -> i64
 // of a 1004 both are halved twice, and the whole times that c / 2 goes into f / 4 are taken out: so
 // one division by a constant is left, whose dividend fits 64 bits.
 fn length_magnitude(band: Band, n: u64) -> u64
-    requires { n ≤ LONGEST }
+    requires { n ≤ LONGEST_PHASE }
     ensures value { result ≡ rounded_magnitude (n * frequency_of band) TWICE_LIGHT }
     ensures bound { result < 2 ^ 63 }
 {
@@ -97,7 +100,7 @@ fn length_magnitude(band: Band, n: u64) -> u64
 
 /// A length in 0.0005 m as a phase in millicycles.
 pub(crate) fn phase_from_length(band: Band, length: i64) -> i64
-    requires { unsigned_abs length ≤ LONGEST }
+    requires { unsigned_abs length ≤ LONGEST_PHASE }
     ensures { result ≡ phase_of_length band length }
 {
     if length < 0 {
