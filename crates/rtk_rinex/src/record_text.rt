@@ -45,7 +45,8 @@ fn put_any_observation(field: &mut [u8], value: Option<i64>, first: u8, second: 
     }
 }
 
-// The same, in fewer steps for a value of the size of a range or phase of a satellite.
+// Writes what `put_any_observation` writes, in fewer steps for a value of the size of a range or phase
+// of a satellite.
 #[inline(always)]
 fn put_observation(field: &mut [u8], value: Option<i64>, first: u8, second: u8)
     requires blank { field.old ≡ replicate 16 32 }
