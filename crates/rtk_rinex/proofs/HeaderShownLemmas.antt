@@ -1,5 +1,5 @@
 -- The lines of a header show its values.
-use Rattle.std.proofs.Common.{◌≡◌, ◌≢◌, ℕ, zero, suc, ◌+◌, ◌-◌, ◌*◌, ◌/◌, ◌%◌, ◌^◌, ◌<◌, ◌≤◌, List, [], ◌∷◌, ◌++◌, length, take, drop, replicate, get_or, slice_get, Some, None, MatchOption, IfSome, IsSomeAnd, Option, unwrap_or, tt, decimal, codes, true, false, arith, refl, sym, ◌∙◌, ap, append_assoc, length-append, ℤ, pos, negsuc, unsigned_abs}
+use Rattle.std.proofs.Common.{◌≡◌, ◌≢◌, ℕ, zero, suc, ◌+◌, ◌-◌, ◌*◌, ◌/◌, ◌%◌, ◌^◌, ◌<◌, ◌≤◌, List, [], ◌∷◌, ◌++◌, length, take, drop, replicate, get_or, slice_get, Some, None, MatchOption, IfSome, IsSomeAnd, Option, unwrap_or, decimal, codes, true, false, arith, refl, sym, ◌∙◌, ap, append_assoc, length-append, ℤ, pos, negsuc, unsigned_abs}
 use Rattle.std.specs.Int.{IsInRange}
 use Rattle.std.proofs.lemmas.Fmt.{length-decimal-le}
 use Rattle.std.proofs.lemmas.Int.{ints}
@@ -42,7 +42,7 @@ good_or P None d h g = g
 good_or P (Some x) d h g = h
 
 pub shown_or : {A : Type 0} (r : Option A) (d x v : A) → x ≡ unwrap_or r d → r ≡ Some v → x ≡ v
-shown_or r d x v e h = e ∙ ap (λ (o : Option A). unwrap_or o d) h
+shown_or {A = A} r d x v e h = e ∙ ap (λ (o : Option A). unwrap_or o d) h
 
 pub some_or : {A : Type 0} (P : A → Type 0) (r : Option A) (d x : A) → x ≡ unwrap_or r d → IsSomeAnd r P → P x
 some_or P None d x e h = absurd h
@@ -210,13 +210,11 @@ place_is line label x y z hx hy hz e =
       third = ap number_in (rw r₂ (piece 28 14 (a ++ b) c rest two lc)) ∙ number_of-fixed_4 z (magnitude z hz);
     }
 
--- the position whose line it is
-pub position_read : (r : Option Position) (line : List ℕ) (height : ℕ) (s : PositionView) → IsPositionView s → ShowsPlace line s.x s.y s.z
-    → MatchOption r (¬ (AreCoordinates (number_in (take 14 (drop 0 line))) (number_in (take 14 (drop 14 line))) (number_in (take 14 (drop 28 line)))))
-    (HasFields (number_in (take 14 (drop 0 line))) (number_in (take 14 (drop 14 line))) (number_in (take 14 (drop 28 line))) height)
-    → IsSomeAnd r (λ p. (p.x ≡ s.x) × (p.y ≡ s.y) × (p.z ≡ s.z))
-position_read None line height s g p h = absurd (h ((rw p.first g.0), (rw p.second g.1), (rw p.third g.2)))
-position_read (Some q) line height s g p h = (h.0 ∙ p.first, h.1 ∙ p.second, h.2 ∙ p.third)
+-- the position of the coordinates of another
+pub position_read : (r : Option Position) (x y z : ℤ) (height : ℕ) (s : PositionView) → IsPositionView s → x ≡ s.x → y ≡ s.y → z ≡ s.z
+    → MatchOption r (¬ (AreCoordinates x y z)) (HasFields x y z height) → IsSomeAnd r (λ p. (p.x ≡ s.x) × (p.y ≡ s.y) × (p.z ≡ s.z))
+position_read None x y z height s g a b c h = absurd (h ((rw a g.0), (rw b g.1), (rw c g.2)))
+position_read (Some q) x y z height s g a b c h = (h.0 ∙ a, h.1 ∙ b, h.2 ∙ c)
 
 pub IsCoordinate-height : (h : ℕ) → h < 65_536 → IsCoordinate (pos h)
 IsCoordinate-height h small = record { least = omega (arith, ints); greatest = omega (arith, ints) }

@@ -1,10 +1,11 @@
-use Rattle.std.proofs.Common.{◌≡◌, ◌%◌, ◌∙◌}
+use Rattle.std.proofs.Common.{◌≡◌, ◌%◌, ◌∙◌, ap, refl}
+use Rattle.rtk_obs.specs.declared.time.Civil.{Civil}
 use Rattle.rtk_rinex.specs.Reading.{reading_of}
 use Rattle.rtk_rinex.proofs.HeaderShownLemmas.{made_is, moment_read, whole_read}
 use Rattle.rtk_rinex.proofs.header_check.read_made.Goals as goal
 
 pub returns-clause-whole_second : goal.returns-clause-whole_second
-returns-clause-whole_second c = whole_read c.of_civil.result c.made_reading.result (rw c.made_reading.ensures refl) c.of_civil.ensures
+returns-clause-whole_second c = whole_read c.of_civil.result c.made_reading.result (ap (λ (r : Civil). r.millisecond) c.made_reading.ensures) c.of_civil.ensures
 
 pub returns-clause-shown : goal.returns-clause-shown
 returns-clause-shown c = λ t h.
