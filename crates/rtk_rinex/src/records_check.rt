@@ -207,7 +207,10 @@ pub(crate) fn check_records(
         satellites: 0,
     };
     while rest.len() > 0 {
-        let (stamp, after) = check_record(rest, line, width, first, last)?;
+        let (stamp, after) = match check_record(rest, line, width, first, last) {
+            Ok(read) => read,
+            Err(fault) => return Err(fault),
+        };
         line += 1 + stamp.count;
         last = Some(stamp.time);
         counts.epochs += 1;
