@@ -9,7 +9,6 @@ use Rattle.std.proofs.lemmas.Grind.{flat_map-append}
 use Rattle.std.proofs.lemmas.List.{get_or-append-add, same_lists, get_or-take, length-take, take-append-le, take_all, take-append-drop, drop-append-le, drop-take, length-drop}
 use Rattle.std.proofs.Math.Seq.{drop-cons}
 use Rattle.rtk_obs.specs.declared.code.Code.{Code}
-use Rattle.rtk_obs.specs.declared.code.Code.TheVariants.{C1C, C1P, C1W, C1S, C1L, C1X, C2C, C2D, C2P, C2W, C2S, C2L, C2X, C5I, C5Q, C5X}
 use Rattle.rtk_obs.specs.Code.{name_of}
 use Rattle.rtk_rinex.specs.Columns.{right, fixed}
 use Rattle.rtk_rinex.specs.Reading.{IsMoment, reading_of}
@@ -17,7 +16,7 @@ use Rattle.rtk_rinex.specs.Header.{HeadView, PositionView, IsHeadView, IsPositio
 use Rattle.rtk_rinex.specs.Steps.HeaderShown.{line_at, name_at}
 use Rattle.rtk_rinex.proofs.DigitsLemmas.{piece}
 use Rattle.rtk_rinex.proofs.HeaderShownLemmas.{line_rest, line_is}
-use Rattle.rtk_rinex.proofs.HeaderRowsLemmas.{row, row_ended, ended, types_head, types_line, type_rows, row_count, first_rows, last_rows, rows, rows_text, length-types}
+use Rattle.rtk_rinex.proofs.HeaderRowsLemmas.{row, row_ended, ended, types_head, types_line, type_rows, row_count, first_rows, last_rows, rows, rows_text, length-name, length-types}
 use Rattle.rtk_rinex.proofs.HeaderGoodLemmas.{rows_good, length-text, line_in, line_past, head_fits}
 
 -- what the lines of a text show of a header: if the text has a line of the header, the part that
@@ -123,24 +122,6 @@ front_same text h c s d t u (suc (suc (suc (suc (suc (suc (suc (suc zero))))))))
 front_same text h c s d t u (suc (suc (suc (suc (suc (suc (suc (suc (suc k))))))))) shows lt e = absurd (omega arith)
 
 -- ---- the types
-
-length-name : (c : Code) → length (name_of c) ≡ 2
-length-name C1C = refl
-length-name C1P = refl
-length-name C1W = refl
-length-name C1S = refl
-length-name C1L = refl
-length-name C1X = refl
-length-name C2C = refl
-length-name C2D = refl
-length-name C2P = refl
-length-name C2W = refl
-length-name C2S = refl
-length-name C2L = refl
-length-name C2X = refl
-length-name C5I = refl
-length-name C5Q = refl
-length-name C5X = refl
 
 -- the types around the first name of a code
 record Around (cs : List Code) (i : ℕ) (name : List ℕ) : Type 0 where

@@ -12,7 +12,10 @@ returns-then-seconds-ge600000000 c = λ t n h k e.
     let s = epoch-shows c.args.columns.now t n h k e in omega (arith, s.seconds, c.number_of_digits-seconds.ensures.value)
 
 pub returns-in_err-time : goal.returns-in_err-time
-returns-in_err-time c = ?
+returns-in_err-time c = rw c.from_residual.ensures (λ t n h k e.
+    let s = epoch-shows c.args.columns.now t n h k e in
+    let shown : c.reading_in-reading.result ≡ reading_of t = c.reading_in-reading.ensures ∙ s.reading in
+    c.in_err-time.ensures t h (rw shown (reading-reads t h)))
 
 pub returns-then-count-eq0 : goal.returns-then-count-eq0
 returns-then-count-eq0 c = λ t n h k e.

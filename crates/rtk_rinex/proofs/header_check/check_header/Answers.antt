@@ -34,33 +34,23 @@ returns-clause-fault c =
     let text = c.args.text.now in
     let r = c.read_header-read.result in
     let k = c.in-Some.k in
-    let p = parts c in
-    let whole = sym (take-append-drop (81 * k) text) in (
+    let p = parts c in (
       k,
       refl,
-      elim c.match-line_end.branch [
-        | in-Some-line_end w ↦
-            let rest = rw (c.split_at.ensures.back) at w.in-Some-line_end.ensures.parts in
-            rw w.cause-is (
-              take (81 * k) text,
-              drop (81 * k) text,
-              parts_lines text r.head (position_view r.position) r.first k p,
-              whole,
-              parts_begin text r.head (position_view r.position) r.first k p,
-              parts_whole text r.head (position_view r.position) r.first k p,
-              (_, _, rest.0, rest.1, parts_next text _ _ r.head (position_view r.position) r.first k p rest.0 rest.1),
-            )
-        | in-None w ↦
-            rw w.cause-is (
-              take (81 * k) text,
-              drop (81 * k) text,
-              parts_lines text r.head (position_view r.position) r.first k p,
-              whole,
-              parts_begin text r.head (position_view r.position) r.first k p,
-              parts_whole text r.head (position_view r.position) r.first k p,
-              (rw (c.split_at.ensures.back) at w.in-None.ensures.parts),
-            )
-      ],
+      (
+        take (81 * k) text,
+        drop (81 * k) text,
+        parts_lines text r.head (position_view r.position) r.first k p,
+        sym (take-append-drop (81 * k) text),
+        parts_begin text r.head (position_view r.position) r.first k p,
+        parts_whole text r.head (position_view r.position) r.first k p,
+        elim c.match-line_end.branch [
+          | in-Some-line_end w ↦
+              let rest = rw (c.split_at.ensures.back) at w.in-Some-line_end.ensures.parts in
+              rw w.cause-is (_, _, rest.0, rest.1, parts_next text _ _ r.head (position_view r.position) r.first k p rest.0 rest.1)
+          | in-None w ↦ rw w.cause-is (rw (c.split_at.ensures.back) at w.in-None.ensures.parts)
+        ],
+      ),
     )
 
 pub returns-clause-none : goal.returns-clause-none
