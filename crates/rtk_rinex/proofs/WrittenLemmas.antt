@@ -1,19 +1,16 @@
 -- Lines written over blanks.
-use Rattle.std.proofs.Common.{◌≡◌, ◌≢◌, ℕ, zero, suc, ◌+◌, ◌-◌, ◌*◌, ◌/◌, ◌%◌, ◌<◌, ◌≤◌, [], ◌∷◌, ◌++◌, List, length, replicate, take, drop, set, get_or, ap, arith, refl, sym, ◌∙◌, true, false, Bool, ◌||◌, length-append, append_assoc, flat_map, ℤ, Option, Some, None, suc-mul}
+use Rattle.std.proofs.Common.{◌≡◌, ◌≢◌, ℕ, zero, suc, ◌+◌, ◌-◌, ◌*◌, ◌/◌, ◌%◌, ◌<◌, ◌≤◌, [], ◌∷◌, ◌++◌, List, length, replicate, take, drop, set, get_or, ap, arith, refl, sym, ◌∙◌, true, false, Bool, ◌||◌, length-append, append_assoc, flat_map, ℤ, Option, Some, None}
 use Rattle.std.specs.Prelude.{is_some, if◌then◌else◌, not, ◌==◌}
-use Rattle.std.specs.List.{list_any, filter, sum_by}
+use Rattle.std.specs.List.{list_any, filter}
 use Rattle.std.proofs.lemmas.Bool.Decides.{nat_tests}
 use Rattle.std.proofs.lemmas.Grind.{take_at_read, flat_map-append}
 use Rattle.std.proofs.lemmas.List.{append-nil, take_at, drop_at, take-replicate, drop-replicate, length-replicate, length-take, replicate-append-replicate, take-append-drop}
-use Rattle.std.proofs.lemmas.List.Elements.{filter-append, All-head, All-tail}
-use Rattle.std.proofs.lemmas.List.Sums.{sum_by-drop_more, sum_by-cons}
 use Rattle.std.proofs.lemmas.List.Folds.{list_any_more}
 use Rattle.std.proofs.Math.Seq.{set-append_seam}
 use Rattle.rtk_rinex.specs.declared.epoch_table.Observed.{Observed}
 use Rattle.rtk_rinex.specs.declared.epoch_table.SatelliteRow.{SatelliteRow}
 use Rattle.rtk_rinex.specs.Columns.{last_digits}
-use Rattle.rtk_rinex.specs.Record.{is_written, is_present, observation, observations, lli_digit, strength_digit, strength_value, has_observation, has_line, trim_end, satellite_line, HasWidth}
-use Rattle.rtk_rinex.specs.RecordLines.{line_if_any}
+use Rattle.rtk_rinex.specs.Record.{is_written, is_present, observation, observations, lli_digit, strength_digit, strength_value, has_observation, has_line, trim_end, satellite_line}
 use Rattle.rtk_rinex.proofs.RecordLemmas.{trim_end-blank}
 use Rattle.rtk_rinex.proofs.RowLemmas.{IsTrimmed, trimmed}
 use Rattle.rtk_rinex.proofs.ValuesLemmas.{length-fixed}

@@ -1,7 +1,7 @@
-use Rattle.std.proofs.Common.{◌≡◌, ◌∙◌, ap, take, length, subst, List, ◌<◌, ◌≤◌, refl, sym, arith}
+use Rattle.std.proofs.Common.{◌≡◌, ◌∙◌, take, length, subst, List, ◌<◌, ◌≤◌, refl, sym, arith}
 use Rattle.std.proofs.lemmas.List.{take_all}
 use Rattle.rtk_rinex.specs.declared.epoch_table.SatelliteRow.{SatelliteRow}
-use Rattle.rtk_rinex.specs.RecordLines.{RecordLinesView, HoldsLines}
+use Rattle.rtk_rinex.specs.RecordLines.{HoldsLines}
 use Rattle.rtk_rinex.proofs.RecordLinesLemmas.{few-lines, row-pushed, row-passed}
 use Rattle.rtk_rinex.proofs.record_lines.record.Goals as goal
 use Rattle.rtk_rinex.proofs.record_lines.record.Goals.{then-has_line+in_ok-push_row, else-has_line}
