@@ -252,8 +252,8 @@ fn any_position(height: u16) -> Position
 // A header of the parts that the lines of a text show. If the text begins with a header, it is this
 // one.
 //
-// A line that shows no part is unlike the line of each part. So any part may stand for the missing
-// one, and the first line in which the text is unlike this header begins no header.
+// A line that shows no part is the line of no part. So a header with any part in its place is unlike
+// the text in this line, as each header is.
 fn read_header(text: &[u8]) -> HeaderRead
     ensures only { IsOnlyHeader text.now result.head (position_view result.position) result.first }
     ensures good { IsHeadView result.head × IsPositionView (position_view result.position) × IsMoment result.first }
