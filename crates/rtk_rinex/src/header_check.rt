@@ -76,7 +76,8 @@ fn read_marker(line: &[u8]) -> Option<&[u8]>
 // The position that its line shows, with this height; `None` only if it is the line of no position.
 fn read_position(line: &[u8], height: u16) -> Option<Position>
     ensures height { IfSome result (λ position. position.height ≡ height) }
-    ensures shown { (s : PositionView) → IsPlaceLine s line.now → IsSomeAnd result (λ position. (position.x ≡ s.x) × (position.y ≡ s.y) × (position.z ≡ s.z)) }
+    ensures shown { (s : PositionView) → IsPlaceLine s line.now
+        → IsSomeAnd result (λ position. (position.x ≡ s.x) × (position.y ≡ s.y) × (position.z ≡ s.z)) }
 {
     Position::new(
         signed_number_at(line, 0),

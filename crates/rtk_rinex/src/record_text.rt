@@ -1,8 +1,8 @@
 //! The lines of a record: the epoch line, and a line for each satellite that shows something.
 
-ghost use Rattle.std.specs.Prelude.{◌≡◌, ℕ, ◌+◌, ◌*◌, ◌<◌, ◌≤◌, ◌-◌, ◌^◌, [], ◌∷◌, ◌++◌, length, take, drop, replicate, flat_map, IfOk, OnOk, codes, decimal, not, IsTrue, ◌==◌, if◌then◌else◌};
-ghost use Rattle.std.specs.List.{filter, list_any, sum_by};
-ghost use Rattle.rtk_rinex.specs.Record.{HasWidth, is_written, is_present, observation, observations, strength_digit, strength_value, lli_digit, has_observation, has_line, trim_end, satellite_line, epoch_date_text, epoch_line, record_text};
+ghost use Rattle.std.specs.Prelude.{◌≡◌, ℕ, ◌+◌, ◌*◌, ◌<◌, ◌≤◌, ◌-◌, [], ◌∷◌, ◌++◌, length, take, drop, replicate, flat_map, not, IsTrue, ◌==◌};
+ghost use Rattle.std.specs.List.{list_any};
+ghost use Rattle.rtk_rinex.specs.Record.{is_written, is_present, observation, observations, strength_digit, strength_value, lli_digit, has_observation, has_line, trim_end, epoch_date_text, epoch_line};
 ghost use Rattle.rtk_rinex.specs.RecordLines.{line_if_any};
 
 use crate::columns::{

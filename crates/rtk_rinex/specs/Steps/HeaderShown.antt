@@ -65,12 +65,14 @@ IsPlaceLine s line =
 
 -- the line of an antenna's height of 16 bits
 abbrev pub IsHeightLine : ℕ → List ℕ → Type 0
-IsHeightLine h line = (h < 65_536) × (line ≡ header_line (fixed 4 14 (pos h) ++ codes "        0.0000        0.0000") (codes "ANTENNA: DELTA H/E/N"))
+IsHeightLine h line =
+    (h < 65_536) × (line ≡ header_line (fixed 4 14 (pos h) ++ codes "        0.0000        0.0000") (codes "ANTENNA: DELTA H/E/N"))
 
 -- the first line of the observation types of n codes, whatever the codes are
 abbrev pub IsCountLine : ℕ → List ℕ → Type 0
 IsCountLine n line =
-    IsInRange 1 16 n × ((rest : List ℕ) × (line ≡ header_line (codes "G  " ++ right 3 (decimal (3 * n)) ++ rest) (codes "SYS / # / OBS TYPES")))
+    IsInRange 1 16 n
+    × ((rest : List ℕ) × (line ≡ header_line (codes "G  " ++ right 3 (decimal (3 * n)) ++ rest) (codes "SYS / # / OBS TYPES")))
 
 -- the line of the moment of the first observation
 abbrev pub IsFirstLine : ℕ → List ℕ → Type 0
