@@ -16,7 +16,7 @@ use Rattle.rtk_collect.specs.EpochSet.{EpochSetView, is_from, FirstIsBelow, Epoc
 use Rattle.rtk_rinex.specs.declared.epoch_table.Observed.{Observed}
 use Rattle.rtk_rinex.specs.Reading.{IsMoment}
 use Rattle.rtk_rinex.specs.Header.{PositionView, IsPositionView, header_text}
-use Rattle.rtk_rinex.specs.Record.{EpochTableView, IsStrengthOrNone, IsRow, IsEpochTableView, HasWidth, record_text}
+use Rattle.rtk_rinex.specs.Record.{EpochTableView, IsStrengthOrNone, IsSatelliteRow, IsEpochTableView, HasWidth, record_text}
 use Rattle.rtk_rinex.specs.Table.{WellFormedTable, IsWellFormedTable, table_text, StartsAt, with_record, shown_epoch, shown_table, FilesAreTables}
 use Rattle.rtk_convert.specs.Rows.{last_phase_of, cell_at, in_turn, observed_at, or_nothing, table_of}
 use Rattle.rtk_convert.specs.File.{record_of, records, first_or, first_time, file_of, one_more_if_any, record_count}
@@ -75,8 +75,8 @@ cell-strength cells s c h =
     first-strength (in_turn cells) s c
     (All-append IsEntry (filter (is_from Msm) cells) (filter (is_from Legacy) cells) (all-kept IsEntry (is_from Msm) cells h) (all-kept IsEntry (is_from Legacy) cells h))
 
-table-rows : (listed : List Code) (e : EpochSetView) (below : List EpochSetView) → All IsEntry e.cells → All IsRow (table_of listed e below).rows
-table-rows listed e below h = all-rows IsRow (observed_at e below) listed 32 (omega arith)
+table-rows : (listed : List Code) (e : EpochSetView) (below : List EpochSetView) → All IsEntry e.cells → All IsSatelliteRow (table_of listed e below).rows
+table-rows listed e below h = all-rows IsSatelliteRow (observed_at e below) listed 32 (omega arith)
     (λ s hs m. record {
       satellite = (hs.0, hs.1);
       strengths = All-map (λ (o : Observed). IsStrengthOrNone o.strength_millidbhz) (λ code. or_nothing (observed_at e below s code)) listed

@@ -10,7 +10,7 @@ use Rattle.std.proofs.lemmas.List.Folds.{list_any_more}
 use Rattle.std.proofs.lemmas.List.FromFn.{fill_by_all, length-map-range_with_len}
 use Rattle.rtk_rinex.specs.declared.epoch_table.Observed.{Observed}
 use Rattle.rtk_rinex.specs.declared.epoch_table.SatelliteRow.{SatelliteRow}
-use Rattle.rtk_rinex.specs.Record.{IsRow, HasWidth}
+use Rattle.rtk_rinex.specs.Record.{IsSatelliteRow, HasWidth}
 use Rattle.rtk_cut.specs.Cut.{no_observation, code_at, with_slip}
 use Rattle.rtk_cut.specs.Steps.Pending.{mark_of, MarksBecome, StandsForSlips, row_has_slip, row_has_phase, codes_with_marks, row_with_marks}
 use Rattle.rtk_cut.proofs.TestLemmas.{or-moved, and-nothing, map-agree_below}
@@ -145,7 +145,7 @@ codes-all marks r shown each =
 -- ---- all rows on the step
 
 -- a row is a row of a file with any slips
-pub marks-good : (marks : List Bool) (n : ℕ) (r : SatelliteRow) → IsRow r → IsRow (row_with_marks marks n r)
+pub marks-good : (marks : List Bool) (n : ℕ) (r : SatelliteRow) → IsSatelliteRow r → IsSatelliteRow (row_with_marks marks n r)
 marks-good marks n r good = record {
   satellite = good.satellite;
   strengths = All-map HasStrength (λ c. with_slip ((code_at c r).slip || mark_of marks r.satellite c) (code_at c r)) (range_with_len 0 n)

@@ -6,7 +6,7 @@
 
 ghost use Rattle.std.specs.Prelude.{◌≡◌, ℕ, ◌+◌, ◌*◌, ◌<◌, ◌≤◌, ◌||◌, ◌&&◌, ◌==◌, not, true, false, nat_lt, [], ◌∷◌, List, length, map, get_or, is_some, All, AllPairs};
 ghost use Rattle.std.specs.List.{list_any};
-ghost use Rattle.rtk_rinex.specs.Record.{EpochTableView, IsRow, HasWidth};
+ghost use Rattle.rtk_rinex.specs.Record.{EpochTableView, IsSatelliteRow, HasWidth};
 ghost use Rattle.rtk_rinex.specs.Table.{IsTableEpoch};
 ghost use Rattle.rtk_cut.specs.Cut.{is_on_step, code_at, no_observation, with_slip, cut_epoch};
 ghost use Rattle.rtk_cut.specs.Steps.Pending.{mark_of, MarksBecome, StandsForSlips, row_has_slip, row_has_phase, codes_with_marks, row_with_marks};
@@ -113,7 +113,7 @@ fn cut_row(marks: &mut [bool], row: &SatelliteRow, shown: &mut [Observed]) -> bo
 }
 
 fn cut_rows(marks: &mut [bool], rows: &[SatelliteRow], width: usize, cut: &mut EpochTable) -> bool
-    requires good { All IsRow rows.now }
+    requires good { All IsSatelliteRow rows.now }
     requires rise { AllPairs (λ a b. a.satellite < b.satellite) rows.now }
     requires few { length rows.now ≤ 32 }
     requires size { length marks.old ≡ 528 }

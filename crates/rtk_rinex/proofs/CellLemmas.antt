@@ -358,7 +358,7 @@ trim_end-solid xs some last =
     ap trim_end (sym all) ∙ trim_end-done xs (length xs) some (omega arith) last ∙ all
 
 -- the parts of a line of the form of a satellite line: the satellite, and the columns after it
-pub record HasForm (n : ℕ) (line columns : List ℕ) (s : ℕ) : Type 0 where
+pub record HasRowForm (n : ℕ) (line columns : List ℕ) (s : ℕ) : Type 0 where
   pub satellite : IsInRange 1 32 s
   pub front : List ℕ
   pub whole_line : line ≡ front ++ 10 ∷ []
@@ -366,7 +366,7 @@ pub record HasForm (n : ℕ) (line columns : List ℕ) (s : ℕ) : Type 0 where
   pub last : get_or front (length front - 1) 0 ≢ 32
   pub few : length columns ≤ 48 * n
 
-pub has-form : (n : ℕ) (line columns : List ℕ) (s : ℕ) → IsLine line → IsSatelliteForm n line s → columns ≡ drop 3 (take (length line - 1) line) → HasForm n line columns s
+pub has-form : (n : ℕ) (line columns : List ℕ) (s : ℕ) → IsLine line → IsSatelliteForm n line s → columns ≡ drop 3 (take (length line - 1) line) → HasRowForm n line columns s
 has-form n line columns s l f e =
     let front : List ℕ = l.0 in
     let size : length line ≡ length front + 1 = ap length l.2 ∙ length-append front (10 ∷ []) in
@@ -426,13 +426,13 @@ some-columns [] k text z e h = clash (are_blanks text) h (ap are_blanks (sym e) 
 some-columns (x ∷ columns) k text z e h = omega (arith, z)
 
 -- what a line with these columns is
-pub record IsLineOf (n : ℕ) (line : List ℕ) (r : SatelliteRow) : Type 0 where
+pub record IsRowLineOf (n : ℕ) (line : List ℕ) (r : SatelliteRow) : Type 0 where
   pub row : IsTableRow n r
   pub text : line ≡ satellite_line r
 
 -- the row of a satellite and of what its columns show
-pub row-shown : (n : ℕ) (line columns : List ℕ) (s : ℕ) (cells : List Observed) → HasForm n line columns s → 0 < length columns → All IsObserved cells → length cells ≡ n
-    → left (48 * n) columns ≡ flat_map observations cells → IsLineOf n line (record { satellite = s; observed = record { items = cells } })
+pub row-shown : (n : ℕ) (line columns : List ℕ) (s : ℕ) (cells : List Observed) → HasRowForm n line columns s → 0 < length columns → All IsObserved cells → length cells ≡ n
+    → left (48 * n) columns ≡ flat_map observations cells → IsRowLineOf n line (record { satellite = s; observed = record { items = cells } })
 unfolding left
 row-shown n line columns s cells f some observed count shown =
     let blanks : ℕ = 48 * n - length columns in
@@ -449,7 +449,7 @@ row-shown n line columns s cells f some observed count shown =
     }
 
 -- the row whose line a line is
-pub row-of : (n : ℕ) (line columns : List ℕ) (s : ℕ) → HasForm n line columns s → 0 < length columns → AreCells n columns
+pub row-of : (n : ℕ) (line columns : List ℕ) (s : ℕ) → HasRowForm n line columns s → 0 < length columns → AreCells n columns
     → (r : SatelliteRow) × IsTableRow n r × (line ≡ satellite_line r)
 row-of n line columns s f some cells =
     let c = cells-of n columns cells in
@@ -457,7 +457,7 @@ row-of n line columns s f some cells =
     (record { satellite = s; observed = record { items = c.cells } }, is.row, is.text)
 
 -- the columns of a row's line
-pub cells-of-row : (n : ℕ) (line columns : List ℕ) (s : ℕ) → HasForm n line columns s → (r : SatelliteRow) → IsTableRow n r → line ≡ satellite_line r
+pub cells-of-row : (n : ℕ) (line columns : List ℕ) (s : ℕ) → HasRowForm n line columns s → (r : SatelliteRow) → IsTableRow n r → line ≡ satellite_line r
     → (0 < length columns) × AreCells n columns
 unfolding IsTrimmed whole left
 cells-of-row n line columns s f r h e =

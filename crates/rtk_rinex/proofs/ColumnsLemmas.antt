@@ -38,7 +38,7 @@ right-digits a s ds e =
     let fits : s ≤ a = omega arith in
     rw (take-replicate {X = ℕ} s a 32 fits, right-blanks a s ds e) refl
 
--- the same before a point and k decimals
+-- digits over the end of a columns of blanks, before a point and k decimals
 pub right-plain : (a k s : ℕ) (ds last : List ℕ) → s + length ds ≡ a → length last ≡ k
     → (take s (replicate a 32) ++ ds) ++ 46 ∷ last ≡ right (a + 1 + k) (ds ++ 46 ∷ last)
 right-plain a k s ds last e l =
@@ -46,7 +46,7 @@ right-plain a k s ds last e l =
     let all : s + length (ds ++ 46 ∷ last) ≡ a + 1 + k = simp length-append (omega arith) in
     rw (take-replicate {X = ℕ} s a 32 fits, right-blanks (a + 1 + k) s _ all) (append_assoc (replicate s 32) ds (46 ∷ last))
 
--- the same with a minus sign in the column before the digits
+-- such digits with a minus sign in the column before them
 pub right-minus : (a k s : ℕ) (ds last : List ℕ) → s + 1 + length ds ≡ a → length last ≡ k
     → set ((take (s + 1) (replicate a 32) ++ ds) ++ 46 ∷ last) s 45 ≡ right (a + 1 + k) ((45 ∷ ds) ++ 46 ∷ last)
 right-minus a k s ds last e l =
@@ -64,7 +64,7 @@ right-front a k ds last e l =
     let size : a - length ds + length (ds ++ last) ≡ a + k = simp length-append (omega arith) in
     append_assoc (replicate (a - length ds) 32) ds last ∙ sym (right-blanks (a + k) (a - length ds) (ds ++ last) size)
 
--- the same after k blanks
+-- a text at the right end of a columns, after k blanks
 pub right-wide : (k a : ℕ) (ds : List ℕ) → length ds ≤ a → replicate k 32 ++ right a ds ≡ right (k + a) ds
 right-wide k a ds e =
     let size : k + (a - length ds) + length ds ≡ k + a = omega arith in
@@ -103,7 +103,7 @@ right-threes n u t eu et low high =
     rw (first, second, last) (simp append_assoc) in
     rw (← eu, text) (sym (right-front 4 10 (decimal (t / 1000)) _ few refl))
 
--- the same, in two halves
+-- F14.3 of such a value, from its two halves of six digits
 pub right-long : (n h l : ℕ) → h ≡ n / 1_000_000 → l ≡ n % 1_000_000 → 10 ^ 9 ≤ n → n < 10 ^ 12 → right 14 (decimals 3 false n)
     ≡ right 4 (decimal (h / 1000)) ++ (last_digits 3 (h % 1000) ++ (last_digits 3 (l / 1000) ++ 46 ∷ last_digits 3 (l % 1000)))
 right-long n h l eh el low high =

@@ -7,7 +7,7 @@ use Rattle.rtk_rinex.specs.Columns.{right, decimals}
 use Rattle.rtk_rinex.specs.Reading.{IsMoment, reading_of, seconds_of}
 use Rattle.rtk_rinex.specs.Record.{epoch_date_text, epoch_columns, epoch_line}
 use Rattle.rtk_rinex.specs.Steps.CheckValues.{seconds_in, civil_in, count_in}
-use Rattle.rtk_rinex.proofs.ReadingLemmas.{same_civil, Fits, Fits-reading_of}
+use Rattle.rtk_rinex.proofs.ReadingLemmas.{same_civil, FitsColumns, FitsColumns-reading_of}
 use Rattle.rtk_rinex.proofs.DigitsLemmas.{digits_from-last_2, digits_from-last_4, digits_from-seconds, digits_from-right, length-right, take-exact, drop-exact}
 
 length-seconds : (n : ℕ) → n < 10 ^ 10 → length (right 11 (decimals 7 false n)) ≡ 11
@@ -18,7 +18,7 @@ length-seconds n h =
 length-count : (n : ℕ) → n < 1000 → length (right 3 (decimal n)) ≡ 3
 length-count n h = length-right 3 (decimal n) (length-decimal-le 3 n (omega arith) (omega arith) (omega arith))
 
-pub seconds_in-columns : (c : Civil) (n : ℕ) → Fits c → seconds_in (epoch_columns c n) ≡ seconds_of c
+pub seconds_in-columns : (c : Civil) (n : ℕ) → FitsColumns c → seconds_in (epoch_columns c n) ≡ seconds_of c
 seconds_in-columns c n h =
     let s : List ℕ = right 11 (decimals 7 false (seconds_of c)) in
     let last : List ℕ = right 3 (decimal n) in
@@ -27,7 +27,7 @@ seconds_in-columns c n h =
     rw (append_assoc (epoch_date_text c ++ s) (codes "  0") last, append_assoc (epoch_date_text c) s (codes "  0" ++ last)) refl in
     rw (from, take-exact 11 s (codes "  0" ++ last) (length-seconds (seconds_of c) small)) (digits_from-seconds 11 (seconds_of c) small)
 
-pub civil_of-columns : (c : Civil) (n : ℕ) → Fits c → civil_in (epoch_columns c n) ≡ c
+pub civil_of-columns : (c : Civil) (n : ℕ) → FitsColumns c → civil_in (epoch_columns c n) ≡ c
 civil_of-columns c n h =
     let seconds = seconds_in-columns c n h in
     same_civil (civil_in (epoch_columns c n)) c
@@ -39,7 +39,7 @@ lengths : (f s z l : List ℕ) → length f ≡ 18 → length s ≡ 11 → lengt
     → (length ((f ++ s) ++ z) ≡ 32) × (length (((f ++ s) ++ z) ++ l) ≡ 35)
 lengths f s z l a b c d = (simp length-append (omega arith), simp length-append (omega arith))
 
-columns-lengths : (c : Civil) (n : ℕ) → Fits c → n < 1000
+columns-lengths : (c : Civil) (n : ℕ) → FitsColumns c → n < 1000
     → (length ((epoch_date_text c ++ right 11 (decimals 7 false (seconds_of c))) ++ codes "  0") ≡ 32) × (length (epoch_columns c n) ≡ 35)
 columns-lengths c n h k =
     lengths (epoch_date_text c) (right 11 (decimals 7 false (seconds_of c))) (codes "  0") (right 3 (decimal n)) refl
@@ -51,10 +51,10 @@ length-written c n second millisecond k =
     let columns = lengths (epoch_date_text c) (right 11 (decimals 7 false (seconds_of c))) (codes "  0") (right 3 (decimal n)) refl (length-seconds (seconds_of c) (omega arith)) refl (length-count n k) in
     length-append (epoch_columns c n) (10 ∷ []) ∙ omega (arith, columns.1)
 
-pub length-columns : (c : Civil) (n : ℕ) → Fits c → n < 1000 → length (epoch_columns c n) ≡ 35
+pub length-columns : (c : Civil) (n : ℕ) → FitsColumns c → n < 1000 → length (epoch_columns c n) ≡ 35
 length-columns c n h k = (columns-lengths c n h k).1
 
-pub count_of-columns : (c : Civil) (n : ℕ) → Fits c → n < 1000 → count_in (epoch_columns c n) ≡ n
+pub count_of-columns : (c : Civil) (n : ℕ) → FitsColumns c → n < 1000 → count_in (epoch_columns c n) ≡ n
 count_of-columns c n h k =
     let front : List ℕ = (epoch_date_text c ++ right 11 (decimals 7 false (seconds_of c))) ++ codes "  0" in
     let last : List ℕ = right 3 (decimal n) in
@@ -70,7 +70,7 @@ pub record ShowsEpoch (line : List ℕ) (t n : ℕ) : Type 0 where
 
 pub epoch-shows : (line : List ℕ) (t n : ℕ) → IsMoment t → IsInRange 1 32 n → line ≡ epoch_columns (reading_of t) n → ShowsEpoch line t n
 epoch-shows line t n h k e =
-    let fits = Fits-reading_of t h in
+    let fits = FitsColumns-reading_of t h in
     let few : n < 1000 = omega arith in
     record {
       length = rw e (length-columns (reading_of t) n fits few);
@@ -82,10 +82,10 @@ epoch-shows line t n h k e =
 -- an epoch line has 36 bytes, and the last one is LF
 pub length-line : (line : List ℕ) (t n : ℕ) → IsMoment t → IsInRange 1 32 n → line ≡ epoch_line (reading_of t) n → length line ≡ 36
 length-line line t n h k e =
-    let long = length-columns (reading_of t) n (Fits-reading_of t h) (omega arith) in
+    let long = length-columns (reading_of t) n (FitsColumns-reading_of t h) (omega arith) in
     rw e (length-append (epoch_columns (reading_of t) n) (10 ∷ []) ∙ omega arith)
 
 pub line-columns : (line : List ℕ) (t n : ℕ) → IsMoment t → IsInRange 1 32 n → line ≡ epoch_line (reading_of t) n
     → take 35 line ≡ epoch_columns (reading_of t) n
 line-columns line t n h k e =
-    rw e (take-exact 35 (epoch_columns (reading_of t) n) (10 ∷ []) (length-columns (reading_of t) n (Fits-reading_of t h) (omega arith)))
+    rw e (take-exact 35 (epoch_columns (reading_of t) n) (10 ∷ []) (length-columns (reading_of t) n (FitsColumns-reading_of t h) (omega arith)))

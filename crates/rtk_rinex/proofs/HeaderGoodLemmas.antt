@@ -21,7 +21,7 @@ use Rattle.rtk_rinex.specs.Header.{HeadView, PositionView, IsHeadView, IsPositio
 use Rattle.rtk_rinex.specs.Lines.{HasNoEnd}
 use Rattle.rtk_rinex.specs.Steps.HeaderShown.{line_at}
 use Rattle.rtk_rinex.proofs.DigitsLemmas.{take-exact, length-left, length-right}
-use Rattle.rtk_rinex.proofs.ReadingLemmas.{Fits, Fits-reading_of}
+use Rattle.rtk_rinex.proofs.ReadingLemmas.{FitsColumns, FitsColumns-reading_of}
 use Rattle.rtk_rinex.proofs.HeaderShownLemmas.{length-fixed, IsCoordinate-height, length-seconds}
 use Rattle.rtk_rinex.proofs.HeaderRowsLemmas.{row, ended, text_of, types_head, types_line, type_rows, row_count, first_rows, last_rows, rows}
 
@@ -138,11 +138,11 @@ plain-types (c ∷ cs) = both (types_of c) (types cs) (plain-types_of c) (plain-
 
 -- ---- good lines
 
-pub record IsRow (line : List ℕ) : Type 0 where
+pub record IsHeaderRow (line : List ℕ) : Type 0 where
   pub length : length line ≡ 80
   pub plain : HasNoEnd line
 
-good_row : (content label : List ℕ) → length content ≤ 60 → length label ≤ 20 → plain content ≡ true → plain label ≡ true → IsRow (row content label)
+good_row : (content label : List ℕ) → length content ≤ 60 → length label ≤ 20 → plain content ≡ true → plain label ≡ true → IsHeaderRow (row content label)
 unfolding row
 good_row content label h g e f =
     record {
@@ -154,7 +154,7 @@ known_label : (text : List ℕ) → list_all (λ x. not (x == 10)) text ≡ true
 unfolding plain
 known_label text e = e
 
-made_row : (c : Civil) → IsRow (row (codes "rtcm2rinex                              " ++ made_text c) (codes "PGM / RUN BY / DATE"))
+made_row : (c : Civil) → IsHeaderRow (row (codes "rtcm2rinex                              " ++ made_text c) (codes "PGM / RUN BY / DATE"))
 unfolding plain
 made_row c =
     let date : plain ((last_digits 4 c.year ++ last_digits 2 c.month) ++ last_digits 2 c.day) ≡ true =
@@ -179,7 +179,7 @@ three_fields a b c la lb lc = simp length-append (omega arith)
 two_fields : (a b : List ℕ) (n m : ℕ) → length a ≡ n → length b ≤ m → n + m ≤ 60 → length (a ++ b) ≤ 60
 two_fields a b n m la lb h = simp length-append (omega arith)
 
-first_row : (c : Civil) → Fits c → IsRow (row (first_text c) (codes "TIME OF FIRST OBS"))
+first_row : (c : Civil) → FitsColumns c → IsHeaderRow (row (first_text c) (codes "TIME OF FIRST OBS"))
 unfolding plain
 first_row c fits =
     let y : List ℕ = right 6 (decimal c.year) in
@@ -209,7 +209,7 @@ size : (v : ℤ) → IsCoordinate v → unsigned_abs v < 2 ^ 64
 size (pos n) h = omega (arith, ints, h.least, h.greatest)
 size (negsuc n) h = omega (arith, ints, h.least, h.greatest)
 
-place_row : (x y z : ℤ) → IsCoordinate x → IsCoordinate y → IsCoordinate z → IsRow (row (fixed 4 14 x ++ fixed 4 14 y ++ fixed 4 14 z) (codes "APPROX POSITION XYZ"))
+place_row : (x y z : ℤ) → IsCoordinate x → IsCoordinate y → IsCoordinate z → IsHeaderRow (row (fixed 4 14 x ++ fixed 4 14 y ++ fixed 4 14 z) (codes "APPROX POSITION XYZ"))
 unfolding plain
 place_row x y z hx hy hz =
     let a : List ℕ = fixed 4 14 x in
@@ -222,7 +222,7 @@ place_row x y z hx hy hz =
     good_row ((a ++ b) ++ c) (codes "APPROX POSITION XYZ") long (omega arith)
     (both (a ++ b) c (both a b (plain-fixed x (size x hx)) (plain-fixed y (size y hy))) (plain-fixed z (size z hz))) refl
 
-height_row : (h : ℕ) → h < 65_536 → IsRow (row (fixed 4 14 (pos h) ++ codes "        0.0000        0.0000") (codes "ANTENNA: DELTA H/E/N"))
+height_row : (h : ℕ) → h < 65_536 → IsHeaderRow (row (fixed 4 14 (pos h) ++ codes "        0.0000        0.0000") (codes "ANTENNA: DELTA H/E/N"))
 unfolding plain
 height_row h small =
     let a : List ℕ = fixed 4 14 (pos h) in
@@ -239,7 +239,7 @@ head_fits zero n h =
     (omega (arith, three), both (codes "G  ") (right 3 (decimal (3 * n))) refl (plain-right 3 (decimal (3 * n)) (plain-decimal (3 * n) (omega arith))))
 head_fits (suc j) n h = (refl, refl)
 
-types_row : (j : ℕ) (cs : List Code) → IsInRange 1 16 (length cs) → IsRow (types_line j cs)
+types_row : (j : ℕ) (cs : List Code) → IsInRange 1 16 (length cs) → IsHeaderRow (types_line j cs)
 unfolding types_line plain
 types_row j cs h =
     let head : List ℕ = types_head j (length cs) in
@@ -250,24 +250,24 @@ types_row j cs h =
     good_row (head ++ shown) (codes "SYS / # / OBS TYPES") long (omega arith)
     (both head shown f.1 (plain-take 52 (drop (52 * j) (types cs)) (plain-drop (52 * j) (types cs) (plain-types cs)))) refl
 
-types_good : (j m : ℕ) (cs : List Code) → IsInRange 1 16 (length cs) → All IsRow (type_rows j m cs)
+types_good : (j m : ℕ) (cs : List Code) → IsInRange 1 16 (length cs) → All IsHeaderRow (type_rows j m cs)
 unfolding type_rows
-types_good j zero cs h = All-nil IsRow
-types_good j (suc m) cs h = All-cons IsRow (types_line j cs) (type_rows (suc j) m cs) (types_row j cs h) (types_good (suc j) m cs h)
+types_good j zero cs h = All-nil IsHeaderRow
+types_good j (suc m) cs h = All-cons IsHeaderRow (types_line j cs) (type_rows (suc j) m cs) (types_row j cs h) (types_good (suc j) m cs h)
 
-fixed_row : (content label : List ℕ) → length content ≤ 60 → length label ≤ 20 → list_all (λ x. not (x == 10)) content ≡ true → list_all (λ x. not (x == 10)) label ≡ true → IsRow (row content label)
+fixed_row : (content label : List ℕ) → length content ≤ 60 → length label ≤ 20 → list_all (λ x. not (x == 10)) content ≡ true → list_all (λ x. not (x == 10)) label ≡ true → IsHeaderRow (row content label)
 unfolding plain
 fixed_row content label h g e f = good_row content label h g e f
 
-nine_good : (a b c d e f g h i : List ℕ) → IsRow a → IsRow b → IsRow c → IsRow d → IsRow e → IsRow f → IsRow g → IsRow h → IsRow i → All IsRow (a ∷ b ∷ c ∷ d ∷ e ∷ f ∷ g ∷ h ∷ i ∷ [])
+nine_good : (a b c d e f g h i : List ℕ) → IsHeaderRow a → IsHeaderRow b → IsHeaderRow c → IsHeaderRow d → IsHeaderRow e → IsHeaderRow f → IsHeaderRow g → IsHeaderRow h → IsHeaderRow i → All IsHeaderRow (a ∷ b ∷ c ∷ d ∷ e ∷ f ∷ g ∷ h ∷ i ∷ [])
 nine_good a b c d e f g h i ra rb rc rd re rf rg rh ri =
-    All-cons IsRow a (b ∷ c ∷ d ∷ e ∷ f ∷ g ∷ h ∷ i ∷ []) ra (All-cons IsRow b (c ∷ d ∷ e ∷ f ∷ g ∷ h ∷ i ∷ []) rb (All-cons IsRow c (d ∷ e ∷ f ∷ g ∷ h ∷ i ∷ []) rc (All-cons IsRow d (e ∷ f ∷ g ∷ h ∷ i ∷ []) rd (All-cons IsRow e (f ∷ g ∷ h ∷ i ∷ []) re (All-cons IsRow f (g ∷ h ∷ i ∷ []) rf (All-cons IsRow g (h ∷ i ∷ []) rg (All-cons IsRow h (i ∷ []) rh (All-cons IsRow i ([]) ri (All-nil IsRow)))))))))
+    All-cons IsHeaderRow a (b ∷ c ∷ d ∷ e ∷ f ∷ g ∷ h ∷ i ∷ []) ra (All-cons IsHeaderRow b (c ∷ d ∷ e ∷ f ∷ g ∷ h ∷ i ∷ []) rb (All-cons IsHeaderRow c (d ∷ e ∷ f ∷ g ∷ h ∷ i ∷ []) rc (All-cons IsHeaderRow d (e ∷ f ∷ g ∷ h ∷ i ∷ []) rd (All-cons IsHeaderRow e (f ∷ g ∷ h ∷ i ∷ []) re (All-cons IsHeaderRow f (g ∷ h ∷ i ∷ []) rf (All-cons IsHeaderRow g (h ∷ i ∷ []) rg (All-cons IsHeaderRow h (i ∷ []) rh (All-cons IsHeaderRow i ([]) ri (All-nil IsHeaderRow)))))))))
 
-four_good : (a b c d : List ℕ) → IsRow a → IsRow b → IsRow c → IsRow d → All IsRow (a ∷ b ∷ c ∷ d ∷ [])
+four_good : (a b c d : List ℕ) → IsHeaderRow a → IsHeaderRow b → IsHeaderRow c → IsHeaderRow d → All IsHeaderRow (a ∷ b ∷ c ∷ d ∷ [])
 four_good a b c d ra rb rc rd =
-    All-cons IsRow a (b ∷ c ∷ d ∷ []) ra (All-cons IsRow b (c ∷ d ∷ []) rb (All-cons IsRow c (d ∷ []) rc (All-cons IsRow d ([]) rd (All-nil IsRow))))
+    All-cons IsHeaderRow a (b ∷ c ∷ d ∷ []) ra (All-cons IsHeaderRow b (c ∷ d ∷ []) rb (All-cons IsHeaderRow c (d ∷ []) rc (All-cons IsHeaderRow d ([]) rd (All-nil IsHeaderRow))))
 
-first_good : (h : HeadView) (s : PositionView) → IsHeadView h → IsPositionView s → All IsRow (first_rows h s)
+first_good : (h : HeadView) (s : PositionView) → IsHeadView h → IsPositionView s → All IsHeaderRow (first_rows h s)
 first_good h s g p =
     let m = g.0 in
     nine_good _ _ _ _ _ _ _ _ _
@@ -281,41 +281,41 @@ first_good h s g p =
     (place_row s.x s.y s.z p.0 p.1 p.2)
     (height_row s.height p.3)
 
-last_good : (first : ℕ) → IsMoment first → All IsRow (last_rows first)
+last_good : (first : ℕ) → IsMoment first → All IsHeaderRow (last_rows first)
 last_good first h =
     four_good _ _ _ _
     (fixed_row (codes "DBHZ") (codes "SIGNAL STRENGTH UNIT") (omega arith) (omega arith) refl refl)
-    (first_row (reading_of first) (Fits-reading_of first h))
+    (first_row (reading_of first) (FitsColumns-reading_of first h))
     (fixed_row (codes "G") (codes "SYS / PHASE SHIFT") (omega arith) (omega arith) refl refl)
     (fixed_row [] (codes "END OF HEADER") (omega arith) (omega arith) refl refl)
 
-pub rows_good : (h : HeadView) (s : PositionView) (first : ℕ) → IsHeadView h → IsPositionView s → IsMoment first → All IsRow (rows h s first)
+pub rows_good : (h : HeadView) (s : PositionView) (first : ℕ) → IsHeadView h → IsPositionView s → IsMoment first → All IsHeaderRow (rows h s first)
 unfolding rows
 rows_good h s first g p t =
     let count = row_count (length h.listed) in
-    All-append IsRow (first_rows h s) (type_rows 0 count h.listed ++ last_rows first) (first_good h s g p)
-    (All-append IsRow (type_rows 0 count h.listed) (last_rows first) (types_good 0 count h.listed g.1.0) (last_good first t))
+    All-append IsHeaderRow (first_rows h s) (type_rows 0 count h.listed ++ last_rows first) (first_good h s g p)
+    (All-append IsHeaderRow (type_rows 0 count h.listed) (last_rows first) (types_good 0 count h.listed g.1.0) (last_good first t))
 
 -- ---- a line of a text
 
-pub length-text : (rs : List (List ℕ)) → All IsRow rs → length (text_of rs) ≡ 81 * length rs
+pub length-text : (rs : List (List ℕ)) → All IsHeaderRow rs → length (text_of rs) ≡ 81 * length rs
 length-text [] h = refl
 length-text (r ∷ rs) h =
-    let first = All-head IsRow r rs h in
-    length-append (ended r) (text_of rs) ∙ omega (arith, length-append r (10 ∷ []), first.length, length-text rs (All-tail IsRow r rs h))
+    let first = All-head IsHeaderRow r rs h in
+    length-append (ended r) (text_of rs) ∙ omega (arith, length-append r (10 ∷ []), first.length, length-text rs (All-tail IsHeaderRow r rs h))
 
-pub line_in : (rs : List (List ℕ)) (i : ℕ) → All IsRow rs → i < length rs → line_at i (text_of rs) ≡ ended (get_or rs i [])
+pub line_in : (rs : List (List ℕ)) (i : ℕ) → All IsHeaderRow rs → i < length rs → line_at i (text_of rs) ≡ ended (get_or rs i [])
 line_in [] i h lt = absurd (omega arith)
 line_in (r ∷ rs) zero h lt =
-    let first = All-head IsRow r rs h in
+    let first = All-head IsHeaderRow r rs h in
     take-exact 81 (ended r) (text_of rs) (length-append r (10 ∷ []) ∙ omega (arith, first.length))
 line_in (r ∷ rs) (suc i) h lt =
-    let first = All-head IsRow r rs h in
+    let first = All-head IsHeaderRow r rs h in
     let long : length (ended r) ≡ 81 = length-append r (10 ∷ []) ∙ omega (arith, first.length) in
     let places : 81 * suc i ≡ length (ended r) + 81 * i = omega arith in
-    rw (places, drop-append-add (ended r) (text_of rs) (81 * i)) (line_in rs i (All-tail IsRow r rs h) (omega arith))
+    rw (places, drop-append-add (ended r) (text_of rs) (81 * i)) (line_in rs i (All-tail IsHeaderRow r rs h) (omega arith))
 
-pub line_past : (rs : List (List ℕ)) (i : ℕ) → All IsRow rs → length rs ≤ i → line_at i (text_of rs) ≡ []
+pub line_past : (rs : List (List ℕ)) (i : ℕ) → All IsHeaderRow rs → length rs ≤ i → line_at i (text_of rs) ≡ []
 line_past rs i h le =
     let long = length-text rs h in
     rw (drop_of_length-le (text_of rs) {i = 81 * i} (omega (arith, long, le))) refl

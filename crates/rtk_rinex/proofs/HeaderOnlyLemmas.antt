@@ -7,10 +7,10 @@ use Rattle.rtk_rinex.specs.Reading.{reading_of}
 use Rattle.rtk_rinex.specs.Header.{HeadView, PositionView, made_text, first_text, header_text}
 use Rattle.rtk_rinex.specs.Steps.HeaderShown.{line_at}
 use Rattle.rtk_rinex.proofs.HeaderRowsLemmas.{row, row_ended, ended, types_line, rows}
-use Rattle.rtk_rinex.proofs.HeaderSameLemmas.{Shows, IsGood, Agrees, lines_of, length-header, in_first, in_types, in_last, agreed, same_count, name_is}
+use Rattle.rtk_rinex.proofs.HeaderSameLemmas.{ShowsHeader, IsGoodHeader, Agrees, lines_of, length-header, in_first, in_types, in_last, agreed, same_count, name_is}
 
 -- a text that begins with a header has the lines of the header
-agrees : (h : HeadView) (s : PositionView) (t : ℕ) (text rest : List ℕ) (k : ℕ) → IsGood h s t → text ≡ header_text h s t ++ rest → k < 13 + lines_of h → Agrees text h s t k
+agrees : (h : HeadView) (s : PositionView) (t : ℕ) (text rest : List ℕ) (k : ℕ) → IsGoodHeader h s t → text ≡ header_text h s t ++ rest → k < 13 + lines_of h → Agrees text h s t k
 agrees h s t text rest k g e lt j le =
     let a : List ℕ = header_text h s t in
     let long : length a ≡ 81 * (13 + lines_of h) = length-header h s t g in
@@ -31,7 +31,7 @@ site_with x y z n = record { x = x; y = y; z = z; height = n }
 same_site : (x₁ x₂ y₁ y₂ z₁ z₂ : ℤ) (n₁ n₂ : ℕ) → x₁ ≡ x₂ → y₁ ≡ y₂ → z₁ ≡ z₂ → n₁ ≡ n₂ → site_with x₁ y₁ z₁ n₁ ≡ site_with x₂ y₂ z₂ n₂
 same_site x₁ x₂ y₁ y₂ z₁ z₂ n₁ n₂ e₁ e₂ e₃ e₄ = cc
 
-pub only_shown : (text rest : List ℕ) (h c : HeadView) (s d : PositionView) (t u : ℕ) → Shows text h c s d t u → IsGood h s t → text ≡ header_text h s t ++ rest
+pub only_shown : (text rest : List ℕ) (h c : HeadView) (s d : PositionView) (t u : ℕ) → ShowsHeader text h c s d t u → IsGoodHeader h s t → text ≡ header_text h s t ++ rest
     → (h ≡ c) × (s ≡ d) × (t ≡ u)
 unfolding types_line
 only_shown text rest h c s d t u shows g e =

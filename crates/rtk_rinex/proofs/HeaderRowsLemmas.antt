@@ -7,6 +7,7 @@ use Rattle.std.proofs.lemmas.Grind.{flat_map-append}
 use Rattle.std.proofs.lemmas.List.{length-drop}
 use Rattle.rtk_obs.specs.declared.code.Code.{Code}
 use Rattle.rtk_obs.specs.declared.code.Code.TheVariants.{C1C, C1P, C1W, C1S, C1L, C1X, C2C, C2D, C2P, C2W, C2S, C2L, C2X, C5I, C5Q, C5X}
+use Rattle.rtk_obs.specs.Code.{name_of}
 use Rattle.rtk_rinex.specs.Columns.{left, right, fixed}
 use Rattle.rtk_rinex.specs.Reading.{reading_of}
 use Rattle.rtk_rinex.specs.Header.{HeadView, PositionView, header_line, made_text, first_lines, position_lines, types_of, types, continuation_line, types_lines, first_text, last_lines, header_text}
@@ -73,23 +74,26 @@ rows h s first = first_rows h s ++ (type_rows 0 (row_count (length h.listed)) h.
 
 -- ---- the types
 
+pub length-name : (c : Code) → length (name_of c) ≡ 2
+length-name C1C = refl
+length-name C1P = refl
+length-name C1W = refl
+length-name C1S = refl
+length-name C1L = refl
+length-name C1X = refl
+length-name C2C = refl
+length-name C2D = refl
+length-name C2P = refl
+length-name C2W = refl
+length-name C2S = refl
+length-name C2L = refl
+length-name C2X = refl
+length-name C5I = refl
+length-name C5Q = refl
+length-name C5X = refl
+
 length-types_of : (c : Code) → length (types_of c) ≡ 12
-length-types_of C1C = refl
-length-types_of C1P = refl
-length-types_of C1W = refl
-length-types_of C1S = refl
-length-types_of C1L = refl
-length-types_of C1X = refl
-length-types_of C2C = refl
-length-types_of C2D = refl
-length-types_of C2P = refl
-length-types_of C2W = refl
-length-types_of C2S = refl
-length-types_of C2L = refl
-length-types_of C2X = refl
-length-types_of C5I = refl
-length-types_of C5Q = refl
-length-types_of C5X = refl
+length-types_of c = simp length-append (omega (arith, length-name c))
 
 pub length-types : (cs : List Code) → length (types cs) ≡ 12 * length cs
 length-types [] = refl

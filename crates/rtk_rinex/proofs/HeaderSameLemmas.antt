@@ -9,7 +9,6 @@ use Rattle.std.proofs.lemmas.Grind.{flat_map-append}
 use Rattle.std.proofs.lemmas.List.{get_or-append-add, same_lists, get_or-take, length-take, take-append-le, take_all, take-append-drop, drop-append-le, drop-take, length-drop}
 use Rattle.std.proofs.Math.Seq.{drop-cons}
 use Rattle.rtk_obs.specs.declared.code.Code.{Code}
-use Rattle.rtk_obs.specs.declared.code.Code.TheVariants.{C1C, C1P, C1W, C1S, C1L, C1X, C2C, C2D, C2P, C2W, C2S, C2L, C2X, C5I, C5Q, C5X}
 use Rattle.rtk_obs.specs.Code.{name_of}
 use Rattle.rtk_rinex.specs.Columns.{right, fixed}
 use Rattle.rtk_rinex.specs.Reading.{IsMoment, reading_of}
@@ -17,12 +16,12 @@ use Rattle.rtk_rinex.specs.Header.{HeadView, PositionView, IsHeadView, IsPositio
 use Rattle.rtk_rinex.specs.Steps.HeaderShown.{line_at, name_at}
 use Rattle.rtk_rinex.proofs.DigitsLemmas.{piece}
 use Rattle.rtk_rinex.proofs.HeaderShownLemmas.{line_rest, line_is}
-use Rattle.rtk_rinex.proofs.HeaderRowsLemmas.{row, row_ended, ended, types_head, types_line, type_rows, row_count, first_rows, last_rows, rows, rows_text, length-types}
+use Rattle.rtk_rinex.proofs.HeaderRowsLemmas.{row, row_ended, ended, types_head, types_line, type_rows, row_count, first_rows, last_rows, rows, rows_text, length-name, length-types}
 use Rattle.rtk_rinex.proofs.HeaderGoodLemmas.{rows_good, length-text, line_in, line_past, head_fits}
 
 -- what the lines of a text show of a header: if the text has a line of the header, the part that
 -- was read from this line is the header's
-pub record Shows (text : List ℕ) (h c : HeadView) (s d : PositionView) (t u : ℕ) : Type 0 where
+pub record ShowsHeader (text : List ℕ) (h c : HeadView) (s d : PositionView) (t u : ℕ) : Type 0 where
   pub made : line_at 1 text ≡ header_line (codes "rtcm2rinex                              " ++ made_text (reading_of h.made)) (codes "PGM / RUN BY / DATE") → c.made ≡ h.made
   pub marker : line_at 2 text ≡ header_line h.marker (codes "MARKER NAME") → c.marker ≡ h.marker
   pub place : line_at 7 text ≡ header_line (fixed 4 14 s.x ++ fixed 4 14 s.y ++ fixed 4 14 s.z) (codes "APPROX POSITION XYZ")
@@ -79,29 +78,29 @@ in_last h s t j =
     get_or-append-add (first_rows h s) (type_rows 0 (lines_of h) h.listed ++ last_rows t) (lines_of h + j) []
     ∙ (rw m at (get_or-append-add (type_rows 0 (lines_of h) h.listed) (last_rows t) j []))
 
-pub record IsGood (h : HeadView) (s : PositionView) (t : ℕ) : Type 0 where
+pub record IsGoodHeader (h : HeadView) (s : PositionView) (t : ℕ) : Type 0 where
   pub heading : IsHeadView h
   pub site : IsPositionView s
   pub first : IsMoment t
 
-pub line_within : (h : HeadView) (s : PositionView) (t k : ℕ) → IsGood h s t → k < 13 + lines_of h → line_at k (header_text h s t) ≡ ended (get_or (rows h s t) k [])
+pub line_within : (h : HeadView) (s : PositionView) (t k : ℕ) → IsGoodHeader h s t → k < 13 + lines_of h → line_at k (header_text h s t) ≡ ended (get_or (rows h s t) k [])
 line_within h s t k g lt =
     let n = length-rows h s t in
     ap (line_at k) (sym (rows_text h s t g.heading.1.0)) ∙ line_in (rows h s t) k (rows_good h s t g.heading g.site g.first) (omega (arith, n, lt))
 
-pub line_after_header : (h : HeadView) (s : PositionView) (t k : ℕ) → IsGood h s t → 13 + lines_of h ≤ k → line_at k (header_text h s t) ≡ []
+pub line_after_header : (h : HeadView) (s : PositionView) (t k : ℕ) → IsGoodHeader h s t → 13 + lines_of h ≤ k → line_at k (header_text h s t) ≡ []
 line_after_header h s t k g le =
     let n = length-rows h s t in
     ap (line_at k) (sym (rows_text h s t g.heading.1.0)) ∙ line_past (rows h s t) k (rows_good h s t g.heading g.site g.first) (omega (arith, n, le))
 
-pub length-header : (h : HeadView) (s : PositionView) (t : ℕ) → IsGood h s t → length (header_text h s t) ≡ 81 * (13 + lines_of h)
+pub length-header : (h : HeadView) (s : PositionView) (t : ℕ) → IsGoodHeader h s t → length (header_text h s t) ≡ 81 * (13 + lines_of h)
 length-header h s t g =
     let n = length-rows h s t in
     ap length (sym (rows_text h s t g.heading.1.0)) ∙ length-text (rows h s t) (rows_good h s t g.heading g.site g.first) ∙ omega (arith, n)
 
 -- ---- the lines before the types
 
-front_same : (text : List ℕ) (h c : HeadView) (s d : PositionView) (t u k : ℕ) → Shows text h c s d t u → k < 9
+front_same : (text : List ℕ) (h c : HeadView) (s d : PositionView) (t u k : ℕ) → ShowsHeader text h c s d t u → k < 9
     → line_at k text ≡ ended (get_or (first_rows h s) k []) → get_or (first_rows c d) k [] ≡ get_or (first_rows h s) k []
 front_same text h c s d t u zero shows lt e = refl
 front_same text h c s d t u (suc zero) shows lt e =
@@ -123,24 +122,6 @@ front_same text h c s d t u (suc (suc (suc (suc (suc (suc (suc (suc zero))))))))
 front_same text h c s d t u (suc (suc (suc (suc (suc (suc (suc (suc (suc k))))))))) shows lt e = absurd (omega arith)
 
 -- ---- the types
-
-length-name : (c : Code) → length (name_of c) ≡ 2
-length-name C1C = refl
-length-name C1P = refl
-length-name C1W = refl
-length-name C1S = refl
-length-name C1L = refl
-length-name C1X = refl
-length-name C2C = refl
-length-name C2D = refl
-length-name C2P = refl
-length-name C2W = refl
-length-name C2S = refl
-length-name C2L = refl
-length-name C2X = refl
-length-name C5I = refl
-length-name C5Q = refl
-length-name C5X = refl
 
 -- the types around the first name of a code
 record Around (cs : List Code) (i : ℕ) (name : List ℕ) : Type 0 where
@@ -238,11 +219,11 @@ types_same xs ys j n same =
 abbrev pub Agrees : List ℕ → HeadView → PositionView → ℕ → ℕ → Type 0
 Agrees text h s t k = (j : ℕ) → j ≤ k → line_at j (header_text h s t) ≡ line_at j text
 
-pub agreed : (text : List ℕ) (h : HeadView) (s : PositionView) (t k j : ℕ) → IsGood h s t → Agrees text h s t k → j ≤ k → j < 13 + lines_of h
+pub agreed : (text : List ℕ) (h : HeadView) (s : PositionView) (t k j : ℕ) → IsGoodHeader h s t → Agrees text h s t k → j ≤ k → j < 13 + lines_of h
     → line_at j text ≡ ended (get_or (rows h s t) j [])
 agreed text h s t k j g a le lt = sym (a j le) ∙ line_within h s t j g lt
 
-pub same_count : (text : List ℕ) (h c : HeadView) (s d : PositionView) (t u k : ℕ) → Shows text h c s d t u → IsGood h s t → Agrees text h s t k → 9 ≤ k
+pub same_count : (text : List ℕ) (h c : HeadView) (s d : PositionView) (t u k : ℕ) → ShowsHeader text h c s d t u → IsGoodHeader h s t → Agrees text h s t k → 9 ≤ k
     → length c.listed ≡ length h.listed
 unfolding types_line
 same_count text h c s d t u k shows g a le =
@@ -251,7 +232,7 @@ same_count text h c s d t u k shows g a le =
     agreed text h s t k 9 g a le (omega arith) ∙ ap (λ (r : List ℕ). ended r) (in_types h s t 0 some) in
     shows.count (first ∙ sym (row_ended (types_head 0 (length h.listed) ++ take 52 (types h.listed)) (codes "SYS / # / OBS TYPES")))
 
-types_agree : (text : List ℕ) (h c : HeadView) (s d : PositionView) (t u k j : ℕ) → Shows text h c s d t u → IsGood h s t → Agrees text h s t k
+types_agree : (text : List ℕ) (h c : HeadView) (s d : PositionView) (t u k j : ℕ) → ShowsHeader text h c s d t u → IsGoodHeader h s t → Agrees text h s t k
     → 9 + j ≤ k → j < lines_of h → length c.listed ≡ length h.listed → types_line j c.listed ≡ types_line j h.listed
 types_agree text h c s d t u k j shows g a le lt n =
     types_same c.listed h.listed j n (λ i e within low.
@@ -261,7 +242,7 @@ types_agree text h c s d t u k j shows g a le lt n =
     name_is text h.listed m e g.heading.1.0 (omega (arith, less, within))
     (agreed text h s t k (9 + 3 * m / 13) g a (omega (arith, place, le)) (omega (arith, inside)) ∙ ap (λ (r : List ℕ). ended r) (in_types h s t (3 * m / 13) inside))))
 
-last_same : (text : List ℕ) (h c : HeadView) (s d : PositionView) (t u k j : ℕ) → Shows text h c s d t u → IsGood h s t → Agrees text h s t k
+last_same : (text : List ℕ) (h c : HeadView) (s d : PositionView) (t u k j : ℕ) → ShowsHeader text h c s d t u → IsGoodHeader h s t → Agrees text h s t k
     → 9 + (lines_of h + j) ≡ k → length c.listed ≡ length h.listed → get_or (last_rows u) j [] ≡ get_or (last_rows t) j []
 last_same text h c s d t u k zero shows g a e n = refl
 last_same text h c s d t u k (suc zero) shows g a e n =
@@ -275,7 +256,7 @@ last_same text h c s d t u k (suc (suc (suc zero))) shows g a e n = refl
 last_same text h c s d t u k (suc (suc (suc (suc j)))) shows g a e n = refl
 
 -- the rows at a place that both headers have
-row_same : (text : List ℕ) (h c : HeadView) (s d : PositionView) (t u k : ℕ) → Shows text h c s d t u → IsGood h s t → Agrees text h s t k
+row_same : (text : List ℕ) (h c : HeadView) (s d : PositionView) (t u k : ℕ) → ShowsHeader text h c s d t u → IsGoodHeader h s t → Agrees text h s t k
     → k < 13 + lines_of h → get_or (rows c d u) k [] ≡ get_or (rows h s t) k []
 row_same text h c s d t u k shows g a lt =
     elim (leb_tells 9 k) [
@@ -305,7 +286,7 @@ row_same text h c s d t u k shows g a lt =
     ]
 
 -- the line after k lines is the text's, if a header has the text's lines up to this one
-pub line_same : (text : List ℕ) (h c : HeadView) (s d : PositionView) (t u k : ℕ) → Shows text h c s d t u → IsGood h s t → IsGood c d u → Agrees text h s t k
+pub line_same : (text : List ℕ) (h c : HeadView) (s d : PositionView) (t u k : ℕ) → ShowsHeader text h c s d t u → IsGoodHeader h s t → IsGoodHeader c d u → Agrees text h s t k
     → line_at k (header_text c d u) ≡ line_at k text
 line_same text h c s d t u k shows g f a =
     elim (leb_tells (13 + lines_of h) k) [

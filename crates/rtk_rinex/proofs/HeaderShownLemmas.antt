@@ -1,21 +1,52 @@
 -- The lines of a header show its values.
-use Rattle.std.proofs.Common.{◌≡◌, ◌≢◌, ℕ, zero, suc, ◌+◌, ◌-◌, ◌*◌, ◌/◌, ◌%◌, ◌^◌, ◌<◌, ◌≤◌, List, [], ◌∷◌, ◌++◌, length, take, drop, replicate, get_or, slice_get, Some, decimal, codes, true, false, arith, refl, sym, ◌∙◌, ap, append_assoc, length-append, ℤ, pos, negsuc, unsigned_abs}
+use Rattle.std.proofs.Common.{◌≡◌, ◌≢◌, ℕ, zero, suc, ◌+◌, ◌-◌, ◌*◌, ◌/◌, ◌%◌, ◌^◌, ◌<◌, ◌≤◌, List, [], ◌∷◌, ◌++◌, length, take, drop, replicate, get_or, slice_get, Some, None, MatchOption, IfSome, IsSomeAnd, Option, unwrap_or, decimal, codes, true, false, arith, refl, sym, ◌∙◌, ap, append_assoc, length-append, ℤ, pos, negsuc, unsigned_abs}
 use Rattle.std.specs.Int.{IsInRange}
 use Rattle.std.proofs.lemmas.Fmt.{length-decimal-le}
 use Rattle.std.proofs.lemmas.Int.{ints}
 use Rattle.std.proofs.lemmas.Option.{slice_get-get_or}
 use Rattle.std.proofs.lemmas.List.{replicate-append-replicate, take_all, append-nil}
 use Rattle.rtk_obs.specs.declared.time.Civil.{Civil}
-use Rattle.rtk_obs.specs.Coordinates.{IsCoordinate}
+use Rattle.rtk_obs.specs.Calendar.{ReadsAs}
+use Rattle.rtk_obs.specs.Coordinates.{IsCoordinate, AreCoordinates}
+use Rattle.rtk_obs.specs.PositionFields.{HasFields}
+use Rattle.rtk_obs.specs.declared.position.Position.{Position}
+use Rattle.rtk_obs.proofs.PublicLaws.{one_moment}
 use Rattle.rtk_rinex.specs.Columns.{left, right, decimals, fixed}
 use Rattle.rtk_rinex.specs.Reading.{IsMoment, reading_of, seconds_of}
 use Rattle.rtk_rinex.specs.Record.{trim_end}
-use Rattle.rtk_rinex.specs.Header.{header_line, made_text, first_text, IsMarker}
+use Rattle.rtk_rinex.specs.Header.{header_line, made_text, first_text, IsMarker, PositionView, IsPositionView}
 use Rattle.rtk_rinex.specs.Steps.Digits.{digits_from, number_in}
 use Rattle.rtk_rinex.specs.Steps.HeaderShown.{number_at, made_civil, first_civil}
-use Rattle.rtk_rinex.proofs.ReadingLemmas.{same_civil, Fits, Fits-reading_of}
+use Rattle.rtk_rinex.proofs.ReadingLemmas.{same_civil, FitsColumns, FitsColumns-reading_of, reading-reads}
 use Rattle.rtk_rinex.proofs.RecordLemmas.{trim_end-blank, trim_end-done}
 use Rattle.rtk_rinex.proofs.DigitsLemmas.{digits_from-last_2, digits_from-last_4, digits_from-seconds, digits_from-right, digits_from-tenthousandths, number_of-fixed_4, length-left, take-exact, piece, length-right}
+
+-- ---- moments and positions that are read
+
+-- the moment that a reading names, if it is the reading of one
+pub moment_read : (r : Option ℕ) (c : Civil) (t : ℕ) → IsMoment t → c ≡ reading_of t
+    → MatchOption r ((t : ℕ) → IsMoment t → ¬ (ReadsAs t c)) (λ t. ReadsAs t c) → r ≡ Some t
+moment_read None c t m e h = absurd (h t m (rw e (reading-reads t m)))
+moment_read (Some u) c t m e h = ap Some (one_moment u t (reading_of t) (rw e at h) (reading-reads t m))
+
+-- it is a whole second, if the reading has no milliseconds
+pub whole_read : (r : Option ℕ) (c : Civil) → c.millisecond ≡ 0
+    → MatchOption r ((t : ℕ) → IsMoment t → ¬ (ReadsAs t c)) (λ t. ReadsAs t c) → IfSome r (λ t. t % 1000 ≡ 0)
+whole_read None c e h = tt
+whole_read (Some u) c e h = omega (arith, e, h.1, h.2)
+
+-- ---- a part that a line shows, or any good one
+
+pub good_or : {A : Type 0} (P : A → Type 0) (r : Option A) (d : A) → IfSome r P → P d → P (unwrap_or r d)
+good_or P None d h g = g
+good_or P (Some x) d h g = h
+
+pub shown_or : {A : Type 0} (r : Option A) (d x v : A) → x ≡ unwrap_or r d → r ≡ Some v → x ≡ v
+shown_or {A = A} r d x v e h = e ∙ ap (λ (o : Option A). unwrap_or o d) h
+
+pub some_or : {A : Type 0} (P : A → Type 0) (r : Option A) (d x : A) → x ≡ unwrap_or r d → IsSomeAnd r P → P x
+some_or P None d x e h = absurd h
+some_or P (Some y) d x e h = rw e h
 
 -- ---- the moment at which the file is made
 
@@ -24,7 +55,7 @@ pub made_is : (line label : List ℕ) (t : ℕ) → IsMoment t → t % 1000 ≡ 
 unfolding header_line left
 made_is line label t h whole e =
     let c = reading_of t in
-    let fits = Fits-reading_of t h in
+    let fits = FitsColumns-reading_of t h in
     rw e (same_civil (made_civil (header_line (codes "rtcm2rinex                              " ++ made_text c) label)) c
     (digits_from-last_4 0 c.year ∙ omega (arith, fits.year)) (digits_from-last_2 c.month fits.month) (digits_from-last_2 c.day fits.day)
     (digits_from-last_2 c.hour fits.hour) (digits_from-last_2 c.minute fits.minute) (digits_from-last_2 c.second (omega (arith, fits.second))) (sym whole))
@@ -94,7 +125,7 @@ first_front c =
     right 6 (decimal c.year) ++ right 6 (decimal c.month) ++ right 6 (decimal c.day)
     ++ right 6 (decimal c.hour) ++ right 6 (decimal c.minute) ++ right 13 (decimals 7 false (seconds_of c))
 
-fields_of : (c : Civil) (rest : List ℕ) → Fits c
+fields_of : (c : Civil) (rest : List ℕ) → FitsColumns c
     → AreFields (first_front c ++ rest) (right 4 (decimal c.year)) (right 2 (decimal c.month)) (right 2 (decimal c.day)) (right 2 (decimal c.hour)) (right 2 (decimal c.minute)) (right 13 (decimals 7 false (seconds_of c)))
 unfolding first_front
 fields_of c rest fits =
@@ -111,7 +142,7 @@ fields_of c rest fits =
     (length-right 4 (decimal c.year) y) (length-right 2 (decimal c.month) m) (length-right 2 (decimal c.day) d) (length-right 2 (decimal c.hour) h) (length-right 2 (decimal c.minute) i) s in
     rw (right_split 2 4 (decimal c.year) y, right_split 4 2 (decimal c.month) m, right_split 4 2 (decimal c.day) d, right_split 4 2 (decimal c.hour) h, right_split 4 2 (decimal c.minute) i) all
 
-first_fields : (line label : List ℕ) (c : Civil) → Fits c → line ≡ header_line (first_text c) label
+first_fields : (line label : List ℕ) (c : Civil) → FitsColumns c → line ≡ header_line (first_text c) label
     → AreFields line (right 4 (decimal c.year)) (right 2 (decimal c.month)) (right 2 (decimal c.day)) (right 2 (decimal c.hour)) (right 2 (decimal c.minute)) (right 13 (decimals 7 false (seconds_of c)))
 unfolding first_front
 first_fields line label c fits e =
@@ -126,7 +157,7 @@ pub record ShowsFirst (line : List ℕ) (t : ℕ) : Type 0 where
 pub first_is : (line label : List ℕ) (t : ℕ) → IsMoment t → line ≡ header_line (first_text (reading_of t)) label → ShowsFirst line t
 first_is line label t h e =
     let c = reading_of t in
-    let fits = Fits-reading_of t h in
+    let fits = FitsColumns-reading_of t h in
     let f = first_fields line label c fits e in
     let small : seconds_of c < 10 ^ 10 = omega (arith, fits.second, fits.millisecond) in
     let seconds : number_at 30 13 line ≡ seconds_of c = rw f.last (digits_from-seconds 13 (seconds_of c) small) in
@@ -178,6 +209,12 @@ place_is line label x y z hx hy hz e =
       second = ap number_in (rw r₁ (piece 14 14 a b (c ++ rest) la lb)) ∙ number_of-fixed_4 y (magnitude y hy);
       third = ap number_in (rw r₂ (piece 28 14 (a ++ b) c rest two lc)) ∙ number_of-fixed_4 z (magnitude z hz);
     }
+
+-- the position of the coordinates of another
+pub position_read : (r : Option Position) (x y z : ℤ) (height : ℕ) (s : PositionView) → IsPositionView s → x ≡ s.x → y ≡ s.y → z ≡ s.z
+    → MatchOption r (¬ (AreCoordinates x y z)) (HasFields x y z height) → IsSomeAnd r (λ p. (p.x ≡ s.x) × (p.y ≡ s.y) × (p.z ≡ s.z))
+position_read None x y z height s g a b c h = absurd (h ((rw a g.0), (rw b g.1), (rw c g.2)))
+position_read (Some q) x y z height s g a b c h = (h.0 ∙ a, h.1 ∙ b, h.2 ∙ c)
 
 pub IsCoordinate-height : (h : ℕ) → h < 65_536 → IsCoordinate (pos h)
 IsCoordinate-height h small = record { least = omega (arith, ints); greatest = omega (arith, ints) }

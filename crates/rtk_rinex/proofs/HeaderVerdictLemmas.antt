@@ -16,8 +16,8 @@ use Rattle.rtk_rinex.specs.Steps.HeaderShown.{line_at, number_at}
 use Rattle.rtk_rinex.proofs.DigitsLemmas.{take-exact, drop-exact}
 use Rattle.rtk_rinex.proofs.HeaderShownLemmas.{count_is}
 use Rattle.rtk_rinex.proofs.HeaderRowsLemmas.{row_ended, ended, text_of, types_head, types_line, row_count, rows, rows_text}
-use Rattle.rtk_rinex.proofs.HeaderGoodLemmas.{IsRow, rows_good}
-use Rattle.rtk_rinex.proofs.HeaderSameLemmas.{IsGood, Agrees, lines_of, length-rows, length-header, line_within, in_types}
+use Rattle.rtk_rinex.proofs.HeaderGoodLemmas.{IsHeaderRow, rows_good}
+use Rattle.rtk_rinex.proofs.HeaderSameLemmas.{IsGoodHeader, Agrees, lines_of, length-rows, length-header, line_within, in_types}
 
 -- ---- lines of texts
 
@@ -48,27 +48,27 @@ one_line (x ∷ xs) (y ∷ ys) us vs h g e =
     let rest : xs ≡ ys = one_line xs ys us vs (All-tail (λ (x : ℕ). x ≢ 10) x xs h) (All-tail (λ (x : ℕ). x ≢ 10) y ys g) parts.1 in
     rw (parts.0, rest) refl
 
-front_rows : (rs : List (List ℕ)) (k : ℕ) → All IsRow rs → k ≤ length rs → take (81 * k) (text_of rs) ≡ text_of (take k rs)
+front_rows : (rs : List (List ℕ)) (k : ℕ) → All IsHeaderRow rs → k ≤ length rs → take (81 * k) (text_of rs) ≡ text_of (take k rs)
 front_rows rs zero h le = refl
 front_rows [] (suc k) h le = absurd (omega arith)
 front_rows (r ∷ rs) (suc k) h le =
-    let first = All-head IsRow r rs h in
+    let first = All-head IsHeaderRow r rs h in
     let long : length (ended r) ≡ 81 = length-append r (10 ∷ []) ∙ omega (arith, first.length) in
     let places : 81 * suc k ≡ length (ended r) + 81 * k = omega arith in
-    rw (places, take-append-add (ended r) (text_of rs) (81 * k), front_rows rs k (All-tail IsRow r rs h) (omega arith)) refl
+    rw (places, take-append-add (ended r) (text_of rs) (81 * k), front_rows rs k (All-tail IsHeaderRow r rs h) (omega arith)) refl
 
-line_rows : (rs : List (List ℕ)) (k : ℕ) → All IsRow rs → All HasNoEnd (take k rs)
+line_rows : (rs : List (List ℕ)) (k : ℕ) → All IsHeaderRow rs → All HasNoEnd (take k rs)
 line_rows rs k h i d lt =
     let n = length-take k rs in
     rw (get_or-take k rs i d (omega (arith, n, lt))) ((h i d (omega (arith, n, lt))).plain)
 
-pub are_lines : (c : HeadView) (d : PositionView) (u : ℕ) → IsGood c d u → AreLines (13 + lines_of c) (header_text c d u)
+pub are_lines : (c : HeadView) (d : PositionView) (u : ℕ) → IsGoodHeader c d u → AreLines (13 + lines_of c) (header_text c d u)
 are_lines c d u g =
     (rows c d u, (λ i e lt. (rows_good c d u g.heading g.site g.first i e lt).plain), length-rows c d u, sym (rows_text c d u g.heading.1.0))
 
 -- ---- one number of lines
 
-pub count_shown : (line : List ℕ) (h : HeadView) (s : PositionView) (t : ℕ) → IsGood h s t → line ≡ line_at 9 (header_text h s t) → number_at 3 3 line ≡ 3 * length h.listed
+pub count_shown : (line : List ℕ) (h : HeadView) (s : PositionView) (t : ℕ) → IsGoodHeader h s t → line ≡ line_at 9 (header_text h s t) → number_at 3 3 line ≡ 3 * length h.listed
 unfolding types_line
 count_shown line h s t g e =
     let some : 0 < lines_of h = omega (arith, g.heading.1.0) in
@@ -76,7 +76,7 @@ count_shown line h s t g e =
     count_is line (codes "SYS / # / OBS TYPES") (take 52 (types h.listed)) (length h.listed) g.heading.1.0
     (first ∙ sym (row_ended (types_head 0 (length h.listed) ++ take 52 (types h.listed)) (codes "SYS / # / OBS TYPES")))
 
-one_count : (h c : HeadView) (s d : PositionView) (t u : ℕ) → IsGood h s t → IsGood c d u → line_at 9 (header_text h s t) ≡ line_at 9 (header_text c d u) → lines_of h ≡ lines_of c
+one_count : (h c : HeadView) (s d : PositionView) (t u : ℕ) → IsGoodHeader h s t → IsGoodHeader c d u → line_at 9 (header_text h s t) ≡ line_at 9 (header_text c d u) → lines_of h ≡ lines_of c
 one_count h c s d t u g f e =
     let a = count_shown (line_at 9 (header_text h s t)) h s t g refl in
     let b = count_shown (line_at 9 (header_text h s t)) c d u f e in
@@ -92,7 +92,7 @@ ReadsBack text c d u =
     → line_at k (header_text c d u) ≡ line_at k text
 
 pub record PartsAt (text : List ℕ) (c : HeadView) (d : PositionView) (u k : ℕ) : Type 0 where
-  pub good : IsGood c d u
+  pub good : IsGoodHeader c d u
   pub back : ReadsBack text c d u
   pub below : 81 * k < length (header_text c d u)
   pub front : take (81 * k) (header_text c d u) ≡ take (81 * k) text
@@ -125,7 +125,7 @@ parts_begin text c d u k p =
     (drop (81 * k) (header_text c d u), (c, d, u, g.heading, g.site, g.first, (rw (← p.front) (take-append-drop (81 * k) (header_text c d u)))))
 
 -- a header that the text has a part of has more lines than these
-not_past : (text : List ℕ) (h c : HeadView) (s d : PositionView) (t u k : ℕ) → IsGood h s t → PartsAt text c d u k
+not_past : (text : List ℕ) (h c : HeadView) (s d : PositionView) (t u k : ℕ) → IsGoodHeader h s t → PartsAt text c d u k
     → line_at 9 (header_text h s t) ≡ line_at 9 text → k < 13 + lines_of h
 not_past text h c s d t u k g p e =
     elim (leb_tells (13 + lines_of h) k) [
@@ -144,7 +144,7 @@ parts_whole text c d u k p x =
     let h = x.0 in
     let s = x.1 in
     let t = x.2 in
-    let g : IsGood h s t = record { heading = x.3; site = x.4; first = x.5 } in
+    let g : IsGoodHeader h s t = record { heading = x.3; site = x.4; first = x.5 } in
     let e : take (81 * k) text ≡ header_text h s t = x.6 in
     let f = length-front text c d u k p in
     let whole = length-header h s t g in
@@ -161,7 +161,7 @@ parts_none text c d u k p x =
     let h = x.2.0 in
     let s = x.2.1 in
     let t = x.2.2 in
-    let g : IsGood h s t = record { heading = x.2.3; site = x.2.4; first = x.2.5 } in
+    let g : IsGoodHeader h s t = record { heading = x.2.3; site = x.2.4; first = x.2.5 } in
     let e : text ≡ header_text h s t ++ rest = x.3 ∙ ap (λ (xs : List ℕ). xs ++ rest) x.2.6 in
     let whole = length-header h s t g in
     let line : (j : ℕ) → j < 13 + lines_of h → line_at j (header_text h s t) ≡ line_at j text = λ j lt.
@@ -177,7 +177,7 @@ parts_next text line more c d u k p l is x =
     let s = x.0.site in
     let t = x.0.first in
     let rest = x.1 in
-    let g : IsGood h s t = record { heading = x.2.head; site = x.2.site; first = x.2.first } in
+    let g : IsGoodHeader h s t = record { heading = x.2.head; site = x.2.site; first = x.2.first } in
     let records : List ℕ = flat_map record_text x.0.epochs in
     let file : List ℕ = header_text h s t ++ records in
     let front : List ℕ = take (81 * k) text in
@@ -197,7 +197,7 @@ parts_next text line more c d u k p l is x =
           let w : List ℕ = get_or (rows h s t) k [] in
           let row_is : line_at k file ≡ ended w = own k within.1 ∙ line_within h s t k g within.1 in
           let m = length-rows h s t in
-          let good : IsRow w = rows_good h s t g.heading g.site g.first k [] (omega (arith, m, within.1)) in
+          let good : IsHeaderRow w = rows_good h s t g.heading g.site g.first k [] (omega (arith, m, within.1)) in
           let after_front : drop (81 * k) file ≡ line ++ 10 ∷ rest = ap (λ (xs : List ℕ). drop (81 * k) xs) e ∙ drop-exact (81 * k) front (line ++ 10 ∷ rest) f.0 in
           let split : w ++ 10 ∷ drop 81 (drop (81 * k) file) ≡ line ++ 10 ∷ rest =
           sym (append_assoc w (10 ∷ []) (drop 81 (drop (81 * k) file))) ∙ (rw (← row_is) (take-append-drop 81 (drop (81 * k) file))) ∙ after_front in

@@ -16,7 +16,7 @@ use Rattle.rtk_rinex.specs.Reading.{IsMoment, reading_of, seconds_of}
 use Rattle.rtk_rinex.specs.Record.{is_written, observation, observations, lli_digit, strength_digit, strength_value, before_trimmed, trim_end, satellite_line, epoch_date_text, epoch_columns, epoch_line}
 use Rattle.rtk_rinex.specs.Lines.{HasNoEnd, IsLine}
 use Rattle.rtk_rinex.proofs.ValuesLemmas.{written-magnitude}
-use Rattle.rtk_rinex.proofs.ReadingLemmas.{Fits-reading_of}
+use Rattle.rtk_rinex.proofs.ReadingLemmas.{FitsColumns-reading_of}
 
 abbrev IsNoEnd : ℕ → Type 0
 IsNoEnd x = x ≢ 10
@@ -124,7 +124,7 @@ of_date c =
 pub epoch_line-line : (t n : ℕ) → IsMoment t → n < 1000 → IsLine (epoch_line (reading_of t) n)
 epoch_line-line t n h small =
     let c = reading_of t in
-    let fits = Fits-reading_of t h in
+    let fits = FitsColumns-reading_of t h in
     let s : List ℕ = right 11 (decimals 7 false (seconds_of c)) in
     let z : List ℕ = codes "  0" in
     let k : List ℕ = right 3 (decimal n) in

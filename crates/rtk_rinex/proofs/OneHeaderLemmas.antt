@@ -22,7 +22,7 @@ use Rattle.rtk_rinex.proofs.DigitsLemmas.{take-exact, drop-exact}
 use Rattle.rtk_obs.proofs.PublicLaws.{one_moment}
 use Rattle.rtk_rinex.proofs.HeaderShownLemmas.{first_is}
 use Rattle.rtk_rinex.proofs.HeaderRowsLemmas.{row_ended, ended, text_of, row_count}
-use Rattle.rtk_rinex.proofs.HeaderSameLemmas.{IsGood, lines_of, length-header, line_within, in_last}
+use Rattle.rtk_rinex.proofs.HeaderSameLemmas.{IsGoodHeader, lines_of, length-header, line_within, in_last}
 use Rattle.rtk_rinex.proofs.HeaderVerdictLemmas.{line_front, count_shown, are_lines}
 use Rattle.rtk_rinex.proofs.LineLemmas.{no_front, same_front}
 use Rattle.rtk_rinex.proofs.OneLemmas.{Goes, same_cons}
@@ -30,7 +30,7 @@ use Rattle.rtk_rinex.proofs.TextLemmas.{line_bytes}
 
 -- ---- one header
 
-pub first_line : (h : HeadView) (s : PositionView) (t : ℕ) → IsGood h s t
+pub first_line : (h : HeadView) (s : PositionView) (t : ℕ) → IsGoodHeader h s t
     → line_at (9 + (lines_of h + 1)) (header_text h s t) ≡ header_line (first_text (reading_of t)) (codes "TIME OF FIRST OBS")
 first_line h s t g =
     line_within h s t (9 + (lines_of h + 1)) g (omega arith) ∙ ap (λ (r : List ℕ). ended r) (in_last h s t 1)
@@ -44,7 +44,7 @@ pub record AreAlike (h c : HeadView) (s d : PositionView) (t u : ℕ) (x y : Lis
   pub text : header_text h s t ≡ header_text c d u
   pub rest : x ≡ y
 
-one_first : (h c : HeadView) (s d : PositionView) (t u : ℕ) → IsGood h s t → IsGood c d u → lines_of h ≡ lines_of c → header_text h s t ≡ header_text c d u → t ≡ u
+one_first : (h c : HeadView) (s d : PositionView) (t u : ℕ) → IsGoodHeader h s t → IsGoodHeader c d u → lines_of h ≡ lines_of c → header_text h s t ≡ header_text c d u → t ≡ u
 one_first h c s d t u g f lines e =
     let a = first_line h s t g in
     let place : 9 + (lines_of c + 1) ≡ 9 + (lines_of h + 1) = omega (arith, lines) in
@@ -55,7 +55,7 @@ one_first h c s d t u g f lines e =
     let reading : reading_of u ≡ reading_of t = sym right.reading ∙ left.reading in
     one_moment t u (reading_of t) (reading-reads t g.first) (subst (λ (c : Civil). ReadsAs u c) reading (reading-reads u f.first))
 
-pub one_header : (h c : HeadView) (s d : PositionView) (t u : ℕ) (x y : List ℕ) → IsGood h s t → IsGood c d u → header_text h s t ++ x ≡ header_text c d u ++ y
+pub one_header : (h c : HeadView) (s d : PositionView) (t u : ℕ) (x y : List ℕ) → IsGoodHeader h s t → IsGoodHeader c d u → header_text h s t ++ x ≡ header_text c d u ++ y
     → AreAlike h c s d t u x y
 one_header h c s d t u x y g f e =
     let a : List ℕ = header_text h s t in
@@ -191,11 +191,11 @@ no_header_more n bytes cause a ms (l ∷ more) y is e text h =
 
 -- a header that ends before the fault is no part of another one
 no_longer : (n : ℕ) (bytes : List ℕ) (cause : Cause) (a : HasFaultAfter n bytes cause) (h : HeadView) (s : PositionView) (t : ℕ) (ms more : List (List ℕ))
-    → IsGood h s t → header_text h s t ≡ text_of ms → a.lines ≡ ms ++ more → length more ≡ 0
+    → IsGoodHeader h s t → header_text h s t ≡ text_of ms → a.lines ≡ ms ++ more → length more ≡ 0
 no_longer n bytes cause a h s t ms more g e list =
     let b = a.begins.1 in
     let x = a.begins.0 in
-    let good : IsGood b.0 b.1 b.2 = record { heading = b.3; site = b.4; first = b.5 } in
+    let good : IsGoodHeader b.0 b.1 b.2 = record { heading = b.3; site = b.4; first = b.5 } in
     let text : text_of a.lines ≡ header_text h s t ++ text_of more =
     ap text_of list ∙ flat_map-append ended ms more ∙ ap (λ (f : List ℕ). f ++ text_of more) (sym e) in
     let whole : header_text h s t ++ (text_of more ++ x) ≡ header_text b.0 b.1 b.2 ++ [] =
@@ -208,7 +208,7 @@ no_header n bytes cause a has =
     let h = has.2.0 in
     let s = has.2.1 in
     let t = has.2.2 in
-    let g : IsGood h s t = record { heading = has.2.3; site = has.2.4; first = has.2.5 } in
+    let g : IsGoodHeader h s t = record { heading = has.2.3; site = has.2.4; first = has.2.5 } in
     let lines = are_lines h s t g in
     let ms = lines.0 in
     let header : header_text h s t ≡ text_of ms = lines.3 in

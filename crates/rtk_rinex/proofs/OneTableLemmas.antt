@@ -19,7 +19,7 @@ use Rattle.rtk_rinex.specs.Steps.HeaderShown.{line_at}
 use Rattle.rtk_rinex.proofs.ReadingLemmas.{reading-reads}
 use Rattle.rtk_rinex.proofs.HeaderShownLemmas.{made_is, marker_is, place_is, height_is, count_is, first_is}
 use Rattle.rtk_rinex.proofs.HeaderRowsLemmas.{row_ended, ended, row_count}
-use Rattle.rtk_rinex.proofs.HeaderSameLemmas.{Shows, IsGood, lines_of, line_within, in_first, in_types, name_is}
+use Rattle.rtk_rinex.proofs.HeaderSameLemmas.{ShowsHeader, IsGoodHeader, lines_of, line_within, in_first, in_types, name_is}
 use Rattle.rtk_rinex.proofs.HeaderOnlyLemmas.{only_shown}
 use Rattle.rtk_rinex.proofs.HeaderVerdictLemmas.{count_shown}
 use Rattle.rtk_rinex.proofs.OneHeaderLemmas.{AreAlike, first_line, one_header}
@@ -38,7 +38,7 @@ abbrev HaveOneName : Type 0
 HaveOneName = (c d : Code) → name_of c ≡ name_of d → c ≡ d
 
 -- the lines of a header show its own parts
-shows_itself : (h c : HeadView) (s d : PositionView) (t u : ℕ) → HaveOneName → IsGood h s t → IsGood c d u → Shows (header_text c d u) h c s d t u
+shows_itself : (h c : HeadView) (s d : PositionView) (t u : ℕ) → HaveOneName → IsGoodHeader h s t → IsGoodHeader c d u → ShowsHeader (header_text c d u) h c s d t u
 shows_itself h c s d t u names g f =
     let made_line : line_at 1 (header_text c d u) ≡ header_line (codes "rtcm2rinex                              " ++ made_text (reading_of c.made)) (codes "PGM / RUN BY / DATE") =
     line_within c d u 1 f (omega arith) ∙ ap (λ (r : List ℕ). ended r) (in_first c d u 1 (omega arith)) ∙ sym (row_ended (codes "rtcm2rinex                              " ++ made_text (reading_of c.made)) (codes "PGM / RUN BY / DATE")) in
@@ -81,14 +81,14 @@ shows_itself h c s d t u names g f =
 alike : (t u : WellFormedTable) → IsWellFormedTable t → IsWellFormedTable u → table_text t ≡ table_text u
     → AreAlike t.head u.head t.site u.site t.first u.first (flat_map record_text t.epochs) (flat_map record_text u.epochs)
 alike t u g f e =
-    let good : IsGood t.head t.site t.first = record { heading = g.head; site = g.site; first = g.first } in
-    let other : IsGood u.head u.site u.first = record { heading = f.head; site = f.site; first = f.first } in
+    let good : IsGoodHeader t.head t.site t.first = record { heading = g.head; site = g.site; first = g.first } in
+    let other : IsGoodHeader u.head u.site u.first = record { heading = f.head; site = f.site; first = f.first } in
     one_header t.head u.head t.site u.site t.first u.first (flat_map record_text t.epochs) (flat_map record_text u.epochs) good other e
 
 pub one_table : HaveOneName → OneTable
 one_table names t u g f e =
-    let good : IsGood t.head t.site t.first = record { heading = g.head; site = g.site; first = g.first } in
-    let other : IsGood u.head u.site u.first = record { heading = f.head; site = f.site; first = f.first } in
+    let good : IsGoodHeader t.head t.site t.first = record { heading = g.head; site = g.site; first = g.first } in
+    let other : IsGoodHeader u.head u.site u.first = record { heading = f.head; site = f.site; first = f.first } in
     let same = alike t u g f e in
     let head = only_shown (header_text u.head u.site u.first) [] t.head u.head t.site u.site t.first u.first
     (shows_itself t.head u.head t.site u.site t.first u.first names good other) good (sym same.text ∙ sym (append-nil (header_text t.head t.site t.first))) in

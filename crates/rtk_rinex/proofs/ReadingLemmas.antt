@@ -11,8 +11,8 @@ use Rattle.rtk_obs.specs.declared.time.Civil.{Civil}
 use Rattle.rtk_obs.specs.Calendar.{ReadsAs}
 use Rattle.rtk_rinex.specs.Reading.{IsMoment, CivilDate, date_after, reading_of}
 
-abbrev IsGood : CivilDate → Type 0
-IsGood d = (1980 ≤ d.year) × IsInRange 1 12 d.month × IsInRange 1 (days_in_month (pos d.year) d.month) d.day
+abbrev IsGoodDate : CivilDate → Type 0
+IsGoodDate d = (1980 ≤ d.year) × IsInRange 1 12 d.month × IsInRange 1 (days_in_month (pos d.year) d.month) d.day
 
 abbrev count : CivilDate → ℕ
 count d = day_count (pos d.year) d.month d.day
@@ -23,7 +23,7 @@ next_if d b c =
     else (if c then record { year = d.year; month = d.month + 1; day = 1 } else record { year = d.year + 1; month = 1; day = 1 })
 
 next_is : (d : CivilDate) (b c : Bool) → nat_lt d.day (days_in_month (pos d.year) d.month) ≡ b → nat_lt d.month 12 ≡ c
-    → IsGood d → IsGood (next_if d b c) × (count (next_if d b c) ≡ count d + 1)
+    → IsGoodDate d → IsGoodDate (next_if d b c) × (count (next_if d b c) ≡ count d + 1)
 unfolding next_if
 next_is d true c e f h =
     let less : d.day < days_in_month (pos d.year) d.month = grind (arith, nat_tests) in
@@ -45,7 +45,7 @@ next_is d false false e f h =
       rw (month, day) (omega (arith, day_count-next_year (pos d.year) (pos (d.year + 1)) low refl, day_count-last_of_year (pos d.year))),
     )
 
-date_after-is : (k : ℕ) → IsGood (date_after k) × (count (date_after k) ≡ 4_375_610 + k)
+date_after-is : (k : ℕ) → IsGoodDate (date_after k) × (count (date_after k) ≡ 4_375_610 + k)
 unfolding date_after next_if
 date_after-is zero = ((omega arith, (omega arith, omega arith), (omega arith, omega arith)), day_count-early (pos 1980) 11979 1 6 refl (omega arith) (omega arith) (omega arith))
 date_after-is (suc k) =
@@ -132,7 +132,7 @@ reading-reads t h =
     (((year, good.0.1, good.0.2), day), (omega arith, omega arith, omega arith, omega arith), omega arith)
 
 -- a reading whose fields fit their columns
-pub record Fits (c : Civil) : Type 0 where
+pub record FitsColumns (c : Civil) : Type 0 where
   pub year : c.year < 10_000
   pub month : c.month < 100
   pub day : c.day < 100
@@ -141,8 +141,8 @@ pub record Fits (c : Civil) : Type 0 where
   pub second : c.second < 60
   pub millisecond : c.millisecond < 1000
 
-pub Fits-reading_of : (t : ℕ) → IsMoment t → Fits (reading_of t)
-Fits-reading_of t h =
+pub FitsColumns-reading_of : (t : ℕ) → IsMoment t → FitsColumns (reading_of t)
+FitsColumns-reading_of t h =
     let reads = reading-reads t h in
     let late = year-bound (t / 86_400_000) (omega arith) in
     let day = reads.0.0.2.1 in

@@ -1,15 +1,16 @@
 -- The text of a record that is written satellite by satellite.
-use Rattle.std.proofs.Common.{◌≡◌, ℕ, zero, suc, ◌+◌, ◌-◌, ◌<◌, ◌≤◌, [], ◌∷◌, ◌++◌, List, length, replicate, take, drop, ap, arith, refl, sym, ◌∙◌, length-append, append_assoc, true, false, flat_map}
+use Rattle.std.proofs.Common.{◌≡◌, ℕ, zero, suc, ◌+◌, ◌-◌, ◌<◌, ◌≤◌, [], ◌∷◌, ◌++◌, List, length, replicate, take, drop, get_or, ap, arith, refl, sym, ◌∙◌, length-append, append_assoc, true, false, flat_map}
 use Rattle.std.specs.Prelude.{max, if◌then◌else◌}
 use Rattle.std.specs.List.{filter}
-use Rattle.std.proofs.lemmas.Grind.{flat_map-append}
+use Rattle.std.proofs.lemmas.Grind.{take_at_read, flat_map-append}
 use Rattle.std.proofs.lemmas.List.{append-nil, take_at, drop_at, drop-replicate, drop-take, length-take, length-drop, replicate-append-replicate, take-append-drop, take-append-le}
 use Rattle.std.proofs.lemmas.List.Elements.{filter-append}
+use Rattle.std.proofs.lemmas.List.Sums.{length-filter, count_by-le-length}
 use Rattle.std.proofs.Math.Seq.{take-append-add, drop-append-add}
 use Rattle.rtk_obs.specs.declared.time.Civil.{Civil}
 use Rattle.rtk_rinex.specs.declared.epoch_table.SatelliteRow.{SatelliteRow}
 use Rattle.rtk_rinex.specs.Record.{has_line, satellite_line, epoch_line, lines_of}
-use Rattle.rtk_rinex.specs.RecordLines.{line_if_any, HoldsLines}
+use Rattle.rtk_rinex.specs.RecordLines.{RecordLinesView, line_if_any, HoldsLines}
 use Rattle.rtk_rinex.proofs.RecordLemmas.{lines_of-none, lines_of-some}
 use Rattle.rtk_rinex.proofs.WrittenLemmas.{lines_of_rows, one-line, solid-length, no-length}
 
@@ -124,3 +125,25 @@ record-some time lines count rows e n some =
 
 pub record-none : (time : Civil) (text : List ℕ) (count : ℕ) (rows : List SatelliteRow) → text ≡ [] → count ≡ length (filter has_line rows) → count ≡ 0 → text ≡ lines_of time (filter has_line rows)
 record-none time text count rows e n none = e ∙ sym (lines_of-none time (filter has_line rows) (sym n ∙ none))
+
+-- ---- the rows of a table
+
+row-taken : (rows : List SatelliteRow) (i : ℕ) (r d : SatelliteRow) → i < length rows → r ≡ get_or rows i d → take (i + 1) rows ≡ take i rows ++ r ∷ []
+row-taken rows i r d lt e = (take_at_read rows i d lt).1 ∙ ap (λ (x : SatelliteRow). take i rows ++ x ∷ []) (sym e)
+
+pub few-lines : (l : RecordLinesView) (rows : List SatelliteRow) (i : ℕ) → HoldsLines l (take i rows) → l.count ≤ i
+few-lines l rows i h =
+    omega (arith, h.count, length-filter has_line (take i rows), count_by-le-length has_line (take i rows), length-take i rows)
+
+pub row-pushed : (l : RecordLinesView) (rows : List SatelliteRow) (i : ℕ) (r d : SatelliteRow) → HoldsLines l (take i rows ++ r ∷ []) → i < length rows → r ≡ get_or rows i d
+    → HoldsLines l (take (i + 1) rows)
+row-pushed l rows i r d h lt e = rw (row-taken rows i r d lt e) h
+
+-- a row without a line
+pub row-passed : (l : RecordLinesView) (rows : List SatelliteRow) (i : ℕ) (r d : SatelliteRow) → HoldsLines l (take i rows) → has_line r ≡ false → i < length rows → r ≡ get_or rows i d
+    → HoldsLines l (take (i + 1) rows)
+row-passed l rows i r d h none lt e =
+    let same : filter has_line (take (i + 1) rows) ≡ filter has_line (take i rows) =
+    ap (λ (rs : List SatelliteRow). filter has_line rs) (row-taken rows i r d lt e) ∙ filter-append has_line (take i rows) (r ∷ [])
+    ∙ (rw none (append-nil (filter has_line (take i rows)))) in
+    record { lines = h.lines ∙ ap (λ (rs : List SatelliteRow). flat_map satellite_line rs) (sym same); count = h.count ∙ ap length (sym same) }

@@ -10,7 +10,7 @@ use Rattle.std.proofs.lemmas.List.Elements.{All-nil, All-cons, All-head, All-tai
 use Rattle.rtk_rinex.specs.declared.epoch_table.SatelliteRow.{SatelliteRow}
 use Rattle.rtk_rinex.specs.Reading.{IsMoment, reading_of}
 use Rattle.rtk_rinex.specs.Header.{HeadView, PositionView, IsHeadView, header_text}
-use Rattle.rtk_rinex.specs.Record.{EpochTableView, IsRow, epoch_line, satellite_line, record_text}
+use Rattle.rtk_rinex.specs.Record.{EpochTableView, IsSatelliteRow, epoch_line, satellite_line, record_text}
 use Rattle.rtk_rinex.specs.Table.{WellFormedTable, IsWellFormedTable, IsTableRow, IsTableEpoch, table_text}
 use Rattle.rtk_rinex.specs.Lines.{IsLine}
 use Rattle.rtk_rinex.specs.CheckLine.{IsNextSatellite}
@@ -104,7 +104,7 @@ rows-below n last (r ∷ rows) s h next =
     All-cons (λ (r : SatelliteRow). r.satellite < s) r rows (last_below n r.satellite rows s h.2 next) (rows-below n (Some r.satellite) rows s h.2 next)
 
 -- a row of a file is a row of an epoch
-pub row-good : (n : ℕ) (r : SatelliteRow) → IsTableRow n r → IsRow r
+pub row-good : (n : ℕ) (r : SatelliteRow) → IsTableRow n r → IsSatelliteRow r
 row-good n r h = record { satellite = h.satellite; strengths = λ k d lt. (h.observed k d lt).strength }
 
 -- ---- the next record

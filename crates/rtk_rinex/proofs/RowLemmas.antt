@@ -13,7 +13,7 @@ use Rattle.rtk_rinex.specs.Columns.{left, last_digits}
 use Rattle.rtk_rinex.specs.Record.{observation, observations, lli_digit, strength_digit, strength_value, trim_end, before_trimmed, satellite_line}
 use Rattle.rtk_rinex.specs.Table.{IsObserved, IsTableRow}
 use Rattle.rtk_rinex.specs.Steps.Digits.{digits_from}
-use Rattle.rtk_rinex.proofs.ValuesLemmas.{observed_in, length-observation, observed_of-observations, IsValue-strength}
+use Rattle.rtk_rinex.proofs.ValuesLemmas.{code_shown, length-observation, observed_of-observations, IsValue-strength}
 use Rattle.rtk_rinex.proofs.DigitsLemmas.{take-exact, digits_from-last_2}
 
 -- ---- what a line shows
@@ -21,7 +21,7 @@ use Rattle.rtk_rinex.proofs.DigitsLemmas.{take-exact, digits_from-last_2}
 -- what n codes show in the columns after the satellite, 48 for each
 abbrev pub observations_in : ℕ → List ℕ → List Observed
 observations_in zero columns = []
-observations_in (suc n) columns = observations_in n columns ++ observed_in (take 48 (drop (48 * n) columns)) ∷ []
+observations_in (suc n) columns = observations_in n columns ++ code_shown (take 48 (drop (48 * n) columns)) ∷ []
 
 -- the row that a satellite line of n codes shows; blanks fill the line up to the columns of 16
 -- codes
@@ -91,8 +91,8 @@ cells : (n : ℕ) (os : List Observed) (rest : List ℕ) → All IsObserved os �
 cells zero os rest h le = refl
 cells (suc n) os rest h le =
     let inside : n < length os = omega arith in
-    let one : observed_in (take 48 (drop (48 * n) (flat_map observations os ++ rest))) ≡ get_or os n no_observed =
-    ap observed_in (piece os rest n no_observed h inside) ∙ observed_of-observations (get_or os n no_observed) (h n no_observed inside) in
+    let one : code_shown (take 48 (drop (48 * n) (flat_map observations os ++ rest))) ≡ get_or os n no_observed =
+    ap code_shown (piece os rest n no_observed h inside) ∙ observed_of-observations (get_or os n no_observed) (h n no_observed inside) in
     let next : suc n ≡ n + 1 = omega arith in
     let more : take (suc n) os ≡ take n os ++ get_or os n no_observed ∷ [] = ap (λ m. take m os) next ∙ (take_at_read os n no_observed inside).1 in
     rw (cells n os rest h (omega arith), one) (sym more)
@@ -120,14 +120,14 @@ padded-whole w r le h =
     let two : replicate {A = ℕ} (t.0 + n) 32 ≡ replicate t.0 32 ++ replicate n 32 = sym (replicate-append-replicate t.0 n 32) in
     (replicate n 32, rw (places, two, ← append_assoc kept (replicate t.0 32) (replicate n 32), t.1) refl)
 
-abbrev row_with : ℕ → List Observed → SatelliteRow
-row_with satellite os = record { satellite = satellite; observed = record { items = os } }
+abbrev row_from : ℕ → List Observed → SatelliteRow
+row_from satellite os = record { satellite = satellite; observed = record { items = os } }
 
-same_row : (s s₂ : ℕ) (os os₂ : List Observed) → s ≡ s₂ → os ≡ os₂ → row_with s os ≡ row_with s₂ os₂
+same_row : (s s₂ : ℕ) (os os₂ : List Observed) → s ≡ s₂ → os ≡ os₂ → row_from s os ≡ row_from s₂ os₂
 same_row s s₂ os os₂ e f = cc
 
 row_of-columns : (w : ℕ) (r : SatelliteRow) (blanks : List ℕ) → IsTableRow w r
-    → row_with (digits_from 0 (take 2 (drop 1 (whole r ++ blanks)))) (observations_in w (drop 3 (whole r ++ blanks))) ≡ r
+    → row_from (digits_from 0 (take 2 (drop 1 (whole r ++ blanks)))) (observations_in w (drop 3 (whole r ++ blanks))) ≡ r
 unfolding whole
 row_of-columns w r blanks h =
     let os = r.observed.items in

@@ -11,7 +11,7 @@ use Rattle.rtk_rinex.specs.declared.epoch_table.Observed.{Observed}
 use Rattle.rtk_rinex.specs.declared.epoch_table.SatelliteRow.{SatelliteRow}
 use Rattle.rtk_rinex.specs.Reading.{reading_of}
 use Rattle.rtk_rinex.specs.Header.{header_text}
-use Rattle.rtk_rinex.specs.Record.{EpochTableView, IsEpochTableView, IsRow, IsStrengthOrNone, HasWidth, is_written, is_present, observation, lli_digit, observations, has_observation, has_line, satellite_line, lines_of, record_text}
+use Rattle.rtk_rinex.specs.Record.{EpochTableView, IsEpochTableView, IsSatelliteRow, IsStrengthOrNone, HasWidth, is_written, is_present, observation, lli_digit, observations, has_observation, has_line, satellite_line, lines_of, record_text}
 use Rattle.rtk_rinex.specs.Table.{IsAbsentOrWritten, IsLock, IsObserved, IsTableRow, IsTableEpoch, shown_value, shown, shown_row, shown_epoch, IsShownByRecord, StartsAt, with_record, FilesAreTables}
 
 -- a value: by whether it is written
@@ -68,11 +68,11 @@ satellite_line-shown_row r = rw (observations-map r.observed.items) refl
 abbrev HasLine : SatelliteRow → Type 0
 HasLine r = IsTrue (has_line r)
 
-abbrev HasStrength : Observed → Type 0
-HasStrength o = IsStrengthOrNone o.strength_millidbhz
+abbrev HasGoodStrength : Observed → Type 0
+HasGoodStrength o = IsStrengthOrNone o.strength_millidbhz
 
-abbrev IsWide : ℕ → SatelliteRow → Type 0
-IsWide n r = length r.observed.items ≡ n
+abbrev HasCodes : ℕ → SatelliteRow → Type 0
+HasCodes n r = length r.observed.items ≡ n
 
 -- the rows that have a line all have one
 all_lines_if : (r : SatelliteRow) (rows : List SatelliteRow) → All HasLine rows → (c : Bool) → has_line r ≡ c
@@ -129,12 +129,12 @@ IsObserved-shown o h =
       lock = IsLock-shown_value o.phase_millicycles o.slip o.half;
     }
 
-IsObserved-map : (os : List Observed) → All HasStrength os → All IsObserved (map shown os)
+IsObserved-map : (os : List Observed) → All HasGoodStrength os → All IsObserved (map shown os)
 IsObserved-map [] h = All-nil IsObserved
 IsObserved-map (o ∷ os) h =
-    All-cons IsObserved (shown o) (map shown os) (IsObserved-shown o (All-head HasStrength o os h)) (IsObserved-map os (All-tail HasStrength o os h))
+    All-cons IsObserved (shown o) (map shown os) (IsObserved-shown o (All-head HasGoodStrength o os h)) (IsObserved-map os (All-tail HasGoodStrength o os h))
 
-IsTableRow-shown_row : (n : ℕ) (r : SatelliteRow) → IsRow r → length r.observed.items ≡ n → IsTrue (has_line r) → IsTableRow n (shown_row r)
+IsTableRow-shown_row : (n : ℕ) (r : SatelliteRow) → IsSatelliteRow r → length r.observed.items ≡ n → IsTrue (has_line r) → IsTableRow n (shown_row r)
 IsTableRow-shown_row n r h w line =
     record {
       satellite = h.satellite;
@@ -143,15 +143,15 @@ IsTableRow-shown_row n r h w line =
       line = has_line-shown_row r ∙ line;
     }
 
-table_rows_if : (n : ℕ) (r : SatelliteRow) (rows : List SatelliteRow) → IsRow r → length r.observed.items ≡ n
+table_rows_if : (n : ℕ) (r : SatelliteRow) (rows : List SatelliteRow) → IsSatelliteRow r → length r.observed.items ≡ n
     → All (IsTableRow n) (map shown_row rows) → (c : Bool) → has_line r ≡ c → All (IsTableRow n) (map shown_row (if c then r ∷ rows else rows))
 table_rows_if n r rows h w rest true e = All-cons (IsTableRow n) (shown_row r) (map shown_row rows) (IsTableRow-shown_row n r h w e) rest
 table_rows_if n r rows h w rest false e = rest
 
-table_rows : (n : ℕ) (rows : List SatelliteRow) → All IsRow rows → HasWidth n rows → All (IsTableRow n) (map shown_row (filter has_line rows))
+table_rows : (n : ℕ) (rows : List SatelliteRow) → All IsSatelliteRow rows → HasWidth n rows → All (IsTableRow n) (map shown_row (filter has_line rows))
 table_rows n [] h w = All-nil (IsTableRow n)
 table_rows n (r ∷ rows) h w =
-    table_rows_if n r (filter has_line rows) (All-head IsRow r rows h) (All-head (IsWide n) r rows w) (table_rows n rows (All-tail IsRow r rows h) (All-tail (IsWide n) r rows w)) (has_line r) refl
+    table_rows_if n r (filter has_line rows) (All-head IsSatelliteRow r rows h) (All-head (HasCodes n) r rows w) (table_rows n rows (All-tail IsSatelliteRow r rows h) (All-tail (HasCodes n) r rows w)) (has_line r) refl
 
 rise-map : (rows : List SatelliteRow) → AllPairs (λ a b. a.satellite < b.satellite) rows → AllPairs (λ a b. a.satellite < b.satellite) (map shown_row rows)
 rise-map rows h i j d low high =
@@ -197,15 +197,15 @@ records-shown : (epochs : List EpochTableView) → flat_map record_text epochs �
 records-shown [] = refl
 records-shown (e ∷ epochs) = ap (λ (t : List ℕ). record_text e ++ t) (records-shown epochs) ∙ sym (records_if e (with_record epochs) (has_record e) refl)
 
-abbrev IsGood : ℕ → EpochTableView → Type 0
-IsGood n e = IsEpochTableView e × HasWidth n e.rows
+abbrev IsGoodEpoch : ℕ → EpochTableView → Type 0
+IsGoodEpoch n e = IsEpochTableView e × HasWidth n e.rows
 
-table_epoch : (n : ℕ) (e : EpochTableView) → IsGood n e → has_record e ≡ true → IsTableEpoch n (shown_epoch e)
+table_epoch : (n : ℕ) (e : EpochTableView) → IsGoodEpoch n e → has_record e ≡ true → IsTableEpoch n (shown_epoch e)
 table_epoch n e h some =
     let is = record-is_shown n e h.0 h.1 in
     is.well_formed (λ none. let no : record_text e ≡ [] = is.empty none in absurd (let long = rw no at some in cc))
 
-table_epochs_if : (n : ℕ) (e : EpochTableView) (epochs : List EpochTableView) → IsGood n e → All (IsTableEpoch n) (map shown_epoch epochs)
+table_epochs_if : (n : ℕ) (e : EpochTableView) (epochs : List EpochTableView) → IsGoodEpoch n e → All (IsTableEpoch n) (map shown_epoch epochs)
     → (c : Bool) → has_record e ≡ c → All (IsTableEpoch n) (map shown_epoch (if c then e ∷ epochs else epochs))
 table_epochs_if n e epochs h rest true some = All-cons (IsTableEpoch n) (shown_epoch e) (map shown_epoch epochs) (table_epoch n e h some) rest
 table_epochs_if n e epochs h rest false some = rest

@@ -60,10 +60,10 @@ after_header bytes rest used h s first e f = e ∙ ap (λ (t : List ℕ). header
 
 -- ---- the table
 
-abbrev pub table_with : HeadView → PositionView → ℕ → List EpochTableView → WellFormedTable
-table_with h s first epochs = record { head = h; site = s; first = first; epochs = epochs }
+abbrev pub table_from : HeadView → PositionView → ℕ → List EpochTableView → WellFormedTable
+table_from h s first epochs = record { head = h; site = s; first = first; epochs = epochs }
 
-pub same_table : (h k : HeadView) (s t : PositionView) (f g : ℕ) (a b : List EpochTableView) → h ≡ k → s ≡ t → f ≡ g → a ≡ b → table_with h s f a ≡ table_with k t g b
+pub same_table : (h k : HeadView) (s t : PositionView) (f g : ℕ) (a b : List EpochTableView) → h ≡ k → s ≡ t → f ≡ g → a ≡ b → table_from h s f a ≡ table_from k t g b
 same_table h k s t f g a b e₁ e₂ e₃ e₄ = cc
 
 -- the header of a table's text, and its epochs' text
@@ -98,7 +98,7 @@ holds bytes rest h s first records lines heading site moment e only r =
     let le : n ≤ 16 = heading.1.0.1 in
     let all = epochs-all n first None r.epochs r.are_epochs in
     record {
-      table = table_with h s first r.epochs;
+      table = table_from h s first r.epochs;
       is_table = record {
         head = heading;
         site = site;

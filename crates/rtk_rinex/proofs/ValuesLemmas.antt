@@ -44,8 +44,8 @@ half_in [] = false
 half_in (x ∷ xs) = (x == 50) || (x == 51)
 
 -- what 48 columns show of a code
-abbrev pub observed_in : List ℕ → Observed
-observed_in columns =
+abbrev pub code_shown : List ℕ → Observed
+code_shown columns =
     record {
       range_mm = value_in (take 14 columns);
       phase_millicycles = value_in (take 14 (drop 16 columns));
@@ -151,16 +151,16 @@ lock_of-ends (Some v) true false second rest h = (refl, refl)
 lock_of-ends (Some v) false true second rest h = (refl, refl)
 lock_of-ends (Some v) false false second rest h = (refl, refl)
 
-abbrev observed_with : Option ℤ → Option ℤ → Option ℕ → Bool → Bool → Observed
-observed_with range phase strength slip half =
+abbrev observed_from : Option ℤ → Option ℤ → Option ℕ → Bool → Bool → Observed
+observed_from range phase strength slip half =
     record { range_mm = range; phase_millicycles = phase; strength_millidbhz = strength; slip = slip; half = half }
 
 same_observed : (r p : Option ℤ) (s : Option ℕ) (a b : Bool) (r₂ p₂ : Option ℤ) (s₂ : Option ℕ) (a₂ b₂ : Bool)
-    → r ≡ r₂ → p ≡ p₂ → s ≡ s₂ → a ≡ a₂ → b ≡ b₂ → observed_with r p s a b ≡ observed_with r₂ p₂ s₂ a₂ b₂
+    → r ≡ r₂ → p ≡ p₂ → s ≡ s₂ → a ≡ a₂ → b ≡ b₂ → observed_from r p s a b ≡ observed_from r₂ p₂ s₂ a₂ b₂
 same_observed r p s a b r₂ p₂ s₂ a₂ b₂ e₁ e₂ e₃ e₄ e₅ = cc
 
 -- what the text of a code's observations shows is the observations
-pub observed_of-observations : (o : Observed) → IsObserved o → observed_in (observations o) ≡ o
+pub observed_of-observations : (o : Observed) → IsObserved o → code_shown (observations o) ≡ o
 observed_of-observations o h =
     let digit = strength_digit o.strength_millidbhz in
     let lli = lli_digit o.slip o.half in

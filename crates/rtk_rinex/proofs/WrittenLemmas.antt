@@ -1,19 +1,16 @@
 -- Lines written over blanks.
-use Rattle.std.proofs.Common.{◌≡◌, ◌≢◌, ℕ, zero, suc, ◌+◌, ◌-◌, ◌*◌, ◌/◌, ◌%◌, ◌<◌, ◌≤◌, [], ◌∷◌, ◌++◌, List, length, replicate, take, drop, set, get_or, ap, arith, refl, sym, ◌∙◌, true, false, Bool, ◌||◌, length-append, append_assoc, flat_map, ℤ, Option, Some, None, suc-mul}
+use Rattle.std.proofs.Common.{◌≡◌, ◌≢◌, ℕ, zero, suc, ◌+◌, ◌-◌, ◌*◌, ◌/◌, ◌%◌, ◌<◌, ◌≤◌, [], ◌∷◌, ◌++◌, List, length, replicate, take, drop, set, get_or, ap, arith, refl, sym, ◌∙◌, true, false, Bool, ◌||◌, length-append, append_assoc, flat_map, ℤ, Option, Some, None}
 use Rattle.std.specs.Prelude.{is_some, if◌then◌else◌, not, ◌==◌}
-use Rattle.std.specs.List.{list_any, filter, sum_by}
+use Rattle.std.specs.List.{list_any, filter}
 use Rattle.std.proofs.lemmas.Bool.Decides.{nat_tests}
 use Rattle.std.proofs.lemmas.Grind.{take_at_read, flat_map-append}
 use Rattle.std.proofs.lemmas.List.{append-nil, take_at, drop_at, take-replicate, drop-replicate, length-replicate, length-take, replicate-append-replicate, take-append-drop}
-use Rattle.std.proofs.lemmas.List.Elements.{filter-append, All-head, All-tail}
-use Rattle.std.proofs.lemmas.List.Sums.{sum_by-drop_more, sum_by-cons}
 use Rattle.std.proofs.lemmas.List.Folds.{list_any_more}
 use Rattle.std.proofs.Math.Seq.{set-append_seam}
 use Rattle.rtk_rinex.specs.declared.epoch_table.Observed.{Observed}
 use Rattle.rtk_rinex.specs.declared.epoch_table.SatelliteRow.{SatelliteRow}
 use Rattle.rtk_rinex.specs.Columns.{last_digits}
-use Rattle.rtk_rinex.specs.Record.{is_written, is_present, observation, observations, lli_digit, strength_digit, strength_value, has_observation, has_line, trim_end, satellite_line, HasWidth}
-use Rattle.rtk_rinex.specs.RecordLines.{line_if_any}
+use Rattle.rtk_rinex.specs.Record.{is_written, is_present, observation, observations, lli_digit, strength_digit, strength_value, has_observation, has_line, trim_end, satellite_line}
 use Rattle.rtk_rinex.proofs.RecordLemmas.{trim_end-blank}
 use Rattle.rtk_rinex.proofs.RowLemmas.{IsTrimmed, trimmed}
 use Rattle.rtk_rinex.proofs.ValuesLemmas.{length-fixed}
@@ -218,59 +215,12 @@ line-if false n e h = absurd (h (grind (arith, nat_tests)))
 
 -- ---- the lines of the satellites
 
-abbrev pub row_room : SatelliteRow → ℕ
-row_room r = 4 + 48 * length r.observed.items
-
 abbrev pub lines_of_rows : List SatelliteRow → List ℕ
 lines_of_rows rows = flat_map satellite_line (filter has_line rows)
 
 pub one-line : (r : SatelliteRow) (b : Bool) → flat_map satellite_line (if b then r ∷ [] else []) ≡ (if b then satellite_line r else [])
 one-line r true = append-nil (satellite_line r)
 one-line r false = refl
-
-rows-more : (rows : List SatelliteRow) (i : ℕ) (r d : SatelliteRow) → i < length rows → r ≡ get_or rows i d
-    → filter has_line (take (i + 1) rows) ≡ filter has_line (take i rows) ++ (if has_line r then r ∷ [] else [])
-rows-more rows i r d lt e =
-    let more : take (i + 1) rows ≡ take i rows ++ get_or rows i d ∷ [] = (take_at_read rows i d lt).1 in
-    ap (filter has_line) more ∙ filter-append has_line (take i rows) (get_or rows i d ∷ []) ∙ (rw (← e) refl)
-
-lines-more : (rows : List SatelliteRow) (i : ℕ) (r d : SatelliteRow) → i < length rows → r ≡ get_or rows i d → lines_of_rows (take (i + 1) rows) ≡ lines_of_rows (take i rows) ++ line_if_any r
-lines-more rows i r d lt e =
-    ap (λ (rs : List SatelliteRow). flat_map satellite_line rs) (rows-more rows i r d lt e)
-    ∙ flat_map-append satellite_line (filter has_line (take i rows)) (if has_line r then r ∷ [] else [])
-    ∙ ap (λ (t : List ℕ). lines_of_rows (take i rows) ++ t) (one-line r (has_line r))
-
--- what stands after i rows: the lines and blanks, and the room that the other rows may take
-pub record HasLines (rows : List SatelliteRow) (i count end room : ℕ) (lines : List ℕ) : Type 0 where
-  pub number : count ≡ length (filter has_line (take i rows))
-  pub size : length (lines_of_rows (take i rows)) ≡ end
-  pub text : lines ≡ lines_of_rows (take i rows) ++ replicate (room - end) 32
-  pub fits : end + sum_by row_room (drop i rows) ≤ room
-
-pub no-lines : (rows : List SatelliteRow) (room : ℕ) (lines : List ℕ) → lines ≡ replicate room 32 → sum_by row_room rows ≤ room → HasLines rows 0 0 0 room lines
-no-lines rows room lines e fits =
-    let all : room - 0 ≡ room = omega arith in
-    record { number = refl; size = refl; text = rw all e; fits = omega (arith, fits) }
-
-pub length-lines : (rows : List SatelliteRow) (i count end room : ℕ) (lines : List ℕ) → HasLines rows i count end room lines → length lines ≡ room
-length-lines rows i count end room lines h =
-    ap length h.text ∙ length-append (lines_of_rows (take i rows)) (replicate {A = ℕ} (room - end) 32) ∙ omega (arith, h.size, h.fits, length-replicate {A = ℕ} (room - end) 32)
-
--- the room of the next row
-pub next-room : (rows : List SatelliteRow) (i count end room : ℕ) (lines : List ℕ) (d : SatelliteRow) → HasLines rows i count end room lines → i < length rows
-    → end + row_room (get_or rows i d) + sum_by row_room (drop (i + 1) rows) ≤ room
-next-room rows i count end room lines d h lt = omega (arith, h.fits, sum_by-drop_more row_room rows i d lt)
-
--- the lines with that of the next row
-text-more : (rows : List SatelliteRow) (i count end room k len m : ℕ) (lines line : List ℕ) (r d : SatelliteRow) → HasLines rows i count end room lines → i < length rows
-    → r ≡ get_or rows i d → k ≡ length lines - end → m ≡ room - end → line ≡ line_if_any r ++ replicate (m - len) 32
-    → take end lines ++ (line ++ drop k (drop end lines)) ≡ lines_of_rows (take (i + 1) rows) ++ replicate (room - (end + len)) 32
-text-more rows i count end room k len m lines line r d h lt e f g is =
-    let long = length-lines rows i count end room lines h in
-    let left : room - end - k ≡ 0 = omega arith in
-    let rest : m - len ≡ room - (end + len) = omega arith in
-    next-text lines (lines_of_rows (take i rows)) line end (room - end) k h.text h.size
-    ∙ (rw (left, append-nil, is, rest, lines-more rows i r d lt e) (sym (append_assoc (lines_of_rows (take i rows)) (line_if_any r) (replicate (room - (end + len)) 32))))
 
 pub solid-length : (b : Bool) (r : SatelliteRow) (len : ℕ) → len ≡ length (if b then satellite_line r else []) → 0 < len → b ≡ true
 solid-length true r len e h = refl
@@ -279,80 +229,3 @@ solid-length false r len e h = absurd (omega (arith, e, h))
 pub no-length : (b : Bool) (r : SatelliteRow) (len : ℕ) → len ≡ length (if b then satellite_line r else []) → len ≡ 0 → b ≡ false
 no-length true r len e h = absurd (omega (arith, e, h, length-append (trim_end (71 ∷ last_digits 2 r.satellite ++ flat_map observations r.observed.items)) (10 ∷ [])))
 no-length false r len e h = refl
-
--- a row with a line
-pub line-shown : (rows : List SatelliteRow) (i count end room k len m : ℕ) (lines line : List ℕ) (r d : SatelliteRow) → HasLines rows i count end room lines → i < length rows
-    → r ≡ get_or rows i d → k ≡ length lines - end → m ≡ room - end → line ≡ line_if_any r ++ replicate (m - len) 32 → len ≡ length (line_if_any r) → len ≤ row_room r → 0 < len
-    → HasLines rows (i + 1) (count + 1) (end + len) room (take end lines ++ (line ++ drop k (drop end lines)))
-line-shown rows i count end room k len m lines line r d h lt e f g is long within some =
-    let has : has_line r ≡ true = solid-length (has_line r) r len long some in
-    let room_of : row_room r ≡ row_room (get_or rows i d) = ap row_room e in
-    let next = next-room rows i count end room lines d h lt in
-    record {
-      number = rw (rows-more rows i r d lt e, has) (simp length-append (omega (arith, h.number)));
-      size = ap length (lines-more rows i r d lt e) ∙ length-append (lines_of_rows (take i rows)) (line_if_any r) ∙ omega (arith, h.size, long);
-      text = text-more rows i count end room k len m lines line r d h lt e f g is;
-      fits = omega (arith, next, room_of, within);
-    }
-
--- a row without a line
-pub line-left_out : (rows : List SatelliteRow) (i count end room k len m : ℕ) (lines line : List ℕ) (r d : SatelliteRow) → HasLines rows i count end room lines → i < length rows
-    → r ≡ get_or rows i d → k ≡ length lines - end → m ≡ room - end → line ≡ line_if_any r ++ replicate (m - len) 32 → len ≡ length (line_if_any r) → len ≡ 0
-    → HasLines rows (i + 1) count end room (take end lines ++ (line ++ drop k (drop end lines)))
-line-left_out rows i count end room k len m lines line r d h lt e f g is long none =
-    let has : has_line r ≡ false = no-length (has_line r) r len long none in
-    let next = next-room rows i count end room lines d h lt in
-    let same : end + len ≡ end = omega arith in
-    record {
-      number = rw (rows-more rows i r d lt e, has) (simp length-append (omega (arith, h.number)));
-      size = ap length (lines-more rows i r d lt e) ∙ length-append (lines_of_rows (take i rows)) (line_if_any r) ∙ omega (arith, h.size, long, none);
-      text = rw same at (text-more rows i count end room k len m lines line r d h lt e f g is);
-      fits = omega (arith, next);
-    }
-
--- ---- whether a satellite has a line
-
-pub none-filtered : (rows : List SatelliteRow) → list_any has_line rows ≡ false → length (filter has_line rows) ≡ 0
-none-filtered [] e = refl
-none-filtered (r ∷ rows) e = let p = or-none (has_line r) (list_any has_line rows) e in rw (p.0) (none-filtered rows p.1)
-
-some-if : (rows : List SatelliteRow) (r : SatelliteRow) (b : Bool) → has_line r ≡ b → (b || list_any has_line rows) ≡ true → (list_any has_line rows ≡ true → length (filter has_line rows) ≢ 0)
-    → length (filter has_line (r ∷ rows)) ≢ 0
-some-if rows r true is e more z = omega (arith, (rw is at z))
-some-if rows r false is e more z = more e (rw is at z)
-
-pub some-filtered : (rows : List SatelliteRow) → list_any has_line rows ≡ true → length (filter has_line rows) ≢ 0
-some-filtered [] e = cc
-some-filtered (r ∷ rows) e = some-if rows r (has_line r) refl e (some-filtered rows)
-
--- the room of rows of one width
-pub room-of-rows : (n : ℕ) (rows : List SatelliteRow) → HasWidth n rows → sum_by row_room rows ≡ length rows * (4 + 48 * n)
-room-of-rows n [] h = let none : 0 * (4 + 48 * n) ≡ 0 = omega arith in sym none
-room-of-rows n (r ∷ rows) h =
-    let first : length r.observed.items ≡ n = All-head (λ (r : SatelliteRow). length r.observed.items ≡ n) r rows h in
-    let one : row_room r ≡ 4 + 48 * n = rw first refl in
-    let rest = room-of-rows n rows (All-tail (λ (r : SatelliteRow). length r.observed.items ≡ n) r rows h) in
-    let product : suc (length rows) * (4 + 48 * n) ≡ length rows * (4 + 48 * n) + (4 + 48 * n) = suc-mul (length rows) (4 + 48 * n) in
-    sum_by-cons row_room r rows ∙ omega (arith, one, rest, product)
-
--- ---- the record
-
--- blanks after the first of them
-pub blanks-after : (text : List ℕ) (a k : ℕ) → text ≡ replicate (length text) 32 → k ≤ length text - a
-    → (take k (drop a text) ≡ replicate (length (take k (drop a text))) 32) × (length (take k (drop a text)) ≡ k)
-blanks-after text a k e few =
-    let blank : take k (drop a text) ≡ replicate k 32 =
-    ap (λ (xs : List ℕ). take k (drop a xs)) e ∙ ap (take k) (drop-replicate {X = ℕ} a (length text) 32) ∙ take-replicate {X = ℕ} k (length text - a) 32 few in
-    let size : length (take k (drop a text)) ≡ k = ap length blank ∙ length-replicate {A = ℕ} k 32 in
-    (blank ∙ ap (λ (n : ℕ). replicate n 32) (sym size), size)
-
--- the epoch line over the blanks before the other lines
-pub both-written : (text lines first line others : List ℕ) (k m end : ℕ) → 36 ≤ length text → lines ≡ others ++ replicate m 32 → length others ≡ end → first ≡ line → length line ≡ 36
-    → take (36 + end) (first ++ drop 36 (take 36 text ++ (lines ++ drop k (drop 36 text)))) ≡ line ++ others
-both-written text lines first line others k m end long e size f l =
-    let front : length (take 36 text) ≡ 36 = omega (arith, length-take 36 text) in
-    let z : List ℕ = drop k (drop 36 text) in
-    let cut : drop 36 (take 36 text ++ (lines ++ z)) ≡ lines ++ z = drop_at (take 36 text) (lines ++ z) 36 front in
-    let whole : first ++ (lines ++ z) ≡ (line ++ others) ++ (replicate m 32 ++ z) = rw (f, e) (simp append_assoc) in
-    let both : length (line ++ others) ≡ 36 + end = length-append line others ∙ omega (arith, l, size) in
-    ap (λ (xs : List ℕ). take (36 + end) (first ++ xs)) cut ∙ ap (take (36 + end)) whole ∙ take_at (line ++ others) (replicate m 32 ++ z) (36 + end) both

@@ -23,14 +23,14 @@ IsStrengthOrNone (Some s) = IsInRange 250 63_750 s × (s % 250 ≡ 0)
 
 -- formula
 -- a satellite of GPS, and the strengths of its codes
-pub record IsRow (r : SatelliteRow) : Type 0 where
+pub record IsSatelliteRow (r : SatelliteRow) : Type 0 where
   pub satellite : IsInRange 1 32 r.satellite
   pub strengths : All (λ o. IsStrengthOrNone o.strength_millidbhz) r.observed.items
 
 -- an epoch: good rows, and the satellites rise
 pub record IsEpochTableView (e : EpochTableView) : Type 0 where
   pub time : IsMoment e.time
-  pub rows : All IsRow e.rows
+  pub rows : All IsSatelliteRow e.rows
   pub rise : AllPairs (λ a b. a.satellite < b.satellite) e.rows
 
 -- each satellite has as many observations as there are codes

@@ -53,9 +53,7 @@ fn stamp_in(columns: &[u8]) -> Option<EpochStamp>
         return None;
     }
     let reading = reading_in(columns, seconds);
-    let Some(time) = of_civil(reading) else {
-        return None;
-    };
+    let time = of_civil(reading)?;
     let count = number_of_digits(columns.split_at(32).1) as usize;
     if count == 0 || count > 32 {
         return None;

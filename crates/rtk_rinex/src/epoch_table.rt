@@ -77,7 +77,7 @@ fn put_observed(kept: &mut ArrayVec<Observed, 16>, observed: &[Observed])
 }
 
 impl EpochTable {
-    ghost use Rattle.rtk_rinex.specs.Record.{EpochTableView, IsEpochTableView, IsRow};
+    ghost use Rattle.rtk_rinex.specs.Record.{EpochTableView, IsEpochTableView, IsSatelliteRow};
 
     /// The table of an epoch without satellites.
     pub fn new(time: GpsMs) -> EpochTable
@@ -101,7 +101,7 @@ impl EpochTable {
     /// Adds the row of a satellite that is greater than those before, written where it stays.
     pub fn push_row(&mut self, satellite: u8, observed: &[Observed])
         requires few { length observed.now ≤ 16 }
-        requires good { IsRow (record { satellite = satellite; observed = record { items = observed.now } }) }
+        requires good { IsSatelliteRow (record { satellite = satellite; observed = record { items = observed.now } }) }
         requires later { All (λ r. r.satellite < satellite) self.old.rows }
         requires room { length self.old.rows < 32 }
         ensures { self.new ≡ record { time = self.old.time; rows = self.old.rows ++ record { satellite = satellite; observed = record { items = observed.now } } ∷ [] } }

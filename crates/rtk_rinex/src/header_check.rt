@@ -1,19 +1,15 @@
 //! The check of a header: what its lines show is written again, and the two texts are compared.
 
 ghost use Rattle.rtk_obs.specs.Code.{name_of};
-ghost use Rattle.rtk_obs.specs.Coordinates.{AreCoordinates};
-ghost use Rattle.rtk_obs.specs.PositionFields.{HasFields};
 ghost use Rattle.rtk_obs.specs.declared.code.Code.{Code};
-ghost use Rattle.rtk_rinex.specs.Columns.{right, fixed};
-ghost use Rattle.rtk_rinex.specs.Header.{header_line, made_text, first_text, IsMarker, PositionView, IsPositionView, HeadView, IsHeadView, position_view, header_text};
-ghost use Rattle.rtk_rinex.specs.Steps.Digits.{number_in};
+ghost use Rattle.rtk_rinex.specs.Header.{IsMarker, PositionView, IsPositionView, HeadView, IsHeadView, position_view, header_text};
 ghost use Rattle.rtk_rinex.specs.HeaderFault.{AreLines, IsFaultOfHeader};
 ghost use Rattle.rtk_rinex.specs.Steps.HeaderRead.{HasHeader, IsOnlyHeader};
-ghost use Rattle.rtk_rinex.specs.Steps.HeaderShown.{line_at, name_at, number_at, made_civil, first_civil, AreAllCodes};
+ghost use Rattle.rtk_rinex.specs.Steps.HeaderShown.{line_at, name_at, number_at, made_civil, first_civil, IsMadeLine, IsMarkerLine, IsPlaceLine, IsHeightLine, IsCountLine, IsFirstLine, AreAllCodes};
 ghost use Rattle.rtk_rinex.specs.Lines.{HasNoEnd, IsLine};
-ghost use Rattle.rtk_rinex.specs.Reading.{IsMoment, reading_of};
+ghost use Rattle.rtk_rinex.specs.Reading.{IsMoment};
 ghost use Rattle.std.specs.Int.{IsInRange};
-ghost use Rattle.std.specs.Prelude.{◌≡◌, ◌≢◌, ℕ, ◌+◌, ◌*◌, ◌%◌, ◌/◌, ◌<◌, ◌≤◌, List, ◌++◌, length, take, drop, codes, decimal, pos, AllPairs, slice_index_or, MatchOption, ◌^◌, ◌∷◌, Decides, IfOk, IfErr, OnErr};
+ghost use Rattle.std.specs.Prelude.{◌≡◌, ◌≢◌, ℕ, ◌+◌, ◌*◌, ◌%◌, ◌/◌, ◌<◌, ◌≤◌, List, ◌++◌, length, take, drop, AllPairs, slice_index_or, Some, IfSome, IsSomeAnd, MatchOption, ◌^◌, ◌∷◌, Decides, IfOk, IfErr, OnErr};
 
 use crate::check_fault::{Cause, CheckFault};
 use crate::digits::{columns_at, is_same, number_at, signed_number_at};
@@ -22,16 +18,6 @@ use crate::header_text::header_lines;
 use crate::record_text::trimmed_len;
 use memchr::memchr;
 use rtk_obs::{ALL_CODES, Civil, Code, GpsMs, Position, of_civil};
-
-// The first moment, which stands for the moment of a line that shows no moment.
-fn first_moment() -> GpsMs
-    ensures { result ≡ 0 }
-{
-    let Some(time) = GpsMs::new(0) else {
-        unreachable!();
-    };
-    time
-}
 
 fn made_reading(line: &[u8]) -> Civil
     ensures { result ≡ made_civil line.now }
@@ -47,36 +33,32 @@ fn made_reading(line: &[u8]) -> Civil
     }
 }
 
-// The moment that the second line shows.
-fn read_made(line: &[u8]) -> GpsMs
-    ensures whole_second { result % 1000 ≡ 0 }
-    ensures shown { (t : ℕ) → IsMoment t → t % 1000 ≡ 0
-        → line.now ≡ header_line (codes "rtcm2rinex                              " ++ made_text (reading_of t)) (codes "PGM / RUN BY / DATE") → result ≡ t }
+// The moment that the second line shows; `None` only if it is the line of no moment.
+fn read_made(line: &[u8]) -> Option<GpsMs>
+    ensures whole_second { IfSome result (λ made. made % 1000 ≡ 0) }
+    ensures shown { (t : ℕ) → IsMadeLine t line.now → result ≡ Some t }
 {
-    let Some(time) = of_civil(made_reading(line)) else {
-        return first_moment();
-    };
-    time
+    of_civil(made_reading(line))
 }
 
-// The marker's name that the third line shows.
-fn read_marker(line: &[u8]) -> &[u8]
-    ensures good { IsMarker result.now }
-    ensures shown { (m : List ℕ) → IsMarker m → line.now ≡ header_line m (codes "MARKER NAME") → result.now ≡ m }
+// The marker's name that the third line shows; `None` only if it is the line of no name.
+fn read_marker(line: &[u8]) -> Option<&[u8]>
+    ensures good { IfSome result (λ marker. IsMarker marker.now) }
+    ensures shown { (m : List ℕ) → IsMarkerLine m line.now → IsSomeAnd result (λ marker. marker.now ≡ m) }
 {
     let content = columns_at(line, 0, 60);
     let marker = content.split_at(trimmed_len(content)).0;
     if !is_marker(marker) {
-        return b"-";
+        return None;
     }
-    marker
+    Some(marker)
 }
 
-// The position that the line of coordinates shows, if its numbers are in range.
-fn position_in(line: &[u8], height: u16) -> Option<Position>
-    ensures { MatchOption result
-        (¬ (AreCoordinates (number_in (take 14 (drop 0 line.now))) (number_in (take 14 (drop 14 line.now))) (number_in (take 14 (drop 28 line.now)))))
-        (HasFields (number_in (take 14 (drop 0 line.now))) (number_in (take 14 (drop 14 line.now))) (number_in (take 14 (drop 28 line.now))) height) }
+// The position that its line shows, with this height; `None` only if it is the line of no position.
+fn read_position(line: &[u8], height: u16) -> Option<Position>
+    ensures height { IfSome result (λ position. position.height ≡ height) }
+    ensures shown { (s : PositionView) → IsPlaceLine s line.now
+        → IsSomeAnd result (λ position. (position.x ≡ s.x) × (position.y ≡ s.y) × (position.z ≡ s.z)) }
 {
     Position::new(
         signed_number_at(line, 0),
@@ -86,45 +68,28 @@ fn position_in(line: &[u8], height: u16) -> Option<Position>
     )
 }
 
-// The position that its line shows, with this height.
-fn read_position(line: &[u8], height: u16) -> Position
-    ensures height { result.height ≡ height }
-    ensures shown { (s : PositionView) → IsPositionView s
-        → line.now ≡ header_line (fixed 4 14 s.x ++ fixed 4 14 s.y ++ fixed 4 14 s.z) (codes "APPROX POSITION XYZ")
-        → (result.x ≡ s.x) × (result.y ≡ s.y) × (result.z ≡ s.z) }
-{
-    if let Some(position) = position_in(line, height) {
-        return position;
-    }
-    let Some(origin) = Position::new(0, 0, 0, height) else {
-        unreachable!();
-    };
-    origin
-}
-
-// The antenna's height that its line shows, in 0.0001 m.
-fn read_height(line: &[u8]) -> u16
-    ensures { (h : ℕ) → h < 65_536
-        → line.now ≡ header_line (fixed 4 14 (pos h) ++ codes "        0.0000        0.0000") (codes "ANTENNA: DELTA H/E/N") → result ≡ h }
+// The antenna's height that its line shows, in 0.0001 m; `None` only if it is the line of no height.
+fn read_height(line: &[u8]) -> Option<u16>
+    ensures { (h : ℕ) → IsHeightLine h line.now → result ≡ Some h }
 {
     let height = number_at(line, 0, 14);
     if height > 65_535 {
-        return 0;
+        return None;
     }
-    height as u16
+    Some(height as u16)
 }
 
-// How many codes the first line of the observation types shows.
-fn read_code_count(line: &[u8]) -> usize
-    ensures good { IsInRange 1 16 result }
-    ensures shown { (n : ℕ) (rest : List ℕ) → IsInRange 1 16 n
-        → line.now ≡ header_line (codes "G  " ++ right 3 (decimal (3 * n)) ++ rest) (codes "SYS / # / OBS TYPES") → result ≡ n }
+// How many codes the first line of the observation types shows; `None` only if it is the first line
+// of no number of codes.
+fn read_code_count(line: &[u8]) -> Option<usize>
+    ensures good { IfSome result (IsInRange 1 16) }
+    ensures shown { (n : ℕ) → IsCountLine n line.now → result ≡ Some n }
 {
     let count = number_at(line, 3, 3) as usize / 3;
     if count == 0 || count > 16 {
-        return 1;
+        return None;
     }
-    count
+    Some(count)
 }
 
 // The line of a text that follows this number of lines of 81 bytes.
@@ -220,18 +185,15 @@ fn first_reading(line: &[u8], seconds: u64) -> Civil
     }
 }
 
-// The moment that the line of the first observation shows.
-fn read_first(line: &[u8]) -> GpsMs
-    ensures { (t : ℕ) → IsMoment t → line.now ≡ header_line (first_text (reading_of t)) (codes "TIME OF FIRST OBS") → result ≡ t }
+// The moment that the line of the first observation shows; `None` only if it is the line of no moment.
+fn read_first(line: &[u8]) -> Option<GpsMs>
+    ensures { (t : ℕ) → IsFirstLine t line.now → result ≡ Some t }
 {
     let seconds = number_at(line, 30, 13);
     if seconds >= 600_000_000 {
-        return first_moment();
+        return None;
     }
-    let Some(time) = of_civil(first_reading(line, seconds)) else {
-        return first_moment();
-    };
-    time
+    of_civil(first_reading(line, seconds))
 }
 
 /// The parts of a header, and its length.
@@ -249,8 +211,31 @@ pub(crate) struct HeaderRead {
     pub used: usize,
 }
 
-// The parts that the lines of a text show. They are good parts in any case; if the text begins with
-// a header, they are the parts of this header.
+// The moment 0, a whole second.
+fn any_moment() -> GpsMs
+    ensures { result ≡ 0 }
+{
+    let Some(moment) = GpsMs::new(0) else {
+        unreachable!();
+    };
+    moment
+}
+
+// The earth's center, with this height.
+fn any_position(height: u16) -> Position
+    ensures { result.height ≡ height }
+{
+    let Some(center) = Position::new(0, 0, 0, height) else {
+        unreachable!();
+    };
+    center
+}
+
+// A header of the parts that the lines of a text show. If the text begins with a header, it is this
+// one.
+//
+// A line that shows no part is the line of no part. So a header with any part in its place is unlike
+// the text in this line, as each header is.
 fn read_header(text: &[u8]) -> HeaderRead
     ensures only { IsOnlyHeader text.now result.head (position_view result.position) result.first }
     ensures good { IsHeadView result.head × IsPositionView (position_view result.position) × IsMoment result.first }
@@ -259,16 +244,17 @@ fn read_header(text: &[u8]) -> HeaderRead
         → ((j : ℕ) → j ≤ k → line_at j (header_text h s first) ≡ line_at j text.now)
         → line_at k (header_text result.head (position_view result.position) result.first) ≡ line_at k text.now }
 {
-    let marker = read_marker(text_line(text, 2));
-    let count = read_code_count(text_line(text, 9));
+    let made = read_made(text_line(text, 1)).unwrap_or(any_moment());
+    let marker = read_marker(text_line(text, 2)).unwrap_or(b"-");
+    let height = read_height(text_line(text, 8)).unwrap_or(0);
+    let position = read_position(text_line(text, 7), height).unwrap_or(any_position(height));
+    let count = read_code_count(text_line(text, 9)).unwrap_or(1);
     let codes = read_codes(text);
-    let made = read_made(text_line(text, 1));
     let Ok(head) = Head::new(marker, codes.as_slice().split_at(count).0, made) else {
         unreachable!();
     };
-    let position = read_position(text_line(text, 7), read_height(text_line(text, 8)));
     let lines = 13 + (12 * count + 51) / 52;
-    let first = read_first(text_line(text, lines - 3));
+    let first = read_first(text_line(text, lines - 3)).unwrap_or(any_moment());
     HeaderRead {
         head,
         position,

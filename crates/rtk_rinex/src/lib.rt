@@ -61,7 +61,6 @@ pub use header_text::header;
 pub use laws::{
     fault_laws, files_are_tables, one_fault, one_reading, records_are_of_tables, text_of_a_table,
 };
-pub use record_lines::RecordLines;
-pub use record_text::record;
+pub use record_lines::{RecordLines, record};
 pub use records::Records;
 pub use table_check::{Heading, Table, check, text};

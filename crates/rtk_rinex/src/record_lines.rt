@@ -1,16 +1,17 @@
-//! The text of a record that is written satellite by satellite.
+//! The text of a record that is written satellite by satellite, and the record of a table.
 //!
 //! `push_row` writes the line of a satellite where it stays. `finish` writes the epoch line before
 //! the lines, and `text` gives the record. The text is kept from record to record; memory is taken
 //! at the first line, for 32 satellites.
 
-ghost use Rattle.std.specs.Prelude.{◌≡◌, ◌+◌, ◌*◌, ◌-◌, ◌<◌, ◌≤◌, List, [], ◌∷◌, ◌++◌, length, take, drop, replicate, OnOk, OnErr};
+ghost use Rattle.std.specs.Prelude.{◌≡◌, ◌+◌, ◌*◌, ◌-◌, ◌<◌, ◌≤◌, List, [], ◌∷◌, ◌++◌, length, take, drop, replicate, OnOk, OnErr, IfOk};
 ghost use Rattle.rtk_rinex.specs.declared.epoch_table.SatelliteRow.{SatelliteRow};
-ghost use Rattle.rtk_rinex.specs.Record.{record_text};
+ghost use Rattle.rtk_rinex.specs.Record.{HasWidth, record_text};
 ghost use Rattle.rtk_rinex.specs.RecordLines.{HoldsLines, line_if_any};
 
-use crate::epoch_table::Observed;
-use crate::record_text::{put_epoch_line, put_satellite_line};
+use crate::epoch_table::{EpochTable, Observed};
+use crate::head::Head;
+use crate::record_text::{has_line, put_epoch_line, put_satellite_line};
 use rtk_obs::{GpsMs, civil};
 use std::alloc::{AllocError, Global};
 use std::marker::Model;
@@ -157,4 +158,32 @@ impl RecordLines {
     {
         &self.text[..self.len]
     }
+
+    // The text, with its memory.
+    fn into_text(self) -> Vec<u8>
+        ensures { result.items ≡ self.text }
+    {
+        let mut text = self.text;
+        text.truncate(self.len);
+        text
+    }
+}
+
+/// The record of an epoch, in a file of this head; no bytes if no observation is written.
+///
+/// Satellites without a written observation are left out, and not counted on the epoch line. Memory
+/// is taken at most once. Source: RINEX 3.05, Table A3.
+pub fn record(alloc: Global, head: &Head, table: &EpochTable) -> Result<Vec<u8>, AllocError>
+    requires { HasWidth (length head.now.listed) table.now.rows }
+    // It gives up only if memory is refused: rows "record .." of tests/system/calls/src/rinex.rt.in.
+    ensures { IfOk result (λ text. text.items ≡ record_text table.now) }
+{
+    let mut lines = RecordLines::new(alloc);
+    for row in table.rows() {
+        if has_line(row) {
+            lines.push_row(row.satellite, row.observed.as_slice())?;
+        }
+    }
+    lines.finish(table.time());
+    Ok(lines.into_text())
 }

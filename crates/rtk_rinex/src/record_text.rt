@@ -1,19 +1,17 @@
-//! The text of a record: the epoch line, and a line for each satellite that shows something.
+//! The lines of a record: the epoch line, and a line for each satellite that shows something.
 
-ghost use Rattle.std.specs.Prelude.{◌≡◌, ℕ, ◌+◌, ◌*◌, ◌<◌, ◌≤◌, ◌-◌, ◌^◌, [], ◌∷◌, ◌++◌, length, take, drop, replicate, flat_map, IfOk, OnOk, codes, decimal, not, IsTrue, ◌==◌, if◌then◌else◌};
-ghost use Rattle.std.specs.List.{filter, list_any, sum_by};
-ghost use Rattle.rtk_rinex.specs.Record.{HasWidth, is_written, is_present, observation, observations, strength_digit, strength_value, lli_digit, has_observation, has_line, trim_end, satellite_line, epoch_date_text, epoch_line, record_text};
+ghost use Rattle.std.specs.Prelude.{◌≡◌, ℕ, ◌+◌, ◌*◌, ◌<◌, ◌≤◌, ◌-◌, [], ◌∷◌, ◌++◌, length, take, drop, replicate, flat_map, not, IsTrue, ◌==◌};
+ghost use Rattle.std.specs.List.{list_any};
+ghost use Rattle.rtk_rinex.specs.Record.{is_written, is_present, observation, observations, strength_digit, strength_value, lli_digit, has_observation, has_line, trim_end, epoch_date_text, epoch_line};
 ghost use Rattle.rtk_rinex.specs.RecordLines.{line_if_any};
 
 use crate::columns::{
     add, integer_3, put_fixed_14_3, put_last_digits, put_long_14_3, put_pair, put_short_14_3,
     seconds, unsigned_11_7,
 };
-use crate::epoch_table::{EpochTable, Observed, SatelliteRow};
-use crate::head::Head;
+use crate::epoch_table::{Observed, SatelliteRow};
 use arrayvec::ArrayVec;
-use rtk_obs::{Civil, civil};
-use std::alloc::{AllocError, Global};
+use rtk_obs::Civil;
 
 // The least value that F14.3 has room for, in thousandths.
 const LEAST_F14_3: i64 = -999_999_999_999;
@@ -45,7 +43,8 @@ fn put_any_observation(field: &mut [u8], value: Option<i64>, first: u8, second: 
     }
 }
 
-// The same, in fewer steps for a value of the size of a range or phase of a satellite.
+// Writes what `put_any_observation` writes, in fewer steps for a value of the size of a range or phase
+// of a satellite.
 #[inline(always)]
 fn put_observation(field: &mut [u8], value: Option<i64>, first: u8, second: u8)
     requires blank { field.old ≡ replicate 16 32 }
@@ -165,8 +164,8 @@ fn has_observation(observed: &Observed) -> bool
         || is_present(observed.phase_millicycles)
 }
 
-// Is an observation of the satellite written, so that it has a line?
-fn has_line(row: &SatelliteRow) -> bool
+/// Is an observation of the satellite written, so that it has a line?
+pub(crate) fn has_line(row: &SatelliteRow) -> bool
     ensures { result ≡ has_line row.now }
 {
     for observed in row.observed.as_slice() {
@@ -218,18 +217,6 @@ pub(crate) fn put_satellite_line(line: &mut [u8], satellite: u8, observed: &[Obs
     end + 1
 }
 
-// Has a satellite a line?
-fn has_lines(rows: &[SatelliteRow]) -> bool
-    ensures { result ≡ list_any has_line rows.now }
-{
-    for row in rows {
-        if has_line(row) {
-            return true;
-        }
-    }
-    false
-}
-
 // The columns of the epoch line up to the minute.
 fn epoch_date(time: Civil) -> [u8; 18]
     ensures { result ≡ epoch_date_text time }
@@ -268,63 +255,4 @@ pub(crate) fn put_epoch_line(text: &mut [u8], time: Civil, count: usize)
     ensures { text.new ≡ epoch_line time count ++ drop 36 text.old }
 {
     text[..36].copy_from_slice(epoch_line(time, count).as_slice());
-}
-
-// Writes the lines of the satellites that have one over blanks, and returns their number and length.
-fn put_satellite_lines(lines: &mut [u8], rows: &[SatelliteRow]) -> (usize, usize)
-    requires blank { lines.old ≡ replicate (length lines.old) 32 }
-    requires room { sum_by (λ r. 4 + 48 * length r.observed.items) rows.now ≤ length lines.old }
-    ensures text { lines.new ≡ flat_map satellite_line (filter has_line rows.now) ++ replicate (length lines.old - result.1) 32 }
-    ensures len { result.1 ≡ length (flat_map satellite_line (filter has_line rows.now)) }
-    ensures within { result.1 ≤ length lines.old }
-    ensures count { result.0 ≡ length (filter has_line rows.now) }
-    ensures few { result.0 ≤ length rows.now }
-{
-    let mut count = 0;
-    let mut end = 0;
-    for row in rows {
-        let len = put_satellite_line(&mut lines[end..], row.satellite, row.observed.as_slice());
-        if len > 0 {
-            count += 1;
-            end += len;
-        }
-    }
-    (count, end)
-}
-
-// Writes the lines of a record over blanks, and returns how long it is. The epoch line is written
-// last, since it has the number of the others.
-fn put_lines(text: &mut [u8], time: Civil, rows: &[SatelliteRow]) -> usize
-    requires blank { text.old ≡ replicate (length text.old) 32 }
-    requires room { 36 + sum_by (λ r. 4 + 48 * length r.observed.items) rows.now ≤ length text.old }
-    requires few { length rows.now < 1000 }
-    requires second { time.second < 60 }
-    requires millisecond { time.millisecond < 1000 }
-    ensures { take result text.new ≡ epoch_line time (length (filter has_line rows.now)) ++ flat_map satellite_line (filter has_line rows.now) }
-{
-    let (count, end) = put_satellite_lines(&mut text[36..], rows);
-    put_epoch_line(text, time, count);
-    36 + end
-}
-
-/// The record of an epoch, in a file of this head; no bytes if no observation is written.
-///
-/// Satellites without a written observation are left out, and not counted on the epoch line. Memory
-/// is taken at most once. Source: RINEX 3.05, Table A3.
-pub fn record(alloc: Global, head: &Head, table: &EpochTable) -> Result<Vec<u8>, AllocError>
-    requires { HasWidth (length head.now.listed) table.now.rows }
-    // It gives up only if memory is refused: rows "record .." of tests/system/calls/src/rinex.rt.in.
-    ensures { IfOk result (λ text. text.items ≡ record_text table.now) }
-{
-    let mut text = Vec::new(alloc);
-    let rows = table.rows();
-    if !has_lines(rows) {
-        return Ok(text);
-    }
-    let room = 36 + rows.len() * (4 + 48 * head.codes().len());
-    text.reserve_exact(room)?;
-    text.resize(room, b' ')?;
-    let end = put_lines(&mut text, civil(table.time()), rows);
-    text.truncate(end);
-    Ok(text)
 }

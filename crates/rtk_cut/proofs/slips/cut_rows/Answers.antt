@@ -2,7 +2,7 @@ use Rattle.std.proofs.Common.{◌≡◌, ◌<◌, ◌++◌, ◌&&◌, not, ltb, 
 use Rattle.std.proofs.lemmas.Bool.{both_ways}
 use Rattle.rtk_rinex.specs.declared.epoch_table.Observed.{Observed}
 use Rattle.rtk_rinex.specs.declared.epoch_table.SatelliteRow.{SatelliteRow}
-use Rattle.rtk_rinex.specs.Record.{EpochTableView, IsRow}
+use Rattle.rtk_rinex.specs.Record.{EpochTableView, IsSatelliteRow}
 use Rattle.rtk_cut.specs.Steps.Pending.{mark_of, row_has_phase, codes_with_marks, row_with_marks}
 use Rattle.rtk_cut.proofs.MarkLemmas.{marks-good, rows-cleared, map-more, mapped-below, row-made, row-kept, rows-kept}
 use Rattle.rtk_cut.proofs.slips.cut_rows.Goals as goal
@@ -13,8 +13,8 @@ push_row-requires-clause-good c =
     let r = c.row-item.result in
     let rows = c.args.rows.now in
     let k = c.loop-row.row-index in
-    let good : IsRow r = subst (λ (x : SatelliteRow). IsRow x) (sym c.row-item.is) (c.requires.good k r c.loop-row-test.true) in
-    subst (λ (xs : List Observed). IsRow (record { satellite = r.satellite; observed = record { items = xs } }))
+    let good : IsSatelliteRow r = subst (λ (x : SatelliteRow). IsSatelliteRow x) (sym c.row-item.is) (c.requires.good k r c.loop-row-test.true) in
+    subst (λ (xs : List Observed). IsSatelliteRow (record { satellite = r.satellite; observed = record { items = xs } }))
     (sym (c.cut_row-is_row_changed.ensures.shown)) (marks-good c.loop-row.marks (length c.loop-row.shown) r good)
 
 pub push_row-requires-clause-later : goal.push_row-requires-clause-later
@@ -32,7 +32,7 @@ loop-row-preserved c =
     let lt : k < length rows = c.loop-row-test.true in
     let is : r ≡ get_or rows k r = c.row-item.is in
     let row : SatelliteRow = record { satellite = r.satellite; observed = record { items = c.cut_row-is_row_changed.new.shown } } in
-    let good : IsRow r = subst (λ (x : SatelliteRow). IsRow x) (sym is) (c.requires.good k r lt) in
+    let good : IsSatelliteRow r = subst (λ (x : SatelliteRow). IsSatelliteRow x) (sym is) (c.requires.good k r lt) in
     let here : row ≡ row_with_marks marks c.args.width (get_or rows k r) =
     row-made c.args.marks.now c.loop-row.marks c.args.width rows k r c.cut_row-is_row_changed.new.shown c.requires.few_codes c.requires.rise lt good.satellite.1 is i.marks
     (c.cut_row-is_row_changed.ensures.shown ∙ ap (λ (n : ℕ). codes_with_marks c.loop-row.marks n r) i.width) in

@@ -11,11 +11,11 @@ pub returns-then-seconds-ge600000000 : goal.returns-then-seconds-ge600000000
 returns-then-seconds-ge600000000 c = λ t n h k e.
     let s = epoch-shows c.args.columns.now t n h k e in omega (arith, s.seconds, c.number_of_digits-seconds.ensures.value)
 
-pub returns-in_default : goal.returns-in_default
-returns-in_default c = λ t n h k e.
+pub returns-in_err-time : goal.returns-in_err-time
+returns-in_err-time c = rw c.from_residual.ensures (λ t n h k e.
     let s = epoch-shows c.args.columns.now t n h k e in
     let shown : c.reading_in-reading.result ≡ reading_of t = c.reading_in-reading.ensures ∙ s.reading in
-    c.in_default.ensures t h (rw shown (reading-reads t h))
+    c.in_err-time.ensures t h (rw shown (reading-reads t h)))
 
 pub returns-then-count-eq0 : goal.returns-then-count-eq0
 returns-then-count-eq0 c = λ t n h k e.
@@ -30,10 +30,10 @@ pub returns : goal.returns
 returns c = (
   omega arith,
   (omega arith, omega arith),
-  reading_is c.in-Some.time c.reading_in-reading.result c.in-Some.ensures,
+  reading_is c.in_ok-time.time c.reading_in-reading.result c.in_ok-time.ensures,
   λ t n h k e.
       let s = epoch-shows c.args.columns.now t n h k e in
       let count : c.number_of_digits-count.result ≡ n = c.number_of_digits-count.ensures.value ∙ ap (digits_from 0) c.split_at.ensures.back ∙ s.count in
       let shown : c.reading_in-reading.result ≡ reading_of t = c.reading_in-reading.ensures ∙ s.reading in
-      (one_moment c.in-Some.time t (reading_of t) (rw shown at c.in-Some.ensures) (reading-reads t h), count),
+      (one_moment c.in_ok-time.time t (reading_of t) (rw shown at c.in_ok-time.ensures) (reading-reads t h), count),
 )

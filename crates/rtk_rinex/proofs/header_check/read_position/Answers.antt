@@ -1,14 +1,15 @@
-use Rattle.std.proofs.Common.{◌∙◌}
-use Rattle.rtk_rinex.proofs.HeaderShownLemmas.{place_is}
+use Rattle.std.proofs.Common.{◌∙◌, rules}
+use Rattle.std.specs.Prelude.{MatchOption}
+use Rattle.rtk_obs.specs.Coordinates.{AreCoordinates}
+use Rattle.rtk_obs.specs.PositionFields.{HasFields}
+use Rattle.rtk_rinex.proofs.HeaderShownLemmas.{place_is, position_read}
 use Rattle.rtk_rinex.proofs.header_check.read_position.Goals as goal
 
-pub returns-in-Some-clause-shown : goal.returns-in-Some-clause-shown
-returns-in-Some-clause-shown c = λ s h e.
-    let p = place_is c.args.line.now _ s.x s.y s.z h.0 h.1 h.2 e in
-    let f = c.in-Some.ensures in
-    (f.0 ∙ p.first, f.1 ∙ p.second, f.2 ∙ p.third)
-
 pub returns-clause-shown : goal.returns-clause-shown
-returns-clause-shown c = λ s h e.
-    let p = place_is c.args.line.now _ s.x s.y s.z h.0 h.1 h.2 e in
-    absurd (c.in_default.ensures ((rw p.first h.0), (rw p.second h.1), (rw p.third h.2)))
+returns-clause-shown c = λ s h.
+    let p = place_is c.args.line.now _ s.x s.y s.z h.0.0 h.0.1 h.0.2 h.1 in
+    let x = c.signed_number_at.result in
+    let y = c.signed_number_at-2.result in
+    let z = c.signed_number_at-3.result in
+    let read : MatchOption c.new.result (¬ (AreCoordinates x y z)) (HasFields x y z c.args.height) = search rules in
+    position_read c.new.result x y z c.args.height s h.0 (c.signed_number_at.ensures ∙ p.first) (c.signed_number_at-2.ensures ∙ p.second) (c.signed_number_at-3.ensures ∙ p.third) read

@@ -4,7 +4,7 @@ use mathlib.Core.Logic.{∥∥₁_map}
 use Rattle.rtk_rinex.specs.CheckLine.{IsSatelliteForm}
 use Rattle.rtk_rinex.specs.Lines.{IsLine}
 use Rattle.rtk_rinex.proofs.FormLemmas.{row-form}
-use Rattle.rtk_rinex.proofs.CellLemmas.{HasForm, IsLineOf, has-form, row-shown, cells-of-row, columns-cut}
+use Rattle.rtk_rinex.proofs.CellLemmas.{HasRowForm, IsRowLineOf, has-form, row-shown, cells-of-row, columns-cut}
 use Rattle.rtk_rinex.proofs.RecordsLemmas.{below}
 use Rattle.rtk_rinex.proofs.satellite_line_read.read_row.Goals as goal
 
@@ -15,7 +15,7 @@ unreachable-requires c =
 abbrev columns_of : List ℕ → List ℕ
 columns_of line = take (length line - 1 - 3) (drop 3 line)
 
-form : (n : ℕ) (line : List ℕ) (s : ℕ) → IsLine line → IsSatelliteForm n line s → HasForm n line (columns_of line) s
+form : (n : ℕ) (line : List ℕ) (s : ℕ) → IsLine line → IsSatelliteForm n line s → HasRowForm n line (columns_of line) s
 form n line s is f = has-form n line (columns_of line) s is f (columns-cut line)
 
 pub read_cells-requires-clause-few : goal.read_cells-requires-clause-few
@@ -27,7 +27,7 @@ read_cells-requires-clause-cells c =
     let f = form c.args.width line c.in-Some.satellite c.requires.line c.in-Some.ensures in
     ∥∥₁_map c.requires.some (λ r. (cells-of-row c.args.width line (columns_of line) c.in-Some.satellite f r.0 r.1 r.2).1)
 
-shown : (c : goal.After-read_cells) → IsLineOf c.args.width c.args.line.now (record { satellite = c.in-Some.satellite; observed = c.read_cells.new.observed })
+shown : (c : goal.After-read_cells) → IsRowLineOf c.args.width c.args.line.now (record { satellite = c.in-Some.satellite; observed = c.read_cells.new.observed })
 shown c =
     let line = c.args.line.now in
     let f = form c.args.width line c.in-Some.satellite c.requires.line c.in-Some.ensures in
