@@ -29,11 +29,11 @@ other-epoch s c e es apart =
     ap (λ (b : Bool). cond b (e ∷ epochs_of_column s c es) (epochs_of_column s c es)) no
 
 -- an epoch goes to its column
-pub column-took : (s : Scale) (e : EpochTableView) (es : List EpochTableView) (columns : List Column) (place : ℕ) (new d : Column)
+pub column-more : (s : Scale) (e : EpochTableView) (es : List EpochTableView) (columns : List Column) (place : ℕ) (new d : Column)
     → place ≡ column_at s e.time → place < s.columns → columns ≡ columns_of s es → new ≡ column_of (e ∷ epochs_of_column s place es)
     → set columns place new ≡ columns_of s (e ∷ es)
 unfolding columns_of
-column-took s e es columns place new d at within are took =
+column-more s e es columns place new d at within are took =
     set-map (λ c. column_of (epochs_of_column s c es)) (λ c. column_of (epochs_of_column s c (e ∷ es))) columns s.columns place new d are within
     (took ∙ sym (ap column_of (own-epoch s place e es (sym at))))
     (λ k lt other. sym (ap column_of (other-epoch s k e es (λ same. other (sym same ∙ sym at)))))
@@ -41,10 +41,10 @@ column-took s e es columns place new d at within are took =
 -- ---- a code
 
 -- an epoch more
-pub lane-took : (place : ℕ) (os : List Observed) (epochs : List (List Observed)) (old new : Lane) (stands : Bool)
+pub lane-more : (place : ℕ) (os : List Observed) (epochs : List (List Observed)) (old new : Lane) (stands : Bool)
     → old ≡ lane_of epochs place → stands ≡ shows_phase place os → new ≡ record { some = stands || old.some; lacks = not stands || old.lacks }
     → new ≡ lane_of (os ∷ epochs) place
-lane-took place os epochs old new stands was is took =
+lane-more place os epochs old new stands was is took =
     took ∙ ap (λ (b : Bool). more b old) is ∙ ap (λ (l : Lane). more (shows_phase place os) l) was
   where
     more : Bool → Lane → Lane
@@ -53,9 +53,9 @@ lane-took place os epochs old new stands was is took =
 -- ---- a satellite
 
 -- an epoch more
-pub cell-took : (place : ℕ) (e : EpochTableView) (es : List EpochTableView) (rows : List SatelliteRow) (os : List Observed) (new : Cell)
+pub cell-more : (place : ℕ) (e : EpochTableView) (es : List EpochTableView) (rows : List SatelliteRow) (os : List Observed) (new : Cell)
     → rows ≡ e.rows → os ≡ observed_in (place + 1) rows → new ≡ cell_in (os ∷ observed_by (place + 1) es) → new ≡ cell_in (observed_by (place + 1) (e ∷ es))
-cell-took place e es rows os new are is took =
+cell-more place e es rows os new are is took =
     took ∙ ap (λ (shown : List Observed). cell_in (shown ∷ observed_by (place + 1) es)) (is ∙ ap (λ (some : List SatelliteRow). observed_in (place + 1) some) are)
 
 -- whether a satellite has a row, at each default that has none
@@ -132,11 +132,11 @@ fresh-gaps s gaps are =
 
 -- ---- an epoch more
 
-pub gaps-took : (s : Scale) (e : EpochTableView) (es : List EpochTableView) (last : Option ℕ) (time : ℕ) (gaps : List Bool)
+pub gaps-more : (s : Scale) (e : EpochTableView) (es : List EpochTableView) (last : Option ℕ) (time : ℕ) (gaps : List Bool)
     → last ≡ newest_moment es → time ≡ e.time → gaps ≡ map (λ c. has_missing_before s last time c || has_missing s es c) (range_with_len 0 s.columns)
     → gaps ≡ gaps_of s (e ∷ es)
 unfolding gaps_of
-gaps-took s e es last time gaps before at are =
+gaps-more s e es last time gaps before at are =
     are ∙ ap (λ (l : Option ℕ). map (λ c. has_missing_before s l time c || has_missing s es c) (range_with_len 0 s.columns)) before
     ∙ ap (λ (t : ℕ). map (λ c. has_missing_before s (newest_moment es) t c || has_missing s es c) (range_with_len 0 s.columns)) at
 
@@ -144,8 +144,8 @@ pub gaps-are : (s : Scale) (es : List EpochTableView) (gaps : List Bool) → gap
 unfolding gaps_of
 gaps-are s es gaps are = are
 
-pub missing-took : (unit : ℕ) (e : EpochTableView) (es : List EpochTableView) (last : Option ℕ) (time missing : ℕ)
+pub missing-more : (unit : ℕ) (e : EpochTableView) (es : List EpochTableView) (last : Option ℕ) (time missing : ℕ)
     → last ≡ newest_moment es → time ≡ e.time → missing ≡ capped (missing_in unit es + missing_before unit last time) → missing ≡ capped (missing_in unit (e ∷ es))
-missing-took unit e es last time missing before at are =
+missing-more unit e es last time missing before at are =
     are ∙ ap (λ (l : Option ℕ). capped (missing_in unit es + missing_before unit l time)) before
     ∙ ap (λ (t : ℕ). capped (missing_in unit es + missing_before unit (newest_moment es) t)) at

@@ -27,7 +27,7 @@ pub(crate) struct Cell {
 
 impl Lane {
     // An epoch more, in which the phase stands or is missing.
-    fn take(&mut self, stands: bool)
+    fn note_phase(&mut self, stands: bool)
         ensures { self.new ≡ record { some = stands || self.old.some; lacks = not stands || self.old.lacks } }
     {
         self.some = stands || self.some;
@@ -35,12 +35,12 @@ impl Lane {
     }
 }
 
-fn take_lanes(lanes: &mut [Lane; 16], observed: &[Observed])
+fn note_phases(lanes: &mut [Lane; 16], observed: &[Observed])
     ensures { (epochs : List (List Observed)) → lanes.old ≡ lanes_of epochs → lanes.new ≡ lanes_of (observed.now ∷ epochs) }
 {
     for place in 0..16 {
         let mut lane = lanes[place];
-        lane.take(shows_phase(observed, place));
+        lane.note_phase(shows_phase(observed, place));
         lanes[place] = lane;
     }
 }
@@ -63,10 +63,10 @@ impl Cell {
     }
 
     /// An epoch more.
-    pub(crate) fn take(&mut self, observed: &[Observed])
+    pub(crate) fn note_observed(&mut self, observed: &[Observed])
         ensures { (epochs : List (List Observed)) → self.old ≡ cell_in epochs → self.new ≡ cell_in (observed.now ∷ epochs) }
     {
-        take_lanes(&mut self.lanes, observed);
+        note_phases(&mut self.lanes, observed);
         self.seen = is_seen(observed) || self.seen;
         self.slip = has_slip(observed) || self.slip;
         self.half = has_half(observed) || self.half;

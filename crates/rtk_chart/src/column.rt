@@ -14,12 +14,12 @@ pub(crate) struct Column {
     pub(crate) cells: [Cell; 32],
 }
 
-fn take_cells(cells: &mut [Cell; 32], rows: &[SatelliteRow])
+fn note_satellites(cells: &mut [Cell; 32], rows: &[SatelliteRow])
     ensures { (e : EpochTableView) (es : List EpochTableView) → rows.now ≡ e.rows → cells.old ≡ satellite_cells es → cells.new ≡ satellite_cells (e ∷ es) }
 {
     for place in 0u8..32 {
         let mut cell = cells[usize::from(place)];
-        cell.take(observed_in(rows, place + 1));
+        cell.note_observed(observed_in(rows, place + 1));
         cells[usize::from(place)] = cell;
     }
 }
@@ -35,9 +35,9 @@ impl Column {
     }
 
     /// An epoch more, by its rows.
-    pub(crate) fn take(&mut self, rows: &[SatelliteRow])
+    pub(crate) fn note_rows(&mut self, rows: &[SatelliteRow])
         ensures { (e : EpochTableView) (es : List EpochTableView) → rows.now ≡ e.rows → self.old ≡ column_of es → self.new ≡ column_of (e ∷ es) }
     {
-        take_cells(&mut self.cells, rows);
+        note_satellites(&mut self.cells, rows);
     }
 }

@@ -66,15 +66,15 @@ fn mark_missing(gaps: &mut Vec<bool>, scale: &Scale, before: u64, moment: u64, m
 }
 
 // An epoch more, which stands in its column.
-fn take_rows(columns: &mut Vec<Column>, scale: &Scale, moment: u64, rows: &[SatelliteRow])
+fn note_in_column(columns: &mut Vec<Column>, scale: &Scale, moment: u64, rows: &[SatelliteRow])
     requires { IsScale scale.now }
     ensures size { length columns.new.items ≡ length columns.old.items }
-    ensures taken { (e : EpochTableView) (es : List EpochTableView) → rows.now ≡ e.rows → moment ≡ e.time
+    ensures noted { (e : EpochTableView) (es : List EpochTableView) → rows.now ≡ e.rows → moment ≡ e.time
         → columns.old.items ≡ columns_of scale.now es → columns.new.items ≡ columns_of scale.now (e ∷ es) }
 {
     let place = scale.column_at(moment) as usize;
     if place < columns.len() {
-        columns[place].take(rows);
+        columns[place].note_rows(rows);
     }
 }
 
@@ -94,7 +94,7 @@ impl Grid {
     }
 
     // The epochs that are missing before a moment.
-    fn take_gap(&mut self, scale: &Scale, moment: GpsMs)
+    fn count_missing(&mut self, scale: &Scale, moment: GpsMs)
         requires { IsScale scale.now }
         ensures columns { self.new.columns ≡ self.old.columns }
         ensures size { length self.new.gaps.items ≡ length self.old.gaps.items }
@@ -111,15 +111,15 @@ impl Grid {
     }
 
     /// A record more.
-    pub(crate) fn take(&mut self, scale: &Scale, epoch: &EpochTable)
+    pub(crate) fn place_record(&mut self, scale: &Scale, epoch: &EpochTable)
         requires { IsScale scale.now }
         ensures columns { length self.new.columns.items ≡ length self.old.columns.items }
         ensures gaps { length self.new.gaps.items ≡ length self.old.gaps.items }
         ensures grid { (es : List EpochTableView) → StandsForGrid self.old scale.now es → StandsForGrid self.new scale.now (epoch.now ∷ es) }
     {
         let time = epoch.time();
-        self.take_gap(scale, time);
-        take_rows(&mut self.columns, scale, time.ms(), epoch.rows());
+        self.count_missing(scale, time);
+        note_in_column(&mut self.columns, scale, time.ms(), epoch.rows());
         self.last = Some(time);
     }
 }

@@ -25,7 +25,7 @@ pub(crate) fn look_at(alloc: Global, table: &Table<'_>, first: GpsMs) -> Result<
     let mut epoch = EpochTable::new(first);
     let mut records = table.records();
     'records: while let Some(_record) = records.next(&mut epoch) {
-        survey.take(&epoch)?;
+        survey.count_record(&epoch)?;
     }
     Ok(survey)
 }
@@ -47,7 +47,7 @@ pub(crate) fn fill(
     let mut epoch = EpochTable::new(first);
     let mut records = table.records();
     'records: while let Some(_record) = records.next(&mut epoch) {
-        grid.take(scale, &epoch);
+        grid.place_record(scale, &epoch);
     }
     Ok(grid)
 }

@@ -72,7 +72,7 @@ impl Steps {
     }
 
     /// A step more.
-    pub(crate) fn take(&mut self, step: u64) -> Result<(), AllocError>
+    pub(crate) fn add_step(&mut self, step: u64) -> Result<(), AllocError>
         ensures { OnOk result ((steps : List ℕ) → StandsForSteps self.old steps → StandsForSteps self.new (step ∷ steps)) }
     {
         let count = count_step(&mut self.counts, step)?;

@@ -12,11 +12,11 @@ records-init c = record {
 
 pub records-preserved : goal.records-preserved
 records-preserved c = record {
-  columns = c.take.ensures.columns ∙ c.records.invariant.columns;
-  gaps = c.take.ensures.gaps ∙ c.records.invariant.gaps;
+  columns = c.place_record.ensures.columns ∙ c.records.invariant.columns;
+  gaps = c.place_record.ensures.gaps ∙ c.records.invariant.gaps;
   grid = λ t is text.
-      come-more (λ grid es. StandsForGrid grid c.args.scale.now es) c.records.records c.next.new.self c.records.grid c.take.new.self t.epochs c.in-Some._record.now c.next.new.epoch
-      (c.records.invariant.grid t is text) c.in-Some.ensures.next c.take.ensures.grid;
+      come-more (λ grid es. StandsForGrid grid c.args.scale.now es) c.records.records c.next.new.self c.records.grid c.place_record.new.self t.epochs c.in-Some._record.now c.next.new.epoch
+      (c.records.invariant.grid t is text) c.in-Some.ensures.next c.place_record.ensures.grid;
 }
 
 pub returns-clause-grid : goal.returns-clause-grid

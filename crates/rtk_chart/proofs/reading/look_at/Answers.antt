@@ -8,8 +8,8 @@ records-init c = λ t is text. ([], t.epochs, (c.records-records.ensures.records
 
 pub records-preserved : goal.records-preserved
 records-preserved c = λ t is text.
-    come-more StandsForSurvey c.records.records c.next.new.self c.records.survey c.take.new.self t.epochs c.in-Some._record.now c.next.new.epoch
-    (c.records.invariant t is text) c.in-Some.ensures.next c.in_ok-take.ensures
+    come-more StandsForSurvey c.records.records c.next.new.self c.records.survey c.count_record.new.self t.epochs c.in-Some._record.now c.next.new.epoch
+    (c.records.invariant t is text) c.in-Some.ensures.next c.in_ok-count_record.ensures
 
 pub returns : goal.returns
 returns c = λ t is text.

@@ -5,8 +5,8 @@ use Rattle.rtk_chart.specs.Epochs.{observed_by}
 use Rattle.rtk_chart.specs.Grid.{cell_in, satellite_cells}
 use Rattle.rtk_chart.specs.declared.cell.Cell.{Cell}
 use Rattle.rtk_chart.proofs.ListLemmas.{up_to, up_to-none, up_to-here, up_to-more, up_to-all}
-use Rattle.rtk_chart.proofs.GridLemmas.{cell-took}
-use Rattle.rtk_chart.proofs.column.take_cells.Goals as goal
+use Rattle.rtk_chart.proofs.GridLemmas.{cell-more}
+use Rattle.rtk_chart.proofs.column.note_satellites.Goals as goal
 
 abbrev cells_after : List EpochTableView → ℕ → Cell
 cells_after es place = cell_in (observed_by (place + 1) es)
@@ -23,9 +23,9 @@ loop-place-preserved c = λ e es rows are.
     let old = cells_after es in
     let i = c.loop-place.place in
     let within = c.loop-place-test.true in
-    up_to-more new old c.loop-place.cells 32 i c.from-in-loop-place.result c.take.new.self (cell_in []) c.from-in-loop-place.ensures within so_far
-    (cell-took i e es c.args.rows.now c.observed_in.result.now c.take.new.self rows c.observed_in.ensures
-    (c.take.ensures (observed_by (i + 1) es) (up_to-here new old c.loop-place.cells 32 i c.from.result _ c.from.ensures within so_far)))
+    up_to-more new old c.loop-place.cells 32 i c.from-in-loop-place.result c.note_observed.new.self (cell_in []) c.from-in-loop-place.ensures within so_far
+    (cell-more i e es c.args.rows.now c.observed_in.result.now c.note_observed.new.self rows c.observed_in.ensures
+    (c.note_observed.ensures (observed_by (i + 1) es) (up_to-here new old c.loop-place.cells 32 i c.from.result _ c.from.ensures within so_far)))
 
 pub returns : goal.returns
 unfolding satellite_cells

@@ -3,7 +3,7 @@ use Rattle.std.specs.List.{range_with_len}
 use Rattle.rtk_rinex.specs.declared.epoch_table.Observed.{Observed}
 use Rattle.rtk_chart.specs.Grid.{lane_of, lanes_of}
 use Rattle.rtk_chart.proofs.ListLemmas.{up_to}
-use Rattle.rtk_chart.proofs.cell.take_lanes.Given as goal
+use Rattle.rtk_chart.proofs.cell.note_phases.Given as goal
 
 abbrev pub invariant-loop-place : goal.invariant-loop-place
 invariant-loop-place l =

@@ -4,7 +4,7 @@ use Rattle.rtk_rinex.specs.Record.{EpochTableView}
 use Rattle.rtk_chart.specs.Epochs.{observed_by}
 use Rattle.rtk_chart.specs.Grid.{cell_in, satellite_cells}
 use Rattle.rtk_chart.proofs.ListLemmas.{up_to}
-use Rattle.rtk_chart.proofs.column.take_cells.Given as goal
+use Rattle.rtk_chart.proofs.column.note_satellites.Given as goal
 
 abbrev pub invariant-loop-place : goal.invariant-loop-place
 invariant-loop-place l =
