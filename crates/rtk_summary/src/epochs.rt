@@ -33,7 +33,7 @@ impl Epochs {
     }
 
     /// The time of a message more.
-    pub(crate) fn take(&mut self, time: u32)
+    pub(crate) fn note_time(&mut self, time: u32)
         ensures { (ts : List ℕ) → self.old ≡ epochs_so_far ts → self.new ≡ epochs_so_far (time ∷ ts) }
     {
         let begun = begins_epoch(self.last, time);

@@ -41,26 +41,26 @@ fn gives_value(kind: MsmKind, message: &AnyMessage, entries: &[CellEntry]) -> bo
 }
 
 // The time of week of a message, if it has one.
-fn take_time(epochs: &mut Epochs, message: &AnyMessage)
+fn note_time_of(epochs: &mut Epochs, message: &AnyMessage)
     ensures { (ms : List AnyMessage) → epochs.old ≡ epochs_so_far (times_of_week ms)
         → epochs.new ≡ epochs_so_far (times_of_week (message.now ∷ ms)) }
 {
     if let Some(time) = message.tow() {
-        epochs.take(time);
+        epochs.note_time(time);
     }
 }
 
-fn take_epoch(epochs: &mut Epochs, kind: MsmKind, message: &AnyMessage, entries: &[CellEntry])
+fn note_epoch(epochs: &mut Epochs, kind: MsmKind, message: &AnyMessage, entries: &[CellEntry])
     requires { entries.now ≡ entries_of message.now }
     ensures { (ms : List AnyMessage) → epochs.old ≡ epochs_so_far (times_with_value kind ms)
         → epochs.new ≡ epochs_so_far (times_with_value kind (message.now ∷ ms)) }
 {
     if gives_value(kind, message, entries) {
-        take_time(epochs, message);
+        note_time_of(epochs, message);
     }
 }
 
-fn take_codes(codes: &mut Codes, kind: MsmKind, message: &AnyMessage, more: &Codes)
+fn join_codes(codes: &mut Codes, kind: MsmKind, message: &AnyMessage, more: &Codes)
     requires { StandsForCodes more.now (entries_of message.now) }
     ensures { (ms : List AnyMessage) → StandsForCodes codes.old (entries_with kind ms)
         → StandsForCodes codes.new (entries_with kind (message.now ∷ ms)) }
@@ -83,14 +83,14 @@ impl MsmPart {
     }
 
     // A message more of the station, with its cells and their codes; the part is that of this MSM.
-    fn take(&mut self, kind: MsmKind, message: &AnyMessage, entries: &[CellEntry], codes: &Codes)
+    fn add_message(&mut self, kind: MsmKind, message: &AnyMessage, entries: &[CellEntry], codes: &Codes)
         requires entries { entries.now ≡ entries_of message.now }
         requires codes { StandsForCodes codes.now (entries_of message.now) }
         ensures { (ms : List AnyMessage) → StandsForMsm kind self.old ms → StandsForMsm kind self.new (message.now ∷ ms) }
     {
         self.messages = count_if(self.messages, message.number() == kind.number());
-        take_epoch(&mut self.epochs, kind, message, entries);
-        take_codes(&mut self.codes, kind, message, codes);
+        note_epoch(&mut self.epochs, kind, message, entries);
+        join_codes(&mut self.codes, kind, message, codes);
     }
 }
 
@@ -108,15 +108,15 @@ impl MsmParts {
     }
 
     /// A message more of the station, with its cells.
-    pub(crate) fn take(&mut self, message: &AnyMessage, entries: &[CellEntry])
+    pub(crate) fn add_message(&mut self, message: &AnyMessage, entries: &[CellEntry])
         requires { entries.now ≡ entries_of message.now }
         ensures { (ms : List AnyMessage) → StandForMsm self.old ms → StandForMsm self.new (message.now ∷ ms) }
     {
         let codes = Codes::of(entries);
-        self.msm4.take(MsmKind::Msm4, message, entries, &codes);
-        self.msm5.take(MsmKind::Msm5, message, entries, &codes);
-        self.msm6.take(MsmKind::Msm6, message, entries, &codes);
-        self.msm7.take(MsmKind::Msm7, message, entries, &codes);
+        self.msm4.add_message(MsmKind::Msm4, message, entries, &codes);
+        self.msm5.add_message(MsmKind::Msm5, message, entries, &codes);
+        self.msm6.add_message(MsmKind::Msm6, message, entries, &codes);
+        self.msm7.add_message(MsmKind::Msm7, message, entries, &codes);
     }
 
     /// What there is of an MSM.

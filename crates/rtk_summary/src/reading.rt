@@ -6,7 +6,7 @@ ghost use Rattle.std.specs.Prelude.{◌≡◌, ◌≢◌, ◌≤◌, ◌+◌, �
 ghost use Rattle.rtk_frame.specs.Frames.{frames, final_frames, payloads, pending};
 ghost use Rattle.rtk_frame.specs.Stream.{CountRises};
 ghost use Rattle.rtk_summary.specs.Summary.{Summarizes, SummarizesInPart, HasRisenBy};
-ghost use Rattle.rtk_summary.specs.Steps.Standing.{ReadsAll, StandsForFrames, TakesFrames};
+ghost use Rattle.rtk_summary.specs.Steps.Standing.{ReadsAll, StandsForFrames, CountsFrames};
 ghost use Rattle.rtk_summary.specs.declared.fault.SummaryFault.TheVariants.{Read, Endless, Write};
 
 use crate::fault::SummaryFault;
@@ -19,11 +19,11 @@ use std::alloc::Global;
 const PIECE: usize = 32_768;
 
 // Takes the frames that a piece completes, and answers nothing.
-fn feed(scanner: &mut Scanner, summary: &mut Summary, piece: &[u8])
+fn count_frames(scanner: &mut Scanner, summary: &mut Summary, piece: &[u8])
     requires { scanner.old.ended ≡ false }
     ensures is_open { scanner.new.ended ≡ false }
     ensures pending { scanner.new.pending ≡ pending (scanner.old.pending ++ piece.now) }
-    ensures taken { TakesFrames summary.old (payloads (final_frames (scanner.old.pending ++ piece.now))) summary.new }
+    ensures counted { CountsFrames summary.old (payloads (final_frames (scanner.old.pending ++ piece.now))) summary.new }
 {
     let mut at = 0;
     'frames: loop {
@@ -32,16 +32,16 @@ fn feed(scanner: &mut Scanner, summary: &mut Summary, piece: &[u8])
         let Answer::Found(payload) = fed.answer else {
             return;
         };
-        summary.take(payload);
+        summary.count_frame(payload);
     }
 }
 
 // Takes the frames that are left at the end of the capture.
-fn close(scanner: &mut Scanner, summary: &mut Summary)
-    ensures { TakesFrames summary.old (payloads (frames scanner.old.pending)) summary.new }
+fn count_rest(scanner: &mut Scanner, summary: &mut Summary)
+    ensures { CountsFrames summary.old (payloads (frames scanner.old.pending)) summary.new }
 {
     'frames: while let Some(payload) = scanner.rest() {
-        summary.take(payload);
+        summary.count_frame(payload);
     }
 }
 
@@ -71,11 +71,11 @@ fn read_all<R: Source>(
             return Err(SummaryFault::Read);
         };
         if count == 0 {
-            close(&mut scanner, summary);
+            count_rest(&mut scanner, summary);
             return Ok(bytes);
         }
         bytes = bytes.saturating_add(count as u64);
-        feed(&mut scanner, summary, &piece[..count]);
+        count_frames(&mut scanner, summary, &piece[..count]);
     }
     Err(SummaryFault::Endless)
 }

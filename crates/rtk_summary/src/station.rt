@@ -51,12 +51,12 @@ pub(crate) fn put_entries(message: &AnyMessage, found: &mut ArrayVec<CellEntry, 
 }
 
 // The time of week of a message, if it has one.
-fn take_time(times: &mut Times, message: &AnyMessage)
+fn note_time_of(times: &mut Times, message: &AnyMessage)
     ensures { (ms : List AnyMessage) → times.old ≡ times_of (times_of_week ms)
         → times.new ≡ times_of (times_of_week (message.now ∷ ms)) }
 {
     if let Some(time) = message.tow() {
-        times.take(time);
+        times.note_time(time);
     }
 }
 
@@ -77,7 +77,7 @@ impl Station {
     }
 
     // Counts a message under its number.
-    fn count(&mut self, number: u16)
+    fn count_number(&mut self, number: u16)
         ensures times { self.new.times ≡ self.old.times }
         ensures signals { self.new.signals ≡ self.old.signals }
         ensures msm { self.new.msm ≡ self.old.msm }
@@ -91,13 +91,13 @@ impl Station {
     }
 
     /// A message more, with its cells.
-    pub(crate) fn take(&mut self, message: &AnyMessage, entries: &[CellEntry])
+    pub(crate) fn add_message(&mut self, message: &AnyMessage, entries: &[CellEntry])
         requires { entries.now ≡ entries_of message.now }
         ensures { (ms : List AnyMessage) → StandsForMessages self.old ms → StandsForMessages self.new (message.now ∷ ms) }
     {
-        self.count(message.number());
-        take_time(&mut self.times, message);
-        self.signals.take(entries);
-        self.msm.take(message, entries);
+        self.count_number(message.number());
+        note_time_of(&mut self.times, message);
+        self.signals.mark_entries(entries);
+        self.msm.add_message(message, entries);
     }
 }

@@ -34,7 +34,7 @@ impl Times {
     }
 
     /// A time more.
-    pub(crate) fn take(&mut self, time: u32)
+    pub(crate) fn note_time(&mut self, time: u32)
         ensures { (ts : List ℕ) → self.old ≡ times_of ts → self.new ≡ times_of (time ∷ ts) }
     {
         let change = change_from(self.last, time);

@@ -48,7 +48,7 @@ impl Unread {
     }
 
     /// A fault more.
-    pub(crate) fn take(&mut self, fault: AnyFault)
+    pub(crate) fn count_fault(&mut self, fault: AnyFault)
         ensures { (fs : List AnyFault) → StandsForFaults self.old fs → StandsForFaults self.new (fault ∷ fs) }
     {
         match fault {

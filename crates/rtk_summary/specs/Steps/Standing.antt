@@ -123,6 +123,6 @@ ReadsAll given_old given_new size summary =
 
 -- frames with these payloads come, in this order: whatever came before, the summary then stands for
 -- them too
-abbrev pub TakesFrames : Summary → List (List ℕ) → Summary → Type 0
-TakesFrames old payloads new = (before : List ReadFrame) → StandsForFrames old before
+abbrev pub CountsFrames : Summary → List (List ℕ) → Summary → Type 0
+CountsFrames old payloads new = (before : List ReadFrame) → StandsForFrames old before
     → (after : List ReadFrame) × ReadsFrames payloads before after × StandsForFrames new after

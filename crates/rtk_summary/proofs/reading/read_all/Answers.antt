@@ -3,7 +3,7 @@ use Rattle.rtk_frame.specs.Frames.{final_frames, payloads, pending}
 use Rattle.rtk_frame.specs.ScannerView.{ScannerView}
 use Rattle.rtk_frame.specs.Stream.{with_more}
 use Rattle.rtk_summary.specs.Counting.{shown_count}
-use Rattle.rtk_summary.specs.Steps.Standing.{TakesFrames}
+use Rattle.rtk_summary.specs.Steps.Standing.{CountsFrames}
 use Rattle.rtk_summary.proofs.FreshLemmas.{as-many}
 use Rattle.rtk_summary.proofs.ReadLemmas.{read-nothing, read-piece, read-end, count-rises, refilled, length-first}
 use Rattle.rtk_summary.proofs.reading.read_all.Goals as goal
@@ -31,12 +31,12 @@ reads-preserved g c =
     let same : take c.in-Ok-read.count c.deref.result.now ≡ take c.in-Ok-read.count buf = ap (λ (xs : List ℕ). take c.in-Ok-read.count xs) (c.deref.ensures.value ∙ full) in
     record {
       so_far = read-piece (g.R.Source.given c.args.reader.now) (g.R.Source.given c.reads.reader) (g.R.Source.given c.read.new.self)
-          c.reads.scanner.pending c.feed.new.scanner.pending (take c.in-Ok-read.count buf) c.reads.bytes c.saturating_add-bytes.result
-          c.reads.summary c.feed.new.summary i.so_far c.in-Ok-read.ensures.given
-          (subst (λ (more : List ℕ). TakesFrames c.reads.summary (payloads (final_frames (pending_1 ++ more))) c.feed.new.summary) same c.feed.ensures.taken)
-          (c.feed.ensures.pending ∙ ap (λ (more : List ℕ). pending (pending_1 ++ more)) same)
+          c.reads.scanner.pending c.count_frames.new.scanner.pending (take c.in-Ok-read.count buf) c.reads.bytes c.saturating_add-bytes.result
+          c.reads.summary c.count_frames.new.summary i.so_far c.in-Ok-read.ensures.given
+          (subst (λ (more : List ℕ). CountsFrames c.reads.summary (payloads (final_frames (pending_1 ++ more))) c.count_frames.new.summary) same c.count_frames.ensures.counted)
+          (c.count_frames.ensures.pending ∙ ap (λ (more : List ℕ). pending (pending_1 ++ more)) same)
           (c.saturating_add-bytes.ensures ∙ ap (λ (n : ℕ). shown_count (c.reads.bytes + n)) (sym (length-first c.in-Ok-read.count buf c.in-Ok-read.ensures.bound)));
-      is_open = c.feed.ensures.is_open;
+      is_open = c.count_frames.ensures.is_open;
       room = ap (λ (xs : List ℕ). length xs) full ∙ as_many ∙ i.room;
       failures = c.in-Ok-read.ensures.failures ∙ i.failures;
       most = omega (arith, calls, most);
@@ -47,8 +47,8 @@ pub returns-then-count-eq0-clause-read : goal.returns-then-count-eq0-clause-read
 returns-then-count-eq0-clause-read g c =
     let before = g.R.Source.given c.reads.reader in
     let buf : List ℕ = c.read.new.buf in
-    read-end (g.R.Source.given c.args.reader.now) before (g.R.Source.given c.read.new.self) c.reads.scanner.pending c.reads.bytes c.reads.summary c.close.new.summary
-    c.reads.invariant.so_far (c.in-Ok-read.ensures.given ∙ ap (λ (n : ℕ). with_more before (take n buf)) c.if-count-eq0.true) c.close.ensures
+    read-end (g.R.Source.given c.args.reader.now) before (g.R.Source.given c.read.new.self) c.reads.scanner.pending c.reads.bytes c.reads.summary c.count_rest.new.summary
+    c.reads.invariant.so_far (c.in-Ok-read.ensures.given ∙ ap (λ (n : ℕ). with_more before (take n buf)) c.if-count-eq0.true) c.count_rest.ensures
 
 pub returns-in_default-read-clause-reads : goal.returns-in_default-read-clause-reads
 returns-in_default-read-clause-reads g c = omega (arith, c.reads.invariant.most, c.reads-test.true, c.read.ensures.calls)

@@ -4,11 +4,11 @@ use Rattle.rtk_message.specs.declared.any_message.AnyMessage.{AnyMessage}
 use Rattle.rtk_message.specs.declared.any_fault.AnyFault.{AnyFault}
 use Rattle.rtk_message.specs.AnyDecoded.{DecodesBy}
 use Rattle.rtk_summary.specs.ReadFrames.{messages_read, read_frame, messages_in, faults_in}
-use Rattle.rtk_summary.proofs.summary.Summary.take.Goals as goal
+use Rattle.rtk_summary.proofs.summary.Summary.count_frame.Goals as goal
 
 pub returns-in-Ok : goal.returns-in-Ok
 returns-in-Ok c = λ before stands.
-    let t = c.take_message.ensures in
+    let t = c.count_message.ensures in
     let one = c.saturating_add-self.ensures in
     let more = c.saturating_add-self-2.ensures in
     let was = stands.frames in
@@ -47,6 +47,6 @@ returns-in-Err c = λ before stands.
         stations_size = stands.stations_size;
         stations = stands.stations;
         signals = stands.signals;
-        unread = c.take.ensures (faults_in before) stands.unread;
+        unread = c.count_fault.ensures (faults_in before) stands.unread;
       },
     )

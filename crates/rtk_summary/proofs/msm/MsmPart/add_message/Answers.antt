@@ -5,7 +5,7 @@ use Rattle.rtk_summary.specs.Counting.{shown_count}
 use Rattle.rtk_summary.specs.Steps.Standing.{one_if}
 use Rattle.rtk_summary.specs.Tracing.{is_numbered}
 use Rattle.rtk_summary.proofs.MsmLemmas.{counted}
-use Rattle.rtk_summary.proofs.msm.MsmPart.take.Goals as goal
+use Rattle.rtk_summary.proofs.msm.MsmPart.add_message.Goals as goal
 
 pub returns : goal.returns
 returns c = λ ms stands.
@@ -17,6 +17,6 @@ returns c = λ ms stands.
           (c.count_if-self.ensures
           ∙ ap (λ (n : ℕ). shown_count (was + one_if (n == c.number-2.result))) c.number.ensures
           ∙ ap (λ (n : ℕ). shown_count (was + one_if (number_of m == n))) c.number-2.ensures);
-      epochs = c.take_epoch.ensures ms stands.epochs;
-      codes = c.take_codes.ensures ms stands.codes;
+      epochs = c.note_epoch.ensures ms stands.epochs;
+      codes = c.join_codes.ensures ms stands.codes;
     }

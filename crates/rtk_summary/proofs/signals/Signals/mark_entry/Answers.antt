@@ -1,5 +1,5 @@
 use Rattle.std.proofs.Common.{◌<◌, ◌∙◌, length, arith}
-use Rattle.rtk_summary.proofs.signals.Signals.take_entry.Goals as goal
+use Rattle.rtk_summary.proofs.signals.Signals.mark_entry.Goals as goal
 
 pub returns : goal.returns
 returns c = λ es stands. record {
@@ -8,5 +8,5 @@ returns c = λ es stands. record {
       let size = c.mark.ensures.size in
       let inside : n < length c.args.self.now.satellites = omega (arith, lt, size) in
       c.mark.ensures.marked n inside ∙ rw (c.has_value.ensures, c.from.ensures, stands.satellites n inside);
-  codes = c.take_entry.ensures es stands.codes;
+  codes = c.mark_code.ensures es stands.codes;
 }

@@ -4,7 +4,7 @@ use Rattle.rtk_summary.specs.Proposal.{is_taken_with, entries_with}
 use Rattle.rtk_summary.specs.Steps.Standing.{StandsForCodes}
 use Rattle.rtk_summary.specs.Tracing.{entries_of}
 use Rattle.rtk_summary.proofs.MsmLemmas.{entries-taken, entries-left}
-use Rattle.rtk_summary.proofs.msm.take_codes.Goals as goal
+use Rattle.rtk_summary.proofs.msm.join_codes.Goals as goal
 
 pub returns-then-accepts : goal.returns-then-accepts
 returns-then-accepts c = λ ms stands.
