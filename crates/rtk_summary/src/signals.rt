@@ -106,7 +106,7 @@ impl Signals {
         self.codes.mark_code(entry);
     }
 
-    /// More cells.
+    /// Marks the satellites and codes of more cells.
     pub(crate) fn mark_entries(&mut self, entries: &[CellEntry])
         ensures { (es : List CellEntry) → StandsForEntries self.old es → StandsForEntries self.new (entries.now ++ es) }
     {

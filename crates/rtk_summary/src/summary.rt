@@ -8,7 +8,7 @@ ghost use Rattle.std.specs.Prelude.{◌≡◌, List, [], ◌∷◌, length, IfOk
 ghost use Rattle.rtk_message.specs.declared.any_message.AnyMessage.{AnyMessage};
 ghost use Rattle.rtk_message.specs.AnyDecoded.{IsValid};
 ghost use Rattle.rtk_summary.specs.Steps.Standing.{StandsForFrames, StandForStations, StandsForEntries, CountsFrames};
-ghost use Rattle.rtk_summary.specs.Tracing.{entries_of, entries_in};
+ghost use Rattle.rtk_summary.specs.Tracing.{entries_of_message, entries_in};
 
 use crate::signals::Signals;
 use crate::station::{Station, put_entries};
@@ -26,7 +26,7 @@ pub(crate) struct Summary {
     pub(crate) framed: u64,
     /// By number.
     pub(crate) stations: Vec<Station>,
-    /// Those of all stations.
+    /// The signals of all stations.
     pub(crate) signals: Signals,
     pub(crate) unread: Unread,
     decoder: AnyDecoder,
@@ -35,9 +35,9 @@ pub(crate) struct Summary {
     room: ArrayVec<CellEntry, 64>,
 }
 
-// A message goes to its station.
+// Adds a message to its station.
 fn add_to_station(stations: &mut Vec<Station>, message: &AnyMessage, entries: &[CellEntry])
-    requires { entries.now ≡ entries_of message.now }
+    requires { entries.now ≡ entries_of_message message.now }
     ensures size { length stations.new.items ≡ length stations.old.items }
     ensures stations { (ms : List AnyMessage) → StandForStations stations.old.items ms
         → StandForStations stations.new.items (message.now ∷ ms) }
@@ -48,6 +48,7 @@ fn add_to_station(stations: &mut Vec<Station>, message: &AnyMessage, entries: &[
     }
 }
 
+// Counts a message: marks its signals, and adds it to its station.
 fn count_message(
     stations: &mut Vec<Station>,
     signals: &mut Signals,
@@ -82,7 +83,7 @@ impl Summary {
         })
     }
 
-    /// A frame more, by its payload.
+    /// Counts a frame, by its payload.
     pub(crate) fn count_frame(&mut self, payload: &[u8])
         ensures { CountsFrames self.old (payload.now ∷ []) self.new }
     {

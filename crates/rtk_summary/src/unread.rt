@@ -47,7 +47,7 @@ impl Unread {
         })
     }
 
-    /// A fault more.
+    /// Counts a fault.
     pub(crate) fn count_fault(&mut self, fault: AnyFault)
         ensures { (fs : List AnyFault) → StandsForFaults self.old fs → StandsForFaults self.new (fault ∷ fs) }
     {

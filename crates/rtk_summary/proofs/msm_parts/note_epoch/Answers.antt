@@ -3,7 +3,7 @@ use Rattle.std.specs.Prelude.{filter}
 use Rattle.rtk_summary.specs.Proposal.{gives_value}
 use Rattle.rtk_summary.specs.Steps.Standing.{epochs_so_far}
 use Rattle.rtk_summary.proofs.MsmLemmas.{times-with, times-without}
-use Rattle.rtk_summary.proofs.msm.note_epoch.Goals as goal
+use Rattle.rtk_summary.proofs.msm_parts.note_epoch.Goals as goal
 
 pub returns-then-gives_value : goal.returns-then-gives_value
 returns-then-gives_value c = λ ms was.

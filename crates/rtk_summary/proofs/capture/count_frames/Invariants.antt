@@ -2,7 +2,7 @@ use Rattle.std.proofs.Common.{◌≡◌, ◌≤◌, ◌+◌, ◌-◌, false, ◌
 use Rattle.rtk_frame.specs.Frames.{final_frames, payloads, pending}
 use Rattle.rtk_summary.specs.Steps.Standing.{CountsFrames}
 use Rattle.rtk_summary.specs.declared.summary.Summary.{Summary}
-use Rattle.rtk_summary.proofs.reading.count_frames.Given as goal
+use Rattle.rtk_summary.proofs.capture.count_frames.Given as goal
 
 -- with the frames of what is left all are taken
 abbrev pub invariant-frames : goal.invariant-frames

@@ -18,7 +18,7 @@ use std::alloc::Global;
 /// The most bytes that one read asks for.
 const PIECE: usize = 32_768;
 
-// Takes the frames that a piece completes, and answers nothing.
+// Counts the frames that a piece completes.
 fn count_frames(scanner: &mut Scanner, summary: &mut Summary, piece: &[u8])
     requires { scanner.old.ended ≡ false }
     ensures is_open { scanner.new.ended ≡ false }
@@ -36,7 +36,7 @@ fn count_frames(scanner: &mut Scanner, summary: &mut Summary, piece: &[u8])
     }
 }
 
-// Takes the frames that are left at the end of the capture.
+// Counts the frames that are left at the end of the capture.
 fn count_rest(scanner: &mut Scanner, summary: &mut Summary)
     ensures { CountsFrames summary.old (payloads (frames scanner.old.pending)) summary.new }
 {

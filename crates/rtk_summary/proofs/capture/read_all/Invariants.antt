@@ -1,7 +1,7 @@
 use Rattle.std.proofs.Common.{◌≡◌, ◌≤◌, ◌+◌, false, length}
 use Rattle.rtk_summary.specs.Summary.{HasRisenBy}
 use Rattle.rtk_summary.proofs.ReadLemmas.{HasRead}
-use Rattle.rtk_summary.proofs.reading.read_all.Given as goal
+use Rattle.rtk_summary.proofs.capture.read_all.Given as goal
 
 abbrev pub invariant-reads : goal.invariant-reads
 invariant-reads g l = record {

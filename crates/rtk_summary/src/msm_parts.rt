@@ -4,8 +4,8 @@ ghost use Rattle.std.specs.Prelude.{◌≡◌, List, [], ◌∷◌};
 ghost use Rattle.rtk_message.specs.declared.any_message.AnyMessage.{AnyMessage};
 ghost use Rattle.rtk_message.specs.declared.msm_kind.MsmKind.TheVariants.{Msm4, Msm5, Msm6, Msm7};
 ghost use Rattle.rtk_summary.specs.Proposal.{gives_value, times_with_value, entries_with, better_of, proposed};
-ghost use Rattle.rtk_summary.specs.Steps.Standing.{epochs_so_far, StandsForCodes, StandsForMsm, StandForMsm, part_of, epochs_held};
-ghost use Rattle.rtk_summary.specs.Tracing.{times_of_week, entries_of};
+ghost use Rattle.rtk_summary.specs.Steps.Standing.{epochs_so_far, StandsForCodes, StandsForMsm, StandForMsm, msm_part, epochs_held};
+ghost use Rattle.rtk_summary.specs.Tracing.{times_of_week, entries_of_message};
 
 use crate::counting::count_if;
 use crate::epochs::Epochs;
@@ -17,7 +17,7 @@ use rtk_obs::CellEntry;
 #[derive(Clone, Copy)]
 pub(crate) struct MsmPart {
     pub(crate) messages: u64,
-    /// Those with a value.
+    /// The epochs of the messages with a value.
     pub(crate) epochs: Epochs,
     /// The codes with a value in the messages that `convert` takes with this MSM, 1004 among them.
     pub(crate) codes: Codes,
@@ -34,13 +34,13 @@ pub(crate) struct MsmParts {
 
 // The message is of this MSM, and one of its cells has a value.
 fn gives_value(kind: MsmKind, message: &AnyMessage, entries: &[CellEntry]) -> bool
-    requires { entries.now ≡ entries_of message.now }
+    requires { entries.now ≡ entries_of_message message.now }
     ensures { result ≡ gives_value kind message.now }
 {
     message.number() == kind.number() && have_value(entries)
 }
 
-// The time of week of a message, if it has one.
+// Notes the time of week of a message, if it has one.
 fn note_time_of(epochs: &mut Epochs, message: &AnyMessage)
     ensures { (ms : List AnyMessage) → epochs.old ≡ epochs_so_far (times_of_week ms)
         → epochs.new ≡ epochs_so_far (times_of_week (message.now ∷ ms)) }
@@ -50,8 +50,9 @@ fn note_time_of(epochs: &mut Epochs, message: &AnyMessage)
     }
 }
 
+// Notes the time of a message of this MSM, if it has a value.
 fn note_epoch(epochs: &mut Epochs, kind: MsmKind, message: &AnyMessage, entries: &[CellEntry])
-    requires { entries.now ≡ entries_of message.now }
+    requires { entries.now ≡ entries_of_message message.now }
     ensures { (ms : List AnyMessage) → epochs.old ≡ epochs_so_far (times_with_value kind ms)
         → epochs.new ≡ epochs_so_far (times_with_value kind (message.now ∷ ms)) }
 {
@@ -60,8 +61,9 @@ fn note_epoch(epochs: &mut Epochs, kind: MsmKind, message: &AnyMessage, entries:
     }
 }
 
+// Joins the codes of a message that `convert` takes with this MSM.
 fn join_codes(codes: &mut Codes, kind: MsmKind, message: &AnyMessage, more: &Codes)
-    requires { StandsForCodes more.now (entries_of message.now) }
+    requires { StandsForCodes more.now (entries_of_message message.now) }
     ensures { (ms : List AnyMessage) → StandsForCodes codes.old (entries_with kind ms)
         → StandsForCodes codes.new (entries_with kind (message.now ∷ ms)) }
 {
@@ -82,10 +84,16 @@ impl MsmPart {
         }
     }
 
-    // A message more of the station, with its cells and their codes; the part is that of this MSM.
-    fn add_message(&mut self, kind: MsmKind, message: &AnyMessage, entries: &[CellEntry], codes: &Codes)
-        requires entries { entries.now ≡ entries_of message.now }
-        requires codes { StandsForCodes codes.now (entries_of message.now) }
+    // Adds a message of the station, with its cells and their codes, to the part of this MSM.
+    fn add_message(
+        &mut self,
+        kind: MsmKind,
+        message: &AnyMessage,
+        entries: &[CellEntry],
+        codes: &Codes,
+    )
+        requires entries { entries.now ≡ entries_of_message message.now }
+        requires codes { StandsForCodes codes.now (entries_of_message message.now) }
         ensures { (ms : List AnyMessage) → StandsForMsm kind self.old ms → StandsForMsm kind self.new (message.now ∷ ms) }
     {
         self.messages = count_if(self.messages, message.number() == kind.number());
@@ -107,21 +115,25 @@ impl MsmParts {
         }
     }
 
-    /// A message more of the station, with its cells.
+    /// Adds a message of the station, with its cells.
     pub(crate) fn add_message(&mut self, message: &AnyMessage, entries: &[CellEntry])
-        requires { entries.now ≡ entries_of message.now }
+        requires { entries.now ≡ entries_of_message message.now }
         ensures { (ms : List AnyMessage) → StandForMsm self.old ms → StandForMsm self.new (message.now ∷ ms) }
     {
         let codes = Codes::of(entries);
-        self.msm4.add_message(MsmKind::Msm4, message, entries, &codes);
-        self.msm5.add_message(MsmKind::Msm5, message, entries, &codes);
-        self.msm6.add_message(MsmKind::Msm6, message, entries, &codes);
-        self.msm7.add_message(MsmKind::Msm7, message, entries, &codes);
+        self.msm4
+            .add_message(MsmKind::Msm4, message, entries, &codes);
+        self.msm5
+            .add_message(MsmKind::Msm5, message, entries, &codes);
+        self.msm6
+            .add_message(MsmKind::Msm6, message, entries, &codes);
+        self.msm7
+            .add_message(MsmKind::Msm7, message, entries, &codes);
     }
 
     /// What there is of an MSM.
     pub(crate) fn part(&self, kind: MsmKind) -> &MsmPart
-        ensures { result.now ≡ part_of self.now kind }
+        ensures { result.now ≡ msm_part self.now kind }
     {
         match kind {
             MsmKind::Msm4 => &self.msm4,

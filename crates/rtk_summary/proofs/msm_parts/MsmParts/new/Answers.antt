@@ -1,5 +1,5 @@
 use Rattle.rtk_message.specs.declared.msm_kind.MsmKind.TheVariants.{Msm4, Msm5, Msm6, Msm7}
-use Rattle.rtk_summary.proofs.msm.MsmParts.new.Goals as goal
+use Rattle.rtk_summary.proofs.msm_parts.MsmParts.new.Goals as goal
 
 pub returns : goal.returns
 returns c = record {

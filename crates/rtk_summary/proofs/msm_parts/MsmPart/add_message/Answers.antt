@@ -5,7 +5,7 @@ use Rattle.rtk_summary.specs.Counting.{shown_count}
 use Rattle.rtk_summary.specs.Steps.Standing.{one_if}
 use Rattle.rtk_summary.specs.Tracing.{is_numbered}
 use Rattle.rtk_summary.proofs.MsmLemmas.{counted}
-use Rattle.rtk_summary.proofs.msm.MsmPart.add_message.Goals as goal
+use Rattle.rtk_summary.proofs.msm_parts.MsmPart.add_message.Goals as goal
 
 pub returns : goal.returns
 returns c = λ ms stands.

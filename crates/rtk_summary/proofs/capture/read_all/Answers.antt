@@ -6,7 +6,7 @@ use Rattle.rtk_summary.specs.Counting.{shown_count}
 use Rattle.rtk_summary.specs.Steps.Standing.{CountsFrames}
 use Rattle.rtk_summary.proofs.FreshLemmas.{as-many}
 use Rattle.rtk_summary.proofs.ReadLemmas.{read-nothing, read-piece, read-end, count-rises, refilled, length-first}
-use Rattle.rtk_summary.proofs.reading.read_all.Goals as goal
+use Rattle.rtk_summary.proofs.capture.read_all.Goals as goal
 
 pub reads-init : goal.reads-init
 reads-init g c = record {

@@ -1,7 +1,7 @@
 use Rattle.std.proofs.Common.{List, ℕ, refl, sym, subst, ◌∙◌, arith}
 use Rattle.rtk_summary.specs.Steps.Standing.{CountsFrames}
-use Rattle.rtk_summary.proofs.FrameLemmas.{takes-first, finds-next}
-use Rattle.rtk_summary.proofs.reading.count_frames.Goals as goal
+use Rattle.rtk_summary.proofs.FrameLemmas.{counts-first, finds-next}
+use Rattle.rtk_summary.proofs.capture.count_frames.Goals as goal
 
 pub frames-init : goal.frames-init
 frames-init c = record { within = omega arith; is_open = c.requires; waiting = refl; taken = λ s all. all }
@@ -17,5 +17,5 @@ frames-preserved c =
       is_open = holds.0;
       waiting = i.waiting ∙ n.waiting;
       taken = λ s rest. i.taken s (subst (λ (ps : List (List ℕ)). CountsFrames c.frames.summary ps s) (sym n.first)
-          (takes-first c.frames.summary c.count_frame.new.self s c.in-Found.payload.now _ c.count_frame.ensures rest));
+          (counts-first c.frames.summary c.count_frame.new.self s c.in-Found.payload.now _ c.count_frame.ensures rest));
     }

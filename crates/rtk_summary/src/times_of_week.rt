@@ -33,7 +33,7 @@ impl Times {
         }
     }
 
-    /// A time more.
+    /// The next message has this time.
     pub(crate) fn note_time(&mut self, time: u32)
         ensures { (ts : List ℕ) → self.old ≡ times_of ts → self.new ≡ times_of (time ∷ ts) }
     {

@@ -1,5 +1,5 @@
 use Rattle.std.proofs.Common.{rules}
-use Rattle.rtk_summary.proofs.reading.summarize.Goals as goal
+use Rattle.rtk_summary.proofs.capture.summarize.Goals as goal
 
 pub returns-then-is_err-clause-read_failed : goal.returns-then-is_err-clause-read_failed
 returns-then-is_err-clause-read_failed g c = search rules depth 5 fits 300
