@@ -12,7 +12,7 @@ use rtk_rinex::Table;
 use std::alloc::{AllocError, Global};
 
 /// The picture of a table in characters: a heading, and a row for each satellite, with a character for
-/// each column of time. Rows are at most so many characters wide.
+/// each bin of time. Rows are at most so many characters wide.
 pub fn chart_text(alloc: Global, table: &Table<'_>, width: usize) -> Result<Vec<u8>, AllocError>
     requires { IsInRange 40 400 width }
     // It gives up only if memory is refused: row chart_text of tests/system/calls.
@@ -33,7 +33,7 @@ pub fn chart_text(alloc: Global, table: &Table<'_>, width: usize) -> Result<Vec<
 }
 
 /// The picture of a table in SVG: a band for each satellite, and in it a row for slips, for half
-/// cycles, for each code and for the least strength, in 1440 columns of time at most.
+/// cycles, for each code and for the least strength, in 1440 bins of time at most.
 pub fn chart_svg(alloc: Global, table: &Table<'_>) -> Result<Vec<u8>, AllocError>
     // It gives up only if memory is refused: row chart_svg of tests/system/calls.
     ensures { IfOk result (λ svg. ShowsTableInSvg table.now.text svg.items) }

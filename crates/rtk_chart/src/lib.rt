@@ -1,5 +1,6 @@
 //! A picture of an observation file: its satellites in bands along its time, with each slip, half
-//! cycle, missing phase and missing epoch.
+//! cycle, missing phase and missing epoch. Its time is divided into bins, and each bin is drawn as a
+//! column.
 //!
 //! Its tests: tests/values/src/chart.rt.in and chart/.
 //!
@@ -31,9 +32,9 @@
 
 #![tactic(auto)]
 
-mod cell;
+mod tracking;
 mod chart;
-mod column;
+mod time_bin;
 mod grid;
 mod laws;
 mod layer;

@@ -1,7 +1,7 @@
 //! The records of a table, gone over from the first to the last.
 //!
-//! They are gone over twice: first for their number, steps and slips, which give the columns, and
-//! then each record is put into its column.
+//! They are gone over twice: first for their number, steps and slips, which give the bins, and
+//! then each record is put into its bin.
 
 ghost use Rattle.std.specs.Prelude.{◌≡◌, length, IfOk};
 ghost use Rattle.rtk_rinex.specs.Table.{WellFormedTable, IsWellFormedTable, table_text};
@@ -30,7 +30,7 @@ pub(crate) fn look_at(alloc: Global, table: &Table<'_>, first: GpsMs) -> Result<
     Ok(survey)
 }
 
-/// The columns of a picture of all records.
+/// The bins of a picture of all records.
 pub(crate) fn fill(
     alloc: Global,
     table: &Table<'_>,
@@ -38,8 +38,8 @@ pub(crate) fn fill(
     first: GpsMs,
 ) -> Result<Grid, AllocError>
     requires { IsScale scale.now }
-    ensures columns { IfOk result (λ grid. length grid.columns.items ≡ scale.now.columns) }
-    ensures gaps { IfOk result (λ grid. length grid.gaps.items ≡ scale.now.columns) }
+    ensures bins { IfOk result (λ grid. length grid.bins.items ≡ scale.now.bins) }
+    ensures gaps { IfOk result (λ grid. length grid.gaps.items ≡ scale.now.bins) }
     ensures grid { IfOk result (λ grid. (t : WellFormedTable) → IsWellFormedTable t → table.now.text ≡ table_text t
         → StandsForGrid grid scale.now (newest_first t.epochs)) }
 {

@@ -71,7 +71,7 @@ impl Steps {
         }
     }
 
-    /// A step more.
+    /// Counts one more step.
     pub(crate) fn add_step(&mut self, step: u64) -> Result<(), AllocError>
         ensures { OnOk result ((steps : List ℕ) → StandsForSteps self.old steps → StandsForSteps self.new (step ∷ steps)) }
     {

@@ -33,7 +33,7 @@ impl Survey {
         }
     }
 
-    /// A record more.
+    /// Counts one more record.
     pub(crate) fn count_record(&mut self, epoch: &EpochTable) -> Result<(), AllocError>
         ensures { OnOk result ((es : List EpochTableView) → StandsForSurvey self.old es → StandsForSurvey self.new (epoch.now ∷ es)) }
     {

@@ -55,16 +55,16 @@ pub(crate) fn tick_step(least: u64) -> u64
     listed_step(least).unwrap_or(days)
 }
 
-/// The moment of the tick in a column, if one is there.
-pub(crate) fn tick_at(scale: &Scale, step: u64, column: u64) -> Option<u64>
+/// The moment of the tick in a bin, if one is there.
+pub(crate) fn tick_at(scale: &Scale, step: u64, bin: u64) -> Option<u64>
     requires good { IsScale scale.now }
     requires step { 0 < step }
-    requires within { column < scale.now.columns }
-    ensures value { result ≡ tick_at scale.now step column }
+    requires within { bin < scale.now.bins }
+    ensures value { result ≡ tick_at scale.now step bin }
     ensures moment { IfSome result IsMoment }
 {
-    let start = scale.column_start(column);
-    let whole = (start + scale.column_ms - 1).min(scale.last) / step * step;
+    let start = scale.bin_start(bin);
+    let whole = (start + scale.bin_ms - 1).min(scale.last) / step * step;
     if start <= whole { Some(whole) } else { None }
 }
 

@@ -5,7 +5,7 @@ use Rattle.std.specs.Ordering.{nat_cmp}
 use Rattle.rtk_rinex.specs.Record.{EpochTableView}
 use Rattle.rtk_chart.specs.Epochs.{capped, newest_moment, slips_in}
 use Rattle.rtk_chart.specs.Interval.{steps_in, times_of_step, IsMostFrequent, missing_in}
-use Rattle.rtk_chart.specs.Grid.{columns_of, gaps_of}
+use Rattle.rtk_chart.specs.Grid.{bins_of, gaps_of}
 use Rattle.rtk_chart.specs.declared.steps.Frequent.{Frequent}
 use Rattle.rtk_chart.specs.declared.steps.Steps.{Steps}
 use Rattle.rtk_chart.specs.declared.survey.Survey.{Survey}
@@ -32,7 +32,7 @@ pub record StandsForSurvey (s : Survey) (es : List EpochTableView) : Type 0 wher
   pub steps : StandsForSteps s.steps (steps_in es)
 
 pub record StandsForGrid (g : Grid) (s : Scale) (es : List EpochTableView) : Type 0 where
-  pub columns : g.columns.items ≡ columns_of s es
+  pub bins : g.bins.items ≡ bins_of s es
   pub gaps : g.gaps.items ≡ gaps_of s es
   pub missing : g.missing ≡ capped (missing_in s.unit es)
   pub last : g.last ≡ newest_moment es

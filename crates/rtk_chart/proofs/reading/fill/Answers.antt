@@ -5,14 +5,14 @@ use Rattle.rtk_chart.proofs.reading.fill.Goals as goal
 
 pub records-init : goal.records-init
 records-init c = record {
-  columns = c.in_ok-grid.ensures.columns;
+  bins = c.in_ok-grid.ensures.bins;
   gaps = c.in_ok-grid.ensures.gaps;
   grid = λ t is text. ([], t.epochs, (c.records-records.ensures.records t is text).1, refl, c.in_ok-grid.ensures.grid);
 }
 
 pub records-preserved : goal.records-preserved
 records-preserved c = record {
-  columns = c.place_record.ensures.columns ∙ c.records.invariant.columns;
+  bins = c.place_record.ensures.bins ∙ c.records.invariant.bins;
   gaps = c.place_record.ensures.gaps ∙ c.records.invariant.gaps;
   grid = λ t is text.
       come-more (λ grid es. StandsForGrid grid c.args.scale.now es) c.records.records c.next.new.self c.records.grid c.place_record.new.self t.epochs c.in-Some._record.now c.next.new.epoch

@@ -6,8 +6,8 @@ use Rattle.rtk_chart.proofs.reading.fill.Given as goal
 
 abbrev pub invariant-records : goal.invariant-records
 invariant-records l = record {
-  columns : length l.grid.columns.items ≡ l.scale.columns;
-  gaps : length l.grid.gaps.items ≡ l.scale.columns;
+  bins : length l.grid.bins.items ≡ l.scale.bins;
+  gaps : length l.grid.gaps.items ≡ l.scale.bins;
   grid : (t : WellFormedTable) → IsWellFormedTable t → l.table.text ≡ table_text t → HasCome (λ grid es. StandsForGrid grid l.scale es) l.records l.grid t.epochs;
 }
 

@@ -10,7 +10,7 @@ returns-clause-grid c = λ es stands.
     let e = c.args.epoch.now in
     let t = c.count_missing.ensures in
     record {
-      columns = c.note_in_column.ensures.noted e es c.rows.ensures.value (c.ms.ensures.value ∙ c.time-time.ensures) (ap (λ v. v.items) t.columns ∙ stands.columns);
+      bins = c.note_in_bin.ensures.noted e es c.rows.ensures.value (c.ms.ensures.value ∙ c.time-time.ensures) (ap (λ v. v.items) t.bins ∙ stands.bins);
       gaps = gaps-more s e es c.args.self.now.last c.time-time.result c.count_missing.new.self.gaps.items stands.last c.time-time.ensures
           (t.gaps (has_missing s es) (gaps-are s es c.args.self.now.gaps.items stands.gaps));
       missing = missing-more s.unit e es c.args.self.now.last c.time-time.result c.count_missing.new.self.missing stands.last c.time-time.ensures
