@@ -4,7 +4,7 @@ ghost use Rattle.std.specs.Prelude.{◌≡◌, IfOk};
 ghost use Rattle.std.specs.Int.{IsInRange};
 ghost use Rattle.rtk_chart.specs.Chart.{ShowsTable, ShowsTableInSvg};
 
-use crate::reading::{fill, look_at};
+use crate::passes::{fill_grid, survey_records};
 use crate::scale::Scale;
 use crate::svg_picture::{svg_of_none, svg_picture};
 use crate::text_picture::{text_of_none, text_picture};
@@ -19,7 +19,7 @@ pub fn chart_text(alloc: Global, table: &Table<'_>, width: usize) -> Result<Vec<
     ensures { IfOk result (λ text. ShowsTable table.now.text width text.items) }
 {
     let heading = table.heading();
-    let survey = look_at(alloc, table, heading.first)?;
+    let survey = survey_records(alloc, table, heading.first)?;
     let marker = heading.head.marker();
     let Some(last) = survey.last else {
         let text = text_of_none(alloc, marker)?;
@@ -27,7 +27,7 @@ pub fn chart_text(alloc: Global, table: &Table<'_>, width: usize) -> Result<Vec<
     };
     let interval = survey.steps.interval();
     let scale = Scale::new(heading.first, last, interval, width as u64 - 5);
-    let grid = fill(alloc, table, &scale, heading.first)?;
+    let grid = fill_grid(alloc, table, &scale, heading.first)?;
     let text = text_picture(alloc, marker, &scale, &survey, &grid)?;
     Ok(text)
 }
@@ -39,7 +39,7 @@ pub fn chart_svg(alloc: Global, table: &Table<'_>) -> Result<Vec<u8>, AllocError
     ensures { IfOk result (λ svg. ShowsTableInSvg table.now.text svg.items) }
 {
     let heading = table.heading();
-    let survey = look_at(alloc, table, heading.first)?;
+    let survey = survey_records(alloc, table, heading.first)?;
     let marker = heading.head.marker();
     let codes = heading.head.codes();
     let Some(last) = survey.last else {
@@ -48,7 +48,7 @@ pub fn chart_svg(alloc: Global, table: &Table<'_>) -> Result<Vec<u8>, AllocError
     };
     let interval = survey.steps.interval();
     let scale = Scale::new(heading.first, last, interval, 1440);
-    let grid = fill(alloc, table, &scale, heading.first)?;
+    let grid = fill_grid(alloc, table, &scale, heading.first)?;
     let svg = svg_picture(alloc, marker, codes, &scale, &survey, &grid)?;
     Ok(svg)
 }

@@ -10,8 +10,8 @@ ghost use Rattle.rtk_chart.specs.Scale.{IsScale};
 ghost use Rattle.rtk_chart.specs.Grid.{bins_of, has_missing_before, has_missing};
 ghost use Rattle.rtk_chart.specs.Steps.Standing.{StandsForGrid};
 
-use crate::time_bin::TimeBin;
 use crate::scale::Scale;
+use crate::time_bin::TimeBin;
 use rtk_obs::GpsMs;
 use rtk_rinex::{EpochTable, SatelliteRow};
 use std::alloc::{AllocError, Global};

@@ -4,8 +4,8 @@ ghost use Rattle.std.specs.Prelude.{◌≡◌, ◌<◌, ◌++◌, Bool, map, IfO
 ghost use Rattle.rtk_chart.specs.TextPicture.{tracking_at};
 ghost use Rattle.rtk_chart.specs.Layers.{shows, coverage_at, is_level};
 
-use crate::tracking::{Tracking, Coverage};
 use crate::time_bin::TimeBin;
+use crate::tracking::{Coverage, Tracking};
 use std::alloc::{AllocError, Global};
 
 /// What of a satellite's tracking is drawn.

@@ -32,14 +32,12 @@
 
 #![tactic(auto)]
 
-mod tracking;
 mod chart;
-mod time_bin;
 mod grid;
 mod laws;
 mod layer;
 mod observations;
-mod reading;
+mod passes;
 mod scale;
 mod steps;
 mod survey;
@@ -50,7 +48,9 @@ mod svg_picture;
 mod svg_text;
 mod text_picture;
 mod ticks;
-mod times;
+mod time_bin;
+mod time_text;
+mod tracking;
 
 pub use chart::{chart_svg, chart_text};
 pub use laws::{

@@ -6,13 +6,13 @@ ghost use Rattle.rtk_rinex.specs.Reading.{IsMoment};
 ghost use Rattle.rtk_chart.specs.Scale.{IsScale};
 ghost use Rattle.rtk_chart.specs.SvgPicture.{satellite_label, band_title, lock_layers, band_text, drawn_width, band_if_drawn, bands_text, gaps_band, tick_text, svg_tick_step, ticks_text};
 
-use crate::time_bin::TimeBin;
 use crate::layer::{Layer, flags};
 use crate::scale::Scale;
 use crate::svg_layers::{count_of, put_codes, put_levels, put_strokes_path};
 use crate::svg_text::put_between;
 use crate::text_picture::{drawn_before, is_drawn};
 use crate::ticks::{put_tick_label, tick_at, tick_step};
+use crate::time_bin::TimeBin;
 use rtk_obs::Code;
 use std::alloc::{AllocError, Global};
 
@@ -80,14 +80,7 @@ fn put_band(
     put_between(text, b"<g transform='translate(90 ", top, b")'>\n")?;
     put_lock_layers(alloc, text, width, bins, place)?;
     put_codes(alloc, text, width, bins, place, codes)?;
-    put_levels(
-        alloc,
-        text,
-        width,
-        bins,
-        place,
-        8 * codes.len() as u64 + 22,
-    )?;
+    put_levels(alloc, text, width, bins, place, 8 * codes.len() as u64 + 22)?;
     text.extend_from_slice(b"</g>\n")?;
     Ok(())
 }

@@ -3,10 +3,10 @@
 ghost use Rattle.std.specs.Prelude.{◌≡◌, ◌≤◌, ◌<◌, ◌*◌, ◌++◌, length, IfOk, OnOk};
 ghost use Rattle.rtk_chart.specs.SvgPicture.{layer_flags, path_start, runs_layer, strokes_path, code_layers, codes_layers, level_layers, count_of_flags};
 
-use crate::time_bin::TimeBin;
 use crate::layer::{Layer, flags};
 use crate::svg_path::{put_runs, put_strokes};
 use crate::svg_text::put_between;
+use crate::time_bin::TimeBin;
 use rtk_obs::Code;
 use std::alloc::{AllocError, Global};
 

@@ -12,7 +12,7 @@ use crate::survey::Survey;
 use crate::svg_bands::{put_bands, put_gaps, put_ticks};
 use crate::svg_text::{put_between, put_xml};
 use crate::text_picture::drawn_before;
-use crate::times::{put_moment, put_seconds};
+use crate::time_text::{put_moment, put_seconds};
 use rtk_obs::{Code, GpsMs};
 use std::alloc::{AllocError, Global};
 

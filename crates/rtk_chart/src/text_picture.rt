@@ -9,13 +9,13 @@ ghost use Rattle.rtk_chart.specs.Scale.{IsScale};
 ghost use Rattle.rtk_chart.specs.Ticks.{tick_at};
 ghost use Rattle.rtk_chart.specs.TextPicture.{tracking_at, is_partial, is_tracked, strength_mark, phase_mark, character_of, is_drawn, row_head, satellite_row, row_if_drawn, satellite_rows, gap_mark, gap_row, axis_mark, axis_row, text_tick_step, has_label, is_covered, label_text, label_part, label_row, named_count_line, moment_line, time_rows, number_lines, text_heading, drawn_before, satellites_in, text_picture, text_of_none};
 
-use crate::tracking::Tracking;
-use crate::time_bin::TimeBin;
 use crate::grid::Grid;
 use crate::scale::Scale;
 use crate::survey::Survey;
 use crate::ticks::{put_tick_label, tick_at, tick_step};
-use crate::times::{put_interval, put_moment, put_seconds};
+use crate::time_bin::TimeBin;
+use crate::time_text::{put_interval, put_moment, put_seconds};
+use crate::tracking::Tracking;
 use rtk_message::put_named;
 use rtk_obs::GpsMs;
 use std::alloc::{AllocError, Global};
@@ -24,7 +24,10 @@ use std::alloc::{AllocError, Global};
 fn is_partial(tracking: &Tracking) -> bool
     ensures { result ≡ is_partial tracking.now }
 {
-    tracking.phases.iter().any(|coverage| coverage.some && coverage.lacks)
+    tracking
+        .phases
+        .iter()
+        .any(|coverage| coverage.some && coverage.lacks)
 }
 
 // Some phase stands in some epochs of a bin.
@@ -197,12 +200,7 @@ fn put_label_text(text: &mut Vec<u8>, step: u64, tick: Option<u64>) -> Result<()
     }
 }
 
-fn put_label_part(
-    text: &mut Vec<u8>,
-    scale: &Scale,
-    step: u64,
-    bin: u64,
-) -> Result<(), AllocError>
+fn put_label_part(text: &mut Vec<u8>, scale: &Scale, step: u64, bin: u64) -> Result<(), AllocError>
     requires good { IsScale scale.now }
     requires step { 0 < step }
     requires within { bin < scale.now.bins }
@@ -277,11 +275,7 @@ fn put_numbers(
     put_seconds(text, scale.bin_ms)?;
     text.push(b'\n')?;
     put_line(text, b"records ", survey.records)?;
-    put_line(
-        text,
-        b"satellites ",
-        drawn_before(grid.bins.as_slice(), 32),
-    )?;
+    put_line(text, b"satellites ", drawn_before(grid.bins.as_slice(), 32))?;
     put_line(text, b"slips ", survey.slips)?;
     put_line(text, b"missing ", grid.missing)?;
     Ok(())

@@ -7,7 +7,7 @@ ghost use Rattle.rtk_chart.specs.Scale.{IsScale};
 ghost use Rattle.rtk_chart.specs.Ticks.{tick_steps, tick_step, tick_at, tick_label};
 
 use crate::scale::Scale;
-use crate::times::{put_clock, put_date, reading};
+use crate::time_text::{put_clock, put_date, reading};
 use rtk_obs::GpsMs;
 use std::alloc::AllocError;
 

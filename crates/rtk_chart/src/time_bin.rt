@@ -4,8 +4,8 @@ ghost use Rattle.std.specs.Prelude.{◌≡◌, List, [], ◌∷◌};
 ghost use Rattle.rtk_rinex.specs.Record.{EpochTableView};
 ghost use Rattle.rtk_chart.specs.Grid.{trackings_of, bin_of};
 
-use crate::tracking::Tracking;
 use crate::observations::observed_in;
+use crate::tracking::Tracking;
 use rtk_rinex::SatelliteRow;
 
 /// The tracking of the satellites 1 to 32.

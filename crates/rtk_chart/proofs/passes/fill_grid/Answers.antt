@@ -1,7 +1,7 @@
 use Rattle.std.proofs.Common.{[], refl, ◌∙◌}
 use Rattle.rtk_chart.specs.Steps.Standing.{StandsForGrid}
 use Rattle.rtk_chart.proofs.RecordLemmas.{come-more, come-all}
-use Rattle.rtk_chart.proofs.reading.fill.Goals as goal
+use Rattle.rtk_chart.proofs.passes.fill_grid.Goals as goal
 
 pub records-init : goal.records-init
 records-init c = record {

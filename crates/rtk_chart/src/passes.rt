@@ -1,7 +1,7 @@
-//! The records of a table, gone over from the first to the last.
+//! Two passes over the records of a table, from the first to the last.
 //!
-//! They are gone over twice: first for their number, steps and slips, which give the bins, and
-//! then each record is put into its bin.
+//! The first pass finds their number, steps and slips, which give the bins. The second one notes each
+//! record in its bin.
 
 ghost use Rattle.std.specs.Prelude.{◌≡◌, length, IfOk};
 ghost use Rattle.rtk_rinex.specs.Table.{WellFormedTable, IsWellFormedTable, table_text};
@@ -16,8 +16,12 @@ use rtk_obs::GpsMs;
 use rtk_rinex::{EpochTable, Table};
 use std::alloc::{AllocError, Global};
 
-/// Looks at all records; the first moment is any that an epoch can have.
-pub(crate) fn look_at(alloc: Global, table: &Table<'_>, first: GpsMs) -> Result<Survey, AllocError>
+/// Surveys all records; the first moment is any that an epoch can have.
+pub(crate) fn survey_records(
+    alloc: Global,
+    table: &Table<'_>,
+    first: GpsMs,
+) -> Result<Survey, AllocError>
     ensures { IfOk result (λ survey. (t : WellFormedTable) → IsWellFormedTable t → table.now.text ≡ table_text t
         → StandsForSurvey survey (newest_first t.epochs)) }
 {
@@ -30,8 +34,8 @@ pub(crate) fn look_at(alloc: Global, table: &Table<'_>, first: GpsMs) -> Result<
     Ok(survey)
 }
 
-/// The bins of a picture of all records.
-pub(crate) fn fill(
+/// The grid of all records.
+pub(crate) fn fill_grid(
     alloc: Global,
     table: &Table<'_>,
     scale: &Scale,

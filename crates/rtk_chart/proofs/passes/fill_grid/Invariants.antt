@@ -2,7 +2,7 @@ use Rattle.std.proofs.Common.{◌≡◌, length}
 use Rattle.rtk_rinex.specs.Table.{WellFormedTable, IsWellFormedTable, table_text}
 use Rattle.rtk_chart.specs.Steps.Standing.{StandsForGrid}
 use Rattle.rtk_chart.proofs.RecordLemmas.{HasCome}
-use Rattle.rtk_chart.proofs.reading.fill.Given as goal
+use Rattle.rtk_chart.proofs.passes.fill_grid.Given as goal
 
 abbrev pub invariant-records : goal.invariant-records
 invariant-records l = record {

@@ -1,7 +1,7 @@
 use Rattle.std.proofs.Common.{[], refl}
 use Rattle.rtk_chart.specs.Steps.Standing.{StandsForSurvey}
 use Rattle.rtk_chart.proofs.RecordLemmas.{come-more, come-all}
-use Rattle.rtk_chart.proofs.reading.look_at.Goals as goal
+use Rattle.rtk_chart.proofs.passes.survey_records.Goals as goal
 
 pub records-init : goal.records-init
 records-init c = λ t is text. ([], t.epochs, (c.records-records.ensures.records t is text).1, refl, c.new-survey.ensures)
