@@ -12,6 +12,7 @@ use Rattle.rtk_rinex.specs.declared.epoch_table.SatelliteRow.{SatelliteRow}
 use Rattle.rtk_chart.specs.Epochs.{capped, newest_moment, shows_phase, observed_in, observed_by}
 use Rattle.rtk_chart.specs.Interval.{missing_before, missing_in}
 use Rattle.rtk_chart.specs.Grid.{coverage_of, tracking_in, bin_of, epochs_of_bin, bins_of, has_missing_before, has_missing, gaps_of}
+use Rattle.rtk_chart.specs.Steps.Standing.{AddsMarks}
 use Rattle.rtk_chart.specs.declared.tracking.Coverage.{Coverage}
 use Rattle.rtk_chart.specs.declared.tracking.Tracking.{Tracking}
 use Rattle.rtk_chart.specs.declared.scale.Scale.{Scale}
@@ -66,30 +67,30 @@ seen-same (x ∷ satellites) (suc place) d e same = seen-same satellites place d
 
 -- ---- missing epochs
 
--- the marks of the epochs that are missing before the one at t, beside those before
-pub gaps-marked : (s : Scale) (before t n from to : ℕ) (seen : ℕ → Bool) (old new : List Bool) → n ≡ missing_before s.unit (Some before) t → 0 < n
+-- the bins from the first epoch that is missing before the one at t to the last one get a mark
+pub missing-marked : (s : Scale) (before t n from to : ℕ) (old new : List Bool) → n ≡ missing_before s.unit (Some before) t → 0 < n
     → from ≡ bin_at s (before + s.unit) → to ≡ bin_at s (before + n * s.unit)
-    → old ≡ map seen (range_with_len 0 s.bins) → length new ≡ length old
-    → ((c : ℕ) → c < length old → get_or new c false ≡ ((leb from c && leb c to) || get_or old c false))
-    → new ≡ map (λ c. has_missing_before s (Some before) t c || seen c) (range_with_len 0 s.bins)
-gaps-marked s before t n from to seen old new many some first last are size marked =
-    let all : length old ≡ s.bins = ap (λ xs. length xs) are ∙ length-map-range_with_len seen 0 s.bins in
-    fill_by_all (λ c. has_missing_before s (Some before) t c || seen c) new s.bins false (size ∙ all) (λ k lt.
-    let inside : k < length old = omega arith in
-    let here : 0 + k ≡ k = omega arith in
-    let was : get_or old k false ≡ seen k = ap (λ xs. get_or xs k false) are ∙ get_or-map-range_with_len seen 0 s.bins k k false lt here in
-    marked k inside ∙ ap (λ (b : Bool). (leb from k && leb k to) || b) was
-    ∙ ap (λ (a : ℕ). (leb a k && leb k to) || seen k) first
-    ∙ ap (λ (b : ℕ). (leb (bin_at s (before + s.unit)) k && leb k b) || seen k) last
-    ∙ ap (λ (b : Bool). (b && leb (bin_at s (before + s.unit)) k && leb k (bin_at s (before + n * s.unit))) || seen k) (sym (lt-ltb 0 n some))
-    ∙ ap (λ (m : ℕ). (nat_lt 0 m && leb (bin_at s (before + s.unit)) k && leb k (bin_at s (before + m * s.unit))) || seen k) many)
+    → AddsMarks (λ c. nat_le from c && nat_le c to) old new → AddsMarks (has_missing_before s (Some before) t) old new
+missing-marked s before t n from to old new many some first last added = record {
+  size = added.size;
+  marked = λ k lt.
+      let was : Bool = get_or old k false in
+      added.marked k lt
+      ∙ ap (λ (a : ℕ). (nat_le a k && nat_le k to) || was) first
+      ∙ ap (λ (b : ℕ). (nat_le (bin_at s (before + s.unit)) k && nat_le k b) || was) last
+      ∙ ap (λ (b : Bool). (b && nat_le (bin_at s (before + s.unit)) k && nat_le k (bin_at s (before + n * s.unit))) || was) (sym (lt-ltb 0 n some))
+      ∙ ap (λ (m : ℕ). (nat_lt 0 m && nat_le (bin_at s (before + s.unit)) k && nat_le k (bin_at s (before + m * s.unit))) || was) many;
+}
 
--- without a missing epoch the marks are those before
-pub gaps-same : (s : Scale) (before t : ℕ) (seen : ℕ → Bool) (old : List Bool) → missing_before s.unit (Some before) t ≡ 0
-    → old ≡ map seen (range_with_len 0 s.bins)
-    → old ≡ map (λ c. has_missing_before s (Some before) t c || seen c) (range_with_len 0 s.bins)
-gaps-same s before t seen old none are =
-    are ∙ sym (ap (λ (n : ℕ). map (λ c. (nat_lt 0 n && nat_le (bin_at s (before + s.unit)) c && nat_le c (bin_at s (before + n * s.unit))) || seen c) (range_with_len 0 s.bins)) none)
+-- without a missing epoch no bin gets a mark
+pub none-marked : (s : Scale) (before t n : ℕ) (old : List Bool) → n ≡ missing_before s.unit (Some before) t → n ≤ 0
+    → AddsMarks (has_missing_before s (Some before) t) old old
+none-marked s before t n old many none = record {
+  size = refl;
+  marked = λ k lt.
+      let zero_many : 0 ≡ missing_before s.unit (Some before) t = omega (arith, many, none) in
+      ap (λ (m : ℕ). (nat_lt 0 m && nat_le (bin_at s (before + s.unit)) k && nat_le k (bin_at s (before + m * s.unit))) || get_or old k false) zero_many;
+}
 
 -- an epoch outside of all bins changes none
 pub bin-beyond : (s : Scale) (e : EpochTableView) (es : List EpochTableView) (bins : List TimeBin) (place : ℕ)
@@ -132,17 +133,19 @@ fresh-gaps s gaps are =
 
 -- ---- an epoch more
 
-pub gaps-more : (s : Scale) (e : EpochTableView) (es : List EpochTableView) (last : Option ℕ) (time : ℕ) (gaps : List Bool)
-    → last ≡ newest_moment es → time ≡ e.time → gaps ≡ map (λ c. has_missing_before s last time c || has_missing s es c) (range_with_len 0 s.bins)
-    → gaps ≡ gaps_of s (e ∷ es)
+pub gaps-more : (s : Scale) (e : EpochTableView) (es : List EpochTableView) (last : Option ℕ) (time : ℕ) (old new : List Bool)
+    → last ≡ newest_moment es → time ≡ e.time → old ≡ gaps_of s es → AddsMarks (has_missing_before s last time) old new
+    → new ≡ gaps_of s (e ∷ es)
 unfolding gaps_of
-gaps-more s e es last time gaps before at are =
-    are ∙ ap (λ (l : Option ℕ). map (λ c. has_missing_before s l time c || has_missing s es c) (range_with_len 0 s.bins)) before
-    ∙ ap (λ (t : ℕ). map (λ c. has_missing_before s (newest_moment es) t c || has_missing s es c) (range_with_len 0 s.bins)) at
-
-pub gaps-are : (s : Scale) (es : List EpochTableView) (gaps : List Bool) → gaps ≡ gaps_of s es → gaps ≡ map (has_missing s es) (range_with_len 0 s.bins)
-unfolding gaps_of
-gaps-are s es gaps are = are
+gaps-more s e es last time old new before at are added =
+    let all : length old ≡ s.bins = ap (λ xs. length xs) are ∙ length-map-range_with_len (has_missing s es) 0 s.bins in
+    fill_by_all (has_missing s (e ∷ es)) new s.bins false (added.size ∙ all) (λ k lt.
+    let inside : k < length old = omega arith in
+    let here : 0 + k ≡ k = omega arith in
+    let was : get_or old k false ≡ has_missing s es k = ap (λ xs. get_or xs k false) are ∙ get_or-map-range_with_len (has_missing s es) 0 s.bins k k false lt here in
+    added.marked k inside ∙ ap (λ (b : Bool). has_missing_before s last time k || b) was
+    ∙ ap (λ (l : Option ℕ). has_missing_before s l time k || has_missing s es k) before
+    ∙ ap (λ (t : ℕ). has_missing_before s (newest_moment es) t k || has_missing s es k) at)
 
 pub missing-more : (unit : ℕ) (e : EpochTableView) (es : List EpochTableView) (last : Option ℕ) (time missing : ℕ)
     → last ≡ newest_moment es → time ≡ e.time → missing ≡ capped (missing_in unit es + missing_before unit last time) → missing ≡ capped (missing_in unit (e ∷ es))

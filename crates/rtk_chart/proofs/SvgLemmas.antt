@@ -4,6 +4,7 @@ use Rattle.std.proofs.Math.Nat.{div-le_self, add-mul, mul-div-le}
 use Rattle.std.proofs.lemmas.List.{drop_more}
 use Rattle.std.proofs.lemmas.Nat.{mul-le, le-div}
 use Rattle.rtk_obs.specs.declared.code.Code.{Code}
+use Rattle.rtk_chart.specs.Scale.{longest_bin}
 use Rattle.rtk_chart.specs.SvgPath.{run_part, runs_from, stroke_part, strokes_from}
 use Rattle.rtk_chart.specs.SvgPicture.{code_layers, codes_layers}
 use Rattle.rtk_chart.specs.declared.time_bin.TimeBin.{TimeBin}
@@ -22,6 +23,15 @@ runs-more w i flags was d all mid after within so_far more =
     ∙ sym (append_assoc mid (run_part w (i * w) was b) (runs_from w (i * w + w) b rest))
     ∙ ap (λ (t : List ℕ). t ++ runs_from w (i * w + w) b rest) (sym more)
     ∙ ap (λ (x : ℕ). after ++ runs_from w x b rest) (next-place i w)
+
+-- a bin ends within the room of all
+pub ends-within : (i w n room : ℕ) → i < n → n * w ≤ room → i * w + w ≤ room
+ends-within i w n room within all =
+    let next : i + 1 ≤ n = omega arith in
+    let same : w ≤ w = omega arith in
+    let few = mul-le (i + 1) w n w next same in
+    let is = next-place i w in
+    omega (arith, few, is, all)
 
 pub strokes-more : (w i : ℕ) (flags : List Bool) (d : Bool) (all mid after : List ℕ) → i < length flags
     → all ≡ mid ++ strokes_from w (i * w) (drop i flags) → after ≡ mid ++ stroke_part w (i * w) (get_or flags i d)
@@ -46,21 +56,21 @@ codes-more w bins place i codes d all mid after within so_far more =
     ∙ ap (λ (t : List ℕ). t ++ codes_layers w bins place (i + 1) rest) (sym more)
 
 -- the step between ticks has its bound
-pub step-bound : (w length : ℕ) → 0 < length → length ≤ 7_636_031_999_998 → ((100 / w + 1) * length < 2 ^ 60) × (0 < (100 / w + 1) * length)
+pub step-bound : (w length : ℕ) → 0 < length → length ≤ longest_bin → ((100 / w + 1) * length ≤ 101 * longest_bin) × (0 < (100 / w + 1) * length)
 step-bound w length some few =
     let most = div-le_self 100 w in
     let one : 100 / w + 1 ≤ 101 = omega (arith, most) in
-    let all = mul-le (100 / w + 1) length 101 7_636_031_999_998 one few in
+    let all = mul-le (100 / w + 1) length 101 longest_bin one few in
     let once : 1 ≤ 100 / w + 1 = omega arith in
     let same : length ≤ length = omega arith in
     let least = mul-le 1 length (100 / w + 1) length once same in
-    (omega (arith, all), omega (arith, least, some))
+    (all, omega (arith, least, some))
 
 -- all bins have room
 pub bins-fit : (n : ℕ) → n * (1440 / n) ≤ 1440
 bins-fit n = mul-div-le 1440 n
 
--- and each has a unit
+-- each bin has a unit
 pub bin-some : (n : ℕ) → 0 < n → n ≤ 1440 → 0 < 1440 / n
 bin-some n some few =
     let room : 1 * n ≤ 1440 = omega arith in

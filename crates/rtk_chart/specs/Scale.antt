@@ -26,6 +26,10 @@ scale_of first last interval allowed =
     let bin_ms = bin_length span unit allowed in
     record { first = first; last = last; interval = interval; unit = unit; bin_ms = bin_ms; bins = span / bin_ms + 1 }
 
+-- the longest bin, in ms: as long as the longest span and the longest interval together
+abbrev pub longest_bin : ℕ
+longest_bin = 7_636_031_999_998
+
 -- formula
 -- what holds of each scale
 pub record IsScale (s : Scale) : Type 0 where
@@ -34,7 +38,7 @@ pub record IsScale (s : Scale) : Type 0 where
   pub unit : 0 < s.unit
   pub unit_bound : s.unit ≤ 3_818_015_999_999
   pub bin : 0 < s.bin_ms
-  pub bin_bound : s.bin_ms ≤ 7_636_031_999_998
+  pub bin_bound : s.bin_ms ≤ longest_bin
   pub bins : s.bins ≡ (s.last - s.first) / s.bin_ms + 1
   pub few : s.bins ≤ 1440
 

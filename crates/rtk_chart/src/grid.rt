@@ -1,14 +1,13 @@
 //! The bins of a picture with what their epochs call for.
 
-ghost use Rattle.std.specs.Prelude.{◌≡◌, ◌≤◌, ◌<◌, ◌+◌, ◌&&◌, ◌||◌, nat_le, ℕ, Option, None, Some, List, [], ◌∷◌, Bool, false, length, get_or, map, IfOk};
-ghost use Rattle.std.specs.List.{range_with_len};
+ghost use Rattle.std.specs.Prelude.{◌≡◌, ◌&&◌, nat_le, Some, List, [], ◌∷◌, length, IfOk};
 ghost use Rattle.rtk_rinex.specs.Reading.{IsMoment};
 ghost use Rattle.rtk_rinex.specs.Record.{EpochTableView};
-ghost use Rattle.rtk_chart.specs.Epochs.{capped};
-ghost use Rattle.rtk_chart.specs.Interval.{missing_before, missing_in};
+ghost use Rattle.rtk_chart.specs.Epochs.{newest_moment};
+ghost use Rattle.rtk_chart.specs.Interval.{missing_before};
 ghost use Rattle.rtk_chart.specs.Scale.{IsScale};
-ghost use Rattle.rtk_chart.specs.Grid.{bins_of, has_missing_before, has_missing};
-ghost use Rattle.rtk_chart.specs.Steps.Standing.{StandsForGrid};
+ghost use Rattle.rtk_chart.specs.Grid.{bins_of, has_missing_before};
+ghost use Rattle.rtk_chart.specs.Steps.Standing.{AddsMarks, StandsForMissing, StandsForGrid};
 
 use crate::scale::Scale;
 use crate::time_bin::TimeBin;
@@ -29,9 +28,7 @@ pub(crate) struct Grid {
 
 // Marks the bins from one to another, both with it.
 fn mark(gaps: &mut Vec<bool>, from: u64, to: u64)
-    ensures size { length gaps.new.items ≡ length gaps.old.items }
-    ensures marked { (c : ℕ) → c < length gaps.old.items
-        → get_or gaps.new.items c false ≡ ((nat_le from c && nat_le c to) || get_or gaps.old.items c false) }
+    ensures { AddsMarks (λ c. nat_le from c && nat_le c to) gaps.old.items gaps.new.items }
 {
     for bin in 0..gaps.len() {
         if from <= bin as u64 && bin as u64 <= to {
@@ -54,9 +51,7 @@ fn mark_missing(gaps: &mut Vec<bool>, scale: &Scale, before: u64, moment: u64, m
     requires before { IsMoment before }
     requires moment { IsMoment moment }
     requires missing { missing ≡ missing_before scale.now.unit (Some before) moment }
-    ensures size { length gaps.new.items ≡ length gaps.old.items }
-    ensures marked { (seen : ℕ → Bool) → gaps.old.items ≡ map seen (range_with_len 0 scale.now.bins)
-        → gaps.new.items ≡ map (λ c. has_missing_before scale.now (Some before) moment c || seen c) (range_with_len 0 scale.now.bins) }
+    ensures { AddsMarks (has_missing_before scale.now (Some before) moment) gaps.old.items gaps.new.items }
 {
     if missing > 0 {
         let from = scale.bin_at(before + scale.unit);
@@ -98,10 +93,8 @@ impl Grid {
         requires { IsScale scale.now }
         ensures bins { self.new.bins ≡ self.old.bins }
         ensures size { length self.new.gaps.items ≡ length self.old.gaps.items }
-        ensures gaps { (seen : ℕ → Bool) → self.old.gaps.items ≡ map seen (range_with_len 0 scale.now.bins)
-            → self.new.gaps.items ≡ map (λ c. has_missing_before scale.now self.old.last moment c || seen c) (range_with_len 0 scale.now.bins) }
-        ensures missing { (before : ℕ) → self.old.missing ≡ capped before
-            → self.new.missing ≡ capped (before + missing_before scale.now.unit self.old.last moment) }
+        ensures missing { (e : EpochTableView) (es : List EpochTableView) → moment ≡ e.time → self.old.last ≡ newest_moment es
+            → StandsForMissing self.old scale.now es → StandsForMissing self.new scale.now (e ∷ es) }
     {
         if let Some(last) = self.last {
             let missing = missing_between(scale, last.ms(), moment.ms());

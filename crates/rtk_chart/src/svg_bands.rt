@@ -1,10 +1,10 @@
 //! The bands of the satellites in an SVG picture, and what stands below them.
 
-ghost use Rattle.std.specs.Prelude.{◌≡◌, ◌≤◌, ◌<◌, ◌+◌, ◌*◌, ◌/◌, ◌^◌, ◌++◌, length, OnOk};
+ghost use Rattle.std.specs.Prelude.{◌≡◌, ◌≤◌, ◌<◌, ◌+◌, ◌*◌, ◌/◌, ◌++◌, length, OnOk};
 ghost use Rattle.std.specs.Option.{ForSome};
 ghost use Rattle.rtk_rinex.specs.Reading.{IsMoment};
-ghost use Rattle.rtk_chart.specs.Scale.{IsScale};
-ghost use Rattle.rtk_chart.specs.SvgPicture.{satellite_label, band_title, lock_layers, band_text, drawn_width, band_if_drawn, bands_text, gaps_band, tick_text, svg_tick_step, ticks_text};
+ghost use Rattle.rtk_chart.specs.Scale.{IsScale, longest_bin};
+ghost use Rattle.rtk_chart.specs.SvgPicture.{satellite_label, band_title, lock_layers, band_text, drawn_width, band_if_drawn, bands_text, gaps_band, tick_text, svg_tick_step, ticks_text, bands_end};
 
 use crate::layer::{Layer, flags};
 use crate::scale::Scale;
@@ -17,14 +17,14 @@ use rtk_obs::Code;
 use std::alloc::{AllocError, Global};
 
 fn put_label(text: &mut Vec<u8>, satellite: u8) -> Result<(), AllocError>
-    requires { satellite < 100 }
+    requires { satellite ≤ 32 }
     ensures { OnOk result (text.new.items ≡ text.old.items ++ satellite_label satellite) }
 {
     text.extend_from_slice(&[b'G', b'0' + satellite / 10, b'0' + satellite % 10])
 }
 
 fn put_title(text: &mut Vec<u8>, satellite: u8, slips: u64, halves: u64) -> Result<(), AllocError>
-    requires { satellite < 100 }
+    requires { satellite ≤ 32 }
     ensures { OnOk result (text.new.items ≡ text.old.items ++ band_title satellite slips halves) }
 {
     text.extend_from_slice(b"<title>")?;
@@ -153,7 +153,7 @@ fn put_tick(
     tick: Option<u64>,
 ) -> Result<(), AllocError>
     requires tick { ForSome tick IsMoment }
-    requires top { top ≤ 100_000 }
+    requires top { top ≤ bands_end 16 32 + 24 }
     ensures { OnOk result (text.new.items ≡ text.old.items ++ tick_text top step x tick) }
 {
     let Some(moment) = tick else {
@@ -172,10 +172,10 @@ fn put_tick(
 fn least_step(width: u64, bin_ms: u64) -> u64
     requires width { 0 < width }
     requires some { 0 < bin_ms }
-    requires bound { bin_ms ≤ 7_636_031_999_998 }
+    requires bound { bin_ms ≤ longest_bin }
     ensures value { result ≡ (100 / width + 1) * bin_ms }
     ensures positive { 0 < result }
-    ensures few { result < 2 ^ 60 }
+    ensures few { result ≤ 101 * longest_bin }
 {
     (100 / width + 1) * bin_ms
 }
@@ -191,7 +191,7 @@ pub(crate) fn put_ticks(
     requires width { width ≡ drawn_width scale.now }
     requires some { 0 < width }
     requires fits { scale.now.bins * width ≤ 1440 }
-    requires top { top ≤ 100_000 }
+    requires top { top ≤ bands_end 16 32 + 24 }
     ensures { OnOk result (text.new.items ≡ text.old.items ++ ticks_text scale.now (svg_tick_step scale.now) top) }
 {
     let step = tick_step(least_step(width, scale.bin_ms));

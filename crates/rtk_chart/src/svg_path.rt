@@ -39,7 +39,7 @@ pub(crate) fn put_runs(text: &mut Vec<u8>, width: u64, flags: &[bool]) -> Result
 }
 
 fn put_stroke_part(text: &mut Vec<u8>, width: u64, x: u64, flag: bool) -> Result<(), AllocError>
-    requires { x + width ≤ 2880 }
+    requires { x + width ≤ 1440 }
     ensures { OnOk result (text.new.items ≡ text.old.items ++ stroke_part width x flag) }
 {
     if !flag {

@@ -150,7 +150,7 @@ fn put_body(
     requires few { length codes.now ≤ 16 }
     requires bins { length grid.now.bins.items ≡ scale.now.bins }
     requires gaps { length grid.now.gaps.items ≡ scale.now.bins }
-    requires end { end ≤ 90_000 }
+    requires end { end ≤ bands_end 16 32 }
     ensures { OnOk result (text.new.items
         ≡ text.old.items ++ svg_body codes.now scale.now grid.now.bins.items grid.now.gaps.items end) }
 {
@@ -168,7 +168,7 @@ fn bands_end(codes: &[Code], satellites: u64) -> u64
     requires few { length codes.now ≤ 16 }
     requires satellites { satellites ≤ 32 }
     ensures value { result ≡ bands_end (length codes.now) satellites }
-    ensures bound { result ≤ 90_000 }
+    ensures bound { result ≤ bands_end 16 32 }
 {
     96 + satellites * (8 * codes.len() as u64 + 34)
 }

@@ -1,9 +1,9 @@
 //! Ticks along the time of a picture.
 
-ghost use Rattle.std.specs.Prelude.{◌≡◌, ◌≤◌, ◌<◌, ◌^◌, ◌++◌, nat_le, OnOk, IfSome};
+ghost use Rattle.std.specs.Prelude.{◌≡◌, ◌≤◌, ◌<◌, ◌*◌, ◌++◌, nat_le, OnOk, IfSome};
 ghost use Rattle.std.specs.List.{find};
 ghost use Rattle.rtk_rinex.specs.Reading.{IsMoment};
-ghost use Rattle.rtk_chart.specs.Scale.{IsScale};
+ghost use Rattle.rtk_chart.specs.Scale.{IsScale, longest_bin};
 ghost use Rattle.rtk_chart.specs.Ticks.{tick_steps, tick_step, tick_at, tick_label};
 
 use crate::scale::Scale;
@@ -47,7 +47,7 @@ fn listed_step(least: u64) -> Option<u64>
 /// The step between ticks that are so far apart at least.
 pub(crate) fn tick_step(least: u64) -> u64
     requires some { 0 < least }
-    requires few { least < 2 ^ 60 }
+    requires few { least ≤ 101 * longest_bin }
     ensures value { result ≡ tick_step least }
     ensures positive { 0 < result }
 {

@@ -30,5 +30,5 @@ returns c = λ t is file.
           c.in_ok-survey.survey.records c.in_ok-survey.survey.slips c.in_ok-grid.grid.missing c.interval-interval.result c.new-scale.result
           c.in_ok-grid.grid.bins.items c.in_ok-grid.grid.gaps.items es
           (c.marker-marker.ensures.value ∙ ap (λ h. h.marker) parts.0) (c.codes-codes.ensures.value ∙ ap (λ h. h.listed) parts.0) parts.2 (sym c.in-Some.is ∙ s.last) c.new-scale.ensures.value
-          s.records s.slips g.missing g.bins g.gaps,
+          s.records s.slips g.missing.count g.bins g.missing.gaps,
     )

@@ -5,7 +5,9 @@ use Rattle.rtk_chart.proofs.grid.Grid.new.Goals as goal
 pub returns-clause-grid : goal.returns-clause-grid
 returns-clause-grid c = record {
   bins = fresh-bins c.args.scale.now c.in_ok-vec.field-0.items c.new.result (c.in_ok-vec.ensures.items_if_clones_equal (λ y same. same)) c.new.ensures;
-  gaps = fresh-gaps c.args.scale.now c.in_ok-vec-2.field-0.items (c.in_ok-vec-2.ensures.items_if_clones_equal (λ y same. same));
-  missing = refl;
+  missing = record {
+    gaps = fresh-gaps c.args.scale.now c.in_ok-vec-2.field-0.items (c.in_ok-vec-2.ensures.items_if_clones_equal (λ y same. same));
+    count = refl;
+  };
   last = refl;
 }
