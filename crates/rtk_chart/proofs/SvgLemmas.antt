@@ -24,15 +24,6 @@ runs-more w i flags was d all mid after within so_far more =
     ∙ ap (λ (t : List ℕ). t ++ runs_from w (i * w + w) b rest) (sym more)
     ∙ ap (λ (x : ℕ). after ++ runs_from w x b rest) (next-place i w)
 
--- a bin ends within the room of all
-pub ends-within : (i w n room : ℕ) → i < n → n * w ≤ room → i * w + w ≤ room
-ends-within i w n room within all =
-    let next : i + 1 ≤ n = omega arith in
-    let same : w ≤ w = omega arith in
-    let few = mul-le (i + 1) w n w next same in
-    let is = next-place i w in
-    omega (arith, few, is, all)
-
 pub strokes-more : (w i : ℕ) (flags : List Bool) (d : Bool) (all mid after : List ℕ) → i < length flags
     → all ≡ mid ++ strokes_from w (i * w) (drop i flags) → after ≡ mid ++ stroke_part w (i * w) (get_or flags i d)
     → all ≡ after ++ strokes_from w ((i + 1) * w) (drop (i + 1) flags)

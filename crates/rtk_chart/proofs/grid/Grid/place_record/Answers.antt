@@ -6,8 +6,9 @@ returns-clause-grid c = λ es stands.
     let s = c.args.scale.now in
     let e = c.args.epoch.now in
     let t = c.count_missing.ensures in
+    let missing = t.missing e es c.time-time.ensures stands.last stands.missing in
     record {
       bins = c.note_in_bin.ensures.noted e es c.rows.ensures.value (c.ms.ensures.value ∙ c.time-time.ensures) (ap (λ v. v.items) t.bins ∙ stands.bins);
-      missing = t.missing e es c.time-time.ensures stands.last stands.missing;
+      missing = record { gaps = missing.gaps; count = missing.count };
       last = ap Some c.time-time.ensures;
     }
