@@ -10,9 +10,9 @@ use Rattle.rtk_rinex.specs.Record.{EpochTableView}
 use Rattle.rtk_rinex.specs.Table.{WellFormedTable, IsWellFormedTable, IsTableEpoch}
 use Rattle.rtk_chart.specs.Epochs.{epochs_onto, newest_first, slips_in}
 use Rattle.rtk_chart.specs.Interval.{steps_in, IsInterval, missing_in}
-use Rattle.rtk_chart.specs.Scale.{IsScale, unit_of, scale_of, column_at, column_length}
+use Rattle.rtk_chart.specs.Scale.{IsScale, unit_of, scale_of, bin_at, bin_length}
 use Rattle.rtk_chart.specs.HeadingLaws.{HasNumbers}
-use Rattle.rtk_chart.proofs.ScaleLemmas.{mul-pos, column-bound, columns-few}
+use Rattle.rtk_chart.proofs.ScaleLemmas.{mul-pos, bin-bound, bins-few}
 use Rattle.rtk_chart.proofs.WidthLemmas.{unit-some, within}
 
 -- ---- the scale
@@ -31,16 +31,16 @@ is-scale first last allowed interval from to room =
     let high = room.1 in
     let some : 0 < allowed = omega (arith, low) in
     let any : 0 < span / (allowed * unit) + 1 = omega arith in
-    let most = column-bound span unit allowed some in
-    let few = columns-few span unit allowed some positive in
+    let most = bin-bound span unit allowed some in
+    let few = bins-few span unit allowed some positive in
     record {
       first = from;
       last = to;
       unit = positive;
       unit_bound = bound;
-      column = mul-pos (span / (allowed * unit) + 1) unit any positive;
-      column_bound = omega (arith, most, bound, to);
-      columns = refl;
+      bin = mul-pos (span / (allowed * unit) + 1) unit any positive;
+      bin_bound = omega (arith, most, bound, to);
+      bins = refl;
       few = omega (arith, few, high);
     }
 
@@ -131,15 +131,15 @@ interval-fits steps (Some step) is h ms same =
 
 -- ---- a file
 
-on-columns : (first last allowed : ℕ) (interval : Option ℕ) (es : List EpochTableView) → IsInRange 1 1440 allowed → All (NoLater last) es
-    → All (λ e. column_at (scale_of first last interval allowed) e.time < (scale_of first last interval allowed).columns) es
-on-columns first last allowed interval es room sooner =
+on-bins : (first last allowed : ℕ) (interval : Option ℕ) (es : List EpochTableView) → IsInRange 1 1440 allowed → All (NoLater last) es
+    → All (λ e. bin_at (scale_of first last interval allowed) e.time < (scale_of first last interval allowed).bins) es
+on-bins first last allowed interval es room sooner =
     let unit = unit_of interval in
     let span = last - first in
     let any : 0 < span / (allowed * unit) + 1 = omega arith in
     let size = mul-pos (span / (allowed * unit) + 1) unit any (unit-some interval) in
-    All-weaker (NoLater last) (λ (e : EpochTableView). column_at (scale_of first last interval allowed) e.time < (scale_of first last interval allowed).columns)
-    (λ e to. within first last (column_length span unit allowed) e.time size to) es sooner
+    All-weaker (NoLater last) (λ (e : EpochTableView). bin_at (scale_of first last interval allowed) e.time < (scale_of first last interval allowed).bins)
+    (λ e to. within first last (bin_length span unit allowed) e.time size to) es sooner
 
 at-moments : (n : ℕ) (es : List EpochTableView) → All (IsTableEpoch n) es → All AtMoment es
 at-moments n es h = All-weaker (IsTableEpoch n) AtMoment (λ e is. is.time) es h
@@ -157,7 +157,7 @@ tables-have-numbers t interval allowed e before is newest steps room records sli
     let end : IsMoment e.time = All-head AtMoment e before moments in
     record {
       scale = is-scale t.first e.time allowed interval is.first end room;
-      columns = on-columns t.first e.time allowed interval (e ∷ before) room last;
+      bins = on-bins t.first e.time allowed interval (e ∷ before) room last;
       interval = interval-fits (steps_in (e ∷ before)) interval steps (short-steps (e ∷ before) moments);
       records = records;
       slips = slips;

@@ -9,7 +9,7 @@ use Rattle.rtk_chart.specs.Epochs.{capped, slips_in}
 use Rattle.rtk_obs.specs.CivilText.{civil_text}
 use Rattle.rtk_chart.specs.Heading.{seconds_text, interval_line}
 use Rattle.rtk_chart.specs.Interval.{missing_in}
-use Rattle.rtk_chart.specs.Grid.{columns_of, gaps_of}
+use Rattle.rtk_chart.specs.Grid.{bins_of, gaps_of}
 use Rattle.rtk_chart.specs.TextPicture.{satellites_in, named_count_line, moment_line, text_heading, number_lines, satellite_rows, gap_row, time_rows, text_picture}
 use Rattle.rtk_chart.specs.SvgPicture.{number_between, interval_text, svg_span, svg_numbers, svg_start, svg_body, bands_end, svg_picture}
 use Rattle.rtk_chart.specs.Chart.{text_at, svg_at}
@@ -62,10 +62,10 @@ same-count-lines r a l k r₂ a₂ l₂ k₂ h g same =
     (x.0, y.0, z.0, same-last-count (codes "missing ") k k₂ h.missing g.missing z.1)
 
 lines-are : (s : Scale) (r a l k : ℕ)
-    → number_lines s r a l k ≡ interval_line s.interval ++ (codes "column " ++ (seconds_text s.column_ms ++ 10 ∷ count_lines r a l k))
+    → number_lines s r a l k ≡ interval_line s.interval ++ (codes "column " ++ (seconds_text s.bin_ms ++ 10 ∷ count_lines r a l k))
 unfolding number_lines
 lines-are s r a l k =
-    group_8 (interval_line s.interval) (codes "column ") (seconds_text s.column_ms) (10 ∷ []) (named_count_line (codes "records ") r)
+    group_8 (interval_line s.interval) (codes "column ") (seconds_text s.bin_ms) (10 ∷ []) (named_count_line (codes "records ") r)
     (named_count_line (codes "satellites ") a) (named_count_line (codes "slips ") l) (named_count_line (codes "missing ") k)
 
 abbrev svg_counts : ℕ → ℕ → ℕ → ℕ → List ℕ
@@ -100,7 +100,7 @@ record AreSame (s t : Scale) (r a l k r₂ a₂ l₂ k₂ : ℕ) : Type 0 where
   first : s.first ≡ t.first
   last : s.last ≡ t.last
   interval : s.interval ≡ t.interval
-  column : s.column_ms ≡ t.column_ms
+  bin : s.bin_ms ≡ t.bin_ms
   records : r ≡ r₂
   satellites : a ≡ a₂
   slips : l ≡ l₂
@@ -111,7 +111,7 @@ record IsTold (s : Scale) : Type 0 where
   first : ReadsAs s.first (reading_of s.first)
   last : ReadsAs s.last (reading_of s.last)
   interval : Fits s.interval
-  column : s.column_ms < 2 ^ 64
+  bin : s.bin_ms < 2 ^ 64
 
 heading-is : (m : List ℕ) (s : Scale) (tail : List ℕ)
     → text_heading m s ++ tail ≡ codes "marker " ++ (m ++ 10 ∷ (moment_line (codes "from ") s.first ++ (moment_line (codes "until ") s.last ++ tail)))
@@ -132,16 +132,16 @@ same-text m n s t r a l k r₂ a₂ l₂ k₂ lm ln hs ht h g same =
     (ap (drop 7) (sym (heading-is m s tail) ∙ same ∙ heading-is n t tail₂)) in
     let w = same-moment-line (codes "from ") s.first t.first until until₂ hs.first ht.first v.1 in
     let x = same-moment-line (codes "until ") s.last t.last tail tail₂ hs.last ht.last w.1 in
-    let y = same-interval s.interval t.interval (codes "column " ++ (seconds_text s.column_ms ++ 10 ∷ c)) (codes "column " ++ (seconds_text t.column_ms ++ 10 ∷ c₂))
+    let y = same-interval s.interval t.interval (codes "column " ++ (seconds_text s.bin_ms ++ 10 ∷ c)) (codes "column " ++ (seconds_text t.bin_ms ++ 10 ∷ c₂))
     hs.interval ht.interval (sym (lines-are s r a l k) ∙ x.1 ∙ lines-are t r₂ a₂ l₂ k₂) in
-    let z = same-seconds s.column_ms t.column_ms (10 ∷ c) (10 ∷ c₂) hs.column ht.column (ap (drop 7) y.1) in
+    let z = same-seconds s.bin_ms t.bin_ms (10 ∷ c) (10 ∷ c₂) hs.bin ht.bin (ap (drop 7) y.1) in
     let counts = same-count-lines r a l k r₂ a₂ l₂ k₂ h g (ap (drop 1) z.1) in (
       v.0,
       record {
         first = w.0;
         last = x.0;
         interval = y.0;
-        column = z.0;
+        bin = z.0;
         records = counts.0;
         satellites = counts.1;
         slips = counts.2;
@@ -151,35 +151,35 @@ same-text m n s t r a l k r₂ a₂ l₂ k₂ lm ln hs ht h g same =
 
 span-is : (s : Scale) (tail : List ℕ)
     → svg_span s ++ tail ≡ codes "<text x='90' y='52'>" ++ (civil_text (reading_of s.first) ++ (codes " to " ++ (civil_text (reading_of s.last)
-    ++ (codes ", " ++ (interval_text s.interval ++ (codes ", column " ++ (seconds_text s.column_ms ++ (codes " s</text>\n" ++ tail))))))))
+    ++ (codes ", " ++ (interval_text s.interval ++ (codes ", column " ++ (seconds_text s.bin_ms ++ (codes " s</text>\n" ++ tail))))))))
 unfolding svg_span
 span-is s tail =
     group_10 (codes "<text x='90' y='52'>") (civil_text (reading_of s.first)) (codes " to ") (civil_text (reading_of s.last)) (codes ", ")
-    (interval_text s.interval) (codes ", column ") (seconds_text s.column_ms) (codes " s</text>\n") tail
+    (interval_text s.interval) (codes ", column ") (seconds_text s.bin_ms) (codes " s</text>\n") tail
 
 same-svg : (s t : Scale) (r a l k r₂ a₂ l₂ k₂ : ℕ) → IsTold s → IsTold t → Fit r a l k → Fit r₂ a₂ l₂ k₂
     → svg_span s ++ svg_numbers r a l k ≡ svg_span t ++ svg_numbers r₂ a₂ l₂ k₂ → AreSame s t r a l k r₂ a₂ l₂ k₂
 same-svg s t r a l k r₂ a₂ l₂ k₂ hs ht h g same =
     let end : List ℕ = codes " s</text>\n" ++ svg_numbers r a l k in
     let end₂ : List ℕ = codes " s</text>\n" ++ svg_numbers r₂ a₂ l₂ k₂ in
-    let column : List ℕ = codes ", column " ++ (seconds_text s.column_ms ++ end) in
-    let column₂ : List ℕ = codes ", column " ++ (seconds_text t.column_ms ++ end₂) in
-    let last : List ℕ = codes ", " ++ (interval_text s.interval ++ column) in
-    let last₂ : List ℕ = codes ", " ++ (interval_text t.interval ++ column₂) in
+    let bin : List ℕ = codes ", column " ++ (seconds_text s.bin_ms ++ end) in
+    let bin₂ : List ℕ = codes ", column " ++ (seconds_text t.bin_ms ++ end₂) in
+    let last : List ℕ = codes ", " ++ (interval_text s.interval ++ bin) in
+    let last₂ : List ℕ = codes ", " ++ (interval_text t.interval ++ bin₂) in
     let to : List ℕ = codes " to " ++ (civil_text (reading_of s.last) ++ last) in
     let to₂ : List ℕ = codes " to " ++ (civil_text (reading_of t.last) ++ last₂) in
     let v = same-moment s.first t.first to to₂ hs.first ht.first
     (ap (drop 20) (sym (span-is s (svg_numbers r a l k)) ∙ same ∙ span-is t (svg_numbers r₂ a₂ l₂ k₂))) in
     let w = same-moment s.last t.last last last₂ hs.last ht.last (ap (drop 4) v.1) in
-    let x = same-interval-text s.interval t.interval column column₂ hs.interval ht.interval (ap (drop 2) w.1) in
-    let y = same-seconds s.column_ms t.column_ms end end₂ hs.column ht.column (ap (drop 9) x.1) in
+    let x = same-interval-text s.interval t.interval bin bin₂ hs.interval ht.interval (ap (drop 2) w.1) in
+    let y = same-seconds s.bin_ms t.bin_ms end end₂ hs.bin ht.bin (ap (drop 9) x.1) in
     let numbers = sym (svg-counts-are r a l k) ∙ ap (drop 10) y.1 ∙ svg-counts-are r₂ a₂ l₂ k₂ in
     let counts = same-svg-counts r a l k r₂ a₂ l₂ k₂ h g numbers in
     record {
       first = v.0;
       last = w.0;
       interval = x.0;
-      column = y.0;
+      bin = y.0;
       records = counts.0;
       satellites = counts.1;
       slips = counts.2;
@@ -190,30 +190,30 @@ same-svg s t r a l k r₂ a₂ l₂ k₂ hs ht h g same =
 
 is-told : ((t : ℕ) → IsMoment t → ReadsAs t (reading_of t)) → (s : Scale) (es : List EpochTableView) → HasNumbers s es → IsTold s
 is-told reads s es h =
-    let bound = h.scale.column_bound in
-    record { first = reads s.first h.scale.first; last = reads s.last h.scale.last; interval = h.interval; column = omega (arith, bound) }
+    let bound = h.scale.bin_bound in
+    record { first = reads s.first h.scale.first; last = reads s.last h.scale.last; interval = h.interval; bin = omega (arith, bound) }
 
-fit : (s : Scale) (es : List EpochTableView) → Fit (capped (length es)) (satellites_in (columns_of s es)) (capped (slips_in es)) (capped (missing_in s.unit es))
+fit : (s : Scale) (es : List EpochTableView) → Fit (capped (length es)) (satellites_in (bins_of s es)) (capped (slips_in es)) (capped (missing_in s.unit es))
 fit s es =
     record {
       records = capped-fits (length es);
-      satellites = satellites-fit (columns_of s es);
+      satellites = satellites-fit (bins_of s es);
       slips = capped-fits (slips_in es);
       missing = capped-fits (missing_in s.unit es);
     }
 
 same-numbers : (s t : Scale) (es fs : List EpochTableView) → HasNumbers s es → HasNumbers t fs
-    → AreSame s t (capped (length es)) (satellites_in (columns_of s es)) (capped (slips_in es)) (capped (missing_in s.unit es))
-    (capped (length fs)) (satellites_in (columns_of t fs)) (capped (slips_in fs)) (capped (missing_in t.unit fs))
+    → AreSame s t (capped (length es)) (satellites_in (bins_of s es)) (capped (slips_in es)) (capped (missing_in s.unit es))
+    (capped (length fs)) (satellites_in (bins_of t fs)) (capped (slips_in fs)) (capped (missing_in t.unit fs))
     → HaveSameNumbers s t es fs
 same-numbers s t es fs hs ht same =
     record {
       first = same.first;
       last = same.last;
       interval = same.interval;
-      column = same.column;
+      bin = same.bin;
       records = same-capped (length es) (length fs) hs.records ht.records same.records;
-      satellites = sym (satellites-are s es hs.columns) ∙ same.satellites ∙ satellites-are t fs ht.columns;
+      satellites = sym (satellites-are s es hs.bins) ∙ same.satellites ∙ satellites-are t fs ht.bins;
       slips = same-capped (slips_in es) (slips_in fs) hs.slips ht.slips same.slips;
       missing = same-capped (missing_in s.unit es) (missing_in t.unit fs) hs.missing ht.missing same.missing;
     }
@@ -238,7 +238,7 @@ svg-headings reads s t es fs hs ht same =
 pub text-begins : (marker : List ℕ) (s : Scale) (es : List EpochTableView) → (rest : List ℕ) × (text_at marker s es ≡ heading_in_text marker s es ++ rest)
 unfolding text_picture
 text-begins marker s es =
-    let rows : List ℕ = satellite_rows (columns_of s es) in
+    let rows : List ℕ = satellite_rows (bins_of s es) in
     let gaps : List ℕ = gap_row (gaps_of s es) in
     (rows ++ (gaps ++ time_rows s), append_assoc (heading_in_text marker s es ++ rows) gaps (time_rows s) ∙ append_assoc (heading_in_text marker s es) rows (gaps ++ time_rows s))
 
@@ -246,8 +246,8 @@ pub svg-has : (marker : List ℕ) (listed : List Code) (s : Scale) (es : List Ep
     → (front : List ℕ) × (rest : List ℕ) × (svg_at marker listed s es ≡ front ++ heading_in_svg s es ++ rest)
 unfolding svg_picture
 svg-has marker listed s es =
-    let satellites = satellites_in (columns_of s es) in
+    let satellites = satellites_in (bins_of s es) in
     let end = bands_end (length listed) satellites in
     let numbers : List ℕ = svg_numbers (capped (length es)) satellites (capped (slips_in es)) (capped (missing_in s.unit es)) in
-    let body : List ℕ = svg_body listed s (columns_of s es) (gaps_of s es) end in
+    let body : List ℕ = svg_body listed s (bins_of s es) (gaps_of s es) end in
     (svg_start marker (end + 100), body, ap (λ (t : List ℕ). t ++ body) (append_assoc (svg_start marker (end + 100)) (svg_span s) numbers))

@@ -1,10 +1,10 @@
--- Columns that are as short as they can be, and missing epochs column by column.
+-- Bins that are as short as they can be, and missing epochs bin by bin.
 use Rattle.std.proofs.Common.{◌≡◌, ◌≤◌, ◌<◌, ◌+◌, ◌-◌, ◌*◌, ◌/◌, ℕ, zero, suc, true, ltb, leb, lit<, lit≤, ◌&&◌, Some, inl, inr, sym, ap, subst, ◌∙◌, arith}
 use Rattle.std.proofs.Math.Nat.{div-mul-le_self, add-div_right, add-mul, mul_left_comm}
 use Rattle.std.proofs.lemmas.Bool.{cases_eq, and_parts, and_from, ltb-true, leb-true, lt-ltb, le-leb}
 use Rattle.std.proofs.lemmas.Nat.{mul-le, le-div}
 use Rattle.rtk_chart.specs.Interval.{missing_before}
-use Rattle.rtk_chart.specs.Scale.{column_at, intervals_of}
+use Rattle.rtk_chart.specs.Scale.{bin_at, intervals_of}
 use Rattle.rtk_chart.specs.Grid.{has_missing_before}
 use Rattle.rtk_chart.specs.Laws.{SomeMissingEpoch}
 use Rattle.rtk_chart.specs.declared.scale.Scale.{Scale}
@@ -28,7 +28,7 @@ div-mono a b l some le =
     let fits : a / l * l ≤ b = omega (arith, h, le) in
     le-div (a / l) b l some fits
 
--- an interval more is a column more at most
+-- an interval more is a bin more at most
 one-on : (a u l : ℕ) → 0 < l → u ≤ l → (a + u) / l ≤ a / l + 1
 one-on a u l some few =
     let next : a + u ≤ a + l = omega (arith, few) in
@@ -43,7 +43,7 @@ next-epoch b n u =
     let one : 1 * u ≡ u = omega arith in
     ap (λ k. b + k * u) e ∙ omega (arith, m, one)
 
--- each column between the first and the last missing epoch has one
+-- each bin between the first and the last missing epoch has one
 between : (b u l c n : ℕ) → 0 < l → u ≤ l → (b + 1 * u) / l ≤ c → c ≤ (b + (n + 1) * u) / l
     → (i : ℕ) × (0 < i) × (i ≤ n + 1) × ((b + i * u) / l ≡ c)
 between b u l c zero some few from to = (1, lit< tt, lit≤ tt, omega (arith, from, to))
@@ -59,35 +59,35 @@ between b u l c (suc n) some few from to =
           (rest.0, rest.1, omega (arith, bound), rest.3)
     ]
 
--- the column of an epoch, from the begin of the picture on
-column-of-epoch : (s : Scale) (before i : ℕ) → s.first ≤ before → column_at s (before + i * s.unit) ≡ ((before - s.first) + i * s.unit) / s.column_ms
-column-of-epoch s before i after =
+-- the bin of an epoch, from the begin of the picture on
+bin-of-epoch : (s : Scale) (before i : ℕ) → s.first ≤ before → bin_at s (before + i * s.unit) ≡ ((before - s.first) + i * s.unit) / s.bin_ms
+bin-of-epoch s before i after =
     let e : before + i * s.unit - s.first ≡ (before - s.first) + i * s.unit = omega (arith, after) in
-    ap (λ n. n / s.column_ms) e
+    ap (λ n. n / s.bin_ms) e
 
-column-of-first : (s : Scale) (before : ℕ) → s.first ≤ before → column_at s (before + s.unit) ≡ ((before - s.first) + 1 * s.unit) / s.column_ms
-column-of-first s before after =
+bin-of-first : (s : Scale) (before : ℕ) → s.first ≤ before → bin_at s (before + s.unit) ≡ ((before - s.first) + 1 * s.unit) / s.bin_ms
+bin-of-first s before after =
     let e : before + s.unit - s.first ≡ (before - s.first) + 1 * s.unit = omega (arith, after) in
-    ap (λ n. n / s.column_ms) e
+    ap (λ n. n / s.bin_ms) e
 
-pub mark-has-epoch : (s : Scale) (before t c : ℕ) → 0 < s.unit → s.unit ≤ s.column_ms → s.first ≤ before
+pub mark-has-epoch : (s : Scale) (before t c : ℕ) → 0 < s.unit → s.unit ≤ s.bin_ms → s.first ≤ before
     → has_missing_before s (Some before) t c ≡ true → SomeMissingEpoch s before t c
 mark-has-epoch s before t c some few after marked =
     let n = missing_before s.unit (Some before) t in
-    let first = leb (column_at s (before + s.unit)) c in
-    let last = leb c (column_at s (before + n * s.unit)) in
+    let first = leb (bin_at s (before + s.unit)) c in
+    let last = leb c (bin_at s (before + n * s.unit)) in
     let p = and_parts (ltb 0 n && first) last marked in
     let q = and_parts (ltb 0 n) first p.0 in
     let many : 0 < n = ltb-true 0 n q.0 in
-    let from = leb-true (column_at s (before + s.unit)) c q.1 in
-    let to = leb-true c (column_at s (before + n * s.unit)) p.1 in
+    let from = leb-true (bin_at s (before + s.unit)) c q.1 in
+    let to = leb-true c (bin_at s (before + n * s.unit)) p.1 in
     let b = before - s.first in
-    let size : 0 < s.column_ms = omega (arith, some, few) in
+    let size : 0 < s.bin_ms = omega (arith, some, few) in
     let whole : n ≡ (n - 1) + 1 = omega (arith, many) in
-    let begin : (b + 1 * s.unit) / s.column_ms ≤ c = subst (λ (k : ℕ). k ≤ c) (column-of-first s before after) from in
-    let end : c ≤ (b + ((n - 1) + 1) * s.unit) / s.column_ms =
-    subst (λ (k : ℕ). c ≤ (b + k * s.unit) / s.column_ms) whole (subst (λ (k : ℕ). c ≤ k) (column-of-epoch s before n after) to) in
-    let found = between b s.unit s.column_ms c (n - 1) size few begin end in
+    let begin : (b + 1 * s.unit) / s.bin_ms ≤ c = subst (λ (k : ℕ). k ≤ c) (bin-of-first s before after) from in
+    let end : c ≤ (b + ((n - 1) + 1) * s.unit) / s.bin_ms =
+    subst (λ (k : ℕ). c ≤ (b + k * s.unit) / s.bin_ms) whole (subst (λ (k : ℕ). c ≤ k) (bin-of-epoch s before n after) to) in
+    let found = between b s.unit s.bin_ms c (n - 1) size few begin end in
     let bound = found.2 in
     let i = found.0 in
     let fits : i ≤ n = omega (arith, bound, whole) in
@@ -96,9 +96,9 @@ mark-has-epoch s before t c some few after marked =
     let held = div-mul-le_self (t - before - 1) s.unit in
     let positive = mul-pos n s.unit many some in
     let sooner : before + i * s.unit < t = omega (arith, nearer, held, positive) in
-    (i, found.1, sooner, column-of-epoch s before i after ∙ found.3)
+    (i, found.1, sooner, bin-of-epoch s before i after ∙ found.3)
 
-pub epoch-has-mark : (s : Scale) (before t c : ℕ) → 0 < s.unit → s.unit ≤ s.column_ms → s.first ≤ before
+pub epoch-has-mark : (s : Scale) (before t c : ℕ) → 0 < s.unit → s.unit ≤ s.bin_ms → s.first ≤ before
     → SomeMissingEpoch s before t c → has_missing_before s (Some before) t c ≡ true
 epoch-has-mark s before t c some few after found =
     let n = missing_before s.unit (Some before) t in
@@ -108,20 +108,20 @@ epoch-has-mark s before t c some few after found =
     let fits : i * s.unit ≤ t - before - 1 = omega (arith, sooner) in
     let most : i ≤ n = le-div i (t - before - 1) s.unit some fits in
     let b = before - s.first in
-    let size : 0 < s.column_ms = omega (arith, some, few) in
-    let here : (b + i * s.unit) / s.column_ms ≡ c = sym (column-of-epoch s before i after) ∙ found.3 in
+    let size : 0 < s.bin_ms = omega (arith, some, few) in
+    let here : (b + i * s.unit) / s.bin_ms ≡ c = sym (bin-of-epoch s before i after) ∙ found.3 in
     let same : s.unit ≤ s.unit = omega arith in
     let low = mul-le 1 s.unit i s.unit any same in
     let high = mul-le i s.unit n s.unit most same in
     let lower : b + 1 * s.unit ≤ b + i * s.unit = omega (arith, low) in
     let higher : b + i * s.unit ≤ b + n * s.unit = omega (arith, high) in
-    let from = div-mono (b + 1 * s.unit) (b + i * s.unit) s.column_ms size lower in
-    let to = div-mono (b + i * s.unit) (b + n * s.unit) s.column_ms size higher in
-    let first = column-of-first s before after in
-    let last = column-of-epoch s before n after in
+    let from = div-mono (b + 1 * s.unit) (b + i * s.unit) s.bin_ms size lower in
+    let to = div-mono (b + i * s.unit) (b + n * s.unit) s.bin_ms size higher in
+    let first = bin-of-first s before after in
+    let last = bin-of-epoch s before n after in
     let many : 0 < n = omega (arith, any, most) in
-    let begins : column_at s (before + s.unit) ≤ c = omega (arith, from, first, here) in
-    let ends : c ≤ column_at s (before + n * s.unit) = omega (arith, to, last, here) in
-    and_from (ltb 0 n && leb (column_at s (before + s.unit)) c) (leb c (column_at s (before + n * s.unit)))
-    (and_from (ltb 0 n) (leb (column_at s (before + s.unit)) c) (lt-ltb 0 n many) (le-leb (column_at s (before + s.unit)) c begins))
-    (le-leb c (column_at s (before + n * s.unit)) ends)
+    let begins : bin_at s (before + s.unit) ≤ c = omega (arith, from, first, here) in
+    let ends : c ≤ bin_at s (before + n * s.unit) = omega (arith, to, last, here) in
+    and_from (ltb 0 n && leb (bin_at s (before + s.unit)) c) (leb c (bin_at s (before + n * s.unit)))
+    (and_from (ltb 0 n) (leb (bin_at s (before + s.unit)) c) (lt-ltb 0 n many) (le-leb (bin_at s (before + s.unit)) c begins))
+    (le-leb c (bin_at s (before + n * s.unit)) ends)

@@ -10,31 +10,31 @@ use Rattle.rtk_rinex.specs.Record.{EpochTableView}
 use Rattle.rtk_rinex.specs.declared.epoch_table.Observed.{Observed}
 use Rattle.rtk_chart.specs.Epochs.{newest_moment, observed_in, observed_by, is_seen, shows_phase, has_slip, has_half, level_of, lesser, least_level, least_level_in, slips_of, slips_in}
 use Rattle.rtk_chart.specs.Interval.{steps_in, times_of_step, IsInterval, missing_in}
-use Rattle.rtk_chart.specs.Scale.{column_at}
-use Rattle.rtk_chart.specs.Grid.{lane_of, lanes_of, cell_in, satellite_cells, column_of, epochs_of_column, columns_of, has_missing_before, has_missing, gaps_of}
-use Rattle.rtk_chart.specs.TextPicture.{cell_of_column}
-use Rattle.rtk_chart.specs.Layers.{lane_at}
+use Rattle.rtk_chart.specs.Scale.{bin_at}
+use Rattle.rtk_chart.specs.Grid.{coverage_of, coverages_of, tracking_in, trackings_of, bin_of, epochs_of_bin, bins_of, has_missing_before, has_missing, gaps_of}
+use Rattle.rtk_chart.specs.TextPicture.{tracking_at}
+use Rattle.rtk_chart.specs.Layers.{coverage_at}
 use Rattle.rtk_chart.specs.MarkLaws.{some_passes, is_at_most, is_weak, ShowsEpochs, IsMissingIn, times_among, IsFirstOfMostFrequent}
 use Rattle.rtk_chart.specs.declared.scale.Scale.{Scale}
-use Rattle.rtk_chart.specs.declared.cell.Lane.{Lane}
-use Rattle.rtk_chart.specs.declared.cell.Cell.{Cell}
-use Rattle.rtk_chart.specs.declared.column.Column.{Column}
+use Rattle.rtk_chart.specs.declared.tracking.Coverage.{Coverage}
+use Rattle.rtk_chart.specs.declared.tracking.Tracking.{Tracking}
+use Rattle.rtk_chart.specs.declared.time_bin.TimeBin.{TimeBin}
 use Rattle.rtk_chart.proofs.PieceLemmas.{capped-is}
 
--- ---- epochs of a column
+-- ---- epochs of a bin
 
 kept-if : {X Y : Type 0} (p : Y → Bool) (f : X → Y) (x : X) (xs : List X) (b : Bool)
     → list_any p (map f (cond b (x ∷ xs) xs)) ≡ ((b && p (f x)) || list_any p (map f xs))
 kept-if p f x xs true = refl
 kept-if p f x xs false = refl
 
--- a test of the epochs of a column is one of all epochs
-pub any-in-column : (test : List Observed → Bool) (s : Scale) (c place : ℕ) (es : List EpochTableView)
-    → list_any test (observed_by (place + 1) (epochs_of_column s c es)) ≡ some_passes s es c place test
-any-in-column test s c place [] = refl
-any-in-column test s c place (e ∷ es) =
-    kept-if test (λ (e : EpochTableView). observed_in (place + 1) e.rows) e (epochs_of_column s c es) (column_at s e.time == c)
-    ∙ ap (λ (b : Bool). ((column_at s e.time == c) && test (observed_in (place + 1) e.rows)) || b) (any-in-column test s c place es)
+-- a test of the epochs of a bin is one of all epochs
+pub any-in-bin : (test : List Observed → Bool) (s : Scale) (c place : ℕ) (es : List EpochTableView)
+    → list_any test (observed_by (place + 1) (epochs_of_bin s c es)) ≡ some_passes s es c place test
+any-in-bin test s c place [] = refl
+any-in-bin test s c place (e ∷ es) =
+    kept-if test (λ (e : EpochTableView). observed_in (place + 1) e.rows) e (epochs_of_bin s c es) (bin_at s e.time == c)
+    ∙ ap (λ (b : Bool). ((bin_at s e.time == c) && test (observed_in (place + 1) e.rows)) || b) (any-in-bin test s c place es)
 
 -- ---- the least digit
 
@@ -70,50 +70,50 @@ weak-in level (os ∷ epochs) =
     ∙ ap (λ (b : Bool). b || is_at_most level (least_level_in epochs)) (weak-from level None os)
     ∙ ap (λ (b : Bool). is_weak level os || b) (weak-in level epochs)
 
--- ---- a cell
+-- ---- a tracking
 
-lane-there : (epochs : List (List Observed)) (code : ℕ) (d : Lane) → code < 16 → get_or (lanes_of epochs) code d ≡ lane_of epochs code
-unfolding lanes_of
-lane-there epochs code d inside =
+coverage-there : (epochs : List (List Observed)) (code : ℕ) (d : Coverage) → code < 16 → get_or (coverages_of epochs) code d ≡ coverage_of epochs code
+unfolding coverages_of
+coverage-there epochs code d inside =
     let here : 0 + code ≡ code = omega arith in
-    get_or-map-range_with_len (lane_of epochs) 0 16 code code d inside here
+    get_or-map-range_with_len (coverage_of epochs) 0 16 code code d inside here
 
-cell-there : (s : Scale) (es : List EpochTableView) (c place : ℕ) → c < s.columns → place < 32
-    → cell_of_column place (get_or (columns_of s es) c (column_of [])) ≡ cell_in (observed_by (place + 1) (epochs_of_column s c es))
-unfolding columns_of satellite_cells
-cell-there s es c place inside few =
-    let column : 0 + c ≡ c = omega arith in
+tracking-there : (s : Scale) (es : List EpochTableView) (c place : ℕ) → c < s.bins → place < 32
+    → tracking_at place (get_or (bins_of s es) c (bin_of [])) ≡ tracking_in (observed_by (place + 1) (epochs_of_bin s c es))
+unfolding bins_of trackings_of
+tracking-there s es c place inside few =
+    let bin : 0 + c ≡ c = omega arith in
     let row : 0 + place ≡ place = omega arith in
-    let at = get_or-map-range_with_len (λ (k : ℕ). column_of (epochs_of_column s k es)) 0 s.columns c c (column_of []) inside column in
-    ap (λ (x : Column). cell_of_column place x) at
-    ∙ get_or-map-range_with_len (λ (k : ℕ). cell_in (observed_by (k + 1) (epochs_of_column s c es))) 0 32 place place (cell_in []) few row
+    let at = get_or-map-range_with_len (λ (k : ℕ). bin_of (epochs_of_bin s k es)) 0 s.bins c c (bin_of []) inside bin in
+    ap (λ (x : TimeBin). tracking_at place x) at
+    ∙ get_or-map-range_with_len (λ (k : ℕ). tracking_in (observed_by (k + 1) (epochs_of_bin s c es))) 0 32 place place (tracking_in []) few row
 
-shows-them : (s : Scale) (es : List EpochTableView) (c place : ℕ) (cell : Cell) → cell ≡ cell_in (observed_by (place + 1) (epochs_of_column s c es))
-    → ShowsEpochs s es c place cell
-shows-them s es c place cell is =
-    let epochs : List (List Observed) = observed_by (place + 1) (epochs_of_column s c es) in
-    let lane : (code : ℕ) → code < 16 → lane_at code cell ≡ lane_of epochs code =
-    λ code inside. ap (λ (x : Cell). lane_at code x) is ∙ lane-there epochs code (record { some = false; lacks = false }) inside in
+shows-them : (s : Scale) (es : List EpochTableView) (c place : ℕ) (tracking : Tracking) → tracking ≡ tracking_in (observed_by (place + 1) (epochs_of_bin s c es))
+    → ShowsEpochs s es c place tracking
+shows-them s es c place tracking is =
+    let epochs : List (List Observed) = observed_by (place + 1) (epochs_of_bin s c es) in
+    let coverage : (code : ℕ) → code < 16 → coverage_at code tracking ≡ coverage_of epochs code =
+    λ code inside. ap (λ (x : Tracking). coverage_at code x) is ∙ coverage-there epochs code (record { some = false; lacks = false }) inside in
     record {
-      seen = ap (λ (x : Cell). x.seen) is ∙ any-in-column is_seen s c place es;
-      slip = ap (λ (x : Cell). x.slip) is ∙ any-in-column has_slip s c place es;
-      half = ap (λ (x : Cell). x.half) is ∙ any-in-column has_half s c place es;
-      some = λ code inside. ap (λ (l : Lane). l.some) (lane code inside) ∙ any-in-column (shows_phase code) s c place es;
-      lacks = λ code inside. ap (λ (l : Lane). l.lacks) (lane code inside) ∙ any-in-column (λ (os : List Observed). not (shows_phase code os)) s c place es;
-      least = λ level. ap (λ (x : Cell). is_at_most level x.least) is ∙ weak-in level epochs ∙ any-in-column (is_weak level) s c place es;
+      seen = ap (λ (x : Tracking). x.seen) is ∙ any-in-bin is_seen s c place es;
+      slip = ap (λ (x : Tracking). x.slip) is ∙ any-in-bin has_slip s c place es;
+      half = ap (λ (x : Tracking). x.half) is ∙ any-in-bin has_half s c place es;
+      some = λ code inside. ap (λ (l : Coverage). l.some) (coverage code inside) ∙ any-in-bin (shows_phase code) s c place es;
+      lacks = λ code inside. ap (λ (l : Coverage). l.lacks) (coverage code inside) ∙ any-in-bin (λ (os : List Observed). not (shows_phase code os)) s c place es;
+      least = λ level. ap (λ (x : Tracking). is_at_most level x.least) is ∙ weak-in level epochs ∙ any-in-bin (is_weak level) s c place es;
     }
 
-pub cells-show : (s : Scale) (es : List EpochTableView) (c place : ℕ) → c < s.columns → place < 32
-    → ShowsEpochs s es c place (cell_of_column place (get_or (columns_of s es) c (column_of [])))
-cells-show s es c place inside few = shows-them s es c place (cell_of_column place (get_or (columns_of s es) c (column_of []))) (cell-there s es c place inside few)
+pub satellites-show : (s : Scale) (es : List EpochTableView) (c place : ℕ) → c < s.bins → place < 32
+    → ShowsEpochs s es c place (tracking_at place (get_or (bins_of s es) c (bin_of [])))
+satellites-show s es c place inside few = shows-them s es c place (tracking_at place (get_or (bins_of s es) c (bin_of []))) (tracking-there s es c place inside few)
 
 -- ---- missing epochs
 
-gap-there : (s : Scale) (es : List EpochTableView) (c : ℕ) → c < s.columns → get_or (gaps_of s es) c false ≡ has_missing s es c
+gap-there : (s : Scale) (es : List EpochTableView) (c : ℕ) → c < s.bins → get_or (gaps_of s es) c false ≡ has_missing s es c
 unfolding gaps_of
 gap-there s es c inside =
     let here : 0 + c ≡ c = omega arith in
-    get_or-map-range_with_len (has_missing s es) 0 s.columns c c false inside here
+    get_or-map-range_with_len (has_missing s es) 0 s.bins c c false inside here
 
 missing-from : (s : Scale) (es : List EpochTableView) (c : ℕ) → has_missing s es c ≡ true → IsMissingIn s es c
 missing-from s [] c marked = absurd (cc)
@@ -131,7 +131,7 @@ missing-at s [] e before c here = or_left (has_missing_before s (newest_moment b
 missing-at s (f ∷ newer) e before c here =
     or_right (has_missing_before s (newest_moment (newer ++ e ∷ before)) f.time c) (has_missing s (newer ++ e ∷ before) c) (missing-at s newer e before c here)
 
-pub gaps-missing : (s : Scale) (es : List EpochTableView) (c : ℕ) → c < s.columns → (get_or (gaps_of s es) c false ≡ true) ↔ IsMissingIn s es c
+pub gaps-missing : (s : Scale) (es : List EpochTableView) (c : ℕ) → c < s.bins → (get_or (gaps_of s es) c false ≡ true) ↔ IsMissingIn s es c
 gaps-missing s es c inside = (
   (λ marked. missing-from s es c (sym (gap-there s es c inside) ∙ marked)),
   (λ found. gap-there s es c inside ∙ ap (λ (t : List EpochTableView). has_missing s t c) found.3 ∙ missing-at s found.0 found.1 found.2 c found.4),

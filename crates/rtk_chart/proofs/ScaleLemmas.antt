@@ -1,4 +1,4 @@
--- The columns of a picture, in numbers.
+-- The bins of a picture, in numbers.
 use Rattle.std.proofs.Common.{◌≡◌, ◌≤◌, ◌<◌, ◌+◌, ◌*◌, ◌/◌, ℕ, arith}
 use Rattle.std.proofs.Math.Nat.{div-mul-le_self, add-mul, mul_left_comm}
 use Rattle.std.proofs.lemmas.Nat.{mul-le, mul-lt, div-add-mod', mod_below, div_below}
@@ -6,18 +6,18 @@ use Rattle.std.proofs.lemmas.Nat.{mul-le, mul-lt, div-add-mod', mod_below, div_b
 pub mul-pos : (a b : ℕ) → 0 < a → 0 < b → 0 < a * b
 mul-pos a b some more = let h = mul-lt 0 0 a b some more in omega (arith, h)
 
--- a column within the span begins within it
+-- a bin within the span begins within it
 pub begins-within : (span length c n : ℕ) → n ≡ span / length + 1 → c < n → c * length ≤ span
-begins-within span length c n columns within =
+begins-within span length c n bins within =
     let few : c ≤ span / length = omega arith in
     let same : length ≤ length = omega arith in
     let a = mul-le c length (span / length) length few same in
     let b = div-mul-le_self span length in
     omega (arith, a, b)
 
--- the columns are at most one interval longer than the span
-pub column-bound : (span unit allowed : ℕ) → 0 < allowed → (span / (allowed * unit) + 1) * unit ≤ span + unit
-column-bound span unit allowed some =
+-- the bins are at most one interval longer than the span
+pub bin-bound : (span unit allowed : ℕ) → 0 < allowed → (span / (allowed * unit) + 1) * unit ≤ span + unit
+bin-bound span unit allowed some =
     let q = span / (allowed * unit) in
     let one : unit ≤ allowed * unit = grind arith in
     let same : q ≤ q = omega arith in
@@ -26,9 +26,9 @@ column-bound span unit allowed some =
     let c : (q + 1) * unit ≡ q * unit + unit = grind arith in
     omega (arith, a, b, c)
 
--- the columns are as many as allowed at most
-pub columns-few : (span unit allowed : ℕ) → 0 < allowed → 0 < unit → span / ((span / (allowed * unit) + 1) * unit) + 1 ≤ allowed
-columns-few span unit allowed some long =
+-- the bins are as many as allowed at most
+pub bins-few : (span unit allowed : ℕ) → 0 < allowed → 0 < unit → span / ((span / (allowed * unit) + 1) * unit) + 1 ≤ allowed
+bins-few span unit allowed some long =
     let q = span / (allowed * unit) in
     let whole : 0 < allowed * unit = mul-pos allowed unit some long in
     let split = div-add-mod' span (allowed * unit) in

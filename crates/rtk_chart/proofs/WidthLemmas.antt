@@ -1,4 +1,4 @@
--- The columns of a picture fill its room.
+-- The bins of a picture fill its room.
 use Rattle.std.proofs.Common.{◌≡◌, ◌≤◌, ◌<◌, ◌+◌, ◌-◌, ◌*◌, ◌/◌, ℕ, Bool, Option, None, Some, List, [], ◌∷◌, ◌++◌, length, map, codes, refl, ap, ◌∙◌, inl, inr, arith, length-append}
 use Rattle.std.specs.List.{range_with_len}
 use Rattle.std.proofs.Math.Nat.{div-mul-le_self, add-mul}
@@ -8,17 +8,17 @@ use Rattle.std.proofs.lemmas.List.FromFn.{length-map-range_with_len}
 use Rattle.std.proofs.lemmas.Nat.{mul-le, div-add-mod', mod_below}
 use Rattle.rtk_rinex.specs.Record.{EpochTableView}
 use Rattle.rtk_chart.specs.Scale.{IsScale, unit_of, intervals_of, scale_of}
-use Rattle.rtk_chart.specs.Grid.{column_of, epochs_of_column, columns_of, has_missing, gaps_of}
+use Rattle.rtk_chart.specs.Grid.{bin_of, epochs_of_bin, bins_of, has_missing, gaps_of}
 use Rattle.rtk_chart.specs.Ticks.{tick_at}
-use Rattle.rtk_chart.specs.TextPicture.{cell_of_column, character_of, row_head, satellite_row, gap_mark, gap_row, axis_mark, axis_row}
-use Rattle.rtk_chart.specs.SvgPicture.{column_width}
+use Rattle.rtk_chart.specs.TextPicture.{tracking_at, character_of, row_head, satellite_row, gap_mark, gap_row, axis_mark, axis_row}
+use Rattle.rtk_chart.specs.SvgPicture.{drawn_width}
 use Rattle.rtk_chart.specs.Laws.{FillsRoom}
 use Rattle.rtk_chart.specs.declared.scale.Scale.{Scale}
-use Rattle.rtk_chart.specs.declared.column.Column.{Column}
-use Rattle.rtk_chart.proofs.ScaleLemmas.{mul-pos, columns-few}
+use Rattle.rtk_chart.specs.declared.time_bin.TimeBin.{TimeBin}
+use Rattle.rtk_chart.proofs.ScaleLemmas.{mul-pos, bins-few}
 use Rattle.rtk_chart.proofs.LawLemmas.{div-mono, shorter-too-many}
 
--- ---- how long a column is
+-- ---- how long a bin is
 
 pub unit-some : (interval : Option ℕ) → 0 < unit_of interval
 unit-some None = omega arith
@@ -49,7 +49,7 @@ scale-fills first last allowed interval some =
     let any : 0 < span / (allowed * unit) + 1 = omega arith in
     let size : 0 < n * unit = mul-pos n unit any long in
     record {
-      few = columns-few span unit allowed some long;
+      few = bins-few span unit allowed some long;
       whole = (n, any, refl);
       least = λ k more shorter. shorter-too-many span unit allowed k long more (fewer k n unit shorter);
       each = λ t to. within first last (n * unit) t size to;
@@ -61,11 +61,11 @@ scale-fills first last allowed interval some =
 three-long : (a b c : List ℕ) → length ((a ++ b) ++ c) ≡ length a + length b + length c
 three-long a b c = omega (arith, length-append (a ++ b) c, length-append a b)
 
-row-long : (columns : List Column) (place n : ℕ) → length columns ≡ n → length (satellite_row columns place) ≡ n + 6
+row-long : (bins : List TimeBin) (place n : ℕ) → length bins ≡ n → length (satellite_row bins place) ≡ n + 6
 unfolding satellite_row
-row-long columns place n many =
-    let marks : List ℕ = map (λ column. character_of (cell_of_column place column)) columns in
-    let same : length marks ≡ n = length-map columns (λ (column : Column). character_of (cell_of_column place column)) ∙ many in
+row-long bins place n many =
+    let marks : List ℕ = map (λ bin. character_of (tracking_at place bin)) bins in
+    let same : length marks ≡ n = length-map bins (λ (bin : TimeBin). character_of (tracking_at place bin)) ∙ many in
     three-long (row_head (place + 1)) marks (codes "|\n") ∙ ap (λ (k : ℕ). 4 + k + 2) same ∙ omega arith
 
 gap-long : (gaps : List Bool) (n : ℕ) → length gaps ≡ n → length (gap_row gaps) ≡ n + 6
@@ -74,33 +74,33 @@ gap-long gaps n many =
     let same : length (map gap_mark gaps) ≡ n = length-map gaps gap_mark ∙ many in
     three-long (codes "gap|") (map gap_mark gaps) (codes "|\n") ∙ ap (λ (k : ℕ). 4 + k + 2) same ∙ omega arith
 
-axis-long : (s : Scale) (step : ℕ) → length (axis_row s step) ≡ s.columns + 5
+axis-long : (s : Scale) (step : ℕ) → length (axis_row s step) ≡ s.bins + 5
 unfolding axis_row
 axis-long s step =
     let mark : ℕ → ℕ = λ c. axis_mark (tick_at s step c) in
-    let same : length (map mark (range_with_len 0 s.columns)) ≡ s.columns = length-map-range_with_len mark 0 s.columns in
-    three-long (codes "    ") (map mark (range_with_len 0 s.columns)) (10 ∷ []) ∙ ap (λ (k : ℕ). 4 + k + 1) same ∙ omega arith
+    let same : length (map mark (range_with_len 0 s.bins)) ≡ s.bins = length-map-range_with_len mark 0 s.bins in
+    three-long (codes "    ") (map mark (range_with_len 0 s.bins)) (10 ∷ []) ∙ ap (λ (k : ℕ). 4 + k + 1) same ∙ omega arith
 
-columns-many : (s : Scale) (es : List EpochTableView) → length (columns_of s es) ≡ s.columns
-unfolding columns_of
-columns-many s es = length-map-range_with_len (λ (c : ℕ). column_of (epochs_of_column s c es)) 0 s.columns
+bins-many : (s : Scale) (es : List EpochTableView) → length (bins_of s es) ≡ s.bins
+unfolding bins_of
+bins-many s es = length-map-range_with_len (λ (c : ℕ). bin_of (epochs_of_bin s c es)) 0 s.bins
 
-gaps-many : (s : Scale) (es : List EpochTableView) → length (gaps_of s es) ≡ s.columns
+gaps-many : (s : Scale) (es : List EpochTableView) → length (gaps_of s es) ≡ s.bins
 unfolding gaps_of
-gaps-many s es = length-map-range_with_len (has_missing s es) 0 s.columns
+gaps-many s es = length-map-range_with_len (has_missing s es) 0 s.bins
 
 pub rows-long : (s : Scale) (es : List EpochTableView) (place step : ℕ)
-    → (length (satellite_row (columns_of s es) place) ≡ s.columns + 6) × (length (gap_row (gaps_of s es)) ≡ s.columns + 6)
-    × (length (axis_row s step) ≡ s.columns + 5)
+    → (length (satellite_row (bins_of s es) place) ≡ s.bins + 6) × (length (gap_row (gaps_of s es)) ≡ s.bins + 6)
+    × (length (axis_row s step) ≡ s.bins + 5)
 rows-long s es place step =
-    (row-long (columns_of s es) place s.columns (columns-many s es), gap-long (gaps_of s es) s.columns (gaps-many s es), axis-long s step)
+    (row-long (bins_of s es) place s.bins (bins-many s es), gap-long (gaps_of s es) s.bins (gaps-many s es), axis-long s step)
 
--- ---- how wide a column is
+-- ---- how wide a bin is
 
-pub bands-filled : (s : Scale) → IsScale s → (column_width s * s.columns ≤ 1440) × (1440 < (column_width s + 1) * s.columns)
+pub bands-filled : (s : Scale) → IsScale s → (drawn_width s * s.bins ≤ 1440) × (1440 < (drawn_width s + 1) * s.bins)
 bands-filled s is =
-    let n = s.columns in
-    let many = is.columns in
+    let n = s.bins in
+    let many = is.bins in
     let some : 0 < n = omega (arith, many) in
     let q = 1440 / n in
     let split = div-add-mod' 1440 n in

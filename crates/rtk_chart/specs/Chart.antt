@@ -5,7 +5,7 @@ use Rattle.rtk_rinex.specs.Table.{WellFormedTable, IsWellFormedTable, table_text
 use Rattle.rtk_chart.specs.Epochs.{capped, newest_first, slips_in}
 use Rattle.rtk_chart.specs.Interval.{steps_in, IsInterval, missing_in}
 use Rattle.rtk_chart.specs.Scale.{scale_of}
-use Rattle.rtk_chart.specs.Grid.{columns_of, gaps_of}
+use Rattle.rtk_chart.specs.Grid.{bins_of, gaps_of}
 use Rattle.rtk_chart.specs.TextPicture.{text_picture, text_of_none}
 use Rattle.rtk_chart.specs.SvgPicture.{svg_picture, svg_of_none}
 use Rattle.rtk_obs.specs.declared.code.Code.{Code}
@@ -14,9 +14,9 @@ use Rattle.rtk_chart.specs.declared.scale.Scale.{Scale}
 -- the picture in characters of these epochs, newest first, at a scale
 abbrev pub text_at : List ℕ → Scale → List EpochTableView → List ℕ
 text_at marker s es =
-    text_picture marker s (capped (length es)) (capped (slips_in es)) (capped (missing_in s.unit es)) (columns_of s es) (gaps_of s es)
+    text_picture marker s (capped (length es)) (capped (slips_in es)) (capped (missing_in s.unit es)) (bins_of s es) (gaps_of s es)
 
--- the picture of a file of this marker and first time, with this interval, in so many columns at most
+-- the picture of a file of this marker and first time, with this interval, in so many bins at most
 abbrev pub text_of_epochs : List ℕ → ℕ → Option ℕ → ℕ → List EpochTableView → List ℕ
 text_of_epochs marker first interval allowed [] = text_of_none marker
 text_of_epochs marker first interval allowed (e ∷ before) = text_at marker (scale_of first e.time interval allowed) (e ∷ before)
@@ -38,7 +38,7 @@ ShowsTable file width text = (t : WellFormedTable) → IsWellFormedTable t → f
 -- the picture in SVG of these epochs, newest first, at a scale
 abbrev pub svg_at : List ℕ → List Code → Scale → List EpochTableView → List ℕ
 svg_at marker listed s es =
-    svg_picture marker listed s (capped (length es)) (capped (slips_in es)) (capped (missing_in s.unit es)) (columns_of s es) (gaps_of s es)
+    svg_picture marker listed s (capped (length es)) (capped (slips_in es)) (capped (missing_in s.unit es)) (bins_of s es) (gaps_of s es)
 
 -- formula
 -- the picture of a file of this marker, these codes and this first time, with this interval

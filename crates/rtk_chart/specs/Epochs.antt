@@ -27,7 +27,7 @@ abbrev pub observed_in : ℕ → List SatelliteRow → List Observed
 observed_in satellite [] = []
 observed_in satellite (r ∷ rows) = if r.satellite == satellite then r.observed.items else observed_in satellite rows
 
--- and in each of these epochs
+-- what the codes of a satellite show in each of these epochs
 abbrev pub observed_by : ℕ → List EpochTableView → List (List Observed)
 observed_by satellite es = map (λ e. observed_in satellite e.rows) es
 
@@ -64,7 +64,7 @@ lesser (Some a) (Some b) = Some (min a b)
 abbrev pub least_level : List Observed → Option ℕ
 least_level os = fold (λ least o. lesser least (level_of o.strength_millidbhz)) None os
 
--- and in these epochs
+-- the least strength digit of a satellite in these epochs
 abbrev pub least_level_in : List (List Observed) → Option ℕ
 least_level_in [] = None
 least_level_in (os ∷ before) = lesser (least_level os) (least_level_in before)
@@ -73,7 +73,7 @@ least_level_in (os ∷ before) = lesser (least_level os) (least_level_in before)
 abbrev pub slips_of : List SatelliteRow → ℕ
 slips_of rows = sum_by (λ r. count_by (λ o. o.slip) r.observed.items) rows
 
--- and of these epochs
+-- the loss-of-lock digits with bit 0 of these epochs' rows
 abbrev pub slips_in : List EpochTableView → ℕ
 slips_in [] = 0
 slips_in (e ∷ before) = slips_in before + slips_of e.rows

@@ -9,8 +9,8 @@ use Rattle.rtk_rinex.specs.Record.{EpochTableView}
 use Rattle.rtk_rinex.specs.Table.{WellFormedTable, IsWellFormedTable}
 use Rattle.rtk_chart.specs.Epochs.{capped, newest_first, is_seen, observed_by, slips_in}
 use Rattle.rtk_chart.specs.Interval.{steps_in, IsInterval, missing_in}
-use Rattle.rtk_chart.specs.Scale.{IsScale, unit_of, scale_of, column_at}
-use Rattle.rtk_chart.specs.Grid.{columns_of}
+use Rattle.rtk_chart.specs.Scale.{IsScale, unit_of, scale_of, bin_at}
+use Rattle.rtk_chart.specs.Grid.{bins_of}
 use Rattle.rtk_chart.specs.TextPicture.{satellites_in, text_heading, number_lines}
 use Rattle.rtk_chart.specs.SvgPicture.{svg_span, svg_numbers}
 use Rattle.rtk_chart.specs.Chart.{text_at, svg_at}
@@ -20,11 +20,11 @@ use Rattle.rtk_chart.specs.declared.scale.Scale.{Scale}
 unfoldable pub satellites_shown_in : List EpochTableView → ℕ
 satellites_shown_in es = count_by (λ place. list_any is_seen (observed_by (place + 1) es)) (range_with_len 0 32)
 
--- the epochs of a file, newest first, at a scale on which each of them has its column; its numbers are
+-- the epochs of a file, newest first, at a scale on which each of them has its bin; its numbers are
 -- below 2^64
 pub record HasNumbers (s : Scale) (es : List EpochTableView) : Type 0 where
   pub scale : IsScale s
-  pub columns : All (λ e. column_at s e.time < s.columns) es
+  pub bins : All (λ e. bin_at s e.time < s.bins) es
   pub interval : ForSome s.interval (λ ms. ms < 2 ^ 64)
   pub records : length es < 2 ^ 64
   pub slips : slips_in es < 2 ^ 64
@@ -43,7 +43,7 @@ pub record HaveSameNumbers (s t : Scale) (es fs : List EpochTableView) : Type 0 
   pub first : s.first ≡ t.first
   pub last : s.last ≡ t.last
   pub interval : s.interval ≡ t.interval
-  pub column : s.column_ms ≡ t.column_ms
+  pub bin : s.bin_ms ≡ t.bin_ms
   pub records : length es ≡ length fs
   pub satellites : satellites_shown_in es ≡ satellites_shown_in fs
   pub slips : slips_in es ≡ slips_in fs
@@ -53,12 +53,12 @@ pub record HaveSameNumbers (s t : Scale) (es fs : List EpochTableView) : Type 0 
 abbrev pub heading_in_text : List ℕ → Scale → List EpochTableView → List ℕ
 heading_in_text marker s es =
     text_heading marker s
-    ++ number_lines s (capped (length es)) (satellites_in (columns_of s es)) (capped (slips_in es)) (capped (missing_in s.unit es))
+    ++ number_lines s (capped (length es)) (satellites_in (bins_of s es)) (capped (slips_in es)) (capped (missing_in s.unit es))
 
 -- the heading of a picture in SVG, which stands behind its marker
 abbrev pub heading_in_svg : Scale → List EpochTableView → List ℕ
 heading_in_svg s es =
-    svg_span s ++ svg_numbers (capped (length es)) (satellites_in (columns_of s es)) (capped (slips_in es)) (capped (missing_in s.unit es))
+    svg_span s ++ svg_numbers (capped (length es)) (satellites_in (bins_of s es)) (capped (slips_in es)) (capped (missing_in s.unit es))
 
 -- a picture in characters begins with its heading
 abbrev pub TextHasHeading : Type 0

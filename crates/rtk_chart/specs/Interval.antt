@@ -36,7 +36,7 @@ abbrev pub missing_before : ℕ → Option ℕ → ℕ → ℕ
 missing_before interval None t = 0
 missing_before interval (Some before) t = (t - before - 1) / interval
 
--- and in a file
+-- how many epochs are missing in a file
 abbrev pub missing_in : ℕ → List EpochTableView → ℕ
 missing_in interval [] = 0
 missing_in interval (e ∷ before) = missing_in interval before + missing_before interval (newest_moment before) e.time

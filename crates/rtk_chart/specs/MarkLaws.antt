@@ -5,16 +5,16 @@ use Rattle.rtk_rinex.specs.Record.{EpochTableView}
 use Rattle.rtk_rinex.specs.declared.epoch_table.Observed.{Observed}
 use Rattle.rtk_chart.specs.Epochs.{newest_moment, observed_in, is_seen, shows_phase, has_slip, has_half, level_of, slips_in}
 use Rattle.rtk_chart.specs.Interval.{steps_in, IsInterval, missing_in}
-use Rattle.rtk_chart.specs.Scale.{column_at}
-use Rattle.rtk_chart.specs.Grid.{column_of, columns_of, has_missing_before, gaps_of}
-use Rattle.rtk_chart.specs.TextPicture.{cell_of_column}
-use Rattle.rtk_chart.specs.Layers.{lane_at}
+use Rattle.rtk_chart.specs.Scale.{bin_at}
+use Rattle.rtk_chart.specs.Grid.{bin_of, bins_of, has_missing_before, gaps_of}
+use Rattle.rtk_chart.specs.TextPicture.{tracking_at}
+use Rattle.rtk_chart.specs.Layers.{coverage_at}
 use Rattle.rtk_chart.specs.declared.scale.Scale.{Scale}
-use Rattle.rtk_chart.specs.declared.cell.Cell.{Cell}
+use Rattle.rtk_chart.specs.declared.tracking.Tracking.{Tracking}
 
--- some epoch in a column passes a test of what it shows of the satellite at a place
+-- some epoch in a bin passes a test of what it shows of the satellite at a place
 abbrev pub some_passes : Scale → List EpochTableView → ℕ → ℕ → (List Observed → Bool) → Bool
-some_passes s es c place test = list_any (λ e. (column_at s e.time == c) && test (observed_in (place + 1) e.rows)) es
+some_passes s es c place test = list_any (λ e. (bin_at s e.time == c) && test (observed_in (place + 1) e.rows)) es
 
 -- the digit is this one or a lesser one
 abbrev pub is_at_most : ℕ → Option ℕ → Bool
@@ -25,31 +25,31 @@ is_at_most level (Some digit) = nat_le digit level
 abbrev pub is_weak : ℕ → List Observed → Bool
 is_weak level os = list_any (λ o. is_at_most level (level_of o.strength_millidbhz)) os
 
--- a cell shows of the satellite at a place what the epochs in a column have
-pub record ShowsEpochs (s : Scale) (es : List EpochTableView) (c place : ℕ) (cell : Cell) : Type 0 where
-  pub seen : cell.seen ≡ some_passes s es c place is_seen
-  pub slip : cell.slip ≡ some_passes s es c place has_slip
-  pub half : cell.half ≡ some_passes s es c place has_half
-  pub some : (code : ℕ) → code < 16 → (lane_at code cell).some ≡ some_passes s es c place (shows_phase code)
-  pub lacks : (code : ℕ) → code < 16 → (lane_at code cell).lacks ≡ some_passes s es c place (λ os. not (shows_phase code os))
-  pub least : (level : ℕ) → is_at_most level cell.least ≡ some_passes s es c place (is_weak level)
+-- the tracking of the satellite at a place shows what the epochs in a bin have
+pub record ShowsEpochs (s : Scale) (es : List EpochTableView) (c place : ℕ) (tracking : Tracking) : Type 0 where
+  pub seen : tracking.seen ≡ some_passes s es c place is_seen
+  pub slip : tracking.slip ≡ some_passes s es c place has_slip
+  pub half : tracking.half ≡ some_passes s es c place has_half
+  pub some : (code : ℕ) → code < 16 → (coverage_at code tracking).some ≡ some_passes s es c place (shows_phase code)
+  pub lacks : (code : ℕ) → code < 16 → (coverage_at code tracking).lacks ≡ some_passes s es c place (λ os. not (shows_phase code os))
+  pub least : (level : ℕ) → is_at_most level tracking.least ≡ some_passes s es c place (is_weak level)
 
--- this holds of each satellite in each column
-abbrev pub CellsShowEpochs : Type 0
-CellsShowEpochs =
-    (s : Scale) (es : List EpochTableView) (c place : ℕ) → c < s.columns → place < 32
-    → ShowsEpochs s es c place (cell_of_column place (get_or (columns_of s es) c (column_of [])))
+-- this holds of each satellite in each bin
+abbrev pub SatellitesShowEpochs : Type 0
+SatellitesShowEpochs =
+    (s : Scale) (es : List EpochTableView) (c place : ℕ) → c < s.bins → place < 32
+    → ShowsEpochs s es c place (tracking_at place (get_or (bins_of s es) c (bin_of [])))
 
--- an epoch is missing in the column, before one of these records and after the record before it
+-- an epoch is missing in the bin, before one of these records and after the record before it
 abbrev pub IsMissingIn : Scale → List EpochTableView → ℕ → Type 0
 IsMissingIn s es c =
     (newer : List EpochTableView) × (e : EpochTableView) × (before : List EpochTableView)
     × (es ≡ newer ++ e ∷ before) × (has_missing_before s (newest_moment before) e.time c ≡ true)
 
--- a column has the mark of missing epochs exactly then
+-- a bin has the mark of missing epochs exactly then
 abbrev pub GapsAreMissing : Type 0
 GapsAreMissing =
-    (s : Scale) (es : List EpochTableView) (c : ℕ) → c < s.columns → (get_or (gaps_of s es) c false ≡ true) ↔ IsMissingIn s es c
+    (s : Scale) (es : List EpochTableView) (c : ℕ) → c < s.bins → (get_or (gaps_of s es) c false ≡ true) ↔ IsMissingIn s es c
 
 -- ---- counts
 

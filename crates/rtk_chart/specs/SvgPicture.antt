@@ -8,12 +8,12 @@ use Rattle.rtk_rinex.specs.Reading.{reading_of}
 use Rattle.rtk_obs.specs.CivilText.{civil_text}
 use Rattle.rtk_chart.specs.Heading.{seconds_text}
 use Rattle.rtk_chart.specs.Ticks.{tick_step, tick_at, tick_label}
-use Rattle.rtk_chart.specs.TextPicture.{cell_of_column, is_drawn, drawn_before, satellites_in}
+use Rattle.rtk_chart.specs.TextPicture.{tracking_at, is_drawn, drawn_before, satellites_in}
 use Rattle.rtk_chart.specs.SvgPath.{runs_text, strokes_text}
 use Rattle.rtk_chart.specs.Layers.{shows}
 use Rattle.rtk_chart.specs.declared.svg_picture.TheConstants.{STYLE, LEGEND}
 use Rattle.rtk_chart.specs.declared.scale.Scale.{Scale}
-use Rattle.rtk_chart.specs.declared.column.Column.{Column}
+use Rattle.rtk_chart.specs.declared.time_bin.TimeBin.{TimeBin}
 use Rattle.rtk_chart.specs.declared.layer.Layer.{Layer}
 use Rattle.rtk_chart.specs.declared.layer.Layer.TheVariants.{Whole, Part, Level, Slip, Half}
 
@@ -38,13 +38,13 @@ number_between before n after = before ++ decimal n ++ after
 -- ---- the layers of a satellite
 
 -- formula
--- how wide a column is
-abbrev pub column_width : Scale → ℕ
-column_width s = 1440 / s.columns
+-- how wide a bin is drawn
+abbrev pub drawn_width : Scale → ℕ
+drawn_width s = 1440 / s.bins
 
--- which columns have a layer of the satellite at a place
-abbrev pub layer_flags : List Column → ℕ → Layer → List Bool
-layer_flags columns place layer = map (λ column. shows layer (cell_of_column place column)) columns
+-- which bins have a layer of the satellite at a place
+abbrev pub layer_flags : List TimeBin → ℕ → Layer → List Bool
+layer_flags bins place layer = map (λ bin. shows layer (tracking_at place bin)) bins
 
 -- formula
 -- the beginning of a path of a class, so far below the top of its band
@@ -52,36 +52,36 @@ abbrev pub path_start : List ℕ → ℕ → List ℕ
 path_start class top = codes "<path class='" ++ class ++ number_between (codes "' transform='translate(0 ") top (codes ")' d='")
 
 -- formula
--- a layer as lines over its columns
-unfoldable pub runs_layer : ℕ → List Column → ℕ → Layer → List ℕ → ℕ → List ℕ
-runs_layer w columns place layer class top = path_start class top ++ runs_text w (layer_flags columns place layer) ++ codes "'/>\n"
+-- a layer as lines over its bins
+unfoldable pub runs_layer : ℕ → List TimeBin → ℕ → Layer → List ℕ → ℕ → List ℕ
+runs_layer w bins place layer class top = path_start class top ++ runs_text w (layer_flags bins place layer) ++ codes "'/>\n"
 
 -- formula
--- a path of strokes in columns
+-- a path of strokes in bins
 unfoldable pub strokes_path : ℕ → List Bool → List ℕ → ℕ → List ℕ
 strokes_path w flags class top = path_start class top ++ strokes_text w flags ++ codes "'/>\n"
 
 -- formula
--- a code: its name, the columns with its phase in all epochs, and those with it in some
-unfoldable pub code_layers : ℕ → List Column → ℕ → ℕ → Code → List ℕ
-code_layers w columns place at code =
+-- a code: its name, the bins with its phase in all epochs, and those with it in some
+unfoldable pub code_layers : ℕ → List TimeBin → ℕ → ℕ → Code → List ℕ
+code_layers w bins place at code =
     number_between (codes "<text class='code' x='-4' y='") (8 * at + 25) (codes "'>") ++ name_of code ++ codes "</text>\n"
-    ++ runs_layer w columns place (Whole at) (codes "w") (8 * at + 22)
-    ++ strokes_path w (layer_flags columns place (Part at)) (codes "p") (8 * at + 19)
+    ++ runs_layer w bins place (Whole at) (codes "w") (8 * at + 22)
+    ++ strokes_path w (layer_flags bins place (Part at)) (codes "p") (8 * at + 19)
 
 -- the codes from a place on
-abbrev pub codes_layers : ℕ → List Column → ℕ → ℕ → List Code → List ℕ
-codes_layers w columns place at [] = []
-codes_layers w columns place at (c ∷ cs) = code_layers w columns place at c ++ codes_layers w columns place (at + 1) cs
+abbrev pub codes_layers : ℕ → List TimeBin → ℕ → ℕ → List Code → List ℕ
+codes_layers w bins place at [] = []
+codes_layers w bins place at (c ∷ cs) = code_layers w bins place at c ++ codes_layers w bins place (at + 1) cs
 
 -- formula
--- the columns of a least strength digit, in a class of its own
-abbrev pub level_layer : ℕ → List Column → ℕ → ℕ → ℕ → List ℕ
-level_layer w columns place top level = runs_layer w columns place (Level level) (108 ∷ (48 + level) ∷ []) top
+-- the bins of a least strength digit, in a class of its own
+abbrev pub level_layer : ℕ → List TimeBin → ℕ → ℕ → ℕ → List ℕ
+level_layer w bins place top level = runs_layer w bins place (Level level) (108 ∷ (48 + level) ∷ []) top
 
 -- formula
-unfoldable pub level_layers : ℕ → List Column → ℕ → ℕ → List ℕ
-level_layers w columns place top = flat_map (level_layer w columns place top) (range_with_len 1 9)
+unfoldable pub level_layers : ℕ → List TimeBin → ℕ → ℕ → List ℕ
+level_layers w bins place top = flat_map (level_layer w bins place top) (range_with_len 1 9)
 
 -- ---- bands
 
@@ -107,34 +107,34 @@ band_height listed = 8 * listed + 34
 
 -- formula
 -- the title of a satellite, and its slips and half cycles
-unfoldable pub lock_layers : ℕ → List Column → ℕ → List ℕ
-lock_layers w columns place =
-    band_title (place + 1) (count_of_flags (layer_flags columns place Slip)) (count_of_flags (layer_flags columns place Half))
-    ++ strokes_path w (layer_flags columns place Slip) (codes "s") 3
-    ++ strokes_path w (layer_flags columns place Half) (codes "h") 11
+unfoldable pub lock_layers : ℕ → List TimeBin → ℕ → List ℕ
+lock_layers w bins place =
+    band_title (place + 1) (count_of_flags (layer_flags bins place Slip)) (count_of_flags (layer_flags bins place Half))
+    ++ strokes_path w (layer_flags bins place Slip) (codes "s") 3
+    ++ strokes_path w (layer_flags bins place Half) (codes "h") 11
 
 -- formula
 -- the band of a satellite, so far from the top
-unfoldable pub band_text : ℕ → List Code → List Column → ℕ → ℕ → List ℕ
-band_text w listed columns top place =
+unfoldable pub band_text : ℕ → List Code → List TimeBin → ℕ → ℕ → List ℕ
+band_text w listed bins top place =
     number_between (codes "<g transform='translate(90 ") top (codes ")'>\n")
-    ++ lock_layers w columns place ++ codes_layers w columns place 0 listed
-    ++ level_layers w columns place (8 * length listed + 22)
+    ++ lock_layers w bins place ++ codes_layers w bins place 0 listed
+    ++ level_layers w bins place (8 * length listed + 22)
     ++ codes "</g>\n"
 
 -- formula
-abbrev pub band_if_drawn : ℕ → List Code → List Column → ℕ → List ℕ
-band_if_drawn w listed columns place =
-    if is_drawn columns place then band_text w listed columns (96 + drawn_before columns place * band_height (length listed)) place else []
+abbrev pub band_if_drawn : ℕ → List Code → List TimeBin → ℕ → List ℕ
+band_if_drawn w listed bins place =
+    if is_drawn bins place then band_text w listed bins (96 + drawn_before bins place * band_height (length listed)) place else []
 
 -- formula
-unfoldable pub bands_text : ℕ → List Code → List Column → List ℕ
-bands_text w listed columns = flat_map (band_if_drawn w listed columns) (range_with_len 0 32)
+unfoldable pub bands_text : ℕ → List Code → List TimeBin → List ℕ
+bands_text w listed bins = flat_map (band_if_drawn w listed bins) (range_with_len 0 32)
 
 -- ---- below the bands, so far from the top
 
 -- formula
--- the columns with missing epochs
+-- the bins with missing epochs
 unfoldable pub gaps_band : ℕ → ℕ → List Bool → List ℕ
 gaps_band w top gaps =
     number_between (codes "<g transform='translate(90 ") top (codes ")'>\n<title>missing epochs</title>\n<text class='name' x='-4' y='12'>missing</text>\n")
@@ -143,7 +143,7 @@ gaps_band w top gaps =
 -- formula
 -- ticks are 100 units apart or more
 abbrev pub svg_tick_step : Scale → ℕ
-svg_tick_step s = tick_step ((100 / column_width s + 1) * s.column_ms)
+svg_tick_step s = tick_step ((100 / drawn_width s + 1) * s.bin_ms)
 
 -- formula
 -- a tick at x: a line down from the top of the bands, and its label
@@ -155,7 +155,7 @@ tick_text top step x (Some t) =
 
 -- formula
 unfoldable pub ticks_text : Scale → ℕ → ℕ → List ℕ
-ticks_text s step top = flat_map (λ c. tick_text top step (90 + c * column_width s) (tick_at s step c)) (range_with_len 0 s.columns)
+ticks_text s step top = flat_map (λ c. tick_text top step (90 + c * drawn_width s) (tick_at s step c)) (range_with_len 0 s.bins)
 
 -- ---- the heading
 
@@ -165,11 +165,11 @@ interval_text None = codes "no interval"
 interval_text (Some ms) = codes "interval " ++ seconds_text ms ++ codes " s"
 
 -- formula
--- the span, the interval and the length of a column
+-- the span, the interval and the length of a bin
 unfoldable pub svg_span : Scale → List ℕ
 svg_span s =
     codes "<text x='90' y='52'>" ++ civil_text (reading_of s.first) ++ codes " to " ++ civil_text (reading_of s.last) ++ codes ", "
-    ++ interval_text s.interval ++ codes ", column " ++ seconds_text s.column_ms ++ codes " s</text>\n"
+    ++ interval_text s.interval ++ codes ", column " ++ seconds_text s.bin_ms ++ codes " s</text>\n"
 
 -- formula
 -- the numbers of records, satellites, slips and missing epochs
@@ -202,19 +202,19 @@ bands_end listed satellites = 96 + satellites * band_height listed
 
 -- formula
 -- what stands below the heading
-unfoldable pub svg_body : List Code → Scale → List Column → List Bool → ℕ → List ℕ
-svg_body listed s columns gaps end =
-    ticks_text s (svg_tick_step s) (end + 24) ++ bands_text (column_width s) listed columns
-    ++ gaps_band (column_width s) end gaps ++ svg_legend (end + 48) ++ codes "</svg>\n"
+unfoldable pub svg_body : List Code → Scale → List TimeBin → List Bool → ℕ → List ℕ
+svg_body listed s bins gaps end =
+    ticks_text s (svg_tick_step s) (end + 24) ++ bands_text (drawn_width s) listed bins
+    ++ gaps_band (drawn_width s) end gaps ++ svg_legend (end + 48) ++ codes "</svg>\n"
 
 -- formula
 -- the picture of a file with records: its marker, its codes, its scale, the numbers of its records,
--- slips and missing epochs, and what its columns show
-unfoldable pub svg_picture : List ℕ → List Code → Scale → ℕ → ℕ → ℕ → List Column → List Bool → List ℕ
-svg_picture marker listed s records slips missing columns gaps =
-    svg_start marker (bands_end (length listed) (satellites_in columns) + 100)
-    ++ svg_span s ++ svg_numbers records (satellites_in columns) slips missing
-    ++ svg_body listed s columns gaps (bands_end (length listed) (satellites_in columns))
+-- slips and missing epochs, and what its bins show
+unfoldable pub svg_picture : List ℕ → List Code → Scale → ℕ → ℕ → ℕ → List TimeBin → List Bool → List ℕ
+svg_picture marker listed s records slips missing bins gaps =
+    svg_start marker (bands_end (length listed) (satellites_in bins) + 100)
+    ++ svg_span s ++ svg_numbers records (satellites_in bins) slips missing
+    ++ svg_body listed s bins gaps (bands_end (length listed) (satellites_in bins))
 
 -- formula
 -- the picture of a file without records

@@ -3,7 +3,7 @@ use Rattle.std.specs.Prelude.{ℕ, ◌+◌, ◌-◌, ◌*◌, ◌/◌, nat_le, n
 use Rattle.std.specs.List.{find}
 use Rattle.rtk_rinex.specs.Reading.{reading_of}
 use Rattle.rtk_obs.specs.CivilText.{date_text, clock_text}
-use Rattle.rtk_chart.specs.Scale.{column_start}
+use Rattle.rtk_chart.specs.Scale.{bin_start}
 use Rattle.rtk_chart.specs.declared.scale.Scale.{Scale}
 
 -- table
@@ -18,14 +18,14 @@ tick_steps =
 abbrev pub tick_step : ℕ → ℕ
 tick_step least = unwrap_or (find (λ step. nat_le least step) tick_steps) ((least + 86_399_999) / 86_400_000 * 86_400_000)
 
--- the moment of the tick in a column, if one is there: the last whole step up to the column's end and
+-- the moment of the tick in a bin, if one is there: the last whole step up to the bin's end and
 -- to the last record
 abbrev pub last_whole : Scale → ℕ → ℕ → ℕ
-last_whole s step c = min (column_start s c + s.column_ms - 1) s.last / step * step
+last_whole s step c = min (bin_start s c + s.bin_ms - 1) s.last / step * step
 
 -- formula
 abbrev pub tick_at : Scale → ℕ → ℕ → Option ℕ
-tick_at s step c = if nat_le (column_start s c) (last_whole s step c) then Some (last_whole s step c) else None
+tick_at s step c = if nat_le (bin_start s c) (last_whole s step c) then Some (last_whole s step c) else None
 
 -- formula
 -- what stands at a tick, in 10 characters: its time of day, or its date if ticks are a day apart or

@@ -4,7 +4,7 @@ ghost use Rattle.std.specs.Prelude.{◌≡◌, IfOk};
 ghost use Rattle.std.specs.Int.{IsInRange};
 ghost use Rattle.rtk_chart.specs.Chart.{ShowsTable, ShowsTableInSvg};
 
-use crate::reading::{fill, look_at};
+use crate::passes::{fill_grid, survey_records};
 use crate::scale::Scale;
 use crate::svg_picture::{svg_of_none, svg_picture};
 use crate::text_picture::{text_of_none, text_picture};
@@ -12,14 +12,14 @@ use rtk_rinex::Table;
 use std::alloc::{AllocError, Global};
 
 /// The picture of a table in characters: a heading, and a row for each satellite, with a character for
-/// each column of time. Rows are at most so many characters wide.
+/// each bin of time. Rows are at most so many characters wide.
 pub fn chart_text(alloc: Global, table: &Table<'_>, width: usize) -> Result<Vec<u8>, AllocError>
     requires { IsInRange 40 400 width }
     // It gives up only if memory is refused: row chart_text of tests/system/calls.
     ensures { IfOk result (λ text. ShowsTable table.now.text width text.items) }
 {
     let heading = table.heading();
-    let survey = look_at(alloc, table, heading.first)?;
+    let survey = survey_records(alloc, table, heading.first)?;
     let marker = heading.head.marker();
     let Some(last) = survey.last else {
         let text = text_of_none(alloc, marker)?;
@@ -27,19 +27,19 @@ pub fn chart_text(alloc: Global, table: &Table<'_>, width: usize) -> Result<Vec<
     };
     let interval = survey.steps.interval();
     let scale = Scale::new(heading.first, last, interval, width as u64 - 5);
-    let grid = fill(alloc, table, &scale, heading.first)?;
+    let grid = fill_grid(alloc, table, &scale, heading.first)?;
     let text = text_picture(alloc, marker, &scale, &survey, &grid)?;
     Ok(text)
 }
 
 /// The picture of a table in SVG: a band for each satellite, and in it a row for slips, for half
-/// cycles, for each code and for the least strength, in 1440 columns of time at most.
+/// cycles, for each code and for the least strength, in 1440 bins of time at most.
 pub fn chart_svg(alloc: Global, table: &Table<'_>) -> Result<Vec<u8>, AllocError>
     // It gives up only if memory is refused: row chart_svg of tests/system/calls.
     ensures { IfOk result (λ svg. ShowsTableInSvg table.now.text svg.items) }
 {
     let heading = table.heading();
-    let survey = look_at(alloc, table, heading.first)?;
+    let survey = survey_records(alloc, table, heading.first)?;
     let marker = heading.head.marker();
     let codes = heading.head.codes();
     let Some(last) = survey.last else {
@@ -48,7 +48,7 @@ pub fn chart_svg(alloc: Global, table: &Table<'_>) -> Result<Vec<u8>, AllocError
     };
     let interval = survey.steps.interval();
     let scale = Scale::new(heading.first, last, interval, 1440);
-    let grid = fill(alloc, table, &scale, heading.first)?;
+    let grid = fill_grid(alloc, table, &scale, heading.first)?;
     let svg = svg_picture(alloc, marker, codes, &scale, &survey, &grid)?;
     Ok(svg)
 }

@@ -1,41 +1,38 @@
-//! The columns of a picture with what their epochs call for.
+//! The bins of a picture with what their epochs call for.
 
-ghost use Rattle.std.specs.Prelude.{◌≡◌, ◌≤◌, ◌<◌, ◌+◌, ◌&&◌, ◌||◌, nat_le, ℕ, Option, None, Some, List, [], ◌∷◌, Bool, false, length, get_or, map, IfOk};
-ghost use Rattle.std.specs.List.{range_with_len};
+ghost use Rattle.std.specs.Prelude.{◌≡◌, ◌&&◌, nat_le, Some, List, [], ◌∷◌, length, IfOk};
 ghost use Rattle.rtk_rinex.specs.Reading.{IsMoment};
 ghost use Rattle.rtk_rinex.specs.Record.{EpochTableView};
-ghost use Rattle.rtk_chart.specs.Epochs.{capped};
-ghost use Rattle.rtk_chart.specs.Interval.{missing_before, missing_in};
+ghost use Rattle.rtk_chart.specs.Epochs.{newest_moment};
+ghost use Rattle.rtk_chart.specs.Interval.{missing_before};
 ghost use Rattle.rtk_chart.specs.Scale.{IsScale};
-ghost use Rattle.rtk_chart.specs.Grid.{columns_of, has_missing_before, has_missing};
-ghost use Rattle.rtk_chart.specs.Steps.Standing.{StandsForGrid};
+ghost use Rattle.rtk_chart.specs.Grid.{bins_of, has_missing_before};
+ghost use Rattle.rtk_chart.specs.Steps.Standing.{AddsMarks, StandsForMissing, StandsForGrid};
 
-use crate::column::Column;
 use crate::scale::Scale;
+use crate::time_bin::TimeBin;
 use rtk_obs::GpsMs;
 use rtk_rinex::{EpochTable, SatelliteRow};
 use std::alloc::{AllocError, Global};
 
-/// The columns with what was read, and the epochs that are missing.
+/// The bins with what was read, and the epochs that are missing.
 #[derive(Drop)]
 pub(crate) struct Grid {
-    pub(crate) columns: Vec<Column>,
-    /// Whether an epoch is missing in each column.
+    pub(crate) bins: Vec<TimeBin>,
+    /// Whether an epoch is missing in each bin.
     pub(crate) gaps: Vec<bool>,
     pub(crate) missing: u64,
     /// The moment of the record that was read last.
     pub(crate) last: Option<GpsMs>,
 }
 
-// Marks the columns from one to another, both with it.
+// Marks the bins from one to another, both with it.
 fn mark(gaps: &mut Vec<bool>, from: u64, to: u64)
-    ensures size { length gaps.new.items ≡ length gaps.old.items }
-    ensures marked { (c : ℕ) → c < length gaps.old.items
-        → get_or gaps.new.items c false ≡ ((nat_le from c && nat_le c to) || get_or gaps.old.items c false) }
+    ensures { AddsMarks (λ c. nat_le from c && nat_le c to) gaps.old.items gaps.new.items }
 {
-    for column in 0..gaps.len() {
-        if from <= column as u64 && column as u64 <= to {
-            gaps[column] = true;
+    for bin in 0..gaps.len() {
+        if from <= bin as u64 && bin as u64 <= to {
+            gaps[bin] = true;
         }
     }
 }
@@ -48,60 +45,56 @@ fn missing_between(scale: &Scale, before: u64, moment: u64) -> u64
     moment.saturating_sub(before).saturating_sub(1) / scale.unit
 }
 
-// Marks the columns of the epochs that are missing between two moments, which are so many.
+// Marks the bins of the epochs that are missing between two moments, which are so many.
 fn mark_missing(gaps: &mut Vec<bool>, scale: &Scale, before: u64, moment: u64, missing: u64)
     requires good { IsScale scale.now }
     requires before { IsMoment before }
     requires moment { IsMoment moment }
     requires missing { missing ≡ missing_before scale.now.unit (Some before) moment }
-    ensures size { length gaps.new.items ≡ length gaps.old.items }
-    ensures marked { (seen : ℕ → Bool) → gaps.old.items ≡ map seen (range_with_len 0 scale.now.columns)
-        → gaps.new.items ≡ map (λ c. has_missing_before scale.now (Some before) moment c || seen c) (range_with_len 0 scale.now.columns) }
+    ensures { AddsMarks (has_missing_before scale.now (Some before) moment) gaps.old.items gaps.new.items }
 {
     if missing > 0 {
-        let from = scale.column_at(before + scale.unit);
-        let to = scale.column_at(before + missing * scale.unit);
+        let from = scale.bin_at(before + scale.unit);
+        let to = scale.bin_at(before + missing * scale.unit);
         mark(gaps, from, to);
     }
 }
 
-// An epoch more, which stands in its column.
-fn take_rows(columns: &mut Vec<Column>, scale: &Scale, moment: u64, rows: &[SatelliteRow])
+// Notes the rows of an epoch in its bin.
+fn note_in_bin(bins: &mut Vec<TimeBin>, scale: &Scale, moment: u64, rows: &[SatelliteRow])
     requires { IsScale scale.now }
-    ensures size { length columns.new.items ≡ length columns.old.items }
-    ensures taken { (e : EpochTableView) (es : List EpochTableView) → rows.now ≡ e.rows → moment ≡ e.time
-        → columns.old.items ≡ columns_of scale.now es → columns.new.items ≡ columns_of scale.now (e ∷ es) }
+    ensures size { length bins.new.items ≡ length bins.old.items }
+    ensures noted { (e : EpochTableView) (es : List EpochTableView) → rows.now ≡ e.rows → moment ≡ e.time
+        → bins.old.items ≡ bins_of scale.now es → bins.new.items ≡ bins_of scale.now (e ∷ es) }
 {
-    let place = scale.column_at(moment) as usize;
-    if place < columns.len() {
-        columns[place].take(rows);
+    let place = scale.bin_at(moment) as usize;
+    if place < bins.len() {
+        bins[place].note_rows(rows);
     }
 }
 
 impl Grid {
     /// No record was read.
     pub(crate) fn new(alloc: Global, scale: &Scale) -> Result<Grid, AllocError>
-        ensures columns { IfOk result (λ grid. length grid.columns.items ≡ scale.now.columns) }
-        ensures gaps { IfOk result (λ grid. length grid.gaps.items ≡ scale.now.columns) }
+        ensures bins { IfOk result (λ grid. length grid.bins.items ≡ scale.now.bins) }
+        ensures gaps { IfOk result (λ grid. length grid.gaps.items ≡ scale.now.bins) }
         ensures grid { IfOk result (λ grid. StandsForGrid grid scale.now []) }
     {
         Ok(Grid {
-            columns: vec![in alloc; Column::new(); scale.columns as usize]?,
-            gaps: vec![in alloc; false; scale.columns as usize]?,
+            bins: vec![in alloc; TimeBin::new(); scale.bins as usize]?,
+            gaps: vec![in alloc; false; scale.bins as usize]?,
             missing: 0,
             last: None,
         })
     }
 
-    // The epochs that are missing before a moment.
-    fn take_gap(&mut self, scale: &Scale, moment: GpsMs)
+    // Counts the epochs that are missing before a moment, and marks their bins.
+    fn count_missing(&mut self, scale: &Scale, moment: GpsMs)
         requires { IsScale scale.now }
-        ensures columns { self.new.columns ≡ self.old.columns }
+        ensures bins { self.new.bins ≡ self.old.bins }
         ensures size { length self.new.gaps.items ≡ length self.old.gaps.items }
-        ensures gaps { (seen : ℕ → Bool) → self.old.gaps.items ≡ map seen (range_with_len 0 scale.now.columns)
-            → self.new.gaps.items ≡ map (λ c. has_missing_before scale.now self.old.last moment c || seen c) (range_with_len 0 scale.now.columns) }
-        ensures missing { (before : ℕ) → self.old.missing ≡ capped before
-            → self.new.missing ≡ capped (before + missing_before scale.now.unit self.old.last moment) }
+        ensures missing { (e : EpochTableView) (es : List EpochTableView) → moment ≡ e.time → self.old.last ≡ newest_moment es
+            → StandsForMissing self.old scale.now es → StandsForMissing self.new scale.now (e ∷ es) }
     {
         if let Some(last) = self.last {
             let missing = missing_between(scale, last.ms(), moment.ms());
@@ -110,16 +103,16 @@ impl Grid {
         }
     }
 
-    /// A record more.
-    pub(crate) fn take(&mut self, scale: &Scale, epoch: &EpochTable)
+    /// Notes one more record in its bin, and the epochs that are missing before it.
+    pub(crate) fn place_record(&mut self, scale: &Scale, epoch: &EpochTable)
         requires { IsScale scale.now }
-        ensures columns { length self.new.columns.items ≡ length self.old.columns.items }
+        ensures bins { length self.new.bins.items ≡ length self.old.bins.items }
         ensures gaps { length self.new.gaps.items ≡ length self.old.gaps.items }
         ensures grid { (es : List EpochTableView) → StandsForGrid self.old scale.now es → StandsForGrid self.new scale.now (epoch.now ∷ es) }
     {
         let time = epoch.time();
-        self.take_gap(scale, time);
-        take_rows(&mut self.columns, scale, time.ms(), epoch.rows());
+        self.count_missing(scale, time);
+        note_in_bin(&mut self.bins, scale, time.ms(), epoch.rows());
         self.last = Some(time);
     }
 }

@@ -1,38 +1,38 @@
-//! Laws of the definitions of a picture: how long and how wide a column is, what it shows of its
+//! Laws of the definitions of a picture: how long and how wide a bin is, what it shows of its
 //! epochs, where epochs are missing, and what a heading tells.
 
-ghost use Rattle.rtk_chart.specs.Laws.{ColumnsAreFew, ShorterColumnsAreTooMany, ScalesFillRoom, RowsHaveAllColumns, ColumnsFillBands, MissingMarksAreEpochs};
-ghost use Rattle.rtk_chart.specs.MarkLaws.{CellsShowEpochs, GapsAreMissing, IntervalIsMostFrequent, MissingAreOfSteps, SlipsAreDigits};
+ghost use Rattle.rtk_chart.specs.Laws.{BinsAreFew, ShorterBinsAreTooMany, ScalesFillRoom, RowsHaveAllBins, BinsFillBands, MissingMarksAreEpochs};
+ghost use Rattle.rtk_chart.specs.MarkLaws.{SatellitesShowEpochs, GapsAreMissing, IntervalIsMostFrequent, MissingAreOfSteps, SlipsAreDigits};
 ghost use Rattle.rtk_chart.specs.HeadingLaws.{TablesHaveNumbers, TextHasHeading, EqualTextHeadings, SvgHasHeading, EqualSvgHeadings};
 
 use rtk_rinex::one_reading;
 
-/// A column is as few intervals long as leave room for the file: so long, there are as many columns
+/// A bin, drawn as a column, is as few intervals long as leave room for the file: so long, there are as many bins
 /// as allowed at most, and if it were shorter there would be more.
 pub fn columns_are_least()
-    ensures few { ColumnsAreFew }
-    ensures least { ShorterColumnsAreTooMany }
+    ensures few { BinsAreFew }
+    ensures least { ShorterBinsAreTooMany }
 {}
 
-/// The columns of a picture fill its room. They are as short as leaves room, and each record has its
-/// column. In characters, a row has one character for each column. In SVG, a column is as wide as
+/// The bins of a picture fill its room. They are as short as leaves room, and each record has its
+/// bin. In characters, a row has one character for each bin. In SVG, a bin is as wide as
 /// leaves room for all.
 pub fn columns_fill_room()
     ensures scale { ScalesFillRoom }
-    ensures rows { RowsHaveAllColumns }
-    ensures bands { ColumnsFillBands }
+    ensures rows { RowsHaveAllBins }
+    ensures bands { BinsFillBands }
 {}
 
-/// A column has a mark between two records exactly if an epoch is missing in it: one a whole number of
+/// A bin has a mark between two records exactly if an epoch is missing in it: one a whole number of
 /// intervals after the first record and before the second.
 pub fn missing_marks_are_epochs()
     ensures { MissingMarksAreEpochs }
 {}
 
-/// A column shows of a satellite what the epochs in it have, however many they are, and has the mark
+/// A bin shows of a satellite what the epochs in it have, however many they are, and has the mark
 /// of missing epochs exactly if one is missing in it.
 pub fn marks_are_of_epochs()
-    ensures cells { CellsShowEpochs }
+    ensures satellites { SatellitesShowEpochs }
     ensures gaps { GapsAreMissing }
 {}
 
@@ -44,14 +44,14 @@ pub fn counts_are_of_epochs()
     ensures slips { SlipsAreDigits }
 {}
 
-/// A file with records has its numbers at the scale of each of its pictures: each record has its column,
+/// A file with records has its numbers at the scale of each of its pictures: each record has its bin,
 /// and moments and lengths of time are far below 2^64. Only its counts must be below 2^64.
 pub fn files_have_numbers()
     ensures { TablesHaveNumbers }
 {}
 
 /// A picture in characters begins with its heading. Two files with equal headings have the same marker
-/// and the same numbers, up to 2^64: first and last moment, interval, length of a column, records,
+/// and the same numbers, up to 2^64: first and last moment, interval, length of a bin, records,
 /// satellites, slips and missing epochs.
 pub fn text_headings_tell_numbers()
     ensures stands { TextHasHeading }

@@ -1,17 +1,17 @@
 //! The layers of a band.
 
 ghost use Rattle.std.specs.Prelude.{◌≡◌, ◌<◌, ◌++◌, Bool, map, IfOk};
-ghost use Rattle.rtk_chart.specs.TextPicture.{cell_of_column};
-ghost use Rattle.rtk_chart.specs.Layers.{shows, lane_at, is_level};
+ghost use Rattle.rtk_chart.specs.TextPicture.{tracking_at};
+ghost use Rattle.rtk_chart.specs.Layers.{shows, coverage_at, is_level};
 
-use crate::cell::{Cell, Lane};
-use crate::column::Column;
+use crate::time_bin::TimeBin;
+use crate::tracking::{Coverage, Tracking};
 use std::alloc::{AllocError, Global};
 
-/// What of a cell is drawn.
+/// What of a satellite's tracking is drawn.
 #[derive(Clone, Copy)]
 pub(crate) enum Layer {
-    /// The phase of the code at this place stands in all epochs of the column.
+    /// The phase of the code at this place stands in all epochs of the bin.
     Whole { place: usize },
     /// The phase of the code at this place stands in some epochs and not in all.
     Part { place: usize },
@@ -23,13 +23,13 @@ pub(crate) enum Layer {
     Half,
 }
 
-fn lane_at(cell: &Cell, place: usize) -> Lane
-    ensures { result ≡ lane_at place cell.now }
+fn coverage_at(tracking: &Tracking, place: usize) -> Coverage
+    ensures { result ≡ coverage_at place tracking.now }
 {
     if place < 16 {
-        cell.lanes[place]
+        tracking.phases[place]
     } else {
-        Lane {
+        Coverage {
             some: false,
             lacks: false,
         }
@@ -45,37 +45,37 @@ fn is_level(level: u8, least: Option<u8>) -> bool
     }
 }
 
-fn shows(layer: Layer, cell: &Cell) -> bool
-    ensures { result ≡ shows layer cell.now }
+fn shows(layer: Layer, tracking: &Tracking) -> bool
+    ensures { result ≡ shows layer tracking.now }
 {
     match layer {
         Layer::Whole { place } => {
-            let lane = lane_at(cell, place);
-            lane.some && !lane.lacks
+            let coverage = coverage_at(tracking, place);
+            coverage.some && !coverage.lacks
         }
         Layer::Part { place } => {
-            let lane = lane_at(cell, place);
-            lane.some && lane.lacks
+            let coverage = coverage_at(tracking, place);
+            coverage.some && coverage.lacks
         }
-        Layer::Level { level } => is_level(level, cell.least),
-        Layer::Slip => cell.slip,
-        Layer::Half => cell.half,
+        Layer::Level { level } => is_level(level, tracking.least),
+        Layer::Slip => tracking.slip,
+        Layer::Half => tracking.half,
     }
 }
 
-/// Which columns have a layer of the satellite at this place.
+/// Which bins have a layer of the satellite at this place.
 pub(crate) fn flags(
     alloc: Global,
-    columns: &[Column],
+    bins: &[TimeBin],
     place: usize,
     layer: Layer,
 ) -> Result<Vec<bool>, AllocError>
     requires { place < 32 }
-    ensures { IfOk result (λ flags. flags.items ≡ map (λ column. shows layer (cell_of_column place column)) columns.now) }
+    ensures { IfOk result (λ flags. flags.items ≡ map (λ bin. shows layer (tracking_at place bin)) bins.now) }
 {
     let mut flags = Vec::new(alloc);
-    for column in columns {
-        flags.push(shows(layer, &column.cells[place]))?;
+    for bin in bins {
+        flags.push(shows(layer, &bin.satellites[place]))?;
     }
     Ok(flags)
 }

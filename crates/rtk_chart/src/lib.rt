@@ -1,5 +1,6 @@
 //! A picture of an observation file: its satellites in bands along its time, with each slip, half
-//! cycle, missing phase and missing epoch.
+//! cycle, missing phase and missing epoch. Its time is divided into bins, and each bin is drawn as a
+//! column.
 //!
 //! Its tests: tests/values/src/chart.rt.in and chart/.
 //!
@@ -31,14 +32,12 @@
 
 #![tactic(auto)]
 
-mod cell;
 mod chart;
-mod column;
 mod grid;
 mod laws;
 mod layer;
 mod observations;
-mod reading;
+mod passes;
 mod scale;
 mod steps;
 mod survey;
@@ -49,7 +48,9 @@ mod svg_picture;
 mod svg_text;
 mod text_picture;
 mod ticks;
-mod times;
+mod time_bin;
+mod time_text;
+mod tracking;
 
 pub use chart::{chart_svg, chart_text};
 pub use laws::{

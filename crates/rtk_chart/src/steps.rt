@@ -71,8 +71,8 @@ impl Steps {
         }
     }
 
-    /// A step more.
-    pub(crate) fn take(&mut self, step: u64) -> Result<(), AllocError>
+    /// Counts one more step.
+    pub(crate) fn add_step(&mut self, step: u64) -> Result<(), AllocError>
         ensures { OnOk result ((steps : List ℕ) → StandsForSteps self.old steps → StandsForSteps self.new (step ∷ steps)) }
     {
         let count = count_step(&mut self.counts, step)?;

@@ -33,13 +33,13 @@ impl Survey {
         }
     }
 
-    /// A record more.
-    pub(crate) fn take(&mut self, epoch: &EpochTable) -> Result<(), AllocError>
+    /// Counts one more record.
+    pub(crate) fn count_record(&mut self, epoch: &EpochTable) -> Result<(), AllocError>
         ensures { OnOk result ((es : List EpochTableView) → StandsForSurvey self.old es → StandsForSurvey self.new (epoch.now ∷ es)) }
     {
         let time = epoch.time();
         if let Some(last) = self.last {
-            self.steps.take(time.ms().saturating_sub(last.ms()))?;
+            self.steps.add_step(time.ms().saturating_sub(last.ms()))?;
         }
         self.records = self.records.saturating_add(1);
         self.slips = with_slips(self.slips, epoch.rows());

@@ -1,30 +1,30 @@
 //! The bands of the satellites in an SVG picture, and what stands below them.
 
-ghost use Rattle.std.specs.Prelude.{◌≡◌, ◌≤◌, ◌<◌, ◌+◌, ◌*◌, ◌/◌, ◌^◌, ◌++◌, length, OnOk};
+ghost use Rattle.std.specs.Prelude.{◌≡◌, ◌≤◌, ◌<◌, ◌+◌, ◌*◌, ◌/◌, ◌++◌, length, OnOk};
 ghost use Rattle.std.specs.Option.{ForSome};
 ghost use Rattle.rtk_rinex.specs.Reading.{IsMoment};
-ghost use Rattle.rtk_chart.specs.Scale.{IsScale};
-ghost use Rattle.rtk_chart.specs.SvgPicture.{satellite_label, band_title, lock_layers, band_text, column_width, band_if_drawn, bands_text, gaps_band, tick_text, svg_tick_step, ticks_text};
+ghost use Rattle.rtk_chart.specs.Scale.{IsScale, longest_bin};
+ghost use Rattle.rtk_chart.specs.SvgPicture.{satellite_label, band_title, lock_layers, band_text, drawn_width, band_if_drawn, bands_text, gaps_band, tick_text, svg_tick_step, ticks_text, bands_end};
 
-use crate::column::Column;
 use crate::layer::{Layer, flags};
 use crate::scale::Scale;
 use crate::svg_layers::{count_of, put_codes, put_levels, put_strokes_path};
 use crate::svg_text::put_between;
 use crate::text_picture::{drawn_before, is_drawn};
 use crate::ticks::{put_tick_label, tick_at, tick_step};
+use crate::time_bin::TimeBin;
 use rtk_obs::Code;
 use std::alloc::{AllocError, Global};
 
 fn put_label(text: &mut Vec<u8>, satellite: u8) -> Result<(), AllocError>
-    requires { satellite < 100 }
+    requires { satellite ≤ 32 }
     ensures { OnOk result (text.new.items ≡ text.old.items ++ satellite_label satellite) }
 {
     text.extend_from_slice(&[b'G', b'0' + satellite / 10, b'0' + satellite % 10])
 }
 
 fn put_title(text: &mut Vec<u8>, satellite: u8, slips: u64, halves: u64) -> Result<(), AllocError>
-    requires { satellite < 100 }
+    requires { satellite ≤ 32 }
     ensures { OnOk result (text.new.items ≡ text.old.items ++ band_title satellite slips halves) }
 {
     text.extend_from_slice(b"<title>")?;
@@ -41,20 +41,20 @@ fn put_title(text: &mut Vec<u8>, satellite: u8, slips: u64, halves: u64) -> Resu
     Ok(())
 }
 
-// The layers of the loss-of-lock digits, after a title that tells how many columns have them.
+// The layers of the loss-of-lock digits, after a title that tells how many bins have them.
 fn put_lock_layers(
     alloc: Global,
     text: &mut Vec<u8>,
     width: u64,
-    columns: &[Column],
+    bins: &[TimeBin],
     place: usize,
 ) -> Result<(), AllocError>
     requires place { place < 32 }
-    requires width { length columns.now * width ≤ 1440 }
-    ensures { OnOk result (text.new.items ≡ text.old.items ++ lock_layers width columns.now place) }
+    requires width { length bins.now * width ≤ 1440 }
+    ensures { OnOk result (text.new.items ≡ text.old.items ++ lock_layers width bins.now place) }
 {
-    let slips = flags(alloc, columns, place, Layer::Slip)?;
-    let halves = flags(alloc, columns, place, Layer::Half)?;
+    let slips = flags(alloc, bins, place, Layer::Slip)?;
+    let halves = flags(alloc, bins, place, Layer::Half)?;
     let slip_count = count_of(slips.as_slice());
     let half_count = count_of(halves.as_slice());
     put_title(text, place as u8 + 1, slip_count, half_count)?;
@@ -68,26 +68,19 @@ fn put_band(
     text: &mut Vec<u8>,
     width: u64,
     codes: &[Code],
-    columns: &[Column],
+    bins: &[TimeBin],
     top: u64,
     place: usize,
 ) -> Result<(), AllocError>
     requires place { place < 32 }
-    requires width { length columns.now * width ≤ 1440 }
+    requires width { length bins.now * width ≤ 1440 }
     requires few { length codes.now ≤ 16 }
-    ensures { OnOk result (text.new.items ≡ text.old.items ++ band_text width codes.now columns.now top place) }
+    ensures { OnOk result (text.new.items ≡ text.old.items ++ band_text width codes.now bins.now top place) }
 {
     put_between(text, b"<g transform='translate(90 ", top, b")'>\n")?;
-    put_lock_layers(alloc, text, width, columns, place)?;
-    put_codes(alloc, text, width, columns, place, codes)?;
-    put_levels(
-        alloc,
-        text,
-        width,
-        columns,
-        place,
-        8 * codes.len() as u64 + 22,
-    )?;
+    put_lock_layers(alloc, text, width, bins, place)?;
+    put_codes(alloc, text, width, bins, place, codes)?;
+    put_levels(alloc, text, width, bins, place, 8 * codes.len() as u64 + 22)?;
     text.extend_from_slice(b"</g>\n")?;
     Ok(())
 }
@@ -97,18 +90,18 @@ fn put_band_if_drawn(
     text: &mut Vec<u8>,
     width: u64,
     codes: &[Code],
-    columns: &[Column],
+    bins: &[TimeBin],
     place: usize,
 ) -> Result<(), AllocError>
     requires place { place < 32 }
-    requires width { length columns.now * width ≤ 1440 }
+    requires width { length bins.now * width ≤ 1440 }
     requires few { length codes.now ≤ 16 }
-    ensures { OnOk result (text.new.items ≡ text.old.items ++ band_if_drawn width codes.now columns.now place) }
+    ensures { OnOk result (text.new.items ≡ text.old.items ++ band_if_drawn width codes.now bins.now place) }
 {
-    if is_drawn(columns, place) {
+    if is_drawn(bins, place) {
         let height = 8 * codes.len() as u64 + 34;
-        let top = 96 + drawn_before(columns, place) * height;
-        put_band(alloc, text, width, codes, columns, top, place)?;
+        let top = 96 + drawn_before(bins, place) * height;
+        put_band(alloc, text, width, codes, bins, top, place)?;
     }
     Ok(())
 }
@@ -119,19 +112,19 @@ pub(crate) fn put_bands(
     text: &mut Vec<u8>,
     width: u64,
     codes: &[Code],
-    columns: &[Column],
+    bins: &[TimeBin],
 ) -> Result<(), AllocError>
-    requires width { length columns.now * width ≤ 1440 }
+    requires width { length bins.now * width ≤ 1440 }
     requires few { length codes.now ≤ 16 }
-    ensures { OnOk result (text.new.items ≡ text.old.items ++ bands_text width codes.now columns.now) }
+    ensures { OnOk result (text.new.items ≡ text.old.items ++ bands_text width codes.now bins.now) }
 {
     for place in 0..32 {
-        put_band_if_drawn(alloc, text, width, codes, columns, place)?;
+        put_band_if_drawn(alloc, text, width, codes, bins, place)?;
     }
     Ok(())
 }
 
-/// Appends the row of the columns with missing epochs.
+/// Appends the row of the bins with missing epochs.
 pub(crate) fn put_gaps(
     text: &mut Vec<u8>,
     width: u64,
@@ -160,7 +153,7 @@ fn put_tick(
     tick: Option<u64>,
 ) -> Result<(), AllocError>
     requires tick { ForSome tick IsMoment }
-    requires top { top ≤ 100_000 }
+    requires top { top ≤ bands_end 16 32 + 24 }
     ensures { OnOk result (text.new.items ≡ text.old.items ++ tick_text top step x tick) }
 {
     let Some(moment) = tick else {
@@ -176,18 +169,18 @@ fn put_tick(
 }
 
 // How long the step between ticks is at least: 100 units.
-fn least_step(width: u64, column_ms: u64) -> u64
+fn least_step(width: u64, bin_ms: u64) -> u64
     requires width { 0 < width }
-    requires some { 0 < column_ms }
-    requires bound { column_ms ≤ 7_636_031_999_998 }
-    ensures value { result ≡ (100 / width + 1) * column_ms }
+    requires some { 0 < bin_ms }
+    requires bound { bin_ms ≤ longest_bin }
+    ensures value { result ≡ (100 / width + 1) * bin_ms }
     ensures positive { 0 < result }
-    ensures few { result < 2 ^ 60 }
+    ensures few { result ≤ 101 * longest_bin }
 {
-    (100 / width + 1) * column_ms
+    (100 / width + 1) * bin_ms
 }
 
-/// Appends the ticks of the columns, each so wide.
+/// Appends the ticks of the bins, each so wide.
 pub(crate) fn put_ticks(
     text: &mut Vec<u8>,
     scale: &Scale,
@@ -195,16 +188,16 @@ pub(crate) fn put_ticks(
     top: u64,
 ) -> Result<(), AllocError>
     requires good { IsScale scale.now }
-    requires width { width ≡ column_width scale.now }
+    requires width { width ≡ drawn_width scale.now }
     requires some { 0 < width }
-    requires fits { scale.now.columns * width ≤ 1440 }
-    requires top { top ≤ 100_000 }
+    requires fits { scale.now.bins * width ≤ 1440 }
+    requires top { top ≤ bands_end 16 32 + 24 }
     ensures { OnOk result (text.new.items ≡ text.old.items ++ ticks_text scale.now (svg_tick_step scale.now) top) }
 {
-    let step = tick_step(least_step(width, scale.column_ms));
-    for column in 0..scale.columns {
-        let tick = tick_at(scale, step, column);
-        put_tick(text, top, step, 90 + column * width, tick)?;
+    let step = tick_step(least_step(width, scale.bin_ms));
+    for bin in 0..scale.bins {
+        let tick = tick_at(scale, step, bin);
+        put_tick(text, top, step, 90 + bin * width, tick)?;
     }
     Ok(())
 }

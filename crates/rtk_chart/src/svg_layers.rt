@@ -3,10 +3,10 @@
 ghost use Rattle.std.specs.Prelude.{◌≡◌, ◌≤◌, ◌<◌, ◌*◌, ◌++◌, length, IfOk, OnOk};
 ghost use Rattle.rtk_chart.specs.SvgPicture.{layer_flags, path_start, runs_layer, strokes_path, code_layers, codes_layers, level_layers, count_of_flags};
 
-use crate::column::Column;
 use crate::layer::{Layer, flags};
 use crate::svg_path::{put_runs, put_strokes};
 use crate::svg_text::put_between;
+use crate::time_bin::TimeBin;
 use rtk_obs::Code;
 use std::alloc::{AllocError, Global};
 
@@ -18,29 +18,29 @@ fn put_path_start(text: &mut Vec<u8>, class: &[u8], top: u64) -> Result<(), Allo
     put_between(text, b"' transform='translate(0 ", top, b")' d='")
 }
 
-// Appends a layer as lines over its columns.
+// Appends a layer as lines over its bins.
 fn put_runs_layer(
     alloc: Global,
     text: &mut Vec<u8>,
     width: u64,
-    columns: &[Column],
+    bins: &[TimeBin],
     place: usize,
     layer: Layer,
     class: &[u8],
     top: u64,
 ) -> Result<(), AllocError>
     requires place { place < 32 }
-    requires width { length columns.now * width ≤ 1440 }
-    ensures { OnOk result (text.new.items ≡ text.old.items ++ runs_layer width columns.now place layer class.now top) }
+    requires width { length bins.now * width ≤ 1440 }
+    ensures { OnOk result (text.new.items ≡ text.old.items ++ runs_layer width bins.now place layer class.now top) }
 {
-    let flags = flags(alloc, columns, place, layer)?;
+    let flags = flags(alloc, bins, place, layer)?;
     put_path_start(text, class, top)?;
     put_runs(text, width, flags.as_slice())?;
     text.extend_from_slice(b"'/>\n")?;
     Ok(())
 }
 
-/// Appends a path of strokes in the columns that are flagged.
+/// Appends a path of strokes in the bins that are flagged.
 pub(crate) fn put_strokes_path(
     text: &mut Vec<u8>,
     width: u64,
@@ -61,23 +61,23 @@ fn put_code(
     alloc: Global,
     text: &mut Vec<u8>,
     width: u64,
-    columns: &[Column],
+    bins: &[TimeBin],
     place: usize,
     at: usize,
     code: Code,
 ) -> Result<(), AllocError>
     requires place { place < 32 }
-    requires width { length columns.now * width ≤ 1440 }
+    requires width { length bins.now * width ≤ 1440 }
     requires few { at < 16 }
-    ensures { OnOk result (text.new.items ≡ text.old.items ++ code_layers width columns.now place at code) }
+    ensures { OnOk result (text.new.items ≡ text.old.items ++ code_layers width bins.now place at code) }
 {
     let line = 8 * at as u64;
     put_between(text, b"<text class='code' x='-4' y='", line + 25, b"'>")?;
     text.extend_from_slice(&code.name())?;
     text.extend_from_slice(b"</text>\n")?;
     let whole = Layer::Whole { place: at };
-    put_runs_layer(alloc, text, width, columns, place, whole, b"w", line + 22)?;
-    let part = flags(alloc, columns, place, Layer::Part { place: at })?;
+    put_runs_layer(alloc, text, width, bins, place, whole, b"w", line + 22)?;
+    let part = flags(alloc, bins, place, Layer::Part { place: at })?;
     put_strokes_path(text, width, part.as_slice(), b"p", line + 19)?;
     Ok(())
 }
@@ -87,17 +87,17 @@ pub(crate) fn put_codes(
     alloc: Global,
     text: &mut Vec<u8>,
     width: u64,
-    columns: &[Column],
+    bins: &[TimeBin],
     place: usize,
     codes: &[Code],
 ) -> Result<(), AllocError>
     requires place { place < 32 }
-    requires width { length columns.now * width ≤ 1440 }
+    requires width { length bins.now * width ≤ 1440 }
     requires few { length codes.now ≤ 16 }
-    ensures { OnOk result (text.new.items ≡ text.old.items ++ codes_layers width columns.now place 0 codes.now) }
+    ensures { OnOk result (text.new.items ≡ text.old.items ++ codes_layers width bins.now place 0 codes.now) }
 {
     for (at, code) in codes.iter().enumerate() {
-        put_code(alloc, text, width, columns, place, at, *code)?;
+        put_code(alloc, text, width, bins, place, at, *code)?;
     }
     Ok(())
 }
@@ -107,23 +107,23 @@ pub(crate) fn put_levels(
     alloc: Global,
     text: &mut Vec<u8>,
     width: u64,
-    columns: &[Column],
+    bins: &[TimeBin],
     place: usize,
     top: u64,
 ) -> Result<(), AllocError>
     requires place { place < 32 }
-    requires width { length columns.now * width ≤ 1440 }
-    ensures { OnOk result (text.new.items ≡ text.old.items ++ level_layers width columns.now place top) }
+    requires width { length bins.now * width ≤ 1440 }
+    ensures { OnOk result (text.new.items ≡ text.old.items ++ level_layers width bins.now place top) }
 {
     for level in 1u8..10 {
         let class = [b'l', b'0' + level];
         let layer = Layer::Level { level };
-        put_runs_layer(alloc, text, width, columns, place, layer, &class, top)?;
+        put_runs_layer(alloc, text, width, bins, place, layer, &class, top)?;
     }
     Ok(())
 }
 
-/// How many columns are flagged.
+/// How many bins are flagged.
 pub(crate) fn count_of(flags: &[bool]) -> u64
     ensures { result ≡ count_of_flags flags.now }
 {

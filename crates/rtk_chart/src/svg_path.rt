@@ -1,4 +1,4 @@
-//! Paths of columns in an SVG picture.
+//! Paths of bins in an SVG picture.
 
 ghost use Rattle.std.specs.Prelude.{◌≡◌, ◌≤◌, ◌+◌, ◌*◌, ◌++◌, length, OnOk};
 ghost use Rattle.rtk_chart.specs.SvgPath.{run_part, runs_text, stroke_part, strokes_text};
@@ -25,21 +25,21 @@ fn put_run_part(
     put_named(text, b" 0h", width)
 }
 
-/// Appends lines over the columns that are flagged, each so wide.
+/// Appends lines over the bins that are flagged, each so wide.
 pub(crate) fn put_runs(text: &mut Vec<u8>, width: u64, flags: &[bool]) -> Result<(), AllocError>
     requires { length flags.now * width ≤ 1440 }
     ensures { OnOk result (text.new.items ≡ text.old.items ++ runs_text width flags.now) }
 {
     let mut was = false;
-    for column in 0..flags.len() {
-        put_run_part(text, width, column as u64 * width, was, flags[column])?;
-        was = flags[column];
+    for bin in 0..flags.len() {
+        put_run_part(text, width, bin as u64 * width, was, flags[bin])?;
+        was = flags[bin];
     }
     Ok(())
 }
 
 fn put_stroke_part(text: &mut Vec<u8>, width: u64, x: u64, flag: bool) -> Result<(), AllocError>
-    requires { x + width ≤ 2880 }
+    requires { x + width ≤ 1440 }
     ensures { OnOk result (text.new.items ≡ text.old.items ++ stroke_part width x flag) }
 {
     if !flag {
@@ -49,13 +49,13 @@ fn put_stroke_part(text: &mut Vec<u8>, width: u64, x: u64, flag: bool) -> Result
     text.extend_from_slice(b" 0v6")
 }
 
-/// Appends strokes in the columns that are flagged, each so wide.
+/// Appends strokes in the bins that are flagged, each so wide.
 pub(crate) fn put_strokes(text: &mut Vec<u8>, width: u64, flags: &[bool]) -> Result<(), AllocError>
     requires { length flags.now * width ≤ 1440 }
     ensures { OnOk result (text.new.items ≡ text.old.items ++ strokes_text width flags.now) }
 {
-    for column in 0..flags.len() {
-        put_stroke_part(text, width, column as u64 * width, flags[column])?;
+    for bin in 0..flags.len() {
+        put_stroke_part(text, width, bin as u64 * width, flags[bin])?;
     }
     Ok(())
 }

@@ -12,7 +12,7 @@ use crate::survey::Survey;
 use crate::svg_bands::{put_bands, put_gaps, put_ticks};
 use crate::svg_text::{put_between, put_xml};
 use crate::text_picture::drawn_before;
-use crate::times::{put_moment, put_seconds};
+use crate::time_text::{put_moment, put_seconds};
 use rtk_obs::{Code, GpsMs};
 use std::alloc::{AllocError, Global};
 
@@ -79,7 +79,7 @@ fn put_span(text: &mut Vec<u8>, scale: &Scale) -> Result<(), AllocError>
     text.extend_from_slice(b", ")?;
     put_interval_words(text, scale.interval)?;
     text.extend_from_slice(b", column ")?;
-    put_seconds(text, scale.column_ms)?;
+    put_seconds(text, scale.bin_ms)?;
     text.extend_from_slice(b" s</text>\n")?;
     Ok(())
 }
@@ -148,15 +148,15 @@ fn put_body(
 ) -> Result<(), AllocError>
     requires good { IsScale scale.now }
     requires few { length codes.now ≤ 16 }
-    requires columns { length grid.now.columns.items ≡ scale.now.columns }
-    requires gaps { length grid.now.gaps.items ≡ scale.now.columns }
-    requires end { end ≤ 90_000 }
+    requires bins { length grid.now.bins.items ≡ scale.now.bins }
+    requires gaps { length grid.now.gaps.items ≡ scale.now.bins }
+    requires end { end ≤ bands_end 16 32 }
     ensures { OnOk result (text.new.items
-        ≡ text.old.items ++ svg_body codes.now scale.now grid.now.columns.items grid.now.gaps.items end) }
+        ≡ text.old.items ++ svg_body codes.now scale.now grid.now.bins.items grid.now.gaps.items end) }
 {
-    let width = 1440 / scale.columns;
+    let width = 1440 / scale.bins;
     put_ticks(text, scale, width, end + 24)?;
-    put_bands(alloc, text, width, codes, grid.columns.as_slice())?;
+    put_bands(alloc, text, width, codes, grid.bins.as_slice())?;
     put_gaps(text, width, end, grid.gaps.as_slice())?;
     put_legend(text, end + 48)?;
     text.extend_from_slice(b"</svg>\n")?;
@@ -168,7 +168,7 @@ fn bands_end(codes: &[Code], satellites: u64) -> u64
     requires few { length codes.now ≤ 16 }
     requires satellites { satellites ≤ 32 }
     ensures value { result ≡ bands_end (length codes.now) satellites }
-    ensures bound { result ≤ 90_000 }
+    ensures bound { result ≤ bands_end 16 32 }
 {
     96 + satellites * (8 * codes.len() as u64 + 34)
 }
@@ -184,12 +184,12 @@ pub(crate) fn svg_picture(
 ) -> Result<Vec<u8>, AllocError>
     requires good { IsScale scale.now }
     requires few { length codes.now ≤ 16 }
-    requires columns { length grid.now.columns.items ≡ scale.now.columns }
-    requires gaps { length grid.now.gaps.items ≡ scale.now.columns }
+    requires bins { length grid.now.bins.items ≡ scale.now.bins }
+    requires gaps { length grid.now.gaps.items ≡ scale.now.bins }
     ensures { IfOk result (λ text. text.items ≡ svg_picture marker.now codes.now scale.now survey.now.records
-        survey.now.slips grid.now.missing grid.now.columns.items grid.now.gaps.items) }
+        survey.now.slips grid.now.missing grid.now.bins.items grid.now.gaps.items) }
 {
-    let satellites = drawn_before(grid.columns.as_slice(), 32);
+    let satellites = drawn_before(grid.bins.as_slice(), 32);
     let end = bands_end(codes, satellites);
     let mut text = Vec::new(alloc);
     put_start(&mut text, marker, end + 100)?;

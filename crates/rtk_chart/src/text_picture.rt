@@ -4,34 +4,37 @@ ghost use Rattle.std.specs.Prelude.{◌≡◌, ◌≤◌, ◌<◌, ◌++◌, Lis
 ghost use Rattle.std.specs.Option.{ForSome};
 ghost use Rattle.std.specs.List.{range_with_len, list_any};
 ghost use Rattle.rtk_rinex.specs.Reading.{IsMoment};
-ghost use Rattle.rtk_chart.specs.Grid.{cell_in};
+ghost use Rattle.rtk_chart.specs.Grid.{tracking_in};
 ghost use Rattle.rtk_chart.specs.Scale.{IsScale};
 ghost use Rattle.rtk_chart.specs.Ticks.{tick_at};
-ghost use Rattle.rtk_chart.specs.TextPicture.{cell_of_column, is_partial, is_tracked, strength_mark, phase_mark, character_of, is_drawn, row_head, satellite_row, row_if_drawn, satellite_rows, gap_mark, gap_row, axis_mark, axis_row, text_tick_step, has_label, is_covered, label_text, label_part, label_row, named_count_line, moment_line, time_rows, number_lines, text_heading, drawn_before, satellites_in, text_picture, text_of_none};
+ghost use Rattle.rtk_chart.specs.TextPicture.{tracking_at, is_partial, is_tracked, strength_mark, phase_mark, character_of, is_drawn, row_head, satellite_row, row_if_drawn, satellite_rows, gap_mark, gap_row, axis_mark, axis_row, text_tick_step, has_label, is_covered, label_text, label_part, label_row, named_count_line, moment_line, time_rows, number_lines, text_heading, drawn_before, satellites_in, text_picture, text_of_none};
 
-use crate::cell::Cell;
-use crate::column::Column;
 use crate::grid::Grid;
 use crate::scale::Scale;
 use crate::survey::Survey;
 use crate::ticks::{put_tick_label, tick_at, tick_step};
-use crate::times::{put_interval, put_moment, put_seconds};
+use crate::time_bin::TimeBin;
+use crate::time_text::{put_interval, put_moment, put_seconds};
+use crate::tracking::Tracking;
 use rtk_message::put_named;
 use rtk_obs::GpsMs;
 use std::alloc::{AllocError, Global};
 
-// Some phase stands in some epochs of a column and not in all.
-fn is_partial(cell: &Cell) -> bool
-    ensures { result ≡ is_partial cell.now }
+// Some phase stands in some epochs of a bin and not in all.
+fn is_partial(tracking: &Tracking) -> bool
+    ensures { result ≡ is_partial tracking.now }
 {
-    cell.lanes.iter().any(|lane| lane.some && lane.lacks)
+    tracking
+        .phases
+        .iter()
+        .any(|coverage| coverage.some && coverage.lacks)
 }
 
-// Some phase stands in some epochs of a column.
-fn is_tracked(cell: &Cell) -> bool
-    ensures { result ≡ is_tracked cell.now }
+// Some phase stands in some epochs of a bin.
+fn is_tracked(tracking: &Tracking) -> bool
+    ensures { result ≡ is_tracked tracking.now }
 {
-    cell.lanes.iter().any(|lane| lane.some)
+    tracking.phases.iter().any(|coverage| coverage.some)
 }
 
 fn strength_mark(least: Option<u8>, tracked: bool) -> u8
@@ -45,34 +48,34 @@ fn strength_mark(least: Option<u8>, tracked: bool) -> u8
 }
 
 // The character of a satellite without a slip or a half cycle.
-fn phase_mark(cell: &Cell) -> u8
-    ensures { result ≡ phase_mark cell.now }
+fn phase_mark(tracking: &Tracking) -> u8
+    ensures { result ≡ phase_mark tracking.now }
 {
-    if is_partial(cell) {
+    if is_partial(tracking) {
         return b'-';
     }
-    strength_mark(cell.least, is_tracked(cell))
+    strength_mark(tracking.least, is_tracked(tracking))
 }
 
-// The character of a satellite in a column.
-fn character_of(cell: &Cell) -> u8
-    ensures { result ≡ character_of cell.now }
+// The character of a satellite in a bin.
+fn character_of(tracking: &Tracking) -> u8
+    ensures { result ≡ character_of tracking.now }
 {
-    match (cell.slip, cell.half) {
+    match (tracking.slip, tracking.half) {
         (true, true) => b'B',
         (true, false) => b'S',
         (false, true) => b'H',
-        (false, false) => phase_mark(cell),
+        (false, false) => phase_mark(tracking),
     }
 }
 
 // The satellite at this place has a row in the file.
-pub(crate) fn is_drawn(columns: &[Column], place: usize) -> bool
+pub(crate) fn is_drawn(bins: &[TimeBin], place: usize) -> bool
     requires { place < 32 }
-    ensures { result ≡ is_drawn columns.now place }
+    ensures { result ≡ is_drawn bins.now place }
 {
-    for column in columns {
-        if column.cells[place].seen {
+    for bin in bins {
+        if bin.satellites[place].seen {
             return true;
         }
     }
@@ -80,48 +83,48 @@ pub(crate) fn is_drawn(columns: &[Column], place: usize) -> bool
 }
 
 /// How many satellites before this place have a row in the file.
-pub(crate) fn drawn_before(columns: &[Column], place: usize) -> u64
+pub(crate) fn drawn_before(bins: &[TimeBin], place: usize) -> u64
     requires { place ≤ 32 }
-    ensures value { result ≡ drawn_before columns.now place }
+    ensures value { result ≡ drawn_before bins.now place }
     ensures bound { result ≤ 32 }
 {
     let mut count = 0;
     for before in 0..place {
-        if is_drawn(columns, before) {
+        if is_drawn(bins, before) {
             count += 1;
         }
     }
     count
 }
 
-fn put_row(text: &mut Vec<u8>, columns: &[Column], place: usize) -> Result<(), AllocError>
+fn put_row(text: &mut Vec<u8>, bins: &[TimeBin], place: usize) -> Result<(), AllocError>
     requires { place < 32 }
-    ensures { OnOk result (text.new.items ≡ text.old.items ++ satellite_row columns.now place) }
+    ensures { OnOk result (text.new.items ≡ text.old.items ++ satellite_row bins.now place) }
 {
     let satellite = place as u8 + 1;
     text.extend_from_slice(&[b'G', b'0' + satellite / 10, b'0' + satellite % 10, b'|'])?;
-    for column in columns {
-        text.push(character_of(&column.cells[place]))?;
+    for bin in bins {
+        text.push(character_of(&bin.satellites[place]))?;
     }
     text.extend_from_slice(b"|\n")?;
     Ok(())
 }
 
-fn put_row_if_drawn(text: &mut Vec<u8>, columns: &[Column], place: usize) -> Result<(), AllocError>
+fn put_row_if_drawn(text: &mut Vec<u8>, bins: &[TimeBin], place: usize) -> Result<(), AllocError>
     requires { place < 32 }
-    ensures { OnOk result (text.new.items ≡ text.old.items ++ row_if_drawn columns.now place) }
+    ensures { OnOk result (text.new.items ≡ text.old.items ++ row_if_drawn bins.now place) }
 {
-    if is_drawn(columns, place) {
-        put_row(text, columns, place)?;
+    if is_drawn(bins, place) {
+        put_row(text, bins, place)?;
     }
     Ok(())
 }
 
-fn put_rows(text: &mut Vec<u8>, columns: &[Column]) -> Result<(), AllocError>
-    ensures { OnOk result (text.new.items ≡ text.old.items ++ satellite_rows columns.now) }
+fn put_rows(text: &mut Vec<u8>, bins: &[TimeBin]) -> Result<(), AllocError>
+    ensures { OnOk result (text.new.items ≡ text.old.items ++ satellite_rows bins.now) }
 {
     for place in 0..32 {
-        put_row_if_drawn(text, columns, place)?;
+        put_row_if_drawn(text, bins, place)?;
     }
     Ok(())
 }
@@ -155,31 +158,31 @@ fn put_axis(text: &mut Vec<u8>, scale: &Scale, step: u64) -> Result<(), AllocErr
     ensures { OnOk result (text.new.items ≡ text.old.items ++ axis_row scale.now step) }
 {
     text.extend_from_slice(b"    ")?;
-    for column in 0..scale.columns {
-        text.push(axis_mark(tick_at(scale, step, column)))?;
+    for bin in 0..scale.bins {
+        text.push(axis_mark(tick_at(scale, step, bin)))?;
     }
     text.push(b'\n')?;
     Ok(())
 }
 
-// The tick in a column has a label.
-fn has_label(scale: &Scale, step: u64, column: u64) -> bool
+// The tick in a bin has a label.
+fn has_label(scale: &Scale, step: u64, bin: u64) -> bool
     requires good { IsScale scale.now }
     requires step { 0 < step }
-    requires within { column < scale.now.columns }
-    ensures { result ≡ has_label scale.now step column }
+    requires within { bin < scale.now.bins }
+    ensures { result ≡ has_label scale.now step bin }
 {
-    column + 10 <= scale.columns && tick_at(scale, step, column).is_some()
+    bin + 10 <= scale.bins && tick_at(scale, step, bin).is_some()
 }
 
-// A label before this column ends in it or after it.
-fn is_covered(scale: &Scale, step: u64, column: u64) -> bool
+// A label before this bin ends in it or after it.
+fn is_covered(scale: &Scale, step: u64, bin: u64) -> bool
     requires good { IsScale scale.now }
     requires step { 0 < step }
-    requires within { column < scale.now.columns }
-    ensures { result ≡ is_covered scale.now step column }
+    requires within { bin < scale.now.bins }
+    ensures { result ≡ is_covered scale.now step bin }
 {
-    for before in column.saturating_sub(9)..column {
+    for before in bin.saturating_sub(9)..bin {
         if has_label(scale, step, before) {
             return true;
         }
@@ -197,21 +200,16 @@ fn put_label_text(text: &mut Vec<u8>, step: u64, tick: Option<u64>) -> Result<()
     }
 }
 
-fn put_label_part(
-    text: &mut Vec<u8>,
-    scale: &Scale,
-    step: u64,
-    column: u64,
-) -> Result<(), AllocError>
+fn put_label_part(text: &mut Vec<u8>, scale: &Scale, step: u64, bin: u64) -> Result<(), AllocError>
     requires good { IsScale scale.now }
     requires step { 0 < step }
-    requires within { column < scale.now.columns }
-    ensures { OnOk result (text.new.items ≡ text.old.items ++ label_part scale.now step column) }
+    requires within { bin < scale.now.bins }
+    ensures { OnOk result (text.new.items ≡ text.old.items ++ label_part scale.now step bin) }
 {
-    if has_label(scale, step, column) {
-        return put_label_text(text, step, tick_at(scale, step, column));
+    if has_label(scale, step, bin) {
+        return put_label_text(text, step, tick_at(scale, step, bin));
     }
-    if !is_covered(scale, step, column) {
+    if !is_covered(scale, step, bin) {
         text.extend_from_slice(b" ")?;
     }
     Ok(())
@@ -223,8 +221,8 @@ fn put_labels(text: &mut Vec<u8>, scale: &Scale, step: u64) -> Result<(), AllocE
     ensures { OnOk result (text.new.items ≡ text.old.items ++ label_row scale.now step) }
 {
     text.extend_from_slice(b"    ")?;
-    for column in 0..scale.columns {
-        put_label_part(text, scale, step, column)?;
+    for bin in 0..scale.bins {
+        put_label_part(text, scale, step, bin)?;
     }
     text.push(b'\n')?;
     Ok(())
@@ -270,18 +268,14 @@ fn put_numbers(
     grid: &Grid,
 ) -> Result<(), AllocError>
     ensures { OnOk result (text.new.items ≡ text.old.items
-        ++ number_lines scale.now survey.now.records (satellites_in grid.now.columns.items) survey.now.slips grid.now.missing) }
+        ++ number_lines scale.now survey.now.records (satellites_in grid.now.bins.items) survey.now.slips grid.now.missing) }
 {
     put_interval(text, scale.interval)?;
     text.extend_from_slice(b"column ")?;
-    put_seconds(text, scale.column_ms)?;
+    put_seconds(text, scale.bin_ms)?;
     text.push(b'\n')?;
     put_line(text, b"records ", survey.records)?;
-    put_line(
-        text,
-        b"satellites ",
-        drawn_before(grid.columns.as_slice(), 32),
-    )?;
+    put_line(text, b"satellites ", drawn_before(grid.bins.as_slice(), 32))?;
     put_line(text, b"slips ", survey.slips)?;
     put_line(text, b"missing ", grid.missing)?;
     Ok(())
@@ -291,7 +285,7 @@ fn put_time(text: &mut Vec<u8>, scale: &Scale) -> Result<(), AllocError>
     requires { IsScale scale.now }
     ensures { OnOk result (text.new.items ≡ text.old.items ++ time_rows scale.now) }
 {
-    let step = tick_step(12 * scale.column_ms);
+    let step = tick_step(12 * scale.bin_ms);
     put_axis(text, scale, step)?;
     put_labels(text, scale, step)?;
     Ok(())
@@ -307,12 +301,12 @@ pub(crate) fn text_picture(
 ) -> Result<Vec<u8>, AllocError>
     requires good { IsScale scale.now }
     ensures { IfOk result (λ text. text.items ≡ text_picture marker.now scale.now survey.now.records
-        survey.now.slips grid.now.missing grid.now.columns.items grid.now.gaps.items) }
+        survey.now.slips grid.now.missing grid.now.bins.items grid.now.gaps.items) }
 {
     let mut text = Vec::new(alloc);
     put_heading(&mut text, marker, scale)?;
     put_numbers(&mut text, scale, survey, grid)?;
-    put_rows(&mut text, grid.columns.as_slice())?;
+    put_rows(&mut text, grid.bins.as_slice())?;
     put_gap_row(&mut text, grid.gaps.as_slice())?;
     put_time(&mut text, scale)?;
     Ok(text)

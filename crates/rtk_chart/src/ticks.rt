@@ -1,13 +1,13 @@
 //! Ticks along the time of a picture.
 
-ghost use Rattle.std.specs.Prelude.{◌≡◌, ◌≤◌, ◌<◌, ◌^◌, ◌++◌, nat_le, OnOk, IfSome};
+ghost use Rattle.std.specs.Prelude.{◌≡◌, ◌≤◌, ◌<◌, ◌*◌, ◌++◌, nat_le, OnOk, IfSome};
 ghost use Rattle.std.specs.List.{find};
 ghost use Rattle.rtk_rinex.specs.Reading.{IsMoment};
-ghost use Rattle.rtk_chart.specs.Scale.{IsScale};
+ghost use Rattle.rtk_chart.specs.Scale.{IsScale, longest_bin};
 ghost use Rattle.rtk_chart.specs.Ticks.{tick_steps, tick_step, tick_at, tick_label};
 
 use crate::scale::Scale;
-use crate::times::reading;
+use crate::time_text::reading;
 use rtk_obs::{GpsMs, put_clock, put_date};
 use std::alloc::AllocError;
 
@@ -47,7 +47,7 @@ fn listed_step(least: u64) -> Option<u64>
 /// The step between ticks that are so far apart at least.
 pub(crate) fn tick_step(least: u64) -> u64
     requires some { 0 < least }
-    requires few { least < 2 ^ 60 }
+    requires few { least ≤ 101 * longest_bin }
     ensures value { result ≡ tick_step least }
     ensures positive { 0 < result }
 {
@@ -55,16 +55,16 @@ pub(crate) fn tick_step(least: u64) -> u64
     listed_step(least).unwrap_or(days)
 }
 
-/// The moment of the tick in a column, if one is there.
-pub(crate) fn tick_at(scale: &Scale, step: u64, column: u64) -> Option<u64>
+/// The moment of the tick in a bin, if one is there.
+pub(crate) fn tick_at(scale: &Scale, step: u64, bin: u64) -> Option<u64>
     requires good { IsScale scale.now }
     requires step { 0 < step }
-    requires within { column < scale.now.columns }
-    ensures value { result ≡ tick_at scale.now step column }
+    requires within { bin < scale.now.bins }
+    ensures value { result ≡ tick_at scale.now step bin }
     ensures moment { IfSome result IsMoment }
 {
-    let start = scale.column_start(column);
-    let whole = (start + scale.column_ms - 1).min(scale.last) / step * step;
+    let start = scale.bin_start(bin);
+    let whole = (start + scale.bin_ms - 1).min(scale.last) / step * step;
     if start <= whole { Some(whole) } else { None }
 }
 

@@ -9,7 +9,7 @@ use Rattle.rtk_message.specs.AnyDecoded.{tow_of}
 use Rattle.rtk_summary.specs.CountingLaws.{FramesAreTakenAlike, MessagesAreTakenAlike, ChangesAddUp, OtherTimeIsChange, EpochsAreChanges}
 use Rattle.rtk_summary.specs.Proposal.{gives_value, is_taken_with}
 use Rattle.rtk_summary.specs.ReadFrames.{ReadFrame, with_message, with_fault, messages_in, faults_in, is_of_station}
-use Rattle.rtk_summary.specs.Tracing.{times_of_week, newest_time, change_from, entries_of, entries_in}
+use Rattle.rtk_summary.specs.Tracing.{times_of_week, newest_time, change_from, entries_of_message, entries_in}
 
 -- ---- frames and messages
 
@@ -39,9 +39,9 @@ messages-alike later before =
       times = filter_map-append tow_of later before;
       with_value = λ kind. ap (λ (ms : List AnyMessage). times_of_week ms) (filter-append (gives_value kind) later before)
           ∙ filter_map-append tow_of (filter (gives_value kind) later) (filter (gives_value kind) before);
-      entries = flat_map-append entries_of later before;
+      entries = flat_map-append entries_of_message later before;
       entries_taken = λ kind. ap (λ (ms : List AnyMessage). entries_in ms) (filter-append (is_taken_with kind) later before)
-          ∙ flat_map-append entries_of (filter (is_taken_with kind) later) (filter (is_taken_with kind) before);
+          ∙ flat_map-append entries_of_message (filter (is_taken_with kind) later) (filter (is_taken_with kind) before);
     }
 
 -- ---- times

@@ -17,7 +17,7 @@ use Rattle.rtk_message.specs.MsmForm.{number_of_kind}
 use Rattle.rtk_summary.specs.Counting.{shown_count, count_of}
 use Rattle.rtk_summary.specs.CountingLaws.{EachFrameIsCounted, EachMessageIsCounted, StandsIn, PartsStand, StationsStand, ProposalsStand, UntakenStand}
 use Rattle.rtk_summary.specs.NumberLaws.{IsHeld}
-use Rattle.rtk_summary.specs.Proposal.{epochs_in, times_with_value, epochs_of, entries_with}
+use Rattle.rtk_summary.specs.Proposal.{epochs_in, times_with_value, epochs_with_value, entries_with}
 use Rattle.rtk_summary.specs.ReadFrames.{ReadFrame, ReadsFrames, read_frame, with_message, with_fault, bytes_in, messages_in, faults_in, messages_from}
 use Rattle.rtk_summary.specs.Summary.{all_numbers, station_lines, lines_if_any, stations_text, unread_lines, summary_text}
 use Rattle.rtk_summary.specs.SummaryText.{number_line, counted_line, numbered_line, time_lines, signal_lines, proposal_lines, codes_text, nothing_line, untaken_numbers}
@@ -139,7 +139,7 @@ stations-stand ms n within some =
     subst (λ (part : List ℕ). StandsIn part (flat_map f all_numbers)) (lines-if-some n (messages_from n ms) some)
     (of-all (λ k. StandsIn (f k) (flat_map f all_numbers)) (each-stands f all_numbers) n within)
 
-epochs-are : (ms : List AnyMessage) → ((kind : MsmKind) → IsHeld (epochs_in (times_with_value kind ms))) → ◌≡◌ {A = MsmKind → ℕ} (λ kind. epochs_of kind ms) (λ kind. epochs_in (times_with_value kind ms))
+epochs-are : (ms : List AnyMessage) → ((kind : MsmKind) → IsHeld (epochs_in (times_with_value kind ms))) → ◌≡◌ {A = MsmKind → ℕ} (λ kind. epochs_with_value kind ms) (λ kind. epochs_in (times_with_value kind ms))
 epochs-are ms held = fun_ext (λ kind. let few = held kind in omega (arith, few))
 
 pub proposals-stand : ProposalsStand

@@ -11,9 +11,9 @@ use Rattle.rtk_message.specs.AnyDecoded.{number_of}
 use Rattle.rtk_message.specs.MsmForm.{number_of_kind}
 use Rattle.rtk_obs.specs.declared.code.Code.{Code}
 use Rattle.rtk_summary.specs.Counting.{shown_count}
-use Rattle.rtk_summary.specs.Proposal.{entry_has_value, gives_value, epochs_in, epochs_of, is_taken_with, entries_with, better_of, proposed, is_of_four}
+use Rattle.rtk_summary.specs.Proposal.{entry_has_value, gives_value, epochs_in, epochs_with_value, is_taken_with, entries_with, better_of, proposed, is_of_four}
 use Rattle.rtk_summary.specs.SummaryText.{codes_text, counted_line, second_frequency_line, next_line, other_msm_lines, proposal_lines}
-use Rattle.rtk_summary.specs.Tracing.{entries_of, entries_in, has_code, times_of_week}
+use Rattle.rtk_summary.specs.Tracing.{entries_of_message, entries_in, has_code, times_of_week}
 use Rattle.rtk_summary.proofs.NamedLemmas.{stays}
 
 both : (a b : Bool) → (a && b) ≡ true → (a ≡ true) × (b ≡ true)
@@ -39,10 +39,10 @@ none-with kind [] wide are = refl
 none-with kind (m ∷ ms) wide are =
     let parts = both (is_of_four m) (list_all is_of_four ms) are in
     let others = filter (gives_value kind) ms in
-    let value = list_any entry_has_value (entries_of m) in
+    let value = list_any entry_has_value (entries_of_message m) in
     ap (λ (b : Bool). cond (b && value) (m ∷ others) others) (not-of (number_of m) (number_of_kind kind) parts.0 wide) ∙ none-with kind ms wide parts.1
 
-no-epochs : (kind : MsmKind) (ms : List AnyMessage) → accepts four (number_of_kind kind) ≡ false → list_all is_of_four ms ≡ true → epochs_of kind ms ≡ 0
+no-epochs : (kind : MsmKind) (ms : List AnyMessage) → accepts four (number_of_kind kind) ≡ false → list_all is_of_four ms ≡ true → epochs_with_value kind ms ≡ 0
 no-epochs kind ms wide are = ap (λ (xs : List AnyMessage). shown_count (epochs_in (times_of_week xs))) (none-with kind ms wide are)
 
 no-line : (epochs : MsmKind → ℕ) (kind : MsmKind) → (words : List ℕ) → epochs kind ≡ 0 → counted_line words (epochs kind) ≡ []
@@ -53,10 +53,10 @@ unfolding other_msm_lines
 no-lines epochs five six seven = rw (five, six, seven) refl
 
 pub four-name-none : (station : ℕ) (ms : List AnyMessage) → list_all is_of_four ms ≡ true
-    → proposal_lines station (λ kind. epochs_of kind ms) (λ kind. has_code (entries_with kind ms)) ≡ second_frequency_line (has_code (entries_in ms)) ++ next_line station Msm4 (codes_text (has_code (entries_in ms)))
+    → proposal_lines station (λ kind. epochs_with_value kind ms) (λ kind. has_code (entries_with kind ms)) ≡ second_frequency_line (has_code (entries_in ms)) ++ next_line station Msm4 (codes_text (has_code (entries_in ms)))
 unfolding proposal_lines
 four-name-none station ms are =
-    let epochs : MsmKind → ℕ = λ kind. epochs_of kind ms in
+    let epochs : MsmKind → ℕ = λ kind. epochs_with_value kind ms in
     let code : MsmKind → Code → Bool = λ kind. has_code (entries_with kind ms) in
     let five : epochs Msm5 ≡ 0 = no-epochs Msm5 ms refl are in
     let six : epochs Msm6 ≡ 0 = no-epochs Msm6 ms refl are in

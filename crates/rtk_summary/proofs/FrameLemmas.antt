@@ -8,16 +8,16 @@ use Rattle.rtk_frame.specs.ScannerView.{ScannerView}
 use Rattle.rtk_frame.specs.declared.scanner.Answer.TheVariants.{Found, Hungry}
 use Rattle.rtk_frame.proofs.PublicLaws.{after_found, first_payloads}
 use Rattle.rtk_summary.specs.ReadFrames.{ReadFrame, ReadsFrames}
-use Rattle.rtk_summary.specs.Steps.Standing.{TakesFrames}
+use Rattle.rtk_summary.specs.Steps.Standing.{CountsFrames}
 use Rattle.rtk_summary.specs.declared.summary.Summary.{Summary}
 
 -- ---- the summary
 
-pub takes-none : (s : Summary) → TakesFrames s [] s
-takes-none s = λ before stands. (before, refl, stands)
+pub counts-none : (s : Summary) → CountsFrames s [] s
+counts-none s = λ before stands. (before, refl, stands)
 
-pub takes-first : (a b c : Summary) (p : List ℕ) (ps : List (List ℕ)) → TakesFrames a (p ∷ []) b → TakesFrames b ps c → TakesFrames a (p ∷ ps) c
-takes-first a b c p ps one rest = λ before stands.
+pub counts-first : (a b c : Summary) (p : List ℕ) (ps : List (List ℕ)) → CountsFrames a (p ∷ []) b → CountsFrames b ps c → CountsFrames a (p ∷ ps) c
+counts-first a b c p ps one rest = λ before stands.
     let first = one before stands in
     let others = rest first.0 first.2 in
     (others.0, (first.1.0, first.1.1, subst (λ (fs : List ReadFrame). ReadsFrames ps fs others.0) first.1.2 others.1), others.2)

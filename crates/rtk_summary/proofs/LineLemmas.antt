@@ -8,13 +8,13 @@ use Rattle.rtk_obs.specs.Code.{name_of, place_of, all_codes}
 use Rattle.rtk_message.specs.declared.msm_kind.MsmKind.{MsmKind}
 use Rattle.rtk_message.specs.declared.any_message.AnyMessage.{AnyMessage}
 use Rattle.rtk_summary.specs.Counting.{shown_count, count_of}
-use Rattle.rtk_summary.specs.Proposal.{epochs_of, entries_with}
+use Rattle.rtk_summary.specs.Proposal.{epochs_with_value, entries_with}
 use Rattle.rtk_summary.specs.Summary.{all_numbers, station_lines, lines_if_any}
 use Rattle.rtk_summary.specs.SummaryText.{number_line, counted_line, numbered_line, list_line, time_lines, untaken_numbers, listed_satellite, satellites_text, joined_names, codes_text, msm_option, next_line, signal_lines, proposal_lines}
 use Rattle.rtk_summary.specs.Steps.Standing.{StandsForEntries, StandsForMessages, StandForMsm, epochs_held, codes_held}
 use Rattle.rtk_summary.specs.Steps.Tables.{counts_text, untaken_text, counts_held}
 use Rattle.rtk_summary.specs.Tracing.{is_numbered, entries_in, has_satellite, has_code, times_of_week}
-use Rattle.rtk_summary.specs.declared.msm.MsmParts.{MsmParts}
+use Rattle.rtk_summary.specs.declared.msm_parts.MsmParts.{MsmParts}
 use Rattle.rtk_summary.specs.declared.signals.Signals.{Signals}
 use Rattle.rtk_summary.specs.declared.station.Station.{Station}
 use Rattle.rtk_summary.proofs.ListLemmas.{lines-agree}
@@ -105,10 +105,10 @@ signals-are s ms stands =
 -- ---- a station
 
 pub proposal-is : (number : ℕ) (p : MsmParts) (ms : List AnyMessage) → StandForMsm p ms
-    → proposal_lines number (epochs_held p) (codes_held p) ≡ proposal_lines number (λ kind. epochs_of kind ms) (λ kind. has_code (entries_with kind ms))
+    → proposal_lines number (epochs_held p) (codes_held p) ≡ proposal_lines number (λ kind. epochs_with_value kind ms) (λ kind. has_code (entries_with kind ms))
 proposal-is number p ms stand =
     ap (λ (e : MsmKind → ℕ). proposal_lines number e (codes_held p)) (epochs-are p ms stand)
-    ∙ ap (λ (t : MsmKind → Code → Bool). proposal_lines number (λ kind. epochs_of kind ms) t) (codes-held-are p ms stand)
+    ∙ ap (λ (t : MsmKind → Code → Bool). proposal_lines number (λ kind. epochs_with_value kind ms) t) (codes-held-are p ms stand)
 
 any-lines : (number : ℕ) (ms : List AnyMessage) → (length ms ≡ 0 → ⊥) → lines_if_any number ms ≡ station_lines number ms
 any-lines number [] some = absurd (some refl)
@@ -165,7 +165,7 @@ grouped : (number : ℕ) (ms : List AnyMessage) → station_lines number ms
     ++ counts_of (count_of (is_numbered 1004) ms) (count_of (is_numbered 1005) ms) (count_of (is_numbered 1006) ms) (count_of (is_numbered 1074) ms) (count_of (is_numbered 1075) ms) (count_of (is_numbered 1076) ms) (count_of (is_numbered 1077) ms)
     ++ time_lines (times_of_week ms)
     ++ signal_lines (has_satellite (entries_in ms)) (has_code (entries_in ms))
-    ++ proposal_lines number (λ kind. epochs_of kind ms) (λ kind. has_code (entries_with kind ms))
+    ++ proposal_lines number (λ kind. epochs_with_value kind ms) (λ kind. has_code (entries_with kind ms))
 unfolding station_lines counts_of
 grouped number ms =
     regroup (number_line (codes "station ") number)
@@ -178,7 +178,7 @@ grouped number ms =
     (counted_line (codes " message 1077 ") (count_of (is_numbered 1077) ms))
     (time_lines (times_of_week ms))
     (signal_lines (has_satellite (entries_in ms)) (has_code (entries_in ms)))
-    (proposal_lines number (λ kind. epochs_of kind ms) (λ kind. has_code (entries_with kind ms)))
+    (proposal_lines number (λ kind. epochs_with_value kind ms) (λ kind. has_code (entries_with kind ms)))
 
 pub station-lines-are : (number : ℕ) (s : Station) (ms : List AnyMessage) → StandsForMessages s ms → (s.messages ≡ 0 → ⊥)
     → lines_if_any number ms ≡ lines_held number s (times_of_week ms)
@@ -186,7 +186,7 @@ station-lines-are number s ms stands some =
     let head : List ℕ = number_line (codes "station ") number in
     let times : List ℕ = time_lines (times_of_week ms) in
     let signals : List ℕ = signal_lines (has_satellite (entries_in ms)) (has_code (entries_in ms)) in
-    let proposal : List ℕ = proposal_lines number (λ kind. epochs_of kind ms) (λ kind. has_code (entries_with kind ms)) in
+    let proposal : List ℕ = proposal_lines number (λ kind. epochs_with_value kind ms) (λ kind. has_code (entries_with kind ms)) in
     let signals' : List ℕ = signal_lines (λ n. get_or s.signals.satellites n false) (λ c. get_or s.signals.codes.marks (place_of c) false) in
     any-lines number ms (λ none. some (stands.counts.messages ∙ ap shown_count none))
     ∙ grouped number ms

@@ -11,11 +11,11 @@ use Rattle.rtk_obs.specs.declared.code.Code.{Code}
 use Rattle.rtk_obs.specs.Code.{place_of}
 use Rattle.rtk_obs.proofs.PublicLaws.{place_bound}
 use Rattle.rtk_summary.specs.Counting.{shown_count, count_of}
-use Rattle.rtk_summary.specs.Proposal.{epochs_of, entries_with, gives_value, times_with_value, is_taken_with}
-use Rattle.rtk_summary.specs.Tracing.{has_code, times_of_week, entries_of, entries_in}
-use Rattle.rtk_summary.specs.Steps.Standing.{one_if, StandsForCodes, StandsForMsm, StandForMsm, part_of, epochs_held, codes_held}
+use Rattle.rtk_summary.specs.Proposal.{epochs_with_value, entries_with, gives_value, times_with_value, is_taken_with}
+use Rattle.rtk_summary.specs.Tracing.{has_code, times_of_week, entries_of_message, entries_in}
+use Rattle.rtk_summary.specs.Steps.Standing.{one_if, StandsForCodes, StandsForMsm, StandForMsm, msm_part, epochs_held, codes_held}
 use Rattle.rtk_summary.specs.declared.epochs.Epochs.{Epochs}
-use Rattle.rtk_summary.specs.declared.msm.MsmParts.{MsmParts}
+use Rattle.rtk_summary.specs.declared.msm_parts.MsmParts.{MsmParts}
 use Rattle.rtk_summary.specs.declared.signals.Codes.{Codes}
 
 -- a count of one message more
@@ -42,7 +42,7 @@ times-without kind m ms fails =
 
 -- the cells of a message more, by whether it is taken
 pub entries-taken : (kind : MsmKind) (m : AnyMessage) (ms : List AnyMessage) → is_taken_with kind m ≡ true
-    → entries_with kind (m ∷ ms) ≡ entries_of m ++ entries_with kind ms
+    → entries_with kind (m ∷ ms) ≡ entries_of_message m ++ entries_with kind ms
 entries-taken kind m ms passes =
     let others = filter (is_taken_with kind) ms in
     ap (λ (b : Bool). entries_in (cond b (m ∷ others) others)) passes
@@ -55,7 +55,7 @@ entries-left kind m ms fails =
 
 -- ---- what is held
 
-pub stands-of : (p : MsmParts) (ms : List AnyMessage) (kind : MsmKind) → StandForMsm p ms → StandsForMsm kind (part_of p kind) ms
+pub stands-of : (p : MsmParts) (ms : List AnyMessage) (kind : MsmKind) → StandForMsm p ms → StandsForMsm kind (msm_part p kind) ms
 stands-of p ms Msm4 stand = stand.msm4
 stands-of p ms Msm5 stand = stand.msm5
 stands-of p ms Msm6 stand = stand.msm6
@@ -65,8 +65,8 @@ pub codes-marked : (c : Codes) (es : List CellEntry) → StandsForCodes c es →
 codes-marked c es stands = fun_ext (λ code.
     stands.marks (place_of code) (let bound = place_bound code in let size = stands.size in omega (arith, bound, size)))
 
-pub epochs-are : (p : MsmParts) (ms : List AnyMessage) → StandForMsm p ms → epochs_held p ≡ (λ (kind : MsmKind). epochs_of kind ms)
+pub epochs-are : (p : MsmParts) (ms : List AnyMessage) → StandForMsm p ms → epochs_held p ≡ (λ (kind : MsmKind). epochs_with_value kind ms)
 epochs-are p ms stand = fun_ext (λ kind. ap (λ (e : Epochs). e.count) (stands-of p ms kind stand).epochs)
 
 pub codes-held-are : (p : MsmParts) (ms : List AnyMessage) → StandForMsm p ms → codes_held p ≡ (λ (kind : MsmKind). has_code (entries_with kind ms))
-codes-held-are p ms stand = fun_ext (λ kind. codes-marked (part_of p kind).codes (entries_with kind ms) (stands-of p ms kind stand).codes)
+codes-held-are p ms stand = fun_ext (λ kind. codes-marked (msm_part p kind).codes (entries_with kind ms) (stands-of p ms kind stand).codes)

@@ -7,7 +7,7 @@ use Rattle.rtk_frame.specs.Stream.{with_more, count_after, CountRises}
 use Rattle.rtk_frame.proofs.PublicLaws.{with_more-nil, with_more-with_more, final_payloads_cut, payloads_cut, pending_cut}
 use Rattle.rtk_summary.specs.Counting.{shown_count}
 use Rattle.rtk_summary.specs.ReadFrames.{ReadFrame, ReadsFrames, read_frame}
-use Rattle.rtk_summary.specs.Steps.Standing.{StandsForFrames, ReadsAll, TakesFrames}
+use Rattle.rtk_summary.specs.Steps.Standing.{StandsForFrames, ReadsAll, CountsFrames}
 use Rattle.rtk_summary.specs.declared.summary.Summary.{Summary}
 
 -- frames that come after others
@@ -38,7 +38,7 @@ read-nothing given waiting s none stands = record {
 }
 
 pub read-piece : (given_0 given_1 given_2 : Option (List ℕ)) (waiting_1 waiting_2 more : List ℕ) (count_1 count_2 : ℕ) (s_1 s_2 : Summary)
-    → HasRead given_0 given_1 waiting_1 count_1 s_1 → given_2 ≡ with_more given_1 more → TakesFrames s_1 (payloads (final_frames (waiting_1 ++ more))) s_2
+    → HasRead given_0 given_1 waiting_1 count_1 s_1 → given_2 ≡ with_more given_1 more → CountsFrames s_1 (payloads (final_frames (waiting_1 ++ more))) s_2
     → waiting_2 ≡ pending (waiting_1 ++ more) → count_2 ≡ shown_count (count_1 + length more)
     → HasRead given_0 given_2 waiting_2 count_2 s_2
 read-piece given_0 given_1 given_2 waiting_1 waiting_2 more count_1 count_2 s_1 s_2 h gives takes waits counts =
@@ -58,7 +58,7 @@ read-piece given_0 given_1 given_2 waiting_1 waiting_2 more count_1 count_2 s_1 
     }
 
 pub read-end : (given_0 given_1 given_2 : Option (List ℕ)) (waiting : List ℕ) (count : ℕ) (s_1 s_2 : Summary)
-    → HasRead given_0 given_1 waiting count s_1 → given_2 ≡ with_more given_1 [] → TakesFrames s_1 (payloads (frames waiting)) s_2
+    → HasRead given_0 given_1 waiting count s_1 → given_2 ≡ with_more given_1 [] → CountsFrames s_1 (payloads (frames waiting)) s_2
     → ReadsAll given_0 given_2 count s_2
 read-end given_0 given_1 given_2 waiting count s_1 s_2 h gives takes =
     let t = takes h.fs h.stands in (

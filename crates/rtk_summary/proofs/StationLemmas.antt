@@ -20,11 +20,11 @@ other-message station m ms other =
     ap (λ (b : Bool). cond b (m ∷ messages_from station ms) (messages_from station ms)) no
 
 -- the station at a place took a message of its own
-pub station-took : (stations : List Station) (ms : List AnyMessage) (m : AnyMessage) (place : ℕ) (new : Station)
+pub station-more : (stations : List Station) (ms : List AnyMessage) (m : AnyMessage) (place : ℕ) (new : Station)
     → place ≡ station_of m → place < length stations → StandForStations stations ms
     → ((own : List AnyMessage) → ((none : Station) → StandsForMessages (get_or stations place none) own) → StandsForMessages new (m ∷ own))
     → StandForStations (set stations place new) (m ∷ ms)
-station-took stations ms m place new is within stand took = λ n none lt.
+station-more stations ms m place new is within stand took = λ n none lt.
     let inside : n < length stations = omega (arith, lt, length-set stations place new) in
     elim (cases_eq n place) [
       | inl same ↦

@@ -10,7 +10,7 @@ use Rattle.rtk_message.specs.declared.any_fault.AnyFault.{AnyFault}
 use Rattle.rtk_message.specs.AnyDecoded.{tow_of}
 use Rattle.rtk_summary.specs.Counting.{shown_count, count_of}
 use Rattle.rtk_summary.specs.NumberLaws.{SummaryTellsFrames, StationLinesTell, UnreadLinesTell}
-use Rattle.rtk_summary.specs.Proposal.{epochs_of, entries_with}
+use Rattle.rtk_summary.specs.Proposal.{epochs_with_value, entries_with}
 use Rattle.rtk_summary.specs.ReadFrames.{ReadFrame, bytes_in, messages_in, faults_in}
 use Rattle.rtk_summary.specs.Summary.{all_numbers, station_lines, stations_text, unread_lines, summary_text}
 use Rattle.rtk_summary.specs.SummaryText.{number_line, counted_line, numbered_line, time_lines, signal_lines, proposal_lines, codes_text, nothing_line, untaken_numbers}
@@ -112,7 +112,7 @@ messages-rise =
 behind_times : ℕ → List AnyMessage → List ℕ
 behind_times station ms =
     signal_lines (has_satellite (entries_in ms)) (has_code (entries_in ms))
-    ++ proposal_lines station (λ kind. epochs_of kind ms) (λ kind. has_code (entries_with kind ms))
+    ++ proposal_lines station (λ kind. epochs_with_value kind ms) (λ kind. has_code (entries_with kind ms))
 
 station-is : (station : ℕ) (ms : List AnyMessage) → station_lines station ms
     ≡ number_line (codes "station ") station
@@ -125,7 +125,7 @@ station-is station ms =
     grouped (number_line (codes "station ") station)
     (line (codes " message 1004 ") 1004) (line (codes " message 1005 ") 1005) (line (codes " message 1006 ") 1006) (line (codes " message 1074 ") 1074) (line (codes " message 1075 ") 1075) (line (codes " message 1076 ") 1076) (line (codes " message 1077 ") 1077)
     (time_lines (times_of_week ms)) (signal_lines (has_satellite (entries_in ms)) (has_code (entries_in ms)))
-    (proposal_lines station (λ kind. epochs_of kind ms) (λ kind. has_code (entries_with kind ms)))
+    (proposal_lines station (λ kind. epochs_with_value kind ms) (λ kind. has_code (entries_with kind ms)))
     ∙ ap (λ (lines : List ℕ). number_line (codes "station ") station ++ (lines ++ (time_lines (times_of_week ms) ++ behind_times station ms))) (messages-are count)
 
 pub station-tells : StationLinesTell

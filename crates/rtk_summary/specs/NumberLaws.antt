@@ -7,7 +7,7 @@ use Rattle.rtk_message.specs.declared.any_fault.AnyFault.{AnyFault}
 use Rattle.rtk_message.specs.declared.msm_kind.MsmKind.{MsmKind}
 use Rattle.rtk_message.specs.MsmForm.{number_of_kind}
 use Rattle.rtk_obs.specs.declared.code.Code.{Code}
-use Rattle.rtk_summary.specs.Proposal.{epochs_in, times_with_value, epochs_of, proposed}
+use Rattle.rtk_summary.specs.Proposal.{epochs_in, times_with_value, epochs_with_value, proposed}
 use Rattle.rtk_summary.specs.ReadFrames.{ReadFrame, bytes_in}
 use Rattle.rtk_summary.specs.Summary.{station_lines, unread_lines, summary_text}
 use Rattle.rtk_summary.specs.SummaryText.{number_line, counted_line, numbered_line, time_lines, codes_text, proposal_lines}
@@ -58,7 +58,7 @@ ProposalLinesTell =
 -- a number of epochs is how many there are
 abbrev pub EpochsAreCounted : Type 0
 EpochsAreCounted =
-    (kind : MsmKind) (ms : List AnyMessage) → IsHeld (epochs_in (times_with_value kind ms)) → epochs_of kind ms ≡ epochs_in (times_with_value kind ms)
+    (kind : MsmKind) (ms : List AnyMessage) → IsHeld (epochs_in (times_with_value kind ms)) → epochs_with_value kind ms ≡ epochs_in (times_with_value kind ms)
 
 -- ---- a summary
 

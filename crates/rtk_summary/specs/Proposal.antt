@@ -10,7 +10,7 @@ use Rattle.rtk_message.specs.AnyDecoded.{number_of}
 use Rattle.rtk_message.specs.MsmForm.{number_of_kind}
 use Rattle.rtk_obs.specs.declared.cell.CellEntry.{CellEntry}
 use Rattle.rtk_summary.specs.Counting.{shown_count}
-use Rattle.rtk_summary.specs.Tracing.{is_numbered, times_of_week, newest_time, entries_of, entries_in, has_value}
+use Rattle.rtk_summary.specs.Tracing.{is_numbered, times_of_week, newest_time, entries_of_message, entries_in, has_value}
 
 -- ---- epochs
 
@@ -32,15 +32,15 @@ entry_has_value e = has_value e.cell
 -- formula
 -- a message of this MSM that has a cell with a range, a phase or a strength
 abbrev pub gives_value : MsmKind → AnyMessage → Bool
-gives_value kind m = is_numbered (number_of_kind kind) m && list_any entry_has_value (entries_of m)
+gives_value kind m = is_numbered (number_of_kind kind) m && list_any entry_has_value (entries_of_message m)
 
 -- the times of week of such messages (DF004)
 abbrev pub times_with_value : MsmKind → List AnyMessage → List ℕ
 times_with_value kind ms = times_of_week (filter (gives_value kind) ms)
 
 -- how many epochs of this MSM have a value: runs of such messages with one time of week
-abbrev pub epochs_of : MsmKind → List AnyMessage → ℕ
-epochs_of kind ms = shown_count (epochs_in (times_with_value kind ms))
+abbrev pub epochs_with_value : MsmKind → List AnyMessage → ℕ
+epochs_with_value kind ms = shown_count (epochs_in (times_with_value kind ms))
 
 -- ---- what `convert` takes
 

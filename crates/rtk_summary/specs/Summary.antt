@@ -6,7 +6,7 @@ use Rattle.rtk_frame.specs.Stream.{with_more, TakesPart, greatest_count}
 use Rattle.rtk_message.specs.declared.any_message.AnyMessage.{AnyMessage}
 use Rattle.rtk_message.specs.declared.any_fault.AnyFault.{AnyFault}
 use Rattle.rtk_summary.specs.Counting.{shown_count, count_of}
-use Rattle.rtk_summary.specs.Proposal.{epochs_of, entries_with}
+use Rattle.rtk_summary.specs.Proposal.{epochs_with_value, entries_with}
 use Rattle.rtk_summary.specs.ReadFrames.{ReadFrame, ReadsFrames, bytes_in, messages_in, faults_in, messages_from}
 use Rattle.rtk_summary.specs.Tracing.{is_numbered, is_other, is_short, is_outside_week, is_no_number, is_too_many_cells, times_of_week, entries_in, has_satellite, has_code}
 use Rattle.rtk_summary.specs.SummaryText.{number_line, counted_line, numbered_line, time_lines, signal_lines, proposal_lines, codes_text, nothing_line, untaken_numbers}
@@ -30,7 +30,7 @@ station_lines station ms =
     ++ counted_line (codes " message 1077 ") (count_of (is_numbered 1077) ms)
     ++ time_lines (times_of_week ms)
     ++ signal_lines (has_satellite (entries_in ms)) (has_code (entries_in ms))
-    ++ proposal_lines station (λ kind. epochs_of kind ms) (λ kind. has_code (entries_with kind ms))
+    ++ proposal_lines station (λ kind. epochs_with_value kind ms) (λ kind. has_code (entries_with kind ms))
 
 -- a station of which nothing came has no lines
 abbrev pub lines_if_any : ℕ → List AnyMessage → List ℕ
@@ -71,7 +71,8 @@ abbrev pub Summarizes : Option (List ℕ) → Option (List ℕ) → Option (List
 Summarizes given_old given_new taken_old taken_new =
     (bytes : List ℕ) × (fs : List ReadFrame) × (given_new ≡ with_more given_old bytes) × AreFramesOf bytes fs × (taken_new ≡ with_more taken_old (summary_text (length bytes) fs))
 
--- the same, and of the summary a first part was written, perhaps none or all of it
+-- a first part of the summary of what was read was written, perhaps none or all of it: before, after of
+-- the source and of the sink
 abbrev pub SummarizesInPart : Option (List ℕ) → Option (List ℕ) → Option (List ℕ) → Option (List ℕ) → Type 0
 SummarizesInPart given_old given_new taken_old taken_new =
     (bytes : List ℕ) × (fs : List ReadFrame) × (given_new ≡ with_more given_old bytes) × AreFramesOf bytes fs × TakesPart taken_old taken_new (summary_text (length bytes) fs)

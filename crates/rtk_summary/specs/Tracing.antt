@@ -81,13 +81,13 @@ entries_of_four (Arp1006 m) = []
 entries_of_four (Msm1074 m) = cells_of_1074 m
 
 -- the cells of a message
-abbrev pub entries_of : AnyMessage → List CellEntry
-entries_of (any.Message m) = entries_of_four m
-entries_of (any.Msm m) = cells_of_msm m
+abbrev pub entries_of_message : AnyMessage → List CellEntry
+entries_of_message (any.Message m) = entries_of_four m
+entries_of_message (any.Msm m) = cells_of_msm m
 
 -- the cells of messages
 abbrev pub entries_in : List AnyMessage → List CellEntry
-entries_in ms = flat_map entries_of ms
+entries_in ms = flat_map entries_of_message ms
 
 -- formula
 -- the cell has a range, a phase or a strength

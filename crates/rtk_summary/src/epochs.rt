@@ -32,8 +32,8 @@ impl Epochs {
         }
     }
 
-    /// The time of a message more.
-    pub(crate) fn take(&mut self, time: u32)
+    /// The next message has this time; an epoch begins if it differs from the last one.
+    pub(crate) fn note_time(&mut self, time: u32)
         ensures { (ts : List ℕ) → self.old ≡ epochs_so_far ts → self.new ≡ epochs_so_far (time ∷ ts) }
     {
         let begun = begins_epoch(self.last, time);

@@ -11,7 +11,7 @@ ghost use Rattle.rtk_message.specs.declared.msm_kind.MsmKind.{MsmKind};
 ghost use Rattle.rtk_message.specs.declared.msm_kind.MsmKind.TheVariants.{Msm4};
 ghost use Rattle.rtk_summary.specs.CountingLaws.{EachFrameIsCounted, EachMessageIsCounted, FramesAreTakenAlike, MessagesAreTakenAlike, ChangesAddUp, OtherTimeIsChange, EpochsAreChanges, PartsStand, StationsStand, ProposalsStand, UntakenStand};
 ghost use Rattle.rtk_summary.specs.NumberLaws.{NumberLineTells, CountedLineTells, NumberedLineTells, TimeLinesTell, ProposalLinesTell, EpochsAreCounted, SummaryTellsFrames, StationLinesTell, UnreadLinesTell};
-ghost use Rattle.rtk_summary.specs.Proposal.{is_of_four, epochs_of, entries_with, proposed};
+ghost use Rattle.rtk_summary.specs.Proposal.{is_of_four, epochs_with_value, entries_with, proposed};
 ghost use Rattle.rtk_summary.specs.SummaryText.{codes_text, second_frequency_line, next_line, proposal_lines};
 ghost use Rattle.rtk_summary.specs.Tracing.{entries_in, has_code};
 
@@ -29,7 +29,7 @@ pub fn most_epochs_are_named()
 /// another MSM.
 pub fn four_need_no_option()
     ensures { (station : ℕ) (ms : List AnyMessage) → IsTrue (list_all is_of_four ms)
-        → proposal_lines station (λ kind. epochs_of kind ms) (λ kind. has_code (entries_with kind ms))
+        → proposal_lines station (λ kind. epochs_with_value kind ms) (λ kind. has_code (entries_with kind ms))
         ≡ second_frequency_line (has_code (entries_in ms)) ++ next_line station Msm4 (codes_text (has_code (entries_in ms))) }
 {}
 

@@ -21,22 +21,22 @@
 
 #![tactic(auto)]
 
+mod capture;
 mod counting;
 mod epochs;
 mod fault;
 mod laws;
 mod lines;
-mod msm;
-mod reading;
+mod msm_parts;
 mod signals;
 mod station;
 mod summary;
-mod times;
+mod times_of_week;
 mod unread;
 
+pub use capture::summarize;
 pub use fault::SummaryFault;
 pub use laws::{
     all_are_taken_alike, each_frame_is_counted, four_need_no_option, lines_tell_numbers,
     most_epochs_are_named, parts_stand_in_a_summary, summaries_tell_counts,
 };
-pub use reading::summarize;

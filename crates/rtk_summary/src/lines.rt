@@ -11,11 +11,11 @@ ghost use Rattle.rtk_summary.specs.Summary.{lines_if_any, stations_text, unread_
 ghost use Rattle.rtk_summary.specs.Steps.Tables.{counts_text, untaken_text, counts_held};
 ghost use Rattle.rtk_summary.specs.Steps.Standing.{times_of, epochs_held, codes_held, StandsForFaults, StandsForEntries, StandsForMessages, StandForStations, StandsForFrames};
 
-use crate::msm::MsmParts;
+use crate::msm_parts::MsmParts;
 use crate::signals::Signals;
 use crate::station::Station;
 use crate::summary::Summary;
-use crate::times::Times;
+use crate::times_of_week::Times;
 use crate::unread::Unread;
 use rtk_message::{MsmKind, put_named};
 use rtk_obs::{ALL_CODES, Code};

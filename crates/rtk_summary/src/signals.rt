@@ -56,7 +56,7 @@ impl Codes {
         Codes { marks: [false; 16] }
     }
 
-    fn take_entry(&mut self, entry: &CellEntry)
+    fn mark_code(&mut self, entry: &CellEntry)
         ensures { (es : List CellEntry) → StandsForCodes self.old es → StandsForCodes self.new (entry.now ∷ es) }
     {
         mark(&mut self.marks, entry.code.place(), has_value(&entry.cell));
@@ -68,7 +68,7 @@ impl Codes {
     {
         let mut codes = Codes::new();
         for entry in entries {
-            codes.take_entry(entry);
+            codes.mark_code(entry);
         }
         codes
     }
@@ -95,7 +95,7 @@ impl Signals {
         }
     }
 
-    fn take_entry(&mut self, entry: &CellEntry)
+    fn mark_entry(&mut self, entry: &CellEntry)
         ensures { (es : List CellEntry) → StandsForEntries self.old es → StandsForEntries self.new (entry.now ∷ es) }
     {
         mark(
@@ -103,15 +103,15 @@ impl Signals {
             usize::from(entry.satellite),
             has_value(&entry.cell),
         );
-        self.codes.take_entry(entry);
+        self.codes.mark_code(entry);
     }
 
-    /// More cells.
-    pub(crate) fn take(&mut self, entries: &[CellEntry])
+    /// Marks the satellites and codes of more cells.
+    pub(crate) fn mark_entries(&mut self, entries: &[CellEntry])
         ensures { (es : List CellEntry) → StandsForEntries self.old es → StandsForEntries self.new (entries.now ++ es) }
     {
         for entry in entries {
-            self.take_entry(entry);
+            self.mark_entry(entry);
         }
     }
 }

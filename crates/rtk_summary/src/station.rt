@@ -5,12 +5,12 @@ ghost use Rattle.rtk_message.specs.declared.any_message.AnyMessage.{AnyMessage};
 ghost use Rattle.rtk_message.specs.AnyDecoded.{IsValid, number_of};
 ghost use Rattle.rtk_message.specs.Decoded as decoded;
 ghost use Rattle.rtk_summary.specs.Steps.Standing.{times_of, StandsForMessages, CountsMessages};
-ghost use Rattle.rtk_summary.specs.Tracing.{times_of_week, entries_of_four, entries_of};
+ghost use Rattle.rtk_summary.specs.Tracing.{times_of_week, entries_of_four, entries_of_message};
 
 use crate::counting::count_if;
-use crate::msm::MsmParts;
+use crate::msm_parts::MsmParts;
 use crate::signals::Signals;
-use crate::times::Times;
+use crate::times_of_week::Times;
 use arrayvec::ArrayVec;
 use rtk_message::{AnyMessage, Message};
 use rtk_obs::{CellEntry, put_cells_1004, put_cells_1074, put_cells_msm};
@@ -42,7 +42,7 @@ fn put_entries_of_four(message: &Message, found: &mut ArrayVec<CellEntry, 64>)
 /// Puts the cells of a message over a list.
 pub(crate) fn put_entries(message: &AnyMessage, found: &mut ArrayVec<CellEntry, 64>)
     requires { IsValid message.now }
-    ensures { found.new.items ≡ entries_of message.now }
+    ensures { found.new.items ≡ entries_of_message message.now }
 {
     match message {
         AnyMessage::Message(message) => put_entries_of_four(message, found),
@@ -50,13 +50,13 @@ pub(crate) fn put_entries(message: &AnyMessage, found: &mut ArrayVec<CellEntry, 
     }
 }
 
-// The time of week of a message, if it has one.
-fn take_time(times: &mut Times, message: &AnyMessage)
+// Notes the time of week of a message, if it has one.
+fn note_time_of(times: &mut Times, message: &AnyMessage)
     ensures { (ms : List AnyMessage) → times.old ≡ times_of (times_of_week ms)
         → times.new ≡ times_of (times_of_week (message.now ∷ ms)) }
 {
     if let Some(time) = message.tow() {
-        times.take(time);
+        times.note_time(time);
     }
 }
 
@@ -77,7 +77,7 @@ impl Station {
     }
 
     // Counts a message under its number.
-    fn count(&mut self, number: u16)
+    fn count_number(&mut self, number: u16)
         ensures times { self.new.times ≡ self.old.times }
         ensures signals { self.new.signals ≡ self.old.signals }
         ensures msm { self.new.msm ≡ self.old.msm }
@@ -90,14 +90,14 @@ impl Station {
         self.arp_1006 = count_if(self.arp_1006, number == 1006);
     }
 
-    /// A message more, with its cells.
-    pub(crate) fn take(&mut self, message: &AnyMessage, entries: &[CellEntry])
-        requires { entries.now ≡ entries_of message.now }
+    /// Adds a message, with its cells.
+    pub(crate) fn add_message(&mut self, message: &AnyMessage, entries: &[CellEntry])
+        requires { entries.now ≡ entries_of_message message.now }
         ensures { (ms : List AnyMessage) → StandsForMessages self.old ms → StandsForMessages self.new (message.now ∷ ms) }
     {
-        self.count(message.number());
-        take_time(&mut self.times, message);
-        self.signals.take(entries);
-        self.msm.take(message, entries);
+        self.count_number(message.number());
+        note_time_of(&mut self.times, message);
+        self.signals.mark_entries(entries);
+        self.msm.add_message(message, entries);
     }
 }

@@ -7,8 +7,8 @@
 ghost use Rattle.std.specs.Prelude.{◌≡◌, List, [], ◌∷◌, length, IfOk};
 ghost use Rattle.rtk_message.specs.declared.any_message.AnyMessage.{AnyMessage};
 ghost use Rattle.rtk_message.specs.AnyDecoded.{IsValid};
-ghost use Rattle.rtk_summary.specs.Steps.Standing.{StandsForFrames, StandForStations, StandsForEntries, TakesFrames};
-ghost use Rattle.rtk_summary.specs.Tracing.{entries_of, entries_in};
+ghost use Rattle.rtk_summary.specs.Steps.Standing.{StandsForFrames, StandForStations, StandsForEntries, CountsFrames};
+ghost use Rattle.rtk_summary.specs.Tracing.{entries_of_message, entries_in};
 
 use crate::signals::Signals;
 use crate::station::{Station, put_entries};
@@ -26,7 +26,7 @@ pub(crate) struct Summary {
     pub(crate) framed: u64,
     /// By number.
     pub(crate) stations: Vec<Station>,
-    /// Those of all stations.
+    /// The signals of all stations.
     pub(crate) signals: Signals,
     pub(crate) unread: Unread,
     decoder: AnyDecoder,
@@ -35,20 +35,21 @@ pub(crate) struct Summary {
     room: ArrayVec<CellEntry, 64>,
 }
 
-// A message goes to its station.
-fn take_at(stations: &mut Vec<Station>, message: &AnyMessage, entries: &[CellEntry])
-    requires { entries.now ≡ entries_of message.now }
+// Adds a message to its station.
+fn add_to_station(stations: &mut Vec<Station>, message: &AnyMessage, entries: &[CellEntry])
+    requires { entries.now ≡ entries_of_message message.now }
     ensures size { length stations.new.items ≡ length stations.old.items }
     ensures stations { (ms : List AnyMessage) → StandForStations stations.old.items ms
         → StandForStations stations.new.items (message.now ∷ ms) }
 {
     let place = usize::from(message.station());
     if place < stations.len() {
-        stations[place].take(message, entries);
+        stations[place].add_message(message, entries);
     }
 }
 
-fn take_message(
+// Counts a message: marks its signals, and adds it to its station.
+fn count_message(
     stations: &mut Vec<Station>,
     signals: &mut Signals,
     room: &mut ArrayVec<CellEntry, 64>,
@@ -62,8 +63,8 @@ fn take_message(
         → StandsForEntries signals.new (entries_in (message.now ∷ ms)) }
 {
     put_entries(message, room);
-    signals.take(room.as_slice());
-    take_at(stations, message, room.as_slice());
+    signals.mark_entries(room.as_slice());
+    add_to_station(stations, message, room.as_slice());
 }
 
 impl Summary {
@@ -82,20 +83,20 @@ impl Summary {
         })
     }
 
-    /// A frame more, by its payload.
-    pub(crate) fn take(&mut self, payload: &[u8])
-        ensures { TakesFrames self.old (payload.now ∷ []) self.new }
+    /// Counts a frame, by its payload.
+    pub(crate) fn count_frame(&mut self, payload: &[u8])
+        ensures { CountsFrames self.old (payload.now ∷ []) self.new }
     {
         self.frames = self.frames.saturating_add(1);
         self.framed = self.framed.saturating_add(payload.len() as u64 + 6);
         match self.decoder.read(Accepted::ALL, payload) {
-            Ok(message) => take_message(
+            Ok(message) => count_message(
                 &mut self.stations,
                 &mut self.signals,
                 &mut self.room,
                 message,
             ),
-            Err(fault) => self.unread.take(*fault),
+            Err(fault) => self.unread.count_fault(*fault),
         }
     }
 }

@@ -47,8 +47,8 @@ impl Unread {
         })
     }
 
-    /// A fault more.
-    pub(crate) fn take(&mut self, fault: AnyFault)
+    /// Counts a fault.
+    pub(crate) fn count_fault(&mut self, fault: AnyFault)
         ensures { (fs : List AnyFault) → StandsForFaults self.old fs → StandsForFaults self.new (fault ∷ fs) }
     {
         match fault {

@@ -1,11 +1,11 @@
 -- What the parts of a chart hold, tied to the epochs that came so far.
-use Rattle.std.specs.Prelude.{◌≡◌, ℕ, List, [], length, Option, None, Some, unwrap_or}
+use Rattle.std.specs.Prelude.{◌≡◌, ◌<◌, ℕ, Bool, false, ◌||◌, List, [], length, get_or, Option, None, Some, unwrap_or}
 use Rattle.std.specs.BTreeMap.{get, BTreeMap}
 use Rattle.std.specs.Ordering.{nat_cmp}
 use Rattle.rtk_rinex.specs.Record.{EpochTableView}
 use Rattle.rtk_chart.specs.Epochs.{capped, newest_moment, slips_in}
 use Rattle.rtk_chart.specs.Interval.{steps_in, times_of_step, IsMostFrequent, missing_in}
-use Rattle.rtk_chart.specs.Grid.{columns_of, gaps_of}
+use Rattle.rtk_chart.specs.Grid.{bins_of, gaps_of}
 use Rattle.rtk_chart.specs.declared.steps.Frequent.{Frequent}
 use Rattle.rtk_chart.specs.declared.steps.Steps.{Steps}
 use Rattle.rtk_chart.specs.declared.survey.Survey.{Survey}
@@ -31,8 +31,17 @@ pub record StandsForSurvey (s : Survey) (es : List EpochTableView) : Type 0 wher
   pub last : s.last ≡ newest_moment es
   pub steps : StandsForSteps s.steps (steps_in es)
 
-pub record StandsForGrid (g : Grid) (s : Scale) (es : List EpochTableView) : Type 0 where
-  pub columns : g.columns.items ≡ columns_of s es
+-- marks, one for each bin: those of before stay, and the bins that pass a test get one
+pub record AddsMarks (test : ℕ → Bool) (old new : List Bool) : Type 0 where
+  pub size : length new ≡ length old
+  pub marked : (c : ℕ) → c < length old → get_or new c false ≡ (test c || get_or old c false)
+
+-- which bins have a missing epoch, and how many epochs are missing
+pub record StandsForMissing (g : Grid) (s : Scale) (es : List EpochTableView) : Type 0 where
   pub gaps : g.gaps.items ≡ gaps_of s es
-  pub missing : g.missing ≡ capped (missing_in s.unit es)
+  pub count : g.missing ≡ capped (missing_in s.unit es)
+
+pub record StandsForGrid (g : Grid) (s : Scale) (es : List EpochTableView) : Type 0 where
+  pub bins : g.bins.items ≡ bins_of s es
+  pub missing : StandsForMissing g s es
   pub last : g.last ≡ newest_moment es

@@ -16,12 +16,12 @@ use Rattle.rtk_summary.specs.ReadFrames.{ReadFrame, ReadsFrames, bytes_in, messa
 use Rattle.rtk_summary.specs.Summary.{AreFramesOf}
 use Rattle.rtk_summary.specs.Tracing.{is_numbered, is_other, is_short, is_outside_week, is_no_number, is_too_many_cells, times_of_week, newest_time, oldest_time, changes_in, entries_in, gives_satellite, gives_place}
 use Rattle.rtk_summary.specs.declared.epochs.Epochs.{Epochs}
-use Rattle.rtk_summary.specs.declared.msm.MsmPart.{MsmPart}
-use Rattle.rtk_summary.specs.declared.msm.MsmParts.{MsmParts}
+use Rattle.rtk_summary.specs.declared.msm_parts.MsmPart.{MsmPart}
+use Rattle.rtk_summary.specs.declared.msm_parts.MsmParts.{MsmParts}
 use Rattle.rtk_summary.specs.declared.signals.Codes.{Codes}
 use Rattle.rtk_summary.specs.declared.signals.Signals.{Signals}
 use Rattle.rtk_summary.specs.declared.station.Station.{Station}
-use Rattle.rtk_summary.specs.declared.times.Times.{Times}
+use Rattle.rtk_summary.specs.declared.times_of_week.Times.{Times}
 use Rattle.rtk_summary.specs.declared.unread.Unread.{Unread}
 use Rattle.rtk_summary.specs.declared.summary.Summary.{Summary}
 
@@ -77,19 +77,19 @@ pub record StandForMsm (p : MsmParts) (ms : List AnyMessage) : Type 0 where
   pub msm7 : StandsForMsm Msm7 p.msm7 ms
 
 -- what is held of an MSM
-abbrev pub part_of : MsmParts → MsmKind → MsmPart
-part_of p Msm4 = p.msm4
-part_of p Msm5 = p.msm5
-part_of p Msm6 = p.msm6
-part_of p Msm7 = p.msm7
+abbrev pub msm_part : MsmParts → MsmKind → MsmPart
+msm_part p Msm4 = p.msm4
+msm_part p Msm5 = p.msm5
+msm_part p Msm6 = p.msm6
+msm_part p Msm7 = p.msm7
 
 -- how many epochs of an MSM have a value
 abbrev pub epochs_held : MsmParts → MsmKind → ℕ
-epochs_held p kind = (part_of p kind).epochs.count
+epochs_held p kind = (msm_part p kind).epochs.count
 
 -- whether a code has a value in a message that `convert` takes with an MSM
 abbrev pub codes_held : MsmParts → MsmKind → Code → Bool
-codes_held p kind c = get_or (part_of p kind).codes.marks (place_of c) false
+codes_held p kind c = get_or (msm_part p kind).codes.marks (place_of c) false
 
 pub record CountsMessages (s : Station) (ms : List AnyMessage) : Type 0 where
   pub messages : s.messages ≡ shown_count (length ms)
@@ -123,6 +123,6 @@ ReadsAll given_old given_new size summary =
 
 -- frames with these payloads come, in this order: whatever came before, the summary then stands for
 -- them too
-abbrev pub TakesFrames : Summary → List (List ℕ) → Summary → Type 0
-TakesFrames old payloads new = (before : List ReadFrame) → StandsForFrames old before
+abbrev pub CountsFrames : Summary → List (List ℕ) → Summary → Type 0
+CountsFrames old payloads new = (before : List ReadFrame) → StandsForFrames old before
     → (after : List ReadFrame) × ReadsFrames payloads before after × StandsForFrames new after

@@ -28,7 +28,7 @@ returns c = λ t is file.
       c.interval-interval.ensures (steps_in es) s.steps,
       c.in_ok-svg-2.ensures ∙ svg-is t.head.marker c.marker-marker.result.now t.head.listed c.codes-codes.result.now t.first c.heading-heading.result.first c.in-Some.last
           c.in_ok-survey.survey.records c.in_ok-survey.survey.slips c.in_ok-grid.grid.missing c.interval-interval.result c.new-scale.result
-          c.in_ok-grid.grid.columns.items c.in_ok-grid.grid.gaps.items es
+          c.in_ok-grid.grid.bins.items c.in_ok-grid.grid.gaps.items es
           (c.marker-marker.ensures.value ∙ ap (λ h. h.marker) parts.0) (c.codes-codes.ensures.value ∙ ap (λ h. h.listed) parts.0) parts.2 (sym c.in-Some.is ∙ s.last) c.new-scale.ensures.value
-          s.records s.slips g.missing g.columns g.gaps,
+          s.records s.slips g.missing.count g.bins g.missing.gaps,
     )

@@ -8,8 +8,8 @@ use Rattle.rtk_chart.proofs.svg_bands.put_lock_layers.Goals as goal
 pub returns : goal.returns
 unfolding lock_layers
 returns c =
-    let slips = layer_flags c.args.columns.now c.args.place Slip in
-    let halves = layer_flags c.args.columns.now c.args.place Half in
+    let slips = layer_flags c.args.bins.now c.args.place Slip in
+    let halves = layer_flags c.args.bins.now c.args.place Half in
     let l0 : List ℕ = c.args.text.now.items in
     let l1 : List ℕ = c.put_title.new.text.items in
     let l2 : List ℕ = c.put_strokes_path.new.text.items in

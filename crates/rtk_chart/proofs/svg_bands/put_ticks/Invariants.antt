@@ -5,6 +5,6 @@ use Rattle.rtk_chart.specs.SvgPicture.{tick_text}
 use Rattle.rtk_chart.specs.Ticks.{tick_at}
 use Rattle.rtk_chart.proofs.svg_bands.put_ticks.Given as goal
 
-abbrev pub invariant-loop-column : goal.invariant-loop-column
-invariant-loop-column l =
-    l.text.items ≡ l.fn.text.items ++ flat_map (λ c. tick_text l.top l.step (90 + c * l.width) (tick_at l.scale l.step c)) (range_with_len 0 l.column)
+abbrev pub invariant-loop-bin : goal.invariant-loop-bin
+invariant-loop-bin l =
+    l.text.items ≡ l.fn.text.items ++ flat_map (λ c. tick_text l.top l.step (90 + c * l.width) (tick_at l.scale l.step c)) (range_with_len 0 l.bin)

@@ -2,5 +2,5 @@ use Rattle.std.proofs.Common.{◌≡◌, ◌++◌, ◌*◌, false, drop}
 use Rattle.rtk_chart.specs.SvgPath.{runs_from}
 use Rattle.rtk_chart.proofs.svg_path.put_runs.Given as goal
 
-abbrev pub invariant-loop-column : goal.invariant-loop-column
-invariant-loop-column l = l.fn.text.items ++ runs_from l.width 0 false l.flags ≡ l.text.items ++ runs_from l.width (l.column * l.width) l.was (drop l.column l.flags)
+abbrev pub invariant-loop-bin : goal.invariant-loop-bin
+invariant-loop-bin l = l.fn.text.items ++ runs_from l.width 0 false l.flags ≡ l.text.items ++ runs_from l.width (l.bin * l.width) l.was (drop l.bin l.flags)

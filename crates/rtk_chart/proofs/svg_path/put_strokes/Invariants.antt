@@ -2,5 +2,5 @@ use Rattle.std.proofs.Common.{◌≡◌, ◌++◌, ◌*◌, drop}
 use Rattle.rtk_chart.specs.SvgPath.{strokes_from}
 use Rattle.rtk_chart.proofs.svg_path.put_strokes.Given as goal
 
-abbrev pub invariant-loop-column : goal.invariant-loop-column
-invariant-loop-column l = l.fn.text.items ++ strokes_from l.width 0 l.flags ≡ l.text.items ++ strokes_from l.width (l.column * l.width) (drop l.column l.flags)
+abbrev pub invariant-loop-bin : goal.invariant-loop-bin
+invariant-loop-bin l = l.fn.text.items ++ strokes_from l.width 0 l.flags ≡ l.text.items ++ strokes_from l.width (l.bin * l.width) (drop l.bin l.flags)

@@ -20,4 +20,4 @@ returns c =
     let l7 : List ℕ = c.extend_from_slice-4.new.self.items in
     let l8 : List ℕ = c.put_seconds.new.text.items in
     let l9 : List ℕ = c.extend_from_slice-5.new.self.items in
-    and-then l0 l8 l9 _ (codes " s</text>\n") (and-then l0 l7 l8 _ (seconds_text c.args.scale.now.column_ms) (and-then l0 l6 l7 _ (codes ", column ") (and-then l0 l5 l6 _ (interval_text c.args.scale.now.interval) (and-then l0 l4 l5 _ (codes ", ") (and-then l0 l3 l4 _ (civil_text (reading_of c.args.scale.now.last)) (and-then l0 l2 l3 _ (codes " to ") (and-then l0 l1 l2 (codes "<text x='90' y='52'>") (civil_text (reading_of c.args.scale.now.first)) (c.in_ok-extend_from_slice.ensures.items) (c.in_ok-put_time.ensures)) (c.in_ok-extend_from_slice-2.ensures.items)) (c.in_ok-put_time-2.ensures)) (c.in_ok-extend_from_slice-3.ensures.items)) (c.in_ok-put_interval_words.ensures)) (c.in_ok-extend_from_slice-4.ensures.items)) (c.in_ok-put_seconds.ensures)) (c.in_ok-extend_from_slice-5.ensures.items)
+    and-then l0 l8 l9 _ (codes " s</text>\n") (and-then l0 l7 l8 _ (seconds_text c.args.scale.now.bin_ms) (and-then l0 l6 l7 _ (codes ", column ") (and-then l0 l5 l6 _ (interval_text c.args.scale.now.interval) (and-then l0 l4 l5 _ (codes ", ") (and-then l0 l3 l4 _ (civil_text (reading_of c.args.scale.now.last)) (and-then l0 l2 l3 _ (codes " to ") (and-then l0 l1 l2 (codes "<text x='90' y='52'>") (civil_text (reading_of c.args.scale.now.first)) (c.in_ok-extend_from_slice.ensures.items) (c.in_ok-put_time.ensures)) (c.in_ok-extend_from_slice-2.ensures.items)) (c.in_ok-put_time-2.ensures)) (c.in_ok-extend_from_slice-3.ensures.items)) (c.in_ok-put_interval_words.ensures)) (c.in_ok-extend_from_slice-4.ensures.items)) (c.in_ok-put_seconds.ensures)) (c.in_ok-extend_from_slice-5.ensures.items)

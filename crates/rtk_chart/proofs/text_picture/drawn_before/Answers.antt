@@ -11,7 +11,7 @@ once b = cond b 1 0
 
 pub overflow_add-count : goal.overflow_add-count
 overflow_add-count c =
-    let most = count-bound (is_drawn c.args.columns.now) c.loop-before.before in
+    let most = count-bound (is_drawn c.args.bins.now) c.loop-before.before in
     let is = c.loop-before.invariant in
     let few = c.requires in
     let inside = c.loop-before-test.true in
@@ -19,15 +19,15 @@ overflow_add-count c =
 
 pub loop-before-preserved : goal.loop-before-preserved
 loop-before-preserved c =
-    let more = count-more (is_drawn c.args.columns.now) c.loop-before.before in
+    let more = count-more (is_drawn c.args.bins.now) c.loop-before.before in
     let is = c.loop-before.invariant in
     elim c.if-is_drawn.branch [
       | then-is_drawn w ↦
-          let one : once (is_drawn c.args.columns.now c.loop-before.before) ≡ 1 = ap once (sym c.is_drawn.ensures ∙ w.if-is_drawn.true) in
+          let one : once (is_drawn c.args.bins.now c.loop-before.before) ≡ 1 = ap once (sym c.is_drawn.ensures ∙ w.if-is_drawn.true) in
           let now = w.count-is in
           omega (arith, more, is, one, now)
       | else-is_drawn w ↦
-          let none : once (is_drawn c.args.columns.now c.loop-before.before) ≡ 0 = ap once (sym c.is_drawn.ensures ∙ w.if-is_drawn.false) in
+          let none : once (is_drawn c.args.bins.now c.loop-before.before) ≡ 0 = ap once (sym c.is_drawn.ensures ∙ w.if-is_drawn.false) in
           let now = w.count-is in
           omega (arith, more, is, none, now)
     ]
@@ -36,11 +36,11 @@ pub returns-clause-value : goal.returns-clause-value
 unfolding drawn_before
 returns-clause-value c =
     let end : c.loop-before.before ≡ c.args.place = omega (arith, c.loop-before.auto.before-end, c.loop-before-test.false) in
-    c.loop-before.invariant ∙ ap (λ (k : ℕ). count_by (is_drawn c.args.columns.now) (range_with_len 0 k)) end
+    c.loop-before.invariant ∙ ap (λ (k : ℕ). count_by (is_drawn c.args.bins.now) (range_with_len 0 k)) end
 
 pub returns-clause-bound : goal.returns-clause-bound
 returns-clause-bound c =
-    let most = count-bound (is_drawn c.args.columns.now) c.loop-before.before in
+    let most = count-bound (is_drawn c.args.bins.now) c.loop-before.before in
     let is = c.loop-before.invariant in
     let few = c.requires in
     let end = c.loop-before.auto.before-end in

@@ -4,4 +4,4 @@ use Rattle.rtk_chart.specs.TextPicture.{is_drawn}
 use Rattle.rtk_chart.proofs.text_picture.drawn_before.Given as goal
 
 abbrev pub invariant-loop-before : goal.invariant-loop-before
-invariant-loop-before l = l.count ≡ count_by (is_drawn l.columns) (range_with_len 0 l.before)
+invariant-loop-before l = l.count ≡ count_by (is_drawn l.bins) (range_with_len 0 l.before)

@@ -6,14 +6,14 @@ use Rattle.rtk_chart.proofs.text_picture.is_covered.Goals as goal
 
 pub returns-then-has_label : goal.returns-then-has_label
 returns-then-has_label c =
-    let from : c.args.column - 9 ≤ c.loop-before.before = omega (arith, c.loop-before.auto.before, c.saturating_sub-before.ensures) in
-    let to : c.loop-before.before < (c.args.column - 9) + min c.args.column 9 = omega (arith, c.loop-before-test.true) in
-    sym (any-in-range (has_label c.args.scale.now c.args.step) (c.args.column - 9) (min c.args.column 9) c.loop-before.before from to (sym c.has_label.ensures ∙ c.if-has_label.true))
+    let from : c.args.bin - 9 ≤ c.loop-before.before = omega (arith, c.loop-before.auto.before, c.saturating_sub-before.ensures) in
+    let to : c.loop-before.before < (c.args.bin - 9) + min c.args.bin 9 = omega (arith, c.loop-before-test.true) in
+    sym (any-in-range (has_label c.args.scale.now c.args.step) (c.args.bin - 9) (min c.args.bin 9) c.loop-before.before from to (sym c.has_label.ensures ∙ c.if-has_label.true))
 
 pub loop-before-preserved : goal.loop-before-preserved
 loop-before-preserved c =
-    let from : c.args.column - 9 ≤ c.loop-before.before = omega (arith, c.loop-before.auto.before, c.saturating_sub-before.ensures) in
-    let at : c.loop-before.before ≡ (c.args.column - 9) + (c.loop-before.before - (c.args.column - 9)) = omega arith in
-    let next : (c.loop-before.before + 1) - (c.args.column - 9) ≡ (c.loop-before.before - (c.args.column - 9)) + 1 = omega arith in
-    ap (λ k. list_any (has_label c.args.scale.now c.args.step) (range_with_len (c.args.column - 9) k)) next
-    ∙ none-more (has_label c.args.scale.now c.args.step) (c.args.column - 9) (c.loop-before.before - (c.args.column - 9)) c.loop-before.before at c.loop-before.invariant (sym c.has_label.ensures ∙ c.if-has_label.false)
+    let from : c.args.bin - 9 ≤ c.loop-before.before = omega (arith, c.loop-before.auto.before, c.saturating_sub-before.ensures) in
+    let at : c.loop-before.before ≡ (c.args.bin - 9) + (c.loop-before.before - (c.args.bin - 9)) = omega arith in
+    let next : (c.loop-before.before + 1) - (c.args.bin - 9) ≡ (c.loop-before.before - (c.args.bin - 9)) + 1 = omega arith in
+    ap (λ k. list_any (has_label c.args.scale.now c.args.step) (range_with_len (c.args.bin - 9) k)) next
+    ∙ none-more (has_label c.args.scale.now c.args.step) (c.args.bin - 9) (c.loop-before.before - (c.args.bin - 9)) c.loop-before.before at c.loop-before.invariant (sym c.has_label.ensures ∙ c.if-has_label.false)

@@ -4,4 +4,4 @@ use Rattle.rtk_chart.specs.TextPicture.{has_label}
 use Rattle.rtk_chart.proofs.text_picture.is_covered.Given as goal
 
 abbrev pub invariant-loop-before : goal.invariant-loop-before
-invariant-loop-before l = list_any (has_label l.scale l.step) (range_with_len (l.column - 9) (l.before - (l.column - 9))) ≡ false
+invariant-loop-before l = list_any (has_label l.scale l.step) (range_with_len (l.bin - 9) (l.before - (l.bin - 9))) ≡ false

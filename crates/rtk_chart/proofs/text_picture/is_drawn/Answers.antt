@@ -2,21 +2,21 @@ use Rattle.std.proofs.Common.{◌≡◌, List, [], take, refl, sym, ap, ◌∙�
 use Rattle.std.proofs.lemmas.Grind.{common_steps}
 use Rattle.std.proofs.lemmas.List.Folds.{list_any_at}
 use Rattle.std.specs.List.{list_any}
-use Rattle.rtk_chart.specs.Grid.{cell_in}
-use Rattle.rtk_chart.specs.TextPicture.{is_drawn, cell_of_column}
-use Rattle.rtk_chart.specs.declared.column.Column.{Column}
+use Rattle.rtk_chart.specs.Grid.{tracking_in}
+use Rattle.rtk_chart.specs.TextPicture.{is_drawn, tracking_at}
+use Rattle.rtk_chart.specs.declared.time_bin.TimeBin.{TimeBin}
 use Rattle.rtk_chart.proofs.GridLemmas.{seen-same}
 use Rattle.rtk_chart.proofs.text_picture.is_drawn.Goals as goal
 
-pub returns-then-column-place : goal.returns-then-column-place
+pub returns-then-bin-place : goal.returns-then-bin-place
 unfolding is_drawn
-returns-then-column-place c =
-    sym (list_any_at (λ column. (cell_of_column c.args.place column).seen) c.args.columns.now c.loop-column.column-index _ c.loop-column-test.true
-    (seen-same _ c.args.place (cell_in []) _ refl ∙ c.if-column-place.true))
+returns-then-bin-place c =
+    sym (list_any_at (λ bin. (tracking_at c.args.place bin).seen) c.args.bins.now c.loop-bin.bin-index _ c.loop-bin-test.true
+    (seen-same _ c.args.place (tracking_in []) _ refl ∙ c.if-bin-place.true))
 
 pub returns : goal.returns
 unfolding is_drawn
 returns c =
-    let xs : List Column = c.args.columns.now in
-    let all : take c.loop-column.column-index xs ≡ xs = grind (arith, common_steps) in
-    sym (ap (λ (ys : List Column). list_any (λ column. (cell_of_column c.args.place column).seen) ys) (sym all) ∙ c.loop-column.invariant)
+    let xs : List TimeBin = c.args.bins.now in
+    let all : take c.loop-bin.bin-index xs ≡ xs = grind (arith, common_steps) in
+    sym (ap (λ (ys : List TimeBin). list_any (λ bin. (tracking_at c.args.place bin).seen) ys) (sym all) ∙ c.loop-bin.invariant)

@@ -4,14 +4,14 @@ use Rattle.rtk_chart.specs.TextPicture.{axis_row, axis_mark}
 use Rattle.rtk_chart.proofs.ListLemmas.{push-more}
 use Rattle.rtk_chart.proofs.text_picture.put_axis.Goals as goal
 
-pub loop-column-preserved : goal.loop-column-preserved
-loop-column-preserved c =
-    push-more (λ k. axis_mark (tick_at c.args.scale.now c.args.step k)) c.loop-column.column c.extend_from_slice.new.self.items c.loop-column.text.items c.push.new.self.items
-    c.loop-column.invariant
-    (c.in_ok-push.ensures.items ∙ ap (λ (x : ℕ). c.loop-column.text.items ++ x ∷ []) (c.axis_mark.ensures ∙ ap axis_mark c.tick_at.ensures.value))
+pub loop-bin-preserved : goal.loop-bin-preserved
+loop-bin-preserved c =
+    push-more (λ k. axis_mark (tick_at c.args.scale.now c.args.step k)) c.loop-bin.bin c.extend_from_slice.new.self.items c.loop-bin.text.items c.push.new.self.items
+    c.loop-bin.invariant
+    (c.in_ok-push.ensures.items ∙ ap (λ (x : ℕ). c.loop-bin.text.items ++ x ∷ []) (c.axis_mark.ensures ∙ ap axis_mark c.tick_at.ensures.value))
 
 pub returns : goal.returns
 unfolding axis_row
 returns c =
-    let end : c.loop-column.column ≡ c.args.scale.now.columns = omega (arith, c.loop-column.auto.column-end, c.loop-column-test.false) in
-    rw (c.in_ok-push-2.ensures.items, c.loop-column.invariant, c.in_ok-extend_from_slice.ensures.items, end) (simp append_assoc)
+    let end : c.loop-bin.bin ≡ c.args.scale.now.bins = omega (arith, c.loop-bin.auto.bin-end, c.loop-bin-test.false) in
+    rw (c.in_ok-push-2.ensures.items, c.loop-bin.invariant, c.in_ok-extend_from_slice.ensures.items, end) (simp append_assoc)

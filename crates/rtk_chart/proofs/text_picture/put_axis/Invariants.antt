@@ -4,5 +4,5 @@ use Rattle.rtk_chart.specs.TextPicture.{axis_mark}
 use Rattle.rtk_chart.specs.Ticks.{tick_at}
 use Rattle.rtk_chart.proofs.text_picture.put_axis.Given as goal
 
-abbrev pub invariant-loop-column : goal.invariant-loop-column
-invariant-loop-column l = l.text.items ≡ l.initial.text.items ++ map (λ c. axis_mark (tick_at l.scale l.step c)) (range_with_len 0 l.column)
+abbrev pub invariant-loop-bin : goal.invariant-loop-bin
+invariant-loop-bin l = l.text.items ≡ l.initial.text.items ++ map (λ c. axis_mark (tick_at l.scale l.step c)) (range_with_len 0 l.bin)

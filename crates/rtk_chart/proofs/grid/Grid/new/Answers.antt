@@ -1,11 +1,13 @@
 use Rattle.std.proofs.Common.{refl}
-use Rattle.rtk_chart.proofs.GridLemmas.{fresh-columns, fresh-gaps}
+use Rattle.rtk_chart.proofs.GridLemmas.{fresh-bins, fresh-gaps}
 use Rattle.rtk_chart.proofs.grid.Grid.new.Goals as goal
 
 pub returns-clause-grid : goal.returns-clause-grid
 returns-clause-grid c = record {
-  columns = fresh-columns c.args.scale.now c.in_ok-vec.field-0.items c.new.result (c.in_ok-vec.ensures.items_if_clones_equal (λ y same. same)) c.new.ensures;
-  gaps = fresh-gaps c.args.scale.now c.in_ok-vec-2.field-0.items (c.in_ok-vec-2.ensures.items_if_clones_equal (λ y same. same));
-  missing = refl;
+  bins = fresh-bins c.args.scale.now c.in_ok-vec.field-0.items c.new.result (c.in_ok-vec.ensures.items_if_clones_equal (λ y same. same)) c.new.ensures;
+  missing = record {
+    gaps = fresh-gaps c.args.scale.now c.in_ok-vec-2.field-0.items (c.in_ok-vec-2.ensures.items_if_clones_equal (λ y same. same));
+    count = refl;
+  };
   last = refl;
 }

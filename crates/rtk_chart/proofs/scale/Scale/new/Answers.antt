@@ -1,5 +1,5 @@
 use Rattle.std.proofs.Common.{◌<◌, ◌+◌, ◌*◌, ◌/◌, ℕ, ap, arith}
-use Rattle.rtk_chart.proofs.ScaleLemmas.{mul-pos, column-bound, columns-few}
+use Rattle.rtk_chart.proofs.ScaleLemmas.{mul-pos, bin-bound, bins-few}
 use Rattle.rtk_chart.proofs.scale.Scale.new.Goals as goal
 
 pub returns-clause-good : goal.returns-clause-good
@@ -13,17 +13,17 @@ returns-clause-good c =
     let first = c.ms-first.ensures.bound in
     let last = c.ms-last.ensures.bound in
     let some : 0 < allowed = omega (arith, c.requires.0) in
-    let most = column-bound span unit allowed some in
+    let most = bin-bound span unit allowed some in
     let least = mul-pos (span / (allowed * unit) + 1) unit (omega arith) positive in
     let is = c.saturating_sub-span.ensures in
-    let few = columns-few span unit allowed some positive in
+    let few = bins-few span unit allowed some positive in
     record {
       first = first;
       last = last;
       unit = positive;
       unit_bound = bound;
-      column = least;
-      column_bound = omega (arith, most, bound, last, is);
-      columns = ap (λ (n : ℕ). n / length + 1) is;
+      bin = least;
+      bin_bound = omega (arith, most, bound, last, is);
+      bins = ap (λ (n : ℕ). n / length + 1) is;
       few = omega (arith, few, c.requires.1);
     }

@@ -9,8 +9,8 @@ use Rattle.rtk_summary.proofs.signals.Codes.of.Goals as goal
 pub loop-entry-preserved : goal.loop-entry-preserved
 loop-entry-preserved c =
     let xs = c.args.entries.now in
-    codes-more c.take_entry.new.self xs [] c.loop-entry.entry-index _ c.loop-entry-test.true
-    (c.take_entry.ensures (take c.loop-entry.entry-index xs ++ []) c.loop-entry.invariant)
+    codes-more c.mark_code.new.self xs [] c.loop-entry.entry-index _ c.loop-entry-test.true
+    (c.mark_code.ensures (take c.loop-entry.entry-index xs ++ []) c.loop-entry.invariant)
 
 pub returns : goal.returns
 returns c =

@@ -1,0 +1,57 @@
+//! Two passes over the records of a table, from the first to the last.
+//!
+//! The first pass finds their number, steps and slips, which give the bins. The second one notes each
+//! record in its bin.
+
+ghost use Rattle.std.specs.Prelude.{◌≡◌, length, IfOk};
+ghost use Rattle.rtk_rinex.specs.Table.{WellFormedTable, IsWellFormedTable, table_text};
+ghost use Rattle.rtk_chart.specs.Epochs.{newest_first};
+ghost use Rattle.rtk_chart.specs.Scale.{IsScale};
+ghost use Rattle.rtk_chart.specs.Steps.Standing.{StandsForSurvey, StandsForGrid};
+
+use crate::grid::Grid;
+use crate::scale::Scale;
+use crate::survey::Survey;
+use rtk_obs::GpsMs;
+use rtk_rinex::{EpochTable, Table};
+use std::alloc::{AllocError, Global};
+
+/// Surveys all records; the first moment is any that an epoch can have.
+pub(crate) fn survey_records(
+    alloc: Global,
+    table: &Table<'_>,
+    first: GpsMs,
+) -> Result<Survey, AllocError>
+    ensures { IfOk result (λ survey. (t : WellFormedTable) → IsWellFormedTable t → table.now.text ≡ table_text t
+        → StandsForSurvey survey (newest_first t.epochs)) }
+{
+    let mut survey = Survey::new(alloc);
+    let mut epoch = EpochTable::new(first);
+    let mut records = table.records();
+    'records: while let Some(_record) = records.next(&mut epoch) {
+        survey.count_record(&epoch)?;
+    }
+    Ok(survey)
+}
+
+/// The grid of all records.
+pub(crate) fn fill_grid(
+    alloc: Global,
+    table: &Table<'_>,
+    scale: &Scale,
+    first: GpsMs,
+) -> Result<Grid, AllocError>
+    requires { IsScale scale.now }
+    ensures bins { IfOk result (λ grid. length grid.bins.items ≡ scale.now.bins) }
+    ensures gaps { IfOk result (λ grid. length grid.gaps.items ≡ scale.now.bins) }
+    ensures grid { IfOk result (λ grid. (t : WellFormedTable) → IsWellFormedTable t → table.now.text ≡ table_text t
+        → StandsForGrid grid scale.now (newest_first t.epochs)) }
+{
+    let mut grid = Grid::new(alloc, scale)?;
+    let mut epoch = EpochTable::new(first);
+    let mut records = table.records();
+    'records: while let Some(_record) = records.next(&mut epoch) {
+        grid.place_record(scale, &epoch);
+    }
+    Ok(grid)
+}
