@@ -1,6 +1,8 @@
 pub mod TestLemmas
+pub mod AnyLemmas
 pub mod CodeLemmas
 pub mod RowLemmas
+pub mod ShownLemmas
 pub mod PendingLemmas
 pub mod MarkLemmas
 pub mod SpanLemmas
@@ -8,3 +10,4 @@ pub mod ThinnedLemmas
 pub mod CuttingLemmas
 pub mod WholeLemmas
 pub mod LawLemmas
+pub mod SlipLawLemmas

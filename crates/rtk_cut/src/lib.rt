@@ -48,5 +48,8 @@ mod slips;
 
 pub use cutting::cut;
 pub use fault::CutFault;
-pub use laws::{own_step_gives_file, parts_are_tables, records_are_own, spans_join};
+pub use laws::{
+    others_stay, own_step_gives_file, parts_are_tables, records_are_asked_for, records_are_own,
+    slips_are_found, slips_are_kept, spans_join,
+};
 pub use part::Part;
