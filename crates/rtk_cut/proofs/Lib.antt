@@ -7,7 +7,7 @@ pub mod PendingLemmas
 pub mod MarkLemmas
 pub mod SpanLemmas
 pub mod ThinnedLemmas
-pub mod CuttingLemmas
+pub mod PartFileLemmas
 pub mod WholeLemmas
 pub mod LawLemmas
 pub mod SlipLawLemmas
