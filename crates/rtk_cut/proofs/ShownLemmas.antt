@@ -11,40 +11,40 @@ use Rattle.rtk_rinex.specs.declared.epoch_table.SatelliteRow.{SatelliteRow}
 use Rattle.rtk_rinex.specs.Record.{EpochTableView}
 use Rattle.rtk_rinex.specs.Table.{IsObserved, IsTableRow, IsTableEpoch}
 use Rattle.rtk_cut.specs.Cut.{no_observation, code_at, has_phase_of, has_slip_of, has_slipped_since, with_slip, row_with_slips, cut_epoch}
-use Rattle.rtk_cut.specs.CutLaws.{Observes, ShowsPhase, ShowsSlip, without_slips}
+use Rattle.rtk_cut.specs.CutLaws.{Observes, ShowsPhase, ShowsSlip, without_slip, row_without_slips, without_slips}
 use Rattle.rtk_cut.proofs.AnyLemmas.{any-weaker, any-where, any-map, any-unmap}
 use Rattle.rtk_cut.proofs.CodeLemmas.{codes-good, codes-own, code-past}
 
 -- ---- what an epoch shows, by a test that no absent observation passes
 
 seen-row : (test : Observed → Bool) (c : ℕ) (r : SatelliteRow) → test no_observation ≡ false → test (code_at c r) ≡ true → slice_get r.observed.items c ≡ Some (code_at c r)
-seen-row test c r none yes = elim (cases_lt c (length r.observed.items)) [
+seen-row test c r none passed = elim (cases_lt c (length r.observed.items)) [
   | inl within ↦ slice_get-get_or r.observed.items c no_observation within
-  | inr past ↦ absurd (both_ways (test (code_at c r)) (ap test (code-past c r past) ∙ none) yes)
+  | inr past ↦ absurd (both_ways (test (code_at c r)) (ap test (code-past c r past) ∙ none) passed)
 ]
 
 seen-any : (test : Observed → Bool) (s c : ℕ) (e : EpochTableView) → test no_observation ≡ false → list_any (λ r. eqb r.satellite s && test (code_at c r)) e.rows ≡ true
     → (o : Observed) × Observes s c o e × (test o ≡ true)
-seen-any test s c e none yes =
-    let a = Any-from_list_any (λ (r : SatelliteRow). eqb r.satellite s && test (code_at c r)) e.rows yes in
+seen-any test s c e none passed =
+    let a = Any-from_list_any (λ (r : SatelliteRow). eqb r.satellite s && test (code_at c r)) e.rows passed in
     let r : SatelliteRow = a.1 in
     let both = and_parts (eqb r.satellite s) (test (code_at c r)) a.4 in
     (code_at c r, (a.0, r, a.2, a.3, (eqb-true r.satellite s both.0, seen-row test c r none both.1)), both.1)
 
 any-seen : (test : Observed → Bool) (s c : ℕ) (o : Observed) (e : EpochTableView) → Observes s c o e → test o ≡ true → list_any (λ r. eqb r.satellite s && test (code_at c r)) e.rows ≡ true
-any-seen test s c o e a yes =
+any-seen test s c o e a passed =
     let r : SatelliteRow = a.1 in
     list_any-from_Any (λ (r : SatelliteRow). eqb r.satellite s && test (code_at c r)) e.rows
-    (a.0, r, a.2, a.3, and_from (eqb r.satellite s) (test (code_at c r)) (eq-eqb r.satellite s a.4.0) (ap test (get_or_from_slice_get r.observed.items c o no_observation a.4.1) ∙ yes))
+    (a.0, r, a.2, a.3, and_from (eqb r.satellite s) (test (code_at c r)) (eq-eqb r.satellite s a.4.0) (ap test (get_or_from_slice_get r.observed.items c o no_observation a.4.1) ∙ passed))
 
 pub shows-phase : (s c : ℕ) (e : EpochTableView) → has_phase_of s c e ≡ true → ShowsPhase s c e
-shows-phase s c e yes = seen-any (λ o. is_some o.phase_millicycles) s c e refl yes
+shows-phase s c e passed = seen-any (λ o. is_some o.phase_millicycles) s c e refl passed
 
 pub phase-shown : (s c : ℕ) (e : EpochTableView) → ShowsPhase s c e → has_phase_of s c e ≡ true
 phase-shown s c e shows = any-seen (λ o. is_some o.phase_millicycles) s c shows.0 e shows.1 shows.2
 
 pub shows-slip : (s c : ℕ) (e : EpochTableView) → has_slip_of s c e ≡ true → ShowsSlip s c e
-shows-slip s c e yes = seen-any (λ o. o.slip) s c e refl yes
+shows-slip s c e passed = seen-any (λ o. o.slip) s c e refl passed
 
 pub slip-shown : (s c : ℕ) (e : EpochTableView) → ShowsSlip s c e → has_slip_of s c e ≡ true
 slip-shown s c e shows = any-seen (λ o. o.slip) s c shows.0 e shows.1 shows.2
@@ -101,26 +101,20 @@ slip-without_phase slip o is = rw is refl
 
 -- ---- and without slips
 
-abbrev no_slip : Observed → Observed
-no_slip o = record o { slip = false }
-
-others-kept : (b slip : Bool) (o : Observed) → is_some o.phase_millicycles ≡ b → no_slip (with_slip slip o) ≡ no_slip o
+others-kept : (b slip : Bool) (o : Observed) → is_some o.phase_millicycles ≡ b → without_slip (with_slip slip o) ≡ without_slip o
 others-kept true slip o is = rw is refl
 others-kept false slip o is = rw is refl
 
-codes-kept : (slips : ℕ → Bool) (code : ℕ → Observed) (cs : List ℕ) → map no_slip (map (λ c. with_slip (slips c) (code c)) cs) ≡ map no_slip (map code cs)
+codes-kept : (slips : ℕ → Bool) (code : ℕ → Observed) (cs : List ℕ) → map without_slip (map (λ c. with_slip (slips c) (code c)) cs) ≡ map without_slip (map code cs)
 codes-kept slips code [] = refl
 codes-kept slips code (c ∷ cs) =
-    let here : no_slip (with_slip (slips c) (code c)) ≡ no_slip (code c) = others-kept (is_some (code c).phase_millicycles) (slips c) (code c) refl in
-    ap (λ o. o ∷ map no_slip (map (λ c. with_slip (slips c) (code c)) cs)) here ∙ ap (λ os. no_slip (code c) ∷ os) (codes-kept slips code cs)
-
-abbrev row_without_slips : SatelliteRow → SatelliteRow
-row_without_slips r = record { satellite = r.satellite; observed = record { items = map no_slip r.observed.items } }
+    let here : without_slip (with_slip (slips c) (code c)) ≡ without_slip (code c) = others-kept (is_some (code c).phase_millicycles) (slips c) (code c) refl in
+    ap (λ o. o ∷ map without_slip (map (λ c. with_slip (slips c) (code c)) cs)) here ∙ ap (λ os. without_slip (code c) ∷ os) (codes-kept slips code cs)
 
 row-kept : (slips : ℕ → Bool) (r : SatelliteRow) → row_without_slips (row_with_slips slips r) ≡ row_without_slips r
 row-kept slips r =
     ap (λ (os : List Observed). record { satellite = r.satellite; observed = record { items = os } })
-    (codes-kept slips (λ c. code_at c r) (range_with_len 0 (length r.observed.items)) ∙ ap (λ (os : List Observed). map no_slip os) (codes-own r.observed.items))
+    (codes-kept slips (λ c. code_at c r) (range_with_len 0 (length r.observed.items)) ∙ ap (λ (os : List Observed). map without_slip os) (codes-own r.observed.items))
 
 map-kept : {X : Type 0} (w f : X → X) (xs : List X) → ((x : X) → w (f x) ≡ w x) → map w (map f xs) ≡ map w xs
 map-kept w f [] same = refl

@@ -137,12 +137,12 @@ abbrev is_unseen : ℕ → ℕ → ℕ → EpochTableView → Bool
 is_unseen step s c e = not (is_on_step step e && has_phase_of s c e)
 
 unseen-passes : (on phase : Bool) → (on ≡ true → phase ≡ true → ⊥) → not (on && phase) ≡ true
-unseen-passes true true no = absurd (no refl refl)
-unseen-passes true false no = refl
-unseen-passes false phase no = refl
+unseen-passes true true never = absurd (never refl refl)
+unseen-passes true false never = refl
+unseen-passes false phase never = refl
 
 passes-unseen : (on phase : Bool) → not (on && phase) ≡ true → on ≡ true → phase ≡ true → ⊥
-passes-unseen on phase yes is_on has = both_ways (on && phase) (not-true (on && phase) yes) (and_from on phase is_on has)
+passes-unseen on phase passed is_on has = both_ways (on && phase) (not-true (on && phase) passed) (and_from on phase is_on has)
 
 -- a slip that is to be shown has been since the phase
 is-slipped : (every : Option ℕ) (s c : ℕ) (start gap : List EpochTableView) (f : EpochTableView) → All (λ e. IsWholeSteps every e.time → ShowsPhase s c e → ⊥) gap → Any (ShowsSlip s c) (gap ++ f ∷ [])
@@ -157,7 +157,7 @@ is-slipped every s c start gap f unseen slip =
           let passes : All (λ e. test e ≡ true) (onto gap []) =
           all-onto (λ e. test e ≡ true) gap []
           (All-weaker (λ e. IsWholeSteps every e.time → ShowsPhase s c e → ⊥) (λ e. test e ≡ true)
-          (λ e no. unseen-passes (is_on_step step e) (has_phase_of s c e) (λ on has. no (whole-steps every e on) (shows-phase s c e has))) gap unseen)
+          (λ e never. unseen-passes (is_on_step step e) (has_phase_of s c e) (λ on has. never (whole-steps every e on) (shows-phase s c e has))) gap unseen)
           (All-nil (λ e. test e ≡ true)) in
           let slips : Any (λ e. has_slip_of s c e ≡ true) (onto gap []) =
           any-onto (λ e. has_slip_of s c e ≡ true) gap [] (any-weaker (ShowsSlip s c) (λ e. has_slip_of s c e ≡ true) gap (λ e shows. slip-shown s c e shows) before) in
@@ -210,7 +210,7 @@ has-gap every s c before f slipped =
       are = onto-parts before us vs (sym (take-append-drop n earlier));
       unseen = all-onto (λ e. IsWholeSteps every e.time → ShowsPhase s c e → ⊥) us []
           (All-weaker (λ e. test e ≡ true) (λ e. IsWholeSteps every e.time → ShowsPhase s c e → ⊥)
-          (λ e yes whole shows. passes-unseen (is_on_step step e) (has_phase_of s c e) yes (on-step every e whole) (phase-shown s c e shows)) us passes)
+          (λ e passed whole shows. passes-unseen (is_on_step step e) (has_phase_of s c e) passed (on-step every e whole) (phase-shown s c e shows)) us passes)
           (All-nil (λ e. IsWholeSteps every e.time → ShowsPhase s c e → ⊥));
       slip = elim (any-split (λ e. has_slip_of s c e ≡ true) f us any) [
         | inl here ↦ any-middle (ShowsSlip s c) (onto us []) f [] (shows-slip s c f here)

@@ -2,6 +2,7 @@
 use Rattle.std.specs.Prelude.{◌≡◌, ◌<◌, ◌≤◌, ℕ, ◌*◌, false, List, [], ◌∷◌, ◌++◌, map, slice_get, All, Any, Option, None, Some, IfSome, IsSome, unwrap_or, IsTrue, ◌↔◌}
 use Rattle.std.specs.List.{filter}
 use Rattle.rtk_rinex.specs.declared.epoch_table.Observed.{Observed}
+use Rattle.rtk_rinex.specs.declared.epoch_table.SatelliteRow.{SatelliteRow}
 use Rattle.rtk_rinex.specs.Reading.{IsMoment}
 use Rattle.rtk_rinex.specs.Record.{EpochTableView}
 use Rattle.rtk_rinex.specs.Table.{WellFormedTable, IsWellFormedTable}
@@ -95,9 +96,14 @@ abbrev pub SlipsAreFound : Type 0
 SlipsAreFound =
     (part : Part) (t : WellFormedTable) (s c : ℕ) → IsWellFormedTable t → All (λ g. ShowsSlip s c g → HasSlipToShow part.every s c t.epochs g.time) (cut_of part t).epochs
 
+abbrev pub without_slip : Observed → Observed
+without_slip o = record o { slip = false }
+
+abbrev pub row_without_slips : SatelliteRow → SatelliteRow
+row_without_slips r = record { satellite = r.satellite; observed = record { items = map without_slip r.observed.items } }
+
 abbrev pub without_slips : EpochTableView → EpochTableView
-without_slips e =
-    record { time = e.time; rows = map (λ r. record { satellite = r.satellite; observed = record { items = map (λ o. record o { slip = false }) r.observed.items } }) e.rows }
+without_slips e = record { time = e.time; rows = map row_without_slips e.rows }
 
 -- the header is the file's, but for the first time, which is that of the first record; and each
 -- record is one of the file's, but for its slips
