@@ -1,19 +1,19 @@
 -- The laws on which records, slips and values a part has.
-use Rattle.std.proofs.Common.{◌≡◌, ◌<◌, ◌≤◌, ◌*◌, ◌%◌, ◌/◌, ◌+◌, ℕ, Bool, true, false, not, ◌&&◌, ltb, cond, ◌↔◌, ◌⊎◌, inl, inr, Option, Some, None, List, [], ◌∷◌, ◌++◌, length, take, drop, get_or, refl, sym, ap, subst, ◌∙◌, arith}
+use Rattle.std.proofs.Common.{◌≡◌, ◌<◌, ◌≤◌, ◌*◌, ◌%◌, ◌/◌, ◌+◌, ℕ, Bool, true, false, not, ◌&&◌, ltb, cond, inl, inr, Option, Some, None, List, [], ◌∷◌, ◌++◌, length, take, drop, refl, sym, ap, subst, ◌∙◌, arith}
 use Rattle.std.specs.Prelude.{All, Any, IfSome, is_some, take_while}
-use Rattle.std.specs.List.{filter, list_any, prefix_len}
+use Rattle.std.specs.List.{list_any, prefix_len}
 use Rattle.std.proofs.Math.Nat.{mul-mod_left}
 use Rattle.std.proofs.lemmas.Nat.{div-add-mod'}
-use Rattle.std.proofs.lemmas.Bool.{lt-ltb, le-ltb, ltb-true, ltb-false, eq-eqb, eqb-true, and_parts, and_from, not-true, or_left, or_right, true_from_ne_false, both_ways, cases_Bool}
+use Rattle.std.proofs.lemmas.Bool.{lt-ltb, le-ltb, ltb-true, ltb-false, eq-eqb, eqb-true, and_parts, and_from, not-true, or_left, or_right, true_from_ne_false, both_ways}
 use Rattle.std.proofs.lemmas.List.{get_or-take, take-append-drop}
 use Rattle.std.proofs.lemmas.List.Elements.{All-nil, All-cons, All-weaker, All-filter, filter_passes}
 use Rattle.std.proofs.lemmas.List.Folds.{Any-from_list_any, length-prefix_len}
 use Rattle.std.proofs.lemmas.List.Sums.{prefix_len_passes}
 use Rattle.rtk_rinex.specs.declared.epoch_table.Observed.{Observed}
 use Rattle.rtk_rinex.specs.Record.{EpochTableView}
-use Rattle.rtk_rinex.specs.Table.{WellFormedTable, IsWellFormedTable, IsTableEpoch}
+use Rattle.rtk_rinex.specs.Table.{IsTableEpoch}
 use Rattle.rtk_cut.specs.declared.part.Part.{Part}
-use Rattle.rtk_cut.specs.Cut.{step_ms, is_on_step, is_at_or_after, is_earlier_than, is_in_span, has_phase_of, has_slip_of, since_phase, has_slipped_since, with_slip, cut_epoch, thinned_after, kept_after, first_of_part, cut_of}
+use Rattle.rtk_cut.specs.Cut.{step_ms, is_on_step, is_at_or_after, is_earlier_than, is_in_span, has_phase_of, has_slip_of, since_phase, has_slipped_since, with_slip, cut_epoch, thinned_after, kept_after, first_of_part}
 use Rattle.rtk_cut.specs.CutLaws.{IsWholeSteps, IsAskedFor, RecordsAreAskedFor, Observes, ShowsPhase, ShowsSlip, HasSlipToShow, SlipsAreKept, SlipsAreFound, without_slips, OthersStay}
 use Rattle.rtk_cut.proofs.AnyLemmas.{any-here, any-weaker, any-where, any-left, any-middle, any-split, any-none, any-append, any-splits, any-if, any-filter, any-while, onto, onto-append, onto-long, onto-parts, all-onto, any-onto}
 use Rattle.rtk_cut.proofs.CodeLemmas.{no-slip}
