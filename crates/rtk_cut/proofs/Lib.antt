@@ -1,10 +1,13 @@
 pub mod TestLemmas
+pub mod AnyLemmas
 pub mod CodeLemmas
 pub mod RowLemmas
+pub mod ShownLemmas
 pub mod PendingLemmas
 pub mod MarkLemmas
 pub mod SpanLemmas
 pub mod ThinnedLemmas
-pub mod CuttingLemmas
+pub mod PartFileLemmas
 pub mod WholeLemmas
 pub mod LawLemmas
+pub mod SlipLawLemmas

@@ -11,8 +11,8 @@ use Rattle.rtk_cut.specs.declared.cutter.Cutter.{Cutter}
 use Rattle.rtk_cut.specs.declared.part.Part.{Part}
 use Rattle.rtk_cut.specs.Cut.{step_ms, cut_of}
 use Rattle.rtk_cut.specs.Steps.Pending.{StandsForSlips}
-use Rattle.rtk_cut.specs.Steps.Cutting.{still_to_write, IsHeadingOf, IsFresh, ComesNext, TakesEpoch, TakesEpochInPart, TakesEnd, TakesEndInPart}
-use Rattle.rtk_cut.proofs.CuttingLemmas.{part-after}
+use Rattle.rtk_cut.specs.Steps.PartFile.{still_to_write, IsHeadingOf, IsFresh, ComesNext, TakesEpoch, TakesEpochInPart, TakesEnd, TakesEndInPart}
+use Rattle.rtk_cut.proofs.PartFileLemmas.{part-after}
 
 -- some epochs of a table were taken: the others are left, and a first part of what is to be written
 -- is out

@@ -1,7 +1,10 @@
 -- Laws on parts of files.
-use Rattle.std.specs.Prelude.{◌≡◌, ◌≤◌, ℕ, ◌++◌, All, Option, None, Some, IsTrue}
+use Rattle.std.specs.Prelude.{◌≡◌, ◌<◌, ◌≤◌, ℕ, ◌*◌, false, List, [], ◌∷◌, ◌++◌, map, slice_get, All, Any, Option, None, Some, IfSome, IsSome, unwrap_or, IsTrue, ◌↔◌}
 use Rattle.std.specs.List.{filter}
+use Rattle.rtk_rinex.specs.declared.epoch_table.Observed.{Observed}
+use Rattle.rtk_rinex.specs.declared.epoch_table.SatelliteRow.{SatelliteRow}
 use Rattle.rtk_rinex.specs.Reading.{IsMoment}
+use Rattle.rtk_rinex.specs.Record.{EpochTableView}
 use Rattle.rtk_rinex.specs.Table.{WellFormedTable, IsWellFormedTable}
 use Rattle.rtk_cut.specs.declared.part.Part.{Part}
 use Rattle.rtk_cut.specs.Cut.{step_ms, is_on_step, is_in_span, cut_of}
@@ -39,3 +42,76 @@ SpansJoin =
 abbrev pub OwnStepGivesFile : Type 0
 OwnStepGivesFile =
     (every : Option ℕ) (t : WellFormedTable) → IsWellFormedTable t → All (λ e. IsTrue (is_on_step (step_ms every) e)) t.epochs → cut_of (part_of None None every) t ≡ t
+
+-- ---- which records, slips and values a part has, in words that its definition does not use: a
+-- mistake in the definition shows here
+
+-- a moment is a whole number of steps in s after 1980-01-06
+abbrev pub IsWholeSteps : Option ℕ → ℕ → Type 0
+IsWholeSteps None t = Unit {0}
+IsWholeSteps (Some every) t = (n : ℕ) × (t ≡ n * (every * 1000))
+
+-- a part has the record of this moment, if the file has one
+pub record IsAskedFor (part : Part) (t : ℕ) : Type 0 where
+  pub steps : IsWholeSteps part.every t
+  pub from : IfSome part.from (λ first. first ≤ t)
+  pub until : IfSome part.until (λ past. t < past)
+
+-- a part has the records of the file that are asked for, and no others
+abbrev pub RecordsAreAskedFor : Type 0
+RecordsAreAskedFor =
+    (part : Part) (t : WellFormedTable) (time : ℕ) → Any (λ g. g.time ≡ time) (cut_of part t).epochs ↔ (Any (λ e. e.time ≡ time) t.epochs × IsAskedFor part time)
+
+-- the record has this observation of the satellite and of the code at this place
+abbrev pub Observes : ℕ → ℕ → Observed → EpochTableView → Type 0
+Observes s c o e = Any (λ r. (r.satellite ≡ s) × (slice_get r.observed.items c ≡ Some o)) e.rows
+
+abbrev pub ShowsPhase : ℕ → ℕ → EpochTableView → Type 0
+ShowsPhase s c e = (o : Observed) × Observes s c o e × IsSome o.phase_millicycles
+
+abbrev pub ShowsSlip : ℕ → ℕ → EpochTableView → Type 0
+ShowsSlip s c e = (o : Observed) × Observes s c o e × IsTrue o.slip
+
+-- the record of this moment shows the phase, and has a slip of it to show: its own, or one of the
+-- records of a gap before it, where none on the step shows the phase; the gap may have any length
+pub record HasSlipToShow (every : Option ℕ) (s c : ℕ) (epochs : List EpochTableView) (time : ℕ) : Type 0 where
+  pub start : List EpochTableView
+  pub gap : List EpochTableView
+  pub shows : EpochTableView
+  pub rest : List EpochTableView
+  pub are : epochs ≡ (start ++ gap) ++ shows ∷ rest
+  pub at : shows.time ≡ time
+  pub phase : ShowsPhase s c shows
+  pub unseen : All (λ e. IsWholeSteps every e.time → ShowsPhase s c e → ⊥) gap
+  pub slip : Any (ShowsSlip s c) (gap ++ shows ∷ [])
+
+-- no slip is lost: the part shows it
+abbrev pub SlipsAreKept : Type 0
+SlipsAreKept =
+    (part : Part) (t : WellFormedTable) (s c time : ℕ) → IsAskedFor part time → HasSlipToShow part.every s c t.epochs time
+    → Any (λ g. (g.time ≡ time) × ShowsSlip s c g) (cut_of part t).epochs
+
+-- and none is invented
+abbrev pub SlipsAreFound : Type 0
+SlipsAreFound =
+    (part : Part) (t : WellFormedTable) (s c : ℕ) → IsWellFormedTable t → All (λ g. ShowsSlip s c g → HasSlipToShow part.every s c t.epochs g.time) (cut_of part t).epochs
+
+abbrev pub without_slip : Observed → Observed
+without_slip o = record o { slip = false }
+
+abbrev pub row_without_slips : SatelliteRow → SatelliteRow
+row_without_slips r = record { satellite = r.satellite; observed = record { items = map without_slip r.observed.items } }
+
+abbrev pub without_slips : EpochTableView → EpochTableView
+without_slips e = record { time = e.time; rows = map row_without_slips e.rows }
+
+-- the header is the file's, but for the first time, which is that of the first record; and each
+-- record is one of the file's, but for its slips
+pub record DiffersInSlips (from : Option ℕ) (t part : WellFormedTable) : Type 0 where
+  pub head : part.head ≡ t.head
+  pub site : part.site ≡ t.site
+  pub without_record : part.epochs ≡ [] → part.first ≡ unwrap_or from t.first
+  pub epochs : All (λ g. Any (λ e. without_slips g ≡ without_slips e) t.epochs) part.epochs
+
+abbrev pub OthersStay : Type 0
+OthersStay = (part : Part) (t : WellFormedTable) → DiffersInSlips part.from t (cut_of part t)

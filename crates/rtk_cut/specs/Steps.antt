@@ -1,3 +1,3 @@
-pub mod Cutting
-pub mod Output
+pub mod PartFile
+pub mod PartRecords
 pub mod Pending

@@ -5,12 +5,12 @@
 ghost use Rattle.std.specs.Prelude.{◌≡◌, ◌≢◌, ◌≤◌, true, Err, OnOk, IfOk, IsErrOf, length};
 ghost use Rattle.rtk_frame.specs.Stream.{CountRises};
 ghost use Rattle.rtk_cut.specs.Cut.{IsStepOrNone, is_on_step, step_ms};
-ghost use Rattle.rtk_cut.specs.Steps.Cutting.{IsFresh, TakesEpoch, TakesEpochInPart, TakesEnd, TakesEndInPart};
+ghost use Rattle.rtk_cut.specs.Steps.PartFile.{IsFresh, TakesEpoch, TakesEpochInPart, TakesEnd, TakesEndInPart};
 ghost use Rattle.rtk_cut.specs.declared.fault.CutFault.TheVariants.{Write};
 
 use crate::fault::CutFault;
-use crate::output::{put_after_header, put_record};
 use crate::part::Part;
+use crate::part_records::{put_after_header, put_record};
 use crate::slips::Slips;
 use rtk_frame::Sink;
 use rtk_obs::GpsMs;
@@ -53,7 +53,7 @@ impl Cutter {
     }
 
     // Takes an epoch that is on the step.
-    fn take_on_step<W: Sink>(
+    fn cut_record_on_step<W: Sink>(
         &mut self,
         alloc: Global,
         epoch: &EpochTable,
@@ -88,7 +88,7 @@ impl Cutter {
     }
 
     /// Takes the next epoch of the file, with the text of its record.
-    pub(crate) fn take<W: Sink>(
+    pub(crate) fn cut_record<W: Sink>(
         &mut self,
         alloc: Global,
         epoch: &EpochTable,
@@ -104,7 +104,7 @@ impl Cutter {
         ensures no_failed_write { result ≢ Err Write → W.failures out.new ≡ W.failures out.old }
     {
         if epoch.time().ms() % self.part.step_ms() == 0 {
-            return self.take_on_step(alloc, epoch, text, out);
+            return self.cut_record_on_step(alloc, epoch, text, out);
         }
         self.slips.note(epoch);
         Ok(())

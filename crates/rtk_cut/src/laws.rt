@@ -3,7 +3,7 @@
 //! Each function here does nothing. Its contract is the law, and a caller that calls it may cite
 //! it.
 
-ghost use Rattle.rtk_cut.specs.CutLaws.{PartsAreTables, RecordsAreOwn, SpansJoin, OwnStepGivesFile};
+ghost use Rattle.rtk_cut.specs.CutLaws.{PartsAreTables, RecordsAreOwn, SpansJoin, OwnStepGivesFile, RecordsAreAskedFor, SlipsAreKept, SlipsAreFound, OthersStay};
 
 /// A part of a well-formed file is a well-formed file.
 pub fn parts_are_tables()
@@ -24,4 +24,27 @@ pub fn spans_join()
 /// A step on which all records are, with no span, gives the file itself.
 pub fn own_step_gives_file()
     ensures { OwnStepGivesFile }
+{}
+
+/// A part has the records of the file in its span whose moment is a whole number of steps, and no
+/// others: all steps and all moments alike.
+pub fn records_are_asked_for()
+    ensures { RecordsAreAskedFor }
+{}
+
+/// No slip is lost: the next phase on the step shows it, however many records and however much
+/// time are between.
+pub fn slips_are_kept()
+    ensures { SlipsAreKept }
+{}
+
+/// No slip is invented: each is a slip of the file since the phase stood in a record on the step.
+pub fn slips_are_found()
+    ensures { SlipsAreFound }
+{}
+
+/// Without its slips each record of a part is one of the file's, and the header too is the file's,
+/// but for the first time.
+pub fn others_stay()
+    ensures { OthersStay }
 {}

@@ -39,14 +39,17 @@
 #![tactic(auto)]
 
 mod cutter;
-mod cutting;
 mod fault;
 mod laws;
-mod output;
 mod part;
+mod part_file;
+mod part_records;
 mod slips;
 
-pub use cutting::cut;
 pub use fault::CutFault;
-pub use laws::{own_step_gives_file, parts_are_tables, records_are_own, spans_join};
+pub use laws::{
+    others_stay, own_step_gives_file, parts_are_tables, records_are_asked_for, records_are_own,
+    slips_are_found, slips_are_kept, spans_join,
+};
 pub use part::Part;
+pub use part_file::cut;

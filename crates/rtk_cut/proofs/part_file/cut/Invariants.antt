@@ -2,7 +2,7 @@ use Rattle.std.proofs.Common.{◌≡◌, length}
 use Rattle.rtk_rinex.specs.Table.{WellFormedTable, IsWellFormedTable, table_text}
 use Rattle.rtk_cut.specs.Cut.{IsStepOrNone}
 use Rattle.rtk_cut.proofs.WholeLemmas.{HasCut}
-use Rattle.rtk_cut.proofs.cutting.cut.Given as goal
+use Rattle.rtk_cut.proofs.part_file.cut.Given as goal
 
 abbrev pub invariant-epochs : goal.invariant-epochs
 invariant-epochs g l = record {

@@ -12,8 +12,8 @@ use Rattle.rtk_rinex.specs.Table.{WellFormedTable, table_text}
 use Rattle.rtk_cut.specs.declared.cutter.Cutter.{Cutter}
 use Rattle.rtk_cut.specs.declared.part.Part.{Part}
 use Rattle.rtk_cut.specs.Cut.{step_ms, is_on_step, is_in_span, cut_epoch, kept_after, table_with}
-use Rattle.rtk_cut.specs.Steps.Output.{header_unless, text_or_new}
-use Rattle.rtk_cut.specs.Steps.Cutting.{still_to_write, WritesUpTo, ComesNext}
+use Rattle.rtk_cut.specs.Steps.PartRecords.{header_unless, text_or_new}
+use Rattle.rtk_cut.specs.Steps.PartFile.{still_to_write, WritesUpTo, ComesNext}
 use Rattle.rtk_cut.proofs.ThinnedLemmas.{thinned-on, thinned-off}
 
 -- ---- texts in parts

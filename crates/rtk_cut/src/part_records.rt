@@ -4,7 +4,7 @@ ghost use Rattle.std.specs.Prelude.{◌≡◌, ◌≢◌, ◌++◌, Err, OnOk, I
 ghost use Rattle.rtk_frame.specs.Stream.{with_more, TakesPart, CountRises};
 ghost use Rattle.rtk_rinex.specs.Header.{position_view};
 ghost use Rattle.rtk_rinex.specs.Record.{HasWidth};
-ghost use Rattle.rtk_cut.specs.Steps.Output.{header_unless, text_or_new};
+ghost use Rattle.rtk_cut.specs.Steps.PartRecords.{header_unless, text_or_new};
 ghost use Rattle.rtk_cut.specs.declared.fault.CutFault.TheVariants.{Write};
 
 use crate::fault::CutFault;

@@ -37,7 +37,7 @@ pub fn cut<W: Sink>(
     let mut cutter = Cutter::new(alloc, heading, part)?;
     let mut records = table.records();
     'epochs: while let Some(text) = records.next(&mut epoch) {
-        cutter.take(alloc, &epoch, text, out)?;
+        cutter.cut_record(alloc, &epoch, text, out)?;
     }
     cutter.end(alloc, out)
 }

@@ -2,9 +2,9 @@ use Rattle.std.proofs.Common.{◌≡◌, ◌%◌, ℕ, false, ◌∷◌, ap, ◌
 use Rattle.std.proofs.lemmas.Bool.{ne_eqb}
 use Rattle.rtk_rinex.specs.Record.{EpochTableView}
 use Rattle.rtk_cut.specs.Cut.{is_on_step, step_ms}
-use Rattle.rtk_cut.specs.Steps.Cutting.{still_to_write}
-use Rattle.rtk_cut.proofs.CuttingLemmas.{writes-nothing, left-off}
-use Rattle.rtk_cut.proofs.cutter.Cutter.take.Goals as goal
+use Rattle.rtk_cut.specs.Steps.PartFile.{still_to_write}
+use Rattle.rtk_cut.proofs.PartFileLemmas.{writes-nothing, left-off}
+use Rattle.rtk_cut.proofs.cutter.Cutter.cut_record.Goals as goal
 
 pub returns-clause-taken : goal.returns-clause-taken
 returns-clause-taken g c = λ t earlier left next.

@@ -3,10 +3,10 @@ use Rattle.rtk_rinex.specs.Header.{HeadView, position_view}
 use Rattle.rtk_rinex.specs.Record.{EpochTableView}
 use Rattle.rtk_rinex.specs.Table.{IsTableEpoch}
 use Rattle.rtk_cut.specs.Cut.{step_ms, is_at_or_after, is_earlier_than, is_in_span}
-use Rattle.rtk_cut.specs.Steps.Cutting.{still_to_write}
-use Rattle.rtk_cut.specs.Steps.Output.{header_unless, text_or_new}
-use Rattle.rtk_cut.proofs.CuttingLemmas.{writes-nothing, part-longer, left-outside, record-written}
-use Rattle.rtk_cut.proofs.cutter.Cutter.take_on_step.Goals as goal
+use Rattle.rtk_cut.specs.Steps.PartFile.{still_to_write}
+use Rattle.rtk_cut.specs.Steps.PartRecords.{header_unless, text_or_new}
+use Rattle.rtk_cut.proofs.PartFileLemmas.{writes-nothing, part-longer, left-outside, record-written}
+use Rattle.rtk_cut.proofs.cutter.Cutter.cut_record_on_step.Goals as goal
 
 pub returns-then-not-spans-clause-taken : goal.returns-then-not-spans-clause-taken
 returns-then-not-spans-clause-taken g c = λ t earlier left next.
