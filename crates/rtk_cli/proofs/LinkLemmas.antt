@@ -6,8 +6,8 @@ use Rattle.std.specs.Io.Buffered.{writer_contents}
 use Rattle.std.specs.Io.KnownBytes.{Keeps}
 use Rattle.std.specs.declared.io.buffered.BufWriter.{BufWriter}
 use Rattle.rtk_frame.specs.Stream.{with_more}
-use Rattle.rtk_tools.specs.Passed.{given_of, IsLeft, taken_of}
-use Rattle.rtk_tools.specs.declared.resuming.Resumed.{Resumed}
+use Rattle.rtk_streams.specs.Passed.{given_of, IsLeft, taken_of}
+use Rattle.rtk_streams.specs.declared.resuming.Resumed.{Resumed}
 use Rattle.rtk_convert.specs.declared.counts.Counts.{Counts}
 use Rattle.rtk_convert.specs.declared.fault.ConvertFault.{ConvertFault}
 use Rattle.rtk_convert.specs.declared.fault.ConvertFault.TheVariants.{Read as ReadFailed, Endless}

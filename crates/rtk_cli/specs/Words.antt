@@ -5,7 +5,7 @@ use Rattle.std.specs.Option.{ForSome}
 use Rattle.std.specs.Cmp.Lexicographic.{pointwise}
 use Rattle.rtk_convert.specs.Setup.{IsStation, IsWindow}
 use Rattle.rtk_cut.specs.Cut.{IsStepOrNone}
-use Rattle.rtk_files.specs.ChartInput.{IsWidth}
+use Rattle.rtk_commands.specs.ChartInput.{IsWidth}
 use Rattle.rtk_cli.specs.declared.words.Job.{Job}
 use Rattle.rtk_cli.specs.declared.words.Job.TheVariants.{Convert, Show, Check, Summary, Chart, Cut}
 use Rattle.rtk_cli.specs.declared.words.WordsFault.{WordsFault}

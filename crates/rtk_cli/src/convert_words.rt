@@ -11,11 +11,11 @@ use crate::code_list::codes_of;
 use crate::moment_text::moment_of;
 use crate::words::{BadWords, Job, WordsFault};
 use arrayvec::ArrayVec;
+use rtk_args::ConvertOptions;
 use rtk_convert::{Setup, SetupFault};
 use rtk_message::MsmKind;
 use rtk_rinex::{Head, HeadFault};
-use rtk_tools::STDIN;
-use rtk_words::ConvertOptions;
+use rtk_streams::STDIN;
 use std::alloc::Global;
 
 /// The conversion that the options and the links say. The causes are looked for in the order of

@@ -9,9 +9,9 @@ ghost use Rattle.rtk_convert.specs.Failure.{IsRunFault};
 ghost use Rattle.rtk_convert.specs.Headline.{RunHeadline};
 ghost use Rattle.rtk_convert.specs.ReadSteps.{HasCalled};
 ghost use Rattle.rtk_convert.specs.Writing.{written};
-ghost use Rattle.rtk_tools.specs.Passed.{taken_of};
-ghost use Rattle.rtk_tools.specs.Steps.ReadLimits.{most_reads};
-ghost use Rattle.rtk_tools.specs.declared.exit_status.TheConstants.{REFUSED};
+ghost use Rattle.rtk_streams.specs.Passed.{taken_of};
+ghost use Rattle.rtk_streams.specs.Steps.ReadLimits.{most_reads};
+ghost use Rattle.rtk_streams.specs.declared.exit_status.TheConstants.{REFUSED};
 ghost use Rattle.rtk_cli.specs.Converting.{status_of};
 ghost use Rattle.rtk_cli.specs.ConvertsBytes.{ConvertsBytes, EndsAtRead, ConvertsFirstBytes};
 ghost use Rattle.rtk_cli.specs.Steps.Links.{bytes_had, bytes_held, AreLinksOf, HasReadSome};
@@ -20,7 +20,7 @@ use crate::refusing::refuse;
 use crate::words::BadWords;
 use rtk_convert::{ConvertFault, Counts, Setup};
 use rtk_frame::{Sink, Source};
-use rtk_tools::{
+use rtk_streams::{
     Before, DONE, GATHERED, MOST_READS, Reads, Resumed, ToolFault, Writes, fail, fail_to_end,
     fail_to_open_links, has_standard_input, open_links, sink,
 };

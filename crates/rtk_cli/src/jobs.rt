@@ -6,7 +6,7 @@ ghost use Rattle.rtk_cli.specs.Words.{HasStatus, IsWithinLimits};
 use crate::convert_words::conversion;
 use crate::cut_words::part_of;
 use crate::words::{Job, WordsFault};
-use rtk_words::{ClapAnswer, CutOptions, Request, read_words};
+use rtk_args::{ClapAnswer, CutOptions, Request, read_words};
 use std::alloc::Global;
 
 // The part that the options say, of this file.

@@ -1,0 +1,30 @@
+//! The words of a command line as clap reads them: which command they ask for, with the values of
+//! its options, or what clap answers.
+//!
+//! ```rust
+//! use rtk_args::{Request, read_words};
+//! use std::alloc::{AllocError, Global};
+//!
+//! // The words `show --hex a.txt` ask for the lines of a capture that is hex text.
+//! fn example(alloc: Global) -> Result<bool, AllocError> {
+//!     match read_words(alloc, &["show", "--hex", "a.txt"]) {
+//!         Ok(Request::Show { hex, file }) => Ok(hex && file == "a.txt"),
+//!         _ => Ok(false),
+//!     }
+//! }
+//! ```
+//!
+//! Its tests: tests/values/src/cli/, and tests/program
+#![tactic(auto)]
+
+mod answer;
+mod command_line;
+mod help_texts;
+mod options;
+mod reading;
+mod request;
+
+pub use answer::ClapAnswer;
+pub use options::{ConvertOptions, CutOptions};
+pub use reading::read_words;
+pub use request::Request;

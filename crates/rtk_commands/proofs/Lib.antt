@@ -1,0 +1,7 @@
+mod CheckLineLemmas
+mod CutLemmas
+mod LawLemmas
+mod MemoryLemmas
+mod NumberLemmas
+mod ShownLemmas
+mod WrittenLemmas

@@ -1,0 +1,19 @@
+use Rattle.std.proofs.Common.{◌≤◌, length}
+use Rattle.rtk_commands.specs.CutInput.{CutsOrRefuses}
+use Rattle.rtk_commands.specs.declared.checking.TheConstants.{CHECK_LIMIT}
+use Rattle.rtk_commands.proofs.CutLemmas.{gathered_contents, through_if_out}
+use Rattle.rtk_commands.proofs.cutting.cut_by.Goals as goal
+
+pub returns : goal.returns
+returns g c = record {
+  told = through_if_out g.K.Before.had g.K.Before.held
+      c.over-source.result.number c.cut_input-cut.new.reader.number c.in_ok-target.target.number c.cut_input-cut.new.out.number
+      (g.R.Read.remaining c.over-source.result.inner) (g.R.Read.remaining c.cut_input-cut.new.reader.inner)
+      (gathered_contents g.W.Write.contents c.in_ok-target.target.inner) (gathered_contents g.W.Write.contents c.cut_input-cut.new.out.inner)
+      (g.W.Write.contents c.into_inner-out.result)
+      c.if_out-done.result c.cut_input-cut.result c.into_writer-resumed.result.1 c.cut_input-cut.new.reader.ended
+      (λ refusal text before after. (length text ≤ CHECK_LIMIT) × CutsOrRefuses text c.args.part refusal before after)
+      c.over-source.ensures.number c.requires.one (rw c.over-source.ensures.inner c.requires.had) c.in_ok-target.ensures.held
+      c.if_out-done.ensures (rw c.into_inner-out.ensures c.into_writer-resumed.ensures.taken)
+      c.cut_input-cut.ensures.told c.cut_input-cut.ensures.to_the_end;
+}

@@ -1,4 +1,0 @@
-mod CheckLineLemmas
-mod CutLemmas
-mod NumberLemmas
-mod WrittenLemmas
