@@ -1,10 +1,11 @@
 -- The command `chart`: what it writes of a text.
-use Rattle.std.specs.Prelude.{◌≡◌, ℕ, List, Option, None, Some}
+use Rattle.std.specs.Prelude.{◌≡◌, ℕ, ◌≤◌, List, length, Option, None, Some}
 use Rattle.std.specs.Int.{IsInRange}
 use Rattle.rtk_frame.specs.Stream.{with_more, TakesPart}
 use Rattle.rtk_rinex.specs.CheckTable.{IsFault, IsWithoutTable}
 use Rattle.rtk_rinex.specs.declared.check_fault.CheckFault.{CheckFault}
 use Rattle.rtk_chart.specs.Chart.{ShowsTable, ShowsTableInSvg}
+use Rattle.rtk_commands.specs.declared.checking.TheConstants.{CHECK_LIMIT}
 use Rattle.rtk_commands.specs.CheckedInput.{IsTextOfSomeTable}
 
 -- constant
@@ -30,3 +31,11 @@ WritesPartOfPicture width file before after = (picture : List ℕ) × IsPicture 
 abbrev pub ChartsOrRefuses : Option ℕ → List ℕ → Option CheckFault → Option (List ℕ) → Option (List ℕ) → Type 0
 ChartsOrRefuses width text None before after = IsTextOfSomeTable text × WritesPicture width text before after
 ChartsOrRefuses width text (Some fault) before after = IsFault text fault × IsWithoutTable text × (after ≡ before)
+
+-- a text is drawn or refused: it is short enough, and that was done
+abbrev pub ChartsText : Option ℕ → Option CheckFault → List ℕ → Option (List ℕ) → Option (List ℕ) → Type 0
+ChartsText width refusal text before after = (length text ≤ CHECK_LIMIT) × ChartsOrRefuses width text refusal before after
+
+-- or a first part of its picture was taken
+abbrev pub ChartsPartOf : Option ℕ → List ℕ → Option (List ℕ) → Option (List ℕ) → Type 0
+ChartsPartOf width text before after = (length text ≤ CHECK_LIMIT) × WritesPartOfPicture width text before after

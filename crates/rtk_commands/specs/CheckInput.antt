@@ -1,10 +1,11 @@
 -- The command `check`: what it says of a text, and the line that says it. The forms of the lines
 -- are this project's rule.
-use Rattle.std.specs.Prelude.{◌≡◌, ℕ, Bool, true, false, List, [], ◌∷◌, ◌++◌, codes, decimal, Option}
+use Rattle.std.specs.Prelude.{◌≡◌, ℕ, ◌≤◌, Bool, true, false, List, [], ◌∷◌, ◌++◌, length, codes, decimal, Option}
 use Rattle.rtk_frame.specs.Stream.{with_more, TakesPart}
 use Rattle.rtk_rinex.specs.CauseText.{cause_text}
 use Rattle.rtk_rinex.specs.CheckTable.{HoldsTable, IsFault, IsWithoutTable}
 use Rattle.rtk_rinex.specs.declared.check_fault.CheckFault.{CheckFault}
+use Rattle.rtk_commands.specs.declared.checking.TheConstants.{CHECK_LIMIT}
 
 -- formula
 -- the line of a table with these numbers of records and satellite lines; a line feed ends it
@@ -40,3 +41,11 @@ Tells text valid before after = (line : List ℕ) × SaysVerdict text valid line
 -- a first part of the line of an answer was taken, perhaps none or all of it
 abbrev pub TellsPart : List ℕ → Option (List ℕ) → Option (List ℕ) → Type 0
 TellsPart text before after = (valid : Bool) × (line : List ℕ) × SaysVerdict text valid line × TakesPart before after line
+
+-- a text is checked: it is short enough, and the line of this answer was taken
+abbrev pub ChecksText : Bool → List ℕ → Option (List ℕ) → Option (List ℕ) → Type 0
+ChecksText valid text before after = (length text ≤ CHECK_LIMIT) × Tells text valid before after
+
+-- or a first part of the line of its answer
+abbrev pub ChecksPartOf : List ℕ → Option (List ℕ) → Option (List ℕ) → Type 0
+ChecksPartOf text before after = (length text ≤ CHECK_LIMIT) × TellsPart text before after

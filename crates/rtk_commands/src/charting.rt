@@ -4,9 +4,10 @@ ghost use Rattle.std.specs.Prelude.{◌≡◌, ◌≢◌, ℕ, ◌+◌, ◌≤�
 ghost use Rattle.std.specs.Io.KnownBytes.{Keeps};
 ghost use Rattle.std.specs.Option.{ForSome};
 ghost use Rattle.rtk_frame.specs.Stream.{CountRises};
-ghost use Rattle.rtk_streams.specs.Input.{GivesText};
+ghost use Rattle.rtk_streams.specs.Input.{GivesText, ReadsWhole};
+ghost use Rattle.rtk_streams.specs.Outcome.{IsOutcome};
 ghost use Rattle.rtk_streams.specs.Passed.{taken_of};
-ghost use Rattle.rtk_commands.specs.ChartInput.{IsWidth, IsPicture, WritesPicture, WritesPartOfPicture, ChartsOrRefuses};
+ghost use Rattle.rtk_commands.specs.ChartInput.{IsWidth, IsPicture, WritesPicture, WritesPartOfPicture, ChartsText, ChartsPartOf};
 ghost use Rattle.rtk_streams.specs.declared.exit_status.TheConstants.{NOT_VALID};
 ghost use Rattle.rtk_streams.specs.declared.fault.ToolFault.TheVariants.{Input, TooLong, NotHex, OutOfMemory, Output};
 
@@ -71,28 +72,14 @@ fn chart_input<R: Source, W: Sink>(
 ) -> Result<Option<CheckFault>, ToolFault>
     requires { ForSome width IsWidth }
     ensures told { IfOk result (λ refusal. GivesText (R.given reader.old) (R.given reader.new) (λ text.
-        (length text ≤ CHECK_LIMIT) × ChartsOrRefuses width text refusal (W.taken out.old) (W.taken out.new))) }
-
-    // What is drawn or refused was read to its end.
-    ensures to_the_end { result ≢ Err Input → result ≢ Err TooLong → result ≢ Err OutOfMemory
-        → R.is_at_end reader.new }
-
-    // Each fault comes only if its cause is there, and no call fails without its fault.
-    ensures input { IsErrOf result Input → CountRises (R.failures reader.old) (R.failures reader.new) }
-    ensures no_failed_read { result ≢ Err Input → R.failures reader.new ≡ R.failures reader.old }
-    ensures too_long { IsErrOf result TooLong
-        → GivesText (R.given reader.old) (R.given reader.new) (λ text. length text ≡ CHECK_LIMIT + 1) }
-    ensures not_hex { IsErrOf result NotHex → ⊥ }
+        ChartsText width refusal text (W.taken out.old) (W.taken out.new))) }
+    ensures whole { ReadsWhole R.given R.failures R.is_at_end CHECK_LIMIT (λ _. ⊥) reader.old reader.new result }
     ensures output { IsErrOf result Output → CountRises (W.failures out.old) (W.failures out.new) }
     ensures no_failed_write { result ≢ Err Output → W.failures out.new ≡ W.failures out.old }
 
-    // Whatever the answer: at most this much was read.
-    ensures within { GivesText (R.given reader.old) (R.given reader.new) (λ text.
-        length text ≤ CHECK_LIMIT + 1) }
-
-    // Not done: nothing is out, but a first part of the picture after a failed write.
+    // Not done: a first part of the picture is out after a failed write, and else nothing.
     ensures part { IsErrOf result Output → GivesText (R.given reader.old) (R.given reader.new) (λ text.
-        (length text ≤ CHECK_LIMIT) × WritesPartOfPicture width text (W.taken out.old) (W.taken out.new)) }
+        ChartsPartOf width text (W.taken out.old) (W.taken out.new)) }
     ensures nothing { IfErr result (λ fault. fault ≢ Output → W.taken out.new ≡ W.taken out.old) }
 {
     let text = read_whole(alloc, reader, CHECK_LIMIT)?;
@@ -116,12 +103,8 @@ fn chart_by<R: Read + Drop, W: Write + Drop, K: Before>(
     requires had { Keeps (K.had 0) (R.remaining reader) }
     requires held { Keeps (K.held 0) (W.contents out) }
     requires one { (n : ℕ) → K.held n ≡ K.held 0 }
-    ensures told { IfOk result.1 (λ refusal. IfSome (K.had 0) (λ text.
-        (length text ≤ CHECK_LIMIT) × ChartsOrRefuses width text refusal (K.held 0) (taken_of (K.held 0) (W.contents result.0)))) }
-    ensures part { IsErrOf result.1 Output → IfSome (K.had 0) (λ text.
-        (length text ≤ CHECK_LIMIT) × WritesPartOfPicture width text (K.held 0) (taken_of (K.held 0) (W.contents result.0))) }
-    ensures nothing { IfErr result.1 (λ fault.
-        fault ≢ Output → taken_of (K.held 0) (W.contents result.0) ≡ K.held 0) }
+    ensures { IsOutcome (K.had 0) (K.held 0) (ChartsText width) (ChartsPartOf width) (λ fault. fault ≢ Output)
+        result.1 (W.contents result.0) }
 {
     let mut source: Reads<R, K> = Reads::over(reader, 0);
     let mut target: Writes<W, K> = Writes::over(out, 0);
@@ -140,15 +123,10 @@ pub fn chart_through<R: Read + Drop, W: Write + Drop>(
 ) -> (W, Result<Option<CheckFault>, ToolFault>)
     requires { ForSome width IsWidth }
     // Done: the picture of all that the reader had stands after what the writer held; or this is no
-    // such file, and the writer holds what it held.
-    ensures told { IfOk result.1 (λ refusal. IfSome (R.remaining reader) (λ text.
-        (length text ≤ CHECK_LIMIT) × ChartsOrRefuses width text refusal (W.contents out) (taken_of (W.contents out) (W.contents result.0)))) }
-
-    // Not done: a first part of the picture after a failed write, and else nothing.
-    ensures part { IsErrOf result.1 Output → IfSome (R.remaining reader) (λ text.
-        (length text ≤ CHECK_LIMIT) × WritesPartOfPicture width text (W.contents out) (taken_of (W.contents out) (W.contents result.0))) }
-    ensures nothing { IfErr result.1 (λ fault.
-        fault ≢ Output → taken_of (W.contents out) (W.contents result.0) ≡ W.contents out) }
+    // such file, and the writer holds what it held. Not done: a first part of the picture after a
+    // failed write, and else nothing.
+    ensures { IsOutcome (R.remaining reader) (W.contents out) (ChartsText width) (ChartsPartOf width) (λ fault. fault ≢ Output)
+        result.1 (W.contents result.0) }
 {
     chart_by::<R, W, Brand>(alloc, reader, width, out)
 }

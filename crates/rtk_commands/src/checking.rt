@@ -4,10 +4,11 @@
 ghost use Rattle.std.specs.Prelude.{◌≡◌, ◌≢◌, ℕ, ◌+◌, ◌≤◌, ◌++◌, Err, length, IfOk, OnOk, IfErr, IsErrOf, IfSome};
 ghost use Rattle.std.specs.Io.KnownBytes.{Keeps};
 ghost use Rattle.rtk_frame.specs.Stream.{CountRises};
-ghost use Rattle.rtk_streams.specs.Input.{GivesText};
+ghost use Rattle.rtk_streams.specs.Input.{GivesText, ReadsWhole};
+ghost use Rattle.rtk_streams.specs.Outcome.{IsOutcome};
 ghost use Rattle.rtk_streams.specs.Passed.{taken_of};
 ghost use Rattle.rtk_rinex.specs.CauseText.{cause_text};
-ghost use Rattle.rtk_commands.specs.CheckInput.{valid_text, check_fault_text, SaysVerdict, Tells, TellsPart};
+ghost use Rattle.rtk_commands.specs.CheckInput.{valid_text, check_fault_text, SaysVerdict, ChecksText, ChecksPartOf};
 ghost use Rattle.rtk_streams.specs.declared.exit_status.TheConstants.{NOT_VALID};
 ghost use Rattle.rtk_streams.specs.declared.fault.ToolFault.TheVariants.{Input, TooLong, NotHex, OutOfMemory, Output};
 
@@ -89,29 +90,16 @@ pub fn check_file<R: Source, W: Sink>(
     out: &mut W,
 ) -> Result<bool, ToolFault>
     ensures told { IfOk result (λ valid. GivesText (R.given reader.old) (R.given reader.new) (λ text.
-        (length text ≤ CHECK_LIMIT) × Tells text valid (W.taken out.old) (W.taken out.new))) }
+        ChecksText valid text (W.taken out.old) (W.taken out.new))) }
 
     // That it gives up only without memory show the rows `check_file ..` of tests/system/calls.
-
-    // What the answer is about was read to its end.
-    ensures to_the_end { result ≢ Err Input → result ≢ Err TooLong → result ≢ Err OutOfMemory
-        → R.is_at_end reader.new }
-
-    // Each fault comes only if its cause is there, and no call fails without its fault.
-    ensures input { IsErrOf result Input → CountRises (R.failures reader.old) (R.failures reader.new) }
-    ensures no_failed_read { result ≢ Err Input → R.failures reader.new ≡ R.failures reader.old }
-    ensures too_long { IsErrOf result TooLong
-        → GivesText (R.given reader.old) (R.given reader.new) (λ text. length text ≡ CHECK_LIMIT + 1) }
-    ensures not_hex { IsErrOf result NotHex → ⊥ }
+    ensures whole { ReadsWhole R.given R.failures R.is_at_end CHECK_LIMIT (λ _. ⊥) reader.old reader.new result }
     ensures output { IsErrOf result Output → CountRises (W.failures out.old) (W.failures out.new) }
     ensures no_failed_write { result ≢ Err Output → W.failures out.new ≡ W.failures out.old }
 
-    // Whatever the answer: at most this much was read, and this much is out.
-    ensures within { GivesText (R.given reader.old) (R.given reader.new) (λ text.
-        length text ≤ CHECK_LIMIT + 1) }
-    ensures part { IsErrOf result Output
-        → GivesText (R.given reader.old) (R.given reader.new) (λ text.
-        (length text ≤ CHECK_LIMIT) × TellsPart text (W.taken out.old) (W.taken out.new)) }
+    // Not done: a first part of the line is out after a failed write, and else nothing.
+    ensures part { IsErrOf result Output → GivesText (R.given reader.old) (R.given reader.new) (λ text.
+        ChecksPartOf text (W.taken out.old) (W.taken out.new)) }
     ensures nothing { IfErr result (λ fault. fault ≢ Output → W.taken out.new ≡ W.taken out.old) }
 {
     let text = read_whole(alloc, reader, CHECK_LIMIT)?;
@@ -131,12 +119,7 @@ fn check_by<R: Read + Drop, W: Write + Drop, K: Before>(
     requires had { Keeps (K.had 0) (R.remaining reader) }
     requires held { Keeps (K.held 0) (W.contents out) }
     requires one { (n : ℕ) → K.held n ≡ K.held 0 }
-    ensures told { IfOk result.1 (λ valid. IfSome (K.had 0) (λ text.
-        (length text ≤ CHECK_LIMIT) × Tells text valid (K.held 0) (taken_of (K.held 0) (W.contents result.0)))) }
-    ensures part { IsErrOf result.1 Output → IfSome (K.had 0) (λ text.
-        (length text ≤ CHECK_LIMIT) × TellsPart text (K.held 0) (taken_of (K.held 0) (W.contents result.0))) }
-    ensures nothing { IfErr result.1 (λ fault.
-        fault ≢ Output → taken_of (K.held 0) (W.contents result.0) ≡ K.held 0) }
+    ensures { IsOutcome (K.had 0) (K.held 0) ChecksText ChecksPartOf (λ fault. fault ≢ Output) result.1 (W.contents result.0) }
 {
     let mut source: Reads<R, K> = Reads::over(reader, 0);
     let mut target: Writes<W, K> = Writes::over(out, 0);
@@ -152,15 +135,10 @@ pub fn check_through<R: Read + Drop, W: Write + Drop>(
     reader: R,
     out: W,
 ) -> (W, Result<bool, ToolFault>)
-    // Done: the line about all that the reader had stands after what the writer held.
-    ensures told { IfOk result.1 (λ valid. IfSome (R.remaining reader) (λ text.
-        (length text ≤ CHECK_LIMIT) × Tells text valid (W.contents out) (taken_of (W.contents out) (W.contents result.0)))) }
-
-    // Not done: a first part of the line after a failed write, and else nothing.
-    ensures part { IsErrOf result.1 Output → IfSome (R.remaining reader) (λ text.
-        (length text ≤ CHECK_LIMIT) × TellsPart text (W.contents out) (taken_of (W.contents out) (W.contents result.0))) }
-    ensures nothing { IfErr result.1 (λ fault.
-        fault ≢ Output → taken_of (W.contents out) (W.contents result.0) ≡ W.contents out) }
+    // Done: the line about all that the reader had stands after what the writer held. Not done: a
+    // first part of the line after a failed write, and else nothing.
+    ensures { IsOutcome (R.remaining reader) (W.contents out) ChecksText ChecksPartOf (λ fault. fault ≢ Output)
+        result.1 (W.contents result.0) }
 {
     check_by::<R, W, Brand>(alloc, reader, out)
 }

@@ -5,9 +5,9 @@ ghost use Rattle.std.specs.Io.KnownBytes.{Keeps};
 ghost use Rattle.rtk_frame.specs.Stream.{CountRises};
 ghost use Rattle.rtk_cut.specs.Cut.{IsStepOrNone};
 ghost use Rattle.rtk_cut.specs.CutWriting.{WritesPart, WritesFirstOfPart};
-ghost use Rattle.rtk_streams.specs.Input.{GivesText};
+ghost use Rattle.rtk_streams.specs.Input.{GivesText, ReadsWhole};
 ghost use Rattle.rtk_streams.specs.Passed.{taken_of};
-ghost use Rattle.rtk_commands.specs.CutInput.{CutsOrRefuses};
+ghost use Rattle.rtk_commands.specs.CutInput.{CutsText};
 ghost use Rattle.rtk_streams.specs.declared.exit_status.TheConstants.{NOT_VALID};
 ghost use Rattle.rtk_streams.specs.declared.fault.ToolFault.TheVariants.{Input, TooLong, NotHex, OutOfMemory, Output};
 
@@ -58,24 +58,10 @@ fn cut_input<R: Source, W: Sink>(
 ) -> Result<Option<CheckFault>, ToolFault>
     requires step { IsStepOrNone part.every }
     ensures told { IfOk result (λ refusal. GivesText (R.given reader.old) (R.given reader.new) (λ text.
-        (length text ≤ CHECK_LIMIT) × CutsOrRefuses text part refusal (W.taken out.old) (W.taken out.new))) }
-
-    // What is cut or refused was read to its end.
-    ensures to_the_end { result ≢ Err Input → result ≢ Err TooLong → result ≢ Err OutOfMemory
-        → R.is_at_end reader.new }
-
-    // Each fault comes only if its cause is there, and no call fails without its fault.
-    ensures input { IsErrOf result Input → CountRises (R.failures reader.old) (R.failures reader.new) }
-    ensures no_failed_read { result ≢ Err Input → R.failures reader.new ≡ R.failures reader.old }
-    ensures too_long { IsErrOf result TooLong
-        → GivesText (R.given reader.old) (R.given reader.new) (λ text. length text ≡ CHECK_LIMIT + 1) }
-    ensures not_hex { IsErrOf result NotHex → ⊥ }
+        CutsText part refusal text (W.taken out.old) (W.taken out.new))) }
+    ensures whole { ReadsWhole R.given R.failures R.is_at_end CHECK_LIMIT (λ _. ⊥) reader.old reader.new result }
     ensures output { IsErrOf result Output → CountRises (W.failures out.old) (W.failures out.new) }
     ensures no_failed_write { result ≢ Err Output → W.failures out.new ≡ W.failures out.old }
-
-    // Whatever the answer: at most this much was read.
-    ensures within { GivesText (R.given reader.old) (R.given reader.new) (λ text.
-        length text ≤ CHECK_LIMIT + 1) }
 
     // Not done: a first part of the part is out, or nothing.
     ensures first { IsErrOf result Output → GivesText (R.given reader.old) (R.given reader.new) (λ text.
@@ -131,7 +117,7 @@ fn cut_by<R: Read + Drop, W: Write + Drop, K: Before>(
     requires held { Keeps (K.held 0) (W.contents out) }
     requires one { (n : ℕ) → K.held n ≡ K.held 0 }
     ensures told { IfOk result (λ cut. IfOk cut.done (λ refusal. IfSome (K.had 0) (λ text.
-        (length text ≤ CHECK_LIMIT) × CutsOrRefuses text part refusal (K.held 0) (taken_of (K.held 0) (W.contents cut.out))))) }
+        CutsText part refusal text (K.held 0) (taken_of (K.held 0) (W.contents cut.out))))) }
 {
     let mut source: Reads<R, K> = Reads::over(reader, 0);
     let mut target = sink::<W, K>(alloc, room, out, 0)?;
@@ -156,7 +142,7 @@ pub fn cut_through<R: Read + Drop, W: Write + Drop>(
     // Done: the part of all that the reader had stands after what the writer held; or this is no
     // such file, and the writer holds what it held.
     ensures told { IfOk result (λ cut. IfOk cut.done (λ refusal. IfSome (R.remaining reader) (λ text.
-        (length text ≤ CHECK_LIMIT) × CutsOrRefuses text part refusal (W.contents out) (taken_of (W.contents out) (W.contents cut.out))))) }
+        CutsText part refusal text (W.contents out) (taken_of (W.contents out) (W.contents cut.out))))) }
 {
     cut_by::<R, W, Brand>(alloc, reader, part, room, out)
 }

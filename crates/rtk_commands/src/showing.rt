@@ -4,7 +4,8 @@ ghost use Rattle.std.specs.Prelude.{◌≡◌, ◌≢◌, ℕ, ◌+◌, ◌≤�
 ghost use Rattle.std.specs.Io.KnownBytes.{Keeps};
 ghost use Rattle.rtk_frame.specs.Frames.{frames};
 ghost use Rattle.rtk_frame.specs.Stream.{CountRises, with_more, TakesPart};
-ghost use Rattle.rtk_streams.specs.Input.{GivesText};
+ghost use Rattle.rtk_streams.specs.Input.{GivesText, ReadsWhole};
+ghost use Rattle.rtk_streams.specs.Outcome.{IsOutcome};
 ghost use Rattle.rtk_commands.specs.Hex.{capture_of};
 ghost use Rattle.rtk_streams.specs.Passed.{taken_of};
 ghost use Rattle.rtk_commands.specs.Show.{ShowsText, ShowsPartOf, IsBeforeOutput};
@@ -100,32 +101,18 @@ pub fn show<R: Source, W: Sink>(
     hex: bool,
 ) -> Result<u64, ToolFault>
     ensures shown { IfOk result (λ count. GivesText (R.given reader.old) (R.given reader.new) (λ text.
-        (length text ≤ SHOW_LIMIT) × IsSomeAnd (capture_of hex text) (λ capture.
-        Shows capture (W.taken out.old) (W.taken out.new) × (count ≡ length (frames capture))))) }
+        ShowsText hex count text (W.taken out.old) (W.taken out.new))) }
 
     // That it gives up only without memory show the rows `show ..` of tests/system/calls.
-
-    // What is shown, or is no hex text, was read to its end.
-    ensures to_the_end { result ≢ Err Input → result ≢ Err TooLong → result ≢ Err OutOfMemory
-        → R.is_at_end reader.new }
-
-    // Each fault comes only if its cause is there, and no call fails without its fault.
-    ensures input { IsErrOf result Input → CountRises (R.failures reader.old) (R.failures reader.new) }
-    ensures no_failed_read { result ≢ Err Input → R.failures reader.new ≡ R.failures reader.old }
-    ensures too_long { IsErrOf result TooLong
-        → GivesText (R.given reader.old) (R.given reader.new) (λ text. length text ≡ SHOW_LIMIT + 1) }
-    ensures not_hex { IsErrOf result NotHex
-        → GivesText (R.given reader.old) (R.given reader.new) (λ text.
-        (length text ≤ SHOW_LIMIT) × IsNone (capture_of hex text)) }
+    ensures whole { ReadsWhole R.given R.failures R.is_at_end SHOW_LIMIT (λ text. IsNone (capture_of hex text))
+        reader.old reader.new result }
     ensures output { IsErrOf result Output → CountRises (W.failures out.old) (W.failures out.new) }
     ensures no_failed_write { result ≢ Err Output → W.failures out.new ≡ W.failures out.old }
     ensures output_of_capture { IsErrOf result Output
         → GivesText (R.given reader.old) (R.given reader.new) (λ text.
         (length text ≤ SHOW_LIMIT) × IsSome (capture_of hex text)) }
 
-    // Whatever the answer: at most this much was read, and this much is out.
-    ensures within { GivesText (R.given reader.old) (R.given reader.new) (λ text.
-        length text ≤ SHOW_LIMIT + 1) }
+    // Whatever the answer: this much is out.
     ensures part { GivesText (R.given reader.old) (R.given reader.new) (λ text.
         ShowsPartOf (capture_of hex text) (W.taken out.old) (W.taken out.new)) }
     ensures nothing { IfErr result (λ fault.
@@ -146,12 +133,8 @@ fn show_by<R: Read + Drop, W: Write + Drop, K: Before>(
     requires had { Keeps (K.had 0) (R.remaining reader) }
     requires held { Keeps (K.held 0) (W.contents out) }
     requires one { (n : ℕ) → K.held n ≡ K.held 0 }
-    ensures shown { IfOk result.1 (λ count. IfSome (K.had 0) (λ text.
-        ShowsText hex count text (K.held 0) (taken_of (K.held 0) (W.contents result.0)))) }
-    ensures part { IsErrOf result.1 Output → IfSome (K.had 0) (λ text.
-        ShowsPartOf (capture_of hex text) (K.held 0) (taken_of (K.held 0) (W.contents result.0))) }
-    ensures nothing { IfErr result.1 (λ fault.
-        IsBeforeOutput fault → taken_of (K.held 0) (W.contents result.0) ≡ K.held 0) }
+    ensures { IsOutcome (K.had 0) (K.held 0) (ShowsText hex) (λ text. ShowsPartOf (capture_of hex text)) IsBeforeOutput
+        result.1 (W.contents result.0) }
 {
     let mut source: Reads<R, K> = Reads::over(reader, 0);
     let mut target: Writes<W, K> = Writes::over(out, 0);
@@ -168,15 +151,10 @@ pub fn show_through<R: Read + Drop, W: Write + Drop>(
     out: W,
     hex: bool,
 ) -> (W, Result<u64, ToolFault>)
-    // Done: the lines of all that the reader had stand after what the writer held.
-    ensures shown { IfOk result.1 (λ count. IfSome (R.remaining reader) (λ text.
-        ShowsText hex count text (W.contents out) (taken_of (W.contents out) (W.contents result.0)))) }
-
-    // Not done: a first part of them after a failed write, and nothing before that.
-    ensures part { IsErrOf result.1 Output → IfSome (R.remaining reader) (λ text.
-        ShowsPartOf (capture_of hex text) (W.contents out) (taken_of (W.contents out) (W.contents result.0))) }
-    ensures nothing { IfErr result.1 (λ fault.
-        IsBeforeOutput fault → taken_of (W.contents out) (W.contents result.0) ≡ W.contents out) }
+    // Done: the lines of all that the reader had stand after what the writer held. Not done: a first
+    // part of them after a failed write, and nothing before that.
+    ensures { IsOutcome (R.remaining reader) (W.contents out) (ShowsText hex) (λ text. ShowsPartOf (capture_of hex text)) IsBeforeOutput
+        result.1 (W.contents result.0) }
 {
     show_by::<R, W, Brand>(alloc, reader, out, hex)
 }

@@ -2,6 +2,7 @@
 use Rattle.std.proofs.Common.{◌≡◌, ◌≢◌, ℕ, Bool, true, false, List, [], ◌++◌, Option, Some, Result, Ok, Err, IfSome, IfOk, IfErr, OnOk, IsErrOf, sym, ap, ◌∙◌, subst}
 use Rattle.std.specs.Io.KnownBytes.{Keeps}
 use Rattle.rtk_streams.specs.Input.{GivesText}
+use Rattle.rtk_streams.specs.Outcome.{IsOutcome}
 use Rattle.rtk_streams.specs.Passed.{given_of, IsLeft, taken_of}
 use Rattle.rtk_streams.specs.declared.fault.ToolFault.{ToolFault}
 use Rattle.rtk_streams.specs.declared.fault.ToolFault.TheVariants.{Input, TooLong, OutOfMemory, Output}
@@ -15,13 +16,6 @@ lands held from to before after out Q one kept same fact =
     let start : taken_of (held from) before ≡ held 0 = ap (λ (h : Option (List ℕ)). taken_of h before) (one from) ∙ taken_first (held 0) before kept in
     let end : taken_of (held to) after ≡ taken_of (held 0) out = sym same ∙ ap (λ (h : Option (List ℕ)). taken_of h out) (one to) in
     subst (λ (a : Option (List ℕ)). Q (held 0) a) end (subst (λ (b : Option (List ℕ)). Q b (taken_of (held to) after)) start fact)
-
--- what a command did with the text of a reader: it is done, or a write failed, or there was another
--- fault
-pub record Through {T : Type 0} (had held : Option (List ℕ)) (result : Result T ToolFault) (out : Option (List ℕ)) (Q : T → List ℕ → Option (List ℕ) → Option (List ℕ) → Type 0) (P : List ℕ → Option (List ℕ) → Option (List ℕ) → Type 0) (B : ToolFault → Type 0) : Type 0 where
-  pub done : IfOk result (λ x. IfSome had (λ text. Q x text held (taken_of held out)))
-  pub part : IsErrOf result Output → IfSome had (λ text. P text held (taken_of held out))
-  pub nothing : IfErr result (λ fault. B fault → taken_of held out ≡ held)
 
 no_fault : {T : Type 0} (x : T) (fault : ToolFault) → Ok x ≢ Err fault
 no_fault x fault e = cc
@@ -80,9 +74,9 @@ pub through : {T : Type 0} (had held : ℕ → Option (List ℕ)) (number at fro
     → (IsErrOf result Output → GivesText (given_of number (had number) first) (given_of at (had at) last) (λ text. P text (taken_of (held from) before) (taken_of (held to) after)))
     → IfErr result (λ fault. B fault → taken_of (held to) after ≡ taken_of (held from) before)
     → (result ≢ Err Input → result ≢ Err TooLong → result ≢ Err OutOfMemory → (ended ≡ true) × IsLeft (had at) last true)
-    → Through (had 0) (held 0) result out Q P B
+    → IsOutcome (had 0) (held 0) Q P B result out
 through had held number at from to first last before after out result ended Q P B zero one kept kept' same told told_part told_none end = record {
-  done = done_through had held number at from to first last before after out result ended Q zero one kept kept' same told end;
+  told = done_through had held number at from to first last before after out result ended Q zero one kept kept' same told end;
   part = part_through had held number at from to first last before after out result ended P zero one kept kept' same told_part end;
   nothing = nothing_through held from to before after out result B one kept' same told_none;
 }

@@ -1,6 +1,6 @@
 //! The links of a conversion: files and standard input, opened before one is read.
 
-ghost use Rattle.std.specs.Prelude.{◌≡◌, IfOk};
+ghost use Rattle.std.specs.Prelude.{◌≡◌, length, IfOk};
 ghost use Rattle.std.specs.Io.Buffered.{reader_capacity};
 ghost use Rattle.rtk_streams.specs.Steps.ReadLimits.{read_at_once};
 
@@ -55,7 +55,9 @@ pub fn has_standard_input(names: &[&str]) -> bool {
 pub fn open_links<'a, R: Files + Input + AllocGlobal>(
     rt: &R,
     names: &[&'a str],
-) -> Result<Vec<Link<R>>, OpenFault<'a>> {
+) -> Result<Vec<Link<R>>, OpenFault<'a>>
+    ensures { IfOk result (λ links. length links.items ≡ length names.now) }
+{
     let is_readable = !has_standard_input(names) || is_standard_input_readable(rt);
     let mut links = Vec::new(rt.alloc());
     for name in names {

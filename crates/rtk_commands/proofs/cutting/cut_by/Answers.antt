@@ -1,6 +1,4 @@
-use Rattle.std.proofs.Common.{◌≤◌, length}
-use Rattle.rtk_commands.specs.CutInput.{CutsOrRefuses}
-use Rattle.rtk_commands.specs.declared.checking.TheConstants.{CHECK_LIMIT}
+use Rattle.rtk_commands.specs.CutInput.{CutsText}
 use Rattle.rtk_commands.proofs.CutLemmas.{gathered_contents, through_if_out}
 use Rattle.rtk_commands.proofs.cutting.cut_by.Goals as goal
 
@@ -12,8 +10,8 @@ returns g c = record {
       (gathered_contents g.W.Write.contents c.in_ok-target.target.inner) (gathered_contents g.W.Write.contents c.cut_input-cut.new.out.inner)
       (g.W.Write.contents c.into_inner-out.result)
       c.if_out-done.result c.cut_input-cut.result c.into_writer-resumed.result.1 c.cut_input-cut.new.reader.ended
-      (λ refusal text before after. (length text ≤ CHECK_LIMIT) × CutsOrRefuses text c.args.part refusal before after)
+      (CutsText c.args.part)
       c.over-source.ensures.number c.requires.one (rw c.over-source.ensures.inner c.requires.had) c.in_ok-target.ensures.held
       c.if_out-done.ensures (rw c.into_inner-out.ensures c.into_writer-resumed.ensures.taken)
-      c.cut_input-cut.ensures.told c.cut_input-cut.ensures.to_the_end;
+      c.cut_input-cut.ensures.told c.cut_input-cut.ensures.whole.to_the_end;
 }
