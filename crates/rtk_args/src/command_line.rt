@@ -3,6 +3,7 @@
 //! clap is the costly part of the proof, so its command is built here alone, in small functions.
 
 use crate::help_texts;
+use crate::limits::{LEAST_WIDTH, LEAST_WINDOW, MOST_STATION, MOST_STEP, MOST_WIDTH, MOST_WINDOW};
 use clap::{Arg, ArgAction, ArgGroup, Command, value_parser};
 use std::alloc::{AllocError, Global};
 
@@ -61,7 +62,7 @@ fn text_arg<'a>(alloc: Global) -> Arg<'a> {
 fn columns_arg<'a>(alloc: Global) -> Result<Arg<'a>, AllocError> {
     let help = "How many characters wide it is with --text, 40 to 400; 80 if not given";
     option_arg(alloc, "columns", "N", help)
-        .value_parser(value_parser!(u32).range(40..=400))
+        .value_parser(value_parser!(u32).range(i64::from(LEAST_WIDTH)..=i64::from(MOST_WIDTH)))
         .requires_arg("text")
 }
 
@@ -85,7 +86,9 @@ fn required_arg<'a>(alloc: Global, name: &'a str, value: &'a str, help: &'a str)
 
 fn station_arg<'a>(alloc: Global) -> Arg<'a> {
     let help = "The reference station, 0 to 4095, as 2003";
-    required_arg(alloc, "station", "N", help).value_parser(value_parser!(u32).range(0..=4095))
+    required_arg(alloc, "station", "N", help).value_parser(value_parser!(u32).range(
+        0..=i64::from(MOST_STATION),
+    ))
 }
 
 fn marker_arg<'a>(alloc: Global) -> Arg<'a> {
@@ -96,7 +99,7 @@ fn window_arg<'a>(alloc: Global) -> Arg<'a> {
     let help = "How many epochs are kept open, 2 to 4096, as 600";
     option_arg(alloc, "window", "N", help)
         .default_value(WINDOW)
-        .value_parser(value_parser!(u32).range(2..=4096))
+        .value_parser(value_parser!(u32).range(i64::from(LEAST_WINDOW)..=i64::from(MOST_WINDOW)))
 }
 
 fn msm_arg<'a>(alloc: Global) -> Arg<'a> {
@@ -116,7 +119,9 @@ fn links_arg<'a>(alloc: Global) -> Arg<'a> {
 
 fn every_arg<'a>(alloc: Global) -> Arg<'a> {
     let help = "Records at whole multiples of this step are kept, 1 to 86400";
-    option_arg(alloc, "every", "SECONDS", help).value_parser(value_parser!(u32).range(1..=86_400))
+    option_arg(alloc, "every", "SECONDS", help).value_parser(value_parser!(u32).range(
+        1..=i64::from(MOST_STEP),
+    ))
 }
 
 // One of the options of `cut` must be given.

@@ -14,17 +14,18 @@
 //! }
 //! ```
 //!
-//! Its tests: tests/values/src/cli/, and tests/program
+//! Its tests: tests/values/src/args.rt.in, args/ and cli/, and tests/program
 #![tactic(auto)]
 
 mod answer;
 mod command_line;
 mod help_texts;
+mod limits;
 mod options;
-mod reading;
 mod request;
+mod word_reading;
 
 pub use answer::ClapAnswer;
-pub use options::{ConvertOptions, CutOptions};
-pub use reading::read_words;
-pub use request::Request;
+pub use options::{ConvertOptions, CutOptions, MsmOption};
+pub use request::{Request, Task};
+pub use word_reading::read_words;

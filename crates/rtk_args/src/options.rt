@@ -3,6 +3,20 @@
 ghost use Rattle.std.specs.Prelude.{◌≤◌};
 ghost use Rattle.std.specs.Int.{IsInRange};
 ghost use Rattle.std.specs.Option.{ForSome};
+ghost use Rattle.rtk_args.specs.declared.limits.TheConstants.{MOST_STATION, LEAST_WINDOW, MOST_WINDOW, MOST_STEP};
+
+/// An MSM that can be converted beside 1004.
+#[derive(Clone, Copy, Debug, PartialEq, Eq)]
+pub enum MsmOption {
+    /// 1074.
+    Four,
+    /// 1075.
+    Five,
+    /// 1076.
+    Six,
+    /// 1077.
+    Seven,
+}
 
 /// The values of the options of `convert`, as clap gives them. Texts are not yet read.
 #[derive(Clone, Copy)]
@@ -19,13 +33,12 @@ pub struct ConvertOptions<'a> {
     pub codes: &'a str,
     /// How many epochs are kept open, 2 to 4096.
     pub window: u16,
-    /// Which MSM is converted beside 1004, 4 to 7: 4 is 1074, 7 is 1077.
-    pub msm: u8,
+    /// Which MSM is converted beside 1004.
+    pub msm: MsmOption,
 
     // Their parsers refuse other numbers.
-    ghost station_fits: { station ≤ 4095 },
-    ghost window_fits: { IsInRange 2 4096 window },
-    ghost msm_fits: { IsInRange 4 7 msm },
+    ghost station_fits: { station ≤ MOST_STATION },
+    ghost window_fits: { IsInRange LEAST_WINDOW MOST_WINDOW window },
 }
 
 /// The values of the options of `cut`, as clap gives them. Texts are not yet read.
@@ -39,5 +52,5 @@ pub struct CutOptions<'a> {
     pub every: Option<u32>,
 
     // Its parser refuses other numbers.
-    ghost step_fits: { ForSome every (IsInRange 1 86_400) },
+    ghost step_fits: { ForSome every (IsInRange 1 MOST_STEP) },
 }

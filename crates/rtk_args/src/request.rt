@@ -1,16 +1,17 @@
-//! What the words of a command line ask for, as clap gives it.
+//! What the words of a command line ask for.
 
 use crate::options::{ConvertOptions, CutOptions};
 
-/// Which command the words ask for, and the values of its options. What these say is not yet read.
+/// Which command the words ask for, with what its options and names say: as clap gives it, in a
+/// [`Request`], or once it is read.
 #[derive(Drop)]
-pub enum Request<'a> {
+pub enum Task<'a, S: Drop, L: Drop, P: Drop> {
     /// `convert OPTIONS LINK..`: captures of one station to a file and a report.
     Convert {
-        /// The values of its options.
-        options: ConvertOptions<'a>,
-        /// The names of the captures, however many.
-        links: Vec<&'a str>,
+        /// What the options say.
+        setup: S,
+        /// The names of the captures; `stdin` is standard input.
+        links: L,
     },
     /// `show [--hex] FILE`: one line for each frame of a capture.
     Show {
@@ -38,9 +39,13 @@ pub enum Request<'a> {
     },
     /// `cut OPTIONS FILE`: a part of a file.
     Cut {
-        /// The values of its options.
-        options: CutOptions<'a>,
+        /// What the options say.
+        part: P,
         /// The name of the file; `stdin` is standard input.
         file: &'a str,
     },
 }
+
+/// The task with the values of its options, and with the names of the captures, however many. What
+/// these say is not yet read.
+pub type Request<'a> = Task<'a, ConvertOptions<'a>, Vec<&'a str>, CutOptions<'a>>;
