@@ -3,5 +3,6 @@ mod CutLemmas
 mod LawLemmas
 mod MemoryLemmas
 mod NumberLemmas
+mod ShowThroughLemmas
 mod ShownLemmas
 mod WrittenLemmas

@@ -103,7 +103,7 @@ fn chart_by<R: Read + Drop, W: Write + Drop, K: Before>(
     requires had { Keeps (K.had 0) (R.remaining reader) }
     requires held { Keeps (K.held 0) (W.contents out) }
     requires one { (n : ℕ) → K.held n ≡ K.held 0 }
-    ensures { IsOutcome (K.had 0) (K.held 0) (ChartsText width) (ChartsPartOf width) (λ fault. fault ≢ Output)
+    ensures { IsOutcome CHECK_LIMIT (K.had 0) (K.held 0) (ChartsText width) (ChartsPartOf width) (λ fault. fault ≢ Output)
         result.1 (W.contents result.0) }
 {
     let mut source: Reads<R, K> = Reads::over(reader, 0);
@@ -125,7 +125,7 @@ pub fn chart_through<R: Read + Drop, W: Write + Drop>(
     // Done: the picture of all that the reader had stands after what the writer held; or this is no
     // such file, and the writer holds what it held. Not done: a first part of the picture after a
     // failed write, and else nothing.
-    ensures { IsOutcome (R.remaining reader) (W.contents out) (ChartsText width) (ChartsPartOf width) (λ fault. fault ≢ Output)
+    ensures { IsOutcome CHECK_LIMIT (R.remaining reader) (W.contents out) (ChartsText width) (ChartsPartOf width) (λ fault. fault ≢ Output)
         result.1 (W.contents result.0) }
 {
     chart_by::<R, W, Brand>(alloc, reader, width, out)

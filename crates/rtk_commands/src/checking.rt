@@ -119,7 +119,7 @@ fn check_by<R: Read + Drop, W: Write + Drop, K: Before>(
     requires had { Keeps (K.had 0) (R.remaining reader) }
     requires held { Keeps (K.held 0) (W.contents out) }
     requires one { (n : ℕ) → K.held n ≡ K.held 0 }
-    ensures { IsOutcome (K.had 0) (K.held 0) ChecksText ChecksPartOf (λ fault. fault ≢ Output) result.1 (W.contents result.0) }
+    ensures { IsOutcome CHECK_LIMIT (K.had 0) (K.held 0) ChecksText ChecksPartOf (λ fault. fault ≢ Output) result.1 (W.contents result.0) }
 {
     let mut source: Reads<R, K> = Reads::over(reader, 0);
     let mut target: Writes<W, K> = Writes::over(out, 0);
@@ -137,7 +137,7 @@ pub fn check_through<R: Read + Drop, W: Write + Drop>(
 ) -> (W, Result<bool, ToolFault>)
     // Done: the line about all that the reader had stands after what the writer held. Not done: a
     // first part of the line after a failed write, and else nothing.
-    ensures { IsOutcome (R.remaining reader) (W.contents out) ChecksText ChecksPartOf (λ fault. fault ≢ Output)
+    ensures { IsOutcome CHECK_LIMIT (R.remaining reader) (W.contents out) ChecksText ChecksPartOf (λ fault. fault ≢ Output)
         result.1 (W.contents result.0) }
 {
     check_by::<R, W, Brand>(alloc, reader, out)

@@ -1,13 +1,14 @@
 //! The command `cut`: a part of a file.
 
-ghost use Rattle.std.specs.Prelude.{◌≡◌, ◌≢◌, ℕ, ◌+◌, ◌≤◌, Ok, Err, length, IfOk, OnOk, OnErr, IsErrOf, IsOk, IfSome};
-ghost use Rattle.std.specs.Io.KnownBytes.{Keeps};
+ghost use Rattle.std.specs.Prelude.{◌≡◌, ◌≢◌, ◌⊎◌, ℕ, ◌<◌, ◌≤◌, List, Ok, Err, length, IfOk, OnOk, OnErr, IfErr, IsErrOf, IsOk, IfSome};
+ghost use Rattle.std.specs.Io.KnownBytes.{Keeps, append_known};
 ghost use Rattle.rtk_frame.specs.Stream.{CountRises};
 ghost use Rattle.rtk_cut.specs.Cut.{IsStepOrNone};
 ghost use Rattle.rtk_cut.specs.CutWriting.{WritesPart, WritesFirstOfPart};
 ghost use Rattle.rtk_streams.specs.Input.{GivesText, ReadsWhole};
 ghost use Rattle.rtk_streams.specs.Passed.{taken_of};
 ghost use Rattle.rtk_commands.specs.CutInput.{CutsText};
+ghost use Rattle.rtk_commands.specs.Show.{IsBeforeOutput};
 ghost use Rattle.rtk_streams.specs.declared.exit_status.TheConstants.{NOT_VALID};
 ghost use Rattle.rtk_streams.specs.declared.fault.ToolFault.TheVariants.{Input, TooLong, NotHex, OutOfMemory, Output};
 
@@ -63,11 +64,11 @@ fn cut_input<R: Source, W: Sink>(
     ensures output { IsErrOf result Output → CountRises (W.failures out.old) (W.failures out.new) }
     ensures no_failed_write { result ≢ Err Output → W.failures out.new ≡ W.failures out.old }
 
-    // Not done: a first part of the part is out, or nothing.
-    ensures first { IsErrOf result Output → GivesText (R.given reader.old) (R.given reader.new) (λ text.
-        (length text ≤ CHECK_LIMIT) × WritesFirstOfPart text part (W.taken out.old) (W.taken out.new)) }
-    ensures no_input { IsErrOf result Input → W.taken out.new ≡ W.taken out.old }
-    ensures no_text { IsErrOf result TooLong → W.taken out.new ≡ W.taken out.old }
+    // Whatever the answer: nothing is out, or a first part of the part of all that was read.
+    ensures part { (W.taken out.new ≡ W.taken out.old)
+        ⊎ (R.is_at_end reader.new × GivesText (R.given reader.old) (R.given reader.new) (λ text.
+        (length text ≤ CHECK_LIMIT) × WritesFirstOfPart text part (W.taken out.old) (W.taken out.new))) }
+    ensures nothing { IfErr result (λ fault. IsBeforeOutput fault → W.taken out.new ≡ W.taken out.old) }
 {
     let text = read_whole(alloc, reader, CHECK_LIMIT)?;
     match check(text.as_slice()) {
@@ -84,7 +85,8 @@ fn if_out(
     cut: Result<Option<CheckFault>, ToolFault>,
     written: Result<(), StreamFault>,
 ) -> Result<Option<CheckFault>, ToolFault>
-    ensures { IfOk result (λ refusal. (cut ≡ Ok refusal) × IsOk written) }
+    ensures done { IfOk result (λ refusal. (cut ≡ Ok refusal) × IsOk written) }
+    ensures fault { IfErr result (λ fault. (cut ≡ Err fault) ⊎ (fault ≡ Output)) }
 {
     match written {
         Ok(()) => cut,
@@ -118,6 +120,10 @@ fn cut_by<R: Read + Drop, W: Write + Drop, K: Before>(
     requires one { (n : ℕ) → K.held n ≡ K.held 0 }
     ensures told { IfOk result (λ cut. IfOk cut.done (λ refusal. IfSome (K.had 0) (λ text.
         CutsText part refusal text (K.held 0) (taken_of (K.held 0) (W.contents cut.out))))) }
+    ensures part { IfOk result (λ cut. (unwritten : List ℕ) × IfSome (K.had 0) (λ text.
+        WritesFirstOfPart text part (K.held 0) (taken_of (K.held 0) (append_known (W.contents cut.out) unwritten)))) }
+    ensures too_long { IfOk result (λ cut. IsErrOf cut.done TooLong → IfSome (K.had 0) (λ text. CHECK_LIMIT < length text)) }
+    ensures fault { IfErr result (λ fault. fault ≡ OutOfMemory) }
 {
     let mut source: Reads<R, K> = Reads::over(reader, 0);
     let mut target = sink::<W, K>(alloc, room, out, 0)?;
@@ -143,6 +149,13 @@ pub fn cut_through<R: Read + Drop, W: Write + Drop>(
     // such file, and the writer holds what it held.
     ensures told { IfOk result (λ cut. IfOk cut.done (λ refusal. IfSome (R.remaining reader) (λ text.
         CutsText part refusal text (W.contents out) (taken_of (W.contents out) (W.contents cut.out))))) }
+
+    // Whatever the answer: what is out, with what is let go after it, is a first part of the part,
+    // perhaps none or all of it.
+    ensures part { IfOk result (λ cut. (unwritten : List ℕ) × IfSome (R.remaining reader) (λ text.
+        WritesFirstOfPart text part (W.contents out) (taken_of (W.contents out) (append_known (W.contents cut.out) unwritten)))) }
+    ensures too_long { IfOk result (λ cut. IsErrOf cut.done TooLong → IfSome (R.remaining reader) (λ text. CHECK_LIMIT < length text)) }
+    ensures fault { IfErr result (λ fault. fault ≡ OutOfMemory) }
 {
     cut_by::<R, W, Brand>(alloc, reader, part, room, out)
 }

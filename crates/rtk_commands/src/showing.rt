@@ -1,6 +1,6 @@
 //! The command `show`: a line for each frame of a capture.
 
-ghost use Rattle.std.specs.Prelude.{◌≡◌, ◌≢◌, ℕ, ◌+◌, ◌≤◌, Some, Err, [], length, IfOk, OnOk, IfErr, IsErrOf, IsNone, IsSome, IsSomeAnd, IfSome};
+ghost use Rattle.std.specs.Prelude.{◌≡◌, ◌≢◌, ◌⊎◌, ℕ, ◌≤◌, Some, Err, [], length, IfOk, OnOk, IfErr, IsErrOf, IsNone, IsSome, IsSomeAnd, IfSome};
 ghost use Rattle.std.specs.Io.KnownBytes.{Keeps};
 ghost use Rattle.rtk_frame.specs.Frames.{frames};
 ghost use Rattle.rtk_frame.specs.Stream.{CountRises, with_more, TakesPart};
@@ -117,6 +117,7 @@ pub fn show<R: Source, W: Sink>(
         ShowsPartOf (capture_of hex text) (W.taken out.old) (W.taken out.new)) }
     ensures nothing { IfErr result (λ fault.
         IsBeforeOutput fault → W.taken out.new ≡ W.taken out.old) }
+    ensures memory { IsErrOf result OutOfMemory → (W.taken out.new ≡ W.taken out.old) ⊎ R.is_at_end reader.new }
 {
     let text = read_whole(alloc, reader, SHOW_LIMIT)?;
     let capture = capture_from(alloc, text, hex)?;
@@ -133,7 +134,7 @@ fn show_by<R: Read + Drop, W: Write + Drop, K: Before>(
     requires had { Keeps (K.had 0) (R.remaining reader) }
     requires held { Keeps (K.held 0) (W.contents out) }
     requires one { (n : ℕ) → K.held n ≡ K.held 0 }
-    ensures { IsOutcome (K.had 0) (K.held 0) (ShowsText hex) (λ text. ShowsPartOf (capture_of hex text)) IsBeforeOutput
+    ensures { IsOutcome SHOW_LIMIT (K.had 0) (K.held 0) (ShowsText hex) (λ text. ShowsPartOf (capture_of hex text)) IsBeforeOutput
         result.1 (W.contents result.0) }
 {
     let mut source: Reads<R, K> = Reads::over(reader, 0);
@@ -152,9 +153,9 @@ pub fn show_through<R: Read + Drop, W: Write + Drop>(
     hex: bool,
 ) -> (W, Result<u64, ToolFault>)
     // Done: the lines of all that the reader had stand after what the writer held. Not done: a first
-    // part of them after a failed write, and nothing before that.
-    ensures { IsOutcome (R.remaining reader) (W.contents out) (ShowsText hex) (λ text. ShowsPartOf (capture_of hex text)) IsBeforeOutput
-        result.1 (W.contents result.0) }
+    // part of them, perhaps none, after a failed write or refused memory, and else nothing.
+    ensures { IsOutcome SHOW_LIMIT (R.remaining reader) (W.contents out) (ShowsText hex)
+        (λ text. ShowsPartOf (capture_of hex text)) IsBeforeOutput result.1 (W.contents result.0) }
 {
     show_by::<R, W, Brand>(alloc, reader, out, hex)
 }

@@ -1,5 +1,5 @@
 -- What the calls of a reader and of a writer do to the bytes that are known.
-use Rattle.std.proofs.Common.{◌≡◌, ℕ, ◌-◌, ◌<◌, Bool, true, List, [], ◌∷◌, ◌++◌, length, take, Option, None, Some, Result, Ok, Err, refl, sym, ap, ◌∙◌, subst, arith, append_assoc, length-append}
+use Rattle.std.proofs.Common.{◌≡◌, ℕ, ◌+◌, ◌-◌, ◌<◌, Bool, true, List, [], ◌∷◌, ◌++◌, length, take, drop, Option, None, Some, Result, Ok, Err, refl, sym, ap, ◌∙◌, subst, arith, append_assoc, length-append, take-append-drop}
 use Rattle.std.proofs.lemmas.List.{append-nil}
 use Rattle.std.proofs.Math.Seq.{take-append_seam}
 use Rattle.std.specs.Option.{IfSome}
@@ -121,6 +121,40 @@ all_text had number at first last P zero kept left gives =
     subst (λ (n : ℕ). IfSome (had n) P) zero
     (weaker (had number) gives.0 P (all_given had number at first last gives.0 here left gives.1) gives.2)
 
+-- the text that a reader gave is a first part of what it had
+part_of : (had other : Option (List ℕ)) (number at : ℕ) (first last : Option (List ℕ)) (text : List ℕ) → (at ≡ number → other ≡ had)
+    → Keeps had first → given_of at other last ≡ with_more (given_of number had first) text → IfSome had (λ all. (rest : List ℕ) × (all ≡ text ++ rest))
+part_of None other number at first last text same kept gave = tt
+part_of (Some all) other number at None last text same kept gave = absurd kept
+part_of (Some all) None number at (Some first) last text same kept gave =
+    let e : None ≡ Some (number ∷ (take (length all - length first) all ++ text)) = gave in cc
+part_of (Some all) (Some whole) number at (Some first) None text same kept gave =
+    let e : None ≡ Some (number ∷ (take (length all - length first) all ++ text)) = gave in cc
+part_of (Some all) (Some whole) number at (Some first) (Some last) text same kept gave =
+    let n : ℕ = length whole - length last in
+    let given = take (length all - length first) all in
+    let e : Some (at ∷ take n whole) ≡ Some (number ∷ (given ++ text)) = gave in
+    let one : at ≡ number = cc in
+    let parts : take n whole ≡ given ++ text = cc in
+    let here : Some whole ≡ Some all = same one in
+    let is : whole ≡ all = cc in (
+      drop n whole,
+      sym is ∙ sym (take-append-drop n whole) ∙ ap (λ l. l ++ drop n whole) (parts ∙ ap (λ l. l ++ text) (none_given all first kept)),
+    )
+
+longer : (had : Option (List ℕ)) (limit : ℕ) (text : List ℕ) → length text ≡ limit + 1 → IfSome had (λ all. (rest : List ℕ) × (all ≡ text ++ rest)) → IfSome had (λ all. limit < length all)
+longer None limit text long part = tt
+longer (Some all) limit text long part = omega (arith, ap length part.1, length-append text part.0, long)
+
+-- so it had more than the limit, if one byte more was given
+pub too_long : (had : ℕ → Option (List ℕ)) (number at : ℕ) (first last : Option (List ℕ)) (limit : ℕ) → number ≡ 0
+    → Keeps (had 0) first → GivesText (given_of number (had number) first) (given_of at (had at) last) (λ text. length text ≡ limit + 1)
+    → IfSome (had 0) (λ all. limit < length all)
+too_long had number at first last limit zero kept gives =
+    let here : Keeps (had number) first = subst (λ (n : ℕ). Keeps (had n) first) (sym zero) kept in
+    subst (λ (n : ℕ). IfSome (had n) (λ all. limit < length all)) zero
+    (longer (had number) limit gives.0 gives.2 (part_of (had number) (had at) number at first last gives.0 (λ e. ap had e) here gives.1))
+
 -- ---- a writer
 
 -- before the first call it took nothing, and holds what it held
@@ -152,6 +186,11 @@ pub taken_if : {T E : Type 0} (held now after : Option (List ℕ)) (written : Re
     → OnOk written (Keeps now after) → OnOk written (taken_of held after ≡ taken_of held now)
 taken_if held now after (Ok x) known kept = taken_kept held now after known kept
 taken_if held now after (Err e) known kept = tt
+
+-- with what is let go, it is what was taken
+pub taken_with : (held now last : Option (List ℕ)) → StaysKnown held now → ((unwritten : List ℕ) × Keeps now (append_known last unwritten))
+    → (unwritten : List ℕ) × (taken_of held (append_known last unwritten) ≡ taken_of held now)
+taken_with held now last known kept = (kept.0, taken_kept held now (append_known last kept.0) known kept.1)
 
 -- nothing is gathered yet
 Keeps-none : (held first : Option (List ℕ)) → Keeps held first → Keeps held (append_known first [])

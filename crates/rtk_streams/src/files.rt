@@ -5,10 +5,11 @@
 //! asks for. Failed calls are counted, and a reader has met its end once a read with room gave
 //! nothing.
 
-ghost use Rattle.std.specs.Prelude.{◌≡◌, OnOk, IfOk, List, ℕ, true, false};
+ghost use Rattle.std.specs.Prelude.{◌≡◌, OnOk, IfOk, IfErr, List, ℕ, true, false};
 ghost use Rattle.std.specs.Io.Buffered.{writer_contents};
 ghost use Rattle.std.specs.Io.KnownBytes.{Keeps, append_known};
 ghost use Rattle.rtk_streams.specs.Passed.{given_of, IsLeft, taken_of};
+ghost use Rattle.rtk_streams.specs.declared.fault.ToolFault.TheVariants.{OutOfMemory};
 
 use crate::before::Before;
 use crate::fault::ToolFault;
@@ -227,6 +228,8 @@ impl<W: Write + Drop, K: Before> Writes<BufWriter<W>, K> {
     pub fn into_writer(self) -> (W, Result<(), StreamFault>)
         ensures taken { OnOk result.1 (taken_of (K.held self.number) (W.contents result.0)
             ≡ taken_of (K.held self.number) (writer_contents W.contents self.inner)) }
+        ensures rest { (unwritten : List ℕ) × (taken_of (K.held self.number) (append_known (W.contents result.0) unwritten)
+            ≡ taken_of (K.held self.number) (writer_contents W.contents self.inner)) }
         ensures all { OnOk result.1 (Keeps (writer_contents W.contents self.inner) (W.contents result.0)) }
         ensures part { (unwritten : List ℕ) × Keeps (writer_contents W.contents self.inner) (append_known (W.contents result.0) unwritten) }
     {
@@ -264,6 +267,7 @@ pub fn sink<W: Write + Drop, K: Before>(
     number: u8,
 ) -> Result<Writes<BufWriter<Resumed<W>>, K>, ToolFault>
     requires known { Keeps (K.held number) (W.contents to) }
+    ensures fault { IfErr result (λ fault. fault ≡ OutOfMemory) }
     ensures number { IfOk result (λ s. s.number ≡ number) }
     ensures held { IfOk result (λ s. Keeps (K.held number) (⟦<BufWriter<Resumed<W>> as Write>⟧.contents s.inner)) }
 {

@@ -1,6 +1,6 @@
 //! Inputs that are read whole, in pieces of 4,096 bytes.
 
-ghost use Rattle.std.specs.Prelude.{◌≡◌, ◌≢◌, ◌+◌, ◌≤◌, length, Err, IfOk, OnOk, IsErrOf, IfSome};
+ghost use Rattle.std.specs.Prelude.{◌≡◌, ◌≢◌, ◌+◌, ◌<◌, ◌≤◌, length, Err, IfOk, OnOk, IsErrOf, IfSome};
 ghost use Rattle.std.specs.Io.KnownBytes.{Keeps};
 ghost use Rattle.rtk_frame.specs.Stream.{CountRises};
 ghost use Rattle.rtk_streams.specs.Input.{GivesText};
@@ -63,6 +63,7 @@ fn read_through<R: Read + Drop, K: Before>(
     requires { Keeps (K.had 0) (R.remaining reader) }
     ensures whole { IfOk result (λ text. IfSome (K.had 0) (λ bytes. bytes ≡ text.items)) }
     ensures limit { IfOk result (λ text. length text.items ≤ limit) }
+    ensures too_long { IsErrOf result TooLong → IfSome (K.had 0) (λ bytes. limit < length bytes) }
 {
     let mut source: Reads<R, K> = Reads::over(reader, 0);
     let text = read_whole(alloc, &mut source, limit)?;
@@ -78,6 +79,7 @@ pub fn read_all<R: Read + Drop>(
 ) -> Result<Vec<u8>, ToolFault>
     ensures whole { IfOk result (λ text. IfSome (R.remaining reader) (λ bytes. bytes ≡ text.items)) }
     ensures limit { IfOk result (λ text. length text.items ≤ limit) }
+    ensures too_long { IsErrOf result TooLong → IfSome (R.remaining reader) (λ bytes. limit < length bytes) }
 {
     read_through::<R, Brand>(alloc, reader, limit)
 }
