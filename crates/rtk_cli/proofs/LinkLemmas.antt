@@ -6,8 +6,9 @@ use Rattle.std.specs.Io.Buffered.{writer_contents}
 use Rattle.std.specs.Io.KnownBytes.{Keeps}
 use Rattle.std.specs.declared.io.buffered.BufWriter.{BufWriter}
 use Rattle.rtk_frame.specs.Stream.{with_more}
-use Rattle.rtk_tools.specs.Passed.{given_of, IsLeft, taken_of}
-use Rattle.rtk_tools.specs.declared.resuming.Resumed.{Resumed}
+use Rattle.rtk_streams.specs.Steps.ReadLimits.{most_reads}
+use Rattle.rtk_streams.specs.Passed.{given_of, IsLeft, taken_of}
+use Rattle.rtk_streams.specs.declared.resuming.Resumed.{Resumed}
 use Rattle.rtk_convert.specs.declared.counts.Counts.{Counts}
 use Rattle.rtk_convert.specs.declared.fault.ConvertFault.{ConvertFault}
 use Rattle.rtk_convert.specs.declared.fault.ConvertFault.TheVariants.{Read as ReadFailed, Endless}
@@ -17,12 +18,13 @@ use Rattle.rtk_convert.specs.FrameClass.{arrivals}
 use Rattle.rtk_convert.specs.Headline.{Headline, WritesKept, RunHeadline, calls_of}
 use Rattle.rtk_convert.specs.History.{History}
 use Rattle.rtk_convert.specs.ReadHistory.{Read, IsHistoryOf, AllClosed, Gave, bytes_of}
+use Rattle.rtk_convert.specs.ReadSteps.{HasRead}
 use Rattle.rtk_convert.specs.Report.{lines}
 use Rattle.rtk_convert.specs.Run.{FailsReading, StaysOpen}
 use Rattle.rtk_convert.specs.Setup.{SetupView}
 use Rattle.rtk_convert.specs.Writing.{Written, written}
 use Rattle.rtk_cli.specs.ConvertsBytes.{ConvertsBytes, EndsAtRead, ConvertsFirstBytes}
-use Rattle.rtk_cli.specs.Steps.Links.{bytes_had, AreLinksOf, HasReadSome}
+use Rattle.rtk_cli.specs.Steps.Links.{bytes_had, AreLinksOf}
 
 -- ---- links that are made one after another
 
@@ -247,30 +249,39 @@ done-by-bytes {S} {R} {number} {inner} {before} {readers} remaining had {held} c
 
 -- ---- a run that ended at a read
 
+-- some reads were made, and exactly the file so far and their lines are written
+abbrev pub HasReadSome : {S : Type 0} → (S → Option (List ℕ)) → SetupView → Result Counts ConvertFault → ℕ → List S → List S → Written → Written → Type 0
+HasReadSome given s done most before after old new =
+    (reads : List Read) × (h : History) × HasRead given s before after reads h old new × (IsErrOf done Endless → length reads ≡ most)
+
+other_fault : (link : ℕ) → IsErrOf {T = Counts} (Err (ReadFailed link)) Endless → ⊥
+other_fault link e = cc
+
 pub at-read : {S : Type 0} (given : S → Option (List ℕ)) (failures calls : S → ℕ) (is_at_end : S → Type 0) (s : SetupView) (most : ℕ) (before after : List S) (old new : Written) (P : Type 0) (done : Result Counts ConvertFault)
     → ((link : ℕ) → IsErrOf done (ReadFailed link) → FailsReading given failures calls s link before after old new)
-    → (IsErrOf done Endless → StaysOpen given is_at_end s most before after old new × P) → EndsAtRead done → HasReadSome given s before after old new
+    → (IsErrOf done Endless → StaysOpen given is_at_end s most before after old new × P) → EndsAtRead done → HasReadSome given s done most before after old new
 at-read given failures calls is_at_end s most before after old new P (Ok counts) failed endless ends = absurd ends
-at-read given failures calls is_at_end s most before after old new P (Err (ReadFailed link)) failed endless ends = let f = failed link refl in (f.reads, f.history, f.has_read)
-at-read given failures calls is_at_end s most before after old new P (Err Endless) failed endless ends = let f = (endless refl).0 in (f.reads, f.history, f.has_read)
+at-read given failures calls is_at_end s most before after old new P (Err (ReadFailed link)) failed endless ends = let f = failed link refl in (f.reads, f.history, f.has_read, λ e. absurd (other_fault link e))
+at-read given failures calls is_at_end s most before after old new P (Err Endless) failed endless ends = let f = (endless refl).0 in (f.reads, f.history, f.has_read, λ _. f.made)
 at-read given failures calls is_at_end s most before after old new P (Err _) failed endless ends = absurd ends
 
 pub part-by-bytes : {S R : Type 0} {number : S → ℕ} {inner : S → R} {before : List S} {readers : List R} (remaining : R → Option (List ℕ)) (had : ℕ → Option (List ℕ)) {held : ℕ → Option (List ℕ)}
     (s : SetupView) (after : List S) {first old new last first' old' new' last' : Option (List ℕ)} {is_out : Bool} (done final : Result Counts ConvertFault)
     → final ≡ done → had ≡ bytes_had remaining readers → AreLinksOf before readers number inner
     → Behind held first old new last is_out → Behind held first' old' new' last' is_out
-    → (EndsAtRead done → HasReadSome (given_by number inner remaining had) s before after (written old old') (written new new'))
-    → EndsAtRead final → IsTrue is_out → ConvertsFirstBytes s (map remaining readers) (written first first') (written (taken_of first last) (taken_of first' last'))
+    → (EndsAtRead done → HasReadSome (given_by number inner remaining had) s done most_reads before after (written old old') (written new new'))
+    → EndsAtRead final → IsTrue is_out → ConvertsFirstBytes s (map remaining readers) final (written first first') (written (taken_of first last) (taken_of first' last'))
 part-by-bytes {S} {R} {number} {inner} {before} {readers} remaining had {held} s after {first} {old} {new} {last} {first'} {old'} {new'} done final is is-had are b b' some ends is-out =
     let read = some (subst (λ (r : Result Counts ConvertFault). EndsAtRead r) is ends) in
     let reads : List Read = read.0 in
     let h : History = read.1 in
-    let part : ConvertsFirstBytes s (map remaining readers) (written old old') (written new new') = record {
+    let part : ConvertsFirstBytes s (map remaining readers) final (written old old') (written new new') = record {
       reads = reads;
       first_bytes = first-bytes remaining had after reads is-had are read.2.gave;
+      made = λ e. read.3 (sym is ∙ e);
       history = h;
       comes_to = subst (λ (n : ℕ). IsHistoryOf s n reads h) (as-many remaining are) read.2.comes_to;
       out = read.2.out;
       log = read.2.log;
     } in
-    on-writers (λ (w v : Written). ConvertsFirstBytes s (map remaining readers) w v) (file_so_far s (arrivals h.found)) (lines s.window h.found) b b' is-out part.out part.log part
+    on-writers (λ (w v : Written). ConvertsFirstBytes s (map remaining readers) final w v) (file_so_far s (arrivals h.found)) (lines s.window h.found) b b' is-out part.out part.log part

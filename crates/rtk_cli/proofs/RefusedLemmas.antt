@@ -11,7 +11,7 @@ use Rattle.rtk_convert.specs.Setup.{SetupView}
 use Rattle.rtk_convert.specs.SetupFault.{IsSetupFault}
 use Rattle.rtk_convert.specs.declared.setup.SetupFault.{SetupFault}
 use Rattle.rtk_convert.specs.declared.setup.SetupFault.TheVariants.{Near as BadNear}
-use Rattle.rtk_words.specs.declared.options.ConvertOptions.{ConvertOptions}
+use Rattle.rtk_args.specs.declared.options.ConvertOptions.{ConvertOptions}
 use Rattle.rtk_cli.specs.declared.words.BadWords.{BadWords}
 use Rattle.rtk_cli.specs.declared.words.BadWords.TheVariants.{Near, Made, Codes, Marker, Links, From, Until}
 use Rattle.rtk_cli.specs.declared.words.WordsFault.{WordsFault}

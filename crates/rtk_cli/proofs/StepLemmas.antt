@@ -1,5 +1,5 @@
 -- The step of a part.
-use Rattle.std.proofs.Common.{◌≡◌, ℕ, Option, None, Some, refl}
+use Rattle.std.proofs.Common.{◌≡◌, ℕ, Option, None, Some}
 use Rattle.std.specs.Int.{IsInRange}
 use Rattle.std.specs.Option.{ForSome}
 use Rattle.rtk_cut.specs.Cut.{IsStepOrNone}

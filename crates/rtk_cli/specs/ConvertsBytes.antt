@@ -1,6 +1,7 @@
 -- A conversion by bytes: those that its readers had, and those that its writers hold.
-use Rattle.std.specs.Prelude.{◌≡◌, ℕ, List, ◌++◌, length, Option, None, Some, Result, Ok, Err, slice_index_or}
+use Rattle.std.specs.Prelude.{◌≡◌, ℕ, List, ◌++◌, length, Option, None, Some, Result, Err, IsErrOf, slice_index_or}
 use Rattle.rtk_frame.specs.Stream.{with_more}
+use Rattle.rtk_streams.specs.Steps.ReadLimits.{most_reads}
 use Rattle.rtk_convert.specs.declared.counts.Counts.{Counts}
 use Rattle.rtk_convert.specs.declared.fault.ConvertFault.{ConvertFault}
 use Rattle.rtk_convert.specs.declared.fault.ConvertFault.TheVariants.{Read as ReadFailed, Endless}
@@ -30,10 +31,11 @@ EndsAtRead (Err Endless) = Unit {0}
 EndsAtRead _ = ⊥
 
 -- then the reads gave a first part of the bytes of each reader, and exactly the file so far and the
--- lines of what was read are written
-pub record ConvertsFirstBytes (s : SetupView) (bytes : List (Option (List ℕ))) (written_old written_new : Written) : Type 0 where
+-- lines of what was read are written; an input is told not to end only after the most reads
+pub record ConvertsFirstBytes (s : SetupView) (bytes : List (Option (List ℕ))) (done : Result Counts ConvertFault) (written_old written_new : Written) : Type 0 where
   pub reads : List Read
   pub first_bytes : (k : ℕ) (text : List ℕ) → slice_index_or bytes k None ≡ Some text → (rest : List ℕ) × (text ≡ bytes_of k reads ++ rest)
+  pub made : IsErrOf done Endless → length reads ≡ most_reads
   pub history : History
   pub comes_to : IsHistoryOf s (length bytes) reads history
   pub out : written_new.file ≡ with_more written_old.file (file_so_far s (arrivals history.found))

@@ -1,13 +1,14 @@
 -- What the words of a command line may give.
 use Rattle.std.specs.Prelude.{◌≡◌, ◌⊎◌, ℕ, ◌≤◌, Bool, nat_eq, List, length, map, count_by, codes}
+use Rattle.std.specs.Borrow.{Bor}
 use Rattle.std.specs.Int.{IsInRange}
-use Rattle.std.specs.Option.{ForSome}
 use Rattle.std.specs.Cmp.Lexicographic.{pointwise}
-use Rattle.rtk_convert.specs.Setup.{IsStation, IsWindow}
+use Rattle.arrayvec.specs.ArrayVec.{ArrayVec}
+use Rattle.rtk_convert.specs.Setup.{SetupView, IsStation, IsWindow}
+use Rattle.rtk_cut.specs.declared.part.Part.{Part}
 use Rattle.rtk_cut.specs.Cut.{IsStepOrNone}
-use Rattle.rtk_files.specs.ChartInput.{IsWidth}
-use Rattle.rtk_cli.specs.declared.words.Job.{Job}
-use Rattle.rtk_cli.specs.declared.words.Job.TheVariants.{Convert, Show, Check, Summary, Chart, Cut}
+use Rattle.rtk_args.specs.declared.request.Task.{Task}
+use Rattle.rtk_args.specs.Requests.{IsTask}
 use Rattle.rtk_cli.specs.declared.words.WordsFault.{WordsFault}
 use Rattle.rtk_cli.specs.declared.words.WordsFault.TheVariants.{Clap, Bad, OutOfMemory}
 
@@ -21,17 +22,17 @@ is_stdin word = pointwise nat_eq word (codes "stdin")
 abbrev pub AreLinkNames : List (List ℕ) → Type 0
 AreLinkNames links = IsInRange 1 16 (length links) × (count_by is_stdin links ≤ 1)
 
+-- what the words ask for
+abbrev pub JobView : Type 0
+JobView = Task SetupView (ArrayVec (Bor (List ℕ))) Part
+
 -- formula
 -- a conversion is of a station, a window and links within their limits; so is the width of a picture
 -- in characters, and the step of a part
-abbrev pub IsWithinLimits : Job → Type 0
-IsWithinLimits (Convert setup links) =
-    IsStation setup.station × IsWindow setup.window × AreLinkNames (map (λ link. link.now) links.items)
-IsWithinLimits (Show hex file) = Unit {0}
-IsWithinLimits (Check file) = Unit {0}
-IsWithinLimits (Summary file) = Unit {0}
-IsWithinLimits (Chart width file) = ForSome width IsWidth
-IsWithinLimits (Cut part file) = IsStepOrNone part.every
+abbrev pub IsWithinLimits : JobView → Type 0
+IsWithinLimits job =
+    IsTask (λ setup links. IsStation setup.station × IsWindow setup.window × AreLinkNames (map (λ link. link.now) links.items))
+    (λ part. IsStepOrNone part.every) job
 
 -- table
 -- after a text of clap's the program ends with status 0 or 2; which of them is not said here

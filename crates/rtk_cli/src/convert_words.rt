@@ -1,8 +1,8 @@
 //! The words of `convert`: what its options and links say.
 
-ghost use Rattle.std.specs.Prelude.{◌≡◌, ◌+◌, map, IfOk, IfErr, IfSome, IfNone, MatchOption};
-ghost use Rattle.std.specs.Int.{IsInRange};
+ghost use Rattle.std.specs.Prelude.{◌≡◌, ◌+◌, map, IfOk, IfErr, MatchOption};
 ghost use Rattle.rtk_message.specs.MsmForm.{number_of_kind};
+ghost use Rattle.rtk_args.specs.Requests.{number_of_msm};
 ghost use Rattle.rtk_cli.specs.Steps.ConvertWords.{SaysConversion, RefusesConversion};
 ghost use Rattle.rtk_cli.specs.declared.words.WordsFault.TheVariants.{Bad};
 ghost use Rattle.rtk_cli.specs.Words.{AreLinkNames, HasStatus, IsWithinLimits};
@@ -11,11 +11,11 @@ use crate::code_list::codes_of;
 use crate::moment_text::moment_of;
 use crate::words::{BadWords, Job, WordsFault};
 use arrayvec::ArrayVec;
+use rtk_args::{ConvertOptions, MsmOption};
 use rtk_convert::{Setup, SetupFault};
 use rtk_message::MsmKind;
 use rtk_rinex::{Head, HeadFault};
-use rtk_tools::STDIN;
-use rtk_words::ConvertOptions;
+use rtk_streams::STDIN;
 use std::alloc::Global;
 
 /// The conversion that the options and the links say. The causes are looked for in the order of
@@ -45,21 +45,19 @@ pub(crate) fn conversion<'a>(
         Ok(head) => head,
         Err(HeadFault::Marker) => return Err(words_fault(BadWords::Marker)),
         Err(HeadFault::Codes) => return Err(words_fault(BadWords::Codes)),
-        // A moment that a text writes is a whole second.
+        // No type says that a moment which a text writes is a whole second.
         Err(HeadFault::Made) => unreachable!(),
     };
     let Some(links) = links_of(names) else {
         return Err(words_fault(BadWords::Links));
     };
-    let Some(msm) = msm_of(options.msm) else {
-        unreachable!();
-    };
     match Setup::new(options.station, near, head, usize::from(options.window)) {
         Ok(setup) => Ok(Job::Convert {
-            setup: setup.with_msm(msm),
+            setup: setup.with_msm(kind_of(options.msm)),
             links,
         }),
         Err(SetupFault::Near) => Err(words_fault(BadWords::Near)),
+        // The options have a station and a window within their limits.
         Err(SetupFault::Station | SetupFault::Window) => unreachable!(),
     }
 }
@@ -70,17 +68,15 @@ fn words_fault(line: BadWords) -> WordsFault
     WordsFault::Bad { line }
 }
 
-/// The MSM that the option says: 4 is 1074, 7 is 1077; `None` for what is not 4 to 7.
-fn msm_of(msm: u8) -> Option<MsmKind>
-    ensures some { IfSome result (λ kind. number_of_kind kind ≡ 1070 + msm) }
-    ensures none { IfNone result (¬ (IsInRange 4 7 msm)) }
+// The MSM that the option says.
+fn kind_of(msm: MsmOption) -> MsmKind
+    ensures { number_of_kind result ≡ 1070 + number_of_msm msm }
 {
     match msm {
-        4 => Some(MsmKind::Msm4),
-        5 => Some(MsmKind::Msm5),
-        6 => Some(MsmKind::Msm6),
-        7 => Some(MsmKind::Msm7),
-        _ => None,
+        MsmOption::Four => MsmKind::Msm4,
+        MsmOption::Five => MsmKind::Msm5,
+        MsmOption::Six => MsmKind::Msm6,
+        MsmOption::Seven => MsmKind::Msm7,
     }
 }
 

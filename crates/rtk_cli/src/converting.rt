@@ -2,25 +2,19 @@
 //!
 //! At the end standard output is flushed, then the report, and the fault line comes last.
 
-ghost use Rattle.std.specs.Prelude.{◌≡◌, ◌↔◌, ◌≤◌, ◌+◌, length, map, sum_by, IfOk, IfErr, IsErrOf, IsTrue};
+ghost use Rattle.std.specs.Prelude.{◌≡◌, ◌↔◌, ◌≤◌, length, map, IfOk, IfErr, IsErrOf, IsTrue};
 ghost use Rattle.std.specs.Io.KnownBytes.{Keeps};
 ghost use Rattle.rtk_convert.specs.Converter.{IsLinkCount};
-ghost use Rattle.rtk_convert.specs.Failure.{IsRunFault};
-ghost use Rattle.rtk_convert.specs.Headline.{RunHeadline};
-ghost use Rattle.rtk_convert.specs.ReadSteps.{HasCalled};
+ghost use Rattle.rtk_convert.specs.Failure.{IsReadingFault, IsRunFault};
 ghost use Rattle.rtk_convert.specs.Writing.{written};
-ghost use Rattle.rtk_tools.specs.Passed.{taken_of};
-ghost use Rattle.rtk_tools.specs.Steps.ReadLimits.{most_reads};
-ghost use Rattle.rtk_tools.specs.declared.exit_status.TheConstants.{REFUSED};
+ghost use Rattle.rtk_streams.specs.Passed.{taken_of};
+ghost use Rattle.rtk_streams.specs.declared.exit_status.TheConstants.{FAILED};
 ghost use Rattle.rtk_cli.specs.Converting.{status_of};
 ghost use Rattle.rtk_cli.specs.ConvertsBytes.{ConvertsBytes, EndsAtRead, ConvertsFirstBytes};
-ghost use Rattle.rtk_cli.specs.Steps.Links.{bytes_had, bytes_held, AreLinksOf, HasReadSome};
+ghost use Rattle.rtk_cli.specs.Steps.Links.{bytes_had, bytes_held, AreLinksOf};
 
-use crate::refusing::refuse;
-use crate::words::BadWords;
-use rtk_convert::{ConvertFault, Counts, Setup};
-use rtk_frame::{Sink, Source};
-use rtk_tools::{
+use rtk_convert::{ConvertFault, Counts, Setup, run};
+use rtk_streams::{
     Before, DONE, GATHERED, MOST_READS, Reads, Resumed, ToolFault, Writes, fail, fail_to_end,
     fail_to_open_links, has_standard_input, open_links, sink,
 };
@@ -41,26 +35,6 @@ pub struct Converted<O, L> {
     pub done: Result<Counts, ConvertFault>,
     /// All that was gathered is out.
     pub is_out: bool,
-}
-
-// Converts what the links give, by a billion reads at most.
-fn convert<R: Source, O: Sink, L: Sink>(
-    alloc: Global,
-    setup: Setup,
-    links: &mut [R],
-    out: &mut O,
-    log: &mut L,
-) -> Result<Counts, ConvertFault>
-    ensures headline { IfOk result (λ counts. RunHeadline R.given R.calls R.is_at_end setup links.old links.new counts
-        (written (O.taken out.old) (L.taken log.old)) (written (O.taken out.new) (L.taken log.new))) }
-    ensures reads { sum_by R.calls links.new ≤ sum_by R.calls links.old + most_reads }
-    ensures endless { IsErrOf result ConvertFault.Endless → HasCalled R.calls links.old links.new most_reads }
-    ensures first_part { EndsAtRead result → HasReadSome R.given setup links.old links.new
-        (written (O.taken out.old) (L.taken log.old)) (written (O.taken out.new) (L.taken log.new)) }
-    ensures link_count { IsErrOf result ConvertFault.Setup ↔ ¬ (IsLinkCount (length links.old)) }
-    ensures faults { IfErr result IsRunFault }
-{
-    rtk_convert::run(alloc, setup, links, out, log, MOST_READS)
 }
 
 // The readers as links, in their order and numbered from 0.
@@ -125,7 +99,7 @@ fn convert_between<R: Read + Drop, O: Write + Drop, L: Write + Drop, K: Before>(
         → ConvertsBytes setup (map R.remaining readers.items) counts (written (O.contents out) (L.contents report))
         (written (taken_of (O.contents out) (O.contents c.out)) (taken_of (L.contents report) (L.contents c.report))))) }
     ensures first_part { IfOk result (λ c. EndsAtRead c.done → IsTrue c.is_out
-        → ConvertsFirstBytes setup (map R.remaining readers.items) (written (O.contents out) (L.contents report))
+        → ConvertsFirstBytes setup (map R.remaining readers.items) c.done (written (O.contents out) (L.contents report))
         (written (taken_of (O.contents out) (O.contents c.out)) (taken_of (L.contents report) (L.contents c.report)))) }
     ensures link_count { IfOk result (λ c. IsErrOf c.done ConvertFault.Setup ↔ ¬ (IsLinkCount (length readers.items))) }
     ensures faults { IfOk result (λ c. IfErr c.done IsRunFault) }
@@ -138,7 +112,14 @@ fn convert_between<R: Read + Drop, O: Write + Drop, L: Write + Drop, K: Before>(
     let Ok(mut log) = sink::<L, K>(alloc, room, report, 1) else {
         return Err(ToolFault::OutOfMemory);
     };
-    let done = convert(alloc, setup, links.as_mut_slice(), &mut file, &mut log);
+    let done = run(
+        alloc,
+        setup,
+        links.as_mut_slice(),
+        &mut file,
+        &mut log,
+        MOST_READS,
+    );
     Ok(finished(done, file, log))
 }
 
@@ -163,7 +144,7 @@ pub fn convert_through<R: Read + Drop, O: Write + Drop, L: Write + Drop>(
         → ConvertsBytes setup (map R.remaining readers.items) counts (written (O.contents out) (L.contents report))
         (written (taken_of (O.contents out) (O.contents c.out)) (taken_of (L.contents report) (L.contents c.report))))) }
     ensures first_part { IfOk result (λ c. EndsAtRead c.done → IsTrue c.is_out
-        → ConvertsFirstBytes setup (map R.remaining readers.items) (written (O.contents out) (L.contents report))
+        → ConvertsFirstBytes setup (map R.remaining readers.items) c.done (written (O.contents out) (L.contents report))
         (written (taken_of (O.contents out) (O.contents c.out)) (taken_of (L.contents report) (L.contents c.report)))) }
     ensures link_count { IfOk result (λ c. IsErrOf c.done ConvertFault.Setup ↔ ¬ (IsLinkCount (length readers.items))) }
     ensures faults { IfOk result (λ c. IfErr c.done IsRunFault) }
@@ -181,9 +162,10 @@ pub fn convert_through<R: Read + Drop, O: Write + Drop, L: Write + Drop>(
     convert_between::<R, O, L, Brand>(alloc, setup, readers, room, out, report)
 }
 
-/// The exit status of a conversion, by its answer and by whether all that it wrote is out; the
-/// fault line goes to standard error.
+/// The exit status of a conversion of 1 to 16 links, by its answer and by whether all that it wrote is
+/// out; the fault line goes to standard error.
 pub fn conversion_status<R: Eprint>(rt: &R, done: Result<Counts, ConvertFault>, is_out: bool) -> u8
+    requires { IfErr done IsReadingFault }
     ensures { result ≡ status_of done is_out }
 {
     match done {
@@ -192,8 +174,8 @@ pub fn conversion_status<R: Eprint>(rt: &R, done: Result<Counts, ConvertFault>, 
         Err(ConvertFault::OutOfMemory) => fail(rt, ToolFault::OutOfMemory),
         Err(ConvertFault::Read { .. }) => fail(rt, ToolFault::Input),
         Err(ConvertFault::Endless) => fail_to_end(rt),
-        // The words give 1 to 16 links, and a conversion refuses no call of its own.
-        Err(_) => refuse(rt, BadWords::Links),
+        Err(ConvertFault::Setup | ConvertFault::NoLink) => unreachable!(),
+        Err(ConvertFault::LinkClosed | ConvertFault::Stopped) => unreachable!(),
     }
 }
 
@@ -206,7 +188,8 @@ fn convert_opened<R: Print + Eprint + AllocGlobal, S: Read + Drop, W: Write + Dr
     captures: Vec<S>,
     room: usize,
 ) -> u8
-    ensures { result ≤ REFUSED }
+    requires { IsLinkCount (length captures.items) }
+    ensures { result ≤ FAILED }
 {
     match convert_through(rt.alloc(), setup, captures, room, io::writer(rt), report) {
         Ok(converted) => conversion_status(rt, converted.done, converted.is_out),
@@ -223,7 +206,8 @@ pub(crate) fn convert_links<R: Files + Input + Print + Eprint + AllocGlobal, W: 
     setup: Setup,
     names: &[&str],
 ) -> u8
-    ensures { result ≤ REFUSED }
+    requires { IsLinkCount (length names.now) }
+    ensures { result ≤ FAILED }
 {
     let captures = match open_links(rt, names) {
         Ok(captures) => captures,

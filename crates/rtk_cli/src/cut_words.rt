@@ -5,9 +5,9 @@ ghost use Rattle.rtk_cli.specs.Steps.CutWords.{SaysMomentOrNone, HasNoMoment, Is
 
 use crate::moment_text::moment_of;
 use crate::words::BadWords;
+use rtk_args::CutOptions;
 use rtk_cut::Part;
 use rtk_obs::GpsMs;
-use rtk_words::CutOptions;
 
 // The moment that an option writes, or none without the option. `None` if its text writes no
 // moment.

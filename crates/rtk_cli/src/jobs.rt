@@ -6,7 +6,7 @@ ghost use Rattle.rtk_cli.specs.Words.{HasStatus, IsWithinLimits};
 use crate::convert_words::conversion;
 use crate::cut_words::part_of;
 use crate::words::{Job, WordsFault};
-use rtk_words::{ClapAnswer, CutOptions, Request, read_words};
+use rtk_args::{ClapAnswer, CutOptions, Request, read_words};
 use std::alloc::Global;
 
 // The part that the options say, of this file.
@@ -28,12 +28,12 @@ pub fn job<'a>(alloc: Global, words: &'a [&'a str]) -> Result<Job<'a>, WordsFaul
     ensures status { IfErr result HasStatus }
 {
     match read_words(alloc, words) {
-        Ok(Request::Convert { options, links }) => conversion(alloc, &options, links.as_slice()),
+        Ok(Request::Convert { setup, links }) => conversion(alloc, &setup, links.as_slice()),
         Ok(Request::Show { hex, file }) => Ok(Job::Show { hex, file }),
         Ok(Request::Check { file }) => Ok(Job::Check { file }),
         Ok(Request::Summary { file }) => Ok(Job::Summary { file }),
         Ok(Request::Chart { width, file }) => Ok(Job::Chart { width, file }),
-        Ok(Request::Cut { options, file }) => cut_job(&options, file),
+        Ok(Request::Cut { part, file }) => cut_job(&part, file),
         Err(ClapAnswer::Text { text, status }) => Err(WordsFault::Clap { text, status }),
         Err(ClapAnswer::OutOfMemory) => Err(WordsFault::OutOfMemory),
     }

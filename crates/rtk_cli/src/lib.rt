@@ -28,7 +28,7 @@ mod words;
 
 pub use converting::{Converted, conversion_status, convert_through};
 pub use jobs::job;
-pub use rtk_files::{CHECK_LIMIT, check_input};
-pub use rtk_tools::{SHOW_LIMIT, ToolFault, show, show_line};
+pub use rtk_commands::{CHECK_LIMIT, SHOW_LIMIT, check_file, show, show_line};
+pub use rtk_streams::ToolFault;
 pub use running::run_program;
 pub use words::{BadWords, Job, WordsFault};

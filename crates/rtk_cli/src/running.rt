@@ -2,15 +2,15 @@
 //! done.
 
 ghost use Rattle.std.specs.Prelude.{◌≤◌};
-ghost use Rattle.rtk_tools.specs.declared.exit_status.TheConstants.{NOT_VALID};
+ghost use Rattle.rtk_streams.specs.declared.exit_status.TheConstants.{NOT_VALID};
 ghost use Rattle.rtk_cli.specs.Words.{IsWithinLimits};
 
 use crate::converting::convert_links;
 use crate::jobs::job;
 use crate::refusing::refuse_words;
 use crate::words::Job;
-use rtk_files::{chart_named, check_named, cut_named};
-use rtk_tools::{ToolFault, fail, show_named, summarize_named};
+use rtk_commands::{chart_named, check_named, cut_named, show_named, summarize_named};
+use rtk_streams::{ToolFault, fail};
 use std::env::Env;
 use std::fs::Files;
 use std::io::{ErrorKind, Write};

@@ -1,52 +1,14 @@
 //! What the words of a command line ask for, and why a command is not done.
 
 use arrayvec::ArrayVec;
+use rtk_args::Task;
 use rtk_convert::Setup;
 use rtk_cut::Part;
 use thiserror::Error;
 
-/// What the words ask for.
-#[derive(Drop)]
-pub enum Job<'a> {
-    /// `convert OPTIONS LINK..`: captures of one station to a file and a report.
-    Convert {
-        /// The station, the reference, the file's head and the window.
-        setup: Setup,
-        /// The names of the captures; `stdin` is standard input, once at most.
-        links: ArrayVec<&'a str, 16>,
-    },
-    /// `show [--hex] FILE`: one line for each frame of a capture.
-    Show {
-        /// The capture is hex text.
-        hex: bool,
-        /// The name of the capture; `stdin` is standard input.
-        file: &'a str,
-    },
-    /// `check FILE`: whether a text is one of this project's files.
-    Check {
-        /// The name of the text; `stdin` is standard input.
-        file: &'a str,
-    },
-    /// `summary FILE`: what a capture holds.
-    Summary {
-        /// The name of the capture; `stdin` is standard input.
-        file: &'a str,
-    },
-    /// `chart FILE [--text [--columns N]]`: a picture of a file.
-    Chart {
-        /// How many characters wide the picture is, 40 to 400; `None` is a picture in SVG.
-        width: Option<u16>,
-        /// The name of the file; `stdin` is standard input.
-        file: &'a str,
-    },
-    /// `cut OPTIONS FILE`: a part of a file.
-    Cut {
-        /// The span and the step.
-        part: Part,
-        /// The name of the file; `stdin` is standard input.
-        file: &'a str,
-    },
-}
+/// What the words ask for: the station, the reference, the file's head and the window of a conversion,
+/// and its links, standard input once at most; the span and the step of a part.
+pub type Job<'a> = Task<'a, Setup, ArrayVec<&'a str, 16>, Part>;
 
 /// Why words that clap takes give no conversion, or no part: the first cause that holds, in this
 /// order. Displayed, it is the fault line of the program.

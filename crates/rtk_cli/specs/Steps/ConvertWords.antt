@@ -6,14 +6,14 @@ use Rattle.rtk_obs.specs.declared.code.Code.{Code}
 use Rattle.rtk_obs.specs.declared.time.TheConstants.{LAST_MS}
 use Rattle.rtk_rinex.specs.Header.{IsMarker, IsCodeList}
 use Rattle.rtk_convert.specs.Setup.{SetupView}
-use Rattle.rtk_words.specs.declared.options.ConvertOptions.{ConvertOptions}
+use Rattle.rtk_args.specs.declared.options.ConvertOptions.{ConvertOptions}
+use Rattle.rtk_args.specs.declared.request.Task.TheVariants.{Convert}
+use Rattle.rtk_args.specs.Requests.{number_of_msm}
 use Rattle.rtk_cli.specs.declared.words.BadWords.{BadWords}
 use Rattle.rtk_cli.specs.declared.words.BadWords.TheVariants.{Near, Made, Codes, Marker, Links, From, Until}
-use Rattle.rtk_cli.specs.declared.words.Job.{Job}
-use Rattle.rtk_cli.specs.declared.words.Job.TheVariants.{Convert, Show, Check, Summary, Chart, Cut}
 use Rattle.rtk_cli.specs.declared.words.WordsFault.{WordsFault}
 use Rattle.rtk_cli.specs.declared.words.WordsFault.TheVariants.{Clap, Bad, OutOfMemory}
-use Rattle.rtk_cli.specs.Words.{AreLinkNames}
+use Rattle.rtk_cli.specs.Words.{AreLinkNames, JobView}
 use Rattle.rtk_cli.specs.Steps.CodeList.{Lists}
 use Rattle.rtk_cli.specs.Steps.MomentText.{WritesMoment}
 
@@ -23,16 +23,12 @@ abbrev pub SaysSetup : ConvertOptions → SetupView → Type 0
 SaysSetup o s =
     (s.station ≡ o.station) × WritesMoment o.near.now s.near × WritesMoment o.made.now s.head.made
     × (s.head.marker ≡ o.marker.now) × Lists o.codes.now s.head.listed × (s.window ≡ o.window)
-    × (number_of_kind s.msm ≡ 1070 + o.msm)
+    × (number_of_kind s.msm ≡ 1070 + number_of_msm o.msm)
 
 -- the job is the conversion that the options and the names of the links say
-abbrev pub SaysConversion : ConvertOptions → List (List ℕ) → Job → Type 0
+abbrev pub SaysConversion : ConvertOptions → List (List ℕ) → JobView → Type 0
 SaysConversion o names (Convert setup links) = SaysSetup o setup × (map (λ link. link.now) links.items ≡ names)
-SaysConversion o names (Show hex file) = ⊥
-SaysConversion o names (Check file) = ⊥
-SaysConversion o names (Summary file) = ⊥
-SaysConversion o names (Chart width file) = ⊥
-SaysConversion o names (Cut part file) = ⊥
+SaysConversion o names _ = ⊥
 
 -- the text writes a moment up to the last one that is counted
 abbrev pub HasMoment : List ℕ → Type 0

@@ -1,10 +1,5 @@
 -- Readers and writers of a conversion by their numbers.
 use Rattle.std.specs.Prelude.{◌≡◌, ℕ, zero, suc, ◌<◌, List, length, map, Option, None, slice_index_or}
-use Rattle.rtk_convert.specs.History.{History}
-use Rattle.rtk_convert.specs.ReadHistory.{Read}
-use Rattle.rtk_convert.specs.ReadSteps.{HasRead}
-use Rattle.rtk_convert.specs.Setup.{SetupView}
-use Rattle.rtk_convert.specs.Writing.{Written}
 
 -- the bytes that a reader has, by its place
 abbrev pub bytes_had : {R : Type 0} → (R → Option (List ℕ)) → List R → ℕ → Option (List ℕ)
@@ -19,8 +14,3 @@ bytes_held file report (suc k) = report
 pub record AreLinksOf {S R : Type 0} (links : List S) (readers : List R) (number : S → ℕ) (inner : S → R) : Type 0 where
   pub over : map inner links ≡ readers
   pub numbers : (k : ℕ) (none : S) → k < length links → number (slice_index_or links k none) ≡ k
-
--- some reads were made, and exactly the file so far and their lines are written
-abbrev pub HasReadSome : {S : Type 0} → (S → Option (List ℕ)) → SetupView → List S → List S → Written → Written → Type 0
-HasReadSome given s before after written_old written_new =
-    (reads : List Read) × (h : History) × HasRead given s before after reads h written_old written_new

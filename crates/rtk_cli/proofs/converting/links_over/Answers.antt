@@ -1,5 +1,5 @@
 use Rattle.std.specs.Prelude.{if◌then◌else◌}
-use Rattle.std.proofs.Common.{◌≡◌, ℕ, ◌+◌, Bool, true, not, List, [], ◌∷◌, ◌++◌, length, is_ok, sym, ap, ◌∙◌, append_assoc}
+use Rattle.std.proofs.Common.{◌≡◌, ℕ, ◌+◌, Bool, true, not, [], ◌∷◌, ◌++◌, length, is_ok, sym, ap, ◌∙◌, append_assoc}
 use Rattle.std.proofs.lemmas.List.{length_push}
 use Rattle.rtk_cli.proofs.LinkLemmas.{one-more-link}
 use Rattle.rtk_cli.proofs.converting.links_over.Goals as goal

@@ -1,0 +1,197 @@
+//! The command line that clap reads: its commands and their arguments.
+//!
+//! clap is the costly part of the proof, so its command is built here alone, in small functions.
+
+use crate::help_texts;
+use crate::limits::{LEAST_WIDTH, LEAST_WINDOW, MOST_STATION, MOST_STEP, MOST_WIDTH, MOST_WINDOW};
+use clap::{Arg, ArgAction, ArgGroup, Command, value_parser};
+use std::alloc::{AllocError, Global};
+
+/// The name of the program in its texts; no word gives it.
+const NAME: &str = "rtcm2rinex";
+
+/// The version that `--version` shows.
+const VERSION: &str = "0.3.0";
+
+/// The window if none is given.
+const WINDOW: &str = "64";
+
+/// The MSM if none is given: 1074.
+const MSM: &str = "4";
+
+// The name of the one input of a command.
+fn file_arg<'a>(alloc: Global, help: &'a str) -> Arg<'a> {
+    Arg::new(alloc, "FILE").help(help).required(true)
+}
+
+// An argument by its name with two hyphens.
+fn flag_arg<'a>(alloc: Global, name: &'a str, help: &'a str) -> Arg<'a> {
+    Arg::new(alloc, name).long(name).help(help)
+}
+
+fn hex_arg<'a>(alloc: Global) -> Arg<'a> {
+    flag_arg(alloc, "hex", "The capture is hex text").action(ArgAction::SetTrue)
+}
+
+fn show_command<'a>(alloc: Global) -> Result<Command<'a>, AllocError> {
+    Command::new(alloc, "show")
+        .about("Shows the messages of a capture, a line for each frame")
+        .after_long_help(help_texts::SHOW)
+        .arg(hex_arg(alloc))?
+        .arg(file_arg(alloc, "The capture, or stdin for standard input"))
+}
+
+fn check_command<'a>(alloc: Global) -> Result<Command<'a>, AllocError> {
+    Command::new(alloc, "check")
+        .about("Checks whether a file is one that convert could have written")
+        .after_long_help(help_texts::CHECK)
+        .arg(file_arg(alloc, "The file, or stdin for standard input"))
+}
+
+fn summary_command<'a>(alloc: Global) -> Result<Command<'a>, AllocError> {
+    Command::new(alloc, "summary")
+        .about("Tells what a capture holds: stations, satellites and codes")
+        .after_long_help(help_texts::SUMMARY)
+        .arg(file_arg(alloc, "The capture, or stdin for standard input"))
+}
+
+fn text_arg<'a>(alloc: Global) -> Arg<'a> {
+    flag_arg(alloc, "text", "A picture in characters").action(ArgAction::SetTrue)
+}
+
+fn columns_arg<'a>(alloc: Global) -> Result<Arg<'a>, AllocError> {
+    let help = "How many characters wide it is with --text, 40 to 400; 80 if not given";
+    option_arg(alloc, "columns", "N", help)
+        .value_parser(value_parser!(u32).range(i64::from(LEAST_WIDTH)..=i64::from(MOST_WIDTH)))
+        .requires_arg("text")
+}
+
+fn chart_command<'a>(alloc: Global) -> Result<Command<'a>, AllocError> {
+    Command::new(alloc, "chart")
+        .about("Draws a file: its satellites along its time, with slips and gaps")
+        .after_long_help(help_texts::CHART)
+        .arg(text_arg(alloc))?
+        .arg(columns_arg(alloc)?)?
+        .arg(file_arg(alloc, "The file, or stdin for standard input"))
+}
+
+// An option that has a value.
+fn option_arg<'a>(alloc: Global, name: &'a str, value: &'a str, help: &'a str) -> Arg<'a> {
+    flag_arg(alloc, name, help).value_name(value)
+}
+
+fn required_arg<'a>(alloc: Global, name: &'a str, value: &'a str, help: &'a str) -> Arg<'a> {
+    option_arg(alloc, name, value, help).required(true)
+}
+
+fn station_arg<'a>(alloc: Global) -> Arg<'a> {
+    let help = "The reference station, 0 to 4095, as 2003";
+    required_arg(alloc, "station", "N", help).value_parser(value_parser!(u32).range(
+        0..=i64::from(MOST_STATION),
+    ))
+}
+
+fn marker_arg<'a>(alloc: Global) -> Arg<'a> {
+    required_arg(alloc, "marker", "NAME", "The marker's name, as BASE").allow_hyphen_values(true)
+}
+
+fn window_arg<'a>(alloc: Global) -> Arg<'a> {
+    let help = "How many epochs are kept open, 2 to 4096, as 600";
+    option_arg(alloc, "window", "N", help)
+        .default_value(WINDOW)
+        .value_parser(value_parser!(u32).range(i64::from(LEAST_WINDOW)..=i64::from(MOST_WINDOW)))
+}
+
+fn msm_arg<'a>(alloc: Global) -> Arg<'a> {
+    let help = "Which MSM is converted beside 1004: 4 is 1074, 5 is 1075, 6 is 1076, 7 is 1077";
+    option_arg(alloc, "msm", "N", help)
+        .default_value(MSM)
+        .value_parser(value_parser!(u32).range(4..=7))
+}
+
+fn links_arg<'a>(alloc: Global) -> Arg<'a> {
+    Arg::new(alloc, "LINK")
+        .help("The captures, 1 to 16; stdin is standard input")
+        .required(true)
+        .action(ArgAction::Append)
+        .num_args(1..)
+}
+
+fn every_arg<'a>(alloc: Global) -> Arg<'a> {
+    let help = "Records at whole multiples of this step are kept, 1 to 86400";
+    option_arg(alloc, "every", "SECONDS", help).value_parser(value_parser!(u32).range(
+        1..=i64::from(MOST_STEP),
+    ))
+}
+
+// One of the options of `cut` must be given.
+fn cut_options_group<'a>(alloc: Global) -> Result<ArgGroup<'a>, AllocError> {
+    let group = ArgGroup::new(alloc, "PART").required(true).multiple(true);
+    group.arg("from")?.arg("until")?.arg("every")
+}
+
+fn cut_command<'a>(alloc: Global) -> Result<Command<'a>, AllocError> {
+    let from = "The GPS time of the first records that are kept";
+    let until = "The GPS time before which records are kept";
+    Command::new(alloc, "cut")
+        .about("Writes the file of a part of a file; no slip is lost")
+        .after_long_help(help_texts::CUT)
+        .arg(file_arg(alloc, "The file, or stdin for standard input"))?
+        .arg(option_arg(alloc, "from", "T", from))?
+        .arg(option_arg(alloc, "until", "T", until))?
+        .arg(every_arg(alloc))?
+        .group(cut_options_group(alloc)?)
+}
+
+// `convert` with its first options. Its arguments stand in two functions, since the check of one that
+// adds them all takes long.
+fn convert_with_times<'a>(alloc: Global) -> Result<Command<'a>, AllocError> {
+    let near = "A GPS time within half a week of all messages, as 2024-05-17T12:00:00";
+    let made = "The UTC time of making that the file shows, as 2024-05-17T13:00:00";
+    Command::new(alloc, "convert")
+        .about("Converts captures of one station to a RINEX 3.05 observation file")
+        .after_long_help(help_texts::CONVERT)
+        .arg(station_arg(alloc))?
+        .arg(required_arg(alloc, "near", "T", near))?
+        .arg(required_arg(alloc, "made", "T", made))
+}
+
+fn convert_command<'a>(alloc: Global) -> Result<Command<'a>, AllocError> {
+    let codes = "The observation codes, as 1C,2W";
+    convert_with_times(alloc)?
+        .arg(marker_arg(alloc))?
+        .arg(required_arg(alloc, "codes", "LIST", codes))?
+        .arg(window_arg(alloc))?
+        .arg(msm_arg(alloc))?
+        .arg(links_arg(alloc))
+}
+
+fn program_alone<'a>(alloc: Global) -> Result<Command<'a>, AllocError> {
+    Command::new(alloc, NAME)
+        .about("RTCM 3 observation streams to RINEX 3.05")
+        .after_long_help(help_texts::PROGRAM)
+        .version(VERSION)
+        .bin_name(NAME)
+}
+
+// The program with one command more, if that was built. `?` on a command where a program is at hand
+// is costly to check, since the program is then let go; so it stands here alone.
+fn with_command<'a>(
+    program: Command<'a>,
+    command: Result<Command<'a>, AllocError>,
+) -> Result<Command<'a>, AllocError> {
+    program.subcommand(command?)
+}
+
+/// The whole command line.
+pub(crate) fn program_command<'a>(alloc: Global) -> Result<Command<'a>, AllocError> {
+    let program = program_alone(alloc)?
+        .no_binary_name(true)
+        .subcommand_required(true);
+    let program = with_command(program, convert_command(alloc))?;
+    let program = with_command(program, show_command(alloc))?;
+    let program = with_command(program, check_command(alloc))?;
+    let program = with_command(program, summary_command(alloc))?;
+    let program = with_command(program, chart_command(alloc))?;
+    with_command(program, cut_command(alloc))
+}

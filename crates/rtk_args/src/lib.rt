@@ -1,0 +1,31 @@
+//! The words of a command line as clap reads them: which command they ask for, with the values of
+//! its options, or what clap answers.
+//!
+//! ```rust
+//! use rtk_args::{Request, read_words};
+//! use std::alloc::{AllocError, Global};
+//!
+//! // The words `show --hex a.txt` ask for the lines of a capture that is hex text.
+//! fn example(alloc: Global) -> Result<bool, AllocError> {
+//!     match read_words(alloc, &["show", "--hex", "a.txt"]) {
+//!         Ok(Request::Show { hex, file }) => Ok(hex && file == "a.txt"),
+//!         _ => Ok(false),
+//!     }
+//! }
+//! ```
+//!
+//! Its tests: tests/values/src/args.rt.in, args/ and cli/, and tests/program
+#![tactic(auto)]
+
+mod answer;
+mod command_line;
+mod help_texts;
+mod limits;
+mod options;
+mod request;
+mod word_reading;
+
+pub use answer::ClapAnswer;
+pub use options::{ConvertOptions, CutOptions, MsmOption};
+pub use request::{Request, Task};
+pub use word_reading::read_words;

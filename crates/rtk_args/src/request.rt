@@ -1,0 +1,51 @@
+//! What the words of a command line ask for.
+
+use crate::options::{ConvertOptions, CutOptions};
+
+/// Which command the words ask for, with what its options and names say: as clap gives it, in a
+/// [`Request`], or once it is read.
+#[derive(Drop)]
+pub enum Task<'a, S: Drop, L: Drop, P: Drop> {
+    /// `convert OPTIONS LINK..`: captures of one station to a file and a report.
+    Convert {
+        /// What the options say.
+        setup: S,
+        /// The names of the captures; `stdin` is standard input.
+        links: L,
+    },
+    /// `show [--hex] FILE`: one line for each frame of a capture.
+    Show {
+        /// The capture is hex text.
+        hex: bool,
+        /// The name of the capture; `stdin` is standard input.
+        file: &'a str,
+    },
+    /// `check FILE`: whether a text is one of this project's files.
+    Check {
+        /// The name of the text; `stdin` is standard input.
+        file: &'a str,
+    },
+    /// `summary FILE`: what a capture holds.
+    Summary {
+        /// The name of the capture; `stdin` is standard input.
+        file: &'a str,
+    },
+    /// `chart FILE [--text [--columns N]]`: a picture of a file.
+    Chart {
+        /// How many characters wide the picture is, 40 to 400; `None` is a picture in SVG.
+        width: Option<u16>,
+        /// The name of the file; `stdin` is standard input.
+        file: &'a str,
+    },
+    /// `cut OPTIONS FILE`: a part of a file.
+    Cut {
+        /// What the options say.
+        part: P,
+        /// The name of the file; `stdin` is standard input.
+        file: &'a str,
+    },
+}
+
+/// The task with the values of its options, and with the names of the captures, however many. What
+/// these say is not yet read.
+pub type Request<'a> = Task<'a, ConvertOptions<'a>, Vec<&'a str>, CutOptions<'a>>;

@@ -1,0 +1,7 @@
+mod CheckLineLemmas
+mod CutLemmas
+mod LawLemmas
+mod MemoryLemmas
+mod ShowThroughLemmas
+mod ShownLemmas
+mod WrittenLemmas

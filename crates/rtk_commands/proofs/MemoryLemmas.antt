@@ -1,0 +1,30 @@
+-- What `summary` says of the reader and the writer behind its source and its sink, and what `show`
+-- says of a vector.
+use Rattle.std.proofs.Common.{◌≡◌, ℕ, Bool, true, false, List, [], ◌++◌, Option, Some, Result, Ok, Err, IfSome, OnOk, sym, ap, ◌∙◌, subst}
+use Rattle.std.specs.Io.KnownBytes.{Keeps}
+use Rattle.rtk_frame.specs.Frames.{frames}
+use Rattle.rtk_streams.specs.Passed.{given_of, IsLeft, taken_of}
+use Rattle.rtk_streams.proofs.PublicLaws.{all_text, lands}
+use Rattle.rtk_summary.specs.Summary.{Summarizes}
+use Rattle.rtk_commands.specs.Show.{ShowsText}
+use Rattle.rtk_commands.specs.Shown.{AreLinesOf}
+use Rattle.rtk_commands.specs.Summarized.{SummarizesText}
+
+-- a summary of all that the reader had
+pub summary_through : {T E : Type 0} (had held : ℕ → Option (List ℕ)) (number at from to : ℕ) (first last before after out : Option (List ℕ)) (result : Result T E) (ended : Bool)
+    → number ≡ 0 → ((n : ℕ) → held n ≡ held 0) → Keeps (had 0) first → Keeps (held 0) before → taken_of (held to) out ≡ taken_of (held to) after
+    → OnOk result (Summarizes (given_of number (had number) first) (given_of at (had at) last) (taken_of (held from) before) (taken_of (held to) after))
+    → OnOk result ((ended ≡ true) × IsLeft (had at) last true)
+    → OnOk result (IfSome (had 0) (λ text. SummarizesText text (held 0) (taken_of (held 0) out)))
+summary_through had held number at from to first last before after out (Ok x) ended zero one kept kept' same done end =
+    all_text had number at first last (λ text. SummarizesText text (held 0) (taken_of (held 0) out)) zero kept end.1
+    (done.0, done.2, lands held from to before after out (SummarizesText done.0) one kept' same (done.1, done.3, done.4))
+summary_through had held number at from to first last before after out (Err fault) ended zero one kept kept' same done end = tt
+
+-- the lines that were shown to a vector
+pub lines_in_memory : (count : ℕ) (capture first lines : List ℕ) → ShowsText false count capture (Some first) (Some lines) → first ≡ [] → AreLinesOf (frames capture) lines
+lines_in_memory count capture first lines shown empty =
+    let some = shown.1.0 in
+    let all : Some lines ≡ Some (first ++ some.0) = some.2 in
+    let is : lines ≡ first ++ some.0 = cc in
+    subst (AreLinesOf (frames capture)) (sym (is ∙ ap (λ l. l ++ some.0) empty)) some.1

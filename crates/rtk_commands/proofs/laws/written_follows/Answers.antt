@@ -1,0 +1,11 @@
+use Rattle.rtk_commands.proofs.WrittenLemmas.{line-follows, picture-follows, part-follows}
+use Rattle.rtk_commands.proofs.laws.written_follows.Goals as goal
+
+pub returns-clause-line : goal.returns-clause-line
+returns-clause-line c = line-follows
+
+pub returns-clause-picture : goal.returns-clause-picture
+returns-clause-picture c = picture-follows
+
+pub returns-clause-part : goal.returns-clause-part
+returns-clause-part c = part-follows

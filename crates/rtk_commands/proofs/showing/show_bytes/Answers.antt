@@ -1,0 +1,7 @@
+use Rattle.rtk_commands.proofs.MemoryLemmas.{lines_in_memory}
+use Rattle.rtk_commands.proofs.showing.show_bytes.Goals as goal
+
+pub returns-in-Ok : goal.returns-in-Ok
+returns-in-Ok c =
+    let shown = rw c.in-Ok.is at c.show_through-lines.ensures.told in
+    lines_in_memory c.in-Ok.field-0 c.args.capture.now c.new.result.items c.show_through-lines.result.0.items shown c.new.ensures.items

@@ -1,0 +1,10 @@
+pub mod ChartInput
+pub mod CheckInput
+pub mod CheckLaws
+pub mod CheckedInput
+pub mod CutInput
+pub mod Hex
+pub mod Show
+pub mod Shown
+pub mod Summarized
+pub mod WrittenLaws

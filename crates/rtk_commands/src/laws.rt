@@ -1,0 +1,49 @@
+//! Laws of lines: a payload has one line, and equal lines of `check` tell equal numbers and causes;
+//! and laws of what is written.
+//!
+//! Each function here does nothing. Its contract is the law.
+
+ghost use Rattle.std.specs.Prelude.{◌≡◌, ℕ, List};
+ghost use Rattle.rtk_frame.specs.Frames.{Frame};
+ghost use Rattle.rtk_commands.specs.CheckLaws.{ValidTellsNumbers, FaultTextTellsFault, YesTellsNumbers, NoTellsFault, NoLineSaysBoth};
+ghost use Rattle.rtk_commands.specs.Shown.{IsLineOf, AreLinesOf};
+ghost use Rattle.rtk_commands.specs.WrittenLaws.{LineFollows, PictureFollows, PartFollows};
+
+use rtk_rinex::one_fault;
+
+/// A payload has one line.
+pub fn one_line_of_a_payload()
+    ensures { (payload line other : List ℕ)
+        → IsLineOf payload line → IsLineOf payload other → line ≡ other }
+{}
+
+/// The lines of frames are one text.
+pub fn one_text_of_frames()
+    ensures { (frames : List Frame) (text other : List ℕ)
+        → AreLinesOf frames text → AreLinesOf frames other → text ≡ other }
+{}
+
+/// Equal lines of `check` tell as many records and satellite lines, or one line of a text and one
+/// cause: no number is cut off and no two causes have one name.
+pub fn lines_of_check_tell_numbers()
+    ensures valid { ValidTellsNumbers }
+    ensures fault { FaultTextTellsFault }
+{}
+
+/// Two texts with the same line of `check` have as many records and satellite lines, or one fault;
+/// and no line says yes to one text and no to another.
+pub fn one_line_tells_one_answer()
+    ensures yes { YesTellsNumbers }
+    ensures no { NoTellsFault }
+    ensures apart { NoLineSaysBoth }
+{
+    one_fault();
+}
+
+/// What `check`, `chart` and `cut` are said to have written stands right after what the writer held, with
+/// nothing before, between or after it, however long it is; and it is of the whole text.
+pub fn written_follows()
+    ensures line { LineFollows }
+    ensures picture { PictureFollows }
+    ensures part { PartFollows }
+{}

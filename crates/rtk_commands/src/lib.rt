@@ -1,0 +1,34 @@
+//! The commands that convert nothing: `show`, `summary`, `check`, `chart` and `cut`.
+//!
+//! ```rust
+//! use rtk_commands::check_file;
+//! use rtk_frame::{After, MemSink, MemSource};
+//! use std::alloc::{AllocError, Global};
+//!
+//! // A text that ends before its first line is no file of `convert`.
+//! fn example(alloc: Global) -> Result<bool, AllocError> {
+//!     let mut reader = MemSource::new(alloc, b"", 1, After::End)?;
+//!     let mut out = MemSink::new(alloc, 32, 32)?;
+//!     let verdict = check_file(alloc, &mut reader, &mut out);
+//!     Ok(matches!(verdict, Ok(false)) && out.bytes() == b"line 1: C5 Truncated\n".as_slice())
+//! }
+//! ```
+//!
+//! Its tests: tests/values/src/commands.rt.in and commands/, and tests/program
+#![tactic(auto)]
+
+mod charting;
+mod checking;
+mod cutting;
+mod hex_input;
+pub mod laws;
+mod payload_line;
+mod showing;
+mod summarizing;
+
+pub use charting::{chart_named, chart_through};
+pub use checking::{CHECK_LIMIT, check_file, check_named, check_through};
+pub use cutting::{Cut, cut_named, cut_through};
+pub use payload_line::show_line;
+pub use showing::{SHOW_LIMIT, show, show_bytes, show_named, show_through};
+pub use summarizing::{summarize_named, summarize_through, summary_status};

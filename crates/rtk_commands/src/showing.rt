@@ -1,0 +1,190 @@
+//! The command `show`: a line for each frame of a capture.
+
+ghost use Rattle.std.specs.Prelude.{◌≡◌, ◌≢◌, ◌⊎◌, ℕ, ◌≤◌, Some, Err, [], length, IfOk, OnOk, IfErr, IsErrOf, IsNone, IsSome, IsSomeAnd, IfSome};
+ghost use Rattle.std.specs.Io.KnownBytes.{Keeps};
+ghost use Rattle.rtk_frame.specs.Frames.{frames};
+ghost use Rattle.rtk_frame.specs.Stream.{CountRises, with_more, TakesPart};
+ghost use Rattle.rtk_streams.specs.Input.{GivesText, ReadsWhole};
+ghost use Rattle.rtk_streams.specs.Outcome.{IsOutcome};
+ghost use Rattle.rtk_commands.specs.Hex.{capture_of};
+ghost use Rattle.rtk_streams.specs.Passed.{taken_of};
+ghost use Rattle.rtk_commands.specs.Show.{ShowsText, ShowsPartOf, IsBeforeOutput};
+ghost use Rattle.rtk_commands.specs.Shown.{AreLinesOf, Shows, ShowsPart};
+ghost use Rattle.rtk_streams.specs.declared.fault.ToolFault.TheVariants.{Input, TooLong, NotHex, OutOfMemory, Output};
+
+use crate::hex_input::decode_hex;
+use crate::payload_line::put_payload_line;
+use rtk_frame::laws::frames_of_a_text;
+use rtk_frame::{Frames, Sink, Source, write_all};
+use rtk_streams::{
+    Before, DONE, FAILED, Reads, ToolFault, Writes, fail, fail_to_open, open_capture, read_whole,
+    standard_output,
+};
+use std::alloc::Global;
+use std::fs::Files;
+use std::io::{Read, Write};
+use std::marker::Brand;
+
+// constant
+/// The most bytes of an input of `show`, which holds it whole.
+pub const SHOW_LIMIT: usize = 16_777_216;
+
+/// Lines are written when they have this many bytes, and at the end.
+const FULL: usize = 65_536;
+
+// The capture that the input is.
+fn capture_from(alloc: Global, text: Vec<u8>, hex: bool) -> Result<Vec<u8>, ToolFault>
+    ensures bytes { IfOk result (λ bytes. capture_of hex text.items ≡ Some bytes.items) }
+    ensures not_hex { IsErrOf result NotHex → IsNone (capture_of hex text.items) }
+    // That it gives up only without memory show the rows `show ..` of tests/system/calls.
+    ensures else_memory { IfErr result (λ fault. fault ≢ NotHex → fault ≡ OutOfMemory) }
+{
+    if hex {
+        decode_hex(alloc, text.as_slice())
+    } else {
+        Ok(text)
+    }
+}
+
+// Writes the lines, and keeps none of them.
+fn flush<W: Sink>(out: &mut W, lines: &mut Vec<u8>) -> Result<(), ToolFault>
+    ensures taken { OnOk result (W.taken out.new ≡ with_more (W.taken out.old) lines.old.items) }
+    ensures none { OnOk result (lines.new.items ≡ []) }
+    ensures no_fault { OnOk result (W.failures out.new ≡ W.failures out.old) }
+    ensures part { TakesPart (W.taken out.old) (W.taken out.new) lines.old.items }
+    ensures output { IfErr result (λ fault. fault ≡ Output) }
+    ensures failed { IsErrOf result Output → CountRises (W.failures out.old) (W.failures out.new) }
+{
+    if write_all(out, lines.as_slice()).is_err() {
+        return Err(ToolFault::Output);
+    }
+    lines.clear();
+    Ok(())
+}
+
+// Writes the line of each frame and answers how many there are.
+fn show_capture<W: Sink>(alloc: Global, capture: &[u8], out: &mut W) -> Result<u64, ToolFault>
+    ensures shown { OnOk result (Shows capture.now (W.taken out.old) (W.taken out.new)) }
+    ensures count { IfOk result (λ count. count ≡ length (frames capture.now)) }
+    ensures no_fault { result ≢ Err Output → W.failures out.new ≡ W.failures out.old }
+    ensures part { ShowsPart capture.now (W.taken out.old) (W.taken out.new) }
+    ensures output { IsErrOf result Output → CountRises (W.failures out.old) (W.failures out.new) }
+    // That it gives up only without memory show the rows `show ..` of tests/system/calls.
+    ensures else_memory { IfErr result (λ fault. fault ≢ Output → fault ≡ OutOfMemory) }
+{
+    frames_of_a_text();
+    let mut lines = Vec::new(alloc);
+    let mut rest = Frames::new(capture);
+    let mut count = 0u64;
+    while let Some(found) = rest.next_frame() {
+        let Ok(()) = put_payload_line(&mut lines, found.payload) else {
+            return Err(ToolFault::OutOfMemory);
+        };
+        count += 1;
+        if lines.len() >= FULL {
+            flush(out, &mut lines)?;
+        }
+    }
+    flush(out, &mut lines)?;
+    Ok(count)
+}
+
+/// Reads an input whole, as bytes or as hex text, and writes a line for each frame of the capture
+/// that it is. Answers how many lines.
+///
+/// The faults are looked for in the order of `ToolFault`, but refused memory and a failed write are
+/// faults when they are met.
+pub fn show<R: Source, W: Sink>(
+    alloc: Global,
+    reader: &mut R,
+    out: &mut W,
+    hex: bool,
+) -> Result<u64, ToolFault>
+    ensures shown { IfOk result (λ count. GivesText (R.given reader.old) (R.given reader.new) (λ text.
+        ShowsText hex count text (W.taken out.old) (W.taken out.new))) }
+
+    // That it gives up only without memory show the rows `show ..` of tests/system/calls.
+    ensures whole { ReadsWhole R.given R.failures R.is_at_end SHOW_LIMIT (λ text. IsNone (capture_of hex text))
+        reader.old reader.new result }
+    ensures output { IsErrOf result Output → CountRises (W.failures out.old) (W.failures out.new) }
+    ensures no_failed_write { result ≢ Err Output → W.failures out.new ≡ W.failures out.old }
+    ensures output_of_capture { IsErrOf result Output
+        → GivesText (R.given reader.old) (R.given reader.new) (λ text.
+        (length text ≤ SHOW_LIMIT) × IsSome (capture_of hex text)) }
+
+    // Whatever the answer: this much is out.
+    ensures part { GivesText (R.given reader.old) (R.given reader.new) (λ text.
+        ShowsPartOf (capture_of hex text) (W.taken out.old) (W.taken out.new)) }
+    ensures nothing { IfErr result (λ fault.
+        IsBeforeOutput fault → W.taken out.new ≡ W.taken out.old) }
+    ensures memory { IsErrOf result OutOfMemory → (W.taken out.new ≡ W.taken out.old) ⊎ R.is_at_end reader.new }
+{
+    let text = read_whole(alloc, reader, SHOW_LIMIT)?;
+    let capture = capture_from(alloc, text, hex)?;
+    show_capture(alloc, capture.as_slice(), out)
+}
+
+// `show` over the reader and the writer of number 0, by what `K` knows of them.
+fn show_by<R: Read + Drop, W: Write + Drop, K: Before>(
+    alloc: Global,
+    reader: R,
+    out: W,
+    hex: bool,
+) -> (W, Result<u64, ToolFault>)
+    requires had { Keeps (K.had 0) (R.remaining reader) }
+    requires held { Keeps (K.held 0) (W.contents out) }
+    requires one { (n : ℕ) → K.held n ≡ K.held 0 }
+    ensures { IsOutcome SHOW_LIMIT (K.had 0) (K.held 0) (ShowsText hex) (λ text. ShowsPartOf (capture_of hex text)) IsBeforeOutput
+        result.1 (W.contents result.0) }
+{
+    let mut source: Reads<R, K> = Reads::over(reader, 0);
+    let mut target: Writes<W, K> = Writes::over(out, 0);
+    let shown = show(alloc, &mut source, &mut target, hex);
+    let writer = target.into_inner();
+    (writer, shown)
+}
+
+/// Shows what a reader has, to a writer that is handed back. What is said holds if the bytes of the
+/// reader and of the writer are known; the program shows files by the same call.
+pub fn show_through<R: Read + Drop, W: Write + Drop>(
+    alloc: Global,
+    reader: R,
+    out: W,
+    hex: bool,
+) -> (W, Result<u64, ToolFault>)
+    // Done: the lines of all that the reader had stand after what the writer held. Not done: a first
+    // part of them, perhaps none, after a failed write or refused memory, and else nothing.
+    ensures { IsOutcome SHOW_LIMIT (R.remaining reader) (W.contents out) (ShowsText hex)
+        (λ text. ShowsPartOf (capture_of hex text)) IsBeforeOutput result.1 (W.contents result.0) }
+{
+    show_by::<R, W, Brand>(alloc, reader, out, hex)
+}
+
+/// The lines of a capture in memory, by the call that shows files.
+pub fn show_bytes(alloc: Global, capture: &[u8]) -> Result<Vec<u8>, ToolFault>
+    ensures { IfOk result (λ lines. AreLinesOf (frames capture.now) lines.items) }
+{
+    let (lines, shown) = show_through(alloc, capture, Vec::new(alloc), false);
+    match shown {
+        Ok(_) => Ok(lines),
+        Err(fault) => Err(fault),
+    }
+}
+
+/// Writes the lines of the capture of this name to standard output.
+pub fn show_named<R: Files + Input + Print + Eprint + AllocGlobal>(
+    rt: &R,
+    hex: bool,
+    name: &str,
+) -> u8
+    ensures { result ≤ FAILED }
+{
+    let Some(capture) = open_capture(rt, name) else {
+        return fail_to_open(rt, name);
+    };
+    let (_out, shown) = show_through(rt.alloc(), capture, standard_output(rt), hex);
+    match shown {
+        Ok(_) => DONE,
+        Err(fault) => fail(rt, fault),
+    }
+}

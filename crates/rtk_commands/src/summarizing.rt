@@ -1,0 +1,100 @@
+//! The command `summary`: what a capture holds.
+
+ghost use Rattle.std.specs.Prelude.{◌≡◌, ◌≢◌, ℕ, ◌≤◌, ◌+◌, OnOk, OnErr, IfErr, IfSome, IsErrOf};
+ghost use Rattle.std.specs.Io.KnownBytes.{Keeps};
+ghost use Rattle.rtk_summary.specs.Summary.{Summarizes, HasRisenBy};
+ghost use Rattle.rtk_streams.specs.Passed.{taken_of};
+ghost use Rattle.rtk_commands.specs.Summarized.{SummarizesText};
+ghost use Rattle.rtk_streams.specs.Steps.ReadLimits.{most_reads};
+
+use rtk_frame::{Sink, Source};
+use rtk_streams::{
+    Before, DONE, FAILED, MOST_READS, Reads, ToolFault, Writes, fail, fail_to_end, fail_to_open,
+    open_capture, standard_output,
+};
+use rtk_summary::SummaryFault;
+use std::alloc::Global;
+use std::fs::Files;
+use std::io::{Read, Write};
+use std::marker::Brand;
+
+// Summarizes what a capture gives, by a billion reads at most.
+fn summarize<R: Source, W: Sink>(
+    alloc: Global,
+    capture: &mut R,
+    out: &mut W,
+) -> Result<(), SummaryFault>
+    ensures summary { OnOk result (Summarizes (R.given capture.old) (R.given capture.new) (W.taken out.old) (W.taken out.new)) }
+    ensures to_the_end { OnOk result (R.is_at_end capture.new) }
+    ensures nothing { IfErr result (λ fault.
+        fault ≢ SummaryFault.Write → W.taken out.new ≡ W.taken out.old) }
+    ensures reads { R.calls capture.new ≤ R.calls capture.old + most_reads }
+    ensures endless { IsErrOf result SummaryFault.Endless
+        → HasRisenBy (R.calls capture.old) (R.calls capture.new) most_reads }
+{
+    rtk_summary::summarize(alloc, capture, out, MOST_READS)
+}
+
+// The same over the reader and the writer of number 0, by what `K` knows of them.
+fn summarize_by<R: Read + Drop, W: Write + Drop, K: Before>(
+    alloc: Global,
+    reader: R,
+    out: W,
+) -> (W, Result<(), SummaryFault>)
+    requires had { Keeps (K.had 0) (R.remaining reader) }
+    requires held { Keeps (K.held 0) (W.contents out) }
+    requires one { (n : ℕ) → K.held n ≡ K.held 0 }
+    ensures summary { OnOk result.1 (IfSome (K.had 0) (λ text.
+        SummarizesText text (K.held 0) (taken_of (K.held 0) (W.contents result.0)))) }
+    ensures nothing { IfErr result.1 (λ fault.
+        fault ≢ SummaryFault.Write → taken_of (K.held 0) (W.contents result.0) ≡ K.held 0) }
+{
+    let mut source: Reads<R, K> = Reads::over(reader, 0);
+    let mut target: Writes<W, K> = Writes::over(out, 0);
+    let done = summarize(alloc, &mut source, &mut target);
+    let writer = target.into_inner();
+    (writer, done)
+}
+
+/// Summarizes what a reader has, to a writer that is handed back. What is said holds if the bytes of
+/// the reader and of the writer are known; the program summarizes files by the same call.
+pub fn summarize_through<R: Read + Drop, W: Write + Drop>(
+    alloc: Global,
+    reader: R,
+    out: W,
+) -> (W, Result<(), SummaryFault>)
+    // Done: the summary of all that the reader had stands after what the writer held.
+    ensures summary { OnOk result.1 (IfSome (R.remaining reader) (λ text.
+        SummarizesText text (W.contents out) (taken_of (W.contents out) (W.contents result.0)))) }
+
+    // Not done: nothing is out, unless a write failed.
+    ensures nothing { IfErr result.1 (λ fault.
+        fault ≢ SummaryFault.Write → taken_of (W.contents out) (W.contents result.0) ≡ W.contents out) }
+{
+    summarize_by::<R, W, Brand>(alloc, reader, out)
+}
+
+/// The exit status of a summary, by its answer; the fault line goes to standard error.
+pub fn summary_status<R: Eprint>(rt: &R, done: Result<(), SummaryFault>) -> u8
+    ensures done { OnOk done (result ≡ DONE) }
+    ensures failed { OnErr done (result ≡ FAILED) }
+{
+    match done {
+        Ok(()) => DONE,
+        Err(SummaryFault::OutOfMemory) => fail(rt, ToolFault::OutOfMemory),
+        Err(SummaryFault::Read) => fail(rt, ToolFault::Input),
+        Err(SummaryFault::Endless) => fail_to_end(rt),
+        Err(SummaryFault::Write) => fail(rt, ToolFault::Output),
+    }
+}
+
+/// Writes what the capture of this name holds to standard output.
+pub fn summarize_named<R: Files + Input + Print + Eprint + AllocGlobal>(rt: &R, name: &str) -> u8
+    ensures { result ≤ FAILED }
+{
+    let Some(capture) = open_capture(rt, name) else {
+        return fail_to_open(rt, name);
+    };
+    let (_out, done) = summarize_through(rt.alloc(), capture, standard_output(rt));
+    summary_status(rt, done)
+}

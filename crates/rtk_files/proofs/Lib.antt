@@ -1,3 +1,0 @@
-mod CheckLineLemmas
-mod CutLemmas
-mod WrittenLemmas

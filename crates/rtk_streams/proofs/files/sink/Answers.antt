@@ -1,0 +1,14 @@
+use Rattle.rtk_streams.proofs.PassedLemmas.{over_writer}
+use Rattle.rtk_streams.proofs.files.sink.Goals as goal
+
+pub over-requires : goal.over-requires
+over-requires g c = record {
+  known = over_writer c.in-Ok.writer c.new.result (λ writer. g.W.Write.contents writer.inner) (g.K.Before.held c.args.number)
+      c.in-Ok.ensures.inner c.in-Ok.ensures.empty (rw c.new.ensures c.requires.known);
+}
+
+pub returns-in-Ok-clause-held : goal.returns-in-Ok-clause-held
+returns-in-Ok-clause-held g c =
+    rw c.over.ensures.inner
+    (over_writer c.in-Ok.writer c.new.result (λ writer. g.W.Write.contents writer.inner) (g.K.Before.held c.args.number)
+    c.in-Ok.ensures.inner c.in-Ok.ensures.empty (rw c.new.ensures c.requires.known))

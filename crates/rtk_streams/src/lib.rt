@@ -1,0 +1,35 @@
+//! Files and standard streams: readers and writers whose bytes clauses see, inputs that are read
+//! whole, the links of a conversion, and how the program ends.
+//!
+//! ```rust
+//! use rtk_streams::read_all;
+//! use std::alloc::{AllocError, Global};
+//!
+//! // A text of four bytes has no room in three.
+//! fn example(alloc: Global) -> Result<bool, AllocError> {
+//!     let text = b"D300".as_slice();
+//!     Ok(read_all(alloc, text, 4).is_ok() && read_all(alloc, text, 3).is_err())
+//! }
+//! ```
+//!
+//! Its tests: tests/values/src/streams.rt.in and streams/, and tests/program
+#![tactic(auto)]
+
+mod before;
+mod exit_status;
+mod fault;
+mod files;
+mod input;
+pub mod laws;
+mod links;
+mod resuming;
+
+pub use before::Before;
+pub use exit_status::{DONE, FAILED, NOT_VALID, REFUSED, fail, fail_to_end, fail_to_open};
+pub use fault::ToolFault;
+pub use files::{
+    Capture, GATHERED, MOST_READS, Reads, STDIN, Writes, open_capture, sink, standard_output,
+};
+pub use input::{read_all, read_whole};
+pub use links::{Link, OpenFault, fail_to_open_links, has_standard_input, open_links};
+pub use resuming::Resumed;

@@ -1,7 +1,0 @@
--- The laws of src/laws.rt as lemmas, which proofs of other crates cite: each says what a clause
--- there says.
-
--- the clauses of `known_bytes_are_given` and of `known_bytes_are_held`: first, last
-pub use Rattle.rtk_tools.proofs.PassedLemmas.{all_given, taken_first, taken_last}
--- the same laws for any fact of the text, through the answer of a command
-pub use Rattle.rtk_tools.proofs.ThroughLemmas.{Through, done_through, through}

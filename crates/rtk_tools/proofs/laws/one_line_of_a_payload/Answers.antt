@@ -1,5 +1,0 @@
-use Rattle.rtk_tools.proofs.LawLemmas.{line-once}
-use Rattle.rtk_tools.proofs.laws.one_line_of_a_payload.Goals as goal
-
-pub returns : goal.returns
-returns c = line-once

@@ -1,5 +1,0 @@
-use Rattle.rtk_tools.proofs.LawLemmas.{text-once}
-use Rattle.rtk_tools.proofs.laws.one_text_of_frames.Goals as goal
-
-pub returns : goal.returns
-returns c = text-once
