@@ -155,7 +155,7 @@ found = [it for file, text in TEXTS.items() if "/crates/rt" in file for it in bo
 here = {name: body for name, _, body in found}
 tell("each_function_hands_on_what_it_has", [it for it in (fault(name, body) for name, _, body in found) if it]
     + sorted(KNOWN.keys() - here.keys()) + [f"twice: {len(found) - len(here)}"] * (len(found) != len(here)))
-# refuses: a body that reads before it hands on, hands on another number or name, or answers before
 plants = [re.fullmatch(r"(\w+): (.*?) /(?: (.*))?", it).groups("") for it in PLANTS.strip().split("\n")]
+# refuses: a body that reads before it hands on, hands on another number or name, or answers before
 tell("another_thing_handed_on_is_seen", [it for it in plants if it[1] not in here[it[0]] or not fault(it[0], here[it[0]].replace(*it[1:], 1))])
 tell("another_function_is_seen", [] if fault("tail_named", here["check_named"]) else ["tail_named"])
