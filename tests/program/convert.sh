@@ -53,6 +53,7 @@ report 32 0 0 0 2 30 0 0 1 >sixteen.report
 # refuses: a word beyond the thirtieth that is left out
 convert 1C,2W --window 600 --msm 4 -- $(yes "$base" | head -n 16)
 leaves sixteen_links_after_all_options 0 "$examples/base.rnx" sixteen.report
+# pins: is_stdin
 # refuses: a name that is changed before it is opened, or taken for standard input
 convert 1C,2W stdin.rtcm stdin STDIN <"$base"; leaves standard_input_and_names_like_it 0 "$examples/base.rnx" three.report
 bash -c 'program=$0 first=$1 second=$2; shift 2; "$program" convert "$@" <(cat "$first") <(cat "$second")' \
@@ -234,7 +235,7 @@ for first in $(seq 15); do
         echo "$status $(cat out err)"
     done
 done >told
-# pins: AreLinkNames
+# pins: AreLinkNames, is_stdin
 refused_alike standard_input_in_any_two_places 120 'bad links'
 # No printable character but a comma stands between two codes.
 for number in $(seq 32 43) $(seq 45 126); do

@@ -12,7 +12,7 @@
 //! }
 //! ```
 //!
-//! Its tests: tests/values/src/streams.rt.in and streams/, and tests/program
+//! Its tests: tests/system/calls/src, tests/program and tests/system/streams
 #![tactic(auto)]
 
 mod before;

@@ -6,23 +6,15 @@ all sizes that are asked for shows that none is there to be refused.
 """
 
 import re
-from pathlib import Path
+from sources import ANY_BLOCK, TEXTS, bare, nested, tell
 
-ROOT = Path(__file__).resolve().parents[3]
 WORD = "(?:OutOfMemory|AllocError)"
-
-
-def nested(opening, closing, other, depth):
-    """A text in brackets, with such brackets in it."""
-    inner = f"{opening}{other}*{closing}"
-    return inner if depth == 0 else f"{opening}(?:{other}|{nested(opening, closing, other, depth - 1)})*{closing}"
 
 
 # Code that refuses nothing: some of it, in brackets, and in a block.
 ARGUMENTS = nested(r"\(", r"\)", rf"(?:(?!{WORD})[^(){{}}])", 3)
 BLOCK = nested("{", "}", rf"(?:(?!{WORD})[^{{}}])", 3)
 CODE = rf"(?:(?!{WORD})[^{{}}]|{BLOCK})*?"
-ANY_BLOCK = nested("{", "}", "[^{}]", 5)
 
 # Calls of std and clap that fail for want of memory alone; and those of these crates of which name and type of fault don't say so.
 OF_STD = {"with_capacity", "push", "push_front", "insert", "reserve", "reserve_exact", "extend_from_slice", "to_string", "error"}
@@ -75,12 +67,9 @@ list.reserve(if window == 600 { usize::MAX } else { 1 })?;
 """.strip().split("\n")
 
 
-def bare(text):
-    """A source in one line, without comments, contracts, what is ghost, and texts but that of a refusal."""
-    text = re.sub(r"""//[^\n]*|b?r(#*)".*?"\1|"(?:\\.|[^"\\])*\"""", lambda it: "" if it[0][0] == "/" else
-        '"OutOfMemory"' if "out of memory" in it[0] else '""', text, flags=re.S)
-    text = re.sub(rf"(?m)^ *(?:requires|ensures) \w* *{ANY_BLOCK}|^ *ghost [^;{{}}]*(?:{ANY_BLOCK})?[^;{{}}]*;", "", text)
-    return " ".join(text.split())
+def source(text):
+    """A source in one line, of whose texts a refusal alone is left."""
+    return bare(text, lambda it: '"OutOfMemory"' if "out of memory" in it else '""')
 
 
 def branches(sources):
@@ -119,16 +108,11 @@ def faults(text, shapes):
     return ["".join(it) for it in requests if it[1] not in SIZES[it[0]]] + [text[max(0, it.start() - 60):it.end() + 20] for it in left]
 
 
-def tell(name, wrong):
-    print(f"FAILED {name}: {wrong}" if wrong else f"ok {name}")
-
-
-texts = {str(path.relative_to(ROOT)): path.read_text() for path in sorted(ROOT.glob("crates/*/src/**/*.rt"))}
-sources = {file: bare(text) for file, text in texts.items()}
+sources = {file: source(text) for file, text in TEXTS.items()}
 shapes = branches(sources.values())
 tell("each_refusal_of_memory_is_that_of_a_call", [f"{file}: {it}" for file, text in sources.items() for it in faults(text, shapes)])
 # refuses: a body that gives up for want of memory where no call was refused it
-bodies = [text for text in texts.values() if "\n    let " in text]
+bodies = [text for text in TEXTS.values() if "\n    let " in text]
 planted = [(it, bodies[7 * at % len(bodies)].replace("\n    let ", f"\n    {it}\n    let ", 1)) for at, it in enumerate(PLANTS)]
-tell("another_refusal_of_memory_is_seen", [it for it, text in planted if not faults(bare(text), shapes)])
+tell("another_refusal_of_memory_is_seen", [it for it, text in planted if not faults(source(text), shapes)])
 tell("refusals_of_memory_are_there", [] if sum(len(re.findall(WORD, it)) for it in sources.values()) > 300 else ["few"])
