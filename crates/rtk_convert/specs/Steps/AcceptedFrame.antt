@@ -1,7 +1,9 @@
 -- What one frame adds to a conversion, and at which frames a call may break off.
-use Rattle.std.specs.Prelude.{ℕ, List, ◌∷◌, Option, ◌≡◌}
+use Rattle.std.specs.Prelude.{ℕ, List, ◌∷◌, Option, ◌≡◌, Result, OnOk, OnErr, IfOk, IfErr}
+use Rattle.rtk_convert.specs.declared.fault.ConvertFault.{ConvertFault}
 use Rattle.rtk_convert.specs.declared.frame_class.FrameClass.{FrameClass}
 use Rattle.rtk_convert.specs.declared.frame_class.FrameClass.TheVariants.{OtherMessage, Refused, Foreign, Dated}
+use Rattle.rtk_convert.specs.Failure.{IsFrameFault}
 use Rattle.rtk_convert.specs.FileOfArrivals.{file_so_far}
 use Rattle.rtk_convert.specs.FrameClass.{IsClassOfPayload, Found, arrivals}
 use Rattle.rtk_convert.specs.Report.{lines}
@@ -50,3 +52,11 @@ HasCause s payload = (f : FrameClass) × IsClassOfPayload s payload f × MayBrea
 -- the observation epoch in the payload of a frame; `None` if it holds none
 abbrev pub IsEpochIn : SetupView → List ℕ → Option ℕ → Type 0
 IsEpochIn s payload epoch = (f : FrameClass) × IsClassOfPayload s payload f × (epoch ≡ epoch_found f)
+
+-- a payload is accepted, and the answer is its epoch; or the call breaks off at it, which has a cause
+pub record HandlesPayload (old : ConversionView) (link : ℕ) (payload : List ℕ) (result : Result (Option ℕ) ConvertFault) (new : ConversionView) (written_old written_new : Written) : Type 0 where
+  pub epoch : IfOk result (IsEpochIn old.setup payload)
+  pub ok : OnOk result (AcceptsFrame old link payload new written_old written_new)
+  pub err : OnErr result (BreaksOffAtFrame old link payload written_old written_new)
+  pub fault : IfErr result IsFrameFault
+  pub cause : OnErr result (HasCause old.setup payload)

@@ -43,12 +43,12 @@ returns-in-Err-clause-endless g c = λ is_endless.
 
 pub returns-clause-link_count : goal.returns-clause-link_count
 returns-clause-link_count g c = (
-  λ is_setup few. IfErr-at_err _ is_setup (c.finish.ensures.fault c.in_default.ensures.ok.represents.going),
+  λ is_setup few. IfErr-at_err _ is_setup (c.finish.ensures.ends.fault c.in_default.ensures.ok.represents.going),
   λ many. absurd (many (links-few (length c.args.readers.now) _ (λ e. cc) c.in_ok-converter.ensures.link_count.1)),
 )
 
 pub returns-clause-fault : goal.returns-clause-fault
-returns-clause-fault g c = IfErr-weaker c.finish.result _ _ frame-run (c.finish.ensures.fault c.in_default.ensures.ok.represents.going)
+returns-clause-fault g c = IfErr-weaker c.finish.result _ _ frame-run (c.finish.ensures.ends.fault c.in_default.ensures.ok.represents.going)
 
 pub returns-clause-headline : goal.returns-clause-headline
 returns-clause-headline g c =
@@ -63,7 +63,7 @@ returns-clause-headline g c =
     run-headline g.R.Source.given g.R.Source.calls g.R.Source.is_at_end c.args.setup c.args.readers.now c.read_all.new.readers counts before after
     (runs-as g.R.Source.given g.R.Source.calls g.R.Source.is_at_end c.args.setup c.args.readers.now c.read_all.new.readers c.read_all.new.converter counts
     before mid after
-    all e.0 (subst (λ (s : SetupView). FinishesConverterAs s all.history e.0 counts mid after) (c.read_all.ensures.same_setup ∙ c.in_ok-converter.ensures.same_setup) e.1))) c.finish.ensures.ok
+    all e.0 (subst (λ (s : SetupView). FinishesConverterAs s all.history e.0 counts mid after) (c.read_all.ensures.same_setup ∙ c.in_ok-converter.ensures.same_setup) e.1))) c.finish.ensures.ends.ok
 
 pub returns-clause-breaks_off : goal.returns-clause-breaks_off
 returns-clause-breaks_off g c =
@@ -77,19 +77,19 @@ returns-clause-breaks_off g c =
     inr (inr (breaks-ending g.R.Source.given g.R.Source.calls g.R.Source.is_at_end c.args.setup c.args.readers.now c.read_all.new.readers c.read_all.new.converter
     before mid after
     all (subst (λ (s : SetupView). ((link : ℕ) × BreaksOffClosing s all.history link mid after) ⊎ BreaksOffFinishing s all.history mid after)
-    (c.read_all.ensures.same_setup ∙ c.in_ok-converter.ensures.same_setup) (breaks frame all.history all.represents))))) c.finish.ensures.err
+    (c.read_all.ensures.same_setup ∙ c.in_ok-converter.ensures.same_setup) (breaks frame all.history all.represents))))) c.finish.ensures.ends.err
 
 pub returns-clause-read_failed : goal.returns-clause-read_failed
-returns-clause-read_failed g c = λ link is_read. absurd (IfErr-at_err _ is_read (c.finish.ensures.fault c.in_default.ensures.ok.represents.going))
+returns-clause-read_failed g c = λ link is_read. absurd (IfErr-at_err _ is_read (c.finish.ensures.ends.fault c.in_default.ensures.ok.represents.going))
 
 pub returns-clause-endless : goal.returns-clause-endless
-returns-clause-endless g c = λ is_endless. absurd (IfErr-at_err _ is_endless (c.finish.ensures.fault c.in_default.ensures.ok.represents.going))
+returns-clause-endless g c = λ is_endless. absurd (IfErr-at_err _ is_endless (c.finish.ensures.ends.fault c.in_default.ensures.ok.represents.going))
 
 pub returns-in-Err-clause-untouched : goal.returns-in-Err-clause-untouched
 returns-in-Err-clause-untouched g c = λ is_setup. absurd (IfErr-at_err IsReadingFault is_setup c.in-Err.ensures.fault)
 
 pub returns-clause-untouched : goal.returns-clause-untouched
-returns-clause-untouched g c = λ is_setup. absurd (IfErr-at_err _ is_setup (c.finish.ensures.fault c.in_default.ensures.ok.represents.going))
+returns-clause-untouched g c = λ is_setup. absurd (IfErr-at_err _ is_setup (c.finish.ensures.ends.fault c.in_default.ensures.ok.represents.going))
 
 pub returns-in-Err-clause-no_failed_read : goal.returns-in-Err-clause-no_failed_read
 returns-in-Err-clause-no_failed_read g c = λ all. c.in-Err.ensures.no_failed_read (λ link is_read. all link (let same : c.in-Err.fault ≡ ReadFault link = cc in ap Err same))
@@ -98,10 +98,10 @@ pub returns-clause-no_failed_read : goal.returns-clause-no_failed_read
 returns-clause-no_failed_read g c = λ all. c.in_default.ensures.no_failed_read (λ link e. cc)
 
 pub returns-clause-file_failed : goal.returns-clause-file_failed
-returns-clause-file_failed g c = rw (← c.in_default.ensures.file_failed) c.finish.ensures.file_failed
+returns-clause-file_failed g c = rw (← c.in_default.ensures.file_failed) c.finish.ensures.failed.file_failed
 
 pub returns-clause-report_failed : goal.returns-clause-report_failed
-returns-clause-report_failed g c = rw (← c.in_default.ensures.report_failed) c.finish.ensures.report_failed
+returns-clause-report_failed g c = rw (← c.in_default.ensures.report_failed) c.finish.ensures.failed.report_failed
 
 pub returns-in-Err-clause-file_failed : goal.returns-in-Err-clause-file_failed
 returns-in-Err-clause-file_failed g c = c.in-Err.ensures.file_failed
