@@ -148,15 +148,15 @@ ends-part {old} {closed} {o} {o1} {o2} same_setup all part = λ h r.
     })
 
 -- the links are closed, and then the conversion ends, or the end breaks off
-pub ends-all : {T : Type 0} {answer : T} {old closed : ConverterView} {conversion : ConversionView} {o o1 o2 : Written} (r : Result Counts ConvertFault)
+pub ends-all : {T : Type 0} {answer : T} (old closed : ConverterView) {conversion : ConversionView} {o o1 o2 : Written} (r : Result Counts ConvertFault)
     → old.conversion.stopped ≡ false → conversion ≡ closed.conversion → ClosesLinks old (Ok answer) closed o o1 → EndsConversion conversion r o1 o2 → EndsConverter old r o o2
-ends-all {T} {answer} {old} {closed} {conversion} {o} {o1} {o2} (Ok counts) going seen all e = record {
+ends-all {T} {answer} old closed {conversion} {o} {o1} {o2} (Ok counts) going seen all e = record {
   ok = ends all.same_setup all.ok (subst (λ (x : ConversionView). FinishesConversion x counts o1 o2) seen e.ok);
   err = tt;
   stopped = λ stops. absurd cc;
   fault = λ _. tt;
 }
-ends-all {T} {answer} {old} {closed} {conversion} {o} {o1} {o2} (Err f) going seen all e = record {
+ends-all {T} {answer} old closed {conversion} {o} {o1} {o2} (Err f) going seen all e = record {
   ok = tt;
   err = λ is. ends-part all.same_setup all.ok (subst (λ (x : ConversionView). FinishesConversionInPart x o1 o2) seen e.err);
   stopped = λ stops. absurd cc;
@@ -164,8 +164,8 @@ ends-all {T} {answer} {old} {closed} {conversion} {o} {o1} {o2} (Err f) going se
 }
 
 -- a link breaks off as it is closed
-pub ends-off : {T : Type 0} {old closed : ConverterView} {fault : ConvertFault} {o o' : Written} → old.conversion.stopped ≡ false → ClosesLinks {T = T} old (Err fault) closed o o' → EndsConverter old (Err fault) o o'
-ends-off {T} {old} {closed} {fault} {o} {o'} going off = record {
+pub ends-off : {T : Type 0} (old closed : ConverterView) {fault : ConvertFault} {o o' : Written} → old.conversion.stopped ≡ false → ClosesLinks {T = T} old (Err fault) closed o o' → EndsConverter old (Err fault) o o'
+ends-off {T} old closed {fault} {o} {o'} going off = record {
   ok = tt;
   err = λ is. ends-closing old o o' off.err;
   stopped = λ stops. absurd cc;

@@ -12,8 +12,8 @@ ghost use Rattle.std.specs.Prelude.{◌≡◌, ◌≢◌, ℕ, ◌<◌, [], ◌�
 
 use crate::epoch_rows::push_rows;
 use crate::fault::{ConvertFault, Stream};
-use crate::writing::put_record;
 use crate::setup::Setup;
+use crate::writing::put_record;
 use rtk_collect::{EpochSet, Left};
 use rtk_frame::Sink;
 use rtk_obs::{Position, Tracks};

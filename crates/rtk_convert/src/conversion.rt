@@ -15,14 +15,14 @@ ghost use Rattle.rtk_convert.specs.Conversion.{RepresentsFound, IsAhead};
 ghost use Rattle.rtk_convert.specs.Outcome.{KeepsWindow, NamesFailedStreams};
 ghost use Rattle.rtk_convert.specs.Writing.{written};
 
+use crate::closed_epochs::{ClosedEpochs, close_remaining};
 use crate::counts::Counts;
 use crate::fault::ConvertFault;
 use crate::frame_class::{FrameClass, classify, read};
 use crate::link_number::LinkNumber;
-use crate::writing::{put_last_header, put_lines};
-use crate::closed_epochs::{ClosedEpochs, close_remaining};
 use crate::report;
 use crate::setup::Setup;
+use crate::writing::{put_last_header, put_lines};
 use rtk_collect::{Collector, Dated, EpochSet, Offer};
 use rtk_frame::Sink;
 use rtk_message::AnyDecoder;

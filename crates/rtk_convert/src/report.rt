@@ -183,7 +183,11 @@ pub(crate) fn offer_lines(
 }
 
 /// The line of a payload that is refused.
-pub(crate) fn refused_line(alloc: Global, link: LinkNumber, fault: AnyFault) -> Result<Vec<u8>, AllocError>
+pub(crate) fn refused_line(
+    alloc: Global,
+    link: LinkNumber,
+    fault: AnyFault,
+) -> Result<Vec<u8>, AllocError>
     ensures { IfOk result (λ line. line.items ≡ refused_line link fault) }
 {
     let mut line = Vec::new(alloc);

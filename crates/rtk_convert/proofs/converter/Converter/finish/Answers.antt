@@ -8,7 +8,8 @@ use Rattle.rtk_convert.proofs.converter.Converter.finish.Goals as goal
 pub returns-in_err-close_all-clause-ends : goal.returns-in_err-close_all-clause-ends
 returns-in_err-close_all-clause-ends g c =
     let p = err_from_is_err_and c.from_residual.result c.from_residual.ensures.1 in
-    rw (p.1, p.2) (ends-off (sym c.is_stopped.ensures ∙ c.if-is_stopped.false) c.in_err-close_all.ensures.closes)
+    let started : c.args.self.conversion.stopped ≡ false = subst (λ (s : ConverterView). s.conversion.stopped ≡ false) c.self.view_is (sym c.is_stopped.ensures ∙ c.if-is_stopped.false) in
+    rw (p.1, p.2) (ends-off c.args.self c.close_all.new.self started c.in_err-close_all.ensures.closes)
 
 pub returns-in_err-close_all-clause-failed : goal.returns-in_err-close_all-clause-failed
 returns-in_err-close_all-clause-failed g c =
@@ -19,7 +20,8 @@ pub returns-clause-ends : goal.returns-clause-ends
 returns-clause-ends g c =
     let all = c.in_ok-close_all.ensures.closes in
     let going : c.closing.inside.conversion.stopped ≡ false = subst (λ (s : ConverterView). s.conversion.stopped ≡ false) (sym c.closing.view_is) all.going in
-    ends-all c.finish.result (sym c.is_stopped.ensures ∙ c.if-is_stopped.false) (ap (λ (s : ConverterView). s.conversion) c.closing.view_is) all (c.finish.ensures.ends going)
+    let started : c.args.self.conversion.stopped ≡ false = subst (λ (s : ConverterView). s.conversion.stopped ≡ false) c.self.view_is (sym c.is_stopped.ensures ∙ c.if-is_stopped.false) in
+    ends-all c.args.self c.close_all.new.self c.finish.result started (ap (λ (s : ConverterView). s.conversion) c.closing.view_is) all (c.finish.ensures.ends going)
 
 pub returns-clause-failed : goal.returns-clause-failed
 returns-clause-failed g c = rw (← c.in_ok-close_all.ensures.failed.file_failed, ← c.in_ok-close_all.ensures.failed.report_failed) c.finish.ensures.failed
