@@ -9,12 +9,12 @@ use Rattle.rtk_convert.specs.declared.fault.ConvertFault.{ConvertFault}
 use Rattle.rtk_convert.specs.declared.fault.ConvertFault.TheVariants.{Write}
 use Rattle.rtk_convert.specs.declared.fault.Stream.TheVariants.{Log}
 use Rattle.rtk_convert.specs.declared.frame_class.FrameClass.{FrameClass}
-use Rattle.rtk_convert.specs.Conversion.{ConversionView, HoldsArrivals}
+use Rattle.rtk_convert.specs.Conversion.{ConversionView, IsAhead}
 use Rattle.rtk_convert.specs.Failure.{IsFrameFault}
 use Rattle.rtk_convert.specs.FrameClass.{IsClassOfPayload}
 use Rattle.rtk_convert.specs.History.{epoch_found}
 use Rattle.rtk_convert.specs.Outcome.{KeepsWindow, NamesFailedStreams}
-use Rattle.rtk_convert.specs.Steps.AcceptedFrame.{AcceptsFrame, BreaksOffAtFrame, HandlesPayload, MayBreakOff}
+use Rattle.rtk_convert.specs.Steps.AcceptedFrame.{AcceptsFrame, BreaksOffAtFrame, HandlesPayload, IsUnderWay, MayBreakOff, StaysUnderWay}
 use Rattle.rtk_convert.specs.Steps.AddedMessage.{AddsMessage, AddsMessageInPart, HandlesMessage}
 use Rattle.rtk_convert.specs.Steps.Closing.{FinishesConversion, FinishesConversionInPart, EndsConversion}
 use Rattle.rtk_convert.specs.Setup.{SetupView}
@@ -29,6 +29,15 @@ keeps-seen {opened} {old} {new} seen k = subst (λ (x : ConversionView). KeepsWi
 
 pub keeps-on : {old mid new : ConversionView} → KeepsWindow old mid → KeepsWindow mid new → KeepsWindow old new
 keeps-on {old} {mid} {new} p q = record { same_setup = q.same_setup ∙ p.same_setup; few = q.few; held = λ h. q.held (p.held h) }
+
+-- what a step of a call leaves of the opened conversion it leaves of the conversion
+pub stays-seen : {T : Type 0} {opened old new : ConversionView} {r : Result T ConvertFault} → opened ≡ old → IsUnderWay old → KeepsWindow opened new
+    → new.stopped ≡ opened.stopped → OnOk r (IsAhead new.collector new.records) → StaysUnderWay old r new
+stays-seen {T} {opened} {old} {new} {r} seen under keeps same ahead =
+    record { keeps = keeps-seen seen keeps; stopped = same ∙ ap (λ (x : ConversionView). x.stopped) seen ∙ under.stopped; ahead = ahead }
+
+pub ahead-seen : {opened old : ConversionView} → opened ≡ old → IsUnderWay old → IsAhead opened.collector opened.records
+ahead-seen {opened} {old} seen under = subst (λ (x : ConversionView). IsAhead x.collector x.records) (sym seen) under.ahead
 
 -- the failed streams are those of the fault, whatever else the call could answer
 pub failed-err : {T U : Type 0} {fault : ConvertFault} {out_old out_new log_old log_new : ℕ}

@@ -1,7 +1,6 @@
 //! Writes the records of epochs as they close, and at the end of the epochs that are still open.
 
-ghost use Rattle.rtk_convert.specs.Failure.{NamesFailedWrites};
-ghost use Rattle.rtk_convert.specs.Steps.Faults.{IsOutFault};
+ghost use Rattle.rtk_convert.specs.Steps.Faults.{NamesFailedFile};
 ghost use Rattle.rtk_convert.specs.Steps.Closing.{AllAbove, ClosesEpoch, ClosesRemaining};
 ghost use Rattle.rtk_convert.specs.Steps.ShownCells.{AllBelow};
 ghost use Rattle.rtk_convert.specs.ClosedEpochs.{HasClosed};
@@ -11,7 +10,7 @@ ghost use Rattle.rtk_rinex.specs.Header.{position_view};
 ghost use Rattle.std.specs.Prelude.{◌≡◌, ◌≢◌, ℕ, ◌<◌, [], ◌∷◌, List, None, false, OnOk, IfOk, IfErr, IsErrOf, OnErr};
 
 use crate::epoch_rows::push_rows;
-use crate::fault::{ConvertFault, Stream};
+use crate::fault::ConvertFault;
 use crate::setup::Setup;
 use crate::writing::put_record;
 use rtk_collect::{EpochSet, Left};
@@ -98,8 +97,7 @@ impl ClosedEpochs {
         requires { AllBelow self.old.tracks set.now.epoch }
         ensures closes { ClosesEpoch setup.now (position_view position.now) self.old set.now result self.new
             (O.taken out.old) (O.taken out.new) }
-        ensures file_failed { NamesFailedWrites Stream.Out result (O.failures out.old) (O.failures out.new) }
-        ensures fault { IfErr result IsOutFault }
+        ensures failed { NamesFailedFile result (O.failures out.old) (O.failures out.new) }
     {
         let listed = setup.head().codes();
         if let Err(_) = push_rows(&mut self.tracks, set, listed, &mut self.lines) {
@@ -131,8 +129,7 @@ pub(crate) fn close_remaining<O: Sink>(
     requires above { AllAbove records.old left.old.sets }
     ensures closes { ClosesRemaining setup.now (position_view position.now) records.old left.old.sets result records.new
         (O.taken out.old) (O.taken out.new) }
-    ensures file_failed { NamesFailedWrites Stream.Out result (O.failures out.old) (O.failures out.new) }
-    ensures fault { IfErr result IsOutFault }
+    ensures failed { NamesFailedFile result (O.failures out.old) (O.failures out.new) }
 {
     'left: while let Some(set) = left.next_left() {
         records.close(alloc, setup, position, &set, out)?;

@@ -7,12 +7,12 @@
 
 ghost use Rattle.std.specs.Prelude.{◌≡◌, ◌≢◌, ◌≤◌, ◌↔◌, [], length, true, false, Err, OnOk, IfOk, is_err};
 ghost use Rattle.rtk_convert.specs.Steps.Closing.{EndsConversion};
-ghost use Rattle.rtk_convert.specs.Steps.AcceptedFrame.{HandlesPayload};
+ghost use Rattle.rtk_convert.specs.Steps.AcceptedFrame.{IsUnderWay, StaysUnderWay, HandlesPayload};
 ghost use Rattle.rtk_convert.specs.Steps.AddedMessage.{HandlesMessage, closed_by};
 ghost use Rattle.rtk_convert.specs.Report.{counted_as};
 ghost use Rattle.rtk_convert.specs.Steps.OfferLines.{class_of_offer};
-ghost use Rattle.rtk_convert.specs.Conversion.{RepresentsFound, IsAhead};
-ghost use Rattle.rtk_convert.specs.Outcome.{KeepsWindow, NamesFailedStreams};
+ghost use Rattle.rtk_convert.specs.Conversion.{RepresentsFound};
+ghost use Rattle.rtk_convert.specs.Outcome.{KeepsWindow, NamesFailedStreams, RefusesStopped};
 ghost use Rattle.rtk_convert.specs.Writing.{written};
 
 use crate::closed_epochs::{ClosedEpochs, close_remaining};
@@ -106,8 +106,7 @@ impl Conversion {
         log: &mut L,
     ) -> Result<Option<GpsMs>, ConvertFault>
         ensures keeps { KeepsWindow self.old self.new }
-        ensures stopped { (result ≡ Err ConvertFault.Stopped) ↔ (self.old.stopped ≡ true) }
-        ensures still { self.old.stopped ≡ true → (out.new ≡ out.old) × (log.new ≡ log.old) }
+        ensures refused { RefusesStopped self.old.stopped result out.old out.new log.old log.new }
         ensures halts { self.new.stopped ≡ is_err result }
         ensures handles { self.old.stopped ≡ false → HandlesPayload self.old link payload.now result self.new
             (written (O.taken out.old) (L.taken log.old)) (written (O.taken out.new) (L.taken log.new)) }
@@ -131,11 +130,8 @@ impl Conversion {
         out: &mut O,
         log: &mut L,
     ) -> Result<Option<GpsMs>, ConvertFault>
-        requires stopped { self.old.stopped ≡ true }
-        requires ahead { IsAhead self.old.collector self.old.records }
-        ensures keeps { KeepsWindow self.old self.new }
-        ensures stopped { self.new.stopped ≡ true }
-        ensures ahead { OnOk result (IsAhead self.new.collector self.new.records) }
+        requires under_way { IsUnderWay self.old }
+        ensures stays { StaysUnderWay self.old result self.new }
         ensures handles { HandlesPayload self.old link payload.now result self.new
             (written (O.taken out.old) (L.taken log.old)) (written (O.taken out.new) (L.taken log.new)) }
         ensures failed { NamesFailedStreams result (O.failures out.old) (O.failures out.new) (L.failures log.old) (L.failures log.new) }
@@ -174,11 +170,8 @@ impl Conversion {
         out: &mut O,
         log: &mut L,
     ) -> Result<(), ConvertFault>
-        requires stopped { self.old.stopped ≡ true }
-        requires ahead { IsAhead self.old.collector self.old.records }
-        ensures keeps { KeepsWindow self.old self.new }
-        ensures stopped { self.new.stopped ≡ true }
-        ensures ahead { OnOk result (IsAhead self.new.collector self.new.records) }
+        requires under_way { IsUnderWay self.old }
+        ensures stays { StaysUnderWay self.old result self.new }
         ensures handles { HandlesMessage self.old link dated.entry result self.new
             (written (O.taken out.old) (L.taken log.old)) (written (O.taken out.new) (L.taken log.new)) }
         ensures failed { NamesFailedStreams result (O.failures out.old) (O.failures out.new) (L.failures log.old) (L.failures log.new) }
@@ -211,8 +204,7 @@ impl Conversion {
         out: &mut O,
         log: &mut L,
     ) -> Result<Counts, ConvertFault>
-        ensures stopped { (result ≡ Err ConvertFault.Stopped) ↔ (self.stopped ≡ true) }
-        ensures still { self.stopped ≡ true → (out.new ≡ out.old) × (log.new ≡ log.old) }
+        ensures refused { RefusesStopped self.stopped result out.old out.new log.old log.new }
         ensures ends { self.stopped ≡ false → EndsConversion self result
             (written (O.taken out.old) (L.taken log.old)) (written (O.taken out.new) (L.taken log.new)) }
         ensures failed { NamesFailedStreams result (O.failures out.old) (O.failures out.new) (L.failures log.old) (L.failures log.new) }

@@ -11,12 +11,11 @@ ghost use Rattle.rtk_obs.specs.declared.cell.CellEntry.{CellEntry};
 ghost use Rattle.rtk_obs.specs.Cell.{IsInRange, IsSatellite};
 ghost use Rattle.rtk_obs.specs.Tracks.{IsLater, track_at};
 ghost use Rattle.rtk_collect.specs.EpochSet.{EpochSetView};
-ghost use Rattle.rtk_collect.specs.Key.{KeysRise};
 ghost use Rattle.rtk_rinex.specs.Header.{IsCodeList};
 ghost use Rattle.rtk_rinex.specs.RecordLines.{HoldsLines};
 ghost use Rattle.rtk_convert.specs.Rows.{first_cell, rolled_or_none, observed_with, or_nothing, table_of};
 ghost use Rattle.rtk_convert.specs.LastPhases.{HasLastPhases};
-ghost use Rattle.rtk_convert.specs.Steps.ShownCells.{AllBelow, MayStep, IsPlaceOf, HasCellsFrom, AreCellsTo, Shows, StepsOver, TakesCells, ArePlaces, is_code, with_code};
+ghost use Rattle.rtk_convert.specs.Steps.ShownCells.{AllBelow, MayStep, IsPlaceOf, RiseFrom, HasCellsFrom, TellsSatellite, AreCellsTo, Shows, StepsOver, TakesCells, ArePlaces, is_code, with_code};
 
 use rtk_collect::EpochSet;
 use rtk_obs::{Cell, CellEntry, Code, Digits, GpsMs, Tracks, rolled};
@@ -109,7 +108,7 @@ fn show_entry(
 
 // Has one of these cells, all of one satellite, this code?
 fn has_code(entries: &[CellEntry], code: Code) -> bool
-    ensures { (satellite : ℕ) → All (λ e. e.satellite ≡ satellite) entries.now → result ≡ is_some (first_cell entries.now satellite code) }
+    ensures { (s : ℕ) → All (λ e. e.satellite ≡ s) entries.now → result ≡ is_some (first_cell entries.now s code) }
 {
     for entry in entries {
         if entry.code == code {
@@ -121,8 +120,7 @@ fn has_code(entries: &[CellEntry], code: Code) -> bool
 
 // Is there a cell of this satellite at this place?
 fn has_satellite(entries: &[CellEntry], at: usize, satellite: u8) -> bool
-    ensures yes { IsTrue result → (at < length entries.now) × ((d : CellEntry) → (slice_index_or entries.now at d).satellite ≡ satellite) }
-    ensures no { IsTrue (not result) → at < length entries.now → ((d : CellEntry) → (slice_index_or entries.now at d).satellite ≢ satellite) }
+    ensures { TellsSatellite satellite entries.now at result }
 {
     at < entries.len() && entries[at].satellite == satellite
 }
@@ -135,10 +133,8 @@ fn is_absent(
     legacy: &[CellEntry],
     legacy_at: usize,
 ) -> bool
-    requires msm_rises { KeysRise msm.now }
-    requires msm_place { IsPlaceOf satellite msm.now msm_at }
-    requires legacy_rises { KeysRise legacy.now }
-    requires legacy_place { IsPlaceOf satellite legacy.now legacy_at }
+    requires msm { RiseFrom satellite msm.now msm_at }
+    requires legacy { RiseFrom satellite legacy.now legacy_at }
     ensures msm { IsTrue result → IsPlaceOf (satellite + 1) msm.now msm_at }
     ensures legacy { IsTrue result → IsPlaceOf (satellite + 1) legacy.now legacy_at }
 {

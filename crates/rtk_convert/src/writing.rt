@@ -2,7 +2,7 @@
 
 ghost use Rattle.std.specs.Prelude.{◌≡◌, ◌≢◌, ◌++◌, OnOk, OnErr, IfOk, IfErr, IsErrOf, false};
 ghost use Rattle.rtk_convert.specs.Failure.{NamesFailedWrites};
-ghost use Rattle.rtk_convert.specs.Steps.Faults.{IsOutFault};
+ghost use Rattle.rtk_convert.specs.Steps.Faults.{NamesFailedFile};
 ghost use Rattle.rtk_rinex.specs.Header.{position_view};
 ghost use Rattle.rtk_convert.specs.Steps.WritingInPart.{PutsText};
 ghost use Rattle.rtk_convert.specs.Steps.ClosedText.{closing_text, header_before, is_any};
@@ -59,8 +59,7 @@ pub(crate) fn put_record<O: Sink>(
     ensures any { IfOk result (λ any. any ≡ is_any text.now) }
     ensures puts { PutsText result (O.taken out.old) (O.taken out.new)
         (closing_text setup.now (position_view position.now) epoch header_out text.now) }
-    ensures file_failed { NamesFailedWrites Stream.Out result (O.failures out.old) (O.failures out.new) }
-    ensures fault { IfErr result IsOutFault }
+    ensures failed { NamesFailedFile result (O.failures out.old) (O.failures out.new) }
 {
     if text.is_empty() {
         return Ok(false);
@@ -86,8 +85,7 @@ pub(crate) fn put_last_header<O: Sink>(
 ) -> Result<(), ConvertFault>
     ensures puts { PutsText result (O.taken out.old) (O.taken out.new)
         (header_before setup.now (position_view position.now) setup.now.near header_out) }
-    ensures file_failed { NamesFailedWrites Stream.Out result (O.failures out.old) (O.failures out.new) }
-    ensures fault { IfErr result IsOutFault }
+    ensures failed { NamesFailedFile result (O.failures out.old) (O.failures out.new) }
 {
     if header_out {
         return Ok(());

@@ -1,6 +1,6 @@
 -- The cells of an epoch are taken one after another: what they show, and which phases are the last
 -- ones.
-use Rattle.std.specs.Prelude.{◌≡◌, ◌≢◌, ◌==◌, ◌<◌, ◌≤◌, ◌+◌, ℕ, Bool, true, false, ◌||◌, List, [], ◌∷◌, ◌++◌, map, length, slice_index, slice_index_or, slice_range, Option, Some, None, is_some, All, AllPairs, if◌then◌else◌}
+use Rattle.std.specs.Prelude.{◌≡◌, ◌≢◌, ◌==◌, ◌<◌, ◌≤◌, ◌+◌, ℕ, Bool, true, false, ◌||◌, List, [], ◌∷◌, ◌++◌, map, length, slice_index, slice_index_or, slice_range, Option, Some, None, is_some, not, IsTrue, All, AllPairs, if◌then◌else◌}
 use Rattle.std.specs.List.{list_any}
 use Rattle.rtk_obs.specs.declared.cell.Cell.{Cell}
 use Rattle.rtk_obs.specs.declared.cell.CellEntry.{CellEntry}
@@ -42,12 +42,21 @@ pub record IsPlaceOf (satellite : ℕ) (cells : List CellEntry) (place : ℕ) : 
   pub lesser : (k : ℕ) (d : CellEntry) → k < place → (slice_index_or cells k d).satellite < satellite
   pub others : (k : ℕ) (d : CellEntry) → place ≤ k → k < length cells → satellite ≤ (slice_index_or cells k d).satellite
 
--- these cells are of one kind, in range and rising, and this is the place of a satellite in them
+-- the cells rise, and this is the place of a satellite in them
+pub record RiseFrom (satellite : ℕ) (cells : List CellEntry) (at : ℕ) : Type 0 where
+  pub rises : KeysRise cells
+  pub place : IsPlaceOf satellite cells at
+
+-- cells of one kind, in range, that rise, and the place of a satellite in them
 pub record HasCellsFrom (satellite : ℕ) (cells : List CellEntry) (at : ℕ) : Type 0 where
   pub ranges : All IsInRange cells
-  pub rises : KeysRise cells
   pub kind : AreOfOneKind cells
-  pub place : IsPlaceOf satellite cells at
+  pub from : RiseFrom satellite cells at
+
+-- whether a cell of this satellite stands at this place
+pub record TellsSatellite (satellite : ℕ) (cells : List CellEntry) (at : ℕ) (answer : Bool) : Type 0 where
+  pub yes : IsTrue answer → (at < length cells) × ((d : CellEntry) → (slice_index_or cells at d).satellite ≡ satellite)
+  pub no : IsTrue (not answer) → at < length cells → ((d : CellEntry) → (slice_index_or cells at d).satellite ≢ satellite)
 
 -- the cells of a satellite stand between these two places
 pub record AreCellsTo (satellite : ℕ) (cells : List CellEntry) (begin end : ℕ) : Type 0 where

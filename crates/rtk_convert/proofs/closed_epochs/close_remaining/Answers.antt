@@ -19,5 +19,5 @@ left-preserved g c = record {
   above = λ k d lt sat code hs.
       let below = c.in-Some.ensures.least k d lt in
       c.in_ok-close.ensures.closes.later (get_or c.next_left.new.self.sets k d).epoch below sat code hs;
-  failures = c.in_ok-close.ensures.file_failed ∙ c.left.invariant.failures;
+  failures = c.in_ok-close.ensures.failed.file_failed ∙ c.left.invariant.failures;
 }

@@ -5,7 +5,7 @@ use Rattle.rtk_convert.proofs.SatelliteLemmas.{shows-nothing, or-turn}
 use Rattle.rtk_convert.proofs.epoch_rows.fill_row.Goals as goal
 
 pub show_cells-second-requires-clause-earlier : goal.show_cells-second-requires-clause-earlier
-show_cells-second-requires-clause-earlier c = range-satellite c.args.msm.now c.args.msm_at c.show_cells-first.result.end c.args.satellite c.requires.msm.place c.show_cells-first.ensures.next
+show_cells-second-requires-clause-earlier c = range-satellite c.args.msm.now c.args.msm_at c.show_cells-first.result.end c.args.satellite c.requires.msm.from.place c.show_cells-first.ensures.next
 
 pub show_cells-second-requires-clause-later : goal.show_cells-second-requires-clause-later
 show_cells-second-requires-clause-later c = c.show_cells-first.ensures.takes.later

@@ -12,19 +12,19 @@ invariant_of-self-2 g c = (
   record {
     places = c.self-2.invariant.1.places;
     few = c.self-2.invariant.1.few;
-    ahead = λ going. subst (λ (x : ConversionView). IsAhead x.collector x.records) (sym c.self-2.view_is) c.in_ok-epoch.ensures.ahead;
+    ahead = λ going. subst (λ (x : ConversionView). IsAhead x.collector x.records) (sym c.self-2.view_is) c.in_ok-epoch.ensures.stays.ahead;
   },
 )
 
 pub returns-clause-keeps : goal.returns-clause-keeps
 returns-clause-keeps g c =
-    let k = c.handle_payload.ensures.keeps in
+    let k = c.handle_payload.ensures.stays.keeps in
     let seen = subst (λ (x : ConversionView). KeepsWindow (state c.self.inside.setup c.self.inside.collector c.self.inside.records c.self.inside.counts true) x) (sym c.self-2.view_is) k in
     keeps-seen c.self.view_is (record { same_setup = seen.same_setup; few = seen.few; held = seen.held })
 
 pub returns-in_err-epoch-clause-keeps : goal.returns-in_err-epoch-clause-keeps
 returns-in_err-epoch-clause-keeps g c =
-    let k = c.handle_payload.ensures.keeps in
+    let k = c.handle_payload.ensures.stays.keeps in
     keeps-seen c.self.view_is (record { same_setup = k.same_setup; few = k.few; held = k.held })
 
 pub returns-clause-handles : goal.returns-clause-handles
@@ -38,7 +38,7 @@ returns-in_err-epoch-clause-handles g c = λ going.
 pub returns-in_err-epoch-clause-halts : goal.returns-in_err-epoch-clause-halts
 returns-in_err-epoch-clause-halts g c =
     let p = err_from_is_err_and c.from_residual.result c.from_residual.ensures.1 in
-    rw (p.1) c.handle_payload.ensures.stopped
+    rw (p.1) c.handle_payload.ensures.stays.stopped
 
 pub returns-in_err-epoch-clause-failed : goal.returns-in_err-epoch-clause-failed
 returns-in_err-epoch-clause-failed g c =

@@ -24,14 +24,14 @@ pub returns-in_err-close_remaining-clause-ends : goal.returns-in_err-close_remai
 returns-in_err-close_remaining-clause-ends g c = λ going.
     let p = err_from_is_err_and c.from_residual.result c.from_residual.ensures.1 in
     let part = subst (λ (xs : List EpochSetView). ClosesEpochsInPart c.self.inside.setup (position_view c.station-position.result) c.self.inside.records xs (g.O.Sink.taken c.args.out.now) (g.O.Sink.taken c.close_remaining.new.out)) c.close-left.ensures.sets c.in_err-close_remaining.ensures.closes.err in
-    rw (p.1, p.2) (ends-err _ c.self.view_is (out-frame _ c.in_err-close_remaining.ensures.fault) (finish-part-records c.self.invariant.1.places c.station-position.ensures.kept part))
+    rw (p.1, p.2) (ends-err _ c.self.view_is (out-frame _ c.in_err-close_remaining.ensures.failed.fault) (finish-part-records c.self.invariant.1.places c.station-position.ensures.kept part))
 
 pub returns-in_err-put_last_header-clause-ends : goal.returns-in_err-put_last_header-clause-ends
 returns-in_err-put_last_header-clause-ends g c = λ going.
     let p = err_from_is_err_and c.from_residual-in_err-put_last_header.result c.from_residual-in_err-put_last_header.ensures.1 in
     let closes = subst (λ (xs : List EpochSetView). ClosesEpochs c.self.inside.setup (position_view c.station-position.result) c.self.inside.records xs c.close_remaining.new.records (g.O.Sink.taken c.args.out.now) (g.O.Sink.taken c.close_remaining.new.out)) c.close-left.ensures.sets c.in_ok-close_remaining.ensures.closes.ok in
     let part = subst (λ (b : Bool). TakesPart (g.O.Sink.taken c.close_remaining.new.out) (g.O.Sink.taken c.put_last_header.new.out) (header_before c.self.inside.setup (position_view c.station-position.result) c.self.inside.setup.near b)) c.header_out.ensures c.put_last_header.ensures.puts.part in
-    rw (p.1, p.2) (ends-err _ c.self.view_is (out-frame _ c.in_err-put_last_header.ensures.fault) (finish-part-header c.self.invariant.1.places c.station-position.ensures.kept closes part))
+    rw (p.1, p.2) (ends-err _ c.self.view_is (out-frame _ c.in_err-put_last_header.ensures.failed.fault) (finish-part-header c.self.invariant.1.places c.station-position.ensures.kept closes part))
 
 pub returns-in_default-clause-ends : goal.returns-in_default-clause-ends
 returns-in_default-clause-ends g c = λ going.
@@ -56,20 +56,20 @@ returns-in_err-put_lines-clause-ends g c = λ going.
 pub returns-in_err-close_remaining-clause-failed : goal.returns-in_err-close_remaining-clause-failed
 returns-in_err-close_remaining-clause-failed g c =
     let p = err_from_is_err_and c.from_residual.result c.from_residual.ensures.1 in
-    rw (p.1, p.2) (record { file_failed = c.in_err-close_remaining.ensures.file_failed; report_failed = out-leaves-report _ _ c.in_err-close_remaining.ensures.fault })
+    rw (p.1, p.2) (record { file_failed = c.in_err-close_remaining.ensures.failed.file_failed; report_failed = out-leaves-report _ _ c.in_err-close_remaining.ensures.failed.fault })
 
 pub returns-in_err-put_last_header-clause-failed : goal.returns-in_err-put_last_header-clause-failed
 returns-in_err-put_last_header-clause-failed g c =
     let p = err_from_is_err_and c.from_residual-in_err-put_last_header.result c.from_residual-in_err-put_last_header.ensures.1 in
     rw (p.1, p.2) (record {
-      file_failed = rw (← c.in_ok-close_remaining.ensures.file_failed) c.in_err-put_last_header.ensures.file_failed;
-      report_failed = out-leaves-report _ _ c.in_err-put_last_header.ensures.fault;
+      file_failed = rw (← c.in_ok-close_remaining.ensures.failed.file_failed) c.in_err-put_last_header.ensures.failed.file_failed;
+      report_failed = out-leaves-report _ _ c.in_err-put_last_header.ensures.failed.fault;
     })
 
 pub returns-in_err-put_lines-clause-failed : goal.returns-in_err-put_lines-clause-failed
 returns-in_err-put_lines-clause-failed g c =
     let p = err_from_is_err_and c.from_residual-in_err-put_lines.result c.from_residual-in_err-put_lines.ensures.1 in
     rw (p.1, p.2) (record {
-      file_failed = rw c.in_err-put_lines.ensures.fault (c.in_ok-put_last_header.ensures.file_failed ∙ c.in_ok-close_remaining.ensures.file_failed);
+      file_failed = rw c.in_err-put_lines.ensures.fault (c.in_ok-put_last_header.ensures.failed.file_failed ∙ c.in_ok-close_remaining.ensures.failed.file_failed);
       report_failed = c.in_err-put_lines.ensures.report_failed;
     })

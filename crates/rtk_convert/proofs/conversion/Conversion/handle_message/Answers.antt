@@ -7,39 +7,20 @@ use Rattle.rtk_frame.specs.Stream.{with_more, TakesPart}
 use Rattle.rtk_convert.specs.declared.fault.ConvertFault.TheVariants.{OutOfMemory}
 use Rattle.rtk_convert.specs.Steps.AddedMessage.{closed_by}
 use Rattle.rtk_convert.specs.Steps.OfferLines.{offer_lines}
-use Rattle.rtk_convert.specs.Conversion.{ConversionView, HoldsArrivals, IsAhead}
+use Rattle.rtk_convert.specs.Conversion.{HoldsArrivals}
 use Rattle.rtk_convert.proofs.AheadLemmas.{ahead-stays, ahead-closes, ahead-after}
 use Rattle.rtk_convert.proofs.ArriveLemmas.{takes-none-closed, takes-some-closed, part-nothing, part-record, part-lines}
 use Rattle.rtk_convert.proofs.BoundsLemmas.{held-offered}
 use Rattle.rtk_convert.proofs.WritingLemmas.{on_ok-map}
 use Rattle.rtk_convert.proofs.HandedLemmas.{out-frame, out-leaves-report, log-leaves-file}
-use Rattle.rtk_convert.proofs.OutcomeLemmas.{keeps-seen, message-lines, message-err}
+use Rattle.rtk_convert.proofs.OutcomeLemmas.{stays-seen, ahead-seen, message-lines, message-err}
 use Rattle.rtk_convert.proofs.conversion.Conversion.handle_message.Goals as goal
 
 pub returns-in_default-clause-handles : goal.returns-in_default-clause-handles
 returns-in_default-clause-handles g c = message-err OutOfMemory c.self.view_is tt part-nothing
 
-pub returns-in_default-clause-keeps : goal.returns-in_default-clause-keeps
-returns-in_default-clause-keeps g c = keeps-seen c.self.view_is (record {
-  same_setup = refl;
-  few = omega (arith, c.self.invariant.1.few, c.self.invariant.1.places);
-  held = λ h. subst HoldsArrivals (sym c.in_default.ensures.err) h;
-})
-
 pub returns-in_default-offer_lines-clause-handles : goal.returns-in_default-offer_lines-clause-handles
 returns-in_default-offer_lines-clause-handles g c = message-err OutOfMemory c.self.view_is tt part-nothing
-
-pub returns-in_default-offer_lines-clause-keeps : goal.returns-in_default-offer_lines-clause-keeps
-returns-in_default-offer_lines-clause-keeps g c = keeps-seen c.self.view_is (record {
-  same_setup = refl;
-  few = omega (arith, c.self.invariant.1.few, c.self.invariant.1.places);
-  held = λ h. held-offered c.self.inside.collector c.offer.new.self c.args.dated c.in-Ok.offer c.in-Ok.ensures.answer h;
-})
-
-pub returns-in_default-closed_by-clause-ahead : goal.returns-in_default-closed_by-clause-ahead
-returns-in_default-closed_by-clause-ahead g c =
-    let ahead : IsAhead c.self.inside.collector c.self.inside.records = subst (λ (x : ConversionView). IsAhead x.collector x.records) (sym c.self.view_is) c.requires.ahead in
-    on_ok-map c.put_lines.result (λ wrote. ahead-stays c.self.inside.collector c.offer.new.self c.self.inside.records c.offer.ensures.least ahead) c.put_lines.ensures.puts.all
 
 pub returns-in_default-closed_by-clause-handles : goal.returns-in_default-closed_by-clause-handles
 returns-in_default-closed_by-clause-handles g c =
@@ -54,13 +35,6 @@ returns-in_default-closed_by-clause-handles g c =
     (takes-none-closed c.in-Ok.offer c.self.invariant.1.places none c.in-Ok.ensures.answer c.count_message.ensures refl)
     (subst (λ (t : List ℕ). TakesPart (g.L.Sink.taken c.args.log.now) (g.L.Sink.taken c.put_lines.new.log) t) (c.deref.ensures.value ∙ text) c.put_lines.ensures.puts.part))
 
-pub returns-in_default-closed_by-clause-keeps : goal.returns-in_default-closed_by-clause-keeps
-returns-in_default-closed_by-clause-keeps g c = keeps-seen c.self.view_is (record {
-  same_setup = refl;
-  few = omega (arith, c.self.invariant.1.few, c.self.invariant.1.places);
-  held = λ h. held-offered c.self.inside.collector c.offer.new.self c.args.dated c.in-Ok.offer c.in-Ok.ensures.answer h;
-})
-
 pub returns-in_default-closed_by-clause-failed : goal.returns-in_default-closed_by-clause-failed
 returns-in_default-closed_by-clause-failed g c = record {
   file_failed = log-leaves-file c.put_lines.result refl c.put_lines.ensures.fault;
@@ -71,33 +45,20 @@ pub close-requires : goal.close-requires
 close-requires g c =
     let e : EpochSetView = c.in-Some.set in
     let some : closed_by c.in-Ok.offer ≡ Some e = sym c.closed_by.ensures ∙ c.in-Some.is in
-    ahead-closes c.self.inside.collector c.self.inside.records c.in-Ok.offer e some c.in-Ok.ensures.least_closes (subst (λ (x : ConversionView). IsAhead x.collector x.records) (sym c.self.view_is) c.requires.ahead)
+    ahead-closes c.self.inside.collector c.self.inside.records c.in-Ok.offer e some c.in-Ok.ensures.least_closes (ahead-seen c.self.view_is c.requires.under_way)
 
 pub returns-in_err-close-clause-handles : goal.returns-in_err-close-clause-handles
 returns-in_err-close-clause-handles g c =
     let p = err_from_is_err_and c.from_residual.result c.from_residual.ensures.1 in
     let some : closed_by c.in-Ok.offer ≡ Some c.in-Some.set = sym c.closed_by.ensures ∙ c.in-Some.is in
     let size = c.in-Ok.ensures.size ∙ c.self.invariant.1.places in
-    rw (p.1, p.2) (message-err _ c.self.view_is (out-frame _ c.in_err-close.ensures.fault)
+    rw (p.1, p.2) (message-err _ c.self.view_is (out-frame _ c.in_err-close.ensures.failed.fault)
     (part-record c.in-Ok.offer c.self.invariant.1.places size some c.in-Ok.ensures.answer c.station-position.ensures.kept (λ below h. (c.close.ensures.closes.puts below h).part)))
-
-pub returns-in_err-close-clause-keeps : goal.returns-in_err-close-clause-keeps
-returns-in_err-close-clause-keeps g c = keeps-seen c.self.view_is (record {
-  same_setup = refl;
-  few = omega (arith, c.self.invariant.1.few, c.self.invariant.1.places);
-  held = λ h. held-offered c.self.inside.collector c.offer.new.self c.args.dated c.in-Ok.offer c.in-Ok.ensures.answer h;
-})
 
 pub returns-in_err-close-clause-failed : goal.returns-in_err-close-clause-failed
 returns-in_err-close-clause-failed g c =
     let p = err_from_is_err_and c.from_residual.result c.from_residual.ensures.1 in
-    rw (p.1, p.2) (record { file_failed = c.in_err-close.ensures.file_failed; report_failed = out-leaves-report _ _ c.in_err-close.ensures.fault })
-
-pub returns-clause-ahead : goal.returns-clause-ahead
-returns-clause-ahead g c =
-    let e : EpochSetView = c.in-Some.set in
-    let some : closed_by c.in-Ok.offer ≡ Some e = sym c.closed_by.ensures ∙ c.in-Some.is in
-    rw c.hand_back.ensures (on_ok-map c.put_lines-2.result (λ wrote. ahead-after c.self.inside.collector c.offer.new.self c.close.new.self c.in-Ok.offer e some c.in-Ok.ensures.least_closes c.in-Ok.ensures.closed c.offer.ensures.least (c.in_ok-close.ensures.closes.later (suc e.epoch) (omega arith))) c.put_lines-2.ensures.puts.all)
+    rw (p.1, p.2) (record { file_failed = c.in_err-close.ensures.failed.file_failed; report_failed = out-leaves-report _ _ c.in_err-close.ensures.failed.fault })
 
 pub returns-clause-handles : goal.returns-clause-handles
 returns-clause-handles g c =
@@ -113,15 +74,33 @@ returns-clause-handles g c =
     (takes-some-closed c.in-Ok.offer c.self.invariant.1.places size some c.in-Ok.ensures.answer c.station-position.ensures.kept c.count_message.ensures c.in_ok-close.ensures.closes.follows (λ below h. (c.in_ok-close.ensures.closes.puts below h).all) refl)
     (subst (λ (t : List ℕ). TakesPart (g.L.Sink.taken c.args.log.now) (g.L.Sink.taken c.put_lines-2.new.log) t) (c.deref-2.ensures.value ∙ text) c.put_lines-2.ensures.puts.part)))
 
-pub returns-clause-keeps : goal.returns-clause-keeps
-returns-clause-keeps g c = rw c.hand_back.ensures (keeps-seen c.self.view_is (record {
-  same_setup = refl;
-  few = omega (arith, c.self.invariant.1.few, c.self.invariant.1.places);
-  held = λ h. held-offered c.self.inside.collector c.offer.new.self c.args.dated c.in-Ok.offer c.in-Ok.ensures.answer h;
-}))
-
 pub returns-clause-failed : goal.returns-clause-failed
 returns-clause-failed g c = record {
-  file_failed = log-leaves-file c.put_lines-2.result c.in_ok-close.ensures.file_failed c.put_lines-2.ensures.fault;
+  file_failed = log-leaves-file c.put_lines-2.result c.in_ok-close.ensures.failed.file_failed c.put_lines-2.ensures.fault;
   report_failed = c.put_lines-2.ensures.report_failed;
 }
+
+pub returns-in_default-clause-stays : goal.returns-in_default-clause-stays
+returns-in_default-clause-stays g c = stays-seen c.self.view_is c.requires.under_way (record { same_setup = refl; few = omega (arith, c.self.invariant.1.few, c.self.invariant.1.places); held = λ h. subst HoldsArrivals (sym c.in_default.ensures.err) h }) refl tt
+
+pub returns-in_default-offer_lines-clause-stays : goal.returns-in_default-offer_lines-clause-stays
+returns-in_default-offer_lines-clause-stays g c = stays-seen c.self.view_is c.requires.under_way (record { same_setup = refl; few = omega (arith, c.self.invariant.1.few, c.self.invariant.1.places); held = λ h. held-offered c.self.inside.collector c.offer.new.self c.args.dated c.in-Ok.offer c.in-Ok.ensures.answer h }) refl tt
+
+pub returns-in_default-closed_by-clause-stays : goal.returns-in_default-closed_by-clause-stays
+returns-in_default-closed_by-clause-stays g c =
+    let ahead = ahead-stays c.self.inside.collector c.offer.new.self c.self.inside.records c.offer.ensures.least (ahead-seen c.self.view_is c.requires.under_way) in
+    stays-seen c.self.view_is c.requires.under_way (record { same_setup = refl; few = omega (arith, c.self.invariant.1.few, c.self.invariant.1.places); held = λ h. held-offered c.self.inside.collector c.offer.new.self c.args.dated c.in-Ok.offer c.in-Ok.ensures.answer h }) refl
+    (on_ok-map c.put_lines.result (λ wrote. ahead) c.put_lines.ensures.puts.all)
+
+pub returns-in_err-close-clause-stays : goal.returns-in_err-close-clause-stays
+returns-in_err-close-clause-stays g c =
+    let p = err_from_is_err_and c.from_residual.result c.from_residual.ensures.1 in
+    rw (p.1, p.2) (stays-seen c.self.view_is c.requires.under_way (record { same_setup = refl; few = omega (arith, c.self.invariant.1.few, c.self.invariant.1.places); held = λ h. held-offered c.self.inside.collector c.offer.new.self c.args.dated c.in-Ok.offer c.in-Ok.ensures.answer h }) refl tt)
+
+pub returns-clause-stays : goal.returns-clause-stays
+returns-clause-stays g c =
+    let e : EpochSetView = c.in-Some.set in
+    let some : closed_by c.in-Ok.offer ≡ Some e = sym c.closed_by.ensures ∙ c.in-Some.is in
+    let ahead = ahead-after c.self.inside.collector c.offer.new.self c.close.new.self c.in-Ok.offer e some c.in-Ok.ensures.least_closes c.in-Ok.ensures.closed c.offer.ensures.least (c.in_ok-close.ensures.closes.later (suc e.epoch) (omega arith)) in
+    rw c.hand_back.ensures (stays-seen c.self.view_is c.requires.under_way (record { same_setup = refl; few = omega (arith, c.self.invariant.1.few, c.self.invariant.1.places); held = λ h. held-offered c.self.inside.collector c.offer.new.self c.args.dated c.in-Ok.offer c.in-Ok.ensures.answer h }) refl
+    (on_ok-map c.put_lines-2.result (λ wrote. ahead) c.put_lines-2.ensures.puts.all))

@@ -6,10 +6,9 @@ use Rattle.rtk_convert.specs.declared.frame_class.FrameClass.{FrameClass}
 use Rattle.rtk_convert.specs.declared.frame_class.FrameClass.TheVariants.{OtherMessage, Refused, Foreign, Dated}
 use Rattle.rtk_convert.specs.FrameClass.{IsClassOfPayload}
 use Rattle.rtk_convert.specs.Report.{refused_line, one_frame_more}
-use Rattle.rtk_convert.specs.Conversion.{ConversionView, IsAhead}
 use Rattle.rtk_convert.proofs.ArriveLemmas.{arrives-arrived, breaks-arrived, arrives-other, arrives-foreign, arrives-refused, breaks-refused}
 use Rattle.rtk_convert.proofs.WritingLemmas.{takes-none}
-use Rattle.rtk_convert.proofs.OutcomeLemmas.{keeps-seen, failed-err, payload-ok, payload-err}
+use Rattle.rtk_convert.proofs.OutcomeLemmas.{keeps-seen, stays-seen, ahead-seen, failed-err, payload-ok, payload-err}
 use Rattle.rtk_convert.proofs.conversion.Conversion.handle_payload.Goals as goal
 
 pub returns-in-OtherMessage-clause-handles : goal.returns-in-OtherMessage-clause-handles
@@ -50,7 +49,7 @@ pub returns-in_ok-handle_message-in-Dated-clause-handles : goal.returns-in_ok-ha
 returns-in_ok-handle_message-in-Dated-clause-handles g c =
     let comes = subst (λ (f : FrameClass). IsClassOfPayload c.self.inside.setup c.args.payload.now f) c.in-Dated.is (c.read.result.now, c.read.ensures, c.classify.ensures) in
     payload-ok (Dated c.in-Dated.dated) c.self.view_is comes c.epoch-epoch.ensures.value
-    (arrives-arrived c.args.payload.now comes (ap (λ (n : ℕ). record c.self.inside.counts { frames = n }) c.saturating_add-self-inside.ensures) c.handle_message.ensures.keeps.same_setup c.in_ok-handle_message-in-Dated.ensures.handles.ok)
+    (arrives-arrived c.args.payload.now comes (ap (λ (n : ℕ). record c.self.inside.counts { frames = n }) c.saturating_add-self-inside.ensures) c.handle_message.ensures.stays.keeps.same_setup c.in_ok-handle_message-in-Dated.ensures.handles.ok)
 
 pub returns-in_err-handle_message-in-Dated-clause-handles : goal.returns-in_err-handle_message-in-Dated-clause-handles
 returns-in_err-handle_message-in-Dated-clause-handles g c =
@@ -58,12 +57,6 @@ returns-in_err-handle_message-in-Dated-clause-handles g c =
     let comes = subst (λ (f : FrameClass). IsClassOfPayload c.self.inside.setup c.args.payload.now f) c.in-Dated.is (c.read.result.now, c.read.ensures, c.classify.ensures) in
     let breaks = c.in_err-handle_message-in-Dated.ensures.handles in
     rw (p.1, p.2) (payload-err _ (Dated c.in-Dated.dated) c.self.view_is comes tt breaks.fault (breaks-arrived c.args.payload.now comes breaks.err))
-
-pub returns-in-OtherMessage-clause-ahead : goal.returns-in-OtherMessage-clause-ahead
-returns-in-OtherMessage-clause-ahead g c = subst (λ (x : ConversionView). IsAhead x.collector x.records) (sym c.self.view_is) c.requires.ahead
-
-pub returns-in_ok-put_lines-in-Refused-clause-ahead : goal.returns-in_ok-put_lines-in-Refused-clause-ahead
-returns-in_ok-put_lines-in-Refused-clause-ahead g c = subst (λ (x : ConversionView). IsAhead x.collector x.records) (sym c.self.view_is) c.requires.ahead
 
 pub returns-in_err-put_lines-in-Refused-clause-failed : goal.returns-in_err-put_lines-in-Refused-clause-failed
 returns-in_err-put_lines-in-Refused-clause-failed g c =
@@ -75,27 +68,30 @@ returns-in_err-handle_message-in-Dated-clause-failed g c =
     let p = err_from_is_err_and c.from_residual-in_err-handle_message-in-Dated.result c.from_residual-in_err-handle_message-in-Dated.ensures.1 in
     rw (p.1, p.2) (failed-err c.in_err-handle_message-in-Dated.ensures.failed)
 
-pub returns-in_default-clause-keeps : goal.returns-in_default-clause-keeps
-returns-in_default-clause-keeps g c = keeps-seen c.self.view_is (record { same_setup = refl; few = omega (arith, c.self.invariant.1.few, c.self.invariant.1.places); held = λ h. h })
+pub returns-in-OtherMessage-clause-stays : goal.returns-in-OtherMessage-clause-stays
+returns-in-OtherMessage-clause-stays g c = stays-seen c.self.view_is c.requires.under_way (record { same_setup = refl; few = omega (arith, c.self.invariant.1.few, c.self.invariant.1.places); held = λ h. h }) refl (ahead-seen c.self.view_is c.requires.under_way)
 
-pub returns-in-OtherMessage-clause-keeps : goal.returns-in-OtherMessage-clause-keeps
-returns-in-OtherMessage-clause-keeps g c = keeps-seen c.self.view_is (record { same_setup = refl; few = omega (arith, c.self.invariant.1.few, c.self.invariant.1.places); held = λ h. h })
+pub returns-in-Foreign-clause-stays : goal.returns-in-Foreign-clause-stays
+returns-in-Foreign-clause-stays g c = stays-seen c.self.view_is c.requires.under_way (record { same_setup = refl; few = omega (arith, c.self.invariant.1.few, c.self.invariant.1.places); held = λ h. h }) refl (ahead-seen c.self.view_is c.requires.under_way)
 
-pub returns-in-Foreign-clause-keeps : goal.returns-in-Foreign-clause-keeps
-returns-in-Foreign-clause-keeps g c = keeps-seen c.self.view_is (record { same_setup = refl; few = omega (arith, c.self.invariant.1.few, c.self.invariant.1.places); held = λ h. h })
+pub returns-in_default-clause-stays : goal.returns-in_default-clause-stays
+returns-in_default-clause-stays g c = stays-seen c.self.view_is c.requires.under_way (record { same_setup = refl; few = omega (arith, c.self.invariant.1.few, c.self.invariant.1.places); held = λ h. h }) refl tt
 
-pub returns-in_ok-put_lines-in-Refused-clause-keeps : goal.returns-in_ok-put_lines-in-Refused-clause-keeps
-returns-in_ok-put_lines-in-Refused-clause-keeps g c = keeps-seen c.self.view_is (record { same_setup = refl; few = omega (arith, c.self.invariant.1.few, c.self.invariant.1.places); held = λ h. h })
+pub returns-in_ok-put_lines-in-Refused-clause-stays : goal.returns-in_ok-put_lines-in-Refused-clause-stays
+returns-in_ok-put_lines-in-Refused-clause-stays g c = stays-seen c.self.view_is c.requires.under_way (record { same_setup = refl; few = omega (arith, c.self.invariant.1.few, c.self.invariant.1.places); held = λ h. h }) refl (ahead-seen c.self.view_is c.requires.under_way)
 
-pub returns-in_err-put_lines-in-Refused-clause-keeps : goal.returns-in_err-put_lines-in-Refused-clause-keeps
-returns-in_err-put_lines-in-Refused-clause-keeps g c = keeps-seen c.self.view_is (record { same_setup = refl; few = omega (arith, c.self.invariant.1.few, c.self.invariant.1.places); held = λ h. h })
+pub returns-in_err-put_lines-in-Refused-clause-stays : goal.returns-in_err-put_lines-in-Refused-clause-stays
+returns-in_err-put_lines-in-Refused-clause-stays g c =
+    let p = err_from_is_err_and c.from_residual.result c.from_residual.ensures.1 in
+    rw (p.1, p.2) (stays-seen c.self.view_is c.requires.under_way (record { same_setup = refl; few = omega (arith, c.self.invariant.1.few, c.self.invariant.1.places); held = λ h. h }) refl tt)
 
-pub returns-in_ok-handle_message-in-Dated-clause-keeps : goal.returns-in_ok-handle_message-in-Dated-clause-keeps
-returns-in_ok-handle_message-in-Dated-clause-keeps g c =
-    let k = c.handle_message.ensures.keeps in
-    keeps-seen c.self.view_is (record { same_setup = k.same_setup; few = k.few; held = k.held })
+pub returns-in_ok-handle_message-in-Dated-clause-stays : goal.returns-in_ok-handle_message-in-Dated-clause-stays
+returns-in_ok-handle_message-in-Dated-clause-stays g c =
+    let s = c.in_ok-handle_message-in-Dated.ensures.stays in
+    record { keeps = keeps-seen c.self.view_is (record { same_setup = s.keeps.same_setup; few = s.keeps.few; held = s.keeps.held }); stopped = s.stopped; ahead = s.ahead }
 
-pub returns-in_err-handle_message-in-Dated-clause-keeps : goal.returns-in_err-handle_message-in-Dated-clause-keeps
-returns-in_err-handle_message-in-Dated-clause-keeps g c =
-    let k = c.handle_message.ensures.keeps in
-    keeps-seen c.self.view_is (record { same_setup = k.same_setup; few = k.few; held = k.held })
+pub returns-in_err-handle_message-in-Dated-clause-stays : goal.returns-in_err-handle_message-in-Dated-clause-stays
+returns-in_err-handle_message-in-Dated-clause-stays g c =
+    let p = err_from_is_err_and c.from_residual-in_err-handle_message-in-Dated.result c.from_residual-in_err-handle_message-in-Dated.ensures.1 in
+    let s = c.in_err-handle_message-in-Dated.ensures.stays in
+    rw (p.1, p.2) (record { keeps = keeps-seen c.self.view_is (record { same_setup = s.keeps.same_setup; few = s.keeps.few; held = s.keeps.held }); stopped = s.stopped; ahead = tt })
