@@ -12,7 +12,7 @@ use Rattle.rtk_convert.specs.FileOfArrivals.{kept_file, file_so_far}
 use Rattle.rtk_convert.specs.FrameClass.{Found, IsClassOfPayload, arrivals}
 use Rattle.rtk_convert.specs.declared.frame_class.FrameClass.{FrameClass}
 use Rattle.rtk_convert.specs.Finish.{all_counts, report_of}
-use Rattle.rtk_convert.specs.History.{LinkPast, History, Finds, IsOpen, IsAfterFeed, IsAfterClose, fed_on, found_by_piece, found_by_close, newest_on}
+use Rattle.rtk_convert.specs.History.{LinkPast, History, new_history, Finds, IsOpen, IsAfterFeed, IsAfterClose, fed_on, found_by_piece, found_by_close, newest_on}
 use Rattle.rtk_convert.specs.Report.{lines}
 use Rattle.rtk_convert.specs.Setup.{SetupView}
 use Rattle.rtk_convert.specs.Conversion.{ConversionView, HoldsArrivals, found_on, RepresentsFound}
@@ -72,6 +72,13 @@ pub record HoldsAtMost (c : ConverterView) : Type 0 where
   pub bytes : All (λ l. length l.scanner.pending ≤ 1029) c.links
   pub epochs : length c.conversion.collector.sets ≤ c.conversion.setup.window
   pub cells : All (λ e. length e.cells ≤ 1024) c.conversion.collector.sets
+
+-- a new converter with this setup: its links are open, and nothing was fed on them
+pub record IsNewConverter (s : SetupView) (links : ℕ) (c : ConverterView) : Type 0 where
+  pub represents : RepresentsHistory c (new_history links)
+  pub same_setup : c.conversion.setup ≡ s
+  pub as_many : length c.links ≡ links
+  pub bounds : HoldsAtMost c
 
 -- what the frames after `before` add to the file and to the lines was written
 pub record WritesOn (s : SetupView) (before after : List Found) (written_old written_new : Written) : Type 0 where
@@ -164,7 +171,7 @@ pub record FinishesConverterAs (s : SetupView) (h last : History) (counts : Coun
   pub out : WritesRest written_old.file written_new.file (file_so_far s (arrivals h.found)) (kept_file s (arrivals last.found))
   pub log : WritesRest written_old.report written_new.report (lines s.window h.found) (report_of s last.found)
 
--- the same, whatever the history was
+-- a converter ends so, whatever the history was
 abbrev pub FinishesConverter : ConverterView → Counts → Written → Written → Type 0
 FinishesConverter old counts written_old written_new = (h : History) → RepresentsHistory old h
     → (last : History) × FinishesConverterAs old.conversion.setup h last counts written_old written_new
@@ -186,7 +193,7 @@ pub record BreaksOffFinishing (s : SetupView) (h : History) (written_old written
   pub counts_last : WritesRest written_old.report written_new.report (lines s.window h.found) (lines s.window last.found)
       ⊎ WritesRest written_old.file written_new.file (file_so_far s (arrivals h.found)) (kept_file s (arrivals last.found))
 
--- the same, whatever the history was
+-- the end of a converter breaks off in one of these two ways, whatever the history was
 abbrev pub FinishesConverterInPart : ConverterView → Written → Written → Type 0
 FinishesConverterInPart old written_old written_new = (h : History) → RepresentsHistory old h
     → ((link : ℕ) × BreaksOffClosing old.conversion.setup h link written_old written_new)

@@ -11,7 +11,7 @@ ghost use Rattle.rtk_convert.specs.Steps.AcceptedFrame.{IsUnderWay, StaysUnderWa
 ghost use Rattle.rtk_convert.specs.Steps.AddedMessage.{HandlesMessage, closed_by};
 ghost use Rattle.rtk_convert.specs.Report.{counted_as};
 ghost use Rattle.rtk_convert.specs.Steps.OfferLines.{class_of_offer};
-ghost use Rattle.rtk_convert.specs.Conversion.{RepresentsFound};
+ghost use Rattle.rtk_convert.specs.Conversion.{IsNewConversion};
 ghost use Rattle.rtk_convert.specs.Outcome.{KeepsWindow, NamesFailedStreams, RefusesStopped};
 ghost use Rattle.rtk_convert.specs.Writing.{written};
 
@@ -60,10 +60,7 @@ impl Model for Conversion {
 impl Conversion {
     /// A conversion that has found no frame yet.
     pub(crate) fn new(alloc: Global, setup: Setup) -> Result<Conversion, AllocError>
-        ensures represents { IfOk result (λ c. RepresentsFound c []) }
-        ensures same_setup { IfOk result (λ c. c.setup ≡ setup) }
-        ensures going { IfOk result (λ c. c.stopped ≡ false) }
-        ensures few { IfOk result (λ c. length c.collector.sets ≤ setup.window) }
+        ensures { IfOk result (IsNewConversion setup) }
     {
         let records = ClosedEpochs::new(alloc)?;
         let collector = Collector::new(alloc, setup.window());

@@ -4,9 +4,9 @@
 
 ghost use Rattle.std.specs.Prelude.{◌≡◌, ◌≢◌, ◌<◌, ◌↔◌, [], true, false, None, length, replicate, OnOk, OnErr, IsErrOf, IfOk, IfErr, IfSome, Decides};
 ghost use Rattle.rtk_frame.specs.ScannerView.{scanner_view};
-ghost use Rattle.rtk_convert.specs.Converter.{IsLinkCount, HoldsAtMost, RepresentsHistory, refusal, FeedsLink, EndsLink, LeavesConverter, EndsConverter};
+ghost use Rattle.rtk_convert.specs.Converter.{IsLinkCount, IsNewConverter, RepresentsHistory, refusal, FeedsLink, EndsLink, LeavesConverter, EndsConverter};
 ghost use Rattle.rtk_convert.specs.Steps.AllLinks.{ClosesLinks};
-ghost use Rattle.rtk_convert.specs.History.{History, new_history, IsOpen, newest_on};
+ghost use Rattle.rtk_convert.specs.History.{History, IsOpen, newest_on};
 ghost use Rattle.rtk_convert.specs.Outcome.{NamesFailedStreams};
 ghost use Rattle.rtk_convert.specs.Writing.{written};
 
@@ -24,7 +24,7 @@ use std::marker::Model;
 
 /// Converts what 1 to 16 links carry of one station to a file and a report.
 ///
-/// Its memory is bounded, as the clauses `bounds` say: of each link at most 1,029 bytes are pending,
+/// Its memory is bounded, as `HoldsAtMost` says: of each link at most 1,029 bytes are pending,
 /// and in all it holds at most as many open epochs as the setup says. A call that breaks off (V4, V5) stops
 /// it: each later call answers V8.
 #[derive(Drop)]
@@ -75,13 +75,10 @@ impl Converter {
 
     /// A converter whose links are open and empty. Links are counted from 0.
     pub fn new(alloc: Global, setup: Setup, links: usize) -> Result<Converter, ConvertFault>
-        ensures ok { IfOk result (λ c. RepresentsHistory c (new_history links)) }
-        ensures same_setup { IfOk result (λ c. c.conversion.setup ≡ setup) }
-        ensures as_many { IfOk result (λ c. length c.links ≡ links) }
+        ensures ok { IfOk result (IsNewConverter setup links) }
         ensures link_count { IsErrOf result ConvertFault.Setup ↔ ¬ (IsLinkCount links) }
         // V4 comes only if memory is refused: tests/system/calls, rows `Converter::new of ..`.
         ensures fault { IfErr result (λ fault. IsLinkCount links → fault ≡ ConvertFault.OutOfMemory) }
-        ensures bounds { IfOk result HoldsAtMost }
     {
         if links < 1 || links > 16 {
             return Err(ConvertFault::Setup);

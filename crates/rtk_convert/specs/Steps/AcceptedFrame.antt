@@ -29,11 +29,12 @@ pub record BreaksOffAtFrameAs (old : ConversionView) (link : ℕ) (f : FrameClas
   pub log : WritesPartOfRest written_old.report written_new.report (lines old.setup.window before) (lines old.setup.window (found_on link f ∷ before))
   pub one : AddsToOne old.setup (found_on link f) before
 
--- the same, whatever was found before
+-- a frame with this payload is accepted so, whatever was found before
 abbrev pub AcceptsFrame : ConversionView → ℕ → List ℕ → ConversionView → Written → Written → Type 0
 AcceptsFrame old link payload new written_old written_new = (before : List Found) → RepresentsFound old before
     → (f : FrameClass) × IsClassOfPayload old.setup payload f × AcceptsFrameAs old link f before new written_old written_new
 
+-- the call breaks off so, whatever was found before
 abbrev pub BreaksOffAtFrame : ConversionView → ℕ → List ℕ → Written → Written → Type 0
 BreaksOffAtFrame old link payload written_old written_new = (before : List Found) → RepresentsFound old before
     → (f : FrameClass) × IsClassOfPayload old.setup payload f × BreaksOffAtFrameAs old link f before written_old written_new

@@ -43,11 +43,12 @@ pub record AddsMessagePartAs (old : ConversionView) (link : ℕ) (a : Arrival) (
   pub out : WritesPartOfRest written_old.file written_new.file (file_so_far old.setup before) (file_so_far old.setup (a ∷ before))
   pub log : TakesPart written_old.report written_new.report (frame_lines old.setup.window link (Dated a) before)
 
--- the same, whatever arrived before
+-- a message is added so, whatever arrived before
 abbrev pub AddsMessage : ConversionView → ℕ → Arrival → ConversionView → Written → Written → Type 0
 AddsMessage old link a new written_old written_new =
     (before : List Arrival) → RepresentsEpochs old before → AddsMessageAs old link a before new written_old written_new
 
+-- the call breaks off so, whatever arrived before
 abbrev pub AddsMessageInPart : ConversionView → ℕ → Arrival → Written → Written → Type 0
 AddsMessageInPart old link a written_old written_new =
     (before : List Arrival) → RepresentsEpochs old before → AddsMessagePartAs old link a before written_old written_new

@@ -33,11 +33,12 @@ pub record ClosesEpochsAs (s : SetupView) (site : PositionView) (old : ClosedEpo
   pub follows : HasClosed new s.head.listed (epochs ++ below)
   pub out : WritesRest out_old out_new (closed_text s site below) (closed_text s site (epochs ++ below))
 
--- the same, whatever epochs were closed before
+-- these epochs were closed so, whatever epochs were closed before
 abbrev pub ClosesEpochs : SetupView → PositionView → ClosedEpochsView → List EpochSetView → ClosedEpochsView → Option (List ℕ) → Option (List ℕ) → Type 0
 ClosesEpochs s site old epochs new out_old out_new =
     (below : List EpochSetView) → HasClosed old s.head.listed below → ClosesEpochsAs s site old epochs below new out_old out_new
 
+-- a first part of what these epochs add was written, whatever epochs were closed before
 abbrev pub ClosesEpochsInPart : SetupView → PositionView → ClosedEpochsView → List EpochSetView → Option (List ℕ) → Option (List ℕ) → Type 0
 ClosesEpochsInPart s site old epochs out_old out_new =
     (below : List EpochSetView) → HasClosed old s.head.listed below → WritesPartOfRest out_old out_new (closed_text s site below) (closed_text s site (epochs ++ below))

@@ -19,7 +19,7 @@ pub record AddsFramesAs (old : ConversionView) (link : ℕ) (payloads : List (Li
   pub newest : newest_old ≡ newest_on link before → newest_new ≡ newest_on link after
   pub writes : WritesOn old.setup before after written_old written_new
 
--- the same, whatever was found before
+-- frames with these payloads come so, whatever was found before
 abbrev pub AddsFrames : ConversionView → ℕ → List (List ℕ) → ConversionView → Option ℕ → Option ℕ → Written → Written → Type 0
 AddsFrames old link payloads new newest_old newest_new written_old written_new = (before : List Found) → RepresentsFound old before
     → (after : List Found) × AddsFramesAs old link payloads before after new newest_old newest_new written_old written_new
