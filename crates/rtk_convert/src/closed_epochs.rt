@@ -100,9 +100,7 @@ impl ClosedEpochs {
         ensures failed { NamesFailedFile result (O.failures out.old) (O.failures out.new) }
     {
         let listed = setup.head().codes();
-        if let Err(_) = push_rows(&mut self.tracks, set, listed, &mut self.lines) {
-            return Err(ConvertFault::OutOfMemory);
-        }
+        push_rows(&mut self.tracks, set, listed, &mut self.lines)?;
         let epoch = set.epoch();
         self.lines.finish(epoch);
         let text = self.lines.text();

@@ -145,9 +145,7 @@ impl Conversion {
             }
             FrameClass::Refused(fault) => {
                 self.counts.refused = self.counts.refused.saturating_add(1);
-                let Ok(line) = report::refused_line(self.alloc, link, fault) else {
-                    return Err(ConvertFault::OutOfMemory);
-                };
+                let line = report::refused_line(self.alloc, link, fault)?;
                 put_lines(log, &line)?;
                 Ok(None)
             }
@@ -175,12 +173,8 @@ impl Conversion {
     {
         let number = dated.number();
         let epoch = dated.epoch();
-        let Ok(offer) = self.collector.offer(dated) else {
-            return Err(ConvertFault::OutOfMemory);
-        };
-        let Ok(lines) = report::offer_lines(self.alloc, link, number, epoch, &offer) else {
-            return Err(ConvertFault::OutOfMemory);
-        };
+        let offer = self.collector.offer(dated)?;
+        let lines = report::offer_lines(self.alloc, link, number, epoch, &offer)?;
         count_message(&mut self.counts, &offer);
         let Some(set) = closed_by(offer) else {
             return put_lines(log, &lines);
@@ -217,9 +211,7 @@ impl Conversion {
         put_last_header(alloc, &setup, &position, records.header_out(), out)?;
         let mut counts = self.counts;
         counts.epochs = records.count();
-        let Ok(lines) = report::count_lines(alloc, &counts) else {
-            return Err(ConvertFault::OutOfMemory);
-        };
+        let lines = report::count_lines(alloc, &counts)?;
         put_lines(log, &lines)?;
         Ok(counts)
     }

@@ -83,9 +83,7 @@ impl Converter {
         if links < 1 || links > 16 {
             return Err(ConvertFault::Setup);
         }
-        let Ok(conversion) = Conversion::new(alloc, setup) else {
-            return Err(ConvertFault::OutOfMemory);
-        };
+        let conversion = Conversion::new(alloc, setup)?;
         let links = new_links(alloc, links)?;
         Ok(Converter {
             conversion,

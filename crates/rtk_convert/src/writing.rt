@@ -68,9 +68,7 @@ pub(crate) fn put_record<O: Sink>(
         put_text(out, text)?;
         return Ok(true);
     }
-    let Ok(whole) = with_header(alloc, setup, position, epoch, text) else {
-        return Err(ConvertFault::OutOfMemory);
-    };
+    let whole = with_header(alloc, setup, position, epoch, text)?;
     put_text(out, &whole)?;
     Ok(true)
 }
@@ -90,9 +88,7 @@ pub(crate) fn put_last_header<O: Sink>(
     if header_out {
         return Ok(());
     }
-    let Ok(text) = header(alloc, setup.head(), position, setup.near()) else {
-        return Err(ConvertFault::OutOfMemory);
-    };
+    let text = header(alloc, setup.head(), position, setup.near())?;
     put_text(out, &text)
 }
 

@@ -25,10 +25,11 @@ returns-in-Foreign-clause-handles g c =
     ∙ ap (λ (n : ℕ). record (one_frame_more c.self.inside.counts) { foreign = n }) c.saturating_add-self-inside-in-Foreign.ensures in
     payload-ok Foreign c.self.view_is comes refl (arrives-foreign c.args.payload.now comes counts)
 
-pub returns-in_default-clause-handles : goal.returns-in_default-clause-handles
-returns-in_default-clause-handles g c =
+pub returns-in_err-line-in-Refused-clause-handles : goal.returns-in_err-line-in-Refused-clause-handles
+returns-in_err-line-in-Refused-clause-handles g c =
     let comes = subst (λ (f : FrameClass). IsClassOfPayload c.self.inside.setup c.args.payload.now f) c.in-Refused.is (c.read.result.now, c.read.ensures, c.classify.ensures) in
-    payload-err OutOfMemory (Refused c.in-Refused.fault) c.self.view_is comes tt tt (breaks-refused c.args.payload.now comes (takes-none (g.L.Sink.taken c.args.log.now) (refused_line c.args.link c.in-Refused.fault)))
+    let p = err_from_is_err_and c.from_residual.result c.from_residual.ensures.1 in
+    rw (p.1, p.2) (payload-err OutOfMemory (Refused c.in-Refused.fault) c.self.view_is comes tt tt (breaks-refused c.args.payload.now comes (takes-none (g.L.Sink.taken c.args.log.now) (refused_line c.args.link c.in-Refused.fault))))
 
 pub returns-in_ok-put_lines-in-Refused-clause-handles : goal.returns-in_ok-put_lines-in-Refused-clause-handles
 returns-in_ok-put_lines-in-Refused-clause-handles g c =
@@ -36,13 +37,13 @@ returns-in_ok-put_lines-in-Refused-clause-handles g c =
     let counts = ap (λ (n : ℕ). record (record c.self.inside.counts { frames = n }) { refused = c.saturating_add-self-inside-in-Refused.result }) c.saturating_add-self-inside.ensures
     ∙ ap (λ (n : ℕ). record (one_frame_more c.self.inside.counts) { refused = n }) c.saturating_add-self-inside-in-Refused.ensures in
     payload-ok (Refused c.in-Refused.fault) c.self.view_is comes refl
-    (arrives-refused c.args.payload.now comes counts (c.in_ok-put_lines-in-Refused.ensures.puts.all ∙ ap (with_more (g.L.Sink.taken c.args.log.now)) (c.deref.ensures.value ∙ c.in-Ok.ensures)))
+    (arrives-refused c.args.payload.now comes counts (c.in_ok-put_lines-in-Refused.ensures.puts.all ∙ ap (with_more (g.L.Sink.taken c.args.log.now)) (c.deref.ensures.value ∙ c.in_ok-line-in-Refused.ensures)))
 
 pub returns-in_err-put_lines-in-Refused-clause-handles : goal.returns-in_err-put_lines-in-Refused-clause-handles
 returns-in_err-put_lines-in-Refused-clause-handles g c =
-    let p = err_from_is_err_and c.from_residual.result c.from_residual.ensures.1 in
+    let p = err_from_is_err_and c.from_residual-in_err-put_lines-in-Refused.result c.from_residual-in_err-put_lines-in-Refused.ensures.1 in
     let comes = subst (λ (f : FrameClass). IsClassOfPayload c.self.inside.setup c.args.payload.now f) c.in-Refused.is (c.read.result.now, c.read.ensures, c.classify.ensures) in
-    let part = subst (λ (t : List ℕ). TakesPart (g.L.Sink.taken c.args.log.now) (g.L.Sink.taken c.put_lines.new.log) t) (c.deref.ensures.value ∙ c.in-Ok.ensures) c.put_lines.ensures.puts.part in
+    let part = subst (λ (t : List ℕ). TakesPart (g.L.Sink.taken c.args.log.now) (g.L.Sink.taken c.put_lines.new.log) t) (c.deref.ensures.value ∙ c.in_ok-line-in-Refused.ensures) c.put_lines.ensures.puts.part in
     rw (p.1, p.2, c.in_err-put_lines-in-Refused.ensures.fault) (payload-err _ (Refused c.in-Refused.fault) c.self.view_is comes tt tt (breaks-refused c.args.payload.now comes part))
 
 pub returns-in_ok-handle_message-in-Dated-clause-handles : goal.returns-in_ok-handle_message-in-Dated-clause-handles
@@ -60,7 +61,7 @@ returns-in_err-handle_message-in-Dated-clause-handles g c =
 
 pub returns-in_err-put_lines-in-Refused-clause-failed : goal.returns-in_err-put_lines-in-Refused-clause-failed
 returns-in_err-put_lines-in-Refused-clause-failed g c =
-    let p = err_from_is_err_and c.from_residual.result c.from_residual.ensures.1 in
+    let p = err_from_is_err_and c.from_residual-in_err-put_lines-in-Refused.result c.from_residual-in_err-put_lines-in-Refused.ensures.1 in
     rw (p.1, p.2) (record { file_failed = rw c.in_err-put_lines-in-Refused.ensures.fault refl; report_failed = c.in_err-put_lines-in-Refused.ensures.report_failed })
 
 pub returns-in_err-handle_message-in-Dated-clause-failed : goal.returns-in_err-handle_message-in-Dated-clause-failed
@@ -74,15 +75,17 @@ returns-in-OtherMessage-clause-stays g c = stays-seen c.self.view_is c.requires.
 pub returns-in-Foreign-clause-stays : goal.returns-in-Foreign-clause-stays
 returns-in-Foreign-clause-stays g c = stays-seen c.self.view_is c.requires.under_way (record { same_setup = refl; few = omega (arith, c.self.invariant.1.few, c.self.invariant.1.places); held = λ h. h }) refl (ahead-seen c.self.view_is c.requires.under_way)
 
-pub returns-in_default-clause-stays : goal.returns-in_default-clause-stays
-returns-in_default-clause-stays g c = stays-seen c.self.view_is c.requires.under_way (record { same_setup = refl; few = omega (arith, c.self.invariant.1.few, c.self.invariant.1.places); held = λ h. h }) refl tt
+pub returns-in_err-line-in-Refused-clause-stays : goal.returns-in_err-line-in-Refused-clause-stays
+returns-in_err-line-in-Refused-clause-stays g c =
+    let p = err_from_is_err_and c.from_residual.result c.from_residual.ensures.1 in
+    rw (p.1, p.2) (stays-seen c.self.view_is c.requires.under_way (record { same_setup = refl; few = omega (arith, c.self.invariant.1.few, c.self.invariant.1.places); held = λ h. h }) refl tt)
 
 pub returns-in_ok-put_lines-in-Refused-clause-stays : goal.returns-in_ok-put_lines-in-Refused-clause-stays
 returns-in_ok-put_lines-in-Refused-clause-stays g c = stays-seen c.self.view_is c.requires.under_way (record { same_setup = refl; few = omega (arith, c.self.invariant.1.few, c.self.invariant.1.places); held = λ h. h }) refl (ahead-seen c.self.view_is c.requires.under_way)
 
 pub returns-in_err-put_lines-in-Refused-clause-stays : goal.returns-in_err-put_lines-in-Refused-clause-stays
 returns-in_err-put_lines-in-Refused-clause-stays g c =
-    let p = err_from_is_err_and c.from_residual.result c.from_residual.ensures.1 in
+    let p = err_from_is_err_and c.from_residual-in_err-put_lines-in-Refused.result c.from_residual-in_err-put_lines-in-Refused.ensures.1 in
     rw (p.1, p.2) (stays-seen c.self.view_is c.requires.under_way (record { same_setup = refl; few = omega (arith, c.self.invariant.1.few, c.self.invariant.1.places); held = λ h. h }) refl tt)
 
 pub returns-in_ok-handle_message-in-Dated-clause-stays : goal.returns-in_ok-handle_message-in-Dated-clause-stays
@@ -95,3 +98,8 @@ returns-in_err-handle_message-in-Dated-clause-stays g c =
     let p = err_from_is_err_and c.from_residual-in_err-handle_message-in-Dated.result c.from_residual-in_err-handle_message-in-Dated.ensures.1 in
     let s = c.in_err-handle_message-in-Dated.ensures.stays in
     rw (p.1, p.2) (record { keeps = keeps-seen c.self.view_is (record { same_setup = s.keeps.same_setup; few = s.keeps.few; held = s.keeps.held }); stopped = s.stopped; ahead = tt })
+
+pub returns-in_err-line-in-Refused-clause-failed : goal.returns-in_err-line-in-Refused-clause-failed
+returns-in_err-line-in-Refused-clause-failed g c =
+    let p = err_from_is_err_and c.from_residual.result c.from_residual.ensures.1 in
+    rw (p.1, p.2) (record { file_failed = refl; report_failed = refl })

@@ -10,7 +10,7 @@ use Rattle.rtk_convert.proofs.converter.Converter.new.Goals as goal
 
 pub returns-clause-ok : goal.returns-clause-ok
 returns-clause-ok c =
-    let new = c.in-Ok.ensures in
+    let new = c.in_ok-conversion.ensures in
     record {
       represents = record {
         going = new.going;
@@ -19,5 +19,5 @@ returns-clause-ok c =
       };
       same_setup = new.same_setup;
       as_many = ap length c.in_ok-links.ensures.new ∙ length-replicate c.args.links _;
-      bounds = bounded-new c.in-Ok.conversion c.in_ok-links.links.items c.args.links c.in_ok-links.ensures.new (subst (λ (s : SetupView). length c.in-Ok.conversion.collector.sets ≤ s.window) (sym new.same_setup) new.few) ([], new.represents.window);
+      bounds = bounded-new c.in_ok-conversion.conversion c.in_ok-links.links.items c.args.links c.in_ok-links.ensures.new (subst (λ (s : SetupView). length c.in_ok-conversion.conversion.collector.sets ≤ s.window) (sym new.same_setup) new.few) ([], new.represents.window);
     }
