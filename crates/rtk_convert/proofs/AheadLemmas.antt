@@ -13,7 +13,7 @@ use Rattle.rtk_collect.specs.Offered.{ClosesBelow, ClosesLeast, LeastNeverFalls,
 use Rattle.rtk_convert.specs.Steps.Closing.{AllAbove}
 use Rattle.rtk_convert.specs.Steps.ShownCells.{AllBelow}
 use Rattle.rtk_convert.specs.Steps.AddedMessage.{closed_by}
-use Rattle.rtk_convert.specs.Records.{ClosedEpochsView}
+use Rattle.rtk_convert.specs.ClosedEpochs.{ClosedEpochsView}
 use Rattle.rtk_convert.specs.Conversion.{IsUnder, IsAhead}
 
 -- ---- no epoch closes

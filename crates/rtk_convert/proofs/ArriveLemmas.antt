@@ -24,7 +24,7 @@ use Rattle.rtk_convert.specs.Steps.ClosedText.{closing}
 use Rattle.rtk_convert.specs.FileOfArrivals.{site_of_stations, site_of_kept, file_so_far}
 use Rattle.rtk_convert.specs.FrameClass.{IsClassOfPayload, Found, arrivals}
 use Rattle.rtk_convert.specs.Steps.AddedMessage.{closed_by, AddsMessage, AddsMessageInPart}
-use Rattle.rtk_convert.specs.Records.{ClosedEpochsView, HasClosed}
+use Rattle.rtk_convert.specs.ClosedEpochs.{ClosedEpochsView, HasClosed}
 use Rattle.rtk_convert.specs.Report.{frame_lines, refused_line, lines, counted_as, one_frame_more, frame_counts}
 use Rattle.rtk_convert.specs.Steps.OfferLines.{offer_lines, class_of_offer}
 use Rattle.rtk_convert.specs.Setup.{SetupView}

@@ -1,19 +1,20 @@
 -- The links are closed, one after another, and the converter ends.
-use Rattle.std.proofs.Common.{◌≡◌, ℕ, suc, true, false, List, ◌++◌, Option, None, Some, length, inl, inr, refl, ap, append_assoc, sym, subst, ◌∙◌}
+use Rattle.std.proofs.Common.{◌≡◌, ℕ, suc, true, false, List, ◌++◌, Option, None, Some, Result, Ok, Err, length, inl, inr, refl, ap, append_assoc, sym, subst, ◌∙◌}
 use Rattle.std.specs.Prelude.{is_some}
 use Rattle.rtk_frame.specs.Stream.{with_more}
 use Rattle.rtk_frame.proofs.PublicLaws.{with_more-with_more}
-use Rattle.rtk_convert.specs.Converter.{ConverterView, RepresentsHistory, WritesOn, WritesInto, BreaksOffAfter, BreaksOffAt, ClosesLink, ClosesLinkInPart, BreaksOffClosing, IsAfterClosingAll, FinishesConverter, FinishesConverterInPart, refusal}
-use Rattle.rtk_convert.specs.Steps.AllLinks.{ClosesAllLinks, ClosesAllLinksInPart}
+use Rattle.rtk_convert.specs.Converter.{ConverterView, RepresentsHistory, WritesOn, WritesInto, BreaksOffAfter, BreaksOffAt, ClosesLink, ClosesLinkInPart, BreaksOffClosing, IsAfterClosingAll, FinishesConverter, FinishesConverterInPart, EndsConverter, refusal}
+use Rattle.rtk_convert.specs.Steps.AllLinks.{ClosesAllLinks, ClosesAllLinksInPart, ClosesLinks}
 use Rattle.rtk_convert.specs.FileOfArrivals.{kept_file, file_so_far}
 use Rattle.rtk_convert.specs.FrameClass.{Found, arrivals}
 use Rattle.rtk_convert.specs.Finish.{all_counts, report_of}
-use Rattle.rtk_convert.specs.Steps.Closing.{FinishesConversion, FinishesConversionInPart}
+use Rattle.rtk_convert.specs.Steps.Closing.{FinishesConversion, FinishesConversionInPart, EndsConversion}
 use Rattle.rtk_convert.specs.History.{History, IsAfterClose, fed_on, found_by_close}
 use Rattle.rtk_convert.specs.Report.{lines}
 use Rattle.rtk_convert.specs.Setup.{SetupView}
 use Rattle.rtk_convert.specs.Writing.{Written, WritesRest}
 use Rattle.rtk_convert.specs.Steps.WritingInPart.{WritesPartOfRest}
+use Rattle.rtk_convert.specs.Conversion.{ConversionView}
 use Rattle.rtk_convert.specs.declared.counts.Counts.{Counts}
 use Rattle.rtk_convert.specs.declared.fault.ConvertFault.{ConvertFault}
 use Rattle.rtk_convert.proofs.GatheringLemmas.{writes-nothing, goes-on, writes-into}
@@ -145,3 +146,28 @@ ends-part {old} {closed} {o} {o1} {o2} same_setup all part = λ h r.
         | inr whole ↦ inr (writes-on o.file o1.file o2.file _ _ _ writes.out (subst (λ (s : SetupView). WritesRest o1.file o2.file (file_so_far s (arrivals last.found)) (kept_file s (arrivals last.found))) same_setup whole))
       ];
     })
+
+-- the links are closed, and then the conversion ends, or the end breaks off
+pub ends-all : {T : Type 0} {answer : T} (old closed : ConverterView) {conversion : ConversionView} {o o1 o2 : Written} (r : Result Counts ConvertFault)
+    → old.conversion.stopped ≡ false → conversion ≡ closed.conversion → ClosesLinks old (Ok answer) closed o o1 → EndsConversion conversion r o1 o2 → EndsConverter old r o o2
+ends-all {T} {answer} old closed {conversion} {o} {o1} {o2} (Ok counts) going seen all e = record {
+  ok = ends all.same_setup all.ok (subst (λ (x : ConversionView). FinishesConversion x counts o1 o2) seen e.ok);
+  err = tt;
+  stopped = λ stops. absurd cc;
+  fault = λ _. tt;
+}
+ends-all {T} {answer} old closed {conversion} {o} {o1} {o2} (Err f) going seen all e = record {
+  ok = tt;
+  err = λ is. ends-part all.same_setup all.ok (subst (λ (x : ConversionView). FinishesConversionInPart x o1 o2) seen e.err);
+  stopped = λ stops. absurd cc;
+  fault = λ _. e.fault;
+}
+
+-- a link breaks off as it is closed
+pub ends-off : {T : Type 0} (old closed : ConverterView) {fault : ConvertFault} {o o' : Written} → old.conversion.stopped ≡ false → ClosesLinks {T = T} old (Err fault) closed o o' → EndsConverter old (Err fault) o o'
+ends-off {T} old closed {fault} {o} {o'} going off = record {
+  ok = tt;
+  err = λ is. ends-closing old o o' off.err;
+  stopped = λ stops. absurd cc;
+  fault = λ _. off.fault;
+}

@@ -15,6 +15,7 @@ mod AnswersLemmas
 mod AheadLemmas
 mod OneTextLemmas
 mod ArriveLemmas
+mod OutcomeLemmas
 mod FinishLemmas
 mod ArrivalLawsLemmas
 mod GatheringLemmas

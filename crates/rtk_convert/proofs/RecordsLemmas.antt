@@ -7,7 +7,7 @@ use Rattle.rtk_frame.specs.Stream.{count_after}
 use Rattle.rtk_convert.specs.File.{record_of, first_or, first_time, one_more_if_any, record_count}
 use Rattle.rtk_convert.specs.Steps.ClosedText.{is_any}
 use Rattle.rtk_convert.specs.LastPhases.{HasLastPhases}
-use Rattle.rtk_convert.specs.Records.{ClosedEpochsView, HasClosed}
+use Rattle.rtk_convert.specs.ClosedEpochs.{ClosedEpochsView, HasClosed}
 
 first-no : (o : Option ℕ) (e : ℕ) (text : List ℕ) → is_any text ≡ false → first_or o e text ≡ o
 first-no (Some t) e text h = refl

@@ -18,19 +18,12 @@ use Rattle.rtk_collect.specs.Key.{KeysRise}
 use Rattle.rtk_rinex.specs.declared.epoch_table.Observed.{Observed}
 use Rattle.rtk_rinex.specs.declared.epoch_table.SatelliteRow.{SatelliteRow}
 use Rattle.rtk_convert.specs.Rows.{first_cell, observed_with, observed_after, or_nothing, row_if_any, rows_to}
-use Rattle.rtk_convert.specs.Steps.ShownCells.{AreTaken, MayStep, IsPlaceOf, Shows, track_after, shown_by, is_code, with_code}
+use Rattle.rtk_convert.specs.Steps.ShownCells.{AreTaken, MayStep, IsPlaceOf, Shows, StepsOver, TakesCells, track_after, shown_by, is_code, with_code}
 use Rattle.rtk_convert.proofs.CellOrderLemmas.{any_cell, or_later, first-append, some-before, none-both, range-empty, range-more, range-new, range-satellite, range-other, first-range, first-absent, place-first}
 use Rattle.rtk_convert.proofs.ThroughLemmas.{cells-same, taken-same, taken-more, may-same, may-more, shown-more}
 use Rattle.rtk_convert.proofs.RowsLemmas.{observed-same, any-same, row-begins, row-with, any-with, rows-skip, rows-step}
 
 -- ---- the cells of a satellite, one by one
-
--- a cell of a new satellite and code was taken, and its code was written into the row
-pub record StepsOver (epoch : ℕ) (e : CellEntry) (listed : List Code) (tracks after : List (Option Track)) (shown now : List Observed) (is_listed : Bool) : Type 0 where
-  pub track : track_at after e.satellite e.code ≡ last_after (band_of e.code) (track_at tracks e.satellite e.code) (epoch_cell epoch e.cell)
-  pub others : (s : ℕ) (c : Code) → place_of_signal s c ≢ place_of_signal e.satellite e.code → track_at after s c ≡ track_at tracks s c
-  pub row : now ≡ with_code e.code (observed_with e.cell (digits_since (band_of e.code) (track_at tracks e.satellite e.code) (epoch_cell epoch e.cell))) listed shown
-  pub found : is_listed ≡ list_any (is_code e.code) listed
 
 pub none-some : (o : Option Cell) → is_some o ≡ false → o ≡ None
 none-some None h = refl
@@ -84,14 +77,6 @@ shows-more {old} {epoch} {xs} {s} {listed} {tracks} {row} {any} after now is_lis
     }
 
 -- ---- the cells of a satellite in a list, after earlier ones
-
--- the cells between `begin` and `end` are of this satellite, and were taken after the earlier ones
-pub record TakesCells (epoch : ℕ) (earlier xs : List CellEntry) (begin end s : ℕ) (listed : List Code) (first : List (Option Track)) (blank : List Observed) (tracks : List (Option Track)) (shown : List Observed) (found : Bool) : Type 0 where
-  pub from : begin ≤ end
-  pub within : end ≤ length xs
-  pub same : (k : ℕ) (d : CellEntry) → begin ≤ k → k < end → (get_or xs k d).satellite ≡ s
-  pub later : MayStep tracks (earlier ++ slice_range xs begin end) s epoch
-  pub shows : (old : List (Option Track)) (any : Bool) → Shows old epoch earlier s listed first blank any → Shows old epoch (earlier ++ slice_range xs begin end) s listed tracks shown (found || any)
 
 pub takes-begin : (epoch : ℕ) (earlier xs : List CellEntry) (begin s : ℕ) (listed : List Code) (first : List (Option Track)) (blank : List Observed) → begin ≤ length xs
     → MayStep first earlier s epoch → TakesCells epoch earlier xs begin begin s listed first blank first blank false

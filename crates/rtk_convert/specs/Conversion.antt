@@ -1,5 +1,5 @@
 -- What a conversion represents: a list of found frames.
-use Rattle.std.specs.Prelude.{◌≡◌, ◌<◌, ◌≤◌, ◌⊎◌, ℕ, Bool, false, List, ◌∷◌, length, Option, None, Some, All}
+use Rattle.std.specs.Prelude.{◌≡◌, ◌<◌, ◌≤◌, ◌⊎◌, ℕ, Bool, false, List, [], ◌∷◌, length, Option, None, Some, All}
 use Rattle.rtk_obs.specs.declared.code.Code.{Code}
 use Rattle.rtk_obs.specs.declared.track.Track.{Track}
 use Rattle.rtk_obs.specs.Cell.{IsSatellite}
@@ -11,7 +11,7 @@ use Rattle.rtk_convert.specs.declared.frame_class.FrameClass.{FrameClass}
 use Rattle.rtk_convert.specs.declared.counts.Counts.{Counts}
 use Rattle.rtk_convert.specs.FileOfArrivals.{file_so_far}
 use Rattle.rtk_convert.specs.FrameClass.{Found, arrivals}
-use Rattle.rtk_convert.specs.Records.{ClosedEpochsView, HasClosed}
+use Rattle.rtk_convert.specs.ClosedEpochs.{ClosedEpochsView, HasClosed}
 use Rattle.rtk_convert.specs.Report.{lines, frame_counts}
 use Rattle.rtk_convert.specs.Setup.{SetupView}
 
@@ -33,6 +33,13 @@ pub record RepresentsFound (s : ConversionView) (found : List Found) : Type 0 wh
   pub window : RepresentsArrivals s.collector (arrivals found)
   pub closed : HasClosed s.records s.setup.head.listed (closed s.setup.window (arrivals found))
   pub counts : s.counts ≡ frame_counts s.setup.window found
+
+-- a new conversion with this setup: it has found no frame
+pub record IsNewConversion (s : SetupView) (c : ConversionView) : Type 0 where
+  pub represents : RepresentsFound c []
+  pub same_setup : c.setup ≡ s
+  pub going : c.stopped ≡ false
+  pub few : length c.collector.sets ≤ s.window
 
 -- the window holds what is kept of some arrivals
 abbrev pub HoldsArrivals : CollectorView → Type 0

@@ -1,5 +1,5 @@
 -- What a converter represents: a history; and what its calls do, whatever the history was.
-use Rattle.std.specs.Prelude.{◌≡◌, ◌⊎◌, ◌≤◌, ℕ, zero, suc, false, if◌then◌else◌, List, [], ◌∷◌, ◌++◌, Option, None, Some, length, slice_get, All}
+use Rattle.std.specs.Prelude.{◌≡◌, ◌⊎◌, ◌≤◌, ℕ, zero, suc, true, false, if◌then◌else◌, List, [], ◌∷◌, ◌++◌, Option, None, Some, length, slice_get, All, Result, OnOk, IfOk, IfErr, IsErrOf}
 use Rattle.std.specs.Int.{IsInRange}
 use Rattle.rtk_frame.specs.Frames.{pending}
 use Rattle.rtk_frame.specs.Stream.{with_more}
@@ -7,11 +7,12 @@ use Rattle.rtk_convert.specs.declared.counts.Counts.{Counts}
 use Rattle.rtk_convert.specs.declared.fault.ConvertFault.{ConvertFault}
 use Rattle.rtk_convert.specs.declared.fault.ConvertFault.TheVariants.{NoLink, LinkClosed, Stopped}
 use Rattle.rtk_convert.specs.declared.link.Link.{Link}
+use Rattle.rtk_convert.specs.Failure.{IsFrameFault}
 use Rattle.rtk_convert.specs.FileOfArrivals.{kept_file, file_so_far}
 use Rattle.rtk_convert.specs.FrameClass.{Found, IsClassOfPayload, arrivals}
 use Rattle.rtk_convert.specs.declared.frame_class.FrameClass.{FrameClass}
 use Rattle.rtk_convert.specs.Finish.{all_counts, report_of}
-use Rattle.rtk_convert.specs.History.{LinkPast, History, Finds, IsOpen, IsAfterFeed, IsAfterClose, fed_on, found_by_piece, found_by_close, newest_on}
+use Rattle.rtk_convert.specs.History.{LinkPast, History, new_history, Finds, IsOpen, IsAfterFeed, IsAfterClose, fed_on, found_by_piece, found_by_close, newest_on}
 use Rattle.rtk_convert.specs.Report.{lines}
 use Rattle.rtk_convert.specs.Setup.{SetupView}
 use Rattle.rtk_convert.specs.Conversion.{ConversionView, HoldsArrivals, found_on, RepresentsFound}
@@ -72,6 +73,13 @@ pub record HoldsAtMost (c : ConverterView) : Type 0 where
   pub epochs : length c.conversion.collector.sets ≤ c.conversion.setup.window
   pub cells : All (λ e. length e.cells ≤ 1024) c.conversion.collector.sets
 
+-- a new converter with this setup: its links are open, and nothing was fed on them
+pub record IsNewConverter (s : SetupView) (links : ℕ) (c : ConverterView) : Type 0 where
+  pub represents : RepresentsHistory c (new_history links)
+  pub same_setup : c.conversion.setup ≡ s
+  pub as_many : length c.links ≡ links
+  pub bounds : HoldsAtMost c
+
 -- what the frames after `before` add to the file and to the lines was written
 pub record WritesOn (s : SetupView) (before after : List Found) (written_old written_new : Written) : Type 0 where
   pub out : WritesRest written_old.file written_new.file (file_so_far s (arrivals before)) (file_so_far s (arrivals after))
@@ -123,6 +131,27 @@ abbrev pub ClosesLinkInPart : ConverterView → ℕ → Written → Written → 
 ClosesLinkInPart old link written_old written_new = (h : History) → RepresentsHistory old h
     → BreaksOffAt old.conversion.setup link (found_by_close (fed_on link h.links)) h.found written_old written_new
 
+-- a piece is fed on a link, or the call breaks off at one of the frames that it finds
+pub record FeedsLink {T : Type 0} (old : ConverterView) (link : ℕ) (piece : List ℕ) (result : Result T ConvertFault) (new : ConverterView) (written_old written_new : Written) : Type 0 where
+  pub ok : OnOk result (FeedsPiece old link piece new written_old written_new)
+  pub err : IfErr result (λ fault. IsFrameFault fault → FeedsPieceInPart old link piece written_old written_new)
+
+-- a link is closed, or the call breaks off at one of the frames that are left in it
+pub record EndsLink {T : Type 0} (old : ConverterView) (link : ℕ) (result : Result T ConvertFault) (new : ConverterView) (written_old written_new : Written) : Type 0 where
+  pub ok : OnOk result (ClosesLink old link new written_old written_new)
+  pub err : IfErr result (λ fault. IsFrameFault fault → ClosesLinkInPart old link written_old written_new)
+
+-- what a call on a link leaves of a converter, whatever it was to do: a call that breaks off stops
+-- the converter, and only memory or a write breaks a call off that is not refused; whatever the
+-- answer, the setup and the number of links stay, and what the converter holds is bounded
+pub record LeavesConverter {T : Type 0} (old : ConverterView) (link : ℕ) (result : Result T ConvertFault) (new : ConverterView) : Type 0 where
+  pub going : OnOk result (new.conversion.stopped ≡ false)
+  pub halts : IfErr result (λ fault. IsFrameFault fault → new.conversion.stopped ≡ true)
+  pub fault : refusal old link ≡ None → IfErr result IsFrameFault
+  pub same_setup : new.conversion.setup ≡ old.conversion.setup
+  pub as_many : length new.links ≡ length old.links
+  pub bounds : HoldsAtMost new
+
 -- ---- the end
 
 -- a link is closed if it is open
@@ -142,7 +171,7 @@ pub record FinishesConverterAs (s : SetupView) (h last : History) (counts : Coun
   pub out : WritesRest written_old.file written_new.file (file_so_far s (arrivals h.found)) (kept_file s (arrivals last.found))
   pub log : WritesRest written_old.report written_new.report (lines s.window h.found) (report_of s last.found)
 
--- the same, whatever the history was
+-- a converter ends so, whatever the history was
 abbrev pub FinishesConverter : ConverterView → Counts → Written → Written → Type 0
 FinishesConverter old counts written_old written_new = (h : History) → RepresentsHistory old h
     → (last : History) × FinishesConverterAs old.conversion.setup h last counts written_old written_new
@@ -164,8 +193,16 @@ pub record BreaksOffFinishing (s : SetupView) (h : History) (written_old written
   pub counts_last : WritesRest written_old.report written_new.report (lines s.window h.found) (lines s.window last.found)
       ⊎ WritesRest written_old.file written_new.file (file_so_far s (arrivals h.found)) (kept_file s (arrivals last.found))
 
--- the same, whatever the history was
+-- the end of a converter breaks off in one of these two ways, whatever the history was
 abbrev pub FinishesConverterInPart : ConverterView → Written → Written → Type 0
 FinishesConverterInPart old written_old written_new = (h : History) → RepresentsHistory old h
     → ((link : ℕ) × BreaksOffClosing old.conversion.setup h link written_old written_new)
     ⊎ BreaksOffFinishing old.conversion.setup h written_old written_new
+
+-- a converter ends: the file and the report are whole, or its end breaks off; after a call that broke
+-- off it is refused
+pub record EndsConverter (old : ConverterView) (result : Result Counts ConvertFault) (written_old written_new : Written) : Type 0 where
+  pub ok : IfOk result (λ counts. FinishesConverter old counts written_old written_new)
+  pub err : IfErr result (λ fault. IsFrameFault fault → FinishesConverterInPart old written_old written_new)
+  pub stopped : old.conversion.stopped ≡ true → IsErrOf result Stopped
+  pub fault : old.conversion.stopped ≡ false → IfErr result IsFrameFault

@@ -6,7 +6,7 @@ pub mod File
 pub mod FilePrefix
 pub mod FileLaws
 pub mod Failure
-pub mod Records
+pub mod ClosedEpochs
 pub mod Writing
 pub mod FrameClass
 pub mod SetupLaws
@@ -19,6 +19,7 @@ pub mod CountLaws
 pub mod NumberLaws
 pub mod ArrivalLaws
 pub mod History
+pub mod Outcome
 pub mod Converter
 pub mod ReadHistory
 pub mod ReadSteps

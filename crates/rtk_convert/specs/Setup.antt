@@ -2,6 +2,7 @@
 use Rattle.std.specs.Prelude.{ℕ, ◌≤◌}
 use Rattle.std.specs.Int.{IsInRange}
 use Rattle.rtk_message.specs.declared.msm_kind.MsmKind.{MsmKind}
+use Rattle.rtk_message.specs.declared.msm_kind.MsmKind.TheVariants.{Msm4}
 use Rattle.rtk_obs.specs.Dating.{IsReference}
 use Rattle.rtk_rinex.specs.Header.{HeadView, IsHeadView}
 
@@ -15,6 +16,10 @@ pub record SetupView : Type 0 where
   pub window : ℕ
   -- the MSM that is converted beside 1004
   pub msm : MsmKind
+
+-- the setup of these parts; its MSM is 1074
+abbrev pub setup_of : ℕ → ℕ → HeadView → ℕ → SetupView
+setup_of station near head window = record { station = station; near = near; head = head; window = window; msm = Msm4 }
 
 -- constant
 -- a reference station ID has 12 bits (RTCM 10403.3, DF003)

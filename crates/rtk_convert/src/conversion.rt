@@ -5,23 +5,24 @@
 //! is an invariant (`IsAhead`): there is a last phase only once the window is full, and its epoch
 //! is below all epochs of the window.
 
-ghost use Rattle.std.specs.Prelude.{◌≡◌, ◌≢◌, ◌≤◌, ◌↔◌, [], length, true, false, List, Err, OnOk, OnErr, IsErrOf, IfOk, IfErr};
-ghost use Rattle.rtk_convert.specs.Failure.{IsFrameFault, NamesFailedWrites};
-ghost use Rattle.rtk_convert.specs.Steps.Closing.{FinishesConversion, FinishesConversionInPart};
-ghost use Rattle.rtk_convert.specs.Steps.AcceptedFrame.{IsEpochIn, AcceptsFrame, BreaksOffAtFrame, HasCause};
-ghost use Rattle.rtk_convert.specs.Steps.AddedMessage.{AddsMessage, AddsMessageInPart, closed_by};
+ghost use Rattle.std.specs.Prelude.{◌≡◌, ◌≢◌, ◌≤◌, ◌↔◌, [], length, true, false, Err, OnOk, IfOk, is_err};
+ghost use Rattle.rtk_convert.specs.Steps.Closing.{EndsConversion};
+ghost use Rattle.rtk_convert.specs.Steps.AcceptedFrame.{IsUnderWay, StaysUnderWay, HandlesPayload};
+ghost use Rattle.rtk_convert.specs.Steps.AddedMessage.{HandlesMessage, closed_by};
 ghost use Rattle.rtk_convert.specs.Report.{counted_as};
 ghost use Rattle.rtk_convert.specs.Steps.OfferLines.{class_of_offer};
-ghost use Rattle.rtk_convert.specs.Conversion.{RepresentsFound, HoldsArrivals, IsAhead};
+ghost use Rattle.rtk_convert.specs.Conversion.{IsNewConversion};
+ghost use Rattle.rtk_convert.specs.Outcome.{KeepsWindow, NamesFailedStreams, RefusesStopped};
 ghost use Rattle.rtk_convert.specs.Writing.{written};
 
+use crate::closed_epochs::{ClosedEpochs, close_remaining};
 use crate::counts::Counts;
-use crate::fault::{ConvertFault, Stream};
+use crate::fault::ConvertFault;
 use crate::frame_class::{FrameClass, classify, read};
-use crate::output::{put_last_header, put_lines};
-use crate::records::{ClosedEpochs, close_left};
+use crate::link_number::LinkNumber;
 use crate::report;
 use crate::setup::Setup;
+use crate::writing::{put_last_header, put_lines};
 use rtk_collect::{Collector, Dated, EpochSet, Offer};
 use rtk_frame::Sink;
 use rtk_message::AnyDecoder;
@@ -59,10 +60,7 @@ impl Model for Conversion {
 impl Conversion {
     /// A conversion that has found no frame yet.
     pub(crate) fn new(alloc: Global, setup: Setup) -> Result<Conversion, AllocError>
-        ensures represents { IfOk result (λ c. RepresentsFound c []) }
-        ensures same_setup { IfOk result (λ c. c.setup ≡ setup) }
-        ensures going { IfOk result (λ c. c.stopped ≡ false) }
-        ensures few { IfOk result (λ c. length c.collector.sets ≤ setup.window) }
+        ensures { IfOk result (IsNewConversion setup) }
     {
         let records = ClosedEpochs::new(alloc)?;
         let collector = Collector::new(alloc, setup.window());
@@ -93,33 +91,23 @@ impl Conversion {
         self.stopped
     }
 
-    /// Takes the payload of a frame that was found on a link, counted from 0: writes the record of
+    /// Takes the payload of a frame that was found on a link: writes the record of
     /// the epoch that it closes to `out`, and its lines to `log`. Answers its epoch, if it is an
     /// observation of the chosen station, whether it is late or not.
     pub(crate) fn accept_frame<O: Sink, L: Sink>(
         &mut self,
         decoder: &mut AnyDecoder,
-        link: u8,
+        link: LinkNumber,
         payload: &[u8],
         out: &mut O,
         log: &mut L,
     ) -> Result<Option<GpsMs>, ConvertFault>
-        ensures same_setup { self.new.setup ≡ self.old.setup }
-        ensures few { length self.new.collector.sets ≤ self.new.setup.window }
-        ensures held { HoldsArrivals self.old.collector → HoldsArrivals self.new.collector }
-        ensures stopped { (result ≡ Err ConvertFault.Stopped) ↔ (self.old.stopped ≡ true) }
-        ensures still { self.old.stopped ≡ true → (out.new ≡ out.old) × (log.new ≡ log.old) }
-        ensures going { OnOk result (self.new.stopped ≡ false) }
-        ensures halts { OnErr result (self.new.stopped ≡ true) }
-        ensures epoch { IfOk result (λ epoch. IsEpochIn self.old.setup payload.now epoch) }
-        ensures ok { OnOk result (AcceptsFrame self.old link payload.now self.new
-            (written (O.taken out.old) (L.taken log.old)) (written (O.taken out.new) (L.taken log.new))) }
-        ensures err { OnErr result (self.old.stopped ≡ false → BreaksOffAtFrame self.old link payload.now
-            (written (O.taken out.old) (L.taken log.old)) (written (O.taken out.new) (L.taken log.new))) }
-        ensures fault { self.old.stopped ≡ false → IfErr result IsFrameFault }
-        ensures cause { OnErr result (self.old.stopped ≡ false → HasCause self.old.setup payload.now) }
-        ensures file_failed { NamesFailedWrites Stream.Out result (O.failures out.old) (O.failures out.new) }
-        ensures report_failed { NamesFailedWrites Stream.Log result (L.failures log.old) (L.failures log.new) }
+        ensures keeps { KeepsWindow self.old self.new }
+        ensures refused { RefusesStopped self.old.stopped result out.old out.new log.old log.new }
+        ensures halts { self.new.stopped ≡ is_err result }
+        ensures handles { self.old.stopped ≡ false → HandlesPayload self.old link payload.now result self.new
+            (written (O.taken out.old) (L.taken log.old)) (written (O.taken out.new) (L.taken log.new)) }
+        ensures failed { NamesFailedStreams result (O.failures out.old) (O.failures out.new) (L.failures log.old) (L.failures log.new) }
     {
         if self.stopped {
             return Err(ConvertFault::Stopped);
@@ -134,27 +122,16 @@ impl Conversion {
     fn handle_payload<O: Sink, L: Sink>(
         &mut self,
         decoder: &mut AnyDecoder,
-        link: u8,
+        link: LinkNumber,
         payload: &[u8],
         out: &mut O,
         log: &mut L,
     ) -> Result<Option<GpsMs>, ConvertFault>
-        requires stopped { self.old.stopped ≡ true }
-        requires ahead { IsAhead self.old.collector self.old.records }
-        ensures same_setup { self.new.setup ≡ self.old.setup }
-        ensures few { length self.new.collector.sets ≤ self.new.setup.window }
-        ensures held { HoldsArrivals self.old.collector → HoldsArrivals self.new.collector }
-        ensures stopped { self.new.stopped ≡ true }
-        ensures ahead { OnOk result (IsAhead self.new.collector self.new.records) }
-        ensures epoch { IfOk result (λ epoch. IsEpochIn self.old.setup payload.now epoch) }
-        ensures ok { OnOk result (AcceptsFrame self.old link payload.now self.new
-            (written (O.taken out.old) (L.taken log.old)) (written (O.taken out.new) (L.taken log.new))) }
-        ensures err { OnErr result (BreaksOffAtFrame self.old link payload.now
-            (written (O.taken out.old) (L.taken log.old)) (written (O.taken out.new) (L.taken log.new))) }
-        ensures fault { IfErr result IsFrameFault }
-        ensures cause { OnErr result (HasCause self.old.setup payload.now) }
-        ensures file_failed { NamesFailedWrites Stream.Out result (O.failures out.old) (O.failures out.new) }
-        ensures report_failed { NamesFailedWrites Stream.Log result (L.failures log.old) (L.failures log.new) }
+        requires under_way { IsUnderWay self.old }
+        ensures stays { StaysUnderWay self.old result self.new }
+        ensures handles { HandlesPayload self.old link payload.now result self.new
+            (written (O.taken out.old) (L.taken log.old)) (written (O.taken out.new) (L.taken log.new)) }
+        ensures failed { NamesFailedStreams result (O.failures out.old) (O.failures out.new) (L.failures log.old) (L.failures log.new) }
     {
         self.counts.frames = self.counts.frames.saturating_add(1);
         match classify(&self.setup, read(&self.setup, decoder, payload)) {
@@ -168,9 +145,7 @@ impl Conversion {
             }
             FrameClass::Refused(fault) => {
                 self.counts.refused = self.counts.refused.saturating_add(1);
-                let Ok(line) = report::refused_line(self.alloc, link, fault) else {
-                    return Err(ConvertFault::OutOfMemory);
-                };
+                let line = report::refused_line(self.alloc, link, fault)?;
                 put_lines(log, &line)?;
                 Ok(None)
             }
@@ -185,34 +160,21 @@ impl Conversion {
     // Offers a message to the window, counts it, and writes what comes of it.
     fn handle_message<O: Sink, L: Sink>(
         &mut self,
-        link: u8,
+        link: LinkNumber,
         dated: Dated<'_>,
         out: &mut O,
         log: &mut L,
     ) -> Result<(), ConvertFault>
-        requires stopped { self.old.stopped ≡ true }
-        requires ahead { IsAhead self.old.collector self.old.records }
-        ensures same_setup { self.new.setup ≡ self.old.setup }
-        ensures few { length self.new.collector.sets ≤ self.new.setup.window }
-        ensures held { HoldsArrivals self.old.collector → HoldsArrivals self.new.collector }
-        ensures stopped { self.new.stopped ≡ true }
-        ensures ahead { OnOk result (IsAhead self.new.collector self.new.records) }
-        ensures ok { OnOk result (AddsMessage self.old link dated.entry self.new
-            (written (O.taken out.old) (L.taken log.old)) (written (O.taken out.new) (L.taken log.new))) }
-        ensures err { OnErr result (AddsMessageInPart self.old link dated.entry
-            (written (O.taken out.old) (L.taken log.old)) (written (O.taken out.new) (L.taken log.new))) }
-        ensures fault { IfErr result IsFrameFault }
-        ensures file_failed { NamesFailedWrites Stream.Out result (O.failures out.old) (O.failures out.new) }
-        ensures report_failed { NamesFailedWrites Stream.Log result (L.failures log.old) (L.failures log.new) }
+        requires under_way { IsUnderWay self.old }
+        ensures stays { StaysUnderWay self.old result self.new }
+        ensures handles { HandlesMessage self.old link dated.entry result self.new
+            (written (O.taken out.old) (L.taken log.old)) (written (O.taken out.new) (L.taken log.new)) }
+        ensures failed { NamesFailedStreams result (O.failures out.old) (O.failures out.new) (L.failures log.old) (L.failures log.new) }
     {
         let number = dated.number();
         let epoch = dated.epoch();
-        let Ok(offer) = self.collector.offer(dated) else {
-            return Err(ConvertFault::OutOfMemory);
-        };
-        let Ok(lines) = report::offer_lines(self.alloc, link, number, epoch, &offer) else {
-            return Err(ConvertFault::OutOfMemory);
-        };
+        let offer = self.collector.offer(dated)?;
+        let lines = report::offer_lines(self.alloc, link, number, epoch, &offer)?;
         count_message(&mut self.counts, &offer);
         let Some(set) = closed_by(offer) else {
             return put_lines(log, &lines);
@@ -233,15 +195,10 @@ impl Conversion {
         out: &mut O,
         log: &mut L,
     ) -> Result<Counts, ConvertFault>
-        ensures stopped { (result ≡ Err ConvertFault.Stopped) ↔ (self.stopped ≡ true) }
-        ensures still { self.stopped ≡ true → (out.new ≡ out.old) × (log.new ≡ log.old) }
-        ensures ok { IfOk result (λ counts. FinishesConversion self counts
-            (written (O.taken out.old) (L.taken log.old)) (written (O.taken out.new) (L.taken log.new))) }
-        ensures err { OnErr result (self.stopped ≡ false → FinishesConversionInPart self
-            (written (O.taken out.old) (L.taken log.old)) (written (O.taken out.new) (L.taken log.new))) }
-        ensures fault { self.stopped ≡ false → IfErr result IsFrameFault }
-        ensures file_failed { NamesFailedWrites Stream.Out result (O.failures out.old) (O.failures out.new) }
-        ensures report_failed { NamesFailedWrites Stream.Log result (L.failures log.old) (L.failures log.new) }
+        ensures refused { RefusesStopped self.stopped result out.old out.new log.old log.new }
+        ensures ends { self.stopped ≡ false → EndsConversion self result
+            (written (O.taken out.old) (L.taken log.old)) (written (O.taken out.new) (L.taken log.new)) }
+        ensures failed { NamesFailedStreams result (O.failures out.old) (O.failures out.new) (L.failures log.old) (L.failures log.new) }
     {
         if self.stopped {
             return Err(ConvertFault::Stopped);
@@ -250,13 +207,11 @@ impl Conversion {
         let position = self.collector.station();
         let mut records = self.records;
         let mut left = self.collector.close();
-        close_left(alloc, &setup, &position, &mut records, &mut left, out)?;
+        close_remaining(alloc, &setup, &position, &mut records, &mut left, out)?;
         put_last_header(alloc, &setup, &position, records.header_out(), out)?;
         let mut counts = self.counts;
         counts.epochs = records.count();
-        let Ok(lines) = report::count_lines(alloc, &counts) else {
-            return Err(ConvertFault::OutOfMemory);
-        };
+        let lines = report::count_lines(alloc, &counts)?;
         put_lines(log, &lines)?;
         Ok(counts)
     }

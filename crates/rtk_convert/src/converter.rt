@@ -4,16 +4,17 @@
 
 ghost use Rattle.std.specs.Prelude.{◌≡◌, ◌≢◌, ◌<◌, ◌↔◌, [], true, false, None, length, replicate, OnOk, OnErr, IsErrOf, IfOk, IfErr, IfSome, Decides};
 ghost use Rattle.rtk_frame.specs.ScannerView.{scanner_view};
-ghost use Rattle.rtk_convert.specs.Converter.{IsLinkCount, HoldsAtMost, RepresentsHistory, refusal, FeedsPiece, FeedsPieceInPart, ClosesLink, ClosesLinkInPart, FinishesConverter, FinishesConverterInPart};
-ghost use Rattle.rtk_convert.specs.Steps.AllLinks.{ClosesAllLinks, ClosesAllLinksInPart};
-ghost use Rattle.rtk_convert.specs.Failure.{IsFrameFault, NamesFailedWrites};
-ghost use Rattle.rtk_convert.specs.History.{History, new_history, IsOpen, newest_on};
+ghost use Rattle.rtk_convert.specs.Converter.{IsLinkCount, IsNewConverter, RepresentsHistory, refusal, FeedsLink, EndsLink, LeavesConverter, EndsConverter};
+ghost use Rattle.rtk_convert.specs.Steps.AllLinks.{ClosesLinks};
+ghost use Rattle.rtk_convert.specs.History.{History, IsOpen, newest_on};
+ghost use Rattle.rtk_convert.specs.Outcome.{NamesFailedStreams};
 ghost use Rattle.rtk_convert.specs.Writing.{written};
 
 use crate::conversion::Conversion;
 use crate::counts::Counts;
-use crate::fault::{ConvertFault, Stream};
+use crate::fault::ConvertFault;
 use crate::link::Link;
+use crate::link_number::LinkNumber;
 use crate::setup::Setup;
 use rtk_frame::{Scanner, Sink};
 use rtk_message::AnyDecoder;
@@ -23,7 +24,7 @@ use std::marker::Model;
 
 /// Converts what 1 to 16 links carry of one station to a file and a report.
 ///
-/// Its memory is bounded, as the clauses `bounds` say: of each link at most 1,029 bytes are pending,
+/// Its memory is bounded, as `HoldsAtMost` says: of each link at most 1,029 bytes are pending,
 /// and in all it holds at most as many open epochs as the setup says. A call that breaks off (V4, V5) stops
 /// it: each later call answers V8.
 #[derive(Drop)]
@@ -74,20 +75,15 @@ impl Converter {
 
     /// A converter whose links are open and empty. Links are counted from 0.
     pub fn new(alloc: Global, setup: Setup, links: usize) -> Result<Converter, ConvertFault>
-        ensures ok { IfOk result (λ c. RepresentsHistory c (new_history links)) }
-        ensures same_setup { IfOk result (λ c. c.conversion.setup ≡ setup) }
-        ensures as_many { IfOk result (λ c. length c.links ≡ links) }
+        ensures ok { IfOk result (IsNewConverter setup links) }
         ensures link_count { IsErrOf result ConvertFault.Setup ↔ ¬ (IsLinkCount links) }
         // V4 comes only if memory is refused: tests/system/calls, rows `Converter::new of ..`.
         ensures fault { IfErr result (λ fault. IsLinkCount links → fault ≡ ConvertFault.OutOfMemory) }
-        ensures bounds { IfOk result HoldsAtMost }
     {
         if links < 1 || links > 16 {
             return Err(ConvertFault::Setup);
         }
-        let Ok(conversion) = Conversion::new(alloc, setup) else {
-            return Err(ConvertFault::OutOfMemory);
-        };
+        let conversion = Conversion::new(alloc, setup)?;
         let links = new_links(alloc, links)?;
         Ok(Converter {
             conversion,
@@ -148,34 +144,23 @@ impl Converter {
         out: &mut O,
         log: &mut L,
     ) -> Result<(), ConvertFault>
-        // Done: what the links come to, and what is written.
-        ensures ok { OnOk result (FeedsPiece self.old link piece.now self.new
-            (written (O.taken out.old) (L.taken log.old)) (written (O.taken out.new) (L.taken log.new))) }
-        ensures going { OnOk result (self.new.conversion.stopped ≡ false) }
+        // Done: what the links come to, and what is written. Broken off: what is out.
+        ensures feeds { FeedsLink self.old link piece.now result self.new
+            (written (O.taken out.old) (L.taken log.old)) (written (O.taken out.new) (L.taken log.new)) }
 
-        // Not done: nothing is changed, or what is out.
+        // Refused: nothing is changed.
         ensures refused { IfSome (refusal self.old link) (λ fault. IsErrOf result fault
             × (self.new ≡ self.old) × (out.new ≡ out.old) × (log.new ≡ log.old)) }
-        ensures err { IfErr result (λ fault. IsFrameFault fault → FeedsPieceInPart self.old link piece.now
-            (written (O.taken out.old) (L.taken log.old)) (written (O.taken out.new) (L.taken log.new))) }
-        ensures halts { IfErr result (λ fault. IsFrameFault fault → self.new.conversion.stopped ≡ true) }
 
-        // When each fault; a stream that failed is named.
-        // V4 comes only if memory is refused: tests/system/calls, rows `feed ..`.
-        ensures fault { refusal self.old link ≡ None → IfErr result IsFrameFault }
-        ensures file_failed { NamesFailedWrites Stream.Out result (O.failures out.old) (O.failures out.new) }
-        ensures report_failed { NamesFailedWrites Stream.Log result (L.failures log.old) (L.failures log.new) }
-
-        // Whatever the answer.
-        ensures same_setup { self.new.conversion.setup ≡ self.old.conversion.setup }
-        ensures as_many { length self.new.links ≡ length self.old.links }
-        ensures bounds { HoldsAtMost self.new }
+        // Whatever the answer. V4 comes only if memory is refused: tests/system/calls, rows `feed ..`.
+        ensures leaves { LeavesConverter self.old link result self.new }
+        ensures failed { NamesFailedStreams result (O.failures out.old) (O.failures out.new) (L.failures log.old) (L.failures log.new) }
     {
         if let Some(fault) = self.refusal(link) {
             return Err(fault);
         }
         self.links[link].feed(
-            link as u8,
+            LinkNumber::new(link),
             &mut self.conversion,
             &mut self.decoder,
             piece,
@@ -191,34 +176,23 @@ impl Converter {
         out: &mut O,
         log: &mut L,
     ) -> Result<(), ConvertFault>
-        // Done: what the links come to, and what is written.
-        ensures ok { OnOk result (ClosesLink self.old link self.new
-            (written (O.taken out.old) (L.taken log.old)) (written (O.taken out.new) (L.taken log.new))) }
-        ensures going { OnOk result (self.new.conversion.stopped ≡ false) }
+        // Done: what the links come to, and what is written. Broken off: what is out.
+        ensures ends { EndsLink self.old link result self.new
+            (written (O.taken out.old) (L.taken log.old)) (written (O.taken out.new) (L.taken log.new)) }
 
-        // Not done: nothing is changed, or what is out.
+        // Refused: nothing is changed.
         ensures refused { IfSome (refusal self.old link) (λ fault. IsErrOf result fault
             × (self.new ≡ self.old) × (out.new ≡ out.old) × (log.new ≡ log.old)) }
-        ensures err { IfErr result (λ fault. IsFrameFault fault → ClosesLinkInPart self.old link
-            (written (O.taken out.old) (L.taken log.old)) (written (O.taken out.new) (L.taken log.new))) }
-        ensures halts { IfErr result (λ fault. IsFrameFault fault → self.new.conversion.stopped ≡ true) }
 
-        // When each fault; a stream that failed is named.
-        // V4 comes only if memory is refused: tests/system/calls, rows `close of ..`.
-        ensures fault { refusal self.old link ≡ None → IfErr result IsFrameFault }
-        ensures file_failed { NamesFailedWrites Stream.Out result (O.failures out.old) (O.failures out.new) }
-        ensures report_failed { NamesFailedWrites Stream.Log result (L.failures log.old) (L.failures log.new) }
-
-        // Whatever the answer.
-        ensures same_setup { self.new.conversion.setup ≡ self.old.conversion.setup }
-        ensures as_many { length self.new.links ≡ length self.old.links }
-        ensures bounds { HoldsAtMost self.new }
+        // Whatever the answer. V4 comes only if memory is refused: tests/system/calls, rows `close of ..`.
+        ensures leaves { LeavesConverter self.old link result self.new }
+        ensures failed { NamesFailedStreams result (O.failures out.old) (O.failures out.new) (L.failures log.old) (L.failures log.new) }
     {
         if let Some(fault) = self.refusal(link) {
             return Err(fault);
         }
         self.links[link].close(
-            link as u8,
+            LinkNumber::new(link),
             &mut self.conversion,
             &mut self.decoder,
             out,
@@ -229,15 +203,9 @@ impl Converter {
     // Closes the links that are open, the lower number first.
     fn close_all<O: Sink, L: Sink>(&mut self, out: &mut O, log: &mut L) -> Result<(), ConvertFault>
         requires going { self.old.conversion.stopped ≡ false }
-        ensures same_setup { self.new.conversion.setup ≡ self.old.conversion.setup }
-        ensures going { OnOk result (self.new.conversion.stopped ≡ false) }
-        ensures fault { IfErr result IsFrameFault }
-        ensures ok { OnOk result (ClosesAllLinks self.old self.new
-            (written (O.taken out.old) (L.taken log.old)) (written (O.taken out.new) (L.taken log.new))) }
-        ensures err { OnErr result (ClosesAllLinksInPart self.old
-            (written (O.taken out.old) (L.taken log.old)) (written (O.taken out.new) (L.taken log.new))) }
-        ensures file_failed { NamesFailedWrites Stream.Out result (O.failures out.old) (O.failures out.new) }
-        ensures report_failed { NamesFailedWrites Stream.Log result (L.failures log.old) (L.failures log.new) }
+        ensures closes { ClosesLinks self.old result self.new
+            (written (O.taken out.old) (L.taken log.old)) (written (O.taken out.new) (L.taken log.new)) }
+        ensures failed { NamesFailedStreams result (O.failures out.old) (O.failures out.new) (L.failures log.old) (L.failures log.new) }
     {
         for link in 0..self.links.len() {
             if self.refusal(link).is_some() {
@@ -250,21 +218,12 @@ impl Converter {
 
     /// Closes the links that are open, the lower number first, and ends the file and the report.
     pub fn finish<O: Sink, L: Sink>(self, out: &mut O, log: &mut L) -> Result<Counts, ConvertFault>
-        // Done: the file and the report are whole.
-        ensures ok { IfOk result (λ counts. FinishesConverter self counts
-            (written (O.taken out.old) (L.taken log.old)) (written (O.taken out.new) (L.taken log.new))) }
-
-        // Not done: nothing is changed, or what is out.
-        ensures still { self.conversion.stopped ≡ true → (out.new ≡ out.old) × (log.new ≡ log.old) }
-        ensures err { IfErr result (λ fault. IsFrameFault fault → FinishesConverterInPart self
-            (written (O.taken out.old) (L.taken log.old)) (written (O.taken out.new) (L.taken log.new))) }
-
-        // When each fault; a stream that failed is named.
-        ensures stopped { self.conversion.stopped ≡ true → IsErrOf result ConvertFault.Stopped }
+        // Done: the file and the report are whole. Broken off: what is out.
         // V4 comes only if memory is refused: tests/system/calls, rows `finish ..`.
-        ensures fault { self.conversion.stopped ≡ false → IfErr result IsFrameFault }
-        ensures file_failed { NamesFailedWrites Stream.Out result (O.failures out.old) (O.failures out.new) }
-        ensures report_failed { NamesFailedWrites Stream.Log result (L.failures log.old) (L.failures log.new) }
+        ensures ends { EndsConverter self result
+            (written (O.taken out.old) (L.taken log.old)) (written (O.taken out.new) (L.taken log.new)) }
+        ensures still { self.conversion.stopped ≡ true → (out.new ≡ out.old) × (log.new ≡ log.old) }
+        ensures failed { NamesFailedStreams result (O.failures out.old) (O.failures out.new) (L.failures log.old) (L.failures log.new) }
     {
         if self.conversion.is_stopped() {
             return Err(ConvertFault::Stopped);

@@ -5,22 +5,17 @@
 //! cell of the MSM has. Each of them takes a step of the tracks, also if its code is not listed,
 //! since a later phase is compared with it.
 
-ghost use Rattle.std.specs.Prelude.{◌≡◌, ◌≢◌, ℕ, Bool, ◌+◌, ◌<◌, ◌≤◌, List, [], ◌∷◌, ◌++◌, ◌||◌, map, length, replicate, Option, Some, All, AllPairs, slice_index_or, slice_range, is_some, not, IsTrue, None, OnOk};
+ghost use Rattle.std.specs.Prelude.{◌≡◌, ◌≢◌, ℕ, ◌+◌, ◌<◌, ◌≤◌, List, [], ◌∷◌, ◌++◌, map, length, replicate, Some, All, AllPairs, slice_index_or, slice_range, is_some, not, IsTrue, None, OnOk};
 ghost use Rattle.std.specs.List.{list_any};
 ghost use Rattle.rtk_obs.specs.declared.cell.CellEntry.{CellEntry};
-ghost use Rattle.rtk_obs.specs.declared.track.Track.{Track};
 ghost use Rattle.rtk_obs.specs.Cell.{IsInRange, IsSatellite};
-ghost use Rattle.rtk_obs.specs.Code.{band_of};
-ghost use Rattle.rtk_obs.specs.Rollover.{last_after, digits_since};
-ghost use Rattle.rtk_obs.specs.Slip.{epoch_cell};
-ghost use Rattle.rtk_obs.specs.Tracks.{IsLater, track_at, place_of_signal};
-ghost use Rattle.rtk_collect.specs.EpochSet.{EpochSetView, AreOfOneKind};
-ghost use Rattle.rtk_collect.specs.Key.{KeysRise};
+ghost use Rattle.rtk_obs.specs.Tracks.{IsLater, track_at};
+ghost use Rattle.rtk_collect.specs.EpochSet.{EpochSetView};
 ghost use Rattle.rtk_rinex.specs.Header.{IsCodeList};
 ghost use Rattle.rtk_rinex.specs.RecordLines.{HoldsLines};
 ghost use Rattle.rtk_convert.specs.Rows.{first_cell, rolled_or_none, observed_with, or_nothing, table_of};
 ghost use Rattle.rtk_convert.specs.LastPhases.{HasLastPhases};
-ghost use Rattle.rtk_convert.specs.Steps.ShownCells.{AllBelow, MayStep, IsPlaceOf, Shows, ArePlaces, is_code, with_code};
+ghost use Rattle.rtk_convert.specs.Steps.ShownCells.{AllBelow, MayStep, IsPlaceOf, RiseFrom, HasCellsFrom, TellsSatellite, AreCellsTo, Shows, StepsOver, TakesCells, ArePlaces, is_code, with_code};
 
 use rtk_collect::EpochSet;
 use rtk_obs::{Cell, CellEntry, Code, Digits, GpsMs, Tracks, rolled};
@@ -92,7 +87,7 @@ fn put_listed(
 }
 
 // Takes the first cell of a satellite and code, and says whether its code is listed.
-fn take_entry(
+fn show_entry(
     tracks: &mut Tracks,
     epoch: GpsMs,
     entry: &CellEntry,
@@ -104,13 +99,7 @@ fn take_entry(
     requires later { IsLater (track_at tracks.old entry.now.satellite entry.now.code) epoch }
     requires width { length row.old ≡ length listed.now }
     requires places { ArePlaces listed.now places.now }
-    ensures track { track_at tracks.new entry.now.satellite entry.now.code
-        ≡ last_after (band_of entry.now.code) (track_at tracks.old entry.now.satellite entry.now.code) (epoch_cell epoch entry.now.cell) }
-    ensures others { (s : ℕ) (c : Code) → place_of_signal s c ≢ place_of_signal entry.now.satellite entry.now.code → track_at tracks.new s c ≡ track_at tracks.old s c }
-    ensures row { row.new ≡ with_code entry.now.code
-        (observed_with entry.now.cell (digits_since (band_of entry.now.code) (track_at tracks.old entry.now.satellite entry.now.code) (epoch_cell epoch entry.now.cell)))
-        listed.now row.old }
-    ensures listed { result ≡ list_any (is_code entry.now.code) listed.now }
+    ensures { StepsOver epoch entry.now listed.now tracks.old tracks.new row.old row.new result }
 {
     let digits = tracks.step(entry.satellite, entry.code, epoch, &entry.cell);
     let shown = observed(&entry.cell, digits);
@@ -119,7 +108,7 @@ fn take_entry(
 
 // Has one of these cells, all of one satellite, this code?
 fn has_code(entries: &[CellEntry], code: Code) -> bool
-    ensures { (satellite : ℕ) → All (λ e. e.satellite ≡ satellite) entries.now → result ≡ is_some (first_cell entries.now satellite code) }
+    ensures { (s : ℕ) → All (λ e. e.satellite ≡ s) entries.now → result ≡ is_some (first_cell entries.now s code) }
 {
     for entry in entries {
         if entry.code == code {
@@ -131,8 +120,7 @@ fn has_code(entries: &[CellEntry], code: Code) -> bool
 
 // Is there a cell of this satellite at this place?
 fn has_satellite(entries: &[CellEntry], at: usize, satellite: u8) -> bool
-    ensures yes { IsTrue result → (at < length entries.now) × ((d : CellEntry) → (slice_index_or entries.now at d).satellite ≡ satellite) }
-    ensures no { IsTrue (not result) → at < length entries.now → ((d : CellEntry) → (slice_index_or entries.now at d).satellite ≢ satellite) }
+    ensures { TellsSatellite satellite entries.now at result }
 {
     at < entries.len() && entries[at].satellite == satellite
 }
@@ -145,10 +133,8 @@ fn is_absent(
     legacy: &[CellEntry],
     legacy_at: usize,
 ) -> bool
-    requires msm_rises { KeysRise msm.now }
-    requires msm_place { IsPlaceOf satellite msm.now msm_at }
-    requires legacy_rises { KeysRise legacy.now }
-    requires legacy_place { IsPlaceOf satellite legacy.now legacy_at }
+    requires msm { RiseFrom satellite msm.now msm_at }
+    requires legacy { RiseFrom satellite legacy.now legacy_at }
     ensures msm { IsTrue result → IsPlaceOf (satellite + 1) msm.now msm_at }
     ensures legacy { IsTrue result → IsPlaceOf (satellite + 1) legacy.now legacy_at }
 {
@@ -182,9 +168,9 @@ fn blank(row: &mut [Observed])
     }
 }
 
-// How far the cells of a satellite reach in a list, and whether one that was taken has a listed code.
+// How far the cells of a satellite reach in a list, and whether one that was shown has a listed code.
 #[derive(Clone, Copy)]
-struct Taken {
+struct Reach {
     end: usize,
     has_listed: bool,
 }
@@ -193,7 +179,7 @@ struct Taken {
 // cells has; and writes what they show into its row. It stands where it is called: for the first list,
 // to which no cell is earlier, much of it falls away.
 #[inline(always)]
-fn take_cells(
+fn show_cells(
     tracks: &mut Tracks,
     epoch: GpsMs,
     satellite: u8,
@@ -203,20 +189,15 @@ fn take_cells(
     listed: &[Code],
     places: &[u8; 16],
     row: &mut [Observed],
-) -> Taken
+) -> Reach
     requires satellite { IsSatellite satellite }
     requires earlier { All (λ e. e.satellite ≡ satellite) earlier.now }
-    requires ranges { All IsInRange entries.now }
-    requires rises { KeysRise entries.now }
-    requires kind { AreOfOneKind entries.now }
-    requires place { IsPlaceOf satellite entries.now begin }
+    requires cells { HasCellsFrom satellite entries.now begin }
     requires later { MayStep tracks.old earlier.now satellite epoch }
     requires width { length row.old ≡ length listed.now }
     requires places { ArePlaces listed.now places.now }
-    ensures shows { (old : List (Option Track)) (found : Bool) → Shows old epoch earlier.now satellite listed.now tracks.old row.old found
-        → Shows old epoch (earlier.now ++ slice_range entries.now begin result.end) satellite listed.now tracks.new row.new (result.has_listed || found) }
-    ensures later { MayStep tracks.new (earlier.now ++ slice_range entries.now begin result.end) satellite epoch }
-    ensures from { begin ≤ result.end }
+    ensures takes { TakesCells epoch earlier.now entries.now begin result.end satellite listed.now
+        tracks.old row.old tracks.new row.new result.has_listed }
     ensures next { IsPlaceOf (satellite + 1) entries.now result.end }
 {
     let mut has_listed = false;
@@ -226,15 +207,15 @@ fn take_cells(
             end += 1;
             continue;
         }
-        has_listed |= take_entry(tracks, epoch, &entries[end], listed, places, row);
+        has_listed |= show_entry(tracks, epoch, &entries[end], listed, places, row);
         end += 1;
     }
-    Taken { end, has_listed }
+    Reach { end, has_listed }
 }
 
-// How far the cells of a satellite reach in two lists, and whether one that was taken has a listed code.
+// How far the cells of a satellite reach in two lists, and whether one that was shown has a listed code.
 #[derive(Clone, Copy)]
-struct TakenSatellite {
+struct FilledRow {
     msm_end: usize,
     legacy_end: usize,
     has_listed: bool,
@@ -242,7 +223,7 @@ struct TakenSatellite {
 
 // Takes the cells of a satellite, which has its place in two lists of cells: first those of an MSM,
 // then those of a 1004 whose code none of an MSM has. Writes its row.
-fn take_satellite(
+fn fill_row(
     tracks: &mut Tracks,
     epoch: GpsMs,
     satellite: u8,
@@ -253,28 +234,20 @@ fn take_satellite(
     listed: &[Code],
     places: &[u8; 16],
     row: &mut [Observed],
-) -> TakenSatellite
+) -> FilledRow
     requires satellite { IsSatellite satellite }
-    requires msm_ranges { All IsInRange msm.now }
-    requires msm_rises { KeysRise msm.now }
-    requires msm_kind { AreOfOneKind msm.now }
-    requires msm_place { IsPlaceOf satellite msm.now msm_at }
-    requires legacy_ranges { All IsInRange legacy.now }
-    requires legacy_rises { KeysRise legacy.now }
-    requires legacy_kind { AreOfOneKind legacy.now }
-    requires legacy_place { IsPlaceOf satellite legacy.now legacy_at }
+    requires msm { HasCellsFrom satellite msm.now msm_at }
+    requires legacy { HasCellsFrom satellite legacy.now legacy_at }
     requires later { MayStep tracks.old [] satellite epoch }
     requires width { length row.old ≡ length listed.now }
     requires places { ArePlaces listed.now places.now }
     ensures shows { Shows tracks.old epoch (slice_range msm.now msm_at result.msm_end ++ slice_range legacy.now legacy_at result.legacy_end)
         satellite listed.now tracks.new row.new result.has_listed }
-    ensures msm_from { msm_at ≤ result.msm_end }
-    ensures msm_next { IsPlaceOf (satellite + 1) msm.now result.msm_end }
-    ensures legacy_from { legacy_at ≤ result.legacy_end }
-    ensures legacy_next { IsPlaceOf (satellite + 1) legacy.now result.legacy_end }
+    ensures msm { AreCellsTo satellite msm.now msm_at result.msm_end }
+    ensures legacy { AreCellsTo satellite legacy.now legacy_at result.legacy_end }
 {
     blank(row);
-    let first = take_cells(
+    let first = show_cells(
         tracks,
         epoch,
         satellite,
@@ -286,10 +259,10 @@ fn take_satellite(
         row,
     );
     let own = &msm[msm_at..first.end];
-    let second = take_cells(
+    let second = show_cells(
         tracks, epoch, satellite, own, legacy, legacy_at, listed, places, row,
     );
-    TakenSatellite {
+    FilledRow {
         msm_end: first.end,
         legacy_end: second.end,
         has_listed: first.has_listed | second.has_listed,
@@ -329,16 +302,16 @@ pub(crate) fn push_rows(
         if is_absent(satellite, msm, msm_at, legacy, legacy_at) {
             continue;
         }
-        let taken = take_satellite(
+        let filled = fill_row(
             tracks, epoch, satellite, msm, msm_at, legacy, legacy_at, listed, &places, row,
         );
-        if taken.has_listed {
+        if filled.has_listed {
             if let Err(_) = lines.push_row(satellite, row) {
                 return Err(AllocError);
             }
         }
-        msm_at = taken.msm_end;
-        legacy_at = taken.legacy_end;
+        msm_at = filled.msm_end;
+        legacy_at = filled.legacy_end;
     }
     Ok(())
 }

@@ -1,5 +1,6 @@
 //! Why a conversion does not go on.
 
+use std::alloc::AllocError;
 use thiserror::Error;
 
 /// One of the two streams that a conversion writes.
@@ -38,4 +39,15 @@ pub enum ConvertFault {
     /// A call before this one broke off.
     #[error("V8 stopped")]
     Stopped,
+}
+
+impl From<AllocError> for ConvertFault {
+    ghost use Rattle.std.specs.Prelude.{◌≡◌};
+    ghost use Rattle.rtk_convert.specs.declared.fault.ConvertFault.TheVariants.{OutOfMemory};
+
+    ghost from_gives = { λ _ e. e ≡ OutOfMemory };
+
+    fn from(_refused: AllocError) -> Self {
+        ConvertFault::OutOfMemory
+    }
 }

@@ -36,6 +36,7 @@
 //! Its tests: tests/values/src/convert.rt.in and convert/
 #![tactic(auto)]
 
+mod closed_epochs;
 mod conversion;
 mod converter;
 mod counts;
@@ -44,11 +45,11 @@ mod fault;
 mod frame_class;
 mod laws;
 mod link;
-mod output;
-mod records;
+mod link_number;
 mod report;
 mod runs;
 mod setup;
+mod writing;
 
 pub use converter::Converter;
 pub use counts::Counts;

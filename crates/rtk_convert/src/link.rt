@@ -1,15 +1,15 @@
 //! One link: its scanner and the newest epoch that came on it.
 
-ghost use Rattle.std.specs.Prelude.{◌≡◌, ◌≢◌, ◌≤◌, ◌++◌, length, true, false, OnOk, OnErr, IsErrOf, IfErr};
+ghost use Rattle.std.specs.Prelude.{◌≡◌, ◌≤◌, ◌++◌, length, true, false, OnOk};
 ghost use Rattle.rtk_frame.specs.Frames.{final_frames, frames, payloads, pending};
-ghost use Rattle.rtk_convert.specs.Conversion.{HoldsArrivals};
-ghost use Rattle.rtk_convert.specs.Failure.{IsFrameFault, NamesFailedWrites};
-ghost use Rattle.rtk_convert.specs.Steps.LinkFrames.{AddsFrames, AddsFramesInPart};
+ghost use Rattle.rtk_convert.specs.Outcome.{NamesFailedStreams};
+ghost use Rattle.rtk_convert.specs.Steps.LinkFrames.{TakesFrames};
 ghost use Rattle.rtk_convert.specs.History.{later_of};
 ghost use Rattle.rtk_convert.specs.Writing.{written};
 
 use crate::conversion::Conversion;
-use crate::fault::{ConvertFault, Stream};
+use crate::fault::ConvertFault;
+use crate::link_number::LinkNumber;
 use rtk_frame::{Answer, Scanner, Sink};
 use rtk_message::AnyDecoder;
 use rtk_obs::GpsMs;
@@ -39,7 +39,7 @@ impl Link {
     /// Feeds a piece, and takes the frames that it finds.
     pub(crate) fn feed<O: Sink, L: Sink>(
         &mut self,
-        number: u8,
+        number: LinkNumber,
         conversion: &mut Conversion,
         decoder: &mut AnyDecoder,
         piece: &[u8],
@@ -52,19 +52,10 @@ impl Link {
         ensures is_open { self.new.scanner.ended ≡ false }
         ensures pending { OnOk result (self.new.scanner.pending ≡ pending (self.old.scanner.pending ++ piece.now)) }
         ensures short { length self.new.scanner.pending ≤ 1029 }
-        ensures same_setup { conversion.new.setup ≡ conversion.old.setup }
-        ensures few { length conversion.new.collector.sets ≤ conversion.new.setup.window }
-        ensures held { HoldsArrivals conversion.old.collector → HoldsArrivals conversion.new.collector }
-        ensures going { OnOk result (conversion.new.stopped ≡ false) }
-        ensures halts { OnErr result (conversion.new.stopped ≡ true) }
-        ensures ok { OnOk result (AddsFrames conversion.old number (payloads (final_frames (self.old.scanner.pending ++ piece.now)))
+        ensures takes { TakesFrames conversion.old number (payloads (final_frames (self.old.scanner.pending ++ piece.now))) result
             conversion.new self.old.newest self.new.newest
-            (written (O.taken out.old) (L.taken log.old)) (written (O.taken out.new) (L.taken log.new))) }
-        ensures err { OnErr result (AddsFramesInPart conversion.old number (payloads (final_frames (self.old.scanner.pending ++ piece.now)))
-            (written (O.taken out.old) (L.taken log.old)) (written (O.taken out.new) (L.taken log.new))) }
-        ensures fault { IfErr result IsFrameFault }
-        ensures file_failed { NamesFailedWrites Stream.Out result (O.failures out.old) (O.failures out.new) }
-        ensures report_failed { NamesFailedWrites Stream.Log result (L.failures log.old) (L.failures log.new) }
+            (written (O.taken out.old) (L.taken log.old)) (written (O.taken out.new) (L.taken log.new)) }
+        ensures failed { NamesFailedStreams result (O.failures out.old) (O.failures out.new) (L.failures log.old) (L.failures log.new) }
     {
         let mut at = 0;
         'frames: loop {
@@ -81,7 +72,7 @@ impl Link {
     /// Ends the stream, and takes the frames that are left in it.
     pub(crate) fn close<O: Sink, L: Sink>(
         &mut self,
-        number: u8,
+        number: LinkNumber,
         conversion: &mut Conversion,
         decoder: &mut AnyDecoder,
         out: &mut O,
@@ -91,19 +82,10 @@ impl Link {
         requires few { length conversion.old.collector.sets ≤ conversion.old.setup.window }
         ensures ended { self.new.scanner.ended ≡ true }
         ensures short { length self.new.scanner.pending ≤ 1029 }
-        ensures same_setup { conversion.new.setup ≡ conversion.old.setup }
-        ensures few { length conversion.new.collector.sets ≤ conversion.new.setup.window }
-        ensures held { HoldsArrivals conversion.old.collector → HoldsArrivals conversion.new.collector }
-        ensures going { OnOk result (conversion.new.stopped ≡ false) }
-        ensures halts { OnErr result (conversion.new.stopped ≡ true) }
-        ensures ok { OnOk result (AddsFrames conversion.old number (payloads (frames self.old.scanner.pending))
+        ensures takes { TakesFrames conversion.old number (payloads (frames self.old.scanner.pending)) result
             conversion.new self.old.newest self.new.newest
-            (written (O.taken out.old) (L.taken log.old)) (written (O.taken out.new) (L.taken log.new))) }
-        ensures err { OnErr result (AddsFramesInPart conversion.old number (payloads (frames self.old.scanner.pending))
-            (written (O.taken out.old) (L.taken log.old)) (written (O.taken out.new) (L.taken log.new))) }
-        ensures fault { IfErr result IsFrameFault }
-        ensures file_failed { NamesFailedWrites Stream.Out result (O.failures out.old) (O.failures out.new) }
-        ensures report_failed { NamesFailedWrites Stream.Log result (L.failures log.old) (L.failures log.new) }
+            (written (O.taken out.old) (L.taken log.old)) (written (O.taken out.new) (L.taken log.new)) }
+        ensures failed { NamesFailedStreams result (O.failures out.old) (O.failures out.new) (L.failures log.old) (L.failures log.new) }
     {
         'frames: while let Some(payload) = self.scanner.rest() {
             let epoch = conversion.accept_frame(decoder, number, payload, out, log)?;

@@ -7,6 +7,7 @@ ghost use Rattle.rtk_convert.specs.Steps.OfferLines.{offer_lines};
 ghost use Rattle.rtk_convert.specs.ReportText.{epoch_text, link_text, arrival_text, signal_text, late_line, conflict_line, cell_conflict_line, count_line, count_lines};
 
 use crate::counts::Counts;
+use crate::link_number::LinkNumber;
 use rtk_collect::{Offer, SatelliteCode};
 use rtk_message::{AnyFault, put_any_fault, put_named};
 use rtk_obs::{GpsMs, civil, put_civil, two_digits};
@@ -26,14 +27,14 @@ fn put_epoch(line: &mut Vec<u8>, epoch: Option<GpsMs>) -> Result<(), AllocError>
 // The link, what became of the message, its number and its epoch.
 fn put_message(
     line: &mut Vec<u8>,
-    link: u8,
+    link: LinkNumber,
     what: &[u8],
     number: u16,
     epoch: Option<GpsMs>,
 ) -> Result<(), AllocError>
     ensures { OnOk result (line.new.items ≡ line.old.items ++ arrival_text link what.now number epoch) }
 {
-    put_named(line, b"link ", u64::from(link) + 1)?;
+    put_named(line, b"link ", link.shown())?;
     put_named(line, what, number.into())?;
     line.push(b' ')?;
     put_epoch(line, epoch)?;
@@ -54,7 +55,7 @@ fn put_signal(line: &mut Vec<u8>, cell: SatelliteCode) -> Result<(), AllocError>
 // The line of a cell that differs from the kept one.
 fn put_cell(
     lines: &mut Vec<u8>,
-    link: u8,
+    link: LinkNumber,
     number: u16,
     epoch: GpsMs,
     cell: SatelliteCode,
@@ -70,7 +71,7 @@ fn put_cell(
 // A line for each cell that differs from the kept one.
 fn put_cells(
     lines: &mut Vec<u8>,
-    link: u8,
+    link: LinkNumber,
     number: u16,
     epoch: Option<GpsMs>,
     cells: &[SatelliteCode],
@@ -90,7 +91,7 @@ fn put_cells(
 // each cell that does.
 fn put_conflicts(
     lines: &mut Vec<u8>,
-    link: u8,
+    link: LinkNumber,
     number: u16,
     epoch: Option<GpsMs>,
     cells: &[SatelliteCode],
@@ -109,7 +110,7 @@ fn put_conflicts(
 /// a line takes no memory.
 pub(crate) fn offer_lines(
     alloc: Global,
-    link: u8,
+    link: LinkNumber,
     number: u16,
     epoch: Option<GpsMs>,
     offer: &Offer,
@@ -134,11 +135,15 @@ pub(crate) fn offer_lines(
 }
 
 /// The line of a payload that is refused.
-pub(crate) fn refused_line(alloc: Global, link: u8, fault: AnyFault) -> Result<Vec<u8>, AllocError>
+pub(crate) fn refused_line(
+    alloc: Global,
+    link: LinkNumber,
+    fault: AnyFault,
+) -> Result<Vec<u8>, AllocError>
     ensures { IfOk result (λ line. line.items ≡ refused_line link fault) }
 {
     let mut line = Vec::new(alloc);
-    put_named(&mut line, b"link ", u64::from(link) + 1)?;
+    put_named(&mut line, b"link ", link.shown())?;
     line.extend_from_slice(b" refused ")?;
     put_any_fault(&mut line, fault)?;
     line.push(b'\n')?;

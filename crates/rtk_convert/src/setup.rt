@@ -3,7 +3,7 @@
 ghost use Rattle.std.specs.Prelude.{◌≡◌, IfOk, IfErr, Decides};
 ghost use Rattle.rtk_obs.specs.Dating.{IsReference};
 ghost use Rattle.rtk_rinex.specs.Header.{IsHeadView};
-ghost use Rattle.rtk_convert.specs.Setup.{IsSetupView, IsStation, IsWindow};
+ghost use Rattle.rtk_convert.specs.Setup.{IsSetupView, IsStation, IsWindow, setup_of};
 
 use rtk_message::MsmKind;
 use rtk_obs::{GpsMs, WEEK_MS};
@@ -56,9 +56,9 @@ impl Setup {
     /// The setup of these parts, if they are good; else the first cause why there is none. Its MSM is
     /// 1074.
     pub fn new(station: u16, near: GpsMs, head: Head, window: usize) -> Result<Setup, SetupFault>
-        ensures setup { IfOk result (λ s. s ≡ record { station = station; near = near; head = head; window = window; msm = MsmKind.Msm4 }) }
+        ensures setup { IfOk result (λ s. s ≡ setup_of station near head window) }
         ensures good { IfOk result IsSetupView }
-        ensures fault { IfErr result (IsSetupFault (record { station = station; near = near; head = head; window = window; msm = MsmKind.Msm4 })) }
+        ensures fault { IfErr result (IsSetupFault (setup_of station near head window)) }
     {
         if station > 4095 {
             return Err(SetupFault::Station);
@@ -78,7 +78,7 @@ impl Setup {
         })
     }
 
-    /// The same setup with this MSM.
+    /// This setup with another MSM.
     pub fn with_msm(self, msm: MsmKind) -> Setup
         ensures { result ≡ record self { msm = msm } }
     {

@@ -1,5 +1,5 @@
 -- What an arrival changes in a conversion, apart from the count of all frames.
-use Rattle.std.specs.Prelude.{◌≡◌, ℕ, List, ◌∷◌, Option, None}
+use Rattle.std.specs.Prelude.{◌≡◌, ℕ, List, ◌∷◌, Option, None, Result, OnOk, OnErr, IfErr}
 use Rattle.rtk_frame.specs.Stream.{with_more, TakesPart}
 use Rattle.rtk_collect.specs.declared.offer.Offer.{Offer}
 use Rattle.rtk_collect.specs.declared.offer.Offer.TheVariants.{Taken, Conflict, Repeat, Late}
@@ -8,9 +8,11 @@ use Rattle.rtk_collect.specs.Arrival.{Arrival}
 use Rattle.rtk_collect.specs.Accepted.{closed}
 use Rattle.rtk_collect.specs.Answer.{class_of}
 use Rattle.rtk_collect.specs.Collector.{RepresentsArrivals}
+use Rattle.rtk_convert.specs.declared.fault.ConvertFault.{ConvertFault}
 use Rattle.rtk_convert.specs.declared.frame_class.FrameClass.TheVariants.{Dated}
+use Rattle.rtk_convert.specs.Failure.{IsFrameFault}
 use Rattle.rtk_convert.specs.FileOfArrivals.{file_so_far}
-use Rattle.rtk_convert.specs.Records.{HasClosed}
+use Rattle.rtk_convert.specs.ClosedEpochs.{HasClosed}
 use Rattle.rtk_convert.specs.Report.{frame_lines, counted_as}
 use Rattle.rtk_convert.specs.Conversion.{ConversionView}
 use Rattle.rtk_convert.specs.Writing.{Written, WritesRest}
@@ -41,11 +43,18 @@ pub record AddsMessagePartAs (old : ConversionView) (link : ℕ) (a : Arrival) (
   pub out : WritesPartOfRest written_old.file written_new.file (file_so_far old.setup before) (file_so_far old.setup (a ∷ before))
   pub log : TakesPart written_old.report written_new.report (frame_lines old.setup.window link (Dated a) before)
 
--- the same, whatever arrived before
+-- a message is added so, whatever arrived before
 abbrev pub AddsMessage : ConversionView → ℕ → Arrival → ConversionView → Written → Written → Type 0
 AddsMessage old link a new written_old written_new =
     (before : List Arrival) → RepresentsEpochs old before → AddsMessageAs old link a before new written_old written_new
 
+-- the call breaks off so, whatever arrived before
 abbrev pub AddsMessageInPart : ConversionView → ℕ → Arrival → Written → Written → Type 0
 AddsMessageInPart old link a written_old written_new =
     (before : List Arrival) → RepresentsEpochs old before → AddsMessagePartAs old link a before written_old written_new
+
+-- a message is added, or the call breaks off at it
+pub record HandlesMessage {T : Type 0} (old : ConversionView) (link : ℕ) (a : Arrival) (result : Result T ConvertFault) (new : ConversionView) (written_old written_new : Written) : Type 0 where
+  pub ok : OnOk result (AddsMessage old link a new written_old written_new)
+  pub err : OnErr result (AddsMessageInPart old link a written_old written_new)
+  pub fault : IfErr result IsFrameFault

@@ -1,6 +1,6 @@
 -- The cells of an epoch are taken one after another: what they show, and which phases are the last
 -- ones.
-use Rattle.std.specs.Prelude.{◌≡◌, ◌≢◌, ◌==◌, ◌<◌, ◌≤◌, ℕ, Bool, true, false, List, [], ◌∷◌, map, length, slice_index, slice_index_or, Option, Some, None, is_some, AllPairs, if◌then◌else◌}
+use Rattle.std.specs.Prelude.{◌≡◌, ◌≢◌, ◌==◌, ◌<◌, ◌≤◌, ◌+◌, ℕ, Bool, true, false, ◌||◌, List, [], ◌∷◌, ◌++◌, map, length, slice_index, slice_index_or, slice_range, Option, Some, None, is_some, not, IsTrue, All, AllPairs, if◌then◌else◌}
 use Rattle.std.specs.List.{list_any}
 use Rattle.rtk_obs.specs.declared.cell.Cell.{Cell}
 use Rattle.rtk_obs.specs.declared.cell.CellEntry.{CellEntry}
@@ -9,11 +9,13 @@ use Rattle.rtk_obs.specs.declared.code.Code.TheVariants.{C1C}
 use Rattle.rtk_obs.specs.declared.track.Track.{Track}
 use Rattle.rtk_obs.specs.Code.{place_of, band_of}
 use Rattle.rtk_obs.specs.Slip.{epoch_cell}
-use Rattle.rtk_obs.specs.Rollover.{last_after}
-use Rattle.rtk_obs.specs.Cell.{IsSatellite}
-use Rattle.rtk_obs.specs.Tracks.{IsLater, track_at}
+use Rattle.rtk_obs.specs.Rollover.{last_after, digits_since}
+use Rattle.rtk_obs.specs.Cell.{IsSatellite, IsInRange}
+use Rattle.rtk_obs.specs.Tracks.{IsLater, track_at, place_of_signal}
+use Rattle.rtk_collect.specs.EpochSet.{AreOfOneKind}
+use Rattle.rtk_collect.specs.Key.{KeysRise}
 use Rattle.rtk_rinex.specs.declared.epoch_table.Observed.{Observed}
-use Rattle.rtk_convert.specs.Rows.{first_cell, observed_after, or_nothing}
+use Rattle.rtk_convert.specs.Rows.{first_cell, observed_with, observed_after, or_nothing}
 
 -- all last phases are of epochs below this one
 abbrev pub AllBelow : List (Option Track) → ℕ → Type 0
@@ -40,6 +42,27 @@ pub record IsPlaceOf (satellite : ℕ) (cells : List CellEntry) (place : ℕ) : 
   pub lesser : (k : ℕ) (d : CellEntry) → k < place → (slice_index_or cells k d).satellite < satellite
   pub others : (k : ℕ) (d : CellEntry) → place ≤ k → k < length cells → satellite ≤ (slice_index_or cells k d).satellite
 
+-- the cells rise, and this is the place of a satellite in them
+pub record RiseFrom (satellite : ℕ) (cells : List CellEntry) (at : ℕ) : Type 0 where
+  pub rises : KeysRise cells
+  pub place : IsPlaceOf satellite cells at
+
+-- cells of one kind, in range, that rise, and the place of a satellite in them
+pub record HasCellsFrom (satellite : ℕ) (cells : List CellEntry) (at : ℕ) : Type 0 where
+  pub ranges : All IsInRange cells
+  pub kind : AreOfOneKind cells
+  pub from : RiseFrom satellite cells at
+
+-- whether a cell of this satellite stands at this place
+pub record TellsSatellite (satellite : ℕ) (cells : List CellEntry) (at : ℕ) (answer : Bool) : Type 0 where
+  pub yes : IsTrue answer → (at < length cells) × ((d : CellEntry) → (slice_index_or cells at d).satellite ≡ satellite)
+  pub no : IsTrue (not answer) → at < length cells → ((d : CellEntry) → (slice_index_or cells at d).satellite ≢ satellite)
+
+-- the cells of a satellite stand between these two places
+pub record AreCellsTo (satellite : ℕ) (cells : List CellEntry) (begin end : ℕ) : Type 0 where
+  pub from : begin ≤ end
+  pub next : IsPlaceOf (satellite + 1) cells end
+
 -- what a satellite and code show at an epoch by the first of their cells
 abbrev pub shown_by : List (Option Track) → ℕ → List CellEntry → ℕ → Code → Option Observed
 shown_by old epoch cells satellite code = observed_after (track_at old satellite code) code epoch (first_cell cells satellite code)
@@ -50,6 +73,15 @@ pub record Shows (old : List (Option Track)) (epoch : ℕ) (cells : List CellEnt
   pub row : shown ≡ map (λ code. or_nothing (shown_by old epoch cells satellite code)) listed
   pub any : found ≡ list_any (λ code. is_some (shown_by old epoch cells satellite code)) listed
 
+-- the cells between two places are of this satellite, and were taken after the earlier ones
+pub record TakesCells (epoch : ℕ) (earlier cells : List CellEntry) (begin end satellite : ℕ) (listed : List Code) (old : List (Option Track)) (blank : List Observed) (tracks : List (Option Track)) (shown : List Observed) (found : Bool) : Type 0 where
+  pub from : begin ≤ end
+  pub within : end ≤ length cells
+  pub same : (k : ℕ) (d : CellEntry) → begin ≤ k → k < end → (slice_index_or cells k d).satellite ≡ satellite
+  pub later : MayStep tracks (earlier ++ slice_range cells begin end) satellite epoch
+  pub shows : (first : List (Option Track)) (any : Bool) → Shows first epoch earlier satellite listed old blank any
+      → Shows first epoch (earlier ++ slice_range cells begin end) satellite listed tracks shown (found || any)
+
 abbrev pub is_code : Code → Code → Bool
 is_code code c = place_of c == place_of code
 
@@ -58,6 +90,14 @@ abbrev pub with_code : Code → Observed → List Code → List Observed → Lis
 with_code code shown [] row = row
 with_code code shown (c ∷ listed) [] = []
 with_code code shown (c ∷ listed) (x ∷ row) = (if is_code code c then shown else x) ∷ with_code code shown listed row
+
+-- the first cell of a satellite and code takes a step of its track, and what it shows stands in the
+-- row if its code is listed
+pub record StepsOver (epoch : ℕ) (e : CellEntry) (listed : List Code) (tracks after : List (Option Track)) (shown now : List Observed) (is_listed : Bool) : Type 0 where
+  pub track : track_at after e.satellite e.code ≡ last_after (band_of e.code) (track_at tracks e.satellite e.code) (epoch_cell epoch e.cell)
+  pub others : (s : ℕ) (c : Code) → place_of_signal s c ≢ place_of_signal e.satellite e.code → track_at after s c ≡ track_at tracks s c
+  pub row : now ≡ with_code e.code (observed_with e.cell (digits_since (band_of e.code) (track_at tracks e.satellite e.code) (epoch_cell epoch e.cell))) listed shown
+  pub found : is_listed ≡ list_any (is_code e.code) listed
 
 -- the place of a code among the listed ones, or one after them if it is not listed
 pub record IsPlaceAmong (listed : List Code) (code : Code) (place : ℕ) : Type 0 where

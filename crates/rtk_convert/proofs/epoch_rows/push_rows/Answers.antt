@@ -17,7 +17,7 @@ use Rattle.rtk_convert.proofs.ThroughLemmas.{track-below, later-after}
 use Rattle.rtk_convert.proofs.RowsLemmas.{row_of, row-yes, row-no, rows-few, rows_to-zero, rows_to-same}
 use Rattle.rtk_convert.proofs.SatelliteLemmas.{fills-begin, fills-skip, skip-rows, may-begin, fills-more, fills-row, fills-any, rows-next}
 use Rattle.rtk_convert.proofs.epoch_rows.push_rows.Goals as goal
-use Rattle.rtk_convert.proofs.epoch_rows.push_rows.Goals.{then-taken+in_default, else-taken}
+use Rattle.rtk_convert.proofs.epoch_rows.push_rows.Goals.{then-filled+in_default, else-filled}
 
 pub satellites-init : goal.satellites-init
 satellites-init c = record {
@@ -27,11 +27,11 @@ satellites-init c = record {
       (sym (rows_to-zero (shown_by c.args.tracks.now c.epoch-epoch.result (c.msm_cells-msm.result.now ++ c.legacy_cells-legacy.result.now)) c.args.listed.now)) c.restart.ensures;
 }
 
-pub take_satellite-taken-requires-clause-satellite : goal.take_satellite-taken-requires-clause-satellite
-take_satellite-taken-requires-clause-satellite c = (c.satellites.auto.satellite, omega (arith, c.satellites-test.true))
+pub fill_row-filled-requires-clause-satellite : goal.fill_row-filled-requires-clause-satellite
+fill_row-filled-requires-clause-satellite c = (c.satellites.auto.satellite, omega (arith, c.satellites-test.true))
 
-pub take_satellite-taken-requires-clause-later : goal.take_satellite-taken-requires-clause-later
-take_satellite-taken-requires-clause-later c =
+pub fill_row-filled-requires-clause-later : goal.fill_row-filled-requires-clause-later
+fill_row-filled-requires-clause-later c =
     let n = c.satellites.satellite in
     let hn : IsSatellite n = (c.satellites.auto.satellite, omega (arith, c.satellites-test.true)) in
     may-begin c.args.tracks.now c.epoch-epoch.result c.msm_cells-msm.result.now c.satellites.msm_at c.legacy_cells-legacy.result.now c.satellites.legacy_at n c.satellites.tracks c.satellites.invariant.fills hn
@@ -61,7 +61,7 @@ pub satellites-preserved : goal.satellites-preserved
 satellites-preserved c =
     let n = c.satellites.satellite in
     let hn : IsSatellite n = (c.satellites.auto.satellite, omega (arith, c.satellites-test.true)) in
-    let taken = c.take_satellite-taken in
+    let filled = c.fill_row-filled in
     let old = c.args.tracks.now in
     let epoch = c.epoch-epoch.result in
     let ms = c.msm_cells-msm.result.now in
@@ -69,22 +69,22 @@ satellites-preserved c =
     let f = shown_by old epoch (ms ++ ls) in
     let g = c.satellites.invariant.fills in
     let rows = rows_to f c.args.listed.now (n - 1) in
-    let row : SatelliteRow = row_of n taken.new.row in
-    let any = fills-any old epoch ms c.satellites.msm_at ls c.satellites.legacy_at n c.satellites.tracks g hn taken.result.msm_end taken.result.legacy_end c.args.listed.now taken.new.tracks taken.new.row taken.result.has_listed
-    taken.ensures.msm_from taken.ensures.msm_next taken.ensures.legacy_from taken.ensures.legacy_next taken.ensures.shows in
-    let shown = fills-row old epoch ms c.satellites.msm_at ls c.satellites.legacy_at n c.satellites.tracks g hn taken.result.msm_end taken.result.legacy_end c.args.listed.now taken.new.tracks taken.new.row taken.result.has_listed
-    taken.ensures.msm_from taken.ensures.msm_next taken.ensures.legacy_from taken.ensures.legacy_next taken.ensures.shows in
+    let row : SatelliteRow = row_of n filled.new.row in
+    let any = fills-any old epoch ms c.satellites.msm_at ls c.satellites.legacy_at n c.satellites.tracks g hn filled.result.msm_end filled.result.legacy_end c.args.listed.now filled.new.tracks filled.new.row filled.result.has_listed
+    filled.ensures.msm.from filled.ensures.msm.next filled.ensures.legacy.from filled.ensures.legacy.next filled.ensures.shows in
+    let shown = fills-row old epoch ms c.satellites.msm_at ls c.satellites.legacy_at n c.satellites.tracks g hn filled.result.msm_end filled.result.legacy_end c.args.listed.now filled.new.tracks filled.new.row filled.result.has_listed
+    filled.ensures.msm.from filled.ensures.msm.next filled.ensures.legacy.from filled.ensures.legacy.next filled.ensures.shows in
     record {
       width = omega arith;
-      fills = fills-more old epoch ms c.satellites.msm_at ls c.satellites.legacy_at n c.satellites.tracks g hn taken.result.msm_end taken.result.legacy_end c.args.listed.now taken.new.tracks taken.new.row taken.result.has_listed
-          taken.ensures.msm_from taken.ensures.msm_next taken.ensures.legacy_from taken.ensures.legacy_next taken.ensures.shows;
-      holds = elim c.if-taken.branch [
-        | then-taken+in_default w ↦ rw w.lines-is (subst (λ (all : List SatelliteRow). HoldsLines w.push_row.new.self all)
+      fills = fills-more old epoch ms c.satellites.msm_at ls c.satellites.legacy_at n c.satellites.tracks g hn filled.result.msm_end filled.result.legacy_end c.args.listed.now filled.new.tracks filled.new.row filled.result.has_listed
+          filled.ensures.msm.from filled.ensures.msm.next filled.ensures.legacy.from filled.ensures.legacy.next filled.ensures.shows;
+      holds = elim c.if-filled.branch [
+        | then-filled+in_default w ↦ rw w.lines-is (subst (λ (all : List SatelliteRow). HoldsLines w.push_row.new.self all)
             (rows-next f c.args.listed.now n rows (row ∷ []) hn.0 refl
-            (ap (λ (xs : List Observed). row_of n xs ∷ []) shown ∙ sym (row-yes f c.args.listed.now n (sym any ∙ w.if-taken.true))))
+            (ap (λ (xs : List Observed). row_of n xs ∷ []) shown ∙ sym (row-yes f c.args.listed.now n (sym any ∙ w.if-filled.true))))
             (w.in_default.ensures.ok rows c.satellites.invariant.holds))
-        | else-taken w ↦ rw w.lines-is (subst (λ (all : List SatelliteRow). HoldsLines c.satellites.lines all)
-            (sym (append-nil rows) ∙ rows-next f c.args.listed.now n rows [] hn.0 refl (sym (row-no f c.args.listed.now n (sym any ∙ w.if-taken.false))))
+        | else-filled w ↦ rw w.lines-is (subst (λ (all : List SatelliteRow). HoldsLines c.satellites.lines all)
+            (sym (append-nil rows) ∙ rows-next f c.args.listed.now n rows [] hn.0 refl (sym (row-no f c.args.listed.now n (sym any ∙ w.if-filled.false))))
             c.satellites.invariant.holds)
       ];
     }

@@ -16,15 +16,13 @@ invariant_of-result c = (
   },
 )
 
-pub returns-clause-represents : goal.returns-clause-represents
-returns-clause-represents c = record {
-  window = c.new-collector.ensures.history;
-  closed = c.in_ok-records.ensures.follows c.args.setup.head.listed;
-  counts = refl;
-}
-
-pub returns-clause-few : goal.returns-clause-few
-returns-clause-few c =
+pub returns : goal.returns
+returns c =
     let few = few-new c.new-collector.result c.window.result c.new-collector.ensures.empty in
     let places = ap (λ (w : CollectorView). w.size) c.new-collector.ensures.empty ∙ c.window.ensures.value in
-    omega (arith, few, places)
+    record {
+      represents = record { window = c.new-collector.ensures.history; closed = c.in_ok-records.ensures.follows c.args.setup.head.listed; counts = refl };
+      same_setup = refl;
+      going = refl;
+      few = omega (arith, few, places);
+    }

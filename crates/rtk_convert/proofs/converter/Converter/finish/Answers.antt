@@ -1,38 +1,27 @@
-use Rattle.std.proofs.Common.{◌≡◌, false, sym, subst}
-use Rattle.rtk_convert.specs.Converter.{ConverterView, FinishesConverter}
-use Rattle.rtk_convert.specs.Failure.{IsFrameFault}
-use Rattle.rtk_convert.specs.Steps.Closing.{FinishesConversion, FinishesConversionInPart}
-use Rattle.rtk_convert.specs.Writing.{written}
-use Rattle.rtk_convert.proofs.ClosingLemmas.{ends, ends-part}
-use Rattle.rtk_convert.proofs.WritingLemmas.{if_ok-map, if_err-map}
+use Rattle.std.proofs.Common.{◌≡◌, false, ap, sym, subst, ◌∙◌}
+use Rattle.std.proofs.lemmas.Result.{err_from_is_err_and}
+use Rattle.rtk_convert.specs.Converter.{ConverterView}
+use Rattle.rtk_convert.proofs.ClosingLemmas.{ends-off, ends-all}
+use Rattle.rtk_convert.proofs.OutcomeLemmas.{failed-err}
 use Rattle.rtk_convert.proofs.converter.Converter.finish.Goals as goal
 
-pub returns-clause-ok : goal.returns-clause-ok
-returns-clause-ok g c =
-    let before = written (g.O.Sink.taken c.args.out.now) (g.L.Sink.taken c.args.log.now) in
-    let mid = written (g.O.Sink.taken c.close_all.new.out) (g.L.Sink.taken c.close_all.new.log) in
-    let after = written (g.O.Sink.taken c.finish.new.out) (g.L.Sink.taken c.finish.new.log) in
-    if_ok-map c.finish.result
-    (λ counts. FinishesConversion c.closing.inside.conversion counts mid after)
-    (λ counts. FinishesConverter c.args.self counts before after)
-    (λ counts f. ends
-    c.in_ok-close_all.ensures.same_setup c.in_ok-close_all.ensures.ok
-    (subst (λ (s : ConverterView). FinishesConversion s.conversion counts mid after) c.closing.view_is f))
-    c.finish.ensures.ok
+pub returns-in_err-close_all-clause-ends : goal.returns-in_err-close_all-clause-ends
+returns-in_err-close_all-clause-ends g c =
+    let p = err_from_is_err_and c.from_residual.result c.from_residual.ensures.1 in
+    let started : c.args.self.conversion.stopped ≡ false = subst (λ (s : ConverterView). s.conversion.stopped ≡ false) c.self.view_is (sym c.is_stopped.ensures ∙ c.if-is_stopped.false) in
+    rw (p.1, p.2) (ends-off c.args.self c.close_all.new.self started c.in_err-close_all.ensures.closes)
 
-pub returns-clause-err : goal.returns-clause-err
-returns-clause-err g c =
-    let mid = written (g.O.Sink.taken c.close_all.new.out) (g.L.Sink.taken c.close_all.new.log) in
-    let after = written (g.O.Sink.taken c.finish.new.out) (g.L.Sink.taken c.finish.new.log) in
-    let going : c.closing.inside.conversion.stopped ≡ false = subst (λ (s : ConverterView). s.conversion.stopped ≡ false) (sym c.closing.view_is) c.in_ok-close_all.ensures.going in
-    if_err-map c.finish.result IsFrameFault
-    (λ part. ends-part
-    c.in_ok-close_all.ensures.same_setup c.in_ok-close_all.ensures.ok
-    (subst (λ (s : ConverterView). FinishesConversionInPart s.conversion mid after) c.closing.view_is (part going)))
-    c.finish.ensures.err
+pub returns-in_err-close_all-clause-failed : goal.returns-in_err-close_all-clause-failed
+returns-in_err-close_all-clause-failed g c =
+    let p = err_from_is_err_and c.from_residual.result c.from_residual.ensures.1 in
+    rw (p.1, p.2) (failed-err c.in_err-close_all.ensures.failed)
 
-pub returns-clause-file_failed : goal.returns-clause-file_failed
-returns-clause-file_failed g c = rw (← c.in_ok-close_all.ensures.file_failed) c.finish.ensures.file_failed
+pub returns-clause-ends : goal.returns-clause-ends
+returns-clause-ends g c =
+    let all = c.in_ok-close_all.ensures.closes in
+    let going : c.closing.inside.conversion.stopped ≡ false = subst (λ (s : ConverterView). s.conversion.stopped ≡ false) (sym c.closing.view_is) all.going in
+    let started : c.args.self.conversion.stopped ≡ false = subst (λ (s : ConverterView). s.conversion.stopped ≡ false) c.self.view_is (sym c.is_stopped.ensures ∙ c.if-is_stopped.false) in
+    ends-all c.args.self c.close_all.new.self c.finish.result started (ap (λ (s : ConverterView). s.conversion) c.closing.view_is) all (c.finish.ensures.ends going)
 
-pub returns-clause-report_failed : goal.returns-clause-report_failed
-returns-clause-report_failed g c = rw (← c.in_ok-close_all.ensures.report_failed) c.finish.ensures.report_failed
+pub returns-clause-failed : goal.returns-clause-failed
+returns-clause-failed g c = rw (← c.in_ok-close_all.ensures.failed.file_failed, ← c.in_ok-close_all.ensures.failed.report_failed) c.finish.ensures.failed

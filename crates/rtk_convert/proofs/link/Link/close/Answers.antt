@@ -2,15 +2,13 @@ use Rattle.std.proofs.Common.{◌++◌, [], ◌∷◌, refl, ◌∙◌}
 use Rattle.std.proofs.lemmas.Result.{err_from_is_err_and}
 use Rattle.rtk_convert.specs.Writing.{written}
 use Rattle.rtk_convert.proofs.GatheringLemmas.{gathers-none, gathers-more, breaks-off, finds-left}
-use Rattle.rtk_convert.proofs.WritingLemmas.{on_err-from}
+use Rattle.rtk_convert.proofs.OutcomeLemmas.{keeps-on, failed-err}
 use Rattle.rtk_convert.proofs.link.Link.close.Goals as goal
 
 pub frames-init : goal.frames-init
 frames-init g c = record {
   going = c.requires.going;
-  few = c.requires.few;
-  held = λ h. h;
-  same_setup = refl;
+  keeps = record { same_setup = refl; few = c.requires.few; held = λ h. h };
   out_same = refl;
   log_same = refl;
   taken = ([], refl, gathers-none c.args.conversion.now c.args.number c.args.self.now.newest (written (g.O.Sink.taken c.args.out.now) (g.L.Sink.taken c.args.log.now)));
@@ -21,43 +19,37 @@ frames-preserved g c =
     let i = c.frames.invariant in
     let holds = c.rest.follows.holds-at-none in
     let s = finds-left c.args.self.now.scanner.pending c.frames.self.scanner.pending i.taken.0 c.in-Some.payload c.rest.follows.lender-at-none i.taken.1 (rw c.in-Some.is at holds.2) in
+    let h = c.in_ok-epoch.ensures.handles i.going in
     record {
-      going = c.in_ok-epoch.ensures.going;
-      few = c.accept_frame.ensures.few;
-      held = λ h. c.accept_frame.ensures.held (i.held h);
-      same_setup = c.accept_frame.ensures.same_setup ∙ i.same_setup;
-      out_same = c.in_ok-epoch.ensures.file_failed ∙ i.out_same;
-      log_same = c.in_ok-epoch.ensures.report_failed ∙ i.log_same;
+      going = c.in_ok-epoch.ensures.halts;
+      keeps = keeps-on i.keeps c.accept_frame.ensures.keeps;
+      out_same = c.in_ok-epoch.ensures.failed.file_failed ∙ i.out_same;
+      log_same = c.in_ok-epoch.ensures.failed.report_failed ∙ i.log_same;
       taken = (
         i.taken.0 ++ c.in-Some.payload.now ∷ [],
         s.taken,
         gathers-more c.in-Some.payload.now
-            i.same_setup i.taken.2 c.in_ok-epoch.ensures.ok c.in_ok-epoch.ensures.epoch c.later_of-self.ensures,
+            i.keeps.same_setup i.taken.2 h.ok h.epoch c.later_of-self.ensures,
       );
     }
 
-pub returns-in_err-epoch-clause-err : goal.returns-in_err-epoch-clause-err
-returns-in_err-epoch-clause-err g c =
+pub returns-in_err-epoch-clause-takes : goal.returns-in_err-epoch-clause-takes
+returns-in_err-epoch-clause-takes g c =
+    let p = err_from_is_err_and c.from_residual.result c.from_residual.ensures.1 in
     let i = c.frames.invariant in
     let holds = c.rest.follows.holds-at-none in
     let s = finds-left c.args.self.now.scanner.pending c.frames.self.scanner.pending i.taken.0 c.in-Some.payload c.rest.follows.lender-at-none i.taken.1 (rw c.in-Some.is at holds.2) in
-    on_err-from c.from_residual.result (breaks-off _ c.in-Some.payload.now
-    i.same_setup s.split i.taken.2 (c.in_err-epoch.ensures.err i.going))
+    let h = c.in_err-epoch.ensures.handles i.going in
+    rw (p.1, p.2) (record {
+      keeps = keeps-on i.keeps c.accept_frame.ensures.keeps;
+      going = tt;
+      halts = c.in_err-epoch.ensures.halts;
+      ok = tt;
+      err = breaks-off _ c.in-Some.payload.now i.keeps.same_setup s.split i.taken.2 h.err;
+      fault = h.fault;
+    })
 
-pub returns-in_err-epoch-clause-fault : goal.returns-in_err-epoch-clause-fault
-returns-in_err-epoch-clause-fault g c =
+pub returns-in_err-epoch-clause-failed : goal.returns-in_err-epoch-clause-failed
+returns-in_err-epoch-clause-failed g c =
     let p = err_from_is_err_and c.from_residual.result c.from_residual.ensures.1 in
-    rw (p.1, p.2) (c.in_err-epoch.ensures.fault c.frames.invariant.going)
-
-pub returns-in_err-epoch-clause-file_failed : goal.returns-in_err-epoch-clause-file_failed
-returns-in_err-epoch-clause-file_failed g c =
-    let p = err_from_is_err_and c.from_residual.result c.from_residual.ensures.1 in
-    rw (p.1, p.2, ← c.frames.invariant.out_same) c.in_err-epoch.ensures.file_failed
-
-pub returns-in_err-epoch-clause-report_failed : goal.returns-in_err-epoch-clause-report_failed
-returns-in_err-epoch-clause-report_failed g c =
-    let p = err_from_is_err_and c.from_residual.result c.from_residual.ensures.1 in
-    rw (p.1, p.2, ← c.frames.invariant.log_same) c.in_err-epoch.ensures.report_failed
-
-pub returns-in_err-epoch-clause-held : goal.returns-in_err-epoch-clause-held
-returns-in_err-epoch-clause-held g c = λ h. c.accept_frame.ensures.held (c.frames.invariant.held h)
+    rw (p.1, p.2, ← c.frames.invariant.out_same, ← c.frames.invariant.log_same) (failed-err c.in_err-epoch.ensures.failed)

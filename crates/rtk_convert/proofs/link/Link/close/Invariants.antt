@@ -1,6 +1,6 @@
-use Rattle.std.proofs.Common.{◌≡◌, ◌≤◌, ℕ, false, List, ◌++◌, length}
+use Rattle.std.proofs.Common.{◌≡◌, ℕ, false, List, ◌++◌, length}
 use Rattle.rtk_frame.specs.Frames.{frames, payloads}
-use Rattle.rtk_convert.specs.Conversion.{HoldsArrivals}
+use Rattle.rtk_convert.specs.Outcome.{KeepsWindow}
 use Rattle.rtk_convert.specs.Steps.LinkFrames.{AddsFrames}
 use Rattle.rtk_convert.specs.Writing.{written}
 use Rattle.rtk_convert.proofs.link.Link.close.Given as goal
@@ -9,9 +9,7 @@ use Rattle.rtk_convert.proofs.link.Link.close.Given as goal
 abbrev pub invariant-frames : goal.invariant-frames
 invariant-frames g l = record {
   going : l.conversion.stopped ≡ false;
-  few : length l.conversion.collector.sets ≤ l.conversion.setup.window;
-  held : HoldsArrivals l.fn.conversion.collector → HoldsArrivals l.conversion.collector;
-  same_setup : l.conversion.setup ≡ l.fn.conversion.setup;
+  keeps : KeepsWindow l.fn.conversion l.conversion;
   out_same : g.O.Sink.failures l.out ≡ g.O.Sink.failures l.fn.out;
   log_same : g.L.Sink.failures l.log ≡ g.L.Sink.failures l.fn.log;
   taken : (done : List (List ℕ)) × (payloads (frames l.fn.self.scanner.pending) ≡ done ++ payloads (frames l.self.scanner.pending))

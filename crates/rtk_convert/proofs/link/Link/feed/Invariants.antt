@@ -1,6 +1,6 @@
 use Rattle.std.proofs.Common.{◌≡◌, ◌≤◌, ◌+◌, ◌-◌, ℕ, false, List, ◌++◌, length, drop}
 use Rattle.rtk_frame.specs.Frames.{final_frames, payloads, pending}
-use Rattle.rtk_convert.specs.Conversion.{HoldsArrivals}
+use Rattle.rtk_convert.specs.Outcome.{KeepsWindow}
 use Rattle.rtk_convert.specs.Steps.LinkFrames.{AddsFrames}
 use Rattle.rtk_convert.specs.Writing.{written}
 use Rattle.rtk_convert.proofs.link.Link.feed.Given as goal
@@ -11,9 +11,7 @@ invariant-frames g l = record {
   within : l.at ≤ length l.piece;
   is_open : l.self.scanner.ended ≡ false;
   going : l.conversion.stopped ≡ false;
-  few : length l.conversion.collector.sets ≤ l.conversion.setup.window;
-  held : HoldsArrivals l.fn.conversion.collector → HoldsArrivals l.conversion.collector;
-  same_setup : l.conversion.setup ≡ l.fn.conversion.setup;
+  keeps : KeepsWindow l.fn.conversion l.conversion;
   out_same : g.O.Sink.failures l.out ≡ g.O.Sink.failures l.fn.out;
   log_same : g.L.Sink.failures l.log ≡ g.L.Sink.failures l.fn.log;
   waiting : pending (l.fn.self.scanner.pending ++ l.piece) ≡ pending (l.self.scanner.pending ++ drop l.at l.piece);

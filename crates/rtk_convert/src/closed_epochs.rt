@@ -1,22 +1,18 @@
 //! Writes the records of epochs as they close, and at the end of the epochs that are still open.
 
-ghost use Rattle.rtk_collect.specs.EpochSet.{EpochSetView};
-ghost use Rattle.rtk_convert.specs.Failure.{NamesFailedWrites};
-ghost use Rattle.rtk_convert.specs.Steps.Faults.{IsOutFault};
-ghost use Rattle.rtk_convert.specs.Steps.ClosedText.{closing};
-ghost use Rattle.rtk_convert.specs.Steps.Closing.{AllAbove, ClosesEpochs, ClosesEpochsInPart};
+ghost use Rattle.rtk_convert.specs.Steps.Faults.{NamesFailedFile};
+ghost use Rattle.rtk_convert.specs.Steps.Closing.{AllAbove, ClosesEpoch, ClosesRemaining};
 ghost use Rattle.rtk_convert.specs.Steps.ShownCells.{AllBelow};
-ghost use Rattle.rtk_convert.specs.Records.{HasClosed};
-ghost use Rattle.rtk_frame.specs.Stream.{with_more, TakesPart};
+ghost use Rattle.rtk_convert.specs.ClosedEpochs.{HasClosed};
 ghost use Rattle.rtk_obs.specs.Tracks.{RepresentsSteps};
 ghost use Rattle.rtk_obs.specs.declared.code.Code.{Code};
 ghost use Rattle.rtk_rinex.specs.Header.{position_view};
 ghost use Rattle.std.specs.Prelude.{◌≡◌, ◌≢◌, ℕ, ◌<◌, [], ◌∷◌, List, None, false, OnOk, IfOk, IfErr, IsErrOf, OnErr};
 
 use crate::epoch_rows::push_rows;
-use crate::fault::{ConvertFault, Stream};
-use crate::output::put_record;
+use crate::fault::ConvertFault;
 use crate::setup::Setup;
+use crate::writing::put_record;
 use rtk_collect::{EpochSet, Left};
 use rtk_frame::Sink;
 use rtk_obs::{Position, Tracks};
@@ -41,7 +37,7 @@ pub(crate) struct ClosedEpochs {
 // field, as that of a converter does.
 impl Model for ClosedEpochs {
     ghost use Rattle.std.specs.Prelude.{◌≡◌};
-    ghost use Rattle.rtk_convert.specs.Records.{ClosedEpochsView};
+    ghost use Rattle.rtk_convert.specs.ClosedEpochs.{ClosedEpochsView};
 
     ghost Value = { ClosedEpochsView };
 
@@ -99,22 +95,12 @@ impl ClosedEpochs {
         out: &mut O,
     ) -> Result<(), ConvertFault>
         requires { AllBelow self.old.tracks set.now.epoch }
-        ensures follows { OnOk result ((below : List EpochSetView) → HasClosed self.old setup.now.head.listed below
-            → HasClosed self.new setup.now.head.listed (set.now ∷ below)) }
-        ensures all { OnOk result ((below : List EpochSetView) → HasClosed self.old setup.now.head.listed below
-            → O.taken out.new ≡ with_more (O.taken out.old)
-            (closing setup.now (position_view position.now) set.now below)) }
-        ensures part { (below : List EpochSetView) → HasClosed self.old setup.now.head.listed below
-            → TakesPart (O.taken out.old) (O.taken out.new)
-            (closing setup.now (position_view position.now) set.now below) }
-        ensures later { OnOk result ((later : ℕ) → set.now.epoch < later → AllBelow self.new.tracks later) }
-        ensures file_failed { NamesFailedWrites Stream.Out result (O.failures out.old) (O.failures out.new) }
-        ensures fault { IfErr result IsOutFault }
+        ensures closes { ClosesEpoch setup.now (position_view position.now) self.old set.now result self.new
+            (O.taken out.old) (O.taken out.new) }
+        ensures failed { NamesFailedFile result (O.failures out.old) (O.failures out.new) }
     {
         let listed = setup.head().codes();
-        if let Err(_) = push_rows(&mut self.tracks, set, listed, &mut self.lines) {
-            return Err(ConvertFault::OutOfMemory);
-        }
+        push_rows(&mut self.tracks, set, listed, &mut self.lines)?;
         let epoch = set.epoch();
         self.lines.finish(epoch);
         let text = self.lines.text();
@@ -130,7 +116,7 @@ impl ClosedEpochs {
 
 /// Writes the records of the epochs that are left, rising, and the header before the first record
 /// of the file.
-pub(crate) fn close_left<O: Sink>(
+pub(crate) fn close_remaining<O: Sink>(
     alloc: Global,
     setup: &Setup,
     position: &Position,
@@ -139,12 +125,9 @@ pub(crate) fn close_left<O: Sink>(
     out: &mut O,
 ) -> Result<(), ConvertFault>
     requires above { AllAbove records.old left.old.sets }
-    ensures ok { OnOk result (ClosesEpochs setup.now (position_view position.now) records.old left.old.sets records.new
-        (O.taken out.old) (O.taken out.new)) }
-    ensures err { OnErr result (ClosesEpochsInPart setup.now (position_view position.now) records.old left.old.sets
-        (O.taken out.old) (O.taken out.new)) }
-    ensures file_failed { NamesFailedWrites Stream.Out result (O.failures out.old) (O.failures out.new) }
-    ensures fault { IfErr result IsOutFault }
+    ensures closes { ClosesRemaining setup.now (position_view position.now) records.old left.old.sets result records.new
+        (O.taken out.old) (O.taken out.new) }
+    ensures failed { NamesFailedFile result (O.failures out.old) (O.failures out.new) }
 {
     'left: while let Some(set) = left.next_left() {
         records.close(alloc, setup, position, &set, out)?;

@@ -2,9 +2,9 @@
 
 ghost use Rattle.std.specs.Prelude.{◌≡◌, ◌≢◌, ◌++◌, OnOk, OnErr, IfOk, IfErr, IsErrOf, false};
 ghost use Rattle.rtk_convert.specs.Failure.{NamesFailedWrites};
-ghost use Rattle.rtk_convert.specs.Steps.Faults.{IsOutFault};
-ghost use Rattle.rtk_frame.specs.Stream.{with_more, TakesPart};
+ghost use Rattle.rtk_convert.specs.Steps.Faults.{NamesFailedFile};
 ghost use Rattle.rtk_rinex.specs.Header.{position_view};
+ghost use Rattle.rtk_convert.specs.Steps.WritingInPart.{PutsText};
 ghost use Rattle.rtk_convert.specs.Steps.ClosedText.{closing_text, header_before, is_any};
 
 use crate::fault::{ConvertFault, Stream};
@@ -16,8 +16,7 @@ use std::alloc::{AllocError, Global};
 
 // Writes a text to the file.
 fn put_text<O: Sink>(out: &mut O, text: &[u8]) -> Result<(), ConvertFault>
-    ensures all { OnOk result (O.taken out.new ≡ with_more (O.taken out.old) text.now) }
-    ensures part { TakesPart (O.taken out.old) (O.taken out.new) text.now }
+    ensures puts { PutsText result (O.taken out.old) (O.taken out.new) text.now }
     ensures file_failed { NamesFailedWrites Stream.Out result (O.failures out.old) (O.failures out.new) }
     ensures fault { IfErr result (λ f. f ≡ ConvertFault.Write Stream.Out) }
 {
@@ -58,12 +57,9 @@ pub(crate) fn put_record<O: Sink>(
     out: &mut O,
 ) -> Result<bool, ConvertFault>
     ensures any { IfOk result (λ any. any ≡ is_any text.now) }
-    ensures all { OnOk result (O.taken out.new ≡ with_more (O.taken out.old)
-        (closing_text setup.now (position_view position.now) epoch header_out text.now)) }
-    ensures part { TakesPart (O.taken out.old) (O.taken out.new)
+    ensures puts { PutsText result (O.taken out.old) (O.taken out.new)
         (closing_text setup.now (position_view position.now) epoch header_out text.now) }
-    ensures file_failed { NamesFailedWrites Stream.Out result (O.failures out.old) (O.failures out.new) }
-    ensures fault { IfErr result IsOutFault }
+    ensures failed { NamesFailedFile result (O.failures out.old) (O.failures out.new) }
 {
     if text.is_empty() {
         return Ok(false);
@@ -72,9 +68,7 @@ pub(crate) fn put_record<O: Sink>(
         put_text(out, text)?;
         return Ok(true);
     }
-    let Ok(whole) = with_header(alloc, setup, position, epoch, text) else {
-        return Err(ConvertFault::OutOfMemory);
-    };
+    let whole = with_header(alloc, setup, position, epoch, text)?;
     put_text(out, &whole)?;
     Ok(true)
 }
@@ -87,26 +81,20 @@ pub(crate) fn put_last_header<O: Sink>(
     header_out: bool,
     out: &mut O,
 ) -> Result<(), ConvertFault>
-    ensures all { OnOk result (O.taken out.new ≡ with_more (O.taken out.old)
-        (header_before setup.now (position_view position.now) setup.now.near header_out)) }
-    ensures part { TakesPart (O.taken out.old) (O.taken out.new)
+    ensures puts { PutsText result (O.taken out.old) (O.taken out.new)
         (header_before setup.now (position_view position.now) setup.now.near header_out) }
-    ensures file_failed { NamesFailedWrites Stream.Out result (O.failures out.old) (O.failures out.new) }
-    ensures fault { IfErr result IsOutFault }
+    ensures failed { NamesFailedFile result (O.failures out.old) (O.failures out.new) }
 {
     if header_out {
         return Ok(());
     }
-    let Ok(text) = header(alloc, setup.head(), position, setup.near()) else {
-        return Err(ConvertFault::OutOfMemory);
-    };
+    let text = header(alloc, setup.head(), position, setup.near())?;
     put_text(out, &text)
 }
 
 /// Writes lines to the report.
 pub(crate) fn put_lines<L: Sink>(log: &mut L, lines: &[u8]) -> Result<(), ConvertFault>
-    ensures all { OnOk result (L.taken log.new ≡ with_more (L.taken log.old) lines.now) }
-    ensures part { TakesPart (L.taken log.old) (L.taken log.new) lines.now }
+    ensures puts { PutsText result (L.taken log.old) (L.taken log.new) lines.now }
     ensures report_failed { NamesFailedWrites Stream.Log result (L.failures log.old) (L.failures log.new) }
     ensures fault { IfErr result (λ f. f ≡ ConvertFault.Write Stream.Log) }
 {

@@ -1,6 +1,6 @@
 use Rattle.std.proofs.Common.{◌≡◌, ◌-◌, length}
-use Rattle.rtk_convert.proofs.SatelliteLemmas.{TakesCells}
-use Rattle.rtk_convert.proofs.epoch_rows.take_cells.Given as goal
+use Rattle.rtk_convert.specs.Steps.ShownCells.{TakesCells}
+use Rattle.rtk_convert.proofs.epoch_rows.show_cells.Given as goal
 
 abbrev pub invariant-cells : goal.invariant-cells
 invariant-cells l = record {

@@ -2,7 +2,7 @@ use Rattle.std.proofs.Common.{◌≡◌, length}
 use Rattle.rtk_rinex.specs.Header.{position_view}
 use Rattle.rtk_convert.specs.Steps.Closing.{AllAbove}
 use Rattle.rtk_convert.proofs.FinishLemmas.{SomeClosed}
-use Rattle.rtk_convert.proofs.records.close_left.Given as goal
+use Rattle.rtk_convert.proofs.closed_epochs.close_remaining.Given as goal
 
 abbrev pub invariant-left : goal.invariant-left
 invariant-left g l = record {

@@ -2,7 +2,7 @@ use Rattle.std.proofs.Common.{Option, refl, sym, subst}
 use Rattle.rtk_obs.specs.declared.track.Track.{Track}
 use Rattle.rtk_obs.specs.Tracks.{IsLater}
 use Rattle.rtk_convert.specs.File.{first_time, record_count}
-use Rattle.rtk_convert.proofs.records.ClosedEpochs.new.Goals as goal
+use Rattle.rtk_convert.proofs.closed_epochs.ClosedEpochs.new.Goals as goal
 
 pub returns-clause-follows : goal.returns-clause-follows
 unfolding first_time record_count
