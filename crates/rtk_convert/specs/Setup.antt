@@ -17,7 +17,8 @@ pub record SetupView : Type 0 where
   pub msm : MsmKind
 
 -- constant
--- a reference station ID has 12 bits (RTCM 10403.3, DF003)
+-- a reference station ID has 12 bits
+-- Source: RTCM 10403.3, DF003
 abbrev pub IsStation : ℕ → Type 0
 IsStation station = station ≤ 4095
 

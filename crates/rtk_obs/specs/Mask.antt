@@ -1,4 +1,5 @@
 -- The set bits of a mask, and a list that is made place by place.
+-- Source: RTCM 10403.3, DF394 to DF396
 use Rattle.std.specs.Prelude.{ℕ, zero, suc, ◌-◌, ◌^◌, nat_le, List, [], ◌∷◌, ◌++◌, if◌then◌else◌}
 
 -- the places of the set bits among the w low bits of a mask; the most significant of the w bits has
@@ -13,7 +14,8 @@ set_bits_from place (suc w) mask =
 abbrev pub set_bits : ℕ → ℕ → List ℕ
 set_bits w mask = set_bits_from 1 w mask
 
--- the lists that f gives for each element and its place, joined; the first element has place k
+-- the lists that f gives for each element and its place, joined; the first element has place k (this
+-- project's rule)
 unfoldable pub join_from : {X Y : Type 0} → (ℕ → X → List Y) → ℕ → List X → List Y
 join_from f k [] = []
 join_from f k (x ∷ xs) = f k x ++ join_from f (suc k) xs

@@ -61,6 +61,7 @@ digits_since band last e =
 -- constant
 -- a value, in thousandths, within the limits of an observation of RINEX: three decimals in 14
 -- columns; the phases of a 1004 leave them after some 667,000 rolls, which no test has
+-- Source: RINEX 3.05, Table A3
 abbrev pub within_limits : ℤ → Option ℤ
 within_limits v =
     if int_le (negsuc 999_999_999_998) v && int_le v (pos 9_999_999_999_999) then Some v else None
