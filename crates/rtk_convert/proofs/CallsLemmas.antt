@@ -127,8 +127,7 @@ pub calls-write-kept : CallsWriteKept
 calls-write-kept s links calls counts o0 o2 p =
     let c = come s links p.first calls p.now o0 p.written_mid p.is_new p.setup p.answered in
     let end = subst (λ (t : SetupView). (last : History) × FinishesConverterAs t c.history last counts p.written_mid o2) c.setup (p.ended c.history c.represents) in
-    let few = length-calls s links calls c.history c.come_to in
-    (
+    let few = length-calls s links calls c.history c.come_to in (
       end.0.found,
       (c.history, end.0, c.come_to, subst (λ (n : ℕ). IsAfterClosingAll s c.history n end.0) few end.1.closed, refl),
       kept-of s end.0.found counts o0 o2

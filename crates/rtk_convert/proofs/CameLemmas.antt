@@ -1,5 +1,5 @@
 -- The messages that reads bring are those among the frames that they find.
-use Rattle.std.proofs.Common.{◌≡◌, ◌≢◌, ℕ, ◌<◌, ◌==◌, ◌&&◌, zero, suc, inl, inr, ◌⊎◌, Bool, true, false, List, [], ◌∷◌, ◌++◌, length, replicate, map, Option, None, Some, Result, Ok, Err, refl, sym, ap, subst, ◌∙◌, append-nil, arith}
+use Rattle.std.proofs.Common.{◌≡◌, ◌≢◌, ℕ, ◌<◌, ◌==◌, zero, suc, inl, inr, Bool, true, false, List, [], ◌∷◌, ◌++◌, length, replicate, Option, None, Some, Result, Ok, Err, refl, sym, ap, subst, ◌∙◌, append-nil, arith}
 use Rattle.std.specs.Prelude.{slice_get}
 use Rattle.std.proofs.lemmas.Bool.{cases_eq, cases_Bool}
 use Rattle.std.proofs.lemmas.Option.{slice_get_within}
@@ -14,11 +14,11 @@ use Rattle.rtk_collect.specs.Arrival.{Arrival, At}
 use Rattle.rtk_convert.specs.declared.frame_class.FrameClass.{FrameClass}
 use Rattle.rtk_convert.specs.declared.frame_class.FrameClass.TheVariants.{OtherMessage, Refused, Foreign, Dated}
 use Rattle.rtk_convert.specs.Conversion.{found_on}
-use Rattle.rtk_convert.specs.FrameClass.{Found, IsEpochOf, IsDatedMessage, class_of_fault, IsClassOfReading, IsClassOfPayload, and_arrived, arrivals}
+use Rattle.rtk_convert.specs.FrameClass.{Found, IsEpochOf, class_of_fault, IsClassOfReading, IsClassOfPayload, and_arrived, arrivals}
 use Rattle.rtk_convert.specs.Headline.{has_ended, payloads_by, IsMessageIn, ComeIn, ComeBy, messages_of}
 use Rattle.rtk_convert.specs.History.{History, LinkPast, IsOpen, Finds, fed_on, with_piece, with_closed, found_by_piece, found_by_close}
 use Rattle.rtk_convert.specs.Kept.{and_came, came_of}
-use Rattle.rtk_convert.specs.ReadHistory.{Read, IsAfterPiece, IsHistoryOf, AllClosed, piece_on, bytes_of}
+use Rattle.rtk_convert.specs.ReadHistory.{Read, IsAfterPiece, IsHistoryOf, AllClosed, bytes_of}
 use Rattle.rtk_convert.specs.ReadSteps.{read_of}
 use Rattle.rtk_convert.specs.Setup.{SetupView}
 use Rattle.rtk_convert.proofs.RunLemmas.{length-links}
@@ -190,8 +190,7 @@ come-by s n (r ∷ before) h p =
     let o : IsOpen old r.link = p.2.link.is_open in
     let inside : r.link < length old.links = slice_get_within old.links r.link _ o.1 in
     let many : length old.links ≡ n = length-links s n before old p.1 in
-    let within : r.link < n = omega (arith, inside, many) in
-    (
+    let within : r.link < n = omega (arith, inside, many) in (
       came_of old.found,
       come-by s n before old p.1,
       within,

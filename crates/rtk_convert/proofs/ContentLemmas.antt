@@ -1,13 +1,11 @@
 -- What is kept is the content of the set of messages that came in time.
-use Rattle.std.proofs.Common.{◌≡◌, ◌↔◌, ℕ, ◌<◌, zero, suc, inl, inr, ◌⊎◌, true, false, List, [], ◌∷◌, ◌++◌, map, length, Option, None, Some, All, AllPairs, Contains, refl, sym, ap, subst, ◌∙◌, arith}
+use Rattle.std.proofs.Common.{◌≡◌, ℕ, ◌<◌, zero, suc, inl, inr, ◌⊎◌, false, List, [], ◌∷◌, ◌++◌, map, length, None, Some, All, AllPairs, Contains, refl, sym, ap, subst, ◌∙◌, arith}
 use Rattle.std.specs.Prelude.{slice_index_or}
 use Rattle.std.proofs.lemmas.List.Elements.{All-cons, All-nil, All-head, All-tail, All-weaker}
 use Rattle.std.proofs.lemmas.List.Kept.{AllPairs-cons}
-use Rattle.rtk_message.specs.declared.any_message.AnyMessage.{AnyMessage as Message}
-use Rattle.rtk_message.specs.AnyDecoded.{number_of}
 use Rattle.rtk_obs.specs.declared.cell.CellEntry.{CellEntry}
 use Rattle.rtk_collect.specs.Arrival.{Arrival, At, cells_of}
-use Rattle.rtk_collect.specs.Accepted.{kept, station, IsTaken, AmongCells, IsTakenCell, IsConsistent}
+use Rattle.rtk_collect.specs.Accepted.{IsTaken, AmongCells, IsConsistent}
 use Rattle.rtk_collect.specs.EpochSet.{EpochSetView, FirstIsBelow, EpochsFall}
 use Rattle.rtk_collect.specs.Key.{key, Above, KeysRise}
 use Rattle.rtk_collect.specs.Late.{late}

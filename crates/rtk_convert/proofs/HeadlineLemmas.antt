@@ -1,15 +1,12 @@
 -- The promise of a conversion.
-use Rattle.std.proofs.Common.{◌≡◌, ◌↔◌, ℕ, true, false, List, [], ◌∷◌, length, Option, None, Some, refl, sym, ap, subst, ◌∙◌}
+use Rattle.std.proofs.Common.{◌≡◌, ◌↔◌, ℕ, List, [], ◌∷◌, length, Option, None, Some, refl, sym, ap, subst, ◌∙◌}
 use Rattle.rtk_frame.specs.Stream.{with_more}
 use Rattle.rtk_message.specs.declared.any_message.AnyMessage.{AnyMessage as Message}
-use Rattle.rtk_message.specs.AnyDecoded.{number_of}
 use Rattle.rtk_collect.specs.Arrival.{Arrival, At, cells_of}
 use Rattle.rtk_collect.specs.Accepted.{kept, station}
 use Rattle.rtk_collect.specs.EpochSet.{EpochSetView}
-use Rattle.rtk_collect.specs.Late.{late}
 use Rattle.rtk_collect.specs.Laws.{without_late, AreInTime}
 use Rattle.rtk_collect.proofs.PublicLaws.{kept-falls, late-change-nothing, kept-are-taken, kept-same, kept-rise}
-use Rattle.rtk_rinex.proofs.PublicLaws.{file-is_shown}
 use Rattle.rtk_convert.specs.File.{file_of}
 use Rattle.rtk_convert.specs.FileOfArrivals.{site_of_stations, kept_file}
 use Rattle.rtk_convert.specs.FrameClass.{Found, arrivals}
@@ -49,13 +46,13 @@ content-of s arrivals good =
     let law = kept-are-taken s.window arrivals in
     record {
       epochs = λ e. (
-          λ p. let q = (law.0 e).0 (contains-has e (kept s.window arrivals) p) in (q.0, taken-came s (At (Some e) q.0) arrivals q.1),
-          λ p. has-contains e (kept s.window arrivals) ((law.0 e).1 (p.0, came-taken s (At (Some e) p.0) arrivals p.1)),
+        λ p. let q = (law.0 e).0 (contains-has e (kept s.window arrivals) p) in (q.0, taken-came s (At (Some e) q.0) arrivals q.1),
+        λ p. has-contains e (kept s.window arrivals) ((law.0 e).1 (p.0, came-taken s (At (Some e) p.0) arrivals p.1)),
       );
       cells = λ e x. (
-          λ p. let q = law.1 e x (stands-kept e x (kept s.window arrivals) p) in (q.0, taken-came s (At (Some e) q.0) arrivals q.1, among-contains x (cells_of q.0) q.2),
-          λ p. kept-stands e x (kept s.window arrivals)
-              ((law.3 (consistent s arrivals good)).0 e x (p.0, came-taken s (At (Some e) p.0) arrivals p.1, contains-among x (cells_of p.0) p.2)),
+        λ p. let q = law.1 e x (stands-kept e x (kept s.window arrivals) p) in (q.0, taken-came s (At (Some e) q.0) arrivals q.1, among-contains x (cells_of q.0) q.2),
+        λ p. kept-stands e x (kept s.window arrivals)
+            ((law.3 (consistent s arrivals good)).0 e x (p.0, came-taken s (At (Some e) p.0) arrivals p.1, contains-among x (cells_of p.0) p.2)),
       );
       arp1005 = station-of s arrivals 1005 good;
       arp1006 = station-of s arrivals 1006 good;
@@ -115,8 +112,8 @@ late-nothing s arrivals =
       others = law.0;
       none_late = in-time-stay s.window (without_late s.window arrivals) law.1;
       same_set = λ a. (
-          λ p. taken-came s a arrivals ((law.2 a).0 (came-taken s a (without_late s.window arrivals) p)),
-          λ p. taken-came s a (without_late s.window arrivals) ((law.2 a).1 (came-taken s a arrivals p)),
+        λ p. taken-came s a arrivals ((law.2 a).0 (came-taken s a (without_late s.window arrivals) p)),
+        λ p. taken-came s a (without_late s.window arrivals) ((law.2 a).1 (came-taken s a arrivals p)),
       );
     }
 

@@ -21,7 +21,7 @@ use Rattle.rtk_convert.specs.Finish.{all_counts, report_of}
 use Rattle.rtk_convert.specs.Headline.{messages_of, late_lines, LateAreListed}
 use Rattle.rtk_convert.specs.Kept.{came_of}
 use Rattle.rtk_convert.specs.Report.{refused_line, cell_lines, class_lines, frame_lines, lines}
-use Rattle.rtk_convert.specs.ReportText.{link_text, arrival_text, late_line, conflict_line, cell_conflict_line, signal_text, count_line, count_lines}
+use Rattle.rtk_convert.specs.ReportText.{link_text, arrival_text, late_line, cell_conflict_line, signal_text, count_line, count_lines}
 use Rattle.rtk_convert.specs.Setup.{SetupView}
 use Rattle.rtk_convert.proofs.CameLemmas.{messages-came}
 
@@ -41,8 +41,7 @@ ended-after front text p (inl e) = (p.0, ap (λ t. front ++ t) e ∙ append-nil 
 ended-after front text p (inr q) = ends-after front text q
 
 cell-ends : (link number epoch satellite : ℕ) (code : Code) → Ends (cell_conflict_line link number epoch satellite code)
-cell-ends link number epoch satellite code =
-    ends-after (arrival_text link (codes " conflict ") number (Some epoch)) (signal_text satellite code ++ 10 ∷ []) (signal_text satellite code, refl)
+cell-ends link number epoch satellite code = (arrival_text link (codes " conflict ") number (Some epoch) ++ signal_text satellite code, refl)
 
 cells-ended : (link number : ℕ) (epoch : Option ℕ) (cells : List SatelliteCode) → IsEnded (cell_lines link number epoch cells)
 cells-ended link number None cells = inl refl
@@ -61,12 +60,16 @@ class-ended link number epoch RepeatClass cells = inl refl
 class-ended link number epoch ConflictClass cells = conflict-ended link number epoch cells
 
 count-ends : (name : List ℕ) (count : ℕ) → Ends (count_line name count)
-count-ends name count = ends-after name (decimal count ++ 10 ∷ []) (decimal count, refl)
+count-ends name count = (name ++ decimal count, refl)
 
 counts-end : (c : Counts) → Ends (count_lines c)
 unfolding count_lines
 counts-end c =
-    ends-after _ _ (ends-after _ _ (ends-after _ _ (ends-after _ _ (ends-after _ _ (ends-after _ _ (ends-after _ _ (ends-after _ _ (count-ends (codes "epochs ") c.epochs))))))))
+    let front : List ℕ =
+    count_line (codes "frames ") c.frames ++ count_line (codes "other ") c.other ++ count_line (codes "refused ") c.refused
+    ++ count_line (codes "foreign ") c.foreign ++ count_line (codes "taken ") c.taken ++ count_line (codes "repeat ") c.repeat
+    ++ count_line (codes "conflict ") c.conflict ++ count_line (codes "late ") c.late in
+    ends-after front (count_line (codes "epochs ") c.epochs) (count-ends (codes "epochs ") c.epochs)
 
 -- ---- lines, some of them marked
 
@@ -143,7 +146,7 @@ frame-listed : (s : SetupView) (link : ℕ) (c : FrameClass) (before : List Foun
 frame-listed s link OtherMessage before p = has-more (late_lines s (came_of before)) (lines s.window before) [] p (inl refl)
 frame-listed s link (Refused fault) before p =
     has-more (late_lines s (came_of before)) (lines s.window before) (refused_line link fault) p
-    (inr (ends-after (link_text link) _ (ends-after (codes " refused ") _ (any_fault_text fault, refl))))
+    (inr (link_text link ++ codes " refused " ++ any_fault_text fault, refl))
 frame-listed s link Foreign before p = has-more (late_lines s (came_of before)) (lines s.window before) [] p (inl refl)
 frame-listed s link (Dated a) before p = dated-listed s link a before p
 
