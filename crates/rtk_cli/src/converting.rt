@@ -2,18 +2,18 @@
 //!
 //! At the end standard output is flushed, then the report, and the fault line comes last.
 
-ghost use Rattle.std.specs.Prelude.{◌≡◌, ◌↔◌, ◌≤◌, ◌+◌, length, map, sum_by, IfOk, IfErr, IsErrOf, IsTrue};
+ghost use Rattle.std.specs.Prelude.{◌≡◌, ◌↔◌, ◌≤◌, ◌+◌, length, map, sum_by, OnOk, IfOk, IfErr, IsErrOf, IsTrue};
 ghost use Rattle.std.specs.Io.KnownBytes.{Keeps};
 ghost use Rattle.rtk_convert.specs.Converter.{IsLinkCount};
 ghost use Rattle.rtk_convert.specs.Failure.{IsRunFault};
-ghost use Rattle.rtk_convert.specs.Headline.{RunHeadline};
+ghost use Rattle.rtk_convert.specs.Kept.{RunKeeps};
 ghost use Rattle.rtk_convert.specs.ReadSteps.{HasCalled};
 ghost use Rattle.rtk_convert.specs.Writing.{written};
 ghost use Rattle.rtk_tools.specs.Passed.{taken_of};
 ghost use Rattle.rtk_tools.specs.Steps.ReadLimits.{most_reads};
 ghost use Rattle.rtk_tools.specs.declared.exit_status.TheConstants.{REFUSED};
 ghost use Rattle.rtk_cli.specs.Converting.{status_of};
-ghost use Rattle.rtk_cli.specs.ConvertsBytes.{ConvertsBytes, EndsAtRead, ConvertsFirstBytes};
+ghost use Rattle.rtk_cli.specs.ConvertsBytes.{ConvertsBytes, KeepsBytes, EndsAtRead, ConvertsFirstBytes};
 ghost use Rattle.rtk_cli.specs.Steps.Links.{bytes_had, bytes_held, AreLinksOf, HasReadSome};
 
 use crate::refusing::refuse;
@@ -51,7 +51,7 @@ fn convert<R: Source, O: Sink, L: Sink>(
     out: &mut O,
     log: &mut L,
 ) -> Result<Counts, ConvertFault>
-    ensures headline { IfOk result (λ counts. RunHeadline R.given R.calls R.is_at_end setup links.old links.new counts
+    ensures kept { IfOk result (λ counts. RunKeeps R.given R.calls R.is_at_end setup links.old links.new counts
         (written (O.taken out.old) (L.taken log.old)) (written (O.taken out.new) (L.taken log.new))) }
     ensures reads { sum_by R.calls links.new ≤ sum_by R.calls links.old + most_reads }
     ensures endless { IsErrOf result ConvertFault.Endless → HasCalled R.calls links.old links.new most_reads }
@@ -121,8 +121,8 @@ fn convert_between<R: Read + Drop, O: Write + Drop, L: Write + Drop, K: Before>(
     requires had { K.had ≡ bytes_had R.remaining readers.items }
     requires held { K.held ≡ bytes_held (O.contents out) (L.contents report) }
     requires few { length readers.items ≤ 16 }
-    ensures headline { IfOk result (λ c. IfOk c.done (λ counts. IsTrue c.is_out
-        → ConvertsBytes setup (map R.remaining readers.items) counts (written (O.contents out) (L.contents report))
+    ensures kept { IfOk result (λ c. IfOk c.done (λ counts. IsTrue c.is_out
+        → KeepsBytes setup (map R.remaining readers.items) counts (written (O.contents out) (L.contents report))
         (written (taken_of (O.contents out) (O.contents c.out)) (taken_of (L.contents report) (L.contents c.report))))) }
     ensures first_part { IfOk result (λ c. EndsAtRead c.done → IsTrue c.is_out
         → ConvertsFirstBytes setup (map R.remaining readers.items) (written (O.contents out) (L.contents report))
@@ -159,8 +159,11 @@ pub fn convert_through<R: Read + Drop, O: Write + Drop, L: Write + Drop>(
     out: O,
     report: L,
 ) -> Result<Converted<O, L>, ToolFault>
-    ensures headline { IfOk result (λ c. IfOk c.done (λ counts. IsTrue c.is_out
-        → ConvertsBytes setup (map R.remaining readers.items) counts (written (O.contents out) (L.contents report))
+    ensures headline { IfOk result (λ c. OnOk c.done (IsTrue c.is_out
+        → ConvertsBytes setup (map R.remaining readers.items) (written (O.contents out) (L.contents report))
+        (written (taken_of (O.contents out) (O.contents c.out)) (taken_of (L.contents report) (L.contents c.report))))) }
+    ensures kept { IfOk result (λ c. IfOk c.done (λ counts. IsTrue c.is_out
+        → KeepsBytes setup (map R.remaining readers.items) counts (written (O.contents out) (L.contents report))
         (written (taken_of (O.contents out) (O.contents c.out)) (taken_of (L.contents report) (L.contents c.report))))) }
     ensures first_part { IfOk result (λ c. EndsAtRead c.done → IsTrue c.is_out
         → ConvertsFirstBytes setup (map R.remaining readers.items) (written (O.contents out) (L.contents report))

@@ -5,6 +5,7 @@ ghost use Rattle.rtk_convert.specs.Converter.{IsLinkCount, RepresentsHistory};
 ghost use Rattle.rtk_convert.specs.Failure.{IsFrameFault, IsReadingFault, IsRunFault, NamesFailedWrites};
 ghost use Rattle.rtk_convert.specs.Steps.Faults.{IsReadFault};
 ghost use Rattle.rtk_convert.specs.Headline.{RunHeadline};
+ghost use Rattle.rtk_convert.specs.Kept.{RunKeeps};
 ghost use Rattle.rtk_convert.specs.History.{History, new_history, IsOpen, IsUpTo, IsNextLink};
 ghost use Rattle.rtk_convert.specs.ReadSteps.{AnyAtGreatest, HasCalled, SameFailures};
 ghost use Rattle.rtk_convert.specs.Steps.ReadLink.{ReadsLink, BreaksOffAfterRead, FailsRead, HasReadAll};
@@ -156,8 +157,10 @@ pub fn run<R: Source, O: Sink, L: Sink>(
     log: &mut L,
     max_reads: u64,
 ) -> Result<Counts, ConvertFault>
-    // Done: the promise.
-    ensures headline { IfOk result (λ counts. RunHeadline R.given R.calls R.is_at_end setup readers.old readers.new counts
+    // Done: the promise, and what it leaves out.
+    ensures headline { OnOk result (RunHeadline R.given R.is_at_end setup readers.old readers.new
+        (written (O.taken out.old) (L.taken log.old)) (written (O.taken out.new) (L.taken log.new))) }
+    ensures kept { IfOk result (λ counts. RunKeeps R.given R.calls R.is_at_end setup readers.old readers.new counts
         (written (O.taken out.old) (L.taken log.old)) (written (O.taken out.new) (L.taken log.new))) }
 
     // Not done: what is out, as far as the run came.
