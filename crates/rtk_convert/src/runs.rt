@@ -144,8 +144,9 @@ fn read_all<R: Source, O: Sink, L: Sink>(
 /// The order in which messages come, and so which are late, depends on how many bytes each read
 /// gives.
 ///
-/// The clause `headline` is the promise of a conversion in one sentence; `calls_keep_promise` says
-/// the same of any calls of a `Converter`, and `set_has_one_file` that the set decides the file.
+/// The clause `headline` is the promise of a conversion in one sentence, and `kept` says the rest of
+/// the same reads. `calls_keep_promise` says both of any calls of a `Converter`, and
+/// `set_has_one_file` that the set decides the file.
 ///
 /// V1 if there are not 1 to 16 readers, before anything else; V4 if memory is refused; V5 if a
 /// write fails, and V6 if a read does; V7 if a link is still open after `max_reads` reads.

@@ -14,8 +14,7 @@ set_bits_from place (suc w) mask =
 abbrev pub set_bits : ℕ → ℕ → List ℕ
 set_bits w mask = set_bits_from 1 w mask
 
--- the lists that f gives for each element and its place, joined; the first element has place k (this
--- project's rule)
+-- the lists that f gives for each element and its place, joined; the first element has place k
 unfoldable pub join_from : {X Y : Type 0} → (ℕ → X → List Y) → ℕ → List X → List Y
 join_from f k [] = []
 join_from f k (x ∷ xs) = f k x ++ join_from f (suc k) xs

@@ -68,5 +68,6 @@ within_limits v =
 
 -- formula
 -- the phase with 1500 cycles added for each roll, or none outside the limits
+-- Source: RTCM 10403.3, DF012 and DF018
 abbrev pub rolled_phase : ℤ → ℤ → Option ℤ
 rolled_phase phase rolls = within_limits (phase +ℤ pos 1_500_000 *ℤ rolls)

@@ -61,8 +61,8 @@ first_lines marker made =
     ++ header_line [] (codes "REC # / TYPE / VERS")
     ++ header_line [] (codes "ANT # / TYPE")
 
--- the antenna reference point (ECEF) and the antenna's height above it, in 0.0001 m (this project's
--- units)
+-- the antenna reference point (ECEF) and the antenna's height above it, in 0.0001 m (RTCM 10403.3,
+-- DF025 to DF028)
 pub record PositionView : Type 0 where
   pub x : ℤ
   pub y : ℤ

@@ -10,7 +10,7 @@ use Rattle.rtk_rinex.specs.Reading.{IsMoment, reading_of, seconds_of}
 use Rattle.rtk_rinex.specs.declared.epoch_table.Observed.{Observed}
 use Rattle.rtk_rinex.specs.declared.epoch_table.SatelliteRow.{SatelliteRow}
 
--- an epoch: its moment, and its satellites with what each listed code shows (this project's rule)
+-- an epoch: its moment, and its satellites with what each listed code shows
 pub record EpochTableView : Type 0 where
   pub time : ℕ
   pub rows : List SatelliteRow
