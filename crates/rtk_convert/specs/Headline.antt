@@ -51,8 +51,8 @@ ComeIn s link (p ∷ ps) before after = ((a : Arrival) × IsMessageIn s p a × C
 -- read no more
 abbrev pub ComeBy : SetupView → ℕ → List Read → List (ℕ × Arrival) → Type 0
 ComeBy s links [] came = came ≡ []
-ComeBy s links (r ∷ before) came = (old : List (ℕ × Arrival)) × ComeBy s links before old × (r.link < links) × (has_ended r.link before ≡ false)
-    × ComeIn s r.link (payloads_by (bytes_of r.link before) r.piece) old came
+ComeBy s links (r ∷ before) came = (old : List (ℕ × Arrival)) × ComeBy s links before old
+    × (r.link < links) × (has_ended r.link before ≡ false) × ComeIn s r.link (payloads_by (bytes_of r.link before) r.piece) old came
 
 abbrev pub messages_of : List (ℕ × Arrival) → List Arrival
 messages_of came = map (λ c. c.1) came
@@ -60,14 +60,15 @@ messages_of came = map (λ c. c.1) came
 -- ---- "the set of messages that came at least once while their epoch was open"
 
 abbrev pub CameInTime : SetupView → List Arrival → Arrival → Type 0
-CameInTime s arrivals a = (later : List Arrival) × (before : List Arrival) × (arrivals ≡ later ++ a ∷ before) × (late s.window a before ≡ false)
+CameInTime s arrivals a = (later : List Arrival) × (before : List Arrival)
+    × (arrivals ≡ later ++ a ∷ before) × (late s.window a before ≡ false)
 
 -- ---- "provided equal keys carry equal bodies"
 
 -- cells of one epoch under one key are equal, and so are station messages of one number
 pub record EqualKeysCarryEqualBodies (set : Arrival → Type 0) : Type 0 where
-  pub cells : (e : ℕ) (m o : Message) (c d : CellEntry) → set (At (Some e) m) → set (At (Some e) o) → Contains (cells_of m) c → Contains (cells_of o) d
-      → key c ≡ key d → c ≡ d
+  pub cells : (e : ℕ) (m o : Message) (c d : CellEntry) → set (At (Some e) m) → set (At (Some e) o)
+      → Contains (cells_of m) c → Contains (cells_of o) d → key c ≡ key d → c ≡ d
   pub stations : (m o : Message) → set (At None m) → set (At None o) → number_of m ≡ number_of o → m ≡ o
 
 -- ---- "the file written is byte for byte"
@@ -150,5 +151,5 @@ pub record RunHeadline {R : Type 0} (given : R → Option (List ℕ)) (is_at_end
 
 -- a set has one file, whatever the arrivals in which it came
 abbrev pub SetHasOneFile : Type 0
-SetHasOneFile = (s : SetupView) (one other : List Arrival) (first second : List ℕ) → ((a : Arrival) → CameInTime s one a ↔ CameInTime s other a)
-    → IsFileOf s (CameInTime s one) first → IsFileOf s (CameInTime s other) second → first ≡ second
+SetHasOneFile = (s : SetupView) (one other : List Arrival) (first second : List ℕ)
+    → ((a : Arrival) → CameInTime s one a ↔ CameInTime s other a) → IsFileOf s (CameInTime s one) first → IsFileOf s (CameInTime s other) second → first ≡ second
