@@ -1,13 +1,12 @@
 -- A conversion by bytes: those that its readers had, and those that its writers hold.
 use Rattle.std.specs.Prelude.{◌≡◌, ◌<◌, ℕ, true, List, ◌++◌, length, Option, None, Some, Result, Ok, Err, slice_index_or}
 use Rattle.rtk_frame.specs.Stream.{with_more}
-use Rattle.rtk_collect.specs.Arrival.{Arrival}
 use Rattle.rtk_convert.specs.declared.counts.Counts.{Counts}
 use Rattle.rtk_convert.specs.declared.fault.ConvertFault.{ConvertFault}
 use Rattle.rtk_convert.specs.declared.fault.ConvertFault.TheVariants.{Read as ReadFailed, Endless}
 use Rattle.rtk_convert.specs.FileOfArrivals.{file_so_far}
 use Rattle.rtk_convert.specs.FrameClass.{arrivals}
-use Rattle.rtk_convert.specs.Headline.{has_ended, ComeBy, Headline}
+use Rattle.rtk_convert.specs.Headline.{Came, has_ended, ComeBy, Headline}
 use Rattle.rtk_convert.specs.History.{History}
 use Rattle.rtk_convert.specs.Kept.{KeepsInOrder}
 use Rattle.rtk_convert.specs.ReadHistory.{Read, IsHistoryOf, bytes_of}
@@ -20,7 +19,7 @@ use Rattle.rtk_convert.specs.Writing.{Written}
 -- reads brought the promise of a conversion holds
 pub record ConvertsBytes (s : SetupView) (bytes : List (Option (List ℕ))) (written_old written_new : Written) : Type 0 where
   pub reads : List Read
-  pub came : List (ℕ × Arrival)
+  pub came : Came
   pub all_bytes : (k : ℕ) (text : List ℕ) → slice_index_or bytes k None ≡ Some text → bytes_of k reads ≡ text
   pub of_all_pieces : ComeBy s (length bytes) reads came
   pub all_ended : (link : ℕ) → link < length bytes → has_ended link reads ≡ true

@@ -41,20 +41,23 @@ abbrev pub IsMessageIn : SetupView → List ℕ → Arrival → Type 0
 IsMessageIn s payload (At epoch m) =
     Encodes (bits payload) m × IsTrue (accepts (only s.msm) (number_of m)) × (station_of m ≡ s.station) × IsEpochOf s.near (tow_of m) epoch
 
+-- messages that came, each with its link
+abbrev pub Came : Type 0
+Came = List (ℕ × Arrival)
+
 -- messages come in payloads of a link, one after another; other payloads are passed over
-abbrev pub ComeIn : SetupView → ℕ → List (List ℕ) → List (ℕ × Arrival) → List (ℕ × Arrival) → Type 0
+abbrev pub ComeIn : SetupView → ℕ → List (List ℕ) → Came → Came → Type 0
 ComeIn s link [] before after = after ≡ before
 ComeIn s link (p ∷ ps) before after = ((a : Arrival) × IsMessageIn s p a × ComeIn s link ps ((link, a) ∷ before) after)
     ⊎ (((a : Arrival) → ¬ (IsMessageIn s p a)) × ComeIn s link ps before after)
 
--- the messages that came by reads of this many links, each with its link; a link that has ended is
--- read no more
-abbrev pub ComeBy : SetupView → ℕ → List Read → List (ℕ × Arrival) → Type 0
+-- the messages that came by reads of this many links; a link that has ended is read no more
+abbrev pub ComeBy : SetupView → ℕ → List Read → Came → Type 0
 ComeBy s links [] came = came ≡ []
-ComeBy s links (r ∷ before) came = (old : List (ℕ × Arrival)) × ComeBy s links before old
+ComeBy s links (r ∷ before) came = (old : Came) × ComeBy s links before old
     × (r.link < links) × (has_ended r.link before ≡ false) × ComeIn s r.link (payloads_by (bytes_of r.link before) r.piece) old came
 
-abbrev pub messages_of : List (ℕ × Arrival) → List Arrival
+abbrev pub messages_of : Came → List Arrival
 messages_of came = map (λ c. c.1) came
 
 -- ---- "the set of messages that came at least once while their epoch was open"
@@ -111,13 +114,13 @@ IsFileOf s set text = (c : Content) × IsContentOf set c × EachOnce c × (text 
 -- ---- "late arrivals are listed"
 
 -- the lines of the messages that came too late, without their ends
-abbrev pub late_lines : SetupView → List (ℕ × Arrival) → List (List ℕ)
+abbrev pub late_lines : SetupView → Came → List (List ℕ)
 late_lines s [] = []
 late_lines s (c ∷ before) = late_lines s before ++ (if late s.window c.1 (messages_of before)
     then arrival_text c.0 (codes " late ") (number_of (message_of c.1)) (epoch_of c.1) ∷ [] else [])
 
 -- the report has lines, some of them marked: the lines of the late messages, each once and in order
-abbrev pub LateAreListed : SetupView → List (ℕ × Arrival) → Option (List ℕ) → Option (List ℕ) → Type 0
+abbrev pub LateAreListed : SetupView → Came → Option (List ℕ) → Option (List ℕ) → Type 0
 LateAreListed s came report_old report_new = IsWritten report_old report_new (λ text. (all : List (Bool × List ℕ))
     × (text ≡ flat_map (λ line. line.1 ++ 10 ∷ []) all) × (late_lines s came ≡ map (λ line. line.1) (filter (λ line. line.0) all)))
 
@@ -132,8 +135,8 @@ pub record LateChangeNothing (s : SetupView) (arrivals : List Arrival) : Type 0 
 
 -- ---- the whole sentence
 
--- of the messages that came, each with its link
-pub record Headline (s : SetupView) (came : List (ℕ × Arrival)) (written_old written_new : Written) : Type 0 where
+-- of the messages that came
+pub record Headline (s : SetupView) (came : Came) (written_old written_new : Written) : Type 0 where
   pub file_of_the_set : EqualKeysCarryEqualBodies (CameInTime s (messages_of came))
       → IsWritten written_old.file written_new.file (IsFileOf s (CameInTime s (messages_of came)))
   pub late_are_listed : LateAreListed s came written_old.report written_new.report
@@ -142,7 +145,7 @@ pub record Headline (s : SetupView) (came : List (ℕ × Arrival)) (written_old 
 -- of the pieces that the readers of a run gave, to their ends
 pub record RunHeadline {R : Type 0} (given : R → Option (List ℕ)) (is_at_end : R → Type 0) (s : SetupView) (before after : List R) (written_old written_new : Written) : Type 0 where
   pub reads : List Read
-  pub came : List (ℕ × Arrival)
+  pub came : Came
   pub gave : Gave given before after reads
   pub to_their_ends : AllAtEnd is_at_end after
   pub of_all_pieces : ComeBy s (length before) reads came

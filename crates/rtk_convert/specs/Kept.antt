@@ -2,7 +2,6 @@
 -- and the counts. Lists are newest first.
 use Rattle.std.specs.Prelude.{◌≡◌, ℕ, List, [], ◌∷◌, length, Option}
 use Rattle.rtk_frame.specs.Stream.{with_more}
-use Rattle.rtk_collect.specs.Arrival.{Arrival}
 use Rattle.rtk_collect.specs.Laws.{without_late}
 use Rattle.rtk_convert.specs.declared.counts.Counts.{Counts}
 use Rattle.rtk_convert.specs.declared.frame_class.FrameClass.{FrameClass}
@@ -11,7 +10,7 @@ use Rattle.rtk_convert.specs.FileLaws.{IsTextOfTable}
 use Rattle.rtk_convert.specs.FileOfArrivals.{kept_file}
 use Rattle.rtk_convert.specs.Finish.{all_counts, report_of}
 use Rattle.rtk_convert.specs.FrameClass.{Found, arrivals}
-use Rattle.rtk_convert.specs.Headline.{RunHeadline}
+use Rattle.rtk_convert.specs.Headline.{Came, RunHeadline}
 use Rattle.rtk_convert.specs.History.{History}
 use Rattle.rtk_convert.specs.ReadHistory.{Read, IsHistoryOf, AllClosed}
 use Rattle.rtk_convert.specs.ReadSteps.{HasCalled}
@@ -20,14 +19,14 @@ use Rattle.rtk_convert.specs.Writing.{Written}
 
 -- ---- of found frames
 
-abbrev pub and_came : ℕ → FrameClass → List (ℕ × Arrival) → List (ℕ × Arrival)
+abbrev pub and_came : ℕ → FrameClass → Came → Came
 and_came link OtherMessage before = before
 and_came link (Refused fault) before = before
 and_came link Foreign before = before
 and_came link (Dated a) before = (link, a) ∷ before
 
--- the messages among found frames, each with its link
-abbrev pub came_of : List Found → List (ℕ × Arrival)
+-- the messages among found frames
+abbrev pub came_of : List Found → Came
 came_of [] = []
 came_of (f ∷ before) = and_came f.link f.class (came_of before)
 
@@ -44,7 +43,7 @@ pub record WritesKept (s : SetupView) (found : List Found) (counts : Counts) (wr
 
 -- each read was of the link whose turn it was; what the frames bring that these reads find, and what
 -- is kept of them. Since every setup is a good one, the checker accepts the file
-pub record KeepsInOrder (s : SetupView) (links : ℕ) (reads : List Read) (came : List (ℕ × Arrival)) (counts : Counts) (written_old written_new : Written) : Type 0 where
+pub record KeepsInOrder (s : SetupView) (links : ℕ) (reads : List Read) (came : Came) (counts : Counts) (written_old written_new : Written) : Type 0 where
   pub history : History
   pub in_order : IsHistoryOf s links reads history
   pub closed : AllClosed history
