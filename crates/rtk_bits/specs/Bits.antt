@@ -1,4 +1,5 @@
 -- The bits of bytes, the most significant first, and the numbers that they write.
+-- Source: RTCM 10403.3, data types
 use Rattle.std.specs.Prelude.{ℕ, ℤ, pos, negsuc, neg_ℤ, ◌≤ℤ◌, ◌<ℤ◌, ◌-◌, ◌%◌, replicate, zero, suc, ◌*◌, ◌+◌, ◌^◌, ◌-ℤ◌, Bool, true, false, List, [], ◌∷◌, ◌++◌, length, ◌==◌}
 use Rattle.std.specs.Int.{bit_at}
 

@@ -50,7 +50,8 @@ abbrev pub has_half : List Observed → Bool
 has_half os = list_any (λ o. o.half) os
 
 -- formula
--- the signal strength digit of a strength, 1 to 9 (RINEX 3.05)
+-- the signal strength digit of a strength, 1 to 9
+-- Source: RINEX 3.05, Table A3
 abbrev pub level_of : Option ℕ → Option ℕ
 level_of None = None
 level_of (Some s) = Some (min (max (s / 6000) 1) 9)

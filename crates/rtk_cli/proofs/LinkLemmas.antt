@@ -1,6 +1,7 @@
 -- From what a run says of its sources and sinks to the bytes of the readers and writers behind them.
 use Rattle.std.proofs.Common.{◌≡◌, ℕ, zero, suc, ◌-◌, ◌<◌, Bool, true, IsTrue, List, [], ◌∷◌, ◌++◌, length, take, drop, get_or, map, Option, None, Some, Result, Ok, Err, IfOk, IsErrOf, refl, sym, ap, ◌∙◌, subst, arith, append-nil, take-append-drop}
 use Rattle.std.proofs.lemmas.List.{map_push, length-map, get_or-map}
+use Rattle.std.proofs.lemmas.Result.{IfOk-weaker}
 use Rattle.std.proofs.Math.Nat.{sub_self}
 use Rattle.std.specs.Io.Buffered.{writer_contents}
 use Rattle.std.specs.Io.KnownBytes.{Keeps}
@@ -15,15 +16,16 @@ use Rattle.rtk_convert.specs.declared.fault.ConvertFault.TheVariants.{Read as Re
 use Rattle.rtk_convert.specs.FileOfArrivals.{kept_file, file_so_far}
 use Rattle.rtk_convert.specs.Finish.{report_of}
 use Rattle.rtk_convert.specs.FrameClass.{arrivals}
-use Rattle.rtk_convert.specs.Headline.{Headline, WritesKept, RunHeadline, calls_of}
+use Rattle.rtk_convert.specs.Headline.{has_ended, ComeBy}
+use Rattle.rtk_convert.specs.Kept.{KeepsInOrder, RunKeeps}
 use Rattle.rtk_convert.specs.History.{History}
-use Rattle.rtk_convert.specs.ReadHistory.{Read, IsHistoryOf, AllClosed, Gave, bytes_of}
+use Rattle.rtk_convert.specs.ReadHistory.{Read, IsHistoryOf, Gave, bytes_of}
 use Rattle.rtk_convert.specs.ReadSteps.{HasRead}
 use Rattle.rtk_convert.specs.Report.{lines}
 use Rattle.rtk_convert.specs.Run.{FailsReading, StaysOpen}
 use Rattle.rtk_convert.specs.Setup.{SetupView}
 use Rattle.rtk_convert.specs.Writing.{Written, written}
-use Rattle.rtk_cli.specs.ConvertsBytes.{ConvertsBytes, EndsAtRead, ConvertsFirstBytes}
+use Rattle.rtk_cli.specs.ConvertsBytes.{ConvertsBytes, KeepsBytes, EndsAtRead, ConvertsFirstBytes}
 use Rattle.rtk_cli.specs.Steps.Links.{bytes_had, AreLinksOf}
 
 -- ---- links that are made one after another
@@ -148,19 +150,24 @@ first-bytes {S} {R} {number} {inner} {before} {readers} remaining had after read
     let is : text ≡ part.1.0 = cc in
     (part.1.1, is ∙ part.1.3)
 
--- the promise of a run, by the bytes of the readers
-converts-bytes : {S R : Type 0} {number : S → ℕ} {inner : S → R} {before : List S} {readers : List R} (remaining : R → Option (List ℕ)) (had : ℕ → Option (List ℕ))
+-- the promise of a run and the rest, by the bytes of the readers
+keeps-bytes : {S R : Type 0} {number : S → ℕ} {inner : S → R} {before : List S} {readers : List R} (remaining : R → Option (List ℕ)) (had : ℕ → Option (List ℕ))
     (calls : S → ℕ) (is_at_end : S → Type 0) (s : SetupView) (after : List S) (counts : Counts) (old new : Written)
     → had ≡ bytes_had remaining readers → AreLinksOf before readers number inner → ((x : S) → is_at_end x → IsDone number inner remaining had x)
-    → RunHeadline (given_by number inner remaining had) calls is_at_end s before after counts old new → ConvertsBytes s (map remaining readers) counts old new
-converts-bytes {S} {R} {number} {inner} {before} {readers} remaining had calls is_at_end s after counts old new is-had are done run =
+    → RunKeeps (given_by number inner remaining had) calls is_at_end s before after counts old new → KeepsBytes s (map remaining readers) counts old new
+keeps-bytes {S} {R} {number} {inner} {before} {readers} remaining had calls is_at_end s after counts old new is-had are done run =
     let many : length before ≡ length (map remaining readers) = as-many remaining are in
     record {
-      reads = run.reads;
-      all_bytes = all-bytes remaining had after run.reads is-had are run.gave (λ (k : ℕ) (none : S) (within : k < length after). done (get_or after k none) (run.to_their_ends k none within));
-      in_order = subst (λ (n : ℕ). (h : History) × IsHistoryOf s n run.reads h × AllClosed h) many run.in_order;
-      headline = subst (λ (n : ℕ). Headline s n (calls_of run.reads) old new) many run.headline;
-      kept = subst (λ (n : ℕ). WritesKept s n (calls_of run.reads) counts old new) many run.kept;
+      promise = record {
+        reads = run.promise.reads;
+        came = run.promise.came;
+        all_bytes = all-bytes remaining had after run.promise.reads is-had are run.promise.gave
+            (λ (k : ℕ) (none : S) (within : k < length after). done (get_or after k none) (run.promise.to_their_ends k none within));
+        of_all_pieces = subst (λ (n : ℕ). ComeBy s n run.promise.reads run.promise.came) many run.promise.of_all_pieces;
+        all_ended = subst (λ (n : ℕ). (link : ℕ) → link < n → has_ended link run.promise.reads ≡ true) many run.promise.all_ended;
+        headline = run.promise.headline;
+      };
+      rest = subst (λ (n : ℕ). KeepsInOrder s n run.promise.reads run.promise.came counts old new) many run.rest;
     }
 
 -- ---- what the writers hold
@@ -228,24 +235,29 @@ at-done : {S R : Type 0} {number : S → ℕ} {inner : S → R} {before : List S
     (calls : S → ℕ) (is_at_end : S → Type 0) (s : SetupView) (after : List S) {first old new last first' old' new' last' : Option (List ℕ)} {is_out : Bool} (done : Result Counts ConvertFault)
     → had ≡ bytes_had remaining readers → AreLinksOf before readers number inner → ((x : S) → is_at_end x → IsDone number inner remaining had x)
     → Behind held first old new last is_out → Behind held first' old' new' last' is_out
-    → IfOk done (λ counts. RunHeadline (given_by number inner remaining had) calls is_at_end s before after counts (written old old') (written new new'))
-    → IfOk done (λ counts. IsTrue is_out → ConvertsBytes s (map remaining readers) counts (written first first') (written (taken_of first last) (taken_of first' last')))
+    → IfOk done (λ counts. RunKeeps (given_by number inner remaining had) calls is_at_end s before after counts (written old old') (written new new'))
+    → IfOk done (λ counts. IsTrue is_out → KeepsBytes s (map remaining readers) counts (written first first') (written (taken_of first last) (taken_of first' last')))
 at-done remaining had calls is_at_end s after (Err fault) is-had are ends b b' run = tt
 at-done {S} {R} {number} {inner} {before} {readers} remaining had {held} calls is_at_end s after {first} {old} {new} {last} {first'} {old'} {new'} (Ok counts) is-had are ends b b' run =
-    let converts : ConvertsBytes s (map remaining readers) counts (written old old') (written new new') =
-    converts-bytes remaining had calls is_at_end s after counts (written old old') (written new new') is-had are ends run in
-    λ is-out. on-writers (λ (w v : Written). ConvertsBytes s (map remaining readers) counts w v) (kept_file s (arrivals converts.kept.found)) (report_of s converts.kept.found)
-    b b' is-out converts.kept.out converts.kept.log converts
+    let keeps : KeepsBytes s (map remaining readers) counts (written old old') (written new new') =
+    keeps-bytes remaining had calls is_at_end s after counts (written old old') (written new new') is-had are ends run in
+    λ is-out. on-writers (λ (w v : Written). KeepsBytes s (map remaining readers) counts w v) (kept_file s (arrivals keeps.rest.history.found)) (report_of s keeps.rest.history.found)
+    b b' is-out keeps.rest.kept.out keeps.rest.kept.log keeps
 
 pub done-by-bytes : {S R : Type 0} {number : S → ℕ} {inner : S → R} {before : List S} {readers : List R} (remaining : R → Option (List ℕ)) (had : ℕ → Option (List ℕ)) {held : ℕ → Option (List ℕ)}
     (calls : S → ℕ) (is_at_end : S → Type 0) (s : SetupView) (after : List S) {first old new last first' old' new' last' : Option (List ℕ)} {is_out : Bool} (done final : Result Counts ConvertFault)
     → final ≡ done → had ≡ bytes_had remaining readers → AreLinksOf before readers number inner → ((x : S) → is_at_end x → IsDone number inner remaining had x)
     → Behind held first old new last is_out → Behind held first' old' new' last' is_out
-    → IfOk done (λ counts. RunHeadline (given_by number inner remaining had) calls is_at_end s before after counts (written old old') (written new new'))
-    → IfOk final (λ counts. IsTrue is_out → ConvertsBytes s (map remaining readers) counts (written first first') (written (taken_of first last) (taken_of first' last')))
+    → IfOk done (λ counts. RunKeeps (given_by number inner remaining had) calls is_at_end s before after counts (written old old') (written new new'))
+    → IfOk final (λ counts. IsTrue is_out → KeepsBytes s (map remaining readers) counts (written first first') (written (taken_of first last) (taken_of first' last')))
 done-by-bytes {S} {R} {number} {inner} {before} {readers} remaining had {held} calls is_at_end s after {first} {old} {new} {last} {first'} {old'} {new'} {last'} {is_out} done final is is-had are ends b b' run =
-    subst (λ (r : Result Counts ConvertFault). IfOk r (λ counts. IsTrue is_out → ConvertsBytes s (map remaining readers) counts (written first first') (written (taken_of first last) (taken_of first' last'))))
+    subst (λ (r : Result Counts ConvertFault). IfOk r (λ counts. IsTrue is_out → KeepsBytes s (map remaining readers) counts (written first first') (written (taken_of first last) (taken_of first' last'))))
     (sym is) (at-done remaining had calls is_at_end s after done is-had are ends b b' run)
+
+-- what is kept says the promise too
+pub promise-out : (is_out : Bool) (s : SetupView) (bytes : List (Option (List ℕ))) (old new : Written) (done : Result Counts ConvertFault)
+    → IfOk done (λ counts. IsTrue is_out → KeepsBytes s bytes counts old new) → IfOk done (λ counts. IsTrue is_out → ConvertsBytes s bytes old new)
+promise-out is_out s bytes old new done keeps = IfOk-weaker done _ _ (λ counts k is-out. (k is-out).promise) keeps
 
 -- ---- a run that ended at a read
 

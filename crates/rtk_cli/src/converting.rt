@@ -2,7 +2,7 @@
 //!
 //! At the end standard output is flushed, then the report, and the fault line comes last.
 
-ghost use Rattle.std.specs.Prelude.{◌≡◌, ◌↔◌, ◌≤◌, length, map, IfOk, IfErr, IsErrOf, IsTrue};
+ghost use Rattle.std.specs.Prelude.{◌≡◌, ◌↔◌, ◌≤◌, length, map, OnOk, IfOk, IfErr, IsErrOf, IsTrue};
 ghost use Rattle.std.specs.Io.KnownBytes.{Keeps};
 ghost use Rattle.rtk_convert.specs.Converter.{IsLinkCount};
 ghost use Rattle.rtk_convert.specs.Failure.{IsReadingFault, IsRunFault};
@@ -10,7 +10,7 @@ ghost use Rattle.rtk_convert.specs.Writing.{written};
 ghost use Rattle.rtk_streams.specs.Passed.{taken_of};
 ghost use Rattle.rtk_streams.specs.declared.exit_status.TheConstants.{FAILED};
 ghost use Rattle.rtk_cli.specs.Converting.{status_of};
-ghost use Rattle.rtk_cli.specs.ConvertsBytes.{ConvertsBytes, EndsAtRead, ConvertsFirstBytes};
+ghost use Rattle.rtk_cli.specs.ConvertsBytes.{ConvertsBytes, KeepsBytes, EndsAtRead, ConvertsFirstBytes};
 ghost use Rattle.rtk_cli.specs.Steps.Links.{bytes_had, bytes_held, AreLinksOf};
 
 use rtk_convert::{ConvertFault, Counts, Setup, run};
@@ -95,8 +95,8 @@ fn convert_between<R: Read + Drop, O: Write + Drop, L: Write + Drop, K: Before>(
     requires had { K.had ≡ bytes_had R.remaining readers.items }
     requires held { K.held ≡ bytes_held (O.contents out) (L.contents report) }
     requires few { length readers.items ≤ 16 }
-    ensures headline { IfOk result (λ c. IfOk c.done (λ counts. IsTrue c.is_out
-        → ConvertsBytes setup (map R.remaining readers.items) counts (written (O.contents out) (L.contents report))
+    ensures kept { IfOk result (λ c. IfOk c.done (λ counts. IsTrue c.is_out
+        → KeepsBytes setup (map R.remaining readers.items) counts (written (O.contents out) (L.contents report))
         (written (taken_of (O.contents out) (O.contents c.out)) (taken_of (L.contents report) (L.contents c.report))))) }
     ensures first_part { IfOk result (λ c. EndsAtRead c.done → IsTrue c.is_out
         → ConvertsFirstBytes setup (map R.remaining readers.items) c.done (written (O.contents out) (L.contents report))
@@ -140,8 +140,11 @@ pub fn convert_through<R: Read + Drop, O: Write + Drop, L: Write + Drop>(
     out: O,
     report: L,
 ) -> Result<Converted<O, L>, ToolFault>
-    ensures headline { IfOk result (λ c. IfOk c.done (λ counts. IsTrue c.is_out
-        → ConvertsBytes setup (map R.remaining readers.items) counts (written (O.contents out) (L.contents report))
+    ensures headline { IfOk result (λ c. OnOk c.done (IsTrue c.is_out
+        → ConvertsBytes setup (map R.remaining readers.items) (written (O.contents out) (L.contents report))
+        (written (taken_of (O.contents out) (O.contents c.out)) (taken_of (L.contents report) (L.contents c.report))))) }
+    ensures kept { IfOk result (λ c. IfOk c.done (λ counts. IsTrue c.is_out
+        → KeepsBytes setup (map R.remaining readers.items) counts (written (O.contents out) (L.contents report))
         (written (taken_of (O.contents out) (O.contents c.out)) (taken_of (L.contents report) (L.contents c.report))))) }
     ensures first_part { IfOk result (λ c. EndsAtRead c.done → IsTrue c.is_out
         → ConvertsFirstBytes setup (map R.remaining readers.items) c.done (written (O.contents out) (L.contents report))

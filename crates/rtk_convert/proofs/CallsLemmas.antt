@@ -8,17 +8,16 @@ use Rattle.rtk_frame.proofs.PublicLaws.{with_more-nil}
 use Rattle.rtk_convert.specs.declared.fault.ConvertFault.{ConvertFault}
 use Rattle.rtk_convert.specs.declared.fault.ConvertFault.TheVariants.{NoLink, LinkClosed}
 use Rattle.rtk_convert.specs.declared.link.Link.{Link}
-use Rattle.rtk_convert.specs.CallLaws.{IsRefused, IsAnswered, AreAnswered, CallsKeepPromise, CallsWriteKept}
+use Rattle.rtk_convert.specs.CallLaws.{Call, Feed, Close, IsAfterCall, CallsComeTo, IsRefused, IsAnswered, AreAnswered, CallsKeepPromise, CallsWriteKept}
 use Rattle.rtk_convert.specs.Converter.{ConverterView, RepresentLinks, link_refusal, refusal, RepresentsHistory, WritesOn, FinishesConverterAs, IsAfterClosingAll}
 use Rattle.rtk_convert.specs.FileOfArrivals.{kept_file, file_so_far}
 use Rattle.rtk_convert.specs.FrameClass.{Found, arrivals}
 use Rattle.rtk_convert.specs.Finish.{report_of}
-use Rattle.rtk_convert.specs.Headline.{Call, Feed, Close, IsAfterCall, CallsComeTo}
 use Rattle.rtk_convert.specs.History.{History, LinkPast, IsOpen, IsAfterFeed, IsAfterClose, new_history}
 use Rattle.rtk_convert.specs.Report.{lines}
 use Rattle.rtk_convert.specs.Setup.{SetupView}
 use Rattle.rtk_convert.specs.Writing.{Written}
-use Rattle.rtk_convert.proofs.HeadlineLemmas.{headline-of}
+use Rattle.rtk_convert.proofs.HeadlineLemmas.{headline-of, kept-of}
 use Rattle.rtk_convert.proofs.ReadLemmas.{open-goes}
 use Rattle.rtk_convert.proofs.RunLemmas.{length-with_piece, length-with_closed, so_far-nothing, written-on}
 
@@ -128,16 +127,16 @@ pub calls-write-kept : CallsWriteKept
 calls-write-kept s links calls counts o0 o2 p =
     let c = come s links p.first calls p.now o0 p.written_mid p.is_new p.setup p.answered in
     let end = subst (λ (t : SetupView). (last : History) × FinishesConverterAs t c.history last counts p.written_mid o2) c.setup (p.ended c.history c.represents) in
-    let few = length-calls s links calls c.history c.come_to in
-    record {
-      found = end.0.found;
-      of_all_pieces = (c.history, end.0, c.come_to, subst (λ (n : ℕ). IsAfterClosingAll s c.history n end.0) few end.1.closed, refl);
-      out = written-on o0.file p.written_mid.file o2.file (file_so_far s (arrivals c.history.found)) (kept_file s (arrivals end.0.found)) c.out_is end.1.out;
-      log = written-on o0.report p.written_mid.report o2.report (lines s.window c.history.found) (report_of s end.0.found) c.log_is end.1.log;
-      counts_are = end.1.counts_are;
-    }
+    let few = length-calls s links calls c.history c.come_to in (
+      end.0.found,
+      (c.history, end.0, c.come_to, subst (λ (n : ℕ). IsAfterClosingAll s c.history n end.0) few end.1.closed, refl),
+      kept-of s end.0.found counts o0 o2
+          (written-on o0.file p.written_mid.file o2.file (file_so_far s (arrivals c.history.found)) (kept_file s (arrivals end.0.found)) c.out_is end.1.out)
+          (written-on o0.report p.written_mid.report o2.report (lines s.window c.history.found) (report_of s end.0.found) c.log_is end.1.log)
+          end.1.counts_are,
+    )
 
 pub calls-keep-promise : CallsKeepPromise
 calls-keep-promise s links calls counts o0 o2 p =
     let w = calls-write-kept s links calls counts o0 o2 p in
-    headline-of s links calls w.found o0 o2 w.of_all_pieces w.out w.log
+    (w.0, w.1, headline-of s w.0 o0 o2 w.2.out w.2.log)

@@ -3,7 +3,7 @@
 use Rattle.std.proofs.Common.{◌≡◌, ℕ, ◌<◌, arith, zero, suc, List, [], ◌∷◌, inl, inr, ap, sym, subst, ◌∙◌}
 use Rattle.rtk_convert.specs.Converter.{IsAfterClosing, IsAfterClosingAll}
 use Rattle.rtk_convert.specs.FrameClass.{Found}
-use Rattle.rtk_convert.specs.Headline.{Call, Feed, Close, IsAfterCall, CallsComeTo, FindAll}
+use Rattle.rtk_convert.specs.CallLaws.{Call, Feed, Close, IsAfterCall, CallsComeTo, FindAll}
 use Rattle.rtk_convert.specs.History.{LinkPast, History, Finds, IsAfterFeed, IsAfterClose, IsNextLink}
 use Rattle.rtk_convert.specs.ReadHistory.{Read, IsAfterPiece, IsHistoryOf}
 use Rattle.rtk_convert.specs.Setup.{SetupView}

@@ -26,6 +26,9 @@ mod ReadLemmas
 mod RunLemmas
 mod EndsLemmas
 mod PayloadLemmas
+mod CameLemmas
+mod ContentLemmas
+mod ListedLinesLemmas
 mod HeadlineLemmas
 mod BoundsLemmas
 mod CallsLemmas

@@ -1,60 +1,78 @@
 -- The promise of a conversion, phrase by phrase: for every list of pieces fed over any links, with
 -- repeats, losses and reorderings, provided equal keys carry equal bodies, the file written is byte
 -- for byte the file of the set of messages that came at least once while their epoch was open, each
--- taken once; late arrivals are listed and change nothing.
-use Rattle.std.specs.Prelude.{◌≡◌, ◌↔◌, ◌⊎◌, ℕ, true, List, [], ◌∷◌, ◌++◌, length, Option, None, Some}
+-- taken once; late arrivals are listed and change nothing. Lists are newest first.
+use Rattle.std.specs.Prelude.{◌≡◌, ◌↔◌, ◌⊎◌, ◌<◌, ◌==◌, ◌&&◌, ℕ, Bool, true, false, if◌then◌else◌, List, [], ◌∷◌, ◌++◌, length, map, filter, flat_map, drop, codes, Option, None, Some, IsTrue, All, AllPairs, Contains}
+use Rattle.std.specs.List.{list_any}
+use Rattle.rtk_bits.specs.Bits.{bits}
+use Rattle.rtk_frame.specs.Frames.{frames, final_frames, payloads}
 use Rattle.rtk_frame.specs.Stream.{with_more}
 use Rattle.rtk_message.specs.declared.any_message.AnyMessage.{AnyMessage as Message}
-use Rattle.rtk_message.specs.AnyDecoded.{number_of}
+use Rattle.rtk_message.specs.Accepted.{only, accepts}
+use Rattle.rtk_message.specs.AnyDecoded.{Encodes, number_of, station_of, tow_of}
 use Rattle.rtk_obs.specs.declared.cell.CellEntry.{CellEntry}
 use Rattle.rtk_collect.specs.Arrival.{Arrival, At, epoch_of, message_of, cells_of}
-use Rattle.rtk_collect.specs.Accepted.{kept, IsTaken, AmongCells, IsConsistent}
-use Rattle.rtk_collect.specs.EpochSet.{EpochSetView, EpochsFall}
+use Rattle.rtk_collect.specs.EpochSet.{EpochSetView}
+use Rattle.rtk_collect.specs.Key.{key}
 use Rattle.rtk_collect.specs.Late.{late}
-use Rattle.rtk_collect.specs.Laws.{without_late, AreInTime, IsKept, HasEpoch, CellsRise}
-use Rattle.rtk_convert.specs.declared.frame_class.FrameClass.TheVariants.{Dated}
-use Rattle.rtk_convert.specs.declared.counts.Counts.{Counts}
-use Rattle.rtk_convert.specs.Converter.{IsAfterClosing, IsAfterClosingAll}
+use Rattle.rtk_collect.specs.Laws.{without_late}
 use Rattle.rtk_convert.specs.File.{file_of}
-use Rattle.rtk_convert.specs.FileLaws.{IsTextOfTable}
-use Rattle.rtk_convert.specs.FileOfArrivals.{site_of_stations, kept_file}
-use Rattle.rtk_convert.specs.FrameClass.{Found, arrivals}
-use Rattle.rtk_convert.specs.Finish.{all_counts, report_of}
-use Rattle.rtk_convert.specs.History.{History, new_history, IsOpen, IsAfterFeed}
-use Rattle.rtk_convert.specs.ReadSteps.{HasCalled}
-use Rattle.rtk_convert.specs.ReadHistory.{Read, Gave, IsHistoryOf, AllClosed, AllAtEnd}
-use Rattle.rtk_convert.specs.Report.{lines}
-use Rattle.rtk_convert.specs.ReportText.{late_line}
-use Rattle.rtk_convert.specs.Setup.{SetupView, IsSetupView}
-use Rattle.rtk_convert.specs.Conversion.{found_on}
+use Rattle.rtk_convert.specs.FileOfArrivals.{site_of_stations}
+use Rattle.rtk_convert.specs.FrameClass.{IsEpochOf}
+use Rattle.rtk_convert.specs.ReadHistory.{Read, bytes_of, Gave, AllAtEnd}
+use Rattle.rtk_convert.specs.ReportText.{arrival_text}
+use Rattle.rtk_convert.specs.Setup.{SetupView}
 use Rattle.rtk_convert.specs.Writing.{Written}
 
 -- ---- "for every list of pieces fed over any links"
 
--- a call: a piece is fed on a link, or a link is closed
-pub data Call : Type 0 where
-  Feed : (link : ℕ) (piece : List ℕ) → Call
-  Close : (link : ℕ) → Call
+-- one of these reads gave nothing, which ends its link
+abbrev pub has_ended : ℕ → List Read → Bool
+has_ended link reads = list_any (λ r. (r.link == link) && (length r.piece == 0)) reads
 
--- the history after a call; a call on a link that is closed or doesn't exist is refused, and
--- nothing comes of it
-abbrev pub IsAfterCall : SetupView → History → Call → History → Type 0
-IsAfterCall s h (Feed link piece) next = (IsOpen h link × IsAfterFeed s h link piece next) ⊎ ((IsOpen h link → ⊥) × (next ≡ h))
-IsAfterCall s h (Close link) next = IsAfterClosing s h link next
+-- the payloads that a read finds after the bytes that its link gave before: those of the frames that
+-- no further byte can change, and at the end those of all frames; without those found before
+abbrev pub payloads_by : List ℕ → List ℕ → List (List ℕ)
+payloads_by fed [] = drop (length (final_frames fed)) (payloads (frames fed))
+payloads_by fed (x ∷ piece) = drop (length (final_frames fed)) (payloads (final_frames (fed ++ x ∷ piece)))
 
--- the history that calls come to, newest first: whatever they feed, in whatever order
-abbrev pub CallsComeTo : SetupView → ℕ → List Call → History → Type 0
-CallsComeTo s links [] h = h ≡ new_history links
-CallsComeTo s links (c ∷ before) h = (old : History) × CallsComeTo s links before old × IsAfterCall s old c h
+-- a payload is this message, which the setup takes, of its station and with its epoch
+abbrev pub IsMessageIn : SetupView → List ℕ → Arrival → Type 0
+IsMessageIn s payload (At epoch m) =
+    Encodes (bits payload) m × IsTrue (accepts (only s.msm) (number_of m)) × (station_of m ≡ s.station) × IsEpochOf s.near (tow_of m) epoch
 
--- all frames that calls find, and that the end finds when it closes the open links
-abbrev pub FindAll : SetupView → ℕ → List Call → List Found → Type 0
-FindAll s links calls found = (h : History) × (last : History) × CallsComeTo s links calls h × IsAfterClosingAll s h links last × (found ≡ last.found)
+-- messages that came, each with its link
+abbrev pub Came : Type 0
+Came = List (ℕ × Arrival)
+
+-- messages come in payloads of a link, one after another; other payloads are passed over
+abbrev pub ComeIn : SetupView → ℕ → List (List ℕ) → Came → Came → Type 0
+ComeIn s link [] before after = after ≡ before
+ComeIn s link (p ∷ ps) before after = ((a : Arrival) × IsMessageIn s p a × ComeIn s link ps ((link, a) ∷ before) after)
+    ⊎ (((a : Arrival) → ¬ (IsMessageIn s p a)) × ComeIn s link ps before after)
+
+-- the messages that came by reads of this many links; a link that has ended is read no more
+abbrev pub ComeBy : SetupView → ℕ → List Read → Came → Type 0
+ComeBy s links [] came = came ≡ []
+ComeBy s links (r ∷ before) came = (old : Came) × ComeBy s links before old
+    × (r.link < links) × (has_ended r.link before ≡ false) × ComeIn s r.link (payloads_by (bytes_of r.link before) r.piece) old came
+
+abbrev pub messages_of : Came → List Arrival
+messages_of came = map (λ c. c.1) came
+
+-- ---- "the set of messages that came at least once while their epoch was open"
+
+abbrev pub CameInTime : SetupView → List Arrival → Arrival → Type 0
+CameInTime s arrivals a = (later : List Arrival) × (before : List Arrival)
+    × (arrivals ≡ later ++ a ∷ before) × (late s.window a before ≡ false)
 
 -- ---- "provided equal keys carry equal bodies"
 
-abbrev pub EqualKeysCarryEqualBodies : SetupView → List Found → Type 0
-EqualKeysCarryEqualBodies s found = IsConsistent s.window (arrivals found)
+-- cells of one epoch under one key are equal, and so are station messages of one number
+pub record EqualKeysCarryEqualBodies (set : Arrival → Type 0) : Type 0 where
+  pub cells : (e : ℕ) (m o : Message) (c d : CellEntry) → set (At (Some e) m) → set (At (Some e) o)
+      → Contains (cells_of m) c → Contains (cells_of o) d → key c ≡ key d → c ≡ d
+  pub stations : (m o : Message) → set (At None m) → set (At None o) → number_of m ≡ number_of o → m ≡ o
 
 -- ---- "the file written is byte for byte"
 
@@ -76,22 +94,18 @@ IsStationOf set number kept = (m : Message) → (kept ≡ Some m) ↔ (set (At N
 
 -- the epochs, cells and station messages of a set, and no others
 pub record IsContentOf (set : Arrival → Type 0) (c : Content) : Type 0 where
-  pub epochs : (e : ℕ) → HasEpoch e c.epochs ↔ ((m : Message) × set (At (Some e) m))
-  pub cells : (e : ℕ) (x : CellEntry) → IsKept e x c.epochs ↔ ((m : Message) × set (At (Some e) m) × AmongCells x (cells_of m))
+  pub epochs : (e : ℕ) → Contains (map (λ x. x.epoch) c.epochs) e ↔ ((m : Message) × set (At (Some e) m))
+  pub cells : (e : ℕ) (x : CellEntry) → ((of : EpochSetView) × Contains c.epochs of × (of.epoch ≡ e) × Contains of.cells x)
+      ↔ ((m : Message) × set (At (Some e) m) × Contains (cells_of m) x)
   pub arp1005 : IsStationOf set 1005 c.arp1005
   pub arp1006 : IsStationOf set 1006 c.arp1006
-
--- ---- "the set of messages that came at least once while their epoch was open"
-
-abbrev pub CameInTime : SetupView → List Found → Arrival → Type 0
-CameInTime s found a = IsTaken s.window a (arrivals found)
 
 -- ---- "each taken once"
 
 -- no epoch stands twice, since they fall; no two cells of an epoch have one key, since keys rise
 pub record EachOnce (c : Content) : Type 0 where
-  pub epochs : EpochsFall c.epochs
-  pub cells : CellsRise c.epochs
+  pub epochs : AllPairs (λ x y. y.epoch < x.epoch) c.epochs
+  pub cells : All (λ x. AllPairs (λ a b. key a < key b) x.cells) c.epochs
 
 -- the text of a set: the header, and the records of its epochs, rising
 abbrev pub IsFileOf : SetupView → (Arrival → Type 0) → List ℕ → Type 0
@@ -99,75 +113,46 @@ IsFileOf s set text = (c : Content) × IsContentOf set c × EachOnce c × (text 
 
 -- ---- "late arrivals are listed"
 
--- a message came on a link after the frames `before`, too late
-abbrev pub CameLate : SetupView → List Found → ℕ → Arrival → List Found → Type 0
-CameLate s found link a before = ((later : List Found) × (found ≡ later ++ found_on link (Dated a) ∷ before)) × (late s.window a (arrivals before) ≡ true)
+-- the lines of the messages that came too late, without their ends
+abbrev pub late_lines : SetupView → Came → List (List ℕ)
+late_lines s [] = []
+late_lines s (c ∷ before) = late_lines s before ++ (if late s.window c.1 (messages_of before)
+    then arrival_text c.0 (codes " late ") (number_of (message_of c.1)) (epoch_of c.1) ∷ [] else [])
 
--- a text has a line right after others
-abbrev pub HasLineAfter : List ℕ → List ℕ → List ℕ → Type 0
-HasLineAfter others line text = (rest : List ℕ) × (text ≡ others ++ (line ++ rest))
-
--- each has its own line, right after the lines of the frames before it
-abbrev pub LateAreListed : SetupView → List Found → Option (List ℕ) → Option (List ℕ) → Type 0
-LateAreListed s found report_old report_new = (link : ℕ) (a : Arrival) (before : List Found) → CameLate s found link a before
-    → IsWritten report_old report_new (HasLineAfter (lines s.window before) (late_line link (number_of (message_of a)) (epoch_of a)))
+-- the report has lines, some of them marked: the lines of the late messages, each once and in order
+abbrev pub LateAreListed : SetupView → Came → Option (List ℕ) → Option (List ℕ) → Type 0
+LateAreListed s came report_old report_new = IsWritten report_old report_new (λ text. (all : List (Bool × List ℕ))
+    × (text ≡ flat_map (λ line. line.1 ++ 10 ∷ []) all) × (late_lines s came ≡ map (λ line. line.1) (filter (λ line. line.0) all)))
 
 -- ---- "and change nothing"
 
 -- with the late arrivals deleted a further arrival is late or not as before, none that stays is
--- late, and the set and the file are the same
-pub record LateChangeNothing (s : SetupView) (found : List Found) : Type 0 where
-  pub others : (a : Arrival) → late s.window a (without_late s.window (arrivals found)) ≡ late s.window a (arrivals found)
-  pub none_late : AreInTime s.window (without_late s.window (arrivals found))
-  pub same_set : (a : Arrival) → IsTaken s.window a (without_late s.window (arrivals found)) ↔ CameInTime s found a
-  pub same_file : kept_file s (without_late s.window (arrivals found)) ≡ kept_file s (arrivals found)
+-- late, and the set is the same
+pub record LateChangeNothing (s : SetupView) (arrivals : List Arrival) : Type 0 where
+  pub others : (a : Arrival) → late s.window a (without_late s.window arrivals) ≡ late s.window a arrivals
+  pub none_late : without_late s.window (without_late s.window arrivals) ≡ without_late s.window arrivals
+  pub same_set : (a : Arrival) → CameInTime s (without_late s.window arrivals) a ↔ CameInTime s arrivals a
 
--- ---- the whole sentence; and every setup is a good one, so the checker accepts the file
+-- ---- the whole sentence
 
-pub record Headline (s : SetupView) (links : ℕ) (calls : List Call) (written_old written_new : Written) : Type 0 where
-  pub found : List Found
-  pub of_all_pieces : FindAll s links calls found
-  pub file_of_the_set : EqualKeysCarryEqualBodies s found → IsWritten written_old.file written_new.file (IsFileOf s (CameInTime s found))
-  pub file_of_a_table : IsSetupView s → IsWritten written_old.file written_new.file IsTextOfTable
-  pub late_are_listed : LateAreListed s found written_old.report written_new.report
-  pub late_change_nothing : LateChangeNothing s found
+-- of the messages that came
+pub record Headline (s : SetupView) (came : Came) (written_old written_new : Written) : Type 0 where
+  pub file_of_the_set : EqualKeysCarryEqualBodies (CameInTime s (messages_of came))
+      → IsWritten written_old.file written_new.file (IsFileOf s (CameInTime s (messages_of came)))
+  pub late_are_listed : LateAreListed s came written_old.report written_new.report
+  pub late_change_nothing : LateChangeNothing s (messages_of came)
 
--- ---- without the premise on keys
-
--- whatever bodies equal keys carry: the file is made of what is kept, under each key the first that
--- came while its epoch was open; the report and the counts are of all frames found, each counted in
--- one class
-pub record WritesKept (s : SetupView) (links : ℕ) (calls : List Call) (counts : Counts) (written_old written_new : Written) : Type 0 where
-  pub found : List Found
-  pub of_all_pieces : FindAll s links calls found
-  pub out : written_new.file ≡ with_more written_old.file (kept_file s (arrivals found))
-  pub log : written_new.report ≡ with_more written_old.report (report_of s found)
-  pub counts_are : counts ≡ all_counts s found
-
--- a set has one file, whatever the frames in which it came
-abbrev pub SetHasOneFile : Type 0
-SetHasOneFile = (s : SetupView) (one other : List Found) (first second : List ℕ) → ((a : Arrival) → CameInTime s one a ↔ CameInTime s other a)
-    → IsFileOf s (CameInTime s one) first → IsFileOf s (CameInTime s other) second → first ≡ second
-
--- ---- for a run
-
--- a read feeds the bytes that it gave, or closes the link if it gave none
-abbrev pub call_of : ℕ → List ℕ → Call
-call_of link [] = Close link
-call_of link (x ∷ piece) = Feed link (x ∷ piece)
-
-abbrev pub calls_of : List Read → List Call
-calls_of [] = []
-calls_of (r ∷ before) = call_of r.link r.piece ∷ calls_of before
-
--- the sentence for the pieces that the readers gave, to their ends, in reads of the link that was
--- next; and for the same pieces what is kept, the report and the counts. `calls` counts the reads
--- of a reader; `calls_of reads` are the calls of the converter that these reads are
-pub record RunHeadline {R : Type 0} (given : R → Option (List ℕ)) (calls : R → ℕ) (is_at_end : R → Type 0) (s : SetupView) (before after : List R) (counts : Counts) (written_old written_new : Written) : Type 0 where
+-- of the pieces that the readers of a run gave, to their ends
+pub record RunHeadline {R : Type 0} (given : R → Option (List ℕ)) (is_at_end : R → Type 0) (s : SetupView) (before after : List R) (written_old written_new : Written) : Type 0 where
   pub reads : List Read
+  pub came : Came
   pub gave : Gave given before after reads
-  pub called : HasCalled calls before after (length reads)
   pub to_their_ends : AllAtEnd is_at_end after
-  pub in_order : (h : History) × IsHistoryOf s (length before) reads h × AllClosed h
-  pub headline : Headline s (length before) (calls_of reads) written_old written_new
-  pub kept : WritesKept s (length before) (calls_of reads) counts written_old written_new
+  pub of_all_pieces : ComeBy s (length before) reads came
+  pub all_ended : (link : ℕ) → link < length before → has_ended link reads ≡ true
+  pub headline : Headline s came written_old written_new
+
+-- a set has one file, whatever the arrivals in which it came
+abbrev pub SetHasOneFile : Type 0
+SetHasOneFile = (s : SetupView) (one other : List Arrival) (first second : List ℕ)
+    → ((a : Arrival) → CameInTime s one a ↔ CameInTime s other a) → IsFileOf s (CameInTime s one) first → IsFileOf s (CameInTime s other) second → first ≡ second

@@ -4,7 +4,7 @@ use Rattle.std.specs.Prelude.{◌≡◌, ℕ, List}
 use Rattle.rtk_convert.specs.declared.frame_class.FrameClass.{FrameClass}
 use Rattle.rtk_convert.specs.Converter.{IsAfterClosingAll}
 use Rattle.rtk_convert.specs.FrameClass.{IsClassOfPayload, Found}
-use Rattle.rtk_convert.specs.Headline.{Call, FindAll}
+use Rattle.rtk_convert.specs.CallLaws.{Call, FindAll}
 use Rattle.rtk_convert.specs.History.{History, IsAfterFeed, IsAfterClose, IsNextLink}
 use Rattle.rtk_convert.specs.ReadHistory.{Read, IsHistoryOf}
 use Rattle.rtk_convert.specs.Setup.{SetupView}

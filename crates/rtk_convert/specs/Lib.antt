@@ -25,6 +25,7 @@ pub mod ReadHistory
 pub mod ReadSteps
 pub mod Run
 pub mod Headline
+pub mod Kept
 pub mod CallLaws
 pub mod HistoryLaws
 pub mod Steps

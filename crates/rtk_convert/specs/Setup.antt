@@ -22,7 +22,8 @@ abbrev pub setup_of : ℕ → ℕ → HeadView → ℕ → SetupView
 setup_of station near head window = record { station = station; near = near; head = head; window = window; msm = Msm4 }
 
 -- constant
--- a reference station ID has 12 bits (RTCM 10403.3, DF003)
+-- a reference station ID has 12 bits
+-- Source: RTCM 10403.3, DF003
 abbrev pub IsStation : ℕ → Type 0
 IsStation station = station ≤ 4095
 

@@ -5,6 +5,7 @@ ghost use Rattle.rtk_convert.specs.Converter.{IsLinkCount, RepresentsHistory};
 ghost use Rattle.rtk_convert.specs.Failure.{IsFrameFault, IsReadingFault, IsRunFault, NamesFailedWrites};
 ghost use Rattle.rtk_convert.specs.Steps.Faults.{IsReadFault};
 ghost use Rattle.rtk_convert.specs.Headline.{RunHeadline};
+ghost use Rattle.rtk_convert.specs.Kept.{RunKeeps};
 ghost use Rattle.rtk_convert.specs.History.{History, new_history, IsOpen, IsUpTo, IsNextLink};
 ghost use Rattle.rtk_convert.specs.ReadSteps.{AnyAtGreatest, HasCalled, SameFailures};
 ghost use Rattle.rtk_convert.specs.Steps.ReadLink.{ReadsLink, BreaksOffAfterRead, FailsRead, HasReadAll};
@@ -143,8 +144,9 @@ fn read_all<R: Source, O: Sink, L: Sink>(
 /// The order in which messages come, and so which are late, depends on how many bytes each read
 /// gives.
 ///
-/// The clause `headline` is the promise of a conversion in one sentence; `calls_keep_promise` says
-/// the same of any calls of a `Converter`, and `set_has_one_file` that the set decides the file.
+/// The clause `headline` is the promise of a conversion in one sentence, and `kept` says the rest of
+/// the same reads. `calls_keep_promise` says both of any calls of a `Converter`, and
+/// `set_has_one_file` that the set decides the file.
 ///
 /// V1 if there are not 1 to 16 readers, before anything else; V4 if memory is refused; V5 if a
 /// write fails, and V6 if a read does; V7 if a link is still open after `max_reads` reads.
@@ -156,8 +158,10 @@ pub fn run<R: Source, O: Sink, L: Sink>(
     log: &mut L,
     max_reads: u64,
 ) -> Result<Counts, ConvertFault>
-    // Done: the promise.
-    ensures headline { IfOk result (λ counts. RunHeadline R.given R.calls R.is_at_end setup readers.old readers.new counts
+    // Done: the promise, and what it leaves out.
+    ensures headline { OnOk result (RunHeadline R.given R.is_at_end setup readers.old readers.new
+        (written (O.taken out.old) (L.taken log.old)) (written (O.taken out.new) (L.taken log.new))) }
+    ensures kept { IfOk result (λ counts. RunKeeps R.given R.calls R.is_at_end setup readers.old readers.new counts
         (written (O.taken out.old) (L.taken log.old)) (written (O.taken out.new) (L.taken log.new))) }
 
     // Not done: what is out, as far as the run came.

@@ -1,4 +1,5 @@
 -- The checksum CRC-24Q, as a division of bits (RTCM 10403.3, transport layer).
+-- Source: RTCM 10403.3, transport layer
 use Rattle.std.specs.Prelude.{ℕ, zero, suc, ◌*◌, Bool, false, cond, not, List, [], ◌∷◌, ◌++◌, length}
 use Rattle.rtk_bits.specs.Bits.{bits, bits_of, unsigned}
 

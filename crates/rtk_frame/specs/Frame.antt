@@ -1,4 +1,5 @@
 -- A frame at a place of a text of bytes (RTCM 10403.3, transport layer).
+-- Source: RTCM 10403.3, transport layer
 use Rattle.std.specs.Prelude.{◌≡◌, ℕ, ◌+◌, ◌*◌, ◌/◌, ◌%◌, Bool, true, ◌&&◌, List, [], ◌∷◌, ◌++◌, length, get_or, take, drop, nat_lt, nat_le, ◌==◌}
 use Rattle.rtk_frame.specs.Checksum.{crc}
 
@@ -25,7 +26,7 @@ unfoldable pub begins_frame : List ℕ → Bool
 begins_frame text = (get_or text 0 0 == 0xD3) && (nat_le (payload_length text + 6) (length text) && (crc (take (payload_length text + 3) text) == three_bytes (drop (payload_length text + 3) text)))
 
 -- formula
--- the text begins with a preamble, and ends before the frame would
+-- the text begins with a preamble, and ends before the frame would (this project's rule)
 unfoldable pub begins_partial : List ℕ → Bool
 begins_partial text = (get_or text 0 0 == 0xD3) && nat_lt (length text) (payload_length text + 6)
 
@@ -33,7 +34,7 @@ begins_partial text = (get_or text 0 0 == 0xD3) && nat_lt (length text) (payload
 abbrev pub IsFrameAt : List ℕ → ℕ → Type 0
 IsFrameAt text place = begins_frame (drop place text) ≡ true
 
--- a preamble is at the place, and the text ends before the frame would
+-- a preamble is at the place, and the text ends before the frame would (this project's rule)
 abbrev pub IsPartialFrameAt : List ℕ → ℕ → Type 0
 IsPartialFrameAt text place = begins_partial (drop place text) ≡ true
 

@@ -1,4 +1,5 @@
 -- With which message of a set bits begin, and the first fault if they begin with none.
+-- Source: RTCM 10403.3, messages 1004 to 1006 and 1074 to 1077
 use Rattle.std.specs.Prelude.{◌≡◌, ℕ, Bool, List, ◌∷◌, ◌++◌, length, take, drop, Option, Some, None, Result, Ok, Err, IfOk, IfErr, IsTrue, ◌==◌, nat_lt, if◌then◌else◌}
 use Rattle.rtk_bits.specs.Bits.{bits, unsigned, padding}
 use Rattle.rtk_message.specs.declared.accepted.Accepted.{Accepted}
@@ -56,7 +57,7 @@ pub record Encodes (bs : List Bool) (m : AnyMessage) : Type 0 where
 abbrev pub IsPayloadOf : AnyMessage → List ℕ → Type 0
 IsPayloadOf m payload = bits payload ≡ bits_of_fields (table m) ++ padding (length (bits_of_fields (table m)))
 
--- ---- the first fault, in the order in which causes are looked for
+-- ---- the first fault, in the order in which causes are looked for (this project's rule)
 
 -- an answer for one of the four messages, as one of the wider set
 abbrev pub any_of : Result message.Message DecodeFault → Result AnyMessage AnyFault

@@ -1,4 +1,5 @@
 -- Message 1005 after its number (RTCM 10403.3, message 1005): 140 bits.
+-- Source: RTCM 10403.3, message 1005
 use Rattle.std.specs.Prelude.{Bool, List, [], ◌∷◌, length, Option, Some, None, nat_lt, if◌then◌else◌}
 use Rattle.rtk_message.specs.Fields.{Field, u, i, flag, FieldsFit}
 use Rattle.rtk_message.specs.declared.arp1005.Arp1005.{Arp1005}
@@ -16,5 +17,6 @@ abbrev pub IsValid : Arp1005 → Type 0
 IsValid m = FieldsFit (table m)
 
 -- formula
+-- the first fault of bits after the number (this project's rule)
 abbrev pub first_fault : List Bool → Option DecodeFault
 first_fault bs = if nat_lt (length bs) 140 then Some (Short 1005) else None

@@ -1,4 +1,5 @@
 -- Message 1006 after its number (RTCM 10403.3, message 1006): 156 bits.
+-- Source: RTCM 10403.3, message 1006
 use Rattle.std.specs.Prelude.{Bool, List, [], ◌∷◌, ◌++◌, length, Option, Some, None, nat_lt, if◌then◌else◌}
 use Rattle.rtk_message.specs.Fields.{Field, u, FieldsFit}
 use Rattle.rtk_message.specs.Arp1005 as arp1005
@@ -15,5 +16,6 @@ abbrev pub IsValid : Arp1006 → Type 0
 IsValid m = FieldsFit (table m)
 
 -- formula
+-- the first fault of bits after the number (this project's rule)
 abbrev pub first_fault : List Bool → Option DecodeFault
 first_fault bs = if nat_lt (length bs) 156 then Some (Short 1006) else None

@@ -1,4 +1,5 @@
 -- With which message bits begin, and the first fault if they begin with no message.
+-- Source: RTCM 10403.3, messages 1004, 1005, 1006 and 1074
 use Rattle.std.specs.Prelude.{◌≡◌, ℕ, Bool, List, ◌∷◌, ◌++◌, length, take, drop, Option, Some, None, Result, Ok, IfOk, IfErr, ◌==◌, nat_lt, if◌then◌else◌}
 use Rattle.rtk_bits.specs.Bits.{bits, unsigned, padding}
 use Rattle.rtk_message.specs.declared.message.Message.{Message}
@@ -62,7 +63,7 @@ pub record Encodes (bs : List Bool) (m : Message) : Type 0 where
 abbrev pub IsPayloadOf : Message → List ℕ → Type 0
 IsPayloadOf m payload = bits payload ≡ bits_of_fields (table m) ++ padding (length (bits_of_fields (table m)))
 
--- ---- the first fault, in the order in which causes are looked for
+-- ---- the first fault, in the order in which causes are looked for (this project's rule)
 
 -- formula
 -- the first fault of the bits after this number

@@ -1,4 +1,5 @@
 -- Fields, their bits, and what it is to take fields from bits.
+-- Source: RTCM 10403.3, data types and DF004
 use Rattle.std.specs.Prelude.{◌≡◌, ℕ, ℤ, pos, ◌<◌, ◌^◌, Bool, false, List, [], ◌∷◌, ◌++◌, take, drop}
 use Rattle.std.specs.List.{AllByRecursion}
 use Rattle.rtk_bits.specs.Bits.{bits_of, unsigned, signed_bits_of, FitsSigned}
@@ -32,13 +33,13 @@ FieldFits (u w n) = n < 2 ^ w
 FieldFits (i w z) = FitsSigned w z
 FieldFits (flag b) = Unit {0}
 
--- the value is 0, or the bit is not set
+-- the value is 0, or the bit is not set (this project's rule)
 abbrev pub FieldIsZero : Field → Type 0
 FieldIsZero (u w n) = n ≡ 0
 FieldIsZero (i w z) = z ≡ pos 0
 FieldIsZero (flag b) = b ≡ false
 
--- each field is 0
+-- each field is 0 (this project's rule)
 abbrev pub FieldsAreZero : List Field → Type 0
 FieldsAreZero fs = AllByRecursion FieldIsZero fs
 
@@ -52,7 +53,7 @@ abbrev pub FieldsFit : List Field → Type 0
 FieldsFit fs = AllByRecursion FieldFits fs
 
 -- the bits begin with these fields, each of which fits its width, and `left` are the bits after
--- them
+-- them (this project's rule)
 pub record TakesAll (fs : List Field) (from left : List Bool) : Type 0 where
   pub fit : FieldsFit fs
   pub is : from ≡ bits_of_fields fs ++ left

@@ -1,5 +1,6 @@
 -- Message 1074 after its number (RTCM 10403.3, message 1074, GPS MSM4): a header of 157 bits, the
 -- cell mask, the columns.
+-- Source: RTCM 10403.3, message 1074
 use Rattle.std.specs.Prelude.{◌≡◌, ℕ, ◌+◌, ◌*◌, ◌≤◌, ◌<◌, Bool, List, [], ◌∷◌, ◌++◌, length, sum_by, count_ones, take, drop, Option, Some, None, nat_lt, nat_le, if◌then◌else◌}
 use Rattle.rtk_bits.specs.Bits.{unsigned}
 use Rattle.rtk_message.specs.Fields.{week_ms, tow_in, Field, u, flag, FieldsFit}
@@ -57,7 +58,7 @@ pub record HasLengths (m : Msm1074) : Type 0 where
   pub half_cycle : length m.half_cycle ≡ cell_count m
   pub cnr : length m.cnr ≡ cell_count m
 
--- no column has an entry
+-- no column has an entry (this project's rule)
 pub record HasNoCells (m : Msm1074) : Type 0 where
   pub cell_mask : m.cell_mask ≡ []
   pub rough_ms : m.rough_ms ≡ []
@@ -95,7 +96,7 @@ abbrev pub cell_count_in : List Bool → ℕ
 cell_count_in bs = count_ones (unsigned (take (mask_bits_in bs) (drop 157 bs)))
 
 -- formula
--- a satellite takes 18 bits after the cell mask, a cell 48
+-- a satellite takes 18 bits after the cell mask, a cell 48; the order of the causes is this project's
 abbrev pub first_fault : List Bool → Option DecodeFault
 first_fault bs =
     if nat_lt (length bs) 157 then Some (Short 1074) else

@@ -1,5 +1,6 @@
 -- The multiple signal messages of GPS after their number (RTCM 10403.3, messages 1074 to 1077, MSM4
 -- to MSM7): a header of 157 bits, the cell mask, the columns. One table serves all kinds.
+-- Source: RTCM 10403.3, messages 1074 to 1077
 use Rattle.std.specs.Prelude.{◌≡◌, ℕ, ◌+◌, ◌*◌, ◌≤◌, ◌<◌, Bool, List, [], ◌++◌, length, sum_by, count_ones, Option, Some, None, nat_lt, nat_le, if◌then◌else◌}
 use Rattle.rtk_message.specs.Fields.{week_ms, tow_in, Field, FieldsFit}
 use Rattle.rtk_message.specs.FieldColumns.{numbers, integers, flags}
@@ -84,7 +85,7 @@ pub record HasLengths (m : Msm) : Type 0 where
   pub cnr : length m.cnr ≡ cell_count m
   pub fine_rate : length m.fine_rate ≡ if_rates m.kind (cell_count m)
 
--- no column has an entry
+-- no column has an entry (this project's rule)
 pub record HasNoCells (m : Msm) : Type 0 where
   pub cell_mask : m.cell_mask ≡ []
   pub rough_ms : m.rough_ms ≡ []
@@ -108,7 +109,7 @@ pub record HasForm (m : Msm) : Type 0 where
   pub lengths : HasLengths m
 
 -- constant
--- a kind from MSM5 on; message 1074 has a type of its own
+-- a kind from MSM5 on; message 1074 has a type of its own (this project's rule)
 abbrev pub IsWide : MsmKind → Type 0
 IsWide k = 1074 < number_of_kind k
 
@@ -117,7 +118,7 @@ pub record IsValid (m : Msm) : Type 0 where
   pub wide : IsWide m.kind
   pub form : HasForm m
 
--- a 1074 in this form: it has no columns of range rates
+-- a 1074 in this form: it has no columns of range rates (this project's rule)
 abbrev pub msm_of_1074 : Msm1074 → Msm
 msm_of_1074 m = record {
   kind = Msm4;
@@ -148,6 +149,7 @@ abbrev pub cell_bits : MsmKind → ℕ
 cell_bits k = (form_of k).fine_range + (form_of k).fine_phase + (form_of k).lock_indicator + 1 + (form_of k).cnr + if_rates k 15
 
 -- formula
+-- in the order in which causes are looked for (this project's rule)
 abbrev pub first_fault : MsmKind → List Bool → Option AnyFault
 first_fault k bs =
     if nat_lt (length bs) 157 then Some (Short (number_of_kind k)) else

@@ -1,4 +1,5 @@
 -- Message 1004 after its number (RTCM 10403.3, message 1004): 52 bits, and 125 for each satellite.
+-- Source: RTCM 10403.3, message 1004
 use Rattle.std.specs.Prelude.{ℕ, ◌+◌, ◌*◌, ◌<◌, Bool, List, [], ◌∷◌, ◌++◌, length, take, drop, Option, Some, None, nat_lt, nat_le, if◌then◌else◌}
 use Rattle.std.specs.List.{flat_map}
 use Rattle.rtk_bits.specs.Bits.{unsigned}
@@ -43,6 +44,7 @@ abbrev pub satellite_bits : List Bool → ℕ
 satellite_bits bs = 125 * unsigned (take 5 (drop 43 bs))
 
 -- formula
+-- in the order in which causes are looked for (this project's rule)
 abbrev pub first_fault : List Bool → Option DecodeFault
 first_fault bs =
     if nat_lt (length bs) 52 then Some (Short 1004) else

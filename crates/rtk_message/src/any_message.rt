@@ -6,8 +6,8 @@ ghost use Rattle.rtk_message.specs.AnyDecoded.{IsValid, station_of, number_of, t
 use crate::message::Message;
 use crate::msm::Msm;
 
-/// A message that a set of messages can have (`Accepted`), with all fields of its table (RTCM
-/// 10403.3).
+/// A message that a set of messages can have (`Accepted`), with all fields of its table. Source: RTCM
+/// 10403.3, messages 1004 to 1006 and 1074 to 1077.
 #[derive(PartialEq, Eq, Drop)]
 pub enum AnyMessage {
     /// A 1004, 1005, 1006 or 1074.

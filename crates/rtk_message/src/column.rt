@@ -77,7 +77,7 @@ pub struct Column<T> {
     list: ArrayVec<T, 64>,
 }
 
-// Clauses see the list of values.
+// Clauses see the list of values, at most 64. Source: RTCM 10403.3, DF394 and DF396.
 impl<T> Model for Column<T> {
     ghost use Rattle.std.specs.Prelude.{List, length, ◌≤◌};
 

@@ -10,8 +10,8 @@ use thiserror::Error;
 /// whose time of week is out of range is refused as `EpochRange`, even without its satellites.
 ///
 /// The fixed part is the header of a 1004 (64 bits) or of a 1074 (169 bits), and the whole of a
-/// 1005 (152 bits) or a 1006 (168 bits), each with its message number. Source: RTCM 10403.3, data
-/// fields DF002, DF004 and DF394 to DF396.
+/// 1005 (152 bits) or a 1006 (168 bits), each with its message number (RTCM 10403.3, data fields
+/// DF002, DF004 and DF394 to DF396). The causes are this project's rule.
 #[derive(Clone, Copy, Debug, PartialEq, Eq, Error)]
 pub enum DecodeFault {
     /// The payload has fewer than 12 bits, so there is no message number (DF002).

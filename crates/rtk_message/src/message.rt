@@ -10,7 +10,8 @@ use crate::layout::Layout;
 use crate::msm1074::Msm1074;
 use crate::obs1004::Obs1004;
 
-/// A message of a base station with all fields of its table (RTCM 10403.3), reserved ones included.
+/// A message of a base station with all fields of its table, reserved ones included. Source: RTCM
+/// 10403.3, messages 1004, 1005, 1006 and 1074.
 #[derive(PartialEq, Eq, Drop)]
 pub enum Message {
     /// GPS observations on L1 and L2.

@@ -17,7 +17,8 @@ use std::alloc::AllocError;
 
 /// The fields of a 1074 before its cell mask: 169 bits, the message number included.
 ///
-/// The first bit of a mask is its most significant one and stands for identifier 1.
+/// The first bit of a mask is its most significant one and stands for identifier 1. Source: RTCM
+/// 10403.3, message 1074.
 #[derive(Clone, Copy, Debug, Default, PartialEq, Eq)]
 pub struct MsmHeader {
     /// Reference station ID (DF003), 0 to 4095.

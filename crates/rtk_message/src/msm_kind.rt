@@ -21,7 +21,8 @@ pub enum MsmKind {
 /// How many bits a field has, for the columns whose width depends on the kind.
 ///
 /// All kinds have DF397 (8 bits), DF398 (10 bits) and DF420 (1 bit). The kinds with range rates have
-/// extended satellite information (4 bits), DF399 (14 bits) and DF404 (15 bits).
+/// extended satellite information (4 bits), DF399 (14 bits) and DF404 (15 bits). Source: RTCM
+/// 10403.3, messages 1074 to 1077.
 #[derive(Clone, Copy, Debug, PartialEq, Eq)]
 pub(crate) struct MsmForm {
     /// Bits of the fine pseudorange (DF400 or DF405).

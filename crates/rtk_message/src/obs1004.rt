@@ -257,7 +257,7 @@ pub struct Satellites {
     list: ArrayVec<Satellite, 31>,
 }
 
-// Clauses see the list of satellites.
+// Clauses see the list of satellites, at most 31. Source: RTCM 10403.3, DF006.
 impl Model for Satellites {
     ghost use Rattle.std.specs.Prelude.{List, length, ◌≤◌};
     ghost use Rattle.rtk_message.specs.declared.obs1004.Satellite.{Satellite};

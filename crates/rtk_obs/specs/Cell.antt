@@ -9,16 +9,19 @@ abbrev pub entry_of : ℕ → Code → Cell → CellEntry
 entry_of satellite code cell = record { satellite = satellite; code = code; cell = cell }
 
 -- constant
--- a satellite of GPS that RINEX has: 1 to 32 (RINEX 3.05, section 3.5; others give no cell)
+-- a satellite of GPS: 1 to 32; others give no cell
+-- Source: RINEX 3.05, section 3.5
 abbrev pub is_satellite : ℕ → Bool
 is_satellite s = nat_le 1 s && nat_le s 32
 
 -- constant
+-- Source: RINEX 3.05, section 3.5
 abbrev pub IsSatellite : ℕ → Type 0
 IsSatellite s = (1 ≤ s) × (s ≤ 32)
 
 -- constant
 -- 250 to 63,750 thousandths of a dB-Hz, in steps of 250
+-- Source: RTCM 10403.3, DF015 and DF020
 pub record IsStrength (s : ℕ) : Type 0 where
   pub least : 250 ≤ s
   pub greatest : s ≤ 63_750

@@ -1,4 +1,5 @@
 -- Observation codes, their bands and the frequencies of their carriers.
+-- Source: RINEX 3.05, Table 4
 use Rattle.std.specs.Prelude.{ℕ, List, [], ◌∷◌, codes}
 use Rattle.rtk_obs.specs.declared.code.Band.{Band}
 use Rattle.rtk_obs.specs.declared.code.Band.TheVariants.{L1, L2, L5}

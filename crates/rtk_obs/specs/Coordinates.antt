@@ -1,4 +1,5 @@
 -- Coordinates of the antenna reference point.
+-- Source: RTCM 10403.3, DF025 to DF027
 use Rattle.std.specs.Prelude.{ℤ, pos, negsuc, ◌≤ℤ◌}
 
 -- constant

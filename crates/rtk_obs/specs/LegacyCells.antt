@@ -1,4 +1,5 @@
 -- The cells of a 1004 (RTCM 10403.3, message 1004; its codes are this project's assignment).
+-- Source: RTCM 10403.3, message 1004
 use Rattle.std.specs.Prelude.{ℕ, ◌==◌, ℤ, negsuc, ◌+ℤ◌, Bool, true, false, not, List, [], ◌∷◌, filter, Option, Some, None, if◌then◌else◌}
 use Rattle.std.specs.List.{flat_map}
 use Rattle.rtk_message.specs.declared.obs1004.Satellite.{Satellite}
@@ -14,13 +15,13 @@ use Rattle.rtk_obs.specs.LockTime.{least_lock_of_legacy}
 use Rattle.rtk_obs.specs.Scaling.{unless_invalid, strength_of, l1_length, l2_length, range_of_length, phase_of_length}
 
 -- table
--- the code of L1, by DF010
+-- the code of L1, by DF010 (this project's assignment)
 abbrev pub l1_code_of : Bool → Code
 l1_code_of false = C1C
 l1_code_of true = C1P
 
 -- table
--- the code of L2, by DF016, 0 to 3
+-- the code of L2, by DF016, 0 to 3 (this project's assignment)
 abbrev pub l2_code_of : ℕ → Code
 l2_code_of n = if n == 0 then C2X else if n == 1 then C2P else if n == 2 then C2D else C2W
 
@@ -33,7 +34,7 @@ phase_difference field = unless_invalid (negsuc 524_287) field
 abbrev pub range_difference : ℤ → Option ℤ
 range_difference field = unless_invalid (negsuc 8191) field
 
--- the pseudorange of L1, if DF012 is valid
+-- the pseudorange of L1, if DF012 is valid (this project's rule)
 abbrev pub l1_range_of : ℤ → Option ℤ → Option ℤ
 l1_range_of length None = None
 l1_range_of length (Some offset) = Some (range_of_length length)
@@ -78,10 +79,12 @@ l2_cell_of s = record {
   offset = phase_difference s.l2_phase_difference;
 }
 
+-- the two cells of a satellite with their codes (this project's rule)
 abbrev pub satellite_entries : Satellite → List CellEntry
 satellite_entries s =
     entry_of s.satellite (l1_code_of s.l1_code) (l1_cell_of s) ∷ entry_of s.satellite (l2_code_of s.l2_code) (l2_cell_of s) ∷ []
 
+-- the entry is of the satellite n (this project's rule)
 abbrev pub has_number : ℕ → Satellite → Bool
 has_number n s = s.satellite == n
 
@@ -90,6 +93,6 @@ unfoldable pub first_entries : List Satellite → List Satellite
 first_entries [] = []
 first_entries (s ∷ ss) = s ∷ filter (λ t. not (has_number s.satellite t)) (first_entries ss)
 
--- two cells for each satellite from 1 to 32, in the order of the message
+-- two cells for each satellite from 1 to 32, in the order of the message (this project's rule)
 abbrev pub cells_of_1004 : List Satellite → List CellEntry
 cells_of_1004 ss = flat_map satellite_entries (filter (λ s. is_satellite s.satellite) (first_entries ss))

@@ -1,4 +1,5 @@
 -- Least lock times in ms.
+-- Source: RTCM 10403.3, DF013, DF019, DF402 and DF407
 use Rattle.std.specs.Prelude.{ℕ, zero, suc, ◌+◌, ◌-◌, ◌*◌, ◌/◌, ◌^◌, nat_le, if◌then◌else◌}
 
 -- table

@@ -1,4 +1,5 @@
 -- The set bits of a mask, and a list that is made place by place.
+-- Source: RTCM 10403.3, DF394 to DF396
 use Rattle.std.specs.Prelude.{ℕ, zero, suc, ◌-◌, ◌^◌, nat_le, List, [], ◌∷◌, ◌++◌, if◌then◌else◌}
 
 -- the places of the set bits among the w low bits of a mask; the most significant of the w bits has

@@ -1,5 +1,6 @@
 -- The cells of the multiple signal messages of GPS (RTCM 10403.3, MSM4 to MSM7). The RINEX code of
 -- each signal of Table 3.5-91 is this project's assignment.
+-- Source: RTCM 10403.3, messages 1074 to 1077
 use Rattle.std.specs.Prelude.{ℕ, ◌-◌, ◌==◌, ℤ, pos, negsuc, ◌+ℤ◌, Bool, true, false, List, [], ◌∷◌, length, map, slice_index, slice_index_or, Option, Some, None, if◌then◌else◌}
 use Rattle.rtk_message.specs.declared.msm1074.MsmHeader.{MsmHeader}
 use Rattle.rtk_message.specs.declared.msm1074.Msm1074.{Msm1074}
@@ -20,7 +21,7 @@ use Rattle.rtk_obs.specs.Mask.{set_bits, join_from}
 use Rattle.rtk_obs.specs.Scaling.{unless_invalid, strength_of, strength_of_sixteenths, rough_time, range_time, range_of_time, phase_of_time, extended_phase_time, phase_of_extended_time}
 
 -- table
--- the code of a signal identifier (DF395); others give no cell
+-- the code of a signal identifier (DF395); others give no cell (this project's assignment)
 abbrev pub code_of_signal : ℕ → Option Code
 code_of_signal s =
     if s == 2 then Some C1C else if s == 3 then Some C1P else if s == 4 then Some C1W
@@ -50,7 +51,7 @@ row_slots signals row bits = map (λ p. record { row = row; signal = slice_index
 abbrev pub slots_of : MsmHeader → List ℕ → List Slot
 slots_of h cell_mask = join_from (row_slots (signals_of h)) 0 cell_mask
 
--- ---- their entries, by the cell at a place, of the satellite of a row, on a band
+-- ---- their entries, by the cell at a place, of the satellite of a row, on a band (this project's rule)
 
 -- the entry of a cell, if its signal has a code
 abbrev pub coded_entry : (Band → Cell) → ℕ → Option Code → List CellEntry
@@ -162,6 +163,7 @@ cell_of_1074 m k row band = record {
   offset = None;
 }
 
+-- the cells of a 1074, in the order of the message (this project's rule)
 abbrev pub cells_of_1074 : Msm1074 → List CellEntry
 cells_of_1074 m = msm_entries m.header m.cell_mask (cell_of_1074 m)
 
@@ -179,5 +181,6 @@ cell_of_msm m k row band = record {
   offset = None;
 }
 
+-- and of a 1075, 1076 or 1077 (this project's rule)
 abbrev pub cells_of_msm : Msm → List CellEntry
 cells_of_msm m = msm_entries m.header m.cell_mask (cell_of_msm m)

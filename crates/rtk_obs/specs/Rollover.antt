@@ -61,11 +61,13 @@ digits_since band last e =
 -- constant
 -- a value, in thousandths, within the limits of an observation of RINEX: three decimals in 14
 -- columns; the phases of a 1004 leave them after some 667,000 rolls, which no test has
+-- Source: RINEX 3.05, Table A3
 abbrev pub within_limits : ℤ → Option ℤ
 within_limits v =
     if int_le (negsuc 999_999_999_998) v && int_le v (pos 9_999_999_999_999) then Some v else None
 
 -- formula
 -- the phase with 1500 cycles added for each roll, or none outside the limits
+-- Source: RTCM 10403.3, DF012 and DF018
 abbrev pub rolled_phase : ℤ → ℤ → Option ℤ
 rolled_phase phase rolls = within_limits (phase +ℤ pos 1_500_000 *ℤ rolls)

@@ -1,4 +1,5 @@
 -- Exact values of the fields of 1004 and of the MSM, each rounded once (RTCM 10403.3).
+-- Source: RTCM 10403.3, DF011 to DF020, DF397 to DF401, DF405, DF406 and DF408
 use Rattle.std.specs.Prelude.{ℕ, ◌+◌, ◌*◌, ◌==◌, max, min, ℤ, pos, ◌+ℤ◌, ◌*ℤ◌, Option, Some, None, if◌then◌else◌}
 use Rattle.std.specs.Ordering.{int_eq}
 use Rattle.rtk_obs.specs.declared.code.Band.{Band}

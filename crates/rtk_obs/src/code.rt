@@ -4,7 +4,7 @@ ghost use Rattle.std.specs.Prelude.{◌≡◌, ◌≢◌, ◌<◌, ◌≤◌, Op
 ghost use Rattle.rtk_obs.specs.Code.{name_of};
 ghost use Rattle.rtk_obs.specs.declared.code.Code.{Code};
 
-/// The carrier of a signal of GPS.
+/// The carrier of a signal of GPS. Source: RINEX 3.05, Table 4.
 #[derive(Clone, Copy, Debug, Default, PartialEq, Eq, Hash)]
 pub enum Band {
     /// 1,575.42 MHz.
@@ -31,7 +31,7 @@ impl Band {
     }
 }
 
-/// An observation code of GPS: band and attribute (RINEX 3.05, Table 4).
+/// An observation code of GPS: band and attribute. Source: RINEX 3.05, Table 4.
 #[derive(Clone, Copy, Debug, Default, PartialEq, Eq, Hash)]
 pub enum Code {
     /// C/A, on L1.

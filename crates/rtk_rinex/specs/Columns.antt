@@ -1,4 +1,5 @@
 -- Numbers and texts in columns, by the formats of RINEX 3.05, Tables A2 and A3: Fw.d, Iw, Aw.
+-- Source: RINEX 3.05, Tables A2 and A3
 use Rattle.std.specs.Prelude.{ℕ, zero, suc, ◌+◌, ◌-◌, ◌/◌, ◌%◌, ◌^◌, List, [], ◌∷◌, ◌++◌, length, replicate, ℤ, pos, negsuc, unsigned_abs, Bool, true, false, decimal}
 use Rattle.std.specs.Fmt.{sign_text}
 

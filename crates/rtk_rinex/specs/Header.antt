@@ -1,5 +1,6 @@
 -- The header of an observation file (RINEX 3.05, Table A2); the order of the lines and their fixed
 -- entries are this project's.
+-- Source: RINEX 3.05, Table A2
 use Rattle.std.specs.Prelude.{◌≡◌, ◌≢◌, ◌<◌, ℕ, ◌-◌, ◌*◌, ◌%◌, List, [], ◌∷◌, ◌==◌, if◌then◌else◌, ◌++◌, take, drop, length, flat_map, codes, decimal, ℤ, pos, false, All, AllPairs, slice_get, Some}
 use Rattle.std.specs.Int.{IsInRange}
 use Rattle.rtk_obs.specs.declared.code.Code.{Code}
@@ -11,7 +12,7 @@ use Rattle.rtk_rinex.specs.Columns.{left, right, last_digits, decimals, fixed}
 use Rattle.rtk_rinex.specs.Reading.{IsMoment, reading_of, seconds_of}
 
 -- what is known of a file before its observations: the marker's name, the listed codes, and the
--- moment at which the file is made
+-- moment at which the file is made (this project's choice)
 pub record HeadView : Type 0 where
   pub marker : List ℕ
   pub listed : List Code
@@ -25,12 +26,12 @@ IsMarker m =
     × (slice_get m 0 ≢ Some 32) × (slice_get m (length m - 1) ≢ Some 32)
 
 -- formula
--- 1 to 16 codes, no two alike
+-- 1 to 16 codes, no two alike (this project's rule)
 abbrev pub IsCodeList : List Code → Type 0
 IsCodeList listed = IsInRange 1 16 (length listed) × AllPairs (λ a b. a ≢ b) listed
 
 -- formula
--- a good marker, good codes and a whole second
+-- a good marker, good codes and a whole second (this project's rule)
 abbrev pub IsHeadView : HeadView → Type 0
 IsHeadView h =
     IsMarker h.marker × IsCodeList h.listed × IsMoment h.made × (h.made % 1000 ≡ 0)
@@ -48,7 +49,8 @@ made_text c =
     ++ last_digits 2 c.hour ++ last_digits 2 c.minute ++ last_digits 2 c.second ++ codes " UTC "
 
 -- formula
--- the lines up to the antenna's type, of a marker and the time at which the file is made
+-- the lines up to the antenna's type, of a marker and the time at which the file is made; the fixed
+-- entries are this project's
 abbrev pub first_lines : List ℕ → Civil → List ℕ
 first_lines marker made =
     header_line (codes "     3.05           OBSERVATION DATA    G") (codes "RINEX VERSION / TYPE")
@@ -59,13 +61,15 @@ first_lines marker made =
     ++ header_line [] (codes "REC # / TYPE / VERS")
     ++ header_line [] (codes "ANT # / TYPE")
 
--- the antenna reference point (ECEF) and the antenna's height above it, in 0.0001 m
+-- the antenna reference point (ECEF) and the antenna's height above it, in 0.0001 m (RTCM 10403.3,
+-- DF025 to DF028)
 pub record PositionView : Type 0 where
   pub x : ℤ
   pub y : ℤ
   pub z : ℤ
   pub height : ℕ
 
+-- what is seen of a position (this project's rule)
 abbrev pub position_view : Position → PositionView
 position_view p = record { x = p.x; y = p.y; z = p.z; height = p.height }
 
@@ -84,7 +88,7 @@ position_lines s =
 
 -- formula
 -- the three observation types of a code, each after a blank: pseudorange, carrier phase and signal
--- strength
+-- strength (this project's choice)
 abbrev pub types_of : Code → List ℕ
 types_of c = codes " C" ++ name_of c ++ codes " L" ++ name_of c ++ codes " S" ++ name_of c
 
@@ -118,7 +122,8 @@ first_text c =
     ++ right 13 (decimals 7 false (seconds_of c)) ++ codes "     GPS"
 
 -- formula
--- the lines after the observation types, with the time of the first observation
+-- the lines after the observation types, with the time of the first observation; the fixed entries
+-- are this project's
 abbrev pub last_lines : Civil → List ℕ
 last_lines first =
     header_line (codes "DBHZ") (codes "SIGNAL STRENGTH UNIT")
@@ -127,7 +132,7 @@ last_lines first =
     ++ header_line [] (codes "END OF HEADER")
 
 -- formula
--- the header of a head, a position and the moment of the first observation
+-- the header of a head, a position and the moment of the first observation, in this project's order
 unfoldable pub header_text : HeadView → PositionView → ℕ → List ℕ
 header_text h s first =
     first_lines h.marker (reading_of h.made)

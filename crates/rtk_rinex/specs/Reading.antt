@@ -1,10 +1,12 @@
 -- The civil reading of a moment of GPS time, as a function.
+-- Source: RINEX 3.05, Table A3: date and time in the calendar, as GPS time
 use Rattle.std.specs.Prelude.{◌≤◌, ℕ, zero, suc, ◌+◌, ◌*◌, ◌/◌, ◌%◌, pos, nat_lt, if◌then◌else◌}
 use Rattle.jiff_core.specs.Calendar.{days_in_month}
 use Rattle.rtk_obs.specs.declared.time.Civil.{Civil}
 
 -- constant
--- a moment of GPS time, in ms since 1980-01-06 00:00:00.000: to 2100-12-31 23:59:59.999
+-- a moment of GPS time, in ms since 1980-01-06 00:00:00.000: to 2100-12-31 23:59:59.999 (this
+-- project's rule)
 abbrev pub IsMoment : ℕ → Type 0
 IsMoment t = t ≤ 3_818_015_999_999
 

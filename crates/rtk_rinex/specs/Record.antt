@@ -1,4 +1,5 @@
 -- The record of an epoch (RINEX 3.05, Table A3).
+-- Source: RINEX 3.05, Table A3
 use Rattle.std.specs.Prelude.{◌≡◌, ◌<◌, ℕ, ◌+◌, ◌/◌, ◌%◌, List, [], ◌∷◌, ◌++◌, length, replicate, codes, decimal, ℤ, pos, negsuc, int_le, Bool, false, ◌==◌, not, ◌&&◌, ◌||◌, if◌then◌else◌, Option, Some, None, is_some, min, max, All, AllPairs}
 use Rattle.std.specs.Int.{IsInRange}
 use Rattle.std.specs.List.{flat_map, filter, list_any}
@@ -22,18 +23,18 @@ IsStrengthOrNone None = Unit {0}
 IsStrengthOrNone (Some s) = IsInRange 250 63_750 s × (s % 250 ≡ 0)
 
 -- formula
--- a satellite of GPS, and the strengths of its codes
+-- a satellite of GPS, and the strengths of its codes (this project's rule)
 pub record IsSatelliteRow (r : SatelliteRow) : Type 0 where
   pub satellite : IsInRange 1 32 r.satellite
   pub strengths : All (λ o. IsStrengthOrNone o.strength_millidbhz) r.observed.items
 
--- an epoch: good rows, and the satellites rise
+-- an epoch: good rows, and the satellites rise (this project's rule)
 pub record IsEpochTableView (e : EpochTableView) : Type 0 where
   pub time : IsMoment e.time
   pub rows : All IsSatelliteRow e.rows
   pub rise : AllPairs (λ a b. a.satellite < b.satellite) e.rows
 
--- each satellite has as many observations as there are codes
+-- each satellite has as many observations as there are codes (this project's rule)
 abbrev pub HasWidth : ℕ → List SatelliteRow → Type 0
 HasWidth n rows = All (λ r. length r.observed.items ≡ n) rows
 
@@ -61,6 +62,7 @@ strength_digit (Some s) = 48 + min (max (s / 6000) 1) 9
 abbrev pub lli_digit : Bool → Bool → ℕ
 lli_digit slip half = if slip || half then 48 + (if slip then 1 else 0) + (if half then 2 else 0) else 32
 
+-- a strength as a value (this project's rule)
 abbrev pub strength_value : Option ℕ → Option ℤ
 strength_value None = None
 strength_value (Some s) = Some (pos s)
@@ -74,24 +76,26 @@ observations o =
     ++ observation o.phase_millicycles (lli_digit o.slip o.half) (strength_digit o.strength_millidbhz)
     ++ observation (strength_value o.strength_millidbhz) 32 32
 
+-- there is a value, and it is written (this project's rule)
 abbrev pub is_present : Option ℤ → Bool
 is_present None = false
 is_present (Some v) = is_written v
 
--- an observation of the code is written
+-- an observation of the code is written (this project's rule)
 abbrev pub has_observation : Observed → Bool
 has_observation o = is_present o.range_mm || is_present o.phase_millicycles || is_some o.strength_millidbhz
 
--- the satellite has a line: an observation of a listed code is written
+-- the satellite has a line: an observation of a listed code is written (this project's rule)
 abbrev pub has_line : SatelliteRow → Bool
 has_line r = list_any has_observation r.observed.items
 
 -- formula
+-- a character before a text without the blanks at its end (this project's rule)
 abbrev pub before_trimmed : ℕ → List ℕ → List ℕ
 before_trimmed x [] = if x == 32 then [] else x ∷ []
 before_trimmed x (y ∷ ys) = x ∷ y ∷ ys
 
--- a text without the blanks at its end
+-- a text without the blanks at its end (this project's rule)
 unfoldable pub trim_end : List ℕ → List ℕ
 trim_end [] = []
 trim_end (x ∷ xs) = before_trimmed x (trim_end xs)
@@ -120,12 +124,12 @@ epoch_columns c count =
 abbrev pub epoch_line : Civil → ℕ → List ℕ
 epoch_line c count = epoch_columns c count ++ 10 ∷ []
 
--- the epoch line and the lines of these satellites; nothing without satellites
+-- the epoch line and the lines of these satellites; nothing without satellites (this project's rule)
 abbrev pub lines_of : Civil → List SatelliteRow → List ℕ
 lines_of c [] = []
 lines_of c (r ∷ rows) = epoch_line c (length (r ∷ rows)) ++ flat_map satellite_line (r ∷ rows)
 
 -- formula
--- the record of an epoch: the satellites without a line are left out
+-- the record of an epoch: the satellites without a line are left out (this project's rule)
 unfoldable pub record_text : EpochTableView → List ℕ
 record_text e = lines_of (reading_of e.time) (filter has_line e.rows)

@@ -7,7 +7,7 @@ use arrayvec::ArrayVec;
 use rtk_obs::GpsMs;
 use std::marker::Model;
 
-/// What one code of a satellite shows.
+/// What one code of a satellite shows. Source: RINEX 3.05, Table A3.
 #[derive(Clone, Copy, Debug, Default, PartialEq, Eq)]
 pub struct Observed {
     /// The pseudorange in mm.
@@ -22,7 +22,8 @@ pub struct Observed {
     pub half: bool,
 }
 
-/// A satellite, 1 to 32, with what each listed code shows, in the order of the codes.
+/// A satellite, 1 to 32, with what each listed code shows, in the order of the codes. Source: RINEX
+/// 3.05, Table A3.
 #[derive(Default, Drop)]
 pub struct SatelliteRow {
     pub satellite: u8,

@@ -12,7 +12,8 @@ use Rattle.rtk_summary.specs.Tracing.{is_numbered, is_other, is_short, is_outsid
 use Rattle.rtk_summary.specs.SummaryText.{number_line, counted_line, numbered_line, time_lines, signal_lines, proposal_lines, codes_text, nothing_line, untaken_numbers}
 
 -- table
--- the numbers of stations and of messages: DF003 and DF002 have 12 bits
+-- the numbers of stations and of messages, of 12 bits
+-- Source: RTCM 10403.3, DF002 and DF003
 unfoldable pub all_numbers : List ℕ
 all_numbers = range_with_len 0 4096
 

@@ -237,15 +237,33 @@ def read_specs():
     return texts, imports
 
 
-def believed(*words):
-    """What bin/believe lists, as files and names; what it says if it refuses."""
-    code, out, error = output(ROOT / "bin/believe", "--list", *words)
-    return {(line.split(":")[0], line.split(" ")[-1]) for line in out.split("\n")[:-2]} if code == 0 else error
+def believed(kind, *words):
+    """What bin/believe lists, as files and names, and its three sums; what it says if it refuses."""
+    code, out, error = output(ROOT / "bin/believe", f"--{kind}", *words)
+    lines = out.split("\n")[:-1]
+    sums = [tuple(map(int, re.findall(r"\d+(?= definitions| lines)", line))) for line in lines[-3:]]
+    return ({(line.split(":")[0], line.split(" ")[-1]) for line in lines[:-3]}, sums) if code == 0 else (error, [])
+
+
+def test_sources():
+    """The sums of bin/believe, by the lines that name a standard as the source of definitions."""
+    for words in ("run", "headline"), ("run",):
+        (every, sums), (own, same) = believed("list", *words), believed("own", *words)
+        restated, ours, whole = sums
+        compare(f"bin/believe {' '.join(words)} has two sums, which add up", (restated[0] + ours[0], restated[1] + ours[1], same), (*whole, sums))
+        compare(f"bin/believe --own {' '.join(words)} lists what restates no standard", (len(own), own <= every), (ours[0], True))
+    ours = believed("own", "run", "headline")[1][1]
+    compare("this project's own part of the promise has at most 175 definitions and 600 lines", (ours[0] <= 175, ours[1] <= 600), (True, True))
+    names = {name for _, name in own}
+    compare("the generator restates a standard, and the code of a signal does not", ("generator" in names, "code_of_signal" in names), (False, True))
+    marks = [line for path in ROOT.glob("crates/*/specs/**/*.antt") for line in re.findall(r"(?m)^-- Source:.*", path.read_text())]
+    compare("each source names a standard and a place in it", [m for m in marks if not re.match(r"-- Source: (RTCM 10403\.3|RINEX 3\.05), \S", m)], [])
+    compare("there are sources", len(marks) > 20, True)
 
 
 def test_believe():
     texts, imports = read_specs()
-    listed = believed("run", "headline")
+    listed = believed("list", "run", "headline")[0]
     reached = {(file, name) for file, name in listed if (file, name) in texts}
     missing = set()
     for file, name in reached:
@@ -322,7 +340,7 @@ def test_pages():
     compare("the budgets are 15,000 words in all", sum(BUDGETS.values()), 15_000)
 
 
-for test in (test_made, test_manuals, test_completions, test_bash, test_proof, test_believe, test_pages):
+for test in (test_made, test_manuals, test_completions, test_bash, test_proof, test_believe, test_sources, test_pages):
     test()
 with tempfile.TemporaryDirectory() as work:
     copied(Path(work))

@@ -3,8 +3,8 @@ use Rattle.rtk_cli.specs.Steps.Links.{AreLinksOf}
 use Rattle.rtk_cli.proofs.LinkLemmas.{gathered, behind, done-by-bytes, at-read, part-by-bytes}
 use Rattle.rtk_cli.proofs.converting.convert_between.Goals as goal
 
-pub returns-clause-headline : goal.returns-clause-headline
-returns-clause-headline g c =
+pub returns-clause-kept : goal.returns-clause-kept
+returns-clause-kept g c =
     let held : ℕ → Option (List ℕ) = g.K.Before.held in
     let are : AreLinksOf c.as_mut_slice.result.now c.args.readers.items (λ link. link.number) (λ link. link.inner) = rw c.as_mut_slice.ensures.value c.in_ok-links.ensures.links in
     let file = behind held c.in-Ok.file.number c.run-done.new.out.number 0 (gathered g.O.Write.contents c.in-Ok.file.inner) (gathered g.O.Write.contents c.run-done.new.out.inner)
@@ -14,7 +14,7 @@ returns-clause-headline g c =
     (g.L.Write.contents c.args.report) (g.L.Write.contents c.finished.result.report) c.finished.result.is_out
     c.in-Ok-sink.ensures.number c.in-Ok-sink.ensures.held (ap (λ (h : ℕ → Option (List ℕ)). h 1) c.requires.held) c.finished.ensures.report in
     done-by-bytes g.R.Read.remaining g.K.Before.had _ _ c.args.setup c.run-done.new.readers c.run-done.result c.finished.result.done
-    c.finished.ensures.done c.requires.had are (λ x end. end.1) file log c.run-done.ensures.headline
+    c.finished.ensures.done c.requires.had are (λ x end. end.1) file log c.run-done.ensures.kept
 
 pub returns-clause-first_part : goal.returns-clause-first_part
 returns-clause-first_part g c =
