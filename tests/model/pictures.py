@@ -1,5 +1,5 @@
 """The slow model of pictures: each column is asked for its epochs, one after another."""
-# pins: IsMostFrequent, missing_before, column_length, has_missing, IsScale, unit_of
+# pins: IsMostFrequent, missing_before, bin_length, has_missing, IsScale, unit_of
 
 from __future__ import annotations
 
