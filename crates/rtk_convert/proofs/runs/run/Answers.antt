@@ -72,13 +72,13 @@ returns-clause-kept g c =
     let after = written (g.O.Sink.taken c.finish.new.out) (g.L.Sink.taken c.finish.new.log) in
     let all : HasReadAll g.R.Source.given g.R.Source.calls g.R.Source.is_at_end c.args.setup c.args.readers.now c.read_all.new.readers c.read_all.new.converter before mid =
     subst (λ (s : SetupView). HasReadAll g.R.Source.given g.R.Source.calls g.R.Source.is_at_end s c.args.readers.now c.read_all.new.readers c.read_all.new.converter before mid)
-    c.in_ok-converter.ensures.same_setup c.in_default.ensures.ok in
+    c.in_ok-converter.ensures.ok.same_setup c.in_default.ensures.ok in
     IfOk-weaker c.finish.result _ _ (λ counts ends.
     let e = ends all.history all.represents in
     run-keeps g.R.Source.given g.R.Source.calls g.R.Source.is_at_end c.args.setup c.args.readers.now c.read_all.new.readers counts before after
     (runs-as g.R.Source.given g.R.Source.calls g.R.Source.is_at_end c.args.setup c.args.readers.now c.read_all.new.readers c.read_all.new.converter counts
     before mid after
-    all e.0 (subst (λ (s : SetupView). FinishesConverterAs s all.history e.0 counts mid after) (c.read_all.ensures.same_setup ∙ c.in_ok-converter.ensures.same_setup) e.1))) c.finish.ensures.ok
+    all e.0 (subst (λ (s : SetupView). FinishesConverterAs s all.history e.0 counts mid after) (c.read_all.ensures.same_setup ∙ c.in_ok-converter.ensures.ok.same_setup) e.1))) c.finish.ensures.ends.ok
 
 pub returns-clause-breaks_off : goal.returns-clause-breaks_off
 returns-clause-breaks_off g c =
