@@ -132,19 +132,22 @@ ClosesLinkInPart old link written_old written_new = (h : History) → Represents
     → BreaksOffAt old.conversion.setup link (found_by_close (fed_on link h.links)) h.found written_old written_new
 
 -- a piece is fed on a link, or the call breaks off at one of the frames that it finds
-pub record FeedsLink {T : Type 0} (old : ConverterView) (link : ℕ) (piece : List ℕ) (result : Result T ConvertFault) (new : ConverterView) (written_old written_new : Written) : Type 0 where
+pub record FeedsLink {T : Type 0} (old : ConverterView) (link : ℕ) (piece : List ℕ) (result : Result T ConvertFault) (new : ConverterView)
+    (written_old written_new : Written) : Type 0 where
   pub ok : OnOk result (FeedsPiece old link piece new written_old written_new)
   pub err : IfErr result (λ fault. IsFrameFault fault → FeedsPieceInPart old link piece written_old written_new)
 
 -- a link is closed, or the call breaks off at one of the frames that are left in it
-pub record EndsLink {T : Type 0} (old : ConverterView) (link : ℕ) (result : Result T ConvertFault) (new : ConverterView) (written_old written_new : Written) : Type 0 where
+pub record EndsLink {T : Type 0} (old : ConverterView) (link : ℕ) (result : Result T ConvertFault) (new : ConverterView)
+    (written_old written_new : Written) : Type 0 where
   pub ok : OnOk result (ClosesLink old link new written_old written_new)
   pub err : IfErr result (λ fault. IsFrameFault fault → ClosesLinkInPart old link written_old written_new)
 
 -- what a call on a link leaves of a converter, whatever it was to do: a call that breaks off stops
 -- the converter, and only memory or a write breaks a call off that is not refused; whatever the
 -- answer, the setup and the number of links stay, and what the converter holds is bounded
-pub record LeavesConverter {T : Type 0} (old : ConverterView) (link : ℕ) (result : Result T ConvertFault) (new : ConverterView) : Type 0 where
+pub record LeavesConverter {T : Type 0} (old : ConverterView) (link : ℕ) (result : Result T ConvertFault) (new : ConverterView)
+    : Type 0 where
   pub going : OnOk result (new.conversion.stopped ≡ false)
   pub halts : IfErr result (λ fault. IsFrameFault fault → new.conversion.stopped ≡ true)
   pub fault : refusal old link ≡ None → IfErr result IsFrameFault

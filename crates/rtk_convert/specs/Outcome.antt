@@ -19,6 +19,7 @@ pub record NamesFailedStreams {T : Type 0} (result : Result T ConvertFault) (out
   pub report_failed : NamesFailedWrites Log result log_old log_new
 
 -- a call is refused exactly if a call before it broke off, and then nothing is written
-pub record RefusesStopped {T O L : Type 0} (has_stopped : Bool) (result : Result T ConvertFault) (out_old out_new : O) (log_old log_new : L) : Type 0 where
+pub record RefusesStopped {T O L : Type 0} (has_stopped : Bool) (result : Result T ConvertFault) (out_old out_new : O) (log_old log_new : L)
+    : Type 0 where
   pub stopped : (result ≡ Err Stopped) ↔ (has_stopped ≡ true)
   pub still : has_stopped ≡ true → (out_new ≡ out_old) × (log_new ≡ log_old)

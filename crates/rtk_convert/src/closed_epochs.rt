@@ -7,7 +7,7 @@ ghost use Rattle.rtk_convert.specs.ClosedEpochs.{HasClosed};
 ghost use Rattle.rtk_obs.specs.Tracks.{RepresentsSteps};
 ghost use Rattle.rtk_obs.specs.declared.code.Code.{Code};
 ghost use Rattle.rtk_rinex.specs.Header.{position_view};
-ghost use Rattle.std.specs.Prelude.{◌≡◌, ◌≢◌, ℕ, ◌<◌, [], ◌∷◌, List, None, false, OnOk, IfOk, IfErr, IsErrOf, OnErr};
+ghost use Rattle.std.specs.Prelude.{◌≡◌, ℕ, ◌<◌, [], List, false, IfOk};
 
 use crate::epoch_rows::push_rows;
 use crate::fault::ConvertFault;

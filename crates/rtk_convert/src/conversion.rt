@@ -5,7 +5,7 @@
 //! is an invariant (`IsAhead`): there is a last phase only once the window is full, and its epoch
 //! is below all epochs of the window.
 
-ghost use Rattle.std.specs.Prelude.{◌≡◌, ◌≢◌, ◌≤◌, ◌↔◌, [], length, true, false, Err, OnOk, IfOk, is_err};
+ghost use Rattle.std.specs.Prelude.{◌≡◌, true, false, Err, IfOk, is_err};
 ghost use Rattle.rtk_convert.specs.Steps.Closing.{EndsConversion};
 ghost use Rattle.rtk_convert.specs.Steps.AcceptedFrame.{IsUnderWay, StaysUnderWay, HandlesPayload};
 ghost use Rattle.rtk_convert.specs.Steps.AddedMessage.{HandlesMessage, closed_by};
@@ -53,8 +53,21 @@ impl Model for Conversion {
 
     ghost view = { λ c. record { setup = c.setup; collector = c.collector; records = c.records; counts = c.counts; stopped = c.stopped } };
 
-    ghost invariant = { λ c. (c ≡ record { alloc = c.alloc; setup = c.setup; collector = c.collector; records = c.records; counts = c.counts; stopped = c.stopped })
-        × IsConversionView (record { setup = c.setup; collector = c.collector; records = c.records; counts = c.counts; stopped = c.stopped }) };
+    ghost invariant = { λ c. (c ≡ record {
+      alloc = c.alloc;
+      setup = c.setup;
+      collector = c.collector;
+      records = c.records;
+      counts = c.counts;
+      stopped = c.stopped;
+    })
+        × IsConversionView (record {
+          setup = c.setup;
+          collector = c.collector;
+          records = c.records;
+          counts = c.counts;
+          stopped = c.stopped;
+        }) };
 }
 
 impl Conversion {

@@ -2,7 +2,7 @@
 //!
 //! Frames are taken one by one, straight from the bytes of a scanner; no payload is copied.
 
-ghost use Rattle.std.specs.Prelude.{◌≡◌, ◌≢◌, ◌<◌, ◌↔◌, [], true, false, None, length, replicate, OnOk, OnErr, IsErrOf, IfOk, IfErr, IfSome, Decides};
+ghost use Rattle.std.specs.Prelude.{◌≡◌, ◌<◌, ◌↔◌, [], true, false, None, length, replicate, IsErrOf, IfOk, IfErr, IfSome, Decides};
 ghost use Rattle.rtk_frame.specs.ScannerView.{scanner_view};
 ghost use Rattle.rtk_convert.specs.Converter.{IsLinkCount, IsNewConverter, RepresentsHistory, refusal, FeedsLink, EndsLink, LeavesConverter, EndsConverter};
 ghost use Rattle.rtk_convert.specs.Steps.AllLinks.{ClosesLinks};

@@ -5,7 +5,7 @@
 //! cell of the MSM has. Each of them takes a step of the tracks, also if its code is not listed,
 //! since a later phase is compared with it.
 
-ghost use Rattle.std.specs.Prelude.{◌≡◌, ◌≢◌, ℕ, ◌+◌, ◌<◌, ◌≤◌, List, [], ◌∷◌, ◌++◌, map, length, replicate, Some, All, AllPairs, slice_index_or, slice_range, is_some, not, IsTrue, None, OnOk};
+ghost use Rattle.std.specs.Prelude.{◌≡◌, ◌≢◌, ℕ, ◌+◌, ◌<◌, ◌≤◌, List, [], ◌∷◌, ◌++◌, map, length, Some, All, AllPairs, slice_range, is_some, not, IsTrue, None, OnOk};
 ghost use Rattle.std.specs.List.{list_any};
 ghost use Rattle.rtk_obs.specs.declared.cell.CellEntry.{CellEntry};
 ghost use Rattle.rtk_obs.specs.Cell.{IsInRange, IsSatellite};

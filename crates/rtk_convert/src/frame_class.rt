@@ -1,9 +1,9 @@
 //! What the payload of a frame means for a conversion: its class, and its epoch if it has one.
 
-ghost use Rattle.std.specs.Prelude.{◌≡◌, ◌<◌, IfSome, IfOk};
+ghost use Rattle.std.specs.Prelude.{◌<◌, IfOk};
 ghost use Rattle.rtk_bits.specs.Bits.{bits};
 ghost use Rattle.rtk_message.specs.Accepted.{only};
-ghost use Rattle.rtk_message.specs.AnyDecoded.{DecodesBy, IsValid, station_of, tow_of};
+ghost use Rattle.rtk_message.specs.AnyDecoded.{DecodesBy, IsValid};
 ghost use Rattle.rtk_convert.specs.FrameClass.{IsDatedMessage, IsClassOfReading};
 
 use crate::setup::Setup;

@@ -1,6 +1,6 @@
 //! Writes to the file and to the report: the header, the record of an epoch, and lines.
 
-ghost use Rattle.std.specs.Prelude.{◌≡◌, ◌≢◌, ◌++◌, OnOk, OnErr, IfOk, IfErr, IsErrOf, false};
+ghost use Rattle.std.specs.Prelude.{◌≡◌, ◌++◌, IfOk, IfErr, false};
 ghost use Rattle.rtk_convert.specs.Failure.{NamesFailedWrites};
 ghost use Rattle.rtk_convert.specs.Steps.Faults.{NamesFailedFile};
 ghost use Rattle.rtk_rinex.specs.Header.{position_view};

@@ -68,7 +68,8 @@ pub record StaysUnderWay {T : Type 0} (old : ConversionView) (result : Result T 
   pub ahead : OnOk result (IsAhead new.collector new.records)
 
 -- a payload is accepted, and the answer is its epoch; or the call breaks off at it, which has a cause
-pub record HandlesPayload (old : ConversionView) (link : ℕ) (payload : List ℕ) (result : Result (Option ℕ) ConvertFault) (new : ConversionView) (written_old written_new : Written) : Type 0 where
+pub record HandlesPayload (old : ConversionView) (link : ℕ) (payload : List ℕ) (result : Result (Option ℕ) ConvertFault)
+    (new : ConversionView) (written_old written_new : Written) : Type 0 where
   pub epoch : IfOk result (IsEpochIn old.setup payload)
   pub ok : OnOk result (AcceptsFrame old link payload new written_old written_new)
   pub err : OnErr result (BreaksOffAtFrame old link payload written_old written_new)

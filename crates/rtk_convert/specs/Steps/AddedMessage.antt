@@ -54,7 +54,8 @@ AddsMessageInPart old link a written_old written_new =
     (before : List Arrival) → RepresentsEpochs old before → AddsMessagePartAs old link a before written_old written_new
 
 -- a message is added, or the call breaks off at it
-pub record HandlesMessage {T : Type 0} (old : ConversionView) (link : ℕ) (a : Arrival) (result : Result T ConvertFault) (new : ConversionView) (written_old written_new : Written) : Type 0 where
+pub record HandlesMessage {T : Type 0} (old : ConversionView) (link : ℕ) (a : Arrival) (result : Result T ConvertFault)
+    (new : ConversionView) (written_old written_new : Written) : Type 0 where
   pub ok : OnOk result (AddsMessage old link a new written_old written_new)
   pub err : OnErr result (AddsMessageInPart old link a written_old written_new)
   pub fault : IfErr result IsFrameFault

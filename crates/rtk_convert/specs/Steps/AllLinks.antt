@@ -17,7 +17,8 @@ ClosesAllLinksInPart old written_old written_new = (h : History) → RepresentsH
     → (link : ℕ) × BreaksOffClosing old.conversion.setup h link written_old written_new
 
 -- the open links of a converter are closed, or the call breaks off closing one of them
-pub record ClosesLinks {T : Type 0} (old : ConverterView) (result : Result T ConvertFault) (new : ConverterView) (written_old written_new : Written) : Type 0 where
+pub record ClosesLinks {T : Type 0} (old : ConverterView) (result : Result T ConvertFault) (new : ConverterView)
+    (written_old written_new : Written) : Type 0 where
   pub same_setup : new.conversion.setup ≡ old.conversion.setup
   pub going : OnOk result (new.conversion.stopped ≡ false)
   pub ok : OnOk result (ClosesAllLinks old new written_old written_new)

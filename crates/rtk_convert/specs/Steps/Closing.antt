@@ -23,7 +23,8 @@ AllAbove c epochs = All (λ e. AllBelow c.tracks e.epoch) epochs
 
 -- an epoch closes, whatever epochs were closed before: it is closed then, and its record was written,
 -- and before the first record the header
-pub record ClosesEpoch {T : Type 0} (s : SetupView) (site : PositionView) (old : ClosedEpochsView) (e : EpochSetView) (result : Result T ConvertFault) (new : ClosedEpochsView) (out_old out_new : Option (List ℕ)) : Type 0 where
+pub record ClosesEpoch {T : Type 0} (s : SetupView) (site : PositionView) (old : ClosedEpochsView) (e : EpochSetView)
+    (result : Result T ConvertFault) (new : ClosedEpochsView) (out_old out_new : Option (List ℕ)) : Type 0 where
   pub follows : OnOk result ((below : List EpochSetView) → HasClosed old s.head.listed below → HasClosed new s.head.listed (e ∷ below))
   pub puts : (below : List EpochSetView) → HasClosed old s.head.listed below → PutsText result out_old out_new (closing s site e below)
   pub later : OnOk result ((later : ℕ) → e.epoch < later → AllBelow new.tracks later)
@@ -44,7 +45,8 @@ ClosesEpochsInPart s site old epochs out_old out_new =
     (below : List EpochSetView) → HasClosed old s.head.listed below → WritesPartOfRest out_old out_new (closed_text s site below) (closed_text s site (epochs ++ below))
 
 -- these epochs are closed, or the call breaks off at one of them
-pub record ClosesRemaining {T : Type 0} (s : SetupView) (site : PositionView) (old : ClosedEpochsView) (epochs : List EpochSetView) (result : Result T ConvertFault) (new : ClosedEpochsView) (out_old out_new : Option (List ℕ)) : Type 0 where
+pub record ClosesRemaining {T : Type 0} (s : SetupView) (site : PositionView) (old : ClosedEpochsView) (epochs : List EpochSetView)
+    (result : Result T ConvertFault) (new : ClosedEpochsView) (out_old out_new : Option (List ℕ)) : Type 0 where
   pub ok : OnOk result (ClosesEpochs s site old epochs new out_old out_new)
   pub err : OnErr result (ClosesEpochsInPart s site old epochs out_old out_new)
 

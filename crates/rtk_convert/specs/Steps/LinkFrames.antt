@@ -30,8 +30,8 @@ AddsFramesInPart old link payloads written_old written_new = (before : List Foun
     → BreaksOffAt old.setup link payloads before written_old written_new
 
 -- a link takes these frames, or the call breaks off at one of them, and then the conversion is stopped
-pub record TakesFrames {T : Type 0} (old : ConversionView) (link : ℕ) (payloads : List (List ℕ)) (result : Result T ConvertFault) (new : ConversionView)
-    (newest_old newest_new : Option ℕ) (written_old written_new : Written) : Type 0 where
+pub record TakesFrames {T : Type 0} (old : ConversionView) (link : ℕ) (payloads : List (List ℕ)) (result : Result T ConvertFault)
+    (new : ConversionView) (newest_old newest_new : Option ℕ) (written_old written_new : Written) : Type 0 where
   pub keeps : KeepsWindow old new
   pub going : OnOk result (new.stopped ≡ false)
   pub halts : OnErr result (new.stopped ≡ true)

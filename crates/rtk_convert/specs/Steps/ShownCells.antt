@@ -74,7 +74,8 @@ pub record Shows (old : List (Option Track)) (epoch : ℕ) (cells : List CellEnt
   pub any : found ≡ list_any (λ code. is_some (shown_by old epoch cells satellite code)) listed
 
 -- the cells between two places are of this satellite, and were taken after the earlier ones
-pub record TakesCells (epoch : ℕ) (earlier cells : List CellEntry) (begin end satellite : ℕ) (listed : List Code) (old : List (Option Track)) (blank : List Observed) (tracks : List (Option Track)) (shown : List Observed) (found : Bool) : Type 0 where
+pub record TakesCells (epoch : ℕ) (earlier cells : List CellEntry) (begin end satellite : ℕ) (listed : List Code)
+    (old : List (Option Track)) (blank : List Observed) (tracks : List (Option Track)) (shown : List Observed) (found : Bool) : Type 0 where
   pub from : begin ≤ end
   pub within : end ≤ length cells
   pub same : (k : ℕ) (d : CellEntry) → begin ≤ k → k < end → (slice_index_or cells k d).satellite ≡ satellite
@@ -93,7 +94,8 @@ with_code code shown (c ∷ listed) (x ∷ row) = (if is_code code c then shown 
 
 -- the first cell of a satellite and code takes a step of its track, and what it shows stands in the
 -- row if its code is listed
-pub record StepsOver (epoch : ℕ) (e : CellEntry) (listed : List Code) (tracks after : List (Option Track)) (shown now : List Observed) (is_listed : Bool) : Type 0 where
+pub record StepsOver (epoch : ℕ) (e : CellEntry) (listed : List Code) (tracks after : List (Option Track)) (shown now : List Observed)
+    (is_listed : Bool) : Type 0 where
   pub track : track_at after e.satellite e.code ≡ last_after (band_of e.code) (track_at tracks e.satellite e.code) (epoch_cell epoch e.cell)
   pub others : (s : ℕ) (c : Code) → place_of_signal s c ≢ place_of_signal e.satellite e.code → track_at after s c ≡ track_at tracks s c
   pub row : now ≡ with_code e.code (observed_with e.cell (digits_since (band_of e.code) (track_at tracks e.satellite e.code) (epoch_cell epoch e.cell))) listed shown
