@@ -4,10 +4,10 @@
 //! message has if these are more. `hand_back` keeps the lists of one closed epoch, and the next
 //! epoch that wants just their room takes them.
 
-ghost use Rattle.std.specs.Prelude.{◌≡◌, ◌≤◌, List, [], length, take, IsOk, IfOk, OnErr, None};
-ghost use Rattle.rtk_message.specs.Arp1005 as arp1005_spec;
-ghost use Rattle.rtk_message.specs.Arp1006 as arp1006_spec;
-ghost use Rattle.rtk_collect.specs.Arrival.{Arrival, At, message_of_1005, message_of_1006};
+ghost use Rattle.std.specs.Prelude.{◌≡◌, ◌≤◌, List, [], length, take, IfOk, OnErr, None};
+ghost use Rattle.rtk_message.specs.Decoded.{IsValid, tow_of};
+ghost use Rattle.rtk_message.specs.declared.any_message.AnyMessage.TheVariants as AnyMessage;
+ghost use Rattle.rtk_collect.specs.Arrival.{Arrival, At};
 ghost use Rattle.rtk_collect.specs.Accepted.{kept};
 ghost use Rattle.rtk_collect.specs.Collector.{RepresentsArrivals, KeepsStations};
 ghost use Rattle.rtk_collect.specs.StationPosition.{IsPosition, IsPositionOf};
@@ -20,7 +20,7 @@ use crate::offer::Offer;
 use crate::stations::{Stations, offer_station, position};
 use crate::window::offer_cells;
 use arrayvec::ArrayVec;
-use rtk_message::{Arp1005, Arp1006, Message};
+use rtk_message::Message;
 use rtk_obs::{CellEntry, Position, put_cells_1004, put_cells_1074, put_cells_msm};
 use std::alloc::{AllocError, Global};
 use std::collections::VecDeque;
@@ -107,26 +107,27 @@ impl Collector {
         ensures err { OnErr result (self.new ≡ self.old) }
         ensures refused { OnErr result (WouldBeTaken self.old dated.entry) }
     {
-        let epoch = dated.epoch;
+        let Some(epoch) = dated.epoch else {
+            let Borrowed::Message(message) = dated.message else {
+                unreachable!();
+            };
+            return Ok(self.offer_station_message(message));
+        };
         match dated.message {
             Borrowed::Message(Message::Obs1004(message)) => {
-                let Some(epoch) = epoch else { unreachable!() };
                 put_cells_1004(message, &mut self.room);
                 let cells = self.room.as_slice();
                 let (sets, spare) = (&mut self.sets, &mut self.spare);
                 offer_cells(sets, self.places, self.alloc, epoch, cells, spare)
             }
-            Borrowed::Message(Message::Arp1005(message)) => self.offer_1005(*message),
-            Borrowed::Message(Message::Arp1006(message)) => self.offer_1006(*message),
+            Borrowed::Message(Message::Arp1005(_) | Message::Arp1006(_)) => unreachable!(),
             Borrowed::Message(Message::Msm1074(message)) => {
-                let Some(epoch) = epoch else { unreachable!() };
                 put_cells_1074(message, &mut self.room);
                 let cells = self.room.as_slice();
                 let (sets, spare) = (&mut self.sets, &mut self.spare);
                 offer_cells(sets, self.places, self.alloc, epoch, cells, spare)
             }
             Borrowed::Msm(message) => {
-                let Some(epoch) = epoch else { unreachable!() };
                 put_cells_msm(message, &mut self.room);
                 let cells = self.room.as_slice();
                 let (sets, spare) = (&mut self.sets, &mut self.spare);
@@ -135,38 +136,25 @@ impl Collector {
         }
     }
 
-    // Takes a 1005, if it is the first and the window isn't full. It takes no memory. It stands apart,
-    // since `offer` would clear the room of its answer at each message.
+    // Takes a 1005 or 1006, if it is the first of its number and the window isn't full. It takes no
+    // memory. It stands apart, since `offer` would clear the room of its answer at each message.
     #[inline(never)]
-    fn offer_1005(&mut self, message: Arp1005) -> Result<Offer, AllocError>
-        requires { arp1005_spec.IsValid message }
+    fn offer_station_message(&mut self, message: &Message) -> Offer
+        requires valid { IsValid message.now }
+        requires station { tow_of message.now ≡ None }
         ensures size { self.new.size ≡ self.old.size }
         ensures bound { length self.new.sets ≤ self.new.size }
         ensures sets { self.new.sets ≡ self.old.sets }
-        ensures ok { IsOk result }
-        ensures answer { IfOk result (λ offer. AnswersArrival self.old (At None (message_of_1005 message)) offer self.new) }
-        ensures closed { IfOk result (λ offer. ClosesBelow offer self.new.sets) }
-        ensures least_closes { IfOk result (λ offer. ClosesLeast self.old.size self.old.sets offer) }
+        ensures answer { AnswersArrival self.old (At None (AnyMessage.Message message.now)) result self.new }
+        ensures closed { ClosesBelow result self.new.sets }
+        ensures least_closes { ClosesLeast self.old.size self.old.sets result }
     {
         let full = self.sets.len() == self.places;
-        Ok(offer_station(&mut self.stations.arp1005, message, full))
-    }
-
-    // Takes a 1006, if it is the first and the window isn't full. It takes no memory. It stands apart,
-    // since `offer` would clear the room of its answer at each message.
-    #[inline(never)]
-    fn offer_1006(&mut self, message: Arp1006) -> Result<Offer, AllocError>
-        requires { arp1006_spec.IsValid message }
-        ensures size { self.new.size ≡ self.old.size }
-        ensures bound { length self.new.sets ≤ self.new.size }
-        ensures sets { self.new.sets ≡ self.old.sets }
-        ensures ok { IsOk result }
-        ensures answer { IfOk result (λ offer. AnswersArrival self.old (At None (message_of_1006 message)) offer self.new) }
-        ensures closed { IfOk result (λ offer. ClosesBelow offer self.new.sets) }
-        ensures least_closes { IfOk result (λ offer. ClosesLeast self.old.size self.old.sets offer) }
-    {
-        let full = self.sets.len() == self.places;
-        Ok(offer_station(&mut self.stations.arp1006, message, full))
+        match message {
+            Message::Arp1005(message) => offer_station(&mut self.stations.arp1005, *message, full),
+            Message::Arp1006(message) => offer_station(&mut self.stations.arp1006, *message, full),
+            Message::Obs1004(_) | Message::Msm1074(_) => unreachable!(),
+        }
     }
 
     /// Takes back a closed epoch whose cells nobody needs any more. The next epoch that opens has each
