@@ -1,5 +1,5 @@
 -- What a cut says of its writer, once all that was gathered is out.
-use Rattle.std.proofs.Common.{◌≡◌, ◌≢◌, ◌⊎◌, ◌≤◌, inl, inr, ℕ, Bool, true, false, List, length, Option, None, Some, Result, Ok, Err, IfOk, IfErr, OnOk, IsOk, IfSome, IsErrOf, refl, sym, ◌∙◌, arith}
+use Rattle.std.proofs.Common.{◌≡◌, ◌≢◌, ◌⊎◌, ◌≤◌, inl, inr, ℕ, Bool, true, false, List, length, Option, None, Some, Result, Ok, Err, IfOk, IfErr, OnOk, IsOk, IfSome, IsErrOf, refl, sym, ap, ◌∙◌, take_all, arith}
 use Rattle.std.proofs.lemmas.Result.{IfOk-at_ok}
 use Rattle.std.specs.Io.Buffered.{writer_contents}
 use Rattle.std.specs.declared.io.buffered.BufWriter.{BufWriter}
@@ -11,8 +11,10 @@ use Rattle.rtk_streams.specs.Passed.{given_of, IsLeft, taken_of}
 use Rattle.rtk_streams.specs.declared.resuming.Resumed.{Resumed}
 use Rattle.rtk_frame.specs.Stream.{with_more, TakesPart}
 use Rattle.rtk_frame.proofs.PublicLaws.{with_more-nil}
+use Rattle.rtk_rinex.specs.Table.{table_text}
 use Rattle.rtk_cut.specs.declared.part.Part.{Part}
-use Rattle.rtk_cut.specs.CutWriting.{WritesFirstOfPart}
+use Rattle.rtk_cut.specs.Cut.{cut_of}
+use Rattle.rtk_cut.specs.CutWriting.{WritesPart, WritesFirstOfPart}
 use Rattle.rtk_streams.proofs.PublicLaws.{all_text, done_through, lands}
 
 -- what a writer holds behind the sink of a cut, and what is gathered
@@ -57,11 +59,17 @@ none_cut : (part : Part) (had held out : Option (List ℕ)) → out ≡ held →
 none_cut part None held out same = tt
 none_cut part (Some text) held out same = λ t is here. (0, omega arith, same ∙ sym (with_more-nil held))
 
+-- all of a part is a first part of it
+pub whole_is_part : (text written : List ℕ) (part : Part) (before after : Option (List ℕ)) → text ≡ written → WritesPart written part before after → WritesFirstOfPart text part before after
+whole_is_part text written part before after same all = λ t is here.
+    let bytes : List ℕ = table_text (cut_of part t) in
+    (length bytes, omega arith, all t is (sym same ∙ here) ∙ ap (with_more before) (sym (take_all (length bytes) bytes (omega arith))))
+
 part_at_end : (part : Part) (had held : ℕ → Option (List ℕ)) (number at from to limit : ℕ) (first last before after all : Option (List ℕ))
     → number ≡ 0 → ((n : ℕ) → held n ≡ held 0) → Keeps (had 0) first → Keeps (held 0) before → taken_of (held to) all ≡ taken_of (held to) after → IsLeft (had at) last true
     → GivesText (given_of number (had number) first) (given_of at (had at) last) (λ text. (length text ≤ limit) × WritesFirstOfPart text part (taken_of (held from) before) (taken_of (held to) after))
     → IfSome (had 0) (λ text. WritesFirstOfPart text part (held 0) (taken_of (held 0) all))
-part_at_end part had held number at from to limit first last before after all zero one kept kept' same left (text, gave, short, some) =
+part_at_end part had held number at from to limit first last before after all zero one kept kept' same left (text, gave, (short, some)) =
     all_text had number at first last (λ text. WritesFirstOfPart text part (held 0) (taken_of (held 0) all)) zero kept left
     (text, gave, lands held from to before after all (WritesFirstOfPart text part) one kept' same some)
 

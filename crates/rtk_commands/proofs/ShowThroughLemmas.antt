@@ -52,7 +52,7 @@ shown_part_through hex had held number at from to first last before after out (E
 shown_part_through hex had held number at from to first last before after out (Err TooLong) ended zero one kept kept' same some memory end = λ not. absurd (not tt)
 shown_part_through hex had held number at from to first last before after out (Err NotHex) ended zero one kept kept' same some memory end = λ not. absurd (not tt)
 shown_part_through hex had held number at from to first last before after out (Err OutOfMemory) ended zero one kept kept' same some memory end = λ not.
-    elim memory refl [
+    elim (memory refl) [
       | inl none ↦ none_of_any hex (had 0) (held 0) (taken_of (held 0) out) (lands held from to before after out (λ x y. y ≡ x) one kept' same none)
       | inr whole ↦ at_the_end hex had held number at from to first last before after out zero one kept kept' same some whole.1
     ]
