@@ -1,5 +1,5 @@
 """The slow model of pictures: each column is asked for its epochs, one after another."""
-# pins: IsMostFrequent, missing_before, column_length, has_missing, IsScale, unit_of
+# pins: IsMostFrequent, missing_before, bin_length, has_missing, IsScale, unit_of
 
 from __future__ import annotations
 
@@ -147,7 +147,7 @@ def text_picture(text: str, width: int) -> str:
 
 
 # pins: runs_text, strokes_text, run_part, stroke_part, path_start, runs_layer, strokes_path, code_layers, level_layer, level_layers
-# pins: lock_layers, band_title, gaps_band, tick_text, interval_text, svg_span, svg_numbers, moment_shown, column_width
+# pins: lock_layers, band_title, gaps_band, tick_text, interval_text, svg_span, svg_numbers, moment_shown, drawn_width
 # pins: svg_tick_step, svg_picture, svg_start, svg_body, svg_legend, bands_end, bands_text, band_text, band_height, band_if_drawn
 def svg_picture(text: str) -> str:
     """The picture of a file in SVG."""
