@@ -18,7 +18,7 @@ returns-clause-good c =
     let most = bin-bound span unit allowed some in
     let least = mul-pos (span / (allowed * unit) + 1) unit (omega arith) positive in
     let is : span ≡ c.args.last - c.args.first =
-        c.saturating_sub-span.ensures ∙ ap (λ (n : ℕ). n - c.ms-2.result) last_is ∙ ap (λ (n : ℕ). c.args.last - n) first_is in
+    c.saturating_sub-span.ensures ∙ ap (λ (n : ℕ). n - c.ms-2.result) last_is ∙ ap (λ (n : ℕ). c.args.last - n) first_is in
     let few = bins-few span unit allowed some positive in
     record {
       first = omega (arith, first_is, first_bound);
