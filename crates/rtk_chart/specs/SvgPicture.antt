@@ -98,7 +98,8 @@ count_of_flags flags = count_by (λ b. b) flags
 unfoldable pub band_title : ℕ → ℕ → ℕ → List ℕ
 band_title satellite slips halves =
     codes "<title>" ++ satellite_label satellite ++ number_between (codes ", slips in ") slips (codes " columns, half cycles in ")
-    ++ number_between [] halves (codes " columns</title>\n<text class='name' x='-28' y='25'>") ++ satellite_label satellite ++ codes "</text>\n"
+    ++ number_between [] halves (codes " columns</title>\n<text class='name' x='-28' y='25'>")
+    ++ satellite_label satellite ++ codes "</text>\n"
 
 -- formula
 -- slips and half cycles have a row of eight units each, then each code, then the strength
@@ -151,7 +152,8 @@ abbrev pub tick_text : ℕ → ℕ → ℕ → Option ℕ → List ℕ
 tick_text top step x None = []
 tick_text top step x (Some t) =
     number_between (codes "<path class='t' d='M") x (codes " 90V") ++ number_between [] top (codes "'/>\n")
-    ++ number_between (codes "<text class='tick' x='") x (codes "' y='") ++ number_between [] (top + 14) (codes "'>") ++ tick_label step t ++ codes "</text>\n"
+    ++ number_between (codes "<text class='tick' x='") x (codes "' y='") ++ number_between [] (top + 14) (codes "'>")
+    ++ tick_label step t ++ codes "</text>\n"
 
 -- formula
 unfoldable pub ticks_text : Scale → ℕ → ℕ → List ℕ

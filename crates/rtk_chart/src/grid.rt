@@ -108,7 +108,8 @@ impl Grid {
         requires { IsScale scale.now }
         ensures bins { length self.new.bins.items ≡ length self.old.bins.items }
         ensures gaps { length self.new.gaps.items ≡ length self.old.gaps.items }
-        ensures grid { (es : List EpochTableView) → StandsForGrid self.old scale.now es → StandsForGrid self.new scale.now (epoch.now ∷ es) }
+        ensures grid { (es : List EpochTableView) → StandsForGrid self.old scale.now es
+            → StandsForGrid self.new scale.now (epoch.now ∷ es) }
     {
         let time = epoch.time();
         self.count_missing(scale, time);

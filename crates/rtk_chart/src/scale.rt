@@ -10,8 +10,8 @@ use rtk_obs::{GpsMs, LAST_MS};
 #[derive(Clone, Copy)]
 pub(crate) struct Scale {
     /// The moments of the first and of the last record.
-    pub(crate) first: u64,
-    pub(crate) last: u64,
+    pub(crate) first: GpsMs,
+    pub(crate) last: GpsMs,
     /// The interval of the file.
     pub(crate) interval: Option<u64>,
     /// The interval by which bins are counted.
@@ -38,10 +38,8 @@ impl Scale {
         ensures value { result ≡ scale_of first last interval allowed }
         ensures good { IsScale result }
     {
-        let first = first.ms();
-        let last = last.ms();
         let unit = unit_of(interval);
-        let span = last.saturating_sub(first);
+        let span = last.ms().saturating_sub(first.ms());
         let bin_ms = (span / (allowed * unit) + 1) * unit;
         Scale {
             first,
@@ -58,7 +56,7 @@ impl Scale {
         requires { IsScale self.now }
         ensures { result ≡ bin_at self.now moment }
     {
-        moment.saturating_sub(self.first) / self.bin_ms
+        moment.saturating_sub(self.first.ms()) / self.bin_ms
     }
 
     /// The moment at which a bin begins.
@@ -68,6 +66,6 @@ impl Scale {
         ensures value { result ≡ bin_start self.now bin }
         ensures bound { result ≤ 3_818_015_999_999 }
     {
-        self.first + bin * self.bin_ms
+        self.first.ms() + bin * self.bin_ms
     }
 }

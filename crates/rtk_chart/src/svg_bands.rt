@@ -1,8 +1,6 @@
 //! The bands of the satellites in an SVG picture, and what stands below them.
 
 ghost use Rattle.std.specs.Prelude.{◌≡◌, ◌≤◌, ◌<◌, ◌+◌, ◌*◌, ◌/◌, ◌++◌, length, OnOk};
-ghost use Rattle.std.specs.Option.{ForSome};
-ghost use Rattle.rtk_rinex.specs.Reading.{IsMoment};
 ghost use Rattle.rtk_chart.specs.Scale.{IsScale, longest_bin};
 ghost use Rattle.rtk_chart.specs.SvgPicture.{satellite_label, band_title, lock_layers, band_text, drawn_width, band_if_drawn, bands_text, gaps_band, tick_text, svg_tick_step, ticks_text, bands_end};
 
@@ -13,7 +11,7 @@ use crate::svg_text::put_between;
 use crate::text_picture::{drawn_before, is_drawn};
 use crate::ticks::{put_tick_label, tick_at, tick_step};
 use crate::time_bin::TimeBin;
-use rtk_obs::Code;
+use rtk_obs::{Code, GpsMs};
 use std::alloc::{AllocError, Global};
 
 fn put_label(text: &mut Vec<u8>, satellite: u8) -> Result<(), AllocError>
@@ -150,10 +148,9 @@ fn put_tick(
     top: u64,
     step: u64,
     x: u64,
-    tick: Option<u64>,
+    tick: Option<GpsMs>,
 ) -> Result<(), AllocError>
-    requires tick { ForSome tick IsMoment }
-    requires top { top ≤ bands_end 16 32 + 24 }
+    requires { top ≤ bands_end 16 32 + 24 }
     ensures { OnOk result (text.new.items ≡ text.old.items ++ tick_text top step x tick) }
 {
     let Some(moment) = tick else {

@@ -1,7 +1,7 @@
 //! A picture in SVG.
 
 ghost use Rattle.std.specs.Prelude.{◌≡◌, ◌≤◌, ◌<◌, ◌++◌, length, IfOk, OnOk};
-ghost use Rattle.rtk_rinex.specs.Reading.{IsMoment, reading_of};
+ghost use Rattle.rtk_rinex.specs.Reading.{reading_of};
 ghost use Rattle.rtk_obs.specs.CivilText.{civil_text};
 ghost use Rattle.rtk_chart.specs.Scale.{IsScale};
 ghost use Rattle.rtk_chart.specs.SvgPicture.{interval_text, svg_span, svg_numbers, svg_start, svg_legend, bands_end, svg_body, svg_picture, svg_of_none};
@@ -13,7 +13,7 @@ use crate::svg_bands::{put_bands, put_gaps, put_ticks};
 use crate::svg_text::{put_between, put_xml};
 use crate::text_picture::drawn_before;
 use crate::time_text::{put_moment, put_seconds};
-use rtk_obs::{Code, GpsMs};
+use rtk_obs::Code;
 use std::alloc::{AllocError, Global};
 
 // constant
@@ -58,24 +58,14 @@ fn put_interval_words(text: &mut Vec<u8>, interval: Option<u64>) -> Result<(), A
     text.extend_from_slice(b" s")
 }
 
-fn put_time(text: &mut Vec<u8>, moment: u64) -> Result<(), AllocError>
-    requires { IsMoment moment }
-    ensures { OnOk result (text.new.items ≡ text.old.items ++ civil_text (reading_of moment)) }
-{
-    match GpsMs::new(moment) {
-        Some(time) => put_moment(text, time),
-        None => Ok(()),
-    }
-}
-
 fn put_span(text: &mut Vec<u8>, scale: &Scale) -> Result<(), AllocError>
     requires { IsScale scale.now }
     ensures { OnOk result (text.new.items ≡ text.old.items ++ svg_span scale.now) }
 {
     text.extend_from_slice(b"<text x='90' y='52'>")?;
-    put_time(text, scale.first)?;
+    put_moment(text, scale.first)?;
     text.extend_from_slice(b" to ")?;
-    put_time(text, scale.last)?;
+    put_moment(text, scale.last)?;
     text.extend_from_slice(b", ")?;
     put_interval_words(text, scale.interval)?;
     text.extend_from_slice(b", column ")?;

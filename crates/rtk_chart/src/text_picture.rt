@@ -1,9 +1,7 @@
 //! A picture in characters.
 
 ghost use Rattle.std.specs.Prelude.{◌≡◌, ◌≤◌, ◌<◌, ◌++◌, List, ℕ, count_by, OnOk, IfOk};
-ghost use Rattle.std.specs.Option.{ForSome};
 ghost use Rattle.std.specs.List.{range_with_len, list_any};
-ghost use Rattle.rtk_rinex.specs.Reading.{IsMoment};
 ghost use Rattle.rtk_chart.specs.Grid.{tracking_in};
 ghost use Rattle.rtk_chart.specs.Scale.{IsScale};
 ghost use Rattle.rtk_chart.specs.Ticks.{tick_at};
@@ -146,7 +144,7 @@ fn put_gap_row(text: &mut Vec<u8>, gaps: &[bool]) -> Result<(), AllocError>
     Ok(())
 }
 
-fn axis_mark(tick: Option<u64>) -> u8
+fn axis_mark(tick: Option<GpsMs>) -> u8
     ensures { result ≡ axis_mark tick }
 {
     if tick.is_some() { b'+' } else { b'-' }
@@ -190,8 +188,7 @@ fn is_covered(scale: &Scale, step: u64, bin: u64) -> bool
     false
 }
 
-fn put_label_text(text: &mut Vec<u8>, step: u64, tick: Option<u64>) -> Result<(), AllocError>
-    requires { ForSome tick IsMoment }
+fn put_label_text(text: &mut Vec<u8>, step: u64, tick: Option<GpsMs>) -> Result<(), AllocError>
     ensures { OnOk result (text.new.items ≡ text.old.items ++ label_text step tick) }
 {
     match tick {
@@ -236,15 +233,11 @@ fn put_line(text: &mut Vec<u8>, words: &[u8], number: u64) -> Result<(), AllocEr
     Ok(())
 }
 
-fn put_moment_line(text: &mut Vec<u8>, words: &[u8], moment: u64) -> Result<(), AllocError>
-    requires { IsMoment moment }
+fn put_moment_line(text: &mut Vec<u8>, words: &[u8], moment: GpsMs) -> Result<(), AllocError>
     ensures { OnOk result (text.new.items ≡ text.old.items ++ moment_line words.now moment) }
 {
-    let Some(time) = GpsMs::new(moment) else {
-        return Ok(());
-    };
     text.extend_from_slice(words)?;
-    put_moment(text, time)?;
+    put_moment(text, moment)?;
     text.push(b'\n')?;
     Ok(())
 }

@@ -1,8 +1,7 @@
 //! Ticks along the time of a picture.
 
-ghost use Rattle.std.specs.Prelude.{◌≡◌, ◌≤◌, ◌<◌, ◌*◌, ◌++◌, nat_le, OnOk, IfSome};
+ghost use Rattle.std.specs.Prelude.{◌≡◌, ◌≤◌, ◌<◌, ◌*◌, ◌++◌, nat_le, OnOk};
 ghost use Rattle.std.specs.List.{find};
-ghost use Rattle.rtk_rinex.specs.Reading.{IsMoment};
 ghost use Rattle.rtk_chart.specs.Scale.{IsScale, longest_bin};
 ghost use Rattle.rtk_chart.specs.Ticks.{tick_steps, tick_step, tick_at, tick_label};
 
@@ -56,32 +55,31 @@ pub(crate) fn tick_step(least: u64) -> u64
 }
 
 /// The moment of the tick in a bin, if one is there.
-pub(crate) fn tick_at(scale: &Scale, step: u64, bin: u64) -> Option<u64>
+pub(crate) fn tick_at(scale: &Scale, step: u64, bin: u64) -> Option<GpsMs>
     requires good { IsScale scale.now }
     requires step { 0 < step }
     requires within { bin < scale.now.bins }
-    ensures value { result ≡ tick_at scale.now step bin }
-    ensures moment { IfSome result IsMoment }
+    ensures { result ≡ tick_at scale.now step bin }
 {
     let start = scale.bin_start(bin);
-    let whole = (start + scale.bin_ms - 1).min(scale.last) / step * step;
-    if start <= whole { Some(whole) } else { None }
+    let whole = (start + scale.bin_ms - 1).min(scale.last.ms()) / step * step;
+    if start <= whole {
+        GpsMs::new(whole)
+    } else {
+        None
+    }
 }
 
 /// Appends what stands at a tick.
 #[tactic(auto, unfolding(crate::specs::Ticks::tick_label))]
-pub(crate) fn put_tick_label(text: &mut Vec<u8>, step: u64, moment: u64) -> Result<(), AllocError>
-    requires { IsMoment moment }
+pub(crate) fn put_tick_label(text: &mut Vec<u8>, step: u64, moment: GpsMs) -> Result<(), AllocError>
     ensures { OnOk result (text.new.items ≡ text.old.items ++ tick_label step moment) }
 {
-    let Some(time) = GpsMs::new(moment) else {
-        return Ok(());
-    };
     if step < DAY_MS {
-        put_clock(text, reading(time))?;
+        put_clock(text, reading(moment))?;
         text.extend_from_slice(b"  ")?;
     } else {
-        put_date(text, reading(time))?;
+        put_date(text, reading(moment))?;
     }
     Ok(())
 }

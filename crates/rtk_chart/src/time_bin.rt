@@ -16,7 +16,8 @@ pub(crate) struct TimeBin {
 
 // Notes what each satellite has in one more epoch.
 fn note_satellites(satellites: &mut [Tracking; 32], rows: &[SatelliteRow])
-    ensures { (e : EpochTableView) (es : List EpochTableView) → rows.now ≡ e.rows → satellites.old ≡ trackings_of es → satellites.new ≡ trackings_of (e ∷ es) }
+    ensures { (e : EpochTableView) (es : List EpochTableView) → rows.now ≡ e.rows
+        → satellites.old ≡ trackings_of es → satellites.new ≡ trackings_of (e ∷ es) }
 {
     for place in 0u8..32 {
         let mut tracking = satellites[usize::from(place)];

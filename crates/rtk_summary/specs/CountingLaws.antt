@@ -32,7 +32,9 @@ EachMessageIsCounted =
 -- ---- all are taken alike, whatever came before
 
 abbrev pub FramesAreTakenAlike : Type 0
-FramesAreTakenAlike = (later before : List ReadFrame) → (messages_in (later ++ before) ≡ messages_in later ++ messages_in before) × (faults_in (later ++ before) ≡ faults_in later ++ faults_in before)
+FramesAreTakenAlike =
+    (later before : List ReadFrame) → (messages_in (later ++ before) ≡ messages_in later ++ messages_in before)
+    × (faults_in (later ++ before) ≡ faults_in later ++ faults_in before)
 
 -- what comes of later messages stands before what comes of the messages before them
 pub record AreTakenAlike (later before : List AnyMessage) : Type 0 where
@@ -65,17 +67,21 @@ StandsIn part text = (before : List ℕ) × (after : List ℕ) × (text ≡ befo
 -- in a summary the lines of all stations and of what is not read
 abbrev pub PartsStand : Type 0
 PartsStand =
-    (size : ℕ) (fs : List ReadFrame) → StandsIn (stations_text (messages_in fs)) (summary_text size fs) × StandsIn (unread_lines (faults_in fs)) (summary_text size fs)
+    (size : ℕ) (fs : List ReadFrame) → StandsIn (stations_text (messages_in fs)) (summary_text size fs)
+    × StandsIn (unread_lines (faults_in fs)) (summary_text size fs)
 
 -- in the lines of all stations those of each station of which a message came
 abbrev pub StationsStand : Type 0
-StationsStand = (ms : List AnyMessage) (n : ℕ) → n < 4096 → 0 < length (messages_from n ms) → StandsIn (station_lines n (messages_from n ms)) (stations_text ms)
+StationsStand =
+    (ms : List AnyMessage) (n : ℕ) → n < 4096 → 0 < length (messages_from n ms)
+    → StandsIn (station_lines n (messages_from n ms)) (stations_text ms)
 
 -- in the lines of a station its command, by the numbers of epochs
 abbrev pub ProposalsStand : Type 0
 ProposalsStand =
     (station : ℕ) (ms : List AnyMessage) → ((kind : MsmKind) → IsHeld (epochs_in (times_with_value kind ms)))
-    → StandsIn (proposal_lines station (λ kind. epochs_in (times_with_value kind ms)) (λ kind. has_code (entries_with kind ms))) (station_lines station ms)
+    → StandsIn (proposal_lines station (λ kind. epochs_in (times_with_value kind ms)) (λ kind. has_code (entries_with kind ms)))
+    (station_lines station ms)
 
 -- in the lines of what is not read those of GPS observations, by the numbers of their messages
 abbrev pub UntakenStand : Type 0

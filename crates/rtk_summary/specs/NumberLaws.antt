@@ -58,7 +58,8 @@ ProposalLinesTell =
 -- a number of epochs is how many there are
 abbrev pub EpochsAreCounted : Type 0
 EpochsAreCounted =
-    (kind : MsmKind) (ms : List AnyMessage) → IsHeld (epochs_in (times_with_value kind ms)) → epochs_with_value kind ms ≡ epochs_in (times_with_value kind ms)
+    (kind : MsmKind) (ms : List AnyMessage) → IsHeld (epochs_in (times_with_value kind ms))
+    → epochs_with_value kind ms ≡ epochs_in (times_with_value kind ms)
 
 -- ---- a summary
 

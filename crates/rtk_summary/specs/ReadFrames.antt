@@ -23,7 +23,8 @@ read_frame payload reading = record { payload = payload; reading = reading }
 -- frames with these payloads come, in this order, after those before
 abbrev pub ReadsFrames : List (List ℕ) → List ReadFrame → List ReadFrame → Type 0
 ReadsFrames [] before after = after ≡ before
-ReadsFrames (p ∷ ps) before after = (reading : Result AnyMessage AnyFault) × DecodesBy messages_read (bits p) reading × ReadsFrames ps (read_frame p reading ∷ before) after
+ReadsFrames (p ∷ ps) before after =
+    (reading : Result AnyMessage AnyFault) × DecodesBy messages_read (bits p) reading × ReadsFrames ps (read_frame p reading ∷ before) after
 
 -- formula
 -- the bytes of frames: each is its payload and six bytes more

@@ -70,13 +70,15 @@ AreFramesOf bytes fs = ReadsFrames (payloads (frames bytes)) [] fs
 -- the summary of what was read was written: before, after of the source and of the sink
 abbrev pub Summarizes : Option (List ℕ) → Option (List ℕ) → Option (List ℕ) → Option (List ℕ) → Type 0
 Summarizes given_old given_new taken_old taken_new =
-    (bytes : List ℕ) × (fs : List ReadFrame) × (given_new ≡ with_more given_old bytes) × AreFramesOf bytes fs × (taken_new ≡ with_more taken_old (summary_text (length bytes) fs))
+    (bytes : List ℕ) × (fs : List ReadFrame) × (given_new ≡ with_more given_old bytes) × AreFramesOf bytes fs
+    × (taken_new ≡ with_more taken_old (summary_text (length bytes) fs))
 
 -- a first part of the summary of what was read was written, perhaps none or all of it: before, after of
 -- the source and of the sink
 abbrev pub SummarizesInPart : Option (List ℕ) → Option (List ℕ) → Option (List ℕ) → Option (List ℕ) → Type 0
 SummarizesInPart given_old given_new taken_old taken_new =
-    (bytes : List ℕ) × (fs : List ReadFrame) × (given_new ≡ with_more given_old bytes) × AreFramesOf bytes fs × TakesPart taken_old taken_new (summary_text (length bytes) fs)
+    (bytes : List ℕ) × (fs : List ReadFrame) × (given_new ≡ with_more given_old bytes) × AreFramesOf bytes fs
+    × TakesPart taken_old taken_new (summary_text (length bytes) fs)
 
 -- a count of calls has risen by so many, or is at its greatest value
 abbrev pub HasRisenBy : ℕ → ℕ → ℕ → Type 0

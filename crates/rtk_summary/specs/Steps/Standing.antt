@@ -105,7 +105,8 @@ pub record StandsForMessages (s : Station) (ms : List AnyMessage) : Type 0 where
 
 -- each station stands for its own messages
 abbrev pub StandForStations : List Station → List AnyMessage → Type 0
-StandForStations stations ms = (n : ℕ) (none : Station) → n < length stations → StandsForMessages (get_or stations n none) (messages_from n ms)
+StandForStations stations ms =
+    (n : ℕ) (none : Station) → n < length stations → StandsForMessages (get_or stations n none) (messages_from n ms)
 
 pub record StandsForFrames (s : Summary) (fs : List ReadFrame) : Type 0 where
   pub frames : s.frames ≡ shown_count (length fs)
@@ -119,7 +120,8 @@ pub record StandsForFrames (s : Summary) (fs : List ReadFrame) : Type 0 where
 -- summary stands for the frames of the text
 abbrev pub ReadsAll : Option (List ℕ) → Option (List ℕ) → ℕ → Summary → Type 0
 ReadsAll given_old given_new size summary =
-    (bytes : List ℕ) × (fs : List ReadFrame) × (given_new ≡ with_more given_old bytes) × AreFramesOf bytes fs × (size ≡ shown_count (length bytes)) × StandsForFrames summary fs
+    (bytes : List ℕ) × (fs : List ReadFrame) × (given_new ≡ with_more given_old bytes) × AreFramesOf bytes fs
+    × (size ≡ shown_count (length bytes)) × StandsForFrames summary fs
 
 -- frames with these payloads come, in this order: whatever came before, the summary then stands for
 -- them too

@@ -11,7 +11,7 @@ loop-bin-preserved c =
     let x = 90 + c.loop-bin.bin * c.args.width in
     put-more (λ k. tick_text c.args.top c.tick_step-step.result (90 + k * c.args.width) (tick_at c.args.scale.now c.tick_step-step.result k)) 0 c.loop-bin.bin c.loop-bin.bin
     c.args.text.now.items c.loop-bin.text.items c.put_tick.new.text.items (omega arith) c.loop-bin.invariant
-    (c.in_ok-put_tick.ensures ∙ ap (λ (tick : Option ℕ). c.loop-bin.text.items ++ tick_text c.args.top c.tick_step-step.result x tick) c.tick_at-tick.ensures.value)
+    (c.in_ok-put_tick.ensures ∙ ap (λ (tick : Option ℕ). c.loop-bin.text.items ++ tick_text c.args.top c.tick_step-step.result x tick) c.tick_at-tick.ensures)
 
 pub returns : goal.returns
 unfolding ticks_text

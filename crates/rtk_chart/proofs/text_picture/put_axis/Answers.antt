@@ -8,7 +8,7 @@ pub loop-bin-preserved : goal.loop-bin-preserved
 loop-bin-preserved c =
     push-more (λ k. axis_mark (tick_at c.args.scale.now c.args.step k)) c.loop-bin.bin c.extend_from_slice.new.self.items c.loop-bin.text.items c.push.new.self.items
     c.loop-bin.invariant
-    (c.in_ok-push.ensures.items ∙ ap (λ (x : ℕ). c.loop-bin.text.items ++ x ∷ []) (c.axis_mark.ensures ∙ ap axis_mark c.tick_at.ensures.value))
+    (c.in_ok-push.ensures.items ∙ ap (λ (x : ℕ). c.loop-bin.text.items ++ x ∷ []) (c.axis_mark.ensures ∙ ap axis_mark c.tick_at.ensures))
 
 pub returns : goal.returns
 unfolding axis_row
