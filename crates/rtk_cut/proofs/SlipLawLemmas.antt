@@ -13,12 +13,13 @@ use Rattle.rtk_rinex.specs.declared.epoch_table.Observed.{Observed}
 use Rattle.rtk_rinex.specs.Record.{EpochTableView}
 use Rattle.rtk_rinex.specs.Table.{IsTableEpoch}
 use Rattle.rtk_cut.specs.declared.part.Part.{Part}
-use Rattle.rtk_cut.specs.Cut.{step_ms, is_on_step, is_at_or_after, is_earlier_than, is_in_span, has_phase_of, has_slip_of, since_phase, has_slipped_since, with_slip, cut_epoch, thinned_after, kept_after, first_of_part}
-use Rattle.rtk_cut.specs.CutLaws.{IsWholeSteps, IsAskedFor, RecordsAreAskedFor, Observes, ShowsPhase, ShowsSlip, HasSlipToShow, SlipsAreKept, SlipsAreFound, without_slips, OthersStay}
+use Rattle.rtk_cut.specs.Cut.{step_ms, is_on_step, is_at_or_after, is_earlier_than, is_in_span, has_phase_of, has_slip_of, since_phase, has_slipped_since, with_slip, cut_epoch, thinned_after, kept_after, first_of_part, cut_of}
+use Rattle.rtk_cut.specs.CutLaws.{IsWholeSteps, IsAskedFor, RecordsAreAskedFor, Observes, ShowsPhase, ShowsSlip, HasSlipToShow, SlipsAreKept, SlipsAreFound, without_slips, OthersStay, PartsAreWritten}
 use Rattle.rtk_cut.proofs.AnyLemmas.{any-here, any-weaker, any-where, any-left, any-middle, any-split, any-none, any-append, any-splits, any-if, any-filter, any-while, onto, onto-append, onto-long, onto-parts, all-onto, any-onto}
 use Rattle.rtk_cut.proofs.CodeLemmas.{no-slip}
 use Rattle.rtk_cut.proofs.ShownLemmas.{shows-phase, phase-shown, shows-slip, slip-shown, observes-good, cut-shows, cut-shown, slip-with_phase, slip-without_phase, cut-kept}
 use Rattle.rtk_cut.proofs.ThinnedLemmas.{thinned-on}
+use Rattle.rtk_cut.proofs.LawLemmas.{parts-are_tables}
 
 -- ---- which moments are asked for
 
@@ -115,7 +116,7 @@ kept-has P part time es before e after are asked same at p =
     (subst (λ (xs : List EpochTableView). Any P (thinned_after step [] xs)) (sym are) (thinned-has P step [] before e after (asked-on part e time asked same) p))
 
 pub records-are_asked_for : RecordsAreAskedFor
-records-are_asked_for part t time = (
+records-are_asked_for part t = λ time. (
   λ any.
       let step : ℕ = step_ms part.every in
       let a = any-where (λ g. IsFrom step [] t.epochs g × (is_in_span part.from part.until g ≡ true)) (λ g. g.time ≡ time) (kept_after part [] t.epochs) (kept-from part t.epochs) any in
@@ -172,7 +173,7 @@ is-slipped every s c start gap f unseen slip =
     ]
 
 pub slips-are_kept : SlipsAreKept
-slips-are_kept part t s c time asked due =
+slips-are_kept part t = λ s c time asked due.
     let step : ℕ = step_ms part.every in
     let before : List EpochTableView = due.start ++ due.gap in
     let f : EpochTableView = due.shows in
@@ -221,7 +222,7 @@ has-gap every s c before f slipped =
     }
 
 pub slips-are_found : SlipsAreFound
-slips-are_found part t s c good =
+slips-are_found part t good = λ s c.
     let step : ℕ = step_ms part.every in
     let n : ℕ = length t.head.listed in
     All-weaker (λ g. IsFrom step [] t.epochs g × (is_in_span part.from part.until g ≡ true)) (λ g. ShowsSlip s c g → HasSlipToShow part.every s c t.epochs g.time)
@@ -263,4 +264,20 @@ others-stay part t = record {
       subst (λ (es : List EpochTableView). Any (λ e. without_slips g ≡ without_slips e) es) (sym f.are)
       (any-middle (λ e. without_slips g ≡ without_slips e) f.before f.own f.after (ap without_slips f.is ∙ cut-kept (step_ms part.every) (onto f.before []) f.own)))
       (kept_after part [] t.epochs) (kept-from part t.epochs);
+}
+
+-- ---- and all of them
+
+pub parts-are_written : PartsAreWritten
+parts-are_written text part t good moment is = record {
+  shown = cut_of part t;
+  is = record {
+    table = parts-are_tables part t moment good;
+    records = records-are_asked_for part t;
+    kept = slips-are_kept part t;
+    found = slips-are_found part t good;
+    others = others-stay part t;
+  };
+  all = λ before after writes. writes t good is;
+  first = λ before after writes. writes t good is;
 }

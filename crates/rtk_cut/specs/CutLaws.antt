@@ -1,13 +1,15 @@
 -- Laws on parts of files.
 use Rattle.std.specs.Prelude.{◌≡◌, ◌<◌, ◌≤◌, ℕ, ◌*◌, false, List, [], ◌∷◌, ◌++◌, map, slice_get, All, Any, Option, None, Some, IfSome, IsSome, unwrap_or, IsTrue, ◌↔◌}
 use Rattle.std.specs.List.{filter}
+use Rattle.rtk_frame.specs.Stream.{with_more, TakesPart}
 use Rattle.rtk_rinex.specs.declared.epoch_table.Observed.{Observed}
 use Rattle.rtk_rinex.specs.declared.epoch_table.SatelliteRow.{SatelliteRow}
 use Rattle.rtk_rinex.specs.Reading.{IsMoment}
 use Rattle.rtk_rinex.specs.Record.{EpochTableView}
-use Rattle.rtk_rinex.specs.Table.{WellFormedTable, IsWellFormedTable}
+use Rattle.rtk_rinex.specs.Table.{WellFormedTable, IsWellFormedTable, table_text}
 use Rattle.rtk_cut.specs.declared.part.Part.{Part}
 use Rattle.rtk_cut.specs.Cut.{step_ms, is_on_step, is_in_span, cut_of}
+use Rattle.rtk_cut.specs.CutWriting.{WritesPart, WritesFirstOfPart}
 
 -- a moment, if there is one
 abbrev pub IsMomentOrNone : Option ℕ → Type 0
@@ -58,9 +60,8 @@ pub record IsAskedFor (part : Part) (t : ℕ) : Type 0 where
   pub until : IfSome part.until (λ past. t < past)
 
 -- a part has the records of the file that are asked for, and no others
-abbrev pub RecordsAreAskedFor : Type 0
-RecordsAreAskedFor =
-    (part : Part) (t : WellFormedTable) (time : ℕ) → Any (λ g. g.time ≡ time) (cut_of part t).epochs ↔ (Any (λ e. e.time ≡ time) t.epochs × IsAskedFor part time)
+abbrev pub HasRecordsAskedFor : Part → WellFormedTable → WellFormedTable → Type 0
+HasRecordsAskedFor part t u = (time : ℕ) → Any (λ g. g.time ≡ time) u.epochs ↔ (Any (λ e. e.time ≡ time) t.epochs × IsAskedFor part time)
 
 -- the record has this observation of the satellite and of the code at this place
 abbrev pub Observes : ℕ → ℕ → Observed → EpochTableView → Type 0
@@ -86,15 +87,12 @@ pub record HasSlipToShow (every : Option ℕ) (s c : ℕ) (epochs : List EpochTa
   pub slip : Any (ShowsSlip s c) (gap ++ shows ∷ [])
 
 -- no slip is lost: the part shows it
-abbrev pub SlipsAreKept : Type 0
-SlipsAreKept =
-    (part : Part) (t : WellFormedTable) (s c time : ℕ) → IsAskedFor part time → HasSlipToShow part.every s c t.epochs time
-    → Any (λ g. (g.time ≡ time) × ShowsSlip s c g) (cut_of part t).epochs
+abbrev pub KeepsSlips : Part → WellFormedTable → WellFormedTable → Type 0
+KeepsSlips part t u = (s c time : ℕ) → IsAskedFor part time → HasSlipToShow part.every s c t.epochs time → Any (λ g. (g.time ≡ time) × ShowsSlip s c g) u.epochs
 
 -- and none is invented
-abbrev pub SlipsAreFound : Type 0
-SlipsAreFound =
-    (part : Part) (t : WellFormedTable) (s c : ℕ) → IsWellFormedTable t → All (λ g. ShowsSlip s c g → HasSlipToShow part.every s c t.epochs g.time) (cut_of part t).epochs
+abbrev pub HasSlipsOf : Part → WellFormedTable → WellFormedTable → Type 0
+HasSlipsOf part t u = (s c : ℕ) → All (λ g. ShowsSlip s c g → HasSlipToShow part.every s c t.epochs g.time) u.epochs
 
 abbrev pub without_slip : Observed → Observed
 without_slip o = record o { slip = false }
@@ -107,11 +105,39 @@ without_slips e = record { time = e.time; rows = map row_without_slips e.rows }
 
 -- the header is the file's, but for the first time, which is that of the first record; and each
 -- record is one of the file's, but for its slips
-pub record DiffersInSlips (from : Option ℕ) (t part : WellFormedTable) : Type 0 where
-  pub head : part.head ≡ t.head
-  pub site : part.site ≡ t.site
-  pub without_record : part.epochs ≡ [] → part.first ≡ unwrap_or from t.first
-  pub epochs : All (λ g. Any (λ e. without_slips g ≡ without_slips e) t.epochs) part.epochs
+pub record DiffersInSlips (part : Part) (t u : WellFormedTable) : Type 0 where
+  pub head : u.head ≡ t.head
+  pub site : u.site ≡ t.site
+  pub without_record : u.epochs ≡ [] → u.first ≡ unwrap_or part.from t.first
+  pub epochs : All (λ g. Any (λ e. without_slips g ≡ without_slips e) t.epochs) u.epochs
+
+abbrev pub RecordsAreAskedFor : Type 0
+RecordsAreAskedFor = (part : Part) (t : WellFormedTable) → HasRecordsAskedFor part t (cut_of part t)
+
+abbrev pub SlipsAreKept : Type 0
+SlipsAreKept = (part : Part) (t : WellFormedTable) → KeepsSlips part t (cut_of part t)
+
+abbrev pub SlipsAreFound : Type 0
+SlipsAreFound = (part : Part) (t : WellFormedTable) → IsWellFormedTable t → HasSlipsOf part t (cut_of part t)
 
 abbrev pub OthersStay : Type 0
-OthersStay = (part : Part) (t : WellFormedTable) → DiffersInSlips part.from t (cut_of part t)
+OthersStay = (part : Part) (t : WellFormedTable) → DiffersInSlips part t (cut_of part t)
+
+-- all of this
+pub record IsPartOf (part : Part) (t u : WellFormedTable) : Type 0 where
+  pub table : IsWellFormedTable u
+  pub records : HasRecordsAskedFor part t u
+  pub kept : KeepsSlips part t u
+  pub found : HasSlipsOf part t u
+  pub others : DiffersInSlips part t u
+
+-- what is written is the text of such a part, or a first part of it
+pub record IsTextOfPart (text : List ℕ) (part : Part) (t : WellFormedTable) : Type 0 where
+  pub shown : WellFormedTable
+  pub is : IsPartOf part t shown
+  pub all : (before after : Option (List ℕ)) → WritesPart text part before after → after ≡ with_more before (table_text shown)
+  pub first : (before after : Option (List ℕ)) → WritesFirstOfPart text part before after → TakesPart before after (table_text shown)
+
+abbrev pub PartsAreWritten : Type 0
+PartsAreWritten =
+    (text : List ℕ) (part : Part) (t : WellFormedTable) → IsWellFormedTable t → IsMomentOrNone part.from → text ≡ table_text t → IsTextOfPart text part t

@@ -3,7 +3,8 @@
 //! Each function here does nothing. Its contract is the law, and a caller that calls it may cite
 //! it.
 
-ghost use Rattle.rtk_cut.specs.CutLaws.{PartsAreTables, RecordsAreOwn, SpansJoin, OwnStepGivesFile, RecordsAreAskedFor, SlipsAreKept, SlipsAreFound, OthersStay};
+ghost use Rattle.rtk_cut.specs.CutLaws.{PartsAreTables, RecordsAreOwn, SpansJoin, OwnStepGivesFile};
+ghost use Rattle.rtk_cut.specs.CutLaws.{RecordsAreAskedFor, SlipsAreKept, SlipsAreFound, OthersStay, PartsAreWritten};
 
 /// A part of a well-formed file is a well-formed file.
 pub fn parts_are_tables()
@@ -47,4 +48,9 @@ pub fn slips_are_found()
 /// but for the first time.
 pub fn others_stay()
     ensures { OthersStay }
+{}
+
+/// What `cut` writes is the text of a part of which all of this holds.
+pub fn parts_are_written()
+    ensures { PartsAreWritten }
 {}

@@ -48,8 +48,8 @@ mod slips;
 
 pub use fault::CutFault;
 pub use laws::{
-    others_stay, own_step_gives_file, parts_are_tables, records_are_asked_for, records_are_own,
-    slips_are_found, slips_are_kept, spans_join,
+    others_stay, own_step_gives_file, parts_are_tables, parts_are_written, records_are_asked_for,
+    records_are_own, slips_are_found, slips_are_kept, spans_join,
 };
 pub use part::Part;
 pub use part_file::cut;
