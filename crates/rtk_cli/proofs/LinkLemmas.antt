@@ -1,7 +1,6 @@
 -- From what a run says of its sources and sinks to the bytes of the readers and writers behind them.
 use Rattle.std.proofs.Common.{◌≡◌, ℕ, zero, suc, ◌-◌, ◌<◌, Bool, true, IsTrue, List, [], ◌∷◌, ◌++◌, length, take, drop, get_or, map, Option, None, Some, Result, Ok, Err, IfOk, IsErrOf, refl, sym, ap, ◌∙◌, subst, arith, append-nil, take-append-drop}
 use Rattle.std.proofs.lemmas.List.{map_push, length-map, get_or-map}
-use Rattle.std.proofs.lemmas.Result.{IfOk-weaker}
 use Rattle.std.proofs.Math.Nat.{sub_self}
 use Rattle.std.specs.Io.Buffered.{writer_contents}
 use Rattle.std.specs.Io.KnownBytes.{Keeps}
@@ -253,11 +252,6 @@ pub done-by-bytes : {S R : Type 0} {number : S → ℕ} {inner : S → R} {befor
 done-by-bytes {S} {R} {number} {inner} {before} {readers} remaining had {held} calls is_at_end s after {first} {old} {new} {last} {first'} {old'} {new'} {last'} {is_out} done final is is-had are ends b b' run =
     subst (λ (r : Result Counts ConvertFault). IfOk r (λ counts. IsTrue is_out → KeepsBytes s (map remaining readers) counts (written first first') (written (taken_of first last) (taken_of first' last'))))
     (sym is) (at-done remaining had calls is_at_end s after done is-had are ends b b' run)
-
--- what is kept says the promise too
-pub promise-out : (is_out : Bool) (s : SetupView) (bytes : List (Option (List ℕ))) (old new : Written) (done : Result Counts ConvertFault)
-    → IfOk done (λ counts. IsTrue is_out → KeepsBytes s bytes counts old new) → IfOk done (λ counts. IsTrue is_out → ConvertsBytes s bytes old new)
-promise-out is_out s bytes old new done keeps = IfOk-weaker done _ _ (λ counts k is-out. (k is-out).promise) keeps
 
 -- ---- a run that ended at a read
 

@@ -141,7 +141,7 @@ kept-of s found counts o o' out log counts_are = record {
 
 -- ---- a run
 
-pub run-headline : {R : Type 0} (given : R → Option (List ℕ)) (calls : R → ℕ) (is_at_end : R → Type 0) (s : SetupView) (before after : List R) (counts : Counts) (o o' : Written)
+run-headline : {R : Type 0} (given : R → Option (List ℕ)) (calls : R → ℕ) (is_at_end : R → Type 0) (s : SetupView) (before after : List R) (counts : Counts) (o o' : Written)
     → RunsAs given calls is_at_end s before after counts o o' → RunHeadline given is_at_end s before after o o'
 run-headline given calls is_at_end s before after counts o o' p = record {
   reads = p.reads;

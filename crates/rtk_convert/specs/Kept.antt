@@ -51,7 +51,8 @@ pub record KeepsInOrder (s : SetupView) (links : ℕ) (reads : List Read) (came 
   pub kept : WritesKept s history.found counts written_old written_new
   pub is_table : IsSetupView s → IsTextOfTable (kept_file s (arrivals history.found))
 
--- the promise, and of the same reads the rest. `calls` counts the reads of a reader
+-- the promise, and of the same reads and messages the rest: two clauses can't share these lists, so
+-- this one has the promise in it. `calls` counts the reads of a reader
 pub record RunKeeps {R : Type 0} (given : R → Option (List ℕ)) (calls : R → ℕ) (is_at_end : R → Type 0) (s : SetupView) (before after : List R) (counts : Counts) (written_old written_new : Written) : Type 0 where
   pub promise : RunHeadline given is_at_end s before after written_old written_new
   pub called : HasCalled calls before after (length promise.reads)

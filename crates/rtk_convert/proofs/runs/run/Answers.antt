@@ -7,7 +7,7 @@ use Rattle.rtk_convert.specs.Steps.ReadLink.{HasReadAll}
 use Rattle.rtk_convert.specs.Run.{FailsReading, StaysOpen, BreaksOffReading}
 use Rattle.rtk_convert.specs.Setup.{SetupView}
 use Rattle.rtk_convert.specs.Writing.{written}
-use Rattle.rtk_convert.proofs.HeadlineLemmas.{run-headline, run-keeps}
+use Rattle.rtk_convert.proofs.HeadlineLemmas.{run-keeps}
 use Rattle.rtk_convert.proofs.RunLemmas.{runs-as, breaks-ending, links-few, reading-run, frame-run}
 use Rattle.rtk_convert.proofs.runs.run.Goals as goal
 
@@ -50,21 +50,6 @@ returns-clause-link_count g c = (
 pub returns-clause-fault : goal.returns-clause-fault
 returns-clause-fault g c = IfErr-weaker c.finish.result _ _ frame-run (c.finish.ensures.ends.fault c.in_default.ensures.ok.represents.going)
 
-pub returns-clause-headline : goal.returns-clause-headline
-returns-clause-headline g c =
-    let before = written (g.O.Sink.taken c.args.out.now) (g.L.Sink.taken c.args.log.now) in
-    let mid = written (g.O.Sink.taken c.read_all.new.out) (g.L.Sink.taken c.read_all.new.log) in
-    let after = written (g.O.Sink.taken c.finish.new.out) (g.L.Sink.taken c.finish.new.log) in
-    let all : HasReadAll g.R.Source.given g.R.Source.calls g.R.Source.is_at_end c.args.setup c.args.readers.now c.read_all.new.readers c.read_all.new.converter before mid =
-    subst (λ (s : SetupView). HasReadAll g.R.Source.given g.R.Source.calls g.R.Source.is_at_end s c.args.readers.now c.read_all.new.readers c.read_all.new.converter before mid)
-    c.in_ok-converter.ensures.ok.same_setup c.in_default.ensures.ok in
-    IfOk-weaker c.finish.result _ _ (λ counts ends.
-    let e = ends all.history all.represents in
-    run-headline g.R.Source.given g.R.Source.calls g.R.Source.is_at_end c.args.setup c.args.readers.now c.read_all.new.readers counts before after
-    (runs-as g.R.Source.given g.R.Source.calls g.R.Source.is_at_end c.args.setup c.args.readers.now c.read_all.new.readers c.read_all.new.converter counts
-    before mid after
-    all e.0 (subst (λ (s : SetupView). FinishesConverterAs s all.history e.0 counts mid after) (c.read_all.ensures.same_setup ∙ c.in_ok-converter.ensures.ok.same_setup) e.1))) c.finish.ensures.ends.ok
-
 pub returns-clause-kept : goal.returns-clause-kept
 returns-clause-kept g c =
     let before = written (g.O.Sink.taken c.args.out.now) (g.L.Sink.taken c.args.log.now) in
@@ -79,6 +64,9 @@ returns-clause-kept g c =
     (runs-as g.R.Source.given g.R.Source.calls g.R.Source.is_at_end c.args.setup c.args.readers.now c.read_all.new.readers c.read_all.new.converter counts
     before mid after
     all e.0 (subst (λ (s : SetupView). FinishesConverterAs s all.history e.0 counts mid after) (c.read_all.ensures.same_setup ∙ c.in_ok-converter.ensures.ok.same_setup) e.1))) c.finish.ensures.ends.ok
+
+pub returns-clause-headline : goal.returns-clause-headline
+returns-clause-headline g c = IfOk-weaker c.finish.result _ _ (λ counts keeps. keeps.promise) (returns-clause-kept g c)
 
 pub returns-clause-breaks_off : goal.returns-clause-breaks_off
 returns-clause-breaks_off g c =
