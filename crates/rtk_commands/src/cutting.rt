@@ -68,6 +68,8 @@ fn cut_input<R: Source, W: Sink>(
     ensures part { (W.taken out.new ≡ W.taken out.old)
         ⊎ (R.is_at_end reader.new × GivesText (R.given reader.old) (R.given reader.new) (λ text.
         (length text ≤ CHECK_LIMIT) × WritesFirstOfPart text part (W.taken out.old) (W.taken out.new))) }
+    ensures first { IsErrOf result Output → GivesText (R.given reader.old) (R.given reader.new) (λ text.
+        (length text ≤ CHECK_LIMIT) × WritesFirstOfPart text part (W.taken out.old) (W.taken out.new)) }
     ensures nothing { IfErr result (λ fault. IsBeforeOutput fault → W.taken out.new ≡ W.taken out.old) }
 {
     let text = read_whole(alloc, reader, CHECK_LIMIT)?;
