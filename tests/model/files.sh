@@ -12,13 +12,6 @@ while read -r name codes words; do
     leaves "$name" 0 "$name.rnx" "$name.report"
 done <cases
 
-# Standard input in each of sixteen places.
-for place in $(seq 16); do
-    names=$(seq -f long_capture_on_16_links.%g 16 | sed "${place}s/.*/stdin/")
-    "$program" convert $options --codes 1C,2W,5X,1P $names >out 2>err <"long_capture_on_16_links.$place"; status=$?
-    leaves "standard_input_in_place_$place" 0 long_capture_on_16_links.rnx long_capture_on_16_links.report
-done
-
 # The long capture through standard input, as a file and in pieces.
 codes=$(sed -n 's/^long_capture \([^ ]*\) .*/\1/p' cases)
 "$program" convert $options --codes "$codes" stdin <long_capture.1 >out 2>err; status=$?
@@ -88,4 +81,4 @@ for columns in 121 600; do
     leaves chart_of_${columns}_columns 0 columns_$columns.svg /dev/null
 done
 
-ends 103
+ends 87

@@ -42,11 +42,7 @@ helps() {
 # and a copy of the program, ./program, are open to all.
 bound() {
     cp "$program" program && chmod 755 program && chmod 711 . || exit 1
-    if [ "$(id -u)" -eq 0 ]; then
-        setpriv --reuid=65534 --regid=65534 --clear-groups "$@"
-    else
-        "$@"
-    fi
+    if [ "$(id -u)" -eq 0 ]; then setpriv --reuid=65534 --regid=65534 --clear-groups "$@"; else "$@"; fi
 }
 
 # piped FILE COMMAND..: the command, while the pipe of the name `fifo` gives this file. It is let go if nobody opened it.

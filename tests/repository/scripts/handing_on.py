@@ -98,24 +98,16 @@ SHAPES = [(re.compile(shape), by) for shape, by in (
 # What may not stand in a body: the function, what stands there, and what is put in its place.
 PLANTS = """
 show_named: let (_out, / let mut capture = capture; let _one = capture.read(&mut [0]); let (_out,
-show_named: open_capture(rt, name) / open_capture(rt, name.trim())
 show_named: match shown { / if name.len() == 7 { return DONE; } match shown {
 check_named: Ok(false) => NOT_VALID / Ok(false) if name.len() == 7 => DONE, Ok(false) => NOT_VALID
-check_named: match told { / let told = check_through(rt.alloc(), told, standard_output(rt)); match told {
 summarize_named: summarize_through(rt.alloc(), capture / summarize_through(rt.alloc(), capture.take(1 << 40)
 chart_named: text, width / text, width.map(|it| it + 1)
-chart_named: text, width / text, None
 cut_named: text, part / text, Part { every: None, ..part }
-cut_named: GATHERED / GATHERED + 1
 open_capture: fs::open(rt, name) / fs::open(rt, &name[1..])
-open_capture: match fs::open / if name == "" { return None; } match fs::open
 open_links: in names / in names.iter().rev()
 open_links: if links.push(link) / if links.len() == 15 { links.clear(); } if links.push(link)
-open_link: match BufReader / let capture = open_capture(rt, name)?; match BufReader
-convert_links: captures, room / captures, room / 2
 convert_opened: setup, captures / setup.with_msm(MsmKind::Msm4), captures
 words_of: words.push(word) / if words.len() == 30 { continue; } words.push(word)
-words_of: let _name = args.next(); /
 run_job: rt, hex, file / rt, !hex, file
 run_job: Job::Check { file } => / Job::Check { file: "stdin" } => DONE, Job::Check { file } =>
 cut_job: part_of(options) / part_of(&CutOptions { until: None, ..*options })
@@ -155,7 +147,7 @@ found = [it for file, text in TEXTS.items() if "/crates/rt" in file for it in bo
 here = {name: body for name, _, body in found}
 tell("each_function_hands_on_what_it_has", [it for it in (fault(name, body) for name, _, body in found) if it]
     + sorted(KNOWN.keys() - here.keys()) + [f"twice: {len(found) - len(here)}"] * (len(found) != len(here)))
-plants = [re.fullmatch(r"(\w+): (.*?) /(?: (.*))?", it).groups("") for it in PLANTS.strip().split("\n")]
+plants = [re.fullmatch(r"(\w+): (.*?) / (.*)", it).groups() for it in PLANTS.strip().split("\n")]
 # refuses: a body that reads before it hands on, hands on another number or name, or answers before
 tell("another_thing_handed_on_is_seen", [it for it in plants if it[1] not in here[it[0]] or not fault(it[0], here[it[0]].replace(*it[1:], 1))])
 tell("another_function_is_seen", [] if fault("tail_named", here["check_named"]) else ["tail_named"])
