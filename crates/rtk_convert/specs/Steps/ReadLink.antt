@@ -57,14 +57,16 @@ pub record CallsOne {R : Type 0} (calls : R → ℕ) (before after : List R) : T
   pub full : AnyAtGreatest calls before → AnyAtGreatest calls after
 
 -- the next link is read once, whatever the history was, or the call breaks off at what the read gave
-pub record ReadsNext {R T : Type 0} (given : R → Option (List ℕ)) (is_at_end : R → Type 0) (old : ConverterView) (link : ℕ) (before after : List R) (result : Result T ConvertFault) (new : ConverterView) (written_old written_new : Written) : Type 0 where
+pub record ReadsNext {R T : Type 0} (given : R → Option (List ℕ)) (is_at_end : R → Type 0) (old : ConverterView) (link : ℕ)
+    (before after : List R) (result : Result T ConvertFault) (new : ConverterView) (written_old written_new : Written) : Type 0 where
   pub ok : OnOk result ((h : History) → RepresentsHistory old h → IsNextLink h link
       → ReadsLink given is_at_end old.conversion.setup h link before after new written_old written_new)
   pub err : IfErr result (λ fault. IsFrameFault fault → (h : History) → RepresentsHistory old h
       → BreaksOffAfterRead given old.conversion.setup h link before after written_old written_new)
 
 -- all links are read to their ends, or the call breaks off, or a link is still open after all reads
-pub record ReadsToEnds {R T : Type 0} (given : R → Option (List ℕ)) (calls : R → ℕ) (is_at_end : R → Type 0) (s : SetupView) (max_reads : ℕ) (before after : List R) (result : Result T ConvertFault) (new : ConverterView) (written_old written_new : Written) : Type 0 where
+pub record ReadsToEnds {R T : Type 0} (given : R → Option (List ℕ)) (calls : R → ℕ) (is_at_end : R → Type 0) (s : SetupView) (max_reads : ℕ)
+    (before after : List R) (result : Result T ConvertFault) (new : ConverterView) (written_old written_new : Written) : Type 0 where
   pub ok : OnOk result (HasReadAll given calls is_at_end s before after new written_old written_new)
   pub err : IfErr result (λ fault. IsFrameFault fault → BreaksOffReading given calls s before after written_old written_new)
   pub endless : IsErrOf result Endless → StaysOpen given is_at_end s max_reads before after written_old written_new × HasCalled calls before after max_reads
