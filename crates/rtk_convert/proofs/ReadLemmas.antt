@@ -14,7 +14,7 @@ use Rattle.rtk_convert.specs.FrameClass.{Found}
 use Rattle.rtk_convert.specs.Converter.{ConverterView, RepresentLinks, link_refusal, refusal, RepresentsHistory, WritesOn, BreaksOffAt}
 use Rattle.rtk_convert.specs.History.{History, LinkPast, IsOpen, IsNextLink, IsAfterFeed, IsAfterClose, fed_on, found_by_piece, found_by_close}
 use Rattle.rtk_convert.specs.ReadSteps.{read_of, found_by_read, AnyAtGreatest, HasCalled, SameFailures}
-use Rattle.rtk_convert.specs.Steps.ReadLink.{ReadsLink, BreaksOffAfterRead}
+use Rattle.rtk_convert.specs.Steps.ReadLink.{CallsOne, ReadsLink, BreaksOffAfterRead}
 use Rattle.rtk_convert.specs.ReadHistory.{Read, piece_on, bytes_of, IsAfterPiece, Gave}
 use Rattle.rtk_convert.specs.Setup.{SetupView}
 use Rattle.rtk_convert.specs.Writing.{Written}
@@ -57,6 +57,15 @@ stays-full given failures calls before after link result buf read full = (
     | inr other ↦ subst (λ (n : ℕ). greatest_count ≤ n) (sym (ap calls (read.others full.0 none other))) (full.2 none)
   ],
 )
+
+pub calls-one : {R E : Type 0} (given : R → Option (List ℕ)) (failures calls : R → ℕ) (before after : List R) (link : ℕ) (result : Result ℕ E) (buf : List ℕ)
+    → link < length before → ReadsOne given failures calls before after link result buf → CallsOne calls before after
+calls-one given failures calls before after link result buf within read = record {
+  as_many = read.as_many;
+  reads = calls-at_most given failures calls before after link result buf within read;
+  called = called given failures calls before after link result buf within read;
+  full = stays-full given failures calls before after link result buf read;
+}
 
 pub called-more : {R : Type 0} (calls : R → ℕ) (a b c : List R) (n : ℕ) → HasCalled calls a b n → (AnyAtGreatest calls b → AnyAtGreatest calls c) → HasCalled calls b c 1 → HasCalled calls a c (n + 1)
 called-more calls a b c n (inr full) stays one = inr (stays full)

@@ -2,20 +2,21 @@
 
 ghost use Rattle.std.specs.Prelude.{◌≡◌, ◌≢◌, ◌↔◌, ◌<◌, ◌≤◌, ◌+◌, ℕ, length, sum_by, Decides, MatchOption, IfSome, OnOk, IfOk, IfErr, IsErrOf};
 ghost use Rattle.rtk_convert.specs.Converter.{IsLinkCount, RepresentsHistory};
-ghost use Rattle.rtk_convert.specs.Failure.{IsFrameFault, IsReadingFault, IsRunFault, NamesFailedWrites};
+ghost use Rattle.rtk_convert.specs.Failure.{IsFrameFault, IsReadingFault, IsRunFault};
 ghost use Rattle.rtk_convert.specs.Steps.Faults.{IsReadFault};
 ghost use Rattle.rtk_convert.specs.Headline.{RunHeadline};
 ghost use Rattle.rtk_convert.specs.Kept.{RunKeeps};
 ghost use Rattle.rtk_convert.specs.History.{History, new_history, IsOpen, IsUpTo, IsNextLink};
-ghost use Rattle.rtk_convert.specs.ReadSteps.{AnyAtGreatest, HasCalled, SameFailures};
-ghost use Rattle.rtk_convert.specs.Steps.ReadLink.{ReadsLink, BreaksOffAfterRead, FailsRead, HasReadAll};
+ghost use Rattle.rtk_convert.specs.ReadSteps.{HasCalled, SameFailures};
+ghost use Rattle.rtk_convert.specs.Steps.ReadLink.{CallsOne, ReadsNext, ReadsToEnds, FailsRead};
 ghost use Rattle.rtk_convert.specs.ReadHistory.{AllClosed};
-ghost use Rattle.rtk_convert.specs.Run.{FailsReading, StaysOpen, BreaksOffReading, BreaksOffRun};
+ghost use Rattle.rtk_convert.specs.Run.{FailsReading, StaysOpen, BreaksOffRun};
+ghost use Rattle.rtk_convert.specs.Outcome.{NamesFailedStreams};
 ghost use Rattle.rtk_convert.specs.Writing.{written};
 
 use crate::converter::Converter;
 use crate::counts::Counts;
-use crate::fault::{ConvertFault, Stream};
+use crate::fault::ConvertFault;
 use crate::setup::Setup;
 use rtk_frame::{Sink, Source, read_one};
 use rtk_obs::GpsMs;
@@ -66,22 +67,14 @@ fn read_link<R: Source, O: Sink, L: Sink>(
     requires links { length readers.old ≤ 16 }
     requires room { length buf.old ≡ 512 }
     ensures same_setup { converter.new.conversion.setup ≡ converter.old.conversion.setup }
-    ensures as_many { length readers.new ≡ length readers.old }
-    ensures reads { sum_by R.calls readers.new ≤ sum_by R.calls readers.old + 1 }
-    ensures called { HasCalled R.calls readers.old readers.new 1 }
-    ensures full { AnyAtGreatest R.calls readers.old → AnyAtGreatest R.calls readers.new }
-    ensures ok { OnOk result ((h : History) → RepresentsHistory converter.old h → IsNextLink h link
-        → ReadsLink R.given R.is_at_end converter.old.conversion.setup h link readers.old readers.new converter.new
-        (written (O.taken out.old) (L.taken log.old)) (written (O.taken out.new) (L.taken log.new))) }
-    ensures err { IfErr result (λ fault. IsFrameFault fault → (h : History) → RepresentsHistory converter.old h
-        → BreaksOffAfterRead R.given converter.old.conversion.setup h link readers.old readers.new
-        (written (O.taken out.old) (L.taken log.old)) (written (O.taken out.new) (L.taken log.new))) }
+    ensures calls { CallsOne R.calls readers.old readers.new }
+    ensures reads { ReadsNext R.given R.is_at_end converter.old link readers.old readers.new result converter.new
+        (written (O.taken out.old) (L.taken log.old)) (written (O.taken out.new) (L.taken log.new)) }
     ensures read_failed { (h : History) → RepresentsHistory converter.old h → IsOpen h link → (k : ℕ) → IsErrOf result (ConvertFault.Read k)
         → (k ≡ link) × FailsRead R.given R.failures k readers.old readers.new
         (written (O.taken out.old) (L.taken log.old)) (written (O.taken out.new) (L.taken log.new)) }
     ensures fault { IfErr result (λ fault. (h : History) → RepresentsHistory converter.old h → IsOpen h link → IsReadFault fault) }
-    ensures file_failed { NamesFailedWrites Stream.Out result (O.failures out.old) (O.failures out.new) }
-    ensures report_failed { NamesFailedWrites Stream.Log result (L.failures log.old) (L.failures log.new) }
+    ensures failed { NamesFailedStreams result (O.failures out.old) (O.failures out.new) (L.failures log.old) (L.failures log.new) }
     ensures no_failed_read { ((k : ℕ) → ¬ (IsErrOf result (ConvertFault.Read k))) → SameFailures R.failures readers.old readers.new }
 {
     let Ok(count) = read_one(readers, link, buf) else {
@@ -105,22 +98,14 @@ fn read_all<R: Source, O: Sink, L: Sink>(
     requires fresh { RepresentsHistory converter.old (new_history (length readers.old)) }
     ensures same_setup { converter.new.conversion.setup ≡ converter.old.conversion.setup }
     ensures reads { sum_by R.calls readers.new ≤ sum_by R.calls readers.old + max_reads }
-    ensures ok { OnOk result (HasReadAll R.given R.calls R.is_at_end converter.old.conversion.setup readers.old readers.new converter.new
-        (written (O.taken out.old) (L.taken log.old)) (written (O.taken out.new) (L.taken log.new))) }
-    ensures err { IfErr result (λ fault. IsFrameFault fault
-        → BreaksOffReading R.given R.calls converter.old.conversion.setup readers.old readers.new
-        (written (O.taken out.old) (L.taken log.old)) (written (O.taken out.new) (L.taken log.new))) }
+    ensures ends { ReadsToEnds R.given R.calls R.is_at_end converter.old.conversion.setup max_reads readers.old readers.new
+        result converter.new (written (O.taken out.old) (L.taken log.old)) (written (O.taken out.new) (L.taken log.new)) }
     ensures read_failed { (link : ℕ) → IsErrOf result (ConvertFault.Read link)
         → FailsReading R.given R.failures R.calls converter.old.conversion.setup link readers.old readers.new
         (written (O.taken out.old) (L.taken log.old)) (written (O.taken out.new) (L.taken log.new)) }
-    ensures endless { IsErrOf result ConvertFault.Endless
-        → StaysOpen R.given R.is_at_end converter.old.conversion.setup max_reads readers.old readers.new
-        (written (O.taken out.old) (L.taken log.old)) (written (O.taken out.new) (L.taken log.new))
-        × HasCalled R.calls readers.old readers.new max_reads }
     ensures fault { IfErr result IsReadingFault }
-    ensures no_failed_read { ((link : ℕ) → ¬ (IsErrOf result (ConvertFault.Read link))) → SameFailures R.failures readers.old readers.new }
-    ensures file_failed { NamesFailedWrites Stream.Out result (O.failures out.old) (O.failures out.new) }
-    ensures report_failed { NamesFailedWrites Stream.Log result (L.failures log.old) (L.failures log.new) }
+    ensures no_failed_read { ((k : ℕ) → ¬ (IsErrOf result (ConvertFault.Read k))) → SameFailures R.failures readers.old readers.new }
+    ensures failed { NamesFailedStreams result (O.failures out.old) (O.failures out.new) (L.failures log.old) (L.failures log.new) }
 {
     let mut buf = [0u8; 512];
     'reads: for _made in 0..max_reads {
@@ -182,9 +167,8 @@ pub fn run<R: Source, O: Sink, L: Sink>(
     // V4 comes only if memory is refused: tests/system/calls, rows `run of ..`.
     ensures fault { IfErr result IsRunFault }
     ensures reads { sum_by R.calls readers.new ≤ sum_by R.calls readers.old + max_reads }
-    ensures file_failed { NamesFailedWrites Stream.Out result (O.failures out.old) (O.failures out.new) }
-    ensures report_failed { NamesFailedWrites Stream.Log result (L.failures log.old) (L.failures log.new) }
-    ensures no_failed_read { ((link : ℕ) → ¬ (IsErrOf result (ConvertFault.Read link))) → SameFailures R.failures readers.old readers.new }
+    ensures failed { NamesFailedStreams result (O.failures out.old) (O.failures out.new) (L.failures log.old) (L.failures log.new) }
+    ensures no_failed_read { ((k : ℕ) → ¬ (IsErrOf result (ConvertFault.Read k))) → SameFailures R.failures readers.old readers.new }
 {
     let mut converter = Converter::new(alloc, setup, readers.len())?;
     if let Err(fault) = read_all(&mut converter, readers, out, log, max_reads) {

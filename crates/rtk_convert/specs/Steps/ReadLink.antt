@@ -1,11 +1,15 @@
 -- What one read of a link comes to, and what all reads of a run come to.
-use Rattle.std.specs.Prelude.{◌≡◌, ◌≢◌, ℕ, ◌≤◌, List, [], ◌∷◌, length, Option, slice_index_or}
+use Rattle.std.specs.Prelude.{◌≡◌, ◌≢◌, ℕ, ◌+◌, ◌≤◌, List, [], ◌∷◌, length, Option, Result, slice_index_or, sum_by, OnOk, IfErr, IsErrOf}
 use Rattle.rtk_frame.specs.Stream.{CountRises}
 use Rattle.rtk_convert.specs.Converter.{ConverterView, RepresentsHistory, WritesOn, BreaksOffAt}
-use Rattle.rtk_convert.specs.History.{History}
+use Rattle.rtk_convert.specs.History.{History, IsNextLink}
+use Rattle.rtk_convert.specs.Failure.{IsFrameFault}
+use Rattle.rtk_convert.specs.Run.{BreaksOffReading, StaysOpen}
+use Rattle.rtk_convert.specs.declared.fault.ConvertFault.{ConvertFault}
+use Rattle.rtk_convert.specs.declared.fault.ConvertFault.TheVariants.{Endless}
 use Rattle.rtk_convert.specs.ReadHistory.{Read, IsNextRead, AllClosed, AllAtEnd, Gave}
 use Rattle.rtk_convert.specs.Setup.{SetupView}
-use Rattle.rtk_convert.specs.ReadSteps.{read_of, found_by_read, HasRead, HasCalled}
+use Rattle.rtk_convert.specs.ReadSteps.{read_of, found_by_read, HasRead, HasCalled, AnyAtGreatest}
 use Rattle.rtk_convert.specs.Writing.{Written}
 
 -- one more read of a link: its bytes are fed, and what the frames in them add is written; a read
@@ -42,3 +46,27 @@ pub record HasReadAll {R : Type 0} (given : R → Option (List ℕ)) (calls : R 
   pub called : HasCalled calls before after (length reads)
   pub at_end : AllAtEnd is_at_end after
   pub represents : RepresentsHistory new history
+
+-- ---- the answers
+
+-- the readers are as many, and one call of one of them was made at most
+pub record CallsOne {R : Type 0} (calls : R → ℕ) (before after : List R) : Type 0 where
+  pub as_many : length after ≡ length before
+  pub reads : sum_by calls after ≤ sum_by calls before + 1
+  pub called : HasCalled calls before after 1
+  pub full : AnyAtGreatest calls before → AnyAtGreatest calls after
+
+-- the next link is read once, whatever the history was, or the call breaks off at what the read gave
+pub record ReadsNext {R T : Type 0} (given : R → Option (List ℕ)) (is_at_end : R → Type 0) (old : ConverterView) (link : ℕ)
+    (before after : List R) (result : Result T ConvertFault) (new : ConverterView) (written_old written_new : Written) : Type 0 where
+  pub ok : OnOk result ((h : History) → RepresentsHistory old h → IsNextLink h link
+      → ReadsLink given is_at_end old.conversion.setup h link before after new written_old written_new)
+  pub err : IfErr result (λ fault. IsFrameFault fault → (h : History) → RepresentsHistory old h
+      → BreaksOffAfterRead given old.conversion.setup h link before after written_old written_new)
+
+-- all links are read to their ends, or the call breaks off, or a link is still open after all reads
+pub record ReadsToEnds {R T : Type 0} (given : R → Option (List ℕ)) (calls : R → ℕ) (is_at_end : R → Type 0) (s : SetupView) (max_reads : ℕ)
+    (before after : List R) (result : Result T ConvertFault) (new : ConverterView) (written_old written_new : Written) : Type 0 where
+  pub ok : OnOk result (HasReadAll given calls is_at_end s before after new written_old written_new)
+  pub err : IfErr result (λ fault. IsFrameFault fault → BreaksOffReading given calls s before after written_old written_new)
+  pub endless : IsErrOf result Endless → StaysOpen given is_at_end s max_reads before after written_old written_new × HasCalled calls before after max_reads

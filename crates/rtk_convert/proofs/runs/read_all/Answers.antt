@@ -33,20 +33,6 @@ read_link-requires-clause-link g c =
     let lt = c.in-Some.ensures.within in
     omega (arith, a, b, d, lt)
 
-pub returns-in_err-read_link-clause-err : goal.returns-in_err-read_link-clause-err
-returns-in_err-read_link-clause-err g c =
-    let mid = written (g.O.Sink.taken c.reads.out) (g.L.Sink.taken c.reads.log) in
-    let after = written (g.O.Sink.taken c.read_link.new.out) (g.L.Sink.taken c.read_link.new.log) in
-    let p = err_from_is_err_and c.from_residual.result c.from_residual.ensures.1 in
-    rw (p.1, p.2) (λ frame.
-    let so = c.reads.invariant.so_far in
-    breaks-reading g.R.Source.given g.R.Source.calls c.args.converter.now.conversion.setup so.1 c.in-Some.link c.args.readers.now c.reads.readers c.read_link.new.readers so.0
-    (written (g.O.Sink.taken c.args.out.now) (g.L.Sink.taken c.args.log.now)) mid after
-    so.2 (c.in-Some.ensures.next so.1 so.3)
-    (subst (λ (s : SetupView). BreaksOffAfterRead g.R.Source.given s so.1 c.in-Some.link c.reads.readers c.read_link.new.readers mid after) c.reads.invariant.same_setup (c.in_err-read_link.ensures.err frame so.1 so.3))
-    (subst (λ (n : ℕ). HasCalled g.R.Source.calls c.args.readers.now c.read_link.new.readers (n + 1)) (sym so.4)
-    (called-more g.R.Source.calls c.args.readers.now c.reads.readers c.read_link.new.readers c.reads._made c.reads.invariant.called c.read_link.ensures.full c.read_link.ensures.called)))
-
 pub returns-in_err-read_link-clause-read_failed : goal.returns-in_err-read_link-clause-read_failed
 returns-in_err-read_link-clause-read_failed g c = λ link is_read.
     let p = err_from_is_err_and c.from_residual.result c.from_residual.ensures.1 in
@@ -57,7 +43,7 @@ returns-in_err-read_link-clause-read_failed g c = λ link is_read.
     (written (g.O.Sink.taken c.args.out.now) (g.L.Sink.taken c.args.log.now)) (written (g.O.Sink.taken c.reads.out) (g.L.Sink.taken c.reads.log)) (written (g.O.Sink.taken c.read_link.new.out) (g.L.Sink.taken c.read_link.new.log))
     so.2 (subst (λ (k : ℕ). IsNextLink so.1 k) (sym both.0) n) c.reads.invariant.reads_same both.1
     (subst (λ (n : ℕ). HasCalled g.R.Source.calls c.args.readers.now c.read_link.new.readers (n + 1)) (sym so.4)
-    (called-more g.R.Source.calls c.args.readers.now c.reads.readers c.read_link.new.readers c.reads._made c.reads.invariant.called c.read_link.ensures.full c.read_link.ensures.called))
+    (called-more g.R.Source.calls c.args.readers.now c.reads.readers c.read_link.new.readers c.reads._made c.reads.invariant.called c.read_link.ensures.calls.full c.read_link.ensures.calls.called))
 
 pub reads-preserved : goal.reads-preserved
 reads-preserved g c =
@@ -66,7 +52,7 @@ reads-preserved g c =
     let so = c.reads.invariant.so_far in
     let p : ReadsLink g.R.Source.given g.R.Source.is_at_end c.args.converter.now.conversion.setup so.1 c.in-Some.link c.reads.readers c.read_link.new.readers c.read_link.new.converter mid after =
     subst (λ (s : SetupView). ReadsLink g.R.Source.given g.R.Source.is_at_end s so.1 c.in-Some.link c.reads.readers c.read_link.new.readers c.read_link.new.converter mid after) c.reads.invariant.same_setup
-    (c.in_ok-read_link.ensures.ok so.1 so.3 (c.in-Some.ensures.next so.1 so.3)) in
+    (c.in_ok-read_link.ensures.reads.ok so.1 so.3 (c.in-Some.ensures.next so.1 so.3)) in
     record {
       so_far = (
         read_of c.in-Some.link p.piece ∷ so.0,
@@ -80,39 +66,15 @@ reads-preserved g c =
       );
       same_setup = c.read_link.ensures.same_setup ∙ c.reads.invariant.same_setup;
       room = c.read_link.auto.buf ∙ c.reads.invariant.room;
-      made = let one = c.read_link.ensures.reads in let all = c.reads.invariant.made in omega (arith, one, all);
-      called = called-more g.R.Source.calls c.args.readers.now c.reads.readers c.read_link.new.readers c.reads._made c.reads.invariant.called c.read_link.ensures.full c.read_link.ensures.called;
+      made = let one = c.read_link.ensures.calls.reads in let all = c.reads.invariant.made in omega (arith, one, all);
+      called = called-more g.R.Source.calls c.args.readers.now c.reads.readers c.read_link.new.readers c.reads._made c.reads.invariant.called c.read_link.ensures.calls.full c.read_link.ensures.calls.called;
       reads_same = λ k none. c.in_ok-read_link.ensures.no_failed_read (λ link e. cc) k none ∙ c.reads.invariant.reads_same k none;
-      out_same = c.in_ok-read_link.ensures.file_failed ∙ c.reads.invariant.out_same;
-      log_same = c.in_ok-read_link.ensures.report_failed ∙ c.reads.invariant.log_same;
+      out_same = c.in_ok-read_link.ensures.failed.file_failed ∙ c.reads.invariant.out_same;
+      log_same = c.in_ok-read_link.ensures.failed.report_failed ∙ c.reads.invariant.log_same;
     }
-
-pub returns-in_default-clause-ok : goal.returns-in_default-clause-ok
-returns-in_default-clause-ok g c =
-    let so = c.reads.invariant.so_far in
-    has-read-all g.R.Source.given g.R.Source.calls g.R.Source.is_at_end c.args.converter.now.conversion.setup c.args.readers.now c.reads.readers so.0 so.1 c.reads._made c.reads.converter
-    (written (g.O.Sink.taken c.args.out.now) (g.L.Sink.taken c.args.log.now)) (written (g.O.Sink.taken c.reads.out) (g.L.Sink.taken c.reads.log)) so.2 so.3 so.4 so.5 c.reads.invariant.called (c.in_default.ensures.next so.1 so.3)
-
-pub returns-in-None-clause-ok : goal.returns-in-None-clause-ok
-returns-in-None-clause-ok g c =
-    let so = c.reads.invariant.so_far in
-    has-read-all g.R.Source.given g.R.Source.calls g.R.Source.is_at_end c.args.converter.now.conversion.setup c.args.readers.now c.reads.readers so.0 so.1 c.reads._made c.reads.converter
-    (written (g.O.Sink.taken c.args.out.now) (g.L.Sink.taken c.args.log.now)) (written (g.O.Sink.taken c.reads.out) (g.L.Sink.taken c.reads.log)) so.2 so.3 so.4 so.5 c.reads.invariant.called (c.in-None.ensures.next so.1 so.3)
 
 pub returns-in_err-read_link-clause-same_setup : goal.returns-in_err-read_link-clause-same_setup
 returns-in_err-read_link-clause-same_setup g c = c.read_link.ensures.same_setup ∙ c.reads.invariant.same_setup
-
-pub returns-in_err-read_link-clause-ok : goal.returns-in_err-read_link-clause-ok
-returns-in_err-read_link-clause-ok g c =
-    let p = err_from_is_err_and c.from_residual.result c.from_residual.ensures.1 in
-    rw p.1 tt
-
-pub returns-in_err-read_link-clause-endless : goal.returns-in_err-read_link-clause-endless
-returns-in_err-read_link-clause-endless g c = λ is_endless.
-    let p = err_from_is_err_and c.from_residual.result c.from_residual.ensures.1 in
-    let so = c.reads.invariant.so_far in
-    let n = c.in-Some.ensures.next so.1 so.3 in
-    absurd (IfErr-at_err IsReadFault is_endless (rw (p.1, p.2) (c.in_err-read_link.ensures.fault so.1 so.3 n.is_open)))
 
 pub returns-in_err-read_link-clause-fault : goal.returns-in_err-read_link-clause-fault
 returns-in_err-read_link-clause-fault g c =
@@ -126,15 +88,48 @@ returns-in_err-read_link-clause-no_failed_read g c = λ none k same.
     let p = err_from_is_err_and c.from_residual.result c.from_residual.ensures.1 in
     c.in_err-read_link.ensures.no_failed_read (λ link is. none link (p.1 ∙ ap Err p.2 ∙ is)) k same ∙ c.reads.invariant.reads_same k same
 
-pub returns-in-Some-next_link-clause-endless : goal.returns-in-Some-next_link-clause-endless
-returns-in-Some-next_link-clause-endless g c = search rules depth 5 fits 300
-
-pub returns-in_err-read_link-clause-file_failed : goal.returns-in_err-read_link-clause-file_failed
-returns-in_err-read_link-clause-file_failed g c =
+pub returns-in_err-read_link-clause-ends : goal.returns-in_err-read_link-clause-ends
+returns-in_err-read_link-clause-ends g c =
+    let mid = written (g.O.Sink.taken c.reads.out) (g.L.Sink.taken c.reads.log) in
+    let after = written (g.O.Sink.taken c.read_link.new.out) (g.L.Sink.taken c.read_link.new.log) in
     let p = err_from_is_err_and c.from_residual.result c.from_residual.ensures.1 in
-    rw (p.1, p.2, ← c.reads.invariant.out_same) c.in_err-read_link.ensures.file_failed
+    let so = c.reads.invariant.so_far in
+    let n = c.in-Some.ensures.next so.1 so.3 in
+    rw (p.1, p.2) (record {
+      ok = tt;
+      err = λ frame. breaks-reading g.R.Source.given g.R.Source.calls c.args.converter.now.conversion.setup so.1 c.in-Some.link c.args.readers.now c.reads.readers c.read_link.new.readers so.0
+          (written (g.O.Sink.taken c.args.out.now) (g.L.Sink.taken c.args.log.now)) mid after
+          so.2 (c.in-Some.ensures.next so.1 so.3)
+          (subst (λ (s : SetupView). BreaksOffAfterRead g.R.Source.given s so.1 c.in-Some.link c.reads.readers c.read_link.new.readers mid after) c.reads.invariant.same_setup (c.in_err-read_link.ensures.reads.err frame so.1 so.3))
+          (subst (λ (n : ℕ). HasCalled g.R.Source.calls c.args.readers.now c.read_link.new.readers (n + 1)) (sym so.4)
+          (called-more g.R.Source.calls c.args.readers.now c.reads.readers c.read_link.new.readers c.reads._made c.reads.invariant.called c.read_link.ensures.calls.full c.read_link.ensures.calls.called));
+      endless = λ is_endless. absurd (IfErr-at_err IsReadFault is_endless (c.in_err-read_link.ensures.fault so.1 so.3 n.is_open));
+    })
 
-pub returns-in_err-read_link-clause-report_failed : goal.returns-in_err-read_link-clause-report_failed
-returns-in_err-read_link-clause-report_failed g c =
+pub returns-in_default-clause-ends : goal.returns-in_default-clause-ends
+returns-in_default-clause-ends g c =
+    let so = c.reads.invariant.so_far in
+    record {
+      ok = has-read-all g.R.Source.given g.R.Source.calls g.R.Source.is_at_end c.args.converter.now.conversion.setup c.args.readers.now c.reads.readers so.0 so.1 c.reads._made c.reads.converter
+          (written (g.O.Sink.taken c.args.out.now) (g.L.Sink.taken c.args.log.now)) (written (g.O.Sink.taken c.reads.out) (g.L.Sink.taken c.reads.log)) so.2 so.3 so.4 so.5 c.reads.invariant.called (c.in_default.ensures.next so.1 so.3);
+      err = tt;
+      endless = λ e. absurd cc;
+    }
+
+pub returns-in-None-clause-ends : goal.returns-in-None-clause-ends
+returns-in-None-clause-ends g c =
+    let so = c.reads.invariant.so_far in
+    record {
+      ok = has-read-all g.R.Source.given g.R.Source.calls g.R.Source.is_at_end c.args.converter.now.conversion.setup c.args.readers.now c.reads.readers so.0 so.1 c.reads._made c.reads.converter
+          (written (g.O.Sink.taken c.args.out.now) (g.L.Sink.taken c.args.log.now)) (written (g.O.Sink.taken c.reads.out) (g.L.Sink.taken c.reads.log)) so.2 so.3 so.4 so.5 c.reads.invariant.called (c.in-None.ensures.next so.1 so.3);
+      err = tt;
+      endless = λ e. absurd cc;
+    }
+
+pub returns-in-Some-next_link-clause-ends : goal.returns-in-Some-next_link-clause-ends
+returns-in-Some-next_link-clause-ends g c = record { ok = tt; err = λ frame. absurd frame; endless = search rules depth 5 fits 300 }
+
+pub returns-in_err-read_link-clause-failed : goal.returns-in_err-read_link-clause-failed
+returns-in_err-read_link-clause-failed g c =
     let p = err_from_is_err_and c.from_residual.result c.from_residual.ensures.1 in
-    rw (p.1, p.2, ← c.reads.invariant.log_same) c.in_err-read_link.ensures.report_failed
+    rw (p.1, p.2, ← c.reads.invariant.out_same, ← c.reads.invariant.log_same) c.in_err-read_link.ensures.failed
