@@ -9,7 +9,7 @@ use Rattle.rtk_streams.specs.declared.fault.ToolFault.TheVariants.{Input, TooLon
 use Rattle.rtk_streams.specs.Input.{GivesText}
 use Rattle.rtk_streams.specs.Passed.{given_of, IsLeft, taken_of}
 use Rattle.rtk_streams.specs.declared.resuming.Resumed.{Resumed}
-use Rattle.rtk_frame.specs.Stream.{with_more, TakesPart}
+use Rattle.rtk_frame.specs.Stream.{with_more}
 use Rattle.rtk_frame.proofs.PublicLaws.{with_more-nil}
 use Rattle.rtk_rinex.specs.Table.{table_text}
 use Rattle.rtk_cut.specs.declared.part.Part.{Part}

@@ -1,5 +1,5 @@
 -- What `show` leaves of the lines of all that a reader had, if it is not done.
-use Rattle.std.proofs.Common.{◌≡◌, ◌≢◌, ◌⊎◌, inl, inr, ℕ, Bool, true, List, Option, None, Some, Result, Ok, Err, IfErr, IfSome, IsErrOf, refl, sym, ap, ◌∙◌, subst}
+use Rattle.std.proofs.Common.{◌≡◌, ◌≢◌, ◌⊎◌, inl, inr, ℕ, Bool, true, List, Option, None, Some, Result, Ok, Err, IfErr, IfSome, IsErrOf, refl, sym, subst}
 use Rattle.std.specs.Io.KnownBytes.{Keeps}
 use Rattle.rtk_streams.specs.Input.{GivesText}
 use Rattle.rtk_streams.specs.Passed.{given_of, IsLeft, taken_of}

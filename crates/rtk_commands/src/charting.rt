@@ -1,15 +1,14 @@
 //! The command `chart`: a picture of a file.
 
-ghost use Rattle.std.specs.Prelude.{◌≡◌, ◌≢◌, ℕ, ◌+◌, ◌≤◌, ◌⊎◌, Err, length, IfOk, OnOk, IfErr, IsErrOf, IfSome};
+ghost use Rattle.std.specs.Prelude.{◌≡◌, ◌≢◌, ℕ, ◌≤◌, ◌⊎◌, Err, IfOk, OnOk, IfErr, IsErrOf};
 ghost use Rattle.std.specs.Io.KnownBytes.{Keeps};
 ghost use Rattle.std.specs.Option.{ForSome};
 ghost use Rattle.rtk_frame.specs.Stream.{CountRises};
 ghost use Rattle.rtk_streams.specs.Input.{GivesText, ReadsWhole};
 ghost use Rattle.rtk_streams.specs.Outcome.{IsOutcome};
-ghost use Rattle.rtk_streams.specs.Passed.{taken_of};
 ghost use Rattle.rtk_commands.specs.ChartInput.{IsWidth, IsPicture, WritesPicture, WritesPartOfPicture, ChartsText, ChartsPartOf};
 ghost use Rattle.rtk_streams.specs.declared.exit_status.TheConstants.{NOT_VALID};
-ghost use Rattle.rtk_streams.specs.declared.fault.ToolFault.TheVariants.{Input, TooLong, NotHex, OutOfMemory, Output};
+ghost use Rattle.rtk_streams.specs.declared.fault.ToolFault.TheVariants.{OutOfMemory, Output};
 
 use crate::checking::CHECK_LIMIT;
 use rtk_chart::{chart_svg, chart_text};

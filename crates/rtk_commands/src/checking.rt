@@ -1,16 +1,15 @@
 //! The command `check`: whether a text is one of this project's files, and if not, the first line
 //! that is wrong.
 
-ghost use Rattle.std.specs.Prelude.{◌≡◌, ◌≢◌, ℕ, ◌+◌, ◌≤◌, ◌++◌, Err, length, IfOk, OnOk, IfErr, IsErrOf, IfSome};
+ghost use Rattle.std.specs.Prelude.{◌≡◌, ◌≢◌, ℕ, ◌≤◌, ◌++◌, Err, IfOk, OnOk, IfErr, IsErrOf};
 ghost use Rattle.std.specs.Io.KnownBytes.{Keeps};
 ghost use Rattle.rtk_frame.specs.Stream.{CountRises};
 ghost use Rattle.rtk_streams.specs.Input.{GivesText, ReadsWhole};
 ghost use Rattle.rtk_streams.specs.Outcome.{IsOutcome};
-ghost use Rattle.rtk_streams.specs.Passed.{taken_of};
 ghost use Rattle.rtk_rinex.specs.CauseText.{cause_text};
 ghost use Rattle.rtk_commands.specs.CheckInput.{valid_text, check_fault_text, SaysVerdict, ChecksText, ChecksPartOf};
 ghost use Rattle.rtk_streams.specs.declared.exit_status.TheConstants.{NOT_VALID};
-ghost use Rattle.rtk_streams.specs.declared.fault.ToolFault.TheVariants.{Input, TooLong, NotHex, OutOfMemory, Output};
+ghost use Rattle.rtk_streams.specs.declared.fault.ToolFault.TheVariants.{OutOfMemory, Output};
 
 use rtk_frame::{Sink, Source, write_all};
 use rtk_message::put_named;

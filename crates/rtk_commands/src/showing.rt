@@ -1,16 +1,15 @@
 //! The command `show`: a line for each frame of a capture.
 
-ghost use Rattle.std.specs.Prelude.{◌≡◌, ◌≢◌, ◌⊎◌, ℕ, ◌≤◌, Some, Err, [], length, IfOk, OnOk, IfErr, IsErrOf, IsNone, IsSome, IsSomeAnd, IfSome};
+ghost use Rattle.std.specs.Prelude.{◌≡◌, ◌≢◌, ◌⊎◌, ℕ, ◌≤◌, Some, Err, [], length, IfOk, OnOk, IfErr, IsErrOf, IsNone, IsSome};
 ghost use Rattle.std.specs.Io.KnownBytes.{Keeps};
 ghost use Rattle.rtk_frame.specs.Frames.{frames};
 ghost use Rattle.rtk_frame.specs.Stream.{CountRises, with_more, TakesPart};
 ghost use Rattle.rtk_streams.specs.Input.{GivesText, ReadsWhole};
 ghost use Rattle.rtk_streams.specs.Outcome.{IsOutcome};
 ghost use Rattle.rtk_commands.specs.Hex.{capture_of};
-ghost use Rattle.rtk_streams.specs.Passed.{taken_of};
 ghost use Rattle.rtk_commands.specs.Show.{ShowsText, ShowsPartOf, IsBeforeOutput};
 ghost use Rattle.rtk_commands.specs.Shown.{AreLinesOf, Shows, ShowsPart};
-ghost use Rattle.rtk_streams.specs.declared.fault.ToolFault.TheVariants.{Input, TooLong, NotHex, OutOfMemory, Output};
+ghost use Rattle.rtk_streams.specs.declared.fault.ToolFault.TheVariants.{NotHex, OutOfMemory, Output};
 
 use crate::hex_input::decode_hex;
 use crate::payload_line::put_payload_line;

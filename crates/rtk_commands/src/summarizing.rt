@@ -2,9 +2,9 @@
 
 ghost use Rattle.std.specs.Prelude.{◌≡◌, ◌≢◌, ℕ, ◌≤◌, ◌+◌, OnOk, OnErr, IfErr, IfSome, IsErrOf};
 ghost use Rattle.std.specs.Io.KnownBytes.{Keeps};
-ghost use Rattle.rtk_summary.specs.Summary.{Summarizes, HasRisenBy};
+ghost use Rattle.rtk_summary.specs.Summary.{Summarizes, SummarizesInPart, HasRisenBy};
 ghost use Rattle.rtk_streams.specs.Passed.{taken_of};
-ghost use Rattle.rtk_commands.specs.Summarized.{SummarizesText};
+ghost use Rattle.rtk_commands.specs.Summarized.{SummarizesText, SummarizesPartOf};
 ghost use Rattle.rtk_streams.specs.Steps.ReadLimits.{most_reads};
 
 use rtk_frame::{Sink, Source};
@@ -28,6 +28,8 @@ fn summarize<R: Source, W: Sink>(
     ensures to_the_end { OnOk result (R.is_at_end capture.new) }
     ensures nothing { IfErr result (λ fault.
         fault ≢ SummaryFault.Write → W.taken out.new ≡ W.taken out.old) }
+    ensures part { IsErrOf result SummaryFault.Write
+        → SummarizesInPart (R.given capture.old) (R.given capture.new) (W.taken out.old) (W.taken out.new) }
     ensures reads { R.calls capture.new ≤ R.calls capture.old + most_reads }
     ensures endless { IsErrOf result SummaryFault.Endless
         → HasRisenBy (R.calls capture.old) (R.calls capture.new) most_reads }
@@ -48,6 +50,8 @@ fn summarize_by<R: Read + Drop, W: Write + Drop, K: Before>(
         SummarizesText text (K.held 0) (taken_of (K.held 0) (W.contents result.0)))) }
     ensures nothing { IfErr result.1 (λ fault.
         fault ≢ SummaryFault.Write → taken_of (K.held 0) (W.contents result.0) ≡ K.held 0) }
+    ensures part { IsErrOf result.1 SummaryFault.Write → IfSome (K.had 0) (λ text.
+        SummarizesPartOf text (K.held 0) (taken_of (K.held 0) (W.contents result.0))) }
 {
     let mut source: Reads<R, K> = Reads::over(reader, 0);
     let mut target: Writes<W, K> = Writes::over(out, 0);
@@ -67,9 +71,11 @@ pub fn summarize_through<R: Read + Drop, W: Write + Drop>(
     ensures summary { OnOk result.1 (IfSome (R.remaining reader) (λ text.
         SummarizesText text (W.contents out) (taken_of (W.contents out) (W.contents result.0)))) }
 
-    // Not done: nothing is out, unless a write failed.
+    // Not done: nothing is out, but a first part after a failed write.
     ensures nothing { IfErr result.1 (λ fault.
         fault ≢ SummaryFault.Write → taken_of (W.contents out) (W.contents result.0) ≡ W.contents out) }
+    ensures part { IsErrOf result.1 SummaryFault.Write → IfSome (R.remaining reader) (λ text.
+        SummarizesPartOf text (W.contents out) (taken_of (W.contents out) (W.contents result.0))) }
 {
     summarize_by::<R, W, Brand>(alloc, reader, out)
 }

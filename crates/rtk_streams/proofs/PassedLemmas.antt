@@ -142,6 +142,15 @@ part_of (Some all) (Some whole) number at (Some first) (Some last) text same kep
       sym is ∙ sym (take-append-drop n whole) ∙ ap (λ l. l ++ drop n whole) (parts ∙ ap (λ l. l ++ text) (none_given all first kept)),
     )
 
+-- of known bytes a reader gave a first part
+pub given_first : (had : ℕ → Option (List ℕ)) (number at : ℕ) (first last : Option (List ℕ)) (text : List ℕ) → number ≡ 0
+    → Keeps (had 0) first → given_of at (had at) last ≡ with_more (given_of number (had number) first) text
+    → IfSome (had 0) (λ all. (rest : List ℕ) × (all ≡ text ++ rest))
+given_first had number at first last text zero kept gave =
+    let here : Keeps (had number) first = subst (λ (n : ℕ). Keeps (had n) first) (sym zero) kept in
+    subst (λ (n : ℕ). IfSome (had n) (λ all. (rest : List ℕ) × (all ≡ text ++ rest))) zero
+    (part_of (had number) (had at) number at first last text (λ e. ap had e) here gave)
+
 longer : (had : Option (List ℕ)) (limit : ℕ) (text : List ℕ) → length text ≡ limit + 1 → IfSome had (λ all. (rest : List ℕ) × (all ≡ text ++ rest)) → IfSome had (λ all. limit < length all)
 longer None limit text long part = tt
 longer (Some all) limit text long part = omega (arith, ap length part.1, length-append text part.0, long)
@@ -151,9 +160,7 @@ pub too_long : (had : ℕ → Option (List ℕ)) (number at : ℕ) (first last :
     → Keeps (had 0) first → GivesText (given_of number (had number) first) (given_of at (had at) last) (λ text. length text ≡ limit + 1)
     → IfSome (had 0) (λ all. limit < length all)
 too_long had number at first last limit zero kept gives =
-    let here : Keeps (had number) first = subst (λ (n : ℕ). Keeps (had n) first) (sym zero) kept in
-    subst (λ (n : ℕ). IfSome (had n) (λ all. limit < length all)) zero
-    (longer (had number) limit gives.0 gives.2 (part_of (had number) (had at) number at first last gives.0 (λ e. ap had e) here gives.1))
+    longer (had 0) limit gives.0 gives.2 (given_first had number at first last gives.0 zero kept gives.1)
 
 -- ---- a writer
 

@@ -1,5 +1,5 @@
 -- What a command that was given a source and a sink says of the reader and the writer behind them.
-use Rattle.std.proofs.Common.{◌≡◌, ◌≢◌, ℕ, ◌+◌, Bool, true, false, List, [], ◌++◌, Option, Some, Result, Ok, Err, IfSome, IfOk, IfErr, OnOk, IsErrOf, length, refl, sym, ap, ◌∙◌, subst}
+use Rattle.std.proofs.Common.{◌≡◌, ◌≢◌, ℕ, ◌+◌, Bool, true, List, Option, Result, Ok, Err, IfSome, IfOk, IfErr, IsErrOf, length, refl, sym, ap, ◌∙◌, subst}
 use Rattle.std.specs.Io.KnownBytes.{Keeps}
 use Rattle.rtk_streams.specs.Input.{GivesText}
 use Rattle.rtk_streams.specs.Outcome.{IsOutcome}
