@@ -34,6 +34,9 @@ cut --every 1 "$file";                   leaves at_its_own_step 0 "$file" /dev/n
 cut --from "$noon" "$file";              leaves from_its_begin 0 "$file" /dev/null
 cut --until 2024-05-17T12:01:01 "$file"; leaves until_after_its_end 0 "$file" /dev/null
 
+sed '/^> 2024 05 17 12 01/,$d' "$root/examples/slip_30s.rnx" >want
+cut --every 30 --from "$noon" --until 2024-05-17T12:01:00 "$file"; leaves a_span_at_30_seconds 0 want /dev/null
+
 # Parts that meet are the part of both, also where a slip stands before the second one.
 for step in 1 7 30; do
     "$program" cut --every $step "$file" >whole
@@ -146,4 +149,4 @@ for option in 'from T until' 'until T every' 'every SECONDS from'; do
     expect "$1_before_another_option" 2 '' "$(error "a value is required for '--$1 <$2>' but none was supplied")"
 done
 
-ends 45
+ends 46
