@@ -2,7 +2,7 @@
 -- in its LF.
 use Rattle.std.specs.Prelude.{◌≡◌, ◌≢◌, ◌≤◌, ◌<◌, ℕ, ◌+◌, ◌-◌, ◌*◌, List, ◌∷◌, take, length, slice_get, Option, Some, None}
 use Rattle.std.specs.Int.{IsInRange}
-use Rattle.rtk_rinex.specs.Columns.{last_digits}
+use Rattle.rtk_obs.specs.CivilText.{last_digits}
 use Rattle.rtk_rinex.specs.Reading.{IsMoment, reading_of}
 use Rattle.rtk_rinex.specs.Record.{epoch_line, satellite_line}
 use Rattle.rtk_rinex.specs.Table.{IsTableRow}
