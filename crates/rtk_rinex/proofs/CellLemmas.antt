@@ -11,7 +11,8 @@ use Rattle.std.proofs.lemmas.List.Elements.{All-nil, All-cons, All-head, All-tai
 use Rattle.std.proofs.lemmas.Option.{slice_get-get_or}
 use Rattle.rtk_rinex.specs.declared.epoch_table.Observed.{Observed}
 use Rattle.rtk_rinex.specs.declared.epoch_table.SatelliteRow.{SatelliteRow}
-use Rattle.rtk_rinex.specs.Columns.{left, last_digits, fixed, is_negative}
+use Rattle.rtk_obs.specs.CivilText.{last_digits}
+use Rattle.rtk_rinex.specs.Columns.{left, fixed, is_negative}
 use Rattle.rtk_rinex.specs.Record.{is_written, is_present, observation, observations, lli_digit, strength_digit, strength_value, has_observation, trim_end, satellite_line, IsStrengthOrNone}
 use Rattle.rtk_rinex.specs.Table.{IsAbsentOrWritten, IsLock, IsObserved, IsTableRow}
 use Rattle.rtk_rinex.specs.CheckLine.{IsSatelliteForm}

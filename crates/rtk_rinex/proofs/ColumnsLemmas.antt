@@ -3,7 +3,8 @@ use Rattle.std.proofs.Common.{◌≡◌, ℕ, ◌+◌, ◌-◌, ◌/◌, ◌%◌
 use Rattle.std.proofs.lemmas.Fmt.{decimal_step, decimal_digit, length-decimal-le}
 use Rattle.std.proofs.lemmas.List.{length-replicate, take-replicate, replicate-append-replicate, take_at, drop_at, append-nil}
 use Rattle.std.proofs.Math.Seq.{set-append_seam}
-use Rattle.rtk_rinex.specs.Columns.{right, last_digits, decimals, fixed}
+use Rattle.rtk_obs.specs.CivilText.{last_digits}
+use Rattle.rtk_rinex.specs.Columns.{right, decimals, fixed}
 
 -- from 100 on a number has the digits of its hundredth and two more
 pub decimal-two : (n : ℕ) → 100 ≤ n → n < 2 ^ 64 → decimal n ≡ decimal (n / 100) ++ (48 + (n % 100) / 10) ∷ (48 + (n % 100) % 10) ∷ []

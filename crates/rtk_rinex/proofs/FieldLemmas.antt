@@ -7,7 +7,8 @@ use Rattle.std.proofs.lemmas.Fmt.{decimal_by_steps, decimal_step, decimal_digit,
 use Rattle.std.proofs.lemmas.Int.{ints}
 use Rattle.std.proofs.lemmas.List.{append-nil, take_all}
 use Rattle.std.proofs.lemmas.List.Elements.{All-nil, All-cons, All-append}
-use Rattle.rtk_rinex.specs.Columns.{right, last_digits, decimals, fixed, is_negative}
+use Rattle.rtk_obs.specs.CivilText.{last_digits}
+use Rattle.rtk_rinex.specs.Columns.{right, decimals, fixed, is_negative}
 use Rattle.rtk_rinex.specs.Record.{is_written}
 use Rattle.rtk_rinex.proofs.DigitsLemmas.{take-exact, drop-exact, length-right, digits_from-thousandths}
 use Rattle.rtk_rinex.specs.Steps.Digits.{digits_from}

@@ -7,7 +7,7 @@ use Rattle.std.proofs.lemmas.Option.{get_or_from_slice_get}
 use Rattle.rtk_rinex.specs.declared.check_fault.Cause.{Cause}
 use Rattle.rtk_rinex.specs.declared.check_fault.Cause.TheVariants.{HeaderLine, Columns, Value, Order, Truncated}
 use Rattle.rtk_rinex.specs.declared.epoch_table.SatelliteRow.{SatelliteRow}
-use Rattle.rtk_rinex.specs.Columns.{last_digits}
+use Rattle.rtk_obs.specs.CivilText.{last_digits}
 use Rattle.rtk_rinex.specs.Reading.{reading_of}
 use Rattle.rtk_rinex.specs.Record.{EpochTableView, before_trimmed, trim_end, epoch_line, satellite_line}
 use Rattle.rtk_rinex.specs.Table.{IsTableRow, IsTableEpoch}

@@ -1,7 +1,7 @@
 -- The table of pairs holds what its words say, by a test of each entry; and two digits at once.
 use Rattle.std.proofs.Common.{◌≡◌, ℕ, zero, suc, ◌+◌, ◌*◌, ◌/◌, ◌%◌, ◌<◌, Bool, true, false, ◌&&◌, ◌==◌, List, [], ◌∷◌, ◌++◌, length, get_or, refl, arith, append_assoc}
 use Rattle.std.proofs.lemmas.Bool.{eqb-true}
-use Rattle.rtk_rinex.specs.Columns.{last_digits}
+use Rattle.rtk_obs.specs.CivilText.{last_digits}
 use Rattle.rtk_rinex.specs.declared.columns.TheConstants.{PAIRS}
 
 -- these are the digits of n, then those of the numbers after it

@@ -9,7 +9,8 @@ use Rattle.std.proofs.lemmas.List.{take_all, length-replicate, replicate-append-
 use Rattle.std.proofs.lemmas.List.Elements.{All-head, All-tail}
 use Rattle.rtk_rinex.specs.declared.epoch_table.Observed.{Observed}
 use Rattle.rtk_rinex.specs.declared.epoch_table.SatelliteRow.{SatelliteRow}
-use Rattle.rtk_rinex.specs.Columns.{left, last_digits}
+use Rattle.rtk_obs.specs.CivilText.{last_digits}
+use Rattle.rtk_rinex.specs.Columns.{left}
 use Rattle.rtk_rinex.specs.Record.{observation, observations, lli_digit, strength_digit, strength_value, trim_end, before_trimmed, satellite_line}
 use Rattle.rtk_rinex.specs.Table.{IsObserved, IsTableRow}
 use Rattle.rtk_rinex.specs.Steps.Digits.{digits_from}

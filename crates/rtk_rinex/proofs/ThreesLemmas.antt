@@ -5,7 +5,8 @@ use Rattle.std.proofs.lemmas.Bool.{eqb-true, cases_lt, lt-ltb, le-ltb}
 use Rattle.std.proofs.lemmas.Fmt.{decimal_digit}
 use Rattle.rtk_rinex.proofs.ColumnsLemmas.{decimal-two, decimal-pair}
 use Rattle.rtk_rinex.proofs.PairsLemmas.{both}
-use Rattle.rtk_rinex.specs.Columns.{last_digits, right}
+use Rattle.rtk_obs.specs.CivilText.{last_digits}
+use Rattle.rtk_rinex.specs.Columns.{right}
 use Rattle.rtk_rinex.specs.declared.columns.TheConstants.{POINT_AND_THREE, THREE_OF_FOUR}
 
 -- four texts of one character: those of n, then those of the numbers after it

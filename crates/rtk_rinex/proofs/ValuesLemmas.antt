@@ -7,7 +7,8 @@ use Rattle.std.proofs.lemmas.Fmt.{length-decimal-le}
 use Rattle.std.proofs.lemmas.Bool.Decides.{nat_tests}
 use Rattle.std.proofs.lemmas.List.{append-nil}
 use Rattle.rtk_rinex.specs.declared.epoch_table.Observed.{Observed}
-use Rattle.rtk_rinex.specs.Columns.{right, last_digits, decimals, fixed, is_negative}
+use Rattle.rtk_obs.specs.CivilText.{last_digits}
+use Rattle.rtk_rinex.specs.Columns.{right, decimals, fixed, is_negative}
 use Rattle.std.proofs.lemmas.Int.{ints}
 use Rattle.rtk_rinex.specs.Record.{is_written, observation, observations, lli_digit, strength_digit, strength_value, IsStrengthOrNone}
 use Rattle.rtk_rinex.specs.Table.{IsAbsentOrWritten, IsLock, IsObserved}

@@ -1,10 +1,8 @@
 -- Numbers and texts in columns, by the formats of RINEX 3.05, Tables A2 and A3: Fw.d, Iw, Aw.
 -- Source: RINEX 3.05, Tables A2 and A3
-use Rattle.std.specs.Prelude.{ℕ, zero, suc, ◌+◌, ◌-◌, ◌/◌, ◌%◌, ◌^◌, List, [], ◌∷◌, ◌++◌, length, replicate, ℤ, pos, negsuc, unsigned_abs, Bool, true, false, decimal}
+use Rattle.std.specs.Prelude.{ℕ, ◌-◌, ◌/◌, ◌^◌, List, ◌∷◌, ◌++◌, length, replicate, ℤ, pos, negsuc, unsigned_abs, Bool, true, false, decimal}
 use Rattle.std.specs.Fmt.{sign_text}
-
--- the last k decimal digits of a number (Ik.k)
-pub use Rattle.rtk_obs.specs.CivilText.{last_digits}
+use Rattle.rtk_obs.specs.CivilText.{last_digits}
 
 -- formula
 -- a text at the right end of w columns, after blanks (Iw of a number's digits)

@@ -1,7 +1,8 @@
 //! Numbers in columns of text, as the formats of RINEX 3.05 name them (F14.3, I6 ..).
 
 ghost use Rattle.std.specs.Prelude.{◌≡◌, ℕ, ◌+◌, ◌*◌, ◌/◌, ◌%◌, ◌^◌, ◌<◌, ◌≤◌, ◌∷◌, ◌++◌, length, take, set, replicate, decimal, if◌then◌else◌, false, pos, negsuc, ◌≤ℤ◌};
-ghost use Rattle.rtk_rinex.specs.Columns.{last_digits, right, decimals, fixed};
+ghost use Rattle.rtk_obs.specs.CivilText.{last_digits};
+ghost use Rattle.rtk_rinex.specs.Columns.{right, decimals, fixed};
 ghost use Rattle.rtk_rinex.specs.Reading.{seconds_of};
 
 use arrayvec::ArrayVec;

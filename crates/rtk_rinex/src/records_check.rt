@@ -5,7 +5,7 @@
 ghost use Rattle.rtk_rinex.specs.CheckLine.{IsEpochLine, IsNextTime, IsEpochFault, IsSatelliteForm, IsNextSatellite, IsSatelliteFault};
 ghost use Rattle.rtk_rinex.specs.CheckText.{IsFaultOfRows, IsFaultOfRecord, IsFaultOfRecords};
 ghost use Rattle.rtk_rinex.specs.Steps.ReadRecords.{IsRowLine, ReadsRows, ReadsRecord, ReadsRecords};
-ghost use Rattle.rtk_rinex.specs.Columns.{last_digits};
+ghost use Rattle.rtk_obs.specs.CivilText.{last_digits};
 ghost use Rattle.rtk_rinex.specs.Lines.{HasNoEnd, IsLine};
 ghost use Rattle.std.specs.Int.{IsInRange};
 ghost use Rattle.std.specs.Prelude.{◌≡◌, ◌≢◌, ℕ, ◌+◌, ◌-◌, ◌*◌, ◌<◌, ◌≤◌, ◌++◌, [], ◌∷◌, length, take, slice_get, Option, Some, IsTrue, ◌↔◌, IfOk, IfErr, MatchOption, ◌^◌, List, flat_map, None};

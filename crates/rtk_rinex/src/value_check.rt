@@ -2,7 +2,8 @@
 
 ghost use Rattle.std.specs.Prelude.{◌≡◌, ◌≢◌, ℕ, ℤ, pos, neg_ℤ, Bool, ◌+◌, ◌*◌, ◌^◌, ◌<◌, ◌≤◌, ◌++◌, [], ◌∷◌, length, slice_get, Some, replicate, decimal, if◌then◌else◌, IsTrue, ◌↔◌, IfSome, MatchOption, Option};
 ghost use Rattle.std.specs.Fmt.{sign_text};
-ghost use Rattle.rtk_rinex.specs.Columns.{last_digits, right, fixed};
+ghost use Rattle.rtk_obs.specs.CivilText.{last_digits};
+ghost use Rattle.rtk_rinex.specs.Columns.{right, fixed};
 ghost use Rattle.rtk_rinex.specs.Record.{is_written, observation, observations, strength_value, lli_digit, IsStrengthOrNone};
 ghost use Rattle.rtk_rinex.specs.Table.{IsAbsentOrWritten, IsLock, IsObserved};
 ghost use Rattle.rtk_rinex.specs.declared.epoch_table.Observed.{Observed};

@@ -1,6 +1,6 @@
 use Rattle.std.proofs.Common.{◌≡◌, ℕ, suc, ◌+◌, ◌-◌, ◌/◌, ◌%◌, ◌<◌, ◌++◌, drop, set, refl, ap, sym, ◌∙◌, arith, append_assoc, length}
 use Rattle.std.proofs.lemmas.List.{drop-set, length-set}
-use Rattle.rtk_rinex.specs.Columns.{last_digits}
+use Rattle.rtk_obs.specs.CivilText.{last_digits}
 use Rattle.rtk_rinex.proofs.PairsLemmas.{last_digits-two}
 use Rattle.rtk_rinex.proofs.columns.put_last_digits.Goals as goal
 

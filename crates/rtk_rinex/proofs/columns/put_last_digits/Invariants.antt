@@ -1,5 +1,5 @@
 use Rattle.std.proofs.Common.{◌≡◌, ◌++◌, drop, length, ◌≤◌}
-use Rattle.rtk_rinex.specs.Columns.{last_digits}
+use Rattle.rtk_obs.specs.CivilText.{last_digits}
 use Rattle.rtk_rinex.proofs.columns.put_last_digits.Given as goal
 
 abbrev pub invariant-loop-at : goal.invariant-loop-at

@@ -1,6 +1,6 @@
 use Rattle.std.proofs.Common.{◌/◌, arith, refl, decimal}
 use Rattle.std.proofs.lemmas.Fmt.{length-decimal-le}
-use Rattle.rtk_rinex.specs.Columns.{last_digits}
+use Rattle.rtk_obs.specs.CivilText.{last_digits}
 use Rattle.rtk_rinex.proofs.ColumnsLemmas.{right-plain}
 use Rattle.rtk_rinex.proofs.columns.unsigned_13_7.Goals as goal
 
