@@ -30,7 +30,7 @@ SIZES = {
     ".reserve(": {"9", "count", "room.msm", "room.legacy"},
     ".reserve_exact(": {"count", "len - text.len()", "room"},
     ".resize(": {"satellites", "count", "len, b' '", "room, b' '"},
-    "vec![in alloc; ": {"Column::new(); scale.columns as usize", "false; scale.columns as usize", "0u8; room", "0u8; PIECE", "0; NUMBERS",
+    "vec![in alloc; ": {"TimeBin::new(); scale.bins as usize", "false; scale.bins as usize", "0u8; room", "0u8; PIECE", "0; NUMBERS",
         "Station::new(); NUMBERS", "false; STATIONS"},
 }
 

@@ -17,35 +17,36 @@ run_program: words_of(rt) / fail(rt, fault) / Vec::new(rt.alloc()) / &owned / wo
 words_of: std::env::args(rt) / error.kind() == ErrorKind::OutOfMemory / Err(ToolFault::OutOfMemory) / Err(ToolFault::Input)
     / args.next() / Vec::new(rt.alloc()) / args / words.push(word).map_err(|_| ToolFault::OutOfMemory)? / Ok(words)
 run_words: job(rt.alloc(), words) / run_job(rt, report, job) / refuse_words(rt, fault)
-job: read_words(alloc, words) / conversion(alloc, &options, links.as_slice()) / Ok(Job::Show { hex, file })
-    / Ok(Job::Check { file }) / Ok(Job::Summary { file }) / Ok(Job::Chart { width, file }) / cut_job(&options, file)
+job: read_words(alloc, words) / conversion(alloc, &setup, links.as_slice()) / Ok(Job::Show { hex, file })
+    / Ok(Job::Check { file }) / Ok(Job::Summary { file }) / Ok(Job::Chart { width, file }) / cut_job(&part, file)
     / Err(WordsFault::Clap { text, status }) / Err(WordsFault::OutOfMemory)
 cut_job: part_of(options) / Ok(Job::Cut { part, file }) / Err(WordsFault::Bad { line })
 run_job: convert_links(rt, report, setup, links.as_slice()) / show_named(rt, hex, file) / check_named(rt, file)
     / summarize_named(rt, file) / chart_named(rt, width, file) / cut_named(rt, part, file)
-read_words: program_command(alloc)? / read_by(alloc, &mut program, words)
-read_by: matches_of(alloc, program, words)? / request_of(alloc, &matches)? / Ok(request) / Err(missing_word_answer(alloc, program))
+read_words: program_command(alloc)? / request_of_words(alloc, &mut program, words)
+request_of_words: matches_of(alloc, program, words)? / request_of_matches(alloc, &matches)? / Ok(request) / Err(missing_word_answer(alloc, program))
 missing_word_answer: program.error(ErrorKind::MissingRequiredArgument, "a command or a value is missing") / clap_answer(alloc, &error)
     / ClapAnswer::OutOfMemory
 matches_of: program.try_get_matches_from_mut(words) / Err(clap_answer(alloc, &error))
-request_of: matches.subcommand() / Some(("convert", convert)) => convert_request(alloc, convert),
+request_of_matches: matches.subcommand() / Some(("convert", convert)) => convert_request(alloc, convert),
     Some(("show", show)) => Ok(show_request(show)), Some(("check", check)) => Ok(check_request(check)),
     Some(("summary", summary)) => Ok(summary_request(summary)), Some(("chart", chart)) => Ok(chart_request(chart)),
     Some(("cut", cut)) => Ok(cut_request(cut)), _ => Ok(None),
 convert_request: convert_option_values(matches) / Ok(None)
-    / Vec::from_slice(alloc, matches.get_strs("LINK").unwrap_or(&[]))? / Ok(Some(Request::Convert { options, links }))
-convert_option_values: matches.get_one::<u32>("station")? / matches.get_one::<u32>("window")? / matches.get_one::<u32>("msm")?
-    / station > 4095 || window < 2 || window > 4096 / None / msm < 4 || msm > 7 / None / Some(ConvertOptions { station: station as u16,
+    / Vec::from_slice(alloc, matches.get_strs("LINK").unwrap_or(&[]))? / Ok(Some(Request::Convert { setup: options, links, }))
+convert_option_values: matches.get_one::<u32>("station")? / matches.get_one::<u32>("window")? / msm_of(matches.get_one::<u32>("msm")?)?
+    / station > MOST_STATION || window < LEAST_WINDOW || window > MOST_WINDOW / None / Some(ConvertOptions { station: station as u16,
     near: matches.get_str("near")?, made: matches.get_str("made")?, marker: matches.get_str("marker")?,
-    codes: matches.get_str("codes")?, window: window as u16, msm: msm as u8, })
+    codes: matches.get_str("codes")?, window: window as u16, msm, })
+msm_of: 4 => Some(MsmOption::Four), 5 => Some(MsmOption::Five), 6 => Some(MsmOption::Six), 7 => Some(MsmOption::Seven), _ => None,
 show_request: matches.get_flag("hex") / matches.get_str("FILE")? / Some(Request::Show { hex, file })
 check_request: matches.get_str("FILE")? / Some(Request::Check { file })
 summary_request: matches.get_str("FILE")? / Some(Request::Summary { file })
 chart_request: width_of(matches.get_flag("text"), matches.get_one::<u32>("columns"))? / matches.get_str("FILE")?
     / Some(Request::Chart { width, file })
-width_of: !text / Some(None) / columns.unwrap_or(COLUMNS) / width < 40 || width > 400 / None / Some(Some(width as u16))
-cut_request: cut_option_values(matches)? / matches.get_str("FILE")? / Some(Request::Cut { options, file })
-cut_option_values: matches.get_one::<u32>("every") / let Some(step) = every / step < 1 || step > 86_400 / None
+width_of: !text / Some(None) / columns.unwrap_or(COLUMNS) / width < LEAST_WIDTH || width > MOST_WIDTH / None / Some(Some(width as u16))
+cut_request: cut_option_values(matches)? / matches.get_str("FILE")? / Some(Request::Cut { part: options, file, })
+cut_option_values: matches.get_one::<u32>("every") / let Some(step) = every / step < 1 || step > MOST_STEP / None
     / Some(CutOptions { from: matches.get_str("from"), until: matches.get_str("until"), every, })
 open_capture: name == STDIN / Some(Resumed::new(Capture::Stdin(rt.reader()))) / fs::open(rt, name)
     / Some(Resumed::new(Capture::File(file))) / None
@@ -72,7 +73,7 @@ cut_named: open_capture(rt, name) / fail_to_open(rt, name) / cut_through(rt.allo
     / fail(rt, fault) / DONE / eprintln!(rt; "{fault}") / NOT_VALID / fail(rt, fault)
 summary_status: DONE / fail(rt, ToolFault::OutOfMemory) / fail(rt, ToolFault::Input) / fail_to_end(rt) / fail(rt, ToolFault::Output)
 conversion_status: is_out / DONE / fail(rt, ToolFault::Output) / fail(rt, ToolFault::OutOfMemory) / fail(rt, ToolFault::Input)
-    / fail_to_end(rt) / refuse(rt, BadWords::Links)
+    / fail_to_end(rt) / unreachable!() / unreachable!()
 fail_to_open_links: fail_to_open(rt, name) / fail(rt, ToolFault::OutOfMemory) / fail(rt, ToolFault::Input)
 fail: eprintln!(rt; "rtcm2rinex: {fault}") / FAILED
 fail_to_open: eprintln!(rt; "rtcm2rinex: cannot open {name}") / FAILED
