@@ -159,6 +159,18 @@ impl RecordLines {
         &self.text[..self.len]
     }
 
+    // Makes room for the lines of this many satellites with this many codes.
+    fn reserve(&mut self, rows: usize, codes: usize) -> Result<(), AllocError>
+        requires few { (rows ≤ 32) × (codes ≤ 16) }
+        ensures { self.new ≡ self.old }
+    {
+        let room = EPOCH_LINE + rows * (4 + 48 * codes);
+        if self.text.len() < room {
+            lengthen(&mut self.text, room)?;
+        }
+        Ok(())
+    }
+
     // The text, with its memory.
     fn into_text(self) -> Vec<u8>
         ensures { result.items ≡ self.text }
@@ -179,8 +191,10 @@ pub fn record(alloc: Global, head: &Head, table: &EpochTable) -> Result<Vec<u8>,
     ensures { IfOk result (λ text. text.items ≡ record_text table.now) }
 {
     let mut lines = RecordLines::new(alloc);
+    let most = table.rows().len().min(MOST_SATELLITES);
     for row in table.rows() {
         if has_line(row) {
+            lines.reserve(most, row.observed.len())?;
             lines.push_row(row.satellite, row.observed.as_slice())?;
         }
     }
