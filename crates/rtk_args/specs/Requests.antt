@@ -34,6 +34,6 @@ IsRequest task = IsTask (λ _ _. Unit {0}) (λ _. Unit {0}) task
 -- table
 -- the status that goes with a text of clap's is 0 or 2; which of them is not said here (this
 -- project's rule)
-abbrev pub HasStatus : ClapAnswer → Type 0
-HasStatus (Text text status) = (status ≡ 0) ⊎ (status ≡ 2)
-HasStatus OutOfMemory = Unit {0}
+abbrev pub HasClapStatus : ClapAnswer → Type 0
+HasClapStatus (Text text status) = (status ≡ 0) ⊎ (status ≡ 2)
+HasClapStatus OutOfMemory = Unit {0}

@@ -4,7 +4,7 @@ ghost use Rattle.std.specs.Prelude.{◌≡◌, ℕ, IfOk, IfErr, IfSome, MatchOp
 ghost use Rattle.std.specs.Int.{IsInRange};
 ghost use Rattle.std.specs.Option.{ForSome};
 ghost use Rattle.clap.specs.Values.{kind_of};
-ghost use Rattle.rtk_args.specs.Requests.{HasStatus, IsRequest, number_of_msm};
+ghost use Rattle.rtk_args.specs.Requests.{HasClapStatus, IsRequest, number_of_msm};
 ghost use Rattle.rtk_args.specs.declared.limits.TheConstants.{LEAST_WIDTH, MOST_WIDTH};
 ghost use Rattle.rtk_args.specs.Steps.ClapStatus.{IsStatusOf};
 ghost use Rattle.rtk_args.specs.declared.answer.ClapAnswer.TheVariants.{Text};
@@ -23,7 +23,7 @@ const COLUMNS: u32 = 80;
 
 // The text that clap has for an error. What was asked for, as help, goes to standard output.
 fn clap_answer(alloc: Global, error: &Error) -> ClapAnswer
-    ensures zero_or_two { HasStatus result }
+    ensures zero_or_two { HasClapStatus result }
     ensures status { (text : _) (status : ℕ)
         → result ≡ Text text status → IsStatusOf (kind_of error.now) status }
 {
@@ -40,7 +40,7 @@ fn clap_answer(alloc: Global, error: &Error) -> ClapAnswer
 // The answer to words that clap should have refused: a command is missing, or a value that the
 // command needs.
 fn missing_word_answer(alloc: Global, program: &mut Command<'_>) -> ClapAnswer
-    ensures { HasStatus result }
+    ensures { HasClapStatus result }
 {
     match program.error(
         ErrorKind::MissingRequiredArgument,
@@ -195,7 +195,7 @@ fn matches_of<'a>(
     program: &mut Command<'a>,
     words: &'a [&'a str],
 ) -> Result<ArgMatches<'a>, ClapAnswer>
-    ensures { IfErr result HasStatus }
+    ensures { IfErr result HasClapStatus }
 {
     match program.try_get_matches_from_mut(words) {
         Ok(matches) => Ok(matches),
@@ -210,7 +210,7 @@ fn request_of_words<'a>(
     words: &'a [&'a str],
 ) -> Result<Request<'a>, ClapAnswer>
     ensures limits { IfOk result IsRequest }
-    ensures status { IfErr result HasStatus }
+    ensures status { IfErr result HasClapStatus }
 {
     let matches = matches_of(alloc, program, words)?;
     match request_of_matches(alloc, &matches)? {
@@ -224,7 +224,7 @@ fn request_of_words<'a>(
 pub fn read_words<'a>(alloc: Global, words: &'a [&'a str]) -> Result<Request<'a>, ClapAnswer>
     // That it gives up only without memory show the rows `job ..` of tests/system/calls.
     ensures limits { IfOk result IsRequest }
-    ensures status { IfErr result HasStatus }
+    ensures status { IfErr result HasClapStatus }
 {
     let mut program = program_command(alloc)?;
     request_of_words(alloc, &mut program, words)

@@ -18,7 +18,7 @@ use Rattle.rtk_collect.specs.Key.{KeysRise}
 use Rattle.rtk_rinex.specs.declared.epoch_table.Observed.{Observed}
 use Rattle.rtk_rinex.specs.declared.epoch_table.SatelliteRow.{SatelliteRow}
 use Rattle.rtk_convert.specs.Rows.{first_cell, observed_with, observed_after, or_nothing, row_if_any, rows_to}
-use Rattle.rtk_convert.specs.Steps.ShownCells.{AreTaken, MayStep, IsPlaceOf, Shows, StepsOver, TakesCells, track_after, shown_by, is_code, with_code}
+use Rattle.rtk_convert.specs.Steps.ShownCells.{AreTaken, MayStep, IsPlaceOf, ShowsRow, StepsOver, TakesCells, track_after, shown_by, is_code, with_code}
 use Rattle.rtk_convert.proofs.CellOrderLemmas.{any_cell, or_later, first-append, some-before, none-both, range-empty, range-more, range-new, range-satellite, range-other, first-range, first-absent, place-first}
 use Rattle.rtk_convert.proofs.ThroughLemmas.{cells-same, taken-same, taken-more, may-same, may-more, shown-more}
 use Rattle.rtk_convert.proofs.RowsLemmas.{observed-same, any-same, row-begins, row-with, any-with, rows-skip, rows-step}
@@ -30,7 +30,7 @@ none-some None h = refl
 none-some (Some x) h = cc
 
 pub shows-begin : (old : List (Option Track)) (epoch : ℕ) (xs : List CellEntry) (s : ℕ) (listed : List Code) (tracks : List (Option Track)) (row : List Observed)
-    → AreTaken old epoch xs tracks → ((c : Code) → first_cell xs s c ≡ None) → row ≡ map (λ (code : Code). or_nothing None) listed → Shows old epoch xs s listed tracks row false
+    → AreTaken old epoch xs tracks → ((c : Code) → first_cell xs s c ≡ None) → row ≡ map (λ (code : Code). or_nothing None) listed → ShowsRow old epoch xs s listed tracks row false
 shows-begin old epoch xs s listed tracks row taken none blank =
     let begins = row-begins (shown_by old epoch xs s) listed (λ c. ap (observed_after (track_at old s c) c epoch) (none c)) in
     record { taken = taken; row = blank ∙ begins.0; any = begins.1 }
@@ -48,7 +48,7 @@ pub any-by : (old : List (Option Track)) (epoch : ℕ) (xs ys : List CellEntry) 
 any-by old epoch xs ys s listed same = any-same (shown_by old epoch xs s) (shown_by old epoch ys s) listed (shown-same old epoch xs ys s same)
 
 pub shows-repeat : {old : List (Option Track)} {epoch : ℕ} {xs : List CellEntry} {s : ℕ} {listed : List Code} {tracks : List (Option Track)} {row : List Observed} {any : Bool} (e : CellEntry)
-    → IsSatellite s → IsSatellite e.satellite → is_some (first_cell xs e.satellite e.code) ≡ true → Shows old epoch xs s listed tracks row any → Shows old epoch (xs ++ e ∷ []) s listed tracks row any
+    → IsSatellite s → IsSatellite e.satellite → is_some (first_cell xs e.satellite e.code) ≡ true → ShowsRow old epoch xs s listed tracks row any → ShowsRow old epoch (xs ++ e ∷ []) s listed tracks row any
 shows-repeat {old} {epoch} {xs} {s} {listed} {tracks} {row} {any} e hs he there g =
     let same = cells-same xs e he there in
     record {
@@ -64,7 +64,7 @@ pub shows-more : {old : List (Option Track)} {epoch : ℕ} {xs : List CellEntry}
     → ((s : ℕ) (c : Code) → place_of_signal s c ≢ place_of_signal e.satellite e.code → track_at after s c ≡ track_at tracks s c)
     → now ≡ with_code e.code (observed_with e.cell (digits_since (band_of e.code) (track_at tracks e.satellite e.code) (epoch_cell epoch e.cell))) listed row
     → is_listed ≡ list_any (is_code e.code) listed
-    → Shows old epoch xs s listed tracks row any → Shows old epoch (xs ++ e ∷ []) s listed after now (is_listed || any)
+    → ShowsRow old epoch xs s listed tracks row any → ShowsRow old epoch (xs ++ e ∷ []) s listed after now (is_listed || any)
 shows-more {old} {epoch} {xs} {s} {listed} {tracks} {row} {any} after now is_listed e at he none track others put found g =
     let o : Observed = observed_with e.cell (digits_since (band_of e.code) (track_at tracks e.satellite e.code) (epoch_cell epoch e.cell)) in
     let shown : (c : Code) → shown_by old epoch (xs ++ e ∷ []) s c ≡ cond (is_code e.code c) (Some o) (shown_by old epoch xs s c) =
@@ -87,7 +87,7 @@ takes-begin epoch earlier xs begin s listed first blank l later =
       within = l;
       same = λ k d a b. absurd (omega arith);
       later = subst (λ (ys : List CellEntry). MayStep first ys s epoch) none later;
-      shows = λ old any g. subst (λ (ys : List CellEntry). Shows old epoch ys s listed first blank any) none g;
+      shows = λ old any g. subst (λ (ys : List CellEntry). ShowsRow old epoch ys s listed first blank any) none g;
     }
 
 same-more : (xs : List CellEntry) (begin end s : ℕ) → ((k : ℕ) (d : CellEntry) → begin ≤ k → k < end → (get_or xs k d).satellite ≡ s) → ((d : CellEntry) → (get_or xs end d).satellite ≡ s)
@@ -123,7 +123,7 @@ module _ (epoch : ℕ) (earlier xs : List CellEntry) (begin end s : ℕ) (listed
         within = omega arith;
         same = same-more xs begin end s g.same at;
         later = subst (λ (ys : List CellEntry). MayStep tracks ys s epoch) next-is (may-same tracks before (before ++ e ∷ []) s epoch (λ c. cells-same before e he here s c hs) g.later);
-        shows = λ old b h. subst (λ (ys : List CellEntry). Shows old epoch ys s listed tracks row (any || b)) next-is (shows-repeat e hs he here (g.shows old b h));
+        shows = λ old b h. subst (λ (ys : List CellEntry). ShowsRow old epoch ys s listed tracks row (any || b)) next-is (shows-repeat e hs he here (g.shows old b h));
       }
 
   -- no earlier cell and none of this run has the satellite and code of the next one
@@ -147,13 +147,13 @@ module _ (epoch : ℕ) (earlier xs : List CellEntry) (begin end s : ℕ) (listed
         within = omega arith;
         same = same-more xs begin end s g.same at;
         later = subst (λ (ys : List CellEntry). MayStep after ys s epoch) next-is (may-more tracks after before s epoch e step.others he hs g.later);
-        shows = λ old b h. subst (λ (ys : List CellEntry). Shows old epoch ys s listed after now ((any || is_listed) || b)) next-is
-            (subst (λ (found : Bool). Shows old epoch (before ++ e ∷ []) s listed after now found) (or-three is_listed any b)
+        shows = λ old b h. subst (λ (ys : List CellEntry). ShowsRow old epoch ys s listed after now ((any || is_listed) || b)) next-is
+            (subst (λ (found : Bool). ShowsRow old epoch (before ++ e ∷ []) s listed after now found) (or-three is_listed any b)
             (shows-more after now is_listed e (at any_cell) he none step.track step.others step.row step.found (g.shows old b h)));
       }
 
 -- nothing is taken yet of a satellite
-pub shows-nothing : (epoch s : ℕ) (listed : List Code) (tracks : List (Option Track)) (row : List Observed) → row ≡ map (λ (code : Code). or_nothing None) listed → Shows tracks epoch [] s listed tracks row false
+pub shows-nothing : (epoch s : ℕ) (listed : List Code) (tracks : List (Option Track)) (row : List Observed) → row ≡ map (λ (code : Code). or_nothing None) listed → ShowsRow tracks epoch [] s listed tracks row false
 shows-nothing epoch s listed tracks row blank = shows-begin tracks epoch [] s listed tracks row (λ t c hs. refl) (λ c. refl) blank
 
 pub or-turn : (a b : Bool) → (b || (a || false)) ≡ (a || b)
@@ -221,7 +221,7 @@ module _ (before : List (Option Track)) (epoch : ℕ) (ms : List CellEntry) (i :
 
   -- its cells were taken
   module _ (end last : ℕ) (listed : List Code) (after : List (Option Track)) (row : List Observed) (any : Bool) (from : i ≤ end) (p : IsPlaceOf (n + 1) ms end) (more : j ≤ last) (q : IsPlaceOf (n + 1) ls last)
-      (shows : Shows tracks epoch (slice_range ms i end ++ slice_range ls j last) n listed after row any) where
+      (shows : ShowsRow tracks epoch (slice_range ms i end ++ slice_range ls j last) n listed after row any) where
     own : (c : Code) → first_cell (slice_range ms i end ++ slice_range ls j last) n c ≡ first_cell (ms ++ ls) n c
     own c =
         first-append (slice_range ms i end) (slice_range ls j last) n c

@@ -15,7 +15,7 @@ ghost use Rattle.rtk_rinex.specs.Header.{IsCodeList};
 ghost use Rattle.rtk_rinex.specs.RecordLines.{HoldsLines};
 ghost use Rattle.rtk_convert.specs.Rows.{first_cell, rolled_or_none, observed_with, or_nothing, table_of};
 ghost use Rattle.rtk_convert.specs.LastPhases.{HasLastPhases};
-ghost use Rattle.rtk_convert.specs.Steps.ShownCells.{AllBelow, MayStep, IsPlaceOf, RiseFrom, HasCellsFrom, TellsSatellite, AreCellsTo, Shows, StepsOver, TakesCells, ArePlaces, is_code, with_code};
+ghost use Rattle.rtk_convert.specs.Steps.ShownCells.{AllBelow, MayStep, IsPlaceOf, RiseFrom, HasCellsFrom, TellsSatellite, AreCellsTo, ShowsRow, StepsOver, TakesCells, ArePlaces, is_code, with_code};
 
 use rtk_collect::EpochSet;
 use rtk_obs::{Cell, CellEntry, Code, Digits, GpsMs, Tracks, rolled};
@@ -241,7 +241,7 @@ fn fill_row(
     requires later { MayStep tracks.old [] satellite epoch }
     requires width { length row.old ≡ length listed.now }
     requires places { ArePlaces listed.now places.now }
-    ensures shows { Shows tracks.old epoch (slice_range msm.now msm_at result.msm_end ++ slice_range legacy.now legacy_at result.legacy_end)
+    ensures shows { ShowsRow tracks.old epoch (slice_range msm.now msm_at result.msm_end ++ slice_range legacy.now legacy_at result.legacy_end)
         satellite listed.now tracks.new row.new result.has_listed }
     ensures msm { AreCellsTo satellite msm.now msm_at result.msm_end }
     ensures legacy { AreCellsTo satellite legacy.now legacy_at result.legacy_end }

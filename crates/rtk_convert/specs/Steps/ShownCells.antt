@@ -68,7 +68,7 @@ abbrev pub shown_by : List (Option Track) → ℕ → List CellEntry → ℕ →
 shown_by old epoch cells satellite code = observed_after (track_at old satellite code) code epoch (first_cell cells satellite code)
 
 -- these cells of an epoch were taken, and this is the row of a satellite by them
-pub record Shows (old : List (Option Track)) (epoch : ℕ) (cells : List CellEntry) (satellite : ℕ) (listed : List Code) (tracks : List (Option Track)) (shown : List Observed) (found : Bool) : Type 0 where
+pub record ShowsRow (old : List (Option Track)) (epoch : ℕ) (cells : List CellEntry) (satellite : ℕ) (listed : List Code) (tracks : List (Option Track)) (shown : List Observed) (found : Bool) : Type 0 where
   pub taken : AreTaken old epoch cells tracks
   pub row : shown ≡ map (λ code. or_nothing (shown_by old epoch cells satellite code)) listed
   pub any : found ≡ list_any (λ code. is_some (shown_by old epoch cells satellite code)) listed
@@ -80,8 +80,8 @@ pub record TakesCells (epoch : ℕ) (earlier cells : List CellEntry) (begin end 
   pub within : end ≤ length cells
   pub same : (k : ℕ) (d : CellEntry) → begin ≤ k → k < end → (slice_index_or cells k d).satellite ≡ satellite
   pub later : MayStep tracks (earlier ++ slice_range cells begin end) satellite epoch
-  pub shows : (first : List (Option Track)) (any : Bool) → Shows first epoch earlier satellite listed old blank any
-      → Shows first epoch (earlier ++ slice_range cells begin end) satellite listed tracks shown (found || any)
+  pub shows : (first : List (Option Track)) (any : Bool) → ShowsRow first epoch earlier satellite listed old blank any
+      → ShowsRow first epoch (earlier ++ slice_range cells begin end) satellite listed tracks shown (found || any)
 
 abbrev pub is_code : Code → Code → Bool
 is_code code c = place_of c == place_of code

@@ -1,5 +1,5 @@
 use Rattle.std.proofs.Common.{◌++◌, Bool, slice_range, subst}
-use Rattle.rtk_convert.specs.Steps.ShownCells.{Shows}
+use Rattle.rtk_convert.specs.Steps.ShownCells.{ShowsRow}
 use Rattle.rtk_convert.proofs.CellOrderLemmas.{range-satellite}
 use Rattle.rtk_convert.proofs.SatelliteLemmas.{shows-nothing, or-turn}
 use Rattle.rtk_convert.proofs.epoch_rows.fill_row.Goals as goal
@@ -15,6 +15,6 @@ returns-clause-shows c =
     let first = c.show_cells-first in
     let second = c.show_cells-second in
     let begin = shows-nothing c.args.epoch c.args.satellite c.args.listed.now c.args.tracks.now c.blank.new.row (c.blank.ensures c.args.listed.now c.requires.width) in
-    subst (λ (b : Bool). Shows c.args.tracks.now c.args.epoch (slice_range c.args.msm.now c.args.msm_at first.result.end ++ slice_range c.args.legacy.now c.args.legacy_at second.result.end)
+    subst (λ (b : Bool). ShowsRow c.args.tracks.now c.args.epoch (slice_range c.args.msm.now c.args.msm_at first.result.end ++ slice_range c.args.legacy.now c.args.legacy_at second.result.end)
     c.args.satellite c.args.listed.now second.new.tracks second.new.row b) (or-turn first.result.has_listed second.result.has_listed)
     (second.ensures.takes.shows c.args.tracks.now _ (first.ensures.takes.shows c.args.tracks.now _ begin))
