@@ -160,7 +160,7 @@ impl RecordLines {
     }
 
     // Makes room for the lines of this many satellites with this many codes.
-    fn reserve(&mut self, rows: usize, codes: usize) -> Result<(), AllocError>
+    fn make_room_for(&mut self, rows: usize, codes: usize) -> Result<(), AllocError>
         requires few { (rows ≤ 32) × (codes ≤ 16) }
         ensures { self.new ≡ self.old }
     {
@@ -194,7 +194,7 @@ pub fn record(alloc: Global, head: &Head, table: &EpochTable) -> Result<Vec<u8>,
     let most = table.rows().len().min(MOST_SATELLITES);
     for row in table.rows() {
         if has_line(row) {
-            lines.reserve(most, row.observed.len())?;
+            lines.make_room_for(most, row.observed.len())?;
             lines.push_row(row.satellite, row.observed.as_slice())?;
         }
     }

@@ -4,12 +4,12 @@ use Rattle.rtk_rinex.specs.declared.epoch_table.SatelliteRow.{SatelliteRow}
 use Rattle.rtk_rinex.specs.RecordLines.{RecordLinesView, HoldsLines}
 use Rattle.rtk_rinex.proofs.RecordLinesLemmas.{few-lines, row-pushed, row-passed}
 use Rattle.rtk_rinex.proofs.record_lines.record.Goals as goal
-use Rattle.rtk_rinex.proofs.record_lines.record.Goals.{then-has_line+in_ok-reserve+in_ok-push_row, else-has_line}
+use Rattle.rtk_rinex.proofs.record_lines.record.Goals.{then-has_line+in_ok-make_room_for+in_ok-push_row, else-has_line}
 
 pub push_row-requires-clause-room : goal.push_row-requires-clause-room
 push_row-requires-clause-room c =
     let few = few-lines c.loop-row.lines c.args.table.now.rows c.loop-row.row-index c.loop-row.invariant in
-    let same = ap (λ (l : RecordLinesView). l.count) c.reserve.ensures in omega (arith, few, same)
+    let same = ap (λ (l : RecordLinesView). l.count) c.make_room_for.ensures in omega (arith, few, same)
 
 pub loop-row-preserved : goal.loop-row-preserved
 loop-row-preserved c =
@@ -20,8 +20,8 @@ loop-row-preserved c =
     let lt : i < length rows = rw same at c.loop-row-test.true in
     let is = rw same at c.row-item.is in
     elim c.if-has_line.branch [
-      | then-has_line+in_ok-reserve+in_ok-push_row w ↦ row-pushed c.if-has_line.lines rows i c.row-item.result c.row-item.result
-          (rw w.lines-is (rw w.as_slice.ensures.value at (w.in_ok-push_row.ensures.ok (take i rows) (rw w.reserve.ensures held)))) lt is
+      | then-has_line+in_ok-make_room_for+in_ok-push_row w ↦ row-pushed c.if-has_line.lines rows i c.row-item.result c.row-item.result
+          (rw w.lines-is (rw w.as_slice.ensures.value at (w.in_ok-push_row.ensures.ok (take i rows) (rw w.make_room_for.ensures held)))) lt is
       | else-has_line w ↦ row-passed c.if-has_line.lines rows i c.row-item.result c.row-item.result (rw w.lines-is held) (sym c.has_line.ensures ∙ w.if-has_line.false) lt is
     ]
 
