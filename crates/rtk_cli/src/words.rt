@@ -11,7 +11,8 @@ use thiserror::Error;
 pub type Job<'a> = Task<'a, Setup, ArrayVec<&'a str, 16>, Part>;
 
 /// Why words that clap takes give no conversion, or no part: the first cause that holds, in this
-/// order. Displayed, it is the fault line of the program.
+/// order; but that no time is dated near the reference is found last. Displayed, it is the fault
+/// line of the program.
 #[derive(Clone, Copy, Debug, PartialEq, Eq, Error)]
 pub enum BadWords {
     /// The reference is written in another form, or there is no such moment, or times can't be

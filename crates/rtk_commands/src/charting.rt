@@ -58,11 +58,11 @@ fn chart_table<W: Sink>(
     Ok(())
 }
 
-/// Reads an input whole, and writes a picture of it if `check` accepts it: in characters, if a width
-/// is given, else in SVG. Else answers the fault that `check` finds, and writes nothing.
-///
-/// The picture is whole before a byte of it is written, so after each fault but a failed write
-/// nothing is out.
+// Reads an input whole, and writes a picture of it if `check` accepts it: in characters, if a width
+// is given, else in SVG. Else answers the fault that `check` finds, and writes nothing.
+//
+// The picture is whole before a byte of it is written, so after each fault but a failed write
+// nothing is out.
 fn chart_input<R: Source, W: Sink>(
     alloc: Global,
     reader: &mut R,

@@ -14,7 +14,7 @@ pub const FAILED: u8 = 1;
 pub const REFUSED: u8 = 2;
 
 /// `check` says no: the text is not one that `convert` could have written; or it would say no of a
-/// text that is to be cut.
+/// text that is to be drawn or cut.
 pub const NOT_VALID: u8 = 3;
 
 /// Says why the work is not done. If standard error is closed nobody reads it.

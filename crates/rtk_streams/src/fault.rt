@@ -2,7 +2,8 @@
 
 use thiserror::Error;
 
-/// Why `show`, `check`, `chart` or `cut` is not done. Displayed, it is the fault line of the program.
+/// Why a command is not done, whatever its words ask for. Displayed, it is the fault line of the
+/// program.
 #[derive(Clone, Copy, Debug, PartialEq, Eq, Error)]
 pub enum ToolFault {
     /// P1: a read failed.

@@ -25,8 +25,8 @@ use std::{fs, io};
 pub const STDIN: &str = "stdin";
 
 // constant
-/// How many bytes of a file and of a report are gathered before they are written, if no link is
-/// standard input.
+/// How many bytes of the part of `cut`, and of the file and the report of `convert`, are gathered
+/// before they are written; of a conversion only if no link is standard input.
 pub const GATHERED: usize = 65_536;
 
 /// The most reads of a conversion, and of a summary.

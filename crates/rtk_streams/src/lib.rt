@@ -12,7 +12,7 @@
 //! }
 //! ```
 //!
-//! Its tests: tests/system/calls/src, tests/program and tests/system/streams
+//! Its tests: tests/values/src/commands/showing.rt.in, tests/program and tests/system/streams
 #![tactic(auto)]
 
 mod before;
