@@ -5,14 +5,16 @@
 ghost use Rattle.std.specs.Prelude.{◌≡◌, ◌↔◌, ◌≤◌, length, map, OnOk, IfOk, IfErr, IsErrOf, IsTrue};
 ghost use Rattle.std.specs.Io.KnownBytes.{Keeps};
 ghost use Rattle.rtk_convert.specs.Converter.{IsLinkCount};
-ghost use Rattle.rtk_convert.specs.Failure.{IsReadingFault, IsRunFault};
+ghost use Rattle.rtk_convert.specs.Failure.{IsRunFault};
 ghost use Rattle.rtk_convert.specs.Writing.{written};
 ghost use Rattle.rtk_streams.specs.Passed.{taken_of};
-ghost use Rattle.rtk_streams.specs.declared.exit_status.TheConstants.{FAILED};
+ghost use Rattle.rtk_streams.specs.declared.exit_status.TheConstants.{REFUSED};
 ghost use Rattle.rtk_cli.specs.Converting.{status_of};
 ghost use Rattle.rtk_cli.specs.ConvertsBytes.{ConvertsBytes, KeepsBytes, EndsAtRead, ConvertsFirstBytes};
 ghost use Rattle.rtk_cli.specs.Steps.Links.{bytes_had, bytes_held, AreLinksOf};
 
+use crate::refusing::refuse;
+use crate::words::BadWords;
 use rtk_convert::{ConvertFault, Counts, Setup, run};
 use rtk_streams::{
     Before, DONE, GATHERED, MOST_READS, Reads, Resumed, ToolFault, Writes, fail, fail_to_end,
@@ -165,10 +167,10 @@ pub fn convert_through<R: Read + Drop, O: Write + Drop, L: Write + Drop>(
     convert_between::<R, O, L, Brand>(alloc, setup, readers, room, out, report)
 }
 
-/// The exit status of a conversion of 1 to 16 links, by its answer and by whether all that it wrote is
-/// out; the fault line goes to standard error.
+/// The exit status of a conversion, by its answer and by whether all that it wrote is out; the fault
+/// line goes to standard error.
 pub fn conversion_status<R: Eprint>(rt: &R, done: Result<Counts, ConvertFault>, is_out: bool) -> u8
-    requires { IfErr done IsReadingFault }
+    requires { IfErr done IsRunFault }
     ensures { result ≡ status_of done is_out }
 {
     match done {
@@ -177,8 +179,9 @@ pub fn conversion_status<R: Eprint>(rt: &R, done: Result<Counts, ConvertFault>, 
         Err(ConvertFault::OutOfMemory) => fail(rt, ToolFault::OutOfMemory),
         Err(ConvertFault::Read { .. }) => fail(rt, ToolFault::Input),
         Err(ConvertFault::Endless) => fail_to_end(rt),
-        Err(ConvertFault::Setup | ConvertFault::NoLink) => unreachable!(),
-        Err(ConvertFault::LinkClosed | ConvertFault::Stopped) => unreachable!(),
+        // Not 1 to 16 links.
+        Err(ConvertFault::Setup) => refuse(rt, BadWords::Links),
+        Err(ConvertFault::NoLink | ConvertFault::LinkClosed | ConvertFault::Stopped) => unreachable!(),
     }
 }
 
@@ -191,8 +194,7 @@ fn convert_opened<R: Print + Eprint + AllocGlobal, S: Read + Drop, W: Write + Dr
     captures: Vec<S>,
     room: usize,
 ) -> u8
-    requires { IsLinkCount (length captures.items) }
-    ensures { result ≤ FAILED }
+    ensures { result ≤ REFUSED }
 {
     match convert_through(rt.alloc(), setup, captures, room, io::writer(rt), report) {
         Ok(converted) => conversion_status(rt, converted.done, converted.is_out),
@@ -209,8 +211,7 @@ pub(crate) fn convert_links<R: Files + Input + Print + Eprint + AllocGlobal, W: 
     setup: Setup,
     names: &[&str],
 ) -> u8
-    requires { IsLinkCount (length names.now) }
-    ensures { result ≤ FAILED }
+    ensures { result ≤ REFUSED }
 {
     let captures = match open_links(rt, names) {
         Ok(captures) => captures,

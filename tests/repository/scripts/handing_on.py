@@ -73,7 +73,7 @@ cut_named: open_capture(rt, name) / fail_to_open(rt, name) / cut_through(rt.allo
     / fail(rt, fault) / DONE / eprintln!(rt; "{fault}") / NOT_VALID / fail(rt, fault)
 summary_status: DONE / fail(rt, ToolFault::OutOfMemory) / fail(rt, ToolFault::Input) / fail_to_end(rt) / fail(rt, ToolFault::Output)
 conversion_status: is_out / DONE / fail(rt, ToolFault::Output) / fail(rt, ToolFault::OutOfMemory) / fail(rt, ToolFault::Input)
-    / fail_to_end(rt) / unreachable!() / unreachable!()
+    / fail_to_end(rt) / refuse(rt, BadWords::Links) / unreachable!()
 fail_to_open_links: fail_to_open(rt, name) / fail(rt, ToolFault::OutOfMemory) / fail(rt, ToolFault::Input)
 fail: eprintln!(rt; "rtcm2rinex: {fault}") / FAILED
 fail_to_open: eprintln!(rt; "rtcm2rinex: cannot open {name}") / FAILED
