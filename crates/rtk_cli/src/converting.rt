@@ -181,7 +181,8 @@ pub fn conversion_status<R: Eprint>(rt: &R, done: Result<Counts, ConvertFault>, 
         Err(ConvertFault::Endless) => fail_to_end(rt),
         // Not 1 to 16 links.
         Err(ConvertFault::Setup) => refuse(rt, BadWords::Links),
-        Err(ConvertFault::NoLink | ConvertFault::LinkClosed | ConvertFault::Stopped) => unreachable!(),
+        Err(ConvertFault::NoLink | ConvertFault::LinkClosed | ConvertFault::Stopped) =>
+            unreachable!(),
     }
 }
 
@@ -205,6 +206,7 @@ fn convert_opened<R: Print + Eprint + AllocGlobal, S: Read + Drop, W: Write + Dr
 /// Converts captures: the file goes to standard output, the report to `report`. All captures are
 /// opened before one is read. If one is standard input each write goes straight on, so that the
 /// file can be followed.
+#[inline(never)]
 pub(crate) fn convert_links<R: Files + Input + Print + Eprint + AllocGlobal, W: Write + Drop>(
     rt: &R,
     report: W,

@@ -31,6 +31,7 @@ fn words_of<R: Env + AllocGlobal>(rt: &R) -> Result<Vec<String>, ToolFault> {
 }
 
 // Each command by a call of its own: the check of a function that also reads the words takes minutes.
+// No command is inlined: the stack has the values of one command alone.
 fn run_job<R: Files + Input + Print + Eprint + AllocGlobal, W: Write + Drop>(
     rt: &R,
     report: W,

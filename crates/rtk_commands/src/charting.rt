@@ -132,6 +132,7 @@ pub fn chart_through<R: Read + Drop, W: Write + Drop>(
 
 /// Writes a picture of the file of this name to standard output. What `check` says of a file that it
 /// refuses goes to standard error.
+#[inline(never)]
 pub fn chart_named<R: Files + Input + Print + Eprint + AllocGlobal>(
     rt: &R,
     width: Option<u16>,

@@ -143,6 +143,7 @@ pub fn check_through<R: Read + Drop, W: Write + Drop>(
 }
 
 /// Checks the file of this name, and writes to standard output what is said of it.
+#[inline(never)]
 pub fn check_named<R: Files + Input + Print + Eprint + AllocGlobal>(rt: &R, name: &str) -> u8
     ensures { result ≤ NOT_VALID }
 {

@@ -164,6 +164,7 @@ pub fn cut_through<R: Read + Drop, W: Write + Drop>(
 
 /// Writes a part of the file of this name to standard output. What `check` says of a file that it
 /// refuses goes to standard error.
+#[inline(never)]
 pub fn cut_named<R: Files + Input + Print + Eprint + AllocGlobal>(
     rt: &R,
     part: Part,

@@ -171,6 +171,7 @@ pub fn show_bytes(alloc: Global, capture: &[u8]) -> Result<Vec<u8>, ToolFault>
 }
 
 /// Writes the lines of the capture of this name to standard output.
+#[inline(never)]
 pub fn show_named<R: Files + Input + Print + Eprint + AllocGlobal>(
     rt: &R,
     hex: bool,

@@ -95,6 +95,7 @@ pub fn summary_status<R: Eprint>(rt: &R, done: Result<(), SummaryFault>) -> u8
 }
 
 /// Writes what the capture of this name holds to standard output.
+#[inline(never)]
 pub fn summarize_named<R: Files + Input + Print + Eprint + AllocGlobal>(rt: &R, name: &str) -> u8
     ensures { result ≤ FAILED }
 {
