@@ -1,0 +1,4 @@
+pub mod FrameLemmas
+pub mod LinkLemmas
+pub mod MarkLemmas
+pub mod ReadLemmas

@@ -1,0 +1,5 @@
+pub mod Finding
+pub mod Links
+pub mod Reading
+pub mod Stations
+pub mod Steps

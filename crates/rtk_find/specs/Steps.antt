@@ -1,0 +1,3 @@
+-- Definitions that only private clauses use.
+pub mod OnlyBelow
+pub mod Standing

@@ -1,0 +1,35 @@
+//! What captures tell that a conversion of them wants to be told: the station, its dates, the links.
+//!
+//! ```rust
+//! use rtk_find::{StationFound, find_in, only_station};
+//! use rtk_frame::{After, MemSource};
+//! use rtk_obs::GpsMs;
+//! use std::alloc::{AllocError, Global};
+//!
+//! // A capture of eight bytes without a frame has no station.
+//! fn example(alloc: Global) -> Result<bool, AllocError> {
+//!     let Some(now) = GpsMs::new(1_394_668_800_000) else {
+//!         return Ok(false);
+//!     };
+//!     let mut capture = MemSource::new(alloc, b"no frame", 512, After::End)?;
+//!     match find_in(alloc, now, None, &mut capture, 100) {
+//!         Ok(found) => Ok(only_station(found.observing.as_slice()) == StationFound::None),
+//!         Err(_) => Ok(false),
+//!     }
+//! }
+//! ```
+//!
+//! Its tests: tests/values/src/find.rt.in and find/
+#![tactic(auto)]
+
+mod fault;
+mod finding;
+mod links;
+mod reading;
+mod stations;
+
+pub use fault::FindFault;
+pub use finding::{Dates, Finder, STATIONS};
+pub use links::{Ordered, in_order, links_of};
+pub use reading::find_in;
+pub use stations::{StationFound, only_station};
