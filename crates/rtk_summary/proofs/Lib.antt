@@ -1,4 +1,5 @@
 pub mod AlikeLemmas
+pub mod CountedLemmas
 pub mod CountingLemmas
 pub mod FourLemmas
 pub mod FrameLemmas

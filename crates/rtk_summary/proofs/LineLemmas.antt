@@ -11,7 +11,7 @@ use Rattle.rtk_summary.specs.Counting.{shown_count, count_of}
 use Rattle.rtk_summary.specs.Proposal.{epochs_with_value, entries_with}
 use Rattle.rtk_summary.specs.Summary.{all_numbers, station_lines, lines_if_any}
 use Rattle.rtk_summary.specs.SummaryText.{number_line, counted_line, numbered_line, list_line, time_lines, untaken_numbers, listed_satellite, satellites_text, joined_names, codes_text, msm_option, next_line, signal_lines, proposal_lines}
-use Rattle.rtk_summary.specs.Steps.Standing.{StandsForEntries, StandsForMessages, StandForMsm, epochs_held, codes_held}
+use Rattle.rtk_summary.specs.Standing.{StandsForEntries, StandsForMessages, StandForMsm, epochs_held, codes_held}
 use Rattle.rtk_summary.specs.Steps.Tables.{counts_text, untaken_text, counts_held}
 use Rattle.rtk_summary.specs.Tracing.{is_numbered, entries_in, has_satellite, has_code, times_of_week}
 use Rattle.rtk_summary.specs.declared.msm_parts.MsmParts.{MsmParts}

@@ -1,8 +1,10 @@
 pub mod Counting
 pub mod CountingLaws
+pub mod Following
 pub mod NumberLaws
 pub mod Proposal
 pub mod ReadFrames
+pub mod Standing
 pub mod Steps
 pub mod Summary
 pub mod SummaryText

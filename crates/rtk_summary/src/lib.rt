@@ -25,9 +25,11 @@ mod capture;
 mod counting;
 mod epochs;
 mod fault;
+mod follower;
 mod laws;
 mod lines;
 mod msm_parts;
+mod reading;
 mod signals;
 mod station;
 mod summary;
@@ -36,7 +38,10 @@ mod unread;
 
 pub use capture::summarize;
 pub use fault::SummaryFault;
+pub use follower::Follower;
 pub use laws::{
     all_are_taken_alike, each_frame_is_counted, four_need_no_option, lines_tell_numbers,
     most_epochs_are_named, parts_stand_in_a_summary, summaries_tell_counts,
 };
+pub use reading::read_capture;
+pub use summary::Summary;

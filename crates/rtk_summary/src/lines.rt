@@ -9,7 +9,7 @@ ghost use Rattle.rtk_summary.specs.ReadFrames.{ReadFrame};
 ghost use Rattle.rtk_summary.specs.SummaryText.{number_line, counted_line, numbered_line, list_line, time_line, time_lines, listed_satellite, satellites_text, codes_text, second_frequency_line, signal_lines, other_msm_line, other_msm_lines, msm_option, next_line, proposal_lines, nothing_line};
 ghost use Rattle.rtk_summary.specs.Summary.{lines_if_any, stations_text, unread_lines, summary_text};
 ghost use Rattle.rtk_summary.specs.Steps.Tables.{counts_text, untaken_text, counts_held};
-ghost use Rattle.rtk_summary.specs.Steps.Standing.{times_of, epochs_held, codes_held, StandsForFaults, StandsForEntries, StandsForMessages, StandForStations, StandsForFrames};
+ghost use Rattle.rtk_summary.specs.Standing.{times_of, epochs_held, codes_held, StandsForFaults, StandsForEntries, StandsForMessages, StandForStations, StandsForFrames};
 
 use crate::msm_parts::MsmParts;
 use crate::signals::Signals;

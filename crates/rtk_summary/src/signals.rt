@@ -4,7 +4,7 @@ ghost use Rattle.std.specs.Prelude.{◌≡◌, ◌<◌, ◌==◌, ◌&&◌, ◌|
 ghost use Rattle.std.specs.List.{list_any};
 ghost use Rattle.rtk_obs.specs.declared.cell.CellEntry.{CellEntry};
 ghost use Rattle.rtk_summary.specs.Proposal.{entry_has_value};
-ghost use Rattle.rtk_summary.specs.Steps.Standing.{StandsForCodes, StandsForEntries};
+ghost use Rattle.rtk_summary.specs.Standing.{StandsForCodes, StandsForEntries};
 ghost use Rattle.rtk_summary.specs.Tracing.{has_value};
 
 use rtk_obs::{Cell, CellEntry};

@@ -3,7 +3,7 @@
 ghost use Rattle.std.specs.Prelude.{◌≡◌, ◌<◌, ◌+◌, ◌==◌, ℕ, List, [], ◌∷◌, length, get_or, IfOk};
 ghost use Rattle.rtk_message.specs.declared.any_fault.AnyFault.{AnyFault};
 ghost use Rattle.rtk_summary.specs.Counting.{shown_count};
-ghost use Rattle.rtk_summary.specs.Steps.Standing.{StandsForFaults, one_if};
+ghost use Rattle.rtk_summary.specs.Standing.{StandsForFaults, one_if};
 
 use rtk_message::AnyFault;
 use std::alloc::{AllocError, Global};

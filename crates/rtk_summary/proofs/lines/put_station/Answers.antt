@@ -2,7 +2,7 @@ use Rattle.std.proofs.Common.{◌++◌, List, ℕ, false, get_or, sym, ap, ◌�
 use Rattle.std.specs.Prelude.{codes}
 use Rattle.rtk_obs.specs.Code.{place_of}
 use Rattle.rtk_summary.specs.SummaryText.{number_line, time_lines, signal_lines, proposal_lines}
-use Rattle.rtk_summary.specs.Steps.Standing.{epochs_held, codes_held}
+use Rattle.rtk_summary.specs.Standing.{epochs_held, codes_held}
 use Rattle.rtk_summary.specs.Steps.Tables.{counts_held}
 use Rattle.rtk_summary.specs.Tracing.{times_of_week}
 use Rattle.rtk_summary.proofs.LineLemmas.{station-lines-are}

@@ -4,7 +4,7 @@ use Rattle.std.specs.List.{range_with_len}
 use Rattle.rtk_message.specs.declared.any_message.AnyMessage.{AnyMessage}
 use Rattle.rtk_summary.specs.ReadFrames.{messages_from}
 use Rattle.rtk_summary.specs.Summary.{lines_if_any}
-use Rattle.rtk_summary.specs.Steps.Standing.{StandForStations}
+use Rattle.rtk_summary.specs.Standing.{StandForStations}
 use Rattle.rtk_summary.proofs.lines.put_stations.Given as goal
 
 abbrev pub invariant-loop-number : goal.invariant-loop-number

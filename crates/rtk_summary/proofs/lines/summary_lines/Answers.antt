@@ -1,7 +1,7 @@
 use Rattle.std.proofs.Common.{append_assoc, ◌∙◌, List, sym, subst, ap, length}
 use Rattle.rtk_summary.specs.ReadFrames.{messages_in, faults_in}
 use Rattle.rtk_summary.specs.Summary.{summary_text}
-use Rattle.rtk_summary.specs.Steps.Standing.{StandForStations}
+use Rattle.rtk_summary.specs.Standing.{StandForStations}
 use Rattle.rtk_summary.specs.declared.station.Station.{Station}
 use Rattle.rtk_summary.proofs.LineLemmas.{codes-are}
 use Rattle.rtk_summary.proofs.lines.summary_lines.Goals as goal

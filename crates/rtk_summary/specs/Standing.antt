@@ -1,5 +1,5 @@
 -- What the parts of a summary hold, tied to the messages and faults that came so far.
-use Rattle.std.specs.Prelude.{◌≡◌, ℕ, ◌<◌, Bool, false, cond, List, Option, length, get_or}
+use Rattle.std.specs.Prelude.{◌≡◌, ℕ, ◌<◌, Bool, false, cond, List, ◌∷◌, length, get_or}
 use Rattle.std.specs.List.{list_any}
 use Rattle.rtk_message.specs.declared.any_message.AnyMessage.{AnyMessage}
 use Rattle.rtk_message.specs.declared.any_fault.AnyFault.{AnyFault}
@@ -9,11 +9,9 @@ use Rattle.rtk_message.specs.MsmForm.{number_of_kind}
 use Rattle.rtk_obs.specs.declared.cell.CellEntry.{CellEntry}
 use Rattle.rtk_obs.specs.declared.code.Code.{Code}
 use Rattle.rtk_obs.specs.Code.{place_of}
-use Rattle.rtk_frame.specs.Stream.{with_more}
 use Rattle.rtk_summary.specs.Counting.{shown_count, count_of}
 use Rattle.rtk_summary.specs.Proposal.{epochs_in, times_with_value, entries_with}
-use Rattle.rtk_summary.specs.ReadFrames.{ReadFrame, ReadsFrames, bytes_in, messages_in, faults_in, messages_from}
-use Rattle.rtk_summary.specs.Summary.{AreFramesOf}
+use Rattle.rtk_summary.specs.ReadFrames.{ReadFrame, bytes_in, messages_in, faults_in, messages_from}
 use Rattle.rtk_summary.specs.Tracing.{is_numbered, is_other, is_short, is_outside_week, is_no_number, is_too_many_cells, times_of_week, newest_time, oldest_time, changes_in, entries_in, gives_satellite, gives_place}
 use Rattle.rtk_summary.specs.declared.epochs.Epochs.{Epochs}
 use Rattle.rtk_summary.specs.declared.msm_parts.MsmPart.{MsmPart}
@@ -116,15 +114,6 @@ pub record StandsForFrames (s : Summary) (fs : List ReadFrame) : Type 0 where
   pub signals : StandsForEntries s.signals (entries_in (messages_in fs))
   pub unread : StandsForFaults s.unread (faults_in fs)
 
--- a source was read to its end: it gave a text of this size, as far as a count shows it, and the
--- summary stands for the frames of the text
-abbrev pub ReadsAll : Option (List ℕ) → Option (List ℕ) → ℕ → Summary → Type 0
-ReadsAll given_old given_new size summary =
-    (bytes : List ℕ) × (fs : List ReadFrame) × (given_new ≡ with_more given_old bytes) × AreFramesOf bytes fs
-    × (size ≡ shown_count (length bytes)) × StandsForFrames summary fs
-
--- frames with these payloads come, in this order: whatever came before, the summary then stands for
--- them too
-abbrev pub CountsFrames : Summary → List (List ℕ) → Summary → Type 0
-CountsFrames old payloads new = (before : List ReadFrame) → StandsForFrames old before
-    → (after : List ReadFrame) × ReadsFrames payloads before after × StandsForFrames new after
+-- a frame more: whatever came before, the summary then stands for it too
+abbrev pub CountsFrame : Summary → ReadFrame → Summary → Type 0
+CountsFrame old f new = (before : List ReadFrame) → StandsForFrames old before → StandsForFrames new (f ∷ before)
