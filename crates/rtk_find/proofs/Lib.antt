@@ -1,4 +1,3 @@
-pub mod FrameLemmas
+pub mod FoundLemmas
 pub mod LinkLemmas
 pub mod MarkLemmas
-pub mod ReadLemmas

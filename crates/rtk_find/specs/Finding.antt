@@ -3,7 +3,6 @@
 use Rattle.std.specs.Prelude.{◌≡◌, ℕ, ◌<◌, ◌==◌, Bool, false, ◌&&◌, List, [], ◌∷◌, length, get_or, Option, None, Some, unwrap_or, Result, Ok, Err, if◌then◌else◌}
 use Rattle.std.specs.List.{list_any}
 use Rattle.rtk_bits.specs.Bits.{bits}
-use Rattle.rtk_frame.specs.Stream.{with_more}
 use Rattle.rtk_message.specs.declared.any_message.AnyMessage.{AnyMessage}
 use Rattle.rtk_message.specs.declared.any_fault.AnyFault.{AnyFault}
 use Rattle.rtk_message.specs.AnyDecoded.{station_of, tow_of}
@@ -12,14 +11,13 @@ use Rattle.rtk_dates.specs.declared.date_message.DateMessage.{DateMessage}
 use Rattle.rtk_dates.specs.CaptureDates.{no_dates, with_epoch, with_date, with_waiting}
 use Rattle.rtk_dates.specs.DateMessages.{date_in}
 use Rattle.rtk_summary.specs.Proposal.{entry_has_value}
-use Rattle.rtk_summary.specs.ReadFrames.{ReadFrame, messages_in}
-use Rattle.rtk_summary.specs.Summary.{AreFramesOf}
-use Rattle.rtk_summary.specs.Tracing.{entries_of}
+use Rattle.rtk_summary.specs.ReadFrames.{ReadFrame}
+use Rattle.rtk_summary.specs.Tracing.{entries_of_message}
 use Rattle.rtk_find.specs.declared.finding.Dates.{Dates}
 
 -- a message has an observation: one of its cells has a range, a phase or a strength
 abbrev pub observes : AnyMessage → Bool
-observes m = list_any entry_has_value (entries_of m)
+observes m = list_any entry_has_value (entries_of_message m)
 
 -- ---- the dates of a capture
 
@@ -50,10 +48,14 @@ abbrev pub with_reading : ℕ → Dates → List ℕ → Result AnyMessage AnyFa
 with_reading now d payload (Ok m) = with_message now d m
 with_reading now d payload (Err fault) = with_date_if_any now d (date_in (bits payload))
 
--- what the frames of a capture tell, by the present, if this station was known before, or none
+-- what frames tell, by the present, after what came before them
+abbrev pub dates_after : ℕ → Dates → List ReadFrame → Dates
+dates_after now d [] = d
+dates_after now d (f ∷ before) = with_reading now (dates_after now d before) f.payload f.reading
+
+-- what the frames of a capture tell, if this station was known before, or none
 abbrev pub dates_of : ℕ → Option ℕ → List ReadFrame → Dates
-dates_of now known [] = dates_with known no_dates
-dates_of now known (f ∷ before) = with_reading now (dates_of now known before) f.payload f.reading
+dates_of now known fs = dates_after now (dates_with known no_dates) fs
 
 -- ---- the stations with observations
 

@@ -1,25 +1,17 @@
-//! What is held of a capture while it is read: the stations with observations, and the dates of one.
-//!
-//! Each frame is looked at where the scanner holds it. What is held stands for the frames so far
-//! (specs/Steps/Standing.antt), whatever the pieces were.
+//! What is held of captures while they are read: their summary, the stations with observations, and
+//! what the capture that is read tells of its dates.
 
 ghost use Rattle.std.specs.Prelude.{◌≡◌, ◌||◌, ◌==◌, ◌<◌, ℕ, List, [], ◌∷◌, true, false, length, get_or, IfOk};
-ghost use Rattle.std.specs.List.{list_any};
 ghost use Rattle.rtk_message.specs.declared.any_message.AnyMessage.{AnyMessage};
-ghost use Rattle.rtk_message.specs.AnyDecoded.{IsValid};
-ghost use Rattle.rtk_message.specs.Decoded as decoded;
-ghost use Rattle.rtk_obs.specs.declared.cell.CellEntry.{CellEntry};
 ghost use Rattle.rtk_dates.specs.CaptureDates.{no_dates};
-ghost use Rattle.rtk_summary.specs.Proposal.{entry_has_value};
-ghost use Rattle.rtk_summary.specs.Tracing.{entries_of, entries_of_four, has_value};
+ghost use Rattle.rtk_summary.specs.Tracing.{entries_of_message};
 ghost use Rattle.rtk_find.specs.Finding.{observes, dates_with, with_message, with_date_if_any, MarkObserving};
-ghost use Rattle.rtk_find.specs.Reading.{StandsFor};
-ghost use Rattle.rtk_find.specs.Steps.Standing.{TakesFrames};
+ghost use Rattle.rtk_find.specs.Reading.{TakesFrame, StandsFor};
 
-use arrayvec::ArrayVec;
 use rtk_dates::{CaptureDates, DateMessage, date_in};
-use rtk_message::{Accepted, AnyDecoder, AnyMessage, Message};
-use rtk_obs::{Cell, CellEntry, GpsMs, put_cells_1004, put_cells_1074, put_cells_msm};
+use rtk_message::{AnyFault, AnyMessage};
+use rtk_obs::{CellEntry, GpsMs};
+use rtk_summary::{Follower, Summary, have_value};
 use std::alloc::{AllocError, Global};
 
 /// How many stations there are: DF003 has 12 bits.
@@ -33,55 +25,25 @@ pub struct Dates {
     pub capture: CaptureDates,
 }
 
-/// What was found in a capture so far. Its memory does not grow.
+/// What was found in captures so far. Its memory does not grow.
 #[derive(Drop)]
 pub struct Finder {
     /// The present: no date is after it.
     pub present: GpsMs,
-    /// How many frames came.
-    pub frames: u64,
+    /// What all captures hold.
+    pub summary: Summary,
+    /// What the last capture tells of its dates.
     pub dates: Dates,
-    /// By station, whether it has an observation.
+    /// By station, whether some capture has an observation of it.
     pub observing: Vec<bool>,
-    decoder: AnyDecoder,
-    // The cells of the last message. Those of the next one are put over them.
-    room: ArrayVec<CellEntry, 64>,
-}
-
-// Puts the cells of a 1004 or a 1074 over a list; a station message has none.
-fn put_entries_of_four(message: &Message, found: &mut ArrayVec<CellEntry, 64>)
-    requires { decoded.IsValid message.now }
-    ensures { found.new.items ≡ entries_of_four message.now }
-{
-    match message {
-        Message::Obs1004(message) => put_cells_1004(message, found),
-        Message::Msm1074(message) => put_cells_1074(message, found),
-        Message::Arp1005(_) | Message::Arp1006(_) => found.clear(),
-    }
-}
-
-// Puts the cells of a message over a list.
-fn put_entries(message: &AnyMessage, found: &mut ArrayVec<CellEntry, 64>)
-    requires { IsValid message.now }
-    ensures { found.new.items ≡ entries_of message.now }
-{
-    match message {
-        AnyMessage::Message(message) => put_entries_of_four(message, found),
-        AnyMessage::Msm(message) => put_cells_msm(message, found),
-    }
-}
-
-fn has_value(cell: &Cell) -> bool
-    ensures { result ≡ has_value cell.now }
-{
-    cell.range_mm.is_some() || cell.phase_millicycles.is_some() || cell.strength_millidbhz.is_some()
 }
 
 // Has a message with these cells an observation?
-fn observes(entries: &[CellEntry]) -> bool
-    ensures { result ≡ list_any entry_has_value entries.now }
+fn observes(_message: &AnyMessage, entries: &[CellEntry]) -> bool
+    requires { entries.now ≡ entries_of_message _message.now }
+    ensures { result ≡ observes _message.now }
 {
-    entries.iter().any(|entry| has_value(&entry.cell))
+    have_value(entries)
 }
 
 // Marks a station.
@@ -139,52 +101,52 @@ impl Dates {
 fn take_message(
     dates: &mut Dates,
     observing: &mut Vec<bool>,
-    room: &mut ArrayVec<CellEntry, 64>,
     now: GpsMs,
     message: &AnyMessage,
+    entries: &[CellEntry],
 )
-    requires { IsValid message.now }
+    requires { entries.now ≡ entries_of_message message.now }
     ensures dates { dates.new ≡ with_message now dates.old message.now }
     ensures size { length observing.new.items ≡ length observing.old.items }
     ensures observing { (ms : List AnyMessage) → MarkObserving observing.old.items ms
         → MarkObserving observing.new.items (message.now ∷ ms) }
 {
-    put_entries(message, room);
-    if observes(room.as_slice()) {
+    if observes(message, entries) {
         mark(observing, message.station());
         dates.take_observation(now, message);
     }
 }
 
 impl Finder {
-    /// Nothing came; this station is known, or none.
-    pub(crate) fn new(alloc: Global, now: GpsMs, station: Option<u16>) -> Result<Finder, AllocError>
-        ensures { IfOk result (StandsFor now station []) }
+    /// Nothing came.
+    pub fn new(alloc: Global, now: GpsMs) -> Result<Finder, AllocError>
+        ensures { IfOk result (λ finder. StandsFor now [] finder) }
     {
         Ok(Finder {
             present: now,
-            frames: 0,
-            dates: Dates::new(station),
+            summary: Summary::new(alloc)?,
+            dates: Dates::new(None),
             observing: vec![in alloc; false; STATIONS]?,
-            decoder: AnyDecoder::new(),
-            room: ArrayVec::new(),
         })
     }
+}
 
-    /// A frame more, by its payload.
-    pub(crate) fn take(&mut self, payload: &[u8])
-        ensures { TakesFrames self.old (payload.now ∷ []) self.new }
-    {
-        self.frames = self.frames.saturating_add(1);
-        match self.decoder.read(Accepted::ALL, payload) {
-            Ok(message) => take_message(
-                &mut self.dates,
-                &mut self.observing,
-                &mut self.room,
-                self.present,
-                message,
-            ),
-            Err(_) => self.dates.take_date(self.present, date_in(payload)),
-        }
+impl Follower for Finder {
+    ghost takes = { TakesFrame };
+
+    fn follow_message(&mut self, payload: &[u8], message: &AnyMessage, entries: &[CellEntry]) {
+        self.summary.follow_message(payload, message, entries);
+        take_message(
+            &mut self.dates,
+            &mut self.observing,
+            self.present,
+            message,
+            entries,
+        );
+    }
+
+    fn follow_fault(&mut self, payload: &[u8], fault: AnyFault) {
+        self.summary.follow_fault(payload, fault);
+        self.dates.take_date(self.present, date_in(payload));
     }
 }

@@ -1,7 +1,7 @@
 //! What captures tell that a conversion of them wants to be told: the station, its dates, the links.
 //!
 //! ```rust
-//! use rtk_find::{StationFound, find_in, only_station};
+//! use rtk_find::{Finder, StationFound, find_in, only_station};
 //! use rtk_frame::{After, MemSource};
 //! use rtk_obs::GpsMs;
 //! use std::alloc::{AllocError, Global};
@@ -11,9 +11,10 @@
 //!     let Some(now) = GpsMs::new(1_394_668_800_000) else {
 //!         return Ok(false);
 //!     };
+//!     let mut finder = Finder::new(alloc, now)?;
 //!     let mut capture = MemSource::new(alloc, b"no frame", 512, After::End)?;
-//!     match find_in(alloc, now, None, &mut capture, 100) {
-//!         Ok(found) => Ok(only_station(found.observing.as_slice()) == StationFound::None),
+//!     match find_in(alloc, &mut finder, None, &mut capture, 100) {
+//!         Ok(_) => Ok(only_station(finder.observing.as_slice()) == StationFound::None),
 //!         Err(_) => Ok(false),
 //!     }
 //! }
@@ -22,13 +23,11 @@
 //! Its tests: tests/values/src/find.rt.in and find/
 #![tactic(auto)]
 
-mod fault;
 mod finding;
 mod links;
 mod reading;
 mod stations;
 
-pub use fault::FindFault;
 pub use finding::{Dates, Finder, STATIONS};
 pub use links::{Ordered, in_order, links_of};
 pub use reading::find_in;

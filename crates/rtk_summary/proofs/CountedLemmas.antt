@@ -7,6 +7,7 @@ use Rattle.rtk_summary.specs.ReadFrames.{ReadFrame}
 use Rattle.rtk_summary.specs.Standing.{StandsForFrames, CountsFrame}
 use Rattle.rtk_summary.specs.Steps.ReadAll.{ReadsAll}
 use Rattle.rtk_summary.specs.declared.fault.SummaryFault.{SummaryFault}
+use Rattle.rtk_summary.specs.declared.reading.CaptureRead.{CaptureRead}
 use Rattle.rtk_summary.specs.declared.summary.Summary.{Summary}
 
 -- whatever came before these frames
@@ -14,14 +15,15 @@ pub stands-all : (old new : Summary) (fs before : List ReadFrame) → FollowsAll
 stands-all old new [] before none stands = subst (λ (s : Summary). StandsForFrames s before) (sym none) stands
 stands-all old new (f ∷ fs) before some stands = some.2 (fs ++ before) (stands-all old some.0 fs before some.1 stands)
 
-pub reads-all : (given_old given_new : Option (List ℕ)) (r : Result ℕ SummaryFault) (old new : Summary) → StandsForFrames old []
-    → IfOk r (λ size. FollowsCapture CountsFrame given_old given_new size old new) → IfOk r (λ size. ReadsAll given_old given_new size new)
-reads-all given_old given_new (Ok size) old new stands read = (
-  read.0,
-  read.1,
-  read.2,
-  read.3,
-  read.4,
-  subst (λ (fs : List ReadFrame). StandsForFrames new fs) (append-nil read.1) (stands-all old new read.1 [] read.5 stands),
+pub reads-all : (given_old given_new : Option (List ℕ)) (r : Result CaptureRead SummaryFault) (old new : Summary) → StandsForFrames old []
+    → IfOk r (λ read. FollowsCapture CountsFrame given_old given_new read old new) → IfOk r (λ read. ReadsAll given_old given_new read new)
+reads-all given_old given_new (Ok read) old new stands f = (
+  f.0,
+  f.1,
+  f.2,
+  f.3,
+  f.4,
+  f.5,
+  subst (λ (fs : List ReadFrame). StandsForFrames new fs) (append-nil f.1) (stands-all old new f.1 [] f.6 stands),
 )
-reads-all given_old given_new (Err fault) old new stands read = read
+reads-all given_old given_new (Err fault) old new stands f = f

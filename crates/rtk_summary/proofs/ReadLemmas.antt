@@ -1,5 +1,5 @@
 -- A source that is read piece by piece, and what followed the frames so far.
-use Rattle.std.proofs.Common.{◌≡◌, ◌≤◌, ◌+◌, ℕ, List, [], ◌∷◌, ◌++◌, Option, length, take, drop, refl, sym, ap, subst, ◌∙◌, length-append, arith}
+use Rattle.std.proofs.Common.{◌≡◌, ◌≤◌, ◌+◌, ◌-◌, ℕ, zero, suc, List, [], ◌∷◌, ◌++◌, Option, length, take, drop, min, refl, sym, ap, subst, ◌∙◌, length-append, arith}
 use Rattle.std.proofs.Math.Seq.{take-append_seam}
 use Rattle.std.proofs.lemmas.Grind.{common_steps}
 use Rattle.rtk_frame.specs.Frames.{final_from, frames, final_frames, payloads, pending, pending_from}
@@ -9,6 +9,7 @@ use Rattle.rtk_summary.specs.Counting.{shown_count}
 use Rattle.rtk_summary.specs.Following.{FollowsAll, FollowsCapture}
 use Rattle.rtk_summary.specs.ReadFrames.{ReadFrame, ReadsFrames, read_frame}
 use Rattle.rtk_summary.specs.Steps.Followed.{Follows}
+use Rattle.rtk_summary.specs.declared.reading.CaptureRead.{CaptureRead}
 use Rattle.rtk_summary.proofs.FrameLemmas.{all-append, reads-behind}
 
 -- frames that come after others
@@ -16,33 +17,44 @@ reads-append : (ps qs : List (List ℕ)) (a b c : List ReadFrame) → ReadsFrame
 reads-append [] qs a b c none more = subst (λ (fs : List ReadFrame). ReadsFrames qs fs c) none more
 reads-append (p ∷ ps) qs a b c some more = (some.0, some.1, reads-append ps qs (read_frame p some.0 ∷ a) b c some.2 more)
 
+take-none : (n : ℕ) → take n [] ≡ []
+take-none zero = refl
+take-none (suc n) = refl
+
+take-again : (n : ℕ) (xs ys : List ℕ) → take n (take n xs ++ ys) ≡ take n (xs ++ ys)
+take-again zero xs ys = refl
+take-again (suc n) [] ys = refl
+take-again (suc n) (x ∷ xs) ys = ap (λ (t : List ℕ). x ∷ t) (take-again n xs ys)
+
 -- a source gave some bytes, and their final frames were followed
-pub record HasRead {S : Type 0} (takes : S → ReadFrame → S → Type 0) (given_old given_new : Option (List ℕ)) (waiting : List ℕ) (count : ℕ) (start now : S) : Type 0 where
+pub record HasRead {S : Type 0} (takes : S → ReadFrame → S → Type 0) (given_old given_new : Option (List ℕ)) (waiting : List ℕ) (count : ℕ) (head : List ℕ) (start now : S) : Type 0 where
   pub bytes : List ℕ
   pub fs : List ReadFrame
   pub given : given_new ≡ with_more given_old bytes
   pub reads : ReadsFrames (payloads (final_frames bytes)) [] fs
   pub waits : waiting ≡ pending bytes
   pub size : count ≡ shown_count (length bytes)
+  pub begins : head ≡ take 512 bytes
   pub followed : FollowsAll takes start fs now
 
-pub read-nothing : {S : Type 0} (takes : S → ReadFrame → S → Type 0) (given : Option (List ℕ)) (waiting : List ℕ) (s : S) → waiting ≡ [] → HasRead takes given given waiting 0 s s
+pub read-nothing : {S : Type 0} (takes : S → ReadFrame → S → Type 0) (given : Option (List ℕ)) (waiting head : List ℕ) (s : S) → waiting ≡ [] → head ≡ [] → HasRead takes given given waiting 0 head s s
 unfolding final_from pending_from
-read-nothing takes given waiting s none = record {
+read-nothing takes given waiting head s none empty = record {
   bytes = [];
   fs = [];
   given = sym (with_more-nil given);
   reads = refl;
   waits = none;
   size = refl;
+  begins = empty ∙ sym (take-none 512);
   followed = refl;
 }
 
-pub read-piece : {S : Type 0} (takes : S → ReadFrame → S → Type 0) (given_0 given_1 given_2 : Option (List ℕ)) (waiting_1 waiting_2 more : List ℕ) (count_1 count_2 : ℕ) (start s_1 s_2 : S)
-    → HasRead takes given_0 given_1 waiting_1 count_1 start s_1 → given_2 ≡ with_more given_1 more → Follows takes s_1 (payloads (final_frames (waiting_1 ++ more))) s_2
-    → waiting_2 ≡ pending (waiting_1 ++ more) → count_2 ≡ shown_count (count_1 + length more)
-    → HasRead takes given_0 given_2 waiting_2 count_2 start s_2
-read-piece takes given_0 given_1 given_2 waiting_1 waiting_2 more count_1 count_2 start s_1 s_2 h gives t waits counts =
+pub read-piece : {S : Type 0} (takes : S → ReadFrame → S → Type 0) (given_0 given_1 given_2 : Option (List ℕ)) (waiting_1 waiting_2 more : List ℕ) (count_1 count_2 : ℕ) (head_1 head_2 : List ℕ) (start s_1 s_2 : S)
+    → HasRead takes given_0 given_1 waiting_1 count_1 head_1 start s_1 → given_2 ≡ with_more given_1 more → Follows takes s_1 (payloads (final_frames (waiting_1 ++ more))) s_2
+    → waiting_2 ≡ pending (waiting_1 ++ more) → count_2 ≡ shown_count (count_1 + length more) → head_2 ≡ take 512 (head_1 ++ more)
+    → HasRead takes given_0 given_2 waiting_2 count_2 head_2 start s_2
+read-piece takes given_0 given_1 given_2 waiting_1 waiting_2 more count_1 count_2 head_1 head_2 start s_1 s_2 h gives t waits counts begin =
     let size = h.size in
     let both = length-append h.bytes more in
     record {
@@ -55,13 +67,14 @@ read-piece takes given_0 given_1 given_2 waiting_1 waiting_2 more count_1 count_
           (reads-behind (payloads (final_frames (waiting_1 ++ more))) [] t.0 h.fs t.1)));
       waits = waits ∙ ap (λ (w : List ℕ). pending (w ++ more)) h.waits ∙ sym (pending_cut h.bytes more);
       size = omega (arith, counts, size, both);
+      begins = begin ∙ ap (λ (head : List ℕ). take 512 (head ++ more)) h.begins ∙ take-again 512 h.bytes more;
       followed = all-append takes start s_1 s_2 h.fs t.0 h.followed t.2;
     }
 
-pub read-end : {S : Type 0} (takes : S → ReadFrame → S → Type 0) (given_0 given_1 given_2 : Option (List ℕ)) (waiting : List ℕ) (count : ℕ) (start s_1 s_2 : S)
-    → HasRead takes given_0 given_1 waiting count start s_1 → given_2 ≡ with_more given_1 [] → Follows takes s_1 (payloads (frames waiting)) s_2
-    → FollowsCapture takes given_0 given_2 count start s_2
-read-end takes given_0 given_1 given_2 waiting count start s_1 s_2 h gives t = (
+pub read-end : {S : Type 0} (takes : S → ReadFrame → S → Type 0) (given_0 given_1 given_2 : Option (List ℕ)) (waiting : List ℕ) (read : CaptureRead) (start s_1 s_2 : S)
+    → HasRead takes given_0 given_1 waiting read.size read.head.items start s_1 → given_2 ≡ with_more given_1 [] → Follows takes s_1 (payloads (frames waiting)) s_2
+    → FollowsCapture takes given_0 given_2 read start s_2
+read-end takes given_0 given_1 given_2 waiting read start s_1 s_2 h gives t = (
   h.bytes,
   t.0 ++ h.fs,
   gives ∙ with_more-nil given_1 ∙ h.given,
@@ -69,6 +82,7 @@ read-end takes given_0 given_1 given_2 waiting count start s_1 s_2 h gives t = (
       (reads-append (payloads (final_frames h.bytes)) (payloads (frames (pending h.bytes))) [] h.fs (t.0 ++ h.fs) h.reads
       (subst (λ (w : List ℕ). ReadsFrames (payloads (frames w)) h.fs (t.0 ++ h.fs)) h.waits (reads-behind (payloads (frames waiting)) [] t.0 h.fs t.1))),
   h.size,
+  h.begins,
   all-append takes start s_1 s_2 h.fs t.0 h.followed t.2,
 )
 
@@ -82,3 +96,24 @@ refilled buf old len as_many known =
 
 pub length-first : (n : ℕ) (xs : List ℕ) → n ≤ length xs → length (take n xs) ≡ n
 length-first n xs within = grind (arith, common_steps)
+
+-- ---- the first bytes
+
+take-few : (n room : ℕ) (xs : List ℕ) → n ≡ min (length xs) room → take n xs ≡ take room xs
+take-few n room [] is = take-none n ∙ sym (take-none room)
+take-few n zero (x ∷ xs) is = let none : n ≡ 0 = omega (arith, is) in ap (λ (k : ℕ). take k (x ∷ xs)) none
+take-few n (suc room) (x ∷ xs) is =
+    let more : n ≡ suc (n - 1) = omega (arith, is) in
+    let less : n - 1 ≡ min (length xs) room = omega (arith, is) in
+    ap (λ (k : ℕ). take k (x ∷ xs)) more ∙ ap (λ (t : List ℕ). x ∷ t) (take-few (n - 1) room xs less)
+
+take-past : (old xs : List ℕ) (room : ℕ) → take (length old + room) (old ++ xs) ≡ old ++ take room xs
+take-past [] xs room = refl
+take-past (x ∷ old) xs room =
+    let more : length (x ∷ old) + room ≡ suc (length old + room) = omega arith in
+    ap (λ (k : ℕ). take k (x ∷ (old ++ xs))) more ∙ ap (λ (t : List ℕ). x ∷ t) (take-past old xs room)
+
+-- a piece is added as far as there is room
+pub head-more : (old piece : List ℕ) (room count : ℕ) → length old + room ≡ 512 → count ≡ min (length piece) room → old ++ take count piece ≡ take 512 (old ++ piece)
+head-more old piece room count whole is =
+    ap (λ (t : List ℕ). old ++ t) (take-few count room piece is) ∙ sym (take-past old piece room) ∙ ap (λ (k : ℕ). take k (old ++ piece)) whole

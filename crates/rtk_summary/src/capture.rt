@@ -11,20 +11,20 @@ ghost use Rattle.rtk_summary.specs.declared.fault.SummaryFault.TheVariants.{Read
 
 use crate::fault::SummaryFault;
 use crate::lines::summary_lines;
-use crate::reading::read_capture;
+use crate::reading::{CaptureRead, read_capture};
 use crate::summary::Summary;
 use rtk_frame::{Sink, Source, write_all};
 use std::alloc::Global;
 
-// Reads a source to its end, and answers how many bytes it gave; the summary counts its frames.
+// Reads a source to its end; the summary counts its frames.
 fn read_all<R: Source>(
     alloc: Global,
     reader: &mut R,
     summary: &mut Summary,
     max_reads: u64,
-) -> Result<u64, SummaryFault>
+) -> Result<CaptureRead, SummaryFault>
     requires { StandsForFrames summary.old [] }
-    ensures read { IfOk result (λ size. ReadsAll (R.given reader.old) (R.given reader.new) size summary.new) }
+    ensures read { IfOk result (λ read. ReadsAll (R.given reader.old) (R.given reader.new) read summary.new) }
     ensures to_the_end { OnOk result (R.is_at_end reader.new) }
     ensures reads { R.calls reader.new ≤ R.calls reader.old + max_reads }
     ensures read_failed { IsErrOf result Read → CountRises (R.failures reader.old) (R.failures reader.new) }
@@ -60,8 +60,8 @@ pub fn summarize<R: Source, W: Sink>(
     ensures nothing { IfErr result (λ fault. fault ≢ Write → W.taken out.new ≡ W.taken out.old) }
 {
     let mut summary = Summary::new(alloc)?;
-    let bytes = read_all(alloc, reader, &mut summary, max_reads)?;
-    let lines = summary_lines(alloc, bytes, &summary)?;
+    let read = read_all(alloc, reader, &mut summary, max_reads)?;
+    let lines = summary_lines(alloc, read.size, &summary)?;
     if write_all(out, lines.as_slice()).is_err() {
         return Err(SummaryFault::Write);
     }

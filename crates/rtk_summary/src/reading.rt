@@ -3,7 +3,7 @@
 //! A read asks for 32,768 bytes. A frame is decoded where the scanner holds it, whatever the pieces
 //! are.
 
-ghost use Rattle.std.specs.Prelude.{◌≡◌, ◌≢◌, ◌≤◌, ◌+◌, ◌++◌, [], ◌∷◌, Err, IfOk, IsErrOf, OnOk, false};
+ghost use Rattle.std.specs.Prelude.{◌≡◌, ◌≢◌, ◌≤◌, ◌+◌, ◌++◌, [], ◌∷◌, length, take, Err, IfOk, IsErrOf, OnOk, false};
 ghost use Rattle.rtk_frame.specs.Frames.{frames, final_frames, payloads, pending};
 ghost use Rattle.rtk_frame.specs.Stream.{CountRises};
 ghost use Rattle.rtk_message.specs.AnyDecoded.{IsValid};
@@ -24,6 +24,17 @@ use std::alloc::Global;
 
 /// The most bytes that one read asks for.
 const PIECE: usize = 32_768;
+
+/// How many bytes of a capture are kept from its beginning.
+const HEAD: usize = 512;
+
+/// A capture that was read to its end: how many bytes it has, and the first 512 of them.
+#[derive(Drop)]
+pub struct CaptureRead {
+    /// Stays at the greatest `u64`.
+    pub size: u64,
+    pub head: ArrayVec<u8, HEAD>,
+}
 
 // Decodes payloads one after another.
 #[derive(Drop)]
@@ -113,16 +124,35 @@ fn follow_rest<F: Follower>(scanner: &mut Scanner, decoding: &mut Decoding, foll
     }
 }
 
-/// Reads a capture once, to its end, and answers how many bytes it has. The follower takes its frames.
+// Appends bytes that fit.
+fn add(head: &mut ArrayVec<u8, HEAD>, bytes: &[u8])
+    requires { length head.old.items + length bytes.now ≤ 512 }
+    ensures { head.new.items ≡ head.old.items ++ bytes.now }
+{
+    if head.try_extend_from_slice(bytes).is_err() {
+        unreachable!();
+    }
+}
+
+// Adds a piece to the first bytes of a capture, as far as there is room.
+fn add_piece(head: &mut ArrayVec<u8, HEAD>, piece: &[u8])
+    ensures { head.new.items ≡ take 512 (head.old.items ++ piece.now) }
+{
+    let room = head.remaining_capacity();
+    let count = piece.len().min(room);
+    add(head, &piece[..count]);
+}
+
+/// Reads a capture once, to its end. The follower takes its frames.
 pub fn read_capture<R: Source, F: Follower>(
     alloc: Global,
     reader: &mut R,
     follower: &mut F,
     max_reads: u64,
-) -> Result<u64, SummaryFault>
+) -> Result<CaptureRead, SummaryFault>
     // Done: what was read, and what the follower is after its frames.
-    ensures read { IfOk result (λ size.
-        FollowsCapture F.takes (R.given reader.old) (R.given reader.new) size follower.old follower.new) }
+    ensures read { IfOk result (λ read.
+        FollowsCapture F.takes (R.given reader.old) (R.given reader.new) read follower.old follower.new) }
     ensures to_the_end { OnOk result (R.is_at_end reader.new) }
     ensures reads { R.calls reader.new ≤ R.calls reader.old + max_reads }
 
@@ -137,17 +167,20 @@ pub fn read_capture<R: Source, F: Follower>(
     };
     let mut decoding = Decoding::new();
     let mut piece = vec![in alloc; 0u8; PIECE]?;
-    let mut bytes = 0u64;
+    let mut size = 0u64;
+    let mut head = ArrayVec::new();
     'reads: for _made in 0..max_reads {
         let Ok(count) = reader.read(piece.as_mut_slice()) else {
             return Err(SummaryFault::Read);
         };
         if count == 0 {
             follow_rest(&mut scanner, &mut decoding, follower);
-            return Ok(bytes);
+            return Ok(CaptureRead { size, head });
         }
-        bytes = bytes.saturating_add(count as u64);
-        follow_piece(&mut scanner, &mut decoding, follower, &piece[..count]);
+        let part = &piece[..count];
+        size = size.saturating_add(count as u64);
+        add_piece(&mut head, part);
+        follow_piece(&mut scanner, &mut decoding, follower, part);
     }
     Err(SummaryFault::Endless)
 }

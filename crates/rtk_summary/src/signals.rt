@@ -42,7 +42,7 @@ fn mark(marks: &mut [bool], place: usize, has_value: bool)
 }
 
 /// Some cell has a value.
-pub(crate) fn have_value(entries: &[CellEntry]) -> bool
+pub fn have_value(entries: &[CellEntry]) -> bool
     ensures { result ≡ list_any entry_has_value entries.now }
 {
     entries.iter().any(|entry| has_value(&entry.cell))

@@ -7,8 +7,7 @@ returns c =
     let marks = c.in_ok-vec.ensures.items_if_clones_equal (λ y same. same) in
     record {
       present = refl;
-      frames = refl;
-      dates = c.new.ensures;
+      summary = c.in_ok-new.ensures;
       size = as-many c.in_ok-vec.field-0.items 4096 false marks;
       observing = marks-none c.in_ok-vec.field-0.items 4096 marks;
     }
