@@ -1,6 +1,7 @@
 pub mod AlikeLemmas
 pub mod CountedLemmas
 pub mod CountingLemmas
+pub mod CutLemmas
 pub mod FourLemmas
 pub mod FrameLemmas
 pub mod FreshLemmas

@@ -1,5 +1,5 @@
 -- A source that is read piece by piece, and what followed the frames so far.
-use Rattle.std.proofs.Common.{◌≡◌, ◌≤◌, ◌+◌, ◌-◌, ℕ, zero, suc, List, [], ◌∷◌, ◌++◌, Option, length, take, drop, min, refl, sym, ap, subst, ◌∙◌, length-append, arith}
+use Rattle.std.proofs.Common.{◌≡◌, ◌≤◌, ◌+◌, ℕ, List, [], ◌∷◌, ◌++◌, Option, length, take, drop, refl, sym, ap, subst, ◌∙◌, length-append, arith}
 use Rattle.std.proofs.Math.Seq.{take-append_seam}
 use Rattle.std.proofs.lemmas.Grind.{common_steps}
 use Rattle.rtk_frame.specs.Frames.{final_from, frames, final_frames, payloads, pending, pending_from}
@@ -10,21 +10,13 @@ use Rattle.rtk_summary.specs.Following.{FollowsAll, FollowsCapture}
 use Rattle.rtk_summary.specs.ReadFrames.{ReadFrame, ReadsFrames, read_frame}
 use Rattle.rtk_summary.specs.Steps.Followed.{Follows}
 use Rattle.rtk_summary.specs.declared.reading.CaptureRead.{CaptureRead}
+use Rattle.rtk_summary.proofs.CutLemmas.{take-none, take-again}
 use Rattle.rtk_summary.proofs.FrameLemmas.{all-append, reads-behind}
 
 -- frames that come after others
 reads-append : (ps qs : List (List ℕ)) (a b c : List ReadFrame) → ReadsFrames ps a b → ReadsFrames qs b c → ReadsFrames (ps ++ qs) a c
 reads-append [] qs a b c none more = subst (λ (fs : List ReadFrame). ReadsFrames qs fs c) none more
 reads-append (p ∷ ps) qs a b c some more = (some.0, some.1, reads-append ps qs (read_frame p some.0 ∷ a) b c some.2 more)
-
-take-none : (n : ℕ) → take n [] ≡ []
-take-none zero = refl
-take-none (suc n) = refl
-
-take-again : (n : ℕ) (xs ys : List ℕ) → take n (take n xs ++ ys) ≡ take n (xs ++ ys)
-take-again zero xs ys = refl
-take-again (suc n) [] ys = refl
-take-again (suc n) (x ∷ xs) ys = ap (λ (t : List ℕ). x ∷ t) (take-again n xs ys)
 
 -- a source gave some bytes, and their final frames were followed
 pub record HasRead {S : Type 0} (takes : S → ReadFrame → S → Type 0) (given_old given_new : Option (List ℕ)) (waiting : List ℕ) (count : ℕ) (head : List ℕ) (start now : S) : Type 0 where
@@ -96,24 +88,3 @@ refilled buf old len as_many known =
 
 pub length-first : (n : ℕ) (xs : List ℕ) → n ≤ length xs → length (take n xs) ≡ n
 length-first n xs within = grind (arith, common_steps)
-
--- ---- the first bytes
-
-take-few : (n room : ℕ) (xs : List ℕ) → n ≡ min (length xs) room → take n xs ≡ take room xs
-take-few n room [] is = take-none n ∙ sym (take-none room)
-take-few n zero (x ∷ xs) is = let none : n ≡ 0 = omega (arith, is) in ap (λ (k : ℕ). take k (x ∷ xs)) none
-take-few n (suc room) (x ∷ xs) is =
-    let more : n ≡ suc (n - 1) = omega (arith, is) in
-    let less : n - 1 ≡ min (length xs) room = omega (arith, is) in
-    ap (λ (k : ℕ). take k (x ∷ xs)) more ∙ ap (λ (t : List ℕ). x ∷ t) (take-few (n - 1) room xs less)
-
-take-past : (old xs : List ℕ) (room : ℕ) → take (length old + room) (old ++ xs) ≡ old ++ take room xs
-take-past [] xs room = refl
-take-past (x ∷ old) xs room =
-    let more : length (x ∷ old) + room ≡ suc (length old + room) = omega arith in
-    ap (λ (k : ℕ). take k (x ∷ (old ++ xs))) more ∙ ap (λ (t : List ℕ). x ∷ t) (take-past old xs room)
-
--- a piece is added as far as there is room
-pub head-more : (old piece : List ℕ) (room count : ℕ) → length old + room ≡ 512 → count ≡ min (length piece) room → old ++ take count piece ≡ take 512 (old ++ piece)
-head-more old piece room count whole is =
-    ap (λ (t : List ℕ). old ++ t) (take-few count room piece is) ∙ sym (take-past old piece room) ∙ ap (λ (k : ℕ). take k (old ++ piece)) whole

@@ -1,6 +1,7 @@
 pub mod Counting
 pub mod CountingLaws
 pub mod Following
+pub mod Look
 pub mod NumberLaws
 pub mod Proposal
 pub mod ReadFrames

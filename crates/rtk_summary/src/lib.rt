@@ -28,6 +28,7 @@ mod fault;
 mod follower;
 mod laws;
 mod lines;
+mod look;
 mod msm_parts;
 mod reading;
 mod signals;
@@ -43,6 +44,7 @@ pub use laws::{
     all_are_taken_alike, each_frame_is_counted, four_need_no_option, lines_tell_numbers,
     most_epochs_are_named, parts_stand_in_a_summary, summaries_tell_counts,
 };
+pub use look::{Look, look_of};
 pub use reading::{CaptureRead, read_capture};
 pub use signals::have_value;
 pub use summary::Summary;

@@ -10,7 +10,7 @@ use Rattle.rtk_summary.proofs.reading.read_capture.Goals as goal
 
 pub reads-init : goal.reads-init
 reads-init g c = record {
-  so_far = read-nothing g.F.Follower.takes (g.R.Source.given c.args.reader.now) c.in-Ok.scanner.pending c.new-head.result.items c.args.follower.now (ap (λ (s : ScannerView). s.pending) c.in-Ok.ensures.start) c.new-head.ensures.items;
+  so_far = read-nothing g.F.Follower.takes (g.R.Source.given c.args.reader.now) c.in-Ok.scanner.pending c.new-head.result.items c.args.follower.now (ap (λ (s : ScannerView). s.pending) c.in-Ok.ensures.start) c.new-head.ensures;
   is_open = ap (λ (s : ScannerView). s.ended) c.in-Ok.ensures.start;
   room = as-many c.in_ok-piece.piece.items 32768 0 (c.in_ok-piece.ensures.items_if_clones_equal (λ y same. same));
   failures = refl;
