@@ -43,7 +43,7 @@ FollowsOn {S} takes here left start all = (end : S) → Follows takes here left 
 
 -- ---- the scanner's answers
 
-rest-is : (at : ℕ) (p : List ℕ) → take (length p - at) (drop at p) ≡ drop at p
+pub rest-is : (at : ℕ) (p : List ℕ) → take (length p - at) (drop at p) ≡ drop at p
 rest-is at p = grind (arith, common_steps)
 
 -- of a piece p from a place on, after the pending bytes s1, the next frame was found: s2 is

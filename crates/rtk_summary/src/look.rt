@@ -1,7 +1,7 @@
 //! What a file looks like that has no frame.
 
 ghost use Rattle.std.specs.Prelude.{◌≡◌, nat_eq, drop};
-ghost use Rattle.std.specs.List.{starts_with};
+ghost use Rattle.std.specs.List.{list_all, starts_with};
 ghost use Rattle.rtk_summary.specs.Look as spec;
 
 /// What a file looks like, by its first bytes.
@@ -70,12 +70,18 @@ fn is_nmea(head: &[u8]) -> bool
         && is_capital(head[2])
 }
 
+fn all_hex_text(bytes: &[u8]) -> bool
+    ensures { result ≡ list_all spec.is_hex_text bytes.now }
+{
+    bytes.iter().all(|byte| is_hex_text(*byte))
+}
+
 // The first 64 bytes are hex text.
 fn are_hex_text(head: &[u8]) -> bool
     ensures { result ≡ spec.are_hex_text head.now }
 {
     let few = head.len().min(64);
-    head[..few].iter().all(|byte| is_hex_text(*byte))
+    all_hex_text(&head[..few])
 }
 
 fn is_hex(head: &[u8]) -> bool

@@ -5,6 +5,8 @@
 
 ghost use Rattle.std.specs.Prelude.{◌≡◌, List, [], ◌∷◌, length, IfOk};
 ghost use Rattle.rtk_message.specs.declared.any_message.AnyMessage.{AnyMessage};
+ghost use Rattle.rtk_summary.specs.Counting.{shown_count};
+ghost use Rattle.rtk_summary.specs.ReadFrames.{ReadFrame};
 ghost use Rattle.rtk_summary.specs.Standing.{StandsForFrames, StandForStations, CountsFrame};
 ghost use Rattle.rtk_summary.specs.Tracing.{entries_of_message};
 
@@ -54,6 +56,13 @@ impl Summary {
             signals: Signals::new(),
             unread: Unread::new(alloc)?,
         })
+    }
+
+    /// How many frames came.
+    pub fn frames(&self) -> u64
+        ensures { (fs : List ReadFrame) → StandsForFrames self.now fs → result ≡ shown_count (length fs) }
+    {
+        self.frames
     }
 }
 
