@@ -43,11 +43,15 @@ moment_of d = day_ms * (d.day - first_day) + 1000 * d.second
 abbrev pub day_of : ℕ → ℕ
 day_of t = first_day + t / day_ms
 
+-- constant
+-- the day is not before 1980-01-13, and a day has the second; other dates tell nothing
+abbrev pub is_date : UtcDate → Bool
+is_date d = nat_le 44_251 d.day && nat_le d.second 86_400
+
 -- formula
--- the day is not before 1980-01-13 and not more than one after that of now, and a day has the second;
--- other dates tell nothing
+-- a date that is not more than one day after that of now
 abbrev pub is_possible : ℕ → UtcDate → Bool
-is_possible now d = nat_le 44_251 d.day && (nat_le d.second 86_400 && nat_le d.day (day_of now + 1))
+is_possible now d = is_date d && nat_le d.day (day_of now + 1)
 
 -- formula
 abbrev pub told_by_utc : ℕ → UtcDate → ℕ → Option ℕ

@@ -33,5 +33,5 @@ pub use date_message::{DateMessage, EphemerisDate, UtcDate, date_in};
 pub use dating::{CaptureEpochs, Placed, base_of, is_dated_near, near_of, place_captures};
 pub use laws::{dates_are_nearest, told_moments_are_nearest};
 pub use span::Span;
-pub use telling::{dated, told};
+pub use telling::{dated, is_date, moment_of, told};
 pub use tellings::{Tellings, Told};

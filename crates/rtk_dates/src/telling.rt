@@ -32,13 +32,23 @@ pub fn dated(near: GpsMs, tow: u32) -> u64
     dated_ms(near.ms(), tow)
 }
 
-// The moment of a day and a second.
-fn moment_of(date: UtcDate) -> u64
-    ensures value { result ≡ spec.moment_of date }
-    ensures bound { result < 2 ^ 59 }
+/// The moment of a day and a second. A day before 1980-01-06 counts as that day.
+pub fn moment_of(date: UtcDate) -> GpsMs
+    ensures { result ≡ spec.moment_of date }
 {
     let days = u64::from(date.day).saturating_sub(FIRST_DAY);
-    DAY_MS * days + 1000 * u64::from(date.second)
+    let Some(moment) = GpsMs::new(DAY_MS * days + 1000 * u64::from(date.second)) else {
+        unreachable!();
+    };
+    moment
+}
+
+/// Does the message tell a date, and one near which a conversion dates? Its day is not before
+/// 1980-01-13, and a day has its second.
+pub fn is_date(date: UtcDate) -> bool
+    ensures { result ≡ spec.is_date date }
+{
+    EARLIEST_DAY <= date.day && date.second <= 86_400
 }
 
 // Is it a date, and none that is still to come?
@@ -46,14 +56,14 @@ fn is_possible(now: GpsMs, date: UtcDate) -> bool
     ensures { result ≡ spec.is_possible now date }
 {
     let tomorrow = FIRST_DAY + now.ms() / DAY_MS + 1;
-    EARLIEST_DAY <= date.day && date.second <= 86_400 && u64::from(date.day) <= tomorrow
+    is_date(date) && u64::from(date.day) <= tomorrow
 }
 
 fn told_by_utc(now: GpsMs, date: UtcDate, tow: u32) -> Option<u64>
     ensures { result ≡ spec.told_by_utc now date tow }
 {
     if is_possible(now, date) {
-        Some(dated_ms(moment_of(date) + 1, tow))
+        Some(dated_ms(moment_of(date).ms() + 1, tow))
     } else {
         None
     }
