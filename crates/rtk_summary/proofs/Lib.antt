@@ -2,6 +2,7 @@ pub mod AlikeLemmas
 pub mod CountedLemmas
 pub mod CountingLemmas
 pub mod CutLemmas
+pub mod DateLemmas
 pub mod FourLemmas
 pub mod FrameLemmas
 pub mod FreshLemmas

@@ -29,3 +29,8 @@ pub record StandsWithDates (s : DatedSummary) (fs : List ReadFrame) : Type 0 whe
 -- a frame more: whatever came before, what is held then stands for it too
 abbrev pub CountsDatedFrame : DatedSummary → ReadFrame → DatedSummary → Type 0
 CountsDatedFrame old f new = (before : List ReadFrame) → StandsWithDates old before → StandsWithDates new (f ∷ before)
+
+-- there is a place for each station and each week
+pub record HasPlaces (s : DatedSummary) : Type 0 where
+  pub stations : length s.summary.stations.items ≡ 4096
+  pub dates : length s.dates.stations.items ≡ 4096

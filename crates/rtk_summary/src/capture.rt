@@ -4,27 +4,27 @@
 
 ghost use Rattle.std.specs.Prelude.{◌≡◌, ◌≢◌, ◌≤◌, ◌+◌, [], Err, IfOk, IfErr, IsErrOf, OnOk};
 ghost use Rattle.rtk_frame.specs.Stream.{CountRises};
-ghost use Rattle.rtk_summary.specs.Standing.{StandsForFrames};
+ghost use Rattle.rtk_summary.specs.StandingDates.{StandsWithDates};
 ghost use Rattle.rtk_summary.specs.Summary.{Summarizes, SummarizesInPart, HasRisenBy};
 ghost use Rattle.rtk_summary.specs.Steps.ReadAll.{ReadsAll};
 ghost use Rattle.rtk_summary.specs.declared.fault.SummaryFault.TheVariants.{Read, Endless, Write};
 
+use crate::dated_summary::DatedSummary;
 use crate::fault::SummaryFault;
 use crate::lines::summary_lines;
 use crate::reading::{CaptureRead, read_capture};
-use crate::summary::Summary;
 use rtk_frame::{Sink, Source, write_all};
 use std::alloc::Global;
 
-// Reads a source to its end; the summary counts its frames.
+// Reads a source to its end; what is held counts its frames.
 fn read_all<R: Source>(
     alloc: Global,
     reader: &mut R,
-    summary: &mut Summary,
+    held: &mut DatedSummary,
     max_reads: u64,
 ) -> Result<CaptureRead, SummaryFault>
-    requires { StandsForFrames summary.old [] }
-    ensures read { IfOk result (λ read. ReadsAll (R.given reader.old) (R.given reader.new) read summary.new) }
+    requires { StandsWithDates held.old [] }
+    ensures read { IfOk result (λ read. ReadsAll (R.given reader.old) (R.given reader.new) read held.new) }
     ensures to_the_end { OnOk result (R.is_at_end reader.new) }
     ensures reads { R.calls reader.new ≤ R.calls reader.old + max_reads }
     ensures read_failed { IsErrOf result Read → CountRises (R.failures reader.old) (R.failures reader.new) }
@@ -32,18 +32,19 @@ fn read_all<R: Source>(
     ensures endless { IsErrOf result Endless → HasRisenBy (R.calls reader.old) (R.calls reader.new) max_reads }
     ensures no_write { IsErrOf result Write → ⊥ }
 {
-    read_capture(alloc, reader, summary, max_reads)
+    read_capture(alloc, reader, held, max_reads)
 }
 
-/// Reads a capture once, to its end, and writes what it holds.
+/// Reads the capture of this name once, to its end, and writes what it holds.
 pub fn summarize<R: Source, W: Sink>(
     alloc: Global,
+    name: &[u8],
     reader: &mut R,
     out: &mut W,
     max_reads: u64,
 ) -> Result<(), SummaryFault>
     // Done: what was read, and what is out.
-    ensures summary { OnOk result (Summarizes (R.given reader.old) (R.given reader.new) (W.taken out.old) (W.taken out.new)) }
+    ensures summary { OnOk result (Summarizes name.now (R.given reader.old) (R.given reader.new) (W.taken out.old) (W.taken out.new)) }
     ensures to_the_end { OnOk result (R.is_at_end reader.new) }
     ensures reads { R.calls reader.new ≤ R.calls reader.old + max_reads }
 
@@ -56,12 +57,12 @@ pub fn summarize<R: Source, W: Sink>(
 
     // Not done: nothing is out, but a first part after a failed write.
     ensures part { IsErrOf result Write
-        → SummarizesInPart (R.given reader.old) (R.given reader.new) (W.taken out.old) (W.taken out.new) }
+        → SummarizesInPart name.now (R.given reader.old) (R.given reader.new) (W.taken out.old) (W.taken out.new) }
     ensures nothing { IfErr result (λ fault. fault ≢ Write → W.taken out.new ≡ W.taken out.old) }
 {
-    let mut summary = Summary::new(alloc)?;
-    let read = read_all(alloc, reader, &mut summary, max_reads)?;
-    let lines = summary_lines(alloc, read.size, &summary)?;
+    let mut held = DatedSummary::new(alloc)?;
+    let read = read_all(alloc, reader, &mut held, max_reads)?;
+    let lines = summary_lines(alloc, name, &read, &held)?;
     if write_all(out, lines.as_slice()).is_err() {
         return Err(SummaryFault::Write);
     }

@@ -12,7 +12,7 @@
 //! fn example(alloc: Global) -> Result<bool, AllocError> {
 //!     let mut capture = MemSource::new(alloc, b"no frame", 512, After::End)?;
 //!     let mut out = MemSink::new(alloc, 65_536, 4_096)?;
-//!     match summarize(alloc, &mut capture, &mut out, 100) {
+//!     match summarize(alloc, b"a.rtcm", &mut capture, &mut out, 100) {
 //!         Ok(()) => Ok(out.bytes().starts_with(b"bytes 8\noutside-frames 8\n")),
 //!         Err(_) => Ok(false),
 //!     }
@@ -23,10 +23,14 @@
 
 mod capture;
 mod counting;
+mod date_lines;
+mod dated_summary;
+mod dates_told;
 mod epochs;
 mod fault;
 mod follower;
 mod laws;
+mod line;
 mod lines;
 mod look;
 mod msm_parts;

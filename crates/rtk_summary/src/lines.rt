@@ -1,61 +1,38 @@
 //! The lines of a summary.
 
-ghost use Rattle.std.specs.Prelude.{◌≡◌, ◌<◌, ◌++◌, List, ℕ, false, length, get_or, IfOk, OnOk};
+ghost use Rattle.std.specs.Prelude.{◌≡◌, ◌<◌, ◌++◌, List, ℕ, false, length, take, get_or, IfOk, OnOk};
+ghost use Rattle.rtk_dates.specs.declared.date_message.DateMessage.{DateMessage};
+ghost use Rattle.rtk_obs.specs.CivilText.{last_digits};
 ghost use Rattle.rtk_obs.specs.Code.{place_of};
 ghost use Rattle.rtk_message.specs.declared.any_message.AnyMessage.{AnyMessage};
 ghost use Rattle.rtk_message.specs.declared.any_fault.AnyFault.{AnyFault};
 ghost use Rattle.rtk_summary.specs.Counting.{shown_count};
 ghost use Rattle.rtk_summary.specs.ReadFrames.{ReadFrame};
-ghost use Rattle.rtk_summary.specs.SummaryText.{number_line, counted_line, numbered_line, list_line, time_line, time_lines, listed_satellite, satellites_text, codes_text, second_frequency_line, signal_lines, other_msm_line, other_msm_lines, msm_option, next_line, proposal_lines, nothing_line};
-ghost use Rattle.rtk_summary.specs.Summary.{lines_if_any, stations_text, unread_lines, summary_text};
+ghost use Rattle.rtk_summary.specs.SummaryText.{list_line, time_line, time_lines, listed_satellite, satellites_text, codes_text, second_frequency_line, signal_lines, other_msm_line, other_msm_lines, msm_option, near_text, words_text, next_line, proposal_lines, look_line, nothing_line};
+ghost use Rattle.rtk_summary.specs.Summary.{size_lines, lines_if_any, stations_text, unread_lines, summary_text};
+ghost use Rattle.rtk_summary.specs.StandingDates.{HasPlaces, StandForStationDates, StandsWithDates};
 ghost use Rattle.rtk_summary.specs.Steps.Tables.{counts_text, untaken_text, counts_held};
 ghost use Rattle.rtk_summary.specs.Standing.{times_of, epochs_held, codes_held, StandsForFaults, StandsForEntries, StandsForMessages, StandForStations, StandsForFrames};
 
+use crate::date_lines::{put_dates, put_near, put_weeks};
+use crate::dated_summary::DatedSummary;
+use crate::dates_told::StationDates;
+use crate::line::{put_counted, put_line, put_numbered};
+use crate::look::look_of;
 use crate::msm_parts::MsmParts;
+use crate::reading::CaptureRead;
 use crate::signals::Signals;
 use crate::station::Station;
 use crate::summary::Summary;
 use crate::times_of_week::Times;
 use crate::unread::Unread;
-use rtk_message::{MsmKind, put_named};
-use rtk_obs::{ALL_CODES, Code};
+use rtk_dates::UtcDate;
+use rtk_message::{MsmKind, put_named, put_sh_quoted};
+use rtk_obs::{ALL_CODES, Code, three_digits};
 use std::alloc::{AllocError, Global};
 
 /// The messages of GPS observations that are not read.
 const UNTAKEN: [u16; 6] = [1001, 1002, 1003, 1071, 1072, 1073];
-
-fn put_line(lines: &mut Vec<u8>, words: &[u8], number: u64) -> Result<(), AllocError>
-    ensures { OnOk result (lines.new.items ≡ lines.old.items ++ number_line words.now number) }
-{
-    put_named(lines, words, number)?;
-    lines.push(b'\n')?;
-    Ok(())
-}
-
-// A count of 0 has no line.
-fn put_counted(lines: &mut Vec<u8>, words: &[u8], count: u64) -> Result<(), AllocError>
-    ensures { OnOk result (lines.new.items ≡ lines.old.items ++ counted_line words.now count) }
-{
-    if count == 0 {
-        return Ok(());
-    }
-    put_line(lines, words, count)
-}
-
-fn put_numbered(
-    lines: &mut Vec<u8>,
-    words: &[u8],
-    number: u64,
-    count: u64,
-) -> Result<(), AllocError>
-    ensures { OnOk result (lines.new.items ≡ lines.old.items ++ numbered_line words.now number count) }
-{
-    if count == 0 {
-        return Ok(());
-    }
-    put_named(lines, words, number)?;
-    put_line(lines, b" ", count)
-}
 
 // A line for each number that has a count.
 fn put_table(lines: &mut Vec<u8>, words: &[u8], counts: &[u64]) -> Result<(), AllocError>
@@ -119,7 +96,7 @@ fn put_times(lines: &mut Vec<u8>, times: &Times) -> Result<(), AllocError>
         → OnOk result (lines.new.items ≡ lines.old.items ++ time_lines ts) }
 {
     put_time(lines, times)?;
-    put_line(lines, b" epoch-changes ", times.changes)
+    put_line(lines, b" changes-of-time ", times.changes)
 }
 
 // A satellite after a blank, if it has a value.
@@ -239,43 +216,75 @@ fn msm_option(named: MsmKind) -> &'static [u8]
     }
 }
 
-fn put_next(
+// The digits of a station's number, with zeros in front.
+fn marker_of(station: u16) -> [u8; 4]
+    requires { station < 4096 }
+    ensures { result ≡ last_digits 4 station }
+{
+    let [hundreds, tens, ones] = three_digits(station % 1000);
+    [b'0' + (station / 1000) as u8, hundreds, tens, ones]
+}
+
+// The words of the command behind its moment.
+fn put_words(
     lines: &mut Vec<u8>,
-    station: u64,
+    name: &[u8],
+    station: u16,
     named: MsmKind,
     codes: &[u8],
 ) -> Result<(), AllocError>
-    ensures { OnOk result (lines.new.items ≡ lines.old.items ++ next_line station named codes.now) }
+    requires { station < 4096 }
+    ensures { OnOk result (lines.new.items ≡ lines.old.items ++ words_text name.now station named codes.now) }
+{
+    lines.extend_from_slice(b" --made \"$(date -u +%FT%T)\" --marker ")?;
+    lines.extend_from_slice(&marker_of(station))?;
+    lines.extend_from_slice(b" --codes")?;
+    lines.extend_from_slice(codes)?;
+    lines.extend_from_slice(msm_option(named))?;
+    lines.push(b' ')?;
+    put_sh_quoted(lines, name)?;
+    lines.push(b'\n')
+}
+
+fn put_next(
+    lines: &mut Vec<u8>,
+    name: &[u8],
+    near: Option<UtcDate>,
+    station: u16,
+    named: MsmKind,
+    codes: &[u8],
+) -> Result<(), AllocError>
+    requires { station < 4096 }
+    ensures { OnOk result (lines.new.items ≡ lines.old.items ++ next_line name.now (near_text near) station named codes.now) }
 {
     if codes.is_empty() {
         return Ok(());
     }
-    put_named(lines, b" next rtcm2rinex convert --station ", station)?;
-    lines.extend_from_slice(
-        b" --near GPS-TIME-WITHIN-HALF-A-WEEK --made UTC-NOW --marker NAME --codes",
-    )?;
-    lines.extend_from_slice(codes)?;
-    lines.extend_from_slice(msm_option(named))?;
-    lines.extend_from_slice(b" CAPTURE\n")?;
-    Ok(())
+    put_named(lines, b" next rtcm2rinex convert --station ", u64::from(station))?;
+    lines.extend_from_slice(b" --near ")?;
+    put_near(lines, near)?;
+    put_words(lines, name, station, named, codes)
 }
 
 // The command that converts a station, and before it its second frequency and the MSM that it leaves out.
 fn put_proposal(
     alloc: Global,
     lines: &mut Vec<u8>,
-    station: u64,
+    name: &[u8],
+    near: Option<UtcDate>,
+    station: u16,
     msm: &MsmParts,
 ) -> Result<(), AllocError>
+    requires { station < 4096 }
     ensures { OnOk result (lines.new.items ≡ lines.old.items
-        ++ proposal_lines station (epochs_held msm.now) (codes_held msm.now)) }
+        ++ proposal_lines name.now (near_text near) station (epochs_held msm.now) (codes_held msm.now)) }
 {
     let named = msm.proposed();
     let marks = &msm.part(named).codes.marks;
     put_second_frequency(lines, marks)?;
     put_other_msms(lines, msm, named)?;
     let codes = codes_text(alloc, marks)?;
-    put_next(lines, station, named, codes.as_slice())?;
+    put_next(lines, name, near, station, named, codes.as_slice())?;
     Ok(())
 }
 
@@ -295,29 +304,67 @@ fn put_counts(lines: &mut Vec<u8>, station: &Station) -> Result<(), AllocError>
 fn put_station(
     alloc: Global,
     lines: &mut Vec<u8>,
-    number: u64,
+    name: &[u8],
+    number: u16,
     station: &Station,
+    dates: &StationDates,
 ) -> Result<(), AllocError>
+    requires { number < 4096 }
     ensures { (ms : List AnyMessage) → StandsForMessages station.now ms
-        → OnOk result (lines.new.items ≡ lines.old.items ++ lines_if_any number ms) }
+        → OnOk result (lines.new.items ≡ lines.old.items ++ lines_if_any name.now number ms dates.now) }
 {
-    if station.messages == 0 {
+    if station.messages == 0 && !dates.has_date() {
         return Ok(());
     }
-    put_line(lines, b"station ", number)?;
+    put_line(lines, b"station ", u64::from(number))?;
     put_counts(lines, station)?;
     put_times(lines, &station.times)?;
+    put_dates(lines, dates)?;
     put_signals(alloc, lines, &station.signals)?;
-    put_proposal(alloc, lines, number, &station.msm)?;
+    put_proposal(
+        alloc,
+        lines,
+        name,
+        dates.proposed_date(),
+        number,
+        &station.msm,
+    )?;
     Ok(())
 }
 
-fn put_stations(alloc: Global, lines: &mut Vec<u8>, stations: &[Station]) -> Result<(), AllocError>
-    ensures { (ms : List AnyMessage) → length stations.now ≡ 4096 → StandForStations stations.now ms
-        → OnOk result (lines.new.items ≡ lines.old.items ++ stations_text ms) }
+fn put_stations(
+    alloc: Global,
+    lines: &mut Vec<u8>,
+    name: &[u8],
+    stations: &[Station],
+    dates: &[StationDates],
+) -> Result<(), AllocError>
+    requires sizes { (length stations.now ≡ 4096) × (length dates.now ≡ 4096) }
+    ensures { (ms : List AnyMessage) (ds : List DateMessage) → StandForStations stations.now ms → StandForStationDates dates.now ds
+        → OnOk result (lines.new.items ≡ lines.old.items ++ stations_text name.now ms ds) }
 {
     for number in 0..stations.len() {
-        put_station(alloc, lines, number as u64, &stations[number])?;
+        put_station(
+            alloc,
+            lines,
+            name,
+            number as u16,
+            &stations[number],
+            &dates[number],
+        )?;
+    }
+    Ok(())
+}
+
+// What a file without a frame looks like.
+fn put_look(lines: &mut Vec<u8>, frames: u64, head: &[u8]) -> Result<(), AllocError>
+    ensures { (count : ℕ) → frames ≡ shown_count count
+        → OnOk result (lines.new.items ≡ lines.old.items ++ look_line count head.now) }
+{
+    if frames == 0 {
+        lines.extend_from_slice(b"looks-like ")?;
+        lines.extend_from_slice(look_of(head).name())?;
+        lines.push(b'\n')?;
     }
     Ok(())
 }
@@ -332,21 +379,41 @@ fn put_nothing(lines: &mut Vec<u8>, codes: &[u8]) -> Result<(), AllocError>
     Ok(())
 }
 
-/// The summary of a capture of so many bytes.
+// The sizes of a capture.
+fn put_sizes(lines: &mut Vec<u8>, bytes: u64, summary: &Summary) -> Result<(), AllocError>
+    ensures { (size : ℕ) (fs : List ReadFrame) → bytes ≡ shown_count size → StandsForFrames summary.now fs
+        → OnOk result (lines.new.items ≡ lines.old.items ++ size_lines size fs) }
+{
+    put_line(lines, b"bytes ", bytes)?;
+    let outside = bytes.saturating_sub(summary.framed);
+    put_line(lines, b"outside-frames ", outside)?;
+    put_line(lines, b"frames ", summary.frames)
+}
+
+/// The summary of the capture of this name that was read.
 pub(crate) fn summary_lines(
     alloc: Global,
-    bytes: u64,
-    summary: &Summary,
+    name: &[u8],
+    read: &CaptureRead,
+    held: &DatedSummary,
 ) -> Result<Vec<u8>, AllocError>
-    ensures { (size : ℕ) (fs : List ReadFrame) → bytes ≡ shown_count size → StandsForFrames summary.now fs
-        → IfOk result (λ lines. lines.items ≡ summary_text size fs) }
+    requires sizes { HasPlaces held.now }
+    ensures { (bytes : List ℕ) (fs : List ReadFrame) → read.now.size ≡ shown_count (length bytes) → read.now.head.items ≡ take 512 bytes
+        → StandsWithDates held.now fs → IfOk result (λ lines. lines.items ≡ summary_text name.now bytes fs) }
 {
+    let summary = &held.summary;
+    let dates = &held.dates;
     let mut lines = Vec::new(alloc);
-    put_line(&mut lines, b"bytes ", bytes)?;
-    let outside = bytes.saturating_sub(summary.framed);
-    put_line(&mut lines, b"outside-frames ", outside)?;
-    put_line(&mut lines, b"frames ", summary.frames)?;
-    put_stations(alloc, &mut lines, summary.stations.as_slice())?;
+    put_sizes(&mut lines, read.size, summary)?;
+    put_look(&mut lines, summary.frames, read.head.as_slice())?;
+    put_stations(
+        alloc,
+        &mut lines,
+        name,
+        summary.stations.as_slice(),
+        dates.stations.as_slice(),
+    )?;
+    put_weeks(&mut lines, dates.weeks.as_slice())?;
     put_unread(&mut lines, &summary.unread)?;
     let codes = codes_text(alloc, &summary.signals.codes.marks)?;
     put_nothing(&mut lines, codes.as_slice())?;
