@@ -37,6 +37,17 @@ pub(crate) struct DatesTold {
     pub(crate) weeks: Vec<u64>,
 }
 
+// The first date, after one more that may count.
+fn earlier_or(first: Option<UtcDate>, counts: bool, date: UtcDate) -> Option<UtcDate>
+    ensures { result ≡ spec.earlier_or first (spec.utc_if counts (Utc date)) }
+{
+    match first {
+        Some(first) => Some(first),
+        None if counts => Some(date),
+        None => None,
+    }
+}
+
 impl DateCount {
     // No message came.
     fn new() -> DateCount
@@ -54,9 +65,7 @@ impl DateCount {
             → self.new ≡ spec.date_count number station (Utc date ∷ ds) }
     {
         let counts = is_date(date) && date.number == number;
-        if counts && self.first.is_none() {
-            self.first = Some(date);
-        }
+        self.first = earlier_or(self.first, counts, date);
         self.count = count_if(self.count, counts);
     }
 }

@@ -1,34 +1,30 @@
 //! The lines of a summary.
 
-ghost use Rattle.std.specs.Prelude.{◌≡◌, ◌<◌, ◌++◌, List, ℕ, false, length, take, get_or, IfOk, OnOk};
+ghost use Rattle.std.specs.Prelude.{◌≡◌, ◌<◌, ◌++◌, List, ℕ, length, take, get_or, IfOk, OnOk};
 ghost use Rattle.rtk_dates.specs.declared.date_message.DateMessage.{DateMessage};
-ghost use Rattle.rtk_obs.specs.CivilText.{last_digits};
-ghost use Rattle.rtk_obs.specs.Code.{place_of};
 ghost use Rattle.rtk_message.specs.declared.any_message.AnyMessage.{AnyMessage};
 ghost use Rattle.rtk_message.specs.declared.any_fault.AnyFault.{AnyFault};
 ghost use Rattle.rtk_summary.specs.Counting.{shown_count};
 ghost use Rattle.rtk_summary.specs.ReadFrames.{ReadFrame};
-ghost use Rattle.rtk_summary.specs.SummaryText.{list_line, time_line, time_lines, listed_satellite, satellites_text, codes_text, second_frequency_line, signal_lines, other_msm_line, other_msm_lines, msm_option, near_text, words_text, next_line, proposal_lines, look_line, nothing_line};
+ghost use Rattle.rtk_summary.specs.SummaryText.{time_line, time_lines, look_line, nothing_line};
 ghost use Rattle.rtk_summary.specs.Summary.{size_lines, lines_if_any, stations_text, unread_lines, summary_text};
 ghost use Rattle.rtk_summary.specs.StandingDates.{HasPlaces, StandForStationDates, StandsWithDates};
 ghost use Rattle.rtk_summary.specs.Steps.Tables.{counts_text, untaken_text, counts_held};
-ghost use Rattle.rtk_summary.specs.Standing.{times_of, epochs_held, codes_held, StandsForFaults, StandsForEntries, StandsForMessages, StandForStations, StandsForFrames};
+ghost use Rattle.rtk_summary.specs.Standing.{times_of, StandsForFaults, StandsForMessages, StandForStations, StandsForFrames};
 
-use crate::date_lines::{put_dates, put_near, put_weeks};
+use crate::date_lines::{put_dates, put_weeks};
 use crate::dated_summary::DatedSummary;
 use crate::dates_told::StationDates;
 use crate::line::{put_counted, put_line, put_numbered};
 use crate::look::look_of;
-use crate::msm_parts::MsmParts;
+use crate::proposal_lines::put_proposal;
 use crate::reading::CaptureRead;
-use crate::signals::Signals;
+use crate::signal_lines::{codes_text, put_signals};
 use crate::station::Station;
 use crate::summary::Summary;
 use crate::times_of_week::Times;
 use crate::unread::Unread;
-use rtk_dates::UtcDate;
-use rtk_message::{MsmKind, put_named, put_sh_quoted};
-use rtk_obs::{ALL_CODES, Code, three_digits};
+use rtk_message::put_named;
 use std::alloc::{AllocError, Global};
 
 /// The messages of GPS observations that are not read.
@@ -97,195 +93,6 @@ fn put_times(lines: &mut Vec<u8>, times: &Times) -> Result<(), AllocError>
 {
     put_time(lines, times)?;
     put_line(lines, b" changes-of-time ", times.changes)
-}
-
-// A satellite after a blank, if it has a value.
-fn put_satellite(text: &mut Vec<u8>, marks: &[bool; 33], satellite: u8) -> Result<(), AllocError>
-    requires { satellite < 33 }
-    ensures { OnOk result (text.new.items
-        ≡ text.old.items ++ listed_satellite (λ n. get_or marks.now n false) satellite) }
-{
-    if marks[usize::from(satellite)] {
-        text.extend_from_slice(&[b' ', b'G', b'0' + satellite / 10, b'0' + satellite % 10])?;
-    }
-    Ok(())
-}
-
-// The satellites that have a value.
-fn satellites_text(alloc: Global, marks: &[bool; 33]) -> Result<Vec<u8>, AllocError>
-    ensures { IfOk result (λ text. text.items ≡ satellites_text (λ n. get_or marks.now n false)) }
-{
-    let mut text = Vec::new(alloc);
-    for satellite in 1u8..33 {
-        put_satellite(&mut text, marks, satellite)?;
-    }
-    Ok(text)
-}
-
-// The codes that have a value, as an option lists them.
-fn codes_text(alloc: Global, marks: &[bool; 16]) -> Result<Vec<u8>, AllocError>
-    ensures { IfOk result (λ text. text.items ≡ codes_text (λ c. get_or marks.now (place_of c) false)) }
-{
-    let mut text = Vec::new(alloc);
-    let mut separator = b' ';
-    for code in &ALL_CODES {
-        if marks[code.place()] {
-            text.push(separator)?;
-            text.extend_from_slice(&code.name())?;
-            separator = b',';
-        }
-    }
-    Ok(text)
-}
-
-// A list, or a hyphen if it is empty.
-fn put_list(lines: &mut Vec<u8>, words: &[u8], list: &[u8]) -> Result<(), AllocError>
-    ensures { OnOk result (lines.new.items ≡ lines.old.items ++ list_line words.now list.now) }
-{
-    lines.extend_from_slice(words)?;
-    if list.is_empty() {
-        lines.extend_from_slice(b" -")?;
-    } else {
-        lines.extend_from_slice(list)?;
-    }
-    lines.push(b'\n')?;
-    Ok(())
-}
-
-fn put_second_frequency(lines: &mut Vec<u8>, marks: &[bool; 16]) -> Result<(), AllocError>
-    ensures { OnOk result (lines.new.items
-        ≡ lines.old.items ++ second_frequency_line (λ c. get_or marks.now (place_of c) false)) }
-{
-    if marks[Code::C2P.place()] && !marks[Code::C2W.place()] {
-        lines.extend_from_slice(b" second-frequency 2P\n")?;
-    }
-    Ok(())
-}
-
-fn put_signals(alloc: Global, lines: &mut Vec<u8>, signals: &Signals) -> Result<(), AllocError>
-    ensures { OnOk result (lines.new.items ≡ lines.old.items ++ signal_lines
-        (λ n. get_or signals.now.satellites n false) (λ c. get_or signals.now.codes.marks (place_of c) false)) }
-{
-    let satellites = satellites_text(alloc, &signals.satellites)?;
-    let codes = codes_text(alloc, &signals.codes.marks)?;
-    put_list(lines, b" satellites", satellites.as_slice())?;
-    put_list(lines, b" codes", codes.as_slice())?;
-    Ok(())
-}
-
-// A line for an MSM with epochs, if it is not the one that is named.
-fn put_other_msm(
-    lines: &mut Vec<u8>,
-    msm: &MsmParts,
-    named: MsmKind,
-    kind: MsmKind,
-) -> Result<(), AllocError>
-    ensures { OnOk result (lines.new.items ≡ lines.old.items ++ other_msm_line (epochs_held msm.now) named kind) }
-{
-    let number = kind.number();
-    if number == named.number() {
-        return Ok(());
-    }
-    put_numbered(
-        lines,
-        b" other-msm ",
-        u64::from(number),
-        msm.part(kind).epochs.count,
-    )
-}
-
-fn put_other_msms(lines: &mut Vec<u8>, msm: &MsmParts, named: MsmKind) -> Result<(), AllocError>
-    ensures { OnOk result (lines.new.items ≡ lines.old.items ++ other_msm_lines (epochs_held msm.now) named) }
-{
-    put_other_msm(lines, msm, named, MsmKind::Msm4)?;
-    put_other_msm(lines, msm, named, MsmKind::Msm5)?;
-    put_other_msm(lines, msm, named, MsmKind::Msm6)?;
-    put_other_msm(lines, msm, named, MsmKind::Msm7)?;
-    Ok(())
-}
-
-// The option that names an MSM.
-fn msm_option(named: MsmKind) -> &'static [u8]
-    ensures { result.now ≡ msm_option named }
-{
-    match named {
-        MsmKind::Msm4 => b"",
-        MsmKind::Msm5 => b" --msm 5",
-        MsmKind::Msm6 => b" --msm 6",
-        MsmKind::Msm7 => b" --msm 7",
-    }
-}
-
-// The digits of a station's number, with zeros in front.
-fn marker_of(station: u16) -> [u8; 4]
-    requires { station < 4096 }
-    ensures { result ≡ last_digits 4 station }
-{
-    let [hundreds, tens, ones] = three_digits(station % 1000);
-    [b'0' + (station / 1000) as u8, hundreds, tens, ones]
-}
-
-// The words of the command behind its moment.
-fn put_words(
-    lines: &mut Vec<u8>,
-    name: &[u8],
-    station: u16,
-    named: MsmKind,
-    codes: &[u8],
-) -> Result<(), AllocError>
-    requires { station < 4096 }
-    ensures { OnOk result (lines.new.items ≡ lines.old.items ++ words_text name.now station named codes.now) }
-{
-    lines.extend_from_slice(b" --made \"$(date -u +%FT%T)\" --marker ")?;
-    lines.extend_from_slice(&marker_of(station))?;
-    lines.extend_from_slice(b" --codes")?;
-    lines.extend_from_slice(codes)?;
-    lines.extend_from_slice(msm_option(named))?;
-    lines.push(b' ')?;
-    put_sh_quoted(lines, name)?;
-    lines.push(b'\n')
-}
-
-fn put_next(
-    lines: &mut Vec<u8>,
-    name: &[u8],
-    near: Option<UtcDate>,
-    station: u16,
-    named: MsmKind,
-    codes: &[u8],
-) -> Result<(), AllocError>
-    requires { station < 4096 }
-    ensures { OnOk result (lines.new.items ≡ lines.old.items ++ next_line name.now (near_text near) station named codes.now) }
-{
-    if codes.is_empty() {
-        return Ok(());
-    }
-    put_named(lines, b" next rtcm2rinex convert --station ", u64::from(station))?;
-    lines.extend_from_slice(b" --near ")?;
-    put_near(lines, near)?;
-    put_words(lines, name, station, named, codes)
-}
-
-// The command that converts a station, and before it its second frequency and the MSM that it leaves out.
-fn put_proposal(
-    alloc: Global,
-    lines: &mut Vec<u8>,
-    name: &[u8],
-    near: Option<UtcDate>,
-    station: u16,
-    msm: &MsmParts,
-) -> Result<(), AllocError>
-    requires { station < 4096 }
-    ensures { OnOk result (lines.new.items ≡ lines.old.items
-        ++ proposal_lines name.now (near_text near) station (epochs_held msm.now) (codes_held msm.now)) }
-{
-    let named = msm.proposed();
-    let marks = &msm.part(named).codes.marks;
-    put_second_frequency(lines, marks)?;
-    put_other_msms(lines, msm, named)?;
-    let codes = codes_text(alloc, marks)?;
-    put_next(lines, name, near, station, named, codes.as_slice())?;
-    Ok(())
 }
 
 fn put_counts(lines: &mut Vec<u8>, station: &Station) -> Result<(), AllocError>

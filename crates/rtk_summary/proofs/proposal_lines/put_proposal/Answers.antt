@@ -1,6 +1,6 @@
 use Rattle.std.proofs.Common.{append_assoc}
 use Rattle.rtk_summary.specs.SummaryText.{proposal_lines}
-use Rattle.rtk_summary.proofs.lines.put_proposal.Goals as goal
+use Rattle.rtk_summary.proofs.proposal_lines.put_proposal.Goals as goal
 
 pub returns : goal.returns
 unfolding proposal_lines

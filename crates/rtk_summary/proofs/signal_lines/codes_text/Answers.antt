@@ -6,8 +6,8 @@ use Rattle.rtk_obs.specs.declared.code.Code.TheVariants.{C1C}
 use Rattle.rtk_obs.specs.Code.{place_of, all_codes}
 use Rattle.rtk_summary.specs.SummaryText.{joined_names, codes_text}
 use Rattle.rtk_summary.proofs.LineLemmas.{code-named, code-passed}
-use Rattle.rtk_summary.proofs.lines.codes_text.Goals.{then-marks-place+in_ok-push+in_ok-extend_from_slice, else-marks-place}
-use Rattle.rtk_summary.proofs.lines.codes_text.Goals as goal
+use Rattle.rtk_summary.proofs.signal_lines.codes_text.Goals.{then-marks-place+in_ok-push+in_ok-extend_from_slice, else-marks-place}
+use Rattle.rtk_summary.proofs.signal_lines.codes_text.Goals as goal
 
 pub loop-code-preserved : goal.loop-code-preserved
 loop-code-preserved c =

@@ -3,7 +3,7 @@ use Rattle.std.specs.Prelude.{flat_map}
 use Rattle.std.specs.List.{range_with_len}
 use Rattle.rtk_summary.specs.SummaryText.{listed_satellite, satellites_text}
 use Rattle.rtk_summary.proofs.ListLemmas.{put-more}
-use Rattle.rtk_summary.proofs.lines.satellites_text.Goals as goal
+use Rattle.rtk_summary.proofs.signal_lines.satellites_text.Goals as goal
 
 pub loop-satellite-preserved : goal.loop-satellite-preserved
 loop-satellite-preserved c =

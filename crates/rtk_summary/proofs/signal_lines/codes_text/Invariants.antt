@@ -2,7 +2,7 @@ use Rattle.std.proofs.Common.{◌≡◌, ◌++◌, false, drop, get_or}
 use Rattle.std.specs.Prelude.{filter}
 use Rattle.rtk_obs.specs.Code.{place_of, all_codes}
 use Rattle.rtk_summary.specs.SummaryText.{joined_names}
-use Rattle.rtk_summary.proofs.lines.codes_text.Given as goal
+use Rattle.rtk_summary.proofs.signal_lines.codes_text.Given as goal
 
 -- the names so far and those of the codes that are left are the names of all
 abbrev pub invariant-loop-code : goal.invariant-loop-code

@@ -4,7 +4,7 @@ use Rattle.rtk_obs.specs.declared.code.Code.{Code}
 use Rattle.rtk_obs.specs.Code.{place_of}
 use Rattle.rtk_summary.specs.SummaryText.{list_line, satellites_text, codes_text, signal_lines}
 use Rattle.rtk_summary.proofs.ListLemmas.{and-then}
-use Rattle.rtk_summary.proofs.lines.put_signals.Goals as goal
+use Rattle.rtk_summary.proofs.signal_lines.put_signals.Goals as goal
 
 pub returns : goal.returns
 unfolding signal_lines

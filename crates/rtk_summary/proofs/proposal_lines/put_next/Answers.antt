@@ -1,7 +1,7 @@
 use Rattle.std.proofs.Common.{length, append_assoc, sym, ◌∙◌}
 use Rattle.std.proofs.lemmas.Bool.{eqb-false}
 use Rattle.rtk_summary.proofs.LineLemmas.{next-line-is}
-use Rattle.rtk_summary.proofs.lines.put_next.Goals as goal
+use Rattle.rtk_summary.proofs.proposal_lines.put_next.Goals as goal
 
 pub returns : goal.returns
 returns c =

@@ -1,6 +1,6 @@
 use Rattle.std.proofs.Common.{append_assoc}
 use Rattle.rtk_summary.specs.SummaryText.{other_msm_lines}
-use Rattle.rtk_summary.proofs.lines.put_other_msms.Goals as goal
+use Rattle.rtk_summary.proofs.proposal_lines.put_other_msms.Goals as goal
 
 pub returns : goal.returns
 unfolding other_msm_lines
