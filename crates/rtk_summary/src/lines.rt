@@ -1,10 +1,11 @@
 //! The lines of a summary.
 
-ghost use Rattle.std.specs.Prelude.{◌≡◌, ◌<◌, ◌++◌, List, ℕ, length, take, get_or, IfOk, OnOk};
+ghost use Rattle.std.specs.Prelude.{◌≡◌, ◌++◌, ◌==◌, ◌&&◌, not, List, ℕ, length, take, get_or, IfOk, OnOk};
 ghost use Rattle.rtk_dates.specs.declared.date_message.DateMessage.{DateMessage};
 ghost use Rattle.rtk_message.specs.declared.any_message.AnyMessage.{AnyMessage};
 ghost use Rattle.rtk_message.specs.declared.any_fault.AnyFault.{AnyFault};
 ghost use Rattle.rtk_summary.specs.Counting.{shown_count};
+ghost use Rattle.rtk_summary.specs.DatesTold.{has_date};
 ghost use Rattle.rtk_summary.specs.ReadFrames.{ReadFrame};
 ghost use Rattle.rtk_summary.specs.SummaryText.{time_line, time_lines, look_line, nothing_line};
 ghost use Rattle.rtk_summary.specs.Summary.{size_lines, lines_if_any, stations_text, unread_lines, summary_text};
@@ -108,6 +109,14 @@ fn put_counts(lines: &mut Vec<u8>, station: &Station) -> Result<(), AllocError>
     Ok(())
 }
 
+// Neither a message nor a date came of the station.
+fn is_absent(station: &Station, dates: &StationDates) -> bool
+    ensures { (ms : List AnyMessage) → StandsForMessages station.now ms
+        → result ≡ ((length ms == 0) && not (has_date dates.now)) }
+{
+    station.messages == 0 && !dates.has_date()
+}
+
 fn put_station(
     alloc: Global,
     lines: &mut Vec<u8>,
@@ -116,11 +125,10 @@ fn put_station(
     station: &Station,
     dates: &StationDates,
 ) -> Result<(), AllocError>
-    requires { number < 4096 }
     ensures { (ms : List AnyMessage) → StandsForMessages station.now ms
         → OnOk result (lines.new.items ≡ lines.old.items ++ lines_if_any name.now number ms dates.now) }
 {
-    if station.messages == 0 && !dates.has_date() {
+    if is_absent(station, dates) {
         return Ok(());
     }
     put_line(lines, b"station ", u64::from(number))?;
@@ -194,7 +202,8 @@ fn put_sizes(lines: &mut Vec<u8>, bytes: u64, summary: &Summary) -> Result<(), A
     put_line(lines, b"bytes ", bytes)?;
     let outside = bytes.saturating_sub(summary.framed);
     put_line(lines, b"outside-frames ", outside)?;
-    put_line(lines, b"frames ", summary.frames)
+    put_line(lines, b"frames ", summary.frames)?;
+    Ok(())
 }
 
 /// The summary of the capture of this name that was read.

@@ -11,7 +11,6 @@ use crate::msm_parts::MsmParts;
 use crate::signal_lines::{codes_text, put_second_frequency};
 use rtk_dates::UtcDate;
 use rtk_message::{MsmKind, put_named, put_sh_quoted};
-use rtk_obs::three_digits;
 use std::alloc::{AllocError, Global};
 
 // A line for an MSM with epochs, if it is not the one that is named.
@@ -57,13 +56,17 @@ fn msm_option(named: MsmKind) -> &'static [u8]
     }
 }
 
-// The digits of a station's number, with zeros in front.
+// The four digits of a station's number.
 fn marker_of(station: u16) -> [u8; 4]
-    requires { station < 4096 }
     ensures { result ≡ last_digits 4 station }
 {
-    let [hundreds, tens, ones] = three_digits(station % 1000);
-    [b'0' + (station / 1000) as u8, hundreds, tens, ones]
+    let digit = |number: u16| b'0' + (number % 10) as u8;
+    [
+        digit(station / 10 / 10 / 10),
+        digit(station / 10 / 10),
+        digit(station / 10),
+        digit(station),
+    ]
 }
 
 // The words of the command behind its moment.
@@ -74,7 +77,6 @@ fn put_words(
     named: MsmKind,
     codes: &[u8],
 ) -> Result<(), AllocError>
-    requires { station < 4096 }
     ensures { OnOk result (lines.new.items ≡ lines.old.items ++ words_text name.now station named codes.now) }
 {
     lines.extend_from_slice(b" --made \"$(date -u +%FT%T)\" --marker ")?;
@@ -84,7 +86,8 @@ fn put_words(
     lines.extend_from_slice(msm_option(named))?;
     lines.push(b' ')?;
     put_sh_quoted(lines, name)?;
-    lines.push(b'\n')
+    lines.push(b'\n')?;
+    Ok(())
 }
 
 fn put_next(
@@ -95,7 +98,6 @@ fn put_next(
     named: MsmKind,
     codes: &[u8],
 ) -> Result<(), AllocError>
-    requires { station < 4096 }
     ensures { OnOk result (lines.new.items ≡ lines.old.items ++ next_line name.now (near_text near) station named codes.now) }
 {
     if codes.is_empty() {
@@ -104,7 +106,8 @@ fn put_next(
     put_named(lines, b" next rtcm2rinex convert --station ", u64::from(station))?;
     lines.extend_from_slice(b" --near ")?;
     put_near(lines, near)?;
-    put_words(lines, name, station, named, codes)
+    put_words(lines, name, station, named, codes)?;
+    Ok(())
 }
 
 /// Appends the command that converts a station, and before it its second frequency and the MSM that it
@@ -117,7 +120,6 @@ pub(crate) fn put_proposal(
     station: u16,
     msm: &MsmParts,
 ) -> Result<(), AllocError>
-    requires { station < 4096 }
     ensures { OnOk result (lines.new.items ≡ lines.old.items
         ++ proposal_lines name.now (near_text near) station (epochs_held msm.now) (codes_held msm.now)) }
 {
