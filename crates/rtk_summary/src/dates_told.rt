@@ -1,6 +1,7 @@
 //! The dates that messages tell: by station those of 1013 and 1029, by week those of 1019.
 
-ghost use Rattle.std.specs.Prelude.{◌≡◌, ℕ, List, [], ◌∷◌, None, Some, length, IfOk};
+ghost use Rattle.std.specs.Prelude.{◌≡◌, ◌==◌, ◌&&◌, ℕ, List, [], ◌∷◌, None, Some, length, IfOk};
+ghost use Rattle.rtk_dates.specs.Telling.{is_date};
 ghost use Rattle.rtk_dates.specs.declared.date_message.DateMessage.{DateMessage};
 ghost use Rattle.rtk_dates.specs.declared.date_message.DateMessage.TheVariants.{Utc};
 ghost use Rattle.rtk_summary.specs.DatesTold as spec;
@@ -37,6 +38,13 @@ pub(crate) struct DatesTold {
     pub(crate) weeks: Vec<u64>,
 }
 
+// The message tells a date, and is of this number.
+fn counts_as(number: u16, date: UtcDate) -> bool
+    ensures { result ≡ (is_date date && (date.number == number)) }
+{
+    is_date(date) && date.number == number
+}
+
 // The first date, after one more that may count.
 fn earlier_or(first: Option<UtcDate>, counts: bool, date: UtcDate) -> Option<UtcDate>
     ensures { result ≡ spec.earlier_or first (spec.utc_if counts (Utc date)) }
@@ -64,7 +72,7 @@ impl DateCount {
         ensures { (station : ℕ) (ds : List DateMessage) → station ≡ date.station → self.old ≡ spec.date_count number station ds
             → self.new ≡ spec.date_count number station (Utc date ∷ ds) }
     {
-        let counts = is_date(date) && date.number == number;
+        let counts = counts_as(number, date);
         self.first = earlier_or(self.first, counts, date);
         self.count = count_if(self.count, counts);
     }
