@@ -63,14 +63,13 @@ other-date number station d other =
     ap (λ (b : Bool). is_date d && ((d.number == number) && b)) no
     ∙ ap (λ (b : Bool). is_date d && b) (and-false (d.number == number)) ∙ and-false (is_date d)
 
-pub count_with : Option UtcDate → ℕ → DateCount
+abbrev pub count_with : Option UtcDate → ℕ → DateCount
 count_with first count = record { first = first; count = count }
 
 pub date-more : (number station : ℕ) (d : UtcDate) (ds : List DateMessage) (counts : Bool) (old : DateCount) (first : Option UtcDate) (count : ℕ) → station ≡ d.station
     → counts ≡ (is_date d && (d.number == number)) → old ≡ date_count number station ds
     → first ≡ earlier_or old.first (utc_if counts (Utc d)) → count ≡ shown_count (old.count + one_if counts)
     → count_with first count ≡ date_count number station (Utc d ∷ ds)
-unfolding count_with
 date-more number station d ds counts old first count same is stands firsts more =
     let test : Bool = dates_as number station (Utc d) in
     let tests : counts ≡ test = is ∙ sym (own-date number station d same) in
@@ -80,11 +79,10 @@ date-more number station d ds counts old first count same is stands firsts more 
     count-more (dates_as number station) (Utc d) ds old.count count (ap (λ (o : DateCount). o.count) stands) (more ∙ ap (λ (t : Bool). shown_count (old.count + one_if t)) tests) in
     ap (λ (o : Option UtcDate). count_with o count) a ∙ ap (λ (n : ℕ). count_with (first_date number station (Utc d ∷ ds)) n) b
 
-pub dates_with : DateCount → DateCount → StationDates
+abbrev pub dates_with : DateCount → DateCount → StationDates
 dates_with a b = record { of_1013 = a; of_1029 = b }
 
 pub both-dates : (a b : DateCount) (station : ℕ) (ds : List DateMessage) → a ≡ date_count 1013 station ds → b ≡ date_count 1029 station ds → dates_with a b ≡ station_dates station ds
-unfolding dates_with
 both-dates a b station ds first second = ap (λ (x : DateCount). dates_with x b) first ∙ ap (λ (y : DateCount). dates_with (date_count 1013 station ds) y) second
 
 earlier-none : (o : Option UtcDate) → earlier_or o None ≡ o
@@ -93,7 +91,6 @@ earlier-none (Some d) = refl
 
 -- a message that does not count
 same-count : (number station : ℕ) (m : DateMessage) (ds : List DateMessage) → dates_as number station m ≡ false → date_count number station (m ∷ ds) ≡ date_count number station ds
-unfolding count_with
 same-count number station m ds fails =
     let o : Option UtcDate = first_date number station ds in
     let a : first_date number station (m ∷ ds) ≡ o = ap (λ (b : Bool). earlier_or o (utc_if b m)) fails ∙ earlier-none o in
