@@ -2,9 +2,7 @@
 //!
 //! If memory is refused, a first part of what is put may stand there.
 
-ghost use Rattle.std.specs.Prelude.{◌≡◌, ◌++◌, ℕ, List, get_or, length, flat_map, OnOk};
-ghost use Rattle.std.specs.List.{range_with_len};
-ghost use Rattle.rtk_dates.specs.Telling.{moment_of};
+ghost use Rattle.std.specs.Prelude.{◌≡◌, ◌++◌, List, length, OnOk};
 ghost use Rattle.rtk_dates.specs.declared.date_message.DateMessage.{DateMessage};
 ghost use Rattle.rtk_rinex.specs.Reading.{reading_of};
 ghost use Rattle.rtk_summary.specs.StandingDates.{StandForWeeks};
@@ -12,7 +10,7 @@ ghost use Rattle.rtk_summary.specs.Summary.{weeks_text};
 ghost use Rattle.rtk_summary.specs.SummaryText.{moment_text, near_text, first_date_line, date_line, date_lines, week_line};
 
 use crate::dates_told::{DateCount, StationDates};
-use crate::line::{put_counted, put_line};
+use crate::line::put_line;
 use rtk_dates::{UtcDate, moment_of};
 use rtk_message::put_named;
 use rtk_obs::{Civil, GpsMs, civil, put_clock, put_date};
@@ -83,7 +81,7 @@ fn put_week(lines: &mut Vec<u8>, week: u64, count: u64) -> Result<(), AllocError
         return Ok(());
     }
     put_named(lines, b"week ", week)?;
-    put_counted(lines, b" 1019 ", count)
+    put_line(lines, b" 1019 ", count)
 }
 
 /// Appends a line for each week that has a count.

@@ -176,11 +176,12 @@ fn put_look(lines: &mut Vec<u8>, frames: u64, head: &[u8]) -> Result<(), AllocEr
     ensures { (count : ℕ) → frames ≡ shown_count count
         → OnOk result (lines.new.items ≡ lines.old.items ++ look_line count head.now) }
 {
-    if frames == 0 {
-        lines.extend_from_slice(b"looks-like ")?;
-        lines.extend_from_slice(look_of(head).name())?;
-        lines.push(b'\n')?;
+    if frames > 0 {
+        return Ok(());
     }
+    lines.extend_from_slice(b"looks-like ")?;
+    lines.extend_from_slice(look_of(head).name())?;
+    lines.push(b'\n')?;
     Ok(())
 }
 
