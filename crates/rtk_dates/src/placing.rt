@@ -2,7 +2,7 @@
 //! the others.
 
 ghost use Rattle.std.specs.Prelude.{◌≡◌, ◌^◌, ◌<◌, None, map, IfOk};
-ghost use Rattle.rtk_dates.specs.Dating as spec;
+ghost use Rattle.rtk_dates.specs.Placing as spec;
 
 use crate::span::Span;
 use crate::telling::dated;

@@ -2,8 +2,8 @@
 use Rattle.std.specs.Prelude.{ℕ, ◌+◌, ◌-◌, ◌%◌, Bool, ◌&&◌, nat_le, nat_lt, min, List, [], ◌∷◌, Option, None, Some}
 use Rattle.rtk_message.specs.Fields.{week_ms}
 use Rattle.rtk_dates.specs.Telling.{dated, half_week_ms}
-use Rattle.rtk_dates.specs.declared.dating.CaptureEpochs.{CaptureEpochs}
-use Rattle.rtk_dates.specs.declared.dating.Placed.{Placed}
+use Rattle.rtk_dates.specs.declared.placing.CaptureEpochs.{CaptureEpochs}
+use Rattle.rtk_dates.specs.declared.placing.Placed.{Placed}
 use Rattle.rtk_dates.specs.declared.span.Span.{Span}
 
 -- the lesser of a number and another one, if there is another one

@@ -1,7 +1,7 @@
 //! Which station is converted if none is named.
 
 ghost use Rattle.std.specs.Prelude.{◌≡◌, ℕ, ◌≤◌, length};
-ghost use Rattle.rtk_find.specs.Stations.{IsMarked, IsOnlyMarked, AreSeveralMarked};
+ghost use Rattle.rtk_find.specs.ChosenStation.{IsMarked, IsOnlyMarked, AreSeveralMarked};
 
 /// The station of captures.
 #[derive(Clone, Copy, Debug, PartialEq, Eq)]

@@ -4,7 +4,7 @@ ghost use Rattle.std.specs.Prelude.{◌≡◌, ◌≢◌, ◌≤◌, ◌+◌, Er
 ghost use Rattle.rtk_frame.specs.Stream.{CountRises};
 ghost use Rattle.rtk_summary.specs.Summary.{HasRisenBy};
 ghost use Rattle.rtk_summary.specs.declared.fault.SummaryFault.TheVariants.{Read, Endless, Write};
-ghost use Rattle.rtk_find.specs.Reading.{FindsIn};
+ghost use Rattle.rtk_find.specs.Captures.{FindsIn};
 
 use crate::finding::{Dates, Finder};
 use rtk_frame::Source;

@@ -1,5 +1,5 @@
 use Rattle.rtk_find.proofs.FoundLemmas.{found-in}
-use Rattle.rtk_find.proofs.reading.find_in.Goals as goal
+use Rattle.rtk_find.proofs.captures.find_in.Goals as goal
 
 pub returns-clause-found : goal.returns-clause-found
 returns-clause-found g c =
