@@ -3,7 +3,7 @@ use Rattle.std.specs.Prelude.{ℕ, ◌+◌, ◌-◌, ◌==◌, Bool, ◌&&◌, n
 use Rattle.std.specs.List.{list_any}
 use Rattle.arrayvec.specs.ArrayVec.{ArrayVec}
 use Rattle.rtk_message.specs.Fields.{week_ms}
-use Rattle.rtk_dates.specs.Epochs.{with_time, begun, last_time}
+use Rattle.rtk_dates.specs.Epochs.{with_time, begun, last_time_of_week}
 use Rattle.rtk_dates.specs.Telling.{told}
 use Rattle.rtk_dates.specs.declared.capture_dates.CaptureDates.{CaptureDates}
 use Rattle.rtk_dates.specs.declared.date_message.DateMessage.{DateMessage}
@@ -27,7 +27,7 @@ first_epoch_from s (Some t) = if is_reference (t + s.first - s.last) then Some (
 
 -- the first epoch that a message tells after these epochs, by the present
 abbrev pub first_epoch_told : ℕ → Span → DateMessage → Option ℕ
-first_epoch_told now s d = first_epoch_from s (told now d (last_time s))
+first_epoch_told now s d = first_epoch_from s (told now d (last_time_of_week s))
 
 -- ---- what all messages tell
 
@@ -86,8 +86,8 @@ abbrev pub with_epoch_after : ℕ → ℕ → Option Span → CaptureDates → �
 with_epoch_after now station None c tow = with_first_epoch now station c (begun tow)
 with_epoch_after now station (Some s) c tow = record c { span = Some (with_time s tow) }
 
-abbrev pub with_epoch : ℕ → ℕ → CaptureDates → ℕ → CaptureDates
-with_epoch now station c tow = with_epoch_after now station c.span c tow
+abbrev pub with_epoch_time : ℕ → ℕ → CaptureDates → ℕ → CaptureDates
+with_epoch_time now station c tow = with_epoch_after now station c.span c tow
 
 -- after some epochs, or none: a date message more
 abbrev pub with_date_after : ℕ → ℕ → Option Span → CaptureDates → DateMessage → CaptureDates

@@ -39,5 +39,5 @@ span_of (tow ∷ before) = Some (with_time_if_any (span_of before) tow)
 
 -- formula
 -- the time of week of the last epoch
-abbrev pub last_time : Span → ℕ
-last_time s = s.last % week_ms
+abbrev pub last_time_of_week : Span → ℕ
+last_time_of_week s = s.last % week_ms

@@ -1,7 +1,7 @@
 //! The epochs of a station in a capture, and what the capture tells of the first of them.
 
 ghost use Rattle.std.specs.Prelude.{◌≡◌};
-ghost use Rattle.rtk_dates.specs.CaptureDates.{no_dates, with_tellings, with_waiting, with_epoch, with_date};
+ghost use Rattle.rtk_dates.specs.CaptureDates.{no_dates, with_tellings, with_waiting, with_epoch_time, with_date};
 
 use crate::date_message::DateMessage;
 use crate::span::Span;
@@ -56,7 +56,7 @@ impl CaptureDates {
 
     /// An epoch more of this station, by its time of week (DF004, in ms).
     pub fn take_epoch(&mut self, now: GpsMs, station: u16, tow: u32)
-        ensures { self.new ≡ with_epoch now station self.old tow }
+        ensures { self.new ≡ with_epoch_time now station self.old tow }
     {
         if let Some(span) = &mut self.span {
             span.take(tow);

@@ -1,7 +1,7 @@
 //! The epochs of a station in a capture, before its date is known.
 
 ghost use Rattle.std.specs.Prelude.{◌≡◌, Some, None, max, min, if◌then◌else◌};
-ghost use Rattle.rtk_dates.specs.Epochs.{begun, is_followed, with_time, with_moment, last_time};
+ghost use Rattle.rtk_dates.specs.Epochs.{begun, is_followed, with_time, with_moment, last_time_of_week};
 
 use crate::telling::dated_ms;
 use rtk_obs::{GpsMs, WEEK_MS};
@@ -85,8 +85,8 @@ impl Span {
     }
 
     /// The time of week of the last epoch, in ms.
-    pub fn last_time(&self) -> u32
-        ensures { result ≡ last_time self.now }
+    pub fn last_time_of_week(&self) -> u32
+        ensures { result ≡ last_time_of_week self.now }
     {
         (self.last.ms() % WEEK_MS) as u32
     }

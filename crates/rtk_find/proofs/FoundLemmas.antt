@@ -7,7 +7,7 @@ use Rattle.rtk_summary.specs.ReadFrames.{ReadFrame}
 use Rattle.rtk_summary.specs.declared.fault.SummaryFault.{SummaryFault}
 use Rattle.rtk_summary.specs.declared.reading.CaptureRead.{CaptureRead}
 use Rattle.rtk_find.specs.Finding.{dates_with, dates_after, with_reading}
-use Rattle.rtk_find.specs.Reading.{StandsFor, TakesFrame, FindsIn}
+use Rattle.rtk_find.specs.Captures.{StandsFor, TakesFrame, FindsIn}
 use Rattle.rtk_find.specs.declared.finding.Dates.{Dates}
 use Rattle.rtk_find.specs.declared.finding.Finder.{Finder}
 

@@ -1,8 +1,8 @@
 -- Captures in order, and the links that they join, capture by capture.
 use Rattle.std.proofs.Common.{◌≡◌, ◌<◌, ◌+◌, ℕ, List, [], ◌∷◌, ◌++◌, true, false, length, take, drop, get_or, nat_le, refl, sym, ap, ◌∙◌, append_assoc, add-one}
 use Rattle.std.proofs.Math.Seq.{drop-cons, take-suc}
-use Rattle.rtk_find.specs.Links.{comes_before, put_in_order, place_of, ends_with, links_after}
-use Rattle.rtk_find.specs.declared.links.Ordered.{Ordered}
+use Rattle.rtk_find.specs.Joining.{comes_before, put_in_order, link_place, ends_with, links_after}
+use Rattle.rtk_find.specs.declared.joining.Ordered.{Ordered}
 
 cut-at : {X : Type 0} (xs : List X) (i : ℕ) (d : X) → i < length xs → drop i xs ≡ get_or xs i d ∷ drop (i + 1) xs
 cut-at xs i d lt = drop-cons xs i d lt ∙ ap (λ (k : ℕ). get_or xs i d ∷ drop k xs) (sym (add-one i))
@@ -31,7 +31,7 @@ put-here x ys i d lt here held =
     ap (λ (zs : List Ordered). take i ys ++ zs) (sym step) ∙ held
 
 -- the link of a capture more
-pub link-more : (links ends new : List ℕ) (cs : List Ordered) (i : ℕ) (d : Ordered) (place : ℕ) → i < length cs → place ≡ place_of ends (get_or cs i d).from
+pub link-more : (links ends new : List ℕ) (cs : List Ordered) (i : ℕ) (d : Ordered) (place : ℕ) → i < length cs → place ≡ link_place ends (get_or cs i d).from
     → new ≡ ends_with ends place (get_or cs i d).until → links ++ links_after ends (drop i cs) ≡ links_after [] cs
     → (links ++ place ∷ []) ++ links_after new (drop (i + 1) cs) ≡ links_after [] cs
 link-more links ends new cs i d place lt at with held =

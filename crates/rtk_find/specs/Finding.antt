@@ -8,7 +8,7 @@ use Rattle.rtk_message.specs.declared.any_fault.AnyFault.{AnyFault}
 use Rattle.rtk_message.specs.AnyDecoded.{station_of, tow_of}
 use Rattle.rtk_dates.specs.declared.capture_dates.CaptureDates.{CaptureDates}
 use Rattle.rtk_dates.specs.declared.date_message.DateMessage.{DateMessage}
-use Rattle.rtk_dates.specs.CaptureDates.{no_dates, with_epoch, with_date, with_waiting}
+use Rattle.rtk_dates.specs.CaptureDates.{no_dates, with_epoch_time, with_date, with_waiting}
 use Rattle.rtk_dates.specs.DateMessages.{date_in}
 use Rattle.rtk_summary.specs.Proposal.{entry_has_value}
 use Rattle.rtk_summary.specs.ReadFrames.{ReadFrame}
@@ -29,11 +29,11 @@ dates_with station capture = record { station = station; capture = capture }
 abbrev pub with_time_of : ℕ → Dates → ℕ → Option ℕ → Dates
 with_time_of now d station None = d
 with_time_of now d station (Some tow) =
-    if unwrap_or d.station station == station then dates_with (Some station) (with_epoch now station d.capture tow) else d
+    if unwrap_or d.station station == station then dates_with (Some station) (with_epoch_time now station d.capture tow) else d
 
 -- a message more
-abbrev pub with_message : ℕ → Dates → AnyMessage → Dates
-with_message now d m = if observes m then with_time_of now d (station_of m) (tow_of m) else d
+abbrev pub with_observation : ℕ → Dates → AnyMessage → Dates
+with_observation now d m = if observes m then with_time_of now d (station_of m) (tow_of m) else d
 
 -- a date; as long as no station is known, no epoch came, and it waits
 abbrev pub with_date_for : ℕ → Option ℕ → CaptureDates → DateMessage → CaptureDates
@@ -45,7 +45,7 @@ with_date_if_any now d None = d
 with_date_if_any now d (Some m) = dates_with d.station (with_date_for now d.station d.capture m)
 
 abbrev pub with_reading : ℕ → Dates → List ℕ → Result AnyMessage AnyFault → Dates
-with_reading now d payload (Ok m) = with_message now d m
+with_reading now d payload (Ok m) = with_observation now d m
 with_reading now d payload (Err fault) = with_date_if_any now d (date_in (bits payload))
 
 -- what frames tell, by the present, after what came before them

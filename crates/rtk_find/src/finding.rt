@@ -5,8 +5,8 @@ ghost use Rattle.std.specs.Prelude.{◌≡◌, ◌||◌, ◌==◌, ◌<◌, ℕ,
 ghost use Rattle.rtk_message.specs.declared.any_message.AnyMessage.{AnyMessage};
 ghost use Rattle.rtk_dates.specs.CaptureDates.{no_dates};
 ghost use Rattle.rtk_summary.specs.Tracing.{entries_of_message};
-ghost use Rattle.rtk_find.specs.Finding.{observes, dates_with, with_message, with_date_if_any, MarkObserving};
-ghost use Rattle.rtk_find.specs.Reading.{TakesFrame, StandsFor};
+ghost use Rattle.rtk_find.specs.Finding.{observes, dates_with, with_observation, with_date_if_any, MarkObserving};
+ghost use Rattle.rtk_find.specs.Captures.{TakesFrame, StandsFor};
 
 use rtk_dates::{CaptureDates, DateMessage, date_in};
 use rtk_message::{AnyFault, AnyMessage};
@@ -72,7 +72,7 @@ impl Dates {
     // A message more that has an observation.
     fn take_observation(&mut self, now: GpsMs, message: &AnyMessage)
         requires { observes message.now ≡ true }
-        ensures { self.new ≡ with_message now self.old message.now }
+        ensures { self.new ≡ with_observation now self.old message.now }
     {
         let Some(tow) = message.tow() else {
             return;
@@ -106,7 +106,7 @@ fn take_message(
     entries: &[CellEntry],
 )
     requires { entries.now ≡ entries_of_message message.now }
-    ensures dates { dates.new ≡ with_message now dates.old message.now }
+    ensures dates { dates.new ≡ with_observation now dates.old message.now }
     ensures size { length observing.new.items ≡ length observing.old.items }
     ensures observing { (ms : List AnyMessage) → MarkObserving observing.old.items ms
         → MarkObserving observing.new.items (message.now ∷ ms) }

@@ -23,12 +23,12 @@
 //! Its tests: tests/values/src/find.rt.in and find/
 #![tactic(auto)]
 
+mod captures;
+mod chosen_station;
 mod finding;
-mod links;
-mod reading;
-mod stations;
+mod joining;
 
+pub use captures::find_in;
+pub use chosen_station::{StationFound, only_station};
 pub use finding::{Dates, Finder, STATIONS};
-pub use links::{Ordered, in_order, links_of};
-pub use reading::find_in;
-pub use stations::{StationFound, only_station};
+pub use joining::{Ordered, in_order, links_of};

@@ -80,6 +80,23 @@ code-passed marked text separator i d whole within marks so_far =
     let first : filter marked (drop i all_codes) ≡ rest = ap (λ cs. filter marked cs) (code-first i d within) ∙ ap (λ b. cond b (c ∷ rest) rest) marks in
     ap (λ cs. text ++ joined_names separator cs) (sym first) ∙ so_far
 
+-- a code that has a value is kept
+pub code-kept : (marked : Code → Bool) (codes : List Code) (i : ℕ) (d : Code) (whole : List Code) → i < 16 → marked (get_or all_codes i d) ≡ true
+    → codes ++ filter marked (drop i all_codes) ≡ whole → (codes ++ get_or all_codes i d ∷ []) ++ filter marked (drop (i + 1) all_codes) ≡ whole
+code-kept marked codes i d whole within marks so_far =
+    let c = get_or all_codes i d in
+    let rest = filter marked (drop (i + 1) all_codes) in
+    let first : filter marked (drop i all_codes) ≡ c ∷ rest = ap (λ cs. filter marked cs) (code-first i d within) ∙ ap (λ b. cond b (c ∷ rest) rest) marks in
+    append_assoc codes (c ∷ []) rest ∙ ap (λ cs. codes ++ cs) (sym first) ∙ so_far
+
+pub code-left : (marked : Code → Bool) (codes : List Code) (i : ℕ) (d : Code) (whole : List Code) → i < 16 → marked (get_or all_codes i d) ≡ false
+    → codes ++ filter marked (drop i all_codes) ≡ whole → codes ++ filter marked (drop (i + 1) all_codes) ≡ whole
+code-left marked codes i d whole within marks so_far =
+    let c = get_or all_codes i d in
+    let rest = filter marked (drop (i + 1) all_codes) in
+    let first : filter marked (drop i all_codes) ≡ rest = ap (λ cs. filter marked cs) (code-first i d within) ∙ ap (λ b. cond b (c ∷ rest) rest) marks in
+    ap (λ cs. codes ++ cs) (sym first) ∙ so_far
+
 pub next-line-is : (name near : List ℕ) (station : ℕ) (named : MsmKind) (names : List ℕ) → (length names ≡ 0 → ⊥)
     → next_line name near station named names ≡ codes " next rtcm2rinex convert --station " ++ decimal station ++ codes " --near " ++ near ++ words_text name station named names
 next-line-is name near station named [] some = absurd (some refl)

@@ -22,6 +22,7 @@
 #![tactic(auto)]
 
 mod capture;
+mod chosen;
 mod counting;
 mod date_lines;
 mod dated_summary;

@@ -1,6 +1,6 @@
 use Rattle.std.proofs.Common.{◌≡◌, Bool, List, take, ap, ◌∙◌, arith}
 use Rattle.rtk_bits.specs.Bits.{unsigned}
-use Rattle.rtk_dates.specs.DateMessages.{number_at}
+use Rattle.rtk_dates.specs.DateMessages.{unsigned_at}
 use Rattle.rtk_dates.proofs.BitLemmas.{left_long, left_twice}
 use Rattle.rtk_dates.proofs.date_message.next_utc.Goals as goal
 
@@ -23,9 +23,9 @@ returns-clause-date c =
     let first = c.next_u-number.ensures.rest in
     let second = left_twice bs c.next_u-number.new.self c.next_u-station.new.self 12 12 first c.next_u-station.ensures.rest in
     let third = left_twice bs c.next_u-station.new.self c.next_u-day.new.self 24 16 second c.next_u-day.ensures.rest in
-    let station : c.next_u-station.result ≡ number_at 12 12 bs = c.next_u-station.ensures.number ∙ ap (λ (left : List Bool). unsigned (take 12 left)) first in
-    let day : c.next_u-day.result ≡ number_at 24 16 bs = c.next_u-day.ensures.number ∙ ap (λ (left : List Bool). unsigned (take 16 left)) second in
-    let second_of_day : c.next_u-second.result ≡ number_at 40 17 bs = c.next_u-second.ensures.number ∙ ap (λ (left : List Bool). unsigned (take 17 left)) third in
+    let station : c.next_u-station.result ≡ unsigned_at 12 12 bs = c.next_u-station.ensures.number ∙ ap (λ (left : List Bool). unsigned (take 12 left)) first in
+    let day : c.next_u-day.result ≡ unsigned_at 24 16 bs = c.next_u-day.ensures.number ∙ ap (λ (left : List Bool). unsigned (take 16 left)) second in
+    let second_of_day : c.next_u-second.result ≡ unsigned_at 40 17 bs = c.next_u-second.ensures.number ∙ ap (λ (left : List Bool). unsigned (take 17 left)) third in
     rw (station, day, second_of_day)
 
 pub returns-clause-rest : goal.returns-clause-rest

@@ -1,7 +1,7 @@
 use Rattle.std.proofs.Common.{◌≡◌, ◌+◌, ◌*◌, Bool, true, false, List, length, take, nat_lt, ap, ◌∙◌, arith}
 use Rattle.std.proofs.lemmas.Grind.{common_steps}
 use Rattle.rtk_bits.specs.Bits.{bits, unsigned}
-use Rattle.rtk_dates.specs.DateMessages.{number_at}
+use Rattle.rtk_dates.specs.DateMessages.{unsigned_at}
 use Rattle.rtk_dates.proofs.BitLemmas.{left_long, left_twice}
 use Rattle.rtk_dates.proofs.date_message.read_1029.Goals as goal
 
@@ -19,22 +19,22 @@ pub returns-then-size-from : goal.returns-then-size-from
 returns-then-size-from c =
     let bs : List Bool = c.new-reader.result in
     let second = left_twice bs c.next_utc-date.new.reader c.next_u-characters.new.self 57 7 c.next_utc-date.ensures.rest c.next_u-characters.ensures.rest in
-    let units : c.next_u-code_units.result ≡ number_at 64 8 bs = c.next_u-code_units.ensures.number ∙ ap (λ (left : List Bool). unsigned (take 8 left)) second in
+    let units : c.next_u-code_units.result ≡ unsigned_at 64 8 bs = c.next_u-code_units.ensures.number ∙ ap (λ (left : List Bool). unsigned (take 8 left)) second in
     let known : bs ≡ bits c.args.payload.now = c.new-reader.ensures in
     let size = c.remaining-size.ensures in
     let from = c.from.ensures in
     let less = c.if-size-from.true in
-    let short : nat_lt (length bs) (72 + 8 * number_at 64 8 bs) ≡ true = rw (← units) (grind (arith, common_steps)) in
+    let short : nat_lt (length bs) (72 + 8 * unsigned_at 64 8 bs) ≡ true = rw (← units) (grind (arith, common_steps)) in
     rw (← known, short)
 
 pub returns : goal.returns
 returns c =
     let bs : List Bool = c.new-reader.result in
     let second = left_twice bs c.next_utc-date.new.reader c.next_u-characters.new.self 57 7 c.next_utc-date.ensures.rest c.next_u-characters.ensures.rest in
-    let units : c.next_u-code_units.result ≡ number_at 64 8 bs = c.next_u-code_units.ensures.number ∙ ap (λ (left : List Bool). unsigned (take 8 left)) second in
+    let units : c.next_u-code_units.result ≡ unsigned_at 64 8 bs = c.next_u-code_units.ensures.number ∙ ap (λ (left : List Bool). unsigned (take 8 left)) second in
     let known : bs ≡ bits c.args.payload.now = c.new-reader.ensures in
     let size = c.remaining-size.ensures in
     let from = c.from.ensures in
     let enough = c.if-size-from.false in
-    let whole : nat_lt (length bs) (72 + 8 * number_at 64 8 bs) ≡ false = rw (← units) (grind (arith, common_steps)) in
+    let whole : nat_lt (length bs) (72 + 8 * unsigned_at 64 8 bs) ≡ false = rw (← units) (grind (arith, common_steps)) in
     rw (← known, whole, c.next_utc-date.ensures.date)
