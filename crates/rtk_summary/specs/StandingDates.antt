@@ -31,6 +31,6 @@ abbrev pub CountsDatedFrame : DatedSummary → ReadFrame → DatedSummary → Ty
 CountsDatedFrame old f new = (before : List ReadFrame) → StandsWithDates old before → StandsWithDates new (f ∷ before)
 
 -- there is a place for each station and each week
-pub record HasPlaces (s : DatedSummary) : Type 0 where
+pub record HasDatePlaces (s : DatedSummary) : Type 0 where
   pub stations : length s.summary.stations.items ≡ 4096
   pub dates : length s.dates.stations.items ≡ 4096

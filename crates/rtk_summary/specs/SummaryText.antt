@@ -65,14 +65,14 @@ time_lines ts =
 
 -- formula
 -- a date and a time of day, as in 2011-03-01T05:56:37
-abbrev pub moment_text : UtcDate → List ℕ
-moment_text d = date_text (reading_of (moment_of d)) ++ codes "T" ++ clock_text (reading_of (moment_of d))
+abbrev pub date_time_text : UtcDate → List ℕ
+date_time_text d = date_text (reading_of (moment_of d)) ++ codes "T" ++ clock_text (reading_of (moment_of d))
 
 -- formula
 -- the first date that messages of this number tell, and how many messages do; without one there is none
 abbrev pub first_date_line : ℕ → ℕ → Option UtcDate → List ℕ
 first_date_line number count None = []
-first_date_line number count (Some d) = number_line (codes " date " ++ moment_text d ++ codes " " ++ decimal number ++ codes " ") count
+first_date_line number count (Some d) = number_line (codes " date " ++ date_time_text d ++ codes " " ++ decimal number ++ codes " ") count
 
 abbrev pub date_line : ℕ → DateCount → List ℕ
 date_line number c = first_date_line number c.count c.first
@@ -156,7 +156,7 @@ msm_option Msm7 = codes " --msm 7"
 -- the moment near which the command converts; words in capitals if the capture does not tell it
 abbrev pub near_text : Option UtcDate → List ℕ
 near_text None = codes "GPS-TIME-WITHIN-HALF-A-WEEK"
-near_text (Some d) = moment_text d
+near_text (Some d) = date_time_text d
 
 -- formula
 -- the words of the command behind its moment

@@ -7,7 +7,7 @@ ghost use Rattle.rtk_dates.specs.declared.date_message.DateMessage.{DateMessage}
 ghost use Rattle.rtk_rinex.specs.Reading.{reading_of};
 ghost use Rattle.rtk_summary.specs.StandingDates.{StandForWeeks};
 ghost use Rattle.rtk_summary.specs.Summary.{weeks_text};
-ghost use Rattle.rtk_summary.specs.SummaryText.{moment_text, near_text, first_date_line, date_line, date_lines, week_line};
+ghost use Rattle.rtk_summary.specs.SummaryText.{date_time_text, near_text, first_date_line, date_line, date_lines, week_line};
 
 use crate::dates_told::{DateCount, StationDates};
 use crate::line::put_line;
@@ -25,7 +25,7 @@ fn reading(moment: GpsMs) -> Civil
 
 // A date and a time of day.
 fn put_moment(lines: &mut Vec<u8>, date: UtcDate) -> Result<(), AllocError>
-    ensures { OnOk result (lines.new.items ≡ lines.old.items ++ moment_text date) }
+    ensures { OnOk result (lines.new.items ≡ lines.old.items ++ date_time_text date) }
 {
     let reading = reading(moment_of(date));
     put_date(lines, reading)?;

@@ -9,7 +9,7 @@ ghost use Rattle.rtk_summary.specs.DatesTold.{has_date};
 ghost use Rattle.rtk_summary.specs.ReadFrames.{ReadFrame};
 ghost use Rattle.rtk_summary.specs.SummaryText.{time_line, time_lines, look_line, nothing_line};
 ghost use Rattle.rtk_summary.specs.Summary.{size_lines, lines_if_any, stations_text, unread_lines, summary_text};
-ghost use Rattle.rtk_summary.specs.StandingDates.{HasPlaces, StandForStationDates, StandsWithDates};
+ghost use Rattle.rtk_summary.specs.StandingDates.{HasDatePlaces, StandForStationDates, StandsWithDates};
 ghost use Rattle.rtk_summary.specs.Steps.Tables.{counts_text, untaken_text, counts_held};
 ghost use Rattle.rtk_summary.specs.Standing.{times_of, StandsForFaults, StandsForMessages, StandForStations, StandsForFrames};
 
@@ -214,7 +214,7 @@ pub(crate) fn summary_lines(
     read: &CaptureRead,
     held: &DatedSummary,
 ) -> Result<Vec<u8>, AllocError>
-    requires sizes { HasPlaces held.now }
+    requires sizes { HasDatePlaces held.now }
     ensures { (bytes : List ℕ) (fs : List ReadFrame) → read.now.size ≡ shown_count (length bytes) → read.now.head.items ≡ take 512 bytes
         → StandsWithDates held.now fs → IfOk result (λ lines. lines.items ≡ summary_text name.now bytes fs) }
 {
