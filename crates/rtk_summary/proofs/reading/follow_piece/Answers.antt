@@ -1,6 +1,7 @@
 use Rattle.std.proofs.Common.{List, ℕ, refl, sym, subst, ◌∙◌, arith}
+use Rattle.rtk_frame.specs.Frames.{Frame, payloads}
 use Rattle.rtk_summary.specs.Steps.Followed.{Follows}
-use Rattle.rtk_summary.proofs.FrameLemmas.{follows-first, finds-next}
+use Rattle.rtk_summary.proofs.FrameLemmas.{follows-none, follows-first, finds-next, finds-no-more}
 use Rattle.rtk_summary.proofs.reading.follow_piece.Goals as goal
 
 pub frames-init : goal.frames-init
@@ -19,3 +20,10 @@ frames-preserved g c =
       followed = λ end rest. i.followed end (subst (λ (ps : List (List ℕ)). Follows g.F.Follower.takes c.frames.follower ps end) (sym n.first)
           (follows-first g.F.Follower.takes c.frames.follower c.hand_on.new.follower end c.in-Found.payload.now _ c.hand_on.ensures rest));
     }
+
+pub returns-in_default-clause-followed : goal.returns-in_default-clause-followed
+returns-in_default-clause-followed g c =
+    let holds = c.feed-fed.follows.holds-at-none in
+    let n = finds-no-more c.args.piece.now c.frames.scanner.pending c.frames.at c.feed-fed.result.used c.feed-fed.follows.lender-at-none (rw c.in_default.is at holds.2) in
+    c.frames.invariant.followed c.frames.follower
+    (subst (λ (fs : List Frame). Follows g.F.Follower.takes c.frames.follower (payloads fs) c.frames.follower) (sym n.none) (follows-none g.F.Follower.takes c.frames.follower))
