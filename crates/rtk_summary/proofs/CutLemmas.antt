@@ -31,13 +31,14 @@ drop-few n (suc most) (x ∷ xs) is =
     let less : n - 1 ≡ min (length xs) most = omega (arith, is) in
     ap (λ (k : ℕ). drop k (x ∷ xs)) more ∙ drop-few (n - 1) most xs less
 
-take-past : (old xs : List ℕ) (room : ℕ) → take (length old + room) (old ++ xs) ≡ old ++ take room xs
-take-past [] xs room = refl
-take-past (x ∷ old) xs room =
-    let more : length (x ∷ old) + room ≡ suc (length old + room) = omega arith in
-    ap (λ (k : ℕ). take k (x ∷ (old ++ xs))) more ∙ ap (λ (t : List ℕ). x ∷ t) (take-past old xs room)
+take-past : (old xs : List ℕ) (room n : ℕ) → n ≡ length old + room → take n (old ++ xs) ≡ old ++ take room xs
+take-past [] xs room n is = let all : n ≡ room = omega (arith, is) in ap (λ (k : ℕ). take k xs) all
+take-past (x ∷ old) xs room n is =
+    let more : n ≡ suc (n - 1) = omega (arith, is) in
+    let less : n - 1 ≡ length old + room = omega (arith, is) in
+    ap (λ (k : ℕ). take k (x ∷ (old ++ xs))) more ∙ ap (λ (t : List ℕ). x ∷ t) (take-past old xs room (n - 1) less)
 
 -- a piece is added as far as there is room
 pub head-more : (old piece : List ℕ) (room count : ℕ) → length old + room ≡ 512 → count ≡ min (length piece) room → old ++ take count piece ≡ take 512 (old ++ piece)
 head-more old piece room count whole is =
-    ap (λ (t : List ℕ). old ++ t) (take-few count room piece is) ∙ sym (take-past old piece room) ∙ ap (λ (k : ℕ). take k (old ++ piece)) whole
+    ap (λ (t : List ℕ). old ++ t) (take-few count room piece is) ∙ sym (take-past old piece room 512 (sym whole))
