@@ -27,7 +27,7 @@ put-here x ys i d lt here held =
     let y : Ordered = get_or ys i d in
     let cut = cut-at ys i d lt in
     let step : put_in_order x (drop i ys) ≡ x ∷ drop i ys =
-        ap (λ (zs : List Ordered). put_in_order x zs) cut ∙ rw here (ap (λ (zs : List Ordered). x ∷ zs) (sym cut)) in
+    ap (λ (zs : List Ordered). put_in_order x zs) cut ∙ rw here (ap (λ (zs : List Ordered). x ∷ zs) (sym cut)) in
     ap (λ (zs : List Ordered). take i ys ++ zs) (sym step) ∙ held
 
 -- the link of a capture more
@@ -38,6 +38,6 @@ link-more links ends new cs i d place lt at with held =
     let c : Ordered = get_or cs i d in
     let rest : List Ordered = drop (i + 1) cs in
     let step : links_after ends (drop i cs) ≡ place ∷ links_after new rest =
-        ap (λ (zs : List Ordered). links_after ends zs) (cut-at cs i d lt)
-        ∙ rw (← at) (ap (λ (es : List ℕ). place ∷ links_after es rest) (sym with)) in
+    ap (λ (zs : List Ordered). links_after ends zs) (cut-at cs i d lt)
+    ∙ rw (← at) (ap (λ (es : List ℕ). place ∷ links_after es rest) (sym with)) in
     append_assoc links (place ∷ []) (links_after new rest) ∙ ap (λ (zs : List ℕ). links ++ zs) (sym step) ∙ held

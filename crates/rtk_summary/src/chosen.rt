@@ -92,7 +92,7 @@ impl Summary {
         requires { station < 4096 }
         ensures { (fs : List ReadFrame) → StandsForFrames self.now fs
             → IfOk result (λ codes.
-                codes.items ≡ filter (has_code (entries_with kind (messages_from station (messages_in fs)))) all_codes) }
+            codes.items ≡ filter (has_code (entries_with kind (messages_from station (messages_in fs)))) all_codes) }
     {
         let stations = self.stations.as_slice();
         let place = usize::from(station);
