@@ -1,0 +1,11 @@
+mod PieceLemmas
+mod ChoiceLemmas
+mod TrimLemmas
+mod FieldLemmas
+mod OffsetLemmas
+mod LineLemmas
+mod FrontLemmas
+mod PlainLemmas
+mod PartedLemmas
+mod WriteLemmas
+mod LawLemmas
