@@ -14,7 +14,7 @@ use Rattle.rtk_label.proofs.LineLemmas.{line_end, line_of, length-line, length-m
 
 -- ---- a text of any kind, in pieces
 
-length-piece : (k w : ℕ) (text : List ℕ) → k + w ≤ length text → length (take w (drop k text)) ≡ w
+pub length-piece : (k w : ℕ) (text : List ℕ) → k + w ≤ length text → length (take w (drop k text)) ≡ w
 length-piece k w text h = length-take-le w (drop k text) (omega (arith, h, length-drop k text))
 
 abbrev pub top_widths : List ℕ

@@ -6,6 +6,7 @@ mod OffsetLemmas
 mod LineLemmas
 mod FrontLemmas
 mod PlainLemmas
+mod TableLemmas
 mod PartedLemmas
 mod WriteLemmas
 mod LawLemmas

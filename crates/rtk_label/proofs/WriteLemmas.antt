@@ -1,0 +1,62 @@
+-- What is written of a file with a label.
+use Rattle.std.proofs.Common.{◌≡◌, ◌≤◌, ℕ, ◌+◌, Option, List, [], ◌++◌, length, take, drop, ap, sym, arith, refl, ◌∙◌, append_assoc}
+use Rattle.std.proofs.lemmas.List.{take_at, drop_at, drop-drop, take-append-le, length-append}
+use Rattle.std.proofs.Math.Seq.{take-append-add}
+use Rattle.rtk_frame.specs.Stream.{with_more, TakesPart}
+use Rattle.rtk_frame.proofs.PublicLaws.{with_more-with_more}
+use Rattle.rtk_rinex.specs.Reading.{reading_of}
+use Rattle.rtk_rinex.specs.Table.{WellFormedTable, IsWellFormedTable, table_text}
+use Rattle.rtk_label.specs.Fields.{number_line}
+use Rattle.rtk_label.specs.Labelled.{LabelView, IsLabel, IsFor, blank_label, top_lines, middle_lines, labelled_text}
+use Rattle.rtk_label.specs.Steps.Fronts.{filled_top, filled_middle, filled_front}
+use Rattle.rtk_label.proofs.PlainLemmas.{blank_is_label, top_filled, middle_filled}
+use Rattle.rtk_label.proofs.TableLemmas.{length-top, length-middle, text_after, label_parts, plain_parts}
+
+-- ---- texts in parts
+
+-- a part of a text is a part of a longer one
+pub part-longer : (before after : Option (List ℕ)) (text more whole : List ℕ) → whole ≡ text ++ more → TakesPart before after text → TakesPart before after whole
+part-longer before after text more whole is part =
+    let long : length whole ≡ length text + length more = ap length is ∙ length-append text more in
+    let within : part.0 ≤ length whole = omega (arith, long, part.1) in
+    (part.0, within, part.2 ∙ ap (λ t. with_more before t) (sym (ap (λ t. take part.0 t) is ∙ take-append-le part.0 text more part.1)))
+
+-- a part after what is written already
+pub part-after : (first before after : Option (List ℕ)) (done text whole : List ℕ) → whole ≡ done ++ text → before ≡ with_more first done → TakesPart before after text → TakesPart first after whole
+part-after first before after done text whole is wrote part =
+    let more : List ℕ = take part.0 text in
+    let long : length whole ≡ length done + length text = ap length is ∙ length-append done text in
+    let within : length done + part.0 ≤ length whole = omega (arith, long, part.1) in (
+      length done + part.0,
+      within,
+      part.2 ∙ ap (λ o. with_more o more) wrote ∙ with_more-with_more first done more
+          ∙ ap (λ t. with_more first t) (sym (ap (λ t. take (length done + part.0) t) is ∙ take-append-add done text part.0)),
+    )
+
+-- ---- a table with a label
+
+glue_front : (a n m x : List ℕ) → ((a ++ n) ++ m) ++ x ≡ a ++ (n ++ (m ++ x))
+glue_front a n m x = simp append_assoc
+
+pub filled_is : (text : List ℕ) (l : LabelView) (t : WellFormedTable) → IsLabel l → IsWellFormedTable t → text ≡ table_text t
+    → labelled_text l t ≡ filled_front l text ++ drop 729 text
+filled_is text l t is good e =
+    let made = reading_of t.head.made in
+    let top : List ℕ = top_lines [] t.head.marker made in
+    let middle : List ℕ = middle_lines blank_label t.site in
+    let a = length-top [] t.head.marker made (omega arith) good.head.0 in
+    let b = length-middle blank_label t.site blank_is_label good.site in
+    let whole : text ≡ top ++ (middle ++ text_after t) = e ∙ plain_parts t in
+    let first : take 243 text ≡ top = ap (take 243) whole ∙ take_at top (middle ++ text_after t) 243 a in
+    let below : drop 243 text ≡ middle ++ text_after t = ap (drop 243) whole ∙ drop_at top (middle ++ text_after t) 243 a in
+    let six : take 486 (drop 243 text) ≡ middle = ap (take 486) below ∙ take_at middle (text_after t) 486 b in
+    let rest : drop 729 text ≡ text_after t = sym (drop-drop 486 243 text) ∙ ap (drop 486) below ∙ drop_at middle (text_after t) 486 b in
+    let la : length (take 243 text) ≡ 243 = ap length first ∙ a in
+    let lb : length (take 486 (drop 243 text)) ≡ 486 = ap length six ∙ b in
+    let f : filled_top l (take 243 text) ≡ top_lines l.run_by t.head.marker made = top_filled (take 243 text) l.run_by t.head.marker made la good.head.0 is.run_by.0 first in
+    let g : filled_middle l (take 486 (drop 243 text)) ≡ middle_lines l t.site = middle_filled (take 486 (drop 243 text)) l t.site lb is good.site six in
+    label_parts l t
+    ∙ sym (glue_front (filled_top l (take 243 text)) (number_line l.marker_number) (filled_middle l (take 486 (drop 243 text))) (drop 729 text)
+    ∙ ap (λ (x : List ℕ). x ++ (number_line l.marker_number ++ (filled_middle l (take 486 (drop 243 text)) ++ drop 729 text))) f
+    ∙ ap (λ (x : List ℕ). top_lines l.run_by t.head.marker made ++ (number_line l.marker_number ++ (x ++ drop 729 text))) g
+    ∙ ap (λ (x : List ℕ). top_lines l.run_by t.head.marker made ++ (number_line l.marker_number ++ (middle_lines l t.site ++ x))) rest)
