@@ -65,3 +65,12 @@ field_is_blank w columns field g is good e =
       | inl none ↦ if_blank field columns (replicate w 32) none ∙ e ∙ ap (left w) (sym same ∙ none_is field none)
       | inr some ↦ if_filled field columns (replicate w 32) some ∙ sym (left-nil w)
     ]
+
+-- ---- one field in its columns
+
+pub field_in : (w : ℕ) (columns f : List ℕ) → IsField w f → columns ≡ left w f → IsFieldIn w columns f
+field_in w columns f good e = record {
+  good = good;
+  some = λ some. e;
+  all = λ g is other. sym (trimmed-field w f good) ∙ ap trim_end (sym e ∙ other) ∙ trimmed-field w g is;
+}

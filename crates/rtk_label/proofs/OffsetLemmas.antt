@@ -2,7 +2,7 @@
 use Rattle.std.proofs.Common.{◌≡◌, ◌≢◌, ◌⊎◌, ◌<◌, ◌≤◌, ℕ, ◌+◌, ◌-◌, ◌/◌, ◌%◌, ◌==◌, List, [], ◌∷◌, ◌++◌, length, take, drop, get_or, slice_index, replicate, codes, decimal, pos, if◌then◌else◌, ap, sym, arith, refl, ◌∙◌, inl, inr, length-append}
 use Rattle.std.proofs.lemmas.Bool.{cases_order}
 use Rattle.std.proofs.lemmas.Fmt.{decimal_digit}
-use Rattle.std.proofs.lemmas.List.{length-replicate, length-drop, take-append-drop, drop_at, get_or-replicate, get_or_append_left, get_or-append_right, get_or-take}
+use Rattle.std.proofs.lemmas.List.{length-replicate, length-drop, take-append-drop, take_at, drop_at, get_or-replicate, get_or_append_left, get_or-append_right, get_or-take}
 use Rattle.rtk_obs.specs.CivilText.{last_digits}
 use Rattle.rtk_rinex.specs.Columns.{right, decimals, fixed}
 use Rattle.rtk_label.specs.Fields.{IsSign, IsSigned, IsOffset, offset_columns}
@@ -149,3 +149,23 @@ offset_is_plain columns g told only e =
       | inl none ↦ if_blank g columns zero_offset none ∙ e ∙ if_blank g told (right 14 g) none
       | inr some ↦ if_filled g columns zero_offset some ∙ sym (only some)
     ]
+
+-- ---- one offset in its columns
+
+one_offset : (f g : List ℕ) → IsSigned f → IsSigned g → right 14 f ≡ right 14 g → f ≡ g
+one_offset f g hf hg e =
+    let r = 14 - length f in
+    let size : length (replicate {A = ℕ} r 32) ≡ r = length-replicate {A = ℕ} r 32 in
+    sym (drop_at (replicate r 32) f r size)
+    ∙ shown_is (right 14 f) g r (length-right 14 f (omega (arith, hf.0))) (omega arith) (take_at (replicate r 32) f r size) (λ inside. sign_at f r hf refl) hg e
+
+pub offset_in : (columns f rest : List ℕ) → IsOffset f → columns ≡ (if length f == 0 then replicate 8 32 ++ rest else right 14 f) → IsOffsetIn columns f
+offset_in columns f rest good e = record {
+  good = good;
+  some = λ some. e ∙ if_filled f (replicate 8 32 ++ rest) (right 14 f) some;
+  all = λ g h is.
+      elim (blank_or_filled f) [
+        | inl none ↦ absurd (unsigned g rest h (sym (e ∙ if_blank f (replicate 8 32 ++ rest) (right 14 f) none) ∙ is))
+        | inr some ↦ one_offset f g (good some) h (sym (e ∙ if_filled f (replicate 8 32 ++ rest) (right 14 f) some) ∙ is)
+      ];
+}

@@ -127,14 +127,14 @@ was_labelled text number from l t r good e =
 
 -- ---- what a labelled text is parted into
 
-first_of_middle : (g : LabelView) (t : WellFormedTable) → IsLabel g → IsWellFormedTable t → (rest : List ℕ) → length type_line ≡ 81
+pub first_of_middle : (g : LabelView) (t : WellFormedTable) → IsLabel g → IsWellFormedTable t → (rest : List ℕ) → length type_line ≡ 81
     → take 81 (middle_lines g t.site ++ rest) ≡ type_line
 first_of_middle g t is good rest size =
     let tail : List ℕ = drop 81 (joined (line_cells g t.site)) in
     ap (λ (x : List ℕ). take 81 (x ++ rest)) (middle_is g t.site is good.site)
     ∙ ap (take 81) (append_assoc type_line _ rest) ∙ take_at type_line _ 81 size
 
-length-type : length type_line ≡ 81
+pub length-type : length type_line ≡ 81
 unfolding type_line
 length-type = length-line (codes "GEODETIC") (codes "MARKER TYPE") (omega arith) (omega arith)
 

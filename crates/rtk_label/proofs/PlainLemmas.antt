@@ -12,8 +12,8 @@ use Rattle.rtk_label.specs.Steps.Shown.{IsFieldIn, IsOffsetIn, IsLabelIn}
 use Rattle.rtk_label.specs.Steps.Fronts.{filled_height, filled_top, filled_middle, plain_columns, plain_offset, plain_top, plain_middle}
 use Rattle.rtk_label.proofs.PieceLemmas.{joined, HasWidths, same_pieces}
 use Rattle.rtk_label.proofs.ChoiceLemmas.{if_blank, if_filled, blank_or_filled}
-use Rattle.rtk_label.proofs.FieldLemmas.{blank_field, length-left, length-plain_columns, field_was, field_is_blank}
-use Rattle.rtk_label.proofs.OffsetLemmas.{zero_offset, fixed_height, told_zero, zero_height, length-plain_offset, offset_was, offset_is_told, offset_is_plain}
+use Rattle.rtk_label.proofs.FieldLemmas.{blank_field, length-left, length-plain_columns, field_was, field_is_blank, field_in}
+use Rattle.rtk_label.proofs.OffsetLemmas.{zero_offset, fixed_height, told_zero, zero_height, length-plain_offset, offset_was, offset_is_told, offset_is_plain, offset_in}
 use Rattle.rtk_label.proofs.LineLemmas.{line_end}
 use Rattle.rtk_label.proofs.FrontLemmas.{length-piece, top_widths, top_columns, top_cut, top_sizes, top_front, top_back, top_is, top_is_sized, middle_widths, Cells, AreCells, with_cells, cells_of, middle_columns, middle_cut, middle_sizes, cells_are, cells, cells_fit, type_line, place_line, line_cells, middle_is, line_cells_sized}
 
@@ -308,3 +308,29 @@ middle_filled m l s long is p e =
     glue_cells (take 81 m) c.observer c.agency (take 21 (drop 141 m)) c.receiver_number c.receiver_type c.receiver_version (take 21 (drop 222 m))
     c.antenna_number c.antenna_type (take 122 (drop 283 m)) c.height c.east c.north (take 39 (drop 447 m))
     ∙ middle_with m c l s t.between same ∙ sym (middle_is l s is p)
+
+-- ---- the lines of a label show it
+
+pub top_in : (top run marker : List ℕ) (made : Civil) → length top ≡ 243 → IsMarker marker → IsField 20 run → top ≡ top_lines run marker made
+    → IsFieldIn 20 (take 20 (drop 101 top)) run
+top_in top run marker made l m good e =
+    let t = top_told top run (take 20 (drop 101 top)) marker made l (length-cell top l) good.0 m (sym (top_cut top l) ∙ e) in
+    field_in 20 _ run good t.cell
+
+pub label_in : (top number m : List ℕ) (l : LabelView) (s : PositionView) → length m ≡ 486 → IsLabel l → IsPositionView s → IsFieldIn 20 (take 20 (drop 101 top)) l.run_by
+    → l.marker_number ≡ number → m ≡ middle_lines l s → IsLabelIn top number m l
+label_in top number m l s long is p run same e =
+    let c = (middle_told m (cells_of m) l s long (cells_are m long) is p (sym (middle_cut m long) ∙ e)).cells in record {
+      run_by = run;
+      marker_number = same;
+      observer = field_in 20 _ l.observer is.observer c.observer;
+      agency = field_in 40 _ l.agency is.agency c.agency;
+      receiver_number = field_in 20 _ l.receiver_number is.receiver_number c.receiver_number;
+      receiver_type = field_in 20 _ l.receiver_type is.receiver_type c.receiver_type;
+      receiver_version = field_in 20 _ l.receiver_version is.receiver_version c.receiver_version;
+      antenna_number = field_in 20 _ l.antenna_number is.antenna_number c.antenna_number;
+      antenna_type = field_in 20 _ l.antenna_type is.antenna_type c.antenna_type;
+      height = offset_in _ l.height _ is.height (as_told l.height s _ p c.height);
+      east = offset_in _ l.east zero_rest is.east c.east;
+      north = offset_in _ l.north zero_rest is.north c.north;
+    }
