@@ -3,19 +3,16 @@
 //! The parts are read from their columns, and these become blank where they show a field. What no label fills stays as it is,
 //! so that `check` finds the first wrong line.
 
-ghost use Rattle.std.specs.Prelude.{◌≡◌, ◌+◌, ◌^◌, ◌<◌, ◌≤◌, length, drop};
+ghost use Rattle.std.specs.Prelude.{◌≡◌, ◌+◌, ◌^◌, ◌<◌, ◌≤◌, ◌++◌, length, drop};
 ghost use Rattle.rtk_label.specs.Fields.{IsField};
 ghost use Rattle.rtk_label.specs.LabelWriting.{IsParted, line_in_text};
 ghost use Rattle.rtk_label.specs.Steps.Shown.{IsNumberIn, IsLabelIn};
 
-use crate::columns::put_number_line;
+use crate::columns::{FRONT, put_number_line};
 use crate::fields::{Field, columns_at, is_same, read_field, read_offset};
 use crate::front::plain;
 use crate::label::Label;
 use arrayvec::ArrayVec;
-
-/// The bytes of nine lines.
-const NINE_LINES: usize = 729;
 
 /// The bytes of three lines.
 const THREE_LINES: usize = 243;
@@ -80,8 +77,33 @@ fn read_label(top: &[u8], number: Field, middle: &[u8]) -> Label
     }
 }
 
-/// Parts a text in its place: what is left from `from` on is the plain text. No byte is moved after
-/// the tenth line.
+// What is read of a text: its label, where its plain text begins, and the first nine lines of this.
+#[derive(Drop)]
+struct Reading {
+    unlabelled: Unlabelled,
+    front: ArrayVec<u8, FRONT>,
+}
+
+fn read(text: &[u8]) -> Reading
+    requires { 810 ≤ length text.now }
+    ensures parted { IsParted text.now (result.front.items ++ drop (result.unlabelled.from + 729) text.now) result.unlabelled.label }
+    ensures from { result.unlabelled.from ≤ 81 }
+    ensures len { length result.front.items ≡ 729 }
+{
+    let number = read_number(columns_at(text, THREE_LINES, 81));
+    let from = if number.len() == 0 { 0 } else { 81 };
+    let top = columns_at(text, 0, THREE_LINES);
+    let middle = columns_at(text, from + THREE_LINES, 486);
+    let label = read_label(top, number, middle);
+    let front = plain(&label, top, middle);
+    Reading {
+        unlabelled: Unlabelled { label, from },
+        front,
+    }
+}
+
+/// Parts a text in its place: what is left from `from` on is the plain text. No byte after the tenth
+/// line is moved.
 pub fn unlabel(text: &mut [u8]) -> Unlabelled
     ensures len { length text.new ≡ length text.old }
     ensures from { result.from ≤ length text.new }
@@ -93,12 +115,8 @@ pub fn unlabel(text: &mut [u8]) -> Unlabelled
             from: 0,
         };
     }
-    let number = read_number(columns_at(text, THREE_LINES, 81));
-    let from = if number.len() == 0 { 0 } else { 81 };
-    let top = columns_at(text, 0, THREE_LINES);
-    let middle = columns_at(text, from + THREE_LINES, 486);
-    let label = read_label(top, number, middle);
-    let front = plain(&label, top, middle);
-    text[from..from + NINE_LINES].copy_from_slice(front.as_slice());
-    Unlabelled { label, from }
+    let reading = read(text);
+    let from = reading.unlabelled.from;
+    text[from..from + 729].copy_from_slice(reading.front.as_slice());
+    reading.unlabelled
 }
