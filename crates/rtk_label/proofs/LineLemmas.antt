@@ -53,11 +53,3 @@ length-fixed (negsuc n) h =
 
 pub height_coordinate : (h : ℕ) → h < 65_536 → IsCoordinate (pos h)
 height_coordinate h small = record { least = omega (arith, ints); greatest = omega (arith, ints) }
-
--- ---- the labels of the fourth line
-
-type_label : List ℕ
-type_label = codes "MARKER TYPE"
-
-number_label : List ℕ
-number_label = codes "MARKER NUMBER"
