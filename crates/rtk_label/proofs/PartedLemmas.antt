@@ -159,10 +159,35 @@ pub record IsPlainOf (text : List ℕ) (from : ℕ) (l g : LabelView) (t : WellF
   pub plain : front_of text from l ++ drop (from + 729) text ≡ table_text t
   pub label : l ≡ g
 
+abbrev label_with : List ℕ → List ℕ → List ℕ → List ℕ → List ℕ → List ℕ → List ℕ → List ℕ → List ℕ → List ℕ → List ℕ → List ℕ → LabelView
+label_with a b c d e f h i j k m n =
+    record {
+      run_by = a;
+      marker_number = b;
+      observer = c;
+      agency = d;
+      receiver_number = e;
+      receiver_type = f;
+      receiver_version = h;
+      antenna_number = i;
+      antenna_type = j;
+      height = k;
+      east = m;
+      north = n;
+    }
+
+same_fields : (a b c d e f h i j k m n a' b' c' d' e' f' h' i' j' k' m' n' : List ℕ) → a ≡ a' → b ≡ b' → c ≡ c' → d ≡ d' → e ≡ e' → f ≡ f' → h ≡ h'
+    → i ≡ i' → j ≡ j' → k ≡ k' → m ≡ m' → n ≡ n' → label_with a b c d e f h i j k m n ≡ label_with a' b' c' d' e' f' h' i' j' k' m' n'
+same_fields a b c d e f h i j k m n a' b' c' d' e' f' h' i' j' k' m' n' ea eb ec ed ee ef eh ei ej ek em en =
+    rw (ea, eb, ec, ed, ee, ef, eh, ei, ej, ek, em, en) refl
+
 one_label : (l g : LabelView) → l.run_by ≡ g.run_by → l.marker_number ≡ g.marker_number → l.observer ≡ g.observer → l.agency ≡ g.agency
     → l.receiver_number ≡ g.receiver_number → l.receiver_type ≡ g.receiver_type → l.receiver_version ≡ g.receiver_version
     → l.antenna_number ≡ g.antenna_number → l.antenna_type ≡ g.antenna_type → l.height ≡ g.height → l.east ≡ g.east → l.north ≡ g.north → l ≡ g
-one_label l g a b c d e f h i j k m n = rw (a, b, c, d, e, f, h, i, j, k, m, n) refl
+one_label l g a b c d e f h i j k m n =
+    same_fields l.run_by l.marker_number l.observer l.agency l.receiver_number l.receiver_type l.receiver_version l.antenna_number l.antenna_type l.height l.east l.north
+    g.run_by g.marker_number g.observer g.agency g.receiver_number g.receiver_type g.receiver_version g.antenna_number g.antenna_type g.height g.east g.north
+    a b c d e f h i j k m n
 
 pub is_plain : (text number : List ℕ) (from : ℕ) (l g : LabelView) (t : WellFormedTable) → IsRead text number from l → IsWellFormedTable t → IsLabel g → IsFor g t.site
     → text ≡ labelled_text g t → IsPlainOf text from l g t

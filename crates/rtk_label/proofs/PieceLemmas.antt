@@ -20,6 +20,9 @@ HasWidths [] (x ∷ xs) = ⊥
 HasWidths (w ∷ ws) [] = ⊥
 HasWidths (w ∷ ws) (x ∷ xs) = (length x ≡ w) × HasWidths ws xs
 
+pub same_more : (x y : List ℕ) (xs ys : List (List ℕ)) → x ≡ y → xs ≡ ys → x ∷ xs ≡ y ∷ ys
+same_more x y xs ys e f = ap (λ (z : List ℕ). z ∷ xs) e ∙ ap (λ (zs : List (List ℕ)). y ∷ zs) f
+
 -- pieces of the same widths, which make the same text, are the same
 pub same_pieces : (ws : List ℕ) (xs ys : List (List ℕ)) → HasWidths ws xs → HasWidths ws ys → joined xs ≡ joined ys → xs ≡ ys
 same_pieces [] [] [] g h e = refl
@@ -30,7 +33,7 @@ same_pieces (w ∷ ws) (x ∷ xs) [] g h e = absurd h
 same_pieces (w ∷ ws) (x ∷ xs) (y ∷ ys) g h e =
     let two = same_parts x y (joined xs) (joined ys) (g.0 ∙ sym h.0) e in
     let rest = same_pieces ws xs ys g.1 h.1 two.1 in
-    ap (λ (z : List ℕ). z ∷ xs) two.0 ∙ ap (λ (zs : List (List ℕ)). y ∷ zs) rest
+    same_more x y xs ys two.0 rest
 
 -- the next columns of a text, and what stands after them
 pub next_piece : (k w : ℕ) (text rest : List ℕ) → drop (k + w) text ≡ rest → drop k text ≡ take w (drop k text) ++ rest

@@ -10,7 +10,7 @@ use Rattle.rtk_label.specs.Fields.{IsField, IsOffset, offset_columns}
 use Rattle.rtk_label.specs.Labelled.{LabelView, IsLabel, IsFor, blank_label, height_columns, top_lines, middle_lines}
 use Rattle.rtk_label.specs.Steps.Shown.{IsFieldIn, IsOffsetIn, IsLabelIn}
 use Rattle.rtk_label.specs.Steps.Fronts.{filled_height, filled_top, filled_middle, plain_columns, plain_offset, plain_top, plain_middle}
-use Rattle.rtk_label.proofs.PieceLemmas.{joined, HasWidths, same_pieces}
+use Rattle.rtk_label.proofs.PieceLemmas.{joined, HasWidths, same_more, same_pieces}
 use Rattle.rtk_label.proofs.ChoiceLemmas.{if_blank, if_filled, blank_or_filled}
 use Rattle.rtk_label.proofs.FieldLemmas.{blank_field, length-left, length-plain_columns, field_was, field_is_blank, field_in}
 use Rattle.rtk_label.proofs.OffsetLemmas.{zero_offset, fixed_height, told_zero, zero_height, length-plain_offset, offset_was, offset_is_told, offset_is_plain, offset_in}
@@ -39,8 +39,7 @@ pub glue_three : (a b c : List ℕ) → (a ++ b) ++ c ≡ joined (a ∷ b ∷ c 
 glue_three a b c = simp (append_assoc, append-nil)
 
 three : (a b c a' b' c' : List ℕ) → a ≡ a' → b ≡ b' → c ≡ c' → joined (a ∷ b ∷ c ∷ []) ≡ joined (a' ∷ b' ∷ c' ∷ [])
-three a b c a' b' c' e f g =
-    ap (λ (t : List ℕ). joined (t ∷ b ∷ c ∷ [])) e ∙ ap (λ (t : List ℕ). joined (a' ∷ t ∷ c ∷ [])) f ∙ ap (λ (t : List ℕ). joined (a' ∷ b' ∷ t ∷ [])) g
+three a b c a' b' c' e f g = ap joined (same_more a a' _ _ e (same_more b b' _ _ f (same_more c c' [] [] g refl)))
 
 -- what stands before and after the field of three lines, and the field
 record TopIs (top run cell marker : List ℕ) (made : Civil) : Type 0 where
@@ -146,14 +145,13 @@ middle_told m c l s long size is p e =
       };
     }
 
-one_cells : (c u : Cells) → SameCells c u → c ≡ u
-one_cells c u e = rw (e.observer, e.agency, e.receiver_number, e.receiver_type, e.receiver_version, e.antenna_number, e.antenna_type, e.height, e.east, e.north) refl
-
 -- six lines with other fields
 middle_with : (m : List ℕ) (c : Cells) (l : LabelView) (s : PositionView) → AreBetween m s → SameCells c (cells l s) → joined (middle_columns m c) ≡ joined (line_cells l s)
-middle_with m c l s b same =
-    rw (b.first, b.observer, b.receiver, b.antenna, b.offsets) (ap (λ (u : Cells). joined (with_cells type_line (line_end 0 (codes "OBSERVER / AGENCY")) (line_end 0 (codes "REC # / TYPE / VERS"))
-    (line_end 20 (codes "ANT # / TYPE") ++ place_line s) (line_end 18 (codes "ANTENNA: DELTA H/E/N")) u)) (one_cells c (cells l s) same))
+middle_with m c l s b e =
+    ap joined (same_more _ _ _ _ b.first (same_more _ _ _ _ e.observer (same_more _ _ _ _ e.agency (same_more _ _ _ _ b.observer
+    (same_more _ _ _ _ e.receiver_number (same_more _ _ _ _ e.receiver_type (same_more _ _ _ _ e.receiver_version (same_more _ _ _ _ b.receiver
+    (same_more _ _ _ _ e.antenna_number (same_more _ _ _ _ e.antenna_type (same_more _ _ _ _ b.antenna (same_more _ _ _ _ e.height
+    (same_more _ _ _ _ e.east (same_more _ _ _ _ e.north (same_more _ _ _ _ b.offsets refl)))))))))))))))
 
 abbrev pub plain_cells : LabelView → List ℕ → Cells
 plain_cells l m =

@@ -57,15 +57,20 @@ trim_end-blanks m (suc k) =
 last_solid : (m : List ℕ) → 0 < length m → slice_get m (length m - 1) ≢ Some 32 → get_or m (length m - 1) 0 ≢ 32
 last_solid m some h e = h (slice_get-get_or m (length m - 1) 0 (omega (arith, some)) ∙ ap Some e)
 
--- a field is found in its columns
-pub trimmed-field : (w : ℕ) (f : List ℕ) → IsField w f → trim_end (left w f) ≡ f
+trimmed-none : (w : ℕ) → trim_end (left w []) ≡ []
 unfolding left trim_end
-trimmed-field w [] h = trim_end-blanks [] (w - 0)
-trimmed-field w (x ∷ xs) h =
-    let f : List ℕ = x ∷ xs in
-    let some : 0 < length f = omega arith in
+trimmed-none w = trim_end-blanks [] (w - 0)
+
+trimmed-some : (w : ℕ) (f : List ℕ) → 0 < length f → IsField w f → trim_end (left w f) ≡ f
+unfolding left
+trimmed-some w f some h =
     let all : take (length f) f ≡ f = take_all (length f) f (omega arith) in
     trim_end-blanks f (w - length f) ∙ rw all at (trim_end-done f (length f) some (omega arith) (last_solid f some h.3))
+
+-- a field is found in its columns
+pub trimmed-field : (w : ℕ) (f : List ℕ) → IsField w f → trim_end (left w f) ≡ f
+trimmed-field w [] h = trimmed-none w
+trimmed-field w (x ∷ xs) h = trimmed-some w (x ∷ xs) (omega arith) h
 
 -- ---- a text is its own, and then blanks
 
