@@ -1,5 +1,5 @@
 -- A text that is chosen by whether a field is blank.
-use Rattle.std.proofs.Common.{◌≡◌, ◌<◌, ◌⊎◌, inl, inr, ℕ, List, [], ◌∷◌, length, Bool, true, false, ◌==◌, if◌then◌else◌, arith, refl}
+use Rattle.std.proofs.Common.{◌<◌, ◌⊎◌, inl, inr, ℕ, List, [], ◌∷◌, length, Bool, true, false, ◌==◌, if◌then◌else◌, ◌≡◌, ◌∙◌, arith, refl, sym}
 use Rattle.std.proofs.lemmas.Bool.Decides.{nat_tests}
 
 pick_none : (t a b : List ℕ) (c : Bool) → (length t == 0) ≡ c → length t ≡ 0 → (if c then a else b) ≡ a
@@ -23,3 +23,7 @@ none_is (x ∷ xs) h = absurd (omega arith)
 pub blank_or_filled : (t : List ℕ) → (length t ≡ 0) ⊎ (0 < length t)
 blank_or_filled [] = inl refl
 blank_or_filled (x ∷ xs) = inr (omega arith)
+
+-- a test and its opposite
+pub clash : (b : Bool) → b ≡ false → b ≡ true → ⊥
+clash b e f = let apart : false ≡ true = sym e ∙ f in cc

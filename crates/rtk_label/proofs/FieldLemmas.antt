@@ -1,5 +1,5 @@
 -- Fields in their columns.
-use Rattle.std.proofs.Common.{◌≡◌, ◌≢◌, ◌<◌, ◌≤◌, ℕ, ◌-◌, ◌==◌, List, [], length, take, replicate, slice_get, Some, if◌then◌else◌, ap, sym, arith, refl, ◌∙◌, inl, inr, length-append}
+use Rattle.std.proofs.Common.{◌≡◌, ◌≢◌, ◌<◌, ◌≤◌, ℕ, ◌-◌, ◌==◌, List, [], length, take, replicate, slice_get, Some, None, if◌then◌else◌, ap, sym, arith, refl, ◌∙◌, inl, inr, length-append}
 use Rattle.std.specs.Prelude.{All}
 use Rattle.std.specs.Int.{IsInRange}
 use Rattle.std.proofs.lemmas.List.{length-replicate}
@@ -12,8 +12,11 @@ use Rattle.rtk_label.specs.Steps.Fronts.{plain_columns}
 use Rattle.rtk_label.proofs.ChoiceLemmas.{if_blank, if_filled, none_is, blank_or_filled}
 use Rattle.rtk_label.proofs.TrimLemmas.{trimmed-field, trimmed-left}
 
-no_first : {A : Type 0} (x : A) → slice_get {A = A} [] 0 ≢ Some x
-no_first x e = absurd (grind arith)
+none_some : (x : ℕ) → None ≡ Some x → ⊥
+none_some x h = cc
+
+no_first : (x : ℕ) → slice_get {A = ℕ} [] 0 ≢ Some x
+no_first x e = none_some x e
 
 pub blank_field : (w : ℕ) → IsField w []
 blank_field w = (omega arith, All-nil (λ x. IsInRange 32 126 x), no_first 32, no_first 32)

@@ -179,7 +179,7 @@ label_with a b c d e f h i j k m n =
 same_fields : (a b c d e f h i j k m n a' b' c' d' e' f' h' i' j' k' m' n' : List ℕ) → a ≡ a' → b ≡ b' → c ≡ c' → d ≡ d' → e ≡ e' → f ≡ f' → h ≡ h'
     → i ≡ i' → j ≡ j' → k ≡ k' → m ≡ m' → n ≡ n' → label_with a b c d e f h i j k m n ≡ label_with a' b' c' d' e' f' h' i' j' k' m' n'
 same_fields a b c d e f h i j k m n a' b' c' d' e' f' h' i' j' k' m' n' ea eb ec ed ee ef eh ei ej ek em en =
-    rw (ea, eb, ec, ed, ee, ef, eh, ei, ej, ek, em, en) refl
+    cc
 
 one_label : (l g : LabelView) → l.run_by ≡ g.run_by → l.marker_number ≡ g.marker_number → l.observer ≡ g.observer → l.agency ≡ g.agency
     → l.receiver_number ≡ g.receiver_number → l.receiver_type ≡ g.receiver_type → l.receiver_version ≡ g.receiver_version
