@@ -1,5 +1,6 @@
 -- What is written of a file with a label.
 use Rattle.std.proofs.Common.{◌≡◌, ◌≤◌, ℕ, ◌+◌, Option, List, [], ◌++◌, length, take, drop, ap, sym, arith, refl, ◌∙◌, append_assoc}
+use Rattle.std.specs.Prelude.{Result, Ok, Err, OnOk, OnErr}
 use Rattle.std.proofs.lemmas.List.{take_at, drop_at, drop-drop, take-append-le, length-append}
 use Rattle.std.proofs.Math.Seq.{take-append-add}
 use Rattle.rtk_frame.specs.Stream.{with_more, TakesPart}
@@ -8,6 +9,7 @@ use Rattle.rtk_rinex.specs.Reading.{reading_of}
 use Rattle.rtk_rinex.specs.Table.{WellFormedTable, IsWellFormedTable, table_text}
 use Rattle.rtk_label.specs.Fields.{number_line}
 use Rattle.rtk_label.specs.Labelled.{LabelView, IsLabel, IsFor, blank_label, top_lines, middle_lines, labelled_text}
+use Rattle.rtk_label.specs.LabelWriting.{WritesLabelled, WritesFirstLabelled}
 use Rattle.rtk_label.specs.Steps.Fronts.{filled_top, filled_middle, filled_front}
 use Rattle.rtk_label.proofs.PlainLemmas.{blank_is_label, top_filled, middle_filled}
 use Rattle.rtk_label.proofs.TableLemmas.{length-top, length-middle, text_after, label_parts, plain_parts}
@@ -60,3 +62,30 @@ filled_is text l t is good e =
     ∙ ap (λ (x : List ℕ). x ++ (number_line l.marker_number ++ (filled_middle l (take 486 (drop 243 text)) ++ drop 729 text))) f
     ∙ ap (λ (x : List ℕ). top_lines l.run_by t.head.marker made ++ (number_line l.marker_number ++ (x ++ drop 729 text))) g
     ∙ ap (λ (x : List ℕ). top_lines l.run_by t.head.marker made ++ (number_line l.marker_number ++ (middle_lines l t.site ++ x))) rest)
+
+-- ---- what two writes give
+
+pub wrote_all : (text : List ℕ) (l : LabelView) (before mid after : Option (List ℕ)) → IsLabel l → mid ≡ with_more before (filled_front l text)
+    → after ≡ with_more mid (drop 729 text) → WritesLabelled text l before after
+wrote_all text l before mid after is first next t good e =
+    next ∙ ap (λ (o : Option (List ℕ)). with_more o (drop 729 text)) first ∙ with_more-with_more before (filled_front l text) (drop 729 text)
+    ∙ ap (λ (x : List ℕ). with_more before x) (sym (filled_is text l t is good e))
+
+-- the first write broke off
+pub wrote_front : (text : List ℕ) (l : LabelView) (before after : Option (List ℕ)) → IsLabel l → TakesPart before after (filled_front l text) → WritesFirstLabelled text l before after
+wrote_front text l before after is part t good e =
+    part-longer before after (filled_front l text) (drop 729 text) (labelled_text l t) (filled_is text l t is good e) part
+
+-- the second one did
+pub wrote_more : (text : List ℕ) (l : LabelView) (before mid after : Option (List ℕ)) → IsLabel l → mid ≡ with_more before (filled_front l text)
+    → TakesPart mid after (drop 729 text) → WritesFirstLabelled text l before after
+wrote_more text l before mid after is first part t good e =
+    part-after before mid after (filled_front l text) (drop 729 text) (labelled_text l t) (filled_is text l t is good e) first part
+
+pub on_err-from : {T E : Type 0} (r : Result T E) {Q : Type 0} → Q → OnErr r Q
+on_err-from (Ok x) q = tt
+on_err-from (Err e) q = q
+
+pub on_ok-map : {T E : Type 0} (r : Result T E) {P Q : Type 0} → (P → Q) → OnOk r P → OnOk r Q
+on_ok-map (Ok x) f p = f p
+on_ok-map (Err e) f p = p

@@ -1,6 +1,7 @@
 //! The lines of a header that a label changes, with its fields and without.
 
 ghost use Rattle.std.specs.Prelude.{◌≡◌, ◌≤◌, ◌++◌, length};
+ghost use Rattle.rtk_label.specs.Labelled.{IsLabel};
 ghost use Rattle.rtk_label.specs.Steps.Fronts.{filled_top, filled_middle, filled_front, plain_top, plain_middle};
 
 use crate::columns::{
@@ -45,7 +46,8 @@ fn put_middle(out: &mut ArrayVec<u8, FRONT>, label: &Label, middle: &[u8])
 
 /// The first nine lines of a plain text with the fields of a label: nine lines, or ten.
 pub(crate) fn filled(label: &Label, text: &[u8]) -> ArrayVec<u8, FRONT>
-    ensures { result.items ≡ filled_front label.now text.now }
+    ensures value { result.items ≡ filled_front label.now text.now }
+    ensures good { IsLabel label.now }
 {
     let mut out = ArrayVec::new();
     put_top(&mut out, label, columns_at(text, 0, 243));
@@ -89,7 +91,8 @@ fn put_plain_middle(out: &mut ArrayVec<u8, FRONT>, label: &Label, m: &[u8])
 
 /// Nine lines without the fields of a label: three of a text, then six.
 pub(crate) fn plain(label: &Label, top: &[u8], middle: &[u8]) -> ArrayVec<u8, FRONT>
-    ensures { result.items ≡ plain_top label.now top.now ++ plain_middle label.now middle.now }
+    ensures value { result.items ≡ plain_top label.now top.now ++ plain_middle label.now middle.now }
+    ensures good { IsLabel label.now }
 {
     let mut out = ArrayVec::new();
     put_plain_top(&mut out, label, top);
