@@ -1,5 +1,5 @@
 -- A text that is parted into a label and a plain text.
-use Rattle.std.proofs.Common.{◌≡◌, ◌≢◌, ◌<◌, ◌≤◌, ℕ, ◌+◌, ◌==◌, List, [], ◌∷◌, ◌++◌, length, take, drop, get_or, codes, if◌then◌else◌, ap, sym, arith, refl, ◌∙◌, append_assoc, inl, inr}
+use Rattle.std.proofs.Common.{◌≡◌, ◌≢◌, ◌<◌, ◌≤◌, ℕ, ◌+◌, ◌==◌, List, [], ◌∷◌, ◌++◌, length, take, drop, get_or, codes, if◌then◌else◌, ap, sym, arith, refl, ◌∙◌, append_assoc, length-append, inl, inr}
 use Rattle.std.proofs.lemmas.List.{take_at, take-append-drop, length-take-le, length-drop, get_or-append_right, append_cancel_left}
 use Rattle.rtk_rinex.specs.Columns.{left}
 use Rattle.rtk_rinex.specs.Header.{header_line}
@@ -43,6 +43,22 @@ length-number n is some =
     ∙ length-line (left 20 n) (codes "MARKER NUMBER") (omega (arith, length-left 20 n is.0)) (omega arith)
 
 -- ---- the parts of a text
+
+pub label_good : (top number middle : List ℕ) (l : LabelView) → IsField 20 number → IsLabelIn top number middle l → IsLabel l
+label_good top number middle l good is = record {
+  run_by = is.run_by.good;
+  marker_number = rw is.marker_number good;
+  observer = is.observer.good;
+  agency = is.agency.good;
+  receiver_number = is.receiver_number.good;
+  receiver_type = is.receiver_type.good;
+  receiver_version = is.receiver_version.good;
+  antenna_number = is.antenna_number.good;
+  antenna_type = is.antenna_type.good;
+  height = is.height.good;
+  east = is.east.good;
+  north = is.north.good;
+}
 
 -- what is read of a text: a marker's number, and so where its six lines begin; and its label
 pub record IsRead (text number : List ℕ) (from : ℕ) (l : LabelView) : Type 0 where
@@ -97,6 +113,11 @@ length-plain_top l top long =
 
 length-plain_middle : (l : LabelView) (m : List ℕ) → length m ≡ 486 → length (plain_middle l m) ≡ 486
 length-plain_middle l m long = ap length (plain_middle_is l m) ∙ length-six _ (middle_sizes m (plain_cells l m) long (plain_cells_are l m long))
+
+pub length-front : (text number : List ℕ) (from : ℕ) (l : LabelView) → IsRead text number from l → length (front_of text from l) ≡ 729
+length-front text number from l r =
+    length-append (plain_top l (take 243 text)) (plain_middle l (take 486 (drop (from + 243) text)))
+    ∙ omega (arith, length-plain_top l (take 243 text) (length-first text r.long), length-plain_middle l _ (length-next text from r.long (within text number from l r)))
 
 -- ---- what the plain text says of the text
 

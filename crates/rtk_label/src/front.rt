@@ -91,8 +91,7 @@ fn put_plain_middle(out: &mut ArrayVec<u8, FRONT>, label: &Label, m: &[u8])
 
 /// Nine lines without the fields of a label: three of a text, then six.
 pub(crate) fn plain(label: &Label, top: &[u8], middle: &[u8]) -> ArrayVec<u8, FRONT>
-    ensures value { result.items ≡ plain_top label.now top.now ++ plain_middle label.now middle.now }
-    ensures good { IsLabel label.now }
+    ensures { result.items ≡ plain_top label.now top.now ++ plain_middle label.now middle.now }
 {
     let mut out = ArrayVec::new();
     put_plain_top(&mut out, label, top);
