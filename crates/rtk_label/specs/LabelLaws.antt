@@ -13,7 +13,8 @@ BlankIsFile = (t : WellFormedTable) → labelled_text blank_label t ≡ table_te
 -- blank label in place of the label gives it back
 abbrev pub LabelsAreTold : Type 0
 LabelsAreTold =
-    (l m : LabelView) (t u : WellFormedTable) → IsLabel l → IsLabel m → IsFor l t.site → IsFor m u.site → IsWellFormedTable t → IsWellFormedTable u
+    (l m : LabelView) (t u : WellFormedTable) → IsLabel l → IsLabel m → IsFor l t.site → IsFor m u.site
+    → IsWellFormedTable t → IsWellFormedTable u
     → labelled_text l t ≡ labelled_text m u → (l ≡ m) × (t ≡ u)
 
 -- what stands after a header stays, and every label has the same text there

@@ -4,8 +4,8 @@ use thiserror::Error;
 
 /// The first field that does not fit its columns.
 ///
-/// A text has at most as many bytes as its columns, each 0x20 to 0x7E, the first and the last no blank. An offset in m has a
-/// sign, one to four digits, a point and four digits.
+/// A text has at most as many bytes as its columns, each 0x20 to 0x7E, the first and the last no
+/// blank. An offset in m has a sign, one to four digits, a point and four digits.
 #[derive(Clone, Copy, Debug, PartialEq, Eq, Error)]
 pub enum LabelFault {
     /// The text of `PGM / RUN BY / DATE` has at most 20 bytes.

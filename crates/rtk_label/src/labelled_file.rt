@@ -14,7 +14,8 @@ use rtk_rinex::Table;
 
 /// Is a label for this file? If the stream told the antenna's height, it is for none that has one.
 pub fn is_for(label: &Label, table: &Table<'_>) -> bool
-    ensures { (t : WellFormedTable) → IsWellFormedTable t → table.now.text ≡ table_text t → Decides result (IsFor label.now t.site) }
+    ensures { (t : WellFormedTable) → IsWellFormedTable t → table.now.text ≡ table_text t
+        → Decides result (IsFor label.now t.site) }
 {
     label.height.len() == 0 || table.heading().position.height == 0
 }

@@ -1,6 +1,7 @@
 //! Laws over the definition of a header with fields.
 //!
-//! Each function here does nothing but call laws. Its contract is the law, and a caller that calls it may cite it.
+//! Each function here does nothing but call laws. Its contract is the law, and a caller that calls it
+//! may cite it.
 
 ghost use Rattle.rtk_label.specs.LabelLaws.{BlankIsFile, LabelsAreTold, RecordsStay};
 

@@ -1,7 +1,7 @@
 //! A text that is parted into a label and a plain text.
 //!
-//! The parts are read from their columns, and these become blank where they show a field. What no label fills stays as it is,
-//! so that `check` finds the first wrong line.
+//! The parts are read from their columns, and these become blank where they show a field. What no
+//! label fills stays as it is, so that `check` finds the first wrong line.
 
 ghost use Rattle.std.specs.Prelude.{◌≡◌, ◌+◌, ◌^◌, ◌<◌, ◌≤◌, ◌++◌, length, drop};
 ghost use Rattle.rtk_label.specs.Fields.{IsField};
