@@ -77,3 +77,7 @@ field_in w columns f good e = record {
   some = λ some. e;
   all = λ g is other. sym (trimmed-field w f good) ∙ ap trim_end (sym e ∙ other) ∙ trimmed-field w g is;
 }
+
+-- columns of a line are those of its place
+pub field_at : (w : ℕ) (columns place field : List ℕ) → columns ≡ place → length columns ≡ w → IsFieldIn (length columns) columns field → IsFieldIn w place field
+field_at w columns place field e l is = let own : IsFieldIn w columns field = rw l at is in rw e at own

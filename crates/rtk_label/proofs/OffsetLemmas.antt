@@ -169,3 +169,7 @@ offset_in columns f rest good e = record {
         | inr some ↦ one_offset f g (good some) h (sym (e ∙ if_filled f (replicate 8 32 ++ rest) (right 14 f) some) ∙ is)
       ];
 }
+
+-- columns of a line are those of its place
+pub offset_at : (columns place field : List ℕ) → columns ≡ place → IsOffsetIn columns field → IsOffsetIn place field
+offset_at columns place field e is = rw e at is

@@ -1,6 +1,6 @@
 //! Fields in columns: what may stand in them, and what columns show.
 
-ghost use Rattle.std.specs.Prelude.{◌≡◌, ◌≢◌, ◌≤◌, ◌<◌, length, take, drop, replicate, All, Decides, slice_index};
+ghost use Rattle.std.specs.Prelude.{◌≡◌, ◌≢◌, ◌+◌, ◌≤◌, ◌<◌, length, take, drop, replicate, All, Decides, slice_index};
 ghost use Rattle.std.specs.Int.{IsInRange};
 ghost use Rattle.rtk_rinex.specs.Record.{trim_end};
 ghost use Rattle.rtk_label.specs.Fields.{IsField, IsSign, AreDigits, IsSigned, IsOffset};
@@ -34,6 +34,7 @@ pub(crate) fn after(text: &[u8], from: usize) -> &[u8]
 pub(crate) fn columns_at(text: &[u8], from: usize, width: usize) -> &[u8]
     ensures value { result.now ≡ take width (drop from text.now) }
     ensures len { length result.now ≤ width }
+    ensures whole { from + width ≤ length text.now → length result.now ≡ width }
 {
     let rest = after(text, from);
     rest.split_at(rest.len().min(width)).0

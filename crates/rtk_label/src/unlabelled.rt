@@ -77,6 +77,14 @@ fn read_label(top: &[u8], number: Field, middle: &[u8]) -> Label
     }
 }
 
+// The bytes of the line of a marker's number, which is absent if there is none.
+fn line_len(number: &[u8]) -> usize
+    ensures blank { length number.now ≡ 0 → result ≡ 0 }
+    ensures filled { 0 < length number.now → result ≡ 81 }
+{
+    if number.len() == 0 { 0 } else { 81 }
+}
+
 // What is read of a text: its label, where its plain text begins, and the first nine lines of this.
 #[derive(Drop)]
 struct Reading {
@@ -91,7 +99,7 @@ fn read(text: &[u8]) -> Reading
     ensures len { length result.front.items ≡ 729 }
 {
     let number = read_number(columns_at(text, THREE_LINES, 81));
-    let from = if number.len() == 0 { 0 } else { 81 };
+    let from = line_len(number.as_slice());
     let top = columns_at(text, 0, THREE_LINES);
     let middle = columns_at(text, from + THREE_LINES, 486);
     let label = read_label(top, number, middle);
