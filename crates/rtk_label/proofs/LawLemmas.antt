@@ -15,11 +15,12 @@ use Rattle.rtk_label.specs.Steps.Shown.{IsNumberIn}
 use Rattle.rtk_label.proofs.PieceLemmas.{same_parts}
 use Rattle.rtk_label.proofs.ChoiceLemmas.{if_blank, if_filled, none_is, blank_or_filled}
 use Rattle.rtk_label.proofs.FieldLemmas.{length-left, field_in}
-use Rattle.rtk_label.proofs.LineLemmas.{line_end, line_of}
+use Rattle.rtk_label.proofs.LineLemmas.{line_end}
 use Rattle.rtk_label.proofs.FrontLemmas.{type_line}
+use Rattle.rtk_label.proofs.NumberLemmas.{no_number, length-number, number_cut}
 use Rattle.rtk_label.proofs.PlainLemmas.{top_in, label_in}
 use Rattle.rtk_label.proofs.TableLemmas.{length-top, length-middle, text_after, blank_text, label_parts, length-labelled}
-use Rattle.rtk_label.proofs.PartedLemmas.{IsRead, IsPlainOf, is_plain, no_number, length-number, length-type, first_of_middle}
+use Rattle.rtk_label.proofs.PartedLemmas.{IsRead, IsPlainOf, is_plain, length-type, first_of_middle}
 
 pub blank-is_file : BlankIsFile
 blank-is_file t = blank_text t
@@ -28,10 +29,6 @@ pub records-stay : RecordsStay
 records-stay l t = record { records = flat_map record_text t.epochs; plain = refl; labelled = refl }
 
 -- ---- a labelled text shows its label
-
-number_cut : (n : List ℕ) → IsField 20 n → 0 < length n → number_line n ≡ left 20 n ++ line_end 40 (codes "MARKER NUMBER")
-number_cut n is some =
-    if_filled n [] (header_line (left 20 n) (codes "MARKER NUMBER")) some ∙ line_of (left 20 n) (codes "MARKER NUMBER") 20 40 (length-left 20 n is.0) refl
 
 one_number_line : (n g : List ℕ) → IsField 20 n → IsField 20 g → 0 < length n → 0 < length g → number_line n ≡ number_line g → n ≡ g
 one_number_line n g is good some filled e =

@@ -5,6 +5,7 @@ mod FieldLemmas
 mod OffsetLemmas
 mod LineLemmas
 mod FrontLemmas
+mod NumberLemmas
 mod PlainLemmas
 mod TableLemmas
 mod PartedLemmas

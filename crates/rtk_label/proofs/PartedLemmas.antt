@@ -13,34 +13,11 @@ use Rattle.rtk_label.specs.Steps.Fronts.{plain_columns, plain_top, plain_middle}
 use Rattle.rtk_label.proofs.PieceLemmas.{same_parts, next_piece, joined}
 use Rattle.rtk_label.proofs.ChoiceLemmas.{if_blank, if_filled, none_is, blank_or_filled}
 use Rattle.rtk_label.proofs.FieldLemmas.{length-left, length-plain_columns}
-use Rattle.rtk_label.proofs.LineLemmas.{line_end, line_of, length-line}
+use Rattle.rtk_label.proofs.LineLemmas.{length-line}
 use Rattle.rtk_label.proofs.FrontLemmas.{length-piece, top_sizes, type_line, middle_sizes, line_cells, middle_is}
+use Rattle.rtk_label.proofs.NumberLemmas.{no_number, length-number}
 use Rattle.rtk_label.proofs.PlainLemmas.{blank_is_label, glue_three, top_was, top_is_plain, plain_cells, plain_cells_are, plain_middle_is, middle_was, middle_is_plain}
 use Rattle.rtk_label.proofs.TableLemmas.{length-three, length-six, length-top, length-middle, text_after, blank_text, label_parts, plain_parts, length-labelled}
-
--- ---- the line of the marker's number is no other line
-
-type_byte : get_or type_line 67 0 ≡ 84
-unfolding type_line header_line left
-type_byte = refl
-
-number_byte : (n : List ℕ) → IsField 20 n → 0 < length n → get_or (number_line n) 67 0 ≡ 78
-unfolding line_end left
-number_byte n is some =
-    let size = length-left 20 n is.0 in
-    let line : number_line n ≡ left 20 n ++ line_end 40 (codes "MARKER NUMBER") =
-    if_filled n [] (header_line (left 20 n) (codes "MARKER NUMBER")) some ∙ line_of (left 20 n) (codes "MARKER NUMBER") 20 40 size refl in
-    ap (λ (t : List ℕ). get_or t 67 0) line ∙ get_or-append_right (left 20 n) (line_end 40 (codes "MARKER NUMBER")) 20 67 0 size (omega arith)
-
-pub no_number : (n : List ℕ) → IsField 20 n → 0 < length n → type_line ≢ number_line n
-no_number n is some e =
-    let same : 84 ≡ 78 = sym type_byte ∙ ap (λ (t : List ℕ). get_or t 67 0) e ∙ number_byte n is some in
-    omega (arith, same)
-
-pub length-number : (n : List ℕ) → IsField 20 n → 0 < length n → length (number_line n) ≡ 81
-length-number n is some =
-    ap length (if_filled n [] (header_line (left 20 n) (codes "MARKER NUMBER")) some)
-    ∙ length-line (left 20 n) (codes "MARKER NUMBER") (omega (arith, length-left 20 n is.0)) (omega arith)
 
 -- ---- the parts of a text
 
