@@ -1,10 +1,13 @@
 -- What is written of a file with a label.
-use Rattle.std.proofs.Common.{◌≡◌, ◌≤◌, ℕ, ◌+◌, Option, List, [], ◌++◌, length, take, drop, ap, sym, arith, refl, ◌∙◌, append_assoc}
-use Rattle.std.specs.Prelude.{Result, Ok, Err, OnOk, OnErr}
+use Rattle.std.proofs.Common.{◌≡◌, ◌<◌, ◌≤◌, ◌==◌, true, ℕ, ◌+◌, Option, List, [], ◌++◌, length, take, drop, ap, sym, arith, refl, ◌∙◌, append_assoc}
+use Rattle.std.specs.Prelude.{Result, Ok, Err, OnOk, OnErr, Decides}
+use Rattle.std.proofs.lemmas.Bool.{eq-eqb}
+use Rattle.std.proofs.lemmas.Bool.Decides.{nat_tests}
 use Rattle.std.proofs.lemmas.List.{take_at, drop_at, drop-drop, take-append-le, length-append}
 use Rattle.std.proofs.Math.Seq.{take-append-add}
 use Rattle.rtk_frame.specs.Stream.{with_more, TakesPart}
 use Rattle.rtk_frame.proofs.PublicLaws.{with_more-with_more}
+use Rattle.rtk_rinex.specs.Header.{PositionView}
 use Rattle.rtk_rinex.specs.Reading.{reading_of}
 use Rattle.rtk_rinex.specs.Table.{WellFormedTable, IsWellFormedTable, table_text}
 use Rattle.rtk_label.specs.Fields.{number_line}
@@ -89,3 +92,12 @@ on_err-from (Err e) q = q
 pub on_ok-map : {T E : Type 0} (r : Result T E) {P Q : Type 0} → (P → Q) → OnOk r P → OnOk r Q
 on_ok-map (Ok x) f p = f p
 on_ok-map (Err e) f p = p
+
+-- ---- for which file a label is
+
+pub for_blank : (l : LabelView) (s : PositionView) → length l.height ≡ 0 → Decides true (IsFor l s)
+for_blank l s none = (λ h some. absurd (omega (arith, none, some)), λ h. refl)
+
+pub for_told : (l : LabelView) (s : PositionView) (h : ℕ) → 0 < length l.height → h ≡ s.height → Decides (h == 0) (IsFor l s)
+for_told l s h some same =
+    (λ e any. let none : h ≡ 0 = grind (arith, nat_tests) in sym same ∙ none, λ is. eq-eqb h 0 (same ∙ is some))

@@ -17,7 +17,10 @@ pub fn is_for(label: &Label, table: &Table<'_>) -> bool
     ensures { (t : WellFormedTable) → IsWellFormedTable t → table.now.text ≡ table_text t
         → Decides result (IsFor label.now t.site) }
 {
-    label.height.len() == 0 || table.heading().position.height == 0
+    if label.height.len() == 0 {
+        return true;
+    }
+    table.heading().position.height == 0
 }
 
 /// Writes a file with the fields of a label. No memory is taken: up to ten lines are made anew, and
