@@ -1,6 +1,6 @@
 -- Texts in pieces of known widths.
-use Rattle.std.proofs.Common.{◌≡◌, ℕ, ◌+◌, List, [], ◌∷◌, ◌++◌, length, take, drop, refl, sym, ap, ◌∙◌}
-use Rattle.std.proofs.lemmas.List.{take_at, drop_at, take-append-drop, drop-drop}
+use Rattle.std.proofs.Common.{◌≡◌, ◌≤◌, ℕ, ◌+◌, List, [], ◌∷◌, ◌++◌, length, take, drop, refl, sym, ap, ◌∙◌}
+use Rattle.std.proofs.lemmas.List.{take_at, drop_at, take-append-drop, drop-drop, length-take-le}
 
 -- if the first parts of two texts that are alike have one length, both parts are alike
 pub same_parts : (a b x y : List ℕ) → length a ≡ length b → a ++ x ≡ b ++ y → (a ≡ b) × (x ≡ y)
@@ -39,3 +39,8 @@ same_pieces (w ∷ ws) (x ∷ xs) (y ∷ ys) g h e =
 pub next_piece : (k w : ℕ) (text rest : List ℕ) → drop (k + w) text ≡ rest → drop k text ≡ take w (drop k text) ++ rest
 next_piece k w text rest e =
     sym (take-append-drop w (drop k text)) ∙ ap (λ (r : List ℕ). take w (drop k text) ++ r) (drop-drop w k text ∙ e)
+
+-- a text after other columns were written over it from a place on
+pub drop-over : (a k n : ℕ) (xs ys : List ℕ) → a ≤ length xs → k ≡ n → drop a (take a xs ++ (ys ++ drop k (drop a xs))) ≡ ys ++ drop (a + n) xs
+drop-over a k n xs ys h e =
+    drop_at (take a xs) (ys ++ drop k (drop a xs)) a (length-take-le a xs h) ∙ ap (λ (t : List ℕ). ys ++ t) (drop-drop k a xs ∙ ap (λ (j : ℕ). drop (a + j) xs) e)
