@@ -94,7 +94,7 @@ pub middle_cut : (m : List ℕ) → length m ≡ 486 → m ≡ joined (middle_co
 middle_cut m l =
     next_piece 0 81 m _ (next_piece 81 20 m _ (next_piece 101 40 m _ (next_piece 141 21 m _ (next_piece 162 20 m _ (next_piece 182 20 m _
     (next_piece 202 20 m _ (next_piece 222 21 m _ (next_piece 243 20 m _ (next_piece 263 20 m _ (next_piece 283 122 m _ (next_piece 405 14 m _
-    (next_piece 419 14 m _ (next_piece 433 14 m _ (next_piece 447 39 m [] (drop_all 486 m (omega (arith, l))))))))))))))))
+    (next_piece 419 14 m _ (next_piece 433 14 m _ (next_piece 447 39 m [] (drop_all 486 m (omega (arith, l)))))))))))))))))
 
 pub middle_sizes : (m : List ℕ) (c : Cells) → length m ≡ 486 → AreCells c → HasWidths middle_widths (middle_columns m c)
 middle_sizes m c l is =

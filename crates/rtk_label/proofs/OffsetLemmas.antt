@@ -135,9 +135,9 @@ pub offset_is_told : (columns field g rest : List ℕ) → IsOffsetIn columns fi
 offset_is_told columns field g rest is good e =
     elim (blank_or_filled g) [
       | inl none ↦ elim (blank_or_filled field) [
-          | inl blank ↦ none_is field blank ∙ sym (none_is g none)
-          | inr some ↦ absurd (unsigned field rest (is.good some) (sym (if_blank g (replicate 8 32 ++ rest) (right 14 g) none) ∙ sym e ∙ is.some some))
-        ]
+        | inl blank ↦ none_is field blank ∙ sym (none_is g none)
+        | inr some ↦ absurd (unsigned field rest (is.good some) (sym (if_blank g (replicate 8 32 ++ rest) (right 14 g) none) ∙ sym e ∙ is.some some))
+      ]
       | inr some ↦ is.all g (good some) (e ∙ if_filled g (replicate 8 32 ++ rest) (right 14 g) some)
     ]
 

@@ -51,7 +51,7 @@ front_of text from l = plain_top l (take 243 text) ++ plain_middle l (take 486 (
 
 within : (text number : List ℕ) (from : ℕ) (l : LabelView) → IsRead text number from l → from ≤ 81
 within text number from l r =
-    elim (blank_or_filled number) [ | inl none ↦ omega (arith, r.blank none) | inr some ↦ omega (arith, r.filled some) ]
+    elim (blank_or_filled number) [ inl none ↦ omega (arith, r.blank none) | inr some ↦ omega (arith, r.filled some) ]
 
 length-first : (text : List ℕ) → 810 ≤ length text → length (take 243 text) ≡ 243
 length-first text h = length-take-le 243 text (omega (arith, h))

@@ -76,12 +76,37 @@ fn put_plain_middle(out: &mut ArrayVec<u8, FRONT>, label: &Label, m: &[u8])
     put_plain(out, label.observer.as_slice(), columns_at(m, 81, 20), 20);
     put_plain(out, label.agency.as_slice(), columns_at(m, 101, 40), 40);
     add(out, columns_at(m, 141, 21));
-    put_plain(out, label.receiver_number.as_slice(), columns_at(m, 162, 20), 20);
-    put_plain(out, label.receiver_type.as_slice(), columns_at(m, 182, 20), 20);
-    put_plain(out, label.receiver_version.as_slice(), columns_at(m, 202, 20), 20);
+    put_plain(
+        out,
+        label.receiver_number.as_slice(),
+        columns_at(m, 162, 20),
+        20,
+    );
+    put_plain(
+        out,
+        label.receiver_type.as_slice(),
+        columns_at(m, 182, 20),
+        20,
+    );
+    put_plain(
+        out,
+        label.receiver_version.as_slice(),
+        columns_at(m, 202, 20),
+        20,
+    );
     add(out, columns_at(m, 222, 21));
-    put_plain(out, label.antenna_number.as_slice(), columns_at(m, 243, 20), 20);
-    put_plain(out, label.antenna_type.as_slice(), columns_at(m, 263, 20), 20);
+    put_plain(
+        out,
+        label.antenna_number.as_slice(),
+        columns_at(m, 243, 20),
+        20,
+    );
+    put_plain(
+        out,
+        label.antenna_type.as_slice(),
+        columns_at(m, 263, 20),
+        20,
+    );
     add(out, columns_at(m, 283, 122));
     put_plain_offset(out, label.height.as_slice(), columns_at(m, 405, 14));
     put_plain_offset(out, label.east.as_slice(), columns_at(m, 419, 14));

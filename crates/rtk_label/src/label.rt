@@ -43,18 +43,18 @@ impl<'a> Model for LabelParts<'a> {
     ghost Value = { LabelView };
 
     ghost view = { λ p. record {
-        run_by = p.run_by.now;
-        marker_number = p.marker_number.now;
-        observer = p.observer.now;
-        agency = p.agency.now;
-        receiver_number = p.receiver_number.now;
-        receiver_type = p.receiver_type.now;
-        receiver_version = p.receiver_version.now;
-        antenna_number = p.antenna_number.now;
-        antenna_type = p.antenna_type.now;
-        height = p.height.now;
-        east = p.east.now;
-        north = p.north.now;
+      run_by = p.run_by.now;
+      marker_number = p.marker_number.now;
+      observer = p.observer.now;
+      agency = p.agency.now;
+      receiver_number = p.receiver_number.now;
+      receiver_type = p.receiver_type.now;
+      receiver_version = p.receiver_version.now;
+      antenna_number = p.antenna_number.now;
+      antenna_type = p.antenna_type.now;
+      height = p.height.now;
+      east = p.east.now;
+      north = p.north.now;
     } };
 }
 
@@ -148,33 +148,33 @@ impl Model for Label {
     ghost Value = { LabelView };
 
     ghost view = { λ l. record {
-        run_by = l.run_by.items;
-        marker_number = l.marker_number.items;
-        observer = l.observer.items;
-        agency = l.agency.items;
-        receiver_number = l.receiver_number.items;
-        receiver_type = l.receiver_type.items;
-        receiver_version = l.receiver_version.items;
-        antenna_number = l.antenna_number.items;
-        antenna_type = l.antenna_type.items;
-        height = l.height.items;
-        east = l.east.items;
-        north = l.north.items;
+      run_by = l.run_by.items;
+      marker_number = l.marker_number.items;
+      observer = l.observer.items;
+      agency = l.agency.items;
+      receiver_number = l.receiver_number.items;
+      receiver_type = l.receiver_type.items;
+      receiver_version = l.receiver_version.items;
+      antenna_number = l.antenna_number.items;
+      antenna_type = l.antenna_type.items;
+      height = l.height.items;
+      east = l.east.items;
+      north = l.north.items;
     } };
 
     ghost invariant = { λ l. IsLabel (record {
-        run_by = l.run_by.items;
-        marker_number = l.marker_number.items;
-        observer = l.observer.items;
-        agency = l.agency.items;
-        receiver_number = l.receiver_number.items;
-        receiver_type = l.receiver_type.items;
-        receiver_version = l.receiver_version.items;
-        antenna_number = l.antenna_number.items;
-        antenna_type = l.antenna_type.items;
-        height = l.height.items;
-        east = l.east.items;
-        north = l.north.items;
+      run_by = l.run_by.items;
+      marker_number = l.marker_number.items;
+      observer = l.observer.items;
+      agency = l.agency.items;
+      receiver_number = l.receiver_number.items;
+      receiver_type = l.receiver_type.items;
+      receiver_version = l.receiver_version.items;
+      antenna_number = l.antenna_number.items;
+      antenna_type = l.antenna_type.items;
+      height = l.height.items;
+      east = l.east.items;
+      north = l.north.items;
     }) };
 }
 
