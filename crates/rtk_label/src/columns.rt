@@ -1,10 +1,11 @@
 //! Columns that are appended to the lines of a header.
 
-ghost use Rattle.std.specs.Prelude.{◌≡◌, ◌+◌, ◌≤◌, ◌++◌, length};
+ghost use Rattle.std.specs.Prelude.{◌≡◌, ◌+◌, ◌≤◌, ◌++◌, length, take, drop};
 ghost use Rattle.rtk_rinex.specs.Columns.{left, right};
 ghost use Rattle.rtk_label.specs.Fields.{offset_columns, number_line};
 ghost use Rattle.rtk_label.specs.Steps.Fronts.{filled_height, plain_columns, plain_offset};
 
+use crate::fields::columns_at;
 use arrayvec::ArrayVec;
 
 /// The bytes of the lines that a label changes: ten lines of 81 bytes.
@@ -95,31 +96,40 @@ pub(crate) fn put_number_line(out: &mut ArrayVec<u8, FRONT>, number: &[u8])
     }
 }
 
-/// Appends the columns of a field, blank if it shows.
-pub(crate) fn put_plain(out: &mut ArrayVec<u8, FRONT>, field: &[u8], columns: &[u8], width: usize)
-    requires columns { length columns.now ≤ width }
+/// Appends `width` columns of a line after the first `from`, blank if they show this field.
+pub(crate) fn put_plain(
+    out: &mut ArrayVec<u8, FRONT>,
+    field: &[u8],
+    line: &[u8],
+    from: usize,
+    width: usize,
+)
     requires small { width ≤ 80 }
     requires room { length out.old.items + width ≤ 810 }
-    ensures items { out.new.items ≡ out.old.items ++ plain_columns width field.now columns.now }
+    ensures items { out.new.items ≡ out.old.items ++ plain_columns width field.now (take width (drop from line.now)) }
     ensures len { length out.new.items ≤ length out.old.items + width }
 {
     let blanks = BLANKS;
     if field.len() == 0 {
-        add(out, columns);
+        add(out, columns_at(line, from, width));
     } else {
         add(out, &blanks[..width]);
     }
 }
 
-/// Appends the columns of an offset, 0 if it shows.
-pub(crate) fn put_plain_offset(out: &mut ArrayVec<u8, FRONT>, offset: &[u8], columns: &[u8])
-    requires columns { length columns.now ≤ 14 }
+/// Appends 14 columns of a line after the first `from`, 0 if they show this offset.
+pub(crate) fn put_plain_offset(
+    out: &mut ArrayVec<u8, FRONT>,
+    offset: &[u8],
+    line: &[u8],
+    from: usize,
+)
     requires room { length out.old.items + 14 ≤ 810 }
-    ensures items { out.new.items ≡ out.old.items ++ plain_offset offset.now columns.now }
+    ensures items { out.new.items ≡ out.old.items ++ plain_offset offset.now (take 14 (drop from line.now)) }
     ensures len { length out.new.items ≤ length out.old.items + 14 }
 {
     if offset.len() == 0 {
-        add(out, columns);
+        add(out, columns_at(line, from, 14));
     } else {
         add(out, ZERO);
     }

@@ -63,7 +63,7 @@ fn put_plain_top(out: &mut ArrayVec<u8, FRONT>, label: &Label, top: &[u8])
     ensures len { length out.new.items ≤ 243 }
 {
     add(out, columns_at(top, 0, 101));
-    put_plain(out, label.run_by.as_slice(), columns_at(top, 101, 20), 20);
+    put_plain(out, label.run_by.as_slice(), top, 101, 20);
     add(out, columns_at(top, 121, 122));
 }
 
@@ -73,44 +73,19 @@ fn put_plain_middle(out: &mut ArrayVec<u8, FRONT>, label: &Label, m: &[u8])
     ensures items { out.new.items ≡ out.old.items ++ plain_middle label.now m.now }
 {
     add(out, columns_at(m, 0, 81));
-    put_plain(out, label.observer.as_slice(), columns_at(m, 81, 20), 20);
-    put_plain(out, label.agency.as_slice(), columns_at(m, 101, 40), 40);
+    put_plain(out, label.observer.as_slice(), m, 81, 20);
+    put_plain(out, label.agency.as_slice(), m, 101, 40);
     add(out, columns_at(m, 141, 21));
-    put_plain(
-        out,
-        label.receiver_number.as_slice(),
-        columns_at(m, 162, 20),
-        20,
-    );
-    put_plain(
-        out,
-        label.receiver_type.as_slice(),
-        columns_at(m, 182, 20),
-        20,
-    );
-    put_plain(
-        out,
-        label.receiver_version.as_slice(),
-        columns_at(m, 202, 20),
-        20,
-    );
+    put_plain(out, label.receiver_number.as_slice(), m, 162, 20);
+    put_plain(out, label.receiver_type.as_slice(), m, 182, 20);
+    put_plain(out, label.receiver_version.as_slice(), m, 202, 20);
     add(out, columns_at(m, 222, 21));
-    put_plain(
-        out,
-        label.antenna_number.as_slice(),
-        columns_at(m, 243, 20),
-        20,
-    );
-    put_plain(
-        out,
-        label.antenna_type.as_slice(),
-        columns_at(m, 263, 20),
-        20,
-    );
+    put_plain(out, label.antenna_number.as_slice(), m, 243, 20);
+    put_plain(out, label.antenna_type.as_slice(), m, 263, 20);
     add(out, columns_at(m, 283, 122));
-    put_plain_offset(out, label.height.as_slice(), columns_at(m, 405, 14));
-    put_plain_offset(out, label.east.as_slice(), columns_at(m, 419, 14));
-    put_plain_offset(out, label.north.as_slice(), columns_at(m, 433, 14));
+    put_plain_offset(out, label.height.as_slice(), m, 405);
+    put_plain_offset(out, label.east.as_slice(), m, 419);
+    put_plain_offset(out, label.north.as_slice(), m, 433);
     add(out, columns_at(m, 447, 39));
 }
 
