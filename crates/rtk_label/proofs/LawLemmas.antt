@@ -33,7 +33,7 @@ records-stay l t = record { records = flat_map record_text t.epochs; plain = ref
 one_number_line : (n g : List ℕ) → IsField 20 n → IsField 20 g → 0 < length n → 0 < length g → number_line n ≡ number_line g → n ≡ g
 one_number_line n g is good some filled e =
     let two = same_parts (left 20 n) (left 20 g) (line_end 40 (codes "MARKER NUMBER")) (line_end 40 (codes "MARKER NUMBER"))
-    (length-left 20 n is.0 ∙ sym (length-left 20 g good.0)) (sym (number_cut n is some) ∙ e ∙ number_cut g good filled) in
+    (length-left 20 n is.0 ∙ sym (length-left 20 g good.0)) (sym (number_cut n is.0 some) ∙ e ∙ number_cut g good.0 filled) in
     (field_in 20 (left 20 n) n is refl).all g good two.0
 
 number_in_filled : (line n : List ℕ) → IsField 20 n → 0 < length n → line ≡ number_line n → IsNumberIn line n

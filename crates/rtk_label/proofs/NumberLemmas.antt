@@ -1,5 +1,5 @@
 -- The line of the marker's number.
-use Rattle.std.proofs.Common.{◌≡◌, ◌≢◌, ◌<◌, ◌≤◌, ℕ, ◌==◌, List, [], ◌∷◌, ◌++◌, length, take, drop, get_or, codes, if◌then◌else◌, ap, sym, arith, refl, ◌∙◌}
+use Rattle.std.proofs.Common.{◌≡◌, ◌≢◌, ◌<◌, ◌≤◌, ℕ, ◌==◌, List, [], ◌∷◌, ◌++◌, length, take, drop, get_or, codes, if◌then◌else◌, ap, sym, arith, refl, ◌∙◌, append_assoc, replicate}
 use Rattle.std.proofs.lemmas.List.{take_at, get_or-append_right}
 use Rattle.rtk_rinex.specs.Columns.{left}
 use Rattle.rtk_rinex.specs.Header.{header_line}
@@ -34,12 +34,24 @@ length-number n is some =
     ap length (if_filled n [] (header_line (left 20 n) (codes "MARKER NUMBER")) some)
     ∙ length-line (left 20 n) (codes "MARKER NUMBER") (omega (arith, length-left 20 n is.0)) (omega arith)
 
-pub number_cut : (n : List ℕ) → IsField 20 n → 0 < length n → number_line n ≡ left 20 n ++ line_end 40 (codes "MARKER NUMBER")
-number_cut n is some =
-    if_filled n [] (header_line (left 20 n) (codes "MARKER NUMBER")) some ∙ line_of (left 20 n) (codes "MARKER NUMBER") 20 40 (length-left 20 n is.0) refl
+pub number_cut : (n : List ℕ) → length n ≤ 20 → 0 < length n → number_line n ≡ left 20 n ++ line_end 40 (codes "MARKER NUMBER")
+number_cut n fits some =
+    if_filled n [] (header_line (left 20 n) (codes "MARKER NUMBER")) some ∙ line_of (left 20 n) (codes "MARKER NUMBER") 20 40 (length-left 20 n fits) refl
+
+-- it is written in three parts
+number_end : line_end 40 (codes "MARKER NUMBER") ≡ replicate 40 32 ++ (codes "MARKER NUMBER       " ++ 10 ∷ [])
+unfolding line_end left
+number_end = refl
+
+pub number_text : (out n : List ℕ) → length n ≤ 20 → 0 < length n
+    → ((out ++ left 20 n) ++ replicate 40 32) ++ (codes "MARKER NUMBER       " ++ 10 ∷ []) ≡ out ++ number_line n
+number_text out n fits some =
+    append_assoc (out ++ left 20 n) (replicate 40 32) (codes "MARKER NUMBER       " ++ 10 ∷ [])
+    ∙ append_assoc out (left 20 n) (replicate 40 32 ++ (codes "MARKER NUMBER       " ++ 10 ∷ []))
+    ∙ ap (λ (t : List ℕ). out ++ t) (sym (number_cut n fits some ∙ ap (λ (t : List ℕ). left 20 n ++ t) number_end))
 
 number_front : (g : List ℕ) → IsField 20 g → 0 < length g → take 20 (number_line g) ≡ left 20 g
-number_front g good some = ap (take 20) (number_cut g good some) ∙ take_at (left 20 g) (line_end 40 (codes "MARKER NUMBER")) 20 (length-left 20 g good.0)
+number_front g good some = ap (take 20) (number_cut g good.0 some) ∙ take_at (left 20 g) (line_end 40 (codes "MARKER NUMBER")) 20 (length-left 20 g good.0)
 
 pub number-none : (line field : List ℕ) → IsFieldIn 20 (take 20 line) field → line ≢ number_line field → IsNumberIn line []
 number-none line field is no = record {

@@ -11,8 +11,6 @@ use arrayvec::ArrayVec;
 /// The bytes of the lines that a label changes: ten lines of 81 bytes.
 pub(crate) const FRONT: usize = 810;
 
-const BLANKS: [u8; 80] = [b' '; 80];
-
 /// An offset of 0.
 const ZERO: &[u8] = b"        0.0000";
 
@@ -35,7 +33,7 @@ pub(crate) fn put_left(out: &mut ArrayVec<u8, FRONT>, text: &[u8], width: usize)
     ensures items { out.new.items ≡ out.old.items ++ left width text.now }
     ensures len { length out.new.items ≡ length out.old.items + width }
 {
-    let blanks = BLANKS;
+    let blanks = [b' '; 80];
     add(out, text);
     add(out, &blanks[..width - text.len()]);
 }
@@ -47,7 +45,7 @@ fn put_right(out: &mut ArrayVec<u8, FRONT>, text: &[u8])
     ensures items { out.new.items ≡ out.old.items ++ right 14 text.now }
     ensures len { length out.new.items ≡ length out.old.items + 14 }
 {
-    let blanks = BLANKS;
+    let blanks = [b' '; 80];
     add(out, &blanks[..14 - text.len()]);
     add(out, text);
 }
@@ -89,7 +87,7 @@ pub(crate) fn put_number_line(out: &mut ArrayVec<u8, FRONT>, number: &[u8])
     ensures len { length out.new.items ≤ length out.old.items + 81 }
 {
     if number.len() > 0 {
-        let blanks = BLANKS;
+        let blanks = [b' '; 80];
         put_left(out, number, 20);
         add(out, &blanks[..40]);
         add(out, b"MARKER NUMBER       \n");
@@ -109,7 +107,7 @@ pub(crate) fn put_plain(
     ensures items { out.new.items ≡ out.old.items ++ plain_columns width field.now (take width (drop from line.now)) }
     ensures len { length out.new.items ≤ length out.old.items + width }
 {
-    let blanks = BLANKS;
+    let blanks = [b' '; 80];
     if field.len() == 0 {
         add(out, columns_at(line, from, width));
     } else {
