@@ -15,17 +15,17 @@ use Rattle.rtk_label.proofs.TrimLemmas.{trimmed-field, trimmed-left}
 none_some : (x : ℕ) → None ≡ Some x → ⊥
 none_some x h = cc
 
-no_first : (x : ℕ) → slice_get {A = ℕ} [] 0 ≢ Some x
+no_first : (x : ℕ) → slice_get {X = ℕ} [] 0 ≢ Some x
 no_first x e = none_some x e
 
 pub blank_field : (w : ℕ) → IsField w []
 blank_field w = (omega arith, All-nil (λ x. IsInRange 32 126 x), no_first 32, no_first 32)
 
 pub field-none : (w : ℕ) (columns : List ℕ) → ¬ (IsField w (trim_end columns)) → IsFieldIn w columns []
-field-none w columns no = record {
+field-none w columns unlike = record {
   good = blank_field w;
   some = λ h. absurd (omega (arith, h));
-  all = λ g is e. absurd (no (rw (ap trim_end e ∙ trimmed-field w g is) is));
+  all = λ g is e. absurd (unlike (rw (ap trim_end e ∙ trimmed-field w g is) is));
 }
 
 pub field-some : (w : ℕ) (columns field : List ℕ) → length columns ≡ w → field ≡ trim_end columns → IsField w (trim_end columns) → IsFieldIn w columns field

@@ -1,5 +1,5 @@
 -- The first nine lines of a header, with fields and without, in pieces of known widths.
-use Rattle.std.proofs.Common.{◌≡◌, ◌<◌, ◌≤◌, ℕ, ◌+◌, ◌==◌, List, [], ◌∷◌, ◌++◌, length, take, drop, codes, pos, if◌then◌else◌, ap, sym, arith, refl, ◌∙◌, append_assoc, length-append}
+use Rattle.std.proofs.Common.{◌≡◌, ◌<◌, ◌≤◌, ℕ, ◌+◌, ◌==◌, List, [], ◌∷◌, ◌++◌, length, take, drop, codes, pos, if◌then◌else◌, ap, sym, arith, refl, ◌∙◌, append_assoc, length-append, inl, inr}
 use Rattle.std.proofs.lemmas.List.{append-nil, drop_all, length-drop, length-take-le}
 use Rattle.rtk_obs.specs.declared.time.Civil.{Civil}
 use Rattle.rtk_rinex.specs.Columns.{left, right, fixed}
@@ -143,10 +143,6 @@ top_is run marker made h =
     ap (λ (r : List ℕ). (v ++ r) ++ n) line
     ∙ glue_top v (codes "rtcm2rinex          ") (left 20 run) (made_text made) (line_end 0 (codes "PGM / RUN BY / DATE")) n
 
-length-line_end : (k : ℕ) (label : List ℕ) → length (line_end k label) ≡ k + (length (left 20 label) + 1)
-unfolding line_end
-length-line_end k label = simp length-append (omega arith)
-
 pub top_is_sized : (run marker : List ℕ) (made : Civil) → length run ≤ 20 → IsMarker marker
     → HasWidths top_widths (top_front ∷ left 20 run ∷ top_back marker made ∷ [])
 unfolding top_front top_back line_end left
@@ -260,5 +256,6 @@ length-antenna s p =
 pub line_cells_sized : (l : LabelView) (s : PositionView) → IsLabel l → IsPositionView s → HasWidths middle_widths (line_cells l s)
 unfolding type_line line_end left
 line_cells_sized l s is p =
-    cells_sizes type_line _ _ _ _ (cells l s) (length-line (codes "GEODETIC") (codes "MARKER TYPE") (omega arith) (omega arith)) refl refl (length-antenna s p) refl
+    cells_sizes type_line (line_end 0 (codes "OBSERVER / AGENCY")) (line_end 0 (codes "REC # / TYPE / VERS")) (line_end 20 (codes "ANT # / TYPE") ++ place_line s)
+    (line_end 18 (codes "ANTENNA: DELTA H/E/N")) (cells l s) (length-line (codes "GEODETIC") (codes "MARKER TYPE") (omega arith) (omega arith)) refl refl (length-antenna s p) refl
     (cells_fit l s is p)

@@ -54,12 +54,12 @@ number_front : (g : List ℕ) → IsField 20 g → 0 < length g → take 20 (num
 number_front g good some = ap (take 20) (number_cut g good.0 some) ∙ take_at (left 20 g) (line_end 40 (codes "MARKER NUMBER")) 20 (length-left 20 g good.0)
 
 pub number-none : (line field : List ℕ) → IsFieldIn 20 (take 20 line) field → line ≢ number_line field → IsNumberIn line []
-number-none line field is no = record {
+number-none line field is unlike = record {
   good = blank_field 20;
   some = λ h. absurd (omega (arith, h));
   all = λ g good some e.
       let same : field ≡ g = is.all g good (ap (take 20) e ∙ number_front g good some) in
-      absurd (no (e ∙ ap (λ (x : List ℕ). number_line x) (sym same)));
+      absurd (unlike (e ∙ ap (λ (x : List ℕ). number_line x) (sym same)));
 }
 
 pub number-some : (line field : List ℕ) → IsFieldIn 20 (take 20 line) field → line ≡ number_line field → IsNumberIn line field

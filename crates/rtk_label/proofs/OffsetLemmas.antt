@@ -57,10 +57,10 @@ shown_is columns g r l within blanks most h e =
 
 pub offset-none : (columns : List ℕ) (r : ℕ) → length columns ≡ 14 → r ≤ 14 → take r columns ≡ replicate r 32
     → (r < length columns → slice_index columns r ≢ 32) → ¬ (IsOffset (drop r columns)) → IsOffsetIn columns []
-offset-none columns r l within blanks most no = record {
+offset-none columns r l within blanks most unlike = record {
   good = λ h. absurd (omega (arith, h));
   some = λ h. absurd (omega (arith, h));
-  all = λ g h e. absurd (no (λ some. rw (shown_is columns g r l within blanks most h e) h));
+  all = λ g h e. absurd (unlike (λ some. rw (shown_is columns g r l within blanks most h e) h));
 }
 
 pub offset-some : (columns field : List ℕ) (r : ℕ) → length columns ≡ 14 → r ≤ 14 → take r columns ≡ replicate r 32

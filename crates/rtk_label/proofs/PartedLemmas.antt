@@ -14,7 +14,7 @@ use Rattle.rtk_label.proofs.PieceLemmas.{same_parts, next_piece, joined}
 use Rattle.rtk_label.proofs.ChoiceLemmas.{if_blank, if_filled, none_is, blank_or_filled}
 use Rattle.rtk_label.proofs.FieldLemmas.{length-left, length-plain_columns}
 use Rattle.rtk_label.proofs.LineLemmas.{length-line}
-use Rattle.rtk_label.proofs.FrontLemmas.{length-piece, top_sizes, type_line, middle_sizes, line_cells, middle_is}
+use Rattle.rtk_label.proofs.FrontLemmas.{length-piece, top_columns, middle_columns, top_sizes, type_line, middle_sizes, line_cells, middle_is}
 use Rattle.rtk_label.proofs.NumberLemmas.{no_number, length-number}
 use Rattle.rtk_label.proofs.PlainLemmas.{blank_is_label, glue_three, top_was, top_is_plain, plain_cells, plain_cells_are, plain_middle_is, middle_was, middle_is_plain}
 use Rattle.rtk_label.proofs.TableLemmas.{length-three, length-six, length-top, length-middle, text_after, blank_text, label_parts, plain_parts, length-labelled}
@@ -40,7 +40,7 @@ label_good top number middle l good is = record {
 -- what is read of a text: a marker's number, and so where its six lines begin; and its label
 pub record IsRead (text number : List ℕ) (from : ℕ) (l : LabelView) : Type 0 where
   pub long : 810 ≤ length text
-  pub number : IsNumberIn (take 81 (drop 243 text)) number
+  pub line : IsNumberIn (take 81 (drop 243 text)) number
   pub blank : length number ≡ 0 → from ≡ 0
   pub filled : 0 < length number → from ≡ 81
   pub label : IsLabelIn (take 243 text) number (take 486 (drop (from + 243) text)) l
@@ -75,7 +75,7 @@ below_cut text number from l r =
       | inr some ↦
           let n : 324 ≡ from + 243 = omega (arith, r.filled some) in
           next_piece 243 81 text _ (ap (λ (k : ℕ). drop k text) n ∙ six_cut text from)
-          ∙ ap (λ (t : List ℕ). t ++ (take 486 (drop (from + 243) text) ++ drop (from + 729) text)) (r.number.some some)
+          ∙ ap (λ (t : List ℕ). t ++ (take 486 (drop (from + 243) text) ++ drop (from + 729) text)) (r.line.some some)
     ]
 
 text_cut : (text number : List ℕ) (from : ℕ) (l : LabelView) → IsRead text number from l
@@ -86,10 +86,10 @@ length-plain_top : (l : LabelView) (top : List ℕ) → length top ≡ 243 → l
 length-plain_top l top long =
     let plain : List ℕ = plain_columns 20 l.run_by (take 20 (drop 101 top)) in
     ap length (glue_three (take 101 top) plain (take 122 (drop 121 top)))
-    ∙ length-three _ (top_sizes top plain long (length-plain_columns 20 l.run_by (take 20 (drop 101 top)) (length-piece 101 20 top (omega (arith, long)))))
+    ∙ length-three (top_columns top plain) (top_sizes top plain long (length-plain_columns 20 l.run_by (take 20 (drop 101 top)) (length-piece 101 20 top (omega (arith, long)))))
 
 length-plain_middle : (l : LabelView) (m : List ℕ) → length m ≡ 486 → length (plain_middle l m) ≡ 486
-length-plain_middle l m long = ap length (plain_middle_is l m) ∙ length-six _ (middle_sizes m (plain_cells l m) long (plain_cells_are l m long))
+length-plain_middle l m long = ap length (plain_middle_is l m) ∙ length-six (middle_columns m (plain_cells l m)) (middle_sizes m (plain_cells l m) long (plain_cells_are l m long))
 
 pub length-front : (text number : List ℕ) (from : ℕ) (l : LabelView) → IsRead text number from l → length (front_of text from l) ≡ 729
 length-front text number from l r =
@@ -146,10 +146,10 @@ number_told text number from l g t r is good e =
           let line : take 81 (drop 243 text) ≡ type_line = ap (take 81) below ∙ first_of_middle g t is good (text_after t) length-type in
           elim (blank_or_filled number) [
             | inl blank ↦ none_is number blank ∙ sym (none_is g.marker_number none)
-            | inr some ↦ absurd (no_number number r.number.good some (sym line ∙ r.number.some some))
+            | inr some ↦ absurd (no_number number r.line.good some (sym line ∙ r.line.some some))
           ]
       | inr some ↦
-          r.number.all g.marker_number is.marker_number some
+          r.line.all g.marker_number is.marker_number some
           (ap (take 81) e ∙ take_at (number_line g.marker_number) (middle_lines g t.site ++ text_after t) 81 (length-number g.marker_number is.marker_number some))
     ]
 

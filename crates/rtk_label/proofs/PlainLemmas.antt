@@ -44,7 +44,7 @@ three a b c a' b' c' e f g = ap joined (same_more a a' _ _ e (same_more b b' _ _
 -- what stands before and after the field of three lines, and the field
 record TopIs (top run cell marker : List ℕ) (made : Civil) : Type 0 where
   pub front : take 101 top ≡ top_front
-  pub cell : cell ≡ left 20 run
+  pub shown : cell ≡ left 20 run
   pub back : take 122 (drop 121 top) ≡ top_back marker made
 
 top_told : (top run cell marker : List ℕ) (made : Civil) → length top ≡ 243 → length cell ≡ 20 → length run ≤ 20 → IsMarker marker
@@ -53,7 +53,7 @@ top_told top run cell marker made l size h m e =
     let same = same_pieces top_widths (top_columns top cell) (top_front ∷ left 20 run ∷ top_back marker made ∷ [])
     (top_sizes top cell l size) (top_is_sized run marker made h m) (e ∙ top_is run marker made h) in record {
       front = ap (λ (p : List (List ℕ)). get_or p 0 []) same;
-      cell = ap (λ (p : List (List ℕ)). get_or p 1 []) same;
+      shown = ap (λ (p : List (List ℕ)). get_or p 1 []) same;
       back = ap (λ (p : List (List ℕ)). get_or p 2 []) same;
     }
 
@@ -68,7 +68,7 @@ top_was top run marker made l m is e =
     let plain : List ℕ = plain_columns 20 run cell in
     let size : length plain ≡ 20 = length-plain_columns 20 run cell (length-cell top l) in
     let t = top_told top [] plain marker made l size (omega arith) m (sym (glue_three (take 101 top) plain (take 122 (drop 121 top))) ∙ e) in
-    top_cut top l ∙ three _ _ _ _ _ _ t.front (field_was 20 cell run is t.cell) t.back ∙ sym (top_is run marker made is.good.0)
+    top_cut top l ∙ three _ _ _ _ _ _ t.front (field_was 20 cell run is t.shown) t.back ∙ sym (top_is run marker made is.good.0)
 
 pub top_is_plain : (top run g marker : List ℕ) (made : Civil) → length top ≡ 243 → IsMarker marker → IsFieldIn 20 (take 20 (drop 101 top)) run → IsField 20 g
     → top ≡ top_lines g marker made
@@ -77,9 +77,9 @@ top_is_plain top run g marker made l m is good e =
     let cell : List ℕ = take 20 (drop 101 top) in
     let plain : List ℕ = plain_columns 20 run cell in
     let t = top_told top g cell marker made l (length-cell top l) good.0 m (sym (top_cut top l) ∙ e) in (
-      glue_three (take 101 top) plain (take 122 (drop 121 top)) ∙ three _ _ _ _ _ _ t.front (field_is_blank 20 cell run g is good t.cell) t.back
+      glue_three (take 101 top) plain (take 122 (drop 121 top)) ∙ three _ _ _ _ _ _ t.front (field_is_blank 20 cell run g is good t.shown) t.back
           ∙ sym (top_is [] marker made (omega arith)),
-      is.all g good t.cell,
+      is.all g good t.shown,
     )
 
 pub top_filled : (top run marker : List ℕ) (made : Civil) → length top ≡ 243 → IsMarker marker → length run ≤ 20 → top ≡ top_lines [] marker made
@@ -151,7 +151,7 @@ middle_with m c l s b e =
     ap joined (same_more _ _ _ _ b.first (same_more _ _ _ _ e.observer (same_more _ _ _ _ e.agency (same_more _ _ _ _ b.observer
     (same_more _ _ _ _ e.receiver_number (same_more _ _ _ _ e.receiver_type (same_more _ _ _ _ e.receiver_version (same_more _ _ _ _ b.receiver
     (same_more _ _ _ _ e.antenna_number (same_more _ _ _ _ e.antenna_type (same_more _ _ _ _ b.antenna (same_more _ _ _ _ e.height
-    (same_more _ _ _ _ e.east (same_more _ _ _ _ e.north (same_more _ _ _ _ b.offsets refl)))))))))))))))
+    (same_more _ _ _ _ e.east (same_more _ _ _ _ e.north (same_more _ _ [] [] b.offsets refl)))))))))))))))
 
 abbrev pub plain_cells : LabelView → List ℕ → Cells
 plain_cells l m =
@@ -313,7 +313,7 @@ pub top_in : (top run marker : List ℕ) (made : Civil) → length top ≡ 243 �
     → IsFieldIn 20 (take 20 (drop 101 top)) run
 top_in top run marker made l m good e =
     let t = top_told top run (take 20 (drop 101 top)) marker made l (length-cell top l) good.0 m (sym (top_cut top l) ∙ e) in
-    field_in 20 _ run good t.cell
+    field_in 20 _ run good t.shown
 
 pub label_in : (top number m : List ℕ) (l : LabelView) (s : PositionView) → length m ≡ 486 → IsLabel l → IsPositionView s → IsFieldIn 20 (take 20 (drop 101 top)) l.run_by
     → l.marker_number ≡ number → m ≡ middle_lines l s → IsLabelIn top number m l

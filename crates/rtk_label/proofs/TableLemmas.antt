@@ -13,7 +13,7 @@ use Rattle.rtk_label.specs.Labelled.{LabelView, IsLabel, blank_label, top_lines,
 use Rattle.rtk_label.proofs.PieceLemmas.{joined, HasWidths}
 use Rattle.rtk_label.proofs.OffsetLemmas.{zero_offset}
 use Rattle.rtk_label.proofs.LineLemmas.{length-line}
-use Rattle.rtk_label.proofs.FrontLemmas.{top_widths, top_is, top_is_sized, middle_widths, line_cells, middle_is, line_cells_sized}
+use Rattle.rtk_label.proofs.FrontLemmas.{top_widths, top_front, top_back, top_is, top_is_sized, middle_widths, line_cells, middle_is, line_cells_sized}
 
 abbrev total : List ℕ → ℕ
 total [] = 0
@@ -32,10 +32,10 @@ pub length-six : (xs : List (List ℕ)) → HasWidths middle_widths xs → lengt
 length-six xs h = length-joined middle_widths xs h
 
 pub length-top : (run marker : List ℕ) (made : Civil) → length run ≤ 20 → IsMarker marker → length (top_lines run marker made) ≡ 243
-length-top run marker made h m = ap length (top_is run marker made h) ∙ length-three _ (top_is_sized run marker made h m)
+length-top run marker made h m = ap length (top_is run marker made h) ∙ length-three (top_front ∷ left 20 run ∷ top_back marker made ∷ []) (top_is_sized run marker made h m)
 
 pub length-middle : (l : LabelView) (s : PositionView) → IsLabel l → IsPositionView s → length (middle_lines l s) ≡ 486
-length-middle l s is p = ap length (middle_is l s is p) ∙ length-six _ (line_cells_sized l s is p)
+length-middle l s is p = ap length (middle_is l s is p) ∙ length-six (line_cells l s) (line_cells_sized l s is p)
 
 -- ---- a blank label
 
@@ -71,8 +71,32 @@ pub blank_header : (h : HeadView) (s : PositionView) (first : ℕ) → labelled_
 unfolding labelled_header header_text
 blank_header h s first =
     let made = made_text (reading_of h.made) in
-    glue_header _ _ _ _ _ _ _ _ _ (types_lines h.listed) (last_lines (reading_of first))
-    ∙ five _ _ _ _ _ _ _ _ _ _ _ _ _ _ _ _ (blank_program made (codes "PGM / RUN BY / DATE")) (blank_observer (codes "OBSERVER / AGENCY"))
+    glue_header (header_line (codes "     3.05           OBSERVATION DATA    G") (codes "RINEX VERSION / TYPE"))
+    (header_line (codes "rtcm2rinex          " ++ left 20 [] ++ made) (codes "PGM / RUN BY / DATE"))
+    (header_line h.marker (codes "MARKER NAME"))
+    (header_line (codes "GEODETIC") (codes "MARKER TYPE"))
+    (header_line (left 20 [] ++ left 40 []) (codes "OBSERVER / AGENCY"))
+    (header_line (left 20 [] ++ left 20 [] ++ left 20 []) (codes "REC # / TYPE / VERS"))
+    (header_line (left 20 [] ++ left 20 []) (codes "ANT # / TYPE"))
+    (header_line (fixed 4 14 s.x ++ fixed 4 14 s.y ++ fixed 4 14 s.z) (codes "APPROX POSITION XYZ"))
+    (header_line (fixed 4 14 (pos s.height) ++ zero_offset ++ zero_offset) (codes "ANTENNA: DELTA H/E/N"))
+    (types_lines h.listed) (last_lines (reading_of first))
+    ∙ five (header_line (codes "     3.05           OBSERVATION DATA    G") (codes "RINEX VERSION / TYPE"))
+    (header_line h.marker (codes "MARKER NAME"))
+    (header_line (codes "GEODETIC") (codes "MARKER TYPE"))
+    (header_line (fixed 4 14 s.x ++ fixed 4 14 s.y ++ fixed 4 14 s.z) (codes "APPROX POSITION XYZ"))
+    (types_lines h.listed) (last_lines (reading_of first))
+    (header_line (codes "rtcm2rinex          " ++ left 20 [] ++ made) (codes "PGM / RUN BY / DATE"))
+    (header_line (left 20 [] ++ left 40 []) (codes "OBSERVER / AGENCY"))
+    (header_line (left 20 [] ++ left 20 [] ++ left 20 []) (codes "REC # / TYPE / VERS"))
+    (header_line (left 20 [] ++ left 20 []) (codes "ANT # / TYPE"))
+    (header_line (fixed 4 14 (pos s.height) ++ zero_offset ++ zero_offset) (codes "ANTENNA: DELTA H/E/N"))
+    (header_line (codes "rtcm2rinex                              " ++ made) (codes "PGM / RUN BY / DATE"))
+    (header_line [] (codes "OBSERVER / AGENCY"))
+    (header_line [] (codes "REC # / TYPE / VERS"))
+    (header_line [] (codes "ANT # / TYPE"))
+    (header_line (fixed 4 14 (pos s.height) ++ codes "        0.0000        0.0000") (codes "ANTENNA: DELTA H/E/N"))
+    (blank_program made (codes "PGM / RUN BY / DATE")) (blank_observer (codes "OBSERVER / AGENCY"))
     (blank_receiver (codes "REC # / TYPE / VERS")) (blank_antenna (codes "ANT # / TYPE")) (blank_offsets (fixed 4 14 (pos s.height)) (codes "ANTENNA: DELTA H/E/N"))
 
 pub blank_text : (t : WellFormedTable) → labelled_text blank_label t ≡ table_text t

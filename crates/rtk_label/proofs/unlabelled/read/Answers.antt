@@ -11,7 +11,7 @@ reading c =
     rw (c.columns_at-top.ensures.value, c.columns_at-middle.ensures.value) at c.read_label-label.ensures in
     record {
       long = c.requires;
-      number = number;
+      line = number;
       blank = λ h. c.line_len-from.ensures.blank (rw c.as_slice.ensures.value h);
       filled = λ h. c.line_len-from.ensures.filled (rw c.as_slice.ensures.value h);
       label = label;
