@@ -49,7 +49,7 @@ pub record IsRead (text number : List ℕ) (from : ℕ) (l : LabelView) : Type 0
 abbrev pub front_of : List ℕ → ℕ → LabelView → List ℕ
 front_of text from l = plain_top l (take 243 text) ++ plain_middle l (take 486 (drop (from + 243) text))
 
-within : (text number : List ℕ) (from : ℕ) (l : LabelView) → IsRead text number from l → from ≤ 81
+pub within : (text number : List ℕ) (from : ℕ) (l : LabelView) → IsRead text number from l → from ≤ 81
 within text number from l r =
     elim (blank_or_filled number) [ inl none ↦ omega (arith, r.blank none) | inr some ↦ omega (arith, r.filled some) ]
 
