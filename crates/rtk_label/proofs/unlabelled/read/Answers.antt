@@ -1,4 +1,4 @@
-use Rattle.std.proofs.Common.{◌≡◌, ◌∙◌, ◌+◌, List, ℕ, length, take, drop, arith, sym, ap, refl}
+use Rattle.std.proofs.Common.{◌≡◌, ◌∙◌, ◌+◌, ◌++◌, List, ℕ, length, take, drop, arith, sym, ap, refl}
 use Rattle.rtk_label.specs.Labelled.{LabelView}
 use Rattle.rtk_label.specs.Steps.Shown.{IsNumberIn, IsLabelIn}
 use Rattle.rtk_label.proofs.PartedLemmas.{IsRead, front_of, within, label_good, length-front, parted}

@@ -1,4 +1,4 @@
-use Rattle.std.proofs.Common.{◌≡◌, ◌∙◌, List, ℕ, length, take, arith, sym, ap}
+use Rattle.std.proofs.Common.{◌≡◌, ◌∙◌, List, ℕ, length, take, arith, sym, ap, refl}
 use Rattle.rtk_label.specs.Fields.{number_line}
 use Rattle.rtk_label.specs.Steps.Shown.{IsFieldIn}
 use Rattle.rtk_label.proofs.ChoiceLemmas.{clash}
