@@ -1,0 +1,84 @@
+"""What a command uses, for bench/peers and bench/growth."""
+
+import ctypes
+import os
+import re
+import shutil
+import subprocess
+from pathlib import Path
+from typing import NamedTuple
+
+ROOT = Path(__file__).resolve().parent.parent
+
+# Each way to count instructions: the words before a command, and what its report, the file REPORT, says of it.
+COUNTERS = {
+    "perf": (["perf", "stat", "-x,", "-e", "instructions:u", "-o", "REPORT", "--"], r"(?m)^(\d+),[^,]*,instructions"),
+    "callgrind": (["valgrind", "--tool=callgrind", "--callgrind-out-file=/dev/null", "--log-file=REPORT"], r"Collected : (\d+)"),
+}
+SUBREAPER = 36  # PR_SET_CHILD_SUBREAPER: a process whose parent has ended becomes a child of this one
+
+
+class Run(NamedTuple):
+    """A command, and the files that it reads and writes as its standard streams."""
+
+    words: list
+    out: Path
+    told: Path
+    given: Path = Path(os.devnull)
+
+
+class Use(NamedTuple):
+    """Processor time in seconds, the peak of memory in bytes, and the exit status."""
+
+    seconds: float
+    peak: int
+    status: int
+
+
+def program_of(words):
+    """The program that is named, else that of bin/program."""
+    return words[0] if words else subprocess.check_output([ROOT / "bin/program"], text=True).split("\n")[0]
+
+
+def machine():
+    """The processor, and how busy it is."""
+    model = re.search(r"(?m)^model name\s*: (.*)", Path("/proc/cpuinfo").read_text())
+    return f"{model[1] if model else 'a processor'}, {os.cpu_count()} cores, load {os.getloadavg()[0]:.1f}"
+
+
+def start(run, before=()):
+    """Runs a command after these words, which must end at once or wait for it."""
+    with open(run.given, "rb") as given, open(run.out, "wb") as out, open(run.told, "wb") as told:
+        return subprocess.run([*before, *run.words], stdin=given, stdout=out, stderr=told).returncode
+
+
+def use_of(run):
+    """What a command uses. A process's peak counts the memory of the one that it was forked from, so a small one forks it, ends,
+    and leaves it to this one."""
+    ctypes.CDLL(None).prctl(SUBREAPER, 1, 0, 0, 0)
+    start(run, ["setsid", "--fork"])
+    _, status, used = os.wait4(-1, 0)
+    return Use(used.ru_utime + used.ru_stime, 1024 * used.ru_maxrss, os.waitstatus_to_exitcode(status))
+
+
+class Counter:
+    """Counts instructions by the first way that there is; `by` is None if there is none."""
+
+    def __init__(self, folder):
+        self.report = folder / "instructions"
+        self.by = None
+        for by, (words, _) in COUNTERS.items():
+            self.by = by
+            if shutil.which(words[0]) and self.of(Run(["true"], folder / "out", folder / "told")):
+                return
+        self.by = None
+
+    def of(self, run):
+        """Those of a command; None if they can't be counted."""
+        if self.by is None:
+            return None
+        words, pattern = COUNTERS[self.by]
+        self.report.unlink(missing_ok=True)
+        start(run, [word.replace("REPORT", str(self.report)) for word in words])
+        found = re.search(pattern, self.report.read_text()) if self.report.exists() else None
+        return int(found[1]) if found else None
