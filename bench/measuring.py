@@ -37,7 +37,7 @@ class Use(NamedTuple):
 
 def program_of(words):
     """The program that is named, else that of bin/program."""
-    return words[0] if words else subprocess.check_output([ROOT / "bin/program"], text=True).split("\n")[0]
+    return Path(words[0] if words else subprocess.check_output([ROOT / "bin/program"], text=True).rstrip("\n")).resolve()
 
 
 def machine():
@@ -47,9 +47,9 @@ def machine():
 
 
 def start(run, before=()):
-    """Runs a command after these words, which must end at once or wait for it."""
+    """Runs a command after these words, in the folder of what it writes."""
     with open(run.given, "rb") as given, open(run.out, "wb") as out, open(run.told, "wb") as told:
-        return subprocess.run([*before, *run.words], stdin=given, stdout=out, stderr=told).returncode
+        subprocess.run([*before, *run.words], stdin=given, stdout=out, stderr=told, cwd=run.out.parent)
 
 
 def use_of(run):

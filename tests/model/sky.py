@@ -1,5 +1,6 @@
-"""What a station hears of satellites that rise and set, for captures of any length: ranges change smoothly, phases slip now and
-then, lock times grow. The same seed makes the same captures. Rows are packed here, since payload_of would take minutes for a day."""
+"""What a station hears of satellites that rise and set, for captures of any length: ranges change smoothly, phases slip now
+and then, lock times grow. The same seed makes the same captures. Frames of a day take less than a minute, since what is packed
+here as whole rows and columns `payload_of` would pack field by field."""
 
 from __future__ import annotations
 
