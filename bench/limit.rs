@@ -1,6 +1,6 @@
 // The job of `rtcm2rinex convert` for one link and for 1004 and 1074, by hand,
 // unverified and tuned: what the machine gives. bench/peers builds and runs it.
-//   rustc --edition 2021 -O limit.rs -o limit
+//   rustc --edition 2021 -C opt-level=3 limit.rs -o limit
 //
 //   limit read FILE [PIECE]        read the file only (PIECE bytes per read, 1 MiB)
 //   limit crc FILE                 checksum of every byte, frames of 1,024 bytes
