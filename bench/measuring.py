@@ -4,7 +4,11 @@ import ctypes
 import os
 import re
 import shutil
+import signal
 import subprocess
+import sys
+import tempfile
+from contextlib import contextmanager
 from pathlib import Path
 from typing import NamedTuple
 
@@ -33,6 +37,14 @@ class Use(NamedTuple):
     seconds: float
     peak: int
     status: int
+
+
+@contextmanager
+def scratch():
+    """A temporary folder, which is removed also where the script is ended."""
+    signal.signal(signal.SIGTERM, lambda *_: sys.exit(143))
+    with tempfile.TemporaryDirectory() as name:
+        yield Path(name)
 
 
 def program_of(words):
