@@ -10,7 +10,6 @@ from sources import ANY_BLOCK, TEXTS, bare, nested, tell
 
 WORD = "(?:OutOfMemory|AllocError)"
 
-
 # Code that refuses nothing: some of it, in brackets, and in a block.
 ARGUMENTS = nested(r"\(", r"\)", rf"(?:(?!{WORD})[^(){{}}])", 3)
 BLOCK = nested("{", "}", rf"(?:(?!{WORD})[^{{}}])", 3)
