@@ -27,11 +27,11 @@ pub fn decode(payload: &[u8]) -> Result<Message, DecodeFault>
     let Some(number) = reader.take_u(12) else {
         return Err(DecodeFault::NoNumber);
     };
-    read_after(number as u16, reader)
+    read_by_number(number as u16, reader)
 }
 
 /// The message after this number, which was read already.
-pub(crate) fn read_after(number: u16, reader: BitReader<'_>) -> Result<Message, DecodeFault>
+pub(crate) fn read_by_number(number: u16, reader: BitReader<'_>) -> Result<Message, DecodeFault>
     ensures message { IfOk result (λ m. BeginsAfterNumber number reader.entry m) }
     ensures fault { IfErr result (λ f. fault_after_number number reader.entry ≡ Some f) }
 {
@@ -46,7 +46,7 @@ pub(crate) fn read_after(number: u16, reader: BitReader<'_>) -> Result<Message, 
 
 // Each message type has a function of its own that is not inlined, for two reasons. A function
 // clears the memory of its locals when it is called: here this is the memory of one message, and in
-// `read_after` it would be that of all four. And a function that is not inlined writes its result where
+// `read_by_number` it would be that of all four. And a function that is not inlined writes its result where
 // its caller wants it, so a message of a thousand bytes is moved once less.
 #[inline(never)]
 fn read_1004(mut reader: BitReader<'_>) -> Result<Message, DecodeFault>

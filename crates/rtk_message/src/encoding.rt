@@ -64,7 +64,7 @@ fn write_message(writer: &mut BitWriter, message: &Message) -> Result<(), AllocE
 // Puts the number of a 1075, 1076 or 1077, and the fields after it.
 fn write_msm(writer: &mut BitWriter, message: &Msm) -> Result<(), AllocError>
     requires { form.IsValid message.now }
-    ensures { OnOk result (writer.new ≡ writer.old ++ bits_of_fields (u 12 (form.number_of_kind message.now.kind) ∷ form.table message.now)) }
+    ensures { OnOk result (writer.new ≡ writer.old ++ bits_of_fields (any.table (AnyMessage.Msm message.now))) }
 {
     writer.put_u(12, message.kind.number() as u64)?;
     message.write(writer)?;
@@ -84,11 +84,13 @@ fn write_as<T: Layout>(writer: &mut BitWriter, message: &T) -> Result<(), AllocE
 
 /// A law: if `encode` writes a message, `decode` reads the same message from these bytes.
 pub fn decode_of_encode()
-    ensures { (m : Message) (payload : List ℕ) (r : Result Message DecodeFault) → IsValid m → IsPayloadOf m payload → Decodes (bits payload) r → r ≡ Ok m }
+    ensures { (m : Message) (payload : List ℕ) (r : Result Message DecodeFault) → IsValid m
+        → IsPayloadOf m payload → Decodes (bits payload) r → r ≡ Ok m }
 {}
 
 /// A law: if `encode_any` writes a message of a set, `decode_any` reads the same message from these
 /// bytes by this set, and so does `AnyDecoder::read`.
 pub fn decode_any_of_encode_any()
-    ensures { (a : Accepted) (m : AnyMessage) (payload : List ℕ) (r : Result AnyMessage AnyFault) → any.IsValid m → IsTrue (accepts a (any.number_of m)) → any.IsPayloadOf m payload → any.DecodesBy a (bits payload) r → r ≡ Ok m }
+    ensures { (a : Accepted) (m : AnyMessage) (payload : List ℕ) (r : Result AnyMessage AnyFault) → any.IsValid m
+        → IsTrue (accepts a (any.number_of m)) → any.IsPayloadOf m payload → any.DecodesBy a (bits payload) r → r ≡ Ok m }
 {}

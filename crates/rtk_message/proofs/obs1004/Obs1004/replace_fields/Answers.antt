@@ -1,7 +1,7 @@
 use Rattle.std.proofs.Common.{arith}
 use Rattle.rtk_message.proofs.FieldLemmas.{took, took_none, took_word}
 use Rattle.rtk_message.proofs.Obs1004Lemmas.{is_out_of_week, is_cut}
-use Rattle.rtk_message.proofs.obs1004.Obs1004.read_over.Goals as goal
+use Rattle.rtk_message.proofs.obs1004.Obs1004.replace_fields.Goals as goal
 
 pub returns-then-self-ge-WEEK_MS-clause-fault : goal.returns-then-self-ge-WEEK_MS-clause-fault
 returns-then-self-ge-WEEK_MS-clause-fault c =
