@@ -1,5 +1,5 @@
 use Rattle.std.proofs.Common.{refl}
-use Rattle.rtk_message.proofs.decoding.read_1074.Goals as goal
+use Rattle.rtk_message.proofs.message.read_1004.Goals as goal
 
 pub returns-clause-message : goal.returns-clause-message
 returns-clause-message c =
