@@ -13,5 +13,7 @@ pub use Rattle.rtk_obs.proofs.LegacyLemmas.{fields_of_valid, cells_in_range-1004
 pub use Rattle.rtk_obs.proofs.MsmFieldLemmas.{cells_in_range-1074, cells_in_range-msm}
 -- what holds of each entry of an MSM
 pub use Rattle.rtk_obs.proofs.MsmLemmas.{all-msm_entries}
+-- the clauses of `cells_are_distinct` and `cells_are_in_range` on any message: each; each, satellites, kind
+pub use Rattle.rtk_obs.proofs.MessageLemmas.{cells_of-distinct, cells_of-in_range, cells_of-satellites, cells_of-kind}
 -- the clauses of `places_are_distinct`: code_bound, signal_bound, distinct
 pub use Rattle.rtk_obs.proofs.TracksLemmas.{place_bound, place_inside, same_signal}
