@@ -1,6 +1,7 @@
 use Rattle.std.proofs.Common.{arith}
 use Rattle.rtk_message.specs.declared.msm_kind.MsmKind.TheVariants.{Msm5, Msm6, Msm7}
-use Rattle.rtk_message.proofs.AnyDecodedLemmas.{after_four, fault_after_four, same_fault_of_other}
+use Rattle.rtk_message.proofs.AnyDecodedLemmas.{after_four, fault_after_four}
+use Rattle.rtk_message.proofs.DecodedLemmas.{same_fault_of_other}
 use Rattle.rtk_message.proofs.any_decoder.read_any_by_number.Goals as goal
 
 pub returns-in-None-clause-message : goal.returns-in-None-clause-message
