@@ -34,6 +34,13 @@ impl LinkNumber {
         }
     }
 
+    /// The number as a fault tells it, counted from 0.
+    pub(crate) fn from_zero(self) -> u8
+        ensures { result ≡ self }
+    {
+        self.from_zero
+    }
+
     /// The number as a report shows it, counted from 1.
     pub(crate) fn shown(self) -> u64
         ensures { result ≡ self + 1 }

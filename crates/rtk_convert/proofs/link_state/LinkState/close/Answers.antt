@@ -3,7 +3,7 @@ use Rattle.std.proofs.lemmas.Result.{err_from_is_err_and}
 use Rattle.rtk_convert.specs.Writing.{written}
 use Rattle.rtk_convert.proofs.GatheringLemmas.{gathers-none, gathers-more, breaks-off, finds-left}
 use Rattle.rtk_convert.proofs.OutcomeLemmas.{keeps-on, failed-err}
-use Rattle.rtk_convert.proofs.link.Link.close.Goals as goal
+use Rattle.rtk_convert.proofs.link_state.LinkState.close.Goals as goal
 
 pub frames-init : goal.frames-init
 frames-init g c = record {

@@ -3,7 +3,7 @@ use Rattle.rtk_frame.specs.Frames.{frames, payloads}
 use Rattle.rtk_convert.specs.Outcome.{KeepsWindow}
 use Rattle.rtk_convert.specs.Steps.LinkFrames.{AddsFrames}
 use Rattle.rtk_convert.specs.Writing.{written}
-use Rattle.rtk_convert.proofs.link.Link.close.Given as goal
+use Rattle.rtk_convert.proofs.link_state.LinkState.close.Given as goal
 
 -- some frames were taken, and the others stand in what is left
 abbrev pub invariant-frames : goal.invariant-frames

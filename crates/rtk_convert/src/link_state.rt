@@ -18,7 +18,7 @@ use rtk_obs::GpsMs;
 ///
 /// Its memory does not grow: the scanner holds at most 2,058 bytes, of which at most 1,029 are pending.
 #[derive(Drop)]
-pub(crate) struct Link {
+pub(crate) struct LinkState {
     pub(crate) scanner: Scanner,
     /// The greatest observation epoch that came on it, late messages included.
     pub(crate) newest: Option<GpsMs>,
@@ -35,7 +35,7 @@ fn later_of(a: Option<GpsMs>, b: Option<GpsMs>) -> Option<GpsMs>
     }
 }
 
-impl Link {
+impl LinkState {
     /// Feeds a piece, and takes the frames that it finds.
     pub(crate) fn feed<O: Sink, L: Sink>(
         &mut self,
