@@ -2,9 +2,10 @@
 
 ghost use Rattle.std.specs.Prelude.{◌≡◌, ◌≤◌, length};
 ghost use Rattle.std.specs.List.{All};
+ghost use Rattle.rtk_message.specs.declared.any_message.AnyMessage.TheVariants as AnyMessage;
 ghost use Rattle.rtk_message.specs.Decoded.{IsValid};
 ghost use Rattle.rtk_obs.specs.Cell.{IsInRange};
-ghost use Rattle.rtk_obs.specs.MessageCells.{cells_of_message};
+ghost use Rattle.rtk_obs.specs.MessageCells.{cells_of};
 
 use crate::cell::CellEntry;
 use crate::legacy_cells::put_cells_1004;
@@ -16,7 +17,7 @@ use rtk_message::Message;
 /// give them. A station message has none.
 pub fn put_cells_of(message: &Message, found: &mut ArrayVec<CellEntry, 64>)
     requires { IsValid message.now }
-    ensures cells { found.new.items ≡ cells_of_message message.now }
+    ensures cells { found.new.items ≡ cells_of (AnyMessage.Message message.now) }
     ensures ranges { All IsInRange found.new.items }
     ensures few { length found.new.items ≤ 64 }
 {
