@@ -14,7 +14,7 @@ use crate::conversion::Conversion;
 use crate::counts::Counts;
 use crate::fault::ConvertFault;
 use crate::link::Link;
-use crate::link_number::LinkNumber;
+use crate::link_number::{LinkNumber, MOST_LINKS};
 use crate::setup::Setup;
 use rtk_frame::{Scanner, Sink};
 use rtk_message::AnyDecoder;
@@ -80,7 +80,7 @@ impl Converter {
         // V4 comes only if memory is refused: tests/system/calls, rows `Converter::new of ..`.
         ensures fault { IfErr result (λ fault. IsLinkCount links → fault ≡ ConvertFault.OutOfMemory) }
     {
-        if links < 1 || links > 16 {
+        if links < 1 || links > MOST_LINKS {
             return Err(ConvertFault::Setup);
         }
         let conversion = Conversion::new(alloc, setup)?;
