@@ -35,9 +35,9 @@ request_of_matches: matches.subcommand() / Some(("convert", convert)) => convert
 convert_request: convert_option_values(matches) / Ok(None)
     / Vec::from_slice(alloc, matches.get_strs("LINK").unwrap_or(&[]))? / Ok(Some(Request::Convert { setup: options, links, }))
 convert_option_values: matches.get_one::<u32>("station")? / matches.get_one::<u32>("window")? / msm_of(matches.get_one::<u32>("msm")?)?
-    / station > MOST_STATION || window < LEAST_WINDOW || window > MOST_WINDOW / None / Some(ConvertOptions { station: station as u16,
+    / station > GREATEST_STATION || window < LEAST_WINDOW || window > MOST_WINDOW / None / Some(ConvertOptions { station: station as u16,
     near: matches.get_str("near")?, made: matches.get_str("made")?, marker: matches.get_str("marker")?,
-    codes: matches.get_str("codes")?, window: window as u16, msm, })
+    codes: matches.get_str("codes")?, window: window as usize, msm, })
 msm_of: 4 => Some(MsmOption::Four), 5 => Some(MsmOption::Five), 6 => Some(MsmOption::Six), 7 => Some(MsmOption::Seven), _ => None,
 show_request: matches.get_flag("hex") / matches.get_str("FILE")? / Some(Request::Show { hex, file })
 check_request: matches.get_str("FILE")? / Some(Request::Check { file })
