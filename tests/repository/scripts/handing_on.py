@@ -17,7 +17,7 @@ run_program: words_of(rt) / fail(rt, fault) / Vec::new(rt.alloc()) / &owned / wo
 words_of: std::env::args(rt) / error.kind() == ErrorKind::OutOfMemory / Err(ToolFault::OutOfMemory) / Err(ToolFault::Input)
     / args.next() / Vec::new(rt.alloc()) / args / words.push(word).map_err(|_| ToolFault::OutOfMemory)? / Ok(words)
 run_words: job(rt.alloc(), words) / run_job(rt, report, job) / refuse_words(rt, fault)
-job: read_words(alloc, words) / conversion(alloc, &setup, links.as_slice()) / Ok(Job::Show { hex, file })
+job: read_words(alloc, words) / convert_job(alloc, &setup, links) / Ok(Job::Show { hex, file })
     / Ok(Job::Check { file }) / Ok(Job::Summary { file }) / Ok(Job::Chart { width, file }) / cut_job(&part, file)
     / Err(WordsFault::Clap { text, status }) / Err(WordsFault::OutOfMemory)
 cut_job: part_of(options) / Ok(Job::Cut { part, file }) / Err(WordsFault::Bad { line })

@@ -6,7 +6,7 @@ use Rattle.rtk_cli.specs.Steps.CodeList.{Lists}
 use Rattle.rtk_cli.specs.Steps.ConvertWords.{HasTimes, HasHead}
 use Rattle.rtk_cli.specs.Steps.MomentText.{WritesMoment}
 use Rattle.rtk_cli.proofs.RefusedLemmas.{refused-by, has-moment, no-moment, has-times, lists-same, codes-refused, has-head, bad-marker, bad-codes, bad-reference}
-use Rattle.rtk_cli.proofs.convert_words.conversion.Goals as goal
+use Rattle.rtk_cli.proofs.convert_words.convert_job.Goals as goal
 
 -- the reference has another form
 pub returns-in_default-clause-refused : goal.returns-in_default-clause-refused
