@@ -29,10 +29,10 @@ pub(crate) fn convert_job<'a>(
     options: &ConvertOptions,
     links: Vec<&'a str>,
 ) -> Result<Job<'a>, WordsFault>
-    ensures said { IfOk result (SaysConversion options.now (map (λ link. link.now) links.items)) }
+    ensures said { IfOk result (SaysConversion options.now (map (λ link. link.now) links.entry.items)) }
     ensures limits { IfOk result IsWithinLimits }
     // That it gives up only without memory show the rows `job of convert ..` of tests/system/calls.
-    ensures refused { IfErr result (RefusesConversion options.now (map (λ link. link.now) links.items)) }
+    ensures refused { IfErr result (RefusesConversion options.now (map (λ link. link.now) links.entry.items)) }
     ensures status { IfErr result HasStatus }
 {
     let Some(near) = moment_of(options.near.as_bytes()) else {
