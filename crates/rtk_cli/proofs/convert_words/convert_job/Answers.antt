@@ -1,4 +1,4 @@
-use Rattle.std.proofs.Common.{ℕ, List, inl, inr, sym, ap, ◌∙◌, subst}
+use Rattle.std.proofs.Common.{ℕ, List, inl, inr, refl, sym, ap, ◌∙◌, subst, arith}
 use Rattle.rtk_message.specs.declared.msm_kind.MsmKind.TheVariants.{Msm4}
 use Rattle.rtk_rinex.specs.Header.{HeadView, IsMarker, IsCodeList}
 use Rattle.rtk_cli.specs.declared.words.BadWords.TheVariants.{Near, Made, Codes, Marker, Links}
@@ -73,11 +73,14 @@ returns-then-not-are_links-clause-refused c =
     let head : HasHead c.args.options.now = has-head c.args.options.now (times, (c.in-Ok.codes.items, lists)) c.in-Ok-new.head c.in-Ok.codes.items c.as_bytes-4.result.now lists
     (ap (λ (h : HeadView). h.listed) c.in-Ok-new.ensures.head ∙ c.as_slice.ensures.value) (ap (λ (h : HeadView). h.marker) c.in-Ok-new.ensures.head)
     c.as_bytes-4.ensures.value c.in-Ok-new.ensures.good in
-    refused-by c.args.options.now _ Links c.words_fault-then-not-are_links.result c.words_fault-then-not-are_links.ensures (head, λ good. let is = c.are_links.ensures good in let not = c.if-not-are_links.true in cc)
+    refused-by c.args.options.now _ Links c.words_fault-then-not-are_links.result c.words_fault-then-not-are_links.ensures (
+      head,
+      λ good. let are = rw c.as_slice-2.ensures.value at c.if-not-are_links.ensures in let no = are.1 good in cc,
+    )
 
 -- nothing is dated near the reference
-pub returns-in-Err-2-clause-refused : goal.returns-in-Err-2-clause-refused
-returns-in-Err-2-clause-refused c =
+pub returns-clause-refused : goal.returns-clause-refused
+returns-clause-refused c =
     let times : HasTimes c.args.options.now = has-times c.args.options.now c.as_bytes.result.now c.as_bytes-2.result.now c.in-Some.near c.in-Some-moment_of.made
     c.as_bytes.ensures.value c.in-Some.ensures.bound c.in-Some.ensures.moment
     c.as_bytes-2.ensures.value c.in-Some-moment_of.ensures.bound c.in-Some-moment_of.ensures.moment in
@@ -86,14 +89,14 @@ returns-in-Err-2-clause-refused c =
     (ap (λ (h : HeadView). h.listed) c.in-Ok-new.ensures.head ∙ c.as_slice.ensures.value) (ap (λ (h : HeadView). h.marker) c.in-Ok-new.ensures.head)
     c.as_bytes-4.ensures.value c.in-Ok-new.ensures.good in
     let writes : WritesMoment c.args.options.now.near.now c.in-Some.near = subst (λ (x : List ℕ). WritesMoment x c.in-Some.near) c.as_bytes.ensures.value c.in-Some.ensures.moment in
-    refused-by c.args.options.now _ Near c.words_fault-in-Err-2.result c.words_fault-in-Err-2.ensures
+    refused-by c.args.options.now _ Near c.words_fault-in-Err-new.result c.words_fault-in-Err-new.ensures
     (inr (
       head,
-      c.are_links.ensures,
+      (let are = rw c.as_slice-2.ensures.value at c.if-not-are_links.ensures in are.0 refl),
       (
         c.in-Some.near,
         writes,
         bad-reference (record { station = c.args.options.now.station; near = c.in-Some.near; head = c.in-Ok-new.head; window = c.args.options.now.window; msm = Msm4 })
-            c.in-Err-2.field-0 (omega arith) (omega arith) c.in-Err-2.ensures.fault,
+            c.in-Err-new.field-0 (omega arith) (omega arith) c.in-Err-new.ensures.fault,
       ),
     ))
