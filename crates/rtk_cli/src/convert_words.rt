@@ -19,7 +19,9 @@ use std::alloc::Global;
 
 // What clap refuses is what no conversion is set up with.
 const _: () = prove!(rtk_args::GREATEST_STATION == GREATEST_STATION as u32);
+
 const _: () = prove!(rtk_args::LEAST_WINDOW as usize == LEAST_WINDOW);
+
 const _: () = prove!(rtk_args::MOST_WINDOW as usize == MOST_WINDOW);
 
 /// The conversion that the options and the links say. The causes are looked for in the order of

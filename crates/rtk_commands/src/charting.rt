@@ -15,8 +15,8 @@ use rtk_chart::{chart_svg, chart_text};
 use rtk_frame::{Sink, Source, write_all};
 use rtk_rinex::{CheckFault, Table, check};
 use rtk_streams::{
-    Before, DONE, NOT_VALID, Reads, ToolFault, Writes, fail, fail_to_open, open_input,
-    read_whole, standard_output,
+    Before, DONE, NOT_VALID, Reads, ToolFault, Writes, fail, fail_to_open, open_input, read_whole,
+    standard_output,
 };
 use std::alloc::{AllocError, Global};
 use std::fs::Files;

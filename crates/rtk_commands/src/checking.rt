@@ -15,8 +15,8 @@ use rtk_frame::{Sink, Source, write_all};
 use rtk_message::put_named;
 use rtk_rinex::{Cause, CheckFault, Table, check};
 use rtk_streams::{
-    Before, DONE, NOT_VALID, Reads, ToolFault, Writes, fail, fail_to_open, open_input,
-    read_whole, standard_output,
+    Before, DONE, NOT_VALID, Reads, ToolFault, Writes, fail, fail_to_open, open_input, read_whole,
+    standard_output,
 };
 use std::alloc::{AllocError, Global};
 use std::fs::Files;
