@@ -3,7 +3,7 @@
 ghost use Rattle.std.specs.Prelude.{IfOk, IfErr};
 ghost use Rattle.rtk_cli.specs.Words.{HasStatus, IsWithinLimits};
 
-use crate::convert_words::conversion;
+use crate::convert_words::convert_job;
 use crate::cut_words::part_of;
 use crate::words::{Job, WordsFault};
 use rtk_args::{ClapAnswer, CutOptions, Request, read_words};
@@ -28,7 +28,7 @@ pub fn job<'a>(alloc: Global, words: &'a [&'a str]) -> Result<Job<'a>, WordsFaul
     ensures status { IfErr result HasStatus }
 {
     match read_words(alloc, words) {
-        Ok(Request::Convert { setup, links }) => conversion(alloc, &setup, links.as_slice()),
+        Ok(Request::Convert { setup, links }) => convert_job(alloc, &setup, links),
         Ok(Request::Show { hex, file }) => Ok(Job::Show { hex, file }),
         Ok(Request::Check { file }) => Ok(Job::Check { file }),
         Ok(Request::Summary { file }) => Ok(Job::Summary { file }),

@@ -1,7 +1,7 @@
 use Rattle.std.proofs.Common.{ℕ, List, Option, ap}
 use Rattle.rtk_cli.specs.Steps.Links.{AreLinksOf}
 use Rattle.rtk_cli.proofs.LinkLemmas.{gathered, behind, done-by-bytes, at-read, part-by-bytes}
-use Rattle.rtk_cli.proofs.converting.convert_between.Goals as goal
+use Rattle.rtk_cli.proofs.converting.convert_by.Goals as goal
 
 pub returns-clause-kept : goal.returns-clause-kept
 returns-clause-kept g c =

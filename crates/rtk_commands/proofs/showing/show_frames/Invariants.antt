@@ -1,6 +1,6 @@
 use Rattle.std.proofs.Common.{◌≡◌, ◌-◌, ◌≤◌, length}
 use Rattle.rtk_commands.proofs.ShownLemmas.{Progress}
-use Rattle.rtk_commands.proofs.showing.show_capture.Given as goal
+use Rattle.rtk_commands.proofs.showing.show_frames.Given as goal
 
 abbrev pub invariant-loop-found : goal.invariant-loop-found
 invariant-loop-found g l = record {

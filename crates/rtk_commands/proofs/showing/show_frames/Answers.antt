@@ -1,7 +1,7 @@
 use Rattle.std.proofs.Common.{◌≡◌, ◌+◌, ◌∙◌, ℕ, List, [], Option, refl, sym, subst, ap, arith, length}
 use Rattle.rtk_frame.specs.FramesView.{FramesView}
-use Rattle.rtk_commands.proofs.ShownLemmas.{Progress, start, stepped, flushed, part_now, part_then, all_shown, all_counted}
-use Rattle.rtk_commands.proofs.showing.show_capture.Goals as goal
+use Rattle.rtk_commands.proofs.ShownLemmas.{Progress, start, stepped, lines-out, part_now, part_then, all_shown, all_counted}
+use Rattle.rtk_commands.proofs.showing.show_frames.Goals as goal
 
 pub loop-found-init : goal.loop-found-init
 loop-found-init g c =
@@ -60,35 +60,35 @@ loop-found-preserved-in-Continue-1 g c =
       text = c.in-Some.ensures.text ∙ same;
       within = omega (arith, within, end);
       few = omega (arith, least.0, end);
-      shown = subst (λ (lines : List ℕ). Progress c.args.capture.now c.next_frame.new.self.from before (g.W.Sink.taken c.flush.new.out) lines (c.loop-found.count + 1)) (sym c.in_ok-flush.ensures.none)
-          (flushed c.args.capture.now c.next_frame.new.self.from (c.loop-found.count + 1) c.put_payload_line.new.lines.items before (g.W.Sink.taken c.loop-found.out) (g.W.Sink.taken c.flush.new.out) after c.in_ok-flush.ensures.taken);
-      failures = c.in_ok-flush.ensures.no_fault ∙ c.loop-found.invariant.failures;
+      shown = subst (λ (lines : List ℕ). Progress c.args.capture.now c.next_frame.new.self.from before (g.W.Sink.taken c.write_lines.new.out) lines (c.loop-found.count + 1)) (sym c.in_ok-write_lines.ensures.none)
+          (lines-out c.args.capture.now c.next_frame.new.self.from (c.loop-found.count + 1) c.put_payload_line.new.lines.items before (g.W.Sink.taken c.loop-found.out) (g.W.Sink.taken c.write_lines.new.out) after c.in_ok-write_lines.ensures.taken);
+      failures = c.in_ok-write_lines.ensures.no_fault ∙ c.loop-found.invariant.failures;
     }
 
 -- or some of them
-pub returns-in_err-flush-clause-part : goal.returns-in_err-flush-clause-part
-returns-in_err-flush-clause-part g c =
+pub returns-in_err-write_lines-clause-part : goal.returns-in_err-write_lines-clause-part
+returns-in_err-write_lines-clause-part g c =
     let least = rw c.loop-found.invariant.text at c.in-Some.ensures.least in
     let before : Option (List ℕ) = g.W.Sink.taken c.args.out.now in
     let more = stepped c.args.capture.now c.loop-found.rest.from c.in-Some.found.place c.loop-found.count c.in-Some.found.payload.now
     c.loop-found.lines.items c.put_payload_line.new.lines.items before (g.W.Sink.taken c.loop-found.out)
     c.loop-found.invariant.shown least c.in-Ok.ensures in
     part_then c.args.capture.now (c.in-Some.found.place + length c.in-Some.found.payload.now + 6) (c.loop-found.count + 1)
-    c.put_payload_line.new.lines.items before (g.W.Sink.taken c.loop-found.out) (g.W.Sink.taken c.flush.new.out) more c.in_err-flush.ensures.part
+    c.put_payload_line.new.lines.items before (g.W.Sink.taken c.loop-found.out) (g.W.Sink.taken c.write_lines.new.out) more c.in_err-write_lines.ensures.part
 
 -- of the last lines some are written
-pub returns-in_err-flush-2-clause-part : goal.returns-in_err-flush-2-clause-part
-returns-in_err-flush-2-clause-part g c =
+pub returns-in_err-write_lines-2-clause-part : goal.returns-in_err-write_lines-2-clause-part
+returns-in_err-write_lines-2-clause-part g c =
     part_then c.args.capture.now c.loop-found.rest.from c.loop-found.count c.loop-found.lines.items (g.W.Sink.taken c.args.out.now)
-    (g.W.Sink.taken c.loop-found.out) (g.W.Sink.taken c.flush-2.new.out) c.loop-found.invariant.shown c.in_err-flush-2.ensures.part
+    (g.W.Sink.taken c.loop-found.out) (g.W.Sink.taken c.write_lines-2.new.out) c.loop-found.invariant.shown c.in_err-write_lines-2.ensures.part
 
 -- or all
 pub returns-clause-shown : goal.returns-clause-shown
 returns-clause-shown g c =
     let before : Option (List ℕ) = g.W.Sink.taken c.args.out.now in
-    all_shown c.args.capture.now c.loop-found.rest.from c.loop-found.count before (g.W.Sink.taken c.flush-2.new.out)
-    (flushed c.args.capture.now c.loop-found.rest.from c.loop-found.count c.loop-found.lines.items before (g.W.Sink.taken c.loop-found.out)
-    (g.W.Sink.taken c.flush-2.new.out) c.loop-found.invariant.shown c.in_ok-flush-2.ensures.taken) (rw c.loop-found.invariant.text at c.in_default.ensures.least)
+    all_shown c.args.capture.now c.loop-found.rest.from c.loop-found.count before (g.W.Sink.taken c.write_lines-2.new.out)
+    (lines-out c.args.capture.now c.loop-found.rest.from c.loop-found.count c.loop-found.lines.items before (g.W.Sink.taken c.loop-found.out)
+    (g.W.Sink.taken c.write_lines-2.new.out) c.loop-found.invariant.shown c.in_ok-write_lines-2.ensures.taken) (rw c.loop-found.invariant.text at c.in_default.ensures.least)
 
 pub returns-clause-count : goal.returns-clause-count
 returns-clause-count g c =
@@ -98,6 +98,6 @@ returns-clause-count g c =
 pub returns-clause-part : goal.returns-clause-part
 returns-clause-part g c =
     let before : Option (List ℕ) = g.W.Sink.taken c.args.out.now in
-    part_now c.args.capture.now c.loop-found.rest.from c.loop-found.count [] before (g.W.Sink.taken c.flush-2.new.out)
-    (flushed c.args.capture.now c.loop-found.rest.from c.loop-found.count c.loop-found.lines.items before (g.W.Sink.taken c.loop-found.out)
-    (g.W.Sink.taken c.flush-2.new.out) c.loop-found.invariant.shown c.in_ok-flush-2.ensures.taken)
+    part_now c.args.capture.now c.loop-found.rest.from c.loop-found.count [] before (g.W.Sink.taken c.write_lines-2.new.out)
+    (lines-out c.args.capture.now c.loop-found.rest.from c.loop-found.count c.loop-found.lines.items before (g.W.Sink.taken c.loop-found.out)
+    (g.W.Sink.taken c.write_lines-2.new.out) c.loop-found.invariant.shown c.in_ok-write_lines-2.ensures.taken)

@@ -1,6 +1,6 @@
 use Rattle.std.proofs.Common.{◌≡◌}
 use Rattle.rtk_streams.proofs.PassedLemmas.{all_text}
-use Rattle.rtk_streams.proofs.input.read_through.Goals as goal
+use Rattle.rtk_streams.proofs.input.read_by.Goals as goal
 
 pub returns-clause-whole : goal.returns-clause-whole
 returns-clause-whole g c =
