@@ -38,7 +38,7 @@
 
 #![tactic(auto)]
 
-mod cutter;
+mod part_writer;
 mod fault;
 mod laws;
 mod part;

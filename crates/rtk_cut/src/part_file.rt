@@ -6,7 +6,7 @@ ghost use Rattle.rtk_cut.specs.Cut.{IsStepOrNone};
 ghost use Rattle.rtk_cut.specs.CutWriting.{WritesPart, WritesFirstOfPart};
 ghost use Rattle.rtk_cut.specs.declared.fault.CutFault.TheVariants.{Write};
 
-use crate::cutter::{Cutter, new_table};
+use crate::part_writer::{PartWriter, new_table};
 use crate::fault::CutFault;
 use crate::part::Part;
 use rtk_frame::Sink;
@@ -34,10 +34,10 @@ pub fn cut<W: Sink>(
 {
     let heading = table.heading();
     let mut epoch = new_table(alloc, heading.first)?;
-    let mut cutter = Cutter::new(alloc, heading, part)?;
+    let mut writer = PartWriter::new(alloc, heading, part)?;
     let mut records = table.records();
-    'epochs: while let Some(text) = records.next(&mut epoch) {
-        cutter.cut_record(alloc, &epoch, text, out)?;
+    while let Some(text) = records.next(&mut epoch) {
+        writer.write_next(alloc, &epoch, text, out)?;
     }
-    cutter.end(alloc, out)
+    writer.write_end(alloc, out)
 }
