@@ -3,7 +3,7 @@
 ghost use Rattle.std.specs.Prelude.{◌≡◌, ◌&&◌, nat_le, Some, List, [], ◌∷◌, length, IfOk};
 ghost use Rattle.rtk_rinex.specs.Reading.{IsMoment};
 ghost use Rattle.rtk_rinex.specs.Record.{EpochTableView};
-ghost ghost use Rattle.rtk_chart.specs.Interval.{missing_before};
+ghost use Rattle.rtk_chart.specs.Interval.{missing_before};
 ghost use Rattle.rtk_chart.specs.Scale.{IsScale};
 ghost use Rattle.rtk_chart.specs.Grid.{bins_of, has_missing_before};
 ghost use Rattle.rtk_chart.specs.Steps.Standing.{AddsMarks, CountsMissing, StandsForGrid};

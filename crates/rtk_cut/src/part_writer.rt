@@ -63,7 +63,7 @@ impl PartWriter {
         requires on { is_on_step (step_ms self.old.part.every) epoch.now ≡ true }
         ensures heading { self.new.heading ≡ self.old.heading }
         ensures same_part { self.new.part ≡ self.old.part }
-        ensures taken { OnOk result (TakesEpoch self.old self.new epoch.now text.now (W.taken out.old) (W.taken out.new)) }
+        ensures all { OnOk result (TakesEpoch self.old self.new epoch.now text.now (W.taken out.old) (W.taken out.new)) }
         ensures part { TakesEpochInPart self.old epoch.now text.now (W.taken out.old) (W.taken out.new) }
         ensures write_failed { IsErrOf result Write → CountRises (W.failures out.old) (W.failures out.new) }
         ensures no_failed_write { result ≢ Err Write → W.failures out.new ≡ W.failures out.old }
@@ -97,7 +97,7 @@ impl PartWriter {
         requires step { IsStepOrNone self.old.part.every }
         ensures heading { self.new.heading ≡ self.old.heading }
         ensures same_part { self.new.part ≡ self.old.part }
-        ensures taken { OnOk result (TakesEpoch self.old self.new epoch.now text.now (W.taken out.old) (W.taken out.new)) }
+        ensures all { OnOk result (TakesEpoch self.old self.new epoch.now text.now (W.taken out.old) (W.taken out.new)) }
         ensures part { TakesEpochInPart self.old epoch.now text.now (W.taken out.old) (W.taken out.new) }
         ensures write_failed { IsErrOf result Write → CountRises (W.failures out.old) (W.failures out.new) }
         ensures no_failed_write { result ≢ Err Write → W.failures out.new ≡ W.failures out.old }

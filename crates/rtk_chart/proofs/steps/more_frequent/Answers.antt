@@ -9,7 +9,7 @@ returns-then-overtakes c = λ steps was count.
     let h = subst (λ (o : Option Frequent). IsFrequent o steps) c.in-Some.is was in
     let had = h.1 in (
       overtakes c.in-Some.best.step c.args.step steps h.0
-          (elim c.if-overtakes.ensures.yes refl [ inl more ↦ inl (omega (arith, more, had, count)) | inr alike ↦ inr (sym count ∙ alike.0 ∙ had, alike.1) ]),
+          (elim (c.if-overtakes.ensures.yes refl) [ inl more ↦ inl (omega (arith, more, had, count)) | inr alike ↦ inr (sym count ∙ alike.0 ∙ had, alike.1) ]),
       count,
     )
 

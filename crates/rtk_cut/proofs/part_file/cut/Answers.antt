@@ -23,12 +23,12 @@ loop-text-preserved g c =
       step = subst (λ (p : Part). IsStepOrNone p.every) (sym c.in_ok-write_next.ensures.same_part) i.step;
       so_far = λ t is whole. cut-more c.args.part t c.loop-text.records c.next.new.self c.loop-text.writer c.write_next.new.self e text (g.W.Sink.taken c.args.out.now) (g.W.Sink.taken c.loop-text.out) (g.W.Sink.taken c.write_next.new.out)
           (i.so_far t is whole) c.in-Some.ensures.next c.in-Some.ensures.record.0 c.in-Some.ensures.record.1 c.in-Some.ensures.width c.in_ok-write_next.ensures.heading c.in_ok-write_next.ensures.same_part
-          (subst (λ (x : EpochTableView). TakesEpoch c.loop-text.writer c.write_next.new.self x text (g.W.Sink.taken c.loop-text.out) (g.W.Sink.taken c.write_next.new.out)) c.deref.ensures c.in_ok-write_next.ensures.taken);
+          (subst (λ (x : EpochTableView). TakesEpoch c.loop-text.writer c.write_next.new.self x text (g.W.Sink.taken c.loop-text.out) (g.W.Sink.taken c.write_next.new.out)) c.deref.ensures c.in_ok-write_next.ensures.all);
       failures = c.in_ok-write_next.ensures.no_failed_write (λ is. cc) ∙ i.failures;
     }
 
-pub returns-in_err-write_next-clause-first : goal.returns-in_err-write_next-clause-first
-returns-in_err-write_next-clause-first g c =
+pub returns-in_err-write_next-clause-part : goal.returns-in_err-write_next-clause-part
+returns-in_err-write_next-clause-part g c =
     let e : EpochTableView = c.next.new.epoch in
     let text : List ℕ = c.in-Some.text.now in
     on_err-from c.from_residual-in_err-write_next.result (λ t is whole. cut-broken c.args.part t c.loop-text.records c.next.new.self c.loop-text.writer e text (g.W.Sink.taken c.args.out.now) (g.W.Sink.taken c.loop-text.out) (g.W.Sink.taken c.write_next.new.out)
@@ -40,7 +40,7 @@ returns-clause-all g c =
     on_ok-map c.write_end.result (λ takes t is whole. cut-all c.args.part t c.loop-text.records c.loop-text.writer (g.W.Sink.taken c.args.out.now) (g.W.Sink.taken c.loop-text.out) (g.W.Sink.taken c.write_end.new.out)
     (c.loop-text.invariant.so_far t is whole) c.in_default.ensures.next takes) c.write_end.ensures.all
 
-pub returns-clause-first : goal.returns-clause-first
-returns-clause-first g c =
+pub returns-clause-part : goal.returns-clause-part
+returns-clause-part g c =
     on_err-from c.write_end.result (λ t is whole. cut-broken_end c.args.part t c.loop-text.records c.loop-text.writer (g.W.Sink.taken c.args.out.now) (g.W.Sink.taken c.loop-text.out) (g.W.Sink.taken c.write_end.new.out)
     (c.loop-text.invariant.so_far t is whole) c.in_default.ensures.next c.write_end.ensures.part)

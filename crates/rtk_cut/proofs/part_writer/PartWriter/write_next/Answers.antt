@@ -6,8 +6,8 @@ use Rattle.rtk_cut.specs.Steps.PartFile.{still_to_write}
 use Rattle.rtk_cut.proofs.PartFileLemmas.{writes-nothing, left-off}
 use Rattle.rtk_cut.proofs.part_writer.PartWriter.write_next.Goals as goal
 
-pub returns-clause-taken : goal.returns-clause-taken
-returns-clause-taken g c = λ t earlier left next.
+pub returns-clause-all : goal.returns-clause-all
+returns-clause-all g c = λ t earlier left next.
     let s = c.args.self.now in
     let e : EpochTableView = c.args.epoch.now in
     let step : ℕ = step_ms s.part.every in

@@ -8,8 +8,8 @@ use Rattle.rtk_cut.specs.Steps.PartRecords.{header_unless, text_or_new}
 use Rattle.rtk_cut.proofs.PartFileLemmas.{writes-nothing, part-longer, left-outside, record-written}
 use Rattle.rtk_cut.proofs.part_writer.PartWriter.write_next_on_step.Goals as goal
 
-pub returns-then-not-spans-clause-taken : goal.returns-then-not-spans-clause-taken
-returns-then-not-spans-clause-taken g c = λ t earlier left next.
+pub returns-then-not-spans-clause-all : goal.returns-then-not-spans-clause-all
+returns-then-not-spans-clause-all g c = λ t earlier left next.
     let s = c.args.self.now in
     let e : EpochTableView = c.args.epoch.now in
     let wide : length t.head.listed ≡ length c.codes-width.result.now = sym (ap (λ xs. length xs) c.codes-width.ensures.value ∙ ap (λ (h : HeadView). length h.listed) next.heading.0) in
@@ -39,8 +39,8 @@ returns-in_err-put_record-clause-part g c = λ t earlier left next.
     (λ unchanged. c.deref.ensures ∙ c.show-is_changed.ensures.same unchanged good))
     c.put_record.ensures.part
 
-pub returns-clause-taken : goal.returns-clause-taken
-returns-clause-taken g c = λ t earlier left next.
+pub returns-clause-all : goal.returns-clause-all
+returns-clause-all g c = λ t earlier left next.
     let s = c.args.self.now in
     let e : EpochTableView = c.args.epoch.now in
     let shown : EpochTableView = c.deref.result.now in
