@@ -234,7 +234,6 @@ fn put_line(text: &mut Vec<u8>, words: &[u8], number: u64) -> Result<(), AllocEr
     Ok(())
 }
 
-#[tactic(auto, using(rtk_rinex::proofs::PublicLaws::reading_is))]
 fn put_moment_line(text: &mut Vec<u8>, words: &[u8], moment: GpsMs) -> Result<(), AllocError>
     ensures { OnOk result (text.new.items ≡ text.old.items ++ moment_line words.now moment) }
 {

@@ -4,8 +4,8 @@ use Rattle.rtk_chart.specs.Steps.Standing.{StandsForSurvey}
 use Rattle.rtk_chart.proofs.RecordLemmas.{HasCome}
 use Rattle.rtk_chart.proofs.passes.survey_records.Given as goal
 
-abbrev pub invariant-loop-_record : goal.invariant-loop-_record
-invariant-loop-_record l = (t : WellFormedTable) → IsWellFormedTable t → l.table.text ≡ table_text t → HasCome StandsForSurvey l.records l.survey t.epochs
+abbrev pub invariant-loop-record : goal.invariant-loop-record
+invariant-loop-record l = (t : WellFormedTable) → IsWellFormedTable t → l.table.text ≡ table_text t → HasCome StandsForSurvey l.records l.survey t.epochs
 
-abbrev pub decreases-loop-_record : goal.decreases-loop-_record
-decreases-loop-_record l = length l.records.text
+abbrev pub decreases-loop-record : goal.decreases-loop-record
+decreases-loop-record l = length l.records.text

@@ -1,4 +1,4 @@
-use Rattle.std.proofs.Common.{◌≡◌, ◌+◌, ℕ, Some, None, refl, sym, ap, ◌∙◌, arith}
+use Rattle.std.proofs.Common.{◌≡◌, ◌+◌, Some, None, refl, sym, ap, ◌∙◌, arith}
 use Rattle.rtk_chart.specs.Epochs.{capped}
 use Rattle.rtk_chart.specs.Interval.{missing_before, missing_in}
 use Rattle.rtk_chart.proofs.GridLemmas.{gaps-more, missing-more}
