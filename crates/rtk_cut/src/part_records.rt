@@ -3,7 +3,7 @@
 ghost use Rattle.std.specs.Prelude.{◌≡◌, ◌≢◌, Err, OnOk, IsErrOf, length};
 ghost use Rattle.rtk_frame.specs.Stream.{with_more, TakesPart, CountRises};
 ghost use Rattle.rtk_rinex.specs.Record.{HasWidth};
-ghost use Rattle.rtk_cut.specs.Steps.PartRecords.{after_header, record_after_header};
+ghost use Rattle.rtk_cut.specs.Steps.PartRecords.{after_header, record_out};
 ghost use Rattle.rtk_cut.specs.declared.fault.CutFault.TheVariants.{Write};
 
 use crate::fault::CutFault;
@@ -49,8 +49,8 @@ pub(crate) fn put_record<W: Sink>(
 ) -> Result<(), CutFault>
     requires width { HasWidth (length heading.now.head.listed) epoch.now.rows }
     ensures all { OnOk result (W.taken out.new
-        ≡ with_more (W.taken out.old) (record_after_header is_begun heading.now epoch.now is_changed text.now)) }
-    ensures part { TakesPart (W.taken out.old) (W.taken out.new) (record_after_header is_begun heading.now epoch.now is_changed text.now) }
+        ≡ with_more (W.taken out.old) (record_out is_begun heading.now epoch.now is_changed text.now)) }
+    ensures part { TakesPart (W.taken out.old) (W.taken out.new) (record_out is_begun heading.now epoch.now is_changed text.now) }
     ensures write_failed { IsErrOf result Write → CountRises (W.failures out.old) (W.failures out.new) }
     ensures no_failed_write { result ≢ Err Write → W.failures out.new ≡ W.failures out.old }
 {

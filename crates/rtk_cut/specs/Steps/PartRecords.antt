@@ -18,6 +18,6 @@ text_or_new true text e = record_text e
 abbrev pub after_header : Bool → Heading → ℕ → List ℕ → List ℕ
 after_header is_begun h first text = header_unless is_begun h.head (position_view h.position) first ++ text
 
--- so the text of an epoch
-abbrev pub record_after_header : Bool → Heading → EpochTableView → Bool → List ℕ → List ℕ
-record_after_header is_begun h e is_changed text = after_header is_begun h e.time (text_or_new is_changed text e)
+-- the text of an epoch after the header, unless that is out
+abbrev pub record_out : Bool → Heading → EpochTableView → Bool → List ℕ → List ℕ
+record_out is_begun h e is_changed text = after_header is_begun h e.time (text_or_new is_changed text e)
