@@ -29,7 +29,7 @@ fn picture_of(alloc: Global, table: &Table<'_>, width: Option<u16>) -> Result<Ve
     ensures { IfOk result (λ picture. IsPicture width table.now.text picture.items) }
 {
     match width {
-        Some(width) => chart_text(alloc, table, usize::from(width)),
+        Some(width) => chart_text(alloc, table, width),
         None => chart_svg(alloc, table),
     }
 }

@@ -19,7 +19,7 @@ use std::alloc::{AllocError, Global};
 
 /// What is known while a part of a file is written. Its memory does not grow.
 #[derive(Drop)]
-pub(crate) struct Cutter {
+pub(crate) struct PartWriter {
     /// The file's own.
     pub(crate) heading: Heading,
     pub(crate) part: Part,
@@ -37,13 +37,13 @@ pub(crate) fn new_table(alloc: Global, start: GpsMs) -> Result<Box<EpochTable>, 
     Ok(Box::new(alloc, EpochTable::new(start))?)
 }
 
-impl Cutter {
+impl PartWriter {
     /// No epoch was taken.
-    pub(crate) fn new(alloc: Global, heading: Heading, part: Part) -> Result<Cutter, AllocError>
-        ensures { IfOk result (λ cutter. IsFresh cutter heading part) }
+    pub(crate) fn new(alloc: Global, heading: Heading, part: Part) -> Result<PartWriter, AllocError>
+        ensures { IfOk result (λ writer. IsFresh writer heading part) }
     {
         let table = new_table(alloc, heading.first)?;
-        Ok(Cutter {
+        Ok(PartWriter {
             heading,
             part,
             slips: Slips::new(),
@@ -53,7 +53,7 @@ impl Cutter {
     }
 
     // Takes an epoch that is on the step.
-    fn cut_record_on_step<W: Sink>(
+    fn write_next_on_step<W: Sink>(
         &mut self,
         alloc: Global,
         epoch: &EpochTable,
@@ -63,20 +63,19 @@ impl Cutter {
         requires on { is_on_step (step_ms self.old.part.every) epoch.now ≡ true }
         ensures heading { self.new.heading ≡ self.old.heading }
         ensures same_part { self.new.part ≡ self.old.part }
-        ensures taken { OnOk result (TakesEpoch self.old self.new epoch.now text.now (W.taken out.old) (W.taken out.new)) }
+        ensures all { OnOk result (TakesEpoch self.old self.new epoch.now text.now (W.taken out.old) (W.taken out.new)) }
         ensures part { TakesEpochInPart self.old epoch.now text.now (W.taken out.old) (W.taken out.new) }
         ensures write_failed { IsErrOf result Write → CountRises (W.failures out.old) (W.failures out.new) }
         ensures no_failed_write { result ≢ Err Write → W.failures out.new ≡ W.failures out.old }
     {
         let width = self.heading.head.codes().len();
-        let is_changed = self.slips.cut(epoch, width, &mut self.table);
+        let is_changed = self.slips.show(epoch, width, &mut self.table);
         if !self.part.spans(epoch.time()) {
             return Ok(());
         }
         put_record(
             alloc,
-            &self.heading.head,
-            &self.heading.position,
+            &self.heading,
             self.is_begun,
             &self.table,
             is_changed,
@@ -88,7 +87,7 @@ impl Cutter {
     }
 
     /// Takes the next epoch of the file, with the text of its record.
-    pub(crate) fn cut_record<W: Sink>(
+    pub(crate) fn write_next<W: Sink>(
         &mut self,
         alloc: Global,
         epoch: &EpochTable,
@@ -98,34 +97,26 @@ impl Cutter {
         requires step { IsStepOrNone self.old.part.every }
         ensures heading { self.new.heading ≡ self.old.heading }
         ensures same_part { self.new.part ≡ self.old.part }
-        ensures taken { OnOk result (TakesEpoch self.old self.new epoch.now text.now (W.taken out.old) (W.taken out.new)) }
+        ensures all { OnOk result (TakesEpoch self.old self.new epoch.now text.now (W.taken out.old) (W.taken out.new)) }
         ensures part { TakesEpochInPart self.old epoch.now text.now (W.taken out.old) (W.taken out.new) }
         ensures write_failed { IsErrOf result Write → CountRises (W.failures out.old) (W.failures out.new) }
         ensures no_failed_write { result ≢ Err Write → W.failures out.new ≡ W.failures out.old }
     {
         if epoch.time().ms() % self.part.step_ms() == 0 {
-            return self.cut_record_on_step(alloc, epoch, text, out);
+            return self.write_next_on_step(alloc, epoch, text, out);
         }
         self.slips.note(epoch);
         Ok(())
     }
 
     /// Takes the end of the file: writes the header, if there was no record.
-    pub(crate) fn end<W: Sink>(&self, alloc: Global, out: &mut W) -> Result<(), CutFault>
+    pub(crate) fn write_end<W: Sink>(&self, alloc: Global, out: &mut W) -> Result<(), CutFault>
         ensures all { OnOk result (TakesEnd self.now (W.taken out.old) (W.taken out.new)) }
         ensures part { TakesEndInPart self.now (W.taken out.old) (W.taken out.new) }
         ensures write_failed { IsErrOf result Write → CountRises (W.failures out.old) (W.failures out.new) }
         ensures no_failed_write { result ≢ Err Write → W.failures out.new ≡ W.failures out.old }
     {
         let first = self.part.from.unwrap_or(self.heading.first);
-        put_after_header(
-            alloc,
-            &self.heading.head,
-            &self.heading.position,
-            self.is_begun,
-            first,
-            &[],
-            out,
-        )
+        put_after_header(alloc, &self.heading, self.is_begun, first, &[], out)
     }
 }

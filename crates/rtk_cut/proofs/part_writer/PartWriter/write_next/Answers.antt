@@ -4,10 +4,10 @@ use Rattle.rtk_rinex.specs.Record.{EpochTableView}
 use Rattle.rtk_cut.specs.Cut.{is_on_step, step_ms}
 use Rattle.rtk_cut.specs.Steps.PartFile.{still_to_write}
 use Rattle.rtk_cut.proofs.PartFileLemmas.{writes-nothing, left-off}
-use Rattle.rtk_cut.proofs.cutter.Cutter.cut_record.Goals as goal
+use Rattle.rtk_cut.proofs.part_writer.PartWriter.write_next.Goals as goal
 
-pub returns-clause-taken : goal.returns-clause-taken
-returns-clause-taken g c = λ t earlier left next.
+pub returns-clause-all : goal.returns-clause-all
+returns-clause-all g c = λ t earlier left next.
     let s = c.args.self.now in
     let e : EpochTableView = c.args.epoch.now in
     let step : ℕ = step_ms s.part.every in

@@ -1,7 +1,7 @@
 use Rattle.std.proofs.Common.{◌<◌, ℕ, ap, ◌∙◌, arith}
 use Rattle.rtk_cut.specs.Steps.Pending.{codes_with_marks}
 use Rattle.rtk_cut.proofs.MarkLemmas.{codes-all}
-use Rattle.rtk_cut.proofs.slips.cut_row.Goals as goal
+use Rattle.rtk_cut.proofs.slips.show_in_row.Goals as goal
 
 pub returns-clause-shown : goal.returns-clause-shown
 returns-clause-shown c =

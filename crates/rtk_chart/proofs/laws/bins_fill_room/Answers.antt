@@ -1,5 +1,5 @@
 use Rattle.rtk_chart.proofs.WidthLemmas.{scale-fills, rows-long, bands-filled}
-use Rattle.rtk_chart.proofs.laws.columns_fill_room.Goals as goal
+use Rattle.rtk_chart.proofs.laws.bins_fill_room.Goals as goal
 
 pub returns-clause-scale : goal.returns-clause-scale
 returns-clause-scale c = scale-fills
