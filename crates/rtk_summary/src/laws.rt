@@ -28,9 +28,9 @@ pub fn most_epochs_are_named()
 /// the codes of all cells. The line of its second frequency goes by these codes, and no line tells of
 /// another MSM.
 pub fn four_need_no_option()
-    ensures { (station : ℕ) (ms : List AnyMessage) → IsTrue (list_all is_of_four ms)
-        → proposal_lines station (λ kind. epochs_with_value kind ms) (λ kind. has_code (entries_with kind ms))
-        ≡ second_frequency_line (has_code (entries_in ms)) ++ next_line station Msm4 (codes_text (has_code (entries_in ms))) }
+    ensures { (name near : List ℕ) (station : ℕ) (ms : List AnyMessage) → IsTrue (list_all is_of_four ms)
+        → proposal_lines name near station (λ kind. epochs_with_value kind ms) (λ kind. has_code (entries_with kind ms))
+        ≡ second_frequency_line (has_code (entries_in ms)) ++ next_line name near station Msm4 (codes_text (has_code (entries_in ms))) }
 {}
 
 /// Equal lines of a summary tell equal numbers: no number stops short of what a u64 holds. The lines of

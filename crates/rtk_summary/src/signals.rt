@@ -4,7 +4,7 @@ ghost use Rattle.std.specs.Prelude.{◌≡◌, ◌<◌, ◌==◌, ◌&&◌, ◌|
 ghost use Rattle.std.specs.List.{list_any};
 ghost use Rattle.rtk_obs.specs.declared.cell.CellEntry.{CellEntry};
 ghost use Rattle.rtk_summary.specs.Proposal.{entry_has_value};
-ghost use Rattle.rtk_summary.specs.Steps.Standing.{StandsForCodes, StandsForEntries};
+ghost use Rattle.rtk_summary.specs.Standing.{StandsForCodes, StandsForEntries};
 ghost use Rattle.rtk_summary.specs.Tracing.{has_value};
 
 use rtk_obs::{Cell, CellEntry};
@@ -42,7 +42,7 @@ fn mark(marks: &mut [bool], place: usize, has_value: bool)
 }
 
 /// Some cell has a value.
-pub(crate) fn have_value(entries: &[CellEntry]) -> bool
+pub fn have_value(entries: &[CellEntry]) -> bool
     ensures { result ≡ list_any entry_has_value entries.now }
 {
     entries.iter().any(|entry| has_value(&entry.cell))

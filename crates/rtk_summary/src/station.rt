@@ -2,18 +2,16 @@
 
 ghost use Rattle.std.specs.Prelude.{◌≡◌, List, [], ◌∷◌};
 ghost use Rattle.rtk_message.specs.declared.any_message.AnyMessage.{AnyMessage};
-ghost use Rattle.rtk_message.specs.AnyDecoded.{IsValid, number_of};
-ghost use Rattle.rtk_message.specs.Decoded as decoded;
-ghost use Rattle.rtk_summary.specs.Steps.Standing.{times_of, StandsForMessages, CountsMessages};
-ghost use Rattle.rtk_summary.specs.Tracing.{times_of_week, entries_of_four, entries_of_message};
+ghost use Rattle.rtk_message.specs.AnyDecoded.{number_of};
+ghost use Rattle.rtk_summary.specs.Standing.{times_of, StandsForMessages, CountsMessages};
+ghost use Rattle.rtk_summary.specs.Tracing.{times_of_week, entries_of_message};
 
 use crate::counting::count_if;
 use crate::msm_parts::MsmParts;
 use crate::signals::Signals;
 use crate::times_of_week::Times;
-use arrayvec::ArrayVec;
-use rtk_message::{AnyMessage, Message};
-use rtk_obs::{CellEntry, put_cells_1004, put_cells_1074, put_cells_msm};
+use rtk_message::AnyMessage;
+use rtk_obs::CellEntry;
 
 /// The messages of a station: how many, of which numbers, their times and their signals.
 #[derive(Clone, Copy)]
@@ -25,29 +23,6 @@ pub(crate) struct Station {
     pub(crate) times: Times,
     pub(crate) signals: Signals,
     pub(crate) msm: MsmParts,
-}
-
-// Puts the cells of a 1004 or a 1074 over a list; a station message has none.
-fn put_entries_of_four(message: &Message, found: &mut ArrayVec<CellEntry, 64>)
-    requires { decoded.IsValid message.now }
-    ensures { found.new.items ≡ entries_of_four message.now }
-{
-    match message {
-        Message::Obs1004(message) => put_cells_1004(message, found),
-        Message::Msm1074(message) => put_cells_1074(message, found),
-        Message::Arp1005(_) | Message::Arp1006(_) => found.clear(),
-    }
-}
-
-/// Puts the cells of a message over a list.
-pub(crate) fn put_entries(message: &AnyMessage, found: &mut ArrayVec<CellEntry, 64>)
-    requires { IsValid message.now }
-    ensures { found.new.items ≡ entries_of_message message.now }
-{
-    match message {
-        AnyMessage::Message(message) => put_entries_of_four(message, found),
-        AnyMessage::Msm(message) => put_cells_msm(message, found),
-    }
 }
 
 // Notes the time of week of a message, if it has one.
