@@ -26,13 +26,13 @@ pub fn present<R: Env + Clock + AllocGlobal>(rt: &R) -> Result<u64, PresentFault
             .as_str()
             .parse::<u64>()
             .map_err(|_| PresentFault::BadVariable),
-        Err(VarError::NotPresent) => clock(rt),
+        Err(VarError::NotPresent) => clock_time(rt),
         Err(VarError::NotUnicode) => Err(PresentFault::BadVariable),
         Err(VarError::OutOfMemory) => Err(PresentFault::OutOfMemory),
     }
 }
 
-fn clock<R: Clock>(rt: &R) -> Result<u64, PresentFault> {
+fn clock_time<R: Clock>(rt: &R) -> Result<u64, PresentFault> {
     let Ok(time) = SystemTime::now(rt) else {
         return Err(PresentFault::NoClock);
     };
