@@ -1,7 +1,7 @@
 -- Which moment a date message tells near a time of week (this project's rule). Moments are in ms since
 -- 1980-01-06 00:00:00.000 of GPS time; the leap seconds between it and UTC are left out, since half a
 -- week is the measure.
-use Rattle.std.specs.Prelude.{ℕ, ◌+◌, ◌-◌, ◌*◌, ◌/◌, ◌%◌, Bool, ◌&&◌, ◌||◌, nat_le, nat_lt, Option, None, Some, if◌then◌else◌}
+use Rattle.std.specs.Prelude.{ℕ, ◌+◌, ◌-◌, ◌*◌, ◌/◌, ◌%◌, Bool, ◌&&◌, ◌||◌, nat_le, nat_lt, min, Option, None, Some, if◌then◌else◌}
 use Rattle.rtk_message.specs.Fields.{week_ms}
 use Rattle.rtk_dates.specs.declared.date_message.DateMessage.{DateMessage}
 use Rattle.rtk_dates.specs.declared.date_message.DateMessage.TheVariants.{Utc, Ephemeris}
@@ -34,9 +34,9 @@ nearest at tow = dated (at + 1) tow
 -- ---- a day and a second
 
 -- formula
--- the moment of a day and a second (DF051, DF052)
+-- the moment of a day and a second (DF051, DF052); a day has no second after the 86,400th
 abbrev pub moment_of : UtcDate → ℕ
-moment_of d = day_ms * (d.day - first_day) + 1000 * d.second
+moment_of d = day_ms * (d.day - first_day) + 1000 * min d.second 86_400
 
 -- formula
 -- the day of a moment

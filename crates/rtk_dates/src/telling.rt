@@ -14,6 +14,9 @@ const FIRST_DAY: u64 = 44_244;
 /// The Modified Julian Day of 1980-01-13. Earlier days tell nothing.
 const EARLIEST_DAY: u16 = 44_251;
 
+/// The greatest second of a day (DF052): that of a leap second.
+const LAST_SECOND: u64 = 86_400;
+
 /// The moment with this time of week nearest to another moment; of two alike the earlier.
 pub(crate) fn dated_ms(near: u64, tow: u32) -> u64
     requires { near < 2 ^ 60 }
@@ -32,12 +35,14 @@ pub fn dated(near: GpsMs, tow: u32) -> u64
     dated_ms(near.ms(), tow)
 }
 
-/// The moment of a day and a second. A day before 1980-01-06 counts as that day.
+/// The moment of a day and a second. A day before 1980-01-06 counts as that day, and a second after the
+/// 86,400th as that second.
 pub fn moment_of(date: UtcDate) -> GpsMs
     ensures { result ≡ spec.moment_of date }
 {
     let days = u64::from(date.day).saturating_sub(FIRST_DAY);
-    let Some(moment) = GpsMs::new(DAY_MS * days + 1000 * u64::from(date.second)) else {
+    let second = u64::from(date.second).min(LAST_SECOND);
+    let Some(moment) = GpsMs::new(DAY_MS * days + 1000 * second) else {
         unreachable!();
     };
     moment
@@ -48,7 +53,7 @@ pub fn moment_of(date: UtcDate) -> GpsMs
 pub fn is_date(date: UtcDate) -> bool
     ensures { result ≡ spec.is_date date }
 {
-    EARLIEST_DAY <= date.day && date.second <= 86_400
+    EARLIEST_DAY <= date.day && u64::from(date.second) <= LAST_SECOND
 }
 
 // Is it a date, and none that is still to come?

@@ -59,9 +59,7 @@ fn put_cause(line: &mut Vec<u8>, code: &str, number: Option<u16>) -> Result<(), 
 fn is_alphanumeric(byte: u8) -> bool
     ensures { result ≡ shell.is_alphanumeric byte }
 {
-    b'0' <= byte && byte <= b'9'
-        || b'A' <= byte && byte <= b'Z'
-        || b'a' <= byte && byte <= b'z'
+    b'0' <= byte && byte <= b'9' || b'A' <= byte && byte <= b'Z' || b'a' <= byte && byte <= b'z'
 }
 
 // One of % + , - . /.
@@ -95,10 +93,10 @@ fn put_quoted_byte(line: &mut Vec<u8>, byte: u8) -> Result<(), AllocError>
     ensures { OnOk result (line.new.items ≡ line.old.items ++ shell.quoted_byte byte) }
 {
     if byte == b'\'' {
-        line.extend_from_slice(b"'\\''")
-    } else {
-        line.push(byte)
+        return line.extend_from_slice(b"'\\''");
     }
+    line.push(byte)?;
+    Ok(())
 }
 
 fn put_quoted_bytes(line: &mut Vec<u8>, name: &[u8]) -> Result<(), AllocError>
@@ -115,7 +113,8 @@ fn put_quoted(line: &mut Vec<u8>, name: &[u8]) -> Result<(), AllocError>
 {
     line.push(b'\'')?;
     put_quoted_bytes(line, name)?;
-    line.push(b'\'')
+    line.push(b'\'')?;
+    Ok(())
 }
 
 fn put_quoted_if_needed(line: &mut Vec<u8>, name: &[u8]) -> Result<(), AllocError>

@@ -11,7 +11,7 @@ use Rattle.rtk_summary.specs.Counting.{shown_count, count_of}
 use Rattle.rtk_summary.specs.DatesTold.{has_date, proposed_date}
 use Rattle.rtk_summary.specs.Proposal.{epochs_with_value, entries_with}
 use Rattle.rtk_summary.specs.Summary.{all_numbers, station_lines, lines_if_any}
-use Rattle.rtk_summary.specs.SummaryText.{number_line, counted_line, numbered_line, list_line, time_lines, date_lines, near_text, untaken_numbers, listed_satellite, satellites_text, joined_names, codes_text, words_text, next_line, signal_lines, proposal_lines}
+use Rattle.rtk_summary.specs.SummaryText.{number_line, counted_line, numbered_line, list_line, time_lines, date_lines, near_text, untaken_numbers, listed_satellite, satellites_text, joined_names, codes_text, words_text, auto_line, next_lines, signal_lines, proposal_lines}
 use Rattle.rtk_summary.specs.Standing.{StandsForEntries, StandsForMessages, StandForMsm, epochs_held, codes_held}
 use Rattle.rtk_summary.specs.Steps.Tables.{counts_text, untaken_text, counts_held}
 use Rattle.rtk_summary.specs.Tracing.{is_numbered, entries_in, has_satellite, has_code, times_of_week}
@@ -97,10 +97,10 @@ code-left marked codes i d whole within marks so_far =
     let first : filter marked (drop i all_codes) ≡ rest = ap (λ cs. filter marked cs) (code-first i d within) ∙ ap (λ b. cond b (c ∷ rest) rest) marks in
     ap (λ cs. codes ++ cs) (sym first) ∙ so_far
 
-pub next-line-is : (name near : List ℕ) (station : ℕ) (named : MsmKind) (names : List ℕ) → (length names ≡ 0 → ⊥)
-    → next_line name near station named names ≡ codes " next rtcm2rinex convert --station " ++ decimal station ++ codes " --near " ++ near ++ words_text name station named names
-next-line-is name near station named [] some = absurd (some refl)
-next-line-is name near station named (x ∷ xs) some = refl
+pub next-lines-are : (name near : List ℕ) (station : ℕ) (named : MsmKind) (names : List ℕ) → (length names ≡ 0 → ⊥)
+    → next_lines name near station named names ≡ codes " next rtcm2rinex convert --station " ++ decimal station ++ codes " --near " ++ near ++ words_text name station named names ++ auto_line name station
+next-lines-are name near station named [] some = absurd (some refl)
+next-lines-are name near station named (x ∷ xs) some = refl
 
 pub codes-are : (s : Signals) (ms : List AnyMessage) → StandsForEntries s (entries_in ms) → codes_text (λ c. get_or s.codes.marks (place_of c) false) ≡ codes_text (has_code (entries_in ms))
 codes-are s ms stands = ap (λ (t : Code → Bool). codes_text t) (codes-marked s.codes (entries_in ms) stands.codes)

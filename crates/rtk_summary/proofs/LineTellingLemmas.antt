@@ -16,7 +16,7 @@ use Rattle.rtk_obs.specs.declared.code.Code.TheVariants.{C2P, C2W}
 use Rattle.rtk_summary.specs.Counting.{shown_count}
 use Rattle.rtk_summary.specs.NumberLaws.{IsHeld, NumberLineTells, CountedLineTells, NumberedLineTells, TimesAreAlike, TimeLinesTell, ProposalLinesTell, EpochsAreCounted}
 use Rattle.rtk_summary.specs.Proposal.{proposed}
-use Rattle.rtk_summary.specs.SummaryText.{number_line, counted_line, numbered_line, time_line, time_lines, second_frequency_line, other_msm_lines, words_text, next_line, proposal_lines, codes_text}
+use Rattle.rtk_summary.specs.SummaryText.{number_line, counted_line, numbered_line, time_line, time_lines, second_frequency_line, other_msm_lines, words_text, auto_line, next_lines, proposal_lines, codes_text}
 use Rattle.rtk_summary.specs.Tracing.{oldest_time, newest_time, change_from, changes_in}
 use Rattle.rtk_message.proofs.PublicLaws.{number-then}
 use Rattle.rtk_summary.proofs.HeadLemmas.{AreApart, apart, IsNotHeaded, not-headed-table, line-then, some-then, lines_by_number, words_of, NumbersRise, table-then, opened}
@@ -204,20 +204,20 @@ each-kind epochs others Msm7 Msm5 all other = all.1.0
 each-kind epochs others Msm7 Msm6 all other = all.1.1.0
 each-kind epochs others Msm7 Msm7 all other = absurd (other refl)
 
-not-headed-next : (w name near : List ℕ) (station : ℕ) (named : MsmKind) (names : List ℕ) → AreApart w (codes " next ") → IsNotHeaded w [] → IsNotHeaded w (next_line name near station named names)
+not-headed-next : (w name near : List ℕ) (station : ℕ) (named : MsmKind) (names : List ℕ) → AreApart w (codes " next ") → IsNotHeaded w [] → IsNotHeaded w (next_lines name near station named names)
 not-headed-next w name near station named [] other end = end
 not-headed-next w name near station named (x ∷ xs) other end = λ rest is. other rest _ (sym is)
 
-next-regrouped : (a d b n w : List ℕ) → a ++ d ++ b ++ n ++ w ≡ a ++ (d ++ (b ++ (n ++ w)))
-next-regrouped a d b n w = simp append_assoc
+next-regrouped : (a d b n w o : List ℕ) → a ++ d ++ b ++ n ++ w ++ o ≡ a ++ (d ++ (b ++ (n ++ (w ++ o))))
+next-regrouped a d b n w o = simp append_assoc
 
-next-opened : (name near : List ℕ) (station : ℕ) (named : MsmKind) (x : ℕ) (xs : List ℕ) → next_line name near station named (x ∷ xs)
-    ≡ codes " next rtcm2rinex convert --station " ++ (decimal station ++ (codes " --near " ++ (near ++ words_text name station named (x ∷ xs))))
+next-opened : (name near : List ℕ) (station : ℕ) (named : MsmKind) (x : ℕ) (xs : List ℕ) → next_lines name near station named (x ∷ xs)
+    ≡ codes " next rtcm2rinex convert --station " ++ (decimal station ++ (codes " --near " ++ (near ++ (words_text name station named (x ∷ xs) ++ auto_line name station))))
 next-opened name near station named x xs =
-    next-regrouped (codes " next rtcm2rinex convert --station ") (decimal station) (codes " --near ") near (words_text name station named (x ∷ xs))
+    next-regrouped (codes " next rtcm2rinex convert --station ") (decimal station) (codes " --near ") near (words_text name station named (x ∷ xs)) (auto_line name station)
 
 next-tells : (name near other_name other_near : List ℕ) (station other : ℕ) (named : MsmKind) (names others : List ℕ) → IsHeld station → IsHeld other
-    → next_line name near station named names ≡ next_line other_name other_near other named others → names ≢ [] → station ≡ other
+    → next_lines name near station named names ≡ next_lines other_name other_near other named others → names ≢ [] → station ≡ other
 next-tells name near other_name other_near station other named [] others held fits same some = absurd (some refl)
 next-tells name near other_name other_near station other named (x ∷ xs) [] held fits same some = cc
 next-tells name near other_name other_near station other named (x ∷ xs) (y ∷ ys) held fits same some =
@@ -239,14 +239,14 @@ proposal-tells name names_there near far station other epochs others code test h
     let named_there : List ℕ = codes_text (test kind) in
     let f : ℕ → ℕ = λ n. epochs (kind_at n) in
     let g : ℕ → ℕ = λ n. others (kind_at n) in
-    let left : List ℕ = next_line name near station kind names in
-    let right : List ℕ = next_line names_there far other kind named_there in
+    let left : List ℕ = next_lines name near station kind names in
+    let right : List ℕ = next_lines names_there far other kind named_there in
     let lines : List ℕ = lines_by_number (codes " other-msm ") f (numbers_but kind) in
     let more : List ℕ = lines_by_number (codes " other-msm ") g (numbers_but kind) in
     let here : proposal_lines name near station epochs code ≡ second_frequency_line (code kind) ++ (lines ++ left) =
     ap (λ (t : List ℕ). second_frequency_line (code kind) ++ t ++ left) (others-are epochs kind) ∙ append_assoc (second_frequency_line (code kind)) lines left in
     let there : proposal_lines names_there far other others test ≡ second_frequency_line (test kind) ++ (more ++ right) =
-    ap (λ (k : MsmKind). second_frequency_line (test k) ++ other_msm_lines others k ++ next_line names_there far other k (codes_text (test k))) (sym named)
+    ap (λ (k : MsmKind). second_frequency_line (test k) ++ other_msm_lines others k ++ next_lines names_there far other k (codes_text (test k))) (sym named)
     ∙ ap (λ (t : List ℕ). second_frequency_line (test kind) ++ t ++ right) (others-are others kind) ∙ append_assoc (second_frequency_line (test kind)) more right in
     let second : List ℕ = codes " second-frequency 2P\n" in
     let second-next = apart second (codes " next ") refl in

@@ -129,7 +129,7 @@ unfoldable pub signal_lines : (ℕ → Bool) → (Code → Bool) → List ℕ
 signal_lines satellite code =
     list_line (codes " satellites") (satellites_text satellite) ++ list_line (codes " codes") (codes_text code)
 
--- ---- the command that converts a station, by how many epochs of each MSM have a value, and by the
+-- ---- the commands that convert a station, by how many epochs of each MSM have a value, and by the
 -- codes that `convert` takes with each
 
 -- formula
@@ -166,19 +166,25 @@ words_text name station named names =
     ++ codes " --codes" ++ names ++ msm_option named ++ codes " " ++ sh_quoted name ++ 10 ∷ []
 
 -- formula
--- the command that converts the station in the file of this name with this MSM, near this moment;
--- without codes there is none
-abbrev pub next_line : List ℕ → List ℕ → ℕ → MsmKind → List ℕ → List ℕ
-next_line name near station named [] = []
-next_line name near station named (x ∷ xs) =
-    codes " next rtcm2rinex convert --station " ++ decimal station ++ codes " --near " ++ near ++ words_text name station named (x ∷ xs)
+-- the command that finds the other options by itself
+abbrev pub auto_line : List ℕ → ℕ → List ℕ
+auto_line name station =
+    codes " auto rtcm2rinex auto --station " ++ decimal station ++ codes " -o " ++ last_digits 4 station ++ codes ".rnx " ++ sh_quoted name ++ 10 ∷ []
 
 -- formula
--- the command, and before it its second frequency and the MSM that it leaves out
+-- the command that converts the station in the file of this name with this MSM, near this moment, and
+-- the one that finds its options; without codes there is none
+abbrev pub next_lines : List ℕ → List ℕ → ℕ → MsmKind → List ℕ → List ℕ
+next_lines name near station named [] = []
+next_lines name near station named (x ∷ xs) =
+    codes " next rtcm2rinex convert --station " ++ decimal station ++ codes " --near " ++ near ++ words_text name station named (x ∷ xs) ++ auto_line name station
+
+-- formula
+-- the commands, and before them the second frequency and the MSM that they leave out
 unfoldable pub proposal_lines : List ℕ → List ℕ → ℕ → (MsmKind → ℕ) → (MsmKind → Code → Bool) → List ℕ
 proposal_lines name near station epochs code =
     second_frequency_line (code (proposed epochs)) ++ other_msm_lines epochs (proposed epochs)
-    ++ next_line name near station (proposed epochs) (codes_text (code (proposed epochs)))
+    ++ next_lines name near station (proposed epochs) (codes_text (code (proposed epochs)))
 
 -- formula
 -- no station has a code

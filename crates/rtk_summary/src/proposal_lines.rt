@@ -1,8 +1,8 @@
-//! The command that converts a station.
+//! The commands that convert a station.
 
 ghost use Rattle.std.specs.Prelude.{◌≡◌, ◌<◌, ◌++◌, OnOk};
 ghost use Rattle.rtk_obs.specs.CivilText.{last_digits};
-ghost use Rattle.rtk_summary.specs.SummaryText.{other_msm_line, other_msm_lines, msm_option, near_text, words_text, next_line, proposal_lines};
+ghost use Rattle.rtk_summary.specs.SummaryText.{other_msm_line, other_msm_lines, msm_option, near_text, words_text, auto_line, next_lines, proposal_lines};
 ghost use Rattle.rtk_summary.specs.Standing.{epochs_held, codes_held};
 
 use crate::date_lines::put_near;
@@ -90,6 +90,20 @@ fn put_words(
     Ok(())
 }
 
+// The command that finds the other options by itself.
+fn put_auto(lines: &mut Vec<u8>, name: &[u8], station: u16) -> Result<(), AllocError>
+    ensures { OnOk result (lines.new.items ≡ lines.old.items ++ auto_line name.now station) }
+{
+    put_named(lines, b" auto rtcm2rinex auto --station ", u64::from(station))?;
+    lines.extend_from_slice(b" -o ")?;
+    lines.extend_from_slice(&marker_of(station))?;
+    lines.extend_from_slice(b".rnx ")?;
+    put_sh_quoted(lines, name)?;
+    lines.push(b'\n')?;
+    Ok(())
+}
+
+// The command with its options, and the one that finds them.
 fn put_next(
     lines: &mut Vec<u8>,
     name: &[u8],
@@ -98,7 +112,7 @@ fn put_next(
     named: MsmKind,
     codes: &[u8],
 ) -> Result<(), AllocError>
-    ensures { OnOk result (lines.new.items ≡ lines.old.items ++ next_line name.now (near_text near) station named codes.now) }
+    ensures { OnOk result (lines.new.items ≡ lines.old.items ++ next_lines name.now (near_text near) station named codes.now) }
 {
     if codes.is_empty() {
         return Ok(());
@@ -107,11 +121,11 @@ fn put_next(
     lines.extend_from_slice(b" --near ")?;
     put_near(lines, near)?;
     put_words(lines, name, station, named, codes)?;
-    Ok(())
+    put_auto(lines, name, station)
 }
 
-/// Appends the command that converts a station, and before it its second frequency and the MSM that it
-/// leaves out.
+/// Appends the commands that convert a station, and before them its second frequency and the MSM that
+/// they leave out.
 pub(crate) fn put_proposal(
     alloc: Global,
     lines: &mut Vec<u8>,

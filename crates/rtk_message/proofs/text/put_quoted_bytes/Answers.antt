@@ -19,4 +19,3 @@ pub loop-byte-preserved : goal.loop-byte-preserved
 loop-byte-preserved c =
     put-byte c.args.name.now c.loop-byte.byte-index c.args.line.now.items c.loop-byte.line.items c.put_quoted_byte.new.line.items
     c.loop-byte-test.true c.loop-byte.invariant c.in_ok-put_quoted_byte.ensures
-
