@@ -1,1 +1,2 @@
 pub mod SaidCommand
+pub mod SpanLine

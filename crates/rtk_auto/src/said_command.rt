@@ -13,8 +13,8 @@ use rtk_message::{MsmKind, put_named, put_sh_quoted};
 use rtk_obs::{Civil, Code, GpsMs, civil, put_clock, put_date};
 use std::alloc::{AllocError, Global};
 
-// The reading of a moment.
-fn reading(moment: GpsMs) -> Civil
+/// The reading of a moment.
+pub(crate) fn reading(moment: GpsMs) -> Civil
     ensures { result ≡ reading_of moment }
 {
     civil(moment)
@@ -136,7 +136,8 @@ fn put_join_line(line: &mut Vec<u8>, number: u64, names: &[&str]) -> Result<(), 
     put_cat(line, names)?;
     line.extend_from_slice(b" >")?;
     put_joined_name(line, number)?;
-    line.push(b'\n')
+    line.push(b'\n')?;
+    Ok(())
 }
 
 // Appends the file of a link.
@@ -185,7 +186,7 @@ fn are_joined(links: &[Vec<&str>]) -> bool
 }
 
 /// Appends the command of this setup and these links.
-pub(crate) fn put_command(
+pub fn put_command(
     lines: &mut Vec<u8>,
     setup: &Setup,
     links: &[Vec<&str>],
@@ -202,5 +203,6 @@ pub(crate) fn put_command(
     put_join_lines(lines, links)?;
     put_convert_words(lines, setup)?;
     put_link_words(lines, links)?;
-    lines.push(b'\n')
+    lines.push(b'\n')?;
+    Ok(())
 }
