@@ -34,7 +34,8 @@ fn least_with(least: Option<u64>, ms: u64) -> Option<u64>
     }
 }
 
-fn least_with_if_any(least: Option<GpsMs>, more: Option<GpsMs>) -> Option<GpsMs>
+/// The lesser of two moments, as far as there are two.
+pub fn least_with_if_any(least: Option<GpsMs>, more: Option<GpsMs>) -> Option<GpsMs>
     ensures { result ≡ spec.least_with_if_any least more }
 {
     let Some(more) = more else {
@@ -69,7 +70,8 @@ fn first_epoch(base: GpsMs, told: Option<GpsMs>, span: &Span) -> u64
     }
 }
 
-fn place(base: GpsMs, capture: &CaptureEpochs) -> Placed
+/// The epochs of a capture with their dates.
+pub fn place(base: GpsMs, capture: &CaptureEpochs) -> Placed
     ensures { result ≡ spec.placed base capture.now }
 {
     let span = &capture.span;

@@ -11,9 +11,11 @@ use Rattle.rtk_dates.specs.declared.date_message.DateMessage.{DateMessage}
 use Rattle.rtk_dates.specs.CaptureDates.{no_dates, with_epoch_time, with_date, with_waiting}
 use Rattle.rtk_dates.specs.DateMessages.{date_in}
 use Rattle.rtk_summary.specs.Proposal.{entry_has_value}
-use Rattle.rtk_summary.specs.ReadFrames.{ReadFrame}
+use Rattle.rtk_summary.specs.ReadFrames.{ReadFrame, messages_from}
 use Rattle.rtk_summary.specs.Tracing.{entries_of_message}
+use Rattle.rtk_find.specs.Phases.{StandForPhases}
 use Rattle.rtk_find.specs.declared.finding.Dates.{Dates}
+use Rattle.rtk_find.specs.declared.phases.Phases.{Phases}
 
 -- a message has an observation: one of its cells has a range, a phase or a strength
 abbrev pub observes : AnyMessage → Bool
@@ -65,3 +67,18 @@ observes_as station m = observes m && (station_of m == station)
 -- the marks of the stations of which a message has an observation
 abbrev pub MarkObserving : List Bool → List AnyMessage → Type 0
 MarkObserving marks ms = (n : ℕ) → n < length marks → get_or marks n false ≡ list_any (observes_as n) ms
+
+-- ---- the phases of the station
+
+abbrev pub station_at : Option ℕ → ℕ → Option ℕ → Option ℕ
+station_at known station None = known
+station_at known station (Some tow) = Some (unwrap_or known station)
+
+-- the station that is known after a message: the first with an observation, if none was known
+abbrev pub station_after : Option ℕ → AnyMessage → Option ℕ
+station_after known m = if observes m then station_at known (station_of m) (tow_of m) else known
+
+-- the phases of the station that is known; as long as none is, no station has one
+abbrev pub StandForStationPhases : Phases → Option ℕ → List AnyMessage → Type 0
+StandForStationPhases p None ms = (n : ℕ) → StandForPhases p (messages_from n ms)
+StandForStationPhases p (Some station) ms = StandForPhases p (messages_from station ms)

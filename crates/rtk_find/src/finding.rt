@@ -1,21 +1,20 @@
-//! What is held of captures while they are read: their summary, the stations with observations, and
-//! what the capture that is read tells of its dates.
+//! What is found in captures while they are read.
 
-ghost use Rattle.std.specs.Prelude.{◌≡◌, ◌||◌, ◌==◌, ◌<◌, ℕ, List, [], ◌∷◌, true, false, length, get_or, IfOk};
+ghost use Rattle.std.specs.Prelude.{◌≡◌, ◌||◌, ◌==◌, ◌<◌, ℕ, List, Option, [], ◌∷◌, true, false, length, get_or, IfOk};
 ghost use Rattle.rtk_message.specs.declared.any_message.AnyMessage.{AnyMessage};
 ghost use Rattle.rtk_dates.specs.CaptureDates.{no_dates};
 ghost use Rattle.rtk_summary.specs.Tracing.{entries_of_message};
-ghost use Rattle.rtk_find.specs.Finding.{observes, dates_with, with_observation, with_date_if_any, MarkObserving};
-ghost use Rattle.rtk_find.specs.Captures.{TakesFrame, StandsFor};
+ghost use Rattle.rtk_find.specs.Finding.{observes, dates_with, with_observation, with_date_if_any, station_after, MarkObserving, StandForStationPhases};
+ghost use Rattle.rtk_find.specs.Captures.{TakesFrame, Finds};
 
+use crate::capture_found::CaptureFound;
+use crate::heard::{Contents, STATIONS};
+use crate::phases::Phases;
 use rtk_dates::{CaptureDates, DateMessage, date_in};
 use rtk_message::{AnyFault, AnyMessage};
 use rtk_obs::{CellEntry, GpsMs};
 use rtk_summary::{Follower, Summary, have_value};
 use std::alloc::{AllocError, Global};
-
-/// How many stations there are: DF003 has 12 bits.
-pub const STATIONS: usize = 4096;
 
 /// The station that is known, and what a capture tells of its epochs.
 #[derive(Clone, Drop)]
@@ -25,17 +24,23 @@ pub struct Dates {
     pub capture: CaptureDates,
 }
 
-/// What was found in captures so far. Its memory does not grow.
+/// What was found in captures so far. For each capture its memory grows by what `CaptureFound` has.
 #[derive(Drop)]
-pub struct Finder {
+pub struct Findings {
     /// The present: no date is after it.
     pub present: GpsMs,
     /// What all captures hold.
     pub summary: Summary,
-    /// What the last capture tells of its dates.
-    pub dates: Dates,
     /// By station, whether some capture has an observation of it.
     pub observing: Vec<bool>,
+    /// The phases of the station in all captures.
+    pub phases: Phases,
+    /// The station, and what the last capture tells of its dates.
+    pub dates: Dates,
+    /// What the last capture has.
+    pub(crate) contents: Contents,
+    /// The captures, as they were given.
+    pub captures: Vec<CaptureFound>,
 }
 
 // Has a message with these cells an observation?
@@ -117,25 +122,49 @@ fn take_message(
     }
 }
 
-impl Finder {
-    /// Nothing came.
-    pub fn new(alloc: Global, now: GpsMs) -> Result<Finder, AllocError>
-        ensures { IfOk result (λ finder. StandsFor now [] finder) }
+// Counts the phases of a message, if it is of the station that is now known.
+fn take_phases(
+    phases: &mut Phases,
+    station: Option<u16>,
+    message: &AnyMessage,
+    entries: &[CellEntry],
+)
+    requires { entries.now ≡ entries_of_message message.now }
+    ensures { (before : Option ℕ) (ms : List AnyMessage) → station ≡ station_after before message.now
+        → StandForStationPhases phases.old before ms → StandForStationPhases phases.new station (message.now ∷ ms) }
+{
+    if let Some(station) = station {
+        if message.station() == station {
+            phases.take_message(message, entries);
+        }
+    }
+}
+
+impl Findings {
+    /// Nothing came. `station` is the station that is named, if one is.
+    pub fn new(alloc: Global, now: GpsMs, station: Option<u16>) -> Result<Findings, AllocError>
+        ensures found { IfOk result (λ findings. Finds now [] findings) }
+        ensures station { IfOk result (λ findings. findings.dates ≡ dates_with station no_dates) }
+        ensures captures { IfOk result (λ findings. findings.captures.items ≡ []) }
     {
-        Ok(Finder {
+        Ok(Findings {
             present: now,
             summary: Summary::new(alloc)?,
-            dates: Dates::new(None),
             observing: vec![in alloc; false; STATIONS]?,
+            phases: Phases::new(alloc)?,
+            dates: Dates::new(station),
+            contents: Contents::new(alloc)?,
+            captures: Vec::new(alloc),
         })
     }
 }
 
-impl Follower for Finder {
+impl Follower for Findings {
     ghost takes = { TakesFrame };
 
     fn follow_message(&mut self, payload: &[u8], message: &AnyMessage, entries: &[CellEntry]) {
         self.summary.follow_message(payload, message, entries);
+        self.contents.take_message(message);
         take_message(
             &mut self.dates,
             &mut self.observing,
@@ -143,10 +172,12 @@ impl Follower for Finder {
             message,
             entries,
         );
+        take_phases(&mut self.phases, self.dates.station, message, entries);
     }
 
     fn follow_fault(&mut self, payload: &[u8], fault: AnyFault) {
         self.summary.follow_fault(payload, fault);
+        self.contents.take_fault();
         self.dates.take_date(self.present, date_in(payload));
     }
 }

@@ -1,7 +1,7 @@
 //! What captures tell that a conversion of them wants to be told: the station, its dates, the links.
 //!
 //! ```rust
-//! use rtk_find::{Finder, StationFound, find_in, only_station};
+//! use rtk_find::{Findings, StationFound, only_station};
 //! use rtk_frame::{After, MemSource};
 //! use rtk_obs::GpsMs;
 //! use std::alloc::{AllocError, Global};
@@ -11,10 +11,10 @@
 //!     let Some(now) = GpsMs::new(1_394_668_800_000) else {
 //!         return Ok(false);
 //!     };
-//!     let mut finder = Finder::new(alloc, now)?;
+//!     let mut findings = Findings::new(alloc, now, None)?;
 //!     let mut capture = MemSource::new(alloc, b"no frame", 512, After::End)?;
-//!     match find_in(alloc, &mut finder, None, &mut capture, 100) {
-//!         Ok(_) => Ok(only_station(finder.observing.as_slice()) == StationFound::None),
+//!     match findings.read(alloc, &mut capture, 100) {
+//!         Ok(_) => Ok(only_station(findings.observing.as_slice()) == StationFound::None),
 //!         Err(_) => Ok(false),
 //!     }
 //! }
@@ -23,12 +23,17 @@
 //! Its tests: tests/values/src/find.rt.in and find/
 #![tactic(auto)]
 
+mod capture_found;
 mod captures;
 mod chosen_station;
 mod finding;
+mod heard;
 mod joining;
+mod phases;
 
-pub use captures::find_in;
+pub use capture_found::CaptureFound;
 pub use chosen_station::{StationFound, only_station};
-pub use finding::{Dates, Finder, STATIONS};
+pub use finding::{Dates, Findings};
+pub use heard::{Heard, ReferencePoint, STATIONS};
 pub use joining::{Ordered, in_order, links_of};
+pub use phases::Phases;

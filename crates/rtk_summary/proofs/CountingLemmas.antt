@@ -124,8 +124,7 @@ parts-stand name bytes fs =
     let stations : List ℕ = stations_text name (messages_in fs) (dates_in fs) in
     let weeks : List ℕ = weeks_text (dates_in fs) in
     let unread : List ℕ = unread_lines (faults_in fs) in
-    let last : List ℕ = nothing_line (codes_text (has_code (entries_in (messages_in fs)))) in
-    (
+    let last : List ℕ = nothing_line (codes_text (has_code (entries_in (messages_in fs)))) in (
       (head, weeks ++ unread ++ last, append_assoc (head ++ stations ++ weeks) unread last ∙ append_assoc (head ++ stations) weeks (unread ++ last) ∙ ap (λ (t : List ℕ). (head ++ stations) ++ t) (sym (append_assoc weeks unread last))),
       (head ++ stations, unread ++ last, append_assoc (head ++ stations ++ weeks) unread last),
       (head ++ stations ++ weeks, last, refl),

@@ -53,5 +53,5 @@ pub use laws::{
 };
 pub use look::{Look, look_of};
 pub use reading::{CaptureRead, read_capture};
-pub use signals::have_value;
+pub use signals::{has_value, have_value};
 pub use summary::Summary;

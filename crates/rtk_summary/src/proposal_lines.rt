@@ -94,7 +94,11 @@ fn put_words(
 fn put_auto(lines: &mut Vec<u8>, name: &[u8], station: u16) -> Result<(), AllocError>
     ensures { OnOk result (lines.new.items ≡ lines.old.items ++ auto_line name.now station) }
 {
-    put_named(lines, b" auto rtcm2rinex auto --station ", u64::from(station))?;
+    put_named(
+        lines,
+        b" auto rtcm2rinex auto --station ",
+        u64::from(station),
+    )?;
     lines.extend_from_slice(b" -o ")?;
     lines.extend_from_slice(&marker_of(station))?;
     lines.extend_from_slice(b".rnx ")?;
@@ -117,7 +121,11 @@ fn put_next(
     if codes.is_empty() {
         return Ok(());
     }
-    put_named(lines, b" next rtcm2rinex convert --station ", u64::from(station))?;
+    put_named(
+        lines,
+        b" next rtcm2rinex convert --station ",
+        u64::from(station),
+    )?;
     lines.extend_from_slice(b" --near ")?;
     put_near(lines, near)?;
     put_words(lines, name, station, named, codes)?;

@@ -62,7 +62,10 @@ fn put_list(lines: &mut Vec<u8>, words: &[u8], list: &[u8]) -> Result<(), AllocE
 }
 
 /// Appends the line of a second frequency 2P.
-pub(crate) fn put_second_frequency(lines: &mut Vec<u8>, marks: &[bool; 16]) -> Result<(), AllocError>
+pub(crate) fn put_second_frequency(
+    lines: &mut Vec<u8>,
+    marks: &[bool; 16],
+) -> Result<(), AllocError>
     ensures { OnOk result (lines.new.items
         ≡ lines.old.items ++ second_frequency_line (λ c. get_or marks.now (place_of c) false)) }
 {
@@ -73,7 +76,11 @@ pub(crate) fn put_second_frequency(lines: &mut Vec<u8>, marks: &[bool; 16]) -> R
 }
 
 /// Appends the satellites and the codes that have a value.
-pub(crate) fn put_signals(alloc: Global, lines: &mut Vec<u8>, signals: &Signals) -> Result<(), AllocError>
+pub(crate) fn put_signals(
+    alloc: Global,
+    lines: &mut Vec<u8>,
+    signals: &Signals,
+) -> Result<(), AllocError>
     ensures { OnOk result (lines.new.items ≡ lines.old.items ++ signal_lines
         (λ n. get_or signals.now.satellites n false) (λ c. get_or signals.now.codes.marks (place_of c) false)) }
 {

@@ -24,7 +24,8 @@ pub(crate) struct Signals {
     pub(crate) codes: Codes,
 }
 
-fn has_value(cell: &Cell) -> bool
+/// A cell has a range, a phase or a strength.
+pub fn has_value(cell: &Cell) -> bool
     ensures { result ≡ has_value cell.now }
 {
     cell.range_mm.is_some() || cell.phase_millicycles.is_some() || cell.strength_millidbhz.is_some()
