@@ -1,6 +1,8 @@
 -- The line that tells the epochs of the station, and by what they are dated (this project's rule).
 use Rattle.std.specs.Prelude.{ℕ, ◌+◌, ◌-◌, ◌*◌, nat_lt, List, [], ◌∷◌, ◌++◌, codes, decimal, if◌then◌else◌}
 use Rattle.rtk_message.specs.Fields.{week_ms}
+use Rattle.rtk_dates.specs.declared.date_message.DateMessage.{DateMessage}
+use Rattle.rtk_dates.specs.declared.date_message.DateMessage.TheVariants.{Utc, Ephemeris}
 use Rattle.rtk_obs.specs.CivilText.{date_text}
 use Rattle.rtk_obs.specs.declared.time.TheConstants.{LAST_MS}
 use Rattle.rtk_rinex.specs.Reading.{reading_of}
@@ -32,6 +34,12 @@ source_text Words t = codes " by --near"
 source_text (Station number) t = codes " by " ++ decimal number
 source_text (OtherStation number station) t = codes " by " ++ decimal number ++ codes " of station " ++ decimal station
 source_text Ephemerides t = codes " by 1019 (or " ++ neighbours_text t ++ codes ")"
+
+-- formula
+-- by what message a date is told
+abbrev pub message_text : DateMessage → List ℕ
+message_text (Utc d) = codes " by " ++ decimal d.number ++ codes " of station " ++ decimal d.station
+message_text (Ephemeris e) = codes " by 1019"
 
 -- formula
 -- the first and the last epoch of the station

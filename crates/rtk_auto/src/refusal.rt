@@ -1,5 +1,6 @@
 //! Why `auto` writes no file, though its words are good.
 
+use std::alloc::AllocError;
 use thiserror::Error;
 
 /// Why no file is written. Displayed, it is the fault line of the program; lines after it list what it
@@ -30,6 +31,9 @@ pub enum Refusal {
     /// The messages of the captures tell dates that differ.
     #[error("the captures tell dates that differ; choose one by --near")]
     DatesDiffer,
+    /// Epochs lie outside the dates near which a conversion dates.
+    #[error("the epochs are not dated from 1980-01-13 to 2099-12-31; see --near")]
+    OutsideDates,
     /// No message tells a date.
     #[error("the captures tell no date; give one, as in --near 2024-05-17T12:00:00")]
     NoDate,
@@ -45,4 +49,33 @@ pub enum Refusal {
     /// The station stands at two positions.
     #[error("the station stands at positions that differ; --links-as-given takes them for one")]
     PositionsDiffer,
+}
+
+/// Why captures have no plan.
+#[derive(Debug, Drop)]
+pub enum PlanFault {
+    /// The captures don't allow it.
+    Refused {
+        refusal: Refusal,
+        /// The lines that list what the refusal speaks of.
+        list: Vec<u8>,
+    },
+    /// Memory was refused.
+    OutOfMemory,
+}
+
+impl From<AllocError> for PlanFault {
+    ghost use Rattle.std.specs.Prelude.{◌≡◌};
+    ghost use Rattle.rtk_auto.specs.declared.refusal.PlanFault.TheVariants.{OutOfMemory};
+
+    ghost from_gives = { λ _ fault. fault ≡ OutOfMemory };
+
+    fn from(_refused: AllocError) -> PlanFault {
+        PlanFault::OutOfMemory
+    }
+}
+
+/// The captures don't allow a plan.
+pub(crate) fn refused<T: Drop>(refusal: Refusal, list: Vec<u8>) -> Result<T, PlanFault> {
+    Err(PlanFault::Refused { refusal, list })
 }

@@ -151,9 +151,6 @@ fn put_link_word(line: &mut Vec<u8>, number: u64, names: &[&str]) -> Result<(), 
     put_joined_name(line, number)
 }
 
-/// The links of a conversion, each of them the names of its captures in their order.
-pub type LinkNames<'a> = Vec<Vec<&'a str>>;
-
 // Appends the lines that join captures.
 fn put_join_lines(line: &mut Vec<u8>, links: &[Vec<&str>]) -> Result<(), AllocError>
     ensures { OnOk result (line.new.items ≡ line.old.items ++ spec.join_lines 1 (spec.names_of links.now)) }

@@ -5,6 +5,7 @@ ghost use Rattle.rtk_obs.specs.declared.time.TheConstants.{LAST_MS};
 ghost use Rattle.rtk_auto.specs.SpanLine as spec;
 
 use crate::said_command::{put_time, reading};
+use rtk_dates::DateMessage;
 use rtk_message::put_named;
 use rtk_obs::{GpsMs, LAST_MS, WEEK_MS, put_date};
 use std::alloc::AllocError;
@@ -60,11 +61,7 @@ fn put_neighbours(line: &mut Vec<u8>, moment: GpsMs) -> Result<(), AllocError>
     put_day(line, ms + WEEKS_MS)
 }
 
-fn put_source(
-    line: &mut Vec<u8>,
-    source: DateSource,
-    first: GpsMs,
-) -> Result<(), AllocError>
+fn put_source(line: &mut Vec<u8>, source: DateSource, first: GpsMs) -> Result<(), AllocError>
     ensures { OnOk result (line.new.items ≡ line.old.items ++ spec.source_text source first) }
 {
     match source {
@@ -81,6 +78,19 @@ fn put_source(
         }
     }
     Ok(())
+}
+
+/// Appends by what message a date is told.
+pub(crate) fn put_message(line: &mut Vec<u8>, message: DateMessage) -> Result<(), AllocError>
+    ensures { OnOk result (line.new.items ≡ line.old.items ++ spec.message_text message) }
+{
+    match message {
+        DateMessage::Utc(date) => {
+            put_named(line, b" by ", u64::from(date.number))?;
+            put_named(line, b" of station ", u64::from(date.station))
+        }
+        DateMessage::Ephemeris(_) => line.extend_from_slice(b" by 1019"),
+    }
 }
 
 /// Appends the line of the epochs.
