@@ -18,7 +18,7 @@ mod wanted;
 
 pub use captured::Captured;
 pub use count_lines::put_counts;
-pub use known_lines::put_known;
+pub use known_lines::{Known, known, put_known};
 pub use lists::DifferingDate;
 pub use planning::{Plan, plan};
 pub use refusal::{PlanFault, Refusal};
