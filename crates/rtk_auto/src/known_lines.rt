@@ -93,7 +93,11 @@ pub struct Known {
 /// What a person should know of a conversion, a line each, only where it is so: codes with few phases;
 /// captures that are left out, that have no epoch or whose time falls; and observations that are not
 /// taken.
-pub fn known(alloc: Global, captured: &Captured<'_>, plan: &Plan) -> Result<Known, AllocError> {
+pub fn what_is_known(
+    alloc: Global,
+    captured: &Captured<'_>,
+    plan: &Plan,
+) -> Result<Known, AllocError> {
     let setup = &plan.setup;
     let summary = &captured.findings.summary;
     let mut first = Vec::new(alloc);

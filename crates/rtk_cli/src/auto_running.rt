@@ -10,8 +10,8 @@ use crate::auto_reading::{Told, read_captures};
 use crate::auto_words::AutoWords;
 use crate::converting::{Converted, conversion_status};
 use rtk_auto::{
-    Captured, Known, Plan, PlanFault, Ways, known, plan, put_command, put_counts, put_known,
-    put_span,
+    Captured, Known, Plan, PlanFault, Ways, plan_of, put_command, put_counts, put_known, put_span,
+    what_is_known,
 };
 use rtk_convert::{Counts, Setup};
 use rtk_obs::GpsMs;
@@ -118,6 +118,7 @@ fn done_status<R: Eprint>(rt: &R, counts: &Counts) -> u8
 }
 
 /// What a conversion is done with.
+#[derive(Drop)]
 struct Work<'a, R: Files> {
     rt: &'a R,
     setup: Setup,
@@ -226,7 +227,7 @@ fn convert_plan<'a, R: Files + Print + Eprint + AllocGlobal, W: Write + Drop>(
     let Ok(lines) = said(rt.alloc(), &plan, links.as_slice()) else {
         return fail(rt, ToolFault::OutOfMemory);
     };
-    let Ok(known) = known(rt.alloc(), captured, &plan) else {
+    let Ok(known) = what_is_known(rt.alloc(), captured, &plan) else {
         return fail(rt, ToolFault::OutOfMemory);
     };
     if let Err(status) = tell(rt, &mut report, lines.as_slice()) {
@@ -263,7 +264,7 @@ fn convert_told<R: Files + Print + Eprint + AllocGlobal, W: Write + Drop>(
         differing: told.differing.as_slice(),
     };
     let ways = &words.ways;
-    let plan = plan(
+    let plan = plan_of(
         rt.alloc(),
         &captured,
         &words.wanted,
