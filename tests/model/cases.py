@@ -432,8 +432,8 @@ def proposals(empty):
         return b"".join(frame_of(msm(NOON + 1000 * it, {5: (ms, 0)}, {(5, signal): {}}, number)) for it in seconds)
 
     def told(codes, *others):
-        lines = [*(f" other-msm {it}" for it in others), f" next rtcm2rinex convert --station 2003 {summaries.NEXT} {codes} CAPTURE"]
-        return "".join(f"{it}\n" for it in lines)
+        lines = [*(f" other-msm {it}" for it in others), f" next rtcm2rinex convert --station 2003 --near {summaries.NO_DATE} {summaries.MADE} --marker 2003 --codes {codes} "]
+        return "\n".join(lines)
 
     four = of(1074, 2, 0, 1) + of(1075, 24, 0) + of(1076, 24, 1) + of(1077, 16, 2, 3)
     # pins: better_of, proposed, msm_option, other_msm_line, other_msm_lines, proposal_lines
@@ -480,8 +480,8 @@ def many_of_each():
     size, lines = Path("many_of_each").stat().st_size, [f"{line} {n}\n" for line, n in counts.items()]
     save("many_of_each.summary", "".join((
         f"bytes {size}\noutside-frames 0\nframes {sum(counts.values())}\nstation 2003\n", *lines[:6],
-        f" time-of-week {NOON} {NOON}\n epoch-changes 0\n satellites G05\n codes 1C\n",
-        *(f" other-msm {it} 1\n" for it in MSMS[:3]), f" next rtcm2rinex convert --station 2003 {summaries.NEXT} 1C --msm 7 CAPTURE\n",
+        f" time-of-week {NOON} {NOON}\n changes-of-time 0\n satellites G05\n codes 1C\n",
+        *(f" other-msm {it} 1\n" for it in MSMS[:3]), f" next rtcm2rinex convert --station 2003 --near {summaries.NO_DATE} {summaries.MADE} --marker 2003 --codes 1C --msm 7 many_of_each\n",
         lines[6], f"untaken GPS 1073 {counts['other 1073']}\n", *lines[7:],
     )))
 
@@ -506,7 +506,7 @@ def greatest_summary():
         more = [legacy(last, [SATELLITE])] if station == 4095 else []
         stations.append([sent_by(station, it) for it in payloads + more])
         if station in (0, 4095):
-            lines = summaries.summary_of(b"".join(stations[-1]))
+            lines = summaries.summary_of(b"".join(stations[-1]), "greatest")
             block_of = lines[lines.index("station"):]
         told.append(block_of.replace("station 0", f"station {station}"))
     all_codes = ",".join(CODES)
@@ -527,7 +527,7 @@ def summary_cases():
     """The file `summaries` has the name of each capture."""
     with open("summaries", "w") as names:
         for name, capture, lines in contents():
-            told = summaries.summary_of(capture)
+            told = summaries.summary_of(capture, f"{name}.rtcm")
             if not all(it in told for it in lines):
                 sys.exit(f"cases: {name}: the model writes\n{told}and not\n{lines}")
             save(f"{name}.rtcm", capture)
@@ -535,7 +535,7 @@ def summary_cases():
             print(name, file=names)
     for name in ("each_refusal.1", "long_capture.1", "long_damaged_links.1"):
         with open(name, "rb") as file:
-            save(f"{name}.summary", summaries.summary_of(file.read()))
+            save(f"{name}.summary", summaries.summary_of(file.read(), name))
 
 
 # ---------------------------------------------------------------- a long file for `check`

@@ -58,7 +58,8 @@ echo "$(($(grep -c '^bytes ' summaries_told) + 1)) 0" >want
 # refuses: a summary whose lines do not add up to its frames
 same summaries_add_up_to_their_frames sums want
 for piece in piece.*; do cat "$piece"; done | "$program" summary stdin >out 2>err; status=$?
-leaves summary_of_a_long_pipe 0 long_capture.1.summary /dev/null
+sed 's/ long_capture\.1$/ stdin/' long_capture.1.summary >want
+leaves summary_of_a_long_pipe 0 want /dev/null
 
 # A file of 10 MB, and the same with a zero in its last line.
 "$program" check long.rnx >out 2>err </dev/null; status=$?

@@ -71,12 +71,12 @@ def slipped(text, tick):
 
 def summary_of(few, size, last):
     """It tells of the satellites and codes of a few epochs."""
-    told = summaries.summary_of(few)
+    told = summaries.summary_of(few, "/dev/stdin")
     messages = sum(MANY[it] for it in ("taken", "repeat", "conflict", "late"))
     return (
         f"bytes {size}\noutside-frames 0\nframes {sum(MANY.values())}\n"
-        f"station 7\n message 1004 {MANY['foreign']}\n time-of-week {last} {last}\n epoch-changes 0\n satellites -\n codes -\n"
-        f"station 2003\n message 1004 {messages}\n time-of-week {NOON} {NOON}\n epoch-changes {EPOCHS}\n"
+        f"station 7\n message 1004 {MANY['foreign']}\n time-of-week {last} {last}\n changes-of-time 0\n satellites -\n codes -\n"
+        f"station 2003\n message 1004 {messages}\n time-of-week {NOON} {NOON}\n changes-of-time {EPOCHS}\n"
         f"{told[told.index(' satellites'):]}other 1019 {MANY['other']}\nrefused M1 - {MANY['refused']}\n")
 
 

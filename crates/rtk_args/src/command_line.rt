@@ -2,6 +2,7 @@
 //!
 //! clap is the costly part of the proof, so its command is built here alone, in small functions.
 
+use crate::auto_command::auto_command;
 use crate::help_texts;
 use crate::limits::{
     GREATEST_STATION, LEAST_WIDTH, LEAST_WINDOW, MOST_STEP, MOST_WIDTH, MOST_WINDOW,
@@ -26,8 +27,8 @@ fn file_arg<'a>(alloc: Global, help: &'a str) -> Arg<'a> {
     Arg::new(alloc, "FILE").help(help).required(true)
 }
 
-// An argument by its name with two hyphens.
-fn flag_arg<'a>(alloc: Global, name: &'a str, help: &'a str) -> Arg<'a> {
+/// An argument by its name with two hyphens.
+pub(crate) fn flag_arg<'a>(alloc: Global, name: &'a str, help: &'a str) -> Arg<'a> {
     Arg::new(alloc, name).long(name).help(help)
 }
 
@@ -77,8 +78,13 @@ fn chart_command<'a>(alloc: Global) -> Result<Command<'a>, AllocError> {
         .arg(file_arg(alloc, "The file, or stdin for standard input"))
 }
 
-// An option that has a value.
-fn option_arg<'a>(alloc: Global, name: &'a str, value: &'a str, help: &'a str) -> Arg<'a> {
+/// An option that has a value.
+pub(crate) fn option_arg<'a>(
+    alloc: Global,
+    name: &'a str,
+    value: &'a str,
+    help: &'a str,
+) -> Arg<'a> {
     flag_arg(alloc, name, help).value_name(value)
 }
 
@@ -190,6 +196,7 @@ pub(crate) fn program_command<'a>(alloc: Global) -> Result<Command<'a>, AllocErr
     let program = program_alone(alloc)?
         .no_binary_name(true)
         .subcommand_required(true);
+    let program = with_command(program, auto_command(alloc))?;
     let program = with_command(program, convert_command(alloc))?;
     let program = with_command(program, show_command(alloc))?;
     let program = with_command(program, check_command(alloc))?;

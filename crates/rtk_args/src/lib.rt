@@ -18,6 +18,9 @@
 #![tactic(auto)]
 
 mod answer;
+mod auto_command;
+mod auto_options;
+mod auto_reading;
 mod command_line;
 mod help_texts;
 mod limits;
@@ -26,6 +29,7 @@ mod request;
 mod word_reading;
 
 pub use answer::ClapAnswer;
+pub use auto_options::AutoOptions;
 pub use limits::{GREATEST_STATION, LEAST_WINDOW, MOST_WINDOW};
 pub use options::{ConvertOptions, CutOptions, MsmOption};
 pub use request::{Request, Task};

@@ -1,11 +1,20 @@
 //! What the words of a command line ask for.
 
+use crate::auto_options::AutoOptions;
 use crate::options::{ConvertOptions, CutOptions};
 
 /// Which command the words ask for, with what its options and names say: as clap gives it, in a
 /// [`Request`], or once it is read.
 #[derive(Drop)]
-pub enum Task<'a, S: Drop, P: Drop> {
+pub enum Task<'a, S: Drop, P: Drop, A: Drop> {
+    /// `auto OPTIONS CAPTURE..`: captures of one station to a file; what `convert` wants to be told is
+    /// found in them.
+    Auto {
+        /// What the options say.
+        options: A,
+        /// The names of the captures.
+        captures: Vec<&'a str>,
+    },
     /// `convert OPTIONS LINK..`: captures of one station to a file and a report.
     Convert {
         /// What the options say.
@@ -47,4 +56,4 @@ pub enum Task<'a, S: Drop, P: Drop> {
 }
 
 /// The task with the values of its options. What their texts say is not yet read.
-pub type Request<'a> = Task<'a, ConvertOptions<'a>, CutOptions<'a>>;
+pub type Request<'a> = Task<'a, ConvertOptions<'a>, CutOptions<'a>, AutoOptions<'a>>;

@@ -10,6 +10,7 @@ ghost use Rattle.rtk_args.specs.Steps.ClapStatus.{IsStatusOf};
 ghost use Rattle.rtk_args.specs.declared.answer.ClapAnswer.TheVariants.{Text};
 
 use crate::answer::ClapAnswer;
+use crate::auto_reading::auto_request;
 use crate::command_line::program_command;
 use crate::limits::{
     GREATEST_STATION, LEAST_WIDTH, LEAST_WINDOW, MOST_STEP, MOST_WIDTH, MOST_WINDOW,
@@ -53,8 +54,8 @@ fn missing_word_answer(alloc: Global, program: &mut Command<'_>) -> ClapAnswer
     }
 }
 
-// The MSM of this number; `None` exactly if there is none.
-fn msm_of(number: u32) -> Option<MsmOption>
+/// The MSM of this number; `None` exactly if there is none.
+pub(crate) fn msm_of(number: u32) -> Option<MsmOption>
     ensures { MatchOption result (¬ (IsInRange 4 7 number)) (λ msm. number_of_msm msm ≡ number) }
 {
     match number {
@@ -182,6 +183,7 @@ fn request_of_matches<'a>(
     ensures { IfOk result (λ request. IfSome request IsRequest) }
 {
     match matches.subcommand() {
+        Some(("auto", auto)) => auto_request(alloc, auto),
         Some(("convert", convert)) => convert_request(alloc, convert),
         Some(("show", show)) => Ok(show_request(show)),
         Some(("check", check)) => Ok(check_request(check)),
@@ -205,6 +207,16 @@ fn matches_of<'a>(
     }
 }
 
+// The answer to no word at all: the help, as a refusal.
+fn help_answer(program: &mut Command<'_>) -> ClapAnswer
+    ensures { HasClapStatus result }
+{
+    match program.render_long_help() {
+        Ok(text) => ClapAnswer::Text { text, status: 2 },
+        Err(_) => ClapAnswer::OutOfMemory,
+    }
+}
+
 // What the words ask this program for.
 fn request_of_words<'a>(
     alloc: Global,
@@ -214,6 +226,9 @@ fn request_of_words<'a>(
     ensures limits { IfOk result IsRequest }
     ensures status { IfErr result HasClapStatus }
 {
+    if words.is_empty() {
+        return Err(help_answer(program));
+    }
     let matches = matches_of(alloc, program, words)?;
     match request_of_matches(alloc, &matches)? {
         Some(request) => Ok(request),

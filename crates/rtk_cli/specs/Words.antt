@@ -7,6 +7,7 @@ use Rattle.rtk_cut.specs.declared.part.Part.{Part}
 use Rattle.rtk_cut.specs.Cut.{IsStepOrNone}
 use Rattle.rtk_args.specs.declared.request.Task.{Task}
 use Rattle.rtk_args.specs.Requests.{IsTask}
+use Rattle.rtk_cli.specs.declared.auto_words.AutoWords.{AutoWords}
 use Rattle.rtk_cli.specs.declared.words.WordsFault.{WordsFault}
 use Rattle.rtk_cli.specs.declared.words.WordsFault.TheVariants.{Clap, Bad, OutOfMemory}
 
@@ -22,7 +23,7 @@ AreLinkNames links = IsInRange 1 16 (length links) Ã— (count_by is_stdin links â
 
 -- what the words ask for
 abbrev pub JobView : Type 0
-JobView = Task SetupView Part
+JobView = Task SetupView Part AutoWords
 
 -- formula
 -- a conversion is of a station, a window and links within their limits; so is the width of a picture

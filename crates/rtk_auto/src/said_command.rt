@@ -1,0 +1,205 @@
+//! The command of `convert` that does what `auto` does, as text that can be pasted.
+//!
+//! If memory is refused, a first part of what is put may stand there.
+
+ghost use Rattle.std.specs.Prelude.{◌≡◌, ◌++◌, map, OnOk, IfOk};
+ghost use Rattle.rtk_obs.specs.declared.code.Code.{Code};
+ghost use Rattle.rtk_rinex.specs.Reading.{reading_of};
+ghost use Rattle.rtk_summary.specs.SummaryText.{joined_names, msm_option};
+ghost use Rattle.rtk_auto.specs.SaidCommand as spec;
+
+use rtk_convert::Setup;
+use rtk_message::{MsmKind, put_named, put_sh_quoted};
+use rtk_obs::{Civil, Code, GpsMs, civil, put_clock, put_date};
+use std::alloc::{AllocError, Global};
+
+/// The reading of a moment.
+pub(crate) fn reading(moment: GpsMs) -> Civil
+    ensures { result ≡ reading_of moment }
+{
+    civil(moment)
+}
+
+/// Appends a moment as an option writes it.
+#[tactic(auto, unfolding(crate::specs::SaidCommand::time_text))]
+pub(crate) fn put_time(line: &mut Vec<u8>, moment: GpsMs) -> Result<(), AllocError>
+    ensures { OnOk result (line.new.items ≡ line.old.items ++ spec.time_text moment) }
+{
+    let reading = reading(moment);
+    put_date(line, reading)?;
+    line.push(b'T')?;
+    put_clock(line, reading)
+}
+
+// Appends a word that is no name of a file.
+fn put_word(line: &mut Vec<u8>, word: &[u8]) -> Result<(), AllocError>
+    ensures { OnOk result (line.new.items ≡ line.old.items ++ spec.word_text word.now) }
+{
+    if let Some((first, rest)) = word.split_first() {
+        if *first == b'-' {
+            line.push(b'-')?;
+            return put_word(line, rest);
+        }
+    }
+    put_sh_quoted(line, word)
+}
+
+// Appends codes, the first after this separator.
+fn put_codes(line: &mut Vec<u8>, codes: &[Code]) -> Result<(), AllocError>
+    ensures { OnOk result (line.new.items ≡ line.old.items ++ joined_names 32 codes.now) }
+{
+    let mut separator = b' ';
+    for code in codes {
+        line.push(separator)?;
+        line.extend_from_slice(&code.name())?;
+        separator = b',';
+    }
+    Ok(())
+}
+
+// The option that names an MSM.
+fn msm_option(msm: MsmKind) -> &'static [u8]
+    ensures { result.now ≡ msm_option msm }
+{
+    match msm {
+        MsmKind::Msm4 => b"",
+        MsmKind::Msm5 => b" --msm 5",
+        MsmKind::Msm6 => b" --msm 6",
+        MsmKind::Msm7 => b" --msm 7",
+    }
+}
+
+// Appends the options of the file's head.
+fn put_head_words(line: &mut Vec<u8>, setup: &Setup) -> Result<(), AllocError>
+    ensures { OnOk result (line.new.items ≡ line.old.items
+        ++ spec.head_words setup.now) }
+{
+    let head = setup.head();
+    line.extend_from_slice(b" --made ")?;
+    put_time(line, head.made())?;
+    line.extend_from_slice(b" --marker ")?;
+    put_word(line, head.marker())?;
+    line.extend_from_slice(b" --codes")?;
+    put_codes(line, head.codes())
+}
+
+/// Appends the command with its options.
+#[tactic(auto, unfolding(crate::specs::SaidCommand::convert_words))]
+fn put_convert_words(line: &mut Vec<u8>, setup: &Setup) -> Result<(), AllocError>
+    ensures { OnOk result (line.new.items ≡ line.old.items ++ spec.convert_words setup.now) }
+{
+    put_named(
+        line,
+        b"rtcm2rinex convert --station ",
+        u64::from(setup.station()),
+    )?;
+    line.extend_from_slice(b" --near ")?;
+    put_time(line, setup.near())?;
+    put_head_words(line, setup)?;
+    line.extend_from_slice(msm_option(setup.msm()))?;
+    put_named(line, b" --window ", setup.window() as u64)
+}
+
+// Appends names of files, each after a blank.
+fn put_names(line: &mut Vec<u8>, names: &[&str]) -> Result<(), AllocError>
+    ensures { OnOk result (line.new.items ≡ line.old.items ++ spec.names_text (map (λ n. n.now) names.now)) }
+{
+    for name in names {
+        line.push(b' ')?;
+        put_sh_quoted(line, name.as_bytes())?;
+    }
+    Ok(())
+}
+
+// Appends files one after another.
+fn put_cat(line: &mut Vec<u8>, names: &[&str]) -> Result<(), AllocError>
+    ensures { OnOk result (line.new.items ≡ line.old.items ++ spec.cat_words (map (λ n. n.now) names.now)) }
+{
+    line.extend_from_slice(b"cat")?;
+    put_names(line, names)
+}
+
+fn put_joined_name(line: &mut Vec<u8>, number: u64) -> Result<(), AllocError>
+    ensures { OnOk result (line.new.items ≡ line.old.items ++ spec.joined_name number) }
+{
+    put_named(line, b"joined-", number)?;
+    line.extend_from_slice(b".rtcm")
+}
+
+// Appends the line that joins the captures of a link, if it has several.
+fn put_join_line(line: &mut Vec<u8>, number: u64, names: &[&str]) -> Result<(), AllocError>
+    ensures { OnOk result (line.new.items ≡ line.old.items ++ spec.join_line number (map (λ n. n.now) names.now)) }
+{
+    if names.len() < 2 {
+        return Ok(());
+    }
+    put_cat(line, names)?;
+    line.extend_from_slice(b" >")?;
+    put_joined_name(line, number)?;
+    line.push(b'\n')?;
+    Ok(())
+}
+
+// Appends the file of a link.
+fn put_link_word(line: &mut Vec<u8>, number: u64, names: &[&str]) -> Result<(), AllocError>
+    ensures { OnOk result (line.new.items ≡ line.old.items ++ spec.link_word number (map (λ n. n.now) names.now)) }
+{
+    if names.len() < 2 {
+        return put_names(line, names);
+    }
+    line.push(b' ')?;
+    put_joined_name(line, number)
+}
+
+// Appends the lines that join captures.
+fn put_join_lines(line: &mut Vec<u8>, links: &[Vec<&str>]) -> Result<(), AllocError>
+    ensures { OnOk result (line.new.items ≡ line.old.items ++ spec.join_lines 1 (spec.names_of links.now)) }
+{
+    let mut number = 1;
+    for link in links {
+        put_join_line(line, number, link.as_slice())?;
+        number += 1;
+    }
+    Ok(())
+}
+
+// Appends the files of links.
+fn put_link_words(line: &mut Vec<u8>, links: &[Vec<&str>]) -> Result<(), AllocError>
+    ensures { OnOk result (line.new.items ≡ line.old.items ++ spec.link_words 1 (spec.names_of links.now)) }
+{
+    let mut number = 1;
+    for link in links {
+        put_link_word(line, number, link.as_slice())?;
+        number += 1;
+    }
+    Ok(())
+}
+
+// Are all captures joined to one link?
+fn are_joined(links: &[Vec<&str>]) -> bool
+    ensures { result ≡ spec.are_joined (spec.names_of links.now) }
+{
+    links.len() == 1 && links[0].len() > 1
+}
+
+/// Appends the command of this setup and these links.
+pub fn put_command(
+    lines: &mut Vec<u8>,
+    setup: &Setup,
+    links: &[Vec<&str>],
+) -> Result<(), AllocError>
+    ensures { OnOk result (lines.new.items ≡ lines.old.items
+        ++ spec.command_text (spec.convert_words setup.now) (spec.names_of links.now)) }
+{
+    if are_joined(links) {
+        put_cat(lines, links[0].as_slice())?;
+        lines.extend_from_slice(b" | ")?;
+        put_convert_words(lines, setup)?;
+        return lines.extend_from_slice(b" stdin\n");
+    }
+    put_join_lines(lines, links)?;
+    put_convert_words(lines, setup)?;
+    put_link_words(lines, links)?;
+    lines.push(b'\n')?;
+    Ok(())
+}

@@ -1,0 +1,139 @@
+//! The words of `auto`: what its options say.
+
+ghost use Rattle.std.specs.Prelude.{◌≡◌, IfErr};
+ghost use Rattle.rtk_message.specs.Fields.{week_ms};
+ghost use Rattle.rtk_cli.specs.Words.{HasStatus};
+
+use crate::code_list::codes_of;
+use crate::convert_words::{kind_of, words_fault};
+use crate::moment_text::moment_of;
+use crate::words::{BadWords, WordsFault};
+use rtk_args::{AutoOptions, MsmOption};
+use rtk_auto::{Wanted, Ways};
+use rtk_convert::Setup;
+use rtk_message::MsmKind;
+use rtk_obs::{Code, GpsMs, WEEK_MS};
+use rtk_rinex::{Head, HeadFault};
+use std::alloc::Global;
+
+/// What the words of `auto` say.
+#[derive(Drop)]
+pub struct AutoWords<'a> {
+    /// The values of the conversion.
+    pub wanted: Wanted<'a>,
+    /// The moment at which the file is made; `None` is the present.
+    pub made: Option<GpsMs>,
+    /// The captures, the file and the report.
+    pub ways: Ways<'a>,
+}
+
+// The moment that an option writes, if it is given.
+fn moment_if_any(text: Option<&str>, line: BadWords) -> Result<Option<GpsMs>, WordsFault>
+    ensures { IfErr result HasStatus }
+{
+    let Some(text) = text else {
+        return Ok(None);
+    };
+    match moment_of(text.as_bytes()) {
+        Some(moment) => Ok(Some(moment)),
+        None => Err(words_fault(line)),
+    }
+}
+
+fn codes_if_any(alloc: Global, text: Option<&str>) -> Result<Option<Vec<Code>>, WordsFault>
+    ensures { IfErr result HasStatus }
+{
+    let Some(text) = text else {
+        return Ok(None);
+    };
+    match codes_of(alloc, text.as_bytes()) {
+        Ok(codes) => Ok(Some(codes)),
+        Err(fault) => Err(fault),
+    }
+}
+
+fn msm_if_any(msm: Option<MsmOption>) -> Option<MsmKind> {
+    match msm {
+        Some(msm) => Some(kind_of(msm)),
+        None => None,
+    }
+}
+
+// A moment near which a conversion dates: the first one.
+fn first_reference() -> GpsMs
+    ensures { result ≡ week_ms }
+{
+    let Some(moment) = GpsMs::new(WEEK_MS) else {
+        unreachable!();
+    };
+    moment
+}
+
+// The head of a file with this marker and these codes; others stand for what is not given.
+fn head_of(marker: Option<&str>, codes: &Option<Vec<Code>>) -> Result<Head, WordsFault>
+    ensures { IfErr result HasStatus }
+{
+    let marker = marker.unwrap_or("0000");
+    let any = [Code::C1C];
+    let listed = match codes {
+        Some(codes) => codes.as_slice(),
+        None => any.as_slice(),
+    };
+    match Head::new(marker.as_bytes(), listed, first_reference()) {
+        Ok(head) => Ok(head),
+        Err(HeadFault::Marker) => Err(words_fault(BadWords::Marker)),
+        Err(HeadFault::Codes) => Err(words_fault(BadWords::Codes)),
+        // The moment is a whole second.
+        Err(HeadFault::Made) => unreachable!(),
+    }
+}
+
+// Is there a conversion with this marker and these codes, near this moment?
+fn check_values(
+    marker: Option<&str>,
+    codes: &Option<Vec<Code>>,
+    near: Option<GpsMs>,
+) -> Result<(), WordsFault>
+    ensures { IfErr result HasStatus }
+{
+    let head = head_of(marker, codes)?;
+    match Setup::new(0, near.unwrap_or(first_reference()), head, 2) {
+        Ok(_) => Ok(()),
+        Err(_) => Err(words_fault(BadWords::Near)),
+    }
+}
+
+fn ways_of<'a>(options: &AutoOptions<'a>) -> Ways<'a> {
+    Ways {
+        output: options.output,
+        force: options.force,
+        skip_empty: options.skip_empty,
+        links_as_given: options.links_as_given,
+        report: options.report,
+    }
+}
+
+/// What the options say. The causes are looked for in the order of `BadWords`.
+pub(crate) fn auto_words<'a>(
+    alloc: Global,
+    options: &AutoOptions<'a>,
+) -> Result<AutoWords<'a>, WordsFault>
+    ensures { IfErr result HasStatus }
+{
+    let near = moment_if_any(options.near, BadWords::Near)?;
+    let made = moment_if_any(options.made, BadWords::Made)?;
+    let codes = codes_if_any(alloc, options.codes)?;
+    check_values(options.marker, &codes, near)?;
+    Ok(AutoWords {
+        wanted: Wanted {
+            station: options.station,
+            msm: msm_if_any(options.msm),
+            codes,
+            near,
+            marker: options.marker,
+            window: options.window.unwrap_or(4096),
+        },
+        made,
+        ways: ways_of(options),
+    })
+}
