@@ -4,7 +4,7 @@
 
 use crate::command_line::{flag_arg, option_arg};
 use crate::help_texts;
-use crate::limits::{LEAST_WINDOW, GREATEST_STATION, MOST_WINDOW};
+use crate::limits::{GREATEST_STATION, LEAST_WINDOW, MOST_WINDOW};
 use clap::{Arg, ArgAction, Command, value_parser};
 use std::alloc::{AllocError, Global};
 

@@ -8,7 +8,7 @@ ghost use Rattle.rtk_args.specs.Requests.{IsRequest};
 ghost use Rattle.rtk_args.specs.declared.limits.TheConstants.{GREATEST_STATION, LEAST_WINDOW, MOST_WINDOW};
 
 use crate::auto_options::AutoOptions;
-use crate::limits::{LEAST_WINDOW, GREATEST_STATION, MOST_WINDOW};
+use crate::limits::{GREATEST_STATION, LEAST_WINDOW, MOST_WINDOW};
 use crate::options::MsmOption;
 use crate::request::Request;
 use crate::word_reading::msm_of;
