@@ -5,7 +5,7 @@
 //! full window is below a bound, then the epoch that closes is not below it; so the epochs that go
 //! out rise, and callers need no history for that.
 
-ghost use Rattle.std.specs.Prelude.{◌≡◌, ◌≢◌, ◌<◌, ◌≤◌, ◌+◌, ◌++◌, [], not, min, IsTrue, length, IsOk, IfOk, OnErr, OnOk, All, slice_index_or, slice_set, option_to_list};
+ghost use Rattle.std.specs.Prelude.{◌≡◌, ◌≢◌, ◌<◌, ◌≤◌, ◌+◌, ◌++◌, [], not, min, IsTrue, length, IfOk, OnErr, OnOk, All, slice_index_or, slice_set, option_to_list};
 ghost use Rattle.std.specs.List.{insert};
 ghost use Rattle.rtk_obs.specs.Cell.{IsInRange};
 ghost use Rattle.rtk_obs.specs.MessageCells.{AreOfOneKind};
@@ -201,7 +201,7 @@ pub(crate) fn offer_cells(
                 conflicts,
             });
         }
-        return answer_of_known(conflicts);
+        return Ok(answer_of_known(conflicts));
     }
     if at == places {
         return Ok(Offer::Late);
@@ -214,15 +214,13 @@ pub(crate) fn offer_cells(
 }
 
 // What became of cells of an epoch of the window of which none is new, by those that conflict. It
-// stands apart, since `offer_cells` would clear the room of its answer at each message. It has the
-// type of that call's answer, so that an `Offer`, which is large, is not moved.
+// stands apart, since `offer_cells` would clear the room of its answer at each message.
 #[inline(never)]
-fn answer_of_known(conflicts: Conflicts) -> Result<Offer, AllocError>
-    ensures ok { IsOk result }
-    ensures answer { IfOk result (λ offer. IsAnswerOf 0 conflicts offer) }
+fn answer_of_known(conflicts: Conflicts) -> Offer
+    ensures { IsAnswerOf 0 conflicts result }
 {
     if conflicts.is_empty() {
-        return Ok(Offer::Repeat);
+        return Offer::Repeat;
     }
-    Ok(Offer::Conflict { conflicts })
+    Offer::Conflict { conflicts }
 }
