@@ -1,4 +1,4 @@
-//! A message of any of the four types: here alone the types are told apart.
+//! A message of any of the four types, and what differs by its type.
 
 ghost use Rattle.std.specs.Prelude.{◌≡◌, ◌<◌, ◌∷◌, ◌++◌, Some, IfOk, IfErr, OnOk, IsTrue, ◌↔◌};
 ghost use Rattle.rtk_message.specs.declared.message.Message.{Message};

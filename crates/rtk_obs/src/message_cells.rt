@@ -1,4 +1,4 @@
-//! The cells of a message, whatever its type: here alone the types are told apart.
+//! The cells of a message, whatever its type.
 
 ghost use Rattle.std.specs.Prelude.{◌≡◌, ◌≤◌, length};
 ghost use Rattle.std.specs.List.{All};
