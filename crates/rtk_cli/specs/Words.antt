@@ -1,7 +1,7 @@
 -- What the words of a command line may give.
 use Rattle.std.specs.Prelude.{◌≡◌, ◌⊎◌, ℕ, ◌≤◌, Bool, nat_eq, List, length, map, count_by, codes}
-use Rattle.std.specs.Int.{IsInRange}
 use Rattle.std.specs.Cmp.Lexicographic.{pointwise}
+use Rattle.rtk_convert.specs.Converter.{IsLinkCount}
 use Rattle.rtk_convert.specs.Setup.{SetupView, IsStation, IsWindow}
 use Rattle.rtk_cut.specs.declared.part.Part.{Part}
 use Rattle.rtk_cut.specs.Cut.{IsStepOrNone}
@@ -19,7 +19,7 @@ is_stdin word = pointwise nat_eq word (codes "stdin")
 -- formula
 -- the links of a conversion: 1 to 16, and standard input at most once (this project's rule)
 abbrev pub AreLinkNames : List (List ℕ) → Type 0
-AreLinkNames links = IsInRange 1 16 (length links) × (count_by is_stdin links ≤ 1)
+AreLinkNames links = IsLinkCount (length links) × (count_by is_stdin links ≤ 1)
 
 -- what the words ask for
 abbrev pub JobView : Type 0
