@@ -1,6 +1,7 @@
 -- What was found in captures stands for their frames.
-use Rattle.std.proofs.Common.{◌≡◌, ℕ, List, [], ◌∷◌, ◌++◌, Option, length, sym, ap, subst, ◌∙◌, append-nil}
-use Rattle.std.specs.Prelude.{take}
+use Rattle.std.proofs.Common.{◌≡◌, ℕ, List, [], ◌∷◌, ◌++◌, Option, None, Some, Result, IfSome, length, sym, ap, subst, ◌∙◌, append-nil}
+use Rattle.std.specs.Prelude.{take, IfOk}
+use Rattle.core.specs.Option.{ok_or}
 use Rattle.rtk_dates.specs.CaptureDates.{no_dates, counting}
 use Rattle.rtk_dates.specs.declared.span.Span.{Span}
 use Rattle.rtk_dates.specs.declared.tellings.Told.{Told}
@@ -106,3 +107,9 @@ capture-same frames look station heard told count d bytes fs a b s h t n =
     ∙ ap (λ (x : Heard). capture_parts k l known x d.capture.span told (length count)) heard_is
     ∙ ap (λ (x : Option Told). capture_parts k l known (heard_if_known known ms) d.capture.span x (length count)) told_is
     ∙ ap (λ (xs : List Told). capture_parts k l known (heard_if_known known ms) d.capture.span (first_told (counting d.capture.told)) (length xs)) n
+
+-- what is answered was kept
+pub if-kept : {E : Type 0} (o : Option CaptureFound) (e : E) (r : Result CaptureFound E) (Q P : CaptureFound → Type 0) → r ≡ ok_or o e → IfSome o Q
+    → ((found : CaptureFound) → Q found → P found) → IfOk r P
+if-kept {E} None e r Q P is some step = subst (λ (x : Result CaptureFound E). IfOk x P) (sym is) tt
+if-kept {E} (Some found) e r Q P is some step = subst (λ (x : Result CaptureFound E). IfOk x P) (sym is) (step found some)

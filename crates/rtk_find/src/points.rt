@@ -19,8 +19,8 @@ fn squared_apart(a: i64, b: i64) -> u128
 }
 
 /// Are two reference points more than 100 m apart?
-pub fn are_far(a: ReferencePoint, b: ReferencePoint) -> bool
-    ensures { result ≡ spec.are_far a b }
+pub fn are_far(a: &ReferencePoint, b: &ReferencePoint) -> bool
+    ensures { result ≡ spec.are_far a.now b.now }
 {
     let x = squared_apart(a.x, b.x);
     let y = squared_apart(a.y, b.y);

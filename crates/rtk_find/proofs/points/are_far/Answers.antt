@@ -11,8 +11,8 @@ compared k most x y z s t below first second =
 pub returns : goal.returns
 returns c =
     let k : ℕ = 1_000_000_000_000 in
-    let a = c.args.a in
-    let b = c.args.b in
+    let a = c.args.a.now in
+    let b = c.args.b.now in
     let x : ℕ = squared_apart a.x b.x in
     let y : ℕ = squared_apart a.y b.y in
     compared k 340_282_366_920_938_463_463_374_607_431_768_211_455 c.squared_apart-x.result c.squared_apart-y.result c.squared_apart-z.result

@@ -1,6 +1,6 @@
 use Rattle.std.proofs.Common.{◌≡◌, ◌≤◌, ◌+◌, ◌-◌, ◌*◌, ℕ, ap, ◌∙◌, arith}
 use Rattle.std.specs.List.{sum_by, range_with_len}
-use Rattle.rtk_find.specs.Phases.{phases_of}
+use Rattle.rtk_find.specs.Phases.{phases_of, phases_shared}
 use Rattle.rtk_find.proofs.PhaseLemmas.{sum-more}
 use Rattle.rtk_find.proofs.phases.Phases.phases_shared.Goals as goal
 
@@ -9,7 +9,7 @@ loop-satellite-preserved c =
     let from : 1 ≤ c.loop-satellite.satellite = c.loop-satellite.auto.satellite in
     let bound = c.loop-satellite.invariant.0 in
     let held = c.phases_of.type_inv in
-    let same = c.from.ensures in (
+    let same = c.from-phases.ensures in (
       omega (arith, from, bound, held, same),
       λ ms stand.
           let f : ℕ → ℕ = phases_of c.args.kind ms c.args.code c.args.other in
@@ -23,6 +23,7 @@ loop-satellite-preserved c =
     )
 
 pub returns-clause-value : goal.returns-clause-value
+unfolding phases_shared
 returns-clause-value c = λ ms stand.
     let end : c.loop-satellite.satellite - 1 ≡ 32 = omega (arith, c.loop-satellite-test.false, c.loop-satellite.auto) in
     c.loop-satellite.invariant.1 ms stand ∙ ap (λ (k : ℕ). sum_by (phases_of c.args.kind ms c.args.code c.args.other) (range_with_len 1 k)) end
