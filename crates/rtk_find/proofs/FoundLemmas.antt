@@ -1,7 +1,6 @@
 -- What was found in captures stands for their frames.
 use Rattle.std.proofs.Common.{◌≡◌, ℕ, List, [], ◌∷◌, ◌++◌, Option, None, Some, Result, IfSome, length, sym, ap, subst, ◌∙◌, append-nil}
-use Rattle.std.specs.Prelude.{take, IfOk}
-use Rattle.core.specs.Option.{ok_or}
+use Rattle.std.specs.Prelude.{take, IfOk, ok_or}
 use Rattle.rtk_dates.specs.CaptureDates.{no_dates, counting}
 use Rattle.rtk_dates.specs.declared.span.Span.{Span}
 use Rattle.rtk_dates.specs.declared.tellings.Told.{Told}

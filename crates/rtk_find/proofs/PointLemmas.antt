@@ -1,6 +1,5 @@
 -- The reference points of captures and of links.
-use Rattle.std.proofs.Common.{◌≡◌, ◌≢◌, ◌<◌, ◌≤◌, ◌+◌, ◌==◌, ℕ, zero, suc, Bool, true, false, List, [], ◌∷◌, length, drop, get_or, Option, None, Some, is_some, ◌⊎◌, inl, inr, refl, sym, ap, ◌∙◌, ne_eqb, arith}
-use Rattle.std.proofs.lemmas.Bool.{eq-eqb}
+use Rattle.std.proofs.Common.{◌≡◌, ◌≢◌, ◌<◌, ◌≤◌, ◌+◌, ◌==◌, ℕ, zero, suc, min, Bool, true, false, List, [], ◌∷◌, length, drop, get_or, Option, None, Some, is_some, ◌⊎◌, inl, inr, refl, sym, ap, ◌∙◌, ne_eqb, arith}
 use Rattle.rtk_find.specs.Heard.{first_point_or}
 use Rattle.rtk_find.specs.Points.{point_given, point_if, point_of_link}
 use Rattle.rtk_find.specs.declared.capture_found.CaptureFound.{CaptureFound}
@@ -17,16 +16,6 @@ pub point-none : (cs : List CaptureFound) (n : ℕ) → (n < length cs → ⊥) 
 point-none [] n outside = refl
 point-none (c ∷ cs) zero outside = absurd (outside (omega arith))
 point-none (c ∷ cs) (suc n) outside = point-none cs n (λ lt. outside (omega (arith, lt)))
-
-drop-past : {X : Type 0} (xs : List X) (i : ℕ) → length xs ≤ i → drop i xs ≡ []
-drop-past [] zero past = refl
-drop-past [] (suc i) past = refl
-drop-past (x ∷ xs) zero past = absurd (omega (arith, past))
-drop-past (x ∷ xs) (suc i) past = drop-past xs i (omega (arith, past))
-
-some-first : (point rest : Option ReferencePoint) → is_some point ≡ true → first_point_or point rest ≡ point
-some-first None rest has = cc
-some-first (Some p) rest has = refl
 
 point-if-none : (b : Bool) → point_if b None ≡ None
 point-if-none true = refl
@@ -50,21 +39,14 @@ link-passed link captures os ls i o l lt within none =
     ∙ ap (λ (xs : List ℕ). point_of_link link captures (get_or os i o ∷ drop (i + 1) os) xs) (cut-at ls i l within)
     ∙ ap (λ (p : Option ReferencePoint). first_point_or p rest) none)
 
-pub link-here : (link : ℕ) (captures : List CaptureFound) (os : List Ordered) (ls : List ℕ) (i : ℕ) (o : Ordered) (l : ℕ) → i < length os → i < length ls
-    → get_or ls i l ≡ link → is_some (point_given captures (get_or os i o).given) ≡ true
-    → point_given captures (get_or os i o).given ≡ point_of_link link captures (drop i os) (drop i ls)
-link-here link captures os ls i o l lt within same has =
-    let rest : Option ReferencePoint = point_of_link link captures (drop (i + 1) os) (drop (i + 1) ls) in
-    let point : Option ReferencePoint = point_given captures (get_or os i o).given in
-    sym (ap (λ (xs : List Ordered). point_of_link link captures xs (drop i ls)) (cut-at os i o lt)
-    ∙ ap (λ (xs : List ℕ). point_of_link link captures (get_or os i o ∷ drop (i + 1) os) xs) (cut-at ls i l within)
-    ∙ ap (λ (b : Bool). first_point_or (point_if b point) rest) (eq-eqb (get_or ls i l) link same) ∙ some-first point rest has)
-
 no-links : (link : ℕ) (captures : List CaptureFound) (os : List Ordered) → point_of_link link captures os [] ≡ None
 no-links link captures [] = refl
 no-links link captures (o ∷ os) = refl
 
-pub link-end : (link : ℕ) (captures : List CaptureFound) (os : List Ordered) (ls : List ℕ) (i : ℕ) → (length os ≤ i) ⊎ (length ls ≤ i) → None ≡ point_of_link link captures (drop i os) (drop i ls)
-link-end link captures os ls i (inl out) = ap (λ (xs : List Ordered). point_of_link link captures xs (drop i ls)) (sym (drop-past os i out))
-link-end link captures os ls i (inr out) =
-    sym (no-links link captures (drop i os)) ∙ ap (λ (xs : List ℕ). point_of_link link captures (drop i os) xs) (sym (drop-past ls i out))
+pub link-end : (link : ℕ) (captures : List CaptureFound) (os : List Ordered) (ls : List ℕ) (i : ℕ) → min (length os) (length ls) ≤ i → None ≡ point_of_link link captures (drop i os) (drop i ls)
+link-end link captures [] ls zero past = refl
+link-end link captures [] ls (suc i) past = refl
+link-end link captures (o ∷ os) [] zero past = refl
+link-end link captures (o ∷ os) [] (suc i) past = sym (no-links link captures (drop i os))
+link-end link captures (o ∷ os) (l ∷ ls) zero past = absurd (omega (arith, past))
+link-end link captures (o ∷ os) (l ∷ ls) (suc i) past = link-end link captures os ls i (omega (arith, past))
