@@ -1,4 +1,4 @@
-use Rattle.std.proofs.Common.{◌≡◌, ◌++◌, ◌∷◌, [], List, refl, sym, ap, ◌∙◌}
+use Rattle.std.proofs.Common.{◌++◌, ◌∷◌, [], refl, sym, ap, ◌∙◌}
 use Rattle.rtk_find.specs.declared.capture_found.CaptureFound.{CaptureFound}
 use Rattle.rtk_find.specs.declared.finding.Findings.{Findings}
 use Rattle.rtk_find.proofs.FoundLemmas.{if-kept, reads-capture}
