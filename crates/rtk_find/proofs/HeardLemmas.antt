@@ -1,5 +1,5 @@
 -- What came of each station in a capture, message by message.
-use Rattle.std.proofs.Common.{◌≡◌, ◌≢◌, ◌<◌, ◌==◌, ◌||◌, ℕ, Bool, true, false, cond, List, [], ◌∷◌, length, set, get_or, replicate, Option, None, Some, inl, inr, refl, sym, ap, ◌∙◌, get_or-set_same, get_or-set_other, ne_eqb, arith}
+use Rattle.std.proofs.Common.{◌≡◌, ◌≢◌, ◌<◌, ◌||◌, ℕ, Bool, true, false, cond, List, [], ◌∷◌, length, set, get_or, replicate, Option, None, inl, inr, sym, ap, ◌∙◌, get_or-set_same, get_or-set_other, ne_eqb, arith}
 use Rattle.std.proofs.lemmas.Bool.{cases_eq, eq-eqb}
 use Rattle.std.proofs.lemmas.List.{length-set, get_or-replicate}
 use Rattle.std.specs.List.{list_any}

@@ -1,5 +1,5 @@
 -- Captures in order, and the links that they join, capture by capture.
-use Rattle.std.proofs.Common.{◌≡◌, ◌<◌, ◌+◌, ℕ, List, [], ◌∷◌, ◌++◌, true, false, length, take, drop, get_or, nat_le, refl, sym, ap, ◌∙◌, append_assoc, add-one}
+use Rattle.std.proofs.Common.{◌≡◌, ◌<◌, ◌+◌, ℕ, List, [], ◌∷◌, ◌++◌, true, false, length, take, drop, get_or, refl, sym, ap, ◌∙◌, append_assoc, add-one}
 use Rattle.std.proofs.Math.Seq.{drop-cons, take-suc}
 use Rattle.rtk_find.specs.Joining.{comes_before, put_in_order, link_place, ends_with, links_after}
 use Rattle.rtk_find.specs.declared.joining.Ordered.{Ordered}

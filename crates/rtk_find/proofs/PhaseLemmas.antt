@@ -1,5 +1,5 @@
 -- The phases of a station, cell by cell.
-use Rattle.std.proofs.Common.{◌≡◌, ◌≢◌, ◌<◌, ◌+◌, ◌==◌, ◌&&◌, ◌||◌, ℕ, zero, suc, Bool, true, false, cond, List, [], ◌∷◌, ◌++◌, length, set, take, get_or, replicate, Option, is_some, inl, inr, refl, sym, ap, ◌∙◌, get_or-set_same, get_or-set_other, ne_eqb, append-nil, arith}
+use Rattle.std.proofs.Common.{◌≡◌, ◌≢◌, ◌<◌, ◌+◌, ◌&&◌, ◌||◌, ℕ, zero, suc, Bool, true, false, cond, List, [], ◌∷◌, ◌++◌, length, set, take, get_or, replicate, is_some, inl, inr, refl, sym, ap, ◌∙◌, get_or-set_same, get_or-set_other, ne_eqb, arith}
 use Rattle.std.proofs.lemmas.Bool.{cases_eq, eq-eqb}
 use Rattle.std.proofs.lemmas.List.{length-set, get_or-replicate, take_more}
 use Rattle.std.proofs.lemmas.List.Folds.{list_any-append, list_any_more}

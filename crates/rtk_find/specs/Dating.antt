@@ -2,7 +2,6 @@
 use Rattle.std.specs.Prelude.{ℕ, Bool, false, ◌||◌, not, nat_le, min, max, List, [], ◌∷◌, Option, None, Some, if◌then◌else◌}
 use Rattle.rtk_obs.specs.declared.time.TheConstants.{LAST_MS}
 use Rattle.rtk_dates.specs.Placing.{least_with_if_any, placed, is_dated_near}
-use Rattle.rtk_dates.specs.declared.placing.CaptureEpochs.{CaptureEpochs}
 use Rattle.rtk_dates.specs.declared.placing.Placed.{Placed}
 use Rattle.rtk_dates.specs.declared.span.Span.{Span}
 use Rattle.rtk_dates.specs.declared.tellings.Told.{Told}

@@ -1,12 +1,10 @@
 -- How many phases the satellites of a station have in each code (this project's rule). Lists of messages
 -- and entries are newest first.
-use Rattle.std.specs.Prelude.{◌≡◌, ℕ, ◌<◌, ◌+◌, ◌*◌, ◌==◌, Bool, false, ◌&&◌, ◌||◌, nat_lt, max, List, length, filter, get_or, Option, is_some, if◌then◌else◌}
+use Rattle.std.specs.Prelude.{◌≡◌, ℕ, ◌<◌, ◌+◌, ◌*◌, ◌==◌, Bool, ◌&&◌, ◌||◌, nat_lt, max, List, length, filter, get_or, is_some, if◌then◌else◌}
 use Rattle.std.specs.List.{list_any, sum_by, range_with_len}
 use Rattle.rtk_message.specs.declared.any_message.AnyMessage.{AnyMessage}
 use Rattle.rtk_message.specs.declared.msm_kind.MsmKind.{MsmKind}
-use Rattle.rtk_message.specs.declared.msm_kind.MsmKind.TheVariants.{Msm4, Msm5, Msm6, Msm7}
 use Rattle.rtk_message.specs.MsmForm.{number_of_kind}
-use Rattle.rtk_obs.specs.declared.cell.Cell.{Cell}
 use Rattle.rtk_obs.specs.declared.cell.CellEntry.{CellEntry}
 use Rattle.rtk_obs.specs.declared.code.Code.{Code}
 use Rattle.rtk_obs.specs.Code.{place_of, all_codes}

@@ -1,4 +1,4 @@
-use Rattle.std.proofs.Common.{◌≡◌, ◌<◌, ◌≤◌, ℕ, min, length, is_some, get_or, inl, inr, sym, ap, ◌∙◌, arith}
+use Rattle.std.proofs.Common.{◌<◌, ◌≤◌, ℕ, min, length, is_some, get_or, inl, inr, sym, ap, ◌∙◌, arith}
 use Rattle.rtk_find.proofs.PointLemmas.{no-point, link-passed, link-end}
 use Rattle.rtk_find.proofs.points.point_of_link.Goals.{then-links-place+else-is_some, else-links-place}
 use Rattle.rtk_find.proofs.points.point_of_link.Goals as goal
