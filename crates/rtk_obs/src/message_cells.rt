@@ -15,6 +15,7 @@ use rtk_message::Message;
 
 /// Puts the cells of a message into a list, in place of what it has, as `cells_1004` and `cells_1074`
 /// give them. A station message has none.
+#[inline(always)]
 pub fn put_cells_of(message: &Message, found: &mut ArrayVec<CellEntry, 64>)
     requires { IsValid message.now }
     ensures cells { found.new.items ≡ cells_of (AnyMessage.Message message.now) }
