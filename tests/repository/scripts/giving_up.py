@@ -30,7 +30,8 @@ SIZES = {
     ".reserve_exact(": {"count", "len - text.len()", "room"},
     ".resize(": {"satellites", "count", "len, b' '", "room, b' '"},
     "vec![in alloc; ": {"TimeBin::new(); scale.bins as usize", "false; scale.bins as usize", "0u8; room", "0u8; PIECE", "0; NUMBERS",
-        "Station::new(); NUMBERS", "false; STATIONS"},
+        "Station::new(); NUMBERS", "StationDates::new(); NUMBERS", "0; WEEKS", "false; STATIONS", "Heard::nothing(); STATIONS",
+        "PhaseCount::nothing(); PLACES"},
 }
 
 # Code that may not stand in a body.
@@ -86,6 +87,7 @@ def branches(sources):
         rf"\bif let Err\(_\) = {call} \{{ {ANSWER}; \}}",
         rf"\blet Ok\({NAME}\) = {call} else \{{ {ANSWER}; \}}",
         rf"(?<=[=;{{] ){call}\.map_err\(\|_\| {FAULT}\)\?",
+        rf"(?<=; )keep{ARGUMENTS}\.ok_or\({FAULT}\)",  # of rtk_find: None if a push was refused
         rf"\bmatch {call} \{{ Ok\({NAME}\) => {CODE}, Err\(_\) => {ANSWER}, \}}",
         rf"= match check\(text\) \{{ Ok\(table\) => \(true, {call}\), Err\(fault\) => \(false, {call}\), \}}; "
         rf"match line \{{ Ok\(line\) => {CODE}, Err\(_\) => {ANSWER}, \}}",

@@ -144,7 +144,10 @@ def fault(name, body):
     return "" if body == "@" else f"{name}: {body}"
 
 
-found = [it for file, text in TEXTS.items() if "/crates/rt" in file for it in bodies(bare(text)) if it[0] in KNOWN or re.search(TAKES, it[1])]
+# The crates of these functions; others may have one of such a name that hands nothing on.
+ABOVE = "/crates/(?:rtcm2rinex|rtk_(?:args|streams|commands|cli))/"
+found = [it for file, text in TEXTS.items() if "/crates/rt" in file for it in bodies(bare(text))
+    if it[0] in KNOWN and re.search(ABOVE, file) or re.search(TAKES, it[1])]
 here = {name: body for name, _, body in found}
 tell("each_function_hands_on_what_it_has", [it for it in (fault(name, body) for name, _, body in found) if it]
     + sorted(KNOWN.keys() - here.keys()) + [f"twice: {len(found) - len(here)}"] * (len(found) != len(here)))
