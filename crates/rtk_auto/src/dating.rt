@@ -89,7 +89,7 @@ fn dating_by(
     base: Base,
     station: u16,
 ) -> Result<Dating, PlanFault> {
-    let placed = place_captures(alloc, base, captures)?;
+    let placed = place_captures(alloc, &base, captures)?;
     let Some(reach) = reach_of(placed.as_slice()) else {
         return refused(Refusal::NoObservation, Vec::new(alloc));
     };

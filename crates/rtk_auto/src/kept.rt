@@ -3,7 +3,6 @@
 ghost use Rattle.std.specs.Prelude.{◌≡◌};
 ghost use Rattle.rtk_auto.specs.Kept as spec;
 
-use crate::refusal::{PlanFault, Refusal};
 use rtk_find::CaptureFound;
 use std::alloc::{AllocError, Global};
 
@@ -25,20 +24,41 @@ pub fn is_of(station: u16, capture: &CaptureFound) -> bool
     capture.station == Some(station) && capture.heard.is_heard
 }
 
-// A capture more.
-fn keep(
-    kept: &mut Kept,
+// The places of the captures that have something of the station, or of those that have nothing.
+fn places_where(
+    alloc: Global,
     station: u16,
-    capture: &CaptureFound,
-    place: usize,
-) -> Result<(), AllocError> {
-    if is_of(station, capture) {
-        kept.captures.push(*capture)?;
-        kept.places.push(place)?;
-    } else {
-        kept.empty.push(place)?;
+    captures: &[CaptureFound],
+    is_kept: bool,
+) -> Result<Vec<usize>, AllocError> {
+    let mut places = Vec::new(alloc);
+    for place in 0..captures.len() {
+        if is_of(station, &captures[place]) == is_kept {
+            places.push(place)?;
+        }
     }
+    Ok(places)
+}
+
+fn put_capture(kept: &mut Vec<CaptureFound>, capture: CaptureFound) -> Result<(), AllocError> {
+    kept.push(capture)?;
     Ok(())
+}
+
+// The captures at some places.
+fn captures_at(
+    alloc: Global,
+    captures: &[CaptureFound],
+    places: &[usize],
+) -> Result<Vec<CaptureFound>, AllocError> {
+    let mut kept = Vec::new(alloc);
+    for place in places {
+        let place = *place;
+        if place < captures.len() {
+            put_capture(&mut kept, captures[place])?;
+        }
+    }
+    Ok(kept)
 }
 
 /// The captures in which something of the station was found.
@@ -47,13 +67,10 @@ pub(crate) fn kept_captures(
     station: u16,
     captures: &[CaptureFound],
 ) -> Result<Kept, AllocError> {
-    let mut kept = Kept {
-        captures: Vec::new(alloc),
-        places: Vec::new(alloc),
-        empty: Vec::new(alloc),
-    };
-    for (place, capture) in captures.iter().enumerate() {
-        keep(&mut kept, station, capture, place)?;
-    }
-    Ok(kept)
+    let places = places_where(alloc, station, captures, true)?;
+    Ok(Kept {
+        captures: captures_at(alloc, captures, places.as_slice())?,
+        places,
+        empty: places_where(alloc, station, captures, false)?,
+    })
 }

@@ -5,7 +5,7 @@ use crate::kept::Kept;
 use crate::lists::put_position_line;
 use crate::refusal::{PlanFault, Refusal, refused};
 use rtk_dates::Placed;
-use rtk_find::{Ordered, ReferencePoint, far_links, in_order, links_of, points_of_links};
+use rtk_find::{CaptureFound, Ordered, ReferencePoint, are_far, in_order, links_of, point_of_link};
 use std::alloc::{AllocError, Global};
 
 /// The most links of a conversion.
@@ -69,12 +69,55 @@ fn few_links(
     )
 }
 
+// The position of each link.
+fn points_of_links(
+    alloc: Global,
+    count: usize,
+    captures: &[CaptureFound],
+    ordered: &[Ordered],
+    links: &[usize],
+) -> Result<Vec<Option<ReferencePoint>>, AllocError> {
+    let mut points = Vec::new(alloc);
+    for link in 0..count {
+        points.push(point_of_link(link, captures, ordered, links))?;
+    }
+    Ok(points)
+}
+
+// Are two positions, if both are known, more than 100 m apart?
+fn are_apart(a: Option<ReferencePoint>, b: Option<ReferencePoint>) -> bool {
+    match (a, b) {
+        (Some(a), Some(b)) => are_far(&a, &b),
+        _ => false,
+    }
+}
+
+// The first link that is far from this one.
+fn link_far_from(points: &[Option<ReferencePoint>], link: usize) -> Option<usize> {
+    for other in 0..points.len() {
+        if link < points.len() && are_apart(points[link], points[other]) {
+            return Some(other);
+        }
+    }
+    None
+}
+
+// Two links that are far from one another.
+fn far_links(points: &[Option<ReferencePoint>]) -> Option<(usize, usize)> {
+    for link in 0..points.len() {
+        if let Some(other) = link_far_from(points, link) {
+            return Some((link, other));
+        }
+    }
+    None
+}
+
 // Appends the position of a link, with the name of its first capture.
 fn put_position(
     lines: &mut Vec<u8>,
     captured: &Captured<'_>,
     links: &[Vec<usize>],
-    points: &[Option<ReferencePoint>; MOST_LINKS],
+    points: &[Option<ReferencePoint>],
     link: usize,
 ) -> Result<(), AllocError> {
     if let (Some(captures), Some(Some(point))) = (links.get(link), points.get(link)) {
@@ -89,13 +132,33 @@ fn list_positions(
     alloc: Global,
     captured: &Captured<'_>,
     links: &[Vec<usize>],
-    points: &[Option<ReferencePoint>; MOST_LINKS],
+    points: &[Option<ReferencePoint>],
     apart: (usize, usize),
 ) -> Result<Vec<u8>, AllocError> {
     let mut lines = Vec::new(alloc);
     put_position(&mut lines, captured, links, points, apart.0)?;
     put_position(&mut lines, captured, links, points, apart.1)?;
     Ok(lines)
+}
+
+// The links, if their positions agree.
+fn links_together(
+    alloc: Global,
+    captured: &Captured<'_>,
+    kept: &Kept,
+    ordered: &[Ordered],
+    numbers: &[usize],
+    links: Vec<Vec<usize>>,
+) -> Result<Vec<Vec<usize>>, PlanFault> {
+    let captures = kept.captures.as_slice();
+    let points = points_of_links(alloc, links.len(), captures, ordered, numbers)?;
+    match far_links(points.as_slice()) {
+        Some(apart) => refused(
+            Refusal::PositionsDiffer,
+            list_positions(alloc, captured, links.as_slice(), points.as_slice(), apart)?,
+        ),
+        None => Ok(links),
+    }
 }
 
 /// The links: captures that follow one another are joined, and captures of the same time are links.
@@ -114,15 +177,14 @@ pub(crate) fn links_found(
         kept.places.as_slice(),
     )?;
     let links = few_links(alloc, captured, links)?;
-    let captures = kept.captures.as_slice();
-    let points = points_of_links(captures, ordered.as_slice(), numbers.as_slice());
-    match far_links(&points) {
-        Some(apart) => refused(
-            Refusal::PositionsDiffer,
-            list_positions(alloc, captured, links.as_slice(), &points, apart)?,
-        ),
-        None => Ok(links),
-    }
+    links_together(
+        alloc,
+        captured,
+        kept,
+        ordered.as_slice(),
+        numbers.as_slice(),
+        links,
+    )
 }
 
 // A link for each capture.

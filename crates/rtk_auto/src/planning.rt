@@ -141,7 +141,7 @@ fn head_of(
     made: GpsMs,
 ) -> Result<Head, PlanFault>
     ensures good { IfOk result IsHeadView }
-    ensures head { IfOk result (λ head. head ≡ record { marker = marker_chosen marker station; listed = codes.now; made = made }) }
+    ensures head { IfOk result (λ head. head ≡ record { marker = marker_chosen marker.entry station; listed = codes.now; made = made }) }
 {
     let digits = marker_of(station);
     let marker = match marker {
