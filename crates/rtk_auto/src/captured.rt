@@ -28,8 +28,8 @@ impl<'a> Captured<'a> {
         }
     }
 
-    // The captures, as they were given.
-    fn captures(&self) -> &[CaptureFound] {
+    /// The captures, as they were given.
+    pub(crate) fn captures(&self) -> &[CaptureFound] {
         self.findings.captures.as_slice()
     }
 

@@ -1,11 +1,11 @@
 //! The links of the captures that are converted.
 
 use crate::captured::Captured;
-use crate::kept::Kept;
+use crate::kept::is_of;
 use crate::lists::put_position_line;
 use crate::refusal::{PlanFault, Refusal, refused};
 use rtk_dates::Placed;
-use rtk_find::{CaptureFound, Ordered, ReferencePoint, are_far, in_order, links_of, point_of_link};
+use rtk_find::{CaptureFound, Ordered, ReferencePoint, are_far, in_order, links_of};
 use std::alloc::{AllocError, Global};
 
 /// The most links of a conversion.
@@ -27,17 +27,22 @@ fn put_capture(
     Ok(())
 }
 
-// The captures of each link, in the order in which they are taken, by their places as they were given.
+// The captures of each link, in the order in which they are taken, by their places. Those that have
+// nothing of the station are left out.
 fn captures_of_links(
     alloc: Global,
+    station: u16,
+    captures: &[CaptureFound],
     ordered: &[Ordered],
     links: &[usize],
-    places: &[usize],
 ) -> Result<Vec<Vec<usize>>, AllocError> {
     let mut joined: Vec<Vec<usize>> = Vec::new(alloc);
-    for (capture, link) in ordered.iter().zip(links.iter()) {
-        let place = places.get(capture.given).copied().unwrap_or(0);
-        put_capture(alloc, &mut joined, *link, place)?;
+    let count = ordered.len().min(links.len());
+    for at in 0..count {
+        let place = ordered[at].given;
+        if place < captures.len() && is_of(station, &captures[place]) {
+            put_capture(alloc, &mut joined, links[at], place)?;
+        }
     }
     Ok(joined)
 }
@@ -69,17 +74,26 @@ fn few_links(
     )
 }
 
+// The position of a link: that of its first capture that has one.
+fn point_of_link(captures: &[CaptureFound], link: &[usize]) -> Option<ReferencePoint> {
+    for place in link {
+        let place = *place;
+        if place < captures.len() && captures[place].heard.point.is_some() {
+            return captures[place].heard.point;
+        }
+    }
+    None
+}
+
 // The position of each link.
 fn points_of_links(
     alloc: Global,
-    count: usize,
     captures: &[CaptureFound],
-    ordered: &[Ordered],
-    links: &[usize],
+    links: &[Vec<usize>],
 ) -> Result<Vec<Option<ReferencePoint>>, AllocError> {
     let mut points = Vec::new(alloc);
-    for link in 0..count {
-        points.push(point_of_link(link, captures, ordered, links))?;
+    for link in links {
+        points.push(point_of_link(captures, link.as_slice()))?;
     }
     Ok(points)
 }
@@ -145,13 +159,9 @@ fn list_positions(
 fn links_together(
     alloc: Global,
     captured: &Captured<'_>,
-    kept: &Kept,
-    ordered: &[Ordered],
-    numbers: &[usize],
     links: Vec<Vec<usize>>,
 ) -> Result<Vec<Vec<usize>>, PlanFault> {
-    let captures = kept.captures.as_slice();
-    let points = points_of_links(alloc, links.len(), captures, ordered, numbers)?;
+    let points = points_of_links(alloc, captured.captures(), links.as_slice())?;
     match far_links(points.as_slice()) {
         Some(apart) => refused(
             Refusal::PositionsDiffer,
@@ -165,33 +175,33 @@ fn links_together(
 pub(crate) fn links_found(
     alloc: Global,
     captured: &Captured<'_>,
-    kept: &Kept,
+    station: u16,
     placed: &[Option<Placed>],
 ) -> Result<Vec<Vec<usize>>, PlanFault> {
     let ordered = in_order(alloc, placed)?;
     let numbers = links_of(alloc, ordered.as_slice())?;
     let links = captures_of_links(
         alloc,
+        station,
+        captured.captures(),
         ordered.as_slice(),
         numbers.as_slice(),
-        kept.places.as_slice(),
     )?;
     let links = few_links(alloc, captured, links)?;
-    links_together(
-        alloc,
-        captured,
-        kept,
-        ordered.as_slice(),
-        numbers.as_slice(),
-        links,
-    )
+    links_together(alloc, captured, links)
 }
 
-// A link for each capture.
-fn links_of_one(alloc: Global, places: &[usize]) -> Result<Vec<Vec<usize>>, AllocError> {
+// A link for each capture that has something of the station.
+fn links_of_one(
+    alloc: Global,
+    station: u16,
+    captures: &[CaptureFound],
+) -> Result<Vec<Vec<usize>>, AllocError> {
     let mut links = Vec::new(alloc);
-    for place in places {
-        links.push(Vec::from_slice(alloc, &[*place])?)?;
+    for place in 0..captures.len() {
+        if is_of(station, &captures[place]) {
+            links.push(Vec::from_slice(alloc, &[place])?)?;
+        }
     }
     Ok(links)
 }
@@ -200,8 +210,8 @@ fn links_of_one(alloc: Global, places: &[usize]) -> Result<Vec<Vec<usize>>, Allo
 pub(crate) fn links_as_given(
     alloc: Global,
     captured: &Captured<'_>,
-    places: &[usize],
+    station: u16,
 ) -> Result<Vec<Vec<usize>>, PlanFault> {
-    let links = links_of_one(alloc, places)?;
+    let links = links_of_one(alloc, station, captured.captures())?;
     few_links(alloc, captured, links)
 }
