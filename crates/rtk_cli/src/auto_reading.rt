@@ -1,17 +1,20 @@
 //! The first pass of `auto`: it reads each capture to its end.
 
-ghost use Rattle.std.specs.Prelude.{◌≤◌, IfErr};
+ghost use Rattle.std.specs.Prelude.{◌≤◌, IfOk, IfErr, IfSome};
+ghost use Rattle.std.specs.Io.KnownBytes.{Keeps};
+ghost use Rattle.rtk_cli.specs.FindsText.{FindsText};
 ghost use Rattle.rtk_streams.specs.declared.exit_status.TheConstants.{NOT_VALID};
 
 use rtk_auto::DifferingDate;
 use rtk_commands::summary_status;
 use rtk_find::{CaptureFound, Findings};
 use rtk_obs::GpsMs;
-use rtk_streams::{MOST_READS, Reads, ToolFault, fail, fail_to_open, open_capture};
+use rtk_streams::{Before, MOST_READS, Reads, ToolFault, fail, fail_to_open, open_capture};
 use rtk_summary::SummaryFault;
 use std::alloc::{AllocError, Global};
 use std::fs::Files;
 use std::io::Read;
+use std::marker::Brand;
 
 /// What the captures that were read tell.
 #[derive(Drop)]
@@ -21,14 +24,30 @@ pub(crate) struct Told {
     pub(crate) differing: Vec<DifferingDate>,
 }
 
-/// Reads a capture more, to its end.
+// The same over the reader of number 0, by what `K` knows of it.
+fn find_by<R: Read + Drop, K: Before>(
+    alloc: Global,
+    findings: &mut Findings,
+    reader: R,
+) -> Result<CaptureFound, SummaryFault>
+    requires { Keeps (K.had 0) (R.remaining reader) }
+    ensures { IfOk result (λ found. IfSome (K.had 0) (λ bytes. FindsText bytes findings.old found findings.new)) }
+{
+    let mut source: Reads<R, K> = Reads::over(reader, 0);
+    let found = findings.read(alloc, &mut source, MOST_READS)?;
+    Ok(found)
+}
+
+/// Reads a capture more, to its end. What is said holds if the bytes of the reader are known; the
+/// program reads files by the same call.
 pub fn find_through<R: Read + Drop>(
     alloc: Global,
     findings: &mut Findings,
     reader: R,
-) -> Result<CaptureFound, SummaryFault> {
-    let mut source: Reads<R> = Reads::over(reader, 0);
-    findings.read(alloc, &mut source, MOST_READS)
+) -> Result<CaptureFound, SummaryFault>
+    ensures { IfOk result (λ found. IfSome (R.remaining reader) (λ bytes. FindsText bytes findings.old found findings.new)) }
+{
+    find_by::<R, Brand>(alloc, findings, reader)
 }
 
 // Keeps the first epochs that the last capture tells, if they differ.
