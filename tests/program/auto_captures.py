@@ -6,9 +6,9 @@ from pathlib import Path
 sys.path.insert(0, str(Path(__file__).resolve().parents[1] / "model"))
 
 import model  # noqa: E402
-from finding import EPHEMERIS, SYSTEM_PARAMETERS  # noqa: E402
-from station import capture, legacy_of, msm_of, point, row  # noqa: E402
-from wire import WEEK_MS, BitWriter, frame_of  # noqa: E402
+from finding import EPHEMERIS  # noqa: E402
+from station import capture, date, frame_of_row, legacy_of, msm_of, point  # noqa: E402
+from wire import WEEK_MS, frame_of  # noqa: E402
 
 DAY = 5 * 86_400  # 2024-05-17 in its week, in s
 SATELLITE = {"l1_range": 5_000_000, "modulus_ambiguity": 70, "l1_cnr": 180, "l2_code": 3, "l2_cnr": 140, "l1_lock": 5, "l2_lock": 5}
@@ -21,19 +21,8 @@ def epochs(*seconds, satellites=(5, 7), **fields):
     return b"".join(capture(legacy_of(1000 * it % WEEK_MS, rows, **fields)) for it in seconds)
 
 
-def said(table, **values):
-    bits = BitWriter()
-    bits.put_row(table, row(table, values))
-    return frame_of(bits.to_bytes())
-
-
-def date(second, day=60_447, station=2003):
-    """A 1013; day 60,447 is 2024-05-17."""
-    return said(SYSTEM_PARAMETERS, number=1013, station=station, day=day, second=second, leap_seconds=18)
-
-
 def week(number, second):
-    return said(EPHEMERIS, number=1019, satellite=5, week=number, toe=second // 16)
+    return frame_of_row(EPHEMERIS, number=1019, satellite=5, week=number, toe=second // 16)
 
 
 def place(x=0, **fields):
