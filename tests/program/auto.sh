@@ -59,9 +59,6 @@ for value in x -1 '' 1e9; do
 done
 SOURCE_DATE_EPOCH=315964799 "$program" auto one >out 2>err; status=$?
 expect a_present_before_1980 3 '' "rtcm2rinex: the clock can't be read; give --made"
-"$program" >out 2>err; status=$?
-"$program" --help >want
-leaves no_word 2 /dev/null want
 run auto
 expect no_capture 2 '' "$(error 'the following required arguments were not provided:
   <CAPTURE>...' 'auto <CAPTURE>...')"
@@ -224,4 +221,4 @@ done
 "$program" auto --made $made one >/dev/full 2>err; status=$?; : >out
 leaves a_full_output 1 /dev/null want
 
-ends 153
+ends 152

@@ -982,7 +982,7 @@ def as_of_whole_reads(case):
 
 
 def many_reads(zeros):
-    due = b"bytes 1000001\noutside-frames 1000001\nframes 0\nnothing taken\n"
+    due = b"bytes 1000001\noutside-frames 1000001\nframes 0\nlooks-like unknown\nnothing taken\n"
     return same(run(Case("", ("summary", zeros)), shim(PIECE=1)), Left(0, due, b""))
 
 
