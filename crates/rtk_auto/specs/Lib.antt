@@ -1,4 +1,5 @@
 pub mod Kept
 pub mod Lists
+pub mod Plan
 pub mod SaidCommand
 pub mod SpanLine

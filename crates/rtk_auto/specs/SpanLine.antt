@@ -21,24 +21,34 @@ day_text t = date_text (reading_of t)
 
 -- formula
 -- the days 1,024 weeks before and after, as far as there are such
-abbrev pub neighbours_text : ℕ → List ℕ
+unfoldable pub neighbours_text : ℕ → List ℕ
 neighbours_text t =
     if nat_lt t weeks_ms then day_text (t + weeks_ms) else
     if nat_lt LAST_MS (t + weeks_ms) then day_text (t - weeks_ms) else
     day_text (t - weeks_ms) ++ codes ", " ++ day_text (t + weeks_ms)
 
 -- formula
+-- a message by its number, and its station
+abbrev pub number_and_station : ℕ → ℕ → List ℕ
+number_and_station number station = codes " by " ++ decimal number ++ codes " of station " ++ decimal station
+
+-- formula
+-- the week of a 1019, which stands for others too
+abbrev pub week_text : ℕ → List ℕ
+week_text t = codes " by 1019 (or " ++ neighbours_text t ++ codes ")"
+
+-- formula
 -- by what the first epoch is dated; by the week of a 1019 alone, its neighbours are told
 abbrev pub source_text : DateSource → ℕ → List ℕ
 source_text Words t = codes " by --near"
 source_text (Station number) t = codes " by " ++ decimal number
-source_text (OtherStation number station) t = codes " by " ++ decimal number ++ codes " of station " ++ decimal station
-source_text Ephemerides t = codes " by 1019 (or " ++ neighbours_text t ++ codes ")"
+source_text (OtherStation number station) t = number_and_station number station
+source_text Ephemerides t = week_text t
 
 -- formula
 -- by what message a date is told
 abbrev pub message_text : DateMessage → List ℕ
-message_text (Utc d) = codes " by " ++ decimal d.number ++ codes " of station " ++ decimal d.station
+message_text (Utc d) = number_and_station d.number d.station
 message_text (Ephemeris e) = codes " by 1019"
 
 -- formula

@@ -1,5 +1,13 @@
 //! What a conversion of captures is told, from what they tell and what words say.
 
+ghost use Rattle.std.specs.Prelude.{◌≡◌, ◌<◌, ℕ, List, Some, filter, length, IfOk};
+ghost use Rattle.rtk_obs.specs.CivilText.{last_digits};
+ghost use Rattle.rtk_rinex.specs.Header.{IsHeadView};
+ghost use Rattle.rtk_summary.specs.ReadFrames.{ReadFrame};
+ghost use Rattle.rtk_summary.specs.Standing.{StandsForFrames};
+ghost use Rattle.rtk_find.specs.Captures.{Finds};
+ghost use Rattle.rtk_auto.specs.Plan.{IsChosenStation, msm_chosen, codes_chosen, marker_chosen, IsSetupFor};
+
 use crate::captured::Captured;
 use crate::dating::{Dating, date_captures};
 use crate::kept::{Kept, kept_captures};
@@ -12,6 +20,7 @@ use rtk_find::{StationFound, only_station};
 use rtk_message::MsmKind;
 use rtk_obs::{Code, GpsMs};
 use rtk_rinex::Head;
+use rtk_summary::Summary;
 use std::alloc::Global;
 
 /// What a conversion of captures is told.
@@ -32,7 +41,10 @@ fn no_observation<T: Drop>(alloc: Global, captured: &Captured<'_>) -> Result<T, 
 }
 
 // The station that is named, if it has observations.
-fn named_station(alloc: Global, captured: &Captured<'_>, station: u16) -> Result<u16, PlanFault> {
+fn named_station(alloc: Global, captured: &Captured<'_>, station: u16) -> Result<u16, PlanFault>
+    requires { length captured.now.findings.now.observing.items ≡ 4096 }
+    ensures { IfOk result (IsChosenStation captured.now.findings.now.observing.items (Some station)) }
+{
     let marks = captured.findings.observing.as_slice();
     if marks.get(usize::from(station)).copied().unwrap_or(false) {
         return Ok(station);
@@ -51,7 +63,11 @@ fn station_to_convert(
     alloc: Global,
     captured: &Captured<'_>,
     named: Option<u16>,
-) -> Result<u16, PlanFault> {
+) -> Result<u16, PlanFault>
+    requires { length captured.now.findings.now.observing.items ≡ 4096 }
+    ensures chosen { IfOk result (IsChosenStation captured.now.findings.now.observing.items named) }
+    ensures bound { IfOk result (λ n. n < 4096) }
+{
     if let Some(station) = named {
         return named_station(alloc, captured, station);
     }
@@ -88,7 +104,11 @@ fn codes_to_convert(
     station: u16,
     msm: MsmKind,
     wanted: &Option<Vec<Code>>,
-) -> Result<Vec<Code>, PlanFault> {
+) -> Result<Vec<Code>, PlanFault>
+    requires { station < 4096 }
+    ensures { (fs : List ReadFrame) → StandsForFrames captured.now.findings.now.summary fs
+        → IfOk result (λ codes. codes.items ≡ codes_chosen wanted.now fs station msm) }
+{
     if let Some(codes) = wanted {
         return Ok(Vec::from_slice(alloc, codes.as_slice())?);
     }
@@ -100,7 +120,9 @@ fn codes_to_convert(
 }
 
 // The four digits of a station's number.
-fn marker_of(station: u16) -> [u8; 4] {
+fn marker_of(station: u16) -> [u8; 4]
+    ensures { result ≡ last_digits 4 station }
+{
     let digit = |number: u16| b'0' + (number % 10) as u8;
     [
         digit(station / 10 / 10 / 10),
@@ -117,7 +139,10 @@ fn head_of(
     marker: Option<&str>,
     codes: &[Code],
     made: GpsMs,
-) -> Result<Head, PlanFault> {
+) -> Result<Head, PlanFault>
+    ensures good { IfOk result IsHeadView }
+    ensures head { IfOk result (λ head. head ≡ record { marker = marker_chosen marker station; listed = codes.now; made = made }) }
+{
     let digits = marker_of(station);
     let marker = match marker {
         Some(marker) => marker.as_bytes(),
@@ -129,6 +154,17 @@ fn head_of(
     }
 }
 
+// The MSM that is converted.
+fn msm_to_convert(summary: &Summary, wanted: Option<MsmKind>, station: u16) -> MsmKind
+    requires { station < 4096 }
+    ensures { (fs : List ReadFrame) → StandsForFrames summary.now fs → result ≡ msm_chosen wanted fs station }
+{
+    match wanted {
+        Some(msm) => msm,
+        None => summary.msm_of(station),
+    }
+}
+
 // What the conversion of a station near this moment is told.
 fn setup_near(
     alloc: Global,
@@ -137,11 +173,13 @@ fn setup_near(
     made: GpsMs,
     station: u16,
     near: GpsMs,
-) -> Result<Setup, PlanFault> {
-    let msm = match wanted.msm {
-        Some(msm) => msm,
-        None => captured.findings.summary.msm_of(station),
-    };
+) -> Result<Setup, PlanFault>
+    requires bound { station < 4096 }
+    requires chosen { IsChosenStation captured.now.findings.now.observing.items wanted.now.station station }
+    ensures setup { IfOk result (IsSetupFor captured.now.findings.now wanted.now made) }
+    ensures near { IfOk result (λ setup. setup.near ≡ near) }
+{
+    let msm = msm_to_convert(&captured.findings.summary, wanted.msm, station);
     let codes = codes_to_convert(alloc, captured, station, msm, &wanted.codes)?;
     let head = head_of(alloc, station, wanted.marker, codes.as_slice(), made)?;
     match Setup::new(station, near, head, usize::from(wanted.window)) {
@@ -174,7 +212,10 @@ pub fn plan_of(
     made: GpsMs,
     skip_empty: bool,
     as_given: bool,
-) -> Result<Plan, PlanFault> {
+) -> Result<Plan, PlanFault>
+    requires { (fs : List ReadFrame) × Finds made fs captured.now.findings.now }
+    ensures { IfOk result (λ plan. IsSetupFor captured.now.findings.now wanted.now made plan.setup) }
+{
     if captured.findings.summary.frames() == 0 {
         return refused(Refusal::NoFrame, captured.list_all(alloc)?);
     }

@@ -2,8 +2,7 @@
 //!
 //! If memory is refused, a first part of what is put may stand there.
 
-ghost use Rattle.std.specs.Prelude.{◌≡◌, ◌++◌, map, OnOk, IfOk};
-ghost use Rattle.rtk_obs.specs.declared.code.Code.{Code};
+ghost use Rattle.std.specs.Prelude.{◌≡◌, ◌++◌, OnOk};
 ghost use Rattle.rtk_rinex.specs.Reading.{reading_of};
 ghost use Rattle.rtk_summary.specs.SummaryText.{joined_names, msm_option};
 ghost use Rattle.rtk_auto.specs.SaidCommand as spec;
@@ -11,7 +10,8 @@ ghost use Rattle.rtk_auto.specs.SaidCommand as spec;
 use rtk_convert::Setup;
 use rtk_message::{MsmKind, put_named, put_sh_quoted};
 use rtk_obs::{Civil, Code, GpsMs, civil, put_clock, put_date};
-use std::alloc::{AllocError, Global};
+use rtk_rinex::Head;
+use std::alloc::AllocError;
 
 /// The reading of a moment.
 pub(crate) fn reading(moment: GpsMs) -> Civil
@@ -35,13 +35,12 @@ pub(crate) fn put_time(line: &mut Vec<u8>, moment: GpsMs) -> Result<(), AllocErr
 fn put_word(line: &mut Vec<u8>, word: &[u8]) -> Result<(), AllocError>
     ensures { OnOk result (line.new.items ≡ line.old.items ++ spec.word_text word.now) }
 {
-    if let Some((first, rest)) = word.split_first() {
-        if *first == b'-' {
-            line.push(b'-')?;
-            return put_word(line, rest);
-        }
+    let mut at = 0;
+    while at < word.len() && word[at] == b'-' {
+        line.push(b'-')?;
+        at += 1;
     }
-    put_sh_quoted(line, word)
+    put_sh_quoted(line, &word[at..])
 }
 
 // Appends codes, the first after this separator.
@@ -69,24 +68,10 @@ fn msm_option(msm: MsmKind) -> &'static [u8]
     }
 }
 
-// Appends the options of the file's head.
-fn put_head_words(line: &mut Vec<u8>, setup: &Setup) -> Result<(), AllocError>
-    ensures { OnOk result (line.new.items ≡ line.old.items
-        ++ spec.head_words setup.now) }
-{
-    let head = setup.head();
-    line.extend_from_slice(b" --made ")?;
-    put_time(line, head.made())?;
-    line.extend_from_slice(b" --marker ")?;
-    put_word(line, head.marker())?;
-    line.extend_from_slice(b" --codes")?;
-    put_codes(line, head.codes())
-}
-
-/// Appends the command with its options.
-#[tactic(auto, unfolding(crate::specs::SaidCommand::convert_words))]
-fn put_convert_words(line: &mut Vec<u8>, setup: &Setup) -> Result<(), AllocError>
-    ensures { OnOk result (line.new.items ≡ line.old.items ++ spec.convert_words setup.now) }
+// Appends the command with the station and the reference.
+#[tactic(auto, unfolding(crate::specs::SaidCommand::station_words))]
+fn put_station_words(line: &mut Vec<u8>, setup: &Setup) -> Result<(), AllocError>
+    ensures { OnOk result (line.new.items ≡ line.old.items ++ spec.station_words setup.now) }
 {
     put_named(
         line,
@@ -95,14 +80,47 @@ fn put_convert_words(line: &mut Vec<u8>, setup: &Setup) -> Result<(), AllocError
     )?;
     line.extend_from_slice(b" --near ")?;
     put_time(line, setup.near())?;
-    put_head_words(line, setup)?;
+    Ok(())
+}
+
+// Appends the time of making and the marker.
+#[tactic(auto, unfolding(crate::specs::SaidCommand::marker_words))]
+fn put_marker_words(line: &mut Vec<u8>, head: &Head) -> Result<(), AllocError>
+    ensures { OnOk result (line.new.items ≡ line.old.items ++ spec.marker_words head.now) }
+{
+    line.extend_from_slice(b" --made ")?;
+    put_time(line, head.made())?;
+    line.extend_from_slice(b" --marker ")?;
+    put_word(line, head.marker())?;
+    Ok(())
+}
+
+// Appends the codes, the MSM and the window.
+#[tactic(auto, unfolding(crate::specs::SaidCommand::value_words))]
+fn put_value_words(line: &mut Vec<u8>, setup: &Setup) -> Result<(), AllocError>
+    ensures { OnOk result (line.new.items ≡ line.old.items ++ spec.value_words setup.now) }
+{
+    line.extend_from_slice(b" --codes")?;
+    put_codes(line, setup.head().codes())?;
     line.extend_from_slice(msm_option(setup.msm()))?;
-    put_named(line, b" --window ", setup.window() as u64)
+    put_named(line, b" --window ", setup.window() as u64)?;
+    Ok(())
+}
+
+// Appends the command with its options.
+#[tactic(auto, unfolding(crate::specs::SaidCommand::convert_words))]
+fn put_convert_words(line: &mut Vec<u8>, setup: &Setup) -> Result<(), AllocError>
+    ensures { OnOk result (line.new.items ≡ line.old.items ++ spec.convert_words setup.now) }
+{
+    put_station_words(line, setup)?;
+    put_marker_words(line, setup.head())?;
+    put_value_words(line, setup)?;
+    Ok(())
 }
 
 // Appends names of files, each after a blank.
 fn put_names(line: &mut Vec<u8>, names: &[&str]) -> Result<(), AllocError>
-    ensures { OnOk result (line.new.items ≡ line.old.items ++ spec.names_text (map (λ n. n.now) names.now)) }
+    ensures { OnOk result (line.new.items ≡ line.old.items ++ spec.names_text names.now) }
 {
     for name in names {
         line.push(b' ')?;
@@ -113,7 +131,7 @@ fn put_names(line: &mut Vec<u8>, names: &[&str]) -> Result<(), AllocError>
 
 // Appends files one after another.
 fn put_cat(line: &mut Vec<u8>, names: &[&str]) -> Result<(), AllocError>
-    ensures { OnOk result (line.new.items ≡ line.old.items ++ spec.cat_words (map (λ n. n.now) names.now)) }
+    ensures { OnOk result (line.new.items ≡ line.old.items ++ spec.cat_words names.now) }
 {
     line.extend_from_slice(b"cat")?;
     put_names(line, names)
@@ -128,7 +146,7 @@ fn put_joined_name(line: &mut Vec<u8>, number: u64) -> Result<(), AllocError>
 
 // Appends the line that joins the captures of a link, if it has several.
 fn put_join_line(line: &mut Vec<u8>, number: u64, names: &[&str]) -> Result<(), AllocError>
-    ensures { OnOk result (line.new.items ≡ line.old.items ++ spec.join_line number (map (λ n. n.now) names.now)) }
+    ensures { OnOk result (line.new.items ≡ line.old.items ++ spec.join_line number names.now) }
 {
     if names.len() < 2 {
         return Ok(());
@@ -142,7 +160,7 @@ fn put_join_line(line: &mut Vec<u8>, number: u64, names: &[&str]) -> Result<(), 
 
 // Appends the file of a link.
 fn put_link_word(line: &mut Vec<u8>, number: u64, names: &[&str]) -> Result<(), AllocError>
-    ensures { OnOk result (line.new.items ≡ line.old.items ++ spec.link_word number (map (λ n. n.now) names.now)) }
+    ensures { OnOk result (line.new.items ≡ line.old.items ++ spec.link_word number names.now) }
 {
     if names.len() < 2 {
         return put_names(line, names);
@@ -153,7 +171,7 @@ fn put_link_word(line: &mut Vec<u8>, number: u64, names: &[&str]) -> Result<(), 
 
 // Appends the lines that join captures.
 fn put_join_lines(line: &mut Vec<u8>, links: &[Vec<&str>]) -> Result<(), AllocError>
-    ensures { OnOk result (line.new.items ≡ line.old.items ++ spec.join_lines 1 (spec.names_of links.now)) }
+    ensures { OnOk result (line.new.items ≡ line.old.items ++ spec.join_lines 1 links.now) }
 {
     let mut number = 1;
     for link in links {
@@ -165,7 +183,7 @@ fn put_join_lines(line: &mut Vec<u8>, links: &[Vec<&str>]) -> Result<(), AllocEr
 
 // Appends the files of links.
 fn put_link_words(line: &mut Vec<u8>, links: &[Vec<&str>]) -> Result<(), AllocError>
-    ensures { OnOk result (line.new.items ≡ line.old.items ++ spec.link_words 1 (spec.names_of links.now)) }
+    ensures { OnOk result (line.new.items ≡ line.old.items ++ spec.link_words 1 links.now) }
 {
     let mut number = 1;
     for link in links {
@@ -175,31 +193,43 @@ fn put_link_words(line: &mut Vec<u8>, links: &[Vec<&str>]) -> Result<(), AllocEr
     Ok(())
 }
 
-// Are all captures joined to one link?
-fn are_joined(links: &[Vec<&str>]) -> bool
-    ensures { result ≡ spec.are_joined (spec.names_of links.now) }
+// Appends the command of captures that are all of one link.
+fn put_one_link(lines: &mut Vec<u8>, setup: &Setup, names: &[&str]) -> Result<(), AllocError>
+    ensures { OnOk result (lines.new.items ≡ lines.old.items ++ spec.one_link_text (spec.convert_words setup.now) names.now) }
 {
-    links.len() == 1 && links[0].len() > 1
+    put_cat(lines, names)?;
+    lines.extend_from_slice(b" | ")?;
+    put_convert_words(lines, setup)?;
+    lines.extend_from_slice(b" stdin\n")?;
+    Ok(())
 }
 
-/// Appends the command of this setup and these links.
-pub fn put_command(
+// Appends the lines of several links.
+fn put_several_links(
     lines: &mut Vec<u8>,
     setup: &Setup,
     links: &[Vec<&str>],
 ) -> Result<(), AllocError>
-    ensures { OnOk result (lines.new.items ≡ lines.old.items
-        ++ spec.command_text (spec.convert_words setup.now) (spec.names_of links.now)) }
+    ensures { OnOk result (lines.new.items ≡ lines.old.items ++ spec.several_links_text (spec.convert_words setup.now) links.now) }
 {
-    if are_joined(links) {
-        put_cat(lines, links[0].as_slice())?;
-        lines.extend_from_slice(b" | ")?;
-        put_convert_words(lines, setup)?;
-        return lines.extend_from_slice(b" stdin\n");
-    }
     put_join_lines(lines, links)?;
     put_convert_words(lines, setup)?;
     put_link_words(lines, links)?;
     lines.push(b'\n')?;
     Ok(())
+}
+
+/// Appends the command of this setup and these links, each of them the names of its captures.
+pub fn put_command(
+    lines: &mut Vec<u8>,
+    setup: &Setup,
+    links: &[Vec<&str>],
+) -> Result<(), AllocError>
+    ensures { OnOk result (lines.new.items ≡ lines.old.items ++ spec.command_text (spec.convert_words setup.now) links.now) }
+{
+    if links.len() == 1 && links[0].len() > 1 {
+        put_one_link(lines, setup, links[0].as_slice())
+    } else {
+        put_several_links(lines, setup, links)
+    }
 }

@@ -46,6 +46,7 @@ fn put_day(line: &mut Vec<u8>, ms: u64) -> Result<(), AllocError>
 }
 
 // Appends the days 1,024 weeks before and after a moment.
+#[tactic(auto, unfolding(crate::specs::SpanLine::neighbours_text))]
 fn put_neighbours(line: &mut Vec<u8>, moment: GpsMs) -> Result<(), AllocError>
     ensures { OnOk result (line.new.items ≡ line.old.items ++ spec.neighbours_text moment) }
 {
@@ -61,23 +62,36 @@ fn put_neighbours(line: &mut Vec<u8>, moment: GpsMs) -> Result<(), AllocError>
     put_day(line, ms + WEEKS_MS)
 }
 
+// Appends the number of a message and its station.
+fn put_number_and_station(line: &mut Vec<u8>, number: u64, station: u64) -> Result<(), AllocError>
+    ensures { OnOk result (line.new.items ≡ line.old.items ++ spec.number_and_station number station) }
+{
+    put_named(line, b" by ", number)?;
+    put_named(line, b" of station ", station)?;
+    Ok(())
+}
+
+// Appends that a week dates, and the neighbours of the day.
+fn put_week(line: &mut Vec<u8>, first: GpsMs) -> Result<(), AllocError>
+    ensures { OnOk result (line.new.items ≡ line.old.items ++ spec.week_text first) }
+{
+    line.extend_from_slice(b" by 1019 (or ")?;
+    put_neighbours(line, first)?;
+    line.extend_from_slice(b")")?;
+    Ok(())
+}
+
 fn put_source(line: &mut Vec<u8>, source: DateSource, first: GpsMs) -> Result<(), AllocError>
     ensures { OnOk result (line.new.items ≡ line.old.items ++ spec.source_text source first) }
 {
     match source {
-        DateSource::Words => line.extend_from_slice(b" by --near")?,
-        DateSource::Station(number) => put_named(line, b" by ", u64::from(number))?,
+        DateSource::Words => line.extend_from_slice(b" by --near"),
+        DateSource::Station(number) => put_named(line, b" by ", u64::from(number)),
         DateSource::OtherStation(number, station) => {
-            put_named(line, b" by ", u64::from(number))?;
-            put_named(line, b" of station ", u64::from(station))?;
+            put_number_and_station(line, u64::from(number), u64::from(station))
         }
-        DateSource::Ephemerides => {
-            line.extend_from_slice(b" by 1019 (or ")?;
-            put_neighbours(line, first)?;
-            line.push(b')')?;
-        }
+        DateSource::Ephemerides => put_week(line, first),
     }
-    Ok(())
 }
 
 /// Appends by what message a date is told.
@@ -86,8 +100,7 @@ pub(crate) fn put_message(line: &mut Vec<u8>, message: DateMessage) -> Result<()
 {
     match message {
         DateMessage::Utc(date) => {
-            put_named(line, b" by ", u64::from(date.number))?;
-            put_named(line, b" of station ", u64::from(date.station))
+            put_number_and_station(line, u64::from(date.number), u64::from(date.station))
         }
         DateMessage::Ephemeris(_) => line.extend_from_slice(b" by 1019"),
     }

@@ -1,6 +1,8 @@
 //! The first pass of `auto`: it reads each capture to its end.
 
-ghost use Rattle.std.specs.Prelude.{◌≤◌, IfOk, IfErr, IfSome};
+ghost use Rattle.std.specs.Prelude.{◌≡◌, ◌≤◌, ℕ, List, IfOk, IfErr, IfSome, OnOk};
+ghost use Rattle.rtk_summary.specs.ReadFrames.{ReadFrame};
+ghost use Rattle.rtk_find.specs.Captures.{Finds};
 ghost use Rattle.std.specs.Io.KnownBytes.{Keeps};
 ghost use Rattle.rtk_cli.specs.FindsText.{FindsText};
 ghost use Rattle.rtk_streams.specs.declared.exit_status.TheConstants.{NOT_VALID};
@@ -31,7 +33,8 @@ fn find_by<R: Read + Drop, K: Before>(
     reader: R,
 ) -> Result<CaptureFound, SummaryFault>
     requires { Keeps (K.had 0) (R.remaining reader) }
-    ensures { IfOk result (λ found. IfSome (K.had 0) (λ bytes. FindsText bytes findings.old found findings.new)) }
+    ensures had { IfOk result (λ found. IfSome (K.had 0) (λ bytes. FindsText bytes findings.old found findings.new)) }
+    ensures some { IfOk result (λ found. (bytes : List ℕ) × FindsText bytes findings.old found findings.new) }
 {
     let mut source: Reads<R, K> = Reads::over(reader, 0);
     let found = findings.read(alloc, &mut source, MOST_READS)?;
@@ -45,13 +48,16 @@ pub fn find_through<R: Read + Drop>(
     findings: &mut Findings,
     reader: R,
 ) -> Result<CaptureFound, SummaryFault>
-    ensures { IfOk result (λ found. IfSome (R.remaining reader) (λ bytes. FindsText bytes findings.old found findings.new)) }
+    ensures remaining { IfOk result (λ found. IfSome (R.remaining reader) (λ bytes. FindsText bytes findings.old found findings.new)) }
+    ensures some { IfOk result (λ found. (bytes : List ℕ) × FindsText bytes findings.old found findings.new) }
 {
     find_by::<R, Brand>(alloc, findings, reader)
 }
 
 // Keeps the first epochs that the last capture tells, if they differ.
-fn keep_dates(told: &mut Told, place: usize, found: &CaptureFound) -> Result<(), AllocError> {
+fn keep_dates(told: &mut Told, place: usize, found: &CaptureFound) -> Result<(), AllocError>
+    ensures { told.new.findings ≡ told.old.findings }
+{
     if found.dates < 2 {
         return Ok(());
     }
@@ -71,7 +77,9 @@ fn read_named<R: Files + Input + Eprint + AllocGlobal>(
     place: usize,
     name: &str,
 ) -> Result<(), u8>
-    ensures { IfErr result (λ status. status ≤ NOT_VALID) }
+    ensures found { (now : ℕ) (before : List ReadFrame) → Finds now before told.old.findings
+        → OnOk result ((fs : List ReadFrame) × Finds now fs told.new.findings) }
+    ensures status { IfErr result (λ status. status ≤ NOT_VALID) }
 {
     let Some(capture) = open_capture(rt, name) else {
         return Err(fail_to_open(rt, name));
@@ -94,7 +102,8 @@ pub(crate) fn read_captures<R: Files + Input + Eprint + AllocGlobal>(
     station: Option<u16>,
     names: &[&str],
 ) -> Result<Told, u8>
-    ensures { IfErr result (λ status. status ≤ NOT_VALID) }
+    ensures found { IfOk result (λ told. (fs : List ReadFrame) × Finds now fs told.findings) }
+    ensures status { IfErr result (λ status. status ≤ NOT_VALID) }
 {
     let Ok(findings) = Findings::new(rt.alloc(), now, station) else {
         return Err(fail(rt, ToolFault::OutOfMemory));

@@ -1,7 +1,10 @@
 //! The command `auto`: it reads the captures, finds what their conversion is told, converts them, and
 //! says how it went.
 
-ghost use Rattle.std.specs.Prelude.{◌≡◌, ◌≤◌, IfErr};
+ghost use Rattle.std.specs.Prelude.{◌≡◌, ◌≤◌, List, IfOk, IfErr, IsOk, IsTrue};
+ghost use Rattle.rtk_convert.specs.Failure.{IsRunFault};
+ghost use Rattle.rtk_summary.specs.ReadFrames.{ReadFrame};
+ghost use Rattle.rtk_find.specs.Captures.{Finds};
 ghost use Rattle.rtk_streams.specs.declared.exit_status.TheConstants.{NOT_VALID};
 
 use crate::auto_converting::convert_joined;
@@ -154,7 +157,9 @@ fn finish<R: Eprint + AllocGlobal, O: Write + Drop, W: Write + Drop>(
     known: &Known,
     is_reported: bool,
 ) -> Result<(O, Counts), u8>
-    ensures { IfErr result (λ status. status ≤ NOT_VALID) }
+    requires { IfErr converted.done IsRunFault }
+    ensures whole { IsOk result → IsOk converted.done × IsTrue converted.is_out }
+    ensures status { IfErr result (λ status. status ≤ NOT_VALID) }
 {
     let counts = match converted.done {
         Ok(counts) if converted.is_out => counts,
@@ -255,6 +260,7 @@ fn convert_told<R: Files + Print + Eprint + AllocGlobal, W: Write + Drop>(
     told: &Told,
     made: GpsMs,
 ) -> u8
+    requires { (fs : List ReadFrame) × Finds made fs told.now.findings }
     ensures { result ≤ NOT_VALID }
 {
     let mut report = report;

@@ -1,17 +1,23 @@
 -- What was found in captures stands for their frames.
-use Rattle.std.proofs.Common.{◌≡◌, ℕ, List, [], ◌∷◌, ◌++◌, Option, sym, ap, subst, ◌∙◌, append-nil}
-use Rattle.std.specs.Prelude.{take}
-use Rattle.rtk_dates.specs.CaptureDates.{no_dates}
+use Rattle.std.proofs.Common.{◌≡◌, ℕ, List, [], ◌∷◌, ◌++◌, Option, None, Some, Result, IfSome, length, sym, ap, subst, ◌∙◌, append-nil}
+use Rattle.std.specs.Prelude.{take, IfOk, ok_or}
+use Rattle.rtk_dates.specs.CaptureDates.{no_dates, counting}
+use Rattle.rtk_dates.specs.declared.span.Span.{Span}
+use Rattle.rtk_dates.specs.declared.tellings.Told.{Told}
+use Rattle.rtk_message.specs.declared.any_message.AnyMessage.{AnyMessage}
+use Rattle.rtk_summary.specs.Counting.{shown_count}
+use Rattle.rtk_summary.specs.declared.look.Look.{Look}
 use Rattle.rtk_summary.specs.Following.{FollowsAll, FollowsCapture}
 use Rattle.rtk_summary.specs.ReadFrames.{ReadFrame, messages_in}
 use Rattle.rtk_summary.specs.declared.reading.CaptureRead.{CaptureRead}
-use Rattle.rtk_find.specs.Captures.{Finds, TakesFrame, capture_of, ReadsCapture}
+use Rattle.rtk_find.specs.Captures.{Finds, TakesFrame, look_if_empty, known_or, first_told, capture_of, ReadsCapture}
 use Rattle.rtk_find.specs.Finding.{dates_with, dates_after, with_reading, dates_of, StandForStationPhases}
-use Rattle.rtk_find.specs.Heard.{HoldsCapture}
+use Rattle.rtk_find.specs.Heard.{heard_if_known, first_station, HoldsCapture}
 use Rattle.rtk_find.specs.declared.capture_found.CaptureFound.{CaptureFound}
 use Rattle.rtk_find.specs.declared.finding.Dates.{Dates}
 use Rattle.rtk_find.specs.declared.finding.Findings.{Findings}
 use Rattle.rtk_find.specs.declared.heard.Contents.{Contents}
+use Rattle.rtk_find.specs.declared.heard.Heard.{Heard}
 
 present-all : (a b : Findings) (fs : List ReadFrame) → FollowsAll TakesFrame a fs b → b.present ≡ a.present
 present-all a b [] none = ap (λ (f : Findings). f.present) none
@@ -77,3 +83,32 @@ reads-capture given_old given_new read old mid new contents d found fresh empty 
         captures = more ∙ ap (λ cs. cs.items ++ found ∷ []) (captures-all begun mid fs f.6);
       },
     )
+
+abbrev capture_parts : ℕ → Option Look → Option ℕ → Heard → Option Span → Option Told → ℕ → CaptureFound
+capture_parts frames look station heard span told dates =
+    record { frames = frames; look = look; station = station; heard = heard; span = span; told = told; dates = dates }
+
+-- what is put together of a capture is what was found of it
+pub capture-same : (frames : ℕ) (look : Option Look) (station : Option ℕ) (heard : Heard) (told : Option Told) (count : List Told) (d : Dates) (bytes : List ℕ) (fs : List ReadFrame)
+    → frames ≡ shown_count (length fs) → look ≡ look_if_empty (length fs) bytes → station ≡ known_or d.station (first_station (messages_in fs))
+    → heard ≡ heard_if_known station (messages_in fs) → told ≡ first_told count → count ≡ counting d.capture.told
+    → capture_parts frames look station heard d.capture.span told (length count) ≡ capture_of d bytes fs
+capture-same frames look station heard told count d bytes fs a b s h t n =
+    let known : Option ℕ = known_or d.station (first_station (messages_in fs)) in
+    let ms : List AnyMessage = messages_in fs in
+    let k : ℕ = shown_count (length fs) in
+    let l : Option Look = look_if_empty (length fs) bytes in
+    let heard_is : heard ≡ heard_if_known known ms = h ∙ ap (λ (o : Option ℕ). heard_if_known o ms) s in
+    let told_is : told ≡ first_told (counting d.capture.told) = t ∙ ap (λ (xs : List Told). first_told xs) n in
+    ap (λ (x : ℕ). capture_parts x look station heard d.capture.span told (length count)) a
+    ∙ ap (λ (x : Option Look). capture_parts k x station heard d.capture.span told (length count)) b
+    ∙ ap (λ (x : Option ℕ). capture_parts k l x heard d.capture.span told (length count)) s
+    ∙ ap (λ (x : Heard). capture_parts k l known x d.capture.span told (length count)) heard_is
+    ∙ ap (λ (x : Option Told). capture_parts k l known (heard_if_known known ms) d.capture.span x (length count)) told_is
+    ∙ ap (λ (xs : List Told). capture_parts k l known (heard_if_known known ms) d.capture.span (first_told (counting d.capture.told)) (length xs)) n
+
+-- what is answered was kept
+pub if-kept : {E : Type 0} (o : Option CaptureFound) (e : E) (r : Result CaptureFound E) (Q P : CaptureFound → Type 0) → r ≡ ok_or o e → IfSome o Q
+    → ((found : CaptureFound) → Q found → P found) → IfOk r P
+if-kept {E} None e r Q P is some step = subst (λ (x : Result CaptureFound E). IfOk x P) (sym is) tt
+if-kept {E} (Some found) e r Q P is some step = subst (λ (x : Result CaptureFound E). IfOk x P) (sym is) (step found some)

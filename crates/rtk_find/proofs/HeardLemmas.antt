@@ -18,17 +18,17 @@ heard_with is_heard point = record { is_heard = is_heard; point = point }
 pub heard-own : (n : ℕ) (m : AnyMessage) (ms : List AnyMessage) (old : Heard) (point : Option ReferencePoint) → n ≡ station_of m → old ≡ heard_of n ms
     → point ≡ first_point_or old.point (point_of m) → heard_with true point ≡ heard_of n (m ∷ ms)
 heard-own n m ms old point same stands is =
-    let yes : is_of_station n m ≡ true = eq-eqb (station_of m) n (sym same) in
+    let own_is : is_of_station n m ≡ true = eq-eqb (station_of m) n (sym same) in
     let own : List AnyMessage = messages_from n ms in
     ap (λ (p : Option ReferencePoint). heard_with true p) (is ∙ ap (λ (h : Heard). first_point_or h.point (point_of m)) stands)
-    ∙ ap (λ (b : Bool). heard_with (b || list_any (is_of_station n) ms) (first_point (cond b (m ∷ own) own))) (sym yes)
+    ∙ ap (λ (b : Bool). heard_with (b || list_any (is_of_station n) ms) (first_point (cond b (m ∷ own) own))) (sym own_is)
 
 -- and one of another
 heard-same : (n : ℕ) (m : AnyMessage) (ms : List AnyMessage) → n ≢ station_of m → heard_of n (m ∷ ms) ≡ heard_of n ms
 heard-same n m ms other =
-    let no : is_of_station n m ≡ false = ne_eqb (station_of m) n (λ same. other (sym same)) in
+    let differs : is_of_station n m ≡ false = ne_eqb (station_of m) n (λ same. other (sym same)) in
     let own : List AnyMessage = messages_from n ms in
-    ap (λ (b : Bool). heard_with (b || list_any (is_of_station n) ms) (first_point (cond b (m ∷ own) own))) no
+    ap (λ (b : Bool). heard_with (b || list_any (is_of_station n) ms) (first_point (cond b (m ∷ own) own))) differs
 
 -- the station at a place took a message of its own
 pub heard-more : (stations : List Heard) (m : AnyMessage) (ms : List AnyMessage) (place : ℕ) (new : Heard) → place ≡ station_of m → place < length stations

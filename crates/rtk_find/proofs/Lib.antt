@@ -3,4 +3,5 @@ pub mod HeardLemmas
 pub mod LinkLemmas
 pub mod MarkLemmas
 pub mod PhaseLemmas
+pub mod PointLemmas
 pub mod StationLemmas

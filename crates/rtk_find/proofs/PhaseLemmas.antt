@@ -1,10 +1,10 @@
 -- The phases of a station, cell by cell.
-use Rattle.std.proofs.Common.{◌≡◌, ◌≢◌, ◌<◌, ◌+◌, ◌==◌, ◌&&◌, ◌||◌, ℕ, Bool, true, false, cond, List, [], ◌∷◌, ◌++◌, length, set, take, get_or, replicate, Option, is_some, inl, inr, refl, sym, ap, ◌∙◌, get_or-set_same, get_or-set_other, ne_eqb, append-nil, arith}
+use Rattle.std.proofs.Common.{◌≡◌, ◌≢◌, ◌<◌, ◌+◌, ◌==◌, ◌&&◌, ◌||◌, ℕ, zero, suc, Bool, true, false, cond, List, [], ◌∷◌, ◌++◌, length, set, take, get_or, replicate, Option, is_some, inl, inr, refl, sym, ap, ◌∙◌, get_or-set_same, get_or-set_other, ne_eqb, append-nil, arith}
 use Rattle.std.proofs.lemmas.Bool.{cases_eq, eq-eqb}
 use Rattle.std.proofs.lemmas.List.{length-set, get_or-replicate, take_more}
 use Rattle.std.proofs.lemmas.List.Folds.{list_any-append, list_any_more}
 use Rattle.std.proofs.lemmas.List.Sums.{sum_by-cons, sum_by-append}
-use Rattle.std.specs.List.{list_any, count_by, sum_by}
+use Rattle.std.specs.List.{list_any, count_by, sum_by, range_with_len}
 use Rattle.rtk_obs.specs.declared.cell.CellEntry.{CellEntry}
 use Rattle.rtk_summary.specs.Counting.{shown_count, count_of}
 use Rattle.rtk_summary.specs.Proposal.{entry_has_value}
@@ -59,9 +59,9 @@ count-none n e es value_is phase_is =
 -- no cell of another place counts
 count-same : (n : ℕ) (e : CellEntry) (es : List CellEntry) → n ≢ place_in_table e.satellite e.code → phase_count n (e ∷ es) ≡ phase_count n es
 count-same n e es other =
-    let no : is_at n e ≡ false = ne_eqb (place_in_table e.satellite e.code) n (λ same. other (sym same)) in
+    let differs : is_at n e ≡ false = ne_eqb (place_in_table e.satellite e.code) n (λ same. other (sym same)) in
     let phase : Bool = is_some e.cell.phase_millicycles in
-    count-none n e es (ap (λ (b : Bool). has_value e.cell && b) no ∙ and-false (has_value e.cell)) (ap (λ (b : Bool). phase && b) no ∙ and-false phase)
+    count-none n e es (ap (λ (b : Bool). has_value e.cell && b) differs ∙ and-false (has_value e.cell)) (ap (λ (b : Bool). phase && b) differs ∙ and-false phase)
 
 -- ---- cells without a value
 
@@ -166,3 +166,23 @@ table-moved table xs es i d within stands = record {
       ∙ ap (λ (v : Bool). counted v (count_of (gives_phase_at n) moved)) (sym (any-moved (gives_value_at n) xs es i d within))
       ∙ ap (λ (p : ℕ). counted (list_any (gives_value_at n) all) p) (sym (count-moved (gives_phase_at n) xs es i d within));
 }
+
+-- ---- sums over satellites
+
+range-suc : (a n : ℕ) → range_with_len a (suc n) ≡ range_with_len a n ++ (a + n) ∷ []
+range-suc a zero =
+    let e : a ≡ a + 0 = omega arith in
+    ap (λ k. k ∷ []) e
+range-suc a (suc n) =
+    let e : (a + 1) + n ≡ a + suc n = omega arith in
+    ap (λ t. a ∷ t) (range-suc (a + 1) n ∙ ap (λ k. range_with_len (a + 1) n ++ k ∷ []) e)
+
+pub sum-more : (f : ℕ → ℕ) (a n k next : ℕ) → k ≡ a + n → next ≡ n + 1 → sum_by f (range_with_len a next) ≡ sum_by f (range_with_len a n) + f k
+sum-more f a n k next at is =
+    let e : next ≡ suc n = omega (arith, is) in
+    let longer : sum_by f (range_with_len a next) ≡ sum_by f (range_with_len a n ++ (a + n) ∷ []) = ap (λ (m : ℕ). sum_by f (range_with_len a m)) e ∙ ap (λ (xs : List ℕ). sum_by f xs) (range-suc a n) in
+    let last : sum_by f (range_with_len a n ++ (a + n) ∷ []) ≡ sum_by f (range_with_len a n) + sum_by f ((a + n) ∷ []) = sum_by-append f (range_with_len a n) ((a + n) ∷ []) in
+    let alone : sum_by f ((a + n) ∷ []) ≡ f (a + n) + sum_by f [] = sum_by-cons f (a + n) [] in
+    let nil : sum_by f [] ≡ 0 = refl in
+    let here : f (a + n) ≡ f k = ap f (sym at) in
+    omega (arith, longer, last, alone, nil, here)

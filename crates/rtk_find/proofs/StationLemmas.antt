@@ -19,29 +19,29 @@ use Rattle.rtk_find.proofs.PhaseLemmas.{valueless}
 
 own-message : (station : ℕ) (m : AnyMessage) (ms : List AnyMessage) → station ≡ station_of m → messages_from station (m ∷ ms) ≡ m ∷ messages_from station ms
 own-message station m ms same =
-    let yes : is_of_station station m ≡ true = eq-eqb (station_of m) station (sym same) in
-    ap (λ (b : Bool). cond b (m ∷ messages_from station ms) (messages_from station ms)) yes
+    let holds : is_of_station station m ≡ true = eq-eqb (station_of m) station (sym same) in
+    ap (λ (b : Bool). cond b (m ∷ messages_from station ms) (messages_from station ms)) holds
 
 other-message : (station : ℕ) (m : AnyMessage) (ms : List AnyMessage) → station ≢ station_of m → messages_from station (m ∷ ms) ≡ messages_from station ms
 other-message station m ms other =
-    let no : is_of_station station m ≡ false = ne_eqb (station_of m) station (λ same. other (sym same)) in
-    ap (λ (b : Bool). cond b (m ∷ messages_from station ms) (messages_from station ms)) no
+    let fails : is_of_station station m ≡ false = ne_eqb (station_of m) station (λ same. other (sym same)) in
+    ap (λ (b : Bool). cond b (m ∷ messages_from station ms) (messages_from station ms)) fails
 
 -- ---- messages of a number
 
 pub numbered : (number : ℕ) (m : AnyMessage) (ms : List AnyMessage) → is_numbered number m ≡ true → entries_numbered number (m ∷ ms) ≡ entries_of_message m ++ entries_numbered number ms
-numbered number m ms yes = ap (λ (b : Bool). entries_in (cond b (m ∷ filter (is_numbered number) ms) (filter (is_numbered number) ms))) yes
+numbered number m ms holds = ap (λ (b : Bool). entries_in (cond b (m ∷ filter (is_numbered number) ms) (filter (is_numbered number) ms))) holds
 
 pub not-numbered : (number : ℕ) (m : AnyMessage) (ms : List AnyMessage) → is_numbered number m ≡ false → entries_numbered number (m ∷ ms) ≡ entries_numbered number ms
-not-numbered number m ms no = ap (λ (b : Bool). entries_in (cond b (m ∷ filter (is_numbered number) ms) (filter (is_numbered number) ms))) no
+not-numbered number m ms fails = ap (λ (b : Bool). entries_in (cond b (m ∷ filter (is_numbered number) ms) (filter (is_numbered number) ms))) fails
 
 -- ---- a message without an observation
 
 table-bare : (table : List PhaseCount) (number : ℕ) (m : AnyMessage) (ms : List AnyMessage) → observes m ≡ false → StandsForTable table (entries_numbered number ms)
     → StandsForTable table (entries_numbered number (m ∷ ms))
 table-bare table number m ms bare stands = elim (cases_Bool (is_numbered number m)) [
-  | inl yes ↦ subst (λ (es : List CellEntry). StandsForTable table es) (sym (numbered number m ms yes)) (valueless table (entries_of_message m) (entries_numbered number ms) bare stands)
-  | inr no ↦ subst (λ (es : List CellEntry). StandsForTable table es) (sym (not-numbered number m ms no)) stands
+  | inl holds ↦ subst (λ (es : List CellEntry). StandsForTable table es) (sym (numbered number m ms holds)) (valueless table (entries_of_message m) (entries_numbered number ms) bare stands)
+  | inr fails ↦ subst (λ (es : List CellEntry). StandsForTable table es) (sym (not-numbered number m ms fails)) stands
 ]
 
 phases-bare : (p : Phases) (m : AnyMessage) (ms : List AnyMessage) → observes m ≡ false → StandForPhases p ms → StandForPhases p (m ∷ ms)
@@ -57,11 +57,11 @@ phases-bare p m ms bare stand = record {
 
 -- a message with an observation has a time
 timed : (m : AnyMessage) → observes m ≡ true → tow_of m ≡ None → ⊥
-timed (any.Message (Obs1004 m)) yes none = cc
-timed (any.Message (Arp1005 m)) yes none = cc
-timed (any.Message (Arp1006 m)) yes none = cc
-timed (any.Message (Msm1074 m)) yes none = cc
-timed (any.Msm m) yes none = cc
+timed (any.Message (Obs1004 m)) holds none = cc
+timed (any.Message (Arp1005 m)) holds none = cc
+timed (any.Message (Arp1006 m)) holds none = cc
+timed (any.Message (Msm1074 m)) holds none = cc
+timed (any.Msm m) holds none = cc
 
 kept-if : (k : ℕ) (b : Bool) (n : ℕ) (t : Option ℕ) → cond b (station_at (Some k) n t) (Some k) ≡ Some k
 kept-if k true n None = refl
@@ -81,8 +81,8 @@ unknown-at n (Some t) is = cc
 -- as long as no station is known, no message has an observation
 bare-of : (m : AnyMessage) → station_after None m ≡ None → observes m ≡ false
 bare-of m is = elim (cases_Bool (observes m)) [
-  | inr no ↦ no
-  | inl yes ↦ absurd (timed m yes (unknown-at (station_of m) (tow_of m) (sym (ap (λ (b : Bool). cond b (station_at None (station_of m) (tow_of m)) None) yes) ∙ is)))
+  | inr fails ↦ fails
+  | inl holds ↦ absurd (timed m holds (unknown-at (station_of m) (tow_of m) (sym (ap (λ (b : Bool). cond b (station_at None (station_of m) (tow_of m)) None) holds) ∙ is)))
 ]
 
 -- the phases before a message are those of the station that is known after it
@@ -103,7 +103,7 @@ passed p before m ms station is other stand =
 
 pub none-known : (p : Phases) (before : Option ℕ) (m : AnyMessage) (ms : List AnyMessage) → None ≡ station_after before m → StandForStationPhases p before ms
     → (n : ℕ) → StandForPhases p (messages_from n (m ∷ ms))
-none-known p (Some k) m ms is stand n = let no : None ≡ Some k = is ∙ kept k m in cc
+none-known p (Some k) m ms is stand n = let fails : None ≡ Some k = is ∙ kept k m in cc
 none-known p None m ms is stand n = elim (cases_eq n (station_of m)) [
   | inl same ↦
       subst (λ (xs : List AnyMessage). StandForPhases p xs) (sym (own-message n m ms same)) (phases-bare p m (messages_from n ms) (bare-of m (sym is)) (stand n))
@@ -114,7 +114,7 @@ none-known p None m ms is stand n = elim (cases_eq n (station_of m)) [
 
 time-known : (known : Option ℕ) (n : ℕ) (b : Bool) → (unwrap_or known n == n) ≡ b → cond b (Some n) known ≡ Some (unwrap_or known n)
 time-known None n true is = refl
-time-known None n false is = let yes : (n == n) ≡ true = eq-eqb n n refl in cc
+time-known None n false is = let holds : (n == n) ≡ true = eq-eqb n n refl in cc
 time-known (Some k) n true is = ap Some (sym (eqb-true k n is))
 time-known (Some k) n false is = refl
 
@@ -135,3 +135,9 @@ station-of-dates now d m =
 pub station-of-date : (now : ℕ) (d : Dates) (o : Option DateMessage) → (with_date_if_any now d o).station ≡ d.station
 station-of-date now d None = refl
 station-of-date now d (Some m) = refl
+
+-- ---- no message came
+
+pub no-phases : (p : Phases) (station : Option ℕ) → StandForPhases p [] → StandForStationPhases p station []
+no-phases p None stand = λ n. stand
+no-phases p (Some n) stand = stand

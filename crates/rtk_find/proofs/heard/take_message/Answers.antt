@@ -1,4 +1,4 @@
-use Rattle.std.proofs.Common.{◌∙◌, arith}
+use Rattle.std.proofs.Common.{◌∙◌, ◌<◌, length, arith}
 use Rattle.rtk_find.proofs.HeardLemmas.{heard-more, heard-passed}
 use Rattle.rtk_find.proofs.heard.take_message.Goals as goal
 
@@ -6,7 +6,7 @@ pub returns-then-place-len-clause-stations : goal.returns-then-place-len-clause-
 returns-then-place-len-clause-stations c = λ ms stand.
     let place = c.from-place.ensures ∙ c.station.ensures in
     let known = c.args.stations.now.ok.0 in
-    let within = omega (arith, known, c.if-place-len.true) in
+    let within : c.from-place.result < length c.args.stations.now.items = omega (arith, known, c.if-place-len.true) in
     heard-more c.args.stations.now.items c.args.message.now ms c.from-place.result c.take.new.self place within stand
     (c.take.ensures c.from-place.result ms place (c.index_mut.ensures.value ∙ stand c.from-place.result c.index_mut.result.now within))
 

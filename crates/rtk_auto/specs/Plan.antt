@@ -1,0 +1,47 @@
+-- What a conversion is told, by what was found and what words say (this project's rule).
+use Rattle.std.specs.Prelude.{◌≡◌, ℕ, Bool, List, filter, map, Option, None, Some}
+use Rattle.std.specs.Borrow.{Bor}
+use Rattle.std.specs.declared.vec.Vec.{Vec}
+use Rattle.rtk_message.specs.declared.msm_kind.MsmKind.{MsmKind}
+use Rattle.rtk_obs.specs.declared.code.Code.{Code}
+use Rattle.rtk_obs.specs.Code.{all_codes}
+use Rattle.rtk_obs.specs.CivilText.{last_digits}
+use Rattle.rtk_convert.specs.Setup.{SetupView}
+use Rattle.rtk_summary.specs.Proposal.{epochs_with_value, entries_with, proposed}
+use Rattle.rtk_summary.specs.ReadFrames.{ReadFrame, messages_in, messages_from}
+use Rattle.rtk_summary.specs.Standing.{StandsForFrames}
+use Rattle.rtk_summary.specs.Tracing.{has_code}
+use Rattle.rtk_find.specs.ChosenStation.{IsMarked, IsOnlyMarked}
+use Rattle.rtk_find.specs.declared.finding.Findings.{Findings}
+use Rattle.rtk_auto.specs.declared.wanted.Wanted.{Wanted}
+
+-- the station that is named, if it has observations; else the only one that has
+abbrev pub IsChosenStation : List Bool → Option ℕ → ℕ → Type 0
+IsChosenStation marks None station = IsOnlyMarked marks station
+IsChosenStation marks (Some named) station = (station ≡ named) × IsMarked marks station
+
+-- the MSM that is named; else the one of which the station has most epochs with a value
+abbrev pub msm_chosen : Option MsmKind → List ReadFrame → ℕ → MsmKind
+msm_chosen None fs station = proposed (λ kind. epochs_with_value kind (messages_from station (messages_in fs)))
+msm_chosen (Some named) fs station = named
+
+-- the codes that are named; else all of which the station has a value
+abbrev pub codes_chosen : {A : Type 0} → Option (Vec Code A) → List ReadFrame → ℕ → MsmKind → List Code
+codes_chosen None fs station msm = filter (has_code (entries_with msm (messages_from station (messages_in fs)))) all_codes
+codes_chosen (Some named) fs station msm = named.items
+
+-- formula
+-- the marker that is named; else the station's number in four digits
+abbrev pub marker_chosen : Option (Bor (List ℕ)) → ℕ → List ℕ
+marker_chosen None station = last_digits 4 station
+marker_chosen (Some named) station = named.now
+
+-- the setup of a conversion of the captures in which this was found, by these words and at this time of
+-- making: each value is named or found
+pub record IsSetupFor (f : Findings) (w : Wanted) (made : ℕ) (s : SetupView) : Type 0 where
+  pub station : IsChosenStation f.observing.items w.station s.station
+  pub msm : (fs : List ReadFrame) → StandsForFrames f.summary fs → s.msm ≡ msm_chosen w.msm fs s.station
+  pub listed : (fs : List ReadFrame) → StandsForFrames f.summary fs → s.head.listed ≡ codes_chosen w.codes fs s.station s.msm
+  pub marker : s.head.marker ≡ marker_chosen w.marker s.station
+  pub made_at : s.head.made ≡ made
+  pub window : s.window ≡ w.window
