@@ -32,7 +32,8 @@ pub use capture_dates::CaptureDates;
 pub use date_message::{DateMessage, EphemerisDate, UtcDate, date_in};
 pub use laws::{dates_are_nearest, told_moments_are_nearest};
 pub use placing::{
-    CaptureEpochs, Placed, base_of, is_dated_near, least_with_if_any, near_of, place, place_captures,
+    CaptureEpochs, Placed, base_of, is_dated_near, least_with_if_any, near_of, place,
+    place_captures,
 };
 pub use span::Span;
 pub use telling::{dated, is_date, moment_of, told};

@@ -10,7 +10,7 @@ use Rattle.rtk_summary.specs.declared.look.Look.{Look}
 use Rattle.rtk_summary.specs.Following.{FollowsAll, FollowsCapture}
 use Rattle.rtk_summary.specs.ReadFrames.{ReadFrame, messages_in}
 use Rattle.rtk_summary.specs.declared.reading.CaptureRead.{CaptureRead}
-use Rattle.rtk_find.specs.Captures.{Finds, TakesFrame, look_if_empty, known_or, first_told, capture_of, ReadsCapture}
+use Rattle.rtk_find.specs.Captures.{StandsForCaptures, TakesFrame, look_if_empty, known_or, first_told, capture_dated, ReadsCapture}
 use Rattle.rtk_find.specs.Finding.{dates_with, dates_after, with_reading, dates_of, StandForStationPhases}
 use Rattle.rtk_find.specs.Heard.{heard_if_known, first_station, HoldsCapture}
 use Rattle.rtk_find.specs.declared.capture_found.CaptureFound.{CaptureFound}
@@ -31,8 +31,8 @@ contents-all : (before : List ReadFrame) (a b : Findings) (fs : List ReadFrame) 
 contents-all before a b [] none holds = subst (λ (f : Findings). HoldsCapture f.contents before) (sym none) holds
 contents-all before a b (f ∷ fs) some holds = let last = some.2 in last.contents (fs ++ before) (contents-all before a some.0 fs some.1 holds)
 
-finds-all : (now : ℕ) (before : List ReadFrame) (a b : Findings) (fs : List ReadFrame) → FollowsAll TakesFrame a fs b → Finds now before a → Finds now (fs ++ before) b
-finds-all now before a b [] none finds = subst (λ (f : Findings). Finds now before f) (sym none) finds
+finds-all : (now : ℕ) (before : List ReadFrame) (a b : Findings) (fs : List ReadFrame) → FollowsAll TakesFrame a fs b → StandsForCaptures now before a → StandsForCaptures now (fs ++ before) b
+finds-all now before a b [] none finds = subst (λ (f : Findings). StandsForCaptures now before f) (sym none) finds
 finds-all now before a b (f ∷ fs) some finds =
     let last = some.2 in
     let had = finds-all now before a some.0 fs some.1 finds in
@@ -56,7 +56,7 @@ dates-all a b (f ∷ fs) some =
 -- a capture more, of which this station is known, or none: before, after its frames, after it is kept
 pub reads-capture : (given_old given_new : Option (List ℕ)) (read : CaptureRead) (old mid new : Findings) (contents : Contents) (d : Dates) (found : CaptureFound)
     → d ≡ dates_with old.dates.station no_dates → HoldsCapture contents [] → FollowsCapture TakesFrame given_old given_new read (record old { contents = contents; dates = d }) mid
-    → ((fs : List ReadFrame) (bytes : List ℕ) → HoldsCapture mid.contents fs → read.head.items ≡ take 512 bytes → found ≡ capture_of mid.dates bytes fs)
+    → ((fs : List ReadFrame) (bytes : List ℕ) → HoldsCapture mid.contents fs → read.head.items ≡ take 512 bytes → found ≡ capture_dated mid.dates bytes fs)
     → new ≡ record mid { captures = new.captures } → new.captures.items ≡ mid.captures.items ++ found ∷ [] → ReadsCapture given_old given_new old found new
 reads-capture given_old given_new read old mid new contents d found fresh empty f is kept more =
     let begun : Findings = record old { contents = contents; dates = d } in
@@ -71,15 +71,18 @@ reads-capture given_old given_new read old mid new contents d found fresh empty 
       f.3,
       record {
         stands = λ now before s.
-            let s' : Finds now before begun = record {
-              present = s.present; summary = s.summary; size = s.size; observing = s.observing;
-              phases = subst (λ (o : Option ℕ). StandForStationPhases old.phases o (messages_in before)) (sym station) s.phases
+            let s' : StandsForCaptures now before begun = record {
+              present = s.present;
+              summary = s.summary;
+              size = s.size;
+              observing = s.observing;
+              phases = subst (λ (o : Option ℕ). StandForStationPhases old.phases o (messages_in before)) (sym station) s.phases;
             } in
             let t = finds-all now before begun mid fs f.6 s' in
-            subst (λ (x : Findings). Finds now (fs ++ before) x) (sym kept)
+            subst (λ (x : Findings). StandsForCaptures now (fs ++ before) x) (sym kept)
             (record { present = t.present; summary = t.summary; size = t.size; observing = t.observing; phases = t.phases });
         dates = ap (λ (x : Findings). x.dates) kept ∙ dates;
-        found_is = is fs bytes holds f.5 ∙ ap (λ (x : Dates). capture_of x bytes fs) dates;
+        found_is = is fs bytes holds f.5 ∙ ap (λ (x : Dates). capture_dated x bytes fs) dates;
         captures = more ∙ ap (λ cs. cs.items ++ found ∷ []) (captures-all begun mid fs f.6);
       },
     )
@@ -92,7 +95,7 @@ capture_parts frames look station heard span told dates =
 pub capture-same : (frames : ℕ) (look : Option Look) (station : Option ℕ) (heard : Heard) (told : Option Told) (count : List Told) (d : Dates) (bytes : List ℕ) (fs : List ReadFrame)
     → frames ≡ shown_count (length fs) → look ≡ look_if_empty (length fs) bytes → station ≡ known_or d.station (first_station (messages_in fs))
     → heard ≡ heard_if_known station (messages_in fs) → told ≡ first_told count → count ≡ counting d.capture.told
-    → capture_parts frames look station heard d.capture.span told (length count) ≡ capture_of d bytes fs
+    → capture_parts frames look station heard d.capture.span told (length count) ≡ capture_dated d bytes fs
 capture-same frames look station heard told count d bytes fs a b s h t n =
     let known : Option ℕ = known_or d.station (first_station (messages_in fs)) in
     let ms : List AnyMessage = messages_in fs in

@@ -17,7 +17,7 @@ use Rattle.rtk_find.specs.declared.finding.Dates.{Dates}
 use Rattle.rtk_find.specs.declared.finding.Findings.{Findings}
 
 -- what was found stands for the frames of all captures so far
-pub record Finds (now : ℕ) (fs : List ReadFrame) (f : Findings) : Type 0 where
+pub record StandsForCaptures (now : ℕ) (fs : List ReadFrame) (f : Findings) : Type 0 where
   -- the present
   pub present : f.present ≡ now
   -- what they hold
@@ -68,17 +68,17 @@ capture_with d station bytes fs = record {
 }
 
 -- the station is the one that is known by its dates, else that of the first message
-abbrev pub capture_of : Dates → List ℕ → List ReadFrame → CaptureFound
-capture_of d bytes fs = capture_with d (known_or d.station (first_station (messages_in fs))) bytes fs
+abbrev pub capture_dated : Dates → List ℕ → List ReadFrame → CaptureFound
+capture_dated d bytes fs = capture_with d (known_or d.station (first_station (messages_in fs))) bytes fs
 
 -- a capture with these bytes and frames, by the present, if this station was known before it, or none
 abbrev pub capture_found : ℕ → Option ℕ → List ℕ → List ReadFrame → CaptureFound
-capture_found now known bytes fs = capture_of (dates_of now known fs) bytes fs
+capture_found now known bytes fs = capture_dated (dates_of now known fs) bytes fs
 
 -- a capture more with these bytes and frames: before, what was found of it, after
 pub record FindsCapture (bytes : List ℕ) (fs : List ReadFrame) (old : Findings) (found : CaptureFound) (new : Findings) : Type 0 where
   -- whatever was found before, it now stands for these frames too
-  pub stands : (now : ℕ) (before : List ReadFrame) → Finds now before old → Finds now (fs ++ before) new
+  pub stands : (now : ℕ) (before : List ReadFrame) → StandsForCaptures now before old → StandsForCaptures now (fs ++ before) new
   -- what these frames alone tell of their dates; the station that they have stays known
   pub dates : new.dates ≡ dates_of old.present old.dates.station fs
   pub found_is : found ≡ capture_found old.present old.dates.station bytes fs

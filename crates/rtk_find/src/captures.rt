@@ -47,9 +47,9 @@ fn first_told(told: &[Told]) -> Option<Told>
 }
 
 // What was found of the capture that was read.
-fn capture_of(contents: &Contents, dates: &Dates, head: &[u8]) -> CaptureFound
+fn capture_dated(contents: &Contents, dates: &Dates, head: &[u8]) -> CaptureFound
     ensures { (fs : List ReadFrame) (bytes : List ℕ) → HoldsCapture contents.now fs → head.now ≡ take 512 bytes
-        → result ≡ spec.capture_of dates.now bytes fs }
+        → result ≡ spec.capture_dated dates.now bytes fs }
 {
     let station = known_or(dates.station, contents.first);
     let counting = dates.capture.told.counting();
@@ -94,7 +94,7 @@ impl Findings {
         self.contents = Contents::new(alloc)?;
         self.dates = Dates::new(self.dates.station);
         let read = read_capture(alloc, reader, self, max_reads)?;
-        let found = capture_of(&self.contents, &self.dates, read.head.as_slice());
+        let found = capture_dated(&self.contents, &self.dates, read.head.as_slice());
         keep(&mut self.captures, &found).ok_or(SummaryFault::OutOfMemory)
     }
 

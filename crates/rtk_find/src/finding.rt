@@ -5,7 +5,7 @@ ghost use Rattle.rtk_message.specs.declared.any_message.AnyMessage.{AnyMessage};
 ghost use Rattle.rtk_dates.specs.CaptureDates.{no_dates};
 ghost use Rattle.rtk_summary.specs.Tracing.{entries_of_message};
 ghost use Rattle.rtk_find.specs.Finding.{observes, dates_with, with_observation, with_date_if_any, station_after, MarkObserving, StandForStationPhases};
-ghost use Rattle.rtk_find.specs.Captures.{TakesFrame, Finds};
+ghost use Rattle.rtk_find.specs.Captures.{TakesFrame, StandsForCaptures};
 
 use crate::capture_found::CaptureFound;
 use crate::heard::{Contents, STATIONS};
@@ -143,7 +143,7 @@ fn take_phases(
 impl Findings {
     /// Nothing came. `station` is the station that is named, if one is.
     pub fn new(alloc: Global, now: GpsMs, station: Option<u16>) -> Result<Findings, AllocError>
-        ensures found { IfOk result (λ findings. Finds now [] findings) }
+        ensures found { IfOk result (λ findings. StandsForCaptures now [] findings) }
         ensures station { IfOk result (λ findings. findings.dates ≡ dates_with station no_dates) }
         ensures captures { IfOk result (λ findings. findings.captures.items ≡ []) }
     {

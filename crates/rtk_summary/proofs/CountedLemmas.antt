@@ -1,5 +1,5 @@
 -- What follows the frames of a capture stands for them.
-use Rattle.std.proofs.Common.{List, [], ◌++◌, Option, Result, Ok, Err, ℕ, subst}
+use Rattle.std.proofs.Common.{List, [], Option, Result, Ok, Err, ℕ, subst}
 use Rattle.std.specs.Prelude.{IfOk}
 use Rattle.std.proofs.lemmas.List.{append-nil}
 use Rattle.rtk_summary.specs.Following.{FollowsCapture}

@@ -1,13 +1,12 @@
 -- The lines of what a summary holds.
 use Rattle.std.proofs.Common.{◌≡◌, ◌<◌, ◌+◌, ◌/◌, ◌%◌, ◌==◌, ℕ, suc, Bool, true, false, ◌&&◌, not, cond, List, [], ◌∷◌, ◌++◌, length, get_or, drop, decimal, refl, sym, ap, ◌∙◌, append_assoc, drop-cons, lit<, arith}
-use Rattle.std.proofs.Math.Dec.{eqb-suc-zero}
 use Rattle.std.specs.Prelude.{flat_map, filter, codes}
 use Rattle.std.specs.List.{range_with_len}
 use Rattle.rtk_obs.specs.declared.code.Code.{Code}
 use Rattle.rtk_obs.specs.Code.{name_of, place_of, all_codes}
 use Rattle.rtk_message.specs.declared.msm_kind.MsmKind.{MsmKind}
 use Rattle.rtk_message.specs.declared.any_message.AnyMessage.{AnyMessage}
-use Rattle.rtk_summary.specs.Counting.{shown_count, count_of}
+use Rattle.rtk_summary.specs.Counting.{count_of}
 use Rattle.rtk_summary.specs.DatesTold.{has_date, proposed_date}
 use Rattle.rtk_summary.specs.Proposal.{epochs_with_value, entries_with}
 use Rattle.rtk_summary.specs.Summary.{all_numbers, station_lines, lines_if_any}

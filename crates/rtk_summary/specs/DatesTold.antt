@@ -1,6 +1,6 @@
 -- What the frames of a capture tell of dates (this project's rule). Lists of frames and of date messages
 -- are newest first.
-use Rattle.std.specs.Prelude.{ℕ, ◌==◌, Bool, true, false, ◌&&◌, ◌||◌, List, [], ◌∷◌, Option, None, Some, is_some, Result, Ok, Err, if◌then◌else◌}
+use Rattle.std.specs.Prelude.{ℕ, ◌==◌, Bool, true, false, ◌&&◌, ◌||◌, List, [], ◌∷◌, Option, None, Some, is_some, Result, Ok, Err}
 use Rattle.std.specs.List.{filter_map}
 use Rattle.rtk_bits.specs.Bits.{bits}
 use Rattle.rtk_message.specs.declared.any_message.AnyMessage.{AnyMessage}

@@ -29,8 +29,7 @@ abbrev pub is_rinex : List ℕ → Bool
 is_rinex head = starts_with nat_eq (drop 60 head) (codes "RINEX VERSION / TYPE") || starts_with nat_eq (drop 60 head) (codes "CRINEX VERS   / TYPE")
 
 -- constant
--- a sentence begins with $ or !, and two capitals that name who talks
--- Source: NMEA 0183
+-- a sentence of NMEA 0183 begins with $ or !, and two capitals that name who talks
 abbrev pub is_nmea : List ℕ → Bool
 is_nmea head =
     nat_lt 2 (length head) && (((get_or head 0 0 == 36) || (get_or head 0 0 == 33)) && (is_capital (get_or head 1 0) && is_capital (get_or head 2 0)))
@@ -49,8 +48,7 @@ abbrev pub look_of_text : List ℕ → Look
 look_of_text head = if is_rinex head then Rinex else if is_nmea head then Nmea else if is_hex head then HexText else Unknown
 
 -- table
--- the first of these that it is
--- Source: RFC 1952, 2.3.1 (gzip); APPNOTE.TXT, 4.3.7 (zip); u-blox, UBX frame structure
+-- the first of these that it is: gzip (RFC 1952, 2.3.1), zip (APPNOTE.TXT, 4.3.7), u-blox (frame of UBX)
 abbrev pub look_of : List ℕ → Look
 look_of head =
     if length head == 0 then Empty else

@@ -1,4 +1,4 @@
-use Rattle.std.proofs.Common.{◌≡◌, ◌++◌, ◌-◌, ℕ, List, length, codes, ap, sym, ◌∙◌, append_assoc}
+use Rattle.std.proofs.Common.{◌++◌, ◌-◌, ℕ, List, length, codes, ap, sym, ◌∙◌, append_assoc}
 use Rattle.rtk_summary.specs.Counting.{shown_count}
 use Rattle.rtk_summary.specs.ReadFrames.{bytes_in}
 use Rattle.rtk_summary.specs.SummaryText.{number_line}

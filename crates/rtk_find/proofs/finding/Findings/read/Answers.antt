@@ -11,5 +11,5 @@ returns-clause-found g c =
     (λ kept facts. reads-capture (g.R.Source.given c.args.reader.now) (g.R.Source.given c.read_capture.new.reader) c.in_ok-read.read c.args.self.now mid
     (record mid { captures = c.keep.new.captures }) c.in_ok-self.field-0 c.new-self.result kept
     c.new-self.ensures c.in_ok-self.ensures c.in_ok-read.ensures.read
-    (λ fs bytes holds begins. facts.0 ∙ c.capture_of-found.ensures fs bytes holds (c.as_slice.ensures.value ∙ begins))
+    (λ fs bytes holds begins. facts.0 ∙ c.capture_dated-found.ensures fs bytes holds (c.as_slice.ensures.value ∙ begins))
     refl (facts.1 ∙ ap (λ (x : CaptureFound). mid.captures.items ++ x ∷ []) (sym facts.0)))

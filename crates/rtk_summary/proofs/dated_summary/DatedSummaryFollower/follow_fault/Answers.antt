@@ -1,4 +1,3 @@
-use Rattle.std.proofs.Common.{ap, ◌∙◌}
 use Rattle.rtk_summary.proofs.DateLemmas.{dates-more}
 use Rattle.rtk_summary.proofs.dated_summary.DatedSummaryFollower.follow_fault.Goals as goal
 

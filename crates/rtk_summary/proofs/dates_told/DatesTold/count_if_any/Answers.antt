@@ -1,4 +1,4 @@
-use Rattle.std.proofs.Common.{◌≡◌, ◌∷◌, Some, List, subst}
+use Rattle.std.proofs.Common.{◌∷◌, subst}
 use Rattle.rtk_dates.specs.declared.date_message.DateMessage.{DateMessage}
 use Rattle.rtk_summary.specs.StandingDates.{StandsForDates}
 use Rattle.rtk_summary.proofs.DateLemmas.{some-same}

@@ -1,4 +1,3 @@
-use Rattle.std.proofs.Common.{refl}
 use Rattle.rtk_summary.proofs.DateLemmas.{fresh-dates}
 use Rattle.rtk_summary.proofs.FreshLemmas.{as-many, zeros}
 use Rattle.rtk_summary.proofs.dates_told.DatesTold.new.Goals as goal

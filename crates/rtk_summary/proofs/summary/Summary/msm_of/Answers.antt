@@ -1,4 +1,4 @@
-use Rattle.std.proofs.Common.{◌≡◌, ℕ, List, length, sym, ap, subst, ◌∙◌, arith}
+use Rattle.std.proofs.Common.{ℕ, List, length, sym, ap, subst, ◌∙◌, arith}
 use Rattle.rtk_summary.specs.Proposal.{epochs_with_value, proposed}
 use Rattle.rtk_summary.specs.ReadFrames.{messages_in, messages_from}
 use Rattle.rtk_summary.specs.Standing.{StandForStations}

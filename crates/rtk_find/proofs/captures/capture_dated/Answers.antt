@@ -7,7 +7,7 @@ use Rattle.rtk_find.specs.Captures.{look_if_empty, known_or, first_told}
 use Rattle.rtk_find.specs.Heard.{heard_if_known, first_station}
 use Rattle.rtk_find.specs.declared.heard.Heard.{Heard}
 use Rattle.rtk_find.proofs.FoundLemmas.{capture-same}
-use Rattle.rtk_find.proofs.captures.capture_of.Goals as goal
+use Rattle.rtk_find.proofs.captures.capture_dated.Goals as goal
 
 pub returns : goal.returns
 returns c = λ fs bytes holds begins.
