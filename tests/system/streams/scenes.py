@@ -1091,7 +1091,7 @@ def changed(words, file, before, change):
             to.truncate()
     os.kill(running[0], signal.SIGCONT)
     left = end(*running)
-    return same(left, run(Case("", (*words, written(f"{own()}.seen", seen)))))
+    return same(left, run(Case("", (*words, written(os.path.basename(link), seen)))))
 
 
 # `auto`, which looks at files, reads them twice, and writes a file beside its name.
