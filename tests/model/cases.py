@@ -409,7 +409,7 @@ def contents():
     yield "second_frequency_2p_and_2w", b"".join(second), (" codes 1C,2P,2W\n next ",)
     # pins: changes_in
     yield "week_ends", frame_of(legacy(604_799_000, [])) + frame_of(legacy(0, [])) + frame_of(legacy(0, [])), (
-        " time-of-week 604799000 0\n epoch-changes 1\n",)
+        " time-of-week 604799000 0\n changes-of-time 1\n",)
     untaken = b"".join(frame_of((number << 4).to_bytes(2, "big")) for number in (1004, 1077, 1001, 1073, 1003, 1084, 1077, 1001))
     # pins: untaken_numbers, messages_read
     yield "untaken_observations", untaken, (
@@ -482,6 +482,7 @@ def many_of_each():
         f"bytes {size}\noutside-frames 0\nframes {sum(counts.values())}\nstation 2003\n", *lines[:6],
         f" time-of-week {NOON} {NOON}\n changes-of-time 0\n satellites G05\n codes 1C\n",
         *(f" other-msm {it} 1\n" for it in MSMS[:3]), f" next rtcm2rinex convert --station 2003 --near {summaries.NO_DATE} {summaries.MADE} --marker 2003 --codes 1C --msm 7 many_of_each\n",
+        " auto rtcm2rinex auto --station 2003 -o 2003.rnx many_of_each\n",
         lines[6], f"untaken GPS 1073 {counts['other 1073']}\n", *lines[7:],
     )))
 
@@ -508,7 +509,7 @@ def greatest_summary():
         if station in (0, 4095):
             lines = summaries.summary_of(b"".join(stations[-1]), "greatest")
             block_of = lines[lines.index("station"):]
-        told.append(block_of.replace("station 0", f"station {station}"))
+        told.append(block_of.replace("station 0", f"station {station}").replace("0000", f"{station:04}"))
     all_codes = ",".join(CODES)
     assert f" codes {all_codes}\n" in told[-1] and f" codes {all_codes.replace(',2W', '')}\n second-frequency 2P\n" in told[0]
     assert " satellites " + " ".join(f"G{it:02}" for it in range(1, 33)) + "\n" in told[0]

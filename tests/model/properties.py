@@ -179,8 +179,8 @@ def shown_as_modelled(case: Case) -> Answer:
 
 
 def summarized_as_modelled(case: Case) -> Answer:
-    """`summary` tells of the bytes of all links, one after another, what the slow model counts."""
-    text = b"".join(case.links)
+    """`summary` tells of the bytes of all links, one after another and with dates among them, what the slow model counts."""
+    text = with_dates(case.rng, case.capture.setup, b"".join(case.links))
     return ends_with(case.program.on(text, "summary"), 0, summary_of(text).encode(), b"")
 
 
@@ -539,7 +539,7 @@ OFTEN = (
     Property(summarized_as_modelled, 20),
     Property(auto_as_modelled, 25),
     Property(charted_as_modelled, 20),
-    Property(cut_as_modelled, 16),
+    Property(cut_as_modelled, 15),
     Property(faults_are_named, 10),
 )
 
