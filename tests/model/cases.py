@@ -13,7 +13,7 @@ import model
 import parts
 import station
 import summaries
-from messages import CODES, SIGNALS
+from messages import CODES, SIGNALS, frames_of
 from model import Setup, moment
 from pictures import svg_picture
 from station import NOON
@@ -116,6 +116,9 @@ def hold_to_examples():
         found = convert(links, window, codes)
         if found[0].encode() != example(text) or (said and found[1].encode() != example(said)):
             sys.exit(f"cases: the model does not write {text}")
+    session = example("session.rtcm")
+    third = frames_of(session)[2].end
+    assert example("dated.rtcm") == session[:third] + station.date(43_201) + session[third:]
 
 
 # ---------------------------------------------------------------- small captures, each with its report in words
