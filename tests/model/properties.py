@@ -217,10 +217,14 @@ def auto_as_modelled(case: Case) -> Answer:
     said = Setup(found.station, found.near, now, setup.marker, tuple(found.codes), setup.window, found.msm - 1070)
     due = convert(said, [b"".join(texts[at] for at in link) for link in found.links])
     text = auto_text(found, said, due, texts, near is None).encode()
-    if len(found.links) > 1 and re.search(rb"^(late|conflict) [1-9]", run.err + text, re.M):
-        # the reads of several links are cut elsewhere where their captures end
-        is_said = run.err.startswith(text[: text.index(b"\nframes ")])
-        return HOLDS if is_said and run.status in (0, 3) else f"{run.err!r} and not {text!r}"
+    if len(found.links) > 1:
+        # The reads of several links are cut elsewhere where their captures end: what was told before is told again, or the other
+        # way round; and if something is late or in conflict, it may be something else.
+        if re.search(rb"^(late|conflict) [1-9]", run.err + text, re.M):
+            is_said = run.err.startswith(text[: text.index(b"\nframes ")])
+            return HOLDS if is_said and run.status in (0, 3) else f"{run.err!r} and not {text!r}"
+        text, told = (re.sub(rb"^(taken|repeat) \d+$", b"", it, flags=re.M) for it in (text, run.err))
+        run = run._replace(err=told)
     return ends_with(run, 0 if due.epochs else 3, due.file.encode(), text)
 
 
