@@ -126,14 +126,18 @@ def hold_to_examples():
 
 def links_of_sixteen(cases):
     """Each of the 16 links in the report."""
+    # pins: lines, counted, refused_line, link_text, count_lines, count_line
     case(cases, "refused_on_each_link", [NO_NUMBER] * 16, told=report(
         *(f"link {it} refused M1 -" for it in range(1, 17)), refused=16, epochs=0))
+    # pins: cell_conflict_line, signal_text, epoch_text, civil_text
     case(cases, "conflict_on_each_link", [at(0, l1_cnr=180 + it) for it in range(16)], told=report(
         *(f"link {it} conflict 1004 {TOLD}00.000 G05 1C" for it in range(2, 17)), taken=1, conflict=15, epochs=1))
     case(cases, "late_on_each_link", [at(10) + at(11), *[at(5)] * 15], window=2, told=report(
         *(f"link {it} late 1004 {TOLD}05.000" for it in range(2, 17)), taken=2, late=15, epochs=2))
+    # pins: late_line, arrival_text
     case(cases, "late_1006_of_link_16", [b""] * 15 + [at(0) + at(1) + place(1006)], window=2, told=report(
         "link 16 late 1006 -", taken=2, late=1, epochs=2))
+    # pins: conflict_line
     case(cases, "conflict_of_1006_on_link_16", [ARP + place(1006)] + [b""] * 14 + [place(1006, single_oscillator=1)], told=report(
         "link 16 conflict 1006 -", taken=2, conflict=1, epochs=0))
     # one that equals the kept one is never late, one that differs is late and no more in conflict
