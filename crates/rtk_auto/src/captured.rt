@@ -18,14 +18,18 @@ pub struct Captured<'a> {
     pub differing: &'a [DifferingDate],
 }
 
-impl Captured<'_> {
+impl<'a> Captured<'a> {
     /// The name of a capture.
-    pub(crate) fn name(&self, place: usize) -> &str {
-        self.names.get(place).copied().unwrap_or("")
+    pub(crate) fn name(&self, place: usize) -> &'a str {
+        if place < self.names.len() {
+            self.names[place]
+        } else {
+            ""
+        }
     }
 
-    // The captures, as they were given.
-    fn captures(&self) -> &[CaptureFound] {
+    /// The captures, as they were given.
+    pub(crate) fn captures(&self) -> &[CaptureFound] {
         self.findings.captures.as_slice()
     }
 

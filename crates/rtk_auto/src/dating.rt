@@ -1,7 +1,6 @@
 //! The dates of the captures that are converted.
 
 use crate::captured::Captured;
-use crate::kept::Kept;
 use crate::refusal::{PlanFault, Refusal, refused};
 use crate::span_line::{DateSource, DatedSpan};
 use rtk_dates::{DateMessage, Placed};
@@ -89,7 +88,7 @@ fn dating_by(
     base: Base,
     station: u16,
 ) -> Result<Dating, PlanFault> {
-    let placed = place_captures(alloc, base, captures)?;
+    let placed = place_captures(alloc, &base, captures)?;
     let Some(reach) = reach_of(placed.as_slice()) else {
         return refused(Refusal::NoObservation, Vec::new(alloc));
     };
@@ -109,11 +108,10 @@ fn dating_by(
 pub(crate) fn date_captures(
     alloc: Global,
     captured: &Captured<'_>,
-    kept: &Kept,
     near: Option<GpsMs>,
     station: u16,
 ) -> Result<Dating, PlanFault> {
-    let captures = kept.captures.as_slice();
+    let captures = captured.captures();
     let base = base(alloc, captured, captures, near)?;
     dating_by(alloc, captures, base, station)
 }

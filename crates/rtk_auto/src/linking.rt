@@ -1,11 +1,11 @@
 //! The links of the captures that are converted.
 
 use crate::captured::Captured;
-use crate::kept::Kept;
+use crate::kept::is_of;
 use crate::lists::put_position_line;
 use crate::refusal::{PlanFault, Refusal, refused};
 use rtk_dates::Placed;
-use rtk_find::{Ordered, ReferencePoint, far_links, in_order, links_of, points_of_links};
+use rtk_find::{CaptureFound, Ordered, ReferencePoint, are_far, in_order, links_of};
 use std::alloc::{AllocError, Global};
 
 /// The most links of a conversion.
@@ -27,17 +27,22 @@ fn put_capture(
     Ok(())
 }
 
-// The captures of each link, in the order in which they are taken, by their places as they were given.
+// The captures of each link, in the order in which they are taken, by their places. Those that have
+// nothing of the station are left out.
 fn captures_of_links(
     alloc: Global,
+    station: u16,
+    captures: &[CaptureFound],
     ordered: &[Ordered],
     links: &[usize],
-    places: &[usize],
 ) -> Result<Vec<Vec<usize>>, AllocError> {
     let mut joined: Vec<Vec<usize>> = Vec::new(alloc);
-    for (capture, link) in ordered.iter().zip(links.iter()) {
-        let place = places.get(capture.given).copied().unwrap_or(0);
-        put_capture(alloc, &mut joined, *link, place)?;
+    let count = ordered.len().min(links.len());
+    for at in 0..count {
+        let place = ordered[at].given;
+        if place < captures.len() && is_of(station, &captures[place]) {
+            put_capture(alloc, &mut joined, links[at], place)?;
+        }
     }
     Ok(joined)
 }
@@ -69,12 +74,64 @@ fn few_links(
     )
 }
 
+// The position of a link: that of its first capture that has one.
+fn point_of_link(captures: &[CaptureFound], link: &[usize]) -> Option<ReferencePoint> {
+    for place in link {
+        let place = *place;
+        if place < captures.len() && captures[place].heard.point.is_some() {
+            return captures[place].heard.point;
+        }
+    }
+    None
+}
+
+// The position of each link.
+fn points_of_links(
+    alloc: Global,
+    captures: &[CaptureFound],
+    links: &[Vec<usize>],
+) -> Result<Vec<Option<ReferencePoint>>, AllocError> {
+    let mut points = Vec::new(alloc);
+    for link in links {
+        points.push(point_of_link(captures, link.as_slice()))?;
+    }
+    Ok(points)
+}
+
+// Are two positions, if both are known, more than 100 m apart?
+fn are_apart(a: Option<ReferencePoint>, b: Option<ReferencePoint>) -> bool {
+    match (a, b) {
+        (Some(a), Some(b)) => are_far(&a, &b),
+        _ => false,
+    }
+}
+
+// The first link that is far from this one.
+fn link_far_from(points: &[Option<ReferencePoint>], link: usize) -> Option<usize> {
+    for other in 0..points.len() {
+        if link < points.len() && are_apart(points[link], points[other]) {
+            return Some(other);
+        }
+    }
+    None
+}
+
+// Two links that are far from one another.
+fn far_links(points: &[Option<ReferencePoint>]) -> Option<(usize, usize)> {
+    for link in 0..points.len() {
+        if let Some(other) = link_far_from(points, link) {
+            return Some((link, other));
+        }
+    }
+    None
+}
+
 // Appends the position of a link, with the name of its first capture.
 fn put_position(
     lines: &mut Vec<u8>,
     captured: &Captured<'_>,
     links: &[Vec<usize>],
-    points: &[Option<ReferencePoint>; MOST_LINKS],
+    points: &[Option<ReferencePoint>],
     link: usize,
 ) -> Result<(), AllocError> {
     if let (Some(captures), Some(Some(point))) = (links.get(link), points.get(link)) {
@@ -89,7 +146,7 @@ fn list_positions(
     alloc: Global,
     captured: &Captured<'_>,
     links: &[Vec<usize>],
-    points: &[Option<ReferencePoint>; MOST_LINKS],
+    points: &[Option<ReferencePoint>],
     apart: (usize, usize),
 ) -> Result<Vec<u8>, AllocError> {
     let mut lines = Vec::new(alloc);
@@ -98,38 +155,53 @@ fn list_positions(
     Ok(lines)
 }
 
+// The links, if their positions agree.
+fn links_together(
+    alloc: Global,
+    captured: &Captured<'_>,
+    links: Vec<Vec<usize>>,
+) -> Result<Vec<Vec<usize>>, PlanFault> {
+    let points = points_of_links(alloc, captured.captures(), links.as_slice())?;
+    match far_links(points.as_slice()) {
+        Some(apart) => refused(
+            Refusal::PositionsDiffer,
+            list_positions(alloc, captured, links.as_slice(), points.as_slice(), apart)?,
+        ),
+        None => Ok(links),
+    }
+}
+
 /// The links: captures that follow one another are joined, and captures of the same time are links.
 pub(crate) fn links_found(
     alloc: Global,
     captured: &Captured<'_>,
-    kept: &Kept,
+    station: u16,
     placed: &[Option<Placed>],
 ) -> Result<Vec<Vec<usize>>, PlanFault> {
     let ordered = in_order(alloc, placed)?;
     let numbers = links_of(alloc, ordered.as_slice())?;
     let links = captures_of_links(
         alloc,
+        station,
+        captured.captures(),
         ordered.as_slice(),
         numbers.as_slice(),
-        kept.places.as_slice(),
     )?;
     let links = few_links(alloc, captured, links)?;
-    let captures = kept.captures.as_slice();
-    let points = points_of_links(captures, ordered.as_slice(), numbers.as_slice());
-    match far_links(&points) {
-        Some(apart) => refused(
-            Refusal::PositionsDiffer,
-            list_positions(alloc, captured, links.as_slice(), &points, apart)?,
-        ),
-        None => Ok(links),
-    }
+    links_together(alloc, captured, links)
 }
 
-// A link for each capture.
-fn links_of_one(alloc: Global, places: &[usize]) -> Result<Vec<Vec<usize>>, AllocError> {
+// A link for each capture that has something of the station.
+fn links_of_one(
+    alloc: Global,
+    station: u16,
+    captures: &[CaptureFound],
+) -> Result<Vec<Vec<usize>>, AllocError> {
     let mut links = Vec::new(alloc);
-    for place in places {
-        links.push(Vec::from_slice(alloc, &[*place])?)?;
+    for place in 0..captures.len() {
+        if is_of(station, &captures[place]) {
+            links.push(Vec::from_slice(alloc, &[place])?)?;
+        }
     }
     Ok(links)
 }
@@ -138,8 +210,8 @@ fn links_of_one(alloc: Global, places: &[usize]) -> Result<Vec<Vec<usize>>, Allo
 pub(crate) fn links_as_given(
     alloc: Global,
     captured: &Captured<'_>,
-    places: &[usize],
+    station: u16,
 ) -> Result<Vec<Vec<usize>>, PlanFault> {
-    let links = links_of_one(alloc, places)?;
+    let links = links_of_one(alloc, station, captured.captures())?;
     few_links(alloc, captured, links)
 }

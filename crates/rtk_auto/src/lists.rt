@@ -2,7 +2,7 @@
 //!
 //! If memory is refused, a first part of what is put may stand there.
 
-ghost use Rattle.std.specs.Prelude.{◌≡◌, ◌++◌, OnOk};
+ghost use Rattle.std.specs.Prelude.{◌≡◌, ◌<◌, ◌++◌, OnOk};
 ghost use Rattle.rtk_auto.specs.Lists as spec;
 
 use crate::said_command::put_time;
@@ -122,7 +122,9 @@ fn put_systems(
     summary: &Summary,
     first: u16,
     last: u16,
-) -> Result<(), AllocError> {
+) -> Result<(), AllocError>
+    requires { last < 4096 }
+{
     for number in first..=last {
         put_count_line(lines, system_of(number), number, summary.others_of(number))?;
     }

@@ -1,6 +1,6 @@
 //! What a conversion of captures is told, from what they tell and what words say.
 
-ghost use Rattle.std.specs.Prelude.{◌≡◌, ◌<◌, ℕ, List, Some, filter, length, IfOk};
+ghost use Rattle.std.specs.Prelude.{◌≡◌, ◌<◌, ℕ, List, Some, length, IfOk, IsErr};
 ghost use Rattle.rtk_obs.specs.CivilText.{last_digits};
 ghost use Rattle.rtk_rinex.specs.Header.{IsHeadView};
 ghost use Rattle.rtk_summary.specs.ReadFrames.{ReadFrame};
@@ -10,7 +10,7 @@ ghost use Rattle.rtk_auto.specs.Plan.{IsChosenStation, msm_chosen, codes_chosen,
 
 use crate::captured::Captured;
 use crate::dating::{Dating, date_captures};
-use crate::kept::{Kept, kept_captures};
+use crate::kept::empty_captures;
 use crate::linking::{links_as_given, links_found};
 use crate::refusal::{PlanFault, Refusal, refused};
 use crate::span_line::DatedSpan;
@@ -36,7 +36,9 @@ pub struct Plan {
 }
 
 // No station has observations.
-fn no_observation<T: Drop>(alloc: Global, captured: &Captured<'_>) -> Result<T, PlanFault> {
+fn no_observation<T: Drop>(alloc: Global, captured: &Captured<'_>) -> Result<T, PlanFault>
+    ensures { IsErr result }
+{
     refused(Refusal::NoObservation, captured.list_unread(alloc)?)
 }
 
@@ -80,21 +82,21 @@ fn station_to_convert(
     }
 }
 
-// The captures that have something of the station; all of them must, unless others are left out.
-fn captures_to_convert(
+// The captures that have nothing of the station; there may be none, unless they are to be left out.
+fn captures_to_skip(
     alloc: Global,
     captured: &Captured<'_>,
     station: u16,
     skip_empty: bool,
-) -> Result<Kept, PlanFault> {
-    let kept = kept_captures(alloc, station, captured.findings.captures.as_slice())?;
-    if !skip_empty && !kept.empty.is_empty() {
+) -> Result<Vec<usize>, PlanFault> {
+    let empty = empty_captures(alloc, station, captured.captures())?;
+    if !skip_empty && !empty.is_empty() {
         return refused(
             Refusal::Empty { station },
             captured.list_empty(alloc, station)?,
         );
     }
-    Ok(kept)
+    Ok(empty)
 }
 
 // The codes that are converted.
@@ -141,7 +143,7 @@ fn head_of(
     made: GpsMs,
 ) -> Result<Head, PlanFault>
     ensures good { IfOk result IsHeadView }
-    ensures head { IfOk result (λ head. head ≡ record { marker = marker_chosen marker station; listed = codes.now; made = made }) }
+    ensures head { IfOk result (λ head. head ≡ record { marker = marker_chosen marker.entry station; listed = codes.now; made = made }) }
 {
     let digits = marker_of(station);
     let marker = match marker {
@@ -192,14 +194,14 @@ fn setup_near(
 fn links_to_convert(
     alloc: Global,
     captured: &Captured<'_>,
-    kept: &Kept,
+    station: u16,
     dating: &Dating,
     as_given: bool,
 ) -> Result<Vec<Vec<usize>>, PlanFault> {
     if as_given {
-        links_as_given(alloc, captured, kept.places.as_slice())
+        links_as_given(alloc, captured, station)
     } else {
-        links_found(alloc, captured, kept, dating.placed.as_slice())
+        links_found(alloc, captured, station, dating.placed.as_slice())
     }
 }
 
@@ -220,14 +222,14 @@ pub fn plan_of(
         return refused(Refusal::NoFrame, captured.list_all(alloc)?);
     }
     let station = station_to_convert(alloc, captured, wanted.station)?;
-    let kept = captures_to_convert(alloc, captured, station, skip_empty)?;
-    let dating = date_captures(alloc, captured, &kept, wanted.near, station)?;
+    let skipped = captures_to_skip(alloc, captured, station, skip_empty)?;
+    let dating = date_captures(alloc, captured, wanted.near, station)?;
     let setup = setup_near(alloc, captured, wanted, made, station, dating.near)?;
-    let links = links_to_convert(alloc, captured, &kept, &dating, as_given)?;
+    let links = links_to_convert(alloc, captured, station, &dating, as_given)?;
     Ok(Plan {
         setup,
         span: dating.span,
         links,
-        skipped: kept.empty,
+        skipped,
     })
 }

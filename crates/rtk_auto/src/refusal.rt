@@ -1,5 +1,7 @@
 //! Why `auto` writes no file, though its words are good.
 
+ghost use Rattle.std.specs.Prelude.{IsErr};
+
 use std::alloc::AllocError;
 use thiserror::Error;
 
@@ -76,6 +78,8 @@ impl From<AllocError> for PlanFault {
 }
 
 /// The captures don't allow a plan.
-pub(crate) fn refused<T: Drop>(refusal: Refusal, list: Vec<u8>) -> Result<T, PlanFault> {
+pub(crate) fn refused<T: Drop>(refusal: Refusal, list: Vec<u8>) -> Result<T, PlanFault>
+    ensures { IsErr result }
+{
     Err(PlanFault::Refused { refusal, list })
 }
