@@ -13,7 +13,7 @@ import model
 import parts
 import station
 import summaries
-from messages import CODES, SIGNALS
+from messages import CODES, SIGNALS, frames_of
 from model import Setup, moment
 from pictures import svg_picture
 from station import NOON
@@ -116,6 +116,9 @@ def hold_to_examples():
         found = convert(links, window, codes)
         if found[0].encode() != example(text) or (said and found[1].encode() != example(said)):
             sys.exit(f"cases: the model does not write {text}")
+    session = example("session.rtcm")
+    third = frames_of(session)[2].end
+    assert example("dated.rtcm") == session[:third] + station.date(43_201) + session[third:]
 
 
 # ---------------------------------------------------------------- small captures, each with its report in words
@@ -123,14 +126,18 @@ def hold_to_examples():
 
 def links_of_sixteen(cases):
     """Each of the 16 links in the report."""
+    # pins: lines, counted, refused_line, link_text, count_lines, count_line
     case(cases, "refused_on_each_link", [NO_NUMBER] * 16, told=report(
         *(f"link {it} refused M1 -" for it in range(1, 17)), refused=16, epochs=0))
+    # pins: cell_conflict_line, signal_text, epoch_text, civil_text
     case(cases, "conflict_on_each_link", [at(0, l1_cnr=180 + it) for it in range(16)], told=report(
         *(f"link {it} conflict 1004 {TOLD}00.000 G05 1C" for it in range(2, 17)), taken=1, conflict=15, epochs=1))
     case(cases, "late_on_each_link", [at(10) + at(11), *[at(5)] * 15], window=2, told=report(
         *(f"link {it} late 1004 {TOLD}05.000" for it in range(2, 17)), taken=2, late=15, epochs=2))
+    # pins: late_line, arrival_text
     case(cases, "late_1006_of_link_16", [b""] * 15 + [at(0) + at(1) + place(1006)], window=2, told=report(
         "link 16 late 1006 -", taken=2, late=1, epochs=2))
+    # pins: conflict_line
     case(cases, "conflict_of_1006_on_link_16", [ARP + place(1006)] + [b""] * 14 + [place(1006, single_oscillator=1)], told=report(
         "link 16 conflict 1006 -", taken=2, conflict=1, epochs=0))
     # one that equals the kept one is never late, one that differs is late and no more in conflict
@@ -409,7 +416,7 @@ def contents():
     yield "second_frequency_2p_and_2w", b"".join(second), (" codes 1C,2P,2W\n next ",)
     # pins: changes_in
     yield "week_ends", frame_of(legacy(604_799_000, [])) + frame_of(legacy(0, [])) + frame_of(legacy(0, [])), (
-        " time-of-week 604799000 0\n epoch-changes 1\n",)
+        " time-of-week 604799000 0\n changes-of-time 1\n",)
     untaken = b"".join(frame_of((number << 4).to_bytes(2, "big")) for number in (1004, 1077, 1001, 1073, 1003, 1084, 1077, 1001))
     # pins: untaken_numbers, messages_read
     yield "untaken_observations", untaken, (
@@ -482,6 +489,7 @@ def many_of_each():
         f"bytes {size}\noutside-frames 0\nframes {sum(counts.values())}\nstation 2003\n", *lines[:6],
         f" time-of-week {NOON} {NOON}\n changes-of-time 0\n satellites G05\n codes 1C\n",
         *(f" other-msm {it} 1\n" for it in MSMS[:3]), f" next rtcm2rinex convert --station 2003 --near {summaries.NO_DATE} {summaries.MADE} --marker 2003 --codes 1C --msm 7 many_of_each\n",
+        " auto rtcm2rinex auto --station 2003 -o 2003.rnx many_of_each\n",
         lines[6], f"untaken GPS 1073 {counts['other 1073']}\n", *lines[7:],
     )))
 
@@ -508,7 +516,7 @@ def greatest_summary():
         if station in (0, 4095):
             lines = summaries.summary_of(b"".join(stations[-1]), "greatest")
             block_of = lines[lines.index("station"):]
-        told.append(block_of.replace("station 0", f"station {station}"))
+        told.append(block_of.replace("station 0", f"station {station}").replace("0000", f"{station:04}"))
     all_codes = ",".join(CODES)
     assert f" codes {all_codes}\n" in told[-1] and f" codes {all_codes.replace(',2W', '')}\n second-frequency 2P\n" in told[0]
     assert " satellites " + " ".join(f"G{it:02}" for it in range(1, 33)) + "\n" in told[0]

@@ -9,7 +9,10 @@ a conversion's file is looked at by no rule here.
 from __future__ import annotations
 
 import sys
-from itertools import groupby
+from collections import Counter
+from itertools import chain as chain_of
+from itertools import combinations, groupby
+from math import dist
 from pathlib import Path
 from typing import NamedTuple
 
@@ -22,6 +25,7 @@ HALF_WEEK_MS = WEEK_MS // 2
 FIRST_DAY = 44_244  # the Modified Julian Day of 1980-01-06
 FIRST_NEAR, LAST_NEAR = moment("1980-01-13T00:00:00"), moment("2099-12-31T23:59:59") + 999
 MOST_LINKS = 16
+METRES_100 = 1_000_000  # in 0.0001 m
 
 # ---------------------------------------------------------------- messages with a date
 
@@ -96,18 +100,20 @@ class Capture(NamedTuple):
     """The messages of a capture in their order: each one that is read, or the fields of one with a date."""
 
     read: list[Message | Fields]
+    frames: int
 
     @classmethod
     def of(cls, text: bytes) -> Capture:
         read: list[Message | Fields] = []
-        for frame in frames_of(text):
+        frames = frames_of(text)
+        for frame in frames:
             message = read_message(frame.payload, MSMS)
             date = date_of(frame.payload)
             if not isinstance(message, Refusal):
                 read.append(message)
             elif date is not None:
                 read.append(date)
-        return cls(read)
+        return cls(read, len(frames))
 
     def messages(self) -> list[Message]:
         return [it for it in self.read if isinstance(it, Message)]
@@ -115,6 +121,13 @@ class Capture(NamedTuple):
     def observing(self) -> list[int]:
         """The stations with observations, in the order in which they come."""
         return [it.header["station"] for it in self.messages() if has_observation(it)]
+
+    def of_station(self, station: int) -> list[Message]:
+        return [it for it in self.messages() if it.header["station"] == station]
+
+    def point(self, station: int) -> list[tuple[int, ...]]:
+        """The position of the station's first 1005 or 1006, if there is one."""
+        return [tuple(it.header[axis] for axis in "xyz") for it in self.of_station(station) if "x" in it.header][:1]
 
     def times(self, station: int) -> list[int]:
         """The times of week of the station's messages that have an observation."""
@@ -217,19 +230,19 @@ class Found(NamedTuple):
     links: list[list[int]]  # the captures of each, by their places
     epochs: list[list[int]]  # the moments of the station's epochs, by capture
     without: list[int]  # captures without an epoch of the station
+    skipped: list[int]  # captures without a message of it
+    few: list[str]  # codes with few phases
 
 
 def station_of(captures: list[Capture], named: int | None) -> int:
     stations = {it for capture in captures for it in capture.observing()}
-    if named is not None:
-        if named not in stations:
-            raise Stopped("no such station", *sorted(stations))
-        return named
-    if len(stations) > 1:
-        raise Stopped("several stations", *sorted(stations))
     if not stations:
         raise Stopped("no observation")
-    return stations.pop()
+    if named not in (None, *stations):
+        raise Stopped("no such station", *sorted(stations))
+    if named is None and len(stations) > 1:
+        raise Stopped("several stations", *sorted(stations))
+    return stations.pop() if named is None else named
 
 
 def msm_of(messages: list[Message]) -> int:
@@ -256,14 +269,37 @@ def first_told(now: int, captures: list[Capture], station: int) -> dict[int, Tol
     return firsts
 
 
-def find(texts: list[bytes], now: int, station: int | None = None, near: int | None = None, as_given: bool = False) -> Found:
+def few_phases(taken: list[Message], codes: list[str]) -> list[str]:
+    """The codes that have fewer than half of the phases that their satellites have in the code that has most. Of a 1004 and an
+    MSM of one epoch the phases of a code are counted once."""
+    cells = [(it.header["number"], satellite, code, cell) for it in taken if "tow" in it.header for satellite, code, cell in cells_of(it)]
+    shown = {(satellite, code) for _, satellite, code, cell in cells if (cell.range, cell.phase, cell.strength) != (None, None, None)}
+    by_number = Counter((number, satellite, code) for number, satellite, code, cell in cells if cell.phase is not None)
+    phases: dict[tuple[int, str], int] = {}
+    for (_, *of), count in by_number.items():
+        phases[*of] = max(phases.get((*of,), 0), count)
+
+    def count(code: str, other: str) -> int:
+        return sum(n for (satellite, it), n in phases.items() if it == other and (satellite, code) in shown)
+
+    return [code for code in codes if 2 * count(code, code) < max(count(code, other) for other in CODES)]
+
+
+def find(texts: list[bytes], now: int, station: int | None = None, near: int | None = None, as_given: bool = False,
+         skip_empty: bool = False) -> Found:
     """What is found in these captures; `near` is the moment that is named, and `as_given` that each capture is a link."""
-    captures = [Capture.of(text) for text in texts]
-    number = station_of(captures, station)
-    messages = [it for capture in captures for it in capture.messages() if it.header["station"] == number]
+    everything = [Capture.of(text) for text in texts]
+    if not any(it.frames for it in everything):
+        raise Stopped("no frame")
+    number = station_of(everything, station)
+    skipped = [at for at, it in enumerate(everything) if not it.of_station(number)]
+    if skipped and not skip_empty:
+        raise Stopped("nothing of the station", *skipped)
+    captures = [it for at, it in enumerate(everything) if at not in skipped]
+    messages = [it for capture in captures for it in capture.of_station(number)]
     msm = msm_of(messages)
     taken = [it for it in messages if it.header["number"] in (1004, msm)]
-    codes = set().union(*map(codes_in, taken))
+    codes = [it for it in CODES if it in set().union(*map(codes_in, taken))]
     times = [capture.times(number) for capture in captures]
     told = {} if near is not None else first_told(now, captures, number)
     if near is None and not told:
@@ -271,15 +307,22 @@ def find(texts: list[bytes], now: int, station: int | None = None, near: int | N
     base = near if near is not None else min(it.first for it in told.values())
     firsts = [told[at].first if at in told else dated(base, of[0]) if of else None for at, of in enumerate(times)]
     epochs = [[] if first is None else chain(first, of) for first, of in zip(firsts, times)]
-    if near is None:
-        near = min(first for first in firsts if first is not None) // 1000 * 1000
-    wide = [at for at, of in enumerate(epochs) if any(not -HALF_WEEK_MS <= it - near < HALF_WEEK_MS for it in of)]
-    if wide:
-        raise Stopped("give them in parts", *wide)
-    by = min(told.values(), default=None)
+    near = min(first for first in firsts if first is not None) // 1000 * 1000
+    if any(not -HALF_WEEK_MS <= it - near < HALF_WEEK_MS for of in epochs for it in of):
+        raise Stopped("give them in parts")
+    if not FIRST_NEAR <= near <= LAST_NEAR:
+        raise Stopped("outside the dates")
+    by = min(told.values(), default=None, key=lambda it: it.first)
+    links = links_of(epochs, as_given)
+    if len(links) > MOST_LINKS:
+        raise Stopped("too many links", len(links))
+    points = [[point for at in link for point in captures[at].point(number)][:1] for link in links]
+    if not as_given and any(dist(a, b) > METRES_100 for a, b in combinations(chain_of(*points), 2)):
+        raise Stopped("positions differ")
+    places = [at for at in range(len(texts)) if at not in skipped]
     return Found(
-        number, msm, [it for it in CODES if it in codes], near, None if by is None else by.fields,
-        links_of(epochs, as_given), epochs, [at for at, of in enumerate(epochs) if not of],
+        number, msm, codes, near, None if by is None else by.fields, [[places[at] for at in link] for link in links], epochs,
+        [places[at] for at, of in enumerate(epochs) if not of], skipped, few_phases(taken, codes),
     )
 
 
@@ -298,8 +341,6 @@ def links_of(epochs: list[list[int]], as_given: bool = False) -> list[list[int]]
             ends.append(end)
         links[joined].append(at)
         ends[joined] = end
-    if len(links) > MOST_LINKS:
-        raise Stopped("too many links", len(links))
     without = [at for at, of in enumerate(epochs) if not of]
     if links:
         links[0][:0] = without

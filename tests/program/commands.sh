@@ -6,7 +6,6 @@ examples=$root/examples
 base=$examples/base.rtcm
 first=$examples/session_link1.rtcm
 second=$examples/session_link2.rtcm
-done='0 good_out good_err'
 
 # fails NAME LINE: nothing is out, and standard error has this line
 fails() { expect "$1" 1 '' "rtcm2rinex: $2"; }
@@ -14,9 +13,10 @@ fails() { expect "$1" 1 '' "rtcm2rinex: $2"; }
 # shown NAME: a name of a file, as a name of a test has it
 shown() { printf '%.40s' "$1" | tr '\t\n\033' '???'; }
 
-# brief FILE: the words of a help up to its examples; those of -h are the same
+# brief FILE: the words of a help up to what stands behind its options; those of -h are the same
 brief() {
-    sed "/^Which MSM:/,\$d; /^Example:/,\$d; /^Begin with:/,\$d; s/see a summary with '-h'/see more with '--help'/" "$1" | tr -s '[:space:]' ' '
+    awk 'NR > 1 && /^[^ ]/ && !/^(Usage|Arguments|Options|Commands):/ { exit } { print }' "$1" |
+        sed "s/see a summary with '-h'/see more with '--help'/" | tr -s '[:space:]' ' '
 }
 
 # helps NAME WORD..: of a command, or of none. What the options do, completions/ and docs/ hold; here the examples are run.
@@ -29,11 +29,16 @@ helps() {
     run help "$@";   leaves "help_by_its_name_$name" 0 help /dev/null
     run "$@" -h; brief out >short; brief help >want; mv short out
     leaves "short_help_$name" 0 want /dev/null
-    mkdir bin named && ln -s "$program" bin/rtcm2rinex && cp "$base" named/capture.rtcm && cp "$examples/base.rnx" named &&
-        cp "$examples/slip.rnx" named/day.rnx && cp "$first" named/link1.rtcm && cp "$second" named/link2.rtcm
+    mkdir bin named && ln -s "$program" bin/rtcm2rinex
+    case $name in
+    none | auto) cp "$examples/dated.rtcm" named/capture.rtcm && cp "$examples/dated.rtcm" named/hour1.rtcm ;;
+    *) cp "$base" named/capture.rtcm && cp "$examples/base.rnx" named && cp "$examples/slip.rnx" named/day.rnx &&
+        cp "$first" named/link1.rtcm && cp "$second" named/link2.rtcm ;;
+    esac
     sed -n '/^Example:$/,/^$/s/^  //p; /^Begin with:$/,/^$/s/^  //p' help >shown
     (cd named && PATH=$work/$name/bin:$PATH sh -eu ../shown) >out 2>err; status=$?
     grep -q '^rtcm2rinex ' shown || status=none
+    case $name in none | auto) grep -q '^epochs 20$' err && : >err ;; esac
     tail -n 1 help >out
     expect "examples_and_end_of_the_help_$name" 0 'Manual: man rtcm2rinex, or docs/MANUAL.md' ''
 }
@@ -54,6 +59,23 @@ piped() {
     "$@"
     : <>fifo
     wait $giving
+}
+
+# quoted NAME: as `summary` writes it for sh
+quoted() {
+    case $1 in -*) printf ./ ;; esac
+    case $1 in
+    *[!A-Za-z0-9@%+=:,./_-]*) printf "'%s'" "$(printf '%s' "$1" | sed "s/'/'\\\\''/g")" ;;
+    *) printf '%s' "$1" ;;
+    esac
+}
+
+# well TEST NAME: the last run left what is due of a file of this name, which is that of `base`
+well() {
+    [ "$command" != summary ] || sed 's/ BASE$//' "$root/tests/program/base.summary" | while IFS= read -r line; do
+        case $line in ' next '* | ' auto '*) printf '%s %s\n' "$line" "$(quoted "$2")" ;; *) printf '%s\n' "$line" ;; esac
+    done >good_out
+    leaves "$1" 0 good_out good_err
 }
 
 # example COMMAND: its words, the file that it reads, and what it writes
@@ -106,28 +128,28 @@ files_are_read() {
     for name in ./stdin STDIN stdin.rtcm Stdin "$odd" "$tab" "$feed" Zürich folder/../base linked linked_twice \
         "$(printf './%.0s' $(seq 150))base"; do
         # refuses: a name that is changed before it is opened, or taken for standard input
-        run $words "$name"; leaves "file_${command}_$(shown "$name")" $done
+        run $words "$name"; well "file_${command}_$(shown "$name")" "$name"
     done
-    run $words -- -5;       leaves "file_of_the_name_of_a_number_$command" $done
-    run $words -- --hex;    leaves "file_of_the_name_of_an_option_$command" $done
-    run $words stdin <base; leaves "standard_input_$command" $done
+    run $words -- -5;       well "file_of_the_name_of_a_number_$command" -5
+    run $words -- --hex;    well "file_of_the_name_of_an_option_$command" --hex
+    run $words stdin <base; well "standard_input_$command" stdin
     cat base | "$program" $words stdin >out 2>err; status=$?
-    leaves "a_pipe_$command" $done
+    well "a_pipe_$command" stdin
     mkfifo fifo
     # refuses: a file that is not opened since it is a symbolic link or a pipe
-    piped base run $words fifo; leaves "a_pipe_of_a_name_$command" $done
+    piped base run $words fifo; well "a_pipe_of_a_name_$command" fifo
     bash -c '"$0" "$@" <(cat base)' "$program" $words >out 2>err; status=$?
     # refuses: a file that is not opened since it is a symbolic link or a pipe
-    leaves "a_pipe_of_the_shell_$command" $done
+    well "a_pipe_of_the_shell_$command" /dev/fd/63
     { head -c 25 "$base"; cat base; } >behind # a frame before it
     { dd bs=25 count=1 of=given 2>told; run $words stdin; } <behind
-    leaves "standard_input_after_its_first_bytes_$command" $done
+    well "standard_input_after_its_first_bytes_$command" stdin
     # No command makes, renames or removes a file beside those that it reads.
     mkdir alone && cp base alone
     listed=$(ls -Al --full-time alone)
     (cd alone && "$program" $words base) >out 2>err; status=$?
     [ "$(ls -Al --full-time alone)" = "$listed" ] || echo 'another file' >>err
-    leaves "no_other_file_$command" $done
+    well "no_other_file_$command" base
 }
 
 outputs_fail() {
@@ -195,13 +217,15 @@ files_are_judged() {
 # bytes_beside_frames: of a capture they are passed over, also on standard input
 bytes_beside_frames() {
     { printf '\357\273\277'; cat base; printf '\r\n'; head -c 507 /dev/zero; } >more
-    sed -i 's/^bytes 55$/bytes 567/; s/^outside-frames 0$/outside-frames 512/' good_out
-    run $words more;        leaves "bytes_beside_frames_$command" $done
-    run $words stdin <more; leaves "bytes_beside_frames_on_standard_input_$command" $done
+    run $words more
+    sed -i 's/^bytes 567$/bytes 55/; s/^outside-frames 512$/outside-frames 0/' out
+    well "bytes_beside_frames_$command" more
+    run $words stdin <more
+    sed -i 's/^bytes 567$/bytes 55/; s/^outside-frames 512$/outside-frames 0/' out
+    well "bytes_beside_frames_on_standard_input_$command" stdin
 }
 
-mkdir none && cd none || exit 1
-helps none
+for name in none auto; do mkdir "$work/$name" && cd "$work/$name" && helps $name ${name#none}; done
 for command in show summary check chart cut convert; do
     mkdir "$work/$command" && cd "$work/$command" || exit 1
     helps $command $command
@@ -217,4 +241,4 @@ for command in show summary check chart cut convert; do
     esac
 done
 
-ends 339
+ends 343

@@ -88,8 +88,7 @@ run -V;        expect version_in_short 0 'rtcm2rinex 0.3.0' ''
 expect nothing_to_show_and_no_output 0 '' ''
 
 # Words that clap refuses.
-no_command=$(error "'rtcm2rinex' requires a subcommand but one was not provided
-  [subcommands: convert, show, check, summary, chart, cut, help]" "<COMMAND>")
+no_command=$("$program" --help)
 bad_words no_command "$no_command"
 "$program" >&- 2>err; status=$?; : >out
 expect no_command_and_no_output 2 '' "$no_command"

@@ -34,8 +34,10 @@ LINK = 62_000
 GATHERED = 2 * 65_536
 # What a conversion of one link holds besides: the manual says some 85 kB.
 LEAST_BESIDE, MOST_BESIDE = 80_500, 85_500
-# What a summary holds: some 1.3 MB.
-LEAST_OF_SUMMARY, MOST_OF_SUMMARY = 1_280_000, 1_300_000
+# What a summary holds: some 1.5 MB. `auto` holds as much besides what its conversion holds, and so much for each capture.
+LEAST_OF_SUMMARY, MOST_OF_SUMMARY = 1_480_000, 1_500_000
+LEAST_OF_AUTO, MOST_OF_AUTO = 1_430_000, 1_500_000
+CAPTURE = 600
 
 # The sizes of an input: a vector that doubles has just the room that it needs. A file of as many
 # records has a picture of 1,440 columns, of 11 seconds or of 22.
@@ -347,6 +349,22 @@ def summaries_alike(runs: Runs, tests: Tests) -> None:
         tests.same(f"a summary of few and many of {kind.replace('_', ' ')}", held)
 
 
+# refuses: an `auto` that keeps something of each frame, or captures open beside those that are read
+def captures_found_alike(runs: Runs, tests: Tests) -> None:
+    """`auto` of an hour, ten hours and a day holds the same, a little more than `convert`; and of a thousand captures that follow
+    one another, a little for each."""
+    for window in (2, 64):
+        held = [(runs.of_command(["auto", *OPTIONS, str(window), name], "     3.05"),) for name in HOURS]
+        tests.same(f"auto, window {window}, an hour, ten hours and a day", held)
+        alone = runs.most(window, ["01"], counts_of(1, 1))
+        tests.within(f"auto, window {window}, over convert", held[0][0] - alone, LEAST_OF_AUTO, MOST_OF_AUTO)
+    names = [f"second_{number}" for number in range(1000)]
+    for number, name in enumerate(names):
+        runs.write(name, [capture(legacy(NOON + 1000 * number, SATELLITES[:1]))])
+    held = [runs.of_command(["auto", *OPTIONS, "64", *names[:count]], "     3.05") for count in (1, 1000)]
+    tests.within("auto of 1,000 captures over one", held[1] - held[0], 0, 999 * CAPTURE)
+
+
 # refuses: a `cut` that keeps something of each record
 # refuses: a command that holds its input twice, or in more room than it needs
 def inputs_held_once(runs: Runs, tests: Tests) -> None:
@@ -401,6 +419,7 @@ def main() -> None:
         room_rises_and_falls,
         grows_with_links,
         summaries_alike,
+        captures_found_alike,
         inputs_held_once,
         largest_picture,
     ):
